@@ -1,0 +1,103 @@
+-- What a net is to a simulation: its processes, where each net's value comes from, and how values are resolved and
+-- compared (IEEE 1076-2008, 14.7.2 and 14.7.3). Nets, processes and values are numbers: a net and a process by its place
+-- in the elaborated design, a value by its place in its type. A valuation is the list of all nets' values.
+use Rattle.std.specs.Prelude.{false, true, ◌≡◌, ℕ, ◌<◌, Bool, List, [], length, slice_index, slice_index_or, map, Option, Some, None, IsTrue, ◌==◌}
+use Rattle.std.specs.List.{list_any, range_with_len}
+
+-- the edge tests: `rising_edge`, `falling_edge`, and an event to exactly '1' or '0'
+pub data Edge : Type 0 where
+  Rising : Edge
+  Falling : Edge
+  To1 : Edge
+  To0 : Edge
+
+-- An asynchronous reset: the test is that the net has just this value, and each driver that the reset's branch assigns
+-- has its entry.
+pub record Reset : Type 0 where
+  pub net : ℕ
+  pub value : ℕ
+  pub entries : List (Option ℕ)
+
+-- A clocked process acts at one edge of one net, its clock, and at its reset if it has one. What is neither clocked nor
+-- combinational is mixed. (Where no process has a reset, whatever is said of resets below says nothing.)
+pub data Kind : Type 0 where
+  Combinational : Kind
+  Clocked : (clock : ℕ) → (edge : Edge) → (reset : Option Reset) → Kind
+  Mixed : Kind
+
+-- A process has one driver for each place of `drives`, which names the driver's net (14.7.2).
+pub record Process : Type 0 where
+  pub drives : List ℕ
+  -- what each driver starts with
+  pub starts : List ℕ
+  -- its sensitivity: the nets whose events resume it
+  pub wakes : List ℕ
+  -- the nets that its body reads; of a clocked process, those that its branch reads
+  pub reads : List ℕ
+  pub kind : Kind
+  -- from the valuations before and now, at each driver's place the value that the body assigns, if it assigns one
+  pub effect : (before now : List ℕ) → List (Option ℕ)
+  -- of a clocked process, the effect of the branch under its edge, in a valuation
+  pub branch : (now : List ℕ) → List (Option ℕ)
+  -- whether the body assigns this net on every syntactic path
+  pub assigns : (net : ℕ) → Bool
+
+-- a source of a net: a driver, by its process and place, or an idle port with the value that it holds for ever
+pub data Source : Type 0 where
+  Driver : (process : ℕ) → (place : ℕ) → Source
+  Idle : (value : ℕ) → Source
+
+pub record Net : Type 0 where
+  -- the nets of the top's in ports
+  pub inputs : List ℕ
+  -- what each net starts with; there are as many nets
+  pub start : List ℕ
+  -- how many values each net's type has
+  pub limits : List ℕ
+  -- the sources of each net
+  pub sources : List (List Source)
+  pub processes : List Process
+  -- resolution, and the edge tests from an old to a new value
+  pub resolve : List ℕ → ℕ
+  pub edge : Edge → (old new : ℕ) → Bool
+
+-- what stands at a number that no process has
+abbrev pub no_process : Process
+no_process = record { drives = []; starts = []; wakes = []; reads = []; kind = Combinational; effect = λ before now. []; branch = λ now. []; assigns = λ net. false }
+
+abbrev pub process : Net → ℕ → Process
+process net p = slice_index_or net.processes p no_process
+
+abbrev pub sources_of : Net → ℕ → List Source
+sources_of net n = slice_index_or net.sources n []
+
+abbrev pub IsInput : Net → ℕ → Type 0
+IsInput net n = IsTrue (list_any (λ m. m == n) net.inputs)
+
+-- process p has a driver at this place
+abbrev pub HasPlace : Net → ℕ → ℕ → Type 0
+HasPlace net p place = place < length (process net p).drives
+
+-- the net of the driver at this place of process p
+abbrev pub target : Net → ℕ → ℕ → ℕ
+target net p place = slice_index (process net p).drives place
+
+abbrev pub IsCombinational : Net → ℕ → Type 0
+IsCombinational net p = (p < length net.processes) × ((process net p).kind ≡ Combinational)
+
+-- process p is clocked by this edge of this net, with or without a reset
+abbrev pub IsClockedBy : Net → ℕ → ℕ → Edge → Type 0
+IsClockedBy net p clock edge = (reset : Option Reset) × ((process net p).kind ≡ Clocked clock edge reset)
+
+-- the reset of a process, if it has one
+abbrev pub reset_of : Kind → Option Reset
+reset_of (Clocked clock edge reset) = reset
+reset_of Combinational = None
+reset_of Mixed = None
+
+abbrev pub HasReset : Net → ℕ → Reset → Type 0
+HasReset net p reset = reset_of (process net p).kind ≡ Some reset
+
+-- n numbers, the k-th of them f k
+abbrev pub table : ℕ → (ℕ → ℕ) → List ℕ
+table n f = map f (range_with_len 0 n)

@@ -1,0 +1,6 @@
+//! The semantics of a flat net: what its bodies do, how it is simulated, when it is accepted, and the laws that tie an
+//! accepted net's simulation to the synchronous machine. Definitions alone stand here, with the laws over them, each the
+//! contract of a function that does nothing.
+#![tactic(auto)]
+
+pub mod simulation_laws;

@@ -1,0 +1,1 @@
+//! The laws of simulation, over `specs/simulation`.
