@@ -1,0 +1,1 @@
+//! Texts over writers that take little, fail or are interrupted.
