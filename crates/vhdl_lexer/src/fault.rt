@@ -1,0 +1,84 @@
+//! Why a source has no tokens.
+
+ghost use Rattle.std.specs.Prelude.{◌≡◌, ℕ, Option};
+ghost use Rattle.vhdl_lexer.specs.Fault.{fault_number, fault_byte};
+ghost use Rattle.vhdl_lexer.specs.declared.fault.LexFault.TheVariants.{NoMemory};
+
+use std::alloc::AllocFailed;
+use thiserror::Error;
+
+/// What is wrong at the start of a token.
+#[derive(Clone, Copy, Debug, PartialEq, Eq)]
+pub enum Problem {
+    BadByte,
+    BadIdentifier,
+}
+
+/// Why a source has no tokens. `at` is a byte of the source, counted from 0, and never above the
+/// source's length: of the first five faults the first byte of the token that starts first and
+/// is none.
+#[derive(Clone, Copy, Debug, PartialEq, Eq, Error)]
+pub enum LexFault {
+    /// A byte that begins no token, or one outside 32 to 126 in a string.
+    #[error("no token has the byte that stands here, at byte {at}")]
+    BadByte { at: usize },
+    /// A delimited comment with no `*/` (15.9).
+    #[error("the comment that begins here has no end, at byte {at}")]
+    OpenComment { at: usize },
+    /// A string or bit string that isn't closed on its line (15.7, 15.8).
+    #[error("the string that begins here isn't closed on its line, at byte {at}")]
+    OpenString { at: usize },
+    /// A word with an underscore at its beginning, at its end or beside another (15.4.2).
+    #[error("the word that begins here is no identifier, at byte {at}")]
+    BadIdentifier { at: usize },
+    /// A number or bit string with a digit, an underscore or a form that isn't read, or an integer
+    /// above 2,147,483,647 (15.5, 15.8).
+    #[error("the number that begins here isn't read, at byte {at}")]
+    BadNumber { at: usize },
+    /// A source above 4,194,304 bytes; `at` is the first byte above them.
+    #[error("the source is too long, at byte {at}")]
+    TooLong { at: usize },
+    /// The list of tokens could not grow.
+    #[error("out of memory")]
+    NoMemory,
+}
+
+impl LexFault {
+    /// The number under which the fault is reported, from 1 to 7.
+    pub fn number(&self) -> u8
+        ensures { result ≡ fault_number self.now }
+    {
+        match *self {
+            LexFault::BadByte { .. } => 1,
+            LexFault::OpenComment { .. } => 2,
+            LexFault::OpenString { .. } => 3,
+            LexFault::BadIdentifier { .. } => 4,
+            LexFault::BadNumber { .. } => 5,
+            LexFault::TooLong { .. } => 6,
+            LexFault::NoMemory => 7,
+        }
+    }
+
+    /// The byte of the source at which the fault is reported. `NoMemory` has none.
+    pub fn byte(&self) -> Option<usize>
+        ensures { result ≡ fault_byte self.now }
+    {
+        match *self {
+            LexFault::BadByte { at }
+            | LexFault::OpenComment { at }
+            | LexFault::OpenString { at }
+            | LexFault::BadIdentifier { at }
+            | LexFault::BadNumber { at }
+            | LexFault::TooLong { at } => Some(at),
+            LexFault::NoMemory => None,
+        }
+    }
+}
+
+impl<T: Drop> From<AllocFailed<T>> for LexFault {
+    ghost from_gives = { λ _ e. e ≡ NoMemory };
+
+    fn from(_e: AllocFailed<T>) -> LexFault {
+        LexFault::NoMemory
+    }
+}
