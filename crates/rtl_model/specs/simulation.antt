@@ -1,2 +1,11 @@
--- The simulation of a flat net, its acceptance, and the synchronous machine that it amounts to.
+-- The simulation of a flat net, its acceptance, and the synchronous machine that it amounts to. In order of reading:
 pub mod Net
+pub mod Cycle
+pub mod Moments
+pub mod Elaborated
+pub mod Accepted
+pub mod Levels
+pub mod Races
+pub mod Machine
+pub mod Range
+pub mod Laws

@@ -1,7 +1,7 @@
 -- What a net is to a simulation: its processes, where each net's value comes from, and how values are resolved and
 -- compared (IEEE 1076-2008, 14.7.2 and 14.7.3). Nets, processes and values are numbers: a net and a process by its place
 -- in the elaborated design, a value by its place in its type. A valuation is the list of all nets' values.
-use Rattle.std.specs.Prelude.{false, true, ◌≡◌, ℕ, ◌<◌, Bool, List, [], length, slice_index, slice_index_or, map, Option, Some, None, IsTrue, ◌==◌}
+use Rattle.std.specs.Prelude.{true, false, ◌≡◌, ℕ, ◌<◌, Bool, List, [], length, slice_index, slice_index_or, map, Option, Some, None, IsTrue, ◌==◌}
 use Rattle.std.specs.List.{list_any, range_with_len}
 
 -- the edge tests: `rising_edge`, `falling_edge`, and an event to exactly '1' or '0'
@@ -90,13 +90,33 @@ abbrev pub IsClockedBy : Net → ℕ → ℕ → Edge → Type 0
 IsClockedBy net p clock edge = (reset : Option Reset) × ((process net p).kind ≡ Clocked clock edge reset)
 
 -- the reset of a process, if it has one
-abbrev pub reset_of : Kind → Option Reset
-reset_of (Clocked clock edge reset) = reset
-reset_of Combinational = None
-reset_of Mixed = None
+abbrev pub kind_reset : Kind → Option Reset
+kind_reset (Clocked clock edge reset) = reset
+kind_reset Combinational = None
+kind_reset Mixed = None
+
+abbrev pub reset_of : Net → ℕ → Option Reset
+reset_of net p = kind_reset (process net p).kind
 
 abbrev pub HasReset : Net → ℕ → Reset → Type 0
-HasReset net p reset = reset_of (process net p).kind ≡ Some reset
+HasReset net p reset = reset_of net p ≡ Some reset
+
+-- whether a reset's test holds in these values of the nets
+abbrev pub resets : Option Reset → (values : ℕ → ℕ) → Bool
+resets None values = false
+resets (Some reset) values = values reset.net == reset.value
+
+-- the entry that a reset's branch has for the driver at a place
+abbrev pub reset_entry : Option Reset → (place : ℕ) → Option ℕ
+reset_entry None place = None
+reset_entry (Some reset) place = slice_index_or reset.entries place None
+
+-- What a clocked process has for a driver: its reset's entry where the reset holds, else its branch's where its edge
+-- does, else none.
+abbrev pub clocked_entry : (reset_holds edge_holds : Bool) → (of_reset of_branch : Option ℕ) → Option ℕ
+clocked_entry true edge_holds of_reset of_branch = of_reset
+clocked_entry false true of_reset of_branch = of_branch
+clocked_entry false false of_reset of_branch = None
 
 -- n numbers, the k-th of them f k
 abbrev pub table : ℕ → (ℕ → ℕ) → List ℕ
