@@ -1,0 +1,5 @@
+pub mod Digits
+pub mod Elements
+pub mod Padded
+pub mod Resolving
+pub mod Shifting

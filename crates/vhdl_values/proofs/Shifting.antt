@@ -1,0 +1,31 @@
+-- Shifts in two ways of saying them.
+use Rattle.std.proofs.Common.{◌≡◌, ℕ, ◌+◌, ◌-◌, ◌≤◌, List, ◌++◌, length, take, drop, replicate, ◌∙◌, ap, arith}
+use Rattle.std.proofs.lemmas.List.{drop-append-le, take-append-le, length-replicate, take-replicate, drop-replicate}
+use Rattle.std.proofs.Math.Seq.{drop-append-add, take-append-add}
+use Rattle.vhdl_values.specs.declared.scalar.Nine.{Nine}
+use Rattle.vhdl_values.specs.declared.scalar.Nine.TheVariants.{Zero}
+use Rattle.vhdl_values.specs.Shifts.{shifted_left, shifted_right}
+
+-- all of it falls off
+pub shifted_left-all : (count : ℕ) (vs : List Nine) → length vs ≤ count → shifted_left count vs ≡ replicate (length vs) Zero
+shifted_left-all count vs le =
+    let split : count ≡ length vs + (count - length vs) = omega arith in
+    let left : count - (count - length vs) ≡ length vs = omega arith in
+    ap (λ n. drop n (vs ++ replicate count Zero)) split
+    ∙ drop-append-add vs (replicate count Zero) (count - length vs)
+    ∙ drop-replicate (count - length vs) count Zero
+    ∙ ap (λ n. replicate n Zero) left
+
+-- a part of it stays
+pub shifted_left-part : (count : ℕ) (vs : List Nine) → count ≤ length vs → shifted_left count vs ≡ drop count vs ++ replicate count Zero
+shifted_left-part count vs le = drop-append-le count vs (replicate count Zero) le
+
+pub shifted_right-all : (count : ℕ) (vs : List Nine) → length vs ≤ count → shifted_right count vs ≡ replicate (length vs) Zero
+shifted_right-all count vs le =
+    let long : length vs ≤ length (replicate count Zero) = rw length-replicate le in
+    take-append-le (length vs) (replicate count Zero) vs long ∙ take-replicate (length vs) count Zero le
+
+pub shifted_right-part : (count : ℕ) (vs : List Nine) → count ≤ length vs → shifted_right count vs ≡ replicate count Zero ++ take (length vs - count) vs
+shifted_right-part count vs le =
+    let split : length vs ≡ length (replicate count Zero) + (length vs - count) = rw length-replicate (omega arith) in
+    ap (λ n. take n (replicate count Zero ++ vs)) split ∙ take-append-add (replicate count Zero) vs (length vs - count)

@@ -1,0 +1,84 @@
+-- The logical operators (std_logic_1164: and_table, or_table, xor_table, not_table, and the operators on
+-- vectors; numeric_std L.1 to L.7).
+use Rattle.std.specs.Prelude.{List, [], ◌∷◌, map}
+use Rattle.vhdl_values.specs.declared.kinds.Logic.{Logic}
+use Rattle.vhdl_values.specs.declared.kinds.Logic.TheVariants.{And, Or, Nand, Nor, Xor, Xnor}
+use Rattle.vhdl_values.specs.declared.scalar.Nine.{Nine}
+use Rattle.vhdl_values.specs.declared.scalar.Nine.TheVariants.{U, X, Zero, One, L, H}
+
+-- the value as one of U, X, 0 and 1 (To_UX01): the operators look at no more of it
+abbrev pub strip : Nine → Nine
+strip U = U
+strip Zero = Zero
+strip L = Zero
+strip One = One
+strip H = One
+strip _ = X
+
+-- `and` of two stripped values: 0 wins, then U, then X
+abbrev pub and_stripped : Nine → Nine → Nine
+and_stripped Zero _ = Zero
+and_stripped _ Zero = Zero
+and_stripped U _ = U
+and_stripped _ U = U
+and_stripped One One = One
+and_stripped _ _ = X
+
+-- `or` of two stripped values: 1 wins, then U, then X
+abbrev pub or_stripped : Nine → Nine → Nine
+or_stripped One _ = One
+or_stripped _ One = One
+or_stripped U _ = U
+or_stripped _ U = U
+or_stripped Zero Zero = Zero
+or_stripped _ _ = X
+
+-- `xor` of two stripped values: U wins, then X
+abbrev pub xor_stripped : Nine → Nine → Nine
+xor_stripped U _ = U
+xor_stripped _ U = U
+xor_stripped Zero Zero = Zero
+xor_stripped Zero One = One
+xor_stripped One Zero = One
+xor_stripped One One = Zero
+xor_stripped _ _ = X
+
+-- `not` of a stripped value
+abbrev pub not_stripped : Nine → Nine
+not_stripped U = U
+not_stripped Zero = One
+not_stripped One = Zero
+not_stripped _ = X
+
+abbrev pub and_of : Nine → Nine → Nine
+and_of a b = and_stripped (strip a) (strip b)
+
+abbrev pub or_of : Nine → Nine → Nine
+or_of a b = or_stripped (strip a) (strip b)
+
+abbrev pub xor_of : Nine → Nine → Nine
+xor_of a b = xor_stripped (strip a) (strip b)
+
+abbrev pub not_of : Nine → Nine
+not_of a = not_stripped (strip a)
+
+-- an operator of two values
+abbrev pub logic_of : Logic → Nine → Nine → Nine
+logic_of And a b = and_of a b
+logic_of Or a b = or_of a b
+logic_of Nand a b = not_of (and_of a b)
+logic_of Nor a b = not_of (or_of a b)
+logic_of Xor a b = xor_of a b
+logic_of Xnor a b = not_of (xor_of a b)
+
+-- an operator of two vectors of one length: element by element, from the left
+abbrev pub zip_with : (Nine → Nine → Nine) → List Nine → List Nine → List Nine
+zip_with f (a ∷ as') (b ∷ bs) = f a b ∷ zip_with f as' bs
+zip_with f _ _ = []
+
+abbrev pub logic_of_all : Logic → List Nine → List Nine → List Nine
+logic_of_all kind as' bs = zip_with (logic_of kind) as' bs
+
+-- `not` of each element
+abbrev pub not_of_all : List Nine → List Nine
+not_of_all vs = map not_of vs
