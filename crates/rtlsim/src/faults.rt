@@ -1,0 +1,121 @@
+//! Why a source, a design or a stimulus is refused, layer by layer.
+
+ghost use Rattle.std.specs.Prelude.{◌≡◌};
+ghost use Rattle.rtlsim.specs.Faults.{of_names, of_elab, of_stim};
+ghost use Rattle.rtlsim.specs.declared.faults.Fault.TheVariants.{Memory, Output};
+
+mod check;
+mod elab;
+mod names;
+mod notice;
+mod stim;
+
+use crate::status::Status;
+pub use check::{CheckFault, SourceId};
+pub use elab::ElabFault;
+pub use names::NameFault;
+pub use notice::{Notice, Place};
+use rtl_sink::WriteFailed;
+use std::alloc::{AllocError, AllocFailed};
+pub use stim::StimFault;
+use thiserror::Error;
+
+/// Why a call of this library is refused. Each layer's want of memory is `Memory`.
+#[derive(PartialEq, Eq, Debug, Drop, Error)]
+pub enum Fault {
+    #[error("names: {0}")]
+    Name(NameFault),
+    #[error("elaboration: {0}")]
+    Elab(ElabFault),
+    /// What the checker found, in order.
+    #[error("the checker says no")]
+    Rejected(Vec<CheckFault>),
+    #[error("stimulus: {0}")]
+    Stim(StimFault),
+    /// The simulation does not settle at this time, in ns.
+    #[error("the simulation does not settle at {time} ns")]
+    NoSettling { time: u64 },
+    #[error("out of memory")]
+    Memory,
+    #[error("the output failed")]
+    Output,
+}
+
+impl Fault {
+    ghost use Rattle.std.specs.Prelude.{◌≡◌};
+    ghost use Rattle.rtlsim.specs.Faults.{status_of};
+
+    /// The status with which the program ends.
+    pub fn status(&self) -> Status
+        ensures { result ≡ status_of self.now }
+    {
+        match self {
+            Fault::Name(NameFault::NoMemory)
+            | Fault::Elab(ElabFault::NoMemory)
+            | Fault::Stim(StimFault::NoMemory)
+            | Fault::Memory => Status::Memory,
+            Fault::Name(_) | Fault::Elab(_) => Status::Source,
+            Fault::Rejected(_) => Status::Rejected,
+            Fault::Stim(_) => Status::Stimulus,
+            Fault::NoSettling { .. } => Status::Unsettled,
+            Fault::Output => Status::Failed,
+        }
+    }
+}
+
+impl From<NameFault> for Fault {
+    ghost from_gives = { λ names fault. fault ≡ of_names names };
+
+    fn from(names: NameFault) -> Fault {
+        match names {
+            NameFault::NoMemory => Fault::Memory,
+            _ => Fault::Name(names),
+        }
+    }
+}
+
+impl From<ElabFault> for Fault {
+    ghost from_gives = { λ elab fault. fault ≡ of_elab elab };
+
+    fn from(elab: ElabFault) -> Fault {
+        match elab {
+            ElabFault::NoMemory => Fault::Memory,
+            _ => Fault::Elab(elab),
+        }
+    }
+}
+
+impl From<StimFault> for Fault {
+    ghost from_gives = { λ stim fault. fault ≡ of_stim stim };
+
+    fn from(stim: StimFault) -> Fault {
+        match stim {
+            StimFault::NoMemory => Fault::Memory,
+            _ => Fault::Stim(stim),
+        }
+    }
+}
+
+impl From<WriteFailed> for Fault {
+    ghost from_gives = { λ _ fault. fault ≡ Output };
+
+    fn from(_failed: WriteFailed) -> Fault {
+        Fault::Output
+    }
+}
+
+impl From<AllocError> for Fault {
+    ghost from_gives = { λ _ fault. fault ≡ Memory };
+
+    fn from(_refused: AllocError) -> Fault {
+        Fault::Memory
+    }
+}
+
+impl<T: Drop> From<AllocFailed<T>> for Fault {
+    ghost from_gives = { λ _ fault. fault ≡ Memory };
+
+    fn from(_refused: AllocFailed<T>) -> Fault {
+        Fault::Memory
+    }
+}

@@ -1,0 +1,114 @@
+//! Why a design is not elaborated.
+
+ghost use Rattle.std.specs.Prelude.{◌≡◌};
+ghost use Rattle.rtlsim.specs.declared.faults.elab.ElabFault.TheVariants.{NoMemory};
+
+use super::{Notice, Place};
+use std::alloc::{AllocError, AllocFailed};
+use thiserror::Error;
+
+/// Why a design is not elaborated (IEEE 1076-2008, 14). `at` is a byte of the source, counted from 0.
+#[derive(Clone, Copy, PartialEq, Eq, Debug, Error)]
+pub enum ElabFault {
+    /// No entity of that name, or no architecture for it or for an instance.
+    #[error("no such entity with an architecture, at byte {at}")]
+    NoTop { at: usize },
+    /// A generic with no value and no default (6.5.6.2).
+    #[error("a generic without a value, at byte {at}")]
+    NoGeneric { at: usize },
+    /// A generic or constant outside its type.
+    #[error("a value outside its type, at byte {at}")]
+    GenericRange { at: usize },
+    /// A static expression without a value (9.4).
+    #[error("a static expression without a value, at byte {at}")]
+    StaticError { at: usize },
+    /// Lengths that have to be equal and are not.
+    #[error("lengths differ, at byte {at}")]
+    Length { at: usize },
+    /// A place or slice outside its declaration or against its direction.
+    #[error("a place outside its declaration, at byte {at}")]
+    Index { at: usize },
+    /// A vector above 64 elements.
+    #[error("a vector is too wide, at byte {at}")]
+    TooWide { at: usize },
+    /// An in port with no actual and no default (6.5.6.3).
+    #[error("an in port without an actual, at byte {at}")]
+    Unassociated { at: usize },
+    /// Two sources of an element of an unresolved declaration (6.4.2.3).
+    #[error("two sources of an unresolved signal, at byte {at}")]
+    TwoUnresolved { at: usize },
+    /// A read of an out port whose net has several sources.
+    #[error("a read of a port with several sources, at byte {at}")]
+    ReadOfShared { at: usize },
+    /// Instances nested above 32.
+    #[error("instances are nested too deep, at byte {at}")]
+    TooDeep { at: usize },
+    /// More processes, instances, nets, turns or statements than the limits.
+    #[error("the design is too large, at byte {at}")]
+    TooMany { at: usize },
+    /// Memory was refused.
+    #[error("out of memory")]
+    NoMemory,
+}
+
+impl ElabFault {
+    ghost use Rattle.std.specs.Prelude.{◌≡◌};
+    ghost use Rattle.rtlsim.specs.Notices.{entry_of, elab_entry};
+
+    /// What its printed line tells.
+    pub fn notice(&self) -> Notice
+        ensures { entry_of result ≡ elab_entry self.now }
+    {
+        match *self {
+            ElabFault::NoTop { at } => Notice::new("elab", 1, "NoTop", Place::Byte(at)),
+            ElabFault::NoGeneric { at } => Notice::new("elab", 2, "NoGeneric", Place::Byte(at)),
+            ElabFault::GenericRange { at } => Notice::new(
+                "elab",
+                3,
+                "GenericRange",
+                Place::Byte(at),
+            ),
+            ElabFault::StaticError { at } => Notice::new("elab", 4, "StaticError", Place::Byte(at)),
+            ElabFault::Length { at } => Notice::new("elab", 5, "Length", Place::Byte(at)),
+            ElabFault::Index { at } => Notice::new("elab", 6, "Index", Place::Byte(at)),
+            ElabFault::TooWide { at } => Notice::new("elab", 7, "TooWide", Place::Byte(at)),
+            ElabFault::Unassociated { at } => Notice::new(
+                "elab",
+                8,
+                "Unassociated",
+                Place::Byte(at),
+            ),
+            ElabFault::TwoUnresolved { at } => Notice::new(
+                "elab",
+                9,
+                "TwoUnresolved",
+                Place::Byte(at),
+            ),
+            ElabFault::ReadOfShared { at } => Notice::new(
+                "elab",
+                10,
+                "ReadOfShared",
+                Place::Byte(at),
+            ),
+            ElabFault::TooDeep { at } => Notice::new("elab", 11, "TooDeep", Place::Byte(at)),
+            ElabFault::TooMany { at } => Notice::new("elab", 12, "TooMany", Place::Byte(at)),
+            ElabFault::NoMemory => Notice::new("elab", 13, "NoMemory", Place::Nowhere),
+        }
+    }
+}
+
+impl From<AllocError> for ElabFault {
+    ghost from_gives = { λ _ fault. fault ≡ NoMemory };
+
+    fn from(_refused: AllocError) -> ElabFault {
+        ElabFault::NoMemory
+    }
+}
+
+impl<T: Drop> From<AllocFailed<T>> for ElabFault {
+    ghost from_gives = { λ _ fault. fault ≡ NoMemory };
+
+    fn from(_refused: AllocFailed<T>) -> ElabFault {
+        ElabFault::NoMemory
+    }
+}

@@ -1,0 +1,106 @@
+//! Why the names and types of a file are refused.
+
+ghost use Rattle.std.specs.Prelude.{◌≡◌};
+ghost use Rattle.rtlsim.specs.declared.faults.names.NameFault.TheVariants.{NoMemory};
+
+use super::{Notice, Place};
+use std::alloc::{AllocError, AllocFailed};
+use thiserror::Error;
+
+/// Why a file is not well typed. `at` is a byte of the source, counted from 0. The clauses are those
+/// of IEEE 1076-2008.
+#[derive(Clone, Copy, PartialEq, Eq, Debug, Error)]
+pub enum NameFault {
+    /// A name that no declaration in scope has (12.3).
+    #[error("the name is not declared, at byte {at}")]
+    Undeclared { at: usize },
+    /// A name that is declared twice in one declarative region (12.1).
+    #[error("the name is declared twice, at byte {at}")]
+    Twice { at: usize },
+    /// A name of something else than what has to stand here.
+    #[error("the name is of another kind, at byte {at}")]
+    WrongKind { at: usize },
+    /// An expression of another type than the one that is wanted (9.1).
+    #[error("the types do not match, at byte {at}")]
+    TypeMismatch { at: usize },
+    /// A name of a package that no use clause makes visible (12.4).
+    #[error("no use clause makes the name visible, at byte {at}")]
+    NotVisible { at: usize },
+    /// An in port as a target (6.5.2).
+    #[error("an in port is no target, at byte {at}")]
+    WriteOfIn { at: usize },
+    /// A case without the choice `others` where a value is missing (10.9).
+    #[error("a case lacks `others`, at byte {at}")]
+    NoOthers { at: usize },
+    /// A choice of a value that an earlier one has (10.9).
+    #[error("a choice stands twice, at byte {at}")]
+    ChoiceTwice { at: usize },
+    /// A second architecture of one entity.
+    #[error("a second architecture of one entity, at byte {at}")]
+    SecondArchitecture { at: usize },
+    /// A process without a sensitivity list.
+    #[error("a process without a sensitivity list, at byte {at}")]
+    NoSensitivity { at: usize },
+    /// A form of the language that is not read.
+    #[error("a form that is not read, at byte {at}")]
+    LeftOut { at: usize },
+    /// Memory was refused.
+    #[error("out of memory")]
+    NoMemory,
+}
+
+impl NameFault {
+    ghost use Rattle.std.specs.Prelude.{◌≡◌};
+    ghost use Rattle.rtlsim.specs.Notices.{entry_of, names_entry};
+
+    /// What its printed line tells.
+    pub fn notice(&self) -> Notice
+        ensures { entry_of result ≡ names_entry self.now }
+    {
+        match *self {
+            NameFault::Undeclared { at } => Notice::new("name", 1, "Undeclared", Place::Byte(at)),
+            NameFault::Twice { at } => Notice::new("name", 2, "Twice", Place::Byte(at)),
+            NameFault::WrongKind { at } => Notice::new("name", 3, "WrongKind", Place::Byte(at)),
+            NameFault::TypeMismatch { at } => Notice::new(
+                "name",
+                4,
+                "TypeMismatch",
+                Place::Byte(at),
+            ),
+            NameFault::NotVisible { at } => Notice::new("name", 5, "NotVisible", Place::Byte(at)),
+            NameFault::WriteOfIn { at } => Notice::new("name", 6, "WriteOfIn", Place::Byte(at)),
+            NameFault::NoOthers { at } => Notice::new("name", 7, "NoOthers", Place::Byte(at)),
+            NameFault::ChoiceTwice { at } => Notice::new("name", 8, "ChoiceTwice", Place::Byte(at)),
+            NameFault::SecondArchitecture { at } => Notice::new(
+                "name",
+                9,
+                "SecondArchitecture",
+                Place::Byte(at),
+            ),
+            NameFault::NoSensitivity { at } => Notice::new(
+                "name",
+                10,
+                "NoSensitivity",
+                Place::Byte(at),
+            ),
+            NameFault::LeftOut { at } => Notice::new("name", 11, "LeftOut", Place::Byte(at)),
+            NameFault::NoMemory => Notice::new("name", 12, "NoMemory", Place::Nowhere),
+        }
+    }
+}
+
+impl From<AllocError> for NameFault {
+    ghost from_gives = { λ _ fault. fault ≡ NoMemory };
+
+    fn from(_refused: AllocError) -> NameFault {
+        NameFault::NoMemory
+    }
+}
+
+impl<T: Drop> From<AllocFailed<T>> for NameFault {
+    ghost from_gives = { λ _ fault. fault ≡ NoMemory };
+
+    fn from(_refused: AllocFailed<T>) -> NameFault {
+        NameFault::NoMemory
+    }
+}

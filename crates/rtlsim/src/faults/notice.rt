@@ -1,0 +1,50 @@
+//! What the printed line of a fault tells.
+
+/// Where a fault is found.
+#[derive(Clone, Copy, PartialEq, Eq, Debug)]
+pub enum Place {
+    /// In no one place.
+    Nowhere,
+    /// At a byte of the source, counted from 0.
+    Byte(usize),
+    /// In a line of the stimulus, counted from 1.
+    Line(usize),
+    /// At a time, in ns.
+    Time(u64),
+    /// At a time, in ns, at which an input changes with a clock, both given by their net.
+    Change {
+        time: u64,
+        input: usize,
+        clock: usize,
+    },
+}
+
+/// What the printed line of a fault tells.
+#[derive(Clone, Copy, Debug)]
+pub struct Notice {
+    /// The layer that refuses.
+    pub layer: &'static str,
+    /// The fault's number in its layer, from 1.
+    pub number: u8,
+    /// The fault's name.
+    pub name: &'static str,
+    /// Where it is found.
+    pub place: Place,
+}
+
+impl Notice {
+    ghost use Rattle.std.specs.Prelude.{◌≡◌};
+    ghost use Rattle.rtlsim.specs.Notices.{entry_of, entry};
+
+    /// The notice with these parts.
+    pub fn new(layer: &'static str, number: u8, name: &'static str, place: Place) -> Notice
+        ensures { entry_of result ≡ entry layer.now number name.now place }
+    {
+        Notice {
+            layer,
+            number,
+            name,
+            place,
+        }
+    }
+}
