@@ -1,0 +1,160 @@
+-- A syntax tree as contracts see it: without where it lies in memory, and with a chain of operators of one level grouped from the left.
+use Rattle.std.specs.Prelude.{ℕ, Bool, Option, Some, None, List, [], ◌∷◌}
+use Rattle.vhdl_parser.specs.declared.tree.Operator.{Operator}
+use Rattle.vhdl_parser.specs.declared.tree.Sign.{Sign}
+use Rattle.vhdl_parser.specs.declared.tree.Direction.{Direction}
+use Rattle.vhdl_parser.specs.declared.tree.Mode.{Mode}
+
+-- an identifier in small letters, and the byte at which it starts
+pub record Ident : Type 0 where
+  pub at : ℕ
+  pub text : List ℕ
+
+-- ---- expressions
+
+mutual
+  pub data Expr : Type 0 where
+    -- where it starts, and its bytes
+    integer : ℕ → List ℕ → Expr
+    -- where it starts, and the character between its ticks
+    character : ℕ → ℕ → Expr
+    string : ℕ → List ℕ → Expr
+    bits : ℕ → List ℕ → Expr
+    -- an identifier, what stands in parentheses after it, and an attribute
+    named : Ident → Suffix → Option Ident → Expr
+    parens : ℕ → Expr → Expr
+    negation : ℕ → Expr → Expr
+    signed : Sign → ℕ → Expr → Expr
+    -- where the operator starts, and its operands
+    binary : Operator → ℕ → Expr → Expr → Expr
+
+  pub data Suffix : Type 0 where
+    plain : Suffix
+    arguments : Exprs → Suffix
+    sliced : Expr → Direction → Expr → Suffix
+
+  pub data Exprs : Type 0 where
+    no_exprs : Exprs
+    expr : Expr → Exprs → Exprs
+
+abbrev pub exprs_of : List Expr → Exprs
+exprs_of [] = no_exprs
+exprs_of (e ∷ es) = expr e (exprs_of es)
+
+pub record Range : Type 0 where
+  pub left : Expr
+  pub direction : Direction
+  pub right : Expr
+
+pub record Name : Type 0 where
+  pub identifier : Ident
+  pub suffix : Suffix
+  pub attribute : Option Ident
+
+-- an expression, or (others => e)
+pub data Value : Type 0 where
+  single : Expr → Value
+  others : ℕ → Expr → Value
+
+-- ---- concurrent statements
+
+-- value when condition
+pub record Branch : Type 0 where
+  pub value : Value
+  pub condition : Expr
+
+-- the value of the first branch whose condition holds, else the last one, if any
+pub record Assignment : Type 0 where
+  pub label : Option Ident
+  pub target : Name
+  pub branches : List Branch
+  pub otherwise : Option Value
+
+pub data Concurrent : Type 0 where
+  assignment : Assignment → Concurrent
+
+-- ---- declarations
+
+pub record Subtype : Type 0 where
+  pub mark : Ident
+  pub range : Option Range
+
+pub record Generic : Type 0 where
+  pub constant_word : Bool
+  pub names : List Ident
+  pub in_word : Bool
+  pub mark : Ident
+  pub default : Option Expr
+
+pub record Port : Type 0 where
+  pub signal_word : Bool
+  pub names : List Ident
+  pub mode : Option Mode
+  pub subtype : Subtype
+  pub default : Option Value
+
+pub record Signals : Type 0 where
+  pub names : List Ident
+  pub subtype : Subtype
+  pub default : Option Value
+
+pub record Constants : Type 0 where
+  pub names : List Ident
+  pub subtype : Subtype
+  pub value : Value
+
+pub record Enumeration : Type 0 where
+  pub name : Ident
+  pub literals : List Ident
+
+pub record Component : Type 0 where
+  pub name : Ident
+  pub is_word : Bool
+  pub generics : Option (List Generic)
+  pub ports : Option (List Port)
+  pub end_name : Option Ident
+
+pub data Declaration : Type 0 where
+  signals : Signals → Declaration
+  constants : Constants → Declaration
+  enumeration : Enumeration → Declaration
+  component : Component → Declaration
+
+-- ---- units
+
+pub record Entity : Type 0 where
+  pub at : ℕ
+  pub name : Ident
+  pub generics : Option (List Generic)
+  pub ports : Option (List Port)
+  pub end_word : Bool
+  pub end_name : Option Ident
+
+pub record Architecture : Type 0 where
+  pub at : ℕ
+  pub name : Ident
+  pub entity : Ident
+  pub declarations : List Declaration
+  pub statements : List Concurrent
+  pub end_word : Bool
+  pub end_name : Option Ident
+
+-- library . name . all
+pub record Selected : Type 0 where
+  pub library : Ident
+  pub name : Ident
+
+pub data ContextItem : Type 0 where
+  library : List Ident → ContextItem
+  uses : List Selected → ContextItem
+
+pub data LibraryUnit : Type 0 where
+  entity : Entity → LibraryUnit
+  architecture : Architecture → LibraryUnit
+
+pub record DesignUnit : Type 0 where
+  pub context : List ContextItem
+  pub unit : LibraryUnit
+
+pub record File : Type 0 where
+  pub units : List DesignUnit

@@ -1,0 +1,164 @@
+-- What contracts see of a tree of the code.
+use Rattle.std.specs.Prelude.{◌∷◌, [], List, map, Vec, Option, option_map}
+use Rattle.std.specs.Global.{Global}
+use Rattle.vhdl_parser.specs.declared.tree.Identifier.{Identifier}
+use Rattle.vhdl_parser.specs.declared.tree.Expr.{Expr}
+use Rattle.vhdl_parser.specs.declared.tree.Expr.TheVariants as e
+use Rattle.vhdl_parser.specs.declared.tree.Expr.TheBlock.{Row_of-Link, end_of-Link, more_of-Link, Row_of-Expr, end_of-Expr, more_of-Expr}
+use Rattle.vhdl_parser.specs.declared.tree.Link.{Link}
+use Rattle.vhdl_parser.specs.declared.tree.Name.{Name}
+use Rattle.vhdl_parser.specs.declared.tree.Suffix.{Suffix}
+use Rattle.vhdl_parser.specs.declared.tree.Suffix.TheVariants as s
+use Rattle.vhdl_parser.specs.declared.tree.Range.{Range}
+use Rattle.vhdl_parser.specs.declared.tree.Value.{Value}
+use Rattle.vhdl_parser.specs.declared.tree.Value.TheVariants as v
+use Rattle.vhdl_parser.specs.declared.tree.Branch.{Branch}
+use Rattle.vhdl_parser.specs.declared.tree.Assignment.{Assignment}
+use Rattle.vhdl_parser.specs.declared.tree.Concurrent.{Concurrent}
+use Rattle.vhdl_parser.specs.declared.tree.Concurrent.TheVariants as c
+use Rattle.vhdl_parser.specs.declared.tree.Subtype.{Subtype}
+use Rattle.vhdl_parser.specs.declared.tree.Generic.{Generic}
+use Rattle.vhdl_parser.specs.declared.tree.Port.{Port}
+use Rattle.vhdl_parser.specs.declared.tree.Entity.{Entity}
+use Rattle.vhdl_parser.specs.declared.tree.Signals.{Signals}
+use Rattle.vhdl_parser.specs.declared.tree.Constants.{Constants}
+use Rattle.vhdl_parser.specs.declared.tree.Enumeration.{Enumeration}
+use Rattle.vhdl_parser.specs.declared.tree.Component.{Component}
+use Rattle.vhdl_parser.specs.declared.tree.Declaration.{Declaration}
+use Rattle.vhdl_parser.specs.declared.tree.Declaration.TheVariants as d
+use Rattle.vhdl_parser.specs.declared.tree.Architecture.{Architecture}
+use Rattle.vhdl_parser.specs.declared.tree.Selected.{Selected}
+use Rattle.vhdl_parser.specs.declared.tree.ContextItem.{ContextItem}
+use Rattle.vhdl_parser.specs.declared.tree.ContextItem.TheVariants as x
+use Rattle.vhdl_parser.specs.declared.tree.LibraryUnit.{LibraryUnit}
+use Rattle.vhdl_parser.specs.declared.tree.LibraryUnit.TheVariants as u
+use Rattle.vhdl_parser.specs.declared.tree.DesignUnit.{DesignUnit}
+use Rattle.vhdl_parser.specs.declared.tree.File.{File}
+use Rattle.vhdl_parser.specs.Tree as tree
+
+abbrev pub ident_view : Identifier → tree.Ident
+ident_view i = record { at = i.at; text = i.text.items }
+
+abbrev pub idents_view : Vec Identifier Global → List tree.Ident
+idents_view v = map ident_view v.items
+
+-- ---- expressions
+
+abbrev mutual
+  pub view : Expr → tree.Expr
+  view (e.Integer l) = tree.integer l.at l.text.items
+  view (e.Character at code) = tree.character at code
+  view (e.StringLiteral l) = tree.string l.at l.text.items
+  view (e.BitString l) = tree.bits l.at l.text.items
+  view (e.Name' identifier suffix attribute) = tree.named (ident_view identifier) (suffix_view suffix) (option_map ident_view attribute)
+  view (e.Parens' at p inner) = tree.parens at (view inner)
+  view (e.Not' at p operand) = tree.negation at (view operand)
+  view (e.Signed' sign at p operand) = tree.signed sign at (view operand)
+  view (e.Chain' p first shape rest) = links_view (view first) rest
+
+  pub suffix_view : Suffix → tree.Suffix
+  suffix_view s.Plain = tree.plain
+  suffix_view (s.Arguments' shape all) = tree.arguments (row_view all)
+  suffix_view (s.Range' p left direction right) = tree.sliced (view left) direction (view right)
+
+  pub row_view : {m : _} → Row_of-Expr m → tree.Exprs
+  row_view end_of-Expr = tree.no_exprs
+  row_view (more_of-Expr x rest) = tree.expr (view x) (row_view rest)
+
+  -- the operators of a chain, grouped from the left after its first operand
+  pub links_view : {m : _} → tree.Expr → Row_of-Link m → tree.Expr
+  links_view first end_of-Link = first
+  links_view first (more_of-Link operator at operand rest) = links_view (tree.binary operator at first (view operand)) rest
+
+abbrev pub exprs_view : Vec Expr Global → List tree.Expr
+exprs_view v = map view v.items
+
+abbrev pub range_view : Range → tree.Range
+range_view r = record { left = view r.left; direction = r.direction; right = view r.right }
+
+abbrev pub name_view : Name → tree.Name
+name_view n = record { identifier = ident_view n.identifier; suffix = suffix_view n.suffix; attribute = option_map ident_view n.attribute }
+
+abbrev pub value_view : Value → tree.Value
+value_view (v.Expr x) = tree.single (view x)
+value_view (v.Others at x) = tree.others at (view x)
+
+-- ---- concurrent statements
+
+abbrev pub branch_view : Branch → tree.Branch
+branch_view b = record { value = value_view b.value; condition = view b.condition }
+
+abbrev pub branches_view : Vec Branch Global → List tree.Branch
+branches_view v = map branch_view v.items
+
+abbrev pub assignment_view : Assignment → tree.Assignment
+assignment_view a = record { label = option_map ident_view a.label; target = name_view a.target; branches = branches_view a.branches; otherwise = option_map value_view a.otherwise }
+
+abbrev pub concurrent_view : Concurrent → tree.Concurrent
+concurrent_view (c.Assignment a) = tree.assignment (assignment_view a)
+
+abbrev pub concurrents_view : Vec Concurrent Global → List tree.Concurrent
+concurrents_view v = map concurrent_view v.items
+
+-- ---- declarations
+
+abbrev pub subtype_view : Subtype → tree.Subtype
+subtype_view t = record { mark = ident_view t.mark; range = option_map range_view t.range }
+
+abbrev pub generic_view : Generic → tree.Generic
+generic_view g = record { constant_word = g.constant_word; names = idents_view g.names; in_word = g.in_word; mark = ident_view g.mark; default = option_map view g.default }
+
+abbrev pub generics_view : Vec Generic Global → List tree.Generic
+generics_view v = map generic_view v.items
+
+abbrev pub port_view : Port → tree.Port
+port_view p = record { signal_word = p.signal_word; names = idents_view p.names; mode = p.mode; subtype = subtype_view p.subtype; default = option_map value_view p.default }
+
+abbrev pub ports_view : Vec Port Global → List tree.Port
+ports_view v = map port_view v.items
+
+abbrev pub signals_view : Signals → tree.Signals
+signals_view d = record { names = idents_view d.names; subtype = subtype_view d.subtype; default = option_map value_view d.default }
+
+abbrev pub constants_view : Constants → tree.Constants
+constants_view d = record { names = idents_view d.names; subtype = subtype_view d.subtype; value = value_view d.value }
+
+abbrev pub enumeration_view : Enumeration → tree.Enumeration
+enumeration_view d = record { name = ident_view d.name; literals = idents_view d.literals }
+
+abbrev pub component_view : Component → tree.Component
+component_view d = record { name = ident_view d.name; is_word = d.is_word; generics = option_map generics_view d.generics; ports = option_map ports_view d.ports; end_name = option_map ident_view d.end_name }
+
+abbrev pub declaration_view : Declaration → tree.Declaration
+declaration_view (d.Signals x) = tree.signals (signals_view x)
+declaration_view (d.Constants x) = tree.constants (constants_view x)
+declaration_view (d.Enumeration x) = tree.enumeration (enumeration_view x)
+declaration_view (d.Component x) = tree.component (component_view x)
+
+abbrev pub declarations_view : Vec Declaration Global → List tree.Declaration
+declarations_view v = map declaration_view v.items
+
+-- ---- units
+
+abbrev pub entity_view : Entity → tree.Entity
+entity_view n = record { at = n.at; name = ident_view n.name; generics = option_map generics_view n.generics; ports = option_map ports_view n.ports; end_word = n.end_word; end_name = option_map ident_view n.end_name }
+
+abbrev pub architecture_view : Architecture → tree.Architecture
+architecture_view a = record { at = a.at; name = ident_view a.name; entity = ident_view a.entity; declarations = declarations_view a.declarations; statements = concurrents_view a.statements; end_word = a.end_word; end_name = option_map ident_view a.end_name }
+
+abbrev pub selected_view : Selected → tree.Selected
+selected_view s = record { library = ident_view s.library; name = ident_view s.name }
+
+abbrev pub context_view : ContextItem → tree.ContextItem
+context_view (x.Library names) = tree.library (idents_view names)
+context_view (x.Use all) = tree.uses (map selected_view all.items)
+
+abbrev pub library_unit_view : LibraryUnit → tree.LibraryUnit
+library_unit_view (u.Entity n) = tree.entity (entity_view n)
+library_unit_view (u.Architecture a) = tree.architecture (architecture_view a)
+
+abbrev pub unit_view : DesignUnit → tree.DesignUnit
+unit_view n = record { context = map context_view n.context.items; unit = library_unit_view n.unit }
+
+abbrev pub file_view : File → tree.File
+file_view f = record { units = map unit_view f.units.items }
