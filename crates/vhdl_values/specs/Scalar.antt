@@ -1,5 +1,6 @@
 -- The nine values (IEEE 1076-2008, 16.7: package std_logic_1164, type std_ulogic).
-use Rattle.std.specs.Prelude.{ℕ, Bool, true, false, Option, ◌==◌, codes, List, [], ◌∷◌, slice_get, slice_index, find, unwrap_or}
+use Rattle.std.specs.Prelude.{ℕ, Bool, true, false, Option, ◌==◌, codes, List, [], ◌∷◌, slice_get, slice_index, find, map, unwrap_or}
+use Rattle.std.specs.Str.{bytes_eq}
 use Rattle.std.specs.Char.{to_ascii_uppercase}
 use Rattle.vhdl_values.specs.declared.scalar.Nine.{Nine}
 use Rattle.vhdl_values.specs.declared.scalar.Nine.TheVariants.{U, X, Zero, One, Z, W, L, H, Dash}
@@ -27,6 +28,11 @@ value_of_code code = unwrap_or (slice_get nines code) X
 -- whether two values are one and the same
 abbrev pub is_same : Nine → Nine → Bool
 is_same a b = code_of a == code_of b
+
+-- whether two vectors are as long as each other and equal element by element: `=` on std_logic_vector
+-- (IEEE 1076-2008, 9.2.3)
+abbrev pub are_same : List Nine → List Nine → Bool
+are_same as' bs = bytes_eq (map code_of as') (map code_of bs)
 
 -- the character of a value
 abbrev pub letter_of : Nine → ℕ

@@ -1,6 +1,7 @@
 //! Vectors of 1 to 64 values.
 
 ghost use Rattle.std.specs.Prelude.{◌≡◌, ◌+◌, ◌%◌, ◌^◌, ◌<◌, ◌≤◌, ◌++◌, ◌↔◌, if◌then◌else◌, IsTrue, Some, None, true, length, max, replicate, slice_get, slice_set, take, drop};
+ghost use Rattle.vhdl_values.specs.Scalar.{are_same};
 ghost use Rattle.vhdl_values.specs.Logic.{logic_of_all, not_of_all};
 ghost use Rattle.vhdl_values.specs.Numbers.{all_good, number_of, digits_of};
 ghost use Rattle.vhdl_values.specs.Arithmetic.{sum_of, difference_of, product_of};
@@ -143,7 +144,8 @@ impl Vec9 {
     /// `=` of two `std_logic_vector`s (IEEE 1076-2008, 9.2.3): as long as each other, and equal value by value. An X
     /// is equal to an X here; the relations of unsigned vectors are `cmp`'s.
     pub fn same(&self, other: &Vec9) -> bool
-        ensures { IsTrue result ↔ (self.now ≡ other.now) }
+        ensures meaning { IsTrue result ↔ (self.now ≡ other.now) }
+        ensures test { result ≡ are_same self.now other.now }
     {
         self.values() == other.values()
     }

@@ -1,0 +1,42 @@
+-- How long results are.
+use Rattle.std.proofs.Common.{◌≡◌, ℕ, suc, ◌+◌, List, [], ◌∷◌, length, Bool, true, false, refl, ap, arith, length-append, length-drop}
+use Rattle.std.specs.Prelude.{max, ◌&&◌}
+use Rattle.std.proofs.lemmas.List.{length-replicate, length-take}
+use Rattle.vhdl_values.specs.declared.scalar.Nine.{Nine}
+use Rattle.vhdl_values.specs.declared.scalar.Nine.TheVariants.{X}
+use Rattle.vhdl_values.specs.declared.kinds.Logic.{Logic}
+use Rattle.vhdl_values.specs.Logic.{zip_with, logic_of, logic_of_all}
+use Rattle.vhdl_values.specs.Numbers.{all_good}
+use Rattle.vhdl_values.specs.Arithmetic.{number_or_x, sum_of, difference_of, product_of}
+use Rattle.vhdl_values.specs.Shifts.{shifted_left, shifted_right, resized}
+use Rattle.vhdl_values.proofs.Digits.{length-digits_of}
+
+pub length-zip_with : (f : Nine → Nine → Nine) (as' bs : List Nine) → length as' ≡ length bs → length (zip_with f as' bs) ≡ length as'
+length-zip_with f [] bs e = refl
+length-zip_with f (a ∷ as') [] e = cc
+length-zip_with f (a ∷ as') (b ∷ bs) e = ap suc (length-zip_with f as' bs (omega arith))
+
+pub length-logic_of_all : (kind : Logic) (as' bs : List Nine) → length as' ≡ length bs → length (logic_of_all kind as' bs) ≡ length as'
+length-logic_of_all kind as' bs e = length-zip_with (logic_of kind) as' bs e
+
+pub length-number_or_x : (good : Bool) (len n : ℕ) → length (number_or_x good len n) ≡ len
+length-number_or_x true len n = length-digits_of len n
+length-number_or_x false len n = length-replicate len X
+
+pub length-sum_of : (a b : List Nine) → length (sum_of a b) ≡ max (length a) (length b)
+length-sum_of a b = length-number_or_x (all_good a && all_good b) _ _
+
+pub length-difference_of : (a b : List Nine) → length (difference_of a b) ≡ max (length a) (length b)
+length-difference_of a b = length-number_or_x (all_good a && all_good b) _ _
+
+pub length-product_of : (a b : List Nine) → length (product_of a b) ≡ length a + length b
+length-product_of a b = length-number_or_x (all_good a && all_good b) _ _
+
+pub length-shifted_left : (count : ℕ) (vs : List Nine) → length (shifted_left count vs) ≡ length vs
+length-shifted_left count vs = rw (length-drop, length-append, length-replicate) (omega arith)
+
+pub length-shifted_right : (count : ℕ) (vs : List Nine) → length (shifted_right count vs) ≡ length vs
+length-shifted_right count vs = rw (length-take, length-append, length-replicate) (omega arith)
+
+pub length-resized : (len : ℕ) (vs : List Nine) → length (resized len vs) ≡ len
+length-resized len vs = rw (length-append, length-replicate, length-drop) (omega arith)
