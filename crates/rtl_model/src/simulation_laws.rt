@@ -1,1 +1,52 @@
-//! The laws of simulation, over `specs/simulation`.
+//! The laws of simulation (`specs/simulation/Laws.antt`), each the contract of a function that does nothing.
+
+ghost use Rattle.rtl_model.specs.simulation.Laws.{EachMomentComes, EveryOrderIsOne, IsTheMachine, LevelsAreShown, LevelsExist, OneMachineRun, OneSolution, OrderIsFree, SettlesInBound};
+
+/// Two orders of one cycle's Runs end in the same state, in every net.
+pub fn order_is_free()
+    ensures { OrderIsFree }
+{}
+
+/// Two whole simulations of a net under one stimulus agree at each moment, whatever their orders: in the state after its
+/// first cycle, in the number of its delta cycles, and in the state where it settles.
+pub fn simulations_agree()
+    ensures { EveryOrderIsOne }
+{}
+
+/// In an accepted net each combinational process has a level, since there is no loop.
+pub fn levels_exist()
+    ensures { LevelsExist }
+{}
+
+/// For given inputs and registers one valuation solves an accepted net, and no other.
+pub fn one_solution()
+    ensures { OneSolution }
+{}
+
+/// Under each stimulus the synchronous machine of an accepted net has one run.
+pub fn one_machine_run()
+    ensures { OneMachineRun }
+{}
+
+/// Each moment of an accepted net's simulation is reached, and settles.
+pub fn each_moment_comes()
+    ensures { EachMomentComes }
+{}
+
+/// Whatever the orders, each moment of an accepted net's simulation settles within the bound, and the first within the
+/// greatest level where no process has a reset.
+pub fn settles_in_bound()
+    ensures { SettlesInBound }
+{}
+
+/// What an accepted net has settled in at a moment is the valuation of the machine's run, whatever the orders, where no
+/// moment so far has a race.
+pub fn is_the_machine()
+    ensures { IsTheMachine }
+{}
+
+/// Levels that rise along every sensitivity, each above 1 being one more than that of its `from`, are those of the longest
+/// chains; no numbering that rises is lower anywhere, and there is no loop.
+pub fn levels_are_shown()
+    ensures { LevelsAreShown }
+{}

@@ -1,5 +1,5 @@
 -- What holds of every net that was elaborated: of its wiring, of the nine values' resolution and edges, and of its bodies.
-use Rattle.std.specs.Prelude.{◌≡◌, ℕ, ◌<◌, Bool, true, false, List, [], ◌∷◌, length, slice_index, slice_index_or, map, Option, Some, None, IsSome, IsTrue, Contains}
+use Rattle.std.specs.Prelude.{◌≡◌, ℕ, ◌<◌, false, List, [], ◌∷◌, length, slice_index, slice_index_or, map, None, IsSome, IsTrue, Contains}
 use Rattle.rtl_model.specs.simulation.Net.{Net, Source, Driver, Reset, Edge, process, sources_of, target, HasPlace, HasReset, IsInput, IsCombinational, IsClockedBy, reset_of, reset_entry, resets, clocked_entry}
 use Rattle.rtl_model.specs.simulation.Cycle.{source_value, starting_drivers}
 

@@ -2,7 +2,7 @@
 use Rattle.std.specs.Prelude.{◌≡◌, ℕ, ◌≤◌, List, Option, Some, None, slice_index_or}
 use Rattle.rtl_model.specs.simulation.Net.{Net, Edge, Reset, HasReset, IsCombinational}
 use Rattle.rtl_model.specs.simulation.Cycle.{State}
-use Rattle.rtl_model.specs.simulation.Moments.{HasRun, Begun, SettlesIn, SettlesTo, HasSettled}
+use Rattle.rtl_model.specs.simulation.Moments.{HasRun, Begun, SettlesIn, HasSettled}
 use Rattle.rtl_model.specs.simulation.Elaborated.{IsElaborated}
 use Rattle.rtl_model.specs.simulation.Accepted.{IsAccepted, IsLoop}
 use Rattle.rtl_model.specs.simulation.Levels.{AreLevels, IsLevel, IsReport, LeadsDown, ShowLevels, Rises, bound}

@@ -1,5 +1,5 @@
 -- Levels of combinational processes, the bound on delta cycles, and the report that shows them.
-use Rattle.std.specs.Prelude.{◌≡◌, ◌≢◌, ℕ, suc, zero, ◌+◌, ◌<◌, ◌≤◌, ◌⊎◌, ◌↔◌, Bool, true, false, ◌&&◌, List, [], ◌∷◌, length, slice_index_or, slice_get, Option, Some, None, Contains, if◌then◌else◌}
+use Rattle.std.specs.Prelude.{◌≡◌, ◌≢◌, ℕ, suc, zero, ◌+◌, ◌<◌, ◌≤◌, ◌⊎◌, ◌↔◌, Bool, true, false, ◌&&◌, List, length, slice_index_or, slice_get, Option, Some, None, Contains, if◌then◌else◌}
 use Rattle.std.specs.List.{list_any}
 use Rattle.std.specs.Option.{is_some}
 use Rattle.rtl_model.specs.simulation.Net.{Net, Source, Driver, Idle, Kind, Combinational, Clocked, Mixed, Edge, Rising, Falling, To1, To0, kind_reset, sources_of, IsCombinational, IsClockedBy}

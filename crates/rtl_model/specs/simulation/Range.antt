@@ -1,5 +1,5 @@
 -- Values in range: each net has a value of its type.
-use Rattle.std.specs.Prelude.{◌≡◌, ℕ, ◌<◌, List, length, slice_index, slice_index_or, Option, Some, None}
+use Rattle.std.specs.Prelude.{◌≡◌, ℕ, ◌<◌, List, length, slice_index, slice_index_or, Some, None}
 use Rattle.rtl_model.specs.simulation.Net.{Net, Edge, process, target, reset_of, reset_entry, HasPlace, IsInput, IsClockedBy}
 
 -- how many values net n's type has: nine, or the literals of an enumeration

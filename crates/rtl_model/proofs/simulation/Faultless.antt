@@ -1,0 +1,63 @@
+-- What an accepted net has, each fault turned round.
+use Rattle.std.proofs.Common.{◌≡◌, ℕ, ◌≤◌, true, false, List, [], ◌∷◌, length, refl, arith, ◌⊎◌, inl, inr, Contains, IsTrue, ◌==◌}
+use Rattle.std.specs.List.{list_any}
+use Rattle.std.proofs.lemmas.Bool.{cases_Bool}
+use Rattle.std.proofs.lemmas.List.Elements.{Contains-get_or}
+use Rattle.rtl_model.specs.simulation.Net.{Edge, HasPlace, HasReset, IsClockedBy, IsCombinational, IsInput, Mixed, Net, process, Reset, Source, sources_of, target}
+use Rattle.rtl_model.specs.simulation.Accepted.{ClockAsData, ClockNotInput, EdgeNotSensitive, IsAccepted, IsLoop, Latch, Loop, MissingSensitivity, MixedProcess, TwoDrivers}
+use Rattle.rtl_model.proofs.simulation.Decisions.{is_contained}
+
+pub record Faultless (net : Net) : Type 0 where
+  pub one_source : (n : ℕ) → length (sources_of net n) ≤ 1
+  pub not_mixed : (p : ℕ) → (process net p).kind ≡ Mixed → ⊥
+  pub clock_is_input : (p clock : ℕ) (edge : Edge) → IsClockedBy net p clock edge → IsInput net clock
+  pub clock_wakes : (p clock : ℕ) (edge : Edge) → IsClockedBy net p clock edge → Contains (process net p).wakes clock
+  pub reset_wakes : (p : ℕ) (reset : Reset) → HasReset net p reset → Contains (process net p).wakes reset.net
+  -- no branch reads a clock, its own or another's
+  pub no_clock_as_data : (p clock q other : ℕ) (edge edge' : Edge) → IsClockedBy net p clock edge → IsClockedBy net q other edge' → Contains (process net p).reads other → ⊥
+  pub reads_wake : (p n : ℕ) → IsCombinational net p → Contains (process net p).reads n → Contains (process net p).wakes n
+  pub no_latch : (p place : ℕ) → IsCombinational net p → HasPlace net p place → IsTrue ((process net p).assigns (target net p place))
+  pub no_loop : (ps : List ℕ) → IsLoop net ps → ⊥
+
+module _ (net : Net) (A : IsAccepted net) where
+  one : (n : ℕ) → length (sources_of net n) ≤ 1
+  one n = go (sources_of net n) refl
+    where
+      go : (xs : List Source) → sources_of net n ≡ xs → length (sources_of net n) ≤ 1
+      go [] e = rw e (omega arith)
+      go (x ∷ []) e = rw e (omega arith)
+      go (x ∷ y ∷ more) e = absurd (A (TwoDrivers n x y) (more, e))
+
+  wakes : (p n : ℕ) → ((Contains (process net p).wakes n → ⊥) → ⊥) → Contains (process net p).wakes n
+  wakes p n h = go (is_contained (process net p).wakes n)
+    where
+      go : Contains (process net p).wakes n ⊎ (Contains (process net p).wakes n → ⊥) → Contains (process net p).wakes n
+      go (inl c) = c
+      go (inr none) = absurd (h none)
+
+  input : (p clock : ℕ) (edge : Edge) → IsClockedBy net p clock edge → IsInput net clock
+  input p clock edge is = go (cases_Bool (list_any (λ m. m == clock) net.inputs))
+    where
+      go : (list_any (λ m. m == clock) net.inputs ≡ true) ⊎ (list_any (λ m. m == clock) net.inputs ≡ false) → IsInput net clock
+      go (inl t) = t
+      go (inr f) = absurd (A (ClockNotInput p clock) ((edge, is), λ (h : IsInput net clock). cc))
+
+  latch : (p place : ℕ) → IsCombinational net p → HasPlace net p place → IsTrue ((process net p).assigns (target net p place))
+  latch p place c h = go (cases_Bool ((process net p).assigns (target net p place)))
+    where
+      go : ((process net p).assigns (target net p place) ≡ true) ⊎ ((process net p).assigns (target net p place) ≡ false) → IsTrue ((process net p).assigns (target net p place))
+      go (inl t) = t
+      go (inr f) = absurd (A (Latch p (target net p place)) (c, Contains-get_or (process net p).drives place 0 h, f))
+
+  pub faultless : Faultless net
+  faultless = record {
+    one_source = one;
+    not_mixed = λ p e. A (MixedProcess p) e;
+    clock_is_input = input;
+    clock_wakes = λ p clock edge is. wakes p clock (λ none. A (EdgeNotSensitive p clock) (inl (edge, is), none));
+    reset_wakes = λ p reset has. wakes p reset.net (λ none. A (EdgeNotSensitive p reset.net) (inr (reset, has, refl), none));
+    no_clock_as_data = λ p clock q other edge edge' is is' reads. A (ClockAsData p other) ((q, (edge', is')), inl (clock, (edge, is), reads));
+    reads_wake = λ p n c reads. wakes p n (λ none. A (MissingSensitivity p n) (c, reads, none));
+    no_latch = latch;
+    no_loop = λ ps loop. A (Loop ps) loop;
+  }

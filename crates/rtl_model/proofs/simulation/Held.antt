@@ -1,0 +1,352 @@
+-- What holds at the end of every cycle, and that a delta cycle keeps it and leaves fewer levels with transactions.
+use Rattle.std.proofs.Common.{◌==◌, ◌&&◌, ◌≡◌, ℕ, zero, suc, ◌+◌, ◌<◌, ◌≤◌, Bool, true, false, List, [], ◌∷◌, length, get_or, map, Option, Some, None, refl, sym, ap, ◌∙◌, arith, ◌⊎◌, inl, inr, subst, IsSome, Contains}
+use Rattle.std.specs.List.{list_any}
+use Rattle.std.specs.Option.{is_some}
+use Rattle.std.proofs.lemmas.List.{length-map, get_or_past}
+use Rattle.std.proofs.lemmas.List.Elements.{Contains-get_or}
+use Rattle.std.proofs.lemmas.List.FromFn.{length-map-range_with_len}
+use Rattle.std.proofs.lemmas.Bool.{and_from, cases_lt, cases_Bool, cond-true, cond-false}
+use Rattle.rtl_model.proofs.simulation.Faultless.{Faultless}
+use Rattle.rtl_model.specs.simulation.Net.{Clocked, clocked_entry, Combinational, Driver, Edge, HasPlace, Idle, IsClockedBy, IsCombinational, IsInput, Kind, kind_reset, Mixed, Net, no_process, process, Process, Reset, reset_entry, reset_of, resets, Source, sources_of, target}
+use Rattle.rtl_model.specs.simulation.Cycle.{has_event, is_quiet, resolved, resumed, source_value, State, updated}
+use Rattle.rtl_model.specs.simulation.Elaborated.{AgreeOn, IsElaborated}
+use Rattle.rtl_model.specs.simulation.Levels.{AreLevels, has_late_reset, is_driver}
+use Rattle.rtl_model.specs.simulation.Machine.{entry_or, IsDriven}
+use Rattle.rtl_model.proofs.simulation.Order.{finished, waits, row_after, get_or-rows}
+use Rattle.rtl_model.proofs.simulation.Levels.{assigned, kinds, sole, driven_or_not, level_or, level_of, level_of_clocked, level_above_none, level_rises, Contains-none, first_source, only_source}
+use Rattle.rtl_model.proofs.simulation.Solution.{get_or-table, length-table}
+use Rattle.rtl_model.proofs.simulation.Rows.{any_true, transaction, value, out, driven_all_at, length-driven, driven_at, over_none, none_pending_at, any_at, none_contained, quiet_from, resumed_at, event_differs, no_event_same}
+use Rattle.rtl_model.proofs.simulation.Deltas.{after_delta, after}
+
+-- r is what the driver of each register has from the next update on
+pub record Holds (net : Net) (inputs : ℕ → ℕ) (r : ℕ → ℕ → ℕ) (s : State) : Type 0 where
+  pub now_length : length s.now ≡ length net.start
+  pub pend_length : length s.pending ≡ length net.processes
+  pub row_lengths : (p : ℕ) → length (get_or s.drivers p []) ≡ length (process net p).drives
+  pub on_inputs : (n : ℕ) → IsInput net n → get_or s.now n 0 ≡ inputs n
+  pub on_others : (n : ℕ) → n < length net.start → (IsInput net n → ⊥) → (IsDriven net n → ⊥) → get_or s.now n 0 ≡ get_or net.start n 0
+  pub on_driven : (p place : ℕ) → HasPlace net p place → get_or s.now (target net p place) 0 ≡ value s p place
+  pub on_combinational : (p place : ℕ) → IsCombinational net p → HasPlace net p place → get_or ((process net p).effect s.now s.now) place None ≡ Some (out s p place)
+  pub on_clocked : (p place clock : ℕ) (edge : Edge) → IsClockedBy net p clock edge → HasPlace net p place → out s p place ≡ r p place
+  -- where a reset holds, its branch has been laid over the registers
+  pub reset_kept : (p place clock : ℕ) (edge : Edge) → IsClockedBy net p clock edge → HasPlace net p place → resets (reset_of net p) inputs ≡ true → entry_or (reset_entry (reset_of net p) place) (r p place) ≡ r p place
+
+-- a cycle whose Runs are still to come: nothing is pending
+pub record IsFresh (net : Net) (u : State) : Type 0 where
+  pub rows : length u.pending ≡ length net.processes
+  pub none : (p place : ℕ) → transaction u p place ≡ None
+
+-- after d delta cycles and later by b: processes with transactions are above level d, or clocked and without an event
+pub record IsAbove (net : Net) (levels : List (Option ℕ)) (greatest d b : ℕ) (s : State) : Type 0 where
+  pub combinational : (p place : ℕ) → IsCombinational net p → IsSome (transaction s p place) → d + 1 ≤ level_or levels p + b
+  pub clocked_event : (p place clock : ℕ) (edge : Edge) → IsClockedBy net p clock edge → HasPlace net p place → (d + 1 ≤ b) ⊎ (out s p place ≡ value s p place)
+  pub clocked_woken : (p place clock : ℕ) (edge : Edge) → IsClockedBy net p clock edge → IsSome (transaction s p place) → (d + 1 ≤ b) ⊎ ((has_late_reset net ≡ true) × (d ≤ greatest + b))
+
+-- the cases of a clocked process's entry
+pub entry_none : (reset edge : Bool) (a b : Option ℕ) → reset ≡ false → edge ≡ false → clocked_entry reset edge a b ≡ None
+entry_none reset edge a b re e = rw (re, e) refl
+
+pub entry_of_reset : (reset edge : Bool) (a b : Option ℕ) → reset ≡ true → clocked_entry reset edge a b ≡ a
+entry_of_reset reset edge a b re = rw re refl
+
+pub entry_of_branch : (reset edge : Bool) (a b : Option ℕ) → reset ≡ false → edge ≡ true → clocked_entry reset edge a b ≡ b
+entry_of_branch reset edge a b re e = rw (re, e) refl
+
+some_is : (o t : Option ℕ) (v : ℕ) → IsSome o → t ≡ o → o ≡ Some (entry_or t v)
+some_is (Some x) t v h e = rw e refl
+some_is None t v h e = cc
+
+none_or_some : (o : Option ℕ) → (o ≡ None) ⊎ IsSome o
+none_or_some None = inl refl
+none_or_some (Some v) = inr refl
+
+pub kinds_below : (net : Net) (A : Faultless net) (p : ℕ) → p < length net.processes → IsCombinational net p ⊎ ((clock : ℕ) × (edge : Edge) × IsClockedBy net p clock edge)
+kinds_below net A p l = go (process net p).kind refl
+  where
+    go : (k : Kind) → (process net p).kind ≡ k → IsCombinational net p ⊎ ((clock : ℕ) × (edge : Edge) × IsClockedBy net p clock edge)
+    go Combinational e = inl (l, e)
+    go (Clocked clock edge reset) e = inr (clock, edge, (reset, e))
+    go Mixed e = absurd (A.not_mixed p e)
+
+-- the transactions after the Runs of a cycle
+pub ran_awake : (net : Net) (u : State) (p place : ℕ) → IsFresh net u → p < length net.processes → waits u p ≡ true → transaction (finished net u) p place ≡ get_or ((process net p).effect u.before u.now) place None
+ran_awake net u p place f l w =
+    let rows = f.rows in
+    let row = get_or-rows (row_after net u) (length u.pending) p [] (omega arith) ∙ cond-true (waits u p) _ _ w in
+    ap (λ (r : List (Option ℕ)). get_or r place None) row ∙ over_none ((process net p).effect u.before u.now) (get_or u.pending p []) place (f.none p place)
+
+pub ran_asleep : (net : Net) (u : State) (p place : ℕ) → IsFresh net u → waits u p ≡ false → transaction (finished net u) p place ≡ None
+ran_asleep net u p place f w = go (cases_lt p (length u.pending))
+  where
+    go : (p < length u.pending) ⊎ (length u.pending ≤ p) → transaction (finished net u) p place ≡ None
+    go (inl l) =
+        let row = get_or-rows (row_after net u) (length u.pending) p [] l ∙ cond-false (waits u p) _ _ w in
+        ap (λ (r : List (Option ℕ)). get_or r place None) row ∙ f.none p place
+    go (inr l) =
+        let row = get_or_past (finished net u).pending p [] (rw length-map-range_with_len l) in
+        ap (λ (r : List (Option ℕ)). get_or r place None) row
+
+-- who has a transaction then, has run
+pub who_ran : (net : Net) (u : State) (p place : ℕ) → IsFresh net u → IsSome (transaction (finished net u) p place) → (p < length net.processes) × (waits u p ≡ true)
+who_ran net u p place f s = (go (cases_lt p (length u.pending)), at (cases_Bool (waits u p)))
+  where
+    go : (p < length u.pending) ⊎ (length u.pending ≤ p) → p < length net.processes
+    go (inl l) = let rows = f.rows in omega arith
+    go (inr l) =
+        let row = get_or_past (finished net u).pending p [] (rw length-map-range_with_len l) in
+        let e : transaction (finished net u) p place ≡ None = ap (λ (r : List (Option ℕ)). get_or r place None) row in
+        cc
+
+    at : (waits u p ≡ true) ⊎ (waits u p ≡ false) → waits u p ≡ true
+    at (inl w) = w
+    at (inr w) = let e = ran_asleep net u p place f w in cc
+
+module _ (net : Net) (levels : List (Option ℕ)) (greatest : ℕ) (E : IsElaborated net) (A : Faultless net) (V : AreLevels net levels greatest) where
+  pub input_not_driven : (n : ℕ) → IsInput net n → IsDriven net n → ⊥
+  input_not_driven n is (p, place, h, t) = Contains-none (Driver p place) (subst (λ (xs : List Source). Contains xs (Driver p place)) (E.wiring.inputs_have_no_source n is) (subst (λ (m : ℕ). Contains (sources_of net m) (Driver p place)) t (E.wiring.drivers_are_sources p place h)))
+
+  -- what a clocked process has after its run
+  pub clocked_awake : (u : State) (p place clock : ℕ) (edge : Edge) → IsFresh net u → IsClockedBy net p clock edge → p < length net.processes → waits u p ≡ true
+      → transaction (finished net u) p place ≡ clocked_entry (resets (reset_of net p) (λ n. get_or u.now n 0)) (net.edge edge (get_or u.before clock 0) (get_or u.now clock 0)) (reset_entry (reset_of net p) place) (get_or ((process net p).branch u.now) place None)
+  clocked_awake u p place clock edge f is l w = ran_awake net u p place f l w ∙ E.bodies.clocked_acts p clock place edge u.before u.now is
+
+  -- a clocked process whose clock has no event assigns nothing, unless its reset holds
+  pub clocked_ran : (u : State) (p place clock : ℕ) (edge : Edge) → IsFresh net u → IsClockedBy net p clock edge → resets (reset_of net p) (λ n. get_or u.now n 0) ≡ false → net.edge edge (get_or u.before clock 0) (get_or u.now clock 0) ≡ false → transaction (finished net u) p place ≡ None
+  clocked_ran u p place clock edge f is re e = go (none_or_some (transaction (finished net u) p place))
+    where
+      go : (transaction (finished net u) p place ≡ None) ⊎ IsSome (transaction (finished net u) p place) → transaction (finished net u) p place ≡ None
+      go (inl h) = h
+      go (inr h) =
+          let (l, w) = who_ran net u p place f h in
+          clocked_awake u p place clock edge f is l w ∙ entry_none _ _ _ _ re e
+
+  pub reset_ran : (u : State) (p place clock : ℕ) (edge : Edge) → IsFresh net u → IsClockedBy net p clock edge → p < length net.processes → waits u p ≡ true → resets (reset_of net p) (λ n. get_or u.now n 0) ≡ true → transaction (finished net u) p place ≡ reset_entry (reset_of net p) place
+  reset_ran u p place clock edge f is l w re = clocked_awake u p place clock edge f is l w ∙ entry_of_reset _ _ _ _ re
+
+  -- a reset reads an input
+  pub reset_now : (p : ℕ) (v w : ℕ → ℕ) → ((n : ℕ) → IsInput net n → v n ≡ w n) → resets (reset_of net p) v ≡ resets (reset_of net p) w
+  reset_now p v w h = go (reset_of net p) refl
+    where
+      go : (o : Option Reset) → reset_of net p ≡ o → resets o v ≡ resets o w
+      go None e = refl
+      go (Some r) e = ap (λ (x : ℕ). x == r.value) (h r.net (E.bodies.reset_is_input p r e))
+
+  pub no_edge_same : (before now : List ℕ) (clock : ℕ) (edge : Edge) → get_or before clock 0 ≡ get_or now clock 0 → net.edge edge (get_or before clock 0) (get_or now clock 0) ≡ false
+  no_edge_same before now clock edge e = rw e (E.values.edges_differ edge (get_or now clock 0))
+
+  pub combinational_awake : (u : State) (p place : ℕ) → IsFresh net u → IsCombinational net p → HasPlace net p place → waits u p ≡ true → get_or ((process net p).effect u.now u.now) place None ≡ Some (out (finished net u) p place)
+  combinational_awake u p place f c h w =
+      let same = E.bodies.effect_reads p u.now u.now u.before u.now c (λ n r. refl) in
+      ap (λ (r : List (Option ℕ)). get_or r place None) same
+      ∙ some_is (get_or ((process net p).effect u.before u.now) place None) (transaction (finished net u) p place) (value u p place) (assigned net levels greatest E A V p place u.before u.now c h) (ran_awake net u p place f c.0 w)
+
+  asleep_agrees : (before now : List ℕ) (p : ℕ) → IsCombinational net p → list_any (has_event before now) (process net p).wakes ≡ false → AgreeOn (process net p).reads before now
+  asleep_agrees before now p c e n r = no_event_same before now n (none_contained (has_event before now) (process net p).wakes n e (A.reads_wake p n c r))
+
+  -- a combinational process's output after the Runs is its effect now, if it was before
+  pub combinational_ran : (u : State) (p place : ℕ) → IsFresh net u → u.waiting ≡ resumed net u.before u.now → IsCombinational net p → HasPlace net p place
+      → get_or ((process net p).effect u.before u.before) place None ≡ Some (value u p place)
+      → get_or ((process net p).effect u.now u.now) place None ≡ Some (out (finished net u) p place)
+  combinational_ran u p place f t c h was = go (cases_Bool (waits u p))
+    where
+      resumes : waits u p ≡ list_any (has_event u.before u.now) (process net p).wakes
+      resumes = ap (λ (ts : List Bool). get_or ts p false) t ∙ resumed_at net u.before u.now p
+
+      go : (waits u p ≡ true) ⊎ (waits u p ≡ false) → get_or ((process net p).effect u.now u.now) place None ≡ Some (out (finished net u) p place)
+      go (inl w) = combinational_awake u p place f c h w
+      go (inr w) =
+          let agree = asleep_agrees u.before u.now p c (sym resumes ∙ w) in
+          let same = E.bodies.effect_reads p u.now u.now u.before u.before c (λ n r. sym (agree n r)) in
+          ap (λ (r : List (Option ℕ)). get_or r place None) same ∙ was
+          ∙ ap (λ (o : Option ℕ). Some (entry_or o (value u p place))) (sym (ran_asleep net u p place f w))
+
+  module _ (inputs : ℕ → ℕ) (r : ℕ → ℕ → ℕ) (s : State) (H : Holds net inputs r s) where
+    pub updated_fresh : IsFresh net (updated net s)
+    updated_fresh = record { rows = length-map s.pending _ ∙ H.pend_length; none = none_pending_at s.pending }
+
+    pub updated_value : (p place : ℕ) → HasPlace net p place → value (updated net s) p place ≡ out s p place
+    updated_value p place h =
+        let e = H.row_lengths p in
+        ap (λ (row : List ℕ). get_or row place 0) (driven_all_at s.pending s.drivers p) ∙ driven_at (get_or s.pending p []) (get_or s.drivers p []) place (omega arith)
+
+    pub updated_driven : (p place : ℕ) → HasPlace net p place → get_or (updated net s).now (target net p place) 0 ≡ value (updated net s) p place
+    updated_driven p place h =
+        get_or-table (length net.start) (λ n. resolved net (updated net s).drivers (sources_of net n) (get_or s.now n 0)) (target net p place) (E.wiring.targets_are_nets p place h)
+        ∙ ap (λ (xs : List Source). resolved net (updated net s).drivers xs (get_or s.now (target net p place) 0)) (sole net levels greatest E A V p place h)
+        ∙ E.values.one_resolves _
+
+    pub updated_rest : (n : ℕ) → (IsDriven net n → ⊥) → get_or (updated net s).now n 0 ≡ get_or s.now n 0
+    updated_rest n free = go (cases_lt n (length net.start)) (sources_of net n) refl
+      where
+        starts : List (List ℕ)
+        starts = map (λ (p : Process). p.starts) net.processes
+
+        go : (n < length net.start) ⊎ (length net.start ≤ n) → (xs : List Source) → sources_of net n ≡ xs → get_or (updated net s).now n 0 ≡ get_or s.now n 0
+        go (inl l) [] e =
+            get_or-table (length net.start) (λ m. resolved net (updated net s).drivers (sources_of net m) (get_or s.now m 0)) n l
+            ∙ ap (λ (xs : List Source). resolved net (updated net s).drivers xs (get_or s.now n 0)) e
+        go (inl l) (Idle v ∷ more) e =
+            let has = subst (λ (xs : List Source). Contains xs (Idle v)) (sym e) (first_source (Idle v) more) in
+            let one = only_source (sources_of net n) (Idle v) (A.one_source n) has in
+            let given : IsInput net n → ⊥ = λ is. Contains-none (Idle v) (subst (λ (xs : List Source). Contains xs (Idle v)) (E.wiring.inputs_have_no_source n is) has) in
+            get_or-table (length net.start) (λ m. resolved net (updated net s).drivers (sources_of net m) (get_or s.now m 0)) n l
+            ∙ ap (λ (xs : List Source). resolved net (updated net s).drivers xs (get_or s.now n 0)) one
+            ∙ sym (H.on_others n l given free ∙ E.wiring.nets_start n (Idle v) has ∙ ap (λ (xs : List Source). net.resolve (map (source_value starts) xs)) one)
+        go (inl l) (Driver p place ∷ more) e =
+            let f = E.wiring.sources_are_drivers n p place (subst (λ (xs : List Source). Contains xs (Driver p place)) (sym e) (first_source (Driver p place) more)) in
+            absurd (free (p, place, f.0, f.1))
+        go (inr l) xs e =
+            let k = H.now_length in
+            get_or_past (updated net s).now n 0 (rw length-table l) ∙ sym (get_or_past s.now n 0 (omega arith))
+
+    reset_after : (p : ℕ) → resets (reset_of net p) (λ n. get_or (updated net s).now n 0) ≡ resets (reset_of net p) inputs
+    reset_after p = reset_now p (λ n. get_or (updated net s).now n 0) inputs (λ n is. updated_rest n (input_not_driven n is) ∙ H.on_inputs n is)
+
+    no_edge_then : (p clock : ℕ) (edge : Edge) → IsClockedBy net p clock edge → net.edge edge (get_or s.now clock 0) (get_or (updated net s).now clock 0) ≡ false
+    no_edge_then p clock edge is = no_edge_same s.now (updated net s).now clock edge (sym (updated_rest clock (input_not_driven clock (A.clock_is_input p clock edge is))))
+
+    -- who has a transaction then is in reset
+    delta_resets : (p place clock : ℕ) (edge : Edge) → IsClockedBy net p clock edge → IsSome (transaction (after_delta net s) p place) → resets (reset_of net p) inputs ≡ true
+    delta_resets p place clock edge is some = go (cases_Bool (resets (reset_of net p) inputs))
+      where
+        go : (resets (reset_of net p) inputs ≡ true) ⊎ (resets (reset_of net p) inputs ≡ false) → resets (reset_of net p) inputs ≡ true
+        go (inl t) = t
+        go (inr t) = let none = clocked_ran (updated net s) p place clock edge updated_fresh is (reset_after p ∙ t) (no_edge_then p clock edge is) in cc
+
+    -- a clocked process makes no event after a delta cycle
+    delta_same : (p place clock : ℕ) (edge : Edge) → IsClockedBy net p clock edge → HasPlace net p place → entry_or (transaction (after_delta net s) p place) (out s p place) ≡ out s p place
+    delta_same p place clock edge is h = go (none_or_some (transaction (after_delta net s) p place))
+      where
+        go : (transaction (after_delta net s) p place ≡ None) ⊎ IsSome (transaction (after_delta net s) p place) → entry_or (transaction (after_delta net s) p place) (out s p place) ≡ out s p place
+        go (inl e) = ap (λ (o : Option ℕ). entry_or o (out s p place)) e
+        go (inr some) =
+            let (l, w) = who_ran net (updated net s) p place updated_fresh some in
+            let t = delta_resets p place clock edge is some in
+            let ran = reset_ran (updated net s) p place clock edge updated_fresh is l w (reset_after p ∙ t) in
+            let was = H.on_clocked p place clock edge is h in
+            ap (λ (o : Option ℕ). entry_or o (out s p place)) ran ∙ ap (entry_or (reset_entry (reset_of net p) place)) was ∙ H.reset_kept p place clock edge is h t ∙ sym was
+
+    pub delta_holds : Holds net inputs r (after_delta net s)
+    delta_holds = record {
+      now_length = length-table _ _;
+      pend_length = length-map-range_with_len (row_after net (updated net s)) 0 (length (updated net s).pending) ∙ updated_fresh.rows;
+      row_lengths = λ p. ap length (driven_all_at s.pending s.drivers p) ∙ length-driven (get_or s.pending p []) (get_or s.drivers p []) ∙ H.row_lengths p;
+      on_inputs = λ n is. updated_rest n (input_not_driven n is) ∙ H.on_inputs n is;
+      on_others = λ n l given free. updated_rest n free ∙ H.on_others n l given free;
+      on_driven = updated_driven;
+      on_combinational = λ p place c h. combinational_ran (updated net s) p place updated_fresh refl c h (H.on_combinational p place c h ∙ ap (λ (x : ℕ). Some x) (sym (updated_value p place h)));
+      on_clocked = λ p place clock edge is h. ap (entry_or (transaction (after_delta net s) p place)) (updated_value p place h) ∙ delta_same p place clock edge is h ∙ H.on_clocked p place clock edge is h;
+      reset_kept = H.reset_kept;
+    }
+
+    -- one delta cycle more, and those with transactions are a level higher
+    module _ (d b : ℕ) (above : IsAbove net levels greatest d b s) where
+      -- a net with an event then is driven by a process that is high enough
+      event_above : (n : ℕ) → (get_or s.now n 0 ≡ get_or (updated net s).now n 0 → ⊥) → (q : ℕ) × (place : ℕ) × HasPlace net q place × (target net q place ≡ n) × (d + 1 ≤ level_or levels q + b)
+      event_above n differs = go (driven_or_not net levels greatest E A V n)
+        where
+          same : (q place : ℕ) → HasPlace net q place → target net q place ≡ n → out s q place ≡ value s q place → get_or s.now n 0 ≡ get_or (updated net s).now n 0
+          same q place h t e = subst (λ (m : ℕ). get_or s.now m 0 ≡ get_or (updated net s).now m 0) t
+              (H.on_driven q place h ∙ sym (updated_driven q place h ∙ updated_value q place h ∙ e))
+
+          combinational : (q place : ℕ) → HasPlace net q place → target net q place ≡ n → IsCombinational net q → (transaction s q place ≡ None) ⊎ IsSome (transaction s q place) → d + 1 ≤ level_or levels q + b
+          combinational q place h t c (inl e) = absurd (differs (same q place h t (ap (λ (o : Option ℕ). entry_or o (value s q place)) e)))
+          combinational q place h t c (inr some) = above.combinational q place c some
+
+          clocked : (q place : ℕ) → HasPlace net q place → target net q place ≡ n → (d + 1 ≤ b) ⊎ (out s q place ≡ value s q place) → d + 1 ≤ level_or levels q + b
+          clocked q place h t (inl l) = omega arith
+          clocked q place h t (inr e) = absurd (differs (same q place h t e))
+
+          of_kind : (q place : ℕ) → HasPlace net q place → target net q place ≡ n → IsCombinational net q ⊎ ((clock : ℕ) × (edge : Edge) × IsClockedBy net q clock edge) → d + 1 ≤ level_or levels q + b
+          of_kind q place h t (inl c) = combinational q place h t c (none_or_some (transaction s q place))
+          of_kind q place h t (inr (clock, edge, is)) = clocked q place h t (above.clocked_event q place clock edge is h)
+
+          go : IsDriven net n ⊎ (IsDriven net n → ⊥) → (q : ℕ) × (place : ℕ) × HasPlace net q place × (target net q place ≡ n) × (d + 1 ≤ level_or levels q + b)
+          go (inr free) = absurd (differs (sym (updated_rest n free)))
+          go (inl (q, place, h, t)) = (q, place, h, t, of_kind q place h t (kinds net levels greatest E A V q place h))
+
+      woken_by : (p place : ℕ) → IsSome (transaction (after_delta net s) p place) → (n : ℕ) × Contains (process net p).wakes n × ((q : ℕ) × (place : ℕ) × HasPlace net q place × (target net q place ≡ n) × (d + 1 ≤ level_or levels q + b))
+      woken_by p place some =
+          let (l, w) = who_ran net (updated net s) p place updated_fresh some in
+          let (n, wakes, event) = any_at (has_event s.now (updated net s).now) (process net p).wakes (sym (resumed_at net s.now (updated net s).now p) ∙ w) in
+          (n, wakes, event_above n (event_differs s.now (updated net s).now n event))
+
+      low : (q place : ℕ) → HasPlace net q place → level_or levels q ≤ greatest
+      low q place h = go (kinds net levels greatest E A V q place h)
+        where
+          go : IsCombinational net q ⊎ ((clock : ℕ) × (edge : Edge) × IsClockedBy net q clock edge) → level_or levels q ≤ greatest
+          go (inl c) = (level_of net levels greatest E A V q c).1
+          go (inr (clock, edge, is)) = let none = level_of_clocked net levels greatest E A V q clock edge is in omega arith
+
+      rises_from : (p q place n : ℕ) → IsCombinational net p → Contains (process net p).wakes n → HasPlace net q place → target net q place ≡ n → level_or levels q < level_or levels p
+      rises_from p q place n c w h t = go (kinds net levels greatest E A V q place h)
+        where
+          go : IsCombinational net q ⊎ ((clock : ℕ) × (edge : Edge) × IsClockedBy net q clock edge) → level_or levels q < level_or levels p
+          go (inl comb) = level_rises net levels greatest E A V q p (record { feeder = comb; fed = c; place = place; drives = h; wakes = subst (λ (m : ℕ). Contains (process net p).wakes m) (sym t) w })
+          go (inr (clock, edge, is)) =
+              let none = level_of_clocked net levels greatest E A V q clock edge is in
+              let one = level_above_none net levels greatest E A V p c in
+              omega arith
+
+      may_wake : (p place clock : ℕ) (edge : Edge) → IsClockedBy net p clock edge → IsSome (transaction (after_delta net s) p place) → (n q qp : ℕ) → Contains (process net p).wakes n → HasPlace net q qp → target net q qp ≡ n → has_late_reset net ≡ true
+      may_wake p place clock edge is some n q qp w h t =
+          any_true (λ (x : Process). is_some (kind_reset x.kind) && list_any (λ m. list_any is_driver (sources_of net m)) x.wakes) net.processes (process net p) at (and_from _ _ has drives)
+        where
+          in_range : p < length net.processes
+          in_range = (who_ran net (updated net s) p place updated_fresh some).0
+
+          at : Contains net.processes (process net p)
+          at = Contains-get_or net.processes p no_process in_range
+
+          has : is_some (reset_of net p) ≡ true
+          has = go (reset_of net p) (delta_resets p place clock edge is some)
+            where
+              go : (o : Option Reset) → resets o inputs ≡ true → is_some o ≡ true
+              go None e = cc
+              go (Some r) e = refl
+
+          drives : list_any (λ m. list_any is_driver (sources_of net m)) (process net p).wakes ≡ true
+          drives = any_true (λ m. list_any is_driver (sources_of net m)) (process net p).wakes n w
+              (any_true is_driver (sources_of net n) (Driver q qp) (subst (λ (m : ℕ). Contains (sources_of net m) (Driver q qp)) t (E.wiring.drivers_are_sources q qp h)) refl)
+
+      pub delta_above : IsAbove net levels greatest (suc d) b (after_delta net s)
+      delta_above = record {
+        combinational = λ p place c some.
+            let (n, w, (q, qp, h, t, k)) = woken_by p place some in
+            let rises = rises_from p q qp n c w h t in
+            omega arith;
+        clocked_event = λ p place clock edge is h. inr (ap (entry_or (transaction (after_delta net s) p place)) (updated_value p place h) ∙ delta_same p place clock edge is h ∙ sym (updated_value p place h));
+        clocked_woken = λ p place clock edge is some.
+            let (n, w, (q, qp, h, t, k)) = woken_by p place some in
+            let l = low q qp h in
+            inr (may_wake p place clock edge is some n q qp w h t, omega arith);
+      }
+
+  module _ (inputs : ℕ → ℕ) (r : ℕ → ℕ → ℕ) where
+    pub after_holds : (k : ℕ) (s : State) → Holds net inputs r s → Holds net inputs r (after net k s)
+    after_holds zero s H = H
+    after_holds (suc k) s H = after_holds k (after_delta net s) (delta_holds inputs r s H)
+
+    after_above : (k d b : ℕ) (s : State) → Holds net inputs r s → IsAbove net levels greatest d b s → IsAbove net levels greatest (d + k) b (after net k s)
+    after_above zero d b s H above = let e : d ≡ d + 0 = omega arith in subst (λ (i : ℕ). IsAbove net levels greatest i b s) e above
+    after_above (suc k) d b s H above =
+        let more = after_above k (suc d) b (after_delta net s) (delta_holds inputs r s H) (delta_above inputs r s H d b above) in
+        let e : suc d + k ≡ d + suc k = omega arith in
+        subst (λ (i : ℕ). IsAbove net levels greatest i b (after net k (after_delta net s))) e more
+
+    pub quiet_after : (b x : ℕ) (s : State) → (has_late_reset net ≡ true → 1 ≤ x) → Holds net inputs r s → IsAbove net levels greatest 0 b s → is_quiet (after net (greatest + b + x) s) ≡ true
+    quiet_after b x s hx H above = quiet_from (after net (greatest + b + x) s) (λ p place l some. go p place some (kinds_below net A p (in_range p l)))
+      where
+        last : IsAbove net levels greatest (0 + (greatest + b + x)) b (after net (greatest + b + x) s)
+        last = after_above (greatest + b + x) 0 b s H above
+
+        in_range : (p : ℕ) → p < length (after net (greatest + b + x) s).pending → p < length net.processes
+        in_range p l = let k = (after_holds (greatest + b + x) s H).pend_length in omega arith
+
+        late_one : (0 + (greatest + b + x) + 1 ≤ b) ⊎ ((has_late_reset net ≡ true) × (0 + (greatest + b + x) ≤ greatest + b)) → ⊥
+        late_one (inl l) = omega arith
+        late_one (inr (t, l)) = let k = hx t in omega arith
+
+        go : (p place : ℕ) → IsSome (transaction (after net (greatest + b + x) s) p place) → IsCombinational net p ⊎ ((clock : ℕ) × (edge : Edge) × IsClockedBy net p clock edge) → ⊥
+        go p place some (inl c) = let k = last.combinational p place c some in let l = (level_of net levels greatest E A V p c).1 in omega arith
+        go p place some (inr (clock, edge, is)) = late_one (last.clocked_woken p place clock edge is some)

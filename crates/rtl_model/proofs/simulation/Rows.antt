@@ -1,0 +1,125 @@
+-- What the rows of transactions and values have at a place.
+use Rattle.std.proofs.Common.{◌≡◌, ℕ, zero, suc, ◌<◌, Bool, true, false, not, List, [], ◌∷◌, length, get_or, map, Option, Some, None, refl, ap, arith, ◌⊎◌, inl, inr, subst, IsSome, Contains}
+use Rattle.std.specs.List.{list_any}
+use Rattle.std.specs.Option.{is_some}
+use Rattle.std.proofs.lemmas.Bool.{or_cases, or_parts, not-true, not-false, eqb-true, ne_eqb, eqb-false, cases_Bool}
+use Rattle.rtl_model.specs.simulation.Net.{Net, no_process, process, Process}
+use Rattle.rtl_model.specs.simulation.Cycle.{driven, driven_all, has_event, is_quiet, none_pending, over, resumed, State}
+use Rattle.rtl_model.specs.simulation.Machine.{entry_or}
+
+abbrev pub transaction : State → ℕ → ℕ → Option ℕ
+transaction s p place = get_or (get_or s.pending p []) place None
+
+abbrev pub value : State → ℕ → ℕ → ℕ
+value s p place = get_or (get_or s.drivers p []) place 0
+
+-- what the driver has after the next update
+abbrev pub out : State → ℕ → ℕ → ℕ
+out s p place = entry_or (transaction s p place) (value s p place)
+
+pub get_or-map : {X Y : Type 0} (f : X → Y) (xs : List X) (k : ℕ) (d : X) → get_or (map f xs) k (f d) ≡ f (get_or xs k d)
+get_or-map f [] k d = refl
+get_or-map f (x ∷ xs) zero d = refl
+get_or-map f (x ∷ xs) (suc k) d = get_or-map f xs k d
+
+pub driven_all_at : (ps : List (List (Option ℕ))) (rows : List (List ℕ)) (p : ℕ) → get_or (driven_all ps rows) p [] ≡ driven (get_or ps p []) (get_or rows p [])
+driven_all_at [] rows p = refl
+driven_all_at (a ∷ ps) [] p = none (get_or (a ∷ ps) p [])
+  where
+    none : (a : List (Option ℕ)) → [] ≡ driven a []
+    none [] = refl
+    none (x ∷ a) = refl
+driven_all_at (a ∷ ps) (row ∷ rows) zero = refl
+driven_all_at (a ∷ ps) (row ∷ rows) (suc p) = driven_all_at ps rows p
+
+pub length-driven : (a : List (Option ℕ)) (xs : List ℕ) → length (driven a xs) ≡ length xs
+length-driven [] xs = refl
+length-driven (o ∷ a) [] = refl
+length-driven (Some v ∷ a) (x ∷ xs) = ap suc (length-driven a xs)
+length-driven (None ∷ a) (x ∷ xs) = ap suc (length-driven a xs)
+
+pub driven_at : (a : List (Option ℕ)) (xs : List ℕ) (k : ℕ) → k < length xs → get_or (driven a xs) k 0 ≡ entry_or (get_or a k None) (get_or xs k 0)
+driven_at [] xs k l = refl
+driven_at (o ∷ a) [] k l = absurd (omega arith)
+driven_at (Some v ∷ a) (x ∷ xs) zero l = refl
+driven_at (None ∷ a) (x ∷ xs) zero l = refl
+driven_at (Some v ∷ a) (x ∷ xs) (suc k) l = driven_at a xs k (omega arith)
+driven_at (None ∷ a) (x ∷ xs) (suc k) l = driven_at a xs k (omega arith)
+
+-- over a map with nothing at the place
+pub over_none : (as' bs : List (Option ℕ)) (k : ℕ) → get_or bs k None ≡ None → get_or (over as' bs) k None ≡ get_or as' k None
+over_none [] bs k e = e
+over_none (a ∷ as') [] k e = refl
+over_none (Some v ∷ as') (b ∷ bs) zero e = refl
+over_none (None ∷ as') (b ∷ bs) zero e = e
+over_none (Some v ∷ as') (b ∷ bs) (suc k) e = over_none as' bs k e
+over_none (None ∷ as') (b ∷ bs) (suc k) e = over_none as' bs k e
+
+pub no_entries : {X : Type 0} (xs : List X) (k : ℕ) → get_or (map {B = Option ℕ} (λ (x : X). None) xs) k None ≡ None
+no_entries [] k = refl
+no_entries (x ∷ xs) zero = refl
+no_entries (x ∷ xs) (suc k) = no_entries xs k
+
+pub none_pending_at : (pend : List (List (Option ℕ))) (p place : ℕ) → get_or (get_or (none_pending pend) p []) place None ≡ None
+none_pending_at pend p place = rw (get_or-map (map {B = Option ℕ} (λ (x : Option ℕ). None)) pend p []) (no_entries (get_or pend p []) place)
+
+-- tests of a list
+pub any_at : {X : Type 0} (f : X → Bool) (xs : List X) → list_any f xs ≡ true → (x : X) × Contains xs x × (f x ≡ true)
+any_at f [] e = cc
+any_at {X} f (x ∷ xs) e = go (λ h. any_at f xs h) (or_cases (f x) (list_any f xs) e)
+  where
+    go : (list_any f xs ≡ true → (y : X) × Contains xs y × (f y ≡ true)) → (f x ≡ true) ⊎ (list_any f xs ≡ true) → (y : X) × Contains (x ∷ xs) y × (f y ≡ true)
+    go more (inl h) = (x, (0, omega arith, refl), h)
+    go more (inr h) = let (y, (k, l, at), t) = more h in (y, (suc k, omega arith, at), t)
+
+pub none_at : {X : Type 0} (f : X → Bool) (xs : List X) (k : ℕ) (d : X) → list_any f xs ≡ false → f d ≡ false → f (get_or xs k d) ≡ false
+none_at f [] k d e h = h
+none_at f (x ∷ xs) zero d e h = (or_parts (f x) (list_any f xs) e).0
+none_at f (x ∷ xs) (suc k) d e h = none_at f xs k d (or_parts (f x) (list_any f xs) e).1 h
+
+pub none_contained : {X : Type 0} (f : X → Bool) (xs : List X) (x : X) → list_any f xs ≡ false → Contains xs x → f x ≡ false
+none_contained f [] x e (k, l, at) = absurd (omega arith)
+none_contained {X} f (y ∷ xs) x e (zero, l, at) = subst (λ (z : X). f z ≡ false) at (or_parts (f y) (list_any f xs) e).0
+none_contained {X} f (y ∷ xs) x e (suc k, l, at) = none_contained f xs x (or_parts (f y) (list_any f xs) e).1 (k, omega arith, at)
+
+pub all_none : {X : Type 0} (f : X → Bool) (xs : List X) (d : X) → ((k : ℕ) → k < length xs → f (get_or xs k d) ≡ false) → list_any f xs ≡ false
+all_none f [] d h = refl
+all_none f (x ∷ xs) d h = rw (h 0 (omega arith)) (all_none f xs d (λ k l. h (suc k) (omega arith)))
+
+-- quiet is to have no transaction
+pub quiet_at : (s : State) → is_quiet s ≡ true → (p place : ℕ) → transaction s p place ≡ None
+quiet_at s q p place = go (transaction s p place) (none_at is_some (get_or s.pending p []) place None (none_at (list_any is_some) s.pending p [] (not_true' q) refl) refl)
+  where
+    not_true' : not (list_any (list_any is_some) s.pending) ≡ true → list_any (list_any is_some) s.pending ≡ false
+    not_true' h = not-true _ h
+
+    go : (o : Option ℕ) → is_some o ≡ false → o ≡ None
+    go None e = refl
+    go (Some v) e = cc
+
+pub quiet_from : (s : State) → ((p place : ℕ) → p < length s.pending → IsSome (transaction s p place) → ⊥) → is_quiet s ≡ true
+quiet_from s h = ap not (all_none (list_any is_some) s.pending [] (λ p l. all_none is_some (get_or s.pending p []) None (λ place k. go p place l (transaction s p place) refl)))
+  where
+    go : (p place : ℕ) → p < length s.pending → (o : Option ℕ) → transaction s p place ≡ o → is_some (transaction s p place) ≡ false
+    go p place l None e = ap is_some e
+    go p place l (Some v) e = absurd (h p place l (ap is_some e))
+
+-- a process is resumed where a net that it is sensitive to has an event
+pub resumed_at : (net : Net) (before now : List ℕ) (p : ℕ) → get_or (resumed net before now) p false ≡ list_any (has_event before now) (process net p).wakes
+resumed_at net before now p = get_or-map (λ (q : Process). list_any (has_event before now) q.wakes) net.processes p no_process
+
+pub event_differs : (before now : List ℕ) (n : ℕ) → has_event before now n ≡ true → get_or before n 0 ≡ get_or now n 0 → ⊥
+event_differs before now n e h = eqb-false _ _ (not-true _ e) h
+
+pub no_event_same : (before now : List ℕ) (n : ℕ) → has_event before now n ≡ false → get_or before n 0 ≡ get_or now n 0
+no_event_same before now n e = eqb-true _ _ (not-false _ e)
+
+pub differs_event : (before now : List ℕ) (n : ℕ) → (get_or before n 0 ≡ get_or now n 0 → ⊥) → has_event before now n ≡ true
+differs_event before now n h = ap not (ne_eqb _ _ h)
+
+pub any_true : {X : Type 0} (f : X → Bool) (xs : List X) (x : X) → Contains xs x → f x ≡ true → list_any f xs ≡ true
+any_true f xs x c t = go (cases_Bool (list_any f xs))
+  where
+    go : (list_any f xs ≡ true) ⊎ (list_any f xs ≡ false) → list_any f xs ≡ true
+    go (inl h) = h
+    go (inr h) = let k = none_contained f xs x h c in cc

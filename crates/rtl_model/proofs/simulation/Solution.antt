@@ -1,0 +1,188 @@
+-- One valuation solves an accepted net, and no other.
+use Rattle.std.proofs.Common.{◌≡◌, ℕ, zero, suc, ◌<◌, ◌≤◌, true, false, List, [], ◌∷◌, length, get_or, Option, Some, None, refl, sym, ap, ◌∙◌, arith, if◌then◌else◌, ◌⊎◌, inl, inr, subst, IsSome, Contains, ◌==◌}
+use Rattle.std.specs.List.{list_any}
+use Rattle.std.proofs.lemmas.List.{ext_get_or, get_or_past}
+use Rattle.std.proofs.lemmas.List.FromFn.{length-map-range_with_len, get_or-map-range_with_len}
+use Rattle.std.proofs.lemmas.Bool.{cases_lt, cases_Bool, cond-true, cond-false, false_from_ne_true}
+use Rattle.rtl_model.proofs.simulation.Faultless.{Faultless, faultless}
+use Rattle.rtl_model.specs.simulation.Net.{Clocked, Combinational, Driver, Edge, HasPlace, Idle, IsClockedBy, IsCombinational, IsInput, Kind, Mixed, Net, process, Source, sources_of, table, target}
+use Rattle.rtl_model.specs.simulation.Cycle.{given}
+use Rattle.rtl_model.specs.simulation.Elaborated.{AgreeOn, IsElaborated}
+use Rattle.rtl_model.specs.simulation.Levels.{AreLevels}
+use Rattle.rtl_model.specs.simulation.Machine.{entry_or, IsDriven, Solves}
+use Rattle.rtl_model.specs.simulation.Laws.{OneSolution}
+use Rattle.rtl_model.proofs.simulation.Loops.{levels_exist}
+use Rattle.rtl_model.proofs.simulation.Levels.{assigned, kinds, sole, driven_or_not, level_or, level_of, level_of_clocked, level_above_none, level_rises, first_source}
+
+pub get_or-table : (n : ℕ) (f : ℕ → ℕ) (k : ℕ) → k < n → get_or (table n f) k 0 ≡ f k
+get_or-table n f k h = get_or-map-range_with_len f 0 n k k 0 h (omega arith)
+
+pub length-table : (n : ℕ) (f : ℕ → ℕ) → length (table n f) ≡ n
+length-table n f = length-map-range_with_len f 0 n
+
+some_entry : (o : Option ℕ) → IsSome o → o ≡ Some (entry_or o 0)
+some_entry (Some v) h = refl
+some_entry None h = cc
+
+-- two valuations agree on what processes of at most this level drive, and on what none drives
+pub record AgreeTo (net : Net) (levels : List (Option ℕ)) (d : ℕ) (v w : List ℕ) : Type 0 where
+  pub on_driven : (p place : ℕ) → HasPlace net p place → level_or levels p ≤ d → get_or v (target net p place) 0 ≡ get_or w (target net p place) 0
+  pub on_rest : (n : ℕ) → (IsDriven net n → ⊥) → get_or v n 0 ≡ get_or w n 0
+
+-- a value for net n, from the values of v: what its one source, its given value or its start says
+abbrev by_kind : Kind → ℕ → ℕ → ℕ
+by_kind Combinational x r = x
+by_kind (Clocked clock edge reset) x r = r
+by_kind Mixed x r = 0
+
+abbrev evaluated : Net → (ℕ → ℕ) → (ℕ → ℕ) → List ℕ → ℕ → List Source → ℕ
+evaluated net inputs registers v n [] = if list_any (λ m. m == n) net.inputs then inputs n else get_or net.start n 0
+evaluated net inputs registers v n (Idle value ∷ more) = get_or net.start n 0
+evaluated net inputs registers v n (Driver p place ∷ more) =
+    by_kind (process net p).kind (entry_or (get_or ((process net p).effect v v) place None) 0) (registers n)
+
+abbrev evaluate : Net → (ℕ → ℕ) → (ℕ → ℕ) → List ℕ → List ℕ
+evaluate net inputs registers v = table (length net.start) (λ n. evaluated net inputs registers v n (sources_of net n))
+
+abbrev evaluations : Net → (ℕ → ℕ) → (ℕ → ℕ) → ℕ → List ℕ
+evaluations net inputs registers zero = net.start
+evaluations net inputs registers (suc d) = evaluate net inputs registers (evaluations net inputs registers d)
+
+module _ (net : Net) (levels : List (Option ℕ)) (greatest : ℕ) (E : IsElaborated net) (A : Faultless net) (V : AreLevels net levels greatest) where
+  pub reads_agree : (d p : ℕ) (v w : List ℕ) → AgreeTo net levels d v w → IsCombinational net p → level_or levels p ≤ suc d → AgreeOn (process net p).reads v w
+  reads_agree d p v w a c l n r = go (driven_or_not net levels greatest E A V n)
+    where
+      below : (q place : ℕ) → HasPlace net q place → target net q place ≡ n → level_or levels q ≤ d → get_or v n 0 ≡ get_or w n 0
+      below q place h t k = subst (λ (m : ℕ). get_or v m 0 ≡ get_or w m 0) t (a.on_driven q place h k)
+
+      driver : (q place : ℕ) → HasPlace net q place → target net q place ≡ n → IsCombinational net q ⊎ ((clock : ℕ) × (edge : Edge) × IsClockedBy net q clock edge) → get_or v n 0 ≡ get_or w n 0
+      driver q place h t (inl comb) =
+          let wakes = subst (λ (m : ℕ). Contains (process net p).wakes m) (sym t) (A.reads_wake p n c r) in
+          let rises = level_rises net levels greatest E A V q p (record { feeder = comb; fed = c; place = place; drives = h; wakes = wakes }) in
+          below q place h t (omega arith)
+      driver q place h t (inr (clock, edge, is)) = let none = level_of_clocked net levels greatest E A V q clock edge is in below q place h t (omega arith)
+
+      go : IsDriven net n ⊎ (IsDriven net n → ⊥) → get_or v n 0 ≡ get_or w n 0
+      go (inl (q, place, h, t)) = driver q place h t (kinds net levels greatest E A V q place h)
+      go (inr free) = a.on_rest n free
+
+  pub effects_agree : (d p : ℕ) (v w : List ℕ) → AgreeTo net levels d v w → IsCombinational net p → level_or levels p ≤ suc d → (process net p).effect v v ≡ (process net p).effect w w
+  effects_agree d p v w a c l = E.bodies.effect_reads p v v w w c (reads_agree d p v w a c l)
+
+  pub same_values : (v w : List ℕ) → length v ≡ length w → AgreeTo net levels greatest v w → v ≡ w
+  same_values v w e a = ext_get_or 0 v w e (λ n l. go n (driven_or_not net levels greatest E A V n))
+    where
+      driver : (n q place : ℕ) → HasPlace net q place → target net q place ≡ n → IsCombinational net q ⊎ ((clock : ℕ) × (edge : Edge) × IsClockedBy net q clock edge) → get_or v n 0 ≡ get_or w n 0
+      driver n q place h t (inl comb) = subst (λ (m : ℕ). get_or v m 0 ≡ get_or w m 0) t (a.on_driven q place h (level_of net levels greatest E A V q comb).1)
+      driver n q place h t (inr (clock, edge, is)) = let none = level_of_clocked net levels greatest E A V q clock edge is in subst (λ (m : ℕ). get_or v m 0 ≡ get_or w m 0) t (a.on_driven q place h (omega arith))
+
+      go : (n : ℕ) → IsDriven net n ⊎ (IsDriven net n → ⊥) → get_or v n 0 ≡ get_or w n 0
+      go n (inl (q, place, h, t)) = driver n q place h t (kinds net levels greatest E A V q place h)
+      go n (inr free) = a.on_rest n free
+
+  module _ (inputs registers : ℕ → ℕ) where
+    rest_agrees : (v w : List ℕ) → Solves net inputs registers v → Solves net inputs registers w → (n : ℕ) → (IsDriven net n → ⊥) → get_or v n 0 ≡ get_or w n 0
+    rest_agrees v w s t n free = go (cases_lt n (length net.start)) (cases_Bool (list_any (λ m. m == n) net.inputs))
+      where
+        go : (n < length net.start) ⊎ (length net.start ≤ n) → (list_any (λ m. m == n) net.inputs ≡ true) ⊎ (list_any (λ m. m == n) net.inputs ≡ false) → get_or v n 0 ≡ get_or w n 0
+        go (inl l) (inl is) = s.on_inputs n is ∙ sym (t.on_inputs n is)
+        go (inl l) (inr is) = s.on_others n l (λ (h : IsInput net n). cc) free ∙ sym (t.on_others n l (λ (h : IsInput net n). cc) free)
+        go (inr l) k =
+            let a = s.each_net in
+            let b = t.each_net in
+            get_or_past v n 0 (omega arith) ∙ sym (get_or_past w n 0 (omega arith))
+
+    -- two solutions agree, level by level
+    solutions_agree : (d : ℕ) (v w : List ℕ) → Solves net inputs registers v → Solves net inputs registers w → AgreeTo net levels d v w
+    solutions_agree zero v w s t = record { on_driven = λ p place h l. go p place h l (kinds net levels greatest E A V p place h); on_rest = rest_agrees v w s t }
+      where
+        go : (p place : ℕ) → HasPlace net p place → level_or levels p ≤ 0 → IsCombinational net p ⊎ ((clock : ℕ) × (edge : Edge) × IsClockedBy net p clock edge) → get_or v (target net p place) 0 ≡ get_or w (target net p place) 0
+        go p place h l (inl c) = let k = level_above_none net levels greatest E A V p c in absurd (omega arith)
+        go p place h l (inr (clock, edge, is)) = s.on_registers p place clock edge is h ∙ sym (t.on_registers p place clock edge is h)
+    solutions_agree (suc d) v w s t = let below = solutions_agree d v w s t in record { on_driven = λ p place h l. go below p place h l (kinds net levels greatest E A V p place h); on_rest = rest_agrees v w s t }
+      where
+        go : AgreeTo net levels d v w → (p place : ℕ) → HasPlace net p place → level_or levels p ≤ suc d → IsCombinational net p ⊎ ((clock : ℕ) × (edge : Edge) × IsClockedBy net p clock edge) → get_or v (target net p place) 0 ≡ get_or w (target net p place) 0
+        go below p place h l (inl c) =
+            let a = s.on_combinational p place c h in
+            let b = t.on_combinational p place c h in
+            let e = effects_agree d p v w below c l in
+            cc
+        go below p place h l (inr (clock, edge, is)) = s.on_registers p place clock edge is h ∙ sym (t.on_registers p place clock edge is h)
+
+    evaluate_at : (v : List ℕ) (n : ℕ) → n < length net.start → get_or (evaluate net inputs registers v) n 0 ≡ evaluated net inputs registers v n (sources_of net n)
+    evaluate_at v n l = get_or-table (length net.start) (λ m. evaluated net inputs registers v m (sources_of net m)) n l
+
+    evaluate_target : (v : List ℕ) (p place : ℕ) → HasPlace net p place → get_or (evaluate net inputs registers v) (target net p place) 0 ≡ by_kind (process net p).kind (entry_or (get_or ((process net p).effect v v) place None) 0) (registers (target net p place))
+    evaluate_target v p place h = evaluate_at v (target net p place) (E.wiring.targets_are_nets p place h) ∙ ap (λ (xs : List Source). evaluated net inputs registers v (target net p place) xs) (sole net levels greatest E A V p place h)
+
+    evaluate_register : (v : List ℕ) (p place clock : ℕ) (edge : Edge) → HasPlace net p place → IsClockedBy net p clock edge → get_or (evaluate net inputs registers v) (target net p place) 0 ≡ registers (target net p place)
+    evaluate_register v p place clock edge h is = evaluate_target v p place h ∙ ap (λ (k : Kind). by_kind k (entry_or (get_or ((process net p).effect v v) place None) 0) (registers (target net p place))) is.1
+
+    evaluate_combinational : (v : List ℕ) (p place : ℕ) → HasPlace net p place → IsCombinational net p → get_or (evaluate net inputs registers v) (target net p place) 0 ≡ entry_or (get_or ((process net p).effect v v) place None) 0
+    evaluate_combinational v p place h is = evaluate_target v p place h ∙ ap (λ (k : Kind). by_kind k (entry_or (get_or ((process net p).effect v v) place None) 0) (registers (target net p place))) is.1
+
+    -- what no process drives is the same after every evaluation
+    evaluate_rest : (v w : List ℕ) (n : ℕ) → (IsDriven net n → ⊥) → get_or (evaluate net inputs registers v) n 0 ≡ get_or (evaluate net inputs registers w) n 0
+    evaluate_rest v w n free = go (cases_lt n (length net.start)) (sources_of net n) refl
+      where
+        go : (n < length net.start) ⊎ (length net.start ≤ n) → (xs : List Source) → sources_of net n ≡ xs → get_or (evaluate net inputs registers v) n 0 ≡ get_or (evaluate net inputs registers w) n 0
+        go (inl l) [] e = rw (evaluate_at v n l, evaluate_at w n l, e) refl
+        go (inl l) (Idle value ∷ more) e = rw (evaluate_at v n l, evaluate_at w n l, e) refl
+        go (inl l) (Driver p place ∷ more) e =
+            let f = E.wiring.sources_are_drivers n p place (subst (λ (xs : List Source). Contains xs (Driver p place)) (sym e) (first_source (Driver p place) more)) in
+            absurd (free (p, place, f.0, f.1))
+        go (inr l) xs e = get_or_past (evaluate net inputs registers v) n 0 (rw length-table l) ∙ sym (get_or_past (evaluate net inputs registers w) n 0 (rw length-table l))
+
+    -- an evaluation more changes nothing up to its level
+    evaluations_agree : (d : ℕ) → AgreeTo net levels d (evaluations net inputs registers (suc d)) (evaluations net inputs registers (suc (suc d)))
+    evaluations_agree zero = record { on_driven = λ p place h l. go p place h l (kinds net levels greatest E A V p place h); on_rest = evaluate_rest _ _ }
+      where
+        go : (p place : ℕ) → HasPlace net p place → level_or levels p ≤ 0 → IsCombinational net p ⊎ ((clock : ℕ) × (edge : Edge) × IsClockedBy net p clock edge) → get_or (evaluations net inputs registers 1) (target net p place) 0 ≡ get_or (evaluations net inputs registers 2) (target net p place) 0
+        go p place h l (inl c) = let k = level_above_none net levels greatest E A V p c in absurd (omega arith)
+        go p place h l (inr (clock, edge, is)) = evaluate_register _ p place clock edge h is ∙ sym (evaluate_register _ p place clock edge h is)
+    evaluations_agree (suc d) = let below = evaluations_agree d in record { on_driven = λ p place h l. go below p place h l (kinds net levels greatest E A V p place h); on_rest = evaluate_rest _ _ }
+      where
+        go : AgreeTo net levels d (evaluations net inputs registers (suc d)) (evaluations net inputs registers (suc (suc d))) → (p place : ℕ) → HasPlace net p place → level_or levels p ≤ suc d → IsCombinational net p ⊎ ((clock : ℕ) × (edge : Edge) × IsClockedBy net p clock edge) → get_or (evaluations net inputs registers (suc (suc d))) (target net p place) 0 ≡ get_or (evaluations net inputs registers (suc (suc (suc d)))) (target net p place) 0
+        go below p place h l (inl c) =
+            let e = effects_agree d p _ _ below c l in
+            evaluate_combinational _ p place h c ∙ ap (λ (f : List (Option ℕ)). entry_or (get_or f place None) 0) e ∙ sym (evaluate_combinational _ p place h c)
+        go below p place h l (inr (clock, edge, is)) = evaluate_register _ p place clock edge h is ∙ sym (evaluate_register _ p place clock edge h is)
+
+    fixed_solves : (v : List ℕ) → v ≡ evaluate net inputs registers v → Solves net inputs registers v
+    fixed_solves v e = record {
+      each_net = ap length e ∙ length-table _ _;
+      on_inputs = λ n is. at n ∙ evaluate_at v n (E.wiring.inputs_are_nets n is) ∙ ap (λ (xs : List Source). evaluated net inputs registers v n xs) (E.wiring.inputs_have_no_source n is) ∙ cond-true _ _ _ is;
+      on_registers = λ p place clock edge is h. at (target net p place) ∙ evaluate_register v p place clock edge h is;
+      on_others = λ n l given free. at n ∙ evaluate_at v n l ∙ other n given free (sources_of net n) refl;
+      on_combinational = λ p place c h. some_entry _ (assigned net levels greatest E A V p place v v c h) ∙ ap (λ (x : ℕ). Some x) (sym (at (target net p place) ∙ evaluate_combinational v p place h c));
+    }
+      where
+        at : (n : ℕ) → get_or v n 0 ≡ get_or (evaluate net inputs registers v) n 0
+        at n = ap (λ (u : List ℕ). get_or u n 0) e
+
+        other : (n : ℕ) → (IsInput net n → ⊥) → (IsDriven net n → ⊥) → (xs : List Source) → sources_of net n ≡ xs → evaluated net inputs registers v n (sources_of net n) ≡ get_or net.start n 0
+        other n given free [] k = ap (λ (xs : List Source). evaluated net inputs registers v n xs) k ∙ cond-false _ _ _ (false_from_ne_true _ given)
+        other n given free (Idle value ∷ more) k = ap (λ (xs : List Source). evaluated net inputs registers v n xs) k
+        other n given free (Driver p place ∷ more) k =
+            let f = E.wiring.sources_are_drivers n p place (subst (λ (xs : List Source). Contains xs (Driver p place)) (sym k) (first_source (Driver p place) more)) in
+            absurd (free (p, place, f.0, f.1))
+
+    -- the evaluation after the greatest level
+    solution : List ℕ
+    solution = evaluations net inputs registers (suc greatest)
+
+    solution_solves : Solves net inputs registers solution
+    unfolding solution
+    solution_solves = fixed_solves solution (same_values solution _ (length-table _ _ ∙ sym (length-table _ _)) (evaluations_agree greatest))
+
+    pub one_solves : (v w : List ℕ) → Solves net inputs registers v → Solves net inputs registers w → v ≡ w
+    one_solves v w s t = same_values v w (s.each_net ∙ sym t.each_net) (solutions_agree greatest v w s t)
+
+-- the solution for given inputs and registers
+pub solution_exists : (net : Net) → IsElaborated net → Faultless net → (inputs registers : ℕ → ℕ) → (v : List ℕ) × Solves net inputs registers v × ((w : List ℕ) → Solves net inputs registers w → w ≡ v)
+solution_exists net E A inputs registers =
+    let (levels, greatest, V) = levels_exist net A in
+    (solution net levels greatest E A V inputs registers, solution_solves net levels greatest E A V inputs registers, λ w t. one_solves net levels greatest E A V inputs registers _ _ t (solution_solves net levels greatest E A V inputs registers))
+
+pub one_solution : OneSolution
+one_solution net E A = solution_exists net E (faultless net A)
