@@ -12,3 +12,4 @@ pub mod Report
 pub mod Runs
 pub mod Held
 pub mod Settling
+pub mod Range

@@ -1,6 +1,6 @@
 //! The laws of simulation (`specs/simulation/Laws.antt`), each the contract of a function that does nothing.
 
-ghost use Rattle.rtl_model.specs.simulation.Laws.{EachMomentComes, EveryOrderIsOne, IsTheMachine, LevelsAreShown, LevelsExist, OneMachineRun, OneSolution, OrderIsFree, SettlesInBound};
+ghost use Rattle.rtl_model.specs.simulation.Laws.{EachMomentComes, EveryOrderIsOne, IsTheMachine, LevelsAreShown, LevelsExist, OneMachineRun, OneSolution, OrderIsFree, ReportsShow, RunsInRange, SettlesInBound, SolutionsInRange};
 
 /// Two orders of one cycle's Runs end in the same state, in every net.
 pub fn order_is_free()
@@ -23,9 +23,19 @@ pub fn one_solution()
     ensures { OneSolution }
 {}
 
+/// Where the inputs and registers have values of their nets' types, so has every net in the solution.
+pub fn solutions_in_range()
+    ensures { SolutionsInRange }
+{}
+
 /// Under each stimulus the synchronous machine of an accepted net has one run.
 pub fn one_machine_run()
     ensures { OneMachineRun }
+{}
+
+/// Where the stimulus has values of the inputs' types, every net has a value of its type throughout the machine's run.
+pub fn runs_in_range()
+    ensures { RunsInRange }
 {}
 
 /// Each moment of an accepted net's simulation is reached, and settles.
@@ -49,4 +59,10 @@ pub fn is_the_machine()
 /// chains; no numbering that rises is lower anywhere, and there is no loop.
 pub fn levels_are_shown()
     ensures { LevelsAreShown }
+{}
+
+/// What is a report shows its levels by such facts, and following `from` leads from each process down to level 1, in as many
+/// processes as its level says.
+pub fn reports_show()
+    ensures { ReportsShow }
 {}

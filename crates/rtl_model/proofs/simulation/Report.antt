@@ -1,9 +1,9 @@
 -- A report shows its levels by local facts.
-use Rattle.std.proofs.Common.{◌≡◌, ℕ, zero, suc, ◌<◌, ◌≤◌, List, [], ◌∷◌, get_or, Option, Some, None, arith}
-use Rattle.rtl_model.specs.simulation.Net.{IsCombinational, Net}
-use Rattle.rtl_model.specs.simulation.Accepted.{IsFedRound, IsLoop}
-use Rattle.rtl_model.specs.simulation.Levels.{ChainTo, IsLevel, Rises, ShowLevels}
-use Rattle.rtl_model.specs.simulation.Laws.{LevelsAreShown}
+use Rattle.std.proofs.Common.{◌≡◌, ℕ, zero, suc, ◌<◌, ◌≤◌, List, [], ◌∷◌, get_or, Option, Some, None, refl, ap, ◌∙◌, subst, arith}
+use Rattle.rtl_model.specs.simulation.Net.{Edge, IsCombinational, Net}
+use Rattle.rtl_model.specs.simulation.Accepted.{Feeds, IsFedRound, IsLoop}
+use Rattle.rtl_model.specs.simulation.Levels.{ChainTo, IsFrom, IsLevel, IsReport, LeadsDown, Rises, ShowLevels}
+use Rattle.rtl_model.specs.simulation.Laws.{LevelsAreShown, ReportsShow}
 
 module _ (net : Net) (f : ℕ → ℕ) (R : Rises net f) where
   chain_below : (n q : ℕ) → ChainTo net q n → n ≤ f q
@@ -45,3 +45,73 @@ module _ (net : Net) (levels from : List (Option ℕ)) (S : ShowLevels net level
 
 pub levels_are_shown : LevelsAreShown
 levels_are_shown net levels from S = (is_level net levels from S, no_loop net _ (rises net levels from S))
+
+-- a report's levels and from satisfy the local facts
+module _ (net : Net) (levels from : List (Option ℕ)) (clocks : List (ℕ × Edge)) (most : ℕ) (R : IsReport net levels from clocks most) where
+  level_is : (p level : ℕ) → IsCombinational net p → get_or levels p None ≡ Some level → IsLevel net p level
+  level_is p level c e =
+      let (n, d, is) = R.levels_are.combinational p c in
+      let same : level ≡ n = cc in
+      rw same is
+
+  same_level : (p a b : ℕ) → IsLevel net p a → IsLevel net p b → a ≡ b
+  same_level p a b x y = let l = x.longest b y.reached in let k = y.longest a x.reached in omega arith
+
+  -- what from says, at a level
+  from_at : (q : ℕ) → IsCombinational net q → (o : Option ℕ) → get_or from q None ≡ o → IsFrom net q o
+  from_at q c o e = subst (λ (o : Option ℕ). IsFrom net q o) e (R.from_combinational q c)
+
+  below_is : (q below : ℕ) → IsCombinational net q → get_or levels q None ≡ Some (suc (suc below)) → (p : ℕ) × (get_or from q None ≡ Some p) × Feeds net p q × (get_or levels p None ≡ Some (suc below))
+  below_is q below c e = go (get_or from q None) refl
+    where
+      at : (p n : ℕ) → get_or from q None ≡ Some p → IsLevel net q (suc n) → IsLevel net p n → Feeds net p q → (p : ℕ) × (get_or from q None ≡ Some p) × Feeds net p q × (get_or levels p None ≡ Some (suc below))
+      at p n f is lower feeds =
+          let same : n ≡ suc below = (let e = same_level q (suc n) (suc (suc below)) is (level_is q (suc (suc below)) c e) in omega arith) in
+          let (m, d, is') = R.levels_are.combinational p feeds.feeder in
+          let same' : m ≡ n = same_level p m n is' lower in
+          (p, f, feeds, d ∙ ap (λ (k : ℕ). Some k) (same' ∙ same))
+
+      go : (o : Option ℕ) → get_or from q None ≡ o → (p : ℕ) × (get_or from q None ≡ Some p) × Feeds net p q × (get_or levels p None ≡ Some (suc below))
+      go None f = let l = same_level q 1 (suc (suc below)) (from_at q c None f) (level_is q (suc (suc below)) c e) in absurd (omega arith)
+      go (Some p) f = let (n, is, lower, feeds, least) = from_at q c (Some p) f in at p n f is lower feeds
+
+  level_above : (p level : ℕ) → IsLevel net p level → IsCombinational net p → (below : ℕ) × (level ≡ suc below)
+  level_above p zero is c = absurd is.reached
+  level_above p (suc below) is c = (below, refl)
+
+  shows : ShowLevels net levels from
+  shows = record {
+    each = λ p c.
+        let (level, e, is) = R.levels_are.combinational p c in
+        let (below, d) = level_above p level is c in
+        (below, e ∙ ap (λ (k : ℕ). Some k) d);
+    rises = λ p q a b feeds d e. rising p q a b feeds (level_is p a feeds.feeder d) (level_is q b feeds.fed e);
+    from_below = below_is;
+  }
+    where
+      rising : (p q a b : ℕ) → Feeds net p q → IsLevel net p a → IsLevel net q b → a < b
+      rising p q zero b feeds x y = absurd x.reached
+      rising p q (suc a) b feeds x y = let l = y.longest (suc (suc a)) (p, x.reached, feeds) in omega arith
+
+  -- at level 1 there is no from: what it named would be lower
+  none_at_one : (q : ℕ) → IsCombinational net q → get_or levels q None ≡ Some 1 → get_or from q None ≡ None
+  none_at_one q c e = go (get_or from q None) refl
+    where
+      at : (p n : ℕ) → IsLevel net q (suc n) → IsLevel net p n → ⊥
+      at p n is lower = let l = same_level q (suc n) 1 is (level_is q 1 c e) in none p n (omega arith) lower
+        where
+          none : (p n : ℕ) → n ≡ 0 → IsLevel net p n → ⊥
+          none p zero z lower = lower.reached
+          none p (suc n) z lower = absurd (omega arith)
+
+      go : (o : Option ℕ) → get_or from q None ≡ o → get_or from q None ≡ None
+      go None f = f
+      go (Some p) f = let (n, is, lower, feeds, least) = from_at q c (Some p) f in absurd (at p n is lower)
+
+  leads_down : (level q : ℕ) → IsCombinational net q → get_or levels q None ≡ Some level → LeadsDown net from q level
+  leads_down zero q c e = (level_is q zero c e).reached
+  leads_down (suc zero) q c e = (c, none_at_one q c e)
+  leads_down (suc (suc below)) q c e = let (p, f, feeds, d) = below_is q below c e in (p, f, feeds, leads_down (suc below) p feeds.feeder d)
+
+pub reports_show : ReportsShow
+reports_show net levels from clocks most R = (shows net levels from clocks most R, λ q level c e. leads_down net levels from clocks most R level q c e)

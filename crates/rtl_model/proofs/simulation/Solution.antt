@@ -30,21 +30,21 @@ pub record AgreeTo (net : Net) (levels : List (Option ℕ)) (d : ℕ) (v w : Lis
   pub on_rest : (n : ℕ) → (IsDriven net n → ⊥) → get_or v n 0 ≡ get_or w n 0
 
 -- a value for net n, from the values of v: what its one source, its given value or its start says
-abbrev by_kind : Kind → ℕ → ℕ → ℕ
+abbrev pub by_kind : Kind → ℕ → ℕ → ℕ
 by_kind Combinational x r = x
 by_kind (Clocked clock edge reset) x r = r
 by_kind Mixed x r = 0
 
-abbrev evaluated : Net → (ℕ → ℕ) → (ℕ → ℕ) → List ℕ → ℕ → List Source → ℕ
+abbrev pub evaluated : Net → (ℕ → ℕ) → (ℕ → ℕ) → List ℕ → ℕ → List Source → ℕ
 evaluated net inputs registers v n [] = if list_any (λ m. m == n) net.inputs then inputs n else get_or net.start n 0
 evaluated net inputs registers v n (Idle value ∷ more) = get_or net.start n 0
 evaluated net inputs registers v n (Driver p place ∷ more) =
     by_kind (process net p).kind (entry_or (get_or ((process net p).effect v v) place None) 0) (registers n)
 
-abbrev evaluate : Net → (ℕ → ℕ) → (ℕ → ℕ) → List ℕ → List ℕ
+abbrev pub evaluate : Net → (ℕ → ℕ) → (ℕ → ℕ) → List ℕ → List ℕ
 evaluate net inputs registers v = table (length net.start) (λ n. evaluated net inputs registers v n (sources_of net n))
 
-abbrev evaluations : Net → (ℕ → ℕ) → (ℕ → ℕ) → ℕ → List ℕ
+abbrev pub evaluations : Net → (ℕ → ℕ) → (ℕ → ℕ) → ℕ → List ℕ
 evaluations net inputs registers zero = net.start
 evaluations net inputs registers (suc d) = evaluate net inputs registers (evaluations net inputs registers d)
 
@@ -109,7 +109,7 @@ module _ (net : Net) (levels : List (Option ℕ)) (greatest : ℕ) (E : IsElabor
             cc
         go below p place h l (inr (clock, edge, is)) = s.on_registers p place clock edge is h ∙ sym (t.on_registers p place clock edge is h)
 
-    evaluate_at : (v : List ℕ) (n : ℕ) → n < length net.start → get_or (evaluate net inputs registers v) n 0 ≡ evaluated net inputs registers v n (sources_of net n)
+    pub evaluate_at : (v : List ℕ) (n : ℕ) → n < length net.start → get_or (evaluate net inputs registers v) n 0 ≡ evaluated net inputs registers v n (sources_of net n)
     evaluate_at v n l = get_or-table (length net.start) (λ m. evaluated net inputs registers v m (sources_of net m)) n l
 
     evaluate_target : (v : List ℕ) (p place : ℕ) → HasPlace net p place → get_or (evaluate net inputs registers v) (target net p place) 0 ≡ by_kind (process net p).kind (entry_or (get_or ((process net p).effect v v) place None) 0) (registers (target net p place))
@@ -168,10 +168,14 @@ module _ (net : Net) (levels : List (Option ℕ)) (greatest : ℕ) (E : IsElabor
             absurd (free (p, place, f.0, f.1))
 
     -- the evaluation after the greatest level
-    solution : List ℕ
+    pub solution : List ℕ
     solution = evaluations net inputs registers (suc greatest)
 
-    solution_solves : Solves net inputs registers solution
+    pub solution_is : solution ≡ evaluations net inputs registers (suc greatest)
+    unfolding solution
+    solution_is = refl
+
+    pub solution_solves : Solves net inputs registers solution
     unfolding solution
     solution_solves = fixed_solves solution (same_values solution _ (length-table _ _ ∙ sym (length-table _ _)) (evaluations_agree greatest))
 
