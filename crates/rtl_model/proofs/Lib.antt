@@ -1,1 +1,2 @@
+pub mod bodies
 pub mod simulation

@@ -3,4 +3,5 @@
 //! contract of a function that does nothing.
 #![tactic(auto)]
 
+pub mod body_laws;
 pub mod simulation_laws;

@@ -1,0 +1,11 @@
+-- The bodies of processes after elaboration: what they read and assign, and what a run of one does.
+pub mod Body
+pub mod Values
+pub mod Tests
+pub mod Effect
+pub mod Reads
+pub mod Assigns
+pub mod Kinds
+pub mod Types
+pub mod Fits
+pub mod Laws
