@@ -5,43 +5,36 @@ ghost use Rattle.rtl_model.specs.bodies.Laws.{EachRunAssigns, LooksAtReads, Look
 /// What a body assigns on every syntactic path has an entry on every run.
 pub fn each_run_assigns()
     ensures { EachRunAssigns }
-{
-}
+{}
 
 /// A run looks at what the body reads and at nothing else; at the valuation before only where an edge test or `'event`
 /// stands in the body.
 pub fn looks_at_what_is_read()
     ensures both { LooksAtReads }
     ensures now { LooksAtNow }
-{
-}
+{}
 
 /// A clocked body does at its edge what its branch does, and nothing at all else.
 pub fn follows_its_edge()
     ensures { FollowsItsEdge }
-{
-}
+{}
 
 /// A case always takes a branch.
 pub fn case_takes_a_branch()
     ensures { CaseTakesABranch }
-{
-}
+{}
 
 /// A later assignment replaces an earlier one.
 pub fn later_replaces()
     ensures { LaterReplaces }
-{
-}
+{}
 
 /// The value of an expression that fits is as long as its width, which is 1 to 64.
 pub fn has_its_width()
     ensures { HasItsWidth }
-{
-}
+{}
 
 /// Each entry is that of a driver, and below the limit of its net.
 pub fn entries_keep_types()
     ensures { EntriesKeepTypes }
-{
-}
+{}

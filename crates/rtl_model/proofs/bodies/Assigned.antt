@@ -41,8 +41,9 @@ module _ (these : ℕ → Bool) where
   of_places [] values h = absurd cc
   of_places (p ∷ ps) values h =
       elim (or_cases (these p) (list_any these ps) h) [
-        inl g ↦ earlier (entries ps (drop 1 values)) (one_entry p (slice_index values 0)) (own p (slice_index values 0) g)
-      | inr g ↦ later (entries ps (drop 1 values)) (one_entry p (slice_index values 0)) (of_places ps (drop 1 values) g) ]
+        | inl g ↦ earlier (entries ps (drop 1 values)) (one_entry p (slice_index values 0)) (own p (slice_index values 0) g)
+        | inr g ↦ later (entries ps (drop 1 values)) (one_entry p (slice_index values 0)) (of_places ps (drop 1 values) g)
+      ]
 
   module _ (before now : List ℕ) where
     mutual
@@ -56,8 +57,9 @@ module _ (these : ℕ → Bool) where
       of_body done h = absurd cc
       of_body (step s rest) h =
           elim (or_cases (stmt_must_assign these s) (must_assign these rest) h) [
-            inl g ↦ earlier (effect before now rest) (stmt_effect before now s) (of_stmt s g)
-          | inr g ↦ later (effect before now rest) (stmt_effect before now s) (of_body rest g) ]
+            | inl g ↦ earlier (effect before now rest) (stmt_effect before now s) (of_stmt s g)
+            | inr g ↦ later (effect before now rest) (stmt_effect before now s) (of_body rest g)
+          ]
 
       of_branches : (bs : Branches) → branches_must_assign these bs ≡ true → HasEntry (branches_effect before now bs)
       of_branches no_else h = absurd cc
