@@ -1,13 +1,13 @@
 -- One text after another.
-use Rattle.std.proofs.Common.{◌≡◌, ℕ, ◌+◌, ◌≤◌, List, ◌++◌, Option, Bool, true, false, refl, length, take, drop, sym, ap, ◌∙◌, ◌-◌, ◌<◌, min, arith, length-drop, append-nil, get_or, []}
+use Rattle.std.proofs.Common.{◌≡◌, ℕ, ◌+◌, ◌≤◌, List, ◌++◌, Option, ◌⊎◌, inl, inr, Bool, true, false, refl, length, take, drop, sym, ap, ◌∙◌, ◌-◌, ◌<◌, min, arith, length-drop, append-nil, append_assoc, get_or, []}
 use Rattle.std.proofs.KnownBytes.{Appends-nil, Appends-trans, Appends-kept, Keeps-refl, Keeps-trans}
 use Rattle.std.specs.Io.KnownBytes.{Appends}
 use Rattle.std.proofs.Math.Seq.{take-append-add, take-length}
-use Rattle.std.proofs.lemmas.List.{take-append-le, length-take-le, take-append-drop, take_min, take_more}
+use Rattle.std.proofs.lemmas.List.{take-append-le, length-take-le, take-append-drop, take_min, take_more, take_all}
 use Rattle.std.specs.Prelude.{◌==◌, flat_map}
 use Rattle.std.proofs.lemmas.Grind.{flat_map-append}
 use Rattle.std.proofs.lemmas.Bool.Decides.{nat_tests}
-use Rattle.rtl_sink.specs.Written.{SinkState, TakesAll, TakesBeginning, TakesNothing, GoesBy, Goes, IsIntact, HasFailed, fails_at}
+use Rattle.rtl_sink.specs.Written.{SinkState, TakesAll, TakesBeginning, Goes, IsIntact, fails_at}
 
 -- a text that went out, and a beginning of the next
 pub TakesBeginning-after : (a b c : SinkState) (x y : List ℕ) → TakesAll a b x → TakesBeginning b c y → TakesBeginning a c (x ++ y)
@@ -20,19 +20,33 @@ TakesBeginning-append a b x y p =
     let within : min p.0 (length x) ≤ length x = omega arith in
     (min p.0 (length x), rw (take-append-le (min p.0 (length x)) x y within, take_min p.0 x) p.1)
 
-GoesBy-append : (f g h : Bool) (a b c : SinkState) (x y : List ℕ) → GoesBy f g a b x → GoesBy g h b c y → GoesBy f h a c (x ++ y)
-GoesBy-append false false false a b c x y p q = Appends-trans a.taken b.taken c.taken x y p q
-GoesBy-append false false true a b c x y p q = TakesBeginning-after a b c x y p q
-GoesBy-append false true true a b c x y p q =
-    TakesBeginning-append a c x y (p.0, Appends-kept a.taken b.taken c.taken (take p.0 x) p.1 q)
-GoesBy-append true true true a b c x y p q = Keeps-trans a.taken b.taken c.taken p q
-GoesBy-append false true false a b c x y p q = absurd q
-GoesBy-append true true false a b c x y p q = absurd q
-GoesBy-append true false h a b c x y p q = absurd p
+either : (f : Bool) → (f ≡ false) ⊎ (f ≡ true)
+either false = inl refl
+either true = inr refl
+
+-- no text
+pub Goes-nil : (a : SinkState) → Goes a a []
+Goes-nil a = record {
+  whole = λ intact. (intact, Appends-nil a.taken);
+  beginning = λ _. (0, Appends-nil a.taken);
+  nothing = λ failed. (failed, Keeps-refl a.taken);
+}
+
+two_beginnings : (a b c : SinkState) (x y : List ℕ) → Goes a b x → Goes b c y → IsIntact a → (b.failed ≡ false) ⊎ (b.failed ≡ true) → TakesBeginning a c (x ++ y)
+two_beginnings a b c x y p q intact (inl still) = TakesBeginning-after a b c x y (p.whole still).1 (q.beginning still)
+two_beginnings a b c x y p q intact (inr failed) =
+    let first = p.beginning intact in
+    TakesBeginning-append a c x y (first.0, Appends-kept a.taken b.taken c.taken (take first.0 x) first.1 (q.nothing failed).1)
 
 -- one text, and then another
 pub Goes-append : (a b c : SinkState) (x y : List ℕ) → Goes a b x → Goes b c y → Goes a c (x ++ y)
-Goes-append a b c x y p q = GoesBy-append a.failed b.failed c.failed a b c x y p q
+Goes-append a b c x y p q = record {
+  whole = λ intact. let second = q.whole intact in let first = p.whole second.0 in
+      (first.0, Appends-trans a.taken b.taken c.taken x y first.1 second.1);
+  beginning = λ intact. two_beginnings a b c x y p q intact (either b.failed);
+  nothing = λ failed. let first = p.nothing failed in let second = q.nothing first.0 in
+      (second.0, Keeps-trans a.taken b.taken c.taken first.1 second.1);
+}
 
 take-add : (xs : List ℕ) (i n : ℕ) → i ≤ length xs → take i xs ++ take n (drop i xs) ≡ take (i + n) xs
 take-add xs i n le =
@@ -52,45 +66,15 @@ Appends-more a b c text done n le p q =
 pub fails_at-some : (n : ℕ) (bytes : List ℕ) → (n ≡ 0 → ⊥) → fails_at n bytes ≡ false
 fails_at-some n bytes some = let e : (n == 0) ≡ false = grind (arith, nat_tests) in rw e refl
 
-GoesBy-nil : (f : Bool) (a : SinkState) → GoesBy f f a a []
-GoesBy-nil false a = Appends-nil a.taken
-GoesBy-nil true a = Keeps-refl a.taken
-
-GoesBy-intact : (f g : Bool) (a b : SinkState) (x : List ℕ) → GoesBy f g a b x → g ≡ false → (f ≡ false) × TakesAll a b x
-GoesBy-intact false false a b x p e = (refl, p)
-GoesBy-intact true false a b x p e = absurd p
-GoesBy-intact f true a b x p e = absurd (cc)
-
-GoesBy-beginning : (f g : Bool) (a b : SinkState) (x : List ℕ) → GoesBy f g a b x → f ≡ false → TakesBeginning a b x
-GoesBy-beginning false false a b x p e = (length x, rw take-length p)
-GoesBy-beginning false true a b x p e = p
-GoesBy-beginning true g a b x p e = absurd (cc)
-
-GoesBy-failed : (f g : Bool) (a b : SinkState) (x : List ℕ) → GoesBy f g a b x → f ≡ true → (g ≡ true) × TakesNothing a b
-GoesBy-failed true true a b x p e = (refl, p)
-GoesBy-failed true false a b x p e = absurd p
-GoesBy-failed false g a b x p e = absurd (cc)
-
--- no text
-pub Goes-nil : (a : SinkState) → Goes a a []
-Goes-nil a = GoesBy-nil a.failed a
-
--- a sink that is intact at the end was so at the beginning, and took the whole text
-pub Goes-intact : (a b : SinkState) (x : List ℕ) → Goes a b x → IsIntact b → IsIntact a × TakesAll a b x
-Goes-intact a b x p intact = GoesBy-intact a.failed b.failed a b x p intact
-
--- a sink that was intact took a beginning, and often the whole
-pub Goes-beginning : (a b : SinkState) (x : List ℕ) → Goes a b x → IsIntact a → TakesBeginning a b x
-Goes-beginning a b x p intact = GoesBy-beginning a.failed b.failed a b x p intact
-
--- a sink that has failed stays so
-pub Goes-failed : (a b : SinkState) (x : List ℕ) → Goes a b x → HasFailed a → HasFailed b × TakesNothing a b
-Goes-failed a b x p failed = GoesBy-failed a.failed b.failed a b x p failed
-
--- the texts of the elements before a place, and of the one there
-pub Goes-next : {A : Type 0} (a b c : SinkState) (text : A → List ℕ) (xs : List A) (i : ℕ) (d : A) → i < length xs →
-    Goes a b (flat_map text (take i xs)) → Goes b c (text (get_or xs i d)) → Goes a c (flat_map text (take (i + 1) xs))
-Goes-next a b c text xs i d lt p q =
-    let e : flat_map text (take (i + 1) xs) ≡ flat_map text (take i xs) ++ text (get_or xs i d) =
-    rw (take_more xs i d lt) (rw flat_map-append (rw append-nil refl)) in
+-- after a text, the texts of the elements before a place, and of the one there
+pub Goes-next : {A : Type 0} (a b c : SinkState) (head : List ℕ) (text : A → List ℕ) (xs : List A) (i : ℕ) (d : A) → i < length xs →
+    Goes a b (head ++ flat_map text (take i xs)) → Goes b c (text (get_or xs i d)) → Goes a c (head ++ flat_map text (take (i + 1) xs))
+Goes-next a b c head text xs i d lt p q =
+    let e : head ++ flat_map text (take (i + 1) xs) ≡ (head ++ flat_map text (take i xs)) ++ text (get_or xs i d) =
+    rw (take_more xs i d lt, flat_map-append, append-nil) (sym (append_assoc head _ _)) in
     rw e (Goes-append a b c _ _ p q)
+
+-- the texts of all elements
+pub Goes-all : {A : Type 0} (a b : SinkState) (head : List ℕ) (text : A → List ℕ) (xs : List A) (i : ℕ) → length xs ≤ i →
+    Goes a b (head ++ flat_map text (take i xs)) → Goes a b (head ++ flat_map text xs)
+Goes-all a b head text xs i all p = rw (← take_all i xs all) p

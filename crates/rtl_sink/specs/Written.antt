@@ -29,14 +29,9 @@ TakesBeginning old new text = (count : ℕ) × Appends old.taken new.taken (take
 abbrev pub TakesNothing : SinkState → SinkState → Type 0
 TakesNothing old new = Keeps old.taken new.taken
 
--- from a sink that had failed or not, to one that has failed or not
-abbrev pub GoesBy : Bool → Bool → SinkState → SinkState → List ℕ → Type 0
-GoesBy false false old new text = TakesAll old new text
-GoesBy false true old new text = TakesBeginning old new text
-GoesBy true true old new text = TakesNothing old new
-GoesBy true false old new text = ⊥
-
--- the text went to the sink: the whole of it, or the sink failed and took a beginning;
--- a sink that had failed before takes nothing more
-abbrev pub Goes : SinkState → SinkState → List ℕ → Type 0
-Goes old new text = GoesBy old.failed new.failed old new text
+-- the text goes to the sink: a sink that is intact in the end took the whole, one that was intact took a
+-- beginning, and one that had failed takes nothing more
+pub record Goes (old new : SinkState) (text : List ℕ) : Type 0 where
+  pub whole : IsIntact new → IsIntact old × TakesAll old new text
+  pub beginning : IsIntact old → TakesBeginning old new text
+  pub nothing : HasFailed old → HasFailed new × TakesNothing old new

@@ -3,12 +3,12 @@
 //! `specs/Written.antt` has the words in which contracts say what was written.
 #![tactic(auto)]
 
-mod out;
 mod sink;
 #[cfg(test)]
 mod tests;
 mod texts;
+mod writer;
 
-pub use out::Out;
 pub use sink::{Sink, WriteFailed};
 pub use texts::{finish, push_line, push_number, push_text};
+pub use writer::Out;

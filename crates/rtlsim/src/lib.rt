@@ -2,6 +2,7 @@
 #![tactic(auto)]
 
 mod faults;
+mod lines;
 mod status;
 
 pub use faults::{CheckFault, ElabFault, Fault, NameFault, Notice, Place, SourceId, StimFault};

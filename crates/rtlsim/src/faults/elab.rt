@@ -53,46 +53,52 @@ pub enum ElabFault {
 
 impl ElabFault {
     ghost use Rattle.std.specs.Prelude.{◌≡◌};
+    ghost use Rattle.std.specs.Option.{option_map};
     ghost use Rattle.rtlsim.specs.Notices.{entry_of, elab_entry};
 
-    /// What its printed line tells.
-    pub fn notice(&self) -> Notice
-        ensures { entry_of result ≡ elab_entry self.now }
+    /// What its printed line tells. Want of memory is told as such, without layer or number.
+    pub fn notice(&self) -> Option<Notice>
+        ensures { option_map entry_of result ≡ elab_entry self.now }
     {
         match *self {
-            ElabFault::NoTop { at } => Notice::new("elab", 1, "NoTop", Place::Byte(at)),
-            ElabFault::NoGeneric { at } => Notice::new("elab", 2, "NoGeneric", Place::Byte(at)),
-            ElabFault::GenericRange { at } => Notice::new(
+            ElabFault::NoTop { at } => Notice::some("elab", 1, "NoTop", Place::Byte(at)),
+            ElabFault::NoGeneric { at } => Notice::some("elab", 2, "NoGeneric", Place::Byte(at)),
+            ElabFault::GenericRange { at } => Notice::some(
                 "elab",
                 3,
                 "GenericRange",
                 Place::Byte(at),
             ),
-            ElabFault::StaticError { at } => Notice::new("elab", 4, "StaticError", Place::Byte(at)),
-            ElabFault::Length { at } => Notice::new("elab", 5, "Length", Place::Byte(at)),
-            ElabFault::Index { at } => Notice::new("elab", 6, "Index", Place::Byte(at)),
-            ElabFault::TooWide { at } => Notice::new("elab", 7, "TooWide", Place::Byte(at)),
-            ElabFault::Unassociated { at } => Notice::new(
+            ElabFault::StaticError { at } => Notice::some(
+                "elab",
+                4,
+                "StaticError",
+                Place::Byte(at),
+            ),
+            ElabFault::Length { at } => Notice::some("elab", 5, "Length", Place::Byte(at)),
+            ElabFault::Index { at } => Notice::some("elab", 6, "Index", Place::Byte(at)),
+            ElabFault::TooWide { at } => Notice::some("elab", 7, "TooWide", Place::Byte(at)),
+            ElabFault::Unassociated { at } => Notice::some(
                 "elab",
                 8,
                 "Unassociated",
                 Place::Byte(at),
             ),
-            ElabFault::TwoUnresolved { at } => Notice::new(
+            ElabFault::TwoUnresolved { at } => Notice::some(
                 "elab",
                 9,
                 "TwoUnresolved",
                 Place::Byte(at),
             ),
-            ElabFault::ReadOfShared { at } => Notice::new(
+            ElabFault::ReadOfShared { at } => Notice::some(
                 "elab",
                 10,
                 "ReadOfShared",
                 Place::Byte(at),
             ),
-            ElabFault::TooDeep { at } => Notice::new("elab", 11, "TooDeep", Place::Byte(at)),
-            ElabFault::TooMany { at } => Notice::new("elab", 12, "TooMany", Place::Byte(at)),
-            ElabFault::NoMemory => Notice::new("elab", 13, "NoMemory", Place::Nowhere),
+            ElabFault::TooDeep { at } => Notice::some("elab", 11, "TooDeep", Place::Byte(at)),
+            ElabFault::TooMany { at } => Notice::some("elab", 12, "TooMany", Place::Byte(at)),
+            ElabFault::NoMemory => None,
         }
     }
 }

@@ -51,40 +51,46 @@ pub enum NameFault {
 
 impl NameFault {
     ghost use Rattle.std.specs.Prelude.{◌≡◌};
+    ghost use Rattle.std.specs.Option.{option_map};
     ghost use Rattle.rtlsim.specs.Notices.{entry_of, names_entry};
 
-    /// What its printed line tells.
-    pub fn notice(&self) -> Notice
-        ensures { entry_of result ≡ names_entry self.now }
+    /// What its printed line tells. Want of memory is told as such, without layer or number.
+    pub fn notice(&self) -> Option<Notice>
+        ensures { option_map entry_of result ≡ names_entry self.now }
     {
         match *self {
-            NameFault::Undeclared { at } => Notice::new("name", 1, "Undeclared", Place::Byte(at)),
-            NameFault::Twice { at } => Notice::new("name", 2, "Twice", Place::Byte(at)),
-            NameFault::WrongKind { at } => Notice::new("name", 3, "WrongKind", Place::Byte(at)),
-            NameFault::TypeMismatch { at } => Notice::new(
+            NameFault::Undeclared { at } => Notice::some("name", 1, "Undeclared", Place::Byte(at)),
+            NameFault::Twice { at } => Notice::some("name", 2, "Twice", Place::Byte(at)),
+            NameFault::WrongKind { at } => Notice::some("name", 3, "WrongKind", Place::Byte(at)),
+            NameFault::TypeMismatch { at } => Notice::some(
                 "name",
                 4,
                 "TypeMismatch",
                 Place::Byte(at),
             ),
-            NameFault::NotVisible { at } => Notice::new("name", 5, "NotVisible", Place::Byte(at)),
-            NameFault::WriteOfIn { at } => Notice::new("name", 6, "WriteOfIn", Place::Byte(at)),
-            NameFault::NoOthers { at } => Notice::new("name", 7, "NoOthers", Place::Byte(at)),
-            NameFault::ChoiceTwice { at } => Notice::new("name", 8, "ChoiceTwice", Place::Byte(at)),
-            NameFault::SecondArchitecture { at } => Notice::new(
+            NameFault::NotVisible { at } => Notice::some("name", 5, "NotVisible", Place::Byte(at)),
+            NameFault::WriteOfIn { at } => Notice::some("name", 6, "WriteOfIn", Place::Byte(at)),
+            NameFault::NoOthers { at } => Notice::some("name", 7, "NoOthers", Place::Byte(at)),
+            NameFault::ChoiceTwice { at } => Notice::some(
+                "name",
+                8,
+                "ChoiceTwice",
+                Place::Byte(at),
+            ),
+            NameFault::SecondArchitecture { at } => Notice::some(
                 "name",
                 9,
                 "SecondArchitecture",
                 Place::Byte(at),
             ),
-            NameFault::NoSensitivity { at } => Notice::new(
+            NameFault::NoSensitivity { at } => Notice::some(
                 "name",
                 10,
                 "NoSensitivity",
                 Place::Byte(at),
             ),
-            NameFault::LeftOut { at } => Notice::new("name", 11, "LeftOut", Place::Byte(at)),
-            NameFault::NoMemory => Notice::new("name", 12, "NoMemory", Place::Nowhere),
+            NameFault::LeftOut { at } => Notice::some("name", 11, "LeftOut", Place::Byte(at)),
+            NameFault::NoMemory => None,
         }
     }
 }

@@ -34,17 +34,23 @@ pub struct Notice {
 
 impl Notice {
     ghost use Rattle.std.specs.Prelude.{◌≡◌};
-    ghost use Rattle.rtlsim.specs.Notices.{entry_of, entry};
+    ghost use Rattle.std.specs.Option.{option_map};
+    ghost use Rattle.rtlsim.specs.Notices.{entry_of, some_entry};
 
-    /// The notice with these parts.
-    pub fn new(layer: &'static str, number: u8, name: &'static str, place: Place) -> Notice
-        ensures { entry_of result ≡ entry layer.now number name.now place }
+    /// A notice with these parts.
+    pub(crate) fn some(
+        layer: &'static str,
+        number: u8,
+        name: &'static str,
+        place: Place,
+    ) -> Option<Notice>
+        ensures { option_map entry_of result ≡ some_entry layer.now number name.now place }
     {
-        Notice {
+        Some(Notice {
             layer,
             number,
             name,
             place,
-        }
+        })
     }
 }

@@ -58,39 +58,40 @@ pub enum StimFault {
 
 impl StimFault {
     ghost use Rattle.std.specs.Prelude.{◌≡◌};
+    ghost use Rattle.std.specs.Option.{option_map};
     ghost use Rattle.rtlsim.specs.Notices.{entry_of, stim_entry};
 
-    /// What its printed line tells.
-    pub fn notice(&self) -> Notice
-        ensures { entry_of result ≡ stim_entry self.now }
+    /// What its printed line tells. Want of memory is told as such, without layer or number.
+    pub fn notice(&self) -> Option<Notice>
+        ensures { option_map entry_of result ≡ stim_entry self.now }
     {
         match *self {
-            StimFault::BadLine { line } => Notice::new("stim", 1, "BadLine", Place::Line(line)),
-            StimFault::NotAnInput { line } => Notice::new(
+            StimFault::BadLine { line } => Notice::some("stim", 1, "BadLine", Place::Line(line)),
+            StimFault::NotAnInput { line } => Notice::some(
                 "stim",
                 2,
                 "NotAnInput",
                 Place::Line(line),
             ),
-            StimFault::BadValue { line } => Notice::new("stim", 3, "BadValue", Place::Line(line)),
-            StimFault::SetTwice { line } => Notice::new("stim", 4, "SetTwice", Place::Line(line)),
-            StimFault::ClockAndSet { line } => Notice::new(
+            StimFault::BadValue { line } => Notice::some("stim", 3, "BadValue", Place::Line(line)),
+            StimFault::SetTwice { line } => Notice::some("stim", 4, "SetTwice", Place::Line(line)),
+            StimFault::ClockAndSet { line } => Notice::some(
                 "stim",
                 5,
                 "ClockAndSet",
                 Place::Line(line),
             ),
-            StimFault::NoStop => Notice::new("stim", 6, "NoStop", Place::Nowhere),
-            StimFault::TimeTooLarge { line } => Notice::new(
+            StimFault::NoStop => Notice::some("stim", 6, "NoStop", Place::Nowhere),
+            StimFault::TimeTooLarge { line } => Notice::some(
                 "stim",
                 7,
                 "TimeTooLarge",
                 Place::Line(line),
             ),
             StimFault::Race { time, input, clock } => {
-                Notice::new("stim", 8, "Race", Place::Change { time, input, clock })
+                Notice::some("stim", 8, "Race", Place::Change { time, input, clock })
             }
-            StimFault::NoMemory => Notice::new("stim", 9, "NoMemory", Place::Nowhere),
+            StimFault::NoMemory => None,
         }
     }
 }
