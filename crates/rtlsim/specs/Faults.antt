@@ -1,6 +1,8 @@
 -- What a layer's fault is to the caller of the whole, and the status that it ends with.
 use Rattle.rtlsim.specs.declared.faults.Fault.{Fault}
-use Rattle.rtlsim.specs.declared.faults.Fault.TheVariants.{Name, Elab, Rejected, Stim, NoSettling, Memory, Output}
+use Rattle.rtlsim.specs.declared.faults.Fault.TheVariants.{Lex, Name, Elab, Rejected, Stim, NoSettling, Memory, Output}
+use Rattle.vhdl_lexer.specs.declared.fault.LexFault.{LexFault}
+use Rattle.vhdl_lexer.specs.declared.fault.LexFault.TheVariants as lex
 use Rattle.rtlsim.specs.declared.faults.names.NameFault.{NameFault}
 use Rattle.rtlsim.specs.declared.faults.names.NameFault.TheVariants as names
 use Rattle.rtlsim.specs.declared.faults.elab.ElabFault.{ElabFault}
@@ -9,6 +11,10 @@ use Rattle.rtlsim.specs.declared.faults.stim.StimFault.{StimFault}
 use Rattle.rtlsim.specs.declared.faults.stim.StimFault.TheVariants as stim
 use Rattle.rtlsim.specs.declared.status.Status.{Status}
 use Rattle.rtlsim.specs.declared.status.Status.TheVariants as status
+
+abbrev pub of_lex : LexFault → Fault
+of_lex lex.NoMemory = Memory
+of_lex fault = Lex fault
 
 abbrev pub of_names : NameFault → Fault
 of_names names.NoMemory = Memory
@@ -23,6 +29,8 @@ of_stim stim.NoMemory = Memory
 of_stim fault = Stim fault
 
 abbrev pub status_of : Fault → Status
+status_of (Lex lex.NoMemory) = status.Memory
+status_of (Lex fault) = status.Source
 status_of (Name names.NoMemory) = status.Memory
 status_of (Name fault) = status.Source
 status_of (Elab elab.NoMemory) = status.Memory

@@ -3,6 +3,8 @@ use Rattle.std.specs.Prelude.{ℕ, List, Option, Some, None, codes}
 use Rattle.rtlsim.specs.declared.faults.notice.Place.{Place}
 use Rattle.rtlsim.specs.declared.faults.notice.Place.TheVariants.{Nowhere, Byte, Line, Time, Change}
 use Rattle.rtlsim.specs.declared.faults.notice.Notice.{Notice}
+use Rattle.vhdl_lexer.specs.declared.fault.LexFault.{LexFault}
+use Rattle.vhdl_lexer.specs.declared.fault.LexFault.TheVariants as lex
 use Rattle.rtlsim.specs.declared.faults.names.NameFault.{NameFault}
 use Rattle.rtlsim.specs.declared.faults.names.NameFault.TheVariants as names
 use Rattle.rtlsim.specs.declared.faults.elab.ElabFault.{ElabFault}
@@ -25,6 +27,15 @@ some_entry layer number name place = Some (entry layer number name place)
 -- what a notice holds
 abbrev pub entry_of : Notice → Entry
 entry_of notice = entry notice.layer.now notice.number notice.name.now notice.place
+
+abbrev pub lex_entry : LexFault → Option Entry
+lex_entry (lex.BadByte at) = some_entry (codes "lex") 1 (codes "BadByte") (Byte at)
+lex_entry (lex.OpenComment at) = some_entry (codes "lex") 2 (codes "OpenComment") (Byte at)
+lex_entry (lex.OpenString at) = some_entry (codes "lex") 3 (codes "OpenString") (Byte at)
+lex_entry (lex.BadIdentifier at) = some_entry (codes "lex") 4 (codes "BadIdentifier") (Byte at)
+lex_entry (lex.BadNumber at) = some_entry (codes "lex") 5 (codes "BadNumber") (Byte at)
+lex_entry (lex.TooLong at) = some_entry (codes "lex") 6 (codes "TooLong") (Byte at)
+lex_entry lex.NoMemory = None
 
 abbrev pub names_entry : NameFault → Option Entry
 names_entry (names.Undeclared at) = some_entry (codes "name") 1 (codes "Undeclared") (Byte at)

@@ -1,13 +1,14 @@
 //! Why a source, a design or a stimulus is refused, layer by layer.
 
 ghost use Rattle.std.specs.Prelude.{◌≡◌};
-ghost use Rattle.rtlsim.specs.Faults.{of_names, of_elab, of_stim};
+ghost use Rattle.rtlsim.specs.Faults.{of_lex, of_names, of_elab, of_stim};
 ghost use Rattle.rtlsim.specs.declared.faults.Fault.TheVariants.{Memory, Output};
 
 mod check;
 mod elab;
 mod names;
 mod notice;
+mod source;
 mod stim;
 
 use crate::status::Status;
@@ -16,13 +17,17 @@ pub use elab::ElabFault;
 pub use names::NameFault;
 pub use notice::{Notice, Place};
 use rtl_sink::WriteFailed;
+pub(crate) use source::lex_notice;
 use std::alloc::{AllocError, AllocFailed};
 pub use stim::StimFault;
 use thiserror::Error;
+use vhdl_lexer::LexFault;
 
 /// Why a call of this library is refused. Each layer's want of memory is `Memory`.
 #[derive(PartialEq, Eq, Debug, Drop, Error)]
 pub enum Fault {
+    #[error("lexer: {0}")]
+    Lex(LexFault),
     #[error("names: {0}")]
     Name(NameFault),
     #[error("elaboration: {0}")]
@@ -50,15 +55,27 @@ impl Fault {
         ensures { result ≡ status_of self.now }
     {
         match self {
-            Fault::Name(NameFault::NoMemory)
+            Fault::Lex(LexFault::NoMemory)
+            | Fault::Name(NameFault::NoMemory)
             | Fault::Elab(ElabFault::NoMemory)
             | Fault::Stim(StimFault::NoMemory)
             | Fault::Memory => Status::Memory,
-            Fault::Name(_) | Fault::Elab(_) => Status::Source,
+            Fault::Lex(_) | Fault::Name(_) | Fault::Elab(_) => Status::Source,
             Fault::Rejected(_) => Status::Rejected,
             Fault::Stim(_) => Status::Stimulus,
             Fault::NoSettling { .. } => Status::Unsettled,
             Fault::Output => Status::Failed,
+        }
+    }
+}
+
+impl From<LexFault> for Fault {
+    ghost from_gives = { λ lex fault. fault ≡ of_lex lex };
+
+    fn from(lex: LexFault) -> Fault {
+        match lex {
+            LexFault::NoMemory => Fault::Memory,
+            _ => Fault::Lex(lex),
         }
     }
 }

@@ -7,7 +7,7 @@ ghost use Rattle.rtlsim.specs.Names.{Names, no_names};
 ghost use Rattle.rtlsim.specs.Notices.{entry_of};
 ghost use Rattle.rtlsim.specs.Lines.{place_text, notice_line, told_line, source_text, at_net, check_line, rejection_lines, fault_lines, memory_line};
 
-use crate::faults::{CheckFault, Fault, Notice, Place, SourceId};
+use crate::faults::{CheckFault, Fault, Notice, Place, SourceId, lex_notice};
 use rtl_sink::{Sink, push_number, push_text};
 
 /// Writes the names of a design's nets and processes.
@@ -37,6 +37,7 @@ pub(crate) fn push_fault<S: Sink, N: DesignNames>(sink: &mut S, design: &N, faul
     ensures { Goes (S.state sink.old) (S.state sink.new) (fault_lines (N.names design.now) fault.now) }
 {
     match fault {
+        Fault::Lex(lex) => push_notice(sink, design, lex_notice(lex)),
         Fault::Name(names) => push_notice(sink, design, names.notice()),
         Fault::Elab(elab) => push_notice(sink, design, elab.notice()),
         Fault::Rejected(faults) => push_rejection(sink, design, faults),

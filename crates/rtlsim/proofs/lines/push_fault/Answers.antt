@@ -1,7 +1,7 @@
 use Rattle.rtlsim.proofs.lines.push_fault.Goals as goal
 
 pub returns-in-Name : goal.returns-in-Name
-returns-in-Name g c = rw c.in-Name.is (rw c.notice.ensures at c.push_notice.ensures)
+returns-in-Name g c = rw c.in-Name.is (rw c.notice.ensures at c.push_notice-in-Name.ensures)
 
 pub returns-in-Elab : goal.returns-in-Elab
 returns-in-Elab g c = rw c.in-Elab.is (rw c.notice-in-Elab.ensures at c.push_notice-in-Elab.ensures)
@@ -14,3 +14,6 @@ returns-in-NoSettling g c = rw c.in-NoSettling.is (rw c.some-notice.ensures at c
 
 pub returns-in-Output : goal.returns-in-Output
 returns-in-Output g c = rw c.in-Output.is c.push_text.ensures
+
+pub returns-in-Lex : goal.returns-in-Lex
+returns-in-Lex g c = rw c.in-Lex.is (rw c.lex_notice.ensures at c.push_notice.ensures)
