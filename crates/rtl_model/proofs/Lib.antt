@@ -1,2 +1,3 @@
 pub mod bodies
+pub mod nets
 pub mod simulation

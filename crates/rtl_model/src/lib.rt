@@ -4,4 +4,5 @@
 #![tactic(auto)]
 
 pub mod body_laws;
+pub mod net_laws;
 pub mod simulation_laws;

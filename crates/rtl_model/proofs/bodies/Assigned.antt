@@ -1,5 +1,5 @@
 -- What is assigned on every path has an entry in each run.
-use Rattle.std.proofs.Common.{◌≡◌, ℕ, Bool, true, false, cond, ◌&&◌, ◌||◌, ◌==◌, List, [], ◌∷◌, Option, Some, None, refl, ◌⊎◌, inl, inr, IsSome, IsTrue, slice_index, drop}
+use Rattle.std.proofs.Common.{◌≡◌, ℕ, Bool, true, false, List, [], ◌∷◌, Option, Some, None, refl, inl, inr, IsSome, IsTrue, slice_index, drop}
 use Rattle.std.specs.List.{list_any}
 use Rattle.std.proofs.lemmas.Bool.{or_cases, and_parts, eq-eqb}
 use Rattle.rtl_model.specs.bodies.Body.{Stmt, nothing, assign, choose, select, Stmts, done, step, Branches, no_else, otherwise, branch, Alternatives, others, alternative}

@@ -1,7 +1,7 @@
 -- A case always takes a branch.
-use Rattle.std.proofs.Common.{◌≡◌, ℕ, Bool, true, false, List, refl, ◌⊎◌, inl, inr}
+use Rattle.std.proofs.Common.{◌≡◌, ℕ, Bool, true, false, List, refl, inl, inr}
 use Rattle.std.specs.List.{list_any}
-use Rattle.rtl_model.specs.bodies.Body.{Stmts, Alternatives, others, alternative}
+use Rattle.rtl_model.specs.bodies.Body.{Stmts, others, alternative}
 use Rattle.rtl_model.specs.bodies.Tests.{same}
 use Rattle.rtl_model.specs.bodies.Effect.{chosen, effect, alternatives_effect}
 use Rattle.rtl_model.specs.bodies.Laws.{IsAlternative, CaseTakesABranch}

@@ -1,9 +1,9 @@
 -- A clocked body does what its branch does at its edge, and nothing else.
-use Rattle.std.proofs.Common.{◌≡◌, ℕ, Bool, true, false, cond, List, Option, Some, None, refl, ap, ◌∙◌, subst}
-use Rattle.rtl_model.specs.bodies.Body.{Test, Stmt, choose, Stmts, done, step, Branches, no_else, branch}
+use Rattle.std.proofs.Common.{◌≡◌, ℕ, Bool, true, false, cond, Option, Some, None, refl, ap, ◌∙◌, subst}
+use Rattle.rtl_model.specs.bodies.Body.{Test, choose, Stmts, done, step, no_else, branch}
 use Rattle.rtl_model.specs.bodies.Tests.{is_met}
-use Rattle.rtl_model.specs.bodies.Effect.{or_else, effect}
-use Rattle.rtl_model.specs.bodies.Kinds.{EdgeTest, edge_test, BodyKind, Plain, AtEdge, Neither, at_edge, clocked, kind_or, kind_of, body_has_event}
+use Rattle.rtl_model.specs.bodies.Effect.{effect}
+use Rattle.rtl_model.specs.bodies.Kinds.{EdgeTest, edge_test, BodyKind, AtEdge, at_edge, clocked, kind_or, kind_of, body_has_event}
 use Rattle.rtl_model.specs.bodies.Laws.{FollowsItsEdge}
 use Rattle.rtl_model.proofs.bodies.BeforeEdge.{effect-before}
 use Rattle.rtl_model.proofs.bodies.EdgeTests.{holds_at, edge_meets}
@@ -36,13 +36,16 @@ kind_clocked body branch' e h = go (clocked body) (body_has_event body) h
     go None true g = absurd cc
     go None false g = absurd cc
 
+pub clocked_shape : (body branch' : Stmts) (e : EdgeTest) → kind_of body ≡ AtEdge e branch' → IsClocked body branch' e
+clocked_shape body branch' e h = is_clocked body branch' e (kind_clocked body branch' e h)
+
 at_test : (t : Bool) (x : Option ℕ) → (t ≡ true → cond t x None ≡ x) × (t ≡ false → cond t x None ≡ None)
 at_test true x = (λ _. refl, λ g. absurd cc)
 at_test false x = (λ g. absurd cc, λ _. refl)
 
 pub follows_its_edge : FollowsItsEdge
 follows_its_edge body branch' e before now h place =
-    let c : IsClocked body branch' e = is_clocked body branch' e (kind_clocked body branch' e h) in
+    let c : IsClocked body branch' e = clocked_shape body branch' e h in
     let m : is_met before now c.test ≡ holds_at e before now = edge_meets c.test e before now c.edge in
     let a = at_test (is_met before now c.test) (effect before now branch' place) in
     rw c.is

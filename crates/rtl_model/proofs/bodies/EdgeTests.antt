@@ -1,18 +1,16 @@
 -- An edge test is met where its net has the edge.
-use Rattle.std.proofs.Common.{◌≡◌, ℕ, zero, suc, ◌<◌, Bool, true, false, not, cond, ◌&&◌, ◌==◌, List, [], ◌∷◌, slice_index, Option, Some, None, refl, sym, ap, ◌∙◌, subst, ◌⊎◌, inl, inr, arith}
+use Rattle.std.proofs.Common.{◌≡◌, ℕ, zero, suc, ◌<◌, Bool, true, false, not, cond, ◌&&◌, ◌==◌, List, [], ◌∷◌, slice_index, Option, Some, None, refl, sym, ap, ◌∙◌, subst, arith}
 use Rattle.std.proofs.lemmas.Bool.{eqb-true, ne_eqb}
 use Rattle.vhdl_values.specs.declared.scalar.Nine.TheVariants.{Zero, One}
-use Rattle.vhdl_values.specs.declared.kinds.Logic.{Logic}
 use Rattle.vhdl_values.specs.declared.kinds.Logic.TheVariants.{And}
 use Rattle.vhdl_values.specs.declared.kinds.Edge.TheVariants.{To1, To0}
 use Rattle.vhdl_values.specs.Scalar.{code_of, value_of_code}
 use Rattle.vhdl_values.specs.Edges.{has_edge}
 use Rattle.rtl_model.specs.simulation.Cycle.{has_event}
-use Rattle.rtl_model.specs.bodies.Body.{Expr, read, character, Value, elements, Test, alike, edge, event, both}
+use Rattle.rtl_model.specs.bodies.Body.{read, character, elements, Test, alike, edge, event, both}
 use Rattle.rtl_model.specs.bodies.Values.{element_at}
 use Rattle.rtl_model.specs.bodies.Tests.{is_met}
-use Rattle.rtl_model.specs.bodies.Kinds.{EdgeTest, event_of, level_of, on_one_net, first_of_two, pair_edge, edge_test}
-use Rattle.rtl_model.proofs.bodies.Looking.{on_both}
+use Rattle.rtl_model.specs.bodies.Kinds.{EdgeTest, event_of, level_of, on_one_net, first_of_two, edge_test}
 
 abbrev pub holds_at : EdgeTest → (before now : List ℕ) → Bool
 holds_at e b w = has_edge e.kind (element_at b e.clock) (element_at w e.clock)

@@ -1,5 +1,5 @@
 -- A run looks at nothing but what the body reads.
-use Rattle.std.proofs.Common.{◌≡◌, ℕ, Bool, not, cond, ◌==◌, List, [], ◌∷◌, ◌++◌, map, replicate, slice_index, slice_index_or, Option, refl, ap, ◌∙◌, Contains, arith}
+use Rattle.std.proofs.Common.{◌≡◌, ℕ, Bool, not, cond, ◌==◌, List, [], ◌∷◌, ◌++◌, map, replicate, slice_index_or, Option, refl, ap, ◌∙◌, Contains, arith}
 use Rattle.std.specs.List.{list_any}
 use Rattle.std.proofs.lemmas.List.Elements.{Contains-append_left, Contains-append_right}
 use Rattle.vhdl_values.specs.declared.scalar.Nine.{Nine}

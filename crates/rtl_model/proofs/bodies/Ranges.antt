@@ -1,16 +1,16 @@
 -- Each entry is that of a driver, and a value of its net's type.
-use Rattle.std.proofs.Common.{◌≡◌, ℕ, zero, suc, ◌<◌, Bool, true, false, cond, ◌==◌, List, [], ◌∷◌, length, map, drop, slice_get, slice_index, slice_index_or, Option, Some, None, refl, sym, ap, ◌∙◌, subst, arith, All}
+use Rattle.std.proofs.Common.{◌≡◌, ℕ, suc, ◌<◌, Bool, true, false, cond, ◌==◌, List, [], ◌∷◌, map, drop, slice_get, slice_index, Option, Some, None, refl, sym, ◌∙◌, subst, arith, All}
 use Rattle.std.specs.List.{list_any}
 use Rattle.std.proofs.lemmas.Bool.{eqb-true}
 use Rattle.vhdl_values.specs.declared.scalar.Nine.{Nine}
 use Rattle.vhdl_values.specs.Scalar.{code_of}
 use Rattle.vhdl_values.proofs.Codes.{code_of_below}
-use Rattle.rtl_model.specs.bodies.Body.{Expr, Value, elements, position, position_of, Stmt, nothing, assign, choose, select, Stmts, done, step, Branches, no_else, otherwise, branch, Alternatives, others, alternative}
+use Rattle.rtl_model.specs.bodies.Body.{Value, elements, position, position_of, Stmt, nothing, assign, choose, select, Stmts, done, step, Branches, no_else, otherwise, branch, Alternatives, others, alternative}
 use Rattle.rtl_model.specs.bodies.Values.{elements_of, value_of}
 use Rattle.rtl_model.specs.bodies.Tests.{same, is_met}
 use Rattle.rtl_model.specs.bodies.Effect.{Entries, no_entries, or_else, over, one_entry, entries, chosen, stmt_effect, effect, branches_effect, alternatives_effect}
 use Rattle.rtl_model.specs.bodies.Types.{NetType, nine_valued, enumeration, limit_of, HasType, KeepsTypes}
-use Rattle.rtl_model.specs.bodies.Fits.{FitsValue, FitsTarget, DrivesType, FitsStmt, Fits, FitsBranches, FitsAlternatives, value_width}
+use Rattle.rtl_model.specs.bodies.Fits.{FitsTarget, DrivesType, FitsStmt, Fits, FitsBranches, FitsAlternatives, value_width}
 use Rattle.rtl_model.specs.bodies.Laws.{EntriesKeepTypes}
 
 first_below : (vs : List Nine) → slice_index (map code_of vs) 0 < 9

@@ -1,6 +1,6 @@
 -- A later assignment replaces an earlier one.
-use Rattle.std.proofs.Common.{◌≡◌, ℕ, List, Option, Some, None, refl, sym, ap, ◌∙◌}
-use Rattle.rtl_model.specs.bodies.Body.{Stmts, done, step, followed_by}
+use Rattle.std.proofs.Common.{◌≡◌, ℕ, Option, Some, None, refl, sym, ap, ◌∙◌}
+use Rattle.rtl_model.specs.bodies.Body.{done, step}
 use Rattle.rtl_model.specs.bodies.Effect.{or_else, effect, stmt_effect}
 use Rattle.rtl_model.specs.bodies.Laws.{LaterReplaces}
 

@@ -1,6 +1,6 @@
 -- When a body fits its process and the nets: each net and each place is there and has the type that is wanted of it,
 -- and each length is one that a vector can have, and the one that is wanted of it.
-use Rattle.std.specs.Prelude.{◌≡◌, ℕ, ◌+◌, ◌<◌, ◌≤◌, max, ⊤, All, List, [], ◌∷◌, length, slice_get, Some}
+use Rattle.std.specs.Prelude.{◌≡◌, ℕ, ◌+◌, ◌<◌, ◌≤◌, max, ⊤, All, List, length, slice_get, Some}
 use Rattle.rtl_model.specs.bodies.Body.{Operator, by, joined, plus, minus, times, Expr, read, character, constant, inverse, filled, binary, resized, shifted_left, shifted_right, Value, elements, position, position_of, Test, holds, fixed, alike, unlike, compared, compared_to, edge, event, negated, both, Stmt, nothing, assign, choose, select, Stmts, done, step, Branches, no_else, otherwise, branch, Alternatives, others, alternative}
 use Rattle.rtl_model.specs.bodies.Types.{NetType, nine_valued, enumeration, HasType}
 

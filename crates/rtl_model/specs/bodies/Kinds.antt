@@ -1,12 +1,12 @@
 -- Clocked and combinational bodies.
-use Rattle.std.specs.Prelude.{ℕ, Bool, true, false, ◌||◌, ◌==◌, if◌then◌else◌, List, [], ◌∷◌, Option, Some, None}
+use Rattle.std.specs.Prelude.{ℕ, Bool, true, false, ◌||◌, ◌==◌, if◌then◌else◌, [], ◌∷◌, Option, Some, None}
 use Rattle.vhdl_values.specs.declared.scalar.Nine.{Nine}
 use Rattle.vhdl_values.specs.declared.scalar.Nine.TheVariants.{Zero, One}
 use Rattle.vhdl_values.specs.declared.kinds.Logic.{Logic}
 use Rattle.vhdl_values.specs.declared.kinds.Logic.TheVariants.{And}
 use Rattle.vhdl_values.specs.declared.kinds.Edge.{Edge}
 use Rattle.vhdl_values.specs.declared.kinds.Edge.TheVariants.{To1, To0}
-use Rattle.rtl_model.specs.bodies.Body.{Expr, read, character, Value, elements, Test, holds, fixed, alike, unlike, compared, compared_to, edge, event, negated, both, Stmt, nothing, assign, choose, select, Stmts, done, step, Branches, no_else, otherwise, branch, Alternatives, others, alternative}
+use Rattle.rtl_model.specs.bodies.Body.{read, character, elements, Test, alike, edge, event, negated, both, Stmt, nothing, assign, choose, select, Stmts, done, step, Branches, no_else, otherwise, branch, Alternatives, others, alternative}
 
 -- ---- whether an edge test or `'event` stands in it
 
@@ -111,9 +111,9 @@ abbrev pub kind_of : Stmts → BodyKind
 kind_of s = kind_or (clocked s) (body_has_event s)
 
 -- the branch under the edge of a clocked body; any other body is its own
+abbrev pub branch_or : BodyKind → Stmts → Stmts
+branch_or (AtEdge e s) body = s
+branch_or _ body = body
+
 abbrev pub branch_of : Stmts → Stmts
-branch_of body = of_kind (kind_of body)
-  where
-    of_kind : BodyKind → Stmts
-    of_kind (AtEdge e s) = s
-    of_kind _ = body
+branch_of body = branch_or (kind_of body) body

@@ -1,12 +1,12 @@
 -- The laws of bodies.
-use Rattle.std.specs.Prelude.{◌≡◌, ℕ, ◌<◌, ◌⊎◌, Bool, true, false, List, [], ◌∷◌, length, slice_get, slice_index, Option, Some, None, IsTrue, IsSome, Contains}
+use Rattle.std.specs.Prelude.{◌≡◌, ℕ, ◌<◌, ◌⊎◌, Bool, true, false, List, length, slice_get, Some, None, IsTrue, IsSome}
 use Rattle.vhdl_values.specs.Edges.{has_edge}
-use Rattle.rtl_model.specs.bodies.Body.{Expr, Value, Stmt, nothing, assign, choose, select, Stmts, done, step, Branches, no_else, branch, Alternatives, others, alternative, followed_by}
-use Rattle.rtl_model.specs.bodies.Values.{element_at, elements_of, value_of}
+use Rattle.rtl_model.specs.bodies.Body.{Expr, Stmts, Alternatives, others, alternative, followed_by}
+use Rattle.rtl_model.specs.bodies.Values.{element_at, elements_of}
 use Rattle.rtl_model.specs.bodies.Effect.{or_else, effect, alternatives_effect}
 use Rattle.rtl_model.specs.bodies.Reads.{reads}
 use Rattle.rtl_model.specs.bodies.Assigns.{must_assign}
-use Rattle.rtl_model.specs.bodies.Kinds.{EdgeTest, BodyKind, AtEdge, kind_of, body_has_event}
+use Rattle.rtl_model.specs.bodies.Kinds.{EdgeTest, AtEdge, kind_of, body_has_event}
 use Rattle.rtl_model.specs.bodies.Types.{NetType, limit_of, HasType, KeepsTypes}
 use Rattle.rtl_model.specs.simulation.Elaborated.{AgreeOn}
 use Rattle.rtl_model.specs.bodies.Fits.{width, IsWidth, FitsExpr, Fits}

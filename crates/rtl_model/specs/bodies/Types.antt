@@ -1,5 +1,5 @@
 -- The types of nets, and the valuations that keep to them.
-use Rattle.std.specs.Prelude.{◌≡◌, ℕ, ◌<◌, ◌≤◌, ⊤, List, slice_get, slice_index, Some}
+use Rattle.std.specs.Prelude.{◌≡◌, ℕ, ◌<◌, ◌≤◌, List, slice_get, slice_index, Some}
 
 -- A net is one element of std_logic or std_ulogic (std_logic_1164), or a signal of an enumeration (IEEE 1076-2008, 5.2.2).
 pub data NetType : Type 0 where

@@ -1,6 +1,6 @@
 -- What elaboration owes beside the ranges: sources, drivers and starting values fit together.
 use Rattle.std.specs.Prelude.{◌≡◌, ℕ, ◌<◌, List, [], length, map, slice_index, slice_index_or, Contains}
-use Rattle.rtl_model.specs.nets.FlatNet.{FlatNet, FlatProcess, process, targets, starts}
+use Rattle.rtl_model.specs.nets.FlatNet.{FlatNet, process, targets, starts}
 use Rattle.rtl_model.specs.nets.CoreNet.{core_resolve}
 use Rattle.rtl_model.specs.simulation.Net.{Source, Driver}
 use Rattle.rtl_model.specs.simulation.Cycle.{source_value}

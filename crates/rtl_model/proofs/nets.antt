@@ -1,0 +1,5 @@
+-- Proofs about flat nets: what is asked of them follows from their bodies and their wiring.
+pub mod Processes
+pub mod Values
+pub mod InRange
+pub mod Connected
