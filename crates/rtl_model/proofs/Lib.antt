@@ -1,3 +1,4 @@
 pub mod bodies
 pub mod nets
 pub mod simulation
+pub mod examples

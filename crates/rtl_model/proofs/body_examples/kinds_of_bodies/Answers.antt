@@ -1,0 +1,5 @@
+use Rattle.rtl_model.proofs.examples.BodyMistakes as examples
+use Rattle.rtl_model.proofs.body_examples.kinds_of_bodies.Goals as goal
+
+pub returns : goal.returns
+returns c = examples.kinds_of_bodies

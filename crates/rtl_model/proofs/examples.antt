@@ -1,0 +1,2 @@
+-- What the small nets compute.
+pub mod BodyMistakes

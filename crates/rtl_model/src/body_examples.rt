@@ -1,0 +1,18 @@
+//! Examples about bodies, over `specs/examples`.
+
+ghost use Rattle.rtl_model.specs.examples.Bodies.{KindsOfBodies};
+ghost use Rattle.rtl_model.specs.examples.BodyMistakes.{LatchWouldPass, DefaultWouldStay, TestWouldBeRising};
+
+/// What is clocked, what is combinational, and what is neither.
+pub fn kinds_of_bodies()
+    ensures { KindsOfBodies }
+{
+}
+
+/// Wrong definitions of what bodies do break the laws on small bodies.
+pub fn body_mistakes()
+    ensures latch { LatchWouldPass }
+    ensures default { DefaultWouldStay }
+    ensures rising { TestWouldBeRising }
+{
+}
