@@ -6,13 +6,11 @@ ghost use Rattle.rtl_model.specs.examples.BodyMistakes.{LatchWouldPass, DefaultW
 /// What is clocked, what is combinational, and what is neither.
 pub fn kinds_of_bodies()
     ensures { KindsOfBodies }
-{
-}
+{}
 
 /// Wrong definitions of what bodies do break the laws on small bodies.
 pub fn body_mistakes()
     ensures latch { LatchWouldPass }
     ensures default { DefaultWouldStay }
     ensures rising { TestWouldBeRising }
-{
-}
+{}
