@@ -1,2 +1,6 @@
 -- What the small nets compute.
 pub mod BodyMistakes
+pub mod Computing
+pub mod Toggling
+pub mod Rows
+pub mod SimulationMistakes

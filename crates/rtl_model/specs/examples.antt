@@ -1,3 +1,7 @@
 -- Small nets on which the definitions are tried.
 pub mod Bodies
 pub mod BodyMistakes
+pub mod Gates
+pub mod Toggling
+pub mod Rows
+pub mod SimulationMistakes

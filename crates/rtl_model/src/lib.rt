@@ -6,4 +6,5 @@
 pub mod body_examples;
 pub mod body_laws;
 pub mod net_laws;
+pub mod simulation_examples;
 pub mod simulation_laws;

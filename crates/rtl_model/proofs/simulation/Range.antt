@@ -14,17 +14,17 @@ use Rattle.rtl_model.proofs.simulation.Loops.{levels_exist}
 use Rattle.rtl_model.proofs.simulation.Solution.{length-table, by_kind, evaluated, evaluations, evaluate_at, solution_is, solution_solves, one_solves}
 
 -- every entry is below a limit
-abbrev EntryBelow : ℕ → Option ℕ → Type 0
+abbrev pub EntryBelow : ℕ → Option ℕ → Type 0
 EntryBelow most o = (x : ℕ) → o ≡ Some x → x < most
 
 entry_or_below : (most old : ℕ) (o : Option ℕ) → EntryBelow most o → old < most → entry_or o old < most
 entry_or_below most old None e l = l
 entry_or_below most old (Some x) e l = e x refl
 
-none_below : (most : ℕ) → EntryBelow most None
+pub none_below : (most : ℕ) → EntryBelow most None
 none_below most x e = cc
 
-clocked_below : (most : ℕ) (reset edge : Bool) (a b : Option ℕ) → EntryBelow most a → EntryBelow most b → EntryBelow most (clocked_entry reset edge a b)
+pub clocked_below : (most : ℕ) (reset edge : Bool) (a b : Option ℕ) → EntryBelow most a → EntryBelow most b → EntryBelow most (clocked_entry reset edge a b)
 clocked_below most true edge a b ha hb x e = ha x e
 clocked_below most false true a b ha hb x e = hb x e
 clocked_below most false false a b ha hb x e = cc

@@ -21,19 +21,26 @@ abbrev pub entry_or : Option ℕ → (old : ℕ) → ℕ
 entry_or None old = old
 entry_or (Some v) old = v
 
--- The first valuation: a register has its starting value, or its reset's entry where the reset holds and there is one.
+-- What a register starts with: its starting value, or its reset's entry where the reset holds and there is one.
+abbrev pub register_first : Net → (p place : ℕ) → (inputs : ℕ → ℕ) → ℕ
+register_first net p place inputs = entry_or (clocked_entry (resets (reset_of net p) inputs) false (reset_entry (reset_of net p) place) None) (slice_index net.start (target net p place))
+
+-- What a register has next: its reset's entry where the reset holds in the new inputs, else its branch's entry in v where
+-- its edge holds from v's clock to the new one; without an entry v's value.
+abbrev pub register_next : Net → (p place clock : ℕ) → Edge → (v : List ℕ) → (inputs : ℕ → ℕ) → ℕ
+register_next net p place clock edge v inputs =
+    entry_or (clocked_entry (resets (reset_of net p) inputs) (net.edge edge (slice_index v clock) (inputs clock)) (reset_entry (reset_of net p) place) (slice_index_or ((process net p).branch v) place None)) (slice_index v (target net p place))
+
+-- the first valuation, for the first inputs
 pub record IsFirst (net : Net) (inputs : ℕ → ℕ) (v : List ℕ) : Type 0 where
   pub registers : ℕ → ℕ
-  pub next : (p place clock : ℕ) (edge : Edge) → IsClockedBy net p clock edge → HasPlace net p place
-      → registers (target net p place) ≡ entry_or (clocked_entry (resets (reset_of net p) inputs) false (reset_entry (reset_of net p) place) None) (slice_index net.start (target net p place))
+  pub next : (p place clock : ℕ) (edge : Edge) → IsClockedBy net p clock edge → HasPlace net p place → registers (target net p place) ≡ register_first net p place inputs
   pub solves : Solves net inputs registers v
 
--- One step, from the valuation v with new inputs to w: a register has its reset's entry where the reset holds in the new
--- inputs, else its branch's entry in v where its edge holds from v's clock to the new one; without an entry v's value.
+-- one step, from the valuation v with new inputs to w
 pub record IsStep (net : Net) (v : List ℕ) (inputs : ℕ → ℕ) (w : List ℕ) : Type 0 where
   pub registers : ℕ → ℕ
-  pub next : (p place clock : ℕ) (edge : Edge) → IsClockedBy net p clock edge → HasPlace net p place
-      → registers (target net p place) ≡ entry_or (clocked_entry (resets (reset_of net p) inputs) (net.edge edge (slice_index v clock) (inputs clock)) (reset_entry (reset_of net p) place) (slice_index_or ((process net p).branch v) place None)) (slice_index v (target net p place))
+  pub next : (p place clock : ℕ) (edge : Edge) → IsClockedBy net p clock edge → HasPlace net p place → registers (target net p place) ≡ register_next net p place clock edge v inputs
   pub solves : Solves net inputs registers w
 
 -- the machine's run: v m is its valuation at the moment m

@@ -56,7 +56,11 @@ Begun net stimulus (suc m) s =
 abbrev pub HasSettled : Net → (stimulus : ℕ → ℕ → ℕ) → (m k : ℕ) → State → Type 0
 HasSettled net stimulus m k t = (s : State) × Begun net stimulus m s × SettlesTo net s k t
 
+-- the moment m takes k delta cycles
+abbrev pub Takes : Net → (stimulus : ℕ → ℕ → ℕ) → (m k : ℕ) → Type 0
+Takes net stimulus m k = (t : State) × HasSettled net stimulus m k t
+
 -- the greatest number of delta cycles that a moment up to the last takes
 pub record IsMost (net : Net) (stimulus : ℕ → ℕ → ℕ) (last most : ℕ) : Type 0 where
-  pub at_most : (m k : ℕ) (t : State) → m ≤ last → HasSettled net stimulus m k t → k ≤ most
-  pub met : (m : ℕ) × (m ≤ last) × ((t : State) × HasSettled net stimulus m most t)
+  pub at_most : (m k : ℕ) → m ≤ last → Takes net stimulus m k → k ≤ most
+  pub met : (m : ℕ) × (m ≤ last) × Takes net stimulus m most

@@ -1,0 +1,364 @@
+-- The toggling register, with a reset and without, meets all premises, and its moments take what the bound says.
+use Rattle.std.specs.Prelude.{slice_get}
+use Rattle.std.proofs.Common.{◌≡◌, ℕ, zero, suc, ◌<◌, ◌≤◌, Bool, true, false, not, List, [], ◌∷◌, length, get_or, Option, Some, None, refl, sym, ap, ◌∙◌, arith, ◌⊎◌, inl, inr, ◌==◌, ◌&&◌, ◌||◌, subst, IsSome, Contains, map, if◌then◌else◌}
+use Rattle.std.proofs.lemmas.Bool.{eqb-true, and_parts, or_cases, false_from_ne_true, not-true, eqb-false}
+use Rattle.rtl_model.specs.simulation.Net.{Source, Driver, Reset, Mixed, Edge, Rising, Falling, To1, To0, process, sources_of, target, reset_of, reset_entry, resets, clocked_entry, HasReset, HasPlace, IsInput, IsCombinational, IsClockedBy}
+use Rattle.rtl_model.specs.simulation.Cycle.{source_value, starting_drivers}
+use Rattle.rtl_model.specs.simulation.Moments.{HasSettled, Takes}
+use Rattle.rtl_model.specs.simulation.Elaborated.{IsElaborated, IsWired, HasValues, HasBodies, AgreeOn}
+use Rattle.rtl_model.specs.simulation.Accepted.{IsAccepted, TwoDrivers, MixedProcess, ClockNotInput, EdgeNotSensitive, ClockAsData, MissingSensitivity, Latch, Loop, Feeds, IsClock}
+use Rattle.rtl_model.specs.simulation.Levels.{AreLevels, IsLevel, IsReport, ChainTo, bound, IsBefore}
+use Rattle.rtl_model.specs.simulation.Races.{HasNoRace}
+use Rattle.rtl_model.specs.simulation.Range.{IsValuation, KeepsRange, AreInputs, limit}
+use Rattle.rtl_model.specs.examples.Gates.{edge_test, inverse}
+use Rattle.rtl_model.specs.examples.Toggling.{toggling, reset, sensitivity, start, one_edge, MeetsPremises, bound_of, PremisesCanBeMet, BoundsAreMet}
+use Rattle.rtl_model.proofs.simulation.Levels.{Contains-one, Contains-none}
+use Rattle.rtl_model.proofs.simulation.Report.{no_loop}
+use Rattle.rtl_model.proofs.simulation.Range.{EntryBelow, clocked_below, none_below}
+use Rattle.rtl_model.proofs.simulation.Deltas.{after}
+use Rattle.rtl_model.proofs.examples.Computing.{first_cycle, starts_in, goes_on}
+
+-- ---- what stands where
+
+input_is : (b : Bool) (n : ℕ) → IsInput (toggling b) n → (n ≡ 0) ⊎ (n ≡ 1)
+input_is b n h = go (or_cases (0 == n) ((1 == n) || false) h)
+  where
+    last : (1 == n ≡ true) ⊎ (false ≡ true) → n ≡ 1
+    last (inl e) = sym (eqb-true 1 n e)
+    last (inr e) = cc
+
+    go : (0 == n ≡ true) ⊎ ((1 == n) || false ≡ true) → (n ≡ 0) ⊎ (n ≡ 1)
+    go (inl e) = inl (sym (eqb-true 0 n e))
+    go (inr e) = inr (last (or_cases (1 == n) false e))
+
+-- what holds at 0 and 1 holds of every input
+at_inputs : (b : Bool) (P : ℕ → Type 0) → P 0 → P 1 → (n : ℕ) → IsInput (toggling b) n → P n
+at_inputs b P zero' one' n h = go (input_is b n h)
+  where
+    go : (n ≡ 0) ⊎ (n ≡ 1) → P n
+    go (inl e) = subst P (sym e) zero'
+    go (inr e) = subst P (sym e) one'
+
+clocked_is : (b : Bool) (p clock : ℕ) (edge : Edge) → IsClockedBy (toggling b) p clock edge → (p ≡ 0) × (clock ≡ 0) × (edge ≡ Rising)
+clocked_is b zero clock edge (r, h) = (refl, cc, cc)
+clocked_is b (suc zero) clock edge (r, h) = cc
+clocked_is b (suc (suc p)) clock edge (r, h) = cc
+
+combinational_is : (b : Bool) (p : ℕ) → IsCombinational (toggling b) p → p ≡ 1
+combinational_is b zero c = let h = c.1 in cc
+combinational_is b (suc zero) c = refl
+combinational_is b (suc (suc p)) c = let h = c.0 in absurd (omega arith)
+
+-- the net of a reset
+reset_net : Option Reset → ℕ
+reset_net None = 0
+reset_net (Some r) = r.net
+
+reset_is : (b : Bool) (p : ℕ) (r : Reset) → HasReset (toggling b) p r → (b ≡ true) × (p ≡ 0) × (r.net ≡ 1)
+unfolding reset_net
+reset_is false zero r h = cc
+reset_is true zero r h = (refl, refl, sym (ap reset_net h))
+reset_is b (suc zero) r h = cc
+reset_is b (suc (suc p)) r h = cc
+
+fed : (b : Bool) (p q : ℕ) → Feeds (toggling b) p q → ⊥
+fed b p q f = go p q (combinational_is b p f.feeder) (combinational_is b q f.fed) f.place f.drives f.wakes
+  where
+    go : (p q : ℕ) → p ≡ 1 → q ≡ 1 → (place : ℕ) → HasPlace (toggling b) p place → Contains (process (toggling b) q).wakes (target (toggling b) p place) → ⊥
+    go (suc zero) (suc zero) i j zero l w = let e = Contains-one 2 3 w in cc
+    go (suc zero) (suc zero) i j (suc place) l w = absurd (omega arith)
+    go zero q i j place l w = cc
+    go (suc zero) zero i j place l w = cc
+    go (suc zero) (suc (suc q)) i j place l w = cc
+    go (suc (suc p)) q i j place l w = cc
+
+-- ---- elaborated
+
+wired : (b : Bool) → IsWired (toggling b)
+wired b = record {
+  targets_are_nets = targets;
+  inputs_are_nets = at_inputs b (λ n. n < 4) (omega arith) (omega arith);
+  inputs_have_no_source = at_inputs b (λ n. sources_of (toggling b) n ≡ []) refl refl;
+  sources_are_drivers = sources;
+  drivers_are_sources = drivers;
+  each_driver_starts = starts;
+  nets_start = nets;
+}
+  where
+    targets : (p place : ℕ) → HasPlace (toggling b) p place → target (toggling b) p place < length (toggling b).start
+    targets zero zero h = omega arith
+    targets zero (suc place) h = absurd (omega arith)
+    targets (suc zero) zero h = omega arith
+    targets (suc zero) (suc place) h = absurd (omega arith)
+    targets (suc (suc p)) place h = absurd (omega arith)
+
+    sources : (n p place : ℕ) → Contains (sources_of (toggling b) n) (Driver p place) → HasPlace (toggling b) p place × (target (toggling b) p place ≡ n)
+    sources zero p place c = absurd (Contains-none (Driver p place) c)
+    sources (suc zero) p place c = absurd (Contains-none (Driver p place) c)
+    sources (suc (suc zero)) p place c = let e = Contains-one (Driver 0 0) (Driver p place) c in let i : 0 ≡ p = cc in let j : 0 ≡ place = cc in rw (← i, ← j) (omega arith, refl)
+    sources (suc (suc (suc zero))) p place c = let e = Contains-one (Driver 1 0) (Driver p place) c in let i : 1 ≡ p = cc in let j : 0 ≡ place = cc in rw (← i, ← j) (omega arith, refl)
+    sources (suc (suc (suc (suc n)))) p place c = absurd (Contains-none (Driver p place) c)
+
+    drivers : (p place : ℕ) → HasPlace (toggling b) p place → Contains (sources_of (toggling b) (target (toggling b) p place)) (Driver p place)
+    drivers zero zero h = (0, omega arith, refl)
+    drivers zero (suc place) h = absurd (omega arith)
+    drivers (suc zero) zero h = (0, omega arith, refl)
+    drivers (suc zero) (suc place) h = absurd (omega arith)
+    drivers (suc (suc p)) place h = absurd (omega arith)
+
+    starts : (p : ℕ) → length (process (toggling b) p).starts ≡ length (process (toggling b) p).drives
+    starts zero = refl
+    starts (suc zero) = refl
+    starts (suc (suc p)) = refl
+
+    nets : (n : ℕ) (source : Source) → Contains (sources_of (toggling b) n) source → get_or (toggling b).start n 0 ≡ (toggling b).resolve (map (source_value (starting_drivers (toggling b))) (sources_of (toggling b) n))
+    nets zero source c = absurd (Contains-none source c)
+    nets (suc zero) source c = absurd (Contains-none source c)
+    nets (suc (suc zero)) source c = refl
+    nets (suc (suc (suc zero))) source c = refl
+    nets (suc (suc (suc (suc n)))) source c = absurd (Contains-none source c)
+
+values : (b : Bool) → HasValues (toggling b)
+values b = record { one_resolves = λ v. refl; edges_differ = edges }
+  where
+    apart : (v x y : ℕ) → (x ≡ y → ⊥) → (v == x) && (v == y) ≡ false
+    apart v x y ne = false_from_ne_true _ (λ e. let (i, j) = and_parts (v == x) (v == y) e in ne (sym (eqb-true v x i) ∙ eqb-true v y j))
+
+    itself : (v x : ℕ) → not (v == v) && (v == x) ≡ false
+    itself v x = false_from_ne_true _ (λ e. let (i, j) = and_parts (not (v == v)) (v == x) e in go v (not-true (v == v) i))
+      where
+        go : (v : ℕ) → (v == v) ≡ false → ⊥
+        go v e = eqb-false v v e refl
+
+    edges : (edge : Edge) (v : ℕ) → edge_test edge v v ≡ false
+    edges Rising v = apart v 2 3 (λ e. cc)
+    edges Falling v = apart v 3 2 (λ e. cc)
+    edges To1 v = itself v 3
+    edges To0 v = itself v 2
+
+bodies : (b : Bool) → HasBodies (toggling b)
+bodies b = record {
+  assigned = λ p place before now c h only t. assigns p place before now (combinational_is b p c) h;
+  effect_reads = λ p before now before' now' c agree. effects p before now before' now' (combinational_is b p c) agree;
+  branch_reads = λ p clock edge v w is agree. branches p v w (clocked_is b p clock edge is).0 agree;
+  clocked_acts = λ p clock place edge before now is. acts p clock place edge before now (clocked_is b p clock edge is);
+  reset_is_input = λ p r has. let (t, z, e) = reset_is b p r has in rw e refl;
+}
+  where
+    assigns : (p place : ℕ) (before now : List ℕ) → p ≡ 1 → HasPlace (toggling b) p place → IsSome (get_or ((process (toggling b) p).effect before now) place None)
+    assigns zero place before now i h = cc
+    assigns (suc zero) zero before now i h = refl
+    assigns (suc zero) (suc place) before now i h = absurd (omega arith)
+    assigns (suc (suc p)) place before now i h = cc
+
+    effects : (p : ℕ) (before now before' now' : List ℕ) → p ≡ 1 → AgreeOn (process (toggling b) p).reads now now' → (process (toggling b) p).effect before now ≡ (process (toggling b) p).effect before' now'
+    effects zero before now before' now' i agree = cc
+    effects (suc zero) before now before' now' i agree = ap (λ (x : ℕ). Some (inverse x) ∷ []) (agree 2 (0, omega arith, refl))
+    effects (suc (suc p)) before now before' now' i agree = cc
+
+    branches : (p : ℕ) (v w : List ℕ) → p ≡ 0 → AgreeOn (process (toggling b) p).reads v w → (process (toggling b) p).branch v ≡ (process (toggling b) p).branch w
+    branches zero v w i agree = ap (λ (x : ℕ). Some x ∷ []) (agree 3 (0, omega arith, refl))
+    branches (suc p) v w i agree = cc
+
+    no_entry : (c : Bool) (place : ℕ) → reset_entry (reset c) (suc place) ≡ None
+    no_entry false place = refl
+    no_entry true place = refl
+
+    none_of_none : (r e : Bool) → None ≡ clocked_entry r e None None
+    none_of_none true e = refl
+    none_of_none false true = refl
+    none_of_none false false = refl
+
+    acts : (p clock place : ℕ) (edge : Edge) (before now : List ℕ) → (p ≡ 0) × (clock ≡ 0) × (edge ≡ Rising)
+        → get_or ((process (toggling b) p).effect before now) place None
+        ≡ clocked_entry (resets (reset_of (toggling b) p) (λ n. get_or now n 0)) (edge_test edge (get_or before clock 0) (get_or now clock 0)) (reset_entry (reset_of (toggling b) p) place) (get_or ((process (toggling b) p).branch now) place None)
+    acts zero clock zero edge before now (i, j, k) = rw (j, k) refl
+    acts zero clock (suc place) edge before now (i, j, k) = rw (no_entry b place) (none_of_none _ _)
+    acts (suc p) clock place edge before now (i, j, k) = cc
+
+elaborated : (b : Bool) → IsElaborated (toggling b)
+elaborated b = record { wiring = wired b; values = values b; bodies = bodies b }
+
+-- ---- accepted
+
+wakes_clock : (b : Bool) → Contains (sensitivity b) 0
+wakes_clock false = (0, omega arith, refl)
+wakes_clock true = (0, omega arith, refl)
+
+accepted : (b : Bool) → IsAccepted (toggling b)
+accepted b (TwoDrivers n x y) (more, e) = one n e
+  where
+    one : (n : ℕ) → sources_of (toggling b) n ≡ x ∷ y ∷ more → ⊥
+    one zero e = cc
+    one (suc zero) e = cc
+    one (suc (suc zero)) e = cc
+    one (suc (suc (suc zero))) e = cc
+    one (suc (suc (suc (suc n)))) e = cc
+accepted b (MixedProcess p) e = mixed p e
+  where
+    mixed : (p : ℕ) → (process (toggling b) p).kind ≡ Mixed → ⊥
+    mixed zero h = cc
+    mixed (suc zero) h = cc
+    mixed (suc (suc p)) h = cc
+accepted b (ClockNotInput p n) ((edge, is), none) = none (rw ((clocked_is b p n edge is).1) refl)
+accepted b (EdgeNotSensitive p n) (inl (edge, is), none) = let (i, j, k) = clocked_is b p n edge is in none (rw (i, j) (wakes_clock b))
+accepted b (EdgeNotSensitive p n) (inr (r, has, e), none) =
+    let (t, i, j) = reset_is b p r has in
+    none (rw (i, ← e, j) (subst (λ (c : Bool). Contains (sensitivity c) 1) (sym t) (1, omega arith, refl)))
+accepted b (ClockAsData p n) ((q, (edge, is)), inl (clock, (edge', is'), reads)) = no_clock p n (clocked_is b p clock edge' is').0 (clocked_is b q n edge is).1 reads
+  where
+    no_clock : (p n : ℕ) → p ≡ 0 → n ≡ 0 → Contains (process (toggling b) p).reads n → ⊥
+    no_clock zero n i j r = let e = Contains-one 3 n r in cc
+    no_clock (suc p) n i j r = cc
+accepted b (ClockAsData p n) ((q, (edge, is)), inr (r, has, e)) = let j = (clocked_is b q n edge is).1 in let k = (reset_is b p r has).2 in cc
+accepted b (MissingSensitivity p n) (c, reads, none) = none (wakes p n (combinational_is b p c) reads)
+  where
+    wakes : (p n : ℕ) → p ≡ 1 → Contains (process (toggling b) p).reads n → Contains (process (toggling b) p).wakes n
+    wakes zero n i r = cc
+    wakes (suc zero) n i r = r
+    wakes (suc (suc p)) n i r = cc
+accepted b (Latch p n) (c, drives, e) = latch p n (combinational_is b p c) drives e
+  where
+    latch : (p n : ℕ) → p ≡ 1 → Contains (process (toggling b) p).drives n → (process (toggling b) p).assigns n ≡ false → ⊥
+    latch zero n i d e = cc
+    latch (suc zero) n i d e = eqb-false n 3 e (sym (Contains-one 3 n d))
+    latch (suc (suc p)) n i d e = cc
+accepted b (Loop ps) loop = no_loop (toggling b) (λ p. 1) (record { from_one = λ p c. omega arith; along = λ p q f. absurd (fed b p q f) }) ps loop
+
+-- ---- values in range
+
+inverse_below : (v : ℕ) → inverse v < 9
+inverse_below v = go (v == 0) (v == 2) (v == 3)
+  where
+    go : (x y z : Bool) → (if x then 0 else (if y then 3 else (if z then 2 else 1))) < 9
+    go true y z = omega arith
+    go false true z = omega arith
+    go false false true = omega arith
+    go false false false = omega arith
+
+in_range : (b : Bool) → KeepsRange (toggling b)
+in_range b = record {
+  starts_in_range = record { each_net = refl; in_range = starts };
+  effect_in_range = λ p place x before now was is h e. effects p place before now is h x e;
+  branch_in_range = λ p place clock x edge now c is h e. branches p place now is (clocked_is b p clock edge c).0 h x e;
+  reset_in_range = λ p place x h e. resets' b p place h x e;
+}
+  where
+    starts : (n : ℕ) → n < 4 → get_or (toggling b).start n 0 < limit (toggling b) n
+    starts zero l = omega arith
+    starts (suc zero) l = omega arith
+    starts (suc (suc zero)) l = go b
+      where
+        go : (c : Bool) → start c < 9
+        go false = omega arith
+        go true = omega arith
+    starts (suc (suc (suc zero))) l = omega arith
+    starts (suc (suc (suc (suc n)))) l = absurd (omega arith)
+
+    y_below : (now : List ℕ) → IsValuation (toggling b) now → EntryBelow 9 (Some (get_or now 3 0))
+    y_below now is x e = let l : get_or now 3 0 < 9 = is.in_range 3 (omega arith) in let f : get_or now 3 0 ≡ x = cc in omega arith
+
+    resets' : (c : Bool) (p place : ℕ) → HasPlace (toggling c) p place → EntryBelow (limit (toggling c) (target (toggling c) p place)) (reset_entry (reset_of (toggling c) p) place)
+    resets' false zero zero h = none_below _
+    resets' true zero zero h = λ x e. let f : 2 ≡ x = cc in omega arith
+    resets' c zero (suc place) h = absurd (omega arith)
+    resets' c (suc zero) place h = none_below _
+    resets' c (suc (suc p)) place h = absurd (omega arith)
+
+    effects : (p place : ℕ) (before now : List ℕ) → IsValuation (toggling b) now → (h : HasPlace (toggling b) p place) → EntryBelow (limit (toggling b) (target (toggling b) p place)) (get_or ((process (toggling b) p).effect before now) place None)
+    effects zero zero before now is h = clocked_below 9 _ _ (reset_entry (reset b) 0) (Some (get_or now 3 0)) (resets' b 0 0 h) (y_below now is)
+    effects zero (suc place) before now is h = absurd (omega arith)
+    effects (suc zero) zero before now is h = λ x e. let l = inverse_below (get_or now 2 0) in let f : inverse (get_or now 2 0) ≡ x = cc in omega arith
+    effects (suc zero) (suc place) before now is h = absurd (omega arith)
+    effects (suc (suc p)) place before now is h = absurd (omega arith)
+
+    branches : (p place : ℕ) (now : List ℕ) → IsValuation (toggling b) now → p ≡ 0 → HasPlace (toggling b) p place → EntryBelow (limit (toggling b) (target (toggling b) p place)) (get_or ((process (toggling b) p).branch now) place None)
+    branches zero zero now is i h = y_below now is
+    branches zero (suc place) now is i h = absurd (omega arith)
+    branches (suc p) place now is i h = cc
+
+-- ---- the stimulus
+
+code_below : (x : Bool) (v w : ℕ) → v < 9 → w < 9 → (if x then v else w) < 9
+code_below true v w l k = l
+code_below false v w l k = k
+
+inputs_in_range : (b : Bool) (m : ℕ) → AreInputs (toggling b) (one_edge b m)
+inputs_in_range b m = at_inputs b (λ n. one_edge b m n < limit (toggling b) n) (code_below (m == 0) 2 3 (omega arith) (omega arith)) (code_below b 3 2 (omega arith) (omega arith))
+
+no_race : (b : Bool) (last : ℕ) → HasNoRace (toggling b) (one_edge b) last
+no_race b last zero l race = race
+no_race b last (suc m) l race =
+    at_inputs b (λ n. (IsClock (toggling b) n → ⊥) → (one_edge b m n ≡ one_edge b (suc m) n → ⊥) → ⊥) (λ no_clock changes. no_clock (0, (Rising, (reset b, refl)))) (λ no_clock changes. changes refl) race.input race.is_input race.no_clock race.changes
+
+meets : (b : Bool) → MeetsPremises b
+meets b = record { elaborated = elaborated b; accepted = accepted b; in_range = in_range b; inputs = inputs_in_range b; no_race = no_race b }
+
+-- ---- the report
+
+level_one : (b : Bool) → IsLevel (toggling b) 1 1
+level_one b = record { reached = (omega arith, refl); longest = longest }
+  where
+    longest : (n : ℕ) → ChainTo (toggling b) 1 n → n ≤ 1
+    longest zero c = omega arith
+    longest (suc zero) c = omega arith
+    longest (suc (suc n)) (p, c, f) = absurd (fed b p 1 f)
+
+pub levels_are : (b : Bool) → AreLevels (toggling b) (None ∷ Some 1 ∷ []) 1
+levels_are b = record {
+  each_process = refl;
+  combinational = λ p c. rw (combinational_is b p c) (1, refl, level_one b);
+  clocked = λ p clock edge is. rw (clocked_is b p clock edge is).0 refl;
+  none_above = above;
+  met = λ h. (1, refl);
+}
+  where
+    above : (p level : ℕ) → get_or (None ∷ Some 1 ∷ []) p None ≡ Some level → level ≤ 1
+    above zero level e = cc
+    above (suc zero) level e = let f : 1 ≡ level = cc in omega arith
+    above (suc (suc p)) level e = cc
+
+report : (b : Bool) → IsReport (toggling b) (None ∷ Some 1 ∷ []) (None ∷ None ∷ []) ((0, Rising) ∷ []) (bound_of b)
+report b = record {
+  greatest = 1;
+  levels_are = levels_are b;
+  bound_is = bounds b;
+  each_from = refl;
+  from_combinational = λ p c. rw (combinational_is b p c) (level_one b);
+  from_clocked = λ p clock edge is. rw (clocked_is b p clock edge is).0 refl;
+  clocks_are = λ n edge. (tested n edge, λ (p, is). let (i, j, k) = clocked_is b p n edge is in rw (j, k) (0, omega arith, refl));
+  clocks_rise = λ i j x y l e f. once i j x y l f;
+}
+  where
+    bounds : (c : Bool) → bound_of c ≡ bound (toggling c) 1
+    bounds false = refl
+    bounds true = refl
+
+    tested : (n : ℕ) (edge : Edge) → Contains {X = ℕ × Edge} ((0, Rising) ∷ []) (n, edge) → (p : ℕ) × IsClockedBy (toggling b) p n edge
+    tested n edge c =
+        let e = Contains-one (0, Rising) (n, edge) c in
+        let i : 0 ≡ n = ap (λ (x : ℕ × Edge). x.0) e in
+        let j : Rising ≡ edge = ap (λ (x : ℕ × Edge). x.1) e in
+        rw (← i, ← j) (0, (reset b, refl))
+
+    once : (i j : ℕ) (x y : ℕ × Edge) → i < j → slice_get {X = ℕ × Edge} ((0, Rising) ∷ []) j ≡ Some y → IsBefore x y
+    once i zero x y l e = absurd (omega arith)
+    once i (suc j) x y l e = cc
+
+pub premises_can_be_met : PremisesCanBeMet
+premises_can_be_met b = (meets b, report b)
+
+-- ---- the counts
+
+start_0 : HasSettled (toggling false) (one_edge false) 0 1 (after (toggling false) 1 (first_cycle (toggling false) (one_edge false 0)))
+start_0 = starts_in (toggling false) (one_edge false) 1 refl
+
+pub edge_takes_two : Takes (toggling false) (one_edge false) 1 2
+edge_takes_two = (_, goes_on (toggling false) (one_edge false) 0 1 (after (toggling false) 1 (first_cycle (toggling false) (one_edge false 0))) 2 start_0 refl)
+
+pub bounds_are_met : BoundsAreMet
+bounds_are_met = record {
+  start_takes_one = (_, start_0);
+  edge_takes_two = edge_takes_two;
+  reset_takes_three = (_, starts_in (toggling true) (one_edge true) 3 refl);
+}
