@@ -1,4 +1,5 @@
 -- What the small nets compute.
+pub mod Bodies
 pub mod BodyMistakes
 pub mod Computing
 pub mod Toggling

@@ -1,11 +1,16 @@
 //! Examples about bodies, over `specs/examples`.
 
-ghost use Rattle.rtl_model.specs.examples.Bodies.{KindsOfBodies};
+ghost use Rattle.rtl_model.specs.examples.Bodies.{KindsOfBodies, RunsOfBodies};
 ghost use Rattle.rtl_model.specs.examples.BodyMistakes.{LatchWouldPass, DefaultWouldStay, TestWouldBeRising};
 
 /// What is clocked, what is combinational, and what is neither.
 pub fn kinds_of_bodies()
     ensures { KindsOfBodies }
+{}
+
+/// What runs of small bodies assign.
+pub fn runs_of_bodies()
+    ensures { RunsOfBodies }
 {}
 
 /// Wrong definitions of what bodies do break the laws on small bodies.

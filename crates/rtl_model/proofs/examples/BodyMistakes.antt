@@ -2,26 +2,7 @@
 use Rattle.std.proofs.Common.{◌≡◌, ℕ, ◌<◌, List, get_or, Some, None, refl, sym, ◌∙◌, arith, Contains}
 use Rattle.rtl_model.specs.nets.CoreNet.{core_net}
 use Rattle.rtl_model.specs.simulation.Machine.{Solves}
-use Rattle.rtl_model.specs.examples.Bodies.{KindsOfBodies}
 use Rattle.rtl_model.specs.examples.BodyMistakes.{latch, LatchWouldPass, DefaultWouldStay, TestWouldBeRising}
-
-pub kinds_of_bodies : KindsOfBodies
-kinds_of_bodies = record {
-  by_call = refl;
-  by_event = refl;
-  by_event_last = refl;
-  with_enable = refl;
-  without_edge = refl;
-  edge_and_level = refl;
-  event_or_level = refl;
-  other_level = refl;
-  named_constant = refl;
-  level_reversed = refl;
-  with_else = refl;
-  with_elsif = refl;
-  with_more = refl;
-  with_event = refl;
-}
 
 no_solution : (registers : ℕ → ℕ) (v : List ℕ) → Solves (core_net latch) (λ n. 2) registers v → ⊥
 no_solution registers v s =

@@ -1,10 +1,14 @@
 -- Small bodies, and their kinds. Places stand for drivers: in each process the driver at place 0 is that of the target.
-use Rattle.std.specs.Prelude.{◌≡◌, ℕ, Bool, true, false, List, [], ◌∷◌}
+use Rattle.std.specs.Prelude.{◌≡◌, ℕ, Bool, true, false, List, [], ◌∷◌, Option, Some, None}
 use Rattle.vhdl_values.specs.declared.scalar.Nine.{Nine}
-use Rattle.vhdl_values.specs.declared.scalar.Nine.TheVariants.{Zero, One}
+use Rattle.vhdl_values.specs.declared.scalar.Nine.TheVariants.{X, Zero, One}
+use Rattle.vhdl_values.specs.declared.kinds.Cmp.TheVariants.{Eq, Ne}
 use Rattle.vhdl_values.specs.declared.kinds.Logic.TheVariants.{And, Or}
 use Rattle.vhdl_values.specs.declared.kinds.Edge.TheVariants.{Rising, To1, To0}
-use Rattle.rtl_model.specs.bodies.Body.{Expr, read, character, constant, inverse, Value, elements, Test, holds, alike, edge, event, both, Stmt, nothing, assign, choose, Stmts, done, step, Branches, no_else, otherwise, branch}
+use Rattle.rtl_model.specs.bodies.Body.{joined, plus, Expr, read, character, constant, filled, binary, elements, position, position_of, Test, holds, fixed, alike, unlike, compared, compared_to, edge, event, both, nothing, assign, choose, select, Stmts, done, step, no_else, otherwise, branch, others, alternative}
+use Rattle.rtl_model.specs.bodies.Values.{elements_of}
+use Rattle.rtl_model.specs.bodies.Tests.{is_met}
+use Rattle.rtl_model.specs.bodies.Effect.{effect}
 use Rattle.rtl_model.specs.bodies.Kinds.{EdgeTest, Plain, AtEdge, Neither, kind_of}
 
 -- ---- words to write bodies with
@@ -61,3 +65,53 @@ pub record KindsOfBodies : Type 0 where
   pub with_elsif : kind_of (step (choose (branch rising_clk load (branch (is_at 1 One) load no_else))) done) ≡ Neither
   pub with_more : kind_of (step (choose (branch rising_clk load no_else)) (step nothing done)) ≡ Neither
   pub with_event : kind_of (if_only rising_clk (on clk_event)) ≡ Neither
+
+-- ---- what runs assign, where net 0 has 'H', net 1 'X', net 2 '1' and net 3, of an enumeration, its last literal of 3
+
+abbrev pub now : List ℕ
+now = 7 ∷ 1 ∷ 3 ∷ 2 ∷ []
+
+abbrev pub pair : (left right : ℕ) → Expr
+pair left right = read false (left ∷ right ∷ [])
+
+abbrev pub text : List Nine → Expr
+text values = constant values
+
+abbrev pub runs : Stmts → (place : ℕ) → Option ℕ
+runs body place = effect now now body place
+
+abbrev pub met : Test → Bool
+met t = is_met now now t
+
+pub record RunsOfBodies : Type 0 where
+  -- `1X` as std_logic_vector equals itself, and as unsigned doesn't
+  pub alike_unknown : met (alike (elements (pair 2 1)) (elements (text (One ∷ X ∷ [])))) ≡ true
+  pub unlike_unknown : met (unlike (elements (pair 2 1)) (elements (text (One ∷ X ∷ [])))) ≡ false
+  pub equal_unknown : met (compared Eq (pair 2 1) (text (One ∷ X ∷ []))) ≡ false
+  pub differ_unknown : met (compared Ne (pair 2 1) (text (One ∷ X ∷ []))) ≡ true
+  -- 'H' isn't '1', and stands for 1 in a number; a condition holds for it
+  pub high_unlike : met (is_at 0 One) ≡ false
+  pub high_number : met (compared_to Eq (pair 0 2) 3) ≡ true
+  pub high_holds : met (holds (signal 0)) ≡ true
+  -- vectors of different lengths are unlike, and compare by number
+  pub longer_unlike : met (alike (elements (pair 2 2)) (elements (text (Zero ∷ One ∷ One ∷ [])))) ≡ false
+  pub longer_equal : met (compared Eq (pair 2 2) (text (Zero ∷ One ∷ One ∷ []))) ≡ true
+  -- the leftmost element goes to the first place, and the left operand of `&` stands first
+  pub in_order : runs (step (assign (5 ∷ 4 ∷ []) (elements (binary joined (signal 2) (signal 1)))) done) 5 ≡ Some 3
+  pub in_order' : runs (step (assign (5 ∷ 4 ∷ []) (elements (binary joined (signal 2) (signal 1)))) done) 4 ≡ Some 1
+  -- "1H" + "0001" is "0100", and "1X" + "01" is "XX"
+  pub sums : elements_of now (binary plus (pair 2 0) (text (Zero ∷ Zero ∷ Zero ∷ One ∷ []))) ≡ Zero ∷ One ∷ Zero ∷ Zero ∷ []
+  pub sums_unknown : elements_of now (binary plus (pair 2 1) (text (Zero ∷ One ∷ []))) ≡ X ∷ X ∷ []
+  -- `(others => s)`
+  pub fills : elements_of now (filled 3 (signal 1)) ≡ X ∷ X ∷ X ∷ []
+  -- the first branch that holds is taken, later ones aren't, and the else only where none holds
+  pub first_branch : runs (step (choose (branch (is_at 0 One) (assigned (text (Zero ∷ []))) (branch (is_at 2 One) (assigned (text (One ∷ []))) (branch (fixed true) (assigned (text (X ∷ []))) no_else)))) done) 0 ≡ Some 3
+  pub the_else : runs (step (choose (branch (is_at 0 One) (assigned (text (Zero ∷ []))) (otherwise (assigned (text (X ∷ [])))))) done) 0 ≡ Some 1
+  pub no_branch : runs (if_only (is_at 0 One) (assigned (text (Zero ∷ [])))) 0 ≡ None
+  -- a case matches the values as they are: 'H' isn't '1'
+  pub case_others : runs (step (select (elements (signal 0)) (alternative ((3 ∷ []) ∷ []) (assigned (text (One ∷ []))) (others (assigned (text (X ∷ [])))))) done) 0 ≡ Some 1
+  pub case_choice : runs (step (select (elements (pair 2 1)) (alternative ((2 ∷ 2 ∷ []) ∷ (3 ∷ 1 ∷ []) ∷ []) (assigned (text (One ∷ []))) (others (assigned (text (X ∷ [])))))) done) 0 ≡ Some 3
+  -- a case that names every literal: the last alternative stands as others
+  pub case_literal : runs (step (select (position_of 3) (alternative ((0 ∷ []) ∷ []) (assigned (text (Zero ∷ []))) (alternative ((1 ∷ []) ∷ []) (assigned (text (X ∷ []))) (others (assigned (text (One ∷ []))))))) done) 0 ≡ Some 3
+  pub literal : runs (step (assign (0 ∷ []) (position 2)) done) 0 ≡ Some 2
+  pub copied : runs (step (assign (0 ∷ []) (position_of 3)) done) 0 ≡ Some 2

@@ -1,4 +1,4 @@
-use Rattle.rtl_model.proofs.examples.BodyMistakes as examples
+use Rattle.rtl_model.proofs.examples.Bodies as examples
 use Rattle.rtl_model.proofs.body_examples.kinds_of_bodies.Goals as goal
 
 pub returns : goal.returns

@@ -1,0 +1,49 @@
+-- What small bodies compute.
+use Rattle.std.proofs.Common.{refl}
+use Rattle.vhdl_values.specs.Numbers.{digits_of}
+use Rattle.rtl_model.specs.examples.Bodies.{KindsOfBodies, RunsOfBodies}
+
+pub kinds_of_bodies : KindsOfBodies
+kinds_of_bodies = record {
+  by_call = refl;
+  by_event = refl;
+  by_event_last = refl;
+  with_enable = refl;
+  without_edge = refl;
+  edge_and_level = refl;
+  event_or_level = refl;
+  other_level = refl;
+  named_constant = refl;
+  level_reversed = refl;
+  with_else = refl;
+  with_elsif = refl;
+  with_more = refl;
+  with_event = refl;
+}
+
+pub runs_of_bodies : RunsOfBodies
+unfolding digits_of
+runs_of_bodies = record {
+  alike_unknown = refl;
+  unlike_unknown = refl;
+  equal_unknown = refl;
+  differ_unknown = refl;
+  high_unlike = refl;
+  high_number = refl;
+  high_holds = refl;
+  longer_unlike = refl;
+  longer_equal = refl;
+  in_order = refl;
+  in_order' = refl;
+  sums = refl;
+  sums_unknown = refl;
+  fills = refl;
+  first_branch = refl;
+  the_else = refl;
+  no_branch = refl;
+  case_others = refl;
+  case_choice = refl;
+  case_literal = refl;
+  literal = refl;
+  copied = refl;
+}
