@@ -1,5 +1,6 @@
+pub mod DesignNames
 pub mod Faults
 pub mod Lines
-pub mod Names
 pub mod Notices
 pub mod Status
+pub mod Words

@@ -8,7 +8,7 @@ use Rattle.rtlsim.specs.declared.faults.check.CheckFault.{CheckFault}
 use Rattle.rtlsim.specs.declared.faults.check.CheckFault.TheVariants.{TwoDrivers, Mixed, ClockNotInput, EdgeNotSensitive, ClockAsData, MissingSensitivity, Latch, Loop}
 use Rattle.rtlsim.specs.declared.faults.Fault.{Fault}
 use Rattle.rtlsim.specs.declared.faults.Fault.TheVariants.{Lex, Name, Elab, Rejected, Stim, NoSettling, Memory, Output}
-use Rattle.rtlsim.specs.Names.{Names}
+use Rattle.rtlsim.specs.DesignNames.{Names}
 use Rattle.rtlsim.specs.Notices.{Entry, entry, lex_entry, names_entry, elab_entry, stim_entry}
 
 -- where a fault is found

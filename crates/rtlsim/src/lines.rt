@@ -3,7 +3,7 @@
 ghost use Rattle.std.specs.Prelude.{◌≡◌, ◌++◌, codes, decimal, flat_map};
 ghost use Rattle.std.specs.Option.{option_map};
 ghost use Rattle.rtl_sink.specs.Written.{Goes};
-ghost use Rattle.rtlsim.specs.Names.{Names, no_names};
+ghost use Rattle.rtlsim.specs.DesignNames.{Names, no_names};
 ghost use Rattle.rtlsim.specs.Notices.{entry_of};
 ghost use Rattle.rtlsim.specs.Lines.{place_text, notice_line, told_line, source_text, at_net, check_line, rejection_lines, fault_lines, memory_line};
 
