@@ -5,3 +5,4 @@ pub mod Gates
 pub mod Toggling
 pub mod Rows
 pub mod SimulationMistakes
+pub mod Counter

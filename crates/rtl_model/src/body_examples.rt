@@ -1,6 +1,7 @@
 //! Examples about bodies, over `specs/examples`.
 
 ghost use Rattle.rtl_model.specs.examples.Bodies.{KindsOfBodies, RunsOfBodies};
+ghost use Rattle.rtl_model.specs.examples.Counter.{CounterCounts};
 ghost use Rattle.rtl_model.specs.examples.BodyMistakes.{LatchWouldPass, DefaultWouldStay, TestWouldBeRising};
 
 /// What is clocked, what is combinational, and what is neither.
@@ -11,6 +12,11 @@ pub fn kinds_of_bodies()
 /// What runs of small bodies assign.
 pub fn runs_of_bodies()
     ensures { RunsOfBodies }
+{}
+
+/// A counter as a flat net is in range and connected, and its simulation counts.
+pub fn counter_counts()
+    ensures { CounterCounts }
 {}
 
 /// Wrong definitions of what bodies do break the laws on small bodies.
