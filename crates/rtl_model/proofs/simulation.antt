@@ -11,5 +11,8 @@ pub mod Solution
 pub mod Report
 pub mod Runs
 pub mod Held
+pub mod Starting
+pub mod Stepping
 pub mod Settling
 pub mod Range
+pub mod OneReport

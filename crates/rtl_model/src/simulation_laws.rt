@@ -1,6 +1,6 @@
 //! The laws of simulation (`specs/simulation/Laws.antt`), each the contract of a function that does nothing.
 
-ghost use Rattle.rtl_model.specs.simulation.Laws.{EachMomentComes, EveryOrderIsOne, IsTheMachine, LevelsAreShown, LevelsExist, OneMachineRun, OneSolution, OrderIsFree, ReportsShow, RunsInRange, SettlesInBound, SolutionsInRange};
+ghost use Rattle.rtl_model.specs.simulation.Laws.{EachMomentComes, EveryOrderIsOne, IsTheMachine, LevelsAreShown, LevelsExist, OneMachineRun, OneReport, OneSolution, OrderIsFree, ReportsShow, RunsInRange, SettlesInBound, SolutionsInRange};
 
 /// Two orders of one cycle's Runs end in the same state, in every net.
 pub fn order_is_free()
@@ -16,6 +16,11 @@ pub fn simulations_agree()
 /// In an accepted net each combinational process has a level, since there is no loop.
 pub fn levels_exist()
     ensures { LevelsExist }
+{}
+
+/// An accepted net has no more than one report.
+pub fn one_report()
+    ensures { OneReport }
 {}
 
 /// For given inputs and registers one valuation solves an accepted net, and no other.

@@ -34,6 +34,9 @@ place_in_range net p place h = go (cases_lt p (length net.processes))
     go (inl l) = l
     go (inr l) = let h' : place < 0 = subst (λ (q : Process). place < length q.drives) (get_or_past net.processes p no_process l) h in absurd (omega arith)
 
+pub same_level : (net : Net) (p a b : ℕ) → IsLevel net p a → IsLevel net p b → a ≡ b
+same_level net p a b x y = let l = x.longest b y.reached in let k = y.longest a x.reached in omega arith
+
 -- the level of a combinational process, 0 of a clocked one
 abbrev pub level_or : List (Option ℕ) → ℕ → ℕ
 level_or levels p = entry_or (get_or levels p None) 0

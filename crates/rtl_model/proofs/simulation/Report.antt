@@ -4,6 +4,7 @@ use Rattle.rtl_model.specs.simulation.Net.{Edge, IsCombinational, Net}
 use Rattle.rtl_model.specs.simulation.Accepted.{Feeds, IsFedRound, IsLoop}
 use Rattle.rtl_model.specs.simulation.Levels.{ChainTo, IsFrom, IsLevel, IsReport, LeadsDown, Rises, ShowLevels}
 use Rattle.rtl_model.specs.simulation.Laws.{LevelsAreShown, ReportsShow}
+use Rattle.rtl_model.proofs.simulation.Levels.{same_level}
 
 module _ (net : Net) (f : ℕ → ℕ) (R : Rises net f) where
   chain_below : (n q : ℕ) → ChainTo net q n → n ≤ f q
@@ -54,9 +55,6 @@ module _ (net : Net) (levels from : List (Option ℕ)) (clocks : List (ℕ × Ed
       let same : level ≡ n = cc in
       rw same is
 
-  same_level : (p a b : ℕ) → IsLevel net p a → IsLevel net p b → a ≡ b
-  same_level p a b x y = let l = x.longest b y.reached in let k = y.longest a x.reached in omega arith
-
   -- what from says, at a level
   from_at : (q : ℕ) → IsCombinational net q → (o : Option ℕ) → get_or from q None ≡ o → IsFrom net q o
   from_at q c o e = subst (λ (o : Option ℕ). IsFrom net q o) e (R.from_combinational q c)
@@ -66,13 +64,13 @@ module _ (net : Net) (levels from : List (Option ℕ)) (clocks : List (ℕ × Ed
     where
       at : (p n : ℕ) → get_or from q None ≡ Some p → IsLevel net q (suc n) → IsLevel net p n → Feeds net p q → (p : ℕ) × (get_or from q None ≡ Some p) × Feeds net p q × (get_or levels p None ≡ Some (suc below))
       at p n f is lower feeds =
-          let same : n ≡ suc below = (let e = same_level q (suc n) (suc (suc below)) is (level_is q (suc (suc below)) c e) in omega arith) in
+          let same : n ≡ suc below = (let e = same_level net q (suc n) (suc (suc below)) is (level_is q (suc (suc below)) c e) in omega arith) in
           let (m, d, is') = R.levels_are.combinational p feeds.feeder in
-          let same' : m ≡ n = same_level p m n is' lower in
+          let same' : m ≡ n = same_level net p m n is' lower in
           (p, f, feeds, d ∙ ap (λ (k : ℕ). Some k) (same' ∙ same))
 
       go : (o : Option ℕ) → get_or from q None ≡ o → (p : ℕ) × (get_or from q None ≡ Some p) × Feeds net p q × (get_or levels p None ≡ Some (suc below))
-      go None f = let l = same_level q 1 (suc (suc below)) (from_at q c None f) (level_is q (suc (suc below)) c e) in absurd (omega arith)
+      go None f = let l = same_level net q 1 (suc (suc below)) (from_at q c None f) (level_is q (suc (suc below)) c e) in absurd (omega arith)
       go (Some p) f = let (n, is, lower, feeds, least) = from_at q c (Some p) f in at p n f is lower feeds
 
   level_above : (p level : ℕ) → IsLevel net p level → IsCombinational net p → (below : ℕ) × (level ≡ suc below)
@@ -98,7 +96,7 @@ module _ (net : Net) (levels from : List (Option ℕ)) (clocks : List (ℕ × Ed
   none_at_one q c e = go (get_or from q None) refl
     where
       at : (p n : ℕ) → IsLevel net q (suc n) → IsLevel net p n → ⊥
-      at p n is lower = let l = same_level q (suc n) 1 is (level_is q 1 c e) in none p n (omega arith) lower
+      at p n is lower = let l = same_level net q (suc n) 1 is (level_is q 1 c e) in none p n (omega arith) lower
         where
           none : (p n : ℕ) → n ≡ 0 → IsLevel net p n → ⊥
           none p zero z lower = lower.reached

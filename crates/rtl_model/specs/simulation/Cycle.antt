@@ -50,7 +50,7 @@ is_quiet s = not (list_any (list_any is_some) s.pending)
 abbrev pub has_event : (before now : List ℕ) → ℕ → Bool
 has_event before now n = not (slice_index before n == slice_index now n)
 
--- of each process, whether it is sensitive to a net with an event (14.7.5.3 d)
+-- of each process, whether it is sensitive to a net with an event (14.7.5.3)
 abbrev pub resumed : Net → (before now : List ℕ) → List Bool
 resumed net before now = map (λ p. list_any (has_event before now) p.wakes) net.processes
 
@@ -90,7 +90,7 @@ started net inputs =
       waiting = map (λ p. true) net.processes;
     }
 
--- the step Update (14.7.5.3 b and d): every transaction becomes its driver's value
+-- the step Update (14.7.5.3): every transaction becomes its driver's value
 abbrev pub updated : Net → State → State
 updated net s =
     let drivers' = driven_all s.pending s.drivers in
@@ -106,7 +106,7 @@ given net inputs s =
 abbrev pub IsToRun : State → ℕ → Type 0
 IsToRun s p = IsTrue (slice_index_or s.waiting p false)
 
--- the step Run (14.7.5.3 e): what process p assigns, reading the values before and now, becomes its transactions
+-- the step Run (14.7.5.3): what process p assigns, reading the values before and now, becomes its transactions
 abbrev pub ran : Net → ℕ → State → State
 ran net p s =
     record s {

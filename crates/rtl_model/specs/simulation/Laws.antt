@@ -41,6 +41,12 @@ ReportsShow =
 abbrev pub LevelsExist : Type 0
 LevelsExist = (net : Net) → IsAccepted net → (levels : List (Option ℕ)) × (greatest : ℕ) × AreLevels net levels greatest
 
+-- and no more than one report
+abbrev pub OneReport : Type 0
+OneReport =
+    (net : Net) → IsAccepted net → (levels levels' from from' : List (Option ℕ)) (clocks clocks' : List (ℕ × Edge)) (most most' : ℕ)
+    → IsReport net levels from clocks most → IsReport net levels' from' clocks' most' → (levels ≡ levels') × (from ≡ from') × (clocks ≡ clocks') × (most ≡ most')
+
 -- for given inputs and registers one valuation solves, and no other
 abbrev pub OneSolution : Type 0
 OneSolution =

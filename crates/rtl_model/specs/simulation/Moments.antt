@@ -12,7 +12,7 @@ abbrev pub Runs : Net → (order : List ℕ) → State → State → Type 0
 Runs net [] s t = HasNoneToRun s × (t ≡ s)
 Runs net (p ∷ order) s t = IsToRun s p × Runs net order (ran net p s) t
 
--- Runs in some order lead from s to t: the standard leaves the order open (14.7.5.3 e)
+-- Runs in some order lead from s to t: the standard leaves the order open (14.7.5.3)
 abbrev pub HasRun : Net → State → State → Type 0
 HasRun net s t = (order : List ℕ) × Runs net order s t
 

@@ -1,0 +1,108 @@
+-- What holds after the run of initialization.
+use Rattle.std.proofs.Common.{◌≡◌, ℕ, zero, suc, ◌<◌, ◌≤◌, true, false, List, [], ◌∷◌, length, get_or, map, Option, Some, None, refl, sym, ap, ◌∙◌, arith, ◌⊎◌, inl, inr, ◌==◌, if◌then◌else◌}
+use Rattle.std.specs.List.{list_any}
+use Rattle.std.proofs.lemmas.List.{length-map, get_or_past}
+use Rattle.std.proofs.lemmas.List.FromFn.{length-map-range_with_len}
+use Rattle.std.proofs.lemmas.Bool.{cases_lt, cases_Bool, false_from_ne_true, cond-true, cond-false}
+use Rattle.rtl_model.proofs.simulation.Faultless.{Faultless}
+use Rattle.rtl_model.specs.simulation.Net.{clocked_entry, Driver, Edge, HasPlace, IsClockedBy, IsInput, Net, no_process, process, Process, Reset, reset_entry, reset_of, resets, Source, target}
+use Rattle.rtl_model.specs.simulation.Cycle.{given, source_value, started, State, with_inputs}
+use Rattle.rtl_model.specs.simulation.Elaborated.{IsElaborated}
+use Rattle.rtl_model.specs.simulation.Levels.{AreLevels}
+use Rattle.rtl_model.specs.simulation.Machine.{entry_or}
+use Rattle.rtl_model.specs.simulation.Laws.{HasNoReset}
+use Rattle.rtl_model.proofs.simulation.Order.{finished, waits, row_after}
+use Rattle.rtl_model.proofs.simulation.Levels.{sole, place_in_range}
+use Rattle.rtl_model.proofs.simulation.Solution.{get_or-table, length-table}
+use Rattle.rtl_model.proofs.simulation.Rows.{transaction, value, out, get_or-map, no_entries}
+use Rattle.rtl_model.proofs.simulation.Held.{entry_none, entry_of_reset, reset_ran, reset_now, Holds, IsFresh, input_not_driven, clocked_ran, no_edge_same, combinational_awake}
+
+pub get_or-map_within : {X Y : Type 0} (f : X → Y) (xs : List X) (k : ℕ) (d : X) (e : Y) → k < length xs → get_or (map f xs) k e ≡ f (get_or xs k d)
+get_or-map_within f [] k d e l = absurd (omega arith)
+get_or-map_within f (x ∷ xs) zero d e l = refl
+get_or-map_within f (x ∷ xs) (suc k) d e l = get_or-map_within f xs k d e (omega arith)
+
+pub entry_twice : (o : Option ℕ) (x : ℕ) → entry_or o (entry_or o x) ≡ entry_or o x
+entry_twice (Some v) x = refl
+entry_twice None x = refl
+
+pub inputs_at : (net : Net) (E : IsElaborated net) (inputs : ℕ → ℕ) (old : List ℕ) (n : ℕ) → IsInput net n → get_or (with_inputs net inputs old) n 0 ≡ inputs n
+inputs_at net E inputs old n is =
+    get_or-table (length net.start) (λ m. if list_any (λ k. k == m) net.inputs then inputs m else get_or old m 0) n (E.wiring.inputs_are_nets n is) ∙ cond-true _ _ _ is
+
+pub others_at : (net : Net) (inputs : ℕ → ℕ) (old : List ℕ) (n : ℕ) → length old ≡ length net.start → (IsInput net n → ⊥) → get_or (with_inputs net inputs old) n 0 ≡ get_or old n 0
+others_at net inputs old n e given = go (cases_lt n (length net.start))
+  where
+    go : (n < length net.start) ⊎ (length net.start ≤ n) → get_or (with_inputs net inputs old) n 0 ≡ get_or old n 0
+    go (inl l) = get_or-table (length net.start) (λ m. if list_any (λ k. k == m) net.inputs then inputs m else get_or old m 0) n l ∙ cond-false _ _ _ (false_from_ne_true _ given)
+    go (inr l) = get_or_past (with_inputs net inputs old) n 0 (rw length-table l) ∙ sym (get_or_past old n 0 (omega arith))
+
+module _ (net : Net) (levels : List (Option ℕ)) (greatest : ℕ) (E : IsElaborated net) (A : Faultless net) (V : AreLevels net levels greatest) where
+  pub target_no_input : (p place : ℕ) → HasPlace net p place → IsInput net (target net p place) → ⊥
+  target_no_input p place h is = input_not_driven net levels greatest E A V (target net p place) is (p, place, h, refl)
+
+  -- the start
+  module _ (inputs : ℕ → ℕ) where
+    abbrev pub first : State
+    first = started net inputs
+
+    pub start_fresh : IsFresh net first
+    start_fresh = record {
+      rows = length-map net.processes _;
+      none = λ p place. ap (λ (row : List (Option ℕ)). get_or row place None) (get_or-map (λ (q : Process). map {B = Option ℕ} (λ (n : ℕ). None) q.drives) net.processes p no_process) ∙ no_entries (process net p).drives place;
+    }
+
+    start_waits : (p : ℕ) → p < length net.processes → waits first p ≡ true
+    start_waits p l = get_or-map_within (λ (q : Process). true) net.processes p no_process false l
+
+    start_row : (p : ℕ) → get_or first.drivers p [] ≡ (process net p).starts
+    start_row p = get_or-map (λ (q : Process). q.starts) net.processes p no_process
+
+    start_value : (p place : ℕ) → HasPlace net p place → get_or net.start (target net p place) 0 ≡ value first p place
+    start_value p place h =
+        E.wiring.nets_start (target net p place) (Driver p place) (E.wiring.drivers_are_sources p place h)
+        ∙ ap (λ (xs : List Source). net.resolve (map (source_value first.drivers) xs)) (sole net levels greatest E A V p place h)
+        ∙ E.values.one_resolves _
+
+    start_reset : (p : ℕ) → resets (reset_of net p) (λ n. get_or first.now n 0) ≡ resets (reset_of net p) inputs
+    start_reset p = reset_now net levels greatest E A V p (λ n. get_or first.now n 0) inputs (λ n is. inputs_at net E inputs net.start n is)
+
+    -- what a register is assigned then
+    abbrev pub first_entry : (p place : ℕ) → Option ℕ
+    first_entry p place = clocked_entry (resets (reset_of net p) inputs) false (reset_entry (reset_of net p) place) None
+
+    pub start_register : (p place clock : ℕ) (edge : Edge) → IsClockedBy net p clock edge → HasPlace net p place
+        → out (finished net first) p place ≡ entry_or (first_entry p place) (get_or net.start (target net p place) 0)
+    start_register p place clock edge is h = whole (cases_Bool (resets (reset_of net p) inputs)) ∙ ap (entry_or (first_entry p place)) (sym (start_value p place h))
+      where
+        l : p < length net.processes
+        l = place_in_range net p place h
+
+        whole : (resets (reset_of net p) inputs ≡ true) ⊎ (resets (reset_of net p) inputs ≡ false)
+            → out (finished net first) p place ≡ entry_or (first_entry p place) (value first p place)
+        whole (inl t) = ap (λ (o : Option ℕ). entry_or o (value first p place)) (reset_ran net levels greatest E A V first p place clock edge start_fresh is l (start_waits p l) (start_reset p ∙ t) ∙ sym (entry_of_reset _ false (reset_entry (reset_of net p) place) None t))
+        whole (inr t) = ap (λ (o : Option ℕ). entry_or o (value first p place)) (clocked_ran net levels greatest E A V first p place clock edge start_fresh is (start_reset p ∙ t) (no_edge_same net levels greatest E A V first.before first.now clock edge refl) ∙ sym (entry_none _ false (reset_entry (reset_of net p) place) None t refl))
+
+    pub start_holds : Holds net inputs (λ p place. out (finished net first) p place) (finished net first)
+    start_holds = record {
+      now_length = length-table _ _;
+      pend_length = length-map-range_with_len (row_after net first) 0 (length first.pending) ∙ start_fresh.rows;
+      row_lengths = λ p. ap length (start_row p) ∙ E.wiring.each_driver_starts p;
+      on_inputs = λ n is. inputs_at net E inputs net.start n is;
+      on_others = λ n l given free. others_at net inputs net.start n refl given;
+      on_driven = λ p place h. others_at net inputs net.start (target net p place) refl (target_no_input p place h) ∙ start_value p place h;
+      on_combinational = λ p place c h. combinational_awake net levels greatest E A V first p place start_fresh c h (start_waits p c.0);
+      on_clocked = λ p place clock edge is h. refl;
+      reset_kept = λ p place clock edge is h t.
+          let e = start_register p place clock edge is h ∙ ap (λ (o : Option ℕ). entry_or o (get_or net.start (target net p place) 0)) (entry_of_reset _ false (reset_entry (reset_of net p) place) None t) in
+          ap (entry_or (reset_entry (reset_of net p) place)) e ∙ entry_twice (reset_entry (reset_of net p) place) (get_or net.start (target net p place) 0) ∙ sym e;
+    }
+
+    -- without a reset clocked processes do nothing at the start
+    pub start_asleep : HasNoReset net → (p place clock : ℕ) (edge : Edge) → IsClockedBy net p clock edge → transaction (finished net first) p place ≡ None
+    start_asleep none p place clock edge is =
+        clocked_ran net levels greatest E A V first p place clock edge start_fresh is (go (reset_of net p) refl) (no_edge_same net levels greatest E A V first.before first.now clock edge refl)
+      where
+        go : (o : Option Reset) → reset_of net p ≡ o → resets (reset_of net p) (λ n. get_or first.now n 0) ≡ false
+        go None e = ap (λ (o : Option Reset). resets o (λ n. get_or first.now n 0)) e
+        go (Some r) e = absurd (none p r e)
