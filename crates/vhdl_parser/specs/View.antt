@@ -42,6 +42,9 @@ ident_view i = record { at = i.at; text = i.text.items }
 abbrev pub idents_view : Vec Identifier Global → List tree.Ident
 idents_view v = map ident_view v.items
 
+abbrev pub option_ident_view : Option Identifier → Option tree.Ident
+option_ident_view = option_map ident_view
+
 -- ---- expressions
 
 abbrev mutual
@@ -138,6 +141,9 @@ declaration_view (d.Component x) = tree.component (component_view x)
 abbrev pub declarations_view : Vec Declaration Global → List tree.Declaration
 declarations_view v = map declaration_view v.items
 
+abbrev pub option_ports_view : Option (Vec Port Global) → Option (List tree.Port)
+option_ports_view = option_map ports_view
+
 -- ---- units
 
 abbrev pub entity_view : Entity → tree.Entity
@@ -149,16 +155,25 @@ architecture_view a = record { at = a.at; name = ident_view a.name; entity = ide
 abbrev pub selected_view : Selected → tree.Selected
 selected_view s = record { library = ident_view s.library; name = ident_view s.name }
 
+abbrev pub selecteds_view : Vec Selected Global → List tree.Selected
+selecteds_view v = map selected_view v.items
+
 abbrev pub context_view : ContextItem → tree.ContextItem
 context_view (x.Library names) = tree.library (idents_view names)
-context_view (x.Use all) = tree.uses (map selected_view all.items)
+context_view (x.Use all) = tree.uses (selecteds_view all)
+
+abbrev pub contexts_view : Vec ContextItem Global → List tree.ContextItem
+contexts_view v = map context_view v.items
 
 abbrev pub library_unit_view : LibraryUnit → tree.LibraryUnit
 library_unit_view (u.Entity n) = tree.entity (entity_view n)
 library_unit_view (u.Architecture a) = tree.architecture (architecture_view a)
 
 abbrev pub unit_view : DesignUnit → tree.DesignUnit
-unit_view n = record { context = map context_view n.context.items; unit = library_unit_view n.unit }
+unit_view n = record { context = contexts_view n.context; unit = library_unit_view n.unit }
+
+abbrev pub units_view : Vec DesignUnit Global → List tree.DesignUnit
+units_view v = map unit_view v.items
 
 abbrev pub file_view : File → tree.File
-file_view f = record { units = map unit_view f.units.items }
+file_view f = record { units = units_view f.units }

@@ -1,8 +1,15 @@
 //! From tokens to a syntax tree.
 #![tactic(auto)]
 
+mod concurrent;
+mod declaration;
+mod expr;
+mod fault;
+mod parser;
 mod tree;
+mod unit;
 
+pub use fault::SyntaxFault;
 pub use tree::{
     Architecture, Assignment, Branch, Component, Concurrent, Constants, ContextItem, Declaration,
     DesignUnit, Direction, Entity, Enumeration, Expr, File, Generic, Identifier, LibraryUnit, Link,

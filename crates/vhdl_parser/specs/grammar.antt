@@ -1,0 +1,5 @@
+-- The grammar: how each tree is spelled, and which trees are well formed.
+pub mod Expressions
+pub mod Concurrent
+pub mod Declarations
+pub mod Units

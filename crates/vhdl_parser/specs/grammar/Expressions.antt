@@ -1,0 +1,168 @@
+-- Expressions (IEEE 1076-2008, 9.1): how they are spelled, and which are well formed.
+use Rattle.std.specs.Prelude.{◌≡◌, ℕ, ◌<◌, ◌||◌, nat_lt, Bool, true, false, Option, Some, None, List, [], ◌∷◌, ◌++◌}
+use Rattle.vhdl_lexer.specs.declared.token.Kind.{Kind}
+use Rattle.vhdl_lexer.specs.declared.token.Kind.TheVariants as k
+use Rattle.vhdl_parser.specs.declared.tree.Operator.{Operator}
+use Rattle.vhdl_parser.specs.declared.tree.Operator.TheVariants.{And, Or, Xor, Xnor, Nand, Nor, Equal, NotEqual, Less, LessEqual, Greater, GreaterEqual, Add, Subtract, Concatenate, Multiply, Divide, Modulo, Remainder}
+use Rattle.vhdl_parser.specs.declared.tree.Sign.{Sign}
+use Rattle.vhdl_parser.specs.declared.tree.Sign.TheVariants.{Plus, Minus}
+use Rattle.vhdl_parser.specs.declared.tree.Direction.{Direction}
+use Rattle.vhdl_parser.specs.declared.tree.Direction.TheVariants.{To, Downto}
+use Rattle.vhdl_parser.specs.Tree.{Ident, Expr, integer, character, string, bits, named, parens, negation, signed, binary, Suffix, plain, arguments, sliced, Exprs, no_exprs, expr, Name, Value, single, others}
+use Rattle.vhdl_parser.specs.Pieces.{Piece, some, one_at, word_at, literal_at, text_at, spell_option, spell_ident}
+
+-- ---- spelling
+
+abbrev pub kind_of : Operator → Kind
+kind_of And = k.And
+kind_of Or = k.Or
+kind_of Xor = k.Xor
+kind_of Xnor = k.Xnor
+kind_of Nand = k.Nand
+kind_of Nor = k.Nor
+kind_of Equal = k.Equal
+kind_of NotEqual = k.NotEqual
+kind_of Less = k.Less
+kind_of LessEqual = k.LessEqual
+kind_of Greater = k.Greater
+kind_of GreaterEqual = k.GreaterEqual
+kind_of Add = k.Plus
+kind_of Subtract = k.Minus
+kind_of Concatenate = k.Ampersand
+kind_of Multiply = k.Star
+kind_of Divide = k.Slash
+kind_of Modulo = k.Mod
+kind_of Remainder = k.Rem
+
+abbrev pub sign_kind : Sign → Kind
+sign_kind Plus = k.Plus
+sign_kind Minus = k.Minus
+
+abbrev pub direction_kind : Direction → Kind
+direction_kind To = k.To
+direction_kind Downto = k.Downto
+
+-- [ ' id ]
+abbrev pub spell_attribute : Option Ident → List Piece
+spell_attribute None = []
+spell_attribute (Some a) = some k.Tick ∷ spell_ident a
+
+abbrev mutual
+  pub spell : Expr → List Piece
+  -- primary = integer | character | string | bit string | name | ( expr )
+  spell (integer at text) = text_at k.Integer at text ∷ []
+  spell (character at code) = literal_at at code ∷ []
+  spell (string at text) = text_at k.String at text ∷ []
+  spell (bits at text) = text_at k.BitString at text ∷ []
+  spell (named n suffix attribute) = word_at n.at n.text ∷ (spell_suffix suffix ++ spell_attribute attribute)
+  spell (parens at inner) = one_at k.LeftParen at ∷ (spell inner ++ some k.RightParen ∷ [])
+  -- factor = [ not ] primary
+  spell (negation at operand) = one_at k.Not at ∷ spell operand
+  -- sum = [ + | - ] term { .. }
+  spell (signed sign at operand) = one_at (sign_kind sign) at ∷ spell operand
+  -- expr = rel { and rel } | .., rel = sum [ .. sum ], sum = .. term { .. term }, term = factor { .. factor }
+  spell (binary operator at left right) = spell left ++ (one_at (kind_of operator) at ∷ spell right)
+
+  -- name = id [ ( expr { , expr } ) | ( range ) ] .., range = expr ( to | downto ) expr
+  pub spell_suffix : Suffix → List Piece
+  spell_suffix plain = []
+  spell_suffix (arguments all) = some k.LeftParen ∷ (spell_exprs all ++ some k.RightParen ∷ [])
+  spell_suffix (sliced left direction right) = some k.LeftParen ∷ (spell left ++ (some (direction_kind direction) ∷ (spell right ++ some k.RightParen ∷ [])))
+
+  pub spell_exprs : Exprs → List Piece
+  spell_exprs no_exprs = []
+  spell_exprs (expr e more) = spell e ++ spell_more more
+
+  pub spell_more : Exprs → List Piece
+  spell_more no_exprs = []
+  spell_more (expr e more) = some k.Comma ∷ (spell e ++ spell_more more)
+
+-- name = id [ .. ] [ ' id ]
+abbrev pub spell_name : Name → List Piece
+spell_name n = word_at n.identifier.at n.identifier.text ∷ (spell_suffix n.suffix ++ spell_attribute n.attribute)
+
+-- value = expr | ( others => expr )
+abbrev pub spell_value : Value → List Piece
+spell_value (single e) = spell e
+spell_value (others at e) = one_at k.LeftParen at ∷ (some k.Others ∷ (some k.Arrow ∷ (spell e ++ some k.RightParen ∷ [])))
+
+-- ---- precedence and chaining
+
+-- how tightly an operator binds its operands: logical operators 1, relations 2, sums 3, terms 4
+abbrev pub rank : Operator → ℕ
+rank And = 1
+rank Or = 1
+rank Xor = 1
+rank Xnor = 1
+rank Nand = 1
+rank Nor = 1
+rank Equal = 2
+rank NotEqual = 2
+rank Less = 2
+rank LessEqual = 2
+rank Greater = 2
+rank GreaterEqual = 2
+rank Add = 3
+rank Subtract = 3
+rank Concatenate = 3
+rank Multiply = 4
+rank Divide = 4
+rank Modulo = 4
+rank Remainder = 4
+
+-- how tightly a tree holds together: by its own operator, a sign as a sum, `not` 5, and what needs no operator 6
+abbrev pub binding : Expr → ℕ
+binding (integer at text) = 6
+binding (character at code) = 6
+binding (string at text) = 6
+binding (bits at text) = 6
+binding (named n suffix attribute) = 6
+binding (parens at inner) = 6
+binding (negation at operand) = 5
+binding (signed sign at operand) = 3
+binding (binary operator at left right) = rank operator
+
+-- whether the second operator may follow the first without parentheses
+abbrev pub chains : Operator → Operator → Bool
+chains And And = true
+chains Or Or = true
+chains Xor Xor = true
+chains Xnor Xnor = true
+chains _ _ = false
+
+-- whether a tree may stand before an operator: it binds more tightly, or its operator chains with this one
+abbrev pub leads : Operator → Expr → Bool
+leads operator (binary first at left right) = nat_lt (rank operator) (rank first) || chains first operator
+leads operator _ = true
+
+-- the operators, signs, literals and names that the parser reads so far
+abbrev pub is_logical : Operator → Bool
+is_logical And = true
+is_logical Or = true
+is_logical Xor = true
+is_logical Xnor = true
+is_logical Nand = true
+is_logical Nor = true
+is_logical _ = false
+
+abbrev pub IsPlain : Suffix → Option Ident → Type 0
+IsPlain plain None = Unit {0}
+IsPlain _ _ = ⊥
+
+abbrev pub IsExpr : Expr → Type 0
+IsExpr (integer at text) = ⊥
+IsExpr (character at code) = Unit {0}
+IsExpr (string at text) = ⊥
+IsExpr (bits at text) = ⊥
+IsExpr (named n suffix attribute) = IsPlain suffix attribute
+IsExpr (parens at inner) = IsExpr inner
+IsExpr (negation at operand) = (5 < binding operand) × IsExpr operand
+IsExpr (signed sign at operand) = ⊥
+IsExpr (binary operator at left right) = (is_logical operator ≡ true) × (leads operator left ≡ true) × (rank operator < binding right) × IsExpr left × IsExpr right
+
+abbrev pub IsName : Name → Type 0
+IsName n = IsPlain n.suffix n.attribute
+
+abbrev pub IsValue : Value → Type 0
+IsValue (single e) = IsExpr e
+IsValue (others at e) = ⊥

@@ -1,0 +1,110 @@
+-- How the parser reads context clauses, entities, architectures and files.
+use Rattle.std.specs.Prelude.{ℕ, List, [], ◌∷◌, Bool, true, false, Option, Some, None}
+use Rattle.vhdl_lexer.specs.declared.token.Kind.{Kind}
+use Rattle.vhdl_lexer.specs.declared.token.Kind.TheVariants as k
+use Rattle.vhdl_parser.specs.Tree.{Ident, Entity, Architecture, Selected, ContextItem, library, uses, LibraryUnit, entity, architecture, DesignUnit, File}
+use Rattle.vhdl_parser.specs.reader.Input.{Parser, ◌>>=◌, ◌>>◌, ◌<$>◌, pure, refuse, is_kind, is_more, choose, test, expect, eat, identifier, optional, many}
+use Rattle.vhdl_parser.specs.reader.Concurrent.{concurrents}
+use Rattle.vhdl_parser.specs.reader.Declarations.{idents, ports}
+
+-- how many levels may be open in a file
+abbrev pub max_open : ℕ
+max_open = 64
+
+unfoldable pub selected : Parser Selected
+selected = do
+  place ← identifier
+  expect k.Dot
+  name ← identifier
+  expect k.Dot
+  expect k.All
+  pure (record { library = place; name = name })
+
+unfoldable pub next_selected : Parser Selected
+next_selected = expect k.Comma >> selected
+
+unfoldable pub selecteds : Parser (List Selected)
+selecteds = do
+  first ← selected
+  many (is_kind k.Comma) next_selected (first ∷ [])
+
+unfoldable pub library_clause : Parser ContextItem
+library_clause = do
+  expect k.Library
+  names ← idents
+  expect k.Semicolon
+  pure (library names)
+
+unfoldable pub use_clause : Parser ContextItem
+use_clause = do
+  expect k.Use
+  all ← selecteds
+  expect k.Semicolon
+  pure (uses all)
+
+unfoldable pub context_item : Parser ContextItem
+context_item = test (is_kind k.Library) library_clause use_clause
+
+abbrev pub begins_context : Option Kind → Bool
+begins_context (Some k.Library) = true
+begins_context (Some k.Use) = true
+begins_context _ = false
+
+unfoldable pub end_name : Parser (Option Ident)
+end_name = optional (is_kind k.Identifier) identifier
+
+unfoldable pub entity_unit : Parser Entity
+entity_unit = do
+  at ← expect k.Entity
+  name ← identifier
+  expect k.Is
+  found ← optional (is_kind k.Port) (ports max_open)
+  expect k.End
+  word ← eat k.Entity
+  last ← end_name
+  expect k.Semicolon
+  pure (record { at = at; name = name; generics = None; ports = found; end_word = word; end_name = last })
+
+unfoldable pub architecture_unit : Parser Architecture
+architecture_unit = do
+  at ← expect k.Architecture
+  name ← identifier
+  expect k.Of
+  of_entity ← identifier
+  expect k.Is
+  expect k.Begin
+  found ← concurrents max_open
+  expect k.End
+  word ← eat k.Architecture
+  last ← end_name
+  expect k.Semicolon
+  pure (record { at = at; name = name; entity = of_entity; declarations = []; statements = found; end_word = word; end_name = last })
+
+abbrev pub library_unit_by : Option Kind → Parser LibraryUnit
+library_unit_by (Some k.Entity) = entity <$> entity_unit
+library_unit_by (Some k.Architecture) = architecture <$> architecture_unit
+library_unit_by _ = refuse
+
+unfoldable pub library_unit : Parser LibraryUnit
+library_unit = choose library_unit_by
+
+unfoldable pub context : Parser (List ContextItem)
+context = many begins_context context_item []
+
+unfoldable pub unit : Parser DesignUnit
+unit = do
+  before ← context
+  u ← library_unit
+  pure (record { context = before; unit = u })
+
+unfoldable pub units : Parser (List DesignUnit)
+units = many is_more unit []
+
+unfoldable pub finish : Parser (Unit {0})
+finish = test is_more refuse (pure tt)
+
+unfoldable pub file : Parser File
+file = do
+  found ← units
+  finish
+  pure (record { units = found })

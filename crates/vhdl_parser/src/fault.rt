@@ -1,0 +1,78 @@
+//! Why tokens are no file.
+
+ghost use Rattle.std.specs.Prelude.{◌≡◌, ℕ, Option};
+ghost use Rattle.vhdl_parser.specs.Fault.{fault_number, fault_byte};
+ghost use Rattle.vhdl_parser.specs.declared.fault.Stop.TheVariants.{NoMemory};
+
+use std::alloc::{AllocError, AllocFailed};
+use thiserror::Error;
+
+/// Why the parser stopped. The token that it met is the next one.
+#[derive(Clone, Copy, Debug, PartialEq, Eq)]
+pub enum Stop {
+    Unexpected,
+    EndOfFile,
+    TooDeep,
+    NoMemory,
+}
+
+impl From<AllocError> for Stop {
+    ghost from_gives = { λ _ e. e ≡ NoMemory };
+
+    fn from(_e: AllocError) -> Stop {
+        Stop::NoMemory
+    }
+}
+
+impl<T: Drop> From<AllocFailed<T>> for Stop {
+    ghost from_gives = { λ _ e. e ≡ NoMemory };
+
+    fn from(_e: AllocFailed<T>) -> Stop {
+        Stop::NoMemory
+    }
+}
+
+/// Why tokens are no file. `at` is a byte of the source, counted from 0, and never above the
+/// source's length: where the token starts at which the reading stopped, or the source's length
+/// where it stopped behind the last token.
+#[derive(Clone, Copy, Debug, PartialEq, Eq, Error)]
+pub enum SyntaxFault {
+    /// No file goes on with this token.
+    #[error("nothing that the grammar allows begins here, at byte {at}")]
+    Unexpected { at: usize },
+    /// The tokens end where a file goes on.
+    #[error("the file ends where something more must stand, at byte {at}")]
+    EndOfFile { at: usize },
+    /// More than 64 levels are open.
+    #[error("more than 64 levels are open, at byte {at}")]
+    TooDeep { at: usize },
+    /// A part of the tree could not grow.
+    #[error("out of memory")]
+    NoMemory,
+}
+
+impl SyntaxFault {
+    /// The number under which the fault is reported, from 1 to 4.
+    pub fn number(&self) -> u8
+        ensures { result ≡ fault_number self.now }
+    {
+        match *self {
+            SyntaxFault::Unexpected { .. } => 1,
+            SyntaxFault::EndOfFile { .. } => 2,
+            SyntaxFault::TooDeep { .. } => 3,
+            SyntaxFault::NoMemory => 4,
+        }
+    }
+
+    /// The byte of the source at which the fault is reported. `NoMemory` has none.
+    pub fn byte(&self) -> Option<usize>
+        ensures { result ≡ fault_byte self.now }
+    {
+        match *self {
+            SyntaxFault::Unexpected { at }
+            | SyntaxFault::EndOfFile { at }
+            | SyntaxFault::TooDeep { at } => Some(at),
+            SyntaxFault::NoMemory => None,
+        }
+    }
+}
