@@ -10,6 +10,8 @@ mod edges;
 mod kinds;
 mod resolution;
 mod scalar;
+#[cfg(test)]
+mod tests;
 mod vector;
 
 pub use edges::edge;

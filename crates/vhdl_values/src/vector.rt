@@ -240,10 +240,10 @@ impl Vec9 {
         ensures list { result ≡ resized len self.now }
         ensures len { length result ≡ len }
     {
-        if len <= self.len() {
-            return self.slice(self.len() - len, len);
-        }
-        Vec9::fill(Nine::Zero, len - self.len()).concat(self)
+        let kept = len.min(self.len());
+        let mut all = [Nine::Zero; 64];
+        put_front(&mut all[len - kept..], &self.values()[self.len() - kept..]);
+        Vec9::of(&all[..len])
     }
 
     /// The values moved that many places to the left, with 0s to their right (numeric_std, `SHIFT_LEFT`, S.1): all
@@ -252,14 +252,10 @@ impl Vec9 {
         ensures list { result ≡ shifted_left count self.now }
         ensures len { length result ≡ length self.now }
     {
-        if count >= self.len() {
-            return Vec9::fill(Nine::Zero, self.len());
-        }
-        if count == 0 {
-            return *self;
-        }
-        let kept = self.slice(count, self.len() - count);
-        kept.concat(&Vec9::fill(Nine::Zero, count))
+        let gone = count.min(self.len());
+        let mut all = [Nine::Zero; 64];
+        put_front(&mut all, &self.values()[gone..]);
+        Vec9::of(&all[..self.len()])
     }
 
     /// The values moved that many places to the right, with 0s to their left (numeric_std, `SHIFT_RIGHT`, S.2): all
@@ -268,14 +264,10 @@ impl Vec9 {
         ensures list { result ≡ shifted_right count self.now }
         ensures len { length result ≡ length self.now }
     {
-        if count >= self.len() {
-            return Vec9::fill(Nine::Zero, self.len());
-        }
-        if count == 0 {
-            return *self;
-        }
-        let kept = self.slice(0, self.len() - count);
-        Vec9::fill(Nine::Zero, count).concat(&kept)
+        let gone = count.min(self.len());
+        let mut all = [Nine::Zero; 64];
+        put_front(&mut all[gone..], &self.values()[..self.len() - gone]);
+        Vec9::of(&all[..self.len()])
     }
 
     /// The number that the values stand for, if each stands for a digit.
