@@ -6,8 +6,6 @@ use Rattle.std.proofs.Math.ListN.{get_or-map}
 use Rattle.std.proofs.lemmas.List.{get_or_past, length-map}
 use Rattle.std.proofs.lemmas.List.FromFn.{length-map-range_with_len, get_or-map-range_with_len}
 use Rattle.std.proofs.lemmas.Bool.{cases_lt, eqb-true, ltb-true, and_parts}
-use Rattle.vhdl_values.specs.declared.kinds.Edge as e
-use Rattle.vhdl_values.specs.declared.kinds.Edge.TheVariants as v
 use Rattle.vhdl_values.specs.Edges.{has_edge}
 use Rattle.rtl_model.specs.bodies.Body as b
 use Rattle.rtl_model.specs.bodies.Body.{Stmts}
@@ -17,7 +15,7 @@ use Rattle.rtl_model.specs.bodies.Reads.{reads}
 use Rattle.rtl_model.specs.bodies.Kinds.{EdgeTest, BodyKind, Plain, AtEdge, Neither, edge_test, at_edge, clocked, kind_or, kind_of, branch_or, branch_of, body_has_event}
 use Rattle.rtl_model.specs.nets.FlatNet as flat
 use Rattle.rtl_model.specs.nets.FlatNet.{FlatNet, FlatProcess, FlatDriver, targets}
-use Rattle.rtl_model.specs.nets.CoreNet.{core_edge, value_edge, core_kind, core_process, core_edges, core_net, drives_net}
+use Rattle.rtl_model.specs.nets.CoreNet.{core_kind, core_process, core_edges, core_net, drives_net}
 use Rattle.rtl_model.specs.simulation.Net as c
 use Rattle.rtl_model.specs.simulation.Elaborated.{AgreeOn, HasBodies}
 use Rattle.rtl_model.proofs.bodies.Assigned.{each_run_assigns}
@@ -74,23 +72,17 @@ pub record IsAtEdge (x : BodyKind) (clock : ℕ) (edge : c.Edge) (reset : Option
   pub branch : Stmts
   pub is : x ≡ AtEdge test branch
   pub clock_is : clock ≡ test.clock
-  pub edge_is : value_edge edge ≡ test.kind
+  pub edge_is : edge ≡ test.kind
   pub reset_is : reset ≡ None
-
-back : (d : e.Edge) → value_edge (core_edge d) ≡ d
-back v.Rising = refl
-back v.Falling = refl
-back v.To1 = refl
-back v.To0 = refl
 
 pub is_at_edge : (x : BodyKind) (clock : ℕ) (edge : c.Edge) (reset : Option c.Reset) → core_kind x ≡ c.Clocked clock edge reset → IsAtEdge x clock edge reset
 is_at_edge Plain clock edge reset h = absurd cc
 is_at_edge Neither clock edge reset h = absurd cc
 is_at_edge (AtEdge t s) clock edge reset h =
     let k : t.clock ≡ clock = cc in
-    let l : core_edge t.kind ≡ edge = cc in
+    let l : t.kind ≡ edge = cc in
     let r : None ≡ reset = cc in
-    record { test = t; branch = s; is = refl; clock_is = sym k; edge_is = sym (ap value_edge l) ∙ back t.kind; reset_is = sym r }
+    record { test = t; branch = s; is = refl; clock_is = sym k; edge_is = sym l; reset_is = sym r }
 
 pub no_reset : (x : BodyKind) → c.kind_reset (core_kind x) ≡ None
 no_reset Plain = refl

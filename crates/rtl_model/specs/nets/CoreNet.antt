@@ -1,7 +1,5 @@
 -- What a flat net is to a simulation: bodies as their effects, values resolved by std_logic_1164's table, and its edges.
 use Rattle.std.specs.Prelude.{ℕ, Bool, ◌&&◌, ◌==◌, nat_lt, List, [], ◌∷◌, length, map, slice_index, None}
-use Rattle.vhdl_values.specs.declared.kinds.Edge as e
-use Rattle.vhdl_values.specs.declared.kinds.Edge.TheVariants as v
 use Rattle.vhdl_values.specs.Scalar.{code_of, value_of_code}
 use Rattle.vhdl_values.specs.Resolution.{resolved}
 use Rattle.vhdl_values.specs.Edges.{has_edge}
@@ -11,25 +9,12 @@ use Rattle.rtl_model.specs.bodies.Assigns.{must_assign}
 use Rattle.rtl_model.specs.bodies.Kinds.{BodyKind, Plain, AtEdge, Neither, kind_of, branch_of}
 use Rattle.rtl_model.specs.bodies.Types.{limit_of}
 use Rattle.rtl_model.specs.nets.FlatNet.{FlatNet, FlatProcess, targets, starts}
-use Rattle.rtl_model.specs.simulation.Net.{Net, Process, Kind, Combinational, Clocked, Mixed, Edge, Rising, Falling, To1, To0}
-
--- the edges' names there and here
-abbrev pub core_edge : e.Edge → Edge
-core_edge v.Rising = Rising
-core_edge v.Falling = Falling
-core_edge v.To1 = To1
-core_edge v.To0 = To0
-
-abbrev pub value_edge : Edge → e.Edge
-value_edge Rising = v.Rising
-value_edge Falling = v.Falling
-value_edge To1 = v.To1
-value_edge To0 = v.To0
+use Rattle.rtl_model.specs.simulation.Net.{Net, Process, Kind, Combinational, Clocked, Mixed, Edge}
 
 -- a body's kind; today no body has a reset
 abbrev pub core_kind : BodyKind → Kind
 core_kind Plain = Combinational
-core_kind (AtEdge e s) = Clocked e.clock (core_edge e.kind) None
+core_kind (AtEdge e s) = Clocked e.clock e.kind None
 core_kind Neither = Mixed
 
 -- whether the driver at this place is one of this net
@@ -57,7 +42,7 @@ core_resolve (v ∷ []) = v
 core_resolve vs = code_of (resolved (map value_of_code vs))
 
 abbrev pub core_edges : Edge → (old new : ℕ) → Bool
-core_edges edge old new = has_edge (value_edge edge) (value_of_code old) (value_of_code new)
+core_edges edge old new = has_edge edge (value_of_code old) (value_of_code new)
 
 abbrev pub core_net : FlatNet → Net
 core_net net = record {

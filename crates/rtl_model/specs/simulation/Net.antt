@@ -3,13 +3,9 @@
 -- in the elaborated design, a value by its place in its type. A valuation is the list of all nets' values.
 use Rattle.std.specs.Prelude.{true, false, ◌≡◌, ℕ, ◌<◌, Bool, List, [], length, slice_index, slice_index_or, map, Option, Some, None, IsTrue, ◌==◌}
 use Rattle.std.specs.List.{list_any, range_with_len}
-
 -- the edge tests: `rising_edge`, `falling_edge`, and an event to exactly '1' or '0'
-pub data Edge : Type 0 where
-  Rising : Edge
-  Falling : Edge
-  To1 : Edge
-  To0 : Edge
+pub use Rattle.vhdl_values.specs.declared.kinds.Edge.{Edge}
+pub use Rattle.vhdl_values.specs.declared.kinds.Edge.TheVariants.{Rising, Falling, To1, To0}
 
 -- An asynchronous reset: the test is that the net has just this value, and each driver that the reset's branch assigns
 -- has its entry.
