@@ -5,6 +5,7 @@ pub mod Moments
 pub mod Elaborated
 pub mod Accepted
 pub mod Levels
+pub mod Report
 pub mod Races
 pub mod Machine
 pub mod Range

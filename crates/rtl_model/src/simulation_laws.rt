@@ -1,6 +1,6 @@
 //! The laws of simulation (`specs/simulation/Laws.antt`), each the contract of a function that does nothing.
 
-ghost use Rattle.rtl_model.specs.simulation.Laws.{EachMomentComes, EveryOrderIsOne, IsTheMachine, LevelsAreShown, LevelsExist, OneMachineRun, OneReport, OneSolution, OrderIsFree, ReportsShow, RunsInRange, SettlesInBound, SolutionsInRange};
+ghost use Rattle.rtl_model.specs.simulation.Laws.{EachMomentComes, EveryOrderIsOne, IsTheMachine, LevelsAreShown, LevelsExist, OneMachineRun, OneReport, OneSolution, OrderIsFree, ReportsAreShown, ReportsLeadDown, RunsInRange, SettlesInBound, SolutionsInRange};
 
 /// Two orders of one cycle's Runs end in the same state, in every net.
 pub fn order_is_free()
@@ -66,8 +66,12 @@ pub fn levels_are_shown()
     ensures { LevelsAreShown }
 {}
 
-/// What is a report shows its levels by such facts, and following `from` leads from each process down to level 1, in as many
-/// processes as its level says.
-pub fn reports_show()
-    ensures { ReportsShow }
+/// What is a report is shown by local facts, which speak of no chain, and what they show is a report.
+pub fn reports_are_shown()
+    ensures { ReportsAreShown }
+{}
+
+/// In a report, following `from` leads from each process down to level 1, through as many processes as its level says.
+pub fn reports_lead_down()
+    ensures { ReportsLeadDown }
 {}

@@ -1,5 +1,5 @@
 -- Wrong definitions of what bodies do break the laws.
-use Rattle.std.proofs.Common.{◌≡◌, ℕ, ◌<◌, List, get_or, Some, None, refl, sym, ◌∙◌, arith, Contains}
+use Rattle.std.proofs.Common.{◌≡◌, ℕ, List, get_or, refl, arith}
 use Rattle.rtl_model.specs.nets.CoreNet.{core_net}
 use Rattle.rtl_model.specs.simulation.Machine.{Solves}
 use Rattle.rtl_model.specs.examples.BodyMistakes.{latch, LatchWouldPass, DefaultWouldStay, TestWouldBeRising}

@@ -2,14 +2,15 @@
 use Rattle.std.specs.Prelude.{slice_get}
 use Rattle.std.proofs.Common.{◌≡◌, ℕ, zero, suc, ◌<◌, ◌≤◌, Bool, true, false, not, List, [], ◌∷◌, length, get_or, Option, Some, None, refl, sym, ap, ◌∙◌, arith, ◌⊎◌, inl, inr, ◌==◌, ◌&&◌, ◌||◌, subst, IsSome, Contains, map, if◌then◌else◌}
 use Rattle.std.proofs.lemmas.Bool.{eqb-true, and_parts, or_cases, false_from_ne_true, not-true, eqb-false}
-use Rattle.rtl_model.specs.simulation.Net.{Source, Driver, Reset, Mixed, Edge, Rising, Falling, To1, To0, process, sources_of, target, reset_of, reset_entry, resets, clocked_entry, HasReset, HasPlace, IsInput, IsCombinational, IsClockedBy}
+use Rattle.rtl_model.specs.simulation.Net.{clocked_entry, Driver, Edge, Falling, HasPlace, HasReset, IsClockedBy, IsCombinational, IsInput, Mixed, process, Reset, reset_entry, reset_of, resets, Rising, Source, sources_of, target, To0, To1}
 use Rattle.rtl_model.specs.simulation.Cycle.{source_value, starting_drivers}
 use Rattle.rtl_model.specs.simulation.Moments.{HasSettled, Takes}
-use Rattle.rtl_model.specs.simulation.Elaborated.{IsElaborated, IsWired, HasValues, HasBodies, AgreeOn}
-use Rattle.rtl_model.specs.simulation.Accepted.{IsAccepted, TwoDrivers, MixedProcess, ClockNotInput, EdgeNotSensitive, ClockAsData, MissingSensitivity, Latch, Loop, Feeds, IsClock}
-use Rattle.rtl_model.specs.simulation.Levels.{AreLevels, IsLevel, IsReport, ChainTo, bound, IsBefore}
+use Rattle.rtl_model.specs.simulation.Elaborated.{AgreeOn, HasBodies, HasValues, IsElaborated, IsWired}
+use Rattle.rtl_model.specs.simulation.Accepted.{ClockAsData, ClockNotInput, EdgeNotSensitive, Feeds, IsAccepted, IsClock, Latch, Loop, MissingSensitivity, MixedProcess, TwoDrivers}
+use Rattle.rtl_model.specs.simulation.Levels.{AreLevels, bound, ChainTo, IsLevel}
+use Rattle.rtl_model.specs.simulation.Report.{IsBefore, IsReport}
 use Rattle.rtl_model.specs.simulation.Races.{HasNoRace}
-use Rattle.rtl_model.specs.simulation.Range.{IsValuation, KeepsRange, AreInputs, limit}
+use Rattle.rtl_model.specs.simulation.Range.{AreInputs, IsValuation, KeepsRange, limit}
 use Rattle.rtl_model.specs.examples.Gates.{edge_test, inverse}
 use Rattle.rtl_model.specs.examples.Toggling.{toggling, reset, sensitivity, start, one_edge, MeetsPremises, bound_of, PremisesCanBeMet, BoundsAreMet}
 use Rattle.rtl_model.proofs.simulation.Levels.{Contains-one, Contains-none}

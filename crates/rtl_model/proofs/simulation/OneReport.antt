@@ -3,8 +3,9 @@ use Rattle.std.specs.Prelude.{slice_get}
 use Rattle.std.proofs.Common.{◌≡◌, ℕ, zero, suc, ◌<◌, ◌≤◌, List, [], ◌∷◌, length, get_or, Option, Some, None, refl, sym, ap, ◌∙◌, subst, arith, ◌⊎◌, inl, inr, Contains}
 use Rattle.std.proofs.lemmas.List.{ext_get_or}
 use Rattle.std.proofs.lemmas.Bool.{cases_eq, cases_order}
-use Rattle.rtl_model.specs.simulation.Net.{Net, Edge, IsCombinational, IsClockedBy}
-use Rattle.rtl_model.specs.simulation.Levels.{AreLevels, IsLevel, IsFrom, IsReport, IsBefore, bound}
+use Rattle.rtl_model.specs.simulation.Net.{Edge, IsClockedBy, IsCombinational, Net}
+use Rattle.rtl_model.specs.simulation.Levels.{AreLevels, bound, IsLevel}
+use Rattle.rtl_model.specs.simulation.Report.{IsBefore, IsFrom, IsReport}
 use Rattle.rtl_model.specs.simulation.Laws.{OneReport}
 use Rattle.rtl_model.proofs.simulation.Faultless.{Faultless, faultless}
 use Rattle.rtl_model.proofs.simulation.Levels.{Contains-none, first_source, same_level}

@@ -1,9 +1,10 @@
 -- A report shows its levels by local facts.
-use Rattle.std.proofs.Common.{◌≡◌, ℕ, zero, suc, ◌<◌, ◌≤◌, List, [], ◌∷◌, get_or, Option, Some, None, refl, ap, ◌∙◌, subst, arith}
+use Rattle.std.proofs.Common.{◌≡◌, ℕ, zero, suc, ◌<◌, ◌≤◌, List, [], ◌∷◌, get_or, Option, Some, None, refl, sym, ap, ◌∙◌, subst, arith}
 use Rattle.rtl_model.specs.simulation.Net.{Edge, IsCombinational, Net}
 use Rattle.rtl_model.specs.simulation.Accepted.{Feeds, IsFedRound, IsLoop}
-use Rattle.rtl_model.specs.simulation.Levels.{ChainTo, IsFrom, IsLevel, IsReport, LeadsDown, Rises, ShowLevels}
-use Rattle.rtl_model.specs.simulation.Laws.{LevelsAreShown, ReportsShow}
+use Rattle.rtl_model.specs.simulation.Levels.{ChainTo, IsLevel, Rises, ShowLevels}
+use Rattle.rtl_model.specs.simulation.Report.{IsFrom, IsReport, LeadsDown, ShowReport}
+use Rattle.rtl_model.specs.simulation.Laws.{LevelsAreShown, ReportsAreShown, ReportsLeadDown}
 use Rattle.rtl_model.proofs.simulation.Levels.{same_level}
 
 module _ (net : Net) (f : ℕ → ℕ) (R : Rises net f) where
@@ -111,5 +112,71 @@ module _ (net : Net) (levels from : List (Option ℕ)) (clocks : List (ℕ × Ed
   leads_down (suc zero) q c e = (c, none_at_one q c e)
   leads_down (suc (suc below)) q c e = let (p, f, feeds, d) = below_is q below c e in (p, f, feeds, leads_down (suc below) p feeds.feeder d)
 
-pub reports_show : ReportsShow
-reports_show net levels from clocks most R = (shows net levels from clocks most R, λ q level c e. leads_down net levels from clocks most R level q c e)
+  lowest : (q p below r : ℕ) → IsCombinational net q → get_or levels q None ≡ Some (suc below) → get_or from q None ≡ Some p → r < p → get_or levels r None ≡ Some below → Feeds net r q → ⊥
+  lowest q p below r c e f l d feeds =
+      let (n, is, lower, other, least) = from_at q c (Some p) f in
+      let same : n ≡ below = (let k = same_level net q (suc n) (suc below) is (level_is q (suc below) c e) in omega arith) in
+      least r l (subst (λ (k : ℕ). IsLevel net r k) (sym same) (level_is r below feeds.feeder d)) feeds
+
+  shown : ShowReport net levels from clocks most
+  shown = record {
+    greatest = R.greatest;
+    shown = shows;
+    each_process = R.levels_are.each_process;
+    clocked = R.levels_are.clocked;
+    none_above = R.levels_are.none_above;
+    met = R.levels_are.met;
+    bound_is = R.bound_is;
+    each_from = R.each_from;
+    from_first = none_at_one;
+    from_lowest = lowest;
+    from_clocked = R.from_clocked;
+    clocks_are = R.clocks_are;
+    clocks_rise = R.clocks_rise;
+  }
+
+-- and what satisfies them is a report
+module _ (net : Net) (levels from : List (Option ℕ)) (clocks : List (ℕ × Edge)) (most : ℕ) (S : ShowReport net levels from clocks most) where
+  has_level : (p level : ℕ) → IsCombinational net p → get_or levels p None ≡ Some level → IsLevel net p level
+  has_level p level c e = (is_level net levels from S.shown p level c e).0
+
+  shown_from : (q below : ℕ) → IsCombinational net q → get_or levels q None ≡ Some (suc below) → (o : Option ℕ) → get_or from q None ≡ o → IsFrom net q o
+  shown_from q zero c e None f = has_level q 1 c e
+  shown_from q zero c e (Some p) f = let g = S.from_first q c e in cc
+  shown_from q (suc below) c e None f = let (p, g, feeds, d) = S.shown.from_below q below c e in cc
+  shown_from q (suc below) c e (Some p) f = at (S.shown.from_below q below c e)
+    where
+      lower : (r : ℕ) → r < p → IsLevel net r (suc below) → Feeds net r q → ⊥
+      lower r l is feeds =
+          let (k, d) = S.shown.each r feeds.feeder in
+          let same = same_level net r (suc k) (suc below) (has_level r (suc k) feeds.feeder d) is in
+          S.from_lowest q p (suc below) r c e f l (d ∙ ap (λ (n : ℕ). Some n) same) feeds
+
+      at : (r : ℕ) × (get_or from q None ≡ Some r) × Feeds net r q × (get_or levels r None ≡ Some (suc below)) → IsFrom net q (Some p)
+      at (r, g, feeds, d) =
+          let same : r ≡ p = cc in
+          (suc below, has_level q (suc (suc below)) c e, subst (λ (n : ℕ). IsLevel net n (suc below)) same (has_level r (suc below) feeds.feeder d), subst (λ (n : ℕ). Feeds net n q) same feeds, lower)
+
+  reported : IsReport net levels from clocks most
+  reported = record {
+    greatest = S.greatest;
+    levels_are = record {
+      each_process = S.each_process;
+      combinational = λ p c. let (below, e) = S.shown.each p c in (suc below, e, has_level p (suc below) c e);
+      clocked = S.clocked;
+      none_above = S.none_above;
+      met = S.met;
+    };
+    bound_is = S.bound_is;
+    each_from = S.each_from;
+    from_combinational = λ q c. let (below, e) = S.shown.each q c in shown_from q below c e (get_or from q None) refl;
+    from_clocked = S.from_clocked;
+    clocks_are = S.clocks_are;
+    clocks_rise = S.clocks_rise;
+  }
+
+pub reports_are_shown : ReportsAreShown
+reports_are_shown net levels from clocks most = (shown net levels from clocks most, reported net levels from clocks most)
+
+pub reports_lead_down : ReportsLeadDown
+reports_lead_down net levels from clocks most R q level c e = leads_down net levels from clocks most R level q c e

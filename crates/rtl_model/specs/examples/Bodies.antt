@@ -9,7 +9,7 @@ use Rattle.rtl_model.specs.bodies.Body.{joined, plus, Expr, read, character, con
 use Rattle.rtl_model.specs.bodies.Values.{elements_of}
 use Rattle.rtl_model.specs.bodies.Tests.{is_met}
 use Rattle.rtl_model.specs.bodies.Effect.{effect}
-use Rattle.rtl_model.specs.bodies.Kinds.{EdgeTest, Plain, AtEdge, Neither, kind_of}
+use Rattle.rtl_model.specs.bodies.Kinds.{Plain, AtEdge, Neither, kind_of}
 
 -- ---- words to write bodies with
 

@@ -1,14 +1,14 @@
 -- Wrong definitions of what bodies do, each with a small body or net on which it differs from the right one, and a law
 -- that it would break.
-use Rattle.std.specs.Prelude.{◌≡◌, ℕ, Bool, true, false, ◌==◌, ◌&&◌, List, [], ◌∷◌, Option, Some, None}
+use Rattle.std.specs.Prelude.{◌≡◌, ℕ, Bool, true, false, ◌==◌, ◌&&◌, List, [], ◌∷◌, Some, None}
 use Rattle.vhdl_values.specs.declared.scalar.Nine.TheVariants.{U, Zero, One}
 use Rattle.vhdl_values.specs.declared.kinds.Logic.TheVariants.{And}
 use Rattle.vhdl_values.specs.declared.kinds.Edge.TheVariants.{Rising, To1}
 use Rattle.vhdl_values.specs.Edges.{has_edge}
-use Rattle.rtl_model.specs.bodies.Body.{Expr, character, Stmt, Stmts, done, step, Branches, no_else, otherwise, branch, both, event, followed_by}
+use Rattle.rtl_model.specs.bodies.Body.{character, Stmts, done, step, Branches, no_else, otherwise, branch, both, followed_by}
 use Rattle.rtl_model.specs.bodies.Effect.{Entries, no_entries, over, or_else, stmt_effect, effect}
 use Rattle.rtl_model.specs.bodies.Assigns.{must_assign, branches_must_assign}
-use Rattle.rtl_model.specs.bodies.Kinds.{EdgeTest, edge_test}
+use Rattle.rtl_model.specs.bodies.Kinds.{edge_test}
 use Rattle.rtl_model.specs.bodies.Types.{nine_valued}
 use Rattle.rtl_model.specs.nets.FlatNet.{FlatNet}
 use Rattle.rtl_model.specs.nets.CoreNet.{core_net}

@@ -4,10 +4,10 @@
 --     y <= std_logic_vector(q);
 --
 -- The nets are clk, y(1), y(0), q(1) and q(0), and q starts at "00".
-use Rattle.std.specs.Prelude.{ℕ, false, List, [], ◌∷◌, slice_index}
+use Rattle.std.specs.Prelude.{ℕ, false, [], ◌∷◌, slice_index}
 use Rattle.vhdl_values.specs.declared.scalar.Nine.TheVariants.{Zero, One}
 use Rattle.vhdl_values.specs.declared.kinds.Edge.TheVariants as v
-use Rattle.rtl_model.specs.bodies.Body.{plus, Expr, read, constant, binary, elements, edge, assign, Stmts, done, step}
+use Rattle.rtl_model.specs.bodies.Body.{plus, Expr, constant, binary, elements, edge, assign, Stmts, done, step}
 use Rattle.rtl_model.specs.bodies.Types.{nine_valued}
 use Rattle.rtl_model.specs.nets.FlatNet.{FlatDriver, FlatProcess, FlatNet, IsInRange}
 use Rattle.rtl_model.specs.nets.Wiring.{IsConnected}

@@ -8,13 +8,13 @@
 --
 --     process (all) begin if rst = '1' then q <= '0'; elsif rising_edge(clk) then q <= y; end if; end process;
 use Rattle.std.specs.Prelude.{ℕ, Bool, true, false, ◌==◌, List, [], ◌∷◌, slice_index, Option, Some, None, if◌then◌else◌}
-use Rattle.rtl_model.specs.simulation.Net.{Net, Reset, Driver, Rising}
+use Rattle.rtl_model.specs.simulation.Net.{Driver, Net, Reset, Rising}
 use Rattle.rtl_model.specs.simulation.Moments.{Takes}
 use Rattle.rtl_model.specs.simulation.Elaborated.{IsElaborated}
 use Rattle.rtl_model.specs.simulation.Accepted.{IsAccepted}
-use Rattle.rtl_model.specs.simulation.Levels.{IsReport}
+use Rattle.rtl_model.specs.simulation.Report.{IsReport}
 use Rattle.rtl_model.specs.simulation.Races.{HasNoRace}
-use Rattle.rtl_model.specs.simulation.Range.{KeepsRange, AreInputs}
+use Rattle.rtl_model.specs.simulation.Range.{AreInputs, KeepsRange}
 use Rattle.rtl_model.specs.examples.Gates.{gate, register, netlist, inverse}
 
 -- the nets are clk, rst, q and y

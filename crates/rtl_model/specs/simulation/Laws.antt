@@ -1,11 +1,12 @@
 -- The laws of simulation, over the definitions beside this file.
-use Rattle.std.specs.Prelude.{◌≡◌, ℕ, ◌≤◌, List, Option, Some, None, slice_index_or}
+use Rattle.std.specs.Prelude.{◌≡◌, ◌↔◌, ℕ, ◌≤◌, List, Option, Some, None, slice_index_or}
 use Rattle.rtl_model.specs.simulation.Net.{Net, Edge, Reset, HasReset, IsCombinational}
 use Rattle.rtl_model.specs.simulation.Cycle.{State}
 use Rattle.rtl_model.specs.simulation.Moments.{HasRun, Begun, SettlesIn, HasSettled}
 use Rattle.rtl_model.specs.simulation.Elaborated.{IsElaborated}
 use Rattle.rtl_model.specs.simulation.Accepted.{IsAccepted, IsLoop}
-use Rattle.rtl_model.specs.simulation.Levels.{AreLevels, IsLevel, IsReport, LeadsDown, ShowLevels, Rises, bound}
+use Rattle.rtl_model.specs.simulation.Levels.{AreLevels, IsLevel, ShowLevels, Rises, bound}
+use Rattle.rtl_model.specs.simulation.Report.{IsReport, LeadsDown, ShowReport}
 use Rattle.rtl_model.specs.simulation.Races.{HasNoRace}
 use Rattle.rtl_model.specs.simulation.Machine.{Solves, IsMachineRun}
 use Rattle.rtl_model.specs.simulation.Range.{IsValuation, KeepsRange, AreInputs, AreRegisters}
@@ -29,11 +30,15 @@ LevelsAreShown =
     → ((p level : ℕ) → IsCombinational net p → slice_index_or levels p None ≡ Some level → IsLevel net p level × ((number : ℕ → ℕ) → Rises net number → level ≤ number p))
     × ((processes : List ℕ) → IsLoop net processes → ⊥)
 
--- What is a report shows its levels, and each level is reached by following `from` down to level 1.
-abbrev pub ReportsShow : Type 0
-ReportsShow =
+-- What is a report is shown by local facts, and what they show is a report.
+abbrev pub ReportsAreShown : Type 0
+ReportsAreShown = (net : Net) (levels from : List (Option ℕ)) (clocks : List (ℕ × Edge)) (most : ℕ) → IsReport net levels from clocks most ↔ ShowReport net levels from clocks most
+
+-- In a report each level is reached by following `from` down to level 1.
+abbrev pub ReportsLeadDown : Type 0
+ReportsLeadDown =
     (net : Net) (levels from : List (Option ℕ)) (clocks : List (ℕ × Edge)) (most : ℕ) → IsReport net levels from clocks most
-    → ShowLevels net levels from × ((q level : ℕ) → IsCombinational net q → slice_index_or levels q None ≡ Some level → LeadsDown net from q level)
+    → (q level : ℕ) → IsCombinational net q → slice_index_or levels q None ≡ Some level → LeadsDown net from q level
 
 -- ---- of an accepted net
 

@@ -1,8 +1,8 @@
--- Levels of combinational processes, the bound on delta cycles, and the report that shows them.
-use Rattle.std.specs.Prelude.{◌≡◌, ◌≢◌, ℕ, suc, zero, ◌+◌, ◌<◌, ◌≤◌, ◌⊎◌, ◌↔◌, Bool, true, false, ◌&&◌, List, length, slice_index_or, slice_get, Option, Some, None, Contains, if◌then◌else◌}
+-- Levels of combinational processes, and the bound on delta cycles.
+use Rattle.std.specs.Prelude.{◌≡◌, ◌≢◌, ℕ, suc, zero, ◌+◌, ◌<◌, ◌≤◌, Bool, true, false, ◌&&◌, List, length, slice_index_or, Option, Some, None, if◌then◌else◌}
 use Rattle.std.specs.List.{list_any}
 use Rattle.std.specs.Option.{is_some}
-use Rattle.rtl_model.specs.simulation.Net.{Net, Source, Driver, Idle, Kind, Combinational, Clocked, Mixed, Edge, Rising, Falling, To1, To0, kind_reset, sources_of, IsCombinational, IsClockedBy}
+use Rattle.rtl_model.specs.simulation.Net.{Net, Source, Driver, Idle, Kind, Combinational, Clocked, Mixed, Edge, kind_reset, sources_of, IsCombinational, IsClockedBy}
 use Rattle.rtl_model.specs.simulation.Accepted.{Feeds}
 
 -- a chain of this many combinational processes, each but the first fed by the one before, ends with q
@@ -61,39 +61,3 @@ pub record ShowLevels (net : Net) (levels from : List (Option ℕ)) : Type 0 whe
 pub record Rises (net : Net) (number : ℕ → ℕ) : Type 0 where
   pub from_one : (p : ℕ) → IsCombinational net p → 1 ≤ number p
   pub along : (p q : ℕ) → Feeds net p q → number p < number q
-
--- ---- the report
-
--- what from says of the combinational process q: nothing at level 1, else the lowest process of the level below that
--- drives something q is sensitive to
-abbrev pub IsFrom : Net → (q : ℕ) → Option ℕ → Type 0
-IsFrom net q None = IsLevel net q 1
-IsFrom net q (Some p) = (below : ℕ) × IsLevel net q (suc below) × IsLevel net p below × Feeds net p q × ((r : ℕ) → r < p → IsLevel net r below → Feeds net r q → ⊥)
-
-abbrev pub edge_number : Edge → ℕ
-edge_number Rising = 0
-edge_number Falling = 1
-edge_number To1 = 2
-edge_number To0 = 3
-
--- by net, then in the order of the edges
-abbrev pub IsBefore : ℕ × Edge → ℕ × Edge → Type 0
-IsBefore (n, edge) (m, edge') = (n < m) ⊎ ((n ≡ m) × (edge_number edge < edge_number edge'))
-
--- the levels, each process's from, the pairs of net and edge that clocked processes test, each once and in order, and the
--- bound
-pub record IsReport (net : Net) (levels from : List (Option ℕ)) (clocks : List (ℕ × Edge)) (most : ℕ) : Type 0 where
-  pub greatest : ℕ
-  pub levels_are : AreLevels net levels greatest
-  pub bound_is : most ≡ bound net greatest
-  pub each_from : length from ≡ length net.processes
-  pub from_combinational : (p : ℕ) → IsCombinational net p → IsFrom net p (slice_index_or from p None)
-  pub from_clocked : (p clock : ℕ) (edge : Edge) → IsClockedBy net p clock edge → slice_index_or from p None ≡ None
-  pub clocks_are : (n : ℕ) (edge : Edge) → Contains clocks (n, edge) ↔ ((p : ℕ) × IsClockedBy net p n edge)
-  pub clocks_rise : (i j : ℕ) (x y : ℕ × Edge) → i < j → slice_get clocks i ≡ Some x → slice_get clocks j ≡ Some y → IsBefore x y
-
--- from leads from q down to level 1, through so many processes
-abbrev pub LeadsDown : Net → (from : List (Option ℕ)) → (q : ℕ) → (many : ℕ) → Type 0
-LeadsDown net from q zero = ⊥
-LeadsDown net from q (suc zero) = IsCombinational net q × (slice_index_or from q None ≡ None)
-LeadsDown net from q (suc (suc n)) = (p : ℕ) × (slice_index_or from q None ≡ Some p) × Feeds net p q × LeadsDown net from p (suc n)
