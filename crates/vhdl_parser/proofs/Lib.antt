@@ -2,6 +2,11 @@ pub mod Cursor
 pub mod Rows
 pub mod Turns
 pub mod Steps
+pub mod Operators
+pub mod Yields
+pub mod Complete
+pub mod CompleteNames
 pub mod Walks
 pub mod Rules
 pub mod Gives
+pub mod WalkExpressions

@@ -3,7 +3,7 @@ use Rattle.std.proofs.Common.{◌≡◌, ℕ, zero, suc, ◌+◌, ◌-◌, ◌<�
 use Rattle.vhdl_parser.specs.reader.Expressions.{inside, expr}
 
 pub one_more : {X : Type 0} {x : X} (f : ℕ → X) (n at : ℕ) → at < n → x ≡ f (n - at) → x ≡ f (suc (n - (at + 1)))
-one_more f n at less e = let turn : n - at ≡ suc (n - (at + 1)) = omega arith in e ∙ ap f turn
+one_more f n at below e = let turn : n - at ≡ suc (n - (at + 1)) = omega arith in e ∙ ap f turn
 
 pub no_more : {X : Type 0} {x : X} (f : ℕ → X) (n at : ℕ) → n ≤ at → x ≡ f (n - at) → x ≡ f 0
 no_more f n at done e = let none : n - at ≡ 0 = omega arith in e ∙ ap f none

@@ -1,7 +1,8 @@
 -- What contracts see of a tree of the code.
-use Rattle.std.specs.Prelude.{◌∷◌, [], List, map, Vec, Option, option_map}
+use Rattle.std.specs.Prelude.{ℕ, ◌∷◌, [], List, map, Vec, Option, option_map}
 use Rattle.std.specs.Global.{Global}
 use Rattle.vhdl_parser.specs.declared.tree.Identifier.{Identifier}
+use Rattle.vhdl_parser.specs.declared.tree.Literal.{Literal}
 use Rattle.vhdl_parser.specs.declared.tree.Expr.{Expr}
 use Rattle.vhdl_parser.specs.declared.tree.Expr.TheVariants as e
 use Rattle.vhdl_parser.specs.declared.tree.Expr.TheBlock.{Row_of-Link, end_of-Link, more_of-Link, Row_of-Expr, end_of-Expr, more_of-Expr}
@@ -44,6 +45,9 @@ idents_view v = map ident_view v.items
 
 abbrev pub option_ident_view : Option Identifier → Option tree.Ident
 option_ident_view = option_map ident_view
+
+abbrev pub literal_view : Literal → ℕ × List ℕ
+literal_view l = (l.at, l.text.items)
 
 -- ---- expressions
 

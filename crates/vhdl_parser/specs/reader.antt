@@ -1,7 +1,6 @@
 -- How the parser reads: the grammar as functions of the tokens ahead. What a user relies on stands in `grammar`.
 pub mod Input
 pub mod Expressions
-pub mod Links
 pub mod Concurrent
 pub mod Declarations
 pub mod Units

@@ -1,72 +1,19 @@
 //! Expressions.
 
-ghost use Rattle.std.specs.Prelude.{◌≡◌, map, IfOk};
-ghost use Rattle.vhdl_parser.specs.Tree.{parens, negation};
-ghost use Rattle.vhdl_parser.specs.View.{view, name_view, value_view};
-ghost use Rattle.vhdl_parser.specs.grammar.Expressions as grammar;
-ghost use Rattle.vhdl_parser.specs.reader.Expressions as read;
-ghost use Rattle.vhdl_parser.specs.reader.Expressions.{joined};
+ghost use Rattle.std.specs.Prelude.{◌≡◌, map, option_map, IfOk};
+ghost use Rattle.vhdl_lexer.specs.declared.token.Kind.TheVariants as k;
+ghost use Rattle.vhdl_parser.specs.Tree.{Expr as Tree, parens, negation, signed, sliced, arguments, exprs_of};
+ghost use Rattle.vhdl_parser.specs.View.{view, suffix_view, name_view, ident_view, exprs_view};
 ghost use Rattle.vhdl_parser.specs.reader.Input as input;
 ghost use Rattle.vhdl_parser.specs.reader.Input.{Reads};
-ghost use Rattle.vhdl_parser.specs.reader.Links.{pair_view, pairs_view};
+ghost use Rattle.vhdl_parser.specs.reader.Expressions as read;
 
 use crate::fault::Stop;
+use crate::operator::Level;
 use crate::parser::Parser;
-use crate::tree::{Expr, Link, Name, Operator, Suffix, Value};
+use crate::tree::{Direction, Expr, Identifier, Link, Name, Operator, Range, Sign, Suffix};
 use std::alloc::{AllocError, Global};
 use vhdl_lexer::Kind;
-
-/// The operator that a token is.
-fn operator_of(kind: Option<Kind>) -> Option<Operator>
-    ensures { result ≡ read.operator_of kind }
-{
-    match kind {
-        Some(Kind::And) => Some(Operator::And),
-        Some(Kind::Or) => Some(Operator::Or),
-        Some(Kind::Xor) => Some(Operator::Xor),
-        Some(Kind::Xnor) => Some(Operator::Xnor),
-        Some(Kind::Nand) => Some(Operator::Nand),
-        Some(Kind::Nor) => Some(Operator::Nor),
-        _ => None,
-    }
-}
-
-/// The token of an operator.
-fn kind_of(operator: Operator) -> Kind
-    ensures { result ≡ grammar.kind_of operator }
-{
-    match operator {
-        Operator::And => Kind::And,
-        Operator::Or => Kind::Or,
-        Operator::Xor => Kind::Xor,
-        Operator::Xnor => Kind::Xnor,
-        Operator::Nand => Kind::Nand,
-        Operator::Nor => Kind::Nor,
-        Operator::Equal => Kind::Equal,
-        Operator::NotEqual => Kind::NotEqual,
-        Operator::Less => Kind::Less,
-        Operator::LessEqual => Kind::LessEqual,
-        Operator::Greater => Kind::Greater,
-        Operator::GreaterEqual => Kind::GreaterEqual,
-        Operator::Add => Kind::Plus,
-        Operator::Subtract => Kind::Minus,
-        Operator::Concatenate => Kind::Ampersand,
-        Operator::Multiply => Kind::Star,
-        Operator::Divide => Kind::Slash,
-        Operator::Modulo => Kind::Mod,
-        Operator::Remainder => Kind::Rem,
-    }
-}
-
-/// Whether more than two operands may stand in a chain.
-fn is_chained(operator: Operator) -> bool
-    ensures { result ≡ grammar.chains operator operator }
-{
-    match operator {
-        Operator::And | Operator::Or | Operator::Xor | Operator::Xnor => true,
-        _ => false,
-    }
-}
 
 fn parens(alloc: Global, at: usize, inner: Expr) -> Result<Expr, AllocError>
     ensures { IfOk result (λ e. view e ≡ parens at (view inner)) }
@@ -80,75 +27,264 @@ fn negation(alloc: Global, at: usize, operand: Expr) -> Result<Expr, AllocError>
     Ok(Expr::Not(at, Box::new(alloc, operand)?))
 }
 
+fn signed(alloc: Global, sign: Sign, at: usize, operand: Expr) -> Result<Expr, AllocError>
+    ensures { IfOk result (λ e. view e ≡ signed sign at (view operand)) }
+{
+    Ok(Expr::Signed(sign, at, Box::new(alloc, operand)?))
+}
+
+/// A first operand, and the operators and operands after it.
 #[tactic(auto, using(crate::proofs::Rows::view_chain))]
 fn chain(alloc: Global, first: Expr, rest: Vec<Link>) -> Result<Expr, AllocError>
-    ensures { IfOk result (λ e. view e ≡ joined (view first) (pairs_view rest)) }
+    ensures { IfOk result (λ e. view e ≡ read.chained (view first) (read.pairs_view rest)) }
 {
+    if rest.is_empty() {
+        return Ok(first);
+    }
     Ok(Expr::Chain(Box::new(alloc, first)?, rest))
 }
 
+fn arguments(all: Vec<Expr>) -> Suffix
+    ensures { suffix_view result ≡ arguments (exprs_of (exprs_view all)) }
+{
+    Suffix::Arguments(all)
+}
+
+fn sliced(
+    alloc: Global,
+    left: Expr,
+    direction: Direction,
+    right: Expr,
+) -> Result<Suffix, AllocError>
+    ensures { IfOk result (λ s. suffix_view s ≡ sliced (view left) direction (view right)) }
+{
+    let range = Range {
+        left,
+        direction,
+        right,
+    };
+    Ok(Suffix::Range(Box::new(alloc, range)?))
+}
+
 impl Parser<'_> {
-    /// An expression, in which so many levels may be open.
+    /// The operator that a chain of a level goes on with, by its last one.
+    #[tactic(auto, unfolding(crate::specs::reader::Expressions::next_operator))]
+    fn next_operator(&self, level: Level, last: Option<Operator>) -> Option<Operator>
+        ensures { result ≡ read.next_operator level last (input.next_kind self.now) }
+    {
+        let next = self.peek();
+        match level {
+            Level::Logical => match last {
+                None => level.operator_at(next),
+                Some(operator) => {
+                    if operator.repeats() && self.sees(operator.kind()) {
+                        Some(operator)
+                    } else {
+                        None
+                    }
+                }
+            },
+            Level::Relation => match last {
+                None => level.operator_at(next),
+                Some(_) => None,
+            },
+            Level::Adding | Level::Multiplying => level.operator_at(next),
+        }
+    }
+
+    /// `' id`, if it comes next.
+    #[tactic(auto, unfolding(crate::specs::reader::Input::optional, crate::specs::reader::Expressions::attribute))]
+    fn optional_attribute(&mut self) -> Result<Option<Identifier>, Stop>
+        ensures { Reads (option_map ident_view) (input.optional (input.is_kind k.Tick) read.attribute self.old) result self.new }
+    {
+        if !self.sees(Kind::Tick) {
+            return Ok(None);
+        }
+        self.expect(Kind::Tick)?;
+        Ok(Some(self.identifier()?))
+    }
+
+    /// A name, in which so many levels may be opened.
     #[cycle(expr)]
-    #[tactic(auto, unfolding(crate::specs::reader::Expressions::whole))]
+    #[tactic(auto, unfolding(crate::specs::reader::Expressions::name))]
+    pub fn name(&mut self, levels: usize) -> Result<Name, Stop>
+        ensures { Reads name_view (read.name (read.inside levels) self.old) result self.new }
+    {
+        let identifier = self.identifier()?;
+        let suffix = self.optional_suffix(levels)?;
+        let attribute = self.optional_attribute()?;
+        Ok(Name {
+            identifier,
+            suffix,
+            attribute,
+        })
+    }
+
+    #[cycle(expr)]
+    #[tactic(auto, unfolding(crate::specs::reader::Expressions::optional_suffix))]
+    fn optional_suffix(&mut self, levels: usize) -> Result<Suffix, Stop>
+        ensures { Reads suffix_view (read.optional_suffix (read.inside levels) self.old) result self.new }
+    {
+        if self.sees(Kind::LeftParen) {
+            self.suffix(levels)
+        } else {
+            Ok(Suffix::Plain)
+        }
+    }
+
+    #[cycle(expr)]
+    #[tactic(auto, unfolding(crate::specs::reader::Expressions::suffix))]
+    fn suffix(&mut self, levels: usize) -> Result<Suffix, Stop>
+        ensures { Reads suffix_view (read.suffix (read.inside levels) self.old) result self.new }
+    {
+        self.expect(Kind::LeftParen)?;
+        let first = self.inside(levels)?;
+        match Direction::at(self.peek()) {
+            None => self.arguments_from(levels, first),
+            Some(direction) => self.range_from(levels, first, direction),
+        }
+    }
+
+    #[cycle(expr)]
+    #[tactic(auto, unfolding(crate::specs::reader::Expressions::range_from))]
+    fn range_from(
+        &mut self,
+        levels: usize,
+        left: Expr,
+        direction: Direction,
+    ) -> Result<Suffix, Stop>
+        ensures { Reads suffix_view (read.range_from (read.inside levels) (view left) direction self.old) result self.new }
+    {
+        self.expect(direction.kind())?;
+        let right = self.inside(levels)?;
+        self.expect(Kind::RightParen)?;
+        Ok(sliced(self.alloc, left, direction, right)?)
+    }
+
+    #[cycle(expr)]
+    #[tactic(auto, unfolding(crate::specs::reader::Expressions::arguments_from))]
+    fn arguments_from(&mut self, levels: usize, first: Expr) -> Result<Suffix, Stop>
+        ensures { Reads suffix_view (read.arguments_from (read.inside levels) (view first) self.old) result self.new }
+    {
+        let mut found = Vec::new(self.alloc);
+        found.push(first)?;
+        let all = self.arguments(levels, found)?;
+        self.expect(Kind::RightParen)?;
+        Ok(arguments(all))
+    }
+
+    #[cycle(expr)]
+    fn arguments(&mut self, levels: usize, mut found: Vec<Expr>) -> Result<Vec<Expr>, Stop>
+        ensures { Reads exprs_view (input.many (input.is_kind k.Comma) (read.argument (read.inside levels)) (exprs_view found) self.old) result self.new }
+    {
+        for _turn in 0..self.left() {
+            if !self.sees(Kind::Comma) {
+                return Ok(found);
+            }
+            found.push(self.argument(levels)?)?;
+        }
+        Ok(found)
+    }
+
+    #[cycle(expr)]
+    #[tactic(auto, unfolding(crate::specs::reader::Expressions::argument))]
+    fn argument(&mut self, levels: usize) -> Result<Expr, Stop>
+        ensures { Reads view (read.argument (read.inside levels) self.old) result self.new }
+    {
+        self.expect(Kind::Comma)?;
+        self.inside(levels)
+    }
+
+    /// An expression, in which so many levels may be opened.
+    #[cycle(expr)]
     pub fn expr(&mut self, levels: usize) -> Result<Expr, Stop>
         ensures { Reads view (read.expr levels self.old) result self.new }
     {
-        let first = self.factor(levels)?;
-        match operator_of(self.peek()) {
-            None => Ok(first),
-            Some(operator) => {
-                let rest = self.links(levels, operator)?;
-                Ok(chain(self.alloc, first, rest)?)
+        self.chain(levels, Level::Logical)
+    }
+
+    /// A chain of operators of a level.
+    #[cycle(expr)]
+    fn chain(&mut self, levels: usize, level: Level) -> Result<Expr, Stop>
+        ensures { Reads view (read.chain_of (read.inside levels) level self.old) result self.new }
+    {
+        let first = self.first(levels, level)?;
+        let rest = self.links(levels, level)?;
+        Ok(chain(self.alloc, first, rest)?)
+    }
+
+    /// The first operand of a chain.
+    #[cycle(expr)]
+    fn first(&mut self, levels: usize, level: Level) -> Result<Expr, Stop>
+        ensures { Reads view (read.first_of (read.inside levels) level self.old) result self.new }
+    {
+        match level {
+            Level::Logical => self.chain(levels, Level::Relation),
+            Level::Relation => self.chain(levels, Level::Adding),
+            Level::Adding => self.leading(levels),
+            Level::Multiplying => self.factor(levels),
+        }
+    }
+
+    /// A term, with a sign or without one.
+    #[cycle(expr)]
+    #[tactic(auto, unfolding(crate::specs::reader::Expressions::leading))]
+    fn leading(&mut self, levels: usize) -> Result<Expr, Stop>
+        ensures { Reads view (read.leading (read.term (read.inside levels)) self.old) result self.new }
+    {
+        match Sign::at(self.peek()) {
+            None => self.chain(levels, Level::Multiplying),
+            Some(sign) => {
+                let at = self.expect(sign.kind())?;
+                let operand = self.chain(levels, Level::Multiplying)?;
+                Ok(signed(self.alloc, sign, at, operand)?)
             }
         }
     }
 
+    /// What follows the first operand of a chain, whatever that is.
     #[cycle(expr)]
-    #[tactic(auto, unfolding(crate::specs::reader::Expressions::links))]
-    fn links(&mut self, levels: usize, operator: Operator) -> Result<Vec<Link>, Stop>
-        ensures { Reads pairs_view (read.links (read.inside levels) operator self.old) result self.new }
+    fn links(&mut self, levels: usize, level: Level) -> Result<Vec<Link>, Stop>
+        ensures { (left : Tree) → Reads (λ ls. read.chained left (read.pairs_view ls)) (read.more (read.operand_of (read.inside levels) level) level left self.old) result self.new }
     {
         let mut found = Vec::new(self.alloc);
-        found.push(self.link(levels, operator)?)?;
-        if is_chained(operator) {
-            return self.more_links(levels, operator, found);
-        }
-        Ok(found)
-    }
-
-    /// Operands, each after this operator.
-    #[cycle(expr)]
-    fn more_links(
-        &mut self,
-        levels: usize,
-        operator: Operator,
-        mut found: Vec<Link>,
-    ) -> Result<Vec<Link>, Stop>
-        ensures { Reads pairs_view (input.many (input.is_kind (grammar.kind_of operator)) (read.pair (read.inside levels) operator) (pairs_view found) self.old) result self.new }
-    {
-        let kind = kind_of(operator);
+        let mut last = None;
         for _turn in 0..self.left() {
-            if !self.sees(kind) {
+            let Some(operator) = self.next_operator(level, last) else {
                 return Ok(found);
-            }
-            found.push(self.link(levels, operator)?)?;
+            };
+            found.push(self.link(levels, level, operator)?)?;
+            last = Some(operator);
         }
         Ok(found)
     }
 
+    /// An operator and its right operand.
     #[cycle(expr)]
     #[tactic(auto, unfolding(crate::specs::reader::Expressions::pair))]
-    fn link(&mut self, levels: usize, operator: Operator) -> Result<Link, Stop>
-        ensures { Reads pair_view (read.pair (read.inside levels) operator self.old) result self.new }
+    fn link(&mut self, levels: usize, level: Level, operator: Operator) -> Result<Link, Stop>
+        ensures { Reads read.pair_view (read.pair (read.operand_of (read.inside levels) level) operator self.old) result self.new }
     {
-        let at = self.expect(kind_of(operator))?;
-        let operand = self.factor(levels)?;
+        let at = self.expect(operator.kind())?;
+        let operand = self.operand(levels, level)?;
         Ok(Link {
             operator,
             at,
             operand,
         })
+    }
+
+    /// The right operand of an operator of a level.
+    #[cycle(expr)]
+    fn operand(&mut self, levels: usize, level: Level) -> Result<Expr, Stop>
+        ensures { Reads view (read.operand_of (read.inside levels) level self.old) result self.new }
+    {
+        match level {
+            Level::Logical => self.chain(levels, Level::Relation),
+            Level::Relation => self.chain(levels, Level::Adding),
+            Level::Adding => self.chain(levels, Level::Multiplying),
+            Level::Multiplying => self.factor(levels),
+        }
     }
 
     #[cycle(expr)]
@@ -165,16 +301,19 @@ impl Parser<'_> {
     }
 
     #[cycle(expr)]
-    #[tactic(auto, unfolding(crate::specs::reader::Expressions::primary, crate::specs::reader::Expressions::name))]
+    #[tactic(auto, unfolding(crate::specs::reader::Expressions::primary, crate::specs::Lexeme::same_kind))]
     fn primary(&mut self, levels: usize) -> Result<Expr, Stop>
         ensures { Reads view (read.primary (read.inside levels) self.old) result self.new }
     {
         match self.peek() {
-            Some(Kind::Identifier) => Ok(Expr::Name(self.name()?)),
+            Some(Kind::Identifier) => Ok(Expr::Name(self.name(levels)?)),
+            Some(Kind::Integer) => Ok(Expr::Integer(self.text(Kind::Integer)?)),
             Some(Kind::Character) => {
                 let (at, code) = self.literal()?;
                 Ok(Expr::Character(at, code))
             }
+            Some(Kind::String) => Ok(Expr::StringLiteral(self.text(Kind::String)?)),
+            Some(Kind::BitString) => Ok(Expr::BitString(self.text(Kind::BitString)?)),
             Some(Kind::LeftParen) => self.parenthesis(levels),
             _ => Err(self.refuse()),
         }
@@ -191,7 +330,7 @@ impl Parser<'_> {
         Ok(parens(self.alloc, at, inner)?)
     }
 
-    /// What stands in a parenthesis, where so many more levels may open.
+    /// What stands in a parenthesis, where so many more levels may be opened.
     #[cycle(expr)]
     #[tactic(auto, unfolding(crate::specs::reader::Expressions::inside))]
     fn inside(&mut self, levels: usize) -> Result<Expr, Stop>
@@ -201,26 +340,5 @@ impl Parser<'_> {
             return Err(Stop::TooDeep);
         }
         self.expr(levels - 1)
-    }
-
-    /// A name.
-    #[tactic(auto, unfolding(crate::specs::reader::Expressions::name))]
-    pub fn name(&mut self) -> Result<Name, Stop>
-        ensures { Reads name_view (read.name self.old) result self.new }
-    {
-        let identifier = self.identifier()?;
-        Ok(Name {
-            identifier,
-            suffix: Suffix::Plain,
-            attribute: None,
-        })
-    }
-
-    /// What is assigned, in which so many levels may be open.
-    #[tactic(auto, unfolding(crate::specs::reader::Expressions::value))]
-    pub fn value(&mut self, levels: usize) -> Result<Value, Stop>
-        ensures { Reads value_view (read.value levels self.old) result self.new }
-    {
-        Ok(Value::Expr(self.expr(levels)?))
     }
 }

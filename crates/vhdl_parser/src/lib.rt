@@ -5,6 +5,7 @@ mod concurrent;
 mod declaration;
 mod expr;
 mod fault;
+mod operator;
 mod parser;
 mod tree;
 mod unit;

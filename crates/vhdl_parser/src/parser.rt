@@ -1,16 +1,16 @@
 //! A parser's place among the tokens.
 
-ghost use Rattle.std.specs.Prelude.{◌≡◌, ◌∷◌, ◌≤◌, ◌+◌, ℕ, List, length, map, slice_index, IfOk};
+ghost use Rattle.std.specs.Prelude.{false, ◌≡◌, ◌∷◌, ◌≤◌, ◌+◌, ℕ, List, length, map, slice_index, IfOk};
 ghost use Rattle.std.specs.Char.{to_ascii_lowercase};
 ghost use Rattle.vhdl_lexer.specs.Cut.{AreWithin};
 ghost use Rattle.vhdl_lexer.specs.declared.token.Kind.TheVariants as k;
-ghost use Rattle.vhdl_parser.specs.Lexeme.{Lexeme, lexemes};
-ghost use Rattle.vhdl_parser.specs.View.{ident_view, option_ident_view};
+ghost use Rattle.vhdl_parser.specs.Lexeme.{Lexeme, lexemes, same_kind};
+ghost use Rattle.vhdl_parser.specs.View.{ident_view, option_ident_view, literal_view};
 ghost use Rattle.vhdl_parser.specs.reader.Input as read;
 ghost use Rattle.vhdl_parser.specs.reader.Input.{Reads, Takes};
 
 use crate::fault::Stop;
-use crate::tree::Identifier;
+use crate::tree::{Identifier, Literal};
 use std::alloc::{AllocError, Global};
 use std::marker::Model;
 use vhdl_lexer::{Kind, Token};
@@ -130,6 +130,21 @@ impl<'a> Parser<'a> {
         let code = second(&self.source[token.start..token.end]);
         self.tokens = rest;
         Ok((token.start, code))
+    }
+
+    /// Takes the next token, which is a literal of this kind, with its bytes.
+    #[tactic(auto, unfolding(crate::specs::reader::Input::text, crate::specs::Lexeme::lexeme, crate::specs::Lexeme::same_kind))]
+    pub fn text(&mut self, kind: Kind) -> Result<Literal, Stop>
+        requires { same_kind kind k.Identifier ≡ false }
+        ensures { Reads literal_view (read.text kind self.old) result self.new }
+    {
+        let (token, rest) = next_token(self.tokens, kind)?;
+        let text = self.source[token.start..token.end].to_vec(self.alloc)?;
+        self.tokens = rest;
+        Ok(Literal {
+            at: token.start,
+            text,
+        })
     }
 
     /// An identifier, if one comes next.

@@ -5,11 +5,7 @@ use Rattle.vhdl_parser.specs.declared.tree.Mode.{Mode}
 use Rattle.vhdl_parser.specs.declared.tree.Mode.TheVariants.{In, Out}
 use Rattle.vhdl_parser.specs.Tree.{Range, Value, Subtype, Port}
 use Rattle.vhdl_parser.specs.Pieces.{Piece, some, spell_ident, spell_idents, spell_word, spell_option, spell_list, IsAny, IsList, IsAbsent}
-use Rattle.vhdl_parser.specs.grammar.Expressions.{spell, spell_value, direction_kind}
-
--- range = expr ( to | downto ) expr
-abbrev pub spell_range : Range → List Piece
-spell_range r = spell r.left ++ (some (direction_kind r.direction) ∷ spell r.right)
+use Rattle.vhdl_parser.specs.grammar.Expressions.{spell_value, spell_range}
 
 -- ( range )
 abbrev pub spell_constraint : Range → List Piece

@@ -1,5 +1,5 @@
 -- Expressions (IEEE 1076-2008, 9.1): how they are spelled, and which are well formed.
-use Rattle.std.specs.Prelude.{◌≡◌, ℕ, ◌<◌, ◌||◌, nat_lt, Bool, true, false, Option, Some, None, List, [], ◌∷◌, ◌++◌}
+use Rattle.std.specs.Prelude.{◌≡◌, ℕ, ◌≤◌, ◌<◌, ◌⊎◌, Bool, true, false, Option, Some, None, List, [], ◌∷◌, ◌++◌}
 use Rattle.vhdl_lexer.specs.declared.token.Kind.{Kind}
 use Rattle.vhdl_lexer.specs.declared.token.Kind.TheVariants as k
 use Rattle.vhdl_parser.specs.declared.tree.Operator.{Operator}
@@ -8,7 +8,7 @@ use Rattle.vhdl_parser.specs.declared.tree.Sign.{Sign}
 use Rattle.vhdl_parser.specs.declared.tree.Sign.TheVariants.{Plus, Minus}
 use Rattle.vhdl_parser.specs.declared.tree.Direction.{Direction}
 use Rattle.vhdl_parser.specs.declared.tree.Direction.TheVariants.{To, Downto}
-use Rattle.vhdl_parser.specs.Tree.{Ident, Expr, integer, character, string, bits, named, parens, negation, signed, binary, Suffix, plain, arguments, sliced, Exprs, no_exprs, expr, Name, Value, single, others}
+use Rattle.vhdl_parser.specs.Tree.{Ident, Expr, integer, character, string, bits, named, parens, negation, signed, binary, Suffix, plain, arguments, sliced, Exprs, no_exprs, expr, Range, Name, Value, single, others}
 use Rattle.vhdl_parser.specs.Pieces.{Piece, some, one_at, word_at, literal_at, text_at, spell_option, spell_ident}
 
 -- ---- spelling
@@ -86,6 +86,10 @@ abbrev pub spell_value : Value → List Piece
 spell_value (single e) = spell e
 spell_value (others at e) = one_at k.LeftParen at ∷ (some k.Others ∷ (some k.Arrow ∷ (spell e ++ some k.RightParen ∷ [])))
 
+-- range = expr ( to | downto ) expr
+abbrev pub spell_range : Range → List Piece
+spell_range r = spell r.left ++ (some (direction_kind r.direction) ∷ spell r.right)
+
 -- ---- precedence and chaining
 
 -- how tightly an operator binds its operands: logical operators 1, relations 2, sums 3, terms 4
@@ -122,47 +126,62 @@ binding (negation at operand) = 5
 binding (signed sign at operand) = 3
 binding (binary operator at left right) = rank operator
 
--- whether the second operator may follow the first without parentheses
-abbrev pub chains : Operator → Operator → Bool
-chains And And = true
-chains Or Or = true
-chains Xor Xor = true
-chains Xnor Xnor = true
-chains _ _ = false
+-- the logical operators of expr = rel { and rel } | rel { or rel } | rel { xor rel } | rel { xnor rel } | rel nand rel | rel nor rel that may stand more than once
+abbrev pub repeats : Operator → Bool
+repeats And = true
+repeats Or = true
+repeats Xor = true
+repeats Xnor = true
+repeats _ = false
 
--- whether a tree may stand before an operator: it binds more tightly, or its operator chains with this one
-abbrev pub leads : Operator → Expr → Bool
-leads operator (binary first at left right) = nat_lt (rank operator) (rank first) || chains first operator
-leads operator _ = true
+-- An operator may follow another of its rank without parentheses: any in a sum or a term, itself where it repeats, and none in a relation.
+abbrev pub Chains : Operator → Operator → Type 0
+Chains first next = (rank first ≡ rank next) × ((3 ≤ rank next) ⊎ ((first ≡ next) × (repeats next ≡ true)))
 
--- the operators, signs, literals and names that the parser reads so far
-abbrev pub is_logical : Operator → Bool
-is_logical And = true
-is_logical Or = true
-is_logical Xor = true
-is_logical Xnor = true
-is_logical Nand = true
-is_logical Nor = true
-is_logical _ = false
+-- the operator goes on with the chain that a tree is; a sign stands before the first term of a sum
+abbrev pub GoesOn : Operator → Expr → Type 0
+GoesOn operator (binary first at left right) = Chains first operator
+GoesOn operator (signed sign at operand) = rank operator ≡ 3
+GoesOn operator _ = ⊥
 
-abbrev pub IsPlain : Suffix → Option Ident → Type 0
-IsPlain plain None = Unit {0}
-IsPlain _ _ = ⊥
+-- what stands before an operator binds more tightly, or the operator goes on with it
+abbrev pub Leads : Operator → Expr → Type 0
+Leads operator left = (rank operator < binding left) ⊎ GoesOn operator left
 
-abbrev pub IsExpr : Expr → Type 0
-IsExpr (integer at text) = ⊥
-IsExpr (character at code) = Unit {0}
-IsExpr (string at text) = ⊥
-IsExpr (bits at text) = ⊥
-IsExpr (named n suffix attribute) = IsPlain suffix attribute
-IsExpr (parens at inner) = IsExpr inner
-IsExpr (negation at operand) = (5 < binding operand) × IsExpr operand
-IsExpr (signed sign at operand) = ⊥
-IsExpr (binary operator at left right) = (is_logical operator ≡ true) × (leads operator left ≡ true) × (rank operator < binding right) × IsExpr left × IsExpr right
+abbrev mutual
+  pub IsExpr : Expr → Type 0
+  IsExpr (integer at text) = Unit {0}
+  IsExpr (character at code) = Unit {0}
+  IsExpr (string at text) = Unit {0}
+  IsExpr (bits at text) = Unit {0}
+  IsExpr (named n suffix attribute) = IsSuffix suffix
+  IsExpr (parens at inner) = IsExpr inner
+  -- factor = not primary
+  IsExpr (negation at operand) = (5 < binding operand) × IsExpr operand
+  -- sum = ( + | - ) term { .. }
+  IsExpr (signed sign at operand) = (3 < binding operand) × IsExpr operand
+  IsExpr (binary operator at left right) = Leads operator left × (rank operator < binding right) × IsExpr left × IsExpr right
+
+  pub IsSuffix : Suffix → Type 0
+  IsSuffix plain = Unit {0}
+  IsSuffix (arguments all) = AreArguments all
+  IsSuffix (sliced left direction right) = IsExpr left × IsExpr right
+
+  -- there is at least one
+  pub AreArguments : Exprs → Type 0
+  AreArguments no_exprs = ⊥
+  AreArguments (expr e more) = IsExpr e × AreExprs more
+
+  pub AreExprs : Exprs → Type 0
+  AreExprs no_exprs = Unit {0}
+  AreExprs (expr e more) = IsExpr e × AreExprs more
 
 abbrev pub IsName : Name → Type 0
-IsName n = IsPlain n.suffix n.attribute
+IsName n = IsSuffix n.suffix
+
+abbrev pub IsRange : Range → Type 0
+IsRange r = IsExpr r.left × IsExpr r.right
 
 abbrev pub IsValue : Value → Type 0
 IsValue (single e) = IsExpr e
-IsValue (others at e) = ⊥
+IsValue (others at e) = IsExpr e

@@ -85,6 +85,10 @@ identifier = (λ l. record { at = l.at; text = l.text }) <$> token k.Identifier
 unfoldable pub literal : Parser (ℕ × ℕ)
 literal = (λ l. (l.at, slice_index l.text 1)) <$> token k.Character
 
+-- where the token of another literal stands, and its bytes
+unfoldable pub text : Kind → Parser (ℕ × List ℕ)
+text kind = (λ l. (l.at, l.text)) <$> token kind
+
 -- what a function that parses ensures: the parser's outcome, seen by view, unless memory fails
 abbrev pub Reads : {X A : Type 0} → (X → A) → Outcome A → Result X Stop → List Lexeme → Type 0
 Reads view outcome (Ok x) new = outcome ≡ Ok (view x, new)
