@@ -1,11 +1,83 @@
--- What a fault says.
-use Rattle.std.specs.Prelude.{ℕ, ◌<◌, ◌≡◌, ◌≤◌, List, length, Option, Some, None, IfSome}
+-- What is wrong with a text that no tokens cut.
+use Rattle.std.specs.Prelude.{◌≡◌, ℕ, ◌+◌, ◌-◌, ◌<◌, ◌≤◌, ◌==◌, Bool, true, false, List, [], ◌∷◌, ◌++◌, length, Option, Some, None, ◌⊎◌}
+use Rattle.std.specs.List.{list_all}
+use Rattle.vhdl_lexer.specs.declared.byte.Class.{Class}
 use Rattle.vhdl_lexer.specs.declared.cutting.TheConstants.{MAX_LEN}
 use Rattle.vhdl_lexer.specs.declared.fault.Problem.{Problem}
 use Rattle.vhdl_lexer.specs.declared.fault.Problem.TheVariants as problem
 use Rattle.vhdl_lexer.specs.declared.fault.LexFault.{LexFault}
 use Rattle.vhdl_lexer.specs.declared.fault.LexFault.TheVariants.{BadByte, OpenComment, OpenString, BadIdentifier, BadNumber, TooLong, NoMemory}
-use Rattle.vhdl_lexer.specs.Cut.{StartsFirst}
+use Rattle.vhdl_lexer.specs.declared.token.Kind.{Kind}
+use Rattle.vhdl_lexer.specs.declared.token.Token.{Token}
+use Rattle.vhdl_lexer.specs.Bytes.{quote, star, slash, is_separator, is_printable, is_word_byte, begins_word, begins}
+use Rattle.vhdl_lexer.specs.Separators.{has_close, LeadsTo}
+use Rattle.vhdl_lexer.specs.Words.{is_joined, opened_class, IsWord}
+use Rattle.vhdl_lexer.specs.Literals.{begins_digit, IsInteger, IsClosedString, IsClosedBitString}
+use Rattle.vhdl_lexer.specs.Delimiters.{single}
+use Rattle.vhdl_lexer.specs.Cut.{CutsTo}
+
+-- ---- the conditions
+
+-- no such slice stands at the front of the text
+abbrev pub Absent : (Kind → List ℕ → List ℕ → Type 0) → List ℕ → Type 0
+Absent Form text = (kind : Kind) (slice rest : List ℕ) → text ≡ slice ++ rest → Form kind slice rest → ⊥
+
+-- a byte that is no separator and begins no token
+abbrev pub IsStray : ℕ → Type 0
+IsStray b = (is_separator b ≡ false) × (is_word_byte b ≡ false) × ((b == quote) ≡ false) × (single b ≡ None)
+
+-- a stray byte, or a string that is closed on its line and has a byte that isn't printable
+abbrev pub IsBadByte : List ℕ → Type 0
+IsBadByte text =
+    ((b : ℕ) × (after : List ℕ) × (text ≡ b ∷ after) × IsStray b)
+    ⊎ ((body : List ℕ) × (rest : List ℕ) × IsClosedString text body rest × (list_all is_printable body ≡ false))
+
+-- `/*` with no `*/` behind it
+abbrev pub IsOpenComment : List ℕ → Type 0
+IsOpenComment text = (body : List ℕ) × (text ≡ slash ∷ star ∷ body) × (has_close body ≡ false)
+
+-- a string or a bit string opens, and isn't closed on its line
+abbrev pub IsOpenString : List ℕ → Type 0
+IsOpenString text =
+    ((begins quote text ≡ true) × ((body rest : List ℕ) → IsClosedString text body rest → ⊥))
+    ⊎ ((class : Class) × (opened_class text ≡ Some class) × ((body rest : List ℕ) → IsClosedBitString class text body rest → ⊥))
+
+abbrev pub BeginsWord : List ℕ → Type 0
+BeginsWord [] = ⊥
+BeginsWord (b ∷ text) = begins_word b ≡ true
+
+-- a letter that opens no bit string, or an underscore, where no word stands
+abbrev pub IsBadIdentifier : List ℕ → Type 0
+IsBadIdentifier text = BeginsWord text × (opened_class text ≡ None) × Absent IsWord text
+
+-- a digit where no integer stands, or a bit string that is closed on its line and has other than digits of its base
+-- with single underscores between them
+abbrev pub IsBadNumber : List ℕ → Type 0
+IsBadNumber text =
+    ((begins_digit text ≡ true) × Absent IsInteger text)
+    ⊎ ((class : Class) × (body : List ℕ) × (rest : List ℕ) × IsClosedBitString class text body rest × (is_joined class body ≡ false))
+
+abbrev pub Faulty : Problem → List ℕ → Type 0
+Faulty problem.BadByte text = IsBadByte text
+Faulty problem.OpenComment text = IsOpenComment text
+Faulty problem.OpenString text = IsOpenString text
+Faulty problem.BadIdentifier text = IsBadIdentifier text
+Faulty problem.BadNumber text = IsBadNumber text
+
+-- tokens cut the source up to this byte, separators and comments aside, and there this problem is
+pub record StartsFirst (problem : Problem) (at : ℕ) (source : List ℕ) : Type 0 where
+  pub tokens : List Token
+  pub last : Option Kind
+  pub place : ℕ
+  pub left : List ℕ
+  pub cut : CutsTo None 0 source tokens last place left
+  pub pieces : List (List ℕ)
+  pub ahead : List ℕ
+  pub led : LeadsTo pieces left ahead
+  pub starts : at ≡ place + (length left - length ahead)
+  pub faulty : Faulty problem ahead
+
+-- ---- the faults
 
 -- the text has no tokens
 abbrev pub IsRefusal : LexFault → Type 0
@@ -20,14 +92,24 @@ IsRefusal NoMemory = ⊥
 -- what each fault says of the text
 abbrev pub HasFault : LexFault → List ℕ → Type 0
 HasFault (BadByte at) source = StartsFirst problem.BadByte at source
-HasFault (OpenComment at) source = ⊥
-HasFault (OpenString at) source = ⊥
+HasFault (OpenComment at) source = StartsFirst problem.OpenComment at source
+HasFault (OpenString at) source = StartsFirst problem.OpenString at source
 HasFault (BadIdentifier at) source = StartsFirst problem.BadIdentifier at source
-HasFault (BadNumber at) source = ⊥
+HasFault (BadNumber at) source = StartsFirst problem.BadNumber at source
 HasFault (TooLong at) source = (MAX_LEN < length source) × (at ≡ MAX_LEN)
 HasFault NoMemory source = length source ≤ MAX_LEN
 
--- the number under which a fault is reported
+-- the fault of a token that starts here
+abbrev pub fault_of : Problem → ℕ → LexFault
+fault_of problem.BadByte at = BadByte at
+fault_of problem.OpenComment at = OpenComment at
+fault_of problem.OpenString at = OpenString at
+fault_of problem.BadIdentifier at = BadIdentifier at
+fault_of problem.BadNumber at = BadNumber at
+
+-- ---- how a fault is reported
+
+-- the number
 abbrev pub fault_number : LexFault → ℕ
 fault_number (BadByte at) = 1
 fault_number (OpenComment at) = 2
@@ -37,7 +119,7 @@ fault_number (BadNumber at) = 5
 fault_number (TooLong at) = 6
 fault_number NoMemory = 7
 
--- the byte at which it is reported
+-- the byte
 abbrev pub fault_byte : LexFault → Option ℕ
 fault_byte (BadByte at) = Some at
 fault_byte (OpenComment at) = Some at
@@ -46,8 +128,3 @@ fault_byte (BadIdentifier at) = Some at
 fault_byte (BadNumber at) = Some at
 fault_byte (TooLong at) = Some at
 fault_byte NoMemory = None
-
--- the fault of a token that starts here
-abbrev pub fault_of : Problem → ℕ → LexFault
-fault_of problem.BadByte at = BadByte at
-fault_of problem.BadIdentifier at = BadIdentifier at

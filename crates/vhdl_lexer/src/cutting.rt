@@ -1,65 +1,53 @@
 //! From a text to its tokens.
 
 ghost use Rattle.std.specs.Prelude.{◌≡◌, ◌≤◌, List, None, length, ◌<◌, Err, IfOk, IfErr, IfSome, OnOk};
-ghost use Rattle.vhdl_lexer.specs.Cut as cut;
 ghost use Rattle.vhdl_lexer.specs.Cut.{Cuts, AreWithin};
 ghost use Rattle.vhdl_lexer.specs.Fault.{IsRefusal, HasFault, fault_of, fault_byte};
+ghost use Rattle.vhdl_lexer.specs.declared.fault.LexFault.{LexFault};
 ghost use Rattle.vhdl_lexer.specs.declared.fault.LexFault.TheVariants.{TooLong};
 ghost use Rattle.vhdl_lexer.specs.declared.token.Token.{Token};
 
 use crate::fault::{LexFault, Problem};
-use crate::front::{begins, ends_line, is_separator, token};
+use crate::front::token;
+use crate::separator::skip;
 use crate::token::Token;
 use std::alloc::Global;
 
-/// The longest text that has tokens.
+/// The greatest length of a source, 4,194,304 bytes.
 pub const MAX_LEN: usize = 4_194_304;
 
-/// The text after a line's end, of which the comment is a part.
-#[tactic(auto, unfolding(crate::specs::Cut::skip))]
-fn skip_line(mut text: &[u8]) -> &[u8]
-    ensures value { cut.skip result.now ≡ cut.skip_line text.entry.now }
-    ensures within { length result.now ≤ length text.entry.now }
-{
-    while let [b, rest @ ..] = text {
-        text = rest;
-        if ends_line(*b) {
-            return text;
-        }
-    }
-    text
-}
-
-/// The text after the separators and comments at its front.
-#[tactic(auto, unfolding(crate::specs::Cut::skip))]
-fn skip(mut text: &[u8]) -> &[u8]
-    ensures value { result.now ≡ cut.skip text.entry.now }
-    ensures within { length result.now ≤ length text.entry.now }
-{
-    while let [b, rest @ ..] = text {
-        if is_separator(*b) {
-            text = rest;
-        } else if *b == b'-' && begins(b'-', rest) {
-            text = skip_line(rest);
-        } else {
-            return text;
-        }
-    }
-    text
-}
-
-/// The tokens of a text.
+/// The tokens of a source, in order: its lexical elements (IEEE 1076-2008, 15.3), without the
+/// separators and comments.
+///
+/// Each token is the longest from its start. `start` and `end` count bytes of the source from 0.
+/// A tick opens a character literal where a printable byte and then a tick follow it, unless the
+/// token before is an identifier or `)`. The list is the one thing that takes memory: up to
+/// 24 bytes for each byte of the source, and as much again while it grows.
+///
+/// # Errors
+///
+/// - `TooLong` for a source above `MAX_LEN` bytes, before all else.
+/// - `BadByte`, `OpenComment`, `OpenString`, `BadIdentifier` or `BadNumber` where the element that
+///   starts first and is no token has this fault, at its first byte.
+/// - `NoMemory` where the list could not grow.
 pub fn lex(alloc: Global, source: &[u8]) -> Result<Vec<Token>, LexFault>
+    // The tokens cut the source, and no other list does.
     ensures cuts { IfOk result (λ v. Cuts None 0 source.now v.items) }
-    ensures within { IfOk result (λ v. AreWithin source.now v.items) }
     ensures only { IfOk result
         (λ v. (other : List Token) → Cuts None 0 source.now other → other ≡ v.items) }
+    ensures within { IfOk result (λ v. AreWithin source.now v.items) }
+    ensures no_fault { IfOk result
+        (λ v. (fault : LexFault) → IsRefusal fault → HasFault fault source.now → ⊥) }
+    ensures short { OnOk result (length source.now ≤ MAX_LEN) }
+
+    // The fault is what the source has, it is the only one, and then nothing cuts the source.
+    ensures too_long { MAX_LEN < length source.now → result ≡ Err (TooLong MAX_LEN) }
+    ensures fault { IfErr result (λ e. HasFault e source.now) }
+    ensures only_fault { IfErr result (λ e. IsRefusal e → (other : LexFault)
+        → IsRefusal other → HasFault other source.now → other ≡ e) }
     ensures refused { IfErr result
         (λ e. IsRefusal e → (other : List Token) → Cuts None 0 source.now other → ⊥) }
-    ensures fault { IfErr result (λ e. HasFault e source.now) }
-    ensures too_long { MAX_LEN < length source.now → result ≡ Err (TooLong MAX_LEN) }
     ensures placed { IfErr result (λ e. IfSome (fault_byte e) (λ at. at ≤ length source.now)) }
-    ensures short { OnOk result (length source.now ≤ MAX_LEN) }
 {
     if source.len() > MAX_LEN {
         return Err(LexFault::TooLong { at: MAX_LEN });
@@ -93,6 +81,9 @@ fn fault_at(problem: Problem, at: usize) -> LexFault
 {
     match problem {
         Problem::BadByte => LexFault::BadByte { at },
+        Problem::OpenComment => LexFault::OpenComment { at },
+        Problem::OpenString => LexFault::OpenString { at },
         Problem::BadIdentifier => LexFault::BadIdentifier { at },
+        Problem::BadNumber => LexFault::BadNumber { at },
     }
 }

@@ -11,7 +11,10 @@ use thiserror::Error;
 #[derive(Clone, Copy, Debug, PartialEq, Eq)]
 pub enum Problem {
     BadByte,
+    OpenComment,
+    OpenString,
     BadIdentifier,
+    BadNumber,
 }
 
 /// Why a source has no tokens. `at` is a byte of the source, counted from 0, and never above the

@@ -1,0 +1,49 @@
+-- Delimiters (IEEE 1076-2008, 15.3).
+use Rattle.std.specs.Prelude.{◌≡◌, ℕ, ◌&&◌, ◌==◌, Bool, true, false, if◌then◌else◌, List, [], ◌∷◌, ◌++◌, Option, Some, None}
+use Rattle.vhdl_lexer.specs.declared.token.Kind.{Kind}
+use Rattle.vhdl_lexer.specs.declared.token.Kind.TheVariants.{Arrow, Assign, LessEqual, GreaterEqual, NotEqual, Ampersand, Tick, LeftParen, RightParen, Star, Plus, Comma, Minus, Dot, Slash, Colon, Semicolon, Less, Equal, Greater, Bar}
+use Rattle.vhdl_lexer.specs.Bytes.{tick}
+use Rattle.vhdl_lexer.specs.Literals.{may_open, closes}
+
+-- `=>` `:=` `<=` `>=` `/=`
+abbrev pub pair : ℕ → ℕ → Option Kind
+pair b c =
+    if b == 61 && c == 62 then Some Arrow else
+    (if b == 58 && c == 61 then Some Assign else
+    (if b == 60 && c == 61 then Some LessEqual else
+    (if b == 62 && c == 61 then Some GreaterEqual else
+    (if b == 47 && c == 61 then Some NotEqual else None))))
+
+-- `&` `'` `(` `)` `*` `+` `,` `-` `.` `/` `:` `;` `<` `=` `>` `|`
+abbrev pub single : ℕ → Option Kind
+single b =
+    if b == 38 then Some Ampersand else
+    (if b == 39 then Some Tick else
+    (if b == 40 then Some LeftParen else
+    (if b == 41 then Some RightParen else
+    (if b == 42 then Some Star else
+    (if b == 43 then Some Plus else
+    (if b == 44 then Some Comma else
+    (if b == 45 then Some Minus else
+    (if b == 46 then Some Dot else
+    (if b == 47 then Some Slash else
+    (if b == 58 then Some Colon else
+    (if b == 59 then Some Semicolon else
+    (if b == 60 then Some Less else
+    (if b == 61 then Some Equal else
+    (if b == 62 then Some Greater else
+    (if b == 124 then Some Bar else None)))))))))))))))
+
+-- the delimiter that a text is
+abbrev pub delimiter : List ℕ → Option Kind
+delimiter [] = None
+delimiter (b ∷ []) = single b
+delimiter (b ∷ c ∷ []) = pair b c
+delimiter (b ∷ c ∷ d ∷ text) = None
+
+-- the longest delimiter, where rest follows; a tick is one where it opens no character literal
+abbrev pub IsDelimiter : Option Kind → Kind → List ℕ → List ℕ → Type 0
+IsDelimiter before kind slice rest =
+    (delimiter slice ≡ Some kind)
+    × ((c : ℕ) (after : List ℕ) → rest ≡ c ∷ after → delimiter (slice ++ c ∷ []) ≡ None)
+    × (slice ≡ tick ∷ [] → (may_open before && closes rest) ≡ false)

@@ -1,0 +1,153 @@
+-- The token at the front of a text, as the lexer finds it. What it has to do with the definitions is proved.
+use Rattle.std.specs.Prelude.{◌≡◌, ℕ, ◌+◌, ◌-◌, ◌≤◌, ◌&&◌, ◌||◌, ◌==◌, nat_le, not, Bool, true, false, if◌then◌else◌, List, [], ◌∷◌, ◌++◌, take, drop, length, map, Option, Some, None, Result, Ok, Err, slice_index}
+use Rattle.std.specs.Char.{is_ascii_digit, to_ascii_lowercase}
+use Rattle.std.specs.List.{list_all, filter, prefix_len}
+use Rattle.vhdl_lexer.specs.declared.byte.Class.{Class}
+use Rattle.vhdl_lexer.specs.declared.byte.Class.TheVariants.{Decimal}
+use Rattle.vhdl_lexer.specs.declared.fault.Problem.{Problem}
+use Rattle.vhdl_lexer.specs.declared.fault.Problem.TheVariants.{BadByte, OpenComment, OpenString, BadIdentifier, BadNumber}
+use Rattle.vhdl_lexer.specs.declared.literal.TheConstants.{MAX_INTEGER}
+use Rattle.vhdl_lexer.specs.declared.token.Kind.{Kind}
+use Rattle.vhdl_lexer.specs.declared.token.Kind.TheVariants as k
+use Rattle.vhdl_lexer.specs.Bytes.{quote, tick, star, dash, slash, ends_line, is_separator, is_printable, is_word_byte, begins_word, begins}
+use Rattle.vhdl_lexer.specs.Separators.{has_close}
+use Rattle.vhdl_lexer.specs.Words.{Word, reserved_words, is_joined, is_identifier, word_kind, opened_class}
+use Rattle.vhdl_lexer.specs.Literals.{integer_of, goes_on_number, may_open, closes}
+use Rattle.vhdl_lexer.specs.Delimiters.{pair, single}
+use Rattle.vhdl_lexer.specs.Cut.{IsToken}
+
+-- ---- separators
+
+-- the text from the next `*/` on, or nothing
+abbrev pub from_close : List ℕ → List ℕ
+from_close [] = []
+from_close (b ∷ text) = if b == star && begins slash text then b ∷ text else from_close text
+
+-- the text behind the separators and comments at its front; where a comment is open, that comment
+unfoldable mutual
+  pub skip : List ℕ → List ℕ
+  skip [] = []
+  skip (b ∷ text) =
+      if is_separator b then skip text
+      else (if b == dash && begins dash text then skip_line text
+      else (if b == slash && begins star text then skip_star (b ∷ text) text else b ∷ text))
+
+  pub skip_line : List ℕ → List ℕ
+  skip_line [] = []
+  skip_line (b ∷ text) = if ends_line b then skip text else skip_line text
+
+  pub skip_star : List ℕ → List ℕ → List ℕ
+  skip_star opened [] = opened
+  skip_star opened (b ∷ text) = skip_comment opened text
+
+  pub skip_comment : List ℕ → List ℕ → List ℕ
+  skip_comment opened [] = opened
+  skip_comment opened (b ∷ text) = if b == star && begins slash text then skip_slash text else skip_comment opened text
+
+  pub skip_slash : List ℕ → List ℕ
+  skip_slash [] = []
+  skip_slash (b ∷ text) = skip text
+
+-- neither a separator nor a comment that ends stands at the front
+abbrev pub Stands : List ℕ → Type 0
+Stands [] = Unit {0}
+Stands (b ∷ text) =
+    (is_separator b ≡ false) × ((b == dash && begins dash text) ≡ false)
+    × ((body : List ℕ) → b ∷ text ≡ slash ∷ star ∷ body → has_close body ≡ false)
+
+-- ---- tokens
+
+-- a kind, and a length in bytes
+abbrev pub Found : Type 0
+Found = Result (Kind × ℕ) Problem
+
+-- the bytes of a word or number at the front
+abbrev pub run : List ℕ → ℕ
+run text = prefix_len is_word_byte text
+
+-- the word begins with this small letter, be it a capital there
+abbrev pub has_letter : ℕ → Word → Bool
+has_letter letter w = begins letter (map to_ascii_lowercase w.0)
+
+-- the reserved words among which one that begins with this letter is looked up
+abbrev pub words_of : ℕ → List Word
+words_of letter = filter (has_letter (to_ascii_lowercase letter)) reserved_words
+
+unfoldable pub word : List ℕ → Found
+word text = if is_identifier (take (run text) text) then Ok (word_kind (take (run text) text), run text) else Err BadIdentifier
+
+-- the number that the text writes is read
+abbrev pub fits : List ℕ → Bool
+fits text = nat_le (integer_of text) MAX_INTEGER
+
+unfoldable pub number : List ℕ → Found
+number text =
+    if is_joined Decimal (take (run text) text) && not (goes_on_number (drop (run text) text)) && fits (take (run text) text)
+    then Ok (k.Integer, run text) else Err BadNumber
+
+-- the text from the closing quotation mark of a string on, or nothing
+abbrev mutual
+  pub from_quote : List ℕ → List ℕ
+  from_quote [] = []
+  from_quote (b ∷ text) = if b == quote then from_pair (b ∷ text) text else (if ends_line b then [] else from_quote text)
+
+  pub from_pair : List ℕ → List ℕ → List ℕ
+  from_pair marks [] = marks
+  from_pair marks (c ∷ text) = if c == quote then from_quote text else marks
+
+-- the text from the line's first quotation mark on, or nothing
+abbrev pub from_first_quote : List ℕ → List ℕ
+from_first_quote [] = []
+from_first_quote (b ∷ text) = if b == quote then b ∷ text else (if ends_line b then [] else from_first_quote text)
+
+-- how many bytes stand before the end of a text
+abbrev pub before : List ℕ → List ℕ → ℕ
+before text end = length text - length end
+
+-- behind its opening quotation mark
+unfoldable pub string : List ℕ → Found
+string text =
+    if length (from_quote text) == 0 then Err OpenString
+    else (if list_all is_printable (take (before text (from_quote text)) text) then Ok (k.String, before text (from_quote text) + 2) else Err BadByte)
+
+-- behind its base specifier and quotation mark
+unfoldable pub bit_string : Class → List ℕ → Found
+bit_string class text =
+    if length (from_first_quote text) == 0 then Err OpenString
+    else (if is_joined class (take (before text (from_first_quote text)) text) then Ok (k.BitString, before text (from_first_quote text) + 3) else Err BadNumber)
+
+abbrev pub word_or_bit_string : Option Class → List ℕ → Found
+word_or_bit_string None text = word text
+word_or_bit_string (Some class) text = bit_string class (drop 2 text)
+
+unfoldable pub character : Option Kind → List ℕ → Found
+character last after = if may_open last && closes after then Ok (k.Character, 3) else Ok (k.Tick, 1)
+
+abbrev pub one : Option Kind → Found
+one None = Err BadByte
+one (Some kind) = Ok (kind, 1)
+
+abbrev pub two : Option Kind → Found → Found
+two None shorter = shorter
+two (Some kind) shorter = Ok (kind, 2)
+
+-- the byte at the front, or 0
+abbrev pub next : List ℕ → ℕ
+next text = slice_index text 0
+
+unfoldable pub mark : ℕ → List ℕ → Found
+mark b after = if b == slash && begins star after then Err OpenComment else two (pair b (next after)) (one (single b))
+
+unfoldable pub front : Option Kind → List ℕ → Found
+front last [] = Err BadByte
+front last (b ∷ after) =
+    if is_ascii_digit b then number (b ∷ after)
+    else (if begins_word b then word_or_bit_string (opened_class (b ∷ after)) (b ∷ after)
+    else (if b == quote then string after
+    else (if b == tick then character last after else mark b after)))
+
+-- a token of this kind and length stands at the front
+pub record IsFront (last : Option Kind) (kind : Kind) (n : ℕ) (text : List ℕ) : Type 0 where
+  pub token : IsToken last kind (take n text) (drop n text)
+  pub some : 1 ≤ n
+  pub within : n ≤ length text

@@ -1,0 +1,71 @@
+//! What each byte of a source is (IEEE 1076-2008, 15.2).
+
+ghost use Rattle.std.specs.Prelude.{◌≡◌};
+ghost use Rattle.vhdl_lexer.specs.Bytes as spec;
+
+/// The bytes that may stand in a word, or in a number of some base, beside underscores.
+#[derive(Clone, Copy, Debug, PartialEq, Eq)]
+pub enum Class {
+    LetterOrDigit,
+    Decimal,
+    Hexadecimal,
+    Octal,
+    Binary,
+}
+
+impl Class {
+    pub fn has(self, b: u8) -> bool
+        ensures { result ≡ spec.has_class self b }
+    {
+        match self {
+            Class::LetterOrDigit => b.is_ascii_alphanumeric(),
+            Class::Decimal => b.is_ascii_digit(),
+            Class::Hexadecimal => b.is_ascii_hexdigit(),
+            Class::Octal => b'0' <= b && b <= b'7',
+            Class::Binary => b'0' <= b && b <= b'1',
+        }
+    }
+}
+
+/// LF, VT, FF or CR.
+pub fn ends_line(b: u8) -> bool
+    ensures { result ≡ spec.ends_line b }
+{
+    b'\n' <= b && b <= b'\r'
+}
+
+/// A space, a tab or the end of a line.
+pub fn is_separator(b: u8) -> bool
+    ensures { result ≡ spec.is_separator b }
+{
+    b == b' ' || b == b'\t' || ends_line(b)
+}
+
+pub fn is_printable(b: u8) -> bool
+    ensures { result ≡ spec.is_printable b }
+{
+    b' ' <= b && b <= b'~'
+}
+
+pub fn is_word_byte(b: u8) -> bool
+    ensures { result ≡ spec.is_word_byte b }
+{
+    b.is_ascii_alphanumeric() || b == b'_'
+}
+
+/// A letter or an underscore.
+pub fn begins_word(b: u8) -> bool
+    ensures { result ≡ spec.begins_word b }
+{
+    b.is_ascii_alphabetic() || b == b'_'
+}
+
+/// Whether the text begins with this byte.
+pub fn begins(b: u8, text: &[u8]) -> bool
+    ensures { result ≡ spec.begins b text.now }
+{
+    match text.first() {
+        None => false,
+        Some(c) => *c == b,
+    }
+}

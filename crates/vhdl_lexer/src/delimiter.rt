@@ -1,0 +1,69 @@
+//! Delimiters (IEEE 1076-2008, 15.3).
+
+ghost use Rattle.std.specs.Prelude.{◌≡◌};
+ghost use Rattle.vhdl_lexer.specs.Delimiters as spec;
+ghost use Rattle.vhdl_lexer.specs.Scan as scan;
+
+use crate::byte::begins;
+use crate::fault::Problem;
+use crate::token::Kind;
+
+fn pair(b: u8, c: u8) -> Option<Kind>
+    ensures { result ≡ spec.pair b c }
+{
+    match (b, c) {
+        (b'=', b'>') => Some(Kind::Arrow),
+        (b':', b'=') => Some(Kind::Assign),
+        (b'<', b'=') => Some(Kind::LessEqual),
+        (b'>', b'=') => Some(Kind::GreaterEqual),
+        (b'/', b'=') => Some(Kind::NotEqual),
+        _ => None,
+    }
+}
+
+fn single(b: u8) -> Option<Kind>
+    ensures { result ≡ spec.single b }
+{
+    match b {
+        b'&' => Some(Kind::Ampersand),
+        b'\'' => Some(Kind::Tick),
+        b'(' => Some(Kind::LeftParen),
+        b')' => Some(Kind::RightParen),
+        b'*' => Some(Kind::Star),
+        b'+' => Some(Kind::Plus),
+        b',' => Some(Kind::Comma),
+        b'-' => Some(Kind::Minus),
+        b'.' => Some(Kind::Dot),
+        b'/' => Some(Kind::Slash),
+        b':' => Some(Kind::Colon),
+        b';' => Some(Kind::Semicolon),
+        b'<' => Some(Kind::Less),
+        b'=' => Some(Kind::Equal),
+        b'>' => Some(Kind::Greater),
+        b'|' => Some(Kind::Bar),
+        _ => None,
+    }
+}
+
+fn next(text: &[u8]) -> u8
+    ensures { result ≡ scan.next text.now }
+{
+    if text.is_empty() { 0 } else { text[0] }
+}
+
+/// The longest delimiter that begins with a byte, where this text follows it.
+#[tactic(auto, unfolding(crate::specs::Scan::mark))]
+pub fn mark(b: u8, after: &[u8]) -> Result<(Kind, usize), Problem>
+    ensures { result ≡ scan.mark b after.now }
+{
+    if b == b'/' && begins(b'*', after) {
+        return Err(Problem::OpenComment);
+    }
+    if let Some(kind) = pair(b, next(after)) {
+        return Ok((kind, 2));
+    }
+    match single(b) {
+        None => Err(Problem::BadByte),
+        Some(kind) => Ok((kind, 1)),
+    }
+}
