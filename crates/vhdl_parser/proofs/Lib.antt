@@ -10,3 +10,5 @@ pub mod Walks
 pub mod Rules
 pub mod Gives
 pub mod WalkExpressions
+pub mod WalkValues
+pub mod GiveValues

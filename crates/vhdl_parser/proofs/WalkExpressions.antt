@@ -24,7 +24,7 @@ use Rattle.vhdl_parser.proofs.Rules.{is_neutral, neutral, w_take, w_at, w_some, 
 -- ---- rules under other names
 
 -- a rule that ends what is read
-w_ends : {B : Type 0} {n d : ℕ} {before : List Piece → List Piece} {p : Parser B} {part spell : B → List Piece} {Part Good : B → Type 0} →
+pub w_ends : {B : Type 0} {n d : ℕ} {before : List Piece → List Piece} {p : Parser B} {part spell : B → List Piece} {Part Good : B → Type 0} →
     ((b : B) → spell b ≡ before (part b)) → ((b : B) → Part b → Good b) → Rule n d p part Part → Walks n d false d before p spell Good
 w_ends {B} {n} {d} {before} {p} {part} {spell} {Part} {Good} is good w = record {
   reads = λ ts b rest h.
@@ -81,7 +81,7 @@ sign_neutral : (sign : Sign) → is_neutral (sign_kind sign) ≡ true
 sign_neutral Plus = refl
 sign_neutral Minus = refl
 
-direction_neutral : (d : Direction) → is_neutral (direction_kind d) ≡ true
+pub direction_neutral : (d : Direction) → is_neutral (direction_kind d) ≡ true
 direction_neutral To = refl
 direction_neutral Downto = refl
 

@@ -56,6 +56,20 @@ pub data Value : Type 0 where
   single : Expr → Value
   others : ℕ → Expr → Value
 
+-- a choice of an alternative: an expression, or where `others` starts
+pub data Choice : Type 0 where
+  chosen : Expr → Choice
+  otherwise : ℕ → Choice
+
+-- what is associated: an expression, or where `open` starts
+pub data Actual : Type 0 where
+  actual : Expr → Actual
+  left_open : ℕ → Actual
+
+pub record Association : Type 0 where
+  pub formal : Option Ident
+  pub actual : Actual
+
 -- ---- concurrent statements
 
 -- value when condition

@@ -13,6 +13,11 @@ use Rattle.vhdl_parser.specs.declared.tree.Suffix.TheVariants as s
 use Rattle.vhdl_parser.specs.declared.tree.Range.{Range}
 use Rattle.vhdl_parser.specs.declared.tree.Value.{Value}
 use Rattle.vhdl_parser.specs.declared.tree.Value.TheVariants as v
+use Rattle.vhdl_parser.specs.declared.tree.Choice.{Choice}
+use Rattle.vhdl_parser.specs.declared.tree.Choice.TheVariants as ch
+use Rattle.vhdl_parser.specs.declared.tree.Actual.{Actual}
+use Rattle.vhdl_parser.specs.declared.tree.Actual.TheVariants as ac
+use Rattle.vhdl_parser.specs.declared.tree.Association.{Association}
 use Rattle.vhdl_parser.specs.declared.tree.Branch.{Branch}
 use Rattle.vhdl_parser.specs.declared.tree.Assignment.{Assignment}
 use Rattle.vhdl_parser.specs.declared.tree.Concurrent.{Concurrent}
@@ -89,6 +94,23 @@ name_view n = record { identifier = ident_view n.identifier; suffix = suffix_vie
 abbrev pub value_view : Value → tree.Value
 value_view (v.Expr x) = tree.single (view x)
 value_view (v.Others at x) = tree.others at (view x)
+
+abbrev pub choice_view : Choice → tree.Choice
+choice_view (ch.Expr x) = tree.chosen (view x)
+choice_view (ch.Others at) = tree.otherwise at
+
+abbrev pub choices_view : Vec Choice Global → List tree.Choice
+choices_view v = map choice_view v.items
+
+abbrev pub actual_view : Actual → tree.Actual
+actual_view (ac.Expr x) = tree.actual (view x)
+actual_view (ac.Open at) = tree.left_open at
+
+abbrev pub association_view : Association → tree.Association
+association_view a = record { formal = option_map ident_view a.formal; actual = actual_view a.actual }
+
+abbrev pub associations_view : Vec Association Global → List tree.Association
+associations_view v = map association_view v.items
 
 -- ---- concurrent statements
 

@@ -1,24 +1,16 @@
 //! Concurrent statements.
 
 ghost use Rattle.std.specs.Prelude.{◌≡◌};
-ghost use Rattle.vhdl_parser.specs.View.{value_view, assignment_view, concurrent_view, concurrents_view};
+ghost use Rattle.vhdl_parser.specs.View.{assignment_view, concurrent_view, concurrents_view};
 ghost use Rattle.vhdl_parser.specs.reader.Concurrent as read;
 ghost use Rattle.vhdl_parser.specs.reader.Input.{Reads};
 
 use crate::fault::Stop;
 use crate::parser::Parser;
-use crate::tree::{Assignment, Concurrent, Value};
+use crate::tree::{Assignment, Concurrent};
 use vhdl_lexer::Kind;
 
 impl Parser<'_> {
-    /// What is assigned, in which so many levels may be open.
-    #[tactic(auto, unfolding(crate::specs::reader::Concurrent::value))]
-    fn value(&mut self, levels: usize) -> Result<Value, Stop>
-        ensures { Reads value_view (read.value levels self.old) result self.new }
-    {
-        Ok(Value::Expr(self.expr(levels)?))
-    }
-
     #[tactic(auto, unfolding(crate::specs::reader::Concurrent::assign))]
     fn assignment(&mut self, levels: usize) -> Result<Assignment, Stop>
         ensures { Reads assignment_view (read.assign levels self.old) result self.new }

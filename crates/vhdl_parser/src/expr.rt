@@ -333,7 +333,7 @@ impl Parser<'_> {
     /// What stands in a parenthesis, where so many more levels may be opened.
     #[cycle(expr)]
     #[tactic(auto, unfolding(crate::specs::reader::Expressions::inside))]
-    fn inside(&mut self, levels: usize) -> Result<Expr, Stop>
+    pub fn inside(&mut self, levels: usize) -> Result<Expr, Stop>
         ensures { Reads view (read.inside levels self.old) result self.new }
     {
         if levels == 0 {

@@ -9,10 +9,12 @@ mod operator;
 mod parser;
 mod tree;
 mod unit;
+mod value;
 
 pub use fault::SyntaxFault;
 pub use tree::{
-    Architecture, Assignment, Branch, Component, Concurrent, Constants, ContextItem, Declaration,
-    DesignUnit, Direction, Entity, Enumeration, Expr, File, Generic, Identifier, LibraryUnit, Link,
-    Literal, Mode, Name, Operator, Port, Range, Selected, Sign, Signals, Subtype, Suffix, Value,
+    Actual, Architecture, Assignment, Association, Branch, Choice, Component, Concurrent,
+    Constants, ContextItem, Declaration, DesignUnit, Direction, Entity, Enumeration, Expr, File,
+    Generic, Identifier, LibraryUnit, Link, Literal, Mode, Name, Operator, Port, Range, Selected,
+    Sign, Signals, Subtype, Suffix, Value,
 };

@@ -75,6 +75,17 @@ impl<'a> Parser<'a> {
         }
     }
 
+    /// Whether the next two tokens are of these kinds.
+    #[tactic(auto, unfolding(crate::specs::reader::Input::next_kind, crate::specs::reader::Input::second_kind, crate::specs::Lexeme::same_kind, crate::specs::Lexeme::lexeme))]
+    pub fn sees_both(&self, first: Kind, second: Kind) -> bool
+        ensures { result ≡ read.sees_both first second self.now }
+    {
+        match self.tokens.split_first() {
+            None => false,
+            Some((token, rest)) => token.kind == first && begins(rest, second),
+        }
+    }
+
     #[tactic(auto, unfolding(crate::specs::reader::Input::refusal))]
     pub fn refuse(&self) -> Stop
         ensures { result ≡ read.refusal self.now }
@@ -170,6 +181,17 @@ pub fn below(levels: usize) -> Result<usize, Stop>
         Err(Stop::TooDeep)
     } else {
         Ok(levels - 1)
+    }
+}
+
+/// Whether the first of the tokens is of this kind.
+#[tactic(auto, unfolding(crate::specs::reader::Input::next_kind, crate::specs::Lexeme::same_kind, crate::specs::Lexeme::lexeme))]
+fn begins(tokens: &[Token], kind: Kind) -> bool
+    ensures { (source : List ℕ) → result ≡ read.is_kind kind (read.next_kind (lexemes source tokens.now)) }
+{
+    match tokens.first() {
+        None => false,
+        Some(token) => token.kind == kind,
     }
 }
 

@@ -114,6 +114,27 @@ pub enum Value {
     Others(usize, Expr),
 }
 
+/// A choice of an alternative: an expression, or `others` with the byte at which it starts.
+#[derive(Drop)]
+pub enum Choice {
+    Expr(Expr),
+    Others(usize),
+}
+
+/// What is associated: an expression, or `open` with the byte at which it starts.
+#[derive(Drop)]
+pub enum Actual {
+    Expr(Expr),
+    Open(usize),
+}
+
+/// An actual for a formal, or for the formal of its position.
+#[derive(Drop)]
+pub struct Association {
+    pub formal: Option<Identifier>,
+    pub actual: Actual,
+}
+
 /// `value when condition`.
 #[derive(Drop)]
 pub struct Branch {

@@ -1,9 +1,9 @@
 -- Concurrent statements (IEEE 1076-2008, 11): how they are spelled, and which are well formed.
 use Rattle.std.specs.Prelude.{◌≡◌, Option, Some, None, List, [], ◌∷◌, ◌++◌}
 use Rattle.vhdl_lexer.specs.declared.token.Kind.TheVariants as k
-use Rattle.vhdl_parser.specs.Tree.{Ident, Value, single, Branch, Assignment, Concurrent, assignment}
+use Rattle.vhdl_parser.specs.Tree.{Ident, Value, Branch, Assignment, Concurrent, assignment}
 use Rattle.vhdl_parser.specs.Pieces.{Piece, some, spell_ident, spell_option, IsAbsent}
-use Rattle.vhdl_parser.specs.grammar.Expressions.{spell, spell_name, spell_value, IsExpr, IsName, IsValue}
+use Rattle.vhdl_parser.specs.grammar.Expressions.{spell, spell_name, spell_value, IsName, IsValue}
 
 -- id :
 abbrev pub spell_label : Ident → List Piece
@@ -32,9 +32,9 @@ spell_assignment a = spell_option spell_label a.label ++ (spell_name a.target ++
 abbrev pub spell_concurrent : Concurrent → List Piece
 spell_concurrent (assignment a) = spell_assignment a
 
--- a single expression so far
+-- a single value so far
 abbrev pub AreWaveforms : List Branch → Option Value → Type 0
-AreWaveforms [] (Some (single e)) = IsExpr e
+AreWaveforms [] (Some v) = IsValue v
 AreWaveforms _ _ = ⊥
 
 abbrev pub IsAssignment : Assignment → Type 0

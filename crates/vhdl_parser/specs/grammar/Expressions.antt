@@ -8,8 +8,8 @@ use Rattle.vhdl_parser.specs.declared.tree.Sign.{Sign}
 use Rattle.vhdl_parser.specs.declared.tree.Sign.TheVariants.{Plus, Minus}
 use Rattle.vhdl_parser.specs.declared.tree.Direction.{Direction}
 use Rattle.vhdl_parser.specs.declared.tree.Direction.TheVariants.{To, Downto}
-use Rattle.vhdl_parser.specs.Tree.{Ident, Expr, integer, character, string, bits, named, parens, negation, signed, binary, Suffix, plain, arguments, sliced, Exprs, no_exprs, expr, Range, Name, Value, single, others}
-use Rattle.vhdl_parser.specs.Pieces.{Piece, some, one_at, word_at, literal_at, text_at, spell_option, spell_ident}
+use Rattle.vhdl_parser.specs.Tree.{Ident, Expr, integer, character, string, bits, named, parens, negation, signed, binary, Suffix, plain, arguments, sliced, Exprs, no_exprs, expr, Range, Name, Value, single, others, Choice, chosen, otherwise, Actual, actual, left_open, Association}
+use Rattle.vhdl_parser.specs.Pieces.{Piece, some, one_at, word_at, literal_at, text_at, spell_option, spell_ident, spell_list, IsList}
 
 -- ---- spelling
 
@@ -89,6 +89,32 @@ spell_value (others at e) = one_at k.LeftParen at ∷ (some k.Others ∷ (some k
 -- range = expr ( to | downto ) expr
 abbrev pub spell_range : Range → List Piece
 spell_range r = spell r.left ++ (some (direction_kind r.direction) ∷ spell r.right)
+
+-- choice = others | expr
+abbrev pub spell_choice : Choice → List Piece
+spell_choice (otherwise at) = one_at k.Others at ∷ []
+spell_choice (chosen e) = spell e
+
+-- choices = choice { | choice }
+abbrev pub spell_choices : List Choice → List Piece
+spell_choices = spell_list k.Bar spell_choice
+
+-- expr | open
+abbrev pub spell_actual : Actual → List Piece
+spell_actual (actual e) = spell e
+spell_actual (left_open at) = one_at k.Open at ∷ []
+
+-- id =>
+abbrev pub spell_formal : Ident → List Piece
+spell_formal n = word_at n.at n.text ∷ (some k.Arrow ∷ [])
+
+-- assoc = [ id => ] ( expr | open )
+abbrev pub spell_association : Association → List Piece
+spell_association a = spell_option spell_formal a.formal ++ spell_actual a.actual
+
+-- assoc { , assoc }
+abbrev pub spell_associations : List Association → List Piece
+spell_associations = spell_list k.Comma spell_association
 
 -- ---- precedence and chaining
 
@@ -185,3 +211,20 @@ IsRange r = IsExpr r.left × IsExpr r.right
 abbrev pub IsValue : Value → Type 0
 IsValue (single e) = IsExpr e
 IsValue (others at e) = IsExpr e
+
+abbrev pub IsChoice : Choice → Type 0
+IsChoice (otherwise at) = Unit {0}
+IsChoice (chosen e) = IsExpr e
+
+abbrev pub AreChoices : List Choice → Type 0
+AreChoices = IsList IsChoice
+
+abbrev pub IsActual : Actual → Type 0
+IsActual (actual e) = IsExpr e
+IsActual (left_open at) = Unit {0}
+
+abbrev pub IsAssociation : Association → Type 0
+IsAssociation a = IsActual a.actual
+
+abbrev pub AreAssociations : List Association → Type 0
+AreAssociations = IsList IsAssociation

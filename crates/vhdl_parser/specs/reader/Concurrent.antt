@@ -2,12 +2,9 @@
 use Rattle.std.specs.Prelude.{ℕ, Bool, not, List, [], Option, Some, None}
 use Rattle.vhdl_lexer.specs.declared.token.Kind.{Kind}
 use Rattle.vhdl_lexer.specs.declared.token.Kind.TheVariants as k
-use Rattle.vhdl_parser.specs.Tree.{Value, single, Assignment, Concurrent, assignment}
+use Rattle.vhdl_parser.specs.Tree.{Assignment, Concurrent, assignment}
 use Rattle.vhdl_parser.specs.reader.Input.{Parser, ◌>>=◌, ◌>>◌, ◌<$>◌, pure, is_kind, expect, many}
-use Rattle.vhdl_parser.specs.reader.Expressions.{expr, inside, name}
-
-unfoldable pub value : ℕ → Parser Value
-value n = single <$> expr n
+use Rattle.vhdl_parser.specs.reader.Expressions.{inside, name, value}
 
 unfoldable pub assign : ℕ → Parser Assignment
 assign n = do

@@ -14,8 +14,8 @@ use Rattle.vhdl_parser.specs.declared.tree.Link.{Link}
 use Rattle.vhdl_parser.specs.View.{view}
 use Rattle.std.specs.Global.{Global}
 use Rattle.vhdl_parser.specs.grammar.Expressions.{kind_of, repeats, sign_kind, direction_kind}
-use Rattle.vhdl_parser.specs.Tree.{Ident, Expr, integer, character, string, bits, named, parens, negation, signed, binary, Suffix, plain, arguments, sliced, exprs_of, Name, Range}
-use Rattle.vhdl_parser.specs.reader.Input.{Parser, ◌>>=◌, ◌>>◌, ◌<$>◌, pure, refuse, too_deep, is_kind, choose, test, expect, many, many_from, optional, identifier, text}
+use Rattle.vhdl_parser.specs.Tree.{Ident, Expr, integer, character, string, bits, named, parens, negation, signed, binary, Suffix, plain, arguments, sliced, exprs_of, Name, Range, Value, single, others, Choice, chosen, otherwise, Actual, actual, left_open, Association}
+use Rattle.vhdl_parser.specs.reader.Input.{Parser, ◌>>=◌, ◌>>◌, ◌<$>◌, pure, refuse, too_deep, is_kind, choose, test, test_both, expect, many, many_from, optional, identifier, text}
 use Rattle.vhdl_parser.specs.reader.Input as input
 
 abbrev pub name_expr : Name → Expr
@@ -235,6 +235,69 @@ inside (suc n) = whole (inside n)
 -- an expression, in which so many parentheses may be open
 abbrev pub expr : ℕ → Parser Expr
 expr n = whole (inside n)
+
+-- ---- ranges, values, choices and associations, in which so many levels may be opened
+
+abbrev pub range_by : ℕ → Expr → Option Direction → Parser Range
+range_by n left None = refuse
+range_by n left (Some direction) = do
+  expect (direction_kind direction)
+  right ← expr n
+  pure (record { left = left; direction = direction; right = right })
+
+unfoldable pub range : ℕ → Parser Range
+range n = do
+  left ← expr n
+  choose (λ next. range_by n left (direction_at next))
+
+unfoldable pub others_value : ℕ → Parser Value
+others_value n = do
+  at ← expect k.LeftParen
+  expect k.Others
+  expect k.Arrow
+  e ← inside n
+  expect k.RightParen
+  pure (others at e)
+
+unfoldable pub value : ℕ → Parser Value
+value n = test_both k.LeftParen k.Others (others_value n) (single <$> expr n)
+
+unfoldable pub choice : ℕ → Parser Choice
+choice n = test (is_kind k.Others) (otherwise <$> expect k.Others) (chosen <$> expr n)
+
+unfoldable pub next_choice : ℕ → Parser Choice
+next_choice n = expect k.Bar >> choice n
+
+unfoldable pub choices : ℕ → Parser (List Choice)
+choices n = do
+  first ← choice n
+  many (is_kind k.Bar) (next_choice n) (first ∷ [])
+
+unfoldable pub formal : Parser Ident
+formal = do
+  n ← identifier
+  expect k.Arrow
+  pure n
+
+unfoldable pub optional_formal : Parser (Option Ident)
+optional_formal = test_both k.Identifier k.Arrow (Some <$> formal) (pure None)
+
+unfoldable pub actual_of : ℕ → Parser Actual
+actual_of n = test (is_kind k.Open) (left_open <$> expect k.Open) (actual <$> expr n)
+
+unfoldable pub association : ℕ → Parser Association
+association n = do
+  f ← optional_formal
+  a ← actual_of n
+  pure (record { formal = f; actual = a })
+
+unfoldable pub next_association : ℕ → Parser Association
+next_association n = expect k.Comma >> association n
+
+unfoldable pub associations : ℕ → Parser (List Association)
+associations n = do
+  first ← association n
+  many (is_kind k.Comma) (next_association n) (first ∷ [])
 
 -- ---- what contracts see of a chain's links
 

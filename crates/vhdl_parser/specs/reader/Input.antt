@@ -1,5 +1,5 @@
 -- What a parser reads from, and the steps that every rule is made of.
-use Rattle.std.specs.Prelude.{◌≡◌, ◌≢◌, ℕ, zero, suc, Bool, true, false, if◌then◌else◌, List, [], ◌∷◌, ◌++◌, length, slice_index, Option, Some, None, Result, Ok, Err}
+use Rattle.std.specs.Prelude.{◌≡◌, ◌≢◌, ℕ, zero, suc, Bool, true, false, ◌&&◌, if◌then◌else◌, List, [], ◌∷◌, ◌++◌, length, slice_index, Option, Some, None, Result, Ok, Err}
 use Rattle.std.specs.Borrow.{Bor}
 use Rattle.vhdl_lexer.specs.declared.token.Kind.{Kind}
 use Rattle.vhdl_lexer.specs.declared.token.Kind.TheVariants as k
@@ -60,6 +60,18 @@ sees kind ts = is_kind kind (next_kind ts)
 abbrev pub is_more : Option Kind → Bool
 is_more None = false
 is_more (Some kind) = true
+
+unfoldable pub second_kind : List Lexeme → Option Kind
+second_kind [] = None
+second_kind (l ∷ ts) = next_kind ts
+
+-- whether the next two tokens are of these kinds
+abbrev pub sees_both : Kind → Kind → List Lexeme → Bool
+sees_both first second ts = is_kind first (next_kind ts) && is_kind second (second_kind ts)
+
+-- goes on by whether the next two tokens are of these kinds
+abbrev pub test_both : {A : Type 0} → Kind → Kind → Parser A → Parser A → Parser A
+test_both first second p q = λ ts. if sees_both first second ts then p ts else q ts
 
 -- goes on by the kind of the next token
 abbrev pub choose : {A : Type 0} → (Option Kind → Parser A) → Parser A
