@@ -2,6 +2,7 @@
 pub mod Bodies
 pub mod BodyMistakes
 pub mod Computing
+pub mod Deciding
 pub mod Toggling
 pub mod Rows
 pub mod SimulationMistakes

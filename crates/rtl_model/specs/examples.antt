@@ -2,6 +2,7 @@
 pub mod Bodies
 pub mod BodyMistakes
 pub mod Gates
+pub mod Circuits
 pub mod Toggling
 pub mod Rows
 pub mod SimulationMistakes

@@ -1,20 +1,23 @@
 -- The toggling register, with a reset and without, meets all premises, and its moments take what the bound says.
 use Rattle.std.specs.Prelude.{slice_get}
-use Rattle.std.proofs.Common.{◌≡◌, ℕ, zero, suc, ◌<◌, ◌≤◌, Bool, true, false, not, List, [], ◌∷◌, length, get_or, Option, Some, None, refl, sym, ap, ◌∙◌, arith, ◌⊎◌, inl, inr, ◌==◌, ◌&&◌, ◌||◌, subst, IsSome, Contains, map, if◌then◌else◌}
-use Rattle.std.proofs.lemmas.Bool.{eqb-true, and_parts, or_cases, false_from_ne_true, not-true, eqb-false}
-use Rattle.rtl_model.specs.simulation.Net.{clocked_entry, Driver, Edge, Falling, HasPlace, HasReset, IsClockedBy, IsCombinational, IsInput, Mixed, process, Reset, reset_entry, reset_of, resets, Rising, Source, sources_of, target, To0, To1}
-use Rattle.rtl_model.specs.simulation.Cycle.{source_value, starting_drivers}
+use Rattle.std.proofs.Common.{◌≡◌, ℕ, zero, suc, ◌<◌, ◌≤◌, Bool, true, false, List, [], ◌∷◌, get_or, Option, Some, None, refl, sym, ap, arith, ◌⊎◌, inl, inr, ◌==◌, ◌||◌, subst, IsSome, Contains, if◌then◌else◌}
+use Rattle.std.proofs.lemmas.Bool.{eqb-true, or_cases}
+use Rattle.rtl_model.specs.simulation.Net.{clocked_entry, Edge, HasPlace, HasReset, IsClockedBy, IsCombinational, IsInput, process, Reset, reset_entry, reset_of, resets, Rising, target}
 use Rattle.rtl_model.specs.simulation.Moments.{HasSettled, Takes}
 use Rattle.rtl_model.specs.simulation.Elaborated.{AgreeOn, HasBodies, HasValues, IsElaborated, IsWired}
-use Rattle.rtl_model.specs.simulation.Accepted.{ClockAsData, ClockNotInput, EdgeNotSensitive, Feeds, IsAccepted, IsClock, Latch, Loop, MissingSensitivity, MixedProcess, TwoDrivers}
+use Rattle.rtl_model.specs.simulation.Accepted.{Feeds, IsAccepted, IsClock}
 use Rattle.rtl_model.specs.simulation.Levels.{AreLevels, bound, ChainTo, IsLevel}
 use Rattle.rtl_model.specs.simulation.Report.{IsBefore, IsReport}
 use Rattle.rtl_model.specs.simulation.Races.{HasNoRace}
 use Rattle.rtl_model.specs.simulation.Range.{AreInputs, IsValuation, KeepsRange, limit}
-use Rattle.rtl_model.specs.examples.Gates.{edge_test, inverse}
-use Rattle.rtl_model.specs.examples.Toggling.{toggling, reset, sensitivity, start, one_edge, MeetsPremises, bound_of, PremisesCanBeMet, BoundsAreMet}
-use Rattle.rtl_model.proofs.simulation.Levels.{Contains-one, Contains-none}
-use Rattle.rtl_model.proofs.simulation.Report.{no_loop}
+use Rattle.rtl_model.specs.nets.CoreNet.{core_edges}
+use Rattle.rtl_model.specs.examples.Circuits.{IsFit}
+use Rattle.rtl_model.specs.examples.Gates.{inverse}
+use Rattle.rtl_model.specs.examples.Rows.{sibling}
+use Rattle.rtl_model.proofs.nets.Values.{has_values}
+use Rattle.rtl_model.proofs.examples.Deciding.{wired_by, accepted_by}
+use Rattle.rtl_model.specs.examples.Toggling.{toggling, reset, start, one_edge, MeetsPremises, bound_of, PremisesCanBeMet, BoundsAreMet}
+use Rattle.rtl_model.proofs.simulation.Levels.{Contains-one}
 use Rattle.rtl_model.proofs.simulation.Range.{EntryBelow, clocked_below, none_below}
 use Rattle.rtl_model.proofs.simulation.Deltas.{after}
 use Rattle.rtl_model.proofs.examples.Computing.{first_cycle, starts_in, goes_on}
@@ -76,66 +79,12 @@ fed b p q f = go p q (combinational_is b p f.feeder) (combinational_is b q f.fed
 -- ---- elaborated
 
 wired : (b : Bool) → IsWired (toggling b)
-wired b = record {
-  targets_are_nets = targets;
-  inputs_are_nets = at_inputs b (λ n. n < 4) (omega arith) (omega arith);
-  inputs_have_no_source = at_inputs b (λ n. sources_of (toggling b) n ≡ []) refl refl;
-  sources_are_drivers = sources;
-  drivers_are_sources = drivers;
-  each_driver_starts = starts;
-  nets_start = nets;
-}
-  where
-    targets : (p place : ℕ) → HasPlace (toggling b) p place → target (toggling b) p place < length (toggling b).start
-    targets zero zero h = omega arith
-    targets zero (suc place) h = absurd (omega arith)
-    targets (suc zero) zero h = omega arith
-    targets (suc zero) (suc place) h = absurd (omega arith)
-    targets (suc (suc p)) place h = absurd (omega arith)
+wired false = wired_by (toggling false) refl
+wired true = wired_by (toggling true) refl
 
-    sources : (n p place : ℕ) → Contains (sources_of (toggling b) n) (Driver p place) → HasPlace (toggling b) p place × (target (toggling b) p place ≡ n)
-    sources zero p place c = absurd (Contains-none (Driver p place) c)
-    sources (suc zero) p place c = absurd (Contains-none (Driver p place) c)
-    sources (suc (suc zero)) p place c = let e = Contains-one (Driver 0 0) (Driver p place) c in let i : 0 ≡ p = cc in let j : 0 ≡ place = cc in rw (← i, ← j) (omega arith, refl)
-    sources (suc (suc (suc zero))) p place c = let e = Contains-one (Driver 1 0) (Driver p place) c in let i : 1 ≡ p = cc in let j : 0 ≡ place = cc in rw (← i, ← j) (omega arith, refl)
-    sources (suc (suc (suc (suc n)))) p place c = absurd (Contains-none (Driver p place) c)
-
-    drivers : (p place : ℕ) → HasPlace (toggling b) p place → Contains (sources_of (toggling b) (target (toggling b) p place)) (Driver p place)
-    drivers zero zero h = (0, omega arith, refl)
-    drivers zero (suc place) h = absurd (omega arith)
-    drivers (suc zero) zero h = (0, omega arith, refl)
-    drivers (suc zero) (suc place) h = absurd (omega arith)
-    drivers (suc (suc p)) place h = absurd (omega arith)
-
-    starts : (p : ℕ) → length (process (toggling b) p).starts ≡ length (process (toggling b) p).drives
-    starts zero = refl
-    starts (suc zero) = refl
-    starts (suc (suc p)) = refl
-
-    nets : (n : ℕ) (source : Source) → Contains (sources_of (toggling b) n) source → get_or (toggling b).start n 0 ≡ (toggling b).resolve (map (source_value (starting_drivers (toggling b))) (sources_of (toggling b) n))
-    nets zero source c = absurd (Contains-none source c)
-    nets (suc zero) source c = absurd (Contains-none source c)
-    nets (suc (suc zero)) source c = refl
-    nets (suc (suc (suc zero))) source c = refl
-    nets (suc (suc (suc (suc n)))) source c = absurd (Contains-none source c)
-
+-- resolution and edges are those of every flat net
 values : (b : Bool) → HasValues (toggling b)
-values b = record { one_resolves = λ v. refl; edges_differ = edges }
-  where
-    apart : (v x y : ℕ) → (x ≡ y → ⊥) → (v == x) && (v == y) ≡ false
-    apart v x y ne = false_from_ne_true _ (λ e. let (i, j) = and_parts (v == x) (v == y) e in ne (sym (eqb-true v x i) ∙ eqb-true v y j))
-
-    itself : (v x : ℕ) → not (v == v) && (v == x) ≡ false
-    itself v x = false_from_ne_true _ (λ e. let (i, j) = and_parts (not (v == v)) (v == x) e in go v (not-true (v == v) i))
-      where
-        go : (v : ℕ) → (v == v) ≡ false → ⊥
-        go v e = eqb-false v v e refl
-
-    edges : (edge : Edge) (v : ℕ) → edge_test edge v v ≡ false
-    edges Rising v = apart v 2 3 (λ e. cc)
-    edges Falling v = apart v 3 2 (λ e. cc)
-    edges To1 v = itself v 3
-    edges To0 v = itself v 2
+values b = let v = has_values sibling in record { one_resolves = v.one_resolves; edges_differ = v.edges_differ }
 
 bodies : (b : Bool) → HasBodies (toggling b)
 bodies b = record {
@@ -172,7 +121,7 @@ bodies b = record {
 
     acts : (p clock place : ℕ) (edge : Edge) (before now : List ℕ) → (p ≡ 0) × (clock ≡ 0) × (edge ≡ Rising)
         → get_or ((process (toggling b) p).effect before now) place None
-        ≡ clocked_entry (resets (reset_of (toggling b) p) (λ n. get_or now n 0)) (edge_test edge (get_or before clock 0) (get_or now clock 0)) (reset_entry (reset_of (toggling b) p) place) (get_or ((process (toggling b) p).branch now) place None)
+        ≡ clocked_entry (resets (reset_of (toggling b) p) (λ n. get_or now n 0)) (core_edges edge (get_or before clock 0) (get_or now clock 0)) (reset_entry (reset_of (toggling b) p) place) (get_or ((process (toggling b) p).branch now) place None)
     acts zero clock zero edge before now (i, j, k) = rw (j, k) refl
     acts zero clock (suc place) edge before now (i, j, k) = rw (no_entry b place) (none_of_none _ _)
     acts (suc p) clock place edge before now (i, j, k) = cc
@@ -182,49 +131,12 @@ elaborated b = record { wiring = wired b; values = values b; bodies = bodies b }
 
 -- ---- accepted
 
-wakes_clock : (b : Bool) → Contains (sensitivity b) 0
-wakes_clock false = (0, omega arith, refl)
-wakes_clock true = (0, omega arith, refl)
-
-accepted : (b : Bool) → IsAccepted (toggling b)
-accepted b (TwoDrivers n x y) (more, e) = one n e
+pub fit : (b : Bool) → IsFit (toggling b)
+fit b = (elaborated b, accepted b)
   where
-    one : (n : ℕ) → sources_of (toggling b) n ≡ x ∷ y ∷ more → ⊥
-    one zero e = cc
-    one (suc zero) e = cc
-    one (suc (suc zero)) e = cc
-    one (suc (suc (suc zero))) e = cc
-    one (suc (suc (suc (suc n)))) e = cc
-accepted b (MixedProcess p) e = mixed p e
-  where
-    mixed : (p : ℕ) → (process (toggling b) p).kind ≡ Mixed → ⊥
-    mixed zero h = cc
-    mixed (suc zero) h = cc
-    mixed (suc (suc p)) h = cc
-accepted b (ClockNotInput p n) ((edge, is), none) = none (rw ((clocked_is b p n edge is).1) refl)
-accepted b (EdgeNotSensitive p n) (inl (edge, is), none) = let (i, j, k) = clocked_is b p n edge is in none (rw (i, j) (wakes_clock b))
-accepted b (EdgeNotSensitive p n) (inr (r, has, e), none) =
-    let (t, i, j) = reset_is b p r has in
-    none (rw (i, ← e, j) (subst (λ (c : Bool). Contains (sensitivity c) 1) (sym t) (1, omega arith, refl)))
-accepted b (ClockAsData p n) ((q, (edge, is)), inl (clock, (edge', is'), reads)) = no_clock p n (clocked_is b p clock edge' is').0 (clocked_is b q n edge is).1 reads
-  where
-    no_clock : (p n : ℕ) → p ≡ 0 → n ≡ 0 → Contains (process (toggling b) p).reads n → ⊥
-    no_clock zero n i j r = let e = Contains-one 3 n r in cc
-    no_clock (suc p) n i j r = cc
-accepted b (ClockAsData p n) ((q, (edge, is)), inr (r, has, e)) = let j = (clocked_is b q n edge is).1 in let k = (reset_is b p r has).2 in cc
-accepted b (MissingSensitivity p n) (c, reads, none) = none (wakes p n (combinational_is b p c) reads)
-  where
-    wakes : (p n : ℕ) → p ≡ 1 → Contains (process (toggling b) p).reads n → Contains (process (toggling b) p).wakes n
-    wakes zero n i r = cc
-    wakes (suc zero) n i r = r
-    wakes (suc (suc p)) n i r = cc
-accepted b (Latch p n) (c, drives, e) = latch p n (combinational_is b p c) drives e
-  where
-    latch : (p n : ℕ) → p ≡ 1 → Contains (process (toggling b) p).drives n → (process (toggling b) p).assigns n ≡ false → ⊥
-    latch zero n i d e = cc
-    latch (suc zero) n i d e = eqb-false n 3 e (sym (Contains-one 3 n d))
-    latch (suc (suc p)) n i d e = cc
-accepted b (Loop ps) loop = no_loop (toggling b) (λ p. 1) (record { from_one = λ p c. omega arith; along = λ p q f. absurd (fed b p q f) }) ps loop
+    accepted : (b : Bool) → IsAccepted (toggling b)
+    accepted false = accepted_by (toggling false) (λ p. p) refl
+    accepted true = accepted_by (toggling true) (λ p. p) refl
 
 -- ---- values in range
 
@@ -293,7 +205,7 @@ no_race b last (suc m) l race =
     at_inputs b (λ n. (IsClock (toggling b) n → ⊥) → (one_edge b m n ≡ one_edge b (suc m) n → ⊥) → ⊥) (λ no_clock changes. no_clock (0, (Rising, (reset b, refl)))) (λ no_clock changes. changes refl) race.input race.is_input race.no_clock race.changes
 
 meets : (b : Bool) → MeetsPremises b
-meets b = record { elaborated = elaborated b; accepted = accepted b; in_range = in_range b; inputs = inputs_in_range b; no_race = no_race b }
+meets b = record { elaborated = (fit b).0; accepted = (fit b).1; in_range = in_range b; inputs = inputs_in_range b; no_race = no_race b }
 
 -- ---- the report
 

@@ -1,18 +1,12 @@
--- What small nets are made of. Their values are those of std_logic by place: 0 is 'U', 1 is 'X', 2 is '0' and 3 is '1'.
-use Rattle.std.specs.Prelude.{◌≡◌, ℕ, Bool, false, not, ◌&&◌, ◌==◌, List, [], ◌∷◌, slice_index, map, Option, Some, if◌then◌else◌}
-use Rattle.rtl_model.specs.simulation.Net.{Net, Process, Source, Edge, Rising, Falling, To1, To0, Combinational, Clocked, Reset, clocked_entry, resets, reset_entry}
+-- Processes and nets by hand: a net with a reset can't be written as a flat net yet. The values are those of std_logic by place: 0 is 'U', 1 is 'X', 2 is '0' and 3 is '1'.
+use Rattle.std.specs.Prelude.{◌≡◌, ℕ, ◌==◌, List, [], ◌∷◌, slice_index, map, Option, Some, if◌then◌else◌, false}
+use Rattle.rtl_model.specs.nets.CoreNet.{core_edges, core_resolve}
+use Rattle.rtl_model.specs.simulation.Net.{Net, Process, Source, Edge, Combinational, Clocked, Reset, clocked_entry, resets, reset_entry}
 use Rattle.rtl_model.specs.simulation.Cycle.{State}
 use Rattle.rtl_model.specs.simulation.Moments.{HasSettled}
 
 abbrev pub inverse : ℕ → ℕ
 inverse v = if v == 0 then 0 else (if v == 2 then 3 else (if v == 3 then 2 else 1))
-
--- the edges, between '0' and '1' alone
-abbrev pub edge_test : Edge → (old new : ℕ) → Bool
-edge_test Rising old new = old == 2 && new == 3
-edge_test Falling old new = old == 3 && new == 2
-edge_test To1 old new = not (old == new) && new == 3
-edge_test To0 old new = not (old == new) && new == 2
 
 -- a combinational process with one driver
 abbrev pub gate : (target start : ℕ) → (wakes reads : List ℕ) → (value : List ℕ → ℕ) → Process
@@ -35,7 +29,7 @@ register target start clock edge reset wakes reads entry = record {
   wakes = wakes;
   reads = reads;
   kind = Clocked clock edge reset;
-  effect = λ before now. clocked_entry (resets reset (slice_index now)) (edge_test edge (slice_index before clock) (slice_index now clock)) (reset_entry reset 0) (entry now) ∷ [];
+  effect = λ before now. clocked_entry (resets reset (slice_index now)) (core_edges edge (slice_index before clock) (slice_index now clock)) (reset_entry reset 0) (entry now) ∷ [];
   branch = λ now. entry now ∷ [];
   assigns = λ net. false;
 }
@@ -48,8 +42,8 @@ netlist inputs start sources processes = record {
   limits = map (λ n. 9) start;
   sources = sources;
   processes = processes;
-  resolve = λ values. slice_index values 0;
-  edge = edge_test;
+  resolve = core_resolve;
+  edge = core_edges;
 }
 
 -- at the moment m the net settles in this valuation

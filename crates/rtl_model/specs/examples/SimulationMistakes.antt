@@ -1,22 +1,29 @@
--- Wrong definitions, each with a small net on which it differs from the right one.
+-- Wrong definitions, each with a small net on which it differs from the right one. Where a law asks for an elaborated and
+-- accepted net, the net is one (`fit`).
 use Rattle.std.specs.Prelude.{◌≡◌, ℕ, suc, zero, ◌<◌, Bool, true, false, ◌==◌, List, [], ◌∷◌, slice_index, slice_index_or, slice_set, map, Some, None, Contains, if◌then◌else◌}
 use Rattle.std.specs.List.{list_any}
 use Rattle.std.specs.Option.{is_some}
+use Rattle.vhdl_values.specs.declared.scalar.Nine.TheVariants.{One}
+use Rattle.rtl_model.specs.bodies.Body.{edge}
+use Rattle.rtl_model.specs.nets.FlatNet.{FlatNet}
+use Rattle.rtl_model.specs.nets.CoreNet.{core_net}
 use Rattle.rtl_model.specs.simulation.Net.{Net, Source, Driver, Idle, Edge, Rising, Falling, process, sources_of, target, reset_of, reset_entry, resets, clocked_entry, HasPlace, IsCombinational}
 use Rattle.rtl_model.specs.simulation.Cycle.{State, IsToRun, driven_all, net_values, none_pending, over, ran, updated, started, is_quiet}
 use Rattle.rtl_model.specs.simulation.Moments.{Takes}
 use Rattle.rtl_model.specs.simulation.Levels.{AreLevels, ChainTo, bound}
 use Rattle.rtl_model.specs.simulation.Races.{IsRace, IsRaceAt}
 use Rattle.rtl_model.specs.simulation.Machine.{entry_or, register_next}
-use Rattle.rtl_model.specs.examples.Gates.{register, netlist, SettlesAs}
+use Rattle.rtl_model.specs.examples.Bodies.{signal, assigned, is_at, if_only, rising_clk}
+use Rattle.rtl_model.specs.examples.Circuits.{circuit, drives_one, IsFit}
+use Rattle.rtl_model.specs.examples.Gates.{SettlesAs}
 use Rattle.rtl_model.specs.examples.Toggling.{toggling, one_edge}
 use Rattle.rtl_model.specs.examples.Rows.{oscillator, sibling, a_rises, no_inputs}
 
 -- ---- two registers in a row: q1 <= d and q2 <= q1; the nets are clk, d, q1 and q2
 
-abbrev pub shift : Net
-shift = netlist (0 ∷ 1 ∷ []) (0 ∷ 0 ∷ 2 ∷ 2 ∷ []) ([] ∷ [] ∷ (Driver 0 0 ∷ []) ∷ (Driver 1 0 ∷ []) ∷ [])
-    (register 2 2 0 Rising None (0 ∷ []) (1 ∷ []) (λ now. Some (slice_index now 1)) ∷ register 3 2 0 Rising None (0 ∷ []) (2 ∷ []) (λ now. Some (slice_index now 2)) ∷ [])
+abbrev pub shift : FlatNet
+shift = circuit (0 ∷ 1 ∷ []) (0 ∷ 0 ∷ 2 ∷ 2 ∷ []) ([] ∷ [] ∷ (Driver 0 0 ∷ []) ∷ (Driver 1 0 ∷ []) ∷ [])
+    (drives_one 2 2 (0 ∷ []) (if_only rising_clk (assigned (signal 1))) ∷ drives_one 3 2 (0 ∷ []) (if_only rising_clk (assigned (signal 2))) ∷ [])
 
 -- d is '1', and clk rises at moment 1
 abbrev pub shift_edge : ℕ → ℕ → ℕ
@@ -45,8 +52,8 @@ ran_seeing net p s =
 -- two orders of the Runs then end in two states
 pub record OrderWouldCount : Type 0 where
   pub both_run : IsToRun at_edge 0 × IsToRun at_edge 1
-  pub right : ran shift 1 (ran shift 0 at_edge) ≡ ran shift 0 (ran shift 1 at_edge)
-  pub wrong : ran_seeing shift 1 (ran_seeing shift 0 at_edge) ≡ ran_seeing shift 0 (ran_seeing shift 1 at_edge) → ⊥
+  pub right : ran (core_net shift) 1 (ran (core_net shift) 0 at_edge) ≡ ran (core_net shift) 0 (ran (core_net shift) 1 at_edge)
+  pub wrong : ran_seeing (core_net shift) 1 (ran_seeing (core_net shift) 0 at_edge) ≡ ran_seeing (core_net shift) 0 (ran_seeing (core_net shift) 1 at_edge) → ⊥
 
 -- ---- a process is resumed by activity without an event
 
@@ -83,6 +90,7 @@ cycles_from_start update net order k inputs = cycles update net order k (run_eac
 pub record ActivityWouldGoOn : Type 0 where
   pub right : is_quiet (cycles_from_start updated (oscillator 0) (0 ∷ []) 1 (no_inputs 0)) ≡ true
   pub wrong : is_quiet (cycles_from_start updated_by_activity (oscillator 0) (0 ∷ []) 9 (no_inputs 0)) ≡ false
+  pub fit : IsFit (toggling true)
   pub accepted_right : is_quiet (cycles_from_start updated (toggling true) (0 ∷ 1 ∷ []) 3 (one_edge true 0)) ≡ true
   pub accepted_wrong : is_quiet (cycles_from_start updated_by_activity (toggling true) (0 ∷ 1 ∷ []) 9 (one_edge true 0)) ≡ false
 
@@ -93,6 +101,7 @@ abbrev pub bound_of_levels : Net → (greatest : ℕ) → ℕ
 bound_of_levels net greatest = greatest
 
 pub record BoundWouldBreak : Type 0 where
+  pub fit : IsFit (toggling false)
   pub levels : AreLevels (toggling false) (None ∷ Some 1 ∷ []) 1
   pub right : bound (toggling false) 1 ≡ 2
   pub takes : Takes (toggling false) (one_edge false) 1 2
@@ -110,16 +119,16 @@ pub record FeedsByReading (net : Net) (p q : ℕ) : Type 0 where
 
 -- no process would be above level 1, and the bound would be 1
 pub record LevelsWouldMiss : Type 0 where
-  pub right : ChainTo sibling 1 2
-  pub wrong : (p q : ℕ) → FeedsByReading sibling p q → ⊥
-  pub takes : Takes sibling a_rises 1 2
+  pub fit : IsFit (core_net sibling)
+  pub right : ChainTo (core_net sibling) 1 2
+  pub wrong : (p q : ℕ) → FeedsByReading (core_net sibling) p q → ⊥
+  pub takes : Takes (core_net sibling) a_rises 1 2
 
 -- ---- a register that its branch leaves alone falls back to its starting value
 
 -- if rising_edge(clk) then if en = '1' then q <= d; end if; end if;  the nets are clk, en, d and q, which starts at '0'
-abbrev pub enabled : Net
-enabled = netlist (0 ∷ 1 ∷ 2 ∷ []) (0 ∷ 0 ∷ 0 ∷ 2 ∷ []) ([] ∷ [] ∷ [] ∷ (Driver 0 0 ∷ []) ∷ [])
-    (register 3 2 0 Rising None (0 ∷ []) (1 ∷ 2 ∷ []) (λ now. if slice_index now 1 == 3 then Some (slice_index now 2) else None) ∷ [])
+abbrev pub enabled : FlatNet
+enabled = circuit (0 ∷ 1 ∷ 2 ∷ []) (0 ∷ 0 ∷ 0 ∷ 2 ∷ []) ([] ∷ [] ∷ [] ∷ (Driver 0 0 ∷ []) ∷ []) (drives_one 3 2 (0 ∷ []) (if_only rising_clk (if_only (is_at 1 One) (assigned (signal 2)))) ∷ [])
 
 -- clk rises at 1 and 3, d is '1', en is '1' before 2
 abbrev pub enable_drops : ℕ → ℕ → ℕ
@@ -130,36 +139,37 @@ enable_drops (suc (suc (suc m))) n = if n == 1 then 2 else 3
 
 -- wrong: without an entry the starting value
 abbrev pub register_or_start : Net → (p place clock : ℕ) → Edge → (v : List ℕ) → (inputs : ℕ → ℕ) → ℕ
-register_or_start net p place clock edge v inputs =
-    entry_or (clocked_entry (resets (reset_of net p) inputs) (net.edge edge (slice_index v clock) (inputs clock)) (reset_entry (reset_of net p) place) (slice_index_or ((process net p).branch v) place None)) (slice_index net.start (target net p place))
+register_or_start net p place clock tested v inputs =
+    entry_or (clocked_entry (resets (reset_of net p) inputs) (net.edge tested (slice_index v clock) (inputs clock)) (reset_entry (reset_of net p) place) (slice_index_or ((process net p).branch v) place None)) (slice_index net.start (target net p place))
 
 -- the simulation keeps '1', and the machine would have '0'
 pub record RegisterWouldFallBack : Type 0 where
-  pub earlier : SettlesAs enabled enable_drops 2 (2 ∷ 2 ∷ 3 ∷ 3 ∷ [])
-  pub simulated : SettlesAs enabled enable_drops 3 (3 ∷ 2 ∷ 3 ∷ 3 ∷ [])
-  pub right : register_next enabled 0 0 0 Rising (2 ∷ 2 ∷ 3 ∷ 3 ∷ []) (enable_drops 3) ≡ 3
-  pub wrong : register_or_start enabled 0 0 0 Rising (2 ∷ 2 ∷ 3 ∷ 3 ∷ []) (enable_drops 3) ≡ 2
+  pub fit : IsFit (core_net enabled)
+  pub earlier : SettlesAs (core_net enabled) enable_drops 2 (2 ∷ 2 ∷ 3 ∷ 3 ∷ [])
+  pub simulated : SettlesAs (core_net enabled) enable_drops 3 (3 ∷ 2 ∷ 3 ∷ 3 ∷ [])
+  pub right : register_next (core_net enabled) 0 0 0 Rising (2 ∷ 2 ∷ 3 ∷ 3 ∷ []) (enable_drops 3) ≡ 3
+  pub wrong : register_or_start (core_net enabled) 0 0 0 Rising (2 ∷ 2 ∷ 3 ∷ 3 ∷ []) (enable_drops 3) ≡ 2
 
 -- ---- a register takes its value from after the edge
 
 -- wrong: the branch looks at the new valuation w
 abbrev pub register_from_after : Net → (p place clock : ℕ) → Edge → (v w : List ℕ) → (inputs : ℕ → ℕ) → ℕ
-register_from_after net p place clock edge v w inputs =
-    entry_or (clocked_entry (resets (reset_of net p) inputs) (net.edge edge (slice_index v clock) (inputs clock)) (reset_entry (reset_of net p) place) (slice_index_or ((process net p).branch w) place None)) (slice_index v (target net p place))
+register_from_after net p place clock tested v w inputs =
+    entry_or (clocked_entry (resets (reset_of net p) inputs) (net.edge tested (slice_index v clock) (inputs clock)) (reset_entry (reset_of net p) place) (slice_index_or ((process net p).branch w) place None)) (slice_index v (target net p place))
 
 -- at the edge q1 becomes '1' and q2 keeps '0'; the machine's q2 would be '1'
 pub record RegisterWouldRunAhead : Type 0 where
-  pub earlier : SettlesAs shift shift_edge 0 (2 ∷ 3 ∷ 2 ∷ 2 ∷ [])
-  pub simulated : SettlesAs shift shift_edge 1 (3 ∷ 3 ∷ 3 ∷ 2 ∷ [])
-  pub right : register_next shift 1 0 0 Rising (2 ∷ 3 ∷ 2 ∷ 2 ∷ []) (shift_edge 1) ≡ 2
-  pub wrong : register_from_after shift 1 0 0 Rising (2 ∷ 3 ∷ 2 ∷ 2 ∷ []) (3 ∷ 3 ∷ 3 ∷ 2 ∷ []) (shift_edge 1) ≡ 3
+  pub fit : IsFit (core_net shift)
+  pub earlier : SettlesAs (core_net shift) shift_edge 0 (2 ∷ 3 ∷ 2 ∷ 2 ∷ [])
+  pub simulated : SettlesAs (core_net shift) shift_edge 1 (3 ∷ 3 ∷ 3 ∷ 2 ∷ [])
+  pub right : register_next (core_net shift) 1 0 0 Rising (2 ∷ 3 ∷ 2 ∷ 2 ∷ []) (shift_edge 1) ≡ 2
+  pub wrong : register_from_after (core_net shift) 1 0 0 Rising (2 ∷ 3 ∷ 2 ∷ 2 ∷ []) (3 ∷ 3 ∷ 3 ∷ 2 ∷ []) (shift_edge 1) ≡ 3
 
 -- ---- races are looked for at rising edges alone
 
 -- if falling_edge(clk) then q <= d; end if;  the nets are clk, d and q
-abbrev pub falling : Net
-falling = netlist (0 ∷ 1 ∷ []) (0 ∷ 0 ∷ 2 ∷ []) ([] ∷ [] ∷ (Driver 0 0 ∷ []) ∷ [])
-    (register 2 2 0 Falling None (0 ∷ []) (1 ∷ []) (λ now. Some (slice_index now 1)) ∷ [])
+abbrev pub falling : FlatNet
+falling = circuit (0 ∷ 1 ∷ []) (0 ∷ 0 ∷ 2 ∷ []) ([] ∷ [] ∷ (Driver 0 0 ∷ []) ∷ []) (drives_one 2 2 (0 ∷ []) (if_only (edge Falling false 0) (assigned (signal 1))) ∷ [])
 
 -- clk falls at moment 1, and d rises with it
 abbrev pub both_change : ℕ → ℕ → ℕ
@@ -171,8 +181,9 @@ IsRisingRace net before now = (race : IsRace net before now) × (race.edge ≡ R
 
 -- none would be found, and the simulation takes the new d where the machine takes the old one
 pub record RaceWouldPass : Type 0 where
-  pub right : IsRaceAt falling both_change 1
-  pub wrong : IsRisingRace falling (both_change 0) (both_change 1) → ⊥
-  pub earlier : SettlesAs falling both_change 0 (3 ∷ 2 ∷ 2 ∷ [])
-  pub simulated : SettlesAs falling both_change 1 (2 ∷ 3 ∷ 3 ∷ [])
-  pub machine : register_next falling 0 0 0 Falling (3 ∷ 2 ∷ 2 ∷ []) (both_change 1) ≡ 2
+  pub fit : IsFit (core_net falling)
+  pub right : IsRaceAt (core_net falling) both_change 1
+  pub wrong : IsRisingRace (core_net falling) (both_change 0) (both_change 1) → ⊥
+  pub earlier : SettlesAs (core_net falling) both_change 0 (3 ∷ 2 ∷ 2 ∷ [])
+  pub simulated : SettlesAs (core_net falling) both_change 1 (2 ∷ 3 ∷ 3 ∷ [])
+  pub machine : register_next (core_net falling) 0 0 0 Falling (3 ∷ 2 ∷ 2 ∷ []) (both_change 1) ≡ 2
