@@ -50,7 +50,7 @@ x01_of One = One
 x01_of H = One
 x01_of _ = X
 
--- whether a condition of this value holds: 1 and H alone do (16.7, the condition operator ??)
+-- whether a condition of this value holds: 1 and H alone do (9.2.9, and the package's function "??")
 abbrev pub is_true : Nine → Bool
 is_true One = true
 is_true H = true

@@ -47,7 +47,8 @@ impl Vec9 {
     pub fn of(values: &[Nine]) -> Vec9
         requires some { 1 ≤ length values.now }
         requires room { length values.now ≤ 64 }
-        ensures { result ≡ values.now }
+        ensures list { result ≡ values.now }
+        ensures len { length result ≡ length values.now }
     {
         let len = values.len();
         let mut all = [Nine::U; 64];
@@ -75,7 +76,8 @@ impl Vec9 {
     /// Puts a value at a place below the length, 0 being the leftmost. The other values stay.
     pub fn set(&mut self, at: usize, value: Nine)
         requires { at < length self.old }
-        ensures { self.new ≡ slice_set self.old at value }
+        ensures list { self.new ≡ slice_set self.old at value }
+        ensures len { length self.new ≡ length self.old }
     {
         self.values[at] = value;
     }
@@ -104,7 +106,8 @@ impl Vec9 {
     /// `&`: this vector, and the other to its right, at most 64 values together (IEEE 1076-2008, 9.2.5).
     pub fn concat(&self, other: &Vec9) -> Vec9
         requires { length self.now + length other.now ≤ 64 }
-        ensures { result ≡ self.now ++ other.now }
+        ensures list { result ≡ self.now ++ other.now }
+        ensures len { length result ≡ length self.now + length other.now }
     {
         let mut all = [Nine::U; 64];
         put_front(&mut all, self.values());

@@ -12,7 +12,7 @@ loop-place-init c = (search rules, omega arith)
 pub loop-place-preserved : goal.loop-place-preserved
 loop-place-preserved c = (
   elim c.if-rest-eq1.branch [
-    | then-rest-eq1 w ↦ w.out-is ∙ w.set.ensures ∙ digits_of-one _ _ _ _ _ c.loop-place-test.true c.loop-place.invariant.1 w.if-rest-eq1.true c.loop-place.invariant.0
+    | then-rest-eq1 w ↦ w.out-is ∙ w.set.ensures.list ∙ digits_of-one _ _ _ _ _ c.loop-place-test.true c.loop-place.invariant.1 w.if-rest-eq1.true c.loop-place.invariant.0
     | else-rest-eq1 w ↦ w.out-is ∙ digits_of-zero _ _ _ _ _ c.loop-place-test.true c.loop-place.invariant.1 w.if-rest-eq1.false c.loop-place.invariant.0
   ],
   rest-half _ _ _ c.loop-place.invariant.1,
