@@ -61,7 +61,7 @@ impl Cmp {
     ghost use Rattle.vhdl_values.specs.Relations.{holds, holds_of_unknowns};
 
     /// Whether two numbers have the relation.
-    pub fn holds(self, left: u64, right: u64) -> bool
+    pub(crate) fn holds(self, left: u64, right: u64) -> bool
         ensures { result ≡ holds self left right }
     {
         match self {
@@ -75,7 +75,7 @@ impl Cmp {
     }
 
     /// Whether the relation holds where an operand is no number: `Ne` alone does.
-    pub fn holds_of_unknowns(self) -> bool
+    pub(crate) fn holds_of_unknowns(self) -> bool
         ensures { result ≡ holds_of_unknowns self }
     {
         self == Cmp::Ne

@@ -70,6 +70,10 @@ fn operators_are_the_tables(rt: HostRuntime) {
             }
         }
     }
+}
+
+#[test]
+fn not_x01_and_conditions_are_the_tables(rt: HostRuntime) {
     for column in 0..9 {
         let operand = value(&rt, tables::ORDER, column);
         assert_eq!(rt;

@@ -244,8 +244,9 @@ impl Vec9 {
         ensures len { length result ≡ len }
     {
         let kept = len.min(self.len());
+        let skipped = self.len() - kept;
         let mut all = [Nine::Zero; 64];
-        put_front(&mut all[len - kept..], &self.values()[self.len() - kept..]);
+        put_front(&mut all[len - kept..], &self.values()[skipped..]);
         Vec9::of(&all[..len])
     }
 
