@@ -14,7 +14,7 @@ pub fn runs_of_bodies()
     ensures { RunsOfBodies }
 {}
 
-/// A counter as a flat net is in range and connected, and its simulation counts.
+/// A counter as a flat net is in range, connected and accepted, and its simulation counts.
 pub fn counter_counts()
     ensures { CounterCounts }
 {}

@@ -1,5 +1,5 @@
 -- The counter is in range and connected, and counts.
-use Rattle.std.proofs.Common.{◌≡◌, ℕ, zero, suc, ◌<◌, [], ◌∷◌, length, map, slice_index, Some, refl, subst, arith, All, Contains}
+use Rattle.std.proofs.Common.{◌≡◌, ◌⊎◌, inl, inr, ℕ, zero, suc, ◌<◌, false, List, [], ◌∷◌, length, map, slice_index, Some, None, refl, sym, subst, arith, All, Contains}
 use Rattle.std.proofs.lemmas.List.Elements.{All-cons, All-nil}
 use Rattle.vhdl_values.specs.Numbers.{digits_of}
 use Rattle.rtl_model.specs.bodies.Types.{NetType, nine_valued, limit_of, HasType, KeepsTypes}
@@ -7,12 +7,17 @@ use Rattle.rtl_model.specs.bodies.Fits.{IsWidth, DrivesType}
 use Rattle.rtl_model.specs.nets.FlatNet.{starts, DriverInRange, ProcessInRange, SourceInRange, IsInRange}
 use Rattle.rtl_model.specs.nets.Wiring.{sources_of, IsDriverOf, IsConnected}
 use Rattle.rtl_model.specs.nets.CoreNet.{core_resolve, core_net}
-use Rattle.rtl_model.specs.simulation.Net.{Source, Driver}
+use Rattle.rtl_model.specs.bodies.Kinds.{kind_of}
+use Rattle.rtl_model.specs.nets.FlatNet as flat
+use Rattle.rtl_model.specs.simulation.Net.{Source, Driver, Edge, Mixed, process, target, reset_of, HasPlace, IsCombinational, IsClockedBy}
+use Rattle.rtl_model.specs.simulation.Accepted.{IsAccepted, TwoDrivers, MixedProcess, ClockNotInput, EdgeNotSensitive, ClockAsData, MissingSensitivity, Latch, Loop, Feeds}
 use Rattle.rtl_model.specs.simulation.Cycle.{State, source_value}
 use Rattle.rtl_model.specs.simulation.Moments.{HasSettled}
 use Rattle.rtl_model.specs.examples.Counter.{counter, counting, showing, driver, clock, CounterCounts}
 use Rattle.rtl_model.proofs.simulation.Levels.{Contains-one, Contains-none}
 use Rattle.rtl_model.proofs.simulation.Deltas.{after}
+use Rattle.rtl_model.proofs.simulation.Report.{no_loop}
+use Rattle.rtl_model.proofs.nets.Processes.{process-core_net, no_reset}
 use Rattle.rtl_model.proofs.examples.Computing.{first_cycle, next_cycle, starts_in, goes_on}
 
 -- ---- ranges
@@ -120,6 +125,83 @@ connected = record {
     nets_start (suc (suc (suc (suc zero)))) source h = refl
     nets_start (suc (suc (suc (suc (suc n))))) source h = absurd (Contains-none source h)
 
+-- ---- acceptance
+
+not_two : (a b n : ℕ) → Contains (a ∷ b ∷ []) n → (n ≡ a) ⊎ (n ≡ b)
+not_two a b n (zero, l, e) = inl (sym e)
+not_two a b n (suc zero, l, e) = inr (sym e)
+not_two a b n (suc (suc k), l, e) = absurd (omega arith)
+
+clocked_is : (p clock : ℕ) (edge : Edge) → IsClockedBy (core_net counter) p clock edge → (p ≡ 0) × (clock ≡ 0)
+clocked_is zero clock edge (r, h) = (refl, cc)
+clocked_is (suc zero) clock edge (r, h) = absurd cc
+clocked_is (suc (suc p)) clock edge (r, h) = absurd cc
+
+combinational_is : (p : ℕ) → IsCombinational (core_net counter) p → p ≡ 1
+combinational_is zero (l, h) = absurd cc
+combinational_is (suc zero) h = refl
+combinational_is (suc (suc p)) (l, h) = absurd (omega arith)
+
+fed : (p q : ℕ) → Feeds (core_net counter) p q → ⊥
+fed p q f = go p q (combinational_is p f.feeder) (combinational_is q f.fed) f.place f.drives f.wakes
+  where
+    go : (p q : ℕ) → p ≡ 1 → q ≡ 1 → (place : ℕ) → HasPlace (core_net counter) p place → Contains (process (core_net counter) q).wakes (target (core_net counter) p place) → ⊥
+    go (suc zero) (suc zero) a b zero l w = elim (not_two 3 4 1 w) [ inl e ↦ cc | inr e ↦ cc ]
+    go (suc zero) (suc zero) a b (suc zero) l w = elim (not_two 3 4 2 w) [ inl e ↦ cc | inr e ↦ cc ]
+    go (suc zero) (suc zero) a b (suc (suc place)) l w = absurd (omega arith)
+    go (suc zero) zero a b place l w = absurd cc
+    go (suc zero) (suc (suc q)) a b place l w = absurd cc
+    go zero q a b place l w = absurd cc
+    go (suc (suc p)) q a b place l w = absurd cc
+
+accepted : IsAccepted (core_net counter)
+accepted (TwoDrivers n x y) (more, e) = one_source n e
+  where
+    one_source : (n : ℕ) → sources_of counter n ≡ x ∷ y ∷ more → ⊥
+    one_source zero e = absurd cc
+    one_source (suc zero) e = absurd cc
+    one_source (suc (suc zero)) e = absurd cc
+    one_source (suc (suc (suc zero))) e = absurd cc
+    one_source (suc (suc (suc (suc zero)))) e = absurd cc
+    one_source (suc (suc (suc (suc (suc n))))) e = absurd cc
+accepted (MixedProcess p) e = mixed p e
+  where
+    mixed : (p : ℕ) → (process (core_net counter) p).kind ≡ Mixed → ⊥
+    mixed zero h = absurd cc
+    mixed (suc zero) h = absurd cc
+    mixed (suc (suc p)) h = absurd cc
+accepted (ClockNotInput p n) ((edge, is), none) = none (rw ((clocked_is p n edge is).1) refl)
+accepted (EdgeNotSensitive p n) (inl (edge, is), none) = let (i, j) = clocked_is p n edge is in none (rw (i, j) (0, omega arith, refl))
+accepted (EdgeNotSensitive p n) (inr (r, has, e), none) =
+    let k : reset_of (core_net counter) p ≡ None = rw (process-core_net counter p) (no_reset (kind_of (flat.process counter p).body)) in
+    absurd cc
+accepted (ClockAsData p n) ((q, (edge, is)), inl (clock, (edge', is'), reads)) = no_clock p n (clocked_is p clock edge' is').0 (clocked_is q n edge is).1 reads
+  where
+    no_clock : (p n : ℕ) → p ≡ 0 → n ≡ 0 → Contains (process (core_net counter) p).reads n → ⊥
+    no_clock zero zero i j r = elim (not_two 3 4 0 r) [ inl e ↦ cc | inr e ↦ cc ]
+    no_clock zero (suc n) i j r = absurd cc
+    no_clock (suc p) n i j r = absurd cc
+accepted (ClockAsData p n) ((q, (edge, is)), inr (r, has, e)) =
+    let k : reset_of (core_net counter) p ≡ None = rw (process-core_net counter p) (no_reset (kind_of (flat.process counter p).body)) in
+    absurd cc
+accepted (MissingSensitivity p n) (is, reads, none) = none (wakes p n (combinational_is p is) reads)
+  where
+    wakes : (p n : ℕ) → p ≡ 1 → Contains (process (core_net counter) p).reads n → Contains (process (core_net counter) p).wakes n
+    wakes zero n i r = absurd cc
+    wakes (suc zero) n i r = r
+    wakes (suc (suc p)) n i r = absurd cc
+accepted (Latch p n) (is, drives, e) = latch p n (combinational_is p is) drives e
+  where
+    latch : (p n : ℕ) → p ≡ 1 → Contains (process (core_net counter) p).drives n → (process (core_net counter) p).assigns n ≡ false → ⊥
+    latch zero n i d e = absurd cc
+    latch (suc zero) n i d e =
+        elim (not_two 1 2 n d) [
+          | inl k ↦ (let f = rw k at e in absurd cc)
+          | inr k ↦ (let f = rw k at e in absurd cc)
+        ]
+    latch (suc (suc p)) n i d e = absurd cc
+accepted (Loop ps) loop = no_loop (core_net counter) (λ p. 1) (record { from_one = λ p is. omega arith; along = λ p q f. absurd (fed p q f) }) ps loop
+
 -- ---- its simulation
 
 s0 : State
@@ -155,6 +237,7 @@ unfolding s3 s2 s1 s0 digits_of
 counter_counts = record {
   in_range = in_range;
   connected = connected;
+  accepted = accepted;
   at_start = (1, s0, settled0, refl);
   first_edge = (2, s1, settled1, refl);
   no_edge = (0, s2, settled2, refl);

@@ -1,4 +1,4 @@
--- A counter as a flat net: it is in range and connected, and its simulation counts.
+-- A counter as a flat net: it is in range, connected and accepted, and its simulation counts.
 --
 --     process (clk) begin if rising_edge(clk) then q <= q + 1; end if; end process;
 --     y <= std_logic_vector(q);
@@ -14,6 +14,7 @@ use Rattle.rtl_model.specs.nets.Wiring.{IsConnected}
 use Rattle.rtl_model.specs.nets.CoreNet.{core_net}
 use Rattle.rtl_model.specs.simulation.Net.{Driver}
 use Rattle.rtl_model.specs.simulation.Moments.{Takes}
+use Rattle.rtl_model.specs.simulation.Accepted.{IsAccepted}
 use Rattle.rtl_model.specs.examples.Bodies.{pair, if_only}
 use Rattle.rtl_model.specs.examples.Gates.{SettlesAs}
 
@@ -50,6 +51,7 @@ clock m n = slice_index (2 ∷ 3 ∷ 2 ∷ 3 ∷ []) m
 pub record CounterCounts : Type 0 where
   pub in_range : IsInRange counter
   pub connected : IsConnected counter
+  pub accepted : IsAccepted (core_net counter)
   pub at_start : SettlesAs (core_net counter) clock 0 (2 ∷ 2 ∷ 2 ∷ 2 ∷ 2 ∷ [])
   pub first_edge : SettlesAs (core_net counter) clock 1 (3 ∷ 2 ∷ 3 ∷ 2 ∷ 3 ∷ [])
   pub no_edge : SettlesAs (core_net counter) clock 2 (2 ∷ 2 ∷ 3 ∷ 2 ∷ 3 ∷ [])
