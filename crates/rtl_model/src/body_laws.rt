@@ -1,6 +1,6 @@
 //! The laws of bodies, over `specs/bodies`.
 
-ghost use Rattle.rtl_model.specs.bodies.Laws.{EachRunAssigns, LooksAtReads, LooksAtNow, FollowsItsEdge, CaseTakesABranch, LaterReplaces, HasItsWidth, EntriesKeepTypes};
+ghost use Rattle.rtl_model.specs.bodies.Laws.{EachRunAssigns, LooksAtReads, LooksAtNow, FollowsItsEdge, CaseTakesABranch, LaterReplaces, SequencesAddUp, HasItsWidth, TargetsFitValues, EntriesKeepTypes};
 
 /// What a body assigns on every syntactic path has an entry on every run.
 pub fn each_run_assigns()
@@ -29,9 +29,16 @@ pub fn later_replaces()
     ensures { LaterReplaces }
 {}
 
-/// The value of an expression that fits is as long as its width, which is 1 to 64.
+/// A sequence reads, assigns and tests what its parts do, and fits where they do.
+pub fn sequences_add_up()
+    ensures { SequencesAddUp }
+{}
+
+/// The value of an expression that fits is as long as its width, which is 1 to 64, and a target that fits has a place for
+/// each element.
 pub fn has_its_width()
-    ensures { HasItsWidth }
+    ensures expressions { HasItsWidth }
+    ensures targets { TargetsFitValues }
 {}
 
 /// Each entry is that of a driver, and below the limit of its net.

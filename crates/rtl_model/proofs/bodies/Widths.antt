@@ -3,13 +3,14 @@ use Rattle.std.proofs.Common.{◌≡◌, ℕ, List, length, slice_index_or, refl
 use Rattle.std.proofs.lemmas.List.{length-map, length-replicate}
 use Rattle.vhdl_values.specs.declared.scalar.Nine.{Nine}
 use Rattle.vhdl_values.specs.declared.scalar.Nine.TheVariants.{X}
+use Rattle.vhdl_values.specs.Scalar.{code_of}
 use Rattle.vhdl_values.specs.Logic.{not_of}
 use Rattle.vhdl_values.proofs.Lengths.{length-logic_of_all, length-sum_of, length-difference_of, length-product_of, length-shifted_left, length-shifted_right, length-resized}
-use Rattle.rtl_model.specs.bodies.Body.{Operator, by, joined, plus, minus, times, Expr, read, character, constant, inverse, filled, binary, resized, shifted_left, shifted_right}
-use Rattle.rtl_model.specs.bodies.Values.{element_at, operated, elements_of}
+use Rattle.rtl_model.specs.bodies.Body.{Operator, by, joined, plus, minus, times, Expr, read, character, constant, inverse, filled, binary, resized, shifted_left, shifted_right, Value, elements, position, position_of}
+use Rattle.rtl_model.specs.bodies.Values.{element_at, operated, elements_of, value_of}
 use Rattle.rtl_model.specs.bodies.Types.{NetType}
-use Rattle.rtl_model.specs.bodies.Fits.{operated_width, width, IsWidth, FitsOperands, FitsExpr}
-use Rattle.rtl_model.specs.bodies.Laws.{HasItsWidth}
+use Rattle.rtl_model.specs.bodies.Fits.{operated_width, width, value_width, IsWidth, FitsOperands, FitsExpr, FitsValue, FitsTarget}
+use Rattle.rtl_model.specs.bodies.Laws.{HasItsWidth, TargetsFitValues}
 
 length-operated : (op : Operator) (a b : List Nine) → FitsOperands op (length a) (length b) → length (operated op a b) ≡ operated_width op (length a) (length b)
 length-operated (by op) a b h = length-logic_of_all op a b h
@@ -47,3 +48,16 @@ is_width types (shifted_right count e) h = is_width types e h
 
 pub has_its_width : HasItsWidth
 has_its_width types e now h = (length-elements_of types now e h, is_width types e h)
+
+value_is_long : (types : List NetType) (v : Value) (now : List ℕ) → FitsValue types v → length (value_of now v) ≡ value_width v
+value_is_long types (elements e) now h = length-map (elements_of now e) code_of ∙ length-elements_of types now e h
+value_is_long types (position n) now h = refl
+value_is_long types (position_of net) now h = refl
+
+target_is_long : (types : List NetType) (targets places : List ℕ) (v : Value) → FitsTarget types targets v places → length places ≡ value_width v
+target_is_long types targets places (elements e) h = h.0
+target_is_long types targets places (position n) h = h.0
+target_is_long types targets places (position_of net) h = h.0
+
+pub targets_fit_values : TargetsFitValues
+targets_fit_values types targets places v now h = (value_is_long types v now h, target_is_long types targets places v)

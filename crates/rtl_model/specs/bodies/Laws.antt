@@ -1,15 +1,15 @@
 -- The laws of bodies.
-use Rattle.std.specs.Prelude.{◌≡◌, ℕ, ◌<◌, ◌⊎◌, Bool, true, false, List, length, slice_get, Some, None, IsTrue, IsSome}
+use Rattle.std.specs.Prelude.{◌≡◌, ℕ, ◌<◌, ◌⊎◌, ◌↔◌, Bool, true, false, ◌||◌, List, ◌++◌, length, slice_get, Some, None, IsTrue, IsSome}
 use Rattle.vhdl_values.specs.Edges.{has_edge}
-use Rattle.rtl_model.specs.bodies.Body.{Expr, Stmts, Alternatives, others, alternative, followed_by}
-use Rattle.rtl_model.specs.bodies.Values.{element_at, elements_of}
+use Rattle.rtl_model.specs.bodies.Body.{Expr, Value, Stmts, Alternatives, others, alternative, followed_by}
+use Rattle.rtl_model.specs.bodies.Values.{element_at, elements_of, value_of}
 use Rattle.rtl_model.specs.bodies.Effect.{or_else, effect, alternatives_effect}
 use Rattle.rtl_model.specs.bodies.Reads.{reads}
 use Rattle.rtl_model.specs.bodies.Assigns.{must_assign}
 use Rattle.rtl_model.specs.bodies.Kinds.{EdgeTest, AtEdge, kind_of, body_has_event}
 use Rattle.rtl_model.specs.bodies.Types.{NetType, limit_of, HasType, KeepsTypes}
 use Rattle.rtl_model.specs.simulation.Elaborated.{AgreeOn}
-use Rattle.rtl_model.specs.bodies.Fits.{width, IsWidth, FitsExpr, Fits}
+use Rattle.rtl_model.specs.bodies.Fits.{width, value_width, IsWidth, FitsExpr, FitsValue, FitsTarget, Fits}
 
 -- What is assigned on every syntactic path has an entry on every run, at one of its places.
 abbrev pub EachRunAssigns : Type 0
@@ -47,9 +47,24 @@ abbrev pub LaterReplaces : Type 0
 LaterReplaces = (earlier later : Stmts) (before now : List ℕ) (place : ℕ)
     → effect before now (followed_by earlier later) place ≡ or_else (effect before now later place) (effect before now earlier place)
 
+-- A sequence reads, assigns and tests what its parts do, and fits where they do.
+pub record AddsUp (s t : Stmts) : Type 0 where
+  pub reads_both : reads (followed_by s t) ≡ reads s ++ reads t
+  pub assigns_either : (these : ℕ → Bool) → must_assign these (followed_by s t) ≡ must_assign these s || must_assign these t
+  pub has_events : body_has_event (followed_by s t) ≡ body_has_event s || body_has_event t
+  pub fits : (types : List NetType) (targets : List ℕ) → Fits types targets (followed_by s t) ↔ (Fits types targets s × Fits types targets t)
+
+abbrev pub SequencesAddUp : Type 0
+SequencesAddUp = (s t : Stmts) → AddsUp s t
+
 -- The value of an expression that fits is as long as its width, which a vector can have.
 abbrev pub HasItsWidth : Type 0
 HasItsWidth = (types : List NetType) (e : Expr) (now : List ℕ) → FitsExpr types e → (length (elements_of now e) ≡ width e) × IsWidth (width e)
+
+-- A value that fits is as long as its width, and so is a target that fits it: each place has its element.
+abbrev pub TargetsFitValues : Type 0
+TargetsFitValues = (types : List NetType) (targets places : List ℕ) (v : Value) (now : List ℕ) → FitsValue types v
+    → (length (value_of now v) ≡ value_width v) × (FitsTarget types targets v places → length places ≡ value_width v)
 
 -- Each entry of a body that fits is that of a driver, and one of the values of its net, where the valuation keeps the types.
 abbrev pub EntriesKeepTypes : Type 0
