@@ -1,11 +1,12 @@
 -- Small bodies, and their kinds. Places stand for drivers: in each process the driver at place 0 is that of the target.
-use Rattle.std.specs.Prelude.{◌≡◌, ℕ, Bool, true, false, List, [], ◌∷◌, Option, Some, None}
+use Rattle.std.specs.Prelude.{◌≡◌, ℕ, Bool, true, false, List, [], ◌∷◌, map, Option, Some, None}
 use Rattle.vhdl_values.specs.declared.scalar.Nine.{Nine}
 use Rattle.vhdl_values.specs.declared.scalar.Nine.TheVariants.{X, Zero, One}
-use Rattle.vhdl_values.specs.declared.kinds.Cmp.TheVariants.{Eq, Ne}
-use Rattle.vhdl_values.specs.declared.kinds.Logic.TheVariants.{And, Or}
+use Rattle.vhdl_values.specs.declared.kinds.Cmp.TheVariants.{Eq, Ne, Lt}
+use Rattle.vhdl_values.specs.declared.kinds.Logic.TheVariants.{And, Or, Nand, Nor, Xor, Xnor}
+use Rattle.vhdl_values.specs.declared.kinds.Logic.{Logic}
 use Rattle.vhdl_values.specs.declared.kinds.Edge.TheVariants.{Rising, To1, To0}
-use Rattle.rtl_model.specs.bodies.Body.{joined, plus, Expr, read, character, constant, filled, binary, elements, position, position_of, Test, holds, fixed, alike, unlike, compared, compared_to, edge, event, both, nothing, assign, choose, select, Stmts, done, step, no_else, otherwise, branch, others, alternative}
+use Rattle.rtl_model.specs.bodies.Body.{by, joined, plus, minus, times, Expr, read, character, constant, inverse, filled, binary, resized, shifted_left, shifted_right, elements, position, position_of, Test, holds, fixed, alike, unlike, compared, compared_to, edge, event, negated, both, nothing, assign, choose, select, Stmts, done, step, no_else, otherwise, branch, others, alternative}
 use Rattle.rtl_model.specs.bodies.Values.{elements_of}
 use Rattle.rtl_model.specs.bodies.Tests.{is_met}
 use Rattle.rtl_model.specs.bodies.Effect.{effect}
@@ -83,6 +84,10 @@ runs body place = effect now now body place
 abbrev pub met : Test → Bool
 met t = is_met now now t
 
+-- an operator of two truth values, at true and true, true and false, false and true, false and false
+abbrev pub truth_table : Logic → List Bool
+truth_table op = met (both op (fixed true) (fixed true)) ∷ met (both op (fixed true) (fixed false)) ∷ met (both op (fixed false) (fixed true)) ∷ met (both op (fixed false) (fixed false)) ∷ []
+
 pub record RunsOfBodies : Type 0 where
   -- `1X` as std_logic_vector equals itself, and as unsigned doesn't
   pub alike_unknown : met (alike (elements (pair 2 1)) (elements (text (One ∷ X ∷ [])))) ≡ true
@@ -96,12 +101,31 @@ pub record RunsOfBodies : Type 0 where
   -- vectors of different lengths are unlike, and compare by number
   pub longer_unlike : met (alike (elements (pair 2 2)) (elements (text (Zero ∷ One ∷ One ∷ [])))) ≡ false
   pub longer_equal : met (compared Eq (pair 2 2) (text (Zero ∷ One ∷ One ∷ []))) ≡ true
+  -- "01" is less than "10" and not the other way round, and than 2
+  pub less : met (compared Lt (text (Zero ∷ One ∷ [])) (text (One ∷ Zero ∷ []))) ≡ true
+  pub not_less : met (compared Lt (text (One ∷ Zero ∷ [])) (text (Zero ∷ One ∷ []))) ≡ false
+  pub less_number : met (compared_to Lt (text (Zero ∷ One ∷ [])) 2) ≡ true
+  -- the logical operators on truth values
+  pub truths : map truth_table (And ∷ Or ∷ Nand ∷ Nor ∷ Xor ∷ Xnor ∷ [])
+      ≡ (true ∷ false ∷ false ∷ false ∷ []) ∷ (true ∷ true ∷ true ∷ false ∷ []) ∷ (false ∷ true ∷ true ∷ true ∷ []) ∷ (false ∷ false ∷ false ∷ true ∷ []) ∷ (false ∷ true ∷ true ∷ false ∷ []) ∷ (true ∷ false ∷ false ∷ true ∷ []) ∷ []
+  pub negation : met (negated (fixed true)) ≡ false
   -- the leftmost element goes to the first place, and the left operand of `&` stands first
   pub in_order : runs (step (assign (5 ∷ 4 ∷ []) (elements (binary joined (signal 2) (signal 1)))) done) 5 ≡ Some 3
   pub in_order' : runs (step (assign (5 ∷ 4 ∷ []) (elements (binary joined (signal 2) (signal 1)))) done) 4 ≡ Some 1
   -- "1H" + "0001" is "0100", and "1X" + "01" is "XX"
   pub sums : elements_of now (binary plus (pair 2 0) (text (Zero ∷ Zero ∷ Zero ∷ One ∷ []))) ≡ Zero ∷ One ∷ Zero ∷ Zero ∷ []
   pub sums_unknown : elements_of now (binary plus (pair 2 1) (text (Zero ∷ One ∷ []))) ≡ X ∷ X ∷ []
+  -- "0000" - "0001" is "1111", and "11" * "10" is "0110"
+  pub differs : elements_of now (binary minus (text (Zero ∷ Zero ∷ Zero ∷ Zero ∷ [])) (text (Zero ∷ Zero ∷ Zero ∷ One ∷ []))) ≡ One ∷ One ∷ One ∷ One ∷ []
+  pub multiplies : elements_of now (binary times (text (One ∷ One ∷ [])) (text (One ∷ Zero ∷ []))) ≡ Zero ∷ One ∷ One ∷ Zero ∷ []
+  -- "1H" and "10" is "10", and not "1H" is "00"
+  pub ands : elements_of now (binary (by And) (pair 2 0) (text (One ∷ Zero ∷ []))) ≡ One ∷ Zero ∷ []
+  pub nots : elements_of now (inverse (pair 2 0)) ≡ Zero ∷ Zero ∷ []
+  -- "1X01" resized to 2 is "01", to 6 "001X01"; shifted by 1 to the left it is "X010", by 4 to the right "0000"
+  pub shrinks : elements_of now (resized 2 (text (One ∷ X ∷ Zero ∷ One ∷ []))) ≡ Zero ∷ One ∷ []
+  pub grows : elements_of now (resized 6 (text (One ∷ X ∷ Zero ∷ One ∷ []))) ≡ Zero ∷ Zero ∷ One ∷ X ∷ Zero ∷ One ∷ []
+  pub to_left : elements_of now (shifted_left 1 (text (One ∷ X ∷ Zero ∷ One ∷ []))) ≡ X ∷ Zero ∷ One ∷ Zero ∷ []
+  pub to_right : elements_of now (shifted_right 4 (text (One ∷ X ∷ Zero ∷ One ∷ []))) ≡ Zero ∷ Zero ∷ Zero ∷ Zero ∷ []
   -- `(others => s)`
   pub fills : elements_of now (filled 3 (signal 1)) ≡ X ∷ X ∷ X ∷ []
   -- the first branch that holds is taken, later ones aren't, and the else only where none holds
