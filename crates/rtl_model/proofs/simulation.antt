@@ -16,3 +16,4 @@ pub mod Stepping
 pub mod Settling
 pub mod Range
 pub mod OneReport
+pub mod StatesInRange

@@ -1,6 +1,6 @@
 //! The laws of simulation (`specs/simulation/Laws.antt`), each the contract of a function that does nothing.
 
-ghost use Rattle.rtl_model.specs.simulation.Laws.{EachMomentComes, EveryOrderIsOne, IsTheMachine, LevelsAreShown, LevelsExist, OneMachineRun, OneReport, OneSolution, OrderIsFree, ReportsAreShown, ReportsLeadDown, RunsInRange, SettlesInBound, SolutionsInRange};
+ghost use Rattle.rtl_model.specs.simulation.Laws.{EachMomentComes, EveryOrderIsOne, IsTheMachine, LevelsAreShown, LevelsExist, OneMachineRun, OneReport, OneSolution, OrderIsFree, ReportsAreShown, ReportsLeadDown, RunsInRange, SettlesInBound, SolutionsInRange, StatesInRange};
 
 /// Two orders of one cycle's Runs end in the same state, in every net.
 pub fn order_is_free()
@@ -58,6 +58,12 @@ pub fn settles_in_bound()
 /// moment so far has a race.
 pub fn is_the_machine()
     ensures { IsTheMachine }
+{}
+
+/// The steps of a simulation keep the values of a state in range, so whatever a net settles in, accepted or not, has values
+/// of the nets' types where the stimulus has.
+pub fn states_in_range()
+    ensures { StatesInRange }
 {}
 
 /// Levels that rise along every sensitivity, each above 1 being one more than that of its `from`, are those of the longest

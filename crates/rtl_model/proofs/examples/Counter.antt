@@ -1,5 +1,5 @@
 -- The counter is in range and connected, and counts.
-use Rattle.std.proofs.Common.{◌≡◌, ◌⊎◌, inl, inr, ℕ, zero, suc, ◌<◌, false, List, [], ◌∷◌, length, map, slice_index, Some, None, refl, sym, subst, arith, All, Contains}
+use Rattle.std.proofs.Common.{◌≡◌, ◌⊎◌, inl, inr, ℕ, zero, suc, ◌<◌, false, [], ◌∷◌, length, map, slice_index, Some, None, refl, sym, subst, arith, All, Contains}
 use Rattle.std.proofs.lemmas.List.Elements.{All-cons, All-nil}
 use Rattle.vhdl_values.specs.Numbers.{digits_of}
 use Rattle.rtl_model.specs.bodies.Types.{NetType, nine_valued, limit_of, HasType, KeepsTypes}

@@ -17,7 +17,7 @@ use Rattle.rtl_model.proofs.simulation.Solution.{length-table, by_kind, evaluate
 abbrev pub EntryBelow : ℕ → Option ℕ → Type 0
 EntryBelow most o = (x : ℕ) → o ≡ Some x → x < most
 
-entry_or_below : (most old : ℕ) (o : Option ℕ) → EntryBelow most o → old < most → entry_or o old < most
+pub entry_or_below : (most old : ℕ) (o : Option ℕ) → EntryBelow most o → old < most → entry_or o old < most
 entry_or_below most old None e l = l
 entry_or_below most old (Some x) e l = e x refl
 

@@ -1,15 +1,15 @@
 -- The laws of simulation, over the definitions beside this file.
 use Rattle.std.specs.Prelude.{◌≡◌, ◌↔◌, ℕ, ◌≤◌, List, Option, Some, None, slice_index_or}
 use Rattle.rtl_model.specs.simulation.Net.{Net, Edge, Reset, HasReset, IsCombinational}
-use Rattle.rtl_model.specs.simulation.Cycle.{State}
+use Rattle.rtl_model.specs.simulation.Cycle.{State, started, updated, given, ran}
 use Rattle.rtl_model.specs.simulation.Moments.{HasRun, Begun, SettlesIn, HasSettled}
-use Rattle.rtl_model.specs.simulation.Elaborated.{IsElaborated}
+use Rattle.rtl_model.specs.simulation.Elaborated.{IsElaborated, IsWired}
 use Rattle.rtl_model.specs.simulation.Accepted.{IsAccepted, IsLoop}
 use Rattle.rtl_model.specs.simulation.Levels.{AreLevels, IsLevel, ShowLevels, Rises, bound}
 use Rattle.rtl_model.specs.simulation.Report.{IsReport, LeadsDown, ShowReport}
 use Rattle.rtl_model.specs.simulation.Races.{HasNoRace}
 use Rattle.rtl_model.specs.simulation.Machine.{Solves, IsMachineRun}
-use Rattle.rtl_model.specs.simulation.Range.{IsValuation, KeepsRange, AreInputs, AreRegisters}
+use Rattle.rtl_model.specs.simulation.Range.{IsValuation, KeepsRange, SourcesKeepRange, StateInRange, AreInputs, AreRegisters}
 
 -- ---- of every net
 
@@ -22,6 +22,19 @@ abbrev pub EveryOrderIsOne : Type 0
 EveryOrderIsOne =
     (net : Net) (stimulus : ℕ → ℕ → ℕ) (m : ℕ) → ((s t : State) → Begun net stimulus m s → Begun net stimulus m t → s ≡ t)
     × ((k j : ℕ) (t u : State) → HasSettled net stimulus m k t → HasSettled net stimulus m j u → (k ≡ j) × (t ≡ u))
+
+-- The steps keep a state's values in range.
+pub record StepsKeepRange (net : Net) : Type 0 where
+  pub starts : (inputs : ℕ → ℕ) → AreInputs net inputs → StateInRange net (started net inputs)
+  pub updates : (s : State) → StateInRange net s → StateInRange net (updated net s)
+  pub gives : (inputs : ℕ → ℕ) (s : State) → AreInputs net inputs → StateInRange net s → StateInRange net (given net inputs s)
+  pub runs : (p : ℕ) (s : State) → StateInRange net s → StateInRange net (ran net p s)
+
+-- So whatever a net settles in, accepted or not, has values of the nets' types, where the stimulus has.
+abbrev pub StatesInRange : Type 0
+StatesInRange =
+    (net : Net) → IsWired net → KeepsRange net → SourcesKeepRange net
+    → StepsKeepRange net × ((stimulus : ℕ → ℕ → ℕ) → ((m : ℕ) → AreInputs net (stimulus m)) → (m k : ℕ) (t : State) → HasSettled net stimulus m k t → StateInRange net t)
 
 -- What shows levels gives each process its level, no rising numbering is lower anywhere, and there is no loop.
 abbrev pub LevelsAreShown : Type 0
