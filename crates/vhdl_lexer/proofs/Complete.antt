@@ -19,7 +19,7 @@ use Rattle.vhdl_lexer.specs.Literals.{integer_of, begins_digit, goes_on_number, 
 use Rattle.vhdl_lexer.specs.Delimiters.{pair, single, delimiter, IsDelimiter}
 use Rattle.vhdl_lexer.specs.Cut.{IsElement, IsToken}
 use Rattle.vhdl_lexer.specs.Scan.{Found, run, word, fits, number, string, bit_string, word_or_bit_string, character, next, mark, front}
-use Rattle.vhdl_lexer.proofs.Tests.{chosen, both_true, either_false}
+use Rattle.vhdl_lexer.proofs.Choices.{chosen, both_true, either_false}
 use Rattle.vhdl_lexer.proofs.Runs.{run_is, is_joined-all, is_identifier-all, all-unquoted, begins_word-digit, letter_begins}
 use Rattle.vhdl_lexer.proofs.Strings.{string_closed, bit_string_closed}
 use Rattle.vhdl_lexer.proofs.Marks.{pair_zero, front_single, front_pair, mark_one, mark_two}

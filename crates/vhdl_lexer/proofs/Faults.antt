@@ -16,7 +16,7 @@ use Rattle.vhdl_lexer.specs.Literals.{begins_digit, goes_on_number, may_open, cl
 use Rattle.vhdl_lexer.specs.Delimiters.{pair, single}
 use Rattle.vhdl_lexer.specs.Fault.{Absent, IsStray, BeginsWord, Faulty}
 use Rattle.vhdl_lexer.specs.Scan.{Found, run, word, fits, number, from_quote, from_first_quote, string, bit_string, word_or_bit_string, character, one, two, next, mark, front, Stands}
-use Rattle.vhdl_lexer.proofs.Tests.{chosen, both_true, either_false, begins_with}
+use Rattle.vhdl_lexer.proofs.Choices.{chosen, both_true, either_false, begins_with}
 use Rattle.vhdl_lexer.proofs.Runs.{run_stops, digit-begins_word}
 use Rattle.vhdl_lexer.proofs.Strings.{Closed, closed_or_open, quoted_end, string_closed, string_open, ClosedBits, closed_or_open_bits, first_end, bit_string_closed, bit_string_open}
 use Rattle.vhdl_lexer.proofs.Marks.{front_mark, mark_one, mark_two, mark_comment}

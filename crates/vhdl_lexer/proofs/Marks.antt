@@ -10,7 +10,7 @@ use Rattle.vhdl_lexer.specs.declared.token.Kind.TheVariants as k
 use Rattle.vhdl_lexer.specs.Bytes.{quote, tick, star, slash, begins_word, begins}
 use Rattle.vhdl_lexer.specs.Delimiters.{pair, single}
 use Rattle.vhdl_lexer.specs.Scan.{Found, one, two, next, mark, front}
-use Rattle.vhdl_lexer.proofs.Tests.{chosen, both_true, decided}
+use Rattle.vhdl_lexer.proofs.Choices.{chosen, both_true, decided}
 
 pub pair_zero : (b : ℕ) → pair b 0 ≡ None
 pair_zero b = grind (arith, nat_tests)

@@ -9,7 +9,7 @@ use Rattle.vhdl_lexer.specs.declared.token.Kind.{Kind}
 use Rattle.vhdl_lexer.specs.Bytes.{begins}
 use Rattle.vhdl_lexer.specs.Words.{Word, reserved_words, kind_among, is_identifier, word_kind}
 use Rattle.vhdl_lexer.specs.Scan.{has_letter, words_of}
-use Rattle.vhdl_lexer.proofs.Tests.{both_true}
+use Rattle.vhdl_lexer.proofs.Choices.{both_true}
 
 -- the words of each small letter, from `a` to `z`
 pub words_at : (i letter : ℕ) → i < 26 → 97 + i ≡ to_ascii_lowercase letter →

@@ -12,7 +12,7 @@ use Rattle.vhdl_lexer.specs.Bytes.{underscore, quote, ends_line, is_word_byte, b
 use Rattle.vhdl_lexer.specs.Literals.{is_unquoted}
 use Rattle.vhdl_lexer.specs.Words.{is_joined, goes_on, is_identifier}
 use Rattle.vhdl_lexer.specs.Scan.{run}
-use Rattle.vhdl_lexer.proofs.Tests.{chosen, both_true, either_true}
+use Rattle.vhdl_lexer.proofs.Choices.{chosen, both_true, either_true}
 
 -- ---- classes of bytes
 

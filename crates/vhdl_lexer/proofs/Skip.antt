@@ -6,7 +6,7 @@ use Rattle.std.proofs.lemmas.Bool.{eqb-true}
 use Rattle.vhdl_lexer.specs.Bytes.{star, dash, slash, ends_line, is_separator, begins}
 use Rattle.vhdl_lexer.specs.Separators.{stays_on_line, LineEnds, has_close, IsSpace, IsLineComment, IsDelimitedComment, IsSeparation, LeadsTo, opens_comment}
 use Rattle.vhdl_lexer.specs.Scan.{from_close, skip, skip_line, skip_star, skip_comment, skip_slash, Stands}
-use Rattle.vhdl_lexer.proofs.Tests.{chosen, both_true, either_true, either_false, not_true, decided, begins_with}
+use Rattle.vhdl_lexer.proofs.Choices.{chosen, both_true, either_true, either_false, not_true, decided, begins_with}
 
 -- ---- where a comment ends
 

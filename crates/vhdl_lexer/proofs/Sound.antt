@@ -19,7 +19,7 @@ use Rattle.vhdl_lexer.specs.Literals.{integer_of, goes_on_number, may_open, clos
 use Rattle.vhdl_lexer.specs.Delimiters.{pair, single}
 use Rattle.vhdl_lexer.specs.Cut.{IsElement}
 use Rattle.vhdl_lexer.specs.Scan.{Found, run, word, fits, number, string, bit_string, word_or_bit_string, character, one, two, next, mark, front, Stands, IsFront}
-use Rattle.vhdl_lexer.proofs.Tests.{chosen, both_true, not_true, begins_with}
+use Rattle.vhdl_lexer.proofs.Choices.{chosen, both_true, not_true, begins_with}
 use Rattle.vhdl_lexer.proofs.Runs.{run_within, run_stops}
 use Rattle.vhdl_lexer.proofs.Strings.{Closed, closed_or_open, string_closed, string_open, ClosedBits, closed_or_open_bits, bit_string_closed, bit_string_open}
 use Rattle.vhdl_lexer.proofs.Marks.{pair_zero, mark_one, mark_two, mark_comment}

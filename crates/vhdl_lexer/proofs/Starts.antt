@@ -17,7 +17,7 @@ use Rattle.vhdl_lexer.specs.Delimiters.{pair, single, delimiter}
 use Rattle.vhdl_lexer.specs.Cut.{IsElement, IsToken}
 use Rattle.vhdl_lexer.specs.Fault.{IsStray, BeginsWord, Faulty}
 use Rattle.vhdl_lexer.specs.Scan.{Stands}
-use Rattle.vhdl_lexer.proofs.Tests.{both_true, either_false, begins_with}
+use Rattle.vhdl_lexer.proofs.Choices.{both_true, either_false, begins_with}
 use Rattle.vhdl_lexer.proofs.Runs.{begins_word-word, letter_begins}
 use Rattle.vhdl_lexer.proofs.Marks.{fails}
 use Rattle.vhdl_lexer.proofs.Sound.{opened_bits}

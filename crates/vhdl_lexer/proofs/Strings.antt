@@ -11,7 +11,7 @@ use Rattle.vhdl_lexer.specs.Bytes.{quote, ends_line, is_printable, begins}
 use Rattle.vhdl_lexer.specs.Words.{is_joined}
 use Rattle.vhdl_lexer.specs.Literals.{is_quoted, is_doubled, is_unquoted}
 use Rattle.vhdl_lexer.specs.Scan.{Found, from_quote, from_pair, from_first_quote, before, string, bit_string}
-use Rattle.vhdl_lexer.proofs.Tests.{chosen, both_true, not_true}
+use Rattle.vhdl_lexer.proofs.Choices.{chosen, both_true, not_true}
 
 -- ---- strings
 
