@@ -7,9 +7,9 @@ use Rattle.rtlsim.specs.declared.faults.check.SourceId.TheVariants.{Process, Idl
 use Rattle.rtlsim.specs.declared.faults.check.CheckFault.{CheckFault}
 use Rattle.rtlsim.specs.declared.faults.check.CheckFault.TheVariants.{TwoDrivers, Mixed, ClockNotInput, EdgeNotSensitive, ClockAsData, MissingSensitivity, Latch, Loop}
 use Rattle.rtlsim.specs.declared.faults.Fault.{Fault}
-use Rattle.rtlsim.specs.declared.faults.Fault.TheVariants.{Lex, Name, Elab, Rejected, Stim, NoSettling, Memory, Output}
+use Rattle.rtlsim.specs.declared.faults.Fault.TheVariants.{Lex, Syntax, Name, Elab, Rejected, Stim, NoSettling, Memory, Output}
 use Rattle.rtlsim.specs.DesignNames.{Names}
-use Rattle.rtlsim.specs.Notices.{Entry, entry, lex_entry, names_entry, elab_entry, stim_entry}
+use Rattle.rtlsim.specs.Notices.{Entry, entry, lex_entry, syntax_entry, names_entry, elab_entry, stim_entry}
 
 -- where a fault is found
 abbrev pub place_text : Names → Place → List ℕ
@@ -64,6 +64,7 @@ rejection_lines design faults = codes "no\n" ++ flat_map (check_line design) fau
 -- what tells a fault
 abbrev pub fault_lines : Names → Fault → List ℕ
 fault_lines design (Lex fault) = told_line design (lex_entry fault)
+fault_lines design (Syntax fault) = told_line design (syntax_entry fault)
 fault_lines design (Name fault) = told_line design (names_entry fault)
 fault_lines design (Elab fault) = told_line design (elab_entry fault)
 fault_lines design (Rejected faults) = rejection_lines design faults.items

@@ -5,6 +5,8 @@ use Rattle.rtlsim.specs.declared.faults.notice.Place.TheVariants.{Nowhere, Byte,
 use Rattle.rtlsim.specs.declared.faults.notice.Notice.{Notice}
 use Rattle.vhdl_lexer.specs.declared.fault.LexFault.{LexFault}
 use Rattle.vhdl_lexer.specs.declared.fault.LexFault.TheVariants as lex
+use Rattle.vhdl_parser.specs.declared.fault.SyntaxFault.{SyntaxFault}
+use Rattle.vhdl_parser.specs.declared.fault.SyntaxFault.TheVariants as syntax
 use Rattle.rtlsim.specs.declared.faults.names.NameFault.{NameFault}
 use Rattle.rtlsim.specs.declared.faults.names.NameFault.TheVariants as names
 use Rattle.rtlsim.specs.declared.faults.elab.ElabFault.{ElabFault}
@@ -36,6 +38,12 @@ lex_entry (lex.BadIdentifier at) = some_entry (codes "lex") 4 (codes "BadIdentif
 lex_entry (lex.BadNumber at) = some_entry (codes "lex") 5 (codes "BadNumber") (Byte at)
 lex_entry (lex.TooLong at) = some_entry (codes "lex") 6 (codes "TooLong") (Byte at)
 lex_entry lex.NoMemory = None
+
+abbrev pub syntax_entry : SyntaxFault → Option Entry
+syntax_entry (syntax.Unexpected at) = some_entry (codes "syntax") 1 (codes "Unexpected") (Byte at)
+syntax_entry (syntax.EndOfFile at) = some_entry (codes "syntax") 2 (codes "EndOfFile") (Byte at)
+syntax_entry (syntax.TooDeep at) = some_entry (codes "syntax") 3 (codes "TooDeep") (Byte at)
+syntax_entry syntax.NoMemory = None
 
 abbrev pub names_entry : NameFault → Option Entry
 names_entry (names.Undeclared at) = some_entry (codes "name") 1 (codes "Undeclared") (Byte at)

@@ -1,7 +1,7 @@
 //! Why a source, a design or a stimulus is refused, layer by layer.
 
 ghost use Rattle.std.specs.Prelude.{◌≡◌};
-ghost use Rattle.rtlsim.specs.Faults.{of_lex, of_names, of_elab, of_stim};
+ghost use Rattle.rtlsim.specs.Faults.{of_lex, of_syntax, of_names, of_elab, of_stim};
 ghost use Rattle.rtlsim.specs.declared.faults.Fault.TheVariants.{Memory, Output};
 
 mod check;
@@ -17,17 +17,20 @@ pub use elab::ElabFault;
 pub use names::NameFault;
 pub use notice::{Notice, Place};
 use rtl_sink::WriteFailed;
-pub(crate) use source::lex_notice;
+pub(crate) use source::{lex_notice, syntax_notice};
 use std::alloc::{AllocError, AllocFailed};
 pub use stim::StimFault;
 use thiserror::Error;
 use vhdl_lexer::LexFault;
+use vhdl_parser::SyntaxFault;
 
 /// Why a call of this library is refused. Each layer's want of memory is `Memory`.
 #[derive(PartialEq, Eq, Debug, Drop, Error)]
 pub enum Fault {
     #[error("lexer: {0}")]
     Lex(LexFault),
+    #[error("parser: {0}")]
+    Syntax(SyntaxFault),
     #[error("names: {0}")]
     Name(NameFault),
     #[error("elaboration: {0}")]
@@ -56,11 +59,12 @@ impl Fault {
     {
         match self {
             Fault::Lex(LexFault::NoMemory)
+            | Fault::Syntax(SyntaxFault::NoMemory)
             | Fault::Name(NameFault::NoMemory)
             | Fault::Elab(ElabFault::NoMemory)
             | Fault::Stim(StimFault::NoMemory)
             | Fault::Memory => Status::Memory,
-            Fault::Lex(_) | Fault::Name(_) | Fault::Elab(_) => Status::Source,
+            Fault::Lex(_) | Fault::Syntax(_) | Fault::Name(_) | Fault::Elab(_) => Status::Source,
             Fault::Rejected(_) => Status::Rejected,
             Fault::Stim(_) => Status::Stimulus,
             Fault::NoSettling { .. } => Status::Unsettled,
@@ -76,6 +80,17 @@ impl From<LexFault> for Fault {
         match lex {
             LexFault::NoMemory => Fault::Memory,
             _ => Fault::Lex(lex),
+        }
+    }
+}
+
+impl From<SyntaxFault> for Fault {
+    ghost from_gives = { λ syntax fault. fault ≡ of_syntax syntax };
+
+    fn from(syntax: SyntaxFault) -> Fault {
+        match syntax {
+            SyntaxFault::NoMemory => Fault::Memory,
+            _ => Fault::Syntax(syntax),
         }
     }
 }

@@ -79,6 +79,7 @@ impl<F: Files, R: Read> Inputs for Named<'_, F, R> {
         }
         match fs::open(self.files, name) {
             Ok(mut file) => read_input(alloc, &mut file),
+            Err(error) if error.kind() == ErrorKind::OutOfMemory => Err(InputFault::NoMemory),
             Err(_) => Err(InputFault::Failed),
         }
     }

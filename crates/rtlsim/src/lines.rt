@@ -7,7 +7,7 @@ ghost use Rattle.rtlsim.specs.DesignNames.{Names, no_names};
 ghost use Rattle.rtlsim.specs.Notices.{entry_of};
 ghost use Rattle.rtlsim.specs.Lines.{place_text, notice_line, told_line, source_text, at_net, check_line, rejection_lines, fault_lines, memory_line};
 
-use crate::faults::{CheckFault, Fault, Notice, Place, SourceId, lex_notice};
+use crate::faults::{CheckFault, Fault, Notice, Place, SourceId, lex_notice, syntax_notice};
 use rtl_sink::{Sink, push_number, push_text};
 
 /// Writes the names of a design's nets and processes.
@@ -38,6 +38,7 @@ pub(crate) fn push_fault<S: Sink, N: DesignNames>(sink: &mut S, design: &N, faul
 {
     match fault {
         Fault::Lex(lex) => push_notice(sink, design, lex_notice(lex)),
+        Fault::Syntax(syntax) => push_notice(sink, design, syntax_notice(syntax)),
         Fault::Name(names) => push_notice(sink, design, names.notice()),
         Fault::Elab(elab) => push_notice(sink, design, elab.notice()),
         Fault::Rejected(faults) => push_rejection(sink, design, faults),

@@ -71,16 +71,32 @@ fn check_words<'a>(alloc: Global, words: &'a [&'a str]) -> Result<(), Refused> {
 
 /// The commands.
 fn command<'a>(alloc: Global) -> Result<Command<'a>, AllocError> {
-    let file = Arg::new(alloc, "FILE")
-        .required(true)
-        .action(ArgAction::Set);
-    let top = Arg::new(alloc, "TOP").required(true).action(ArgAction::Set);
-    let sets = Arg::new(alloc, "NAME=VALUE")
-        .num_args(0..)
-        .action(ArgAction::Append);
-    let eval = Command::new(alloc, "eval").arg(file)?.arg(top)?.arg(sets)?;
     Command::new(alloc, "rtlsim")
+        .about("Simulates the register-transfer subset of VHDL")
+        .after_help("FILE may be @, the standard input.")
         .no_binary_name(true)
         .subcommand_required(true)
-        .subcommand(eval)
+        .subcommand(eval_command(alloc)?)
+}
+
+/// The command that evaluates a design.
+fn eval_command<'a>(alloc: Global) -> Result<Command<'a>, AllocError> {
+    let file = Arg::new(alloc, "FILE")
+        .help("The source, or @ for the standard input")
+        .required(true)
+        .action(ArgAction::Set);
+    let top = Arg::new(alloc, "TOP")
+        .help("The entity at the top")
+        .required(true)
+        .action(ArgAction::Set);
+    let sets = Arg::new(alloc, "NAME=VALUE")
+        .help("An input's value, of the characters U X 0 1 Z W L H -")
+        .num_args(0..)
+        .action(ArgAction::Append);
+    Command::new(alloc, "eval")
+        .about("Prints the outputs under these inputs")
+        .override_usage("rtlsim eval <FILE> <TOP> [NAME=VALUE]...")
+        .arg(file)?
+        .arg(top)?
+        .arg(sets)
 }

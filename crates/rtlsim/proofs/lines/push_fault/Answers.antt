@@ -17,3 +17,6 @@ returns-in-Output g c = rw c.in-Output.is c.push_text.ensures
 
 pub returns-in-Lex : goal.returns-in-Lex
 returns-in-Lex g c = rw c.in-Lex.is (rw c.lex_notice.ensures at c.push_notice.ensures)
+
+pub returns-in-Syntax : goal.returns-in-Syntax
+returns-in-Syntax g c = rw c.in-Syntax.is (rw c.syntax_notice.ensures at c.push_notice-in-Syntax.ensures)
