@@ -3,3 +3,4 @@ pub mod Processes
 pub mod Values
 pub mod InRange
 pub mod Connected
+pub mod SourcesInRange

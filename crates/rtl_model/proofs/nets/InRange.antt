@@ -20,7 +20,7 @@ use Rattle.rtl_model.proofs.nets.Processes.{process-core_net, at_row, no_reset}
 
 -- ---- limits
 
-limit-at : (types : List NetType) (n : ℕ) (t : NetType) → HasType types t n → slice_index (map limit_of types) n ≡ limit_of t
+pub limit-at : (types : List NetType) (n : ℕ) (t : NetType) → HasType types t n → slice_index (map limit_of types) n ≡ limit_of t
 limit-at [] n t h = absurd cc
 limit-at (x ∷ types) zero t h = let k : x ≡ t = cc in ap limit_of k
 limit-at (x ∷ types) (suc n) t h = limit-at types n t h

@@ -1,5 +1,6 @@
 -- What elaboration owes beside the ranges: sources, drivers and starting values fit together.
-use Rattle.std.specs.Prelude.{◌≡◌, ℕ, ◌<◌, List, [], length, map, slice_index, slice_index_or, Contains}
+use Rattle.std.specs.Prelude.{◌≡◌, ℕ, ◌<◌, ◌≤◌, List, [], length, map, slice_index, slice_index_or, Contains}
+use Rattle.rtl_model.specs.bodies.Types.{nine_valued, HasType}
 use Rattle.rtl_model.specs.nets.FlatNet.{FlatNet, process, targets, starts}
 use Rattle.rtl_model.specs.nets.CoreNet.{core_resolve}
 use Rattle.rtl_model.specs.simulation.Net.{Source, Driver}
@@ -21,3 +22,8 @@ pub record IsConnected (net : FlatNet) : Type 0 where
   -- a net with sources starts with the resolution of what they start with (IEEE 1076-2008, 14.7.5.2)
   pub nets_start : (n : ℕ) (source : Source) → Contains (sources_of net n) source
       → slice_index net.start n ≡ core_resolve (map (source_value (map starts net.processes)) (sources_of net n))
+
+-- Where several sources meet, they are of the nine values, which alone are resolved: a net of an enumeration has one source
+-- at most.
+abbrev pub SharedAreResolved : FlatNet → Type 0
+SharedAreResolved net = (n : ℕ) → 2 ≤ length (sources_of net n) → HasType net.types nine_valued n
