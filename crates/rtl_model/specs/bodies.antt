@@ -1,4 +1,5 @@
--- The bodies of processes after elaboration: what they read and assign, and what a run of one does.
+-- The bodies of processes after elaboration: what they read and assign, and what a run of one does. In order of
+-- reading:
 pub mod Body
 pub mod Values
 pub mod Tests

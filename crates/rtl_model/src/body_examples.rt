@@ -1,12 +1,17 @@
 //! Examples about bodies, over `specs/examples`.
 
-ghost use Rattle.rtl_model.specs.examples.Bodies.{KindsOfBodies, RunsOfBodies};
+ghost use Rattle.rtl_model.specs.examples.Bodies.{AssignsOfBodies, KindsOfBodies, RunsOfBodies};
 ghost use Rattle.rtl_model.specs.examples.Counter.{CounterCounts};
 ghost use Rattle.rtl_model.specs.examples.BodyMistakes.{LatchWouldPass, DefaultWouldStay, TestWouldBeRising};
 
 /// What is clocked, what is combinational, and what is neither.
 pub fn kinds_of_bodies()
     ensures { KindsOfBodies }
+{}
+
+/// What small bodies assign on every syntactic path.
+pub fn assigns_of_bodies()
+    ensures { AssignsOfBodies }
 {}
 
 /// What runs of small bodies assign.

@@ -6,14 +6,14 @@ use Rattle.vhdl_values.specs.declared.scalar.Nine.TheVariants.{X}
 use Rattle.vhdl_values.specs.Scalar.{code_of}
 use Rattle.vhdl_values.specs.Logic.{not_of}
 use Rattle.vhdl_values.proofs.Lengths.{length-logic_of_all, length-sum_of, length-difference_of, length-product_of, length-shifted_left, length-shifted_right, length-resized}
-use Rattle.rtl_model.specs.bodies.Body.{Operator, by, joined, plus, minus, times, Expr, read, character, constant, inverse, filled, binary, resized, shifted_left, shifted_right, Value, elements, position, position_of}
+use Rattle.rtl_model.specs.bodies.Body.{Operator, logical, joined, plus, minus, times, Expr, read, character, constant, inverse, filled, binary, resized, shifted_left, shifted_right, Value, elements, position, position_of}
 use Rattle.rtl_model.specs.bodies.Values.{element_at, operated, elements_of, value_of}
 use Rattle.rtl_model.specs.bodies.Types.{NetType}
 use Rattle.rtl_model.specs.bodies.Fits.{operated_width, width, value_width, IsWidth, FitsOperands, FitsExpr, FitsValue, FitsTarget}
 use Rattle.rtl_model.specs.bodies.Laws.{HasItsWidth, TargetsFitValues}
 
 length-operated : (op : Operator) (a b : List Nine) → FitsOperands op (length a) (length b) → length (operated op a b) ≡ operated_width op (length a) (length b)
-length-operated (by op) a b h = length-logic_of_all op a b h
+length-operated (logical op) a b h = length-logic_of_all op a b h
 length-operated joined a b h = length-append a b
 length-operated plus a b h = length-sum_of a b
 length-operated minus a b h = length-difference_of a b

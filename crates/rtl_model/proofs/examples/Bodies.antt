@@ -1,7 +1,7 @@
 -- What small bodies compute.
 use Rattle.std.proofs.Common.{refl}
 use Rattle.vhdl_values.specs.Numbers.{digits_of}
-use Rattle.rtl_model.specs.examples.Bodies.{KindsOfBodies, RunsOfBodies}
+use Rattle.rtl_model.specs.examples.Bodies.{KindsOfBodies, RunsOfBodies, AssignsOfBodies}
 
 pub kinds_of_bodies : KindsOfBodies
 kinds_of_bodies = record {
@@ -59,4 +59,17 @@ runs_of_bodies = record {
   case_literal = refl;
   literal = refl;
   copied = refl;
+}
+
+pub assigns_of_bodies : AssignsOfBodies
+assigns_of_bodies = record {
+  without_else = refl;
+  with_default = refl;
+  with_else = refl;
+  with_null = refl;
+  elsif_left_out = refl;
+  two_names = refl;
+  two_nets = refl;
+  each_alternative = refl;
+  no_alternative = refl;
 }

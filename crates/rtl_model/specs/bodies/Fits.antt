@@ -1,14 +1,14 @@
 -- When a body fits its process and the nets: each net and each place is there and has the type that is wanted of it,
 -- and each length is one that a vector can have, and the one that is wanted of it.
 use Rattle.std.specs.Prelude.{◌≡◌, ℕ, ◌+◌, ◌<◌, ◌≤◌, max, ⊤, All, List, length, slice_get, Some}
-use Rattle.rtl_model.specs.bodies.Body.{Operator, by, joined, plus, minus, times, Expr, read, character, constant, inverse, filled, binary, resized, shifted_left, shifted_right, Value, elements, position, position_of, Test, holds, fixed, alike, unlike, compared, compared_to, edge, event, negated, both, Stmt, nothing, assign, choose, select, Stmts, done, step, Branches, no_else, otherwise, branch, Alternatives, others, alternative}
+use Rattle.rtl_model.specs.bodies.Body.{Operator, logical, joined, plus, minus, times, Expr, read, character, constant, inverse, filled, binary, resized, shifted_left, shifted_right, Value, elements, position, position_of, Test, holds, fixed, alike, unlike, compared, compared_to, edge, event, negated, both, Stmt, nothing, assign, choose, select, Stmts, done, step, Branches, no_else, otherwise, branch, Alternatives, others, alternative}
 use Rattle.rtl_model.specs.bodies.Types.{NetType, nine_valued, enumeration, HasType}
 
 -- ---- lengths
 
 -- the length of an operator's result
 abbrev pub operated_width : Operator → ℕ → ℕ → ℕ
-operated_width (by op) m n = m
+operated_width (logical op) m n = m
 operated_width joined m n = m + n
 operated_width plus m n = max m n
 operated_width minus m n = max m n
@@ -36,7 +36,7 @@ IsWidth n = (1 ≤ n) × (n ≤ 64)
 
 -- the operands of a logical operator are as long as each other
 abbrev pub FitsOperands : Operator → ℕ → ℕ → Type 0
-FitsOperands (by op) m n = m ≡ n
+FitsOperands (logical op) m n = m ≡ n
 FitsOperands _ m n = ⊤
 
 -- ---- the parts of a body, where the nets have these types and the drivers of the process these nets

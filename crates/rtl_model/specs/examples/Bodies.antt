@@ -6,10 +6,12 @@ use Rattle.vhdl_values.specs.declared.kinds.Cmp.TheVariants.{Eq, Ne, Lt}
 use Rattle.vhdl_values.specs.declared.kinds.Logic.TheVariants.{And, Or, Nand, Nor, Xor, Xnor}
 use Rattle.vhdl_values.specs.declared.kinds.Logic.{Logic}
 use Rattle.vhdl_values.specs.declared.kinds.Edge.TheVariants.{Rising, To1, To0}
-use Rattle.rtl_model.specs.bodies.Body.{by, joined, plus, minus, times, Expr, read, character, constant, inverse, filled, binary, resized, shifted_left, shifted_right, elements, position, position_of, Test, holds, fixed, alike, unlike, compared, compared_to, edge, event, negated, both, nothing, assign, choose, select, Stmts, done, step, no_else, otherwise, branch, others, alternative}
+use Rattle.rtl_model.specs.bodies.Body.{logical, joined, plus, minus, times, Expr, read, character, constant, inverse, filled, binary, resized, shifted_left, shifted_right, elements, position, position_of, Test, holds, fixed, alike, unlike, compared, compared_to, edge, event, negated, both, Stmt, nothing, assign, choose, select, Stmts, done, step, no_else, otherwise, branch, others, alternative}
 use Rattle.rtl_model.specs.bodies.Values.{elements_of}
 use Rattle.rtl_model.specs.bodies.Tests.{is_met}
 use Rattle.rtl_model.specs.bodies.Effect.{effect}
+use Rattle.rtl_model.specs.bodies.Assigns.{must_assign}
+use Rattle.rtl_model.specs.nets.CoreNet.{drives_net}
 use Rattle.rtl_model.specs.bodies.Kinds.{Plain, AtEdge, Neither, kind_of}
 
 -- ---- words to write bodies with
@@ -119,7 +121,7 @@ pub record RunsOfBodies : Type 0 where
   pub differs : elements_of now (binary minus (text (Zero ∷ Zero ∷ Zero ∷ Zero ∷ [])) (text (Zero ∷ Zero ∷ Zero ∷ One ∷ []))) ≡ One ∷ One ∷ One ∷ One ∷ []
   pub multiplies : elements_of now (binary times (text (One ∷ One ∷ [])) (text (One ∷ Zero ∷ []))) ≡ Zero ∷ One ∷ One ∷ Zero ∷ []
   -- "1H" and "10" is "10", and not "1H" is "00"
-  pub ands : elements_of now (binary (by And) (pair 2 0) (text (One ∷ Zero ∷ []))) ≡ One ∷ Zero ∷ []
+  pub ands : elements_of now (binary (logical And) (pair 2 0) (text (One ∷ Zero ∷ []))) ≡ One ∷ Zero ∷ []
   pub nots : elements_of now (inverse (pair 2 0)) ≡ Zero ∷ Zero ∷ []
   -- "1X01" resized to 2 is "01", to 6 "001X01"; shifted by 1 to the left it is "X010", by 4 to the right "0000"
   pub shrinks : elements_of now (resized 2 (text (One ∷ X ∷ Zero ∷ One ∷ []))) ≡ Zero ∷ One ∷ []
@@ -139,3 +141,33 @@ pub record RunsOfBodies : Type 0 where
   pub case_literal : runs (step (select (position_of 3) (alternative ((0 ∷ []) ∷ []) (assigned (text (Zero ∷ []))) (alternative ((1 ∷ []) ∷ []) (assigned (text (X ∷ []))) (others (assigned (text (One ∷ []))))))) done) 0 ≡ Some 3
   pub literal : runs (step (assign (0 ∷ []) (position 2)) done) 0 ≡ Some 2
   pub copied : runs (step (assign (0 ∷ []) (position_of 3)) done) 0 ≡ Some 2
+
+-- ---- what is assigned on every path: the drivers at places 0 and 1 are of net 5, the one at place 2 is of net 6
+
+abbrev pub to_place : (place : ℕ) → Stmt
+to_place place = assign (place ∷ []) (elements (signal 0))
+
+abbrev pub one_stmt : Stmt → Stmts
+one_stmt s = step s done
+
+-- `if s = '1' then .. else .. end if`
+abbrev pub if_else : Stmt → Stmt → Stmt
+if_else s t = choose (branch (is_at 1 One) (one_stmt s) (otherwise (one_stmt t)))
+
+abbrev pub assigns : (net : ℕ) → Stmts → Bool
+assigns net body = must_assign (drives_net (5 ∷ 5 ∷ 6 ∷ []) net) body
+
+pub record AssignsOfBodies : Type 0 where
+  -- `if s = '1' then y <= a; end if;`, and with `y <= '0';` before it
+  pub without_else : assigns 6 (if_only (is_at 1 One) (one_stmt (to_place 2))) ≡ false
+  pub with_default : assigns 6 (step (to_place 2) (if_only (is_at 1 One) (one_stmt (to_place 2)))) ≡ true
+  pub with_else : assigns 6 (one_stmt (if_else (to_place 2) (to_place 2))) ≡ true
+  pub with_null : assigns 6 (one_stmt (if_else (to_place 2) nothing)) ≡ false
+  -- an else doesn't help where an elsif is left out
+  pub elsif_left_out : assigns 6 (one_stmt (choose (branch (is_at 1 One) (one_stmt (to_place 2)) (branch (is_at 0 One) (one_stmt nothing) (otherwise (one_stmt (to_place 2))))))) ≡ false
+  -- one net under two names, each assigned in one branch
+  pub two_names : assigns 5 (one_stmt (if_else (to_place 0) (to_place 1))) ≡ true
+  pub two_nets : assigns 6 (one_stmt (if_else (to_place 0) (to_place 2))) ≡ false
+  -- each alternative of a case, and one that doesn't
+  pub each_alternative : assigns 6 (one_stmt (select (elements (signal 1)) (alternative ((3 ∷ []) ∷ []) (one_stmt (to_place 2)) (others (one_stmt (to_place 2)))))) ≡ true
+  pub no_alternative : assigns 6 (one_stmt (select (elements (signal 1)) (alternative ((3 ∷ []) ∷ []) (one_stmt (to_place 2)) (others (one_stmt nothing))))) ≡ false
