@@ -24,4 +24,4 @@ pub default_would_stay : DefaultWouldStay
 default_would_stay = record { right = refl; wrong = refl; law_fails = λ h. absurd cc }
 
 pub test_would_be_rising : TestWouldBeRising
-test_would_be_rising = record { right = refl; holds = refl; wrong_fails = refl; acts = refl }
+test_would_be_rising = record { right = refl; holds = refl; wrong_fails = refl; acts = refl; law_fails = λ h. let e = h refl in absurd cc }

@@ -69,9 +69,14 @@ pub record DefaultWouldStay : Type 0 where
 
 -- ---- a test to '1' is taken as a rising edge
 
--- `if clk'event and clk = '1' then q <= d; end if;` runs its branch where clk goes from 'U' to '1', which is no rising edge
+-- `if clk'event and clk = '1' then q <= d; end if;` runs its branch where clk goes from 'U' to '1', which is no rising edge.
+abbrev pub at_one : Stmts
+at_one = on (both And clk_event (is_at 0 One))
+
 pub record TestWouldBeRising : Type 0 where
   pub right : edge_test (both And clk_event (is_at 0 One)) ≡ Some (record { clock = 0; kind = To1 })
   pub holds : has_edge To1 U One ≡ true
   pub wrong_fails : has_edge Rising U One ≡ false
-  pub acts : effect (0 ∷ 0 ∷ 3 ∷ []) (3 ∷ 0 ∷ 3 ∷ []) (on (both And clk_event (is_at 0 One))) 0 ≡ Some 3
+  pub acts : effect (0 ∷ 0 ∷ 3 ∷ []) (3 ∷ 0 ∷ 3 ∷ []) at_one 0 ≡ Some 3
+  -- that a clocked body does nothing but at its edge
+  pub law_fails : (has_edge Rising U One ≡ false → effect (0 ∷ 0 ∷ 3 ∷ []) (3 ∷ 0 ∷ 3 ∷ []) at_one 0 ≡ None) → ⊥
