@@ -7,7 +7,7 @@ use Rattle.vhdl_parser.specs.Lexeme.{Lexeme, same_kind}
 use Rattle.vhdl_parser.specs.Tree.{Ident}
 use Rattle.vhdl_parser.specs.Pieces.{Piece, some, one_at, word_at, literal_at, text_at, Is, Spells, spell_ident, spell_word, spell_option, spell_each, spell_list, IsAny, IsEach, IsList, IsOption}
 use Rattle.vhdl_parser.specs.reader.Input.{Outcome, Parser, and_then, token, expect, identifier, literal, next_kind, is_kind, test, eat, optional, many_from, many, below}
-use Rattle.vhdl_parser.proofs.Steps.{spells_split, spells_length, takes}
+use Rattle.vhdl_parser.proofs.Steps.{spells_split, spells_length, kind_same, takes}
 
 -- the outcome is this, or the depth refuses it
 abbrev pub Reaches : {A : Type 0} → Outcome A → A → List Lexeme → Type 0
@@ -78,6 +78,15 @@ g_take {A} {B} {b} {ps} {G} f of kind p is next = record { reads = go }
         let e = takes kind of (t ∷ ts) t ts refl (is t h.0) in
         ⊎_elim (λ r. inl (ap (λ x. and_then x f) e ∙ r)) (λ r. inr (ap (λ x. and_then x f) e ∙ r)) ((next t h.0).reads ts rest h.1 g)
 
+-- a token by itself
+pub g_token : {A : Type 0} {a : A} {G : Option Kind → Type 0} (of : Lexeme → A) (kind : Kind) (p : Piece) →
+    ((l : Lexeme) → Is p l → l.kind ≡ kind) → ((l : Lexeme) → Is p l → of l ≡ a) → Gives (λ ts. and_then (token kind ts) (λ l us. Ok (of l, us))) a (p ∷ []) G
+g_token {A} {a} {G} of kind p is value = record { reads = go }
+  where
+    go : (ts rest : List Lexeme) → Spells (p ∷ []) ts rest → G (next_kind rest) → Reaches (and_then (token kind ts) (λ l us. Ok (of l, us))) a rest
+    go [] rest h g = absurd h
+    go (t ∷ ts) rest h g = inl (takes kind of (t ∷ ts) t ts refl (is t h.0) ∙ ap (λ x. Ok (x, ts)) (value t h.0) ∙ ap (λ us. Ok (a, us)) h.1)
+
 module _ {B : Type 0} {b : B} {ps : List Piece} {G : Option Kind → Type 0} where
   pub g_at : {kind : Kind} {at : ℕ} (f : ℕ → Parser B) → Gives (f at) b ps G → Gives (λ ts. and_then (expect kind ts) f) b (one_at kind at ∷ ps) G
   unfolding expect
@@ -98,10 +107,10 @@ module _ {B : Type 0} {b : B} {ps : List Piece} {G : Option Kind → Type 0} whe
       (λ l h. let e : ◌≡◌ {A = ℕ × ℕ} (at, code) (l.at, slice_index l.text 1) = rw (h.1, h.2) in subst (λ x. Gives (f x) b ps G) e next)
 
   -- where some depth refuses, nothing is owed
-  pub g_below : {f : ℕ → Parser B} (n : ℕ) → ((m : ℕ) → n ≡ suc m → Gives (f m) b ps G) → Gives (λ ts. and_then (below n ts) f) b ps G
+  pub g_below : (f : ℕ → Parser B) (n : ℕ) → ((m : ℕ) → n ≡ suc m → Gives (f m) b ps G) → Gives (λ ts. and_then (below n ts) f) b ps G
   unfolding below
-  g_below zero next = record { reads = λ ts rest h g. inr refl }
-  g_below (suc m) next = next m refl
+  g_below f zero next = record { reads = λ ts rest h g. inr refl }
+  g_below f (suc m) next = next m refl
 
   pub g_none : Gives (λ ts. Err TooDeep) b ps G
   g_none = record { reads = λ ts rest h g. inr refl }
@@ -173,8 +182,8 @@ module _ {A : Type 0} {item : Parser A} {part : A → List Piece} {Part : A → 
   many_gives (x ∷ xs) good (suc turns) found le =
       g_yes (λ us. Ok (found, us)) begins (λ next g. starts_all next)
       (subst (λ ys. Gives (λ ts. and_then (item ts) (λ y us. many_from begins item turns (found ++ y ∷ []) us)) ys (part x ++ spell_each part xs) (λ next. (begins next ≡ false) × F next))
-          (append_assoc found (x ∷ []) xs)
-          (g_then (λ y us. many_from begins item turns (found ++ y ∷ []) us) (each x good.0) (many_gives xs good.1 turns (found ++ x ∷ []) (omega (arith, le))) (λ next g. follows xs good.1 next g)))
+      (append_assoc found (x ∷ []) xs)
+      (g_then (λ y us. many_from begins item turns (found ++ y ∷ []) us) (each x good.0) (many_gives xs good.1 turns (found ++ x ∷ []) (omega (arith, le))) (λ next g. follows xs good.1 next g)))
     where
       starts_more : (ps : List Piece) (next : Option Kind) → begins (front ps next) ≡ true → 1 ≤ length ps → begins (front (ps ++ spell_each part xs) next) ≡ true
       starts_more [] next e le = absurd (omega (arith, le))
@@ -190,3 +199,29 @@ module _ {A : Type 0} {item : Parser A} {part : A → List Piece} {Part : A → 
   -- those behind what was found
   pub more_gives : (xs : List A) → IsEach Part xs → (found : List A) → Gives (many begins item found) (found ++ xs) (spell_each part xs) (λ next. (begins next ≡ false) × F next)
   more_gives xs good found = record { reads = λ ts rest h g. (many_gives xs good (length ts) found (omega (arith, each_short xs, spells_length (spell_each part xs) ts rest h))).reads ts rest h g }
+
+-- item { separator item }
+pub list_gives : {A : Type 0} {item : Parser A} {part : A → List Piece} {Part : A → Type 0} {F : Option Kind → Type 0} (separator : Kind) (next : Parser A) → same_kind separator separator ≡ true → F (Some separator) →
+    ((a : A) → Part a → Gives item a (part a) F) → ((a : A) → Part a → Gives next a (some separator ∷ part a) F) → (xs : List A) → IsList Part xs →
+    Gives (λ ts. and_then (item ts) (λ first us. many (is_kind separator) next (first ∷ []) us)) xs (spell_list separator part xs) (λ kind. (is_kind separator kind ≡ false) × F kind)
+list_gives {A} {item} {part} {Part} {F} separator next same goes_on each later [] good = absurd good
+list_gives {A} {item} {part} {Part} {F} separator next same goes_on each later (x ∷ xs) good =
+    g_then (λ first us. many (is_kind separator) next (first ∷ []) us) (each x good.0)
+    (more_gives (is_kind separator) later (λ a fine kind. same) (λ a. omega arith) (λ kind e. may_follow kind e) xs good.1 (x ∷ []))
+    (λ kind g. behind xs kind g)
+  where
+    may_follow : (kind : Option Kind) → is_kind separator kind ≡ true → F kind
+    may_follow None e = absurd (cc)
+    may_follow (Some kind) e = subst (λ y. F (Some y)) (sym (kind_same kind separator e)) goes_on
+
+    behind : (ys : List A) (kind : Option Kind) → (is_kind separator kind ≡ false) × F kind → F (front (spell_each (λ y. some separator ∷ part y) ys) kind)
+    behind [] kind g = g.1
+    behind (y ∷ ys) kind g = goes_on
+
+-- a rule, where more is known of what follows
+pub g_weaken : {A : Type 0} {p : Parser A} {a : A} {ps : List Piece} {F G : Option Kind → Type 0} → ((next : Option Kind) → G next → F next) → Gives p a ps F → Gives p a ps G
+g_weaken weaker w = record { reads = λ ts rest h g. w.reads ts rest h (weaker (next_kind rest) g) }
+
+-- a rule that is the last part
+pub g_last : {A : Type 0} {p : Parser A} {a : A} {ps : List Piece} {F : Option Kind → Type 0} → Gives p a ps F → Gives p a (ps ++ []) F
+g_last {A} {p} {a} {ps} {F} w = subst (λ qs. Gives p a qs F) (sym (append-nil ps)) w

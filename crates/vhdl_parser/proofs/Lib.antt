@@ -12,3 +12,7 @@ pub mod Gives
 pub mod WalkExpressions
 pub mod WalkValues
 pub mod GiveValues
+pub mod Concurrents
+pub mod Ports
+pub mod Files
+pub mod Within

@@ -62,9 +62,28 @@ w_take {A} {B} {n} {d} {d2} {d3} {e} {e2} {before} {f} {spell} {Good} of kind pa
       };
   deep = λ ts h. ⊎_elim (taken_shallow kind of ts)
       (λ a.
-          let t = taken kind of ts a.0.0 a.0.1 a.1 in
-          deep_token t.token t.first (ap is_end t.kind_is ∙ last) (ap (λ y. d + opening e y) t.kind_is ∙ b ∙ ap (λ y. d2 + closing e y) (sym t.kind_is)) ((next a.0.0).deep a.0.1 a.2))
+      let t = taken kind of ts a.0.0 a.0.1 a.1 in
+      deep_token t.token t.first (ap is_end t.kind_is ∙ last) (ap (λ y. d + opening e y) t.kind_is ∙ b ∙ ap (λ y. d2 + closing e y) (sym t.kind_is)) ((next a.0.0).deep a.0.1 a.2))
       (bind_err (and_then (token kind ts) (λ l us. Ok (of l, us))) f TooDeep h);
+}
+
+-- a token that neither opens nor closes a level, by itself
+pub w_token : {A : Type 0} {n : ℕ} (of : Lexeme → A) (kind : Kind) (part : A → Piece) → is_neutral kind ≡ true → ((l : Lexeme) → l.kind ≡ kind → Is (part (of l)) l) →
+    Rule n 0 (λ ts. and_then (token kind ts) (λ l us. Ok (of l, us))) (λ a. part a ∷ []) IsAny
+w_token {A} {n} of kind part ok is = record {
+  reads = λ ts a rest h.
+      let t = taken kind of ts a rest h in
+      let u = neutral kind ok in
+      let i : Is (part a) t.token = subst (λ y. Is (part y) t.token) t.value (is t.token t.kind_is) in
+      record {
+        more = part a ∷ [];
+        is = refl;
+        spelled = subst (λ us. Spells (part a ∷ []) us rest) (sym t.first) (i, refl);
+        formed = tt;
+        walk = walk_token t.token t.first (ap is_end t.kind_is ∙ u.no_end) (omega arith) (omega arith)
+            (let same = ap (opening false) t.kind_is ∙ u.opens_none false ∙ sym (u.closes_none false) ∙ ap (closing false) (sym t.kind_is) in omega (arith, same));
+      };
+  deep = λ ts h. taken_shallow kind of ts h;
 }
 
 module _ {B : Type 0} {n d d2 : ℕ} {e : Bool} {before : List Piece → List Piece} {spell : B → List Piece} {Good : B → Type 0} where
@@ -186,6 +205,10 @@ module _ {B : Type 0} {n d d2 : ℕ} {before : List Piece → List Piece} {spell
   w_option_ident {e} {f} next = w_test_then (is_kind k.Identifier) (λ ts. and_then (identifier ts) (λ i us. Ok (Some i, us))) (λ ts. Ok (None, ts)) f (w_inner identifier (λ i us. Ok (Some i, us)) f (w_ident (λ i. next (Some i) false))) (next None e)
 
 -- ---- options and repetitions, as rules
+
+pub word_rule : {n d : ℕ} (kind : Kind) → is_neutral kind ≡ true → d ≤ n → Rule n d (eat kind) (spell_word kind) IsAny
+unfolding eat
+word_rule kind ok le = w_test (is_kind kind) (w_some kind ok (λ _. w_pure le refl tt)) (w_pure le refl tt)
 
 pub option_rule : {A : Type 0} {n d : ℕ} {item : Parser A} {part : A → List Piece} {Part : A → Type 0} (begins : Option Kind → Bool) → d ≤ n → Rule n d item part Part → Rule n d (optional begins item) (spell_option part) (IsOption Part)
 unfolding optional

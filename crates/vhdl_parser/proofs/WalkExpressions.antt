@@ -195,9 +195,10 @@ module _ (n : ℕ) (inner : Rule n 1 (inside n) spell IsExpr) where
         p.operator ≡ op → Tight (suc (level_rank level)) p.operand → Tight (level_rank level) (joined left p) × Fits level (Some op) (joined left p)
     joined_tight next last left op p h good fits same right =
         let a = next_is level last next op h in
-        let r : rank p.operator ≡ level_rank level = ap rank same ∙ a.rank_is in
-        ((omega (arith, r), (subst (λ o. Leads o left) (sym same) (fits next op h), omega (arith, r, right.0), good.1, right.1)),
-        subst (λ o. Fits level (Some o) (joined left p)) same (fits_after level p.operator p.at left p.operand r))
+        let r : rank p.operator ≡ level_rank level = ap rank same ∙ a.rank_is in (
+          (omega (arith, r), (subst (λ o. Leads o left) (sym same) (fits next op h), omega (arith, r, right.0), good.1, right.1)),
+          subst (λ o. Fits level (Some o) (joined left p)) same (fits_after level p.operator p.at left p.operand r),
+        )
 
     turn_rule : (turns : ℕ) → More turns → (next : Option Kind) (last : Option Operator) (left : Expr) → Tight (level_rank level) left → Fits level last left →
         (o : Option Operator) → next_operator level last next ≡ o → Walks n 0 false 0 (λ r. spell left ++ r) (turn operand o (λ op t. more_from operand turns level (Some op) t) left) spell (Tight (level_rank level))

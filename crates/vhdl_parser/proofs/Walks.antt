@@ -184,7 +184,6 @@ w_then {A} {B} {n} {d} {d2} {before} {p} {f} {part} {Part} {spell} {Good} first 
       (bind_err (p ts) f TooDeep h);
 }
 
-
 -- a rule, and nothing more
 pub w_last : {A B : Type 0} {n d : ℕ} {before : List Piece → List Piece} {p : Parser A} {part : A → List Piece} {Part : A → Type 0} {spell : B → List Piece} {Good : B → Type 0} (g : A → B) →
     Walks n d false d afresh p part Part → ((a : A) → Part a → (spell (g a) ≡ before (part a)) × Good (g a)) → Walks n d false d before (λ ts. and_then (p ts) (λ a us. Ok (g a, us))) spell Good
@@ -196,4 +195,14 @@ w_last {A} {B} {n} {d} {before} {p} {part} {Part} {spell} {Good} g first is = re
       at_pure (λ y us. Made n d false d before spell Good ts y us) (g a.0.0) b a.0.1 rest a.2
       (record { more = part a.0.0; is = i.0; spelled = subst (λ ps. Spells ps ts a.0.1) (sym m.is) m.spelled; formed = i.1; walk = m.walk });
   deep = λ ts h. ⊎_elim (first.deep ts) (λ a. pure_err _ TooDeep a.2) (bind_err (p ts) (λ a us. Ok (g a, us)) TooDeep h);
+}
+
+-- a rule, behind what was read before
+pub w_rule : {B : Type 0} {n d : ℕ} {before : List Piece → List Piece} {p : Parser B} {part spell : B → List Piece} {Good : B → Type 0} →
+    ((b : B) → spell b ≡ before (part b)) → Walks n d false d afresh p part Good → Walks n d false d before p spell Good
+w_rule {B} {n} {d} {before} {p} {part} {spell} {Good} is w = record {
+  reads = λ ts b rest h.
+      let m = w.reads ts b rest h in
+      record { more = part b; is = is b; spelled = subst (λ ps. Spells ps ts rest) (sym m.is) m.spelled; formed = m.formed; walk = m.walk };
+  deep = w.deep;
 }

@@ -23,10 +23,7 @@ impl Parser<'_> {
         self.more_identifiers(found)
     }
 
-    fn more_identifiers(
-        &mut self,
-        mut found: Vec<Identifier>,
-    ) -> Result<Vec<Identifier>, Stop>
+    fn more_identifiers(&mut self, mut found: Vec<Identifier>) -> Result<Vec<Identifier>, Stop>
         ensures { Reads idents_view (input.many (input.is_kind k.Comma) read.next_ident (idents_view found) self.old) result self.new }
     {
         for _turn in 0..self.left() {

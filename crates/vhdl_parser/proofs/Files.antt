@@ -1,0 +1,273 @@
+-- Context clauses, units and files: what is read is spelled so, and what is spelled is read.
+use Rattle.std.proofs.Common.{◌≡◌, ℕ, zero, suc, ◌+◌, ◌≤◌, ◌<◌, Bool, true, false, List, [], ◌∷◌, ◌++◌, length, take, Ok, Err, Option, Some, None, ◌⊎◌, inl, inr, ⊎_elim, refl, sym, ap, ◌∙◌, subst, append-nil, arith}
+use Rattle.vhdl_lexer.specs.declared.token.Kind.{Kind}
+use Rattle.vhdl_lexer.specs.declared.token.Kind.TheVariants as k
+use Rattle.vhdl_parser.specs.declared.fault.Stop.{Stop}
+use Rattle.vhdl_parser.specs.declared.fault.Stop.TheVariants.{TooDeep}
+use Rattle.vhdl_parser.specs.Lexeme.{Lexeme, same_kind}
+use Rattle.vhdl_parser.specs.Tree.{Ident, Generic, Port, Declaration, Concurrent, Entity, Architecture, Selected, ContextItem, library, uses, LibraryUnit, entity, architecture, DesignUnit, File}
+use Rattle.vhdl_parser.specs.Pieces.{Piece, some, Spells, spell_ident, spell_idents, spell_word, spell_option, spell_each, spell_list, IsAny, IsEach, IsList, IsOption, IsAbsent}
+use Rattle.vhdl_parser.specs.Levels.{opens, closes, IsShallow, IsDeep}
+use Rattle.vhdl_parser.specs.grammar.Concurrent.{spell_concurrent, IsConcurrent}
+use Rattle.vhdl_parser.specs.grammar.Declarations.{spell_ports, ArePorts}
+use Rattle.vhdl_parser.specs.grammar.Units.{spell_selected, spell_context, spell_end, spell_entity, spell_architecture, spell_library_unit, spell_unit, spell_file, IsContext, IsEntity, IsArchitecture, IsLibraryUnit, IsUnit, IsFile}
+use Rattle.vhdl_parser.specs.reader.Input.{Outcome, Parser, and_then, expect, identifier, next_kind, is_kind, is_more, many, eat, optional, refusal}
+use Rattle.vhdl_parser.specs.reader.Concurrent.{concurrents, begins_concurrent}
+use Rattle.vhdl_parser.specs.reader.Declarations.{idents, ports}
+use Rattle.vhdl_parser.specs.reader.Units.{max_open, selected, next_selected, selecteds, library_clause, use_clause, context_item, begins_context, end_name, entity_unit, architecture_unit, library_unit_by, library_unit, context, unit, units, finish, file}
+use Rattle.vhdl_parser.proofs.Steps.{bind_ok, bind_err, pure_ok, pure_err}
+use Rattle.vhdl_parser.proofs.Walks.{Rule, Walks, Made, w_pure, w_then, w_last, w_rule, low_at, deep_is}
+use Rattle.vhdl_parser.proofs.Rules.{w_at, w_some, w_end, w_ident, w_word, w_option_ident, w_choose, w_refuse, w_test, option_rule, each_rule, list_rule}
+use Rattle.vhdl_parser.proofs.Gives.{Gives, Reaches, Whatever, front, g_pure, g_then, g_map, g_at, g_some, g_ident, g_choose, g_yes, g_no, eat_gives, option_gives, more_gives, list_gives}
+use Rattle.vhdl_parser.proofs.Ports.{idents_rule, ports_rule, ident_gives, idents_gives, ports_gives}
+use Rattle.vhdl_parser.proofs.Concurrents.{concurrents_rule, concurrents_gives}
+
+-- ---- context clauses
+
+selected_rule : (n : ℕ) → Rule n 0 selected spell_selected IsAny
+unfolding selected
+selected_rule n = w_ident (λ place. w_some k.Dot refl (λ _. w_ident (λ name. w_some k.Dot refl (λ _. w_some k.All refl (λ _. w_pure (omega arith) refl tt)))))
+
+next_selected_rule : (n : ℕ) → Rule n 0 next_selected (λ s. some k.Comma ∷ spell_selected s) IsAny
+unfolding next_selected
+next_selected_rule n = w_some k.Comma refl (λ _. w_rule (λ s. refl) (selected_rule n))
+
+selecteds_rule : (n : ℕ) → Rule n 0 selecteds (spell_list k.Comma spell_selected) (IsList IsAny)
+unfolding selecteds
+selecteds_rule n = list_rule k.Comma (omega arith) (selected_rule n) (next_selected_rule n)
+
+context_item_rule : (n : ℕ) → Rule n 0 context_item spell_context IsContext
+unfolding context_item library_clause use_clause
+context_item_rule n = w_test (is_kind k.Library)
+    (w_some k.Library refl (λ _. w_then (idents_rule n) (λ names several _. w_some k.Semicolon refl (λ _. w_pure (omega arith) refl several))))
+    (w_some k.Use refl (λ _. w_then (selecteds_rule n) (λ all several _. w_some k.Semicolon refl (λ _. w_pure (omega arith) refl several))))
+
+context_rule : (n : ℕ) → Rule n 0 context (spell_each spell_context) (IsEach IsContext)
+unfolding context
+context_rule n = each_rule begins_context context_item (omega arith) (context_item_rule n)
+
+selected_gives : (s : Selected) → IsAny s → Gives selected s (spell_selected s) Whatever
+unfolding selected
+selected_gives s good = g_ident _ (g_some (λ _. g_ident _ (g_some (λ _. g_some (λ _. g_pure)))))
+
+next_selected_gives : (s : Selected) → IsAny s → Gives next_selected s (some k.Comma ∷ spell_selected s) Whatever
+unfolding next_selected
+next_selected_gives s good = g_some (λ _. selected_gives s good)
+
+selecteds_gives : (all : List Selected) → IsList IsAny all → Gives selecteds all (spell_list k.Comma spell_selected all) (λ next. (is_kind k.Comma next ≡ false) × Whatever next)
+unfolding selecteds same_kind
+selecteds_gives all good = list_gives k.Comma next_selected refl tt selected_gives next_selected_gives all good
+
+library_gives : (names : List Ident) → IsList IsAny names → Gives library_clause (library names) (spell_context (library names)) Whatever
+unfolding library_clause same_kind
+library_gives names good = g_some (λ _. g_then _ (idents_gives names good) (g_some (λ _. g_pure)) (λ next g. (refl, tt)))
+
+uses_gives : (all : List Selected) → IsList IsAny all → Gives use_clause (uses all) (spell_context (uses all)) Whatever
+unfolding use_clause same_kind
+uses_gives all good = g_some (λ _. g_then _ (selecteds_gives all good) (g_some (λ _. g_pure)) (λ next g. (refl, tt)))
+
+context_item_gives : (c : ContextItem) → IsContext c → Gives context_item c (spell_context c) Whatever
+unfolding context_item same_kind
+context_item_gives (library names) good = g_yes use_clause (is_kind k.Library) (λ next g. refl) (library_gives names good)
+context_item_gives (uses all) good = g_no library_clause (is_kind k.Library) (λ next g. refl) (uses_gives all good)
+
+context_begins : (c : ContextItem) → IsContext c → (next : Option Kind) → begins_context (front (spell_context c) next) ≡ true
+context_begins (library names) good next = refl
+context_begins (uses all) good next = refl
+
+context_some : (c : ContextItem) → 1 ≤ length (spell_context c)
+context_some (library names) = omega arith
+context_some (uses all) = omega arith
+
+context_gives : (cs : List ContextItem) → IsEach IsContext cs → Gives context cs (spell_each spell_context cs) (λ next. (begins_context next ≡ false) × Whatever next)
+unfolding context
+context_gives cs good = more_gives begins_context context_item_gives context_begins context_some (λ next e. tt) cs good []
+
+-- ---- entities and architectures
+
+entity_rule : Rule max_open 0 entity_unit spell_entity IsEntity
+unfolding entity_unit end_name
+entity_rule =
+    w_at k.Entity refl (λ at.
+    w_ident (λ name.
+    w_some k.Is refl (λ _.
+    w_then (option_rule (is_kind k.Port) (omega arith) (ports_rule max_open)) (λ found good _.
+    w_end (λ _.
+    w_word k.Entity refl (λ word e.
+    w_option_ident (λ last e2.
+    w_some k.Semicolon refl (λ _.
+    w_pure (omega arith) refl (tt, good)))))))))
+
+architecture_rule : Rule max_open 0 architecture_unit spell_architecture IsArchitecture
+unfolding architecture_unit end_name
+architecture_rule =
+    w_at k.Architecture refl (λ at.
+    w_ident (λ name.
+    w_some k.Of refl (λ _.
+    w_ident (λ of_entity.
+    w_some k.Is refl (λ _.
+    w_some k.Begin refl (λ _.
+    w_then (concurrents_rule max_open) (λ found good _.
+    w_end (λ _.
+    w_word k.Architecture refl (λ word e.
+    w_option_ident (λ last e2.
+    w_some k.Semicolon refl (λ _.
+    w_pure (omega arith) refl (refl, good))))))))))))
+
+library_unit_rule : Rule max_open 0 library_unit spell_library_unit IsLibraryUnit
+unfolding library_unit
+library_unit_rule = w_choose (λ next. by_next next)
+  where
+    by_next : (next : Option Kind) → Rule max_open 0 (library_unit_by next) spell_library_unit IsLibraryUnit
+    by_next (Some k.Entity) = w_last entity entity_rule (λ e good. (refl, good))
+    by_next (Some k.Architecture) = w_last architecture architecture_rule (λ a good. (refl, good))
+    by_next _ = w_refuse
+
+unit_rule : Rule max_open 0 unit spell_unit IsUnit
+unfolding unit
+unit_rule = w_then (context_rule max_open) (λ before good _. w_last (λ u. record { context = before; unit = u }) library_unit_rule (λ u fine. (refl, (good, fine))))
+
+units_rule : Rule max_open 0 units (spell_each spell_unit) (IsEach IsUnit)
+unfolding units
+units_rule = each_rule is_more unit (omega arith) unit_rule
+
+any_option : {A : Type 0} (o : Option A) → IsOption IsAny o
+any_option None = tt
+any_option (Some x) = tt
+
+end_name_gives : (last : Option Ident) → Gives end_name last (spell_option spell_ident last) (λ next. (is_kind k.Identifier next ≡ false) × Whatever next)
+unfolding end_name same_kind
+end_name_gives last = option_gives (is_kind k.Identifier) ident_gives (λ i good next. refl) last (any_option last)
+
+-- end [ word ] [ id ] ;
+end_gives : {B : Type 0} (f : Bool → Option Ident → B) (kind : Kind) (word : Bool) (last : Option Ident) → same_kind kind kind ≡ true → same_kind k.Identifier kind ≡ false → same_kind k.Semicolon kind ≡ false →
+    Gives (λ ts. and_then (expect k.End ts) (λ _ us. and_then (eat kind us) (λ w vs. and_then (end_name vs) (λ l ws. and_then (expect k.Semicolon ws) (λ _ xs. Ok (f w l, xs)))))) (f word last) (spell_end kind word last) Whatever
+unfolding same_kind
+end_gives f kind word last same no_name no_end =
+    g_some (λ _. g_then _ (eat_gives kind word same) (g_then _ (end_name_gives last) (g_some (λ _. g_pure)) (λ next g. (refl, tt))) (λ next g. behind last next))
+  where
+    behind : (last : Option Ident) (next : Option Kind) → is_kind kind (front (spell_option spell_ident last ++ some k.Semicolon ∷ []) next) ≡ false
+    behind None next = no_end
+    behind (Some i) next = no_name
+
+ports_begin : (all : List Port) → ArePorts all → (next : Option Kind) → is_kind k.Port (front (spell_ports all) next) ≡ true
+unfolding same_kind
+ports_begin all good next = refl
+
+entity_gives : (at : ℕ) (name : Ident) (generics : Option (List Generic)) (found : Option (List Port)) (word : Bool) (last : Option Ident) → IsAbsent generics → IsOption ArePorts found →
+    Gives entity_unit (record { at = at; name = name; generics = generics; ports = found; end_word = word; end_name = last }) (spell_entity (record { at = at; name = name; generics = generics; ports = found; end_word = word; end_name = last })) Whatever
+unfolding entity_unit same_kind
+entity_gives at name (Some g) found word last absent good = absurd absent
+entity_gives at name None found word last absent good =
+    g_at _ (g_ident _ (g_some (λ _.
+    g_then _ (option_gives (is_kind k.Port) (ports_gives max_open) ports_begin found good)
+    (end_gives (λ w l. record { at = at; name = name; generics = None; ports = found; end_word = w; end_name = l }) k.Entity word last refl refl refl)
+    (λ next g. (refl, tt)))))
+
+architecture_gives : (at : ℕ) (name of_entity : Ident) (found : List Concurrent) (word : Bool) (last : Option Ident) → IsEach IsConcurrent found →
+    Gives architecture_unit (record { at = at; name = name; entity = of_entity; declarations = []; statements = found; end_word = word; end_name = last }) (spell_architecture (record { at = at; name = name; entity = of_entity; declarations = []; statements = found; end_word = word; end_name = last })) Whatever
+unfolding architecture_unit same_kind
+architecture_gives at name of_entity found word last good =
+    g_at _ (g_ident _ (g_some (λ _. g_ident _ (g_some (λ _. g_some (λ _.
+    g_then _ (concurrents_gives max_open found good)
+    (end_gives (λ w l. record { at = at; name = name; entity = of_entity; declarations = []; statements = found; end_word = w; end_name = l }) k.Architecture word last refl refl refl)
+    (λ next g. (refl, tt))))))))
+
+library_unit_gives : (u : LibraryUnit) → IsLibraryUnit u → Gives library_unit u (spell_library_unit u) Whatever
+unfolding library_unit
+library_unit_gives (entity e) good = g_choose library_unit_by (Some k.Entity) (λ next g. refl) (g_map (λ x. entity x) (entity_gives e.at e.name e.generics e.ports e.end_word e.end_name good.0 good.1))
+library_unit_gives (architecture a) good = g_choose library_unit_by (Some k.Architecture) (λ next g. refl)
+    (g_map (λ x. architecture x) (subst (λ ds. Gives architecture_unit (record { at = a.at; name = a.name; entity = a.entity; declarations = ds; statements = a.statements; end_word = a.end_word; end_name = a.end_name }) (spell_architecture a) Whatever) (sym good.0)
+    (architecture_gives a.at a.name a.entity a.statements a.end_word a.end_name good.1)))
+
+no_context : (u : LibraryUnit) (next : Option Kind) → begins_context (front (spell_library_unit u) next) ≡ false
+no_context (entity e) next = refl
+no_context (architecture a) next = refl
+
+unit_gives : (u : DesignUnit) → IsUnit u → Gives unit u (spell_unit u) Whatever
+unfolding unit
+unit_gives u good = g_then _ (context_gives u.context good.0) (g_map (λ x. record { context = u.context; unit = x }) (library_unit_gives u.unit good.1)) (λ next g. (no_context u.unit next, tt))
+
+unit_begins : (u : DesignUnit) → IsUnit u → (next : Option Kind) → is_more (front (spell_unit u) next) ≡ true
+unit_begins u good next = by_parts u.context u.unit
+  where
+    by_parts : (cs : List ContextItem) (x : LibraryUnit) → is_more (front (spell_each spell_context cs ++ spell_library_unit x) next) ≡ true
+    by_parts [] (entity e) = refl
+    by_parts [] (architecture a) = refl
+    by_parts (library names ∷ more) x = refl
+    by_parts (uses all ∷ more) x = refl
+
+unit_some : (u : DesignUnit) → 1 ≤ length (spell_unit u)
+unit_some u = by_parts u.context u.unit
+  where
+    by_parts : (cs : List ContextItem) (x : LibraryUnit) → 1 ≤ length (spell_each spell_context cs ++ spell_library_unit x)
+    by_parts [] (entity e) = omega arith
+    by_parts [] (architecture a) = omega arith
+    by_parts (library names ∷ more) x = omega arith
+    by_parts (uses all ∷ more) x = omega arith
+
+units_gives : (us : List DesignUnit) → IsEach IsUnit us → Gives units us (spell_each spell_unit us) (λ next. (is_more next ≡ false) × Whatever next)
+unfolding units
+units_gives us good = more_gives is_more unit_gives unit_begins unit_some (λ next e. tt) us good []
+
+-- ---- files
+
+finish_ok : (us : List Lexeme) (p : Unit {0} × List Lexeme) → finish us ≡ Ok p → us ≡ []
+unfolding finish next_kind
+finish_ok [] p h = refl
+finish_ok (u ∷ us) p h = absurd (cc)
+
+finish_err : {X : Type 0} (us : List Lexeme) → finish us ≡ Err TooDeep → X
+unfolding finish next_kind refusal
+finish_err [] h = absurd (cc)
+finish_err (u ∷ us) h = absurd (cc)
+
+-- what is known of a file that was read
+pub record FileMade (ts : List Lexeme) (f : File) : Type 0 where
+  pub spelled : Spells (spell_file f) ts []
+  pub formed : IsFile f
+  pub shallow : IsShallow max_open ts
+
+of_units : (ts us : List Lexeme) (all : List DesignUnit) → Made max_open 0 false 0 (λ r. r) (spell_each spell_unit) (IsEach IsUnit) ts all us → us ≡ [] → FileMade ts (record { units = all })
+of_units ts us all m e = record {
+  spelled = subst (λ vs. Spells (spell_each spell_unit all) ts vs) e (subst (λ ps. Spells ps ts us) (sym m.is) m.spelled);
+  formed = m.formed;
+  shallow = λ j.
+      let whole : ts ≡ m.walk.front = m.walk.split ∙ ap (λ vs. m.walk.front ++ vs) e ∙ append-nil m.walk.front in
+      subst (λ vs. opens false (take j vs) ≤ closes false (take j vs) + max_open) (sym whole) (omega (arith, low_at max_open 0 0 false m.walk.front m.walk.low j));
+}
+
+pub file_made : (ts : List Lexeme) (f : File) (rest : List Lexeme) → file ts ≡ Ok (f, rest) → FileMade ts f
+unfolding file
+file_made ts f rest h =
+    let a = bind_ok (units ts) _ (f, rest) h in
+    let b = bind_ok (finish a.0.1) _ (f, rest) a.2 in
+    let same = pure_ok (record { units = a.0.0 }) f b.0.1 rest b.2 in
+    subst (λ g. FileMade ts g) same.0 (of_units ts a.0.1 a.0.0 (units_rule.reads ts a.0.0 a.0.1 a.1) (finish_ok a.0.1 b.0 b.1))
+
+pub file_deep : (ts : List Lexeme) → file ts ≡ Err TooDeep → IsDeep max_open ts
+unfolding file
+file_deep ts h = ⊎_elim (λ e. deep_is max_open ts (units_rule.deep ts e))
+    (λ a. ⊎_elim (finish_err a.0.1) (λ b. pure_err _ TooDeep b.2) (bind_err (finish a.0.1) _ TooDeep a.2))
+    (bind_err (units ts) _ TooDeep h)
+
+file_gives : (f : File) → IsFile f → (ts : List Lexeme) → Spells (spell_file f) ts [] → Reaches (file ts) f []
+unfolding file finish next_kind
+file_gives f good ts h =
+    ⊎_elim (λ e. inl (ap (λ r. and_then r (λ all us. and_then (finish us) (λ _ vs. Ok (record { units = all }, vs)))) e))
+    (λ e. inr (ap (λ r. and_then r (λ all us. and_then (finish us) (λ _ vs. Ok (record { units = all }, vs)))) e))
+    ((units_gives f.units good).reads ts [] h (refl, tt))
+
+-- no other file is spelled by what was read
+pub file_only : (ts : List Lexeme) (f : File) (rest : List Lexeme) → file ts ≡ Ok (f, rest) → (other : File) → IsFile other → Spells (spell_file other) ts [] → other ≡ f
+file_only ts f rest h other good s = ⊎_elim
+    (λ e. (pure_ok other f [] rest (sym e ∙ h)).0)
+    (λ e. let never : ◌≡◌ {A = Outcome File} (Ok (f, rest)) (Err TooDeep) = sym h ∙ e in pure_err (f, rest) TooDeep never)
+    (file_gives other good ts s)
+
+-- what is refused, and not for its depth, is the spelling of no file
+pub file_refused : (ts : List Lexeme) (why : Stop) → file ts ≡ Err why → (why ≡ TooDeep → ⊥) → (other : File) → IsFile other → Spells (spell_file other) ts [] → ⊥
+file_refused ts why h shallow other good s = ⊎_elim
+    (λ e. let never : ◌≡◌ {A = Outcome File} (Ok (other, [])) (Err why) = sym e ∙ h in pure_err (other, []) why never)
+    (λ e. let is : ◌≡◌ {A = Outcome File} (Err TooDeep) (Err why) = sym e ∙ h in shallow (cc))
+    (file_gives other good ts s)

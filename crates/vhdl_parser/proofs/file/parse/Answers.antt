@@ -1,0 +1,34 @@
+use Rattle.std.proofs.Common.{◌≡◌, ℕ, [], Err, sym, ap, ◌∙◌, subst, arith}
+use Rattle.vhdl_parser.specs.declared.fault.Stop.{Stop}
+use Rattle.vhdl_parser.specs.declared.fault.Stop.TheVariants.{TooDeep, NoMemory}
+use Rattle.vhdl_parser.specs.Levels.{IsShallow, IsDeep}
+use Rattle.vhdl_parser.specs.Pieces.{Spells}
+use Rattle.vhdl_parser.specs.View.{file_view}
+use Rattle.vhdl_parser.specs.grammar.Units.{spell_file}
+use Rattle.vhdl_parser.proofs.Files.{file_made, file_only, file_refused, file_deep}
+use Rattle.vhdl_parser.proofs.file.parse.Goals as goal
+
+not_memory : ◌≡◌ {A = Stop} TooDeep NoMemory → ⊥
+not_memory e = let impossible : ◌≡◌ {A = ℕ} 0 1 = cc in omega (arith, impossible)
+
+pub returns-in-Ok-clause-spelled : goal.returns-in-Ok-clause-spelled
+returns-in-Ok-clause-spelled c = subst (λ ts. Spells (spell_file (file_view c.in-Ok.file)) ts []) c.new-parser.ensures (file_made _ _ _ c.in-Ok.ensures).spelled
+
+pub returns-in-Ok-clause-well_formed : goal.returns-in-Ok-clause-well_formed
+returns-in-Ok-clause-well_formed c = (file_made _ _ _ c.in-Ok.ensures).formed
+
+pub returns-in-Ok-clause-only : goal.returns-in-Ok-clause-only
+returns-in-Ok-clause-only c other good s = file_only _ _ _ c.in-Ok.ensures other good (rw c.new-parser.ensures s)
+
+pub returns-in-Ok-clause-shallow : goal.returns-in-Ok-clause-shallow
+returns-in-Ok-clause-shallow c = subst (IsShallow 64) c.new-parser.ensures (file_made _ _ _ c.in-Ok.ensures).shallow
+
+pub returns-in-Err-clause-refused : goal.returns-in-Err-clause-refused
+returns-in-Err-clause-refused c r other good s =
+    let why = c.fault_at.ensures.refusal r in
+    file_refused _ _ (c.in-Err.ensures why.0) why.1 other good (rw c.new-parser.ensures s)
+
+pub returns-in-Err-clause-deep : goal.returns-in-Err-clause-deep
+returns-in-Err-clause-deep c d =
+    let is = c.fault_at.ensures.deep d in
+    subst (IsDeep 64) c.new-parser.ensures (file_deep _ (c.in-Err.ensures (λ e. not_memory (sym is ∙ e)) ∙ ap (λ s. Err s) is))

@@ -1,0 +1,83 @@
+//! Files.
+
+ghost use Rattle.std.specs.Prelude.{◌≡◌, ◌≢◌, ◌≤◌, [], length, IfOk, IfErr, IfSome, OnOk};
+ghost use Rattle.vhdl_lexer.specs.Cut.{AreWithin};
+ghost use Rattle.vhdl_parser.specs.Fault.{IsRefusal, IsTooDeep, fault_byte};
+ghost use Rattle.vhdl_parser.specs.Levels.{IsShallow, IsDeep};
+ghost use Rattle.vhdl_parser.specs.Lexeme.{lexemes};
+ghost use Rattle.vhdl_parser.specs.Pieces.{Spells};
+ghost use Rattle.vhdl_parser.specs.Tree as tree;
+ghost use Rattle.vhdl_parser.specs.View.{file_view};
+ghost use Rattle.vhdl_parser.specs.declared.fault.Stop.TheVariants as s;
+ghost use Rattle.vhdl_parser.specs.grammar.Units.{spell_file, IsFile};
+
+use crate::fault::{Stop, SyntaxFault};
+use crate::parser::Parser;
+use crate::tree::File;
+use crate::unit::MAX_OPEN;
+use std::alloc::Global;
+use vhdl_lexer::Token;
+
+/// The tree that the tokens of a source spell, by the grammar of docs/LANGUAGE.md.
+///
+/// `tokens` are places in `source`, in order, as `vhdl_lexer::lex` finds them. A fault carries
+/// the byte of the token at which the reading stopped. Of several faults the first one that the
+/// parser meets is given. The tree takes memory in proportion to the tokens, and the call's stack
+/// is bounded by the levels, of which 64 may be open at once.
+pub fn parse(alloc: Global, source: &[u8], tokens: &[Token]) -> Result<File, SyntaxFault>
+    requires { AreWithin source.now tokens.now }
+
+    // The tree spells the tokens, and is well formed.
+    ensures spelled { IfOk result
+        (λ f. Spells (spell_file (file_view f)) (lexemes source.now tokens.now) []) }
+    ensures well_formed { IfOk result (λ f. IsFile (file_view f)) }
+
+    // No other well-formed tree is spelled so.
+    ensures only { IfOk result
+        (λ f. (other : tree.File) → IsFile other
+        → Spells (spell_file other) (lexemes source.now tokens.now) [] → other ≡ file_view f) }
+    ensures shallow { OnOk result (IsShallow MAX_OPEN (lexemes source.now tokens.now)) }
+
+    // What is refused, and neither for its depth nor for memory, is the spelling of no tree.
+    ensures refused { IfErr result
+        (λ e. IsRefusal e → (other : tree.File) → IsFile other
+        → Spells (spell_file other) (lexemes source.now tokens.now) [] → ⊥) }
+    ensures deep { IfErr result
+        (λ e. IsTooDeep e → IsDeep MAX_OPEN (lexemes source.now tokens.now)) }
+    ensures placed { IfErr result (λ e. IfSome (fault_byte e) (λ at. at ≤ length source.now)) }
+{
+    let mut parser = Parser::new(alloc, source, tokens);
+    match parser.file() {
+        Ok(file) => Ok(file),
+        Err(stop) => {
+            let met = tokens.len().saturating_sub(parser.left());
+            Err(fault_at(stop, byte_of(source, tokens, met)))
+        }
+    }
+}
+
+/// Where a token starts, or the source's length behind the last one.
+#[tactic(auto, using(crate::proofs::Within::start_within))]
+fn byte_of(source: &[u8], tokens: &[Token], index: usize) -> usize
+    requires { AreWithin source.now tokens.now }
+    ensures { result ≤ length source.now }
+{
+    if index < tokens.len() {
+        tokens[index].start
+    } else {
+        source.len()
+    }
+}
+
+fn fault_at(stop: Stop, at: usize) -> SyntaxFault
+    ensures refusal { IsRefusal result → (stop ≢ s.NoMemory) × (stop ≢ s.TooDeep) }
+    ensures deep { IsTooDeep result → stop ≡ s.TooDeep }
+    ensures placed { IfSome (fault_byte result) (λ byte. byte ≡ at) }
+{
+    match stop {
+        Stop::Unexpected => SyntaxFault::Unexpected { at },
+        Stop::EndOfFile => SyntaxFault::EndOfFile { at },
+        Stop::TooDeep => SyntaxFault::TooDeep { at },
+        Stop::NoMemory => SyntaxFault::NoMemory,
+    }
+}
