@@ -8,6 +8,8 @@ mod fault;
 mod file;
 mod operator;
 mod parser;
+#[cfg(test)]
+mod tests;
 mod tree;
 mod unit;
 mod value;
