@@ -4,6 +4,7 @@ pub mod Looking
 pub mod BeforeEdge
 pub mod EdgeTests
 pub mod Clocking
+pub mod BodyKinds
 pub mod Branching
 pub mod Sequences
 pub mod Widths

@@ -1,6 +1,6 @@
 //! The laws of bodies, over `specs/bodies`.
 
-ghost use Rattle.rtl_model.specs.bodies.Laws.{EachRunAssigns, LooksAtReads, LooksAtNow, FollowsItsEdge, CaseTakesABranch, LaterReplaces, SequencesAddUp, HasItsWidth, TargetsFitValues, EntriesKeepTypes};
+ghost use Rattle.rtl_model.specs.bodies.Laws.{EachKindIsAsSaid, EachRunAssigns, LooksAtReads, LooksAtNow, FollowsItsEdge, CaseTakesABranch, LaterReplaces, SequencesAddUp, HasItsWidth, TargetsFitValues, EntriesKeepTypes};
 
 /// What a body assigns on every syntactic path has an entry on every run.
 pub fn each_run_assigns()
@@ -12,6 +12,12 @@ pub fn each_run_assigns()
 pub fn looks_at_what_is_read()
     ensures both { LooksAtReads }
     ensures now { LooksAtNow }
+{}
+
+/// A body is clocked just if it is one if, with no elsif and no else, whose condition is one edge test and whose branch has
+/// no edge test and no `'event`, and combinational just if it has neither.
+pub fn kinds_are_as_said()
+    ensures { EachKindIsAsSaid }
 {}
 
 /// A clocked body does at its edge what its branch does, and nothing at all else.

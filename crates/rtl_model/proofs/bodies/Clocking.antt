@@ -4,15 +4,9 @@ use Rattle.rtl_model.specs.bodies.Body.{Test, choose, Stmts, done, step, no_else
 use Rattle.rtl_model.specs.bodies.Tests.{is_met}
 use Rattle.rtl_model.specs.bodies.Effect.{effect}
 use Rattle.rtl_model.specs.bodies.Kinds.{EdgeTest, edge_test, BodyKind, AtEdge, at_edge, clocked, kind_or, kind_of, body_has_event}
-use Rattle.rtl_model.specs.bodies.Laws.{FollowsItsEdge}
+use Rattle.rtl_model.specs.bodies.Laws.{IsClockedBody, FollowsItsEdge}
 use Rattle.rtl_model.proofs.bodies.BeforeEdge.{effect-before}
 use Rattle.rtl_model.proofs.bodies.EdgeTests.{holds_at, edge_meets}
-
-pub record IsClocked (body branch' : Stmts) (e : EdgeTest) : Type 0 where
-  pub test : Test
-  pub is : body ≡ step (choose (branch test branch' no_else)) done
-  pub edge : edge_test test ≡ Some e
-  pub plain : body_has_event branch' ≡ false
 
 by_test : (o : Option EdgeTest) (s branch' : Stmts) (e : EdgeTest) → at_edge o s ≡ Some (AtEdge e branch') → (o ≡ Some e) × (s ≡ branch') × (body_has_event s ≡ false)
 by_test None s branch' e h = absurd cc
@@ -22,7 +16,7 @@ by_test (Some d) s branch' e h = go (body_has_event s) refl h
     go true p g = absurd cc
     go false p g = (let k : d ≡ e = cc in ap Some k, cc, p)
 
-is_clocked : (body branch' : Stmts) (e : EdgeTest) → clocked body ≡ Some (AtEdge e branch') → IsClocked body branch' e
+is_clocked : (body branch' : Stmts) (e : EdgeTest) → clocked body ≡ Some (AtEdge e branch') → IsClockedBody body branch' e
 is_clocked (step (choose (branch t s no_else)) done) branch' e h =
     let k = by_test (edge_test t) s branch' e h in
     record { test = t; is = ap (λ x. step (choose (branch t x no_else)) done) k.1; edge = k.0; plain = subst (λ (x : Stmts). body_has_event x ≡ false) k.1 k.2 }
@@ -36,7 +30,7 @@ kind_clocked body branch' e h = go (clocked body) (body_has_event body) h
     go None true g = absurd cc
     go None false g = absurd cc
 
-pub clocked_shape : (body branch' : Stmts) (e : EdgeTest) → kind_of body ≡ AtEdge e branch' → IsClocked body branch' e
+pub clocked_shape : (body branch' : Stmts) (e : EdgeTest) → kind_of body ≡ AtEdge e branch' → IsClockedBody body branch' e
 clocked_shape body branch' e h = is_clocked body branch' e (kind_clocked body branch' e h)
 
 at_test : (t : Bool) (x : Option ℕ) → (t ≡ true → cond t x None ≡ x) × (t ≡ false → cond t x None ≡ None)
@@ -45,7 +39,7 @@ at_test false x = (λ g. absurd cc, λ _. refl)
 
 pub follows_its_edge : FollowsItsEdge
 follows_its_edge body branch' e before now h place =
-    let c : IsClocked body branch' e = clocked_shape body branch' e h in
+    let c : IsClockedBody body branch' e = clocked_shape body branch' e h in
     let m : is_met before now c.test ≡ holds_at e before now = edge_meets c.test e before now c.edge in
     let a = at_test (is_met before now c.test) (effect before now branch' place) in
     rw c.is

@@ -7,6 +7,7 @@ use Rattle.std.proofs.lemmas.List.{get_or_past}
 use Rattle.rtl_model.specs.bodies.Body.{Stmts, choose, branch, step, done, no_else}
 use Rattle.rtl_model.specs.bodies.Effect.{effect_of}
 use Rattle.rtl_model.specs.bodies.Kinds.{BodyKind, Plain, AtEdge, Neither, kind_of, branch_or, branch_of}
+use Rattle.rtl_model.specs.bodies.Laws.{IsClockedBody}
 use Rattle.rtl_model.specs.bodies.Types.{NetType, limit_of, HasType, KeepsTypes}
 use Rattle.rtl_model.specs.bodies.Fits.{Fits}
 use Rattle.rtl_model.specs.nets.FlatNet as flat
@@ -15,7 +16,7 @@ use Rattle.rtl_model.specs.nets.CoreNet.{core_net}
 use Rattle.rtl_model.specs.simulation.Net as c
 use Rattle.rtl_model.specs.simulation.Range.{limit, IsValuation, KeepsRange}
 use Rattle.rtl_model.proofs.bodies.Ranges.{entries_keep_types}
-use Rattle.rtl_model.proofs.bodies.Clocking.{IsClocked, clocked_shape}
+use Rattle.rtl_model.proofs.bodies.Clocking.{clocked_shape}
 use Rattle.rtl_model.proofs.nets.Processes.{process-core_net, at_row, no_reset}
 
 -- ---- limits
@@ -39,7 +40,7 @@ branch_fits types nets body h = go (kind_of body) refl
     go Plain e = h
     go Neither e = h
     go (AtEdge t s) e =
-        let c : IsClocked body s t = clocked_shape body s t e in
+        let c : IsClockedBody body s t = clocked_shape body s t e in
         let g : Fits types nets (step (choose (branch c.test s no_else)) done) = subst (λ (x : Stmts). Fits types nets x) c.is h in
         g.0.1
 

@@ -18,6 +18,7 @@ use Rattle.rtl_model.specs.nets.FlatNet.{FlatNet, FlatProcess, FlatDriver, targe
 use Rattle.rtl_model.specs.nets.CoreNet.{core_kind, core_process, core_edges, core_net, drives_net}
 use Rattle.rtl_model.specs.simulation.Net as c
 use Rattle.rtl_model.specs.simulation.Elaborated.{AgreeOn, HasBodies}
+use Rattle.rtl_model.proofs.bodies.BodyKinds.{plain}
 use Rattle.rtl_model.proofs.bodies.Assigned.{each_run_assigns}
 use Rattle.rtl_model.proofs.bodies.Looking.{looks_at_reads}
 use Rattle.rtl_model.proofs.bodies.BeforeEdge.{looks_at_now}
@@ -40,27 +41,6 @@ same_rows : (s t : Stmts) (n : ℕ) (b w b' w' : List ℕ) → ((k : ℕ) → ef
 same_rows s t n b w b' w' h = λ i. map (λ k. h k i) (range_with_len 0 n)
 
 -- ---- kinds
-
-not_plain : (o : Option EdgeTest) (s : Stmts) → at_edge o s ≡ Some Plain → ⊥
-not_plain None s h = absurd cc
-not_plain (Some d) s h = go (body_has_event s) h
-  where
-    go : (t : Bool) → cond t None (Some (AtEdge d s)) ≡ Some Plain → ⊥
-    go true g = absurd cc
-    go false g = absurd cc
-
-never_plain : (body : Stmts) → clocked body ≡ Some Plain → ⊥
-never_plain (b.step (b.choose (b.branch t s b.no_else)) b.done) h = not_plain (edge_test t) s h
-never_plain body h = absurd cc
-
--- a combinational body has no event
-plain : (body : Stmts) → kind_of body ≡ Plain → body_has_event body ≡ false
-plain body h = go (clocked body) (body_has_event body) refl refl h
-  where
-    go : (o : Option BodyKind) (t : Bool) → clocked body ≡ o → body_has_event body ≡ t → kind_or o t ≡ Plain → body_has_event body ≡ false
-    go (Some x) t p q g = absurd (never_plain body (p ∙ ap Some g))
-    go None false p q g = q
-    go None true p q g = absurd cc
 
 is_plain : (x : BodyKind) → core_kind x ≡ c.Combinational → x ≡ Plain
 is_plain Plain h = refl

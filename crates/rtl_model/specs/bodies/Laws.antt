@@ -1,12 +1,12 @@
 -- The laws of bodies.
 use Rattle.std.specs.Prelude.{◌≡◌, ℕ, ◌<◌, ◌⊎◌, ◌↔◌, Bool, true, false, ◌||◌, List, ◌++◌, length, slice_get, Some, None, IsTrue, IsSome}
 use Rattle.vhdl_values.specs.Edges.{has_edge}
-use Rattle.rtl_model.specs.bodies.Body.{Expr, Value, Stmts, Alternatives, others, alternative, followed_by}
+use Rattle.rtl_model.specs.bodies.Body.{Expr, Value, Test, choose, Stmts, done, step, no_else, branch, Alternatives, others, alternative, followed_by}
 use Rattle.rtl_model.specs.bodies.Values.{element_at, elements_of, value_of}
 use Rattle.rtl_model.specs.bodies.Effect.{or_else, effect, alternatives_effect}
 use Rattle.rtl_model.specs.bodies.Reads.{reads}
 use Rattle.rtl_model.specs.bodies.Assigns.{must_assign}
-use Rattle.rtl_model.specs.bodies.Kinds.{EdgeTest, AtEdge, kind_of, body_has_event}
+use Rattle.rtl_model.specs.bodies.Kinds.{EdgeTest, edge_test, Plain, AtEdge, kind_of, body_has_event}
 use Rattle.rtl_model.specs.bodies.Types.{NetType, limit_of, HasType, KeepsTypes}
 use Rattle.rtl_model.specs.simulation.Elaborated.{AgreeOn}
 use Rattle.rtl_model.specs.bodies.Fits.{width, value_width, IsWidth, FitsExpr, FitsValue, FitsTarget, Fits}
@@ -31,6 +31,21 @@ abbrev pub FollowsItsEdge : Type 0
 FollowsItsEdge = (body branch : Stmts) (e : EdgeTest) (before now : List ℕ) → kind_of body ≡ AtEdge e branch → (place : ℕ)
     → (has_edge e.kind (element_at before e.clock) (element_at now e.clock) ≡ true → effect before now body place ≡ effect now now branch place)
     × (has_edge e.kind (element_at before e.clock) (element_at now e.clock) ≡ false → effect before now body place ≡ None)
+
+-- one if, with no elsif and no else, whose condition is this edge test and whose branch has no edge test and no `'event`
+pub record IsClockedBody (body branch' : Stmts) (e : EdgeTest) : Type 0 where
+  pub test : Test
+  pub is : body ≡ step (choose (branch test branch' no_else)) done
+  pub edge : edge_test test ≡ Some e
+  pub plain : body_has_event branch' ≡ false
+
+-- Bodies of the first kind are clocked, and combinational is what has no edge test and no `'event`.
+pub record KindsAreAsSaid (body : Stmts) : Type 0 where
+  pub clocked_is : (branch' : Stmts) (e : EdgeTest) → kind_of body ≡ AtEdge e branch' ↔ IsClockedBody body branch' e
+  pub combinational_is : kind_of body ≡ Plain ↔ (body_has_event body ≡ false)
+
+abbrev pub EachKindIsAsSaid : Type 0
+EachKindIsAsSaid = (body : Stmts) → KindsAreAsSaid body
 
 -- this is the body of an alternative
 abbrev pub IsAlternative : Stmts → Alternatives → Type 0
