@@ -38,6 +38,24 @@ fn words_and_delimiters(rt: HostRuntime) -> Result<(), Fail> {
         (Kind::Identifier, 23, 24),
     ];
     assert!(rt; has_tokens(&rt, words, &kinds)?);
+    let later = b"context default force";
+    let kinds = [
+        (Kind::Identifier, 0, 7),
+        (Kind::Identifier, 8, 15),
+        (Kind::Identifier, 16, 21),
+    ];
+    assert!(rt; has_tokens(&rt, later, &kinds)?);
+    let singles = b"&,-:;=|";
+    let kinds = [
+        (Kind::Ampersand, 0, 1),
+        (Kind::Comma, 1, 2),
+        (Kind::Minus, 2, 3),
+        (Kind::Colon, 3, 4),
+        (Kind::Semicolon, 4, 5),
+        (Kind::Equal, 5, 6),
+        (Kind::Bar, 6, 7),
+    ];
+    assert!(rt; has_tokens(&rt, singles, &kinds)?);
     let pairs = b"=>:=<=>=/=<>**";
     let kinds = [
         (Kind::Arrow, 0, 2),
@@ -51,6 +69,31 @@ fn words_and_delimiters(rt: HostRuntime) -> Result<(), Fail> {
         (Kind::Star, 13, 14),
     ];
     assert!(rt; has_tokens(&rt, pairs, &kinds)?);
+    Ok(())
+}
+
+// Each word of IEEE 1076-2002's list is the kind of its name.
+#[test]
+fn reserved_words(rt: HostRuntime) -> Result<(), Fail> {
+    let source =
+        b"abs access after alias all and architecture array assert attribute begin block body \
+        buffer bus case component configuration constant disconnect downto else elsif end \
+        entity exit file for function generate generic group guarded if impure in inertial \
+        inout is label library linkage literal loop map mod nand new next nor not null of on \
+        open or others out package port postponed procedure process protected pure range \
+        record register reject rem report return rol ror select severity shared signal sla \
+        sll sra srl subtype then to transport type unaffected units until use variable wait \
+        when while with xnor xor";
+    let tokens = lex(rt.alloc(), source)?;
+    assert_eq!(rt; tokens.len(), 98);
+    for token in &tokens {
+        let name = format!(in rt.alloc(); "{:?}", token.kind)?;
+        let same = match source.get(token.start..token.end) {
+            Some(word) => word.eq_ignore_ascii_case(name.as_bytes()),
+            None => false,
+        };
+        assert!(rt; same, "{name}");
+    }
     Ok(())
 }
 
