@@ -13,7 +13,7 @@ pub fn simulations_agree()
     ensures { EveryOrderIsOne }
 {}
 
-/// In an accepted net each combinational process has a level, since there is no loop.
+/// Without a loop each combinational process has a level.
 pub fn levels_exist()
     ensures { LevelsExist }
 {}

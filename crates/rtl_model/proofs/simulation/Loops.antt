@@ -7,13 +7,12 @@ use Rattle.std.proofs.lemmas.List.Elements.{All-from_get_or, recursion_from_All}
 use Rattle.std.proofs.lemmas.Map.Keys.{IsDistinct-cons}
 use Rattle.std.proofs.lemmas.Map.Steps.{length-le_from_distinct_below}
 use Rattle.std.proofs.lemmas.Bool.{cases_eq, cases_lt, ne_eqb, eqb-true, or_cases, lt-ltb, le-ltb}
-use Rattle.rtl_model.specs.simulation.Net.{Edge, IsClockedBy, IsCombinational, Net}
-use Rattle.rtl_model.specs.simulation.Accepted.{Feeds, IsFedRound}
-use Rattle.rtl_model.specs.simulation.Levels.{AreLevels, ChainTo, IsLevel}
+use Rattle.rtl_model.specs.simulation.Net.{Edge, IsClockedBy, IsCombinational, Net, process}
+use Rattle.rtl_model.specs.simulation.Accepted.{Feeds, HasNoLoop, IsFedRound}
+use Rattle.rtl_model.specs.simulation.Levels.{ChainTo, IsLevel}
 use Rattle.rtl_model.specs.simulation.Laws.{LevelsExist}
 use Rattle.rtl_model.proofs.simulation.Order.{get_or-rows}
 use Rattle.rtl_model.proofs.simulation.Decisions.{search_below, is_combinational, is_fed}
-use Rattle.rtl_model.proofs.simulation.Faultless.{Faultless, faultless}
 
 is_chain : (net : Net) (n q : ℕ) → ChainTo net q n ⊎ (ChainTo net q n → ⊥)
 is_chain net zero q = inr (λ h. h)
@@ -46,12 +45,12 @@ back net first q [] k c l e = absurd (omega arith)
 back net first q (p ∷ more) zero (f, c) l e = subst (λ (r : ℕ). Feeds net r q) e f
 back net first q (p ∷ more) (suc k) (f, c) l e = (f, back net first p more k c (omega arith) e)
 
-chain_distinct : (net : Net) (A : Faultless net) (q : ℕ) (more : List ℕ) → IsChain net q more → IsDistinct eqb (q ∷ more)
+chain_distinct : (net : Net) (A : HasNoLoop net) (q : ℕ) (more : List ℕ) → IsChain net q more → IsDistinct eqb (q ∷ more)
 unfolding IsChain IsDistinct
 chain_distinct net A q [] c = IsDistinct-cons eqb q [] tt tt
 chain_distinct net A q (p ∷ more) c =
     IsDistinct-cons eqb q (p ∷ more)
-    (recursion_from_All (λ y. eqb q y ≡ false) (p ∷ more) (All-from_get_or (λ y. eqb q y ≡ false) (p ∷ more) 0 (λ k l. ne_eqb q _ (λ e. A.no_loop (q ∷ take k (p ∷ more)) (back net q q (p ∷ more) k c l (sym e))))))
+    (recursion_from_All (λ y. eqb q y ≡ false) (p ∷ more) (All-from_get_or (λ y. eqb q y ≡ false) (p ∷ more) 0 (λ k l. ne_eqb q _ (λ e. A (q ∷ take k (p ∷ more)) (back net q q (p ∷ more) k c l (sym e))))))
     (chain_distinct net A p more c.1)
 
 chain_in_range : (net : Net) (q : ℕ) (more : List ℕ) → IsChain net q more → (r : ℕ) → list_any (eqb r) (q ∷ more) ≡ true → r < length net.processes
@@ -67,7 +66,7 @@ chain_in_range net q (p ∷ more) c r h = go (chain_in_range net p more c.1 r) (
     go more' (inl e) = let k = eqb-true r q e in let l = c.0.fed.0 in omega arith
     go more' (inr e) = more' e
 
-chain_bounded : (net : Net) (A : Faultless net) (q n : ℕ) → ChainTo net q n → n ≤ length net.processes
+chain_bounded : (net : Net) (A : HasNoLoop net) (q n : ℕ) → ChainTo net q n → n ≤ length net.processes
 chain_bounded net A q zero c = absurd c
 chain_bounded net A q (suc n) c =
     let (more, e, chain) = chain_list net n q c in
@@ -87,16 +86,16 @@ highest Q d one (suc b) top = go (λ t. highest Q d one b t) (d (suc b))
         at n h (inl e) = absurd (none (subst (λ (m : ℕ). Q m) e h))
         at n h (inr ne) = let l = top n h in omega arith
 
-level_exists : (net : Net) (A : Faultless net) (p : ℕ) → IsCombinational net p → (level : ℕ) × IsLevel net p level
+level_exists : (net : Net) (A : HasNoLoop net) (p : ℕ) → IsCombinational net p → (level : ℕ) × IsLevel net p level
 level_exists net A p c =
     let (n, h, top) = highest (λ n. ChainTo net p n) (λ n. is_chain net n p) c (length net.processes) (λ n h. chain_bounded net A p n h) in
     (n, record { reached = h; longest = top })
 
-abbrev level_option : (net : Net) (A : Faultless net) (p : ℕ) → IsCombinational net p ⊎ (IsCombinational net p → ⊥) → Option ℕ
+abbrev level_option : (net : Net) (A : HasNoLoop net) (p : ℕ) → IsCombinational net p ⊎ (IsCombinational net p → ⊥) → Option ℕ
 level_option net A p (inl c) = Some (level_exists net A p c).0
 level_option net A p (inr none) = None
 
-levels_of : (net : Net) → Faultless net → List (Option ℕ)
+levels_of : (net : Net) → HasNoLoop net → List (Option ℕ)
 levels_of net A = map (λ (p : ℕ). level_option net A p (is_combinational net p)) (range_with_len 0 (length net.processes))
 
 greatest_of : List (Option ℕ) → ℕ
@@ -131,11 +130,11 @@ met (Some w ∷ xs) h = go (met xs) (cases_lt w (greatest_of xs))
     go more (inl l) = rw (lt-ltb w (greatest_of xs) l) (let (k, e) = more (λ z. absurd (omega arith)) in (suc k, e))
     go more (inr l) = rw (le-ltb w (greatest_of xs) l) (0, refl)
 
-levels_at : (net : Net) (A : Faultless net) (p : ℕ) → p < length net.processes → get_or (levels_of net A) p None ≡ level_option net A p (is_combinational net p)
+levels_at : (net : Net) (A : HasNoLoop net) (p : ℕ) → p < length net.processes → get_or (levels_of net A) p None ≡ level_option net A p (is_combinational net p)
 unfolding levels_of
 levels_at net A p l = get_or-rows (λ (q : ℕ). level_option net A q (is_combinational net q)) (length net.processes) p None l
 
-pub levels_exist : (net : Net) → Faultless net → (levels : List (Option ℕ)) × (greatest : ℕ) × AreLevels net levels greatest
+pub levels_exist : LevelsExist
 unfolding levels_of
 levels_exist net A = (
   levels_of net A,
@@ -157,7 +156,3 @@ levels_exist net A = (
     clocked p clock edge is (inl l) (inl h) e = let k = h.1 in let j = is.1 in cc
     clocked p clock edge is (inl l) (inr none) e = levels_at net A p l ∙ ap (level_option net A p) e
     clocked p clock edge is (inr l) d e = get_or_past (levels_of net A) p None (rw length-map-range_with_len l)
-
--- the law
-pub levels_of_accepted : LevelsExist
-levels_of_accepted net A = levels_exist net (faultless net A)

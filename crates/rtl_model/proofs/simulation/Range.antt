@@ -87,11 +87,11 @@ module _ (net : Net) (levels : List (Option ℕ)) (greatest : ℕ) (E : IsElabor
 pub solutions_in_range : SolutionsInRange
 solutions_in_range net E A' K inputs registers I R v s =
     let A = faultless net A' in
-    let (levels, greatest, V) = levels_exist net A in
+    let (levels, greatest, V) = levels_exist net A.no_loop in
     solves_in_range net levels greatest E A V K inputs registers I R v s
 
 pub runs_in_range : RunsInRange
 runs_in_range net E A' K stimulus I v run m =
     let A = faultless net A' in
-    let (levels, greatest, V) = levels_exist net A in
+    let (levels, greatest, V) = levels_exist net A.no_loop in
     run_in_range net levels greatest E A V K stimulus I v run m

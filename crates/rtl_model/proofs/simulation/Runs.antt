@@ -21,7 +21,7 @@ solves_like net inputs r r' v s same = record { each_net = s.each_net; on_inputs
 
 module _ (net : Net) (E : IsElaborated net) (A : Faultless net) where
   unique : (inputs r : ℕ → ℕ) (v w : List ℕ) → Solves net inputs r v → Solves net inputs r w → v ≡ w
-  unique inputs r v w s t = let (levels, greatest, V) = levels_exist net A in one_solves net levels greatest E A V inputs r v w s t
+  unique inputs r v w s t = let (levels, greatest, V) = levels_exist net A.no_loop in one_solves net levels greatest E A V inputs r v w s t
 
   step_once : (v w w' : List ℕ) (inputs : ℕ → ℕ) → IsStep net v inputs w → IsStep net v inputs w' → w ≡ w'
   step_once v w w' inputs a b =
@@ -64,7 +64,7 @@ module _ (net : Net) (E : IsElaborated net) (A : Faultless net) where
     first_from inputs n (Driver p place ∷ more) = entry_or (clocked_entry (resets (reset_of net p) inputs) false (reset_entry (reset_of net p) place) None) (get_or net.start n 0)
 
     at_sole : (f : List Source → ℕ) (p place : ℕ) → HasPlace net p place → f (sources_of net (target net p place)) ≡ f (Driver p place ∷ [])
-    at_sole f p place h = let (levels, greatest, V) = levels_exist net A in ap f (sole net levels greatest E A V p place h)
+    at_sole f p place h = let (levels, greatest, V) = levels_exist net A.no_loop in ap f (sole net levels greatest E A V p place h)
 
     steps : (v : List ℕ) (inputs : ℕ → ℕ) → (w : List ℕ) × IsStep net v inputs w
     unfolding next_from

@@ -208,11 +208,11 @@ settles_in_bound net levels greatest E A V stimulus m s begun = settles_both net
 pub is_the_machine : IsTheMachine
 is_the_machine net E A' stimulus m none k t (s, begun, to) v run =
     let A = faultless net A' in
-    let (levels, greatest, V) = levels_exist net A in
+    let (levels, greatest, V) = levels_exist net A.no_loop in
     Machine-run net E A stimulus v run m t.now (machine net levels greatest E A V stimulus m none s t k begun to)
 
 pub each_moment_comes : EachMomentComes
 each_moment_comes net E A' stimulus m =
     let A = faultless net A' in
-    let (levels, greatest, V) = levels_exist net A in
+    let (levels, greatest, V) = levels_exist net A.no_loop in
     has_settled net levels greatest E A V stimulus m

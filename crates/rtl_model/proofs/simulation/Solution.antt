@@ -185,7 +185,7 @@ module _ (net : Net) (levels : List (Option ℕ)) (greatest : ℕ) (E : IsElabor
 -- the solution for given inputs and registers
 pub solution_exists : (net : Net) → IsElaborated net → Faultless net → (inputs registers : ℕ → ℕ) → (v : List ℕ) × Solves net inputs registers v × ((w : List ℕ) → Solves net inputs registers w → w ≡ v)
 solution_exists net E A inputs registers =
-    let (levels, greatest, V) = levels_exist net A in
+    let (levels, greatest, V) = levels_exist net A.no_loop in
     (solution net levels greatest E A V inputs registers, solution_solves net levels greatest E A V inputs registers, λ w t. one_solves net levels greatest E A V inputs registers _ _ t (solution_solves net levels greatest E A V inputs registers))
 
 pub one_solution : OneSolution

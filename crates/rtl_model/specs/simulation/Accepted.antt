@@ -33,6 +33,9 @@ abbrev pub IsLoop : Net → List ℕ → Type 0
 IsLoop net [] = ⊥
 IsLoop net (p ∷ more) = IsFedRound net p (p ∷ more)
 
+abbrev pub HasNoLoop : Net → Type 0
+HasNoLoop net = (processes : List ℕ) → IsLoop net processes → ⊥
+
 pub data Fault : Type 0 where
   TwoDrivers : (net : ℕ) → (first second : Source) → Fault
   MixedProcess : (process : ℕ) → Fault

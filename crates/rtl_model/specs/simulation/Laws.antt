@@ -4,7 +4,7 @@ use Rattle.rtl_model.specs.simulation.Net.{Net, Edge, Reset, HasReset, IsCombina
 use Rattle.rtl_model.specs.simulation.Cycle.{State, started, updated, given, ran}
 use Rattle.rtl_model.specs.simulation.Moments.{HasRun, Begun, SettlesIn, HasSettled}
 use Rattle.rtl_model.specs.simulation.Elaborated.{IsElaborated, IsWired}
-use Rattle.rtl_model.specs.simulation.Accepted.{IsAccepted, IsLoop}
+use Rattle.rtl_model.specs.simulation.Accepted.{IsAccepted, HasNoLoop}
 use Rattle.rtl_model.specs.simulation.Levels.{AreLevels, IsLevel, ShowLevels, Rises, bound}
 use Rattle.rtl_model.specs.simulation.Report.{IsReport, LeadsDown, ShowReport}
 use Rattle.rtl_model.specs.simulation.Races.{HasNoRace}
@@ -36,12 +36,16 @@ StatesInRange =
     (net : Net) → IsWired net → KeepsRange net → SourcesKeepRange net
     → StepsKeepRange net × ((stimulus : ℕ → ℕ → ℕ) → ((m : ℕ) → AreInputs net (stimulus m)) → (m k : ℕ) (t : State) → HasSettled net stimulus m k t → StateInRange net t)
 
+-- without a loop each combinational process has a level
+abbrev pub LevelsExist : Type 0
+LevelsExist = (net : Net) → HasNoLoop net → (levels : List (Option ℕ)) × (greatest : ℕ) × AreLevels net levels greatest
+
 -- What shows levels gives each process its level, no rising numbering is lower anywhere, and there is no loop.
 abbrev pub LevelsAreShown : Type 0
 LevelsAreShown =
     (net : Net) (levels from : List (Option ℕ)) → ShowLevels net levels from
     → ((p level : ℕ) → IsCombinational net p → slice_index_or levels p None ≡ Some level → IsLevel net p level × ((number : ℕ → ℕ) → Rises net number → level ≤ number p))
-    × ((processes : List ℕ) → IsLoop net processes → ⊥)
+    × HasNoLoop net
 
 -- What is a report is shown by local facts, and what they show is a report.
 abbrev pub ReportsAreShown : Type 0
@@ -55,11 +59,7 @@ ReportsLeadDown =
 
 -- ---- of an accepted net
 
--- without a loop each combinational process has a level
-abbrev pub LevelsExist : Type 0
-LevelsExist = (net : Net) → IsAccepted net → (levels : List (Option ℕ)) × (greatest : ℕ) × AreLevels net levels greatest
-
--- and no more than one report
+-- an accepted net has no more than one report
 abbrev pub OneReport : Type 0
 OneReport =
     (net : Net) → IsAccepted net → (levels levels' from from' : List (Option ℕ)) (clocks clocks' : List (ℕ × Edge)) (most most' : ℕ)

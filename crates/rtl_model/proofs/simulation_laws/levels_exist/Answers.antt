@@ -1,5 +1,5 @@
-use Rattle.rtl_model.proofs.simulation.Loops.{levels_of_accepted}
+use Rattle.rtl_model.proofs.simulation.Loops.{levels_exist}
 use Rattle.rtl_model.proofs.simulation_laws.levels_exist.Goals as goal
 
 pub returns : goal.returns
-returns c = levels_of_accepted
+returns c = levels_exist
