@@ -120,7 +120,7 @@ second (negation at operand) f = Some (head operand)
 second (signed sign at operand) f = Some (head operand)
 second (binary op at left right) f = second left (Some (kind_of op))
 
-abbrev behind : List Piece → Option Kind → Option Kind
+abbrev pub behind : List Piece → Option Kind → Option Kind
 behind [] next = None
 behind (p ∷ ps) next = front ps next
 
@@ -204,7 +204,7 @@ spell_long (binary op at left right) = omega (arith, spell_long left, length-app
 
 -- ---- choices by two tokens
 
-abbrev both : Kind → Kind → List Piece → Option Kind → Bool
+abbrev pub both : Kind → Kind → List Piece → Option Kind → Bool
 both first behind_it ps next = is_kind first (front ps next) && is_kind behind_it (behind ps next)
 
 second_kind_is : (p : Piece) (ps : List Piece) (ts rest : List Lexeme) → Spells (p ∷ ps) ts rest → second_kind ts ≡ front ps (next_kind rest)
@@ -217,19 +217,19 @@ sees_is first behind_it [] ts rest le h = absurd (omega (arith, le))
 sees_is first behind_it (p ∷ ps) ts rest le h = rw (front_is (p ∷ ps) ts rest h, second_kind_is p ps ts rest h)
 
 module _ {B : Type 0} {b : B} {ps : List Piece} {G : Option Kind → Type 0} (first behind_it : Kind) (long : 1 ≤ length ps) where
-  g_both : {p : Parser B} (q : Parser B) → ((next : Option Kind) → both first behind_it ps next ≡ true) → Gives p b ps G → Gives (test_both first behind_it p q) b ps G
+  pub g_both : {p : Parser B} (q : Parser B) → ((next : Option Kind) → both first behind_it ps next ≡ true) → Gives p b ps G → Gives (test_both first behind_it p q) b ps G
   g_both {p} q is w = record {
     reads = λ ts rest h g.
         subst (λ t. Reaches (cond {A = Outcome B} t (p ts) (q ts)) b rest) (sym (sees_is first behind_it ps ts rest long h ∙ is (next_kind rest))) (w.reads ts rest h g);
   }
 
-  g_neither : {q : Parser B} (p : Parser B) → ((next : Option Kind) → G next → both first behind_it ps next ≡ false) → Gives q b ps G → Gives (test_both first behind_it p q) b ps G
+  pub g_neither : {q : Parser B} (p : Parser B) → ((next : Option Kind) → G next → both first behind_it ps next ≡ false) → Gives q b ps G → Gives (test_both first behind_it p q) b ps G
   g_neither {q} p is w = record {
     reads = λ ts rest h g.
         subst (λ t. Reaches (cond {A = Outcome B} t (p ts) (q ts)) b rest) (sym (sees_is first behind_it ps ts rest long h ∙ is (next_kind rest) g)) (w.reads ts rest h g);
   }
 
-  g_neither_then : {A : Type 0} (q p : Parser A) (f : A → Parser B) → ((next : Option Kind) → G next → both first behind_it ps next ≡ false) → Gives (λ ts. and_then (q ts) f) b ps G → Gives (λ ts. and_then (test_both first behind_it p q ts) f) b ps G
+  pub g_neither_then : {A : Type 0} (q p : Parser A) (f : A → Parser B) → ((next : Option Kind) → G next → both first behind_it ps next ≡ false) → Gives (λ ts. and_then (q ts) f) b ps G → Gives (λ ts. and_then (test_both first behind_it p q ts) f) b ps G
   g_neither_then {A} q p f is w = record {
     reads = λ ts rest h g.
         subst (λ t. Reaches (and_then (cond {A = Outcome A} t (p ts) (q ts)) f) b rest) (sym (sees_is first behind_it ps ts rest long h ∙ is (next_kind rest) g)) (w.reads ts rest h g);

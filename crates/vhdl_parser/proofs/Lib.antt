@@ -16,3 +16,10 @@ pub mod Concurrents
 pub mod Ports
 pub mod Files
 pub mod Within
+pub mod WalkSequential
+pub mod GiveSequential
+pub mod RowsStatements
+pub mod WalkProcess
+pub mod GiveProcess
+pub mod WalkInstance
+pub mod GiveInstance

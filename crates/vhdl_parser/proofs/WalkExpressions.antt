@@ -33,14 +33,14 @@ w_ends {B} {n} {d} {before} {p} {part} {spell} {Part} {Good} is good w = record 
   deep = w.deep;
 }
 
-w_weaken : {B : Type 0} {n d d2 : ℕ} {e : Bool} {before : List Piece → List Piece} {p : Parser B} {spell : B → List Piece} {Part Good : B → Type 0} →
+pub w_weaken : {B : Type 0} {n d d2 : ℕ} {e : Bool} {before : List Piece → List Piece} {p : Parser B} {spell : B → List Piece} {Part Good : B → Type 0} →
     ((b : B) → Part b → Good b) → Walks n d e d2 before p spell Part → Walks n d e d2 before p spell Good
 w_weaken {B} {n} {d} {d2} {e} {before} {p} {spell} {Part} {Good} good w = record {
   reads = λ ts b rest h. let m = w.reads ts b rest h in record { more = m.more; is = m.is; spelled = m.spelled; formed = good b m.formed; walk = m.walk };
   deep = w.deep;
 }
 
-w_before : {B : Type 0} {n d d2 : ℕ} {e : Bool} {before other : List Piece → List Piece} {p : Parser B} {spell : B → List Piece} {Good : B → Type 0} →
+pub w_before : {B : Type 0} {n d d2 : ℕ} {e : Bool} {before other : List Piece → List Piece} {p : Parser B} {spell : B → List Piece} {Good : B → Type 0} →
     ((ps : List Piece) → other ps ≡ before ps) → Walks n d e d2 other p spell Good → Walks n d e d2 before p spell Good
 w_before {B} {n} {d} {d2} {e} {before} {other} {p} {spell} {Good} same w = record {
   reads = λ ts b rest h. let m = w.reads ts b rest h in record { more = m.more; is = m.is ∙ same m.more; spelled = m.spelled; formed = m.formed; walk = m.walk };

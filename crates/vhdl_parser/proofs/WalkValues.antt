@@ -14,7 +14,7 @@ use Rattle.vhdl_parser.proofs.Rules.{w_at, w_some, w_left_at, w_right, w_ident, 
 use Rattle.vhdl_parser.proofs.WalkExpressions.{w_ends, direction_neutral, inside_rule, expr_rule}
 
 -- by the tokens ahead
-w_by : {B : Type 0} {n d d2 : ℕ} {e : Bool} {before : List Piece → List Piece} {spell : B → List Piece} {Good : B → Type 0} {p q : Parser B} (c : List Lexeme → Bool) →
+pub w_by : {B : Type 0} {n d d2 : ℕ} {e : Bool} {before : List Piece → List Piece} {spell : B → List Piece} {Good : B → Type 0} {p q : Parser B} (c : List Lexeme → Bool) →
     Walks n d e d2 before p spell Good → Walks n d e d2 before q spell Good → Walks n d e d2 before (λ ts. cond {A = Outcome B} (c ts) (p ts) (q ts)) spell Good
 w_by {B} {n} {d} {d2} {e} {before} {spell} {Good} {p} {q} c one other = record {
   reads = λ ts b rest h. (by (c ts)).reads ts b rest h;

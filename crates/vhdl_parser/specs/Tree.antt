@@ -70,6 +70,105 @@ pub record Association : Type 0 where
   pub formal : Option Ident
   pub actual : Actual
 
+-- ---- sequential statements
+
+mutual
+  pub data Statement : Type 0 where
+    -- where `null` starts
+    nothing : ℕ → Statement
+    assigned : Name → Value → Statement
+    -- where `if` starts, its branches, what else is done, and the label at its end
+    conditional : ℕ → Conditionals → Otherwise → Option Ident → Statement
+    -- where `case` starts, its selector and alternatives, and the label at its end
+    selection : ℕ → Expr → Alternatives → Option Ident → Statement
+    -- where `for` starts, its parameter, range and statements, and the label at its end
+    loop : ℕ → Ident → Range → Statements → Option Ident → Statement
+
+  -- each after its label
+  pub data Statements : Type 0 where
+    no_statements : Statements
+    statement : Option Ident → Statement → Statements → Statements
+
+  pub data Conditionals : Type 0 where
+    no_conditionals : Conditionals
+    -- a condition and what it guards
+    guarded : Expr → Statements → Conditionals → Conditionals
+
+  pub data Otherwise : Type 0 where
+    no_else : Otherwise
+    else_do : Statements → Otherwise
+
+  pub data Alternatives : Type 0 where
+    no_alternatives : Alternatives
+    alternative : List Choice → Statements → Alternatives → Alternatives
+
+pub record Sequential : Type 0 where
+  pub label : Option Ident
+  pub statement : Statement
+
+pub record Conditional : Type 0 where
+  pub condition : Expr
+  pub statements : List Sequential
+
+pub record Alternative : Type 0 where
+  pub choices : List Choice
+  pub statements : List Sequential
+
+abbrev pub statements_of : List Sequential → Statements
+statements_of [] = no_statements
+statements_of (s ∷ ss) = statement s.label s.statement (statements_of ss)
+
+abbrev pub conditionals_of : List Conditional → Conditionals
+conditionals_of [] = no_conditionals
+conditionals_of (c ∷ cs) = guarded c.condition (statements_of c.statements) (conditionals_of cs)
+
+abbrev pub alternatives_of : List Alternative → Alternatives
+alternatives_of [] = no_alternatives
+alternatives_of (a ∷ more) = alternative a.choices (statements_of a.statements) (alternatives_of more)
+
+abbrev pub otherwise_of : Option (List Sequential) → Otherwise
+otherwise_of None = no_else
+otherwise_of (Some ss) = else_do (statements_of ss)
+
+-- ---- processes and selected assignments
+
+-- none, ( all ), or names
+pub data Sensitivity : Type 0 where
+  absent : Sensitivity
+  every : Sensitivity
+  listed : List Name → Sensitivity
+
+pub record Process : Type 0 where
+  pub at : ℕ
+  pub sensitivity : Sensitivity
+  pub is_word : Bool
+  pub statements : List Sequential
+  pub end_label : Option Ident
+
+-- value when choices
+pub record Waveform : Type 0 where
+  pub value : Value
+  pub choices : List Choice
+
+pub record SelectedAssignment : Type 0 where
+  pub at : ℕ
+  pub selector : Expr
+  pub target : Name
+  pub waveforms : List Waveform
+
+-- ---- instances
+
+pub data Instantiated : Type 0 where
+  -- entity library . name, and the architecture in parentheses
+  entity_unit : Ident → Ident → Option Ident → Instantiated
+  -- whether `component` stands there, and its name
+  component_unit : Bool → Ident → Instantiated
+
+pub record Instance : Type 0 where
+  pub unit : Instantiated
+  pub generics : Option (List Association)
+  pub ports : Option (List Association)
+
 -- ---- concurrent statements
 
 -- value when condition

@@ -18,6 +18,23 @@ use Rattle.vhdl_parser.specs.declared.tree.Choice.TheVariants as ch
 use Rattle.vhdl_parser.specs.declared.tree.Actual.{Actual}
 use Rattle.vhdl_parser.specs.declared.tree.Actual.TheVariants as ac
 use Rattle.vhdl_parser.specs.declared.tree.Association.{Association}
+use Rattle.vhdl_parser.specs.declared.tree.Sequential.{Sequential}
+use Rattle.vhdl_parser.specs.declared.tree.Statement.{Statement}
+use Rattle.vhdl_parser.specs.declared.tree.Statement.TheVariants as st
+use Rattle.vhdl_parser.specs.declared.tree.Statement.TheBlock.{Held-If-otherwise, None', Some', Row_of-Sequential, end_of-Sequential, more_of-Sequential, Row_of-Conditional, end_of-Conditional, more_of-Conditional, Row_of-Alternative, end_of-Alternative, more_of-Alternative}
+use Rattle.vhdl_parser.specs.declared.tree.If.{If, If'}
+use Rattle.vhdl_parser.specs.declared.tree.Case.{Case, Case'}
+use Rattle.vhdl_parser.specs.declared.tree.For.{For, For'}
+use Rattle.vhdl_parser.specs.declared.tree.Conditional.{Conditional, Conditional', out-Conditional}
+use Rattle.vhdl_parser.specs.declared.tree.Alternative.{Alternative, Alternative', out-Alternative}
+use Rattle.vhdl_parser.specs.declared.tree.Sensitivity.{Sensitivity}
+use Rattle.vhdl_parser.specs.declared.tree.Sensitivity.TheVariants as se
+use Rattle.vhdl_parser.specs.declared.tree.Process.{Process}
+use Rattle.vhdl_parser.specs.declared.tree.Waveform.{Waveform}
+use Rattle.vhdl_parser.specs.declared.tree.SelectedAssignment.{SelectedAssignment}
+use Rattle.vhdl_parser.specs.declared.instance.Instantiated.{Instantiated}
+use Rattle.vhdl_parser.specs.declared.instance.Instantiated.TheVariants as it
+use Rattle.vhdl_parser.specs.declared.instance.Instance.{Instance}
 use Rattle.vhdl_parser.specs.declared.tree.Branch.{Branch}
 use Rattle.vhdl_parser.specs.declared.tree.Assignment.{Assignment}
 use Rattle.vhdl_parser.specs.declared.tree.Concurrent.{Concurrent}
@@ -111,6 +128,99 @@ association_view a = record { formal = option_map ident_view a.formal; actual = 
 
 abbrev pub associations_view : Vec Association Global → List tree.Association
 associations_view v = map association_view v.items
+
+-- ---- sequential statements
+
+abbrev mutual
+  pub statement_view : Statement → tree.Statement
+  statement_view (st.Null at) = tree.nothing at
+  statement_view (st.Assignment target value) = tree.assigned (name_view target) (value_view value)
+  statement_view (st.If i) = if_view i
+  statement_view (st.Case c) = case_view c
+  statement_view (st.For f) = for_view f
+
+  pub if_view : If → tree.Statement
+  if_view (If' at shape branches otherwise end_label) = tree.conditional at (conditionals_row branches) (otherwise_row otherwise) (option_map ident_view end_label)
+
+  pub case_view : Case → tree.Statement
+  case_view (Case' at selector shape alternatives end_label) = tree.selection at (view selector) (alternatives_row alternatives) (option_map ident_view end_label)
+
+  pub for_view : For → tree.Statement
+  for_view (For' at parameter range shape statements end_label) = tree.loop at (ident_view parameter) (range_view range) (statements_row statements) (option_map ident_view end_label)
+
+  pub statements_row : {m : _} → Row_of-Sequential m → tree.Statements
+  statements_row end_of-Sequential = tree.no_statements
+  statements_row (more_of-Sequential label s rest) = tree.statement (option_map ident_view label) (statement_view s) (statements_row rest)
+
+  pub conditionals_row : {m : _} → Row_of-Conditional m → tree.Conditionals
+  conditionals_row end_of-Conditional = tree.no_conditionals
+  conditionals_row (more_of-Conditional c rest) = condition_row c (conditionals_row rest)
+
+  pub condition_row : Conditional → tree.Conditionals → tree.Conditionals
+  condition_row (Conditional' condition shape statements) rest = tree.guarded (view condition) (statements_row statements) rest
+
+  pub alternatives_row : {m : _} → Row_of-Alternative m → tree.Alternatives
+  alternatives_row end_of-Alternative = tree.no_alternatives
+  alternatives_row (more_of-Alternative a rest) = alternative_row a (alternatives_row rest)
+
+  pub alternative_row : Alternative → tree.Alternatives → tree.Alternatives
+  alternative_row (Alternative' choices shape statements) rest = tree.alternative (choices_view choices) (statements_row statements) rest
+
+  pub otherwise_row : Held-If-otherwise → tree.Otherwise
+  otherwise_row None' = tree.no_else
+  otherwise_row (Some' shape row) = tree.else_do (statements_row row)
+
+abbrev pub sequential_view : Sequential → tree.Sequential
+sequential_view s = record { label = option_map ident_view s.label; statement = statement_view s.statement }
+
+abbrev pub sequentials_view : Vec Sequential Global → List tree.Sequential
+sequentials_view v = map sequential_view v.items
+
+abbrev pub option_sequentials_view : Option (Vec Sequential Global) → Option (List tree.Sequential)
+option_sequentials_view = option_map sequentials_view
+
+abbrev pub conditional_view : Conditional → tree.Conditional
+conditional_view c = record { condition = view (out-Conditional c).condition; statements = sequentials_view (out-Conditional c).statements }
+
+abbrev pub conditionals_view : Vec Conditional Global → List tree.Conditional
+conditionals_view v = map conditional_view v.items
+
+abbrev pub alternative_view : Alternative → tree.Alternative
+alternative_view a = record { choices = choices_view (out-Alternative a).choices; statements = sequentials_view (out-Alternative a).statements }
+
+abbrev pub alternatives_view : Vec Alternative Global → List tree.Alternative
+alternatives_view v = map alternative_view v.items
+
+-- ---- processes and selected assignments
+
+abbrev pub names_view : Vec Name Global → List tree.Name
+names_view v = map name_view v.items
+
+abbrev pub sensitivity_view : Sensitivity → tree.Sensitivity
+sensitivity_view se.Absent = tree.absent
+sensitivity_view se.All = tree.every
+sensitivity_view (se.Names all) = tree.listed (names_view all)
+
+abbrev pub process_view : Process → tree.Process
+process_view p = record { at = p.at; sensitivity = sensitivity_view p.sensitivity; is_word = p.is_word; statements = sequentials_view p.statements; end_label = option_map ident_view p.end_label }
+
+abbrev pub waveform_view : Waveform → tree.Waveform
+waveform_view w = record { value = value_view w.value; choices = choices_view w.choices }
+
+abbrev pub waveforms_view : Vec Waveform Global → List tree.Waveform
+waveforms_view v = map waveform_view v.items
+
+abbrev pub selected_assignment_view : SelectedAssignment → tree.SelectedAssignment
+selected_assignment_view s = record { at = s.at; selector = view s.selector; target = name_view s.target; waveforms = waveforms_view s.waveforms }
+
+-- ---- instances
+
+abbrev pub instantiated_view : Instantiated → tree.Instantiated
+instantiated_view (it.Entity library name chosen) = tree.entity_unit (ident_view library) (ident_view name) (option_map ident_view chosen)
+instantiated_view (it.Component word name) = tree.component_unit word (ident_view name)
+
+abbrev pub instance_view : Instance → tree.Instance
+instance_view i = record { unit = instantiated_view i.unit; generics = option_map associations_view i.generics; ports = option_map associations_view i.ports }
 
 -- ---- concurrent statements
 

@@ -1,5 +1,8 @@
 -- The grammar: how each tree is spelled, and which trees are well formed.
 pub mod Expressions
+pub mod Sequential
+pub mod Process
+pub mod Instance
 pub mod Concurrent
 pub mod Declarations
 pub mod Units

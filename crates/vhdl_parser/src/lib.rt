@@ -6,8 +6,11 @@ mod declaration;
 mod expr;
 mod fault;
 mod file;
+mod instance;
 mod operator;
 mod parser;
+mod process;
+mod sequential;
 #[cfg(test)]
 mod tests;
 mod tree;
@@ -16,10 +19,12 @@ mod value;
 
 pub use fault::SyntaxFault;
 pub use file::parse;
+pub use instance::{Instance, Instantiated};
 pub use tree::{
-    Actual, Architecture, Assignment, Association, Branch, Choice, Component, Concurrent,
-    Constants, ContextItem, Declaration, DesignUnit, Direction, Entity, Enumeration, Expr, File,
-    Generic, Identifier, LibraryUnit, Link, Literal, Mode, Name, Operator, Port, Range, Selected,
-    Sign, Signals, Subtype, Suffix, Value,
+    Actual, Alternative, Architecture, Assignment, Association, Branch, Case, Choice, Component,
+    Concurrent, Conditional, Constants, ContextItem, Declaration, DesignUnit, Direction, Entity,
+    Enumeration, Expr, File, For, Generic, Identifier, If, LibraryUnit, Link, Literal, Mode, Name,
+    Operator, Port, Process, Range, Selected, SelectedAssignment, Sensitivity, Sequential, Sign,
+    Signals, Statement, Subtype, Suffix, Value, Waveform,
 };
 pub use unit::MAX_OPEN;

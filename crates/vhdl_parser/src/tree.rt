@@ -135,6 +135,112 @@ pub struct Association {
     pub actual: Actual,
 }
 
+/// A sequential statement and its label.
+#[cycle(statement)]
+#[derive(Drop)]
+pub struct Sequential {
+    pub label: Option<Identifier>,
+    pub statement: Statement,
+}
+
+/// A sequential statement without its label.
+#[cycle(statement)]
+#[derive(Drop)]
+pub enum Statement {
+    /// `null`, and the byte at which it starts.
+    Null(usize),
+    /// A target and what is assigned to it.
+    Assignment(Name, Value),
+    If(If),
+    Case(Case),
+    For(For),
+}
+
+/// An if statement, and the byte at which it starts. Each branch but the first stands after
+/// `elsif`.
+#[cycle(statement)]
+#[derive(Drop)]
+pub struct If {
+    pub at: usize,
+    pub branches: Vec<Conditional>,
+    pub otherwise: Option<Vec<Sequential>>,
+    pub end_label: Option<Identifier>,
+}
+
+/// A condition, and the statements that it guards.
+#[cycle(statement)]
+#[derive(Drop)]
+pub struct Conditional {
+    pub condition: Expr,
+    pub statements: Vec<Sequential>,
+}
+
+/// A case statement, and the byte at which it starts.
+#[cycle(statement)]
+#[derive(Drop)]
+pub struct Case {
+    pub at: usize,
+    pub selector: Expr,
+    pub alternatives: Vec<Alternative>,
+    pub end_label: Option<Identifier>,
+}
+
+/// Choices, and the statements that they guard.
+#[cycle(statement)]
+#[derive(Drop)]
+pub struct Alternative {
+    pub choices: Vec<Choice>,
+    pub statements: Vec<Sequential>,
+}
+
+/// A for loop, and the byte at which it starts.
+#[cycle(statement)]
+#[derive(Drop)]
+pub struct For {
+    pub at: usize,
+    pub parameter: Identifier,
+    pub range: Range,
+    pub statements: Vec<Sequential>,
+    pub end_label: Option<Identifier>,
+}
+
+/// The names whose events resume a process.
+#[derive(Drop)]
+pub enum Sensitivity {
+    /// There is no sensitivity list.
+    Absent,
+    /// `( all )`: each name that the process reads.
+    All,
+    Names(Vec<Name>),
+}
+
+/// A process behind its label, and the byte at which it starts. `is_word` says whether `is`
+/// stands before its statements.
+#[derive(Drop)]
+pub struct Process {
+    pub at: usize,
+    pub sensitivity: Sensitivity,
+    pub is_word: bool,
+    pub statements: Vec<Sequential>,
+    pub end_label: Option<Identifier>,
+}
+
+/// `value when choices`.
+#[derive(Drop)]
+pub struct Waveform {
+    pub value: Value,
+    pub choices: Vec<Choice>,
+}
+
+/// A selected assignment behind its label, and the byte at which it starts.
+#[derive(Drop)]
+pub struct SelectedAssignment {
+    pub at: usize,
+    pub selector: Expr,
+    pub target: Name,
+    pub waveforms: Vec<Waveform>,
+}
+
 /// `value when condition`.
 #[derive(Drop)]
 pub struct Branch {
