@@ -17,3 +17,4 @@ pub mod Settling
 pub mod Range
 pub mod OneReport
 pub mod StatesInRange
+pub mod Greatest

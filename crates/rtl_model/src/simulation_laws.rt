@@ -1,6 +1,6 @@
 //! The laws of simulation (`specs/simulation/Laws.antt`), each the contract of a function that does nothing.
 
-ghost use Rattle.rtl_model.specs.simulation.Laws.{EachMomentComes, EveryOrderIsOne, IsTheMachine, LevelsAreShown, LevelsExist, OneMachineRun, OneReport, OneSolution, OrderIsFree, ReportsAreShown, ReportsLeadDown, RunsInRange, SettlesInBound, SolutionsInRange, StatesInRange};
+ghost use Rattle.rtl_model.specs.simulation.Laws.{EachMomentComes, EveryOrderIsOne, IsTheMachine, LevelsAreShown, LevelsExist, OneGreatestCount, OneMachineRun, OneReport, OneSolution, OrderIsFree, ReportsAreShown, ReportsLeadDown, RunsInRange, SettlesInBound, SolutionsInRange, StatesInRange};
 
 /// Two orders of one cycle's Runs end in the same state, in every net.
 pub fn order_is_free()
@@ -52,6 +52,11 @@ pub fn each_moment_comes()
 /// greatest level where no process has a reset.
 pub fn settles_in_bound()
     ensures { SettlesInBound }
+{}
+
+/// There is one greatest number of delta cycles of an accepted net's moments up to a last one, and it is within the bound.
+pub fn one_greatest_count()
+    ensures { OneGreatestCount }
 {}
 
 /// What an accepted net has settled in at a moment is the valuation of the machine's run, whatever the orders, where no

@@ -41,9 +41,6 @@ same_level net p a b x y = let l = x.longest b y.reached in let k = y.longest a 
 abbrev pub level_or : List (Option ℕ) → ℕ → ℕ
 level_or levels p = entry_or (get_or levels p None) 0
 
-IsAClocked : Net → ℕ → Type 0
-IsAClocked net p = (clock : ℕ) × (edge : Edge) × IsClockedBy net p clock edge
-
 module _ (net : Net) (levels : List (Option ℕ)) (greatest : ℕ) (E : IsElaborated net) (A : Faultless net) (V : AreLevels net levels greatest) where
   pub kinds : (p place : ℕ) → HasPlace net p place → IsCombinational net p ⊎ ((clock : ℕ) × (edge : Edge) × IsClockedBy net p clock edge)
   kinds p place h = go (process net p).kind refl

@@ -1,4 +1,5 @@
--- Processes and nets by hand: a net with a reset can't be written as a flat net yet. The values are those of std_logic by place: 0 is 'U', 1 is 'X', 2 is '0' and 3 is '1'.
+-- Processes and nets by hand, since a process with a reset can't be written as a flat net's yet. The values are those of
+-- std_logic by place: 0 is 'U', 1 is 'X', 2 is '0' and 3 is '1'.
 use Rattle.std.specs.Prelude.{◌≡◌, ℕ, ◌==◌, List, [], ◌∷◌, slice_index, map, Option, Some, if◌then◌else◌, false}
 use Rattle.rtl_model.specs.nets.CoreNet.{core_edges, core_resolve}
 use Rattle.rtl_model.specs.simulation.Net.{Net, Process, Source, Edge, Combinational, Clocked, Reset, clocked_entry, resets, reset_entry}

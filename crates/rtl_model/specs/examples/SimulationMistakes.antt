@@ -85,8 +85,8 @@ cycles update net order (suc k) s = cycles update net order k (run_each net orde
 abbrev pub cycles_from_start : (update : Net → State → State) → Net → (order : List ℕ) → ℕ → (inputs : ℕ → ℕ) → State
 cycles_from_start update net order k inputs = cycles update net order k (run_each net order (started net inputs))
 
--- The oscillator from 'U' would never settle, though y keeps its value; nor would the accepted net that is held in reset,
--- whose two processes would resume each other.
+-- The oscillator from 'U' would still be active after nine delta cycles, though y keeps its value; and so would the accepted
+-- net that is held in reset and whose bound is three, since its two processes would resume each other.
 pub record ActivityWouldGoOn : Type 0 where
   pub right : is_quiet (cycles_from_start updated (oscillator 0) (0 ∷ []) 1 (no_inputs 0)) ≡ true
   pub wrong : is_quiet (cycles_from_start updated_by_activity (oscillator 0) (0 ∷ []) 9 (no_inputs 0)) ≡ false

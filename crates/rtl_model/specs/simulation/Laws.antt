@@ -2,7 +2,7 @@
 use Rattle.std.specs.Prelude.{◌≡◌, ◌↔◌, ℕ, ◌≤◌, List, Option, Some, None, slice_index_or}
 use Rattle.rtl_model.specs.simulation.Net.{Net, Edge, Reset, HasReset, IsCombinational}
 use Rattle.rtl_model.specs.simulation.Cycle.{State, started, updated, given, ran}
-use Rattle.rtl_model.specs.simulation.Moments.{HasRun, Begun, SettlesIn, HasSettled}
+use Rattle.rtl_model.specs.simulation.Moments.{HasRun, Begun, SettlesIn, HasSettled, IsMost}
 use Rattle.rtl_model.specs.simulation.Elaborated.{IsElaborated, IsWired}
 use Rattle.rtl_model.specs.simulation.Accepted.{IsAccepted, HasNoLoop}
 use Rattle.rtl_model.specs.simulation.Levels.{AreLevels, IsLevel, ShowLevels, Rises, bound}
@@ -105,6 +105,12 @@ SettlesInBound =
     (net : Net) (levels : List (Option ℕ)) (greatest : ℕ) → IsElaborated net → IsAccepted net → AreLevels net levels greatest
     → (stimulus : ℕ → ℕ → ℕ) (m : ℕ) (s : State) → Begun net stimulus m s
     → (k : ℕ) × SettlesIn net s k × (k ≤ bound net greatest) × (m ≡ 0 → HasNoReset net → k ≤ greatest)
+
+-- So there is one greatest number of delta cycles of the moments up to a last one, and it is within the bound.
+abbrev pub OneGreatestCount : Type 0
+OneGreatestCount =
+    (net : Net) (levels : List (Option ℕ)) (greatest : ℕ) → IsElaborated net → IsAccepted net → AreLevels net levels greatest → (stimulus : ℕ → ℕ → ℕ) (last : ℕ)
+    → (most : ℕ) × IsMost net stimulus last most × (most ≤ bound net greatest) × ((other : ℕ) → IsMost net stimulus last other → other ≡ most)
 
 -- Where no moment up to m has a race, what has settled at m is the valuation of the machine's run.
 abbrev pub IsTheMachine : Type 0
