@@ -1,5 +1,5 @@
 -- Tests that are true or false, and choices by them.
-use Rattle.std.proofs.Common.{◌≡◌, ℕ, ◌==◌, ◌&&◌, ◌||◌, Bool, true, false, cond, not, List, [], ◌∷◌, ◌⊎◌, inl, inr, refl, sym, true≢false}
+use Rattle.std.proofs.Common.{◌≡◌, ℕ, ◌&&◌, ◌||◌, Bool, true, false, cond, not, List, [], ◌∷◌, ◌⊎◌, inl, inr, refl, sym, true≢false}
 use Rattle.std.proofs.lemmas.Bool.{eqb-true}
 use Rattle.vhdl_lexer.specs.Bytes.{begins}
 

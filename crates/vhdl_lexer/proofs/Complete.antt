@@ -1,25 +1,22 @@
 -- What stands at the front of a text is what the lexer finds there.
-use Rattle.std.proofs.Common.{◌≡◌, ℕ, zero, suc, ◌+◌, ◌≤◌, ◌==◌, ◌&&◌, ◌||◌, nat_le, Bool, true, false, cond, not, List, [], ◌∷◌, ◌++◌, length, take, drop, Ok, Err, Option, Some, None, ◌⊎◌, inl, inr, ⊎_elim, refl, sym, ap, ◌∙◌, subst, true≢false, length-append, append_assoc, arith}
-use Rattle.std.specs.List.{list_all}
-use Rattle.std.specs.Char.{is_ascii_digit, to_ascii_lowercase}
+use Rattle.std.proofs.Common.{◌≡◌, ℕ, ◌+◌, ◌≤◌, ◌==◌, ◌&&◌, ◌||◌, nat_le, Bool, true, false, cond, not, List, [], ◌∷◌, ◌++◌, length, take, drop, Ok, Err, Option, Some, None, ⊎_elim, refl, sym, ap, ◌∙◌, true≢false, length-append, append_assoc, arith}
+use Rattle.std.specs.Char.{is_ascii_digit}
 use Rattle.std.proofs.lemmas.Bool.{eqb-true}
 use Rattle.std.proofs.lemmas.Bool.Decides.{nat_tests}
 use Rattle.std.proofs.Math.Seq.{take-append_seam, drop-append_seam}
 use Rattle.vhdl_lexer.specs.declared.byte.Class.{Class}
-use Rattle.vhdl_lexer.specs.declared.byte.Class.TheVariants.{LetterOrDigit, Decimal}
-use Rattle.vhdl_lexer.specs.declared.fault.Problem.{Problem}
-use Rattle.vhdl_lexer.specs.declared.fault.Problem.TheVariants.{BadByte, OpenComment, OpenString, BadIdentifier, BadNumber}
-use Rattle.vhdl_lexer.specs.declared.literal.TheConstants.{MAX_INTEGER}
+use Rattle.vhdl_lexer.specs.declared.byte.Class.TheVariants.{Decimal}
+use Rattle.vhdl_lexer.specs.declared.fault.Problem.TheVariants.{BadByte, BadIdentifier, BadNumber}
 use Rattle.vhdl_lexer.specs.declared.token.Kind.{Kind}
 use Rattle.vhdl_lexer.specs.declared.token.Kind.TheVariants as k
 use Rattle.vhdl_lexer.specs.Bytes.{quote, tick, hash, point, slash, star, dash, is_word_byte, is_printable, begins_word, begins, Stops}
 use Rattle.vhdl_lexer.specs.Separators.{opens_comment}
 use Rattle.vhdl_lexer.specs.Words.{is_joined, is_identifier, word_kind, base_class, opened_class, IsWord}
-use Rattle.vhdl_lexer.specs.Literals.{integer_of, begins_digit, goes_on_number, may_open, closes, IsInteger, IsCharacter, IsString, IsBitString}
+use Rattle.vhdl_lexer.specs.Literals.{greatest_integer, integer_of, begins_digit, goes_on_number, may_open, IsInteger, IsCharacter, IsString, IsBitString}
 use Rattle.vhdl_lexer.specs.Delimiters.{pair, single, delimiter, IsDelimiter}
-use Rattle.vhdl_lexer.specs.Cut.{IsElement, IsToken}
-use Rattle.vhdl_lexer.specs.Scan.{Found, run, word, fits, number, string, bit_string, word_or_bit_string, character, next, mark, front}
-use Rattle.vhdl_lexer.proofs.Choices.{chosen, both_true, either_false}
+use Rattle.vhdl_lexer.specs.Cut.{IsToken}
+use Rattle.vhdl_lexer.specs.Scan.{Found, run, word, fits, number, string, bit_string, word_or_bit_string, character, next, front}
+use Rattle.vhdl_lexer.proofs.Choices.{both_true, either_false}
 use Rattle.vhdl_lexer.proofs.Runs.{run_is, is_joined-all, is_identifier-all, all-unquoted, begins_word-digit, letter_begins}
 use Rattle.vhdl_lexer.proofs.Strings.{string_closed, bit_string_closed}
 use Rattle.vhdl_lexer.proofs.Marks.{pair_zero, front_single, front_pair, mark_one, mark_two}
@@ -66,10 +63,10 @@ number_stops : (rest : List ℕ) → goes_on_number rest ≡ false → Stops is_
 number_stops [] g = tt
 number_stops (b ∷ rest) g = (either_false (is_word_byte b) (b == hash) (either_false (is_word_byte b || b == hash) (b == point && begins_digit rest) g).0).0
 
-most_fits : (text : List ℕ) → integer_of text ≤ MAX_INTEGER → fits text ≡ true
+most_fits : (text : List ℕ) → integer_of text ≤ greatest_integer → fits text ≡ true
 most_fits text le = by_number (integer_of text) le
   where
-    by_number : (n : ℕ) → n ≤ MAX_INTEGER → nat_le n MAX_INTEGER ≡ true
+    by_number : (n : ℕ) → n ≤ greatest_integer → nat_le n greatest_integer ≡ true
     by_number n le = grind (arith, nat_tests)
 
 integer_test : List ℕ → List ℕ → ℕ → Found

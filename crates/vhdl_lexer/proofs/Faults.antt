@@ -1,5 +1,5 @@
 -- A problem that the lexer meets is one by its definition, and the other way round.
-use Rattle.std.proofs.Common.{◌≡◌, ℕ, ◌+◌, ◌-◌, ◌≤◌, ◌==◌, ◌&&◌, ◌||◌, Bool, true, false, cond, not, List, [], ◌∷◌, ◌++◌, length, take, drop, Ok, Err, Option, Some, None, ◌⊎◌, inl, inr, ⊎_elim, refl, sym, ap, ◌∙◌, subst, true≢false, take-append-drop, length-append, arith}
+use Rattle.std.proofs.Common.{◌≡◌, ℕ, ◌+◌, ◌==◌, ◌&&◌, Bool, true, false, cond, not, List, [], ◌∷◌, ◌++◌, length, take, drop, Ok, Err, Option, Some, None, inl, inr, ⊎_elim, refl, sym, ap, ◌∙◌, subst, true≢false, take-append-drop, arith}
 use Rattle.std.specs.List.{list_all}
 use Rattle.std.specs.Char.{is_ascii_digit}
 use Rattle.std.proofs.lemmas.Bool.{eqb-true}
@@ -10,17 +10,17 @@ use Rattle.vhdl_lexer.specs.declared.fault.Problem.{Problem}
 use Rattle.vhdl_lexer.specs.declared.fault.Problem.TheVariants.{BadByte, OpenComment, OpenString, BadIdentifier, BadNumber}
 use Rattle.vhdl_lexer.specs.declared.token.Kind.{Kind}
 use Rattle.vhdl_lexer.specs.declared.token.Kind.TheVariants as k
-use Rattle.vhdl_lexer.specs.Bytes.{quote, tick, slash, star, dash, underscore, is_separator, is_word_byte, is_printable, begins_word, begins}
+use Rattle.vhdl_lexer.specs.Bytes.{quote, tick, slash, star, is_word_byte, is_printable, begins_word, begins}
 use Rattle.vhdl_lexer.specs.Words.{is_joined, is_identifier, word_kind, base_class, opened_class, IsWord}
-use Rattle.vhdl_lexer.specs.Literals.{begins_digit, goes_on_number, may_open, closes, IsInteger, IsClosedString, IsClosedBitString}
+use Rattle.vhdl_lexer.specs.Literals.{goes_on_number, may_open, closes, IsInteger}
 use Rattle.vhdl_lexer.specs.Delimiters.{pair, single}
-use Rattle.vhdl_lexer.specs.Fault.{Absent, IsStray, BeginsWord, Faulty}
-use Rattle.vhdl_lexer.specs.Scan.{Found, run, word, fits, number, from_quote, from_first_quote, string, bit_string, word_or_bit_string, character, one, two, next, mark, front, Stands}
-use Rattle.vhdl_lexer.proofs.Choices.{chosen, both_true, either_false, begins_with}
-use Rattle.vhdl_lexer.proofs.Runs.{run_stops, digit-begins_word}
+use Rattle.vhdl_lexer.specs.Fault.{Absent, IsStray, Faulty}
+use Rattle.vhdl_lexer.specs.Scan.{Found, run, word, fits, number, from_quote, from_first_quote, string, bit_string, word_or_bit_string, character, one, next, mark, front, Stands}
+use Rattle.vhdl_lexer.proofs.Choices.{both_true, begins_with}
+use Rattle.vhdl_lexer.proofs.Runs.{run_stops}
 use Rattle.vhdl_lexer.proofs.Strings.{Closed, closed_or_open, quoted_end, string_closed, string_open, ClosedBits, closed_or_open_bits, first_end, bit_string_closed, bit_string_open}
 use Rattle.vhdl_lexer.proofs.Marks.{front_mark, mark_one, mark_two, mark_comment}
-use Rattle.vhdl_lexer.proofs.Sound.{err_ok, opened_bits, fits_most}
+use Rattle.vhdl_lexer.proofs.Sound.{opened_bits, fits_most}
 use Rattle.vhdl_lexer.proofs.Complete.{front_digit, front_word, front_quote, front_bits, word_complete, integer_complete}
 use Rattle.vhdl_lexer.proofs.Starts.{not_mark}
 

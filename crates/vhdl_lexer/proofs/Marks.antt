@@ -1,16 +1,13 @@
 -- Delimiters at the front of a text.
-use Rattle.std.proofs.Common.{◌≡◌, ℕ, ◌+◌, ◌≤◌, ◌==◌, ◌&&◌, ◌||◌, Bool, true, false, cond, List, [], ◌∷◌, ◌++◌, length, Ok, Err, Option, Some, None, ◌⊎◌, inl, inr, ⊎_elim, refl, sym, ap, ◌∙◌, subst, eqb, true≢false, arith}
+use Rattle.std.proofs.Common.{◌≡◌, ℕ, ◌==◌, ◌&&◌, Bool, true, false, cond, List, ◌∷◌, Ok, Err, Option, Some, None, refl, sym, ap, ◌∙◌, arith}
 use Rattle.std.specs.Char.{is_ascii_digit}
-use Rattle.std.proofs.lemmas.Bool.{eqb-true, eq-eqb}
+use Rattle.std.proofs.lemmas.Bool.{eqb-true}
 use Rattle.std.proofs.lemmas.Bool.Decides.{nat_tests}
-use Rattle.vhdl_lexer.specs.declared.fault.Problem.{Problem}
-use Rattle.vhdl_lexer.specs.declared.fault.Problem.TheVariants.{BadByte, OpenComment}
+use Rattle.vhdl_lexer.specs.declared.fault.Problem.TheVariants.{OpenComment}
 use Rattle.vhdl_lexer.specs.declared.token.Kind.{Kind}
-use Rattle.vhdl_lexer.specs.declared.token.Kind.TheVariants as k
 use Rattle.vhdl_lexer.specs.Bytes.{quote, tick, star, slash, begins_word, begins}
 use Rattle.vhdl_lexer.specs.Delimiters.{pair, single}
-use Rattle.vhdl_lexer.specs.Scan.{Found, one, two, next, mark, front}
-use Rattle.vhdl_lexer.proofs.Choices.{chosen, both_true, decided}
+use Rattle.vhdl_lexer.specs.Scan.{one, two, next, mark, front}
 
 pub pair_zero : (b : ℕ) → pair b 0 ≡ None
 pair_zero b = grind (arith, nat_tests)

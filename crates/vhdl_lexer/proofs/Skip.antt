@@ -1,12 +1,9 @@
 -- What skipping leaves of a text, by the definition of separators and comments.
-use Rattle.std.proofs.Common.{◌≡◌, ℕ, suc, ◌+◌, ◌-◌, ◌≤◌, ◌<◌, ◌==◌, ◌&&◌, ◌||◌, Bool, true, false, cond, not, List, [], ◌∷◌, ◌++◌, length, take, drop, ◌⊎◌, inl, inr, ⊎_elim, refl, sym, ap, ◌∙◌, subst, true≢false, length-append, length-drop, append_assoc, arith}
+use Rattle.std.proofs.Common.{◌≡◌, ℕ, ◌-◌, ◌≤◌, ◌<◌, ◌==◌, ◌&&◌, Bool, true, false, cond, List, [], ◌∷◌, length, take, drop, refl, sym, ap, ◌∙◌, subst, length-drop, arith}
 use Rattle.std.proofs.lemmas.List.{take_all}
-use Rattle.std.specs.List.{list_all}
-use Rattle.std.proofs.lemmas.Bool.{eqb-true}
-use Rattle.vhdl_lexer.specs.Bytes.{star, dash, slash, ends_line, is_separator, begins}
-use Rattle.vhdl_lexer.specs.Separators.{stays_on_line, LineEnds, has_close, IsSpace, IsLineComment, IsDelimitedComment, IsSeparation, LeadsTo, opens_comment}
-use Rattle.vhdl_lexer.specs.Scan.{from_close, skip, skip_line, skip_star, skip_comment, skip_slash, Stands}
-use Rattle.vhdl_lexer.proofs.Choices.{chosen, both_true, either_true, either_false, not_true, decided, begins_with}
+use Rattle.vhdl_lexer.specs.Bytes.{star, slash, begins}
+use Rattle.vhdl_lexer.specs.Scan.{from_close, skip, skip_star, skip_comment, skip_slash}
+use Rattle.vhdl_lexer.proofs.Choices.{both_true, begins_with}
 
 -- ---- where a comment ends
 

@@ -1,11 +1,10 @@
 -- Skipping passes over separators and comments, and over nothing else.
-use Rattle.std.proofs.Common.{◌≡◌, ℕ, suc, ◌+◌, ◌-◌, ◌≤◌, ◌<◌, ◌==◌, ◌&&◌, ◌||◌, Bool, true, false, cond, not, List, [], ◌∷◌, ◌++◌, length, take, drop, ◌⊎◌, inl, inr, ⊎_elim, refl, sym, ap, ◌∙◌, subst, true≢false, length-append, append_assoc, arith}
-use Rattle.std.specs.List.{list_all}
+use Rattle.std.proofs.Common.{◌≡◌, ℕ, ◌≤◌, ◌==◌, ◌&&◌, ◌||◌, Bool, true, false, cond, not, List, [], ◌∷◌, ◌++◌, length, drop, ◌⊎◌, inl, inr, refl, sym, ap, ◌∙◌, subst, true≢false, length-append, append_assoc, arith}
 use Rattle.std.proofs.lemmas.Bool.{eqb-true}
 use Rattle.vhdl_lexer.specs.Bytes.{star, dash, slash, ends_line, is_separator, begins}
-use Rattle.vhdl_lexer.specs.Separators.{stays_on_line, LineEnds, has_close, IsSpace, IsLineComment, IsDelimitedComment, IsSeparation, LeadsTo, opens_comment}
+use Rattle.vhdl_lexer.specs.Separators.{stays_on_line, LineEnds, has_close, IsSeparation, LeadsTo}
 use Rattle.vhdl_lexer.specs.Scan.{skip, skip_line, skip_star, skip_comment, skip_slash, Stands}
-use Rattle.vhdl_lexer.proofs.Choices.{chosen, both_true, either_true, either_false, not_true, begins_with}
+use Rattle.vhdl_lexer.proofs.Choices.{both_true, either_false, not_true, begins_with}
 
 ends_separates : (b : ℕ) → ends_line b ≡ true → is_separator b ≡ true
 ends_separates b e = by_case (b == 32) (b == 9) (ends_line b) e

@@ -1,25 +1,24 @@
 -- What the lexer finds at the front of a text stands there.
-use Rattle.std.proofs.Common.{◌≡◌, ℕ, zero, suc, ◌+◌, ◌≤◌, ◌==◌, ◌&&◌, ◌||◌, nat_le, Bool, true, false, cond, not, List, [], ◌∷◌, ◌++◌, length, take, drop, Ok, Err, IfOk, Option, Some, None, ◌⊎◌, inl, inr, ⊎_elim, refl, sym, ap, ◌∙◌, subst, true≢false, take-append-drop, length-take-le, length-append, append_assoc, arith}
+use Rattle.std.proofs.Common.{◌≡◌, ℕ, zero, suc, ◌+◌, ◌≤◌, ◌==◌, ◌&&◌, ◌||◌, nat_le, Bool, true, false, cond, not, List, [], ◌∷◌, ◌++◌, length, take, drop, Ok, Err, IfOk, Option, Some, None, inl, inr, ⊎_elim, refl, sym, ap, ◌∙◌, subst, true≢false, take-append-drop, length-take-le, length-append, append_assoc, arith}
 use Rattle.std.specs.List.{list_all}
 use Rattle.std.specs.Char.{is_ascii_digit}
 use Rattle.std.proofs.lemmas.Bool.{eqb-true}
 use Rattle.std.proofs.lemmas.Bool.Decides.{nat_tests}
 use Rattle.std.proofs.Math.Seq.{take-append_seam, drop-append_seam}
 use Rattle.vhdl_lexer.specs.declared.byte.Class.{Class}
-use Rattle.vhdl_lexer.specs.declared.byte.Class.TheVariants.{LetterOrDigit, Decimal}
+use Rattle.vhdl_lexer.specs.declared.byte.Class.TheVariants.{Decimal}
 use Rattle.vhdl_lexer.specs.declared.fault.Problem.{Problem}
 use Rattle.vhdl_lexer.specs.declared.fault.Problem.TheVariants.{BadByte, OpenComment, OpenString, BadIdentifier, BadNumber}
-use Rattle.vhdl_lexer.specs.declared.literal.TheConstants.{MAX_INTEGER}
 use Rattle.vhdl_lexer.specs.declared.token.Kind.{Kind}
 use Rattle.vhdl_lexer.specs.declared.token.Kind.TheVariants as k
-use Rattle.vhdl_lexer.specs.Bytes.{quote, tick, slash, star, dash, is_word_byte, is_printable, begins_word, begins, Stops}
+use Rattle.vhdl_lexer.specs.Bytes.{quote, tick, slash, star, is_printable, begins_word, begins}
 use Rattle.vhdl_lexer.specs.Separators.{opens_comment}
 use Rattle.vhdl_lexer.specs.Words.{is_joined, is_identifier, word_kind, base_class, opened_class}
-use Rattle.vhdl_lexer.specs.Literals.{integer_of, goes_on_number, may_open, closes}
+use Rattle.vhdl_lexer.specs.Literals.{greatest_integer, integer_of, goes_on_number, may_open, closes}
 use Rattle.vhdl_lexer.specs.Delimiters.{pair, single}
 use Rattle.vhdl_lexer.specs.Cut.{IsElement}
-use Rattle.vhdl_lexer.specs.Scan.{Found, run, word, fits, number, string, bit_string, word_or_bit_string, character, one, two, next, mark, front, Stands, IsFront}
-use Rattle.vhdl_lexer.proofs.Choices.{chosen, both_true, not_true, begins_with}
+use Rattle.vhdl_lexer.specs.Scan.{Found, run, word, fits, number, string, bit_string, word_or_bit_string, character, one, next, mark, front, Stands, IsFront}
+use Rattle.vhdl_lexer.proofs.Choices.{both_true, begins_with}
 use Rattle.vhdl_lexer.proofs.Runs.{run_within, run_stops}
 use Rattle.vhdl_lexer.proofs.Strings.{Closed, closed_or_open, string_closed, string_open, ClosedBits, closed_or_open_bits, bit_string_closed, bit_string_open}
 use Rattle.vhdl_lexer.proofs.Marks.{pair_zero, mark_one, mark_two, mark_comment}
@@ -71,10 +70,10 @@ word_sound last text kind n none h = by_test (is_identifier (take (run text) tex
     })
     by_test false e g = err_ok BadIdentifier (kind, n) g
 
-pub fits_most : (text : List ℕ) → fits text ≡ true → integer_of text ≤ MAX_INTEGER
+pub fits_most : (text : List ℕ) → fits text ≡ true → integer_of text ≤ greatest_integer
 fits_most text e = by_number (integer_of text) e
   where
-    by_number : (n : ℕ) → nat_le n MAX_INTEGER ≡ true → n ≤ MAX_INTEGER
+    by_number : (n : ℕ) → nat_le n greatest_integer ≡ true → n ≤ greatest_integer
     by_number n e = grind (arith, nat_tests)
 
 number_sound : (last : Option Kind) (text : List ℕ) (kind : Kind) (n : ℕ) → number text ≡ Ok (kind, n) → IsSliced last kind n text

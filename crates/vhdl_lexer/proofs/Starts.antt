@@ -1,19 +1,18 @@
 -- Where a token stands, or a fault, neither a separator nor a closed comment does.
-use Rattle.std.proofs.Common.{◌≡◌, ℕ, ◌==◌, ◌&&◌, ◌||◌, Bool, true, false, List, [], ◌∷◌, ◌++◌, Option, Some, None, drop, ◌⊎◌, inl, inr, ⊎_elim, refl, sym, ap, ◌∙◌, subst, true≢false, arith}
+use Rattle.std.proofs.Common.{◌≡◌, ℕ, ◌==◌, ◌&&◌, Bool, true, false, List, [], ◌∷◌, ◌++◌, Option, Some, None, drop, inl, inr, refl, sym, ap, ◌∙◌, subst, true≢false, arith}
 use Rattle.std.specs.Char.{is_ascii_digit}
 use Rattle.std.proofs.lemmas.Bool.{eqb-true}
 use Rattle.std.proofs.lemmas.Bool.Decides.{nat_tests}
 use Rattle.vhdl_lexer.specs.declared.byte.Class.{Class}
-use Rattle.vhdl_lexer.specs.declared.byte.Class.TheVariants.{Decimal}
 use Rattle.vhdl_lexer.specs.declared.fault.Problem.{Problem}
 use Rattle.vhdl_lexer.specs.declared.fault.Problem.TheVariants as problem
 use Rattle.vhdl_lexer.specs.declared.token.Kind.{Kind}
 use Rattle.vhdl_lexer.specs.declared.token.Kind.TheVariants as k
-use Rattle.vhdl_lexer.specs.Bytes.{quote, tick, slash, star, dash, underscore, is_separator, is_word_byte, begins_word, begins}
+use Rattle.vhdl_lexer.specs.Bytes.{quote, slash, star, dash, is_separator, is_word_byte, begins}
 use Rattle.vhdl_lexer.specs.Separators.{has_close, opens_comment}
-use Rattle.vhdl_lexer.specs.Words.{is_joined, is_identifier, base_class, opened_class}
+use Rattle.vhdl_lexer.specs.Words.{opened_class}
 use Rattle.vhdl_lexer.specs.Literals.{begins_digit}
-use Rattle.vhdl_lexer.specs.Delimiters.{pair, single, delimiter}
+use Rattle.vhdl_lexer.specs.Delimiters.{pair, single}
 use Rattle.vhdl_lexer.specs.Cut.{IsElement, IsToken}
 use Rattle.vhdl_lexer.specs.Fault.{IsStray, BeginsWord, Faulty}
 use Rattle.vhdl_lexer.specs.Scan.{Stands}

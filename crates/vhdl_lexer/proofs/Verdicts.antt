@@ -1,17 +1,16 @@
 -- What the loop's end says of the source.
-use Rattle.std.proofs.Common.{◌≡◌, ℕ, ◌+◌, ◌-◌, ◌≤◌, List, [], ◌∷◌, ◌++◌, length, Ok, Err, Option, Some, None, inl, inr, refl, sym, ap, ◌∙◌, subst, true≢false, arith}
+use Rattle.std.proofs.Common.{◌≡◌, ℕ, ◌+◌, ◌-◌, List, [], ◌∷◌, ◌++◌, length, Err, Option, Some, None, inl, inr, refl, sym, ap, ◌∙◌, subst, true≢false, arith}
 use Rattle.vhdl_lexer.specs.declared.token.Kind.{Kind}
 use Rattle.vhdl_lexer.specs.declared.token.Token.{Token}
 use Rattle.vhdl_lexer.specs.declared.fault.Problem.{Problem}
 use Rattle.vhdl_lexer.specs.declared.fault.Problem.TheVariants as problem
 use Rattle.vhdl_lexer.specs.declared.fault.LexFault.{LexFault}
 use Rattle.vhdl_lexer.specs.declared.fault.LexFault.TheVariants as fault
-use Rattle.vhdl_lexer.specs.Separators.{LeadsTo}
 use Rattle.vhdl_lexer.specs.Cut.{IsNext, Cuts, CutsTo}
 use Rattle.vhdl_lexer.specs.Bytes.{quote, slash, star}
 use Rattle.vhdl_lexer.specs.declared.byte.Class.{Class}
 use Rattle.vhdl_lexer.specs.Fault.{Faulty, StartsFirst, IsRefusal, HasFault, fault_of}
-use Rattle.vhdl_lexer.specs.Scan.{Found, front, skip}
+use Rattle.vhdl_lexer.specs.Scan.{front, skip}
 use Rattle.vhdl_lexer.proofs.Sound.{err_ok}
 use Rattle.vhdl_lexer.proofs.Faults.{err_same, front_faulty, fault_found}
 use Rattle.vhdl_lexer.proofs.Starts.{fault_stands}

@@ -1,5 +1,5 @@
 -- Delimiters (IEEE 1076-2008, 15.3).
-use Rattle.std.specs.Prelude.{◌≡◌, ℕ, ◌&&◌, ◌==◌, Bool, true, false, if◌then◌else◌, List, [], ◌∷◌, ◌++◌, Option, Some, None}
+use Rattle.std.specs.Prelude.{◌≡◌, ℕ, ◌&&◌, ◌==◌, false, if◌then◌else◌, List, [], ◌∷◌, ◌++◌, Option, Some, None}
 use Rattle.vhdl_lexer.specs.declared.token.Kind.{Kind}
 use Rattle.vhdl_lexer.specs.declared.token.Kind.TheVariants.{Arrow, Assign, LessEqual, GreaterEqual, NotEqual, Ampersand, Tick, LeftParen, RightParen, Star, Plus, Comma, Minus, Dot, Slash, Colon, Semicolon, Less, Equal, Greater, Bar}
 use Rattle.vhdl_lexer.specs.Bytes.{tick}

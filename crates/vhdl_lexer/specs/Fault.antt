@@ -1,8 +1,7 @@
 -- What is wrong with a text that no tokens cut.
-use Rattle.std.specs.Prelude.{◌≡◌, ℕ, ◌+◌, ◌-◌, ◌<◌, ◌≤◌, ◌==◌, Bool, true, false, List, [], ◌∷◌, ◌++◌, length, Option, Some, None, ◌⊎◌}
+use Rattle.std.specs.Prelude.{◌≡◌, ℕ, ◌+◌, ◌-◌, ◌<◌, ◌≤◌, ◌==◌, true, false, List, [], ◌∷◌, ◌++◌, length, Option, Some, None, ◌⊎◌}
 use Rattle.std.specs.List.{list_all}
 use Rattle.vhdl_lexer.specs.declared.byte.Class.{Class}
-use Rattle.vhdl_lexer.specs.declared.cutting.TheConstants.{MAX_LEN}
 use Rattle.vhdl_lexer.specs.declared.fault.Problem.{Problem}
 use Rattle.vhdl_lexer.specs.declared.fault.Problem.TheVariants as problem
 use Rattle.vhdl_lexer.specs.declared.fault.LexFault.{LexFault}
@@ -79,6 +78,10 @@ pub record StartsFirst (problem : Problem) (at : ℕ) (source : List ℕ) : Type
 
 -- ---- the faults
 
+-- the greatest length of a source, in bytes
+abbrev pub greatest_length : ℕ
+greatest_length = 4194304
+
 -- the text has no tokens
 abbrev pub IsRefusal : LexFault → Type 0
 IsRefusal (BadByte at) = Unit {0}
@@ -96,8 +99,8 @@ HasFault (OpenComment at) source = StartsFirst problem.OpenComment at source
 HasFault (OpenString at) source = StartsFirst problem.OpenString at source
 HasFault (BadIdentifier at) source = StartsFirst problem.BadIdentifier at source
 HasFault (BadNumber at) source = StartsFirst problem.BadNumber at source
-HasFault (TooLong at) source = (MAX_LEN < length source) × (at ≡ MAX_LEN)
-HasFault NoMemory source = length source ≤ MAX_LEN
+HasFault (TooLong at) source = (greatest_length < length source) × (at ≡ greatest_length)
+HasFault NoMemory source = length source ≤ greatest_length
 
 -- the fault of a token that starts here
 abbrev pub fault_of : Problem → ℕ → LexFault

@@ -4,7 +4,6 @@ use Rattle.std.specs.Char.{is_ascii_digit}
 use Rattle.std.specs.List.{list_all}
 use Rattle.vhdl_lexer.specs.declared.byte.Class.{Class}
 use Rattle.vhdl_lexer.specs.declared.byte.Class.TheVariants.{Decimal}
-use Rattle.vhdl_lexer.specs.declared.literal.TheConstants.{MAX_INTEGER}
 use Rattle.vhdl_lexer.specs.declared.token.Kind.{Kind}
 use Rattle.vhdl_lexer.specs.declared.token.Kind.TheVariants as k
 use Rattle.vhdl_lexer.specs.Bytes.{quote, hash, tick, point, is_word_byte, is_printable, ends_line, begins}
@@ -21,6 +20,10 @@ value_after n (b ∷ text) = if is_ascii_digit b then value_after (10 * n + (b -
 abbrev pub integer_of : List ℕ → ℕ
 integer_of text = value_after 0 text
 
+-- the greatest integer that is read, as the standard's smallest range of integers has it (IEEE 1076-2008, 5.2.3.2)
+abbrev pub greatest_integer : ℕ
+greatest_integer = 2147483647
+
 abbrev pub begins_digit : List ℕ → Bool
 begins_digit [] = false
 begins_digit (b ∷ text) = is_ascii_digit b
@@ -32,7 +35,7 @@ goes_on_number (b ∷ text) = is_word_byte b || b == hash || b == point && begin
 
 abbrev pub IsInteger : Kind → List ℕ → List ℕ → Type 0
 IsInteger kind slice rest =
-    (is_joined Decimal slice ≡ true) × (goes_on_number rest ≡ false) × (integer_of slice ≤ MAX_INTEGER) × (kind ≡ k.Integer)
+    (is_joined Decimal slice ≡ true) × (goes_on_number rest ≡ false) × (integer_of slice ≤ greatest_integer) × (kind ≡ k.Integer)
 
 -- ---- characters
 

@@ -1,18 +1,17 @@
 -- The token at the front of a text, as the lexer finds it. What it has to do with the definitions is proved.
-use Rattle.std.specs.Prelude.{◌≡◌, ℕ, ◌+◌, ◌-◌, ◌≤◌, ◌&&◌, ◌||◌, ◌==◌, nat_le, not, Bool, true, false, if◌then◌else◌, List, [], ◌∷◌, ◌++◌, take, drop, length, map, Option, Some, None, Result, Ok, Err, slice_index}
+use Rattle.std.specs.Prelude.{◌≡◌, ℕ, ◌+◌, ◌-◌, ◌≤◌, ◌&&◌, ◌==◌, nat_le, not, Bool, false, if◌then◌else◌, List, [], ◌∷◌, take, drop, length, map, Option, Some, None, Result, Ok, Err, slice_index}
 use Rattle.std.specs.Char.{is_ascii_digit, to_ascii_lowercase}
 use Rattle.std.specs.List.{list_all, filter, prefix_len}
 use Rattle.vhdl_lexer.specs.declared.byte.Class.{Class}
 use Rattle.vhdl_lexer.specs.declared.byte.Class.TheVariants.{Decimal}
 use Rattle.vhdl_lexer.specs.declared.fault.Problem.{Problem}
 use Rattle.vhdl_lexer.specs.declared.fault.Problem.TheVariants.{BadByte, OpenComment, OpenString, BadIdentifier, BadNumber}
-use Rattle.vhdl_lexer.specs.declared.literal.TheConstants.{MAX_INTEGER}
 use Rattle.vhdl_lexer.specs.declared.token.Kind.{Kind}
 use Rattle.vhdl_lexer.specs.declared.token.Kind.TheVariants as k
 use Rattle.vhdl_lexer.specs.Bytes.{quote, tick, star, dash, slash, ends_line, is_separator, is_printable, is_word_byte, begins_word, begins}
 use Rattle.vhdl_lexer.specs.Separators.{has_close}
 use Rattle.vhdl_lexer.specs.Words.{Word, reserved_words, is_joined, is_identifier, word_kind, opened_class}
-use Rattle.vhdl_lexer.specs.Literals.{integer_of, goes_on_number, may_open, closes}
+use Rattle.vhdl_lexer.specs.Literals.{greatest_integer, integer_of, goes_on_number, may_open, closes}
 use Rattle.vhdl_lexer.specs.Delimiters.{pair, single}
 use Rattle.vhdl_lexer.specs.Cut.{IsToken}
 
@@ -78,7 +77,7 @@ word text = if is_identifier (take (run text) text) then Ok (word_kind (take (ru
 
 -- the number that the text writes is read
 abbrev pub fits : List ℕ → Bool
-fits text = nat_le (integer_of text) MAX_INTEGER
+fits text = nat_le (integer_of text) greatest_integer
 
 unfoldable pub number : List ℕ → Found
 number text =

@@ -2,7 +2,7 @@
 
 ghost use Rattle.std.specs.Prelude.{◌≡◌, ◌≤◌, List, None, length, ◌<◌, Err, IfOk, IfErr, IfSome, OnOk};
 ghost use Rattle.vhdl_lexer.specs.Cut.{Cuts, AreWithin};
-ghost use Rattle.vhdl_lexer.specs.Fault.{IsRefusal, HasFault, fault_of, fault_byte};
+ghost use Rattle.vhdl_lexer.specs.Fault.{greatest_length, IsRefusal, HasFault, fault_of, fault_byte};
 ghost use Rattle.vhdl_lexer.specs.declared.fault.LexFault.{LexFault};
 ghost use Rattle.vhdl_lexer.specs.declared.fault.LexFault.TheVariants.{TooLong};
 ghost use Rattle.vhdl_lexer.specs.declared.token.Token.{Token};
@@ -38,10 +38,11 @@ pub fn lex(alloc: Global, source: &[u8]) -> Result<Vec<Token>, LexFault>
     ensures within { IfOk result (λ v. AreWithin source.now v.items) }
     ensures no_fault { IfOk result
         (λ v. (fault : LexFault) → IsRefusal fault → HasFault fault source.now → ⊥) }
-    ensures short { OnOk result (length source.now ≤ MAX_LEN) }
+    ensures short { OnOk result (length source.now ≤ greatest_length) }
 
     // The fault is what the source has, it is the only one, and then nothing cuts the source.
-    ensures too_long { MAX_LEN < length source.now → result ≡ Err (TooLong MAX_LEN) }
+    ensures too_long { greatest_length < length source.now
+        → result ≡ Err (TooLong greatest_length) }
     ensures fault { IfErr result (λ e. HasFault e source.now) }
     ensures only_fault { IfErr result (λ e. IsRefusal e → (other : LexFault)
         → IsRefusal other → HasFault other source.now → other ≡ e) }

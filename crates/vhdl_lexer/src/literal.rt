@@ -18,8 +18,8 @@ pub const MAX_INTEGER: u32 = 2_147_483_647;
 /// no digits count for nothing.
 pub fn integer_value(mut text: &[u8]) -> Option<u32>
     ensures some { IfSome result (λ n. n ≡ spec.integer_of text.entry.now) }
-    ensures fits { IfSome result (λ n. n ≤ MAX_INTEGER) }
-    ensures none { IfNone result (MAX_INTEGER < spec.integer_of text.entry.now) }
+    ensures fits { IfSome result (λ n. n ≤ spec.greatest_integer) }
+    ensures none { IfNone result (spec.greatest_integer < spec.integer_of text.entry.now) }
 {
     let mut value: u64 = 0;
     while let [b, rest @ ..] = text {
