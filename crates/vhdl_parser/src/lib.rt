@@ -11,8 +11,6 @@ mod operator;
 mod parser;
 mod process;
 mod sequential;
-#[cfg(test)]
-mod tests;
 mod tree;
 mod unit;
 mod value;
