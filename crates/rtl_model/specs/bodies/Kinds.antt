@@ -86,12 +86,12 @@ edge_test _ = None
 -- ---- kinds
 
 pub data BodyKind : Type 0 where
-  -- no edge test and no `'event` stands in it
+  -- combinational: no edge test and no `'event` stands in it
   Plain : BodyKind
-  -- it is one if, with no elsif and no else, whose condition is this edge test and whose branch has no edge test and
+  -- clocked: it is one if, with no elsif and no else, whose condition is this edge test and whose branch has no edge test and
   -- no `'event`
   AtEdge : EdgeTest → (branch : Stmts) → BodyKind
-  -- neither
+  -- mixed: neither of the two
   Neither : BodyKind
 
 abbrev pub at_edge : Option EdgeTest → Stmts → Option BodyKind

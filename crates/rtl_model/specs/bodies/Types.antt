@@ -1,5 +1,5 @@
 -- The types of nets, and the valuations that keep to them.
-use Rattle.std.specs.Prelude.{◌≡◌, ℕ, ◌<◌, ◌≤◌, List, slice_get, slice_index, Some}
+use Rattle.std.specs.Prelude.{◌≡◌, ℕ, ◌<◌, List, slice_get, slice_index, Some}
 
 -- A net is one element of std_logic or std_ulogic (std_logic_1164), or a signal of an enumeration (IEEE 1076-2008, 5.2.2).
 pub data NetType : Type 0 where
@@ -10,9 +10,6 @@ pub data NetType : Type 0 where
 abbrev pub limit_of : NetType → ℕ
 limit_of nine_valued = 9
 limit_of (enumeration literals) = literals
-
-abbrev pub HasValues : NetType → Type 0
-HasValues t = 1 ≤ limit_of t
 
 abbrev pub HasType : List NetType → NetType → (net : ℕ) → Type 0
 HasType types t net = slice_get types net ≡ Some t
