@@ -1,11 +1,9 @@
 -- Kinds are as they are said to be.
-use Rattle.std.proofs.Common.{◌≡◌, ◌==◌, ℕ, Bool, true, false, cond, ◌||◌, Option, Some, None, refl, sym, ap, ◌∙◌}
-use Rattle.std.proofs.lemmas.Bool.{or_parts}
-use Rattle.vhdl_values.specs.declared.kinds.Logic.{Logic}
+use Rattle.std.proofs.Common.{◌≡◌, ℕ, Bool, true, false, cond, ◌||◌, Option, Some, None, refl, ap, ◌∙◌}
 use Rattle.vhdl_values.specs.declared.kinds.Logic.TheVariants.{And}
 use Rattle.rtl_model.specs.bodies.Body.{Test, edge, event, both, choose, Stmts, done, step, no_else, branch}
 use Rattle.rtl_model.specs.bodies.Kinds.{EdgeTest, test_has_event, event_of, level_of, on_one_net, first_of_two, edge_test, BodyKind, Plain, AtEdge, at_edge, clocked, kind_or, kind_of, body_has_event}
-use Rattle.rtl_model.specs.bodies.Laws.{IsClockedBody, KindsAreAsSaid, EachKindIsAsSaid}
+use Rattle.rtl_model.specs.bodies.Laws.{IsClockedBody, EachKindIsAsSaid}
 use Rattle.rtl_model.proofs.bodies.Clocking.{clocked_shape}
 
 not_plain : (o : Option EdgeTest) (s : Stmts) → at_edge o s ≡ Some Plain → ⊥

@@ -1,6 +1,6 @@
 -- A clocked body does what its branch does at its edge, and nothing else.
 use Rattle.std.proofs.Common.{◌≡◌, ℕ, Bool, true, false, cond, Option, Some, None, refl, ap, ◌∙◌, subst}
-use Rattle.rtl_model.specs.bodies.Body.{Test, choose, Stmts, done, step, no_else, branch}
+use Rattle.rtl_model.specs.bodies.Body.{choose, Stmts, done, step, no_else, branch}
 use Rattle.rtl_model.specs.bodies.Tests.{is_met}
 use Rattle.rtl_model.specs.bodies.Effect.{effect}
 use Rattle.rtl_model.specs.bodies.Kinds.{EdgeTest, edge_test, BodyKind, AtEdge, at_edge, clocked, kind_or, kind_of, body_has_event}

@@ -1,5 +1,5 @@
 -- What a process's body gives the laws of simulation.
-use Rattle.std.proofs.Common.{◌≡◌, ◌==◌, ℕ, ◌<◌, ◌≤◌, Bool, true, false, cond, List, length, get_or, map, slice_index, Option, Some, None, refl, sym, ap, ◌∙◌, subst, IsSome, IsTrue, arith, ◌⊎◌, inl, inr}
+use Rattle.std.proofs.Common.{◌≡◌, ◌==◌, ℕ, ◌<◌, ◌≤◌, Bool, true, false, List, length, get_or, map, slice_index, Option, Some, None, refl, sym, ap, ◌∙◌, subst, IsSome, IsTrue, arith, ◌⊎◌, inl, inr}
 use Rattle.std.specs.List.{range_with_len}
 use Rattle.std.specs.Prelude.{nat_lt}
 use Rattle.std.proofs.Math.ListN.{get_or-map}
@@ -7,12 +7,11 @@ use Rattle.std.proofs.lemmas.List.{get_or_past, length-map}
 use Rattle.std.proofs.lemmas.List.FromFn.{length-map-range_with_len, get_or-map-range_with_len}
 use Rattle.std.proofs.lemmas.Bool.{cases_lt, eqb-true, ltb-true, and_parts}
 use Rattle.vhdl_values.specs.Edges.{has_edge}
-use Rattle.rtl_model.specs.bodies.Body as b
 use Rattle.rtl_model.specs.bodies.Body.{Stmts}
 use Rattle.rtl_model.specs.bodies.Values.{element_at}
 use Rattle.rtl_model.specs.bodies.Effect.{effect, effect_of}
 use Rattle.rtl_model.specs.bodies.Reads.{reads}
-use Rattle.rtl_model.specs.bodies.Kinds.{EdgeTest, BodyKind, Plain, AtEdge, Neither, edge_test, at_edge, clocked, kind_or, kind_of, branch_or, branch_of, body_has_event}
+use Rattle.rtl_model.specs.bodies.Kinds.{EdgeTest, BodyKind, Plain, AtEdge, Neither, kind_of, branch_or, branch_of}
 use Rattle.rtl_model.specs.nets.FlatNet as flat
 use Rattle.rtl_model.specs.nets.FlatNet.{FlatNet, FlatProcess, FlatDriver, targets}
 use Rattle.rtl_model.specs.nets.CoreNet.{core_kind, core_process, core_edges, core_net, drives_net}

@@ -1,11 +1,11 @@
 -- The sources of a net in range give values of its type.
-use Rattle.std.proofs.Common.{◌≡◌, ℕ, zero, suc, ◌<◌, ◌≤◌, List, [], ◌∷◌, length, get_or, map, slice_index, refl, sym, ap, ◌∙◌, subst, arith, Contains, ◌⊎◌, inl, inr}
+use Rattle.std.proofs.Common.{◌≡◌, ℕ, ◌<◌, ◌≤◌, List, [], ◌∷◌, length, get_or, map, slice_index, refl, subst, arith, Contains, ◌⊎◌, inl, inr}
 use Rattle.std.proofs.lemmas.List.{length-map, get_or_past}
 use Rattle.std.proofs.lemmas.Bool.{cases_lt}
 use Rattle.vhdl_values.specs.Scalar.{value_of_code}
 use Rattle.vhdl_values.specs.Resolution.{resolved}
 use Rattle.vhdl_values.proofs.Codes.{code_of_below}
-use Rattle.rtl_model.specs.bodies.Types.{limit_of, HasType, nine_valued}
+use Rattle.rtl_model.specs.bodies.Types.{nine_valued}
 use Rattle.rtl_model.specs.nets.FlatNet as flat
 use Rattle.rtl_model.specs.nets.FlatNet.{FlatNet, FlatDriver, targets, starts, DriverInRange, SourceInRange, IsInRange}
 use Rattle.rtl_model.specs.nets.Wiring.{sources_of, SharedAreResolved}
