@@ -4,3 +4,16 @@ pub mod Lines
 pub mod Notices
 pub mod Status
 pub mod Words
+pub mod Rules
+pub mod Design
+pub mod NameRules
+pub mod View
+pub mod Sources
+pub mod Tables
+pub mod Solution
+pub mod Sets
+pub mod Printed
+pub mod Evaluation
+pub mod Setting
+pub mod Answer
+pub mod Designed

@@ -1,0 +1,16 @@
+use Rattle.std.proofs.Common.{sym, subst, take, List, ℕ}
+use Rattle.rtl_sink.specs.Written.{Goes}
+use Rattle.rtl_sink.proofs.Writing.{Goes-append}
+use Rattle.rtlsim.specs.Evaluation.{evaluated}
+use Rattle.rtlsim.specs.Sets.{input_value}
+use Rattle.rtlsim.specs.Tables.{design_view}
+use Rattle.rtlsim.specs.View.{ports_view}
+use Rattle.rtlsim.proofs.Evaluating.{lines-next}
+use Rattle.rtlsim.proofs.evaluation.push_values.Goals as goal
+
+pub loop-number-preserved : goal.loop-number-preserved
+loop-number-preserved g c =
+    let x = design_view c.args.design.now in
+    subst (λ (t : List ℕ). Goes (g.S.Sink.state c.args.out.now) (g.S.Sink.state c.push_port.new.out) t)
+    (sym (lines-next (evaluated x c.args.table.now (input_value c.args.given.now)) x.ports c.loop-number.number))
+    (Goes-append _ _ _ _ _ c.loop-number.invariant c.push_port.ensures)

@@ -1,0 +1,14 @@
+use Rattle.std.proofs.Common.{take}
+use Rattle.rtl_sink.specs.Written.{Goes}
+use Rattle.rtlsim.specs.Evaluation.{evaluated}
+use Rattle.rtlsim.specs.Printed.{lines_from}
+use Rattle.rtlsim.specs.Sets.{input_value}
+use Rattle.rtlsim.specs.Tables.{design_view}
+use Rattle.rtlsim.specs.View.{ports_view}
+use Rattle.rtlsim.proofs.evaluation.push_values.Given as goal
+
+-- the lines of the ports so far went out
+abbrev pub invariant-loop-number : goal.invariant-loop-number
+invariant-loop-number g l =
+    Goes (g.S.Sink.state l.fn.out) (g.S.Sink.state l.out)
+    (lines_from 0 (take l.number (ports_view l.design.ports)) (evaluated (design_view l.design) l.table (input_value l.given)))

@@ -1,0 +1,23 @@
+-- What `eval` prints: for each out port in order of declaration a line NAME=VALUE.
+use Rattle.std.specs.Prelude.{ℕ, suc, List, [], ◌∷◌, ◌++◌, codes}
+use Rattle.vhdl_parser.specs.declared.tree.Mode.{Mode}
+use Rattle.vhdl_parser.specs.declared.tree.Mode.TheVariants.{In, Out}
+use Rattle.vhdl_values.specs.declared.scalar.Nine.{Nine}
+use Rattle.vhdl_values.specs.Scalar.{letter_of}
+use Rattle.rtlsim.specs.Design.{Name, Port}
+use Rattle.rtlsim.specs.Solution.{Valuation}
+
+abbrev pub value_line : Name → Nine → List ℕ
+value_line name v = name ++ codes "=" ++ (letter_of v ∷ []) ++ codes "\n"
+
+abbrev pub line_by : Mode → Name → Nine → List ℕ
+line_by In name v = []
+line_by Out name v = value_line name v
+
+-- the lines of the ports, which are counted from n
+abbrev pub lines_from : ℕ → List Port → Valuation → List ℕ
+lines_from n [] v = []
+lines_from n (p ∷ ps) v = line_by p.mode p.name (v n) ++ lines_from (suc n) ps v
+
+abbrev pub lines : List Port → Valuation → List ℕ
+lines ports v = lines_from 0 ports v

@@ -1,0 +1,60 @@
+//! `eval`: the out ports of a plain design, for given inputs.
+
+ghost use Rattle.std.specs.Prelude.{◌≡◌, map, IfOk};
+ghost use Rattle.rtl_sink.specs.Written.{IsIntact};
+ghost use Rattle.rtlsim.specs.Answer.{RunAnswers};
+ghost use Rattle.rtlsim.specs.Designed.{FindsDesign, IsPlain};
+ghost use Rattle.rtlsim.specs.Tables.{design_view};
+ghost use Rattle.vhdl_parser.specs.View.{file_view};
+
+use crate::checker::{Verdict, check};
+use crate::design::Design;
+use crate::elaboration::elaborate;
+use crate::evaluation::push_values;
+use crate::faults::Fault;
+use crate::names::units::analyse;
+use crate::stimulus::settings;
+use rtl_sink::{Sink, finish};
+use std::alloc::Global;
+use vhdl_parser::File;
+
+/// The design of a top in a file.
+pub(crate) fn design_of_file(alloc: Global, file: &File, top: &[u8]) -> Result<Design, Fault>
+    ensures found { FindsDesign result (file_view file.now) top.now }
+    ensures plain { IfOk result (λ design. IsPlain design) }
+{
+    let units = match analyse(alloc, file) {
+        Ok(units) => units,
+        Err(names) => return Err(Fault::from(names)),
+    };
+    match elaborate(alloc, units, top) {
+        Ok(design) => Ok(design),
+        Err(elab) => Err(Fault::from(elab)),
+    }
+}
+
+/// Checks a design, sets its inputs, and writes the line of each out port.
+pub(crate) fn run_design<S: Sink>(
+    alloc: Global,
+    design: &Design,
+    sets: &[&[u8]],
+    out: &mut S,
+) -> Result<(), Fault>
+    requires intact { IsIntact (S.state out.old) }
+    requires plain { IsPlain design.now }
+    ensures { RunAnswers result (design_view design.now) (map (λ w. w.now) sets.now) (S.state out.old) (S.state out.new) }
+{
+    let table = match check(alloc, design)? {
+        Verdict::Yes(table) => table,
+        Verdict::No(faults) => return Err(Fault::Rejected(faults)),
+    };
+    let given = match settings(alloc, &design.ports, sets) {
+        Ok(given) => given,
+        Err(stim) => return Err(Fault::from(stim)),
+    };
+    push_values(out, design, &table, &given);
+    match finish(out) {
+        Ok(()) => Ok(()),
+        Err(_) => Err(Fault::Output),
+    }
+}
