@@ -55,6 +55,6 @@ pub(crate) fn run_design<S: Sink>(
     push_values(out, design, &table, &given);
     match finish(out) {
         Ok(()) => Ok(()),
-        Err(_) => Err(Fault::Output),
+        Err(_failed) => Err(Fault::Output),
     }
 }

@@ -9,8 +9,8 @@ use Rattle.rtlsim.specs.declared.sources.Drivers.{Drivers}
 use Rattle.rtlsim.proofs.Answering.{prints}
 use Rattle.rtlsim.proofs.eval.run_design.Goals as goal
 
-pub returns-in-Ok : goal.returns-in-Ok
-returns-in-Ok g c =
+pub returns-in-Ok-finish : goal.returns-in-Ok-finish
+returns-in-Ok-finish g c =
     let x = design_view c.args.design.now in
     let sets = map (λ (w : Bor (List ℕ)). w.now) c.args.sets.now in
     let said : HasVerdict x (Yes c.in-Yes.table) = subst (HasVerdict x) c.in-Yes.is c.in_ok-table.ensures in
@@ -23,8 +23,8 @@ returns-in-Ok g c =
     let intact = c.in-Ok-finish.ensures.ok in
     (intact, text, prints x sets c.in-Yes.table.items c.in-Ok.given.items c.requires.plain said.0 said.1 c.in-Ok.ensures, (went.whole intact).1)
 
-pub returns-in-Err : goal.returns-in-Err
-returns-in-Err g c =
+pub returns : goal.returns
+returns g c =
     let x = design_view c.args.design.now in
     let sets = map (λ (w : Bor (List ℕ)). w.now) c.args.sets.now in
     let said : HasVerdict x (Yes c.in-Yes.table) = subst (HasVerdict x) c.in-Yes.is c.in_ok-table.ensures in
@@ -34,4 +34,4 @@ returns-in-Err g c =
         ∙ ap (λ (t : Table). lines x.ports (evaluated x c.in-Yes.table.items (input_value t))) c.deref-2.ensures.value in
     let went : Goes (g.S.Sink.state c.args.out.now) (g.S.Sink.state c.push_values.new.out) text =
         subst (λ (t : List ℕ). Goes (g.S.Sink.state c.args.out.now) (g.S.Sink.state c.push_values.new.out) t) same c.push_values.ensures in
-    (c.in-Err.ensures.err, text, prints x sets c.in-Yes.table.items c.in-Ok.given.items c.requires.plain said.0 said.1 c.in-Ok.ensures, went.beginning c.requires.intact)
+    (c.in-Err-finish.ensures.err, text, prints x sets c.in-Yes.table.items c.in-Ok.given.items c.requires.plain said.0 said.1 c.in-Ok.ensures, went.beginning c.requires.intact)
