@@ -4,10 +4,10 @@
 mod checker;
 mod design;
 mod elaboration;
-mod eval;
 mod evaluation;
 mod faults;
 mod inputs;
+mod joining;
 mod laws;
 mod lines;
 mod names;

@@ -7,7 +7,7 @@ use Rattle.rtlsim.specs.Tables.{design_view}
 use Rattle.rtlsim.specs.declared.checker.Verdict.TheVariants.{Yes}
 use Rattle.rtlsim.specs.declared.sources.Drivers.{Drivers}
 use Rattle.rtlsim.proofs.Answering.{prints}
-use Rattle.rtlsim.proofs.eval.run_design.Goals as goal
+use Rattle.rtlsim.proofs.joining.run_design.Goals as goal
 
 pub returns-in-Ok-finish : goal.returns-in-Ok-finish
 returns-in-Ok-finish g c =

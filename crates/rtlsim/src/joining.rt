@@ -1,4 +1,4 @@
-//! `eval`: the out ports of a plain design, for given inputs.
+//! From a file to the design of a top, and from a design to the lines of its out ports.
 
 ghost use Rattle.std.specs.Prelude.{◌≡◌, map, IfOk};
 ghost use Rattle.rtl_sink.specs.Written.{IsIntact};
