@@ -1,11 +1,11 @@
 -- The greatest number of delta cycles of an accepted net's moments.
-use Rattle.std.proofs.Common.{◌≡◌, ℕ, zero, suc, ◌<◌, ◌≤◌, List, Option, arith, ◌⊎◌, inl, inr, subst}
+use Rattle.std.proofs.Common.{◌≡◌, ℕ, zero, suc, ◌<◌, ◌≤◌, arith, ◌⊎◌, inl, inr, subst}
 use Rattle.std.proofs.lemmas.Bool.{cases_eq, cases_lt}
 use Rattle.rtl_model.specs.simulation.Net.{Net}
 use Rattle.rtl_model.specs.simulation.Moments.{Takes, IsMost}
 use Rattle.rtl_model.specs.simulation.Elaborated.{IsElaborated}
 use Rattle.rtl_model.specs.simulation.Accepted.{IsAccepted}
-use Rattle.rtl_model.specs.simulation.Levels.{AreLevels, bound}
+use Rattle.rtl_model.specs.simulation.Levels.{bound}
 use Rattle.rtl_model.specs.simulation.Laws.{OneGreatestCount}
 use Rattle.rtl_model.proofs.simulation.Orders.{every_order_is_one, one_number}
 use Rattle.rtl_model.proofs.simulation.Settling.{each_moment_comes, settles_in_bound}

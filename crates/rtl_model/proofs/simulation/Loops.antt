@@ -7,7 +7,7 @@ use Rattle.std.proofs.lemmas.List.Elements.{All-from_get_or, recursion_from_All}
 use Rattle.std.proofs.lemmas.Map.Keys.{IsDistinct-cons}
 use Rattle.std.proofs.lemmas.Map.Steps.{length-le_from_distinct_below}
 use Rattle.std.proofs.lemmas.Bool.{cases_eq, cases_lt, ne_eqb, eqb-true, or_cases, lt-ltb, le-ltb}
-use Rattle.rtl_model.specs.simulation.Net.{Edge, IsClockedBy, IsCombinational, Net, process}
+use Rattle.rtl_model.specs.simulation.Net.{Edge, IsClockedBy, IsCombinational, Net}
 use Rattle.rtl_model.specs.simulation.Accepted.{Feeds, HasNoLoop, IsFedRound}
 use Rattle.rtl_model.specs.simulation.Levels.{ChainTo, IsLevel}
 use Rattle.rtl_model.specs.simulation.Laws.{LevelsExist}
