@@ -61,15 +61,15 @@ lines_agree (p ∷ ps) j v w h =
     let z : j + 0 ≡ j = omega arith in
     let first : v j ≡ w j = sym (ap v z) ∙ h 0 (omega arith) ∙ ap w z in
     let rest = lines_agree ps (suc j) v w (λ n lt.
-        let at : j + suc n ≡ suc j + n = omega arith in
-        sym (ap v at) ∙ h (suc n) (omega (arith, lt)) ∙ ap w at) in
+    let at : j + suc n ≡ suc j + n = omega arith in
+    sym (ap v at) ∙ h (suc n) (omega (arith, lt)) ∙ ap w at) in
     ap (λ x. line_by p.mode p.name x ++ lines_from (suc j) ps v) first ∙ ap (λ l. line_by p.mode p.name (w j) ++ l) rest
 
 pub printed_solution : (x : d.Design) (table : List Drivers) (inputs : Valuation) → HoldsDrivers table (length x.ports) x.equations → lines x.ports (evaluated x table inputs) ≡ lines x.ports (solution x inputs)
 printed_solution x table inputs holds =
     lines_agree x.ports 0 (evaluated x table inputs) (solution x inputs) (λ n lt.
-      let z : 0 + n ≡ n = omega arith in
-      ap (evaluated x table inputs) z ∙ ap (λ k. by_port inputs x.equations k n (slice_get x.ports n)) (holds.holds n lt) ∙ sym (ap (solution x inputs) z))
+    let z : 0 + n ≡ n = omega arith in
+    ap (evaluated x table inputs) z ∙ ap (λ k. by_port inputs x.equations k n (slice_get x.ports n)) (holds.holds n lt) ∙ sym (ap (solution x inputs) z))
 
 -- what is printed, where the checker says yes and the words set inputs
 pub prints : (x : d.Design) (sets : List (List ℕ)) (table : List Drivers) (given : Table) → ArePlain x.ports x.equations → faults x ≡ [] → HoldsDrivers table (length x.ports) x.equations

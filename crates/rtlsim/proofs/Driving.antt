@@ -30,7 +30,7 @@ drivers-more es k e n lt is =
     let within : k ≤ length es = omega arith in
     let size : length front ≡ k = length-map (take k es) equation_view ∙ length-take-le k es within in
     let more : map equation_view (take (k + 1) es) ≡ front ++ equation_view e ∷ [] =
-        ap (map equation_view) (take_more es k e lt) ∙ map-append equation_view (take k es) (get_or es k e ∷ []) ∙ ap (λ x. front ++ equation_view x ∷ []) (sym is) in
+    ap (map equation_view) (take_more es k e lt) ∙ map-append equation_view (take k es) (get_or es k e ∷ []) ∙ ap (λ x. front ++ equation_view x ∷ []) (sym is) in
     ap (λ l. drivers l n) more ∙ drivers-append 0 front (equation_view e ∷ []) n
     ∙ ap (λ j. drivers front n ++ drivers_from j (equation_view e ∷ []) n) (zero-add (length front) ∙ size)
 
@@ -41,7 +41,8 @@ pub joined : (table table' : List Drivers) (count k : ℕ) (es : List Equation) 
 joined table table' count k es e x h lt is within new with =
     record {
       covers = ap length new ∙ length-set table e.target x ∙ h.covers;
-      holds = λ n below. ap (λ t. get_or t n Undriven) new ∙ at n below (e.target == n) refl ∙ ap summary (sym (drivers-more es k e n lt is)) }
+      holds = λ n below. ap (λ t. get_or t n Undriven) new ∙ at n below (e.target == n) refl ∙ ap summary (sym (drivers-more es k e n lt is));
+    }
   where
     at : (n : ℕ) → n < count → (b : Bool) → (e.target == n) ≡ b → get_or (set table e.target x) n Undriven ≡ summary (drivers (map equation_view (take k es)) n ++ (if e.target == n then k ∷ [] else []))
     at n below true t =
@@ -95,8 +96,8 @@ faults-table (t ∷ ts) (p ∷ ps) es n e h =
     let first : t ≡ summary (drivers es n) = h 0 lt ∙ ap (λ m. summary (drivers es m)) z in
     let size : length ts ≡ length ps = omega (arith, e) in
     let rest = faults-table ts ps es (suc n) size (λ k below.
-        let at : n + suc k ≡ suc n + k = omega arith in
-        h (suc k) (omega arith) ∙ ap (λ m. summary (drivers es m)) at) in
+    let at : n + suc k ≡ suc n + k = omega arith in
+    h (suc k) (omega arith) ∙ ap (λ m. summary (drivers es m)) at) in
     ap (λ x. table_fault n x ++ table_faults (suc n) ts) first ∙ ap (λ l. l ++ table_faults (suc n) ts) (fault-summary n (drivers es n))
     ∙ ap (λ l. fault_of n (drivers es n) ++ l) rest
 
@@ -104,9 +105,9 @@ pub faults-held : (ts : List Drivers) (ps : List d.Port) (es : List d.Equation) 
 faults-held ts ps es h =
     let size = h.covers in
     faults-table ts ps es 0 size (λ k below.
-      let lt : k < length ps = omega (arith, size) in
-      let z : k ≡ 0 + k = omega arith in
-      h.holds k lt ∙ ap (λ m. summary (drivers es m)) z)
+    let lt : k < length ps = omega (arith, size) in
+    let z : k ≡ 0 + k = omega arith in
+    h.holds k lt ∙ ap (λ m. summary (drivers es m)) z)
 
 unresolved-table : (ps : List d.Port) (es : List d.Equation) (ts : List Drivers) (n count : ℕ) → n + length ps ≤ count → HoldsDrivers ts count es → table_unresolved n ps ts ≡ unresolved_from n ps es
 unresolved-table [] es ts n count le h = refl

@@ -22,6 +22,7 @@ position-cons {X} p x xs = go (p x)
     later : (m n : ℕ) (b : Bool) → nat_lt m n ≡ b → cond (nat_lt (1 + m) (suc n)) (Some (1 + m)) None ≡ option_map suc (cond b (Some m) None)
     later m n true e = let t : nat_lt (1 + m) (suc n) ≡ true = grind (arith, nat_tests) in rw t (ap Some (omega arith))
     later m n false e = let t : nat_lt (1 + m) (suc n) ≡ false = grind (arith, nat_tests) in rw t refl
+
     go : (b : Bool) → cond (nat_lt (cond (not b) (1 + position_or_len p xs) 0) (suc (length xs))) (Some (cond (not b) (1 + position_or_len p xs) 0)) None ≡ cond b (Some 0) (option_map suc (position p xs))
     go true = let t : nat_lt 0 (suc (length xs)) ≡ true = grind (arith, nat_tests) in rw t refl
     go false = later (position_or_len p xs) (length xs) (nat_lt (position_or_len p xs) (length xs)) refl
@@ -42,6 +43,7 @@ found n k (e ∷ es) =
     next (Some i) (Some p) = let s : suc k + i ≡ k + suc i = omega arith in ap (λ m. Some (m, record { name = n; mode = p.mode; is_resolved = p.is_resolved })) s
     next (Some i) None = refl
     next None v = refl
+
     go : (b : Bool) → bytes_eq n e.0.items ≡ b
         → d.port_from (suc k) (map port_view es) n ≡ joined n (suc k) (position (λ m. bytes_eq n m.items) (keys_of es)) (lookup (λ m. bytes_eq n m.items) es)
         → cond b (Some (k, port_view e)) (d.port_from (suc k) (map port_view es) n)

@@ -92,6 +92,7 @@ target_plain ps m k h = go (port_named ps m) refl h
     by : (q : ℕ × Port) → slice_get ps q.0 ≡ Some q.1 → (w : Mode) → q.1.mode ≡ w → n.target_by w q.0 ≡ Some k → IsTarget ps k
     by q at In e h' = absurd cc
     by q at Out e h' = let is : q.0 ≡ k = cc in (q.1, ap (slice_get ps) (sym is) ∙ at, e)
+
     go : (o : Option (ℕ × Port)) → port_named ps m ≡ o → n.target_of o ≡ Some k → IsTarget ps k
     go None e h' = absurd cc
     go (Some q) e h' = by q (found_at ps m q e) q.1.mode refl h'
@@ -173,8 +174,9 @@ architecture_sound u u' a h sound =
     let c = rule_kept (n.ends a.name.text a.end_name) _ u' b.2 in
     let is : record { entities = u.entities; architectures = u.architectures ++ (a.entity.text, b.0.equations) ∷ [] } ≡ u' = cc in
     subst AreSound is (λ m es k. elim (named_last u.architectures a.entity.text m es b.0.equations k) [
-      inl old ↦ sound m es old
-    | inr new ↦ (p.0, ap (named u.entities) new.0 ∙ p.1, subst (ArePlain p.0) new.1 (body_plain p.0 n.no_statements b.0 a.statements b.1 tt)) ])
+      | inl old ↦ sound m es old
+      | inr new ↦ (p.0, ap (named u.entities) new.0 ∙ p.1, subst (ArePlain p.0) new.1 (body_plain p.0 n.no_statements b.0 a.statements b.1 tt))
+    ])
 
 unit_sound : (u u' : Units) (seen : Seen) (x : t.LibraryUnit) → n.library_unit u seen x ≡ Some u' → AreSound u → AreSound u'
 unit_sound u u' seen (t.entity e) h sound = entity_sound u u' seen e h sound

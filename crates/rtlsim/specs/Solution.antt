@@ -3,7 +3,6 @@ use Rattle.std.specs.Prelude.{◌≡◌, ℕ, suc, ◌<◌, List, [], ◌∷◌,
 use Rattle.vhdl_parser.specs.declared.tree.Mode.TheVariants.{In, Out}
 use Rattle.vhdl_values.specs.declared.scalar.Nine.{Nine}
 use Rattle.vhdl_values.specs.declared.scalar.Nine.TheVariants.{U}
-
 use Rattle.vhdl_values.specs.Logic.{logic_of, not_of}
 use Rattle.rtlsim.specs.Design.{Port, Value, port, literal, inverse, binary, Equation, Design}
 use Rattle.rtlsim.specs.Sources.{drivers, faults}

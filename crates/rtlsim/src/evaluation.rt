@@ -108,12 +108,7 @@ fn push_port<S: Sink>(
 }
 
 /// Writes the line of each out port, in order of declaration.
-pub fn push_values<S: Sink>(
-    out: &mut S,
-    design: &Design,
-    table: &[Drivers],
-    given: &[Option<Nine>],
-)
+pub fn push_values<S: Sink>(out: &mut S, design: &Design, table: &[Drivers], given: &[Option<Nine>])
     ensures { Goes (S.state out.old) (S.state out.new)
         (lines (ports_view design.now.ports) (evaluated (design_view design.now) table.now (sets.input_value given.now))) }
 {

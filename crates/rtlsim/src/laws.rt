@@ -5,5 +5,4 @@ ghost use Rattle.rtlsim.specs.Solution.{OneValuationSolves};
 /// Exactly one valuation solves a plain design in which no net has two drivers, for given inputs.
 pub fn exactly_one_valuation_solves()
     ensures { OneValuationSolves }
-{
-}
+{}

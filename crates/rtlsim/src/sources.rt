@@ -40,7 +40,11 @@ impl Drivers {
 }
 
 /// What drives each of so many ports.
-pub fn drivers_of(alloc: Global, equations: &[Equation], count: usize) -> Result<Vec<Drivers>, AllocError>
+pub fn drivers_of(
+    alloc: Global,
+    equations: &[Equation],
+    count: usize,
+) -> Result<Vec<Drivers>, AllocError>
     ensures { IfOk result (λ table. HoldsDrivers table.items count (map equation_view equations.now)) }
 {
     let mut table = vec![in alloc; Drivers::Undriven; count]?;

@@ -54,12 +54,7 @@ fn chain(first: Box<Value>, links: Vec<Link>) -> Value
 }
 
 /// A value and an operator with its right operand.
-fn binary(
-    alloc: Global,
-    operator: Logic,
-    first: Value,
-    operand: Value,
-) -> Result<Value, AllocError>
+fn binary(alloc: Global, operator: Logic, first: Value, operand: Value) -> Result<Value, AllocError>
     ensures { IfOk result (λ v. value_view v ≡ design.binary operator (value_view first) (value_view operand)) }
 {
     let link = Link { operator, operand };

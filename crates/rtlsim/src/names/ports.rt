@@ -79,12 +79,7 @@ fn mode_of(mode: Option<Mode>) -> Mode
 
 /// Ports of one type, without a default.
 #[tactic(auto, unfolding(crate::specs::NameRules::port_decl))]
-fn port_decl(
-    alloc: Global,
-    seen: Seen,
-    ports: &mut Ports,
-    decl: &PortTree,
-) -> Result<(), NameFault>
+fn port_decl(alloc: Global, seen: Seen, ports: &mut Ports, decl: &PortTree) -> Result<(), NameFault>
     ensures { Gives (λ _. ports_view ports.new) (rules.port_decl seen (ports_view ports.old) (tree.port_view decl.now)) result }
 {
     if decl.default.is_some() {

@@ -37,12 +37,7 @@ pub fn copied(alloc: Global, text: &[u8]) -> Result<Vec<u8>, AllocError>
 }
 
 /// One more port, whose name no port before it has.
-fn declare(
-    alloc: Global,
-    ports: &mut Ports,
-    name: &Identifier,
-    port: Port,
-) -> Result<(), NameFault>
+fn declare(alloc: Global, ports: &mut Ports, name: &Identifier, port: Port) -> Result<(), NameFault>
     ensures { Gives (λ _. ports_view ports.new) (rules.declare port.mode port.is_resolved (ports_view ports.old) (ident_view name.now)) result }
 {
     if is_port(ports, &name.text) {

@@ -14,9 +14,7 @@ use crate::names::region::copied;
 use crate::names::statements::statements;
 use indexmap::IndexMap;
 use std::alloc::Global;
-use vhdl_parser::{
-    Architecture, DesignUnit, Entity as EntityTree, File, Identifier, LibraryUnit,
-};
+use vhdl_parser::{Architecture, DesignUnit, Entity as EntityTree, File, Identifier, LibraryUnit};
 
 /// The end name of a unit, if one stands, is its name.
 fn ends(name: &Identifier, end_name: &Option<Identifier>) -> Result<(), NameFault>

@@ -16,10 +16,10 @@ returns-in-Ok-finish g c =
     let said : HasVerdict x (Yes c.in-Yes.table) = subst (HasVerdict x) c.in-Yes.is c.in_ok-table.ensures in
     let text = lines x.ports (evaluated x c.in-Yes.table.items (input_value c.in-Ok.given.items)) in
     let same : lines x.ports (evaluated x c.deref.result.now (input_value c.deref-2.result.now)) ≡ text =
-        ap (λ (t : List Drivers). lines x.ports (evaluated x t (input_value c.deref-2.result.now))) c.deref.ensures.value
-        ∙ ap (λ (t : Table). lines x.ports (evaluated x c.in-Yes.table.items (input_value t))) c.deref-2.ensures.value in
+    ap (λ (t : List Drivers). lines x.ports (evaluated x t (input_value c.deref-2.result.now))) c.deref.ensures.value
+    ∙ ap (λ (t : Table). lines x.ports (evaluated x c.in-Yes.table.items (input_value t))) c.deref-2.ensures.value in
     let went : Goes (g.S.Sink.state c.args.out.now) (g.S.Sink.state c.push_values.new.out) text =
-        subst (λ (t : List ℕ). Goes (g.S.Sink.state c.args.out.now) (g.S.Sink.state c.push_values.new.out) t) same c.push_values.ensures in
+    subst (λ (t : List ℕ). Goes (g.S.Sink.state c.args.out.now) (g.S.Sink.state c.push_values.new.out) t) same c.push_values.ensures in
     let intact = c.in-Ok-finish.ensures.ok in
     (intact, text, prints x sets c.in-Yes.table.items c.in-Ok.given.items c.requires.plain said.0 said.1 c.in-Ok.ensures, (went.whole intact).1)
 
@@ -30,8 +30,8 @@ returns g c =
     let said : HasVerdict x (Yes c.in-Yes.table) = subst (HasVerdict x) c.in-Yes.is c.in_ok-table.ensures in
     let text = lines x.ports (evaluated x c.in-Yes.table.items (input_value c.in-Ok.given.items)) in
     let same : lines x.ports (evaluated x c.deref.result.now (input_value c.deref-2.result.now)) ≡ text =
-        ap (λ (t : List Drivers). lines x.ports (evaluated x t (input_value c.deref-2.result.now))) c.deref.ensures.value
-        ∙ ap (λ (t : Table). lines x.ports (evaluated x c.in-Yes.table.items (input_value t))) c.deref-2.ensures.value in
+    ap (λ (t : List Drivers). lines x.ports (evaluated x t (input_value c.deref-2.result.now))) c.deref.ensures.value
+    ∙ ap (λ (t : Table). lines x.ports (evaluated x c.in-Yes.table.items (input_value t))) c.deref-2.ensures.value in
     let went : Goes (g.S.Sink.state c.args.out.now) (g.S.Sink.state c.push_values.new.out) text =
-        subst (λ (t : List ℕ). Goes (g.S.Sink.state c.args.out.now) (g.S.Sink.state c.push_values.new.out) t) same c.push_values.ensures in
+    subst (λ (t : List ℕ). Goes (g.S.Sink.state c.args.out.now) (g.S.Sink.state c.push_values.new.out) t) same c.push_values.ensures in
     (c.in-Err-finish.ensures.err, text, prints x sets c.in-Yes.table.items c.in-Ok.given.items c.requires.plain said.0 said.1 c.in-Ok.ensures, went.beginning c.requires.intact)

@@ -13,7 +13,7 @@ returns c =
     let es = c.args.ports.now.entries in
     let n = c.args.name.now.text.items in
     let none : is_none (port_named (ports_view c.args.ports.now) n) ≡ true =
-        ap (λ x. is_none (port_named (ports_view c.args.ports.now) x)) (sym c.deref.ensures.value) ∙ c.is_port.ensures ∙ ap not c.if-is_port.false in
+    ap (λ x. is_none (port_named (ports_view c.args.ports.now) x)) (sym c.deref.ensures.value) ∙ c.is_port.ensures ∙ ap not c.if-is_port.false in
     let same : c.in_ok-key.key.items ≡ n = c.in_ok-key.ensures ∙ c.deref-2.ensures.value in
     let gone : lookup (λ m. bytes_eq c.in_ok-key.key.items m.items) es ≡ None = ap (λ x. lookup (λ m. bytes_eq x m.items) es) same ∙ absent n 0 es none in
     declared es _ (ident_view c.args.name.now) c.in_ok-key.key c.args.port none same

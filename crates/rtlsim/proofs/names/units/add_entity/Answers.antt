@@ -12,6 +12,6 @@ returns c =
     let f = λ (e : Entity). ports_view e.ports in
     let es = c.args.entities.now.entries in
     let gone : lookup (λ k. bytes_eq c.in_ok-key.key.items k.items) es ≡ None =
-        ap (λ x. lookup (λ k. bytes_eq x k.items) es) c.in_ok-key.ensures ∙ unknown f c.args.name.now es c.requires in
+    ap (λ x. lookup (λ k. bytes_eq x k.items) es) c.in_ok-key.ensures ∙ unknown f c.args.name.now es c.requires in
     ap Some (grown f es _ c.args.name.now c.in_ok-key.key c.args.entity c.in_ok-key.ensures
     (c.in_ok-insert.ensures.entries ∙ insert_entry-new _ c.args.entities.now c.in_ok-key.key c.args.entity gone))

@@ -17,8 +17,8 @@ pub returns-in_err-ports : goal.returns-in_err-ports
 returns-in_err-ports c =
     let es = (units_view c.args.units.now).entities in
     let a : is_none (n.named es c.args.e.now.name.text.items) ≡ true =
-        ap (λ x. is_none (n.named es x)) (sym c.as_slice-name.ensures.value) ∙ ap not (sym c.is_entity.ensures ∙ c.if-is_entity.false) in
+    ap (λ x. is_none (n.named es x)) (sym c.as_slice-name.ensures.value) ∙ ap not (sym c.is_entity.ensures ∙ c.if-is_entity.false) in
     let b : is_none (option_map tree.generics_view c.args.e.now.generics) ≡ true = grind (arith, common_steps) in
     let f : c.in_err-ports.field-0.0 ≢ NoMemory → n.entity (units_view c.args.units.now) c.args.seen (tree.entity_view c.args.e.now) ≡ None =
-        λ m. no_ports (units_view c.args.units.now) c.args.seen (tree.entity_view c.args.e.now) a b (c.in_err-ports.ensures m) in
+    λ m. no_ports (units_view c.args.units.now) c.args.seen (tree.entity_view c.args.e.now) a b (c.in_err-ports.ensures m) in
     first_of (search rules, grind (arith, common_steps))
