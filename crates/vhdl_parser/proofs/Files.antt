@@ -9,17 +9,18 @@ use Rattle.vhdl_parser.specs.Tree.{Ident, Generic, Port, Declaration, Concurrent
 use Rattle.vhdl_parser.specs.Pieces.{Piece, some, Spells, spell_ident, spell_idents, spell_word, spell_option, spell_each, spell_list, IsAny, IsEach, IsList, IsOption, IsAbsent}
 use Rattle.vhdl_parser.specs.Levels.{opens, closes, IsShallow, IsDeep}
 use Rattle.vhdl_parser.specs.grammar.Concurrent.{spell_concurrent, IsConcurrent}
-use Rattle.vhdl_parser.specs.grammar.Declarations.{spell_ports, ArePorts}
+use Rattle.vhdl_parser.specs.grammar.Declarations.{spell_generics, spell_ports, spell_declaration, AreGenerics, ArePorts, IsDeclaration}
 use Rattle.vhdl_parser.specs.grammar.Units.{spell_selected, spell_context, spell_end, spell_entity, spell_architecture, spell_library_unit, spell_unit, spell_file, IsContext, IsEntity, IsArchitecture, IsLibraryUnit, IsUnit, IsFile}
 use Rattle.vhdl_parser.specs.reader.Input.{Outcome, Parser, and_then, expect, identifier, next_kind, is_kind, is_more, many, eat, optional, refusal}
 use Rattle.vhdl_parser.specs.reader.Concurrent.{concurrents, begins_concurrent}
-use Rattle.vhdl_parser.specs.reader.Declarations.{idents, ports}
-use Rattle.vhdl_parser.specs.reader.Units.{max_open, selected, next_selected, selecteds, library_clause, use_clause, context_item, begins_context, end_name, entity_unit, architecture_unit, library_unit_by, library_unit, context, unit, units, finish, file}
+use Rattle.vhdl_parser.specs.reader.Declarations.{idents, end_name, optional_generics, optional_ports, declarations, begins_declaration}
+use Rattle.vhdl_parser.specs.reader.Units.{max_open, selected, next_selected, selecteds, library_clause, use_clause, context_item, begins_context, entity_unit, architecture_unit, library_unit_by, library_unit, context, unit, units, finish, file}
 use Rattle.vhdl_parser.proofs.Steps.{bind_ok, bind_err, pure_ok, pure_err}
 use Rattle.vhdl_parser.proofs.Walks.{Rule, Walks, Made, w_pure, w_then, w_last, w_rule, low_at, deep_is}
 use Rattle.vhdl_parser.proofs.Rules.{w_at, w_some, w_end, w_ident, w_word, w_option_ident, w_choose, w_refuse, w_test, option_rule, each_rule, list_rule}
 use Rattle.vhdl_parser.proofs.Gives.{Gives, Reaches, Whatever, front, g_pure, g_then, g_map, g_at, g_some, g_ident, g_choose, g_yes, g_no, eat_gives, option_gives, more_gives, list_gives}
-use Rattle.vhdl_parser.proofs.Ports.{idents_rule, ports_rule, ident_gives, idents_gives, ports_gives}
+use Rattle.vhdl_parser.proofs.Ports.{idents_rule, idents_gives, end_name_gives, optional_generics_rule, optional_generics_gives, optional_ports_rule, optional_ports_gives}
+use Rattle.vhdl_parser.proofs.Declared.{declarations_rule, declarations_gives}
 use Rattle.vhdl_parser.proofs.Concurrents.{concurrents_rule, concurrents_gives}
 
 -- ---- context clauses
@@ -91,12 +92,13 @@ entity_rule =
     w_at k.Entity refl (λ at.
     w_ident (λ name.
     w_some k.Is refl (λ _.
-    w_then (option_rule (is_kind k.Port) (omega arith) (ports_rule max_open)) (λ found good _.
+    w_then (optional_generics_rule max_open) (λ gs fine _.
+    w_then (optional_ports_rule max_open) (λ ps good _.
     w_end (λ _.
     w_word k.Entity refl (λ word e.
     w_option_ident (λ last e2.
     w_some k.Semicolon refl (λ _.
-    w_pure (omega arith) refl (tt, good)))))))))
+    w_pure (omega arith) refl (fine, good))))))))))
 
 architecture_rule : Rule max_open 0 architecture_unit spell_architecture IsArchitecture
 unfolding architecture_unit end_name
@@ -106,13 +108,14 @@ architecture_rule =
     w_some k.Of refl (λ _.
     w_ident (λ of_entity.
     w_some k.Is refl (λ _.
+    w_then (declarations_rule max_open) (λ ds fine _.
     w_some k.Begin refl (λ _.
     w_then (concurrents_rule max_open) (λ found good _.
     w_end (λ _.
     w_word k.Architecture refl (λ word e.
     w_option_ident (λ last e2.
     w_some k.Semicolon refl (λ _.
-    w_pure (omega arith) refl (refl, good))))))))))))
+    w_pure (omega arith) refl (fine, good)))))))))))))
 
 library_unit_rule : Rule max_open 0 library_unit spell_library_unit IsLibraryUnit
 unfolding library_unit
@@ -131,14 +134,6 @@ units_rule : Rule max_open 0 units (spell_each spell_unit) (IsEach IsUnit)
 unfolding units
 units_rule = each_rule is_more unit (omega arith) unit_rule
 
-any_option : {A : Type 0} (o : Option A) → IsOption IsAny o
-any_option None = tt
-any_option (Some x) = tt
-
-end_name_gives : (last : Option Ident) → Gives end_name last (spell_option spell_ident last) (λ next. (is_kind k.Identifier next ≡ false) × Whatever next)
-unfolding end_name same_kind
-end_name_gives last = option_gives (is_kind k.Identifier) ident_gives (λ i good next. refl) last (any_option last)
-
 -- end [ word ] [ id ] ;
 end_gives : {B : Type 0} (f : Bool → Option Ident → B) (kind : Kind) (word : Bool) (last : Option Ident) → same_kind kind kind ≡ true → same_kind k.Identifier kind ≡ false → same_kind k.Semicolon kind ≡ false →
     Gives (λ ts. and_then (expect k.End ts) (λ _ us. and_then (eat kind us) (λ w vs. and_then (end_name vs) (λ l ws. and_then (expect k.Semicolon ws) (λ _ xs. Ok (f w l, xs)))))) (f word last) (spell_end kind word last) Whatever
@@ -150,35 +145,35 @@ end_gives f kind word last same no_name no_end =
     behind None next = no_end
     behind (Some i) next = no_name
 
-ports_begin : (all : List Port) → ArePorts all → (next : Option Kind) → is_kind k.Port (front (spell_ports all) next) ≡ true
-unfolding same_kind
-ports_begin all good next = refl
-
-entity_gives : (at : ℕ) (name : Ident) (generics : Option (List Generic)) (found : Option (List Port)) (word : Bool) (last : Option Ident) → IsAbsent generics → IsOption ArePorts found →
-    Gives entity_unit (record { at = at; name = name; generics = generics; ports = found; end_word = word; end_name = last }) (spell_entity (record { at = at; name = name; generics = generics; ports = found; end_word = word; end_name = last })) Whatever
+entity_gives : (e : Entity) → IsEntity e → Gives entity_unit e (spell_entity e) Whatever
 unfolding entity_unit same_kind
-entity_gives at name (Some g) found word last absent good = absurd absent
-entity_gives at name None found word last absent good =
+entity_gives e good =
     g_at _ (g_ident _ (g_some (λ _.
-    g_then _ (option_gives (is_kind k.Port) (ports_gives max_open) ports_begin found good)
-    (end_gives (λ w l. record { at = at; name = name; generics = None; ports = found; end_word = w; end_name = l }) k.Entity word last refl refl refl)
-    (λ next g. (refl, tt)))))
+    g_then _ (optional_generics_gives max_open e.generics good.0)
+    (g_then _ (optional_ports_gives max_open e.ports good.1)
+    (end_gives (λ w l. record { at = e.at; name = e.name; generics = e.generics; ports = e.ports; end_word = w; end_name = l }) k.Entity e.end_word e.end_name refl refl refl)
+    (λ next g. (refl, tt)))
+    (λ next g. no_generic e.ports next))))
+  where
+    no_generic : (ps : Option (List Port)) (next : Option Kind) → (is_kind k.Generic (front (spell_option spell_ports ps ++ spell_end k.Entity e.end_word e.end_name) next) ≡ false) × Unit {0}
+    no_generic None next = (refl, tt)
+    no_generic (Some ps) next = (refl, tt)
 
-architecture_gives : (at : ℕ) (name of_entity : Ident) (found : List Concurrent) (word : Bool) (last : Option Ident) → IsEach IsConcurrent found →
-    Gives architecture_unit (record { at = at; name = name; entity = of_entity; declarations = []; statements = found; end_word = word; end_name = last }) (spell_architecture (record { at = at; name = name; entity = of_entity; declarations = []; statements = found; end_word = word; end_name = last })) Whatever
+architecture_gives : (a : Architecture) → IsArchitecture a → Gives architecture_unit a (spell_architecture a) Whatever
 unfolding architecture_unit same_kind
-architecture_gives at name of_entity found word last good =
-    g_at _ (g_ident _ (g_some (λ _. g_ident _ (g_some (λ _. g_some (λ _.
-    g_then _ (concurrents_gives max_open found good)
-    (end_gives (λ w l. record { at = at; name = name; entity = of_entity; declarations = []; statements = found; end_word = w; end_name = l }) k.Architecture word last refl refl refl)
-    (λ next g. (refl, tt))))))))
+architecture_gives a good =
+    g_at _ (g_ident _ (g_some (λ _. g_ident _ (g_some (λ _.
+    g_then _ (declarations_gives max_open a.declarations good.0)
+    (g_some (λ _.
+    g_then _ (concurrents_gives max_open a.statements good.1)
+    (end_gives (λ w l. record { at = a.at; name = a.name; entity = a.entity; declarations = a.declarations; statements = a.statements; end_word = w; end_name = l }) k.Architecture a.end_word a.end_name refl refl refl)
+    (λ next g. (refl, tt))))
+    (λ next g. (refl, tt)))))))
 
 library_unit_gives : (u : LibraryUnit) → IsLibraryUnit u → Gives library_unit u (spell_library_unit u) Whatever
 unfolding library_unit
-library_unit_gives (entity e) good = g_choose library_unit_by (Some k.Entity) (λ next g. refl) (g_map (λ x. entity x) (entity_gives e.at e.name e.generics e.ports e.end_word e.end_name good.0 good.1))
-library_unit_gives (architecture a) good = g_choose library_unit_by (Some k.Architecture) (λ next g. refl)
-    (g_map (λ x. architecture x) (subst (λ ds. Gives architecture_unit (record { at = a.at; name = a.name; entity = a.entity; declarations = ds; statements = a.statements; end_word = a.end_word; end_name = a.end_name }) (spell_architecture a) Whatever) (sym good.0)
-    (architecture_gives a.at a.name a.entity a.statements a.end_word a.end_name good.1)))
+library_unit_gives (entity e) good = g_choose library_unit_by (Some k.Entity) (λ next g. refl) (g_map (λ x. entity x) (entity_gives e good))
+library_unit_gives (architecture a) good = g_choose library_unit_by (Some k.Architecture) (λ next g. refl) (g_map (λ x. architecture x) (architecture_gives a good))
 
 no_context : (u : LibraryUnit) (next : Option Kind) → begins_context (front (spell_library_unit u) next) ≡ false
 no_context (entity e) next = refl

@@ -14,6 +14,7 @@ pub mod WalkValues
 pub mod GiveValues
 pub mod Concurrents
 pub mod Ports
+pub mod Declared
 pub mod Files
 pub mod Within
 pub mod WalkSequential

@@ -1,20 +1,25 @@
--- Ports: what is read is spelled so, and what is spelled is read.
+-- Subtypes, generics and ports: what is read is spelled so, and what is spelled is read.
 use Rattle.std.proofs.Common.{◌≡◌, ℕ, zero, suc, ◌+◌, ◌≤◌, ◌<◌, Bool, true, false, List, [], ◌∷◌, ◌++◌, length, Ok, Option, Some, None, refl, sym, ap, ◌∙◌, subst, arith}
 use Rattle.vhdl_lexer.specs.declared.token.Kind.{Kind}
 use Rattle.vhdl_lexer.specs.declared.token.Kind.TheVariants as k
 use Rattle.vhdl_parser.specs.declared.tree.Mode.{Mode}
 use Rattle.vhdl_parser.specs.declared.tree.Mode.TheVariants.{In, Out}
 use Rattle.vhdl_parser.specs.Lexeme.{Lexeme, same_kind}
-use Rattle.vhdl_parser.specs.Tree.{Ident, Range, Value, Subtype, Port}
-use Rattle.vhdl_parser.specs.Pieces.{Piece, some, word_at, spell_ident, spell_idents, spell_word, spell_option, spell_each, spell_list, IsAny, IsEach, IsList, IsAbsent}
-use Rattle.vhdl_parser.specs.grammar.Declarations.{spell_subtype, spell_mode, spell_port, spell_ports, IsSubtype, IsPort, ArePorts}
-use Rattle.vhdl_parser.specs.reader.Input.{and_then, expect, identifier, next_kind, is_kind, many, eat, below}
-use Rattle.vhdl_parser.specs.reader.Declarations.{next_ident, idents, mode_by, mode, subtype, port, next_port, port_list, ports}
+use Rattle.vhdl_parser.specs.Tree.{Ident, Expr, Range, Value, Subtype, Generic, Port}
+use Rattle.vhdl_parser.specs.Pieces.{Piece, some, word_at, spell_ident, spell_idents, spell_word, spell_option, spell_each, spell_list, IsAny, IsEach, IsList, IsOption}
+use Rattle.vhdl_parser.specs.grammar.Expressions.{IsExpr, IsRange, IsValue}
+use Rattle.vhdl_parser.specs.grammar.Declarations.{spell_constraint, spell_subtype, spell_default, spell_generic_default, spell_mode, spell_generic, spell_generics, spell_port, spell_ports, IsSubtype, IsGeneric, AreGenerics, IsPort, ArePorts}
+use Rattle.vhdl_parser.specs.reader.Input.{and_then, expect, identifier, next_kind, is_kind, many, eat, below, optional}
+use Rattle.vhdl_parser.specs.reader.Declarations.{next_ident, idents, end_name, constraint, optional_constraint, subtype, default_value, optional_default, generic_default, optional_generic_default, generic, next_generic, generic_list, generics, optional_generics, mode_by, mode, port, next_port, port_list, ports, optional_ports}
+use Rattle.vhdl_parser.proofs.Operators.{grip, is_here}
 use Rattle.vhdl_parser.proofs.Walks.{Rule, Walks, afresh, w_pure, w_then, w_last, w_rule}
-use Rattle.vhdl_parser.proofs.Rules.{w_token, w_some, w_ident, w_left, w_right, w_below, w_choose, under, word_rule, list_rule}
-use Rattle.vhdl_parser.proofs.Gives.{Gives, Whatever, front, g_pure, g_then, g_map, g_some, g_ident, g_choose, g_token, g_below, eat_gives, list_gives}
+use Rattle.vhdl_parser.proofs.Rules.{w_token, w_some, w_ident, w_left, w_right, w_below, w_choose, under, word_rule, option_rule, list_rule}
+use Rattle.vhdl_parser.proofs.Gives.{Gives, Whatever, front, g_pure, g_then, g_map, g_some, g_ident, g_choose, g_token, g_below, eat_gives, option_gives, list_gives}
+use Rattle.vhdl_parser.proofs.WalkExpressions.{expr_rule}
+use Rattle.vhdl_parser.proofs.WalkValues.{range_rule, value_rule}
+use Rattle.vhdl_parser.proofs.GiveValues.{Ends, expr_gives, range_gives, value_gives}
 
--- ---- what is read is spelled so
+-- ---- identifiers
 
 pub ident_rule : (n : ℕ) → Rule n 0 identifier spell_ident IsAny
 unfolding identifier same_kind
@@ -27,50 +32,6 @@ next_ident_rule n = w_some k.Comma refl (λ _. w_rule (λ i. refl) (ident_rule n
 pub idents_rule : (n : ℕ) → Rule n 0 idents spell_idents (IsList IsAny)
 unfolding idents
 idents_rule n = list_rule k.Comma (omega arith) (ident_rule n) (next_ident_rule n)
-
-mode_rule : (n : ℕ) → Rule n 0 mode (spell_option spell_mode) IsAny
-unfolding mode
-mode_rule n = w_choose (λ next. by_next next)
-  where
-    by_next : (next : Option Kind) → Rule n 0 (mode_by next) (spell_option spell_mode) IsAny
-    by_next (Some k.In) = w_some k.In refl (λ _. w_pure (omega arith) refl tt)
-    by_next (Some k.Out) = w_some k.Out refl (λ _. w_pure (omega arith) refl tt)
-    by_next _ = w_pure (omega arith) refl tt
-
-subtype_rule : (n : ℕ) → Rule n 0 subtype spell_subtype IsSubtype
-unfolding subtype
-subtype_rule n = w_ident (λ i. w_pure (omega arith) refl tt)
-
-port_rule : (n : ℕ) → Rule n 0 port spell_port IsPort
-unfolding port
-port_rule n =
-    w_then (word_rule k.Signal refl (omega arith)) (λ word _ _.
-    w_then (idents_rule n) (λ names several _.
-    w_some k.Colon refl (λ _.
-    w_then (mode_rule n) (λ way _ _.
-    w_then (subtype_rule n) (λ t bare _.
-    w_pure (omega arith) refl (several, bare, tt))))))
-
-next_port_rule : (n : ℕ) → Rule n 0 next_port (λ p. some k.Semicolon ∷ spell_port p) IsPort
-unfolding next_port
-next_port_rule n = w_some k.Semicolon refl (λ _. w_rule (λ p. refl) (port_rule n))
-
-port_list_rule : (n : ℕ) → Rule n 0 port_list (spell_list k.Semicolon spell_port) ArePorts
-unfolding port_list
-port_list_rule n = list_rule k.Semicolon (omega arith) (port_rule n) (next_port_rule n)
-
-pub ports_rule : (n : ℕ) → Rule n 0 (ports n) spell_ports ArePorts
-unfolding ports
-ports_rule n =
-    w_some k.Port refl (λ _.
-    w_left (λ _.
-    w_below n (λ m e.
-    w_then (under e (port_list_rule m)) (λ all good le.
-    w_right le (λ _.
-    w_some k.Semicolon refl (λ _.
-    w_pure (omega arith) refl good))))))
-
--- ---- what is spelled is read
 
 pub ident_gives : (i : Ident) → IsAny i → Gives identifier i (spell_ident i) Whatever
 unfolding identifier
@@ -85,6 +46,213 @@ pub idents_gives : (names : List Ident) → IsList IsAny names → Gives idents 
 unfolding idents same_kind
 idents_gives names good = list_gives k.Comma next_ident refl tt ident_gives next_ident_gives names good
 
+any_option : {A : Type 0} (o : Option A) → IsOption IsAny o
+any_option None = tt
+any_option (Some x) = tt
+
+pub end_name_gives : (last : Option Ident) → Gives end_name last (spell_option spell_ident last) (λ next. (is_kind k.Identifier next ≡ false) × Whatever next)
+unfolding end_name same_kind
+end_name_gives last = option_gives (is_kind k.Identifier) ident_gives (λ i good next. refl) last (any_option last)
+
+-- ---- subtypes and defaults
+
+constraint_rule : (n : ℕ) → Rule n 0 (constraint n) spell_constraint IsRange
+unfolding constraint
+constraint_rule n = w_left (λ _. w_below n (λ m e. w_then (under e (range_rule m)) (λ r good le. w_right le (λ _. w_pure (omega arith) refl good))))
+
+pub subtype_rule : (n : ℕ) → Rule n 0 (subtype n) spell_subtype IsSubtype
+unfolding subtype optional_constraint
+subtype_rule n = w_ident (λ i. w_last (λ r. record { mark = i; range = r }) (option_rule (is_kind k.LeftParen) (omega arith) (constraint_rule n)) (λ r good. (refl, good)))
+
+default_rule : (n : ℕ) → Rule n 0 (default_value n) spell_default IsValue
+unfolding default_value
+default_rule n = w_some k.Assign refl (λ _. w_rule (λ v. refl) (value_rule n))
+
+pub optional_default_rule : (n : ℕ) → Rule n 0 (optional_default n) (spell_option spell_default) (IsOption IsValue)
+unfolding optional_default
+optional_default_rule n = option_rule (is_kind k.Assign) (omega arith) (default_rule n)
+
+generic_default_rule : (n : ℕ) → Rule n 0 (generic_default n) spell_generic_default IsExpr
+unfolding generic_default
+generic_default_rule n = w_some k.Assign refl (λ _. w_rule (λ e. refl) (expr_rule n))
+
+optional_generic_default_rule : (n : ℕ) → Rule n 0 (optional_generic_default n) (spell_option spell_generic_default) (IsOption IsExpr)
+unfolding optional_generic_default
+optional_generic_default_rule n = option_rule (is_kind k.Assign) (omega arith) (generic_default_rule n)
+
+constraint_gives : (n : ℕ) (r : Range) → IsRange r → Gives (constraint n) r (spell_constraint r) Whatever
+unfolding constraint
+constraint_gives n r good = g_some (λ _. g_below _ n (λ m e. g_then _ (range_gives m r good) (g_some (λ _. g_pure)) (λ next g. omega arith)))
+
+constraint_begins : (r : Range) → IsRange r → (next : Option Kind) → is_kind k.LeftParen (front (spell_constraint r) next) ≡ true
+unfolding same_kind
+constraint_begins r good next = refl
+
+-- no parenthesis follows
+abbrev pub EndsSubtype : Option Kind → Type 0
+EndsSubtype next = (is_kind k.LeftParen next ≡ false) × Whatever next
+
+pub subtype_gives : (n : ℕ) (t : Subtype) → IsSubtype t → Gives (subtype n) t (spell_subtype t) EndsSubtype
+unfolding subtype optional_constraint
+subtype_gives n t good = g_ident _ (g_map (λ r. record { mark = t.mark; range = r }) (option_gives (is_kind k.LeftParen) (constraint_gives n) constraint_begins t.range good))
+
+default_gives : (n : ℕ) (v : Value) → IsValue v → Gives (default_value n) v (spell_default v) Ends
+unfolding default_value
+default_gives n v good = g_some (λ _. value_gives n v good)
+
+default_begins : (v : Value) → IsValue v → (next : Option Kind) → is_kind k.Assign (front (spell_default v) next) ≡ true
+unfolding same_kind
+default_begins v good next = refl
+
+-- neither a default nor the rest of an expression follows
+abbrev pub EndsDefault : Option Kind → Type 0
+EndsDefault next = (is_kind k.Assign next ≡ false) × Ends next
+
+pub optional_default_gives : (n : ℕ) (d : Option Value) → IsOption IsValue d → Gives (optional_default n) d (spell_option spell_default d) EndsDefault
+unfolding optional_default
+optional_default_gives n d good = option_gives (is_kind k.Assign) (default_gives n) default_begins d good
+
+generic_default_gives : (n : ℕ) (e : Expr) → IsExpr e → Gives (generic_default n) e (spell_generic_default e) Ends
+unfolding generic_default
+generic_default_gives n e good = g_some (λ _. expr_gives n e good)
+
+generic_default_begins : (e : Expr) → IsExpr e → (next : Option Kind) → is_kind k.Assign (front (spell_generic_default e) next) ≡ true
+unfolding same_kind
+generic_default_begins e good next = refl
+
+optional_generic_default_gives : (n : ℕ) (d : Option Expr) → IsOption IsExpr d → Gives (optional_generic_default n) d (spell_option spell_generic_default d) EndsDefault
+unfolding optional_generic_default
+optional_generic_default_gives n d good = option_gives (is_kind k.Assign) (generic_default_gives n) generic_default_begins d good
+
+no_paren : (next : Option Kind) → Ends next → is_kind k.LeftParen next ≡ false
+no_paren next g = by_test (is_kind k.LeftParen next) refl
+  where
+    by_test : (b : Bool) → is_kind k.LeftParen next ≡ b → is_kind k.LeftParen next ≡ false
+    by_test false e = e
+    by_test true e = let held = ap grip (is_here k.LeftParen next e) in absurd (omega (arith, held, g))
+
+-- a default or what follows it is no parenthesis
+pub default_no_paren : (d : Option Value) (next : Option Kind) → Ends next → EndsSubtype (front (spell_option spell_default d) next)
+unfolding same_kind
+default_no_paren None next g = (no_paren next g, tt)
+default_no_paren (Some v) next g = (refl, tt)
+
+-- ---- generics
+
+generic_rule : (n : ℕ) → Rule n 0 (generic n) spell_generic IsGeneric
+unfolding generic
+generic_rule n =
+    w_then (word_rule k.Constant refl (omega arith)) (λ word _ _.
+    w_then (idents_rule n) (λ names several _.
+    w_some k.Colon refl (λ _.
+    w_then (word_rule k.In refl (omega arith)) (λ way _ _.
+    w_ident (λ mark.
+    w_last (λ d. record { constant_word = word; names = names; in_word = way; mark = mark; default = d }) (optional_generic_default_rule n) (λ d good. (refl, (several, good))))))))
+
+next_generic_rule : (n : ℕ) → Rule n 0 (next_generic n) (λ g. some k.Semicolon ∷ spell_generic g) IsGeneric
+unfolding next_generic
+next_generic_rule n = w_some k.Semicolon refl (λ _. w_rule (λ g. refl) (generic_rule n))
+
+generic_list_rule : (n : ℕ) → Rule n 0 (generic_list n) (spell_list k.Semicolon spell_generic) AreGenerics
+unfolding generic_list
+generic_list_rule n = list_rule k.Semicolon (omega arith) (generic_rule n) (next_generic_rule n)
+
+generics_rule : (n : ℕ) → Rule n 0 (generics n) spell_generics AreGenerics
+unfolding generics
+generics_rule n =
+    w_some k.Generic refl (λ _.
+    w_left (λ _.
+    w_below n (λ m e.
+    w_then (under e (generic_list_rule m)) (λ all good le.
+    w_right le (λ _.
+    w_some k.Semicolon refl (λ _.
+    w_pure (omega arith) refl good))))))
+
+pub optional_generics_rule : (n : ℕ) → Rule n 0 (optional_generics n) (spell_option spell_generics) (IsOption AreGenerics)
+unfolding optional_generics
+optional_generics_rule n = option_rule (is_kind k.Generic) (omega arith) (generics_rule n)
+
+generic_gives : (n : ℕ) (g : Generic) → IsGeneric g → Gives (generic n) g (spell_generic g) EndsDefault
+unfolding generic same_kind
+generic_gives n g good = of g.constant_word g.names g.in_word g.mark g.default good.0 good.1
+  where
+    of : (word : Bool) (names : List Ident) (way : Bool) (mark : Ident) (d : Option Expr) → IsList IsAny names → IsOption IsExpr d →
+        Gives (generic n) (record { constant_word = word; names = names; in_word = way; mark = mark; default = d }) (spell_generic (record { constant_word = word; names = names; in_word = way; mark = mark; default = d })) EndsDefault
+    of word [] way mark d several fine = absurd several
+    of word (i ∷ more) way mark d several fine =
+        g_then _ (eat_gives k.Constant word refl)
+        (g_then _ (idents_gives (i ∷ more) several)
+        (g_some (λ _.
+        g_then _ (eat_gives k.In way refl)
+        (g_ident _ (g_map (λ x. record { constant_word = word; names = i ∷ more; in_word = way; mark = mark; default = x }) (optional_generic_default_gives n d fine)))
+        (λ next g. refl)))
+        (λ next g. (refl, tt)))
+        (λ next g. refl)
+
+next_generic_gives : (n : ℕ) (g : Generic) → IsGeneric g → Gives (next_generic n) g (some k.Semicolon ∷ spell_generic g) EndsDefault
+unfolding next_generic
+next_generic_gives n g good = g_some (λ _. generic_gives n g good)
+
+generic_list_gives : (n : ℕ) (all : List Generic) → AreGenerics all → Gives (generic_list n) all (spell_list k.Semicolon spell_generic all) (λ next. (is_kind k.Semicolon next ≡ false) × EndsDefault next)
+unfolding generic_list same_kind
+generic_list_gives n all good = list_gives k.Semicolon (next_generic n) refl (refl, omega arith) (generic_gives n) (next_generic_gives n) all good
+
+generics_gives : (n : ℕ) (all : List Generic) → AreGenerics all → Gives (generics n) all (spell_generics all) Whatever
+unfolding generics same_kind
+generics_gives n all good = g_some (λ _. g_some (λ _. g_below _ n (λ m e. g_then _ (generic_list_gives m all good) (g_some (λ _. g_some (λ _. g_pure))) (λ next g. (refl, (refl, omega arith))))))
+
+generics_begin : (all : List Generic) → AreGenerics all → (next : Option Kind) → is_kind k.Generic (front (spell_generics all) next) ≡ true
+unfolding same_kind
+generics_begin all good next = refl
+
+pub optional_generics_gives : (n : ℕ) (o : Option (List Generic)) → IsOption AreGenerics o → Gives (optional_generics n) o (spell_option spell_generics o) (λ next. (is_kind k.Generic next ≡ false) × Whatever next)
+unfolding optional_generics
+optional_generics_gives n o good = option_gives (is_kind k.Generic) (generics_gives n) generics_begin o good
+
+-- ---- ports
+
+mode_rule : (n : ℕ) → Rule n 0 mode (spell_option spell_mode) IsAny
+unfolding mode
+mode_rule n = w_choose (λ next. by_next next)
+  where
+    by_next : (next : Option Kind) → Rule n 0 (mode_by next) (spell_option spell_mode) IsAny
+    by_next (Some k.In) = w_some k.In refl (λ _. w_pure (omega arith) refl tt)
+    by_next (Some k.Out) = w_some k.Out refl (λ _. w_pure (omega arith) refl tt)
+    by_next _ = w_pure (omega arith) refl tt
+
+port_rule : (n : ℕ) → Rule n 0 (port n) spell_port IsPort
+unfolding port
+port_rule n =
+    w_then (word_rule k.Signal refl (omega arith)) (λ word _ _.
+    w_then (idents_rule n) (λ names several _.
+    w_some k.Colon refl (λ _.
+    w_then (mode_rule n) (λ way _ _.
+    w_then (subtype_rule n) (λ t fine _.
+    w_last (λ d. record { signal_word = word; names = names; mode = way; subtype = t; default = d }) (optional_default_rule n) (λ d good. (refl, (several, fine, good))))))))
+
+next_port_rule : (n : ℕ) → Rule n 0 (next_port n) (λ p. some k.Semicolon ∷ spell_port p) IsPort
+unfolding next_port
+next_port_rule n = w_some k.Semicolon refl (λ _. w_rule (λ p. refl) (port_rule n))
+
+port_list_rule : (n : ℕ) → Rule n 0 (port_list n) (spell_list k.Semicolon spell_port) ArePorts
+unfolding port_list
+port_list_rule n = list_rule k.Semicolon (omega arith) (port_rule n) (next_port_rule n)
+
+ports_rule : (n : ℕ) → Rule n 0 (ports n) spell_ports ArePorts
+unfolding ports
+ports_rule n =
+    w_some k.Port refl (λ _.
+    w_left (λ _.
+    w_below n (λ m e.
+    w_then (under e (port_list_rule m)) (λ all good le.
+    w_right le (λ _.
+    w_some k.Semicolon refl (λ _.
+    w_pure (omega arith) refl good))))))
+
+pub optional_ports_rule : (n : ℕ) → Rule n 0 (optional_ports n) (spell_option spell_ports) (IsOption ArePorts)
+unfolding optional_ports
+optional_ports_rule n = option_rule (is_kind k.Port) (omega arith) (ports_rule n)
+
 -- neither `in` nor `out` follows
 mode_gives : (way : Option Mode) → Gives mode way (spell_option spell_mode way) (λ next. next ≡ Some k.Identifier)
 unfolding mode
@@ -92,37 +260,39 @@ mode_gives None = g_choose mode_by (Some k.Identifier) (λ next g. g) g_pure
 mode_gives (Some In) = g_choose mode_by (Some k.In) (λ next g. refl) (g_some (λ _. g_pure))
 mode_gives (Some Out) = g_choose mode_by (Some k.Out) (λ next g. refl) (g_some (λ _. g_pure))
 
-subtype_gives : (mark : Ident) → Gives subtype (record { mark = mark; range = None }) (spell_subtype (record { mark = mark; range = None })) Whatever
-unfolding subtype
-subtype_gives mark = g_ident _ g_pure
-
-port_gives : (p : Port) → IsPort p → Gives port p (spell_port p) Whatever
+port_gives : (n : ℕ) (p : Port) → IsPort p → Gives (port n) p (spell_port p) EndsDefault
 unfolding port same_kind
-port_gives p good = of p.signal_word p.names p.mode p.subtype.mark p.subtype.range p.default good.0 good.1 good.2
+port_gives n p good = of p.signal_word p.names p.mode p.subtype p.default good.0 good.1 good.2
   where
-    of : (word : Bool) (names : List Ident) (way : Option Mode) (mark : Ident) (range : Option Range) (default : Option Value) → IsList IsAny names → IsAbsent range → IsAbsent default →
-        Gives port (record { signal_word = word; names = names; mode = way; subtype = record { mark = mark; range = range }; default = default }) (spell_port (record { signal_word = word; names = names; mode = way; subtype = record { mark = mark; range = range }; default = default })) Whatever
-    of word names way mark (Some r) default several absent none = absurd absent
-    of word names way mark None (Some v) several absent none = absurd none
-    of word [] way mark None None several absent none = absurd several
-    of word (i ∷ more) way mark None None several absent none =
+    of : (word : Bool) (names : List Ident) (way : Option Mode) (t : Subtype) (d : Option Value) → IsList IsAny names → IsSubtype t → IsOption IsValue d →
+        Gives (port n) (record { signal_word = word; names = names; mode = way; subtype = t; default = d }) (spell_port (record { signal_word = word; names = names; mode = way; subtype = t; default = d })) EndsDefault
+    of word [] way t d several fine ends = absurd several
+    of word (i ∷ more) way t d several fine ends =
         g_then _ (eat_gives k.Signal word refl)
         (g_then _ (idents_gives (i ∷ more) several)
         (g_some (λ _.
         g_then _ (mode_gives way)
-        (g_then _ (subtype_gives mark) g_pure (λ next g. tt))
+        (g_then _ (subtype_gives n t fine) (g_map (λ x. record { signal_word = word; names = i ∷ more; mode = way; subtype = t; default = x }) (optional_default_gives n d ends)) (λ next g. default_no_paren d next g.1))
         (λ next g. refl)))
         (λ next g. (refl, tt)))
         (λ next g. refl)
 
-next_port_gives : (p : Port) → IsPort p → Gives next_port p (some k.Semicolon ∷ spell_port p) Whatever
+next_port_gives : (n : ℕ) (p : Port) → IsPort p → Gives (next_port n) p (some k.Semicolon ∷ spell_port p) EndsDefault
 unfolding next_port
-next_port_gives p good = g_some (λ _. port_gives p good)
+next_port_gives n p good = g_some (λ _. port_gives n p good)
 
-port_list_gives : (all : List Port) → ArePorts all → Gives port_list all (spell_list k.Semicolon spell_port all) (λ next. (is_kind k.Semicolon next ≡ false) × Whatever next)
+port_list_gives : (n : ℕ) (all : List Port) → ArePorts all → Gives (port_list n) all (spell_list k.Semicolon spell_port all) (λ next. (is_kind k.Semicolon next ≡ false) × EndsDefault next)
 unfolding port_list same_kind
-port_list_gives all good = list_gives k.Semicolon next_port refl tt port_gives next_port_gives all good
+port_list_gives n all good = list_gives k.Semicolon (next_port n) refl (refl, omega arith) (port_gives n) (next_port_gives n) all good
 
-pub ports_gives : (n : ℕ) (all : List Port) → ArePorts all → Gives (ports n) all (spell_ports all) Whatever
+ports_gives : (n : ℕ) (all : List Port) → ArePorts all → Gives (ports n) all (spell_ports all) Whatever
 unfolding ports same_kind
-ports_gives n all good = g_some (λ _. g_some (λ _. g_below _ n (λ m e. g_then _ (port_list_gives all good) (g_some (λ _. g_some (λ _. g_pure))) (λ next g. (refl, tt)))))
+ports_gives n all good = g_some (λ _. g_some (λ _. g_below _ n (λ m e. g_then _ (port_list_gives m all good) (g_some (λ _. g_some (λ _. g_pure))) (λ next g. (refl, (refl, omega arith))))))
+
+ports_begin : (all : List Port) → ArePorts all → (next : Option Kind) → is_kind k.Port (front (spell_ports all) next) ≡ true
+unfolding same_kind
+ports_begin all good next = refl
+
+pub optional_ports_gives : (n : ℕ) (o : Option (List Port)) → IsOption ArePorts o → Gives (optional_ports n) o (spell_option spell_ports o) (λ next. (is_kind k.Port next ≡ false) × Whatever next)
+unfolding optional_ports
+optional_ports_gives n o good = option_gives (is_kind k.Port) (ports_gives n) ports_begin o good

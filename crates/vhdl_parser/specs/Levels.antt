@@ -38,6 +38,10 @@ abbrev pub closes : Bool → List Lexeme → ℕ
 closes after_end [] = 0
 closes after_end (l ∷ ts) = closing after_end l.kind + closes (is_end l.kind) ts
 
+-- how many levels may be open in a file
+abbrev pub most_open : ℕ
+most_open = 64
+
 -- nowhere are more than n levels open
 abbrev pub IsShallow : ℕ → List Lexeme → Type 0
 IsShallow n ts = (j : ℕ) → opens false (take j ts) ≤ closes false (take j ts) + n

@@ -105,6 +105,12 @@ exprs_view v = map view v.items
 abbrev pub range_view : Range → tree.Range
 range_view r = record { left = view r.left; direction = r.direction; right = view r.right }
 
+abbrev pub option_expr_view : Option Expr → Option tree.Expr
+option_expr_view = option_map view
+
+abbrev pub option_range_view : Option Range → Option tree.Range
+option_range_view = option_map range_view
+
 abbrev pub name_view : Name → tree.Name
 name_view n = record { identifier = ident_view n.identifier; suffix = suffix_view n.suffix; attribute = option_map ident_view n.attribute }
 
@@ -128,6 +134,9 @@ association_view a = record { formal = option_map ident_view a.formal; actual = 
 
 abbrev pub associations_view : Vec Association Global → List tree.Association
 associations_view v = map association_view v.items
+
+abbrev pub option_value_view : Option Value → Option tree.Value
+option_value_view = option_map value_view
 
 -- ---- sequential statements
 
@@ -276,6 +285,9 @@ declaration_view (d.Component x) = tree.component (component_view x)
 
 abbrev pub declarations_view : Vec Declaration Global → List tree.Declaration
 declarations_view v = map declaration_view v.items
+
+abbrev pub option_generics_view : Option (Vec Generic Global) → Option (List tree.Generic)
+option_generics_view = option_map generics_view
 
 abbrev pub option_ports_view : Option (Vec Port Global) → Option (List tree.Port)
 option_ports_view = option_map ports_view

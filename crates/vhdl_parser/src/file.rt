@@ -3,7 +3,7 @@
 ghost use Rattle.std.specs.Prelude.{◌≡◌, ◌≢◌, ◌≤◌, [], length, IfOk, IfErr, IfSome, OnOk};
 ghost use Rattle.vhdl_lexer.specs.Cut.{AreWithin};
 ghost use Rattle.vhdl_parser.specs.Fault.{IsRefusal, IsTooDeep, fault_byte};
-ghost use Rattle.vhdl_parser.specs.Levels.{IsShallow, IsDeep};
+ghost use Rattle.vhdl_parser.specs.Levels.{IsShallow, IsDeep, most_open};
 ghost use Rattle.vhdl_parser.specs.Lexeme.{lexemes};
 ghost use Rattle.vhdl_parser.specs.Pieces.{Spells};
 ghost use Rattle.vhdl_parser.specs.Tree as tree;
@@ -14,7 +14,6 @@ ghost use Rattle.vhdl_parser.specs.grammar.Units.{spell_file, IsFile};
 use crate::fault::{Stop, SyntaxFault};
 use crate::parser::Parser;
 use crate::tree::File;
-use crate::unit::MAX_OPEN;
 use std::alloc::Global;
 use vhdl_lexer::Token;
 
@@ -36,14 +35,14 @@ pub fn parse(alloc: Global, source: &[u8], tokens: &[Token]) -> Result<File, Syn
     ensures only { IfOk result
         (λ f. (other : tree.File) → IsFile other
         → Spells (spell_file other) (lexemes source.now tokens.now) [] → other ≡ file_view f) }
-    ensures shallow { OnOk result (IsShallow MAX_OPEN (lexemes source.now tokens.now)) }
+    ensures shallow { OnOk result (IsShallow most_open (lexemes source.now tokens.now)) }
 
     // What is refused, and neither for its depth nor for memory, is the spelling of no tree.
     ensures refused { IfErr result
         (λ e. IsRefusal e → (other : tree.File) → IsFile other
         → Spells (spell_file other) (lexemes source.now tokens.now) [] → ⊥) }
     ensures deep { IfErr result
-        (λ e. IsTooDeep e → IsDeep MAX_OPEN (lexemes source.now tokens.now)) }
+        (λ e. IsTooDeep e → IsDeep most_open (lexemes source.now tokens.now)) }
     ensures placed { IfErr result (λ e. IfSome (fault_byte e) (λ at. at ≤ length source.now)) }
 {
     let mut parser = Parser::new(alloc, source, tokens);

@@ -7,6 +7,7 @@ mod expr;
 mod fault;
 mod file;
 mod instance;
+mod interface;
 mod operator;
 mod parser;
 mod process;

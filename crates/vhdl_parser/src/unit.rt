@@ -2,8 +2,7 @@
 
 ghost use Rattle.std.specs.Prelude.{◌≡◌};
 ghost use Rattle.vhdl_lexer.specs.declared.token.Kind.TheVariants as k;
-ghost use Rattle.vhdl_parser.specs.View.{selected_view, selecteds_view, context_view, contexts_view, entity_view, architecture_view, library_unit_view, unit_view, units_view, file_view, option_ports_view, option_ident_view};
-ghost use Rattle.vhdl_parser.specs.reader.Declarations as declarations;
+ghost use Rattle.vhdl_parser.specs.View.{selected_view, selecteds_view, context_view, contexts_view, entity_view, architecture_view, library_unit_view, unit_view, units_view, file_view};
 ghost use Rattle.vhdl_parser.specs.reader.Input as input;
 ghost use Rattle.vhdl_parser.specs.reader.Input.{Reads};
 ghost use Rattle.vhdl_parser.specs.reader.Units as read;
@@ -11,7 +10,7 @@ ghost use Rattle.vhdl_parser.specs.reader.Units as read;
 use crate::fault::Stop;
 use crate::parser::Parser;
 use crate::tree::{
-    Architecture, ContextItem, DesignUnit, Entity, File, Identifier, LibraryUnit, Port, Selected,
+    Architecture, ContextItem, DesignUnit, Entity, File, LibraryUnit, Selected,
 };
 use vhdl_lexer::Kind;
 
@@ -113,24 +112,6 @@ impl Parser<'_> {
         Ok(found)
     }
 
-    #[tactic(auto, unfolding(crate::specs::reader::Input::optional))]
-    fn optional_ports(&mut self, levels: usize) -> Result<Option<Vec<Port>>, Stop>
-        ensures { Reads option_ports_view (input.optional (input.is_kind k.Port) (declarations.ports levels) self.old) result self.new }
-    {
-        if self.sees(Kind::Port) {
-            Ok(Some(self.ports(levels)?))
-        } else {
-            Ok(None)
-        }
-    }
-
-    #[tactic(auto, unfolding(crate::specs::reader::Units::end_name))]
-    fn end_name(&mut self) -> Result<Option<Identifier>, Stop>
-        ensures { Reads option_ident_view (read.end_name self.old) result self.new }
-    {
-        self.optional_identifier()
-    }
-
     #[tactic(auto, unfolding(crate::specs::reader::Units::entity_unit))]
     fn entity(&mut self) -> Result<Entity, Stop>
         ensures { Reads entity_view (read.entity_unit self.old) result self.new }
@@ -138,6 +119,7 @@ impl Parser<'_> {
         let at = self.expect(Kind::Entity)?;
         let name = self.identifier()?;
         self.expect(Kind::Is)?;
+        let generics = self.optional_generics(MAX_OPEN)?;
         let ports = self.optional_ports(MAX_OPEN)?;
         self.expect(Kind::End)?;
         let end_word = self.eat(Kind::Entity)?;
@@ -146,7 +128,7 @@ impl Parser<'_> {
         Ok(Entity {
             at,
             name,
-            generics: None,
+            generics,
             ports,
             end_word,
             end_name,
@@ -162,6 +144,7 @@ impl Parser<'_> {
         self.expect(Kind::Of)?;
         let entity = self.identifier()?;
         self.expect(Kind::Is)?;
+        let declarations = self.declarations(MAX_OPEN)?;
         self.expect(Kind::Begin)?;
         let statements = self.concurrents(MAX_OPEN)?;
         self.expect(Kind::End)?;
@@ -172,7 +155,7 @@ impl Parser<'_> {
             at,
             name,
             entity,
-            declarations: Vec::new(self.alloc),
+            declarations,
             statements,
             end_word,
             end_name,

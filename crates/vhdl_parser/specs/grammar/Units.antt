@@ -3,9 +3,9 @@ use Rattle.std.specs.Prelude.{◌≡◌, Bool, true, false, Option, Some, None, 
 use Rattle.vhdl_lexer.specs.declared.token.Kind.{Kind}
 use Rattle.vhdl_lexer.specs.declared.token.Kind.TheVariants as k
 use Rattle.vhdl_parser.specs.Tree.{Ident, Declaration, Concurrent, Entity, Architecture, Selected, ContextItem, library, uses, LibraryUnit, entity, architecture, DesignUnit, File}
-use Rattle.vhdl_parser.specs.Pieces.{Piece, some, one_at, spell_ident, spell_idents, spell_word, spell_option, spell_each, spell_list, IsAny, IsEach, IsList, IsOption, IsAbsent}
+use Rattle.vhdl_parser.specs.Pieces.{Piece, some, one_at, spell_ident, spell_idents, spell_word, spell_option, spell_each, spell_list, IsAny, IsEach, IsList, IsOption}
 use Rattle.vhdl_parser.specs.grammar.Concurrent.{spell_concurrent, IsConcurrent}
-use Rattle.vhdl_parser.specs.grammar.Declarations.{spell_ports, ArePorts}
+use Rattle.vhdl_parser.specs.grammar.Declarations.{spell_generics, spell_ports, spell_declaration, AreGenerics, ArePorts, IsDeclaration}
 
 -- id . id . all
 abbrev pub spell_selected : Selected → List Piece
@@ -20,13 +20,13 @@ spell_context (uses all) = some k.Use ∷ (spell_list k.Comma spell_selected all
 abbrev pub spell_end : Kind → Bool → Option Ident → List Piece
 spell_end word has_word name = some k.End ∷ (spell_word word has_word ++ (spell_option spell_ident name ++ some k.Semicolon ∷ []))
 
--- entity = entity id is [ ports ] end [ entity ] [ id ] ;
+-- entity = entity id is [ generics ] [ ports ] end [ entity ] [ id ] ;
 abbrev pub spell_entity : Entity → List Piece
-spell_entity e = one_at k.Entity e.at ∷ (spell_ident e.name ++ (some k.Is ∷ (spell_option spell_ports e.ports ++ spell_end k.Entity e.end_word e.end_name)))
+spell_entity e = one_at k.Entity e.at ∷ (spell_ident e.name ++ (some k.Is ∷ (spell_option spell_generics e.generics ++ (spell_option spell_ports e.ports ++ spell_end k.Entity e.end_word e.end_name))))
 
--- arch = architecture id of id is begin { conc } end [ architecture ] [ id ] ;
+-- arch = architecture id of id is { decl } begin { conc } end [ architecture ] [ id ] ;
 abbrev pub spell_architecture : Architecture → List Piece
-spell_architecture a = one_at k.Architecture a.at ∷ (spell_ident a.name ++ (some k.Of ∷ (spell_ident a.entity ++ (some k.Is ∷ (some k.Begin ∷ (spell_each spell_concurrent a.statements ++ spell_end k.Architecture a.end_word a.end_name))))))
+spell_architecture a = one_at k.Architecture a.at ∷ (spell_ident a.name ++ (some k.Of ∷ (spell_ident a.entity ++ (some k.Is ∷ (spell_each spell_declaration a.declarations ++ (some k.Begin ∷ (spell_each spell_concurrent a.statements ++ spell_end k.Architecture a.end_word a.end_name)))))))
 
 abbrev pub spell_library_unit : LibraryUnit → List Piece
 spell_library_unit (entity e) = spell_entity e
@@ -44,13 +44,11 @@ abbrev pub IsContext : ContextItem → Type 0
 IsContext (library names) = IsList IsAny names
 IsContext (uses all) = IsList IsAny all
 
--- no generics so far
 abbrev pub IsEntity : Entity → Type 0
-IsEntity e = IsAbsent e.generics × IsOption ArePorts e.ports
+IsEntity e = IsOption AreGenerics e.generics × IsOption ArePorts e.ports
 
--- no declarations so far
 abbrev pub IsArchitecture : Architecture → Type 0
-IsArchitecture a = (a.declarations ≡ []) × IsEach IsConcurrent a.statements
+IsArchitecture a = IsEach IsDeclaration a.declarations × IsEach IsConcurrent a.statements
 
 abbrev pub IsLibraryUnit : LibraryUnit → Type 0
 IsLibraryUnit (entity e) = IsEntity e

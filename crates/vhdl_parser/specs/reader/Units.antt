@@ -3,13 +3,13 @@ use Rattle.std.specs.Prelude.{ℕ, List, [], ◌∷◌, Bool, true, false, Optio
 use Rattle.vhdl_lexer.specs.declared.token.Kind.{Kind}
 use Rattle.vhdl_lexer.specs.declared.token.Kind.TheVariants as k
 use Rattle.vhdl_parser.specs.Tree.{Ident, Entity, Architecture, Selected, ContextItem, library, uses, LibraryUnit, entity, architecture, DesignUnit, File}
+use Rattle.vhdl_parser.specs.Levels.{most_open}
 use Rattle.vhdl_parser.specs.reader.Input.{Parser, ◌>>=◌, ◌>>◌, ◌<$>◌, pure, refuse, is_kind, is_more, choose, test, expect, eat, identifier, optional, many}
 use Rattle.vhdl_parser.specs.reader.Concurrent.{concurrents}
-use Rattle.vhdl_parser.specs.reader.Declarations.{idents, ports}
+use Rattle.vhdl_parser.specs.reader.Declarations.{idents, end_name, optional_generics, optional_ports, declarations}
 
--- how many levels may be open in a file
 abbrev pub max_open : ℕ
-max_open = 64
+max_open = most_open
 
 unfoldable pub selected : Parser Selected
 selected = do
@@ -50,20 +50,18 @@ begins_context (Some k.Library) = true
 begins_context (Some k.Use) = true
 begins_context _ = false
 
-unfoldable pub end_name : Parser (Option Ident)
-end_name = optional (is_kind k.Identifier) identifier
-
 unfoldable pub entity_unit : Parser Entity
 entity_unit = do
   at ← expect k.Entity
   name ← identifier
   expect k.Is
-  found ← optional (is_kind k.Port) (ports max_open)
+  gs ← optional_generics max_open
+  ps ← optional_ports max_open
   expect k.End
   word ← eat k.Entity
   last ← end_name
   expect k.Semicolon
-  pure (record { at = at; name = name; generics = None; ports = found; end_word = word; end_name = last })
+  pure (record { at = at; name = name; generics = gs; ports = ps; end_word = word; end_name = last })
 
 unfoldable pub architecture_unit : Parser Architecture
 architecture_unit = do
@@ -72,13 +70,14 @@ architecture_unit = do
   expect k.Of
   of_entity ← identifier
   expect k.Is
+  ds ← declarations max_open
   expect k.Begin
   found ← concurrents max_open
   expect k.End
   word ← eat k.Architecture
   last ← end_name
   expect k.Semicolon
-  pure (record { at = at; name = name; entity = of_entity; declarations = []; statements = found; end_word = word; end_name = last })
+  pure (record { at = at; name = name; entity = of_entity; declarations = ds; statements = found; end_word = word; end_name = last })
 
 abbrev pub library_unit_by : Option Kind → Parser LibraryUnit
 library_unit_by (Some k.Entity) = entity <$> entity_unit
