@@ -180,8 +180,8 @@ for_gives at p r f ss q l t same n =
     g_choose (statement_by n (deeper n)) (Some k.For) (λ next _. refl)
     (subst (λ x. Gives (for_statement n (deeper n)) (loop at p r x l) (spell_statement (loop at p r x l)) Whatever) same
     (g_at _ (g_below _ n (λ m e. g_ident _ (g_some (λ _. g_then _ (range_gives m r f)
-        (g_some (λ _. g_then _ (deeper_from ss q n m e) (g_map (λ x. loop at p r (statements_of ss) x) (end_gives k.Loop l)) (λ next _. refl)))
-        (λ next _. omega arith)))))))
+    (g_some (λ _. g_then _ (deeper_from ss q n m e) (g_map (λ x. loop at p r (statements_of ss) x) (end_gives k.Loop l)) (λ next _. refl)))
+    (λ next _. omega arith)))))))
 
 -- ---- assignments and null
 
@@ -248,6 +248,7 @@ case_tree at s cs ss more l f g r rs n = case_gives at s f (record { choices = c
 
 mutual
   unfolding list_of conditions_of option_of alternatives_in
+
   pub statement_gives : (s : Statement) → IsStatement s → (n : ℕ) → Gives (statement_of n (deeper n)) s (spell_statement s) Whatever
   statement_gives (nothing at) f n = null_gives at n
   statement_gives (assigned t v) f n = assign_gives t v f.0 f.1 n

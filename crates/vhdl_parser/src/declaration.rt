@@ -101,8 +101,8 @@ impl Parser<'_> {
         ensures { result ≡ read.begins_declaration (input.next_kind self.now) }
     {
         match self.peek() {
-            Some(Kind::Signal) | Some(Kind::Constant) | Some(Kind::Type)
-            | Some(Kind::Component) => true,
+            Some(Kind::Signal) | Some(Kind::Constant) | Some(Kind::Type) | Some(Kind::Component) =>
+                true,
             _ => false,
         }
     }

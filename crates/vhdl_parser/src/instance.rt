@@ -90,11 +90,7 @@ impl Parser<'_> {
     }
 
     #[tactic(auto, unfolding(crate::specs::reader::Input::optional))]
-    fn optional_map(
-        &mut self,
-        levels: usize,
-        word: Kind,
-    ) -> Result<Option<Vec<Association>>, Stop>
+    fn optional_map(&mut self, levels: usize, word: Kind) -> Result<Option<Vec<Association>>, Stop>
         ensures { Reads (option_map associations_view) (input.optional (input.is_kind word) (read.map_of levels word) self.old) result self.new }
     {
         if self.sees(word) {

@@ -9,9 +9,7 @@ ghost use Rattle.vhdl_parser.specs.reader.Units as read;
 
 use crate::fault::Stop;
 use crate::parser::Parser;
-use crate::tree::{
-    Architecture, ContextItem, DesignUnit, Entity, File, LibraryUnit, Selected,
-};
+use crate::tree::{Architecture, ContextItem, DesignUnit, Entity, File, LibraryUnit, Selected};
 use vhdl_lexer::Kind;
 
 /// How many parentheses, if and case statements, loops and generates may be open at once.
