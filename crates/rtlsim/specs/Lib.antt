@@ -17,3 +17,7 @@ pub mod Evaluation
 pub mod Setting
 pub mod Answer
 pub mod Designed
+pub mod Source
+pub mod Evaluates
+pub mod Naming
+pub mod Tools

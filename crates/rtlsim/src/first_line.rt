@@ -1,0 +1,114 @@
+//! The program without words: they stand in the first line of the standard input.
+
+ghost use Rattle.std.specs.Prelude.{◌≡◌, ◌<◌, ◌==◌, not, filter, IfOk, IfSome, length, map, position};
+ghost use Rattle.std.specs.List.{before_first, after_first, slice_split};
+ghost use Rattle.rtl_sink.specs.Written.{IsIntact};
+ghost use Rattle.rtlsim.specs.Tools.{ServesFirstLine, Serves, ends_line, words_in};
+ghost use Rattle.rtlsim.specs.declared.status.Status.{Status};
+
+use crate::inputs::{Inputs, Named, read_input};
+use crate::status::Status;
+use crate::tools::{refuse_input, refuse_words, tool_with};
+use crate::words::Refused;
+use rtl_sink::Sink;
+use std::alloc::{AllocError, Global};
+use std::io::Read;
+use std::rt::Files;
+
+/// Does what the words of the first line ask for, cut at runs of spaces; `@` is what stands after that
+/// line.
+pub fn tool_first_line<F: Files, R: Read + Drop, O: Sink, E: Sink>(
+    alloc: Global,
+    files: &F,
+    mut reader: R,
+    out: &mut O,
+    err: &mut E,
+) -> Status
+    requires out { IsIntact (O.state out.old) }
+    requires err { IsIntact (E.state err.old) }
+    ensures { ServesFirstLine (R.remaining reader) result
+        (record { out = O.state out.old; out_after = O.state out.new; err = E.state err.old; err_after = E.state err.new }) }
+{
+    match read_input(alloc, &mut reader) {
+        Ok(all) => {
+            let (line, rest) = first_line(&all);
+            let mut inputs = Named {
+                files,
+                reader: rest,
+            };
+            serve_line(alloc, line, &mut inputs, out, err)
+        }
+        Err(fault) => refuse_input(fault, out, err),
+    }
+}
+
+/// Does what the words of a line ask for.
+fn serve_line<I: Inputs, O: Sink, E: Sink>(
+    alloc: Global,
+    line: &[u8],
+    inputs: &mut I,
+    out: &mut O,
+    err: &mut E,
+) -> Status
+    requires out { IsIntact (O.state out.old) }
+    requires err { IsIntact (E.state err.old) }
+    ensures { Serves (words_in line.now) (I.standard inputs.old) result
+        (record { out = O.state out.old; out_after = O.state out.new; err = E.state err.old; err_after = E.state err.new }) }
+{
+    match read_words(alloc, line) {
+        Ok(words) => tool_with(alloc, &words, inputs, out, err),
+        Err(refused) => refuse_words(&refused, out, err),
+    }
+}
+
+/// The words of a line, cut at runs of spaces.
+fn read_words(alloc: Global, line: &[u8]) -> Result<Vec<&str>, Refused>
+    ensures { IfOk result (λ words. map (λ word. word.now) words.items ≡ words_in line.now) }
+{
+    let Ok(text) = str::from_utf8(line) else {
+        let reason = "error: the words are not UTF-8\n";
+        return Err(Refused::Words(String::from_str(alloc, reason)?));
+    };
+    let pieces = pieces_of(alloc, text)?;
+    Ok(filled(alloc, &pieces)?)
+}
+
+/// The pieces of a text between its spaces.
+fn pieces_of(alloc: Global, text: &str) -> Result<Vec<&str>, AllocError>
+    ensures { IfOk result (λ pieces. map (λ piece. piece.now) pieces.items ≡ slice_split (λ byte. byte == 32) text.now) }
+{
+    text.split(' ').collect(alloc)
+}
+
+/// The pieces in which something stands.
+fn filled<'a>(alloc: Global, pieces: &[&'a str]) -> Result<Vec<&'a str>, AllocError>
+    ensures { IfOk result (λ words. map (λ word. word.now) words.items
+        ≡ filter (λ piece. not (length piece == 0)) (map (λ piece. piece.now) pieces.now)) }
+{
+    let mut words = Vec::with_capacity(alloc, pieces.len())?;
+    for piece in pieces {
+        if !piece.is_empty() {
+            words.push(*piece)?;
+        }
+    }
+    Ok(words)
+}
+
+/// The bytes before the first line feed, and those after it.
+fn first_line(all: &[u8]) -> (&[u8], &[u8])
+    ensures line { result.0.now ≡ before_first ends_line all.now }
+    ensures rest { result.1.now ≡ after_first ends_line all.now }
+{
+    match line_end(all) {
+        Some(at) => (&all[..at], &all[at + 1..]),
+        None => (all, &[]),
+    }
+}
+
+/// Where the first line feed stands.
+fn line_end(all: &[u8]) -> Option<usize>
+    ensures end { result ≡ position ends_line all.now }
+    ensures within { IfSome result (λ at. at < length all.now) }
+{
+    all.iter().position(|byte| *byte == b'\n')
+}

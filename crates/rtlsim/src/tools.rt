@@ -1,0 +1,171 @@
+//! The program, over any inputs and two sinks.
+
+ghost use Rattle.std.specs.Prelude.{◌≡◌, ℕ, List, IfOk, map, Result};
+ghost use Rattle.rtl_sink.specs.Written.{SinkState, IsIntact, Goes};
+ghost use Rattle.rtlsim.specs.Evaluates.{Evaluates, Tells};
+ghost use Rattle.rtlsim.specs.Faults.{status_of};
+ghost use Rattle.rtlsim.specs.Status.{code_of};
+ghost use Rattle.rtlsim.specs.Tools.{Outputs, Performs, RefusesWords, Serves, ended, IsFile, input_text, answer_status, input_status};
+ghost use Rattle.rtlsim.specs.declared.status.Status.{Status};
+
+use crate::faults::Fault;
+use crate::inputs::{InputFault, Inputs, Standard};
+use crate::lines::push_memory;
+use crate::status::Status;
+use crate::telling::eval_telling;
+use crate::words::{Refused, Request, parse_words};
+use rtl_sink::{Sink, push_text};
+use std::alloc::{AllocError, Global};
+use std::io::Read;
+
+/// Does what the words ask for, with the standard input alone, and answers the exit status: the
+/// program where each file is `@`.
+pub fn tool<R: Read + Drop, O: Sink, E: Sink>(
+    alloc: Global,
+    words: &[&str],
+    reader: R,
+    out: &mut O,
+    err: &mut E,
+) -> u8
+    requires out { IsIntact (O.state out.old) }
+    requires err { IsIntact (E.state err.old) }
+    ensures { (outcome : Status) × (result ≡ code_of outcome)
+        × Serves (map (λ word. word.now) words.now) (R.remaining reader) outcome
+        (record { out = O.state out.old; out_after = O.state out.new; err = E.state err.old; err_after = E.state err.new }) }
+{
+    tool_with(alloc, words, &mut Standard { reader }, out, err).code()
+}
+
+/// Does what the words ask for.
+pub fn tool_with<I: Inputs, O: Sink, E: Sink>(
+    alloc: Global,
+    words: &[&str],
+    inputs: &mut I,
+    out: &mut O,
+    err: &mut E,
+) -> Status
+    requires out { IsIntact (O.state out.old) }
+    requires err { IsIntact (E.state err.old) }
+    ensures { Serves (map (λ word. word.now) words.now) (I.standard inputs.old) result
+        (record { out = O.state out.old; out_after = O.state out.new; err = E.state err.old; err_after = E.state err.new }) }
+{
+    match parse_words(alloc, words) {
+        Ok(request) => perform(alloc, &request, inputs, out, err),
+        Err(refused) => refuse_words(&refused, out, err),
+    }
+}
+
+/// Tells why the words are refused, and answers the status.
+pub(crate) fn refuse_words<O: Sink, E: Sink>(refused: &Refused, out: &O, err: &mut E) -> Status
+    ensures { RefusesWords result
+        (record { out = O.state out.now; out_after = O.state out.now; err = E.state err.old; err_after = E.state err.new }) }
+{
+    match refused {
+        Refused::NoMemory => {
+            push_memory(err);
+            ended_by_writes(Status::Memory, out, err)
+        }
+        Refused::Words(text) => {
+            push_text(err, text.as_bytes());
+            ended_by_writes(Status::Words, out, err)
+        }
+    }
+}
+
+/// Does what is asked for.
+pub fn perform<I: Inputs, O: Sink, E: Sink>(
+    alloc: Global,
+    request: &Request<'_>,
+    inputs: &mut I,
+    out: &mut O,
+    err: &mut E,
+) -> Status
+    requires out { IsIntact (O.state out.old) }
+    requires err { IsIntact (E.state err.old) }
+    ensures { Performs request.now (I.standard inputs.old) result
+        (record { out = O.state out.old; out_after = O.state out.new; err = E.state err.old; err_after = E.state err.new }) }
+{
+    let Request::Eval { file, top, sets } = request;
+    match read_eval(alloc, inputs, file, sets) {
+        Ok((source, sets)) => {
+            let answer = eval_telling(alloc, &source, top.as_bytes(), &sets, out, err);
+            ended_by_writes(status_of_answer(&answer), out, err)
+        }
+        Err(fault) => refuse_input(fault, out, err),
+    }
+}
+
+/// Tells that an input failed, and answers the status.
+pub(crate) fn refuse_input<O: Sink, E: Sink>(fault: InputFault, out: &O, err: &mut E) -> Status
+    ensures told { Goes (E.state err.old) (E.state err.new) (input_text fault) }
+    ensures status { result ≡ ended (input_status fault) (O.state out.now) (E.state err.new) }
+{
+    push_input_fault(err, fault);
+    ended_by_writes(input_fault_status(fault), out, err)
+}
+
+/// The source, and the inputs' words as bytes.
+fn read_eval<'a, I: Inputs>(
+    alloc: Global,
+    inputs: &mut I,
+    file: &str,
+    sets: &'a [&'a str],
+) -> Result<(Vec<u8>, Vec<&'a [u8]>), InputFault>
+    ensures source { IfOk result (λ read. IsFile file.now (I.standard inputs.old) read.0.items) }
+    ensures sets { IfOk result (λ read. map (λ set. set.now) read.1.items ≡ map (λ set. set.now) sets.now) }
+{
+    let source = inputs.read(alloc, file)?;
+    let sets = bytes_of(alloc, sets)?;
+    Ok((source, sets))
+}
+
+/// The bytes of each text.
+fn bytes_of<'a>(alloc: Global, texts: &'a [&'a str]) -> Result<Vec<&'a [u8]>, AllocError>
+    ensures { IfOk result (λ all. map (λ bytes. bytes.now) all.items ≡ map (λ text. text.now) texts.now) }
+{
+    let mut all = Vec::with_capacity(alloc, texts.len())?;
+    for text in texts {
+        all.push(text.as_bytes())?;
+    }
+    Ok(all)
+}
+
+/// The status of an answer.
+fn status_of_answer(answer: &Result<(), Fault>) -> Status
+    ensures { result ≡ answer_status answer.now }
+{
+    match answer {
+        Ok(()) => Status::Done,
+        Err(fault) => fault.status(),
+    }
+}
+
+/// Tells that an input failed.
+fn push_input_fault<S: Sink>(sink: &mut S, fault: InputFault)
+    ensures { Goes (S.state sink.old) (S.state sink.new) (input_text fault) }
+{
+    match fault {
+        InputFault::Failed => push_text(sink, b"rtlsim: input\n"),
+        InputFault::NoMemory => push_memory(sink),
+    }
+}
+
+/// The status of an input that failed.
+fn input_fault_status(fault: InputFault) -> Status
+    ensures { result ≡ input_status fault }
+{
+    match fault {
+        InputFault::Failed => Status::Failed,
+        InputFault::NoMemory => Status::Memory,
+    }
+}
+
+/// The status, where no write failed.
+pub(crate) fn ended_by_writes<O: Sink, E: Sink>(status: Status, out: &O, err: &E) -> Status
+    ensures { result ≡ ended status (O.state out.now) (E.state err.now) }
+{
+    if out.failed() || err.failed() {
+        return Status::Failed;
+    }
+    status
+}
