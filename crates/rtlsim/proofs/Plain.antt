@@ -115,11 +115,12 @@ plain_push ps (x ∷ xs) e h s = (h.0, h.1, plain_push ps xs e h.2 s)
 
 statement_plain : (ps : List Port) (b b' : Body) (c : t.Concurrent) → n.statement ps b c ≡ Some b' → ArePlain ps b.equations → ArePlain ps b'.equations
 unfolding n.statement
-statement_plain ps b b' (t.assignment a) h plain =
-    let l = bind_some (n.declare_label ps b.labels a.label) _ b' h in
-    let e = bind_some (n.equation ps a) _ b' l.2 in
+statement_plain ps b b' c h plain =
+    let a = bind_some (n.plain c) _ b' h in
+    let l = bind_some (n.declare_label ps b.labels a.0.label) _ b' a.2 in
+    let e = bind_some (n.equation ps a.0) _ b' l.2 in
     let is : b.equations ++ e.0 ∷ [] ≡ b'.equations = cc in
-    subst (ArePlain ps) is (plain_push ps b.equations e.0 plain (equation_plain ps a e.0 e.1))
+    subst (ArePlain ps) is (plain_push ps b.equations e.0 plain (equation_plain ps a.0 e.0 e.1))
 
 body_plain : (ps : List Port) (b b' : Body) (cs : List t.Concurrent) → in_turn (n.statement ps) b cs ≡ Some b' → ArePlain ps b.equations → ArePlain ps b'.equations
 body_plain ps b b' [] h plain = let is : b.equations ≡ b'.equations = cc in subst (ArePlain ps) is plain

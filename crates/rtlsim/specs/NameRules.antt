@@ -172,8 +172,13 @@ equation ports a = do
   v ← value ports e
   Some (record { label = option_map (λ n. n.text) a.label; target = k; value = v })
 
+-- an assignment; any other statement is no part of a plain design
+abbrev pub plain : t.Concurrent → Option t.Assignment
+plain (t.assignment a) = Some a
+
 unfoldable pub statement : List Port → Body → t.Concurrent → Option Body
-statement ports b (t.assignment a) = do
+statement ports b c = do
+  a ← plain c
   labels ← declare_label ports b.labels a.label
   e ← equation ports a
   Some (record { labels = labels; equations = b.equations ++ e ∷ [] })

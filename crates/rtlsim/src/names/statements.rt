@@ -110,6 +110,15 @@ fn equation(alloc: Global, ports: &Ports, assignment: &Assignment) -> Result<Equ
     })
 }
 
+/// An assignment; any other statement is no part of a plain design.
+fn plain(statement: &Concurrent) -> Result<&Assignment, NameFault>
+    ensures { Gives (λ a. tree.assignment_view a.now) (rules.plain (tree.concurrent_view statement.now)) result }
+{
+    match statement {
+        Concurrent::Assignment(assignment) => Ok(assignment),
+    }
+}
+
 /// One more statement.
 #[tactic(auto, unfolding(crate::specs::NameRules::statement))]
 fn statement(
@@ -120,7 +129,7 @@ fn statement(
 ) -> Result<(), NameFault>
     ensures { Gives (λ _. body_view body.new) (rules.statement (ports_view ports.now) (body_view body.old) (tree.concurrent_view statement.now)) result }
 {
-    let Concurrent::Assignment(assignment) = statement;
+    let assignment = plain(statement)?;
     if let Some(label) = &assignment.label {
         declare_label(alloc, ports, &mut body.labels, label)?;
     }
