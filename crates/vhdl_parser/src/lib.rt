@@ -12,6 +12,8 @@ mod operator;
 mod parser;
 mod process;
 mod sequential;
+#[cfg(test)]
+mod tests;
 mod tree;
 mod unit;
 mod value;
