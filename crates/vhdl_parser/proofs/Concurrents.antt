@@ -11,8 +11,8 @@ use Rattle.vhdl_parser.specs.reader.Input.{and_then, expect, next_kind, is_kind,
 use Rattle.vhdl_parser.specs.reader.Expressions.{inside, name}
 use Rattle.vhdl_parser.specs.reader.Expressions as read
 use Rattle.vhdl_parser.specs.reader.Concurrent.{assign, concurrent, concurrents, begins_concurrent}
-use Rattle.vhdl_parser.proofs.WalkValues.{value_rule}
-use Rattle.vhdl_parser.proofs.GiveValues.{name_gives, value_gives}
+use Rattle.vhdl_parser.proofs.Branches.{waves_rule, waves_gives}
+use Rattle.vhdl_parser.proofs.GiveValues.{name_gives}
 use Rattle.vhdl_parser.proofs.Walks.{Rule, Walks, w_pure, w_then, w_last}
 use Rattle.vhdl_parser.proofs.Rules.{w_some, each_rule}
 use Rattle.vhdl_parser.proofs.WalkExpressions.{expr_rule, a_name_rule}
@@ -25,17 +25,15 @@ unfolding assign
 assign_rule n =
     w_then (a_name_rule n) (λ target named _.
     w_some k.LessEqual refl (λ _.
-    w_then (value_rule n) (λ v good _.
+    w_then (waves_rule n) (λ w good _.
     w_some k.Semicolon refl (λ _.
     w_pure (omega arith) refl (tt, named, good)))))
 
 assign_gives : (n : ℕ) (label : Option Ident) (target : Name) (branches : List Branch) (otherwise : Option Value) → IsAbsent label → IsName target → AreWaveforms branches otherwise →
     Gives (assign n) (record { label = label; target = target; branches = branches; otherwise = otherwise }) (spell_assignment (record { label = label; target = target; branches = branches; otherwise = otherwise })) Whatever
 unfolding assign
-assign_gives n None target [] (Some v) absent named good =
-    g_then _ (name_gives n target named) (g_some (λ _. g_then _ (value_gives n v good) (g_some (λ _. g_pure)) (λ next g. omega arith))) (λ next g. omega arith)
-assign_gives n None target [] None absent named good = absurd good
-assign_gives n None target (b ∷ more) otherwise absent named good = absurd good
+assign_gives n None target branches otherwise absent named good =
+    g_then _ (name_gives n target named) (g_some (λ _. g_then _ (waves_gives n branches otherwise good) (g_some (λ _. g_pure)) (λ next g. refl))) (λ next g. omega arith)
 assign_gives n (Some label) target branches otherwise absent named good = absurd absent
 
 -- ---- statements

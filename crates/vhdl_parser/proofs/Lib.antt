@@ -12,6 +12,7 @@ pub mod Gives
 pub mod WalkExpressions
 pub mod WalkValues
 pub mod GiveValues
+pub mod Branches
 pub mod Concurrents
 pub mod Ports
 pub mod Declared

@@ -4,6 +4,7 @@ pub mod Expressions
 pub mod Sequential
 pub mod Process
 pub mod Instance
+pub mod Waves
 pub mod Concurrent
 pub mod Declarations
 pub mod Units

@@ -17,13 +17,13 @@ impl Parser<'_> {
     {
         let target = self.name(levels)?;
         self.expect(Kind::LessEqual)?;
-        let value = self.value(levels)?;
+        let (branches, otherwise) = self.waves(levels)?;
         self.expect(Kind::Semicolon)?;
         Ok(Assignment {
             label: None,
             target,
-            branches: Vec::new(self.alloc),
-            otherwise: Some(value),
+            branches,
+            otherwise,
         })
     }
 

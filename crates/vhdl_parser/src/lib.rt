@@ -17,6 +17,7 @@ mod tests;
 mod tree;
 mod unit;
 mod value;
+mod waves;
 
 pub use fault::SyntaxFault;
 pub use file::parse;

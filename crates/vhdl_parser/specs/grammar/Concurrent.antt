@@ -2,8 +2,8 @@
 use Rattle.std.specs.Prelude.{◌≡◌, Option, Some, None, List, [], ◌∷◌, ◌++◌}
 use Rattle.vhdl_lexer.specs.declared.token.Kind.TheVariants as k
 use Rattle.vhdl_parser.specs.Tree.{Ident, Value, Branch, Assignment, Concurrent, assignment}
-use Rattle.vhdl_parser.specs.Pieces.{Piece, some, spell_ident, spell_option, IsAbsent}
-use Rattle.vhdl_parser.specs.grammar.Expressions.{spell, spell_name, spell_value, IsName, IsValue}
+use Rattle.vhdl_parser.specs.Pieces.{Piece, some, spell_ident, spell_option, IsEach, IsOption, IsAbsent}
+use Rattle.vhdl_parser.specs.grammar.Expressions.{spell, spell_name, spell_value, IsExpr, IsName, IsValue}
 
 -- id :
 abbrev pub spell_label : Ident → List Piece
@@ -32,10 +32,14 @@ spell_assignment a = spell_option spell_label a.label ++ (spell_name a.target ++
 abbrev pub spell_concurrent : Concurrent → List Piece
 spell_concurrent (assignment a) = spell_assignment a
 
--- a single value so far
+abbrev pub IsBranch : Branch → Type 0
+IsBranch b = IsValue b.value × IsExpr b.condition
+
+-- there is a value
 abbrev pub AreWaveforms : List Branch → Option Value → Type 0
+AreWaveforms [] None = ⊥
 AreWaveforms [] (Some v) = IsValue v
-AreWaveforms _ _ = ⊥
+AreWaveforms (b ∷ more) otherwise = IsBranch b × IsEach IsBranch more × IsOption IsValue otherwise
 
 abbrev pub IsAssignment : Assignment → Type 0
 IsAssignment a = IsAbsent a.label × IsName a.target × AreWaveforms a.branches a.otherwise
