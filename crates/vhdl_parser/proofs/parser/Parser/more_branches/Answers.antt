@@ -15,9 +15,9 @@ returns-then-not-sees c =
     let e = one_more (λ n. more_branches_from c.args.levels n (branches_view c.loop-turn.found) c.loop-turn.self) _ c.loop-turn._turn c.loop-turn-test.true c.loop-turn.invariant in
     first_of (search rules, grind (arith, common_steps))
 
-pub returns-in_err-else_part : goal.returns-in_err-else_part
+pub returns-in_err-value : goal.returns-in_err-value
 unfolding more_branches_from
-returns-in_err-else_part c =
+returns-in_err-value c =
     let e = one_more (λ n. more_branches_from c.args.levels n (branches_view c.loop-turn.found) c.loop-turn.self) _ c.loop-turn._turn c.loop-turn-test.true c.loop-turn.invariant in
     first_of (search rules, grind (arith, common_steps))
 
