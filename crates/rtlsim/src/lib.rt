@@ -17,6 +17,8 @@ mod sources;
 mod status;
 mod stimulus;
 mod telling;
+#[cfg(test)]
+mod tests;
 mod tools;
 mod words;
 
