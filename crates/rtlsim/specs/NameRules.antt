@@ -175,6 +175,7 @@ equation ports a = do
 -- an assignment; any other statement is no part of a plain design
 abbrev pub plain : t.Concurrent → Option t.Assignment
 plain (t.assignment a) = Some a
+plain _ = None
 
 unfoldable pub statement : List Port → Body → t.Concurrent → Option Body
 statement ports b c = do

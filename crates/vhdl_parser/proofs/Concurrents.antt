@@ -1,71 +1,144 @@
--- Concurrent statements: what is read is spelled so, and what is spelled is read.
-use Rattle.std.proofs.Common.{◌≡◌, ℕ, zero, suc, ◌+◌, ◌≤◌, ◌<◌, Bool, true, false, List, [], ◌∷◌, ◌++◌, length, Ok, Option, Some, None, refl, sym, ap, ◌∙◌, subst, arith}
+-- What the readers of concurrent statements make.
+use Rattle.std.proofs.Common.{◌≡◌, ℕ, zero, suc, ◌+◌, ◌≤◌, Bool, true, false, cond, Ok, Err, ⊎_elim, List, [], ◌∷◌, ◌++◌, Option, Some, None, refl, sym, ap, ◌∙◌, subst, append-nil, arith}
 use Rattle.vhdl_lexer.specs.declared.token.Kind.{Kind}
 use Rattle.vhdl_lexer.specs.declared.token.Kind.TheVariants as k
 use Rattle.vhdl_parser.specs.Lexeme.{Lexeme, same_kind}
-use Rattle.vhdl_parser.specs.Tree.{Ident, Expr, Name, Value, single, others, Branch, Assignment, Concurrent, assignment}
-use Rattle.vhdl_parser.specs.Pieces.{Piece, some, spell_option, spell_each, IsEach, IsAbsent}
-use Rattle.vhdl_parser.specs.grammar.Expressions.{spell, spell_name, spell_value, IsExpr, IsName}
-use Rattle.vhdl_parser.specs.grammar.Concurrent.{spell_label, spell_waveforms, spell_assignment, spell_concurrent, AreWaveforms, IsAssignment, IsConcurrent}
-use Rattle.vhdl_parser.specs.reader.Input.{and_then, expect, next_kind, is_kind, many}
-use Rattle.vhdl_parser.specs.reader.Expressions.{inside, name}
-use Rattle.vhdl_parser.specs.reader.Expressions as read
-use Rattle.vhdl_parser.specs.reader.Concurrent.{assign, concurrent, concurrents, begins_concurrent}
-use Rattle.vhdl_parser.proofs.Branches.{waves_rule, waves_gives}
-use Rattle.vhdl_parser.proofs.GiveValues.{name_gives}
-use Rattle.vhdl_parser.proofs.Walks.{Rule, Walks, w_pure, w_then, w_last}
-use Rattle.vhdl_parser.proofs.Rules.{w_some, each_rule}
-use Rattle.vhdl_parser.proofs.WalkExpressions.{expr_rule, a_name_rule}
-use Rattle.vhdl_parser.proofs.Gives.{Gives, Whatever, front, g_pure, g_then, g_map, g_some, more_gives}
+use Rattle.vhdl_parser.specs.Tree.{Ident, Expr, Range, Name, Value, Branch, Assignment, Scheme, for_each, if_holds, Concurrent, assignment, selected, process, instance, generated, Concurrents, no_concurrents, concurrents_of}
+use Rattle.vhdl_parser.specs.Pieces.{Piece, some, one_at, word_at, spell_option, spell_word, spell_each, IsEach}
+use Rattle.vhdl_parser.specs.grammar.Expressions.{spell_range}
+use Rattle.vhdl_parser.specs.grammar.Sequential.{spell_label, spell_end}
+use Rattle.vhdl_parser.specs.grammar.Concurrent.{spell_assignment, spell_scheme, spell_concurrent, spell_concurrents, IsAssignment, IsScheme, IsConcurrent, AreConcurrents}
+use Rattle.vhdl_parser.specs.reader.Input.{Parser, Outcome, and_then, expect, many}
+use Rattle.vhdl_parser.specs.reader.Concurrent.{concurrent, assign, begins_concurrent, select_with, process_with, assign_with, instance_with, named_with, unlabelled_by, unlabelled, generate_rest, for_generate, if_generate, labelled_by, labelled, by_label, concurrents_with, deeper_concurrents, concurrents}
+use Rattle.vhdl_parser.specs.declared.fault.Stop.TheVariants.{TooDeep}
+use Rattle.vhdl_parser.proofs.Steps.{bind_ok, bind_err, at_pure, pure_err}
+use Rattle.vhdl_parser.proofs.Walks.{Walks, Rule, Made, w_pure, w_then, w_last}
+use Rattle.vhdl_parser.proofs.Rules.{w_take, w_some, w_word, w_ident, w_refuse, w_choose, w_below, under, under_none, word_rule, each_rule}
+use Rattle.vhdl_parser.proofs.WalkExpressions.{w_ends, expr_rule, a_name_rule}
+use Rattle.vhdl_parser.proofs.WalkValues.{w_by, range_rule}
+use Rattle.vhdl_parser.proofs.Branches.{waves_rule}
+use Rattle.vhdl_parser.proofs.WalkSequential.{w_open, w_end_of, label_rule}
+use Rattle.vhdl_parser.proofs.WalkProcess.{process_rule, selected_rule}
+use Rattle.vhdl_parser.proofs.WalkInstance.{instance_rule}
 
--- ---- assignments
+-- behind its label
+abbrev Behind : ℕ → Option Ident → Parser Concurrent → Type 0
+Behind n label p = Walks n 0 false 0 (λ r. spell_option spell_label label ++ r) p spell_concurrent IsConcurrent
 
-assign_rule : (n : ℕ) → Rule n 0 (assign n) spell_assignment IsAssignment
+assign_rule : (n : ℕ) (label : Option Ident) → Walks n 0 false 0 (λ r. spell_option spell_label label ++ r) (assign n label) spell_assignment IsAssignment
 unfolding assign
-assign_rule n =
+assign_rule n label =
     w_then (a_name_rule n) (λ target named _.
     w_some k.LessEqual refl (λ _.
     w_then (waves_rule n) (λ w good _.
     w_some k.Semicolon refl (λ _.
-    w_pure (omega arith) refl (tt, named, good)))))
+    w_pure (omega arith) refl (named, good)))))
 
-assign_gives : (n : ℕ) (label : Option Ident) (target : Name) (branches : List Branch) (otherwise : Option Value) → IsAbsent label → IsName target → AreWaveforms branches otherwise →
-    Gives (assign n) (record { label = label; target = target; branches = branches; otherwise = otherwise }) (spell_assignment (record { label = label; target = target; branches = branches; otherwise = otherwise })) Whatever
-unfolding assign
-assign_gives n None target branches otherwise absent named good =
-    g_then _ (name_gives n target named) (g_some (λ _. g_then _ (waves_gives n branches otherwise good) (g_some (λ _. g_pure)) (λ next g. refl))) (λ next g. omega arith)
-assign_gives n (Some label) target branches otherwise absent named good = absurd absent
+-- what a rule behind the label makes, as a statement
+w_made : {A : Type 0} {n : ℕ} {before : List Piece → List Piece} {p : Parser A} {part : A → List Piece} {Part : A → Type 0} (g : A → Concurrent) →
+    Walks n 0 false 0 before p part Part → ((a : A) → spell_concurrent (g a) ≡ part a) → ((a : A) → Part a → IsConcurrent (g a)) → Walks n 0 false 0 before (λ ts. and_then (p ts) (λ a us. Ok (g a, us))) spell_concurrent IsConcurrent
+w_made {A} {n} {before} {p} {part} {Part} g w is good = record {
+  reads = λ ts b rest h.
+      let a = bind_ok (p ts) (λ a us. Ok (g a, us)) (b, rest) h in
+      let m = w.reads ts a.0.0 a.0.1 a.1 in
+      at_pure (λ y us. Made n 0 false 0 before spell_concurrent IsConcurrent ts y us) (g a.0.0) b a.0.1 rest a.2
+      (record { more = m.more; is = is a.0.0 ∙ m.is; spelled = m.spelled; formed = good a.0.0 m.formed; walk = m.walk });
+  deep = λ ts h. ⊎_elim (w.deep ts) (λ a. pure_err _ TooDeep a.2) (bind_err (p ts) (λ a us. Ok (g a, us)) TooDeep h);
+}
 
--- ---- statements
+assign_with_rule : (n : ℕ) (label : Option Ident) → Behind n label (assign_with n label)
+assign_with_rule n label = w_made assignment (assign_rule n label) (λ a. refl) (λ a good. good)
 
-pub concurrent_rule : (n : ℕ) → Rule n 0 (concurrent n) spell_concurrent IsConcurrent
-unfolding concurrent
-concurrent_rule n = w_last assignment (assign_rule n) (λ a good. (refl, good))
+select_with_rule : (n : ℕ) (label : Option Ident) → Behind n label (select_with n label)
+select_with_rule n label = w_last (λ s. selected label s) (selected_rule n) (λ s good. (refl, good))
+
+process_with_rule : (n : ℕ) (label : Option Ident) → Behind n label (process_with n label)
+process_with_rule n label = w_last (λ p. process label p) (process_rule n) (λ p good. (refl, good))
+
+instance_with_rule : (n : ℕ) (label : Ident) → Behind n (Some label) (instance_with n label)
+instance_with_rule n label = w_last (λ i. instance label i) (instance_rule n) (λ i good. (refl, good))
+
+named_rule : (n : ℕ) (label : Ident) → Behind n (Some label) (named_with n label)
+unfolding named_with
+named_rule n label = w_by _ (instance_with_rule n label) (assign_with_rule n (Some label))
+
+unlabelled_next : (n : ℕ) (next : Option Kind) → Behind n None (unlabelled_by n next)
+unlabelled_next n (Some k.With) = select_with_rule n None
+unlabelled_next n (Some k.Process) = process_with_rule n None
+unlabelled_next n (Some k.Identifier) = assign_with_rule n None
+unlabelled_next n _ = w_refuse
+
+unlabelled_rule : (n : ℕ) → Behind n None (unlabelled n)
+unfolding unlabelled
+unlabelled_rule n = w_choose (unlabelled_next n)
+
+-- ---- generates
+
+module _ {B : Type 0} {n d d2 : ℕ} {before : List Piece → List Piece} {spell : B → List Piece} {Good : B → Type 0} where
+  -- `generate` where it doesn't stand behind `end`
+  w_generate : {f : ℕ → Parser B} → ((at : ℕ) → Walks n d false d2 (λ r. before (some k.Generate ∷ r)) (f at) spell Good) → Walks n d false d2 before (λ ts. and_then (expect k.Generate ts) f) spell Good
+  unfolding expect same_kind
+  w_generate next = w_take (λ l. l.at) k.Generate (λ _. some k.Generate) (λ le. le) refl refl (λ l i. i) next
+
+abbrev pub spelled_all : List Concurrent → List Piece
+spelled_all cs = spell_concurrents (concurrents_of cs)
+
+abbrev pub formed_all : List Concurrent → Type 0
+formed_all cs = AreConcurrents (concurrents_of cs)
+
+pub spelled_all-each : (cs : List Concurrent) → spelled_all cs ≡ spell_each spell_concurrent cs
+spelled_all-each [] = refl
+spelled_all-each (c ∷ cs) = ap (λ ps. spell_concurrent c ++ ps) (spelled_all-each cs)
+
+formed_each : (cs : List Concurrent) → IsEach IsConcurrent cs → formed_all cs
+formed_each [] f = tt
+formed_each (c ∷ cs) f = (f.0, formed_each cs f.1)
+
+generate_spelled : (label : Ident) (at : ℕ) (s : Scheme) (w : Bool) (cs : List Concurrent) (l : Option Ident) →
+    spell_concurrent (generated label at s w (concurrents_of cs) l) ≡ spell_label label ++ (spell_scheme at s ++ (some k.Generate ∷ (spell_word k.Begin w ++ (spelled_all cs ++ (spell_end k.Generate l ++ [])))))
+generate_spelled label at s w cs l = ap (λ ps. spell_label label ++ (spell_scheme at s ++ (some k.Generate ∷ (spell_word k.Begin w ++ (spelled_all cs ++ ps))))) (sym (append-nil (spell_end k.Generate l)))
+
+module _ (n : ℕ) (inner : Parser (List Concurrent)) (each : Rule n 1 inner spelled_all formed_all) where
+  generate_rest_rule : (label : Ident) (at : ℕ) (s : Scheme) → IsScheme s → 1 ≤ n → Walks n 1 false 0 (λ r. spell_label label ++ (spell_scheme at s ++ r)) (generate_rest inner label at s) spell_concurrent IsConcurrent
+  unfolding generate_rest same_kind
+  generate_rest_rule label at s good le = w_generate (λ _. w_then (word_rule k.Begin refl le) (λ w _ _. w_then each (λ cs fine _. w_end_of k.Generate refl refl refl le (λ l. w_pure (omega arith) (generate_spelled label at s w cs l) (good, fine)))))
+
+  for_rule : (label : Ident) → Behind n (Some label) (for_generate n inner label)
+  unfolding for_generate same_kind
+  for_rule label = w_open k.For refl refl refl (λ at. w_below n (λ m e. w_ident (λ p. w_some k.In refl (λ _. w_then (under e (range_rule m)) (λ r good le. generate_rest_rule label at (for_each p r) good le)))))
+
+  if_rule : (label : Ident) → Behind n (Some label) (if_generate n inner label)
+  unfolding if_generate same_kind
+  if_rule label = w_open k.If refl refl refl (λ at. w_below n (λ m e. w_then (under e (expr_rule m)) (λ c good le. generate_rest_rule label at (if_holds c) good le)))
+
+  labelled_next : (label : Ident) (next : Option Kind) → Behind n (Some label) (labelled_by n inner label next)
+  labelled_next label (Some k.With) = select_with_rule n (Some label)
+  labelled_next label (Some k.Process) = process_with_rule n (Some label)
+  labelled_next label (Some k.Entity) = instance_with_rule n label
+  labelled_next label (Some k.Component) = instance_with_rule n label
+  labelled_next label (Some k.For) = for_rule label
+  labelled_next label (Some k.If) = if_rule label
+  labelled_next label (Some k.Identifier) = named_rule n label
+  labelled_next label _ = w_refuse
+
+  label_next : (label : Option Ident) → Behind n label (by_label n inner label)
+  unfolding labelled
+  label_next None = unlabelled_rule n
+  label_next (Some label) = w_choose (labelled_next label)
+
+  concurrent_rule : Rule n 0 (concurrent n inner) spell_concurrent IsConcurrent
+  unfolding concurrent
+  concurrent_rule = w_then (label_rule n) (λ l _ _. label_next l)
+
+  with_rule : Rule n 0 (concurrents_with n inner) spelled_all formed_all
+  unfolding concurrents_with
+  with_rule = w_ends spelled_all-each formed_each (each_rule begins_concurrent (concurrent n inner) (omega arith) concurrent_rule)
+
+deeper_rule : (n : ℕ) → Rule n 1 (deeper_concurrents n) spelled_all formed_all
+unfolding deeper_concurrents
+deeper_rule zero = under_none
+deeper_rule (suc m) = under refl (with_rule m (deeper_concurrents m) (deeper_rule m))
 
 pub concurrents_rule : (n : ℕ) → Rule n 0 (concurrents n) (spell_each spell_concurrent) (IsEach IsConcurrent)
-unfolding concurrents
-concurrents_rule n = each_rule begins_concurrent (concurrent n) (omega arith) (concurrent_rule n)
-
-concurrent_gives : (n : ℕ) (c : Concurrent) → IsConcurrent c → Gives (concurrent n) c (spell_concurrent c) Whatever
-unfolding concurrent
-concurrent_gives n (assignment a) good = g_map (λ x. assignment x) (assign_gives n a.label a.target a.branches a.otherwise good.0 good.1 good.2)
-
-concurrent_begins : (c : Concurrent) → IsConcurrent c → (next : Option Kind) → begins_concurrent (front (spell_concurrent c) next) ≡ true
-unfolding same_kind
-concurrent_begins (assignment a) good next = by_label a.label good.0
-  where
-    by_label : (label : Option Ident) → IsAbsent label → begins_concurrent (front (spell_assignment (record { label = label; target = a.target; branches = a.branches; otherwise = a.otherwise })) next) ≡ true
-    by_label None absent = refl
-    by_label (Some label) absent = absurd absent
-
-concurrent_some : (c : Concurrent) → 1 ≤ length (spell_concurrent c)
-concurrent_some (assignment a) = by_label a.label
-  where
-    by_label : (label : Option Ident) → 1 ≤ length (spell_assignment (record { label = label; target = a.target; branches = a.branches; otherwise = a.otherwise }))
-    by_label None = omega arith
-    by_label (Some label) = omega arith
-
--- `end` follows
-pub concurrents_gives : (n : ℕ) (cs : List Concurrent) → IsEach IsConcurrent cs → Gives (concurrents n) cs (spell_each spell_concurrent cs) (λ next. (begins_concurrent next ≡ false) × Whatever next)
-unfolding concurrents
-concurrents_gives n cs good = more_gives begins_concurrent (concurrent_gives n) concurrent_begins concurrent_some (λ next e. tt) cs good []
+unfolding concurrents_with
+concurrents_rule n = each_rule begins_concurrent (concurrent n (deeper_concurrents n)) (omega arith) (concurrent_rule n (deeper_concurrents n) (deeper_rule n))

@@ -21,7 +21,8 @@ use Rattle.vhdl_parser.proofs.Rules.{w_at, w_some, w_end, w_ident, w_word, w_opt
 use Rattle.vhdl_parser.proofs.Gives.{Gives, Reaches, Whatever, front, g_pure, g_then, g_map, g_at, g_some, g_ident, g_choose, g_yes, g_no, eat_gives, option_gives, more_gives, list_gives}
 use Rattle.vhdl_parser.proofs.Ports.{idents_rule, idents_gives, end_name_gives, optional_generics_rule, optional_generics_gives, optional_ports_rule, optional_ports_gives}
 use Rattle.vhdl_parser.proofs.Declared.{declarations_rule, declarations_gives}
-use Rattle.vhdl_parser.proofs.Concurrents.{concurrents_rule, concurrents_gives}
+use Rattle.vhdl_parser.proofs.Concurrents.{concurrents_rule}
+use Rattle.vhdl_parser.proofs.GiveConcurrents.{concurrents_gives}
 
 -- ---- context clauses
 

@@ -49,7 +49,7 @@ statement_begins (conditional at branches otherwise label) next = refl
 statement_begins (selection at selector alternatives label) next = refl
 statement_begins (loop at parameter range statements label) next = refl
 
-label_gives : (i : Ident) → Gives optional_label (Some i) (spell_label i) Whatever
+pub label_gives : (i : Ident) → Gives optional_label (Some i) (spell_label i) Whatever
 unfolding optional_label label same_kind
 label_gives i = g_both k.Identifier k.Colon (omega arith) (λ ts. Ok (None, ts)) (λ next. refl) (g_map (λ x. Some x) (g_ident _ (g_some (λ _. g_pure))))
 
@@ -64,7 +64,7 @@ pub ident_gives : (i : Ident) → Gives identifier i (spell_ident i) Whatever
 unfolding identifier
 ident_gives i = g_token (λ l. record { at = l.at; text = l.text }) k.Identifier (word_at i.at i.text) (λ l h. h.0) (λ l h. rw (h.1, h.2))
 
-end_gives : (word : Kind) (l : Option Ident) → Gives (end_of word) l (spell_end word l) Whatever
+pub end_gives : (word : Kind) (l : Option Ident) → Gives (end_of word) l (spell_end word l) Whatever
 unfolding end_of same_kind
 end_gives word l = g_some (λ _. g_some (λ _. g_then _ (option_gives (is_kind k.Identifier) (λ i _. ident_gives i) (λ i _ next. refl) l (any l)) (g_some (λ _. g_pure)) (λ next _. (refl, tt))))
   where

@@ -212,7 +212,7 @@ unfolding second_kind
 second_kind_is p ps [] rest h = absurd h
 second_kind_is p ps (t ∷ ts) rest h = front_is ps ts rest h.1
 
-sees_is : (first behind_it : Kind) (ps : List Piece) (ts rest : List Lexeme) → 1 ≤ length ps → Spells ps ts rest → sees_both first behind_it ts ≡ both first behind_it ps (next_kind rest)
+pub sees_is : (first behind_it : Kind) (ps : List Piece) (ts rest : List Lexeme) → 1 ≤ length ps → Spells ps ts rest → sees_both first behind_it ts ≡ both first behind_it ps (next_kind rest)
 sees_is first behind_it [] ts rest le h = absurd (omega (arith, le))
 sees_is first behind_it (p ∷ ps) ts rest le h = rw (front_is (p ∷ ps) ts rest h, second_kind_is p ps ts rest h)
 

@@ -25,3 +25,5 @@ pub mod WalkProcess
 pub mod GiveProcess
 pub mod WalkInstance
 pub mod GiveInstance
+pub mod GiveConcurrents
+pub mod RowsConcurrents

@@ -24,7 +24,7 @@ end_spelled before word (Some i) r = refl
 
 module _ {B : Type 0} {n d d2 : ℕ} {before : List Piece → List Piece} {spell : B → List Piece} {Good : B → Type 0} where
   -- one that opens a level
-  w_open : {f : ℕ → Parser B} (kind : Kind) → opening false kind ≡ 1 → closing false kind ≡ 0 → is_end kind ≡ false →
+  pub w_open : {f : ℕ → Parser B} (kind : Kind) → opening false kind ≡ 1 → closing false kind ≡ 0 → is_end kind ≡ false →
       ((at : ℕ) → Walks n (suc d) false d2 (λ r. before (one_at kind at ∷ r)) (f at) spell Good) → Walks n d false d2 before (λ ts. and_then (expect kind ts) f) spell Good
   unfolding expect
   w_open kind o c last next = w_take (λ l. l.at) kind (one_at kind) (λ le. omega (arith, le)) (omega (arith, o, c)) last (λ l i. (i, refl)) next
@@ -42,7 +42,7 @@ module _ {B : Type 0} {n d d2 : ℕ} {before : List Piece → List Piece} {spell
 
 module _ {B : Type 0} {n d d2 : ℕ} {before : List Piece → List Piece} {spell : B → List Piece} {Good : B → Type 0} where
   -- end word [ id ] ;
-  w_end_of : {f : Option Ident → Parser B} (word : Kind) → opening true word ≡ 0 → closing true word ≡ 1 → is_end word ≡ false → suc d ≤ n →
+  pub w_end_of : {f : Option Ident → Parser B} (word : Kind) → opening true word ≡ 0 → closing true word ≡ 1 → is_end word ≡ false → suc d ≤ n →
       ((l : Option Ident) → Walks n d false d2 (λ r. before (spell_end word l ++ r)) (f l) spell Good) → Walks n (suc d) false d2 before (λ ts. and_then (end_of word ts) f) spell Good
   unfolding end_of
   w_end_of {f} word o c last le next =
@@ -51,7 +51,7 @@ module _ {B : Type 0} {n d d2 : ℕ} {before : List Piece → List Piece} {spell
       w_inner (optional (is_kind k.Identifier) identifier) _ f (w_option_ident (λ l e2.
       w_inner (expect k.Semicolon) _ f (w_some k.Semicolon refl (λ _. w_before {before = λ r. before (some k.End ∷ (some word ∷ (spell_option spell_ident l ++ (some k.Semicolon ∷ r))))} {other = λ r. before (spell_end word l ++ r)} (end_spelled before word l) (next l)))))))))
 
-label_rule : (n : ℕ) → Rule n 0 optional_label (spell_option spell_label) IsAny
+pub label_rule : (n : ℕ) → Rule n 0 optional_label (spell_option spell_label) IsAny
 unfolding optional_label label
 label_rule n = w_by _
     (w_inner identifier _ _ (w_ident (λ i. w_inner (expect k.Colon) _ _ (w_some k.Colon refl (λ _. w_pure (omega arith) refl tt)))))

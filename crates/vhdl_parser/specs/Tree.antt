@@ -183,8 +183,28 @@ pub record Assignment : Type 0 where
   pub branches : List Branch
   pub otherwise : Option Value
 
-pub data Concurrent : Type 0 where
-  assignment : Assignment → Concurrent
+-- a parameter over a range, or a condition
+pub data Scheme : Type 0 where
+  for_each : Ident → Range → Scheme
+  if_holds : Expr → Scheme
+
+mutual
+  -- each with its label, which an assignment has itself
+  pub data Concurrent : Type 0 where
+    assignment : Assignment → Concurrent
+    selected : Option Ident → SelectedAssignment → Concurrent
+    process : Option Ident → Process → Concurrent
+    instance : Ident → Instance → Concurrent
+    -- its label, where its scheme starts, the scheme, whether `begin` stands there, its statements, and the label at its end
+    generated : Ident → ℕ → Scheme → Bool → Concurrents → Option Ident → Concurrent
+
+  pub data Concurrents : Type 0 where
+    no_concurrents : Concurrents
+    concurrent : Concurrent → Concurrents → Concurrents
+
+abbrev pub concurrents_of : List Concurrent → Concurrents
+concurrents_of [] = no_concurrents
+concurrents_of (c ∷ cs) = concurrent c (concurrents_of cs)
 
 -- ---- declarations
 

@@ -27,11 +27,11 @@ use Rattle.vhdl_parser.specs.declared.tree.Case.{Case, Case'}
 use Rattle.vhdl_parser.specs.declared.tree.For.{For, For'}
 use Rattle.vhdl_parser.specs.declared.tree.Conditional.{Conditional, Conditional', out-Conditional}
 use Rattle.vhdl_parser.specs.declared.tree.Alternative.{Alternative, Alternative', out-Alternative}
-use Rattle.vhdl_parser.specs.declared.tree.Sensitivity.{Sensitivity}
-use Rattle.vhdl_parser.specs.declared.tree.Sensitivity.TheVariants as se
-use Rattle.vhdl_parser.specs.declared.tree.Process.{Process}
-use Rattle.vhdl_parser.specs.declared.tree.Waveform.{Waveform}
-use Rattle.vhdl_parser.specs.declared.tree.SelectedAssignment.{SelectedAssignment}
+use Rattle.vhdl_parser.specs.declared.process.Sensitivity.{Sensitivity}
+use Rattle.vhdl_parser.specs.declared.process.Sensitivity.TheVariants as se
+use Rattle.vhdl_parser.specs.declared.process.Process.{Process}
+use Rattle.vhdl_parser.specs.declared.process.Waveform.{Waveform}
+use Rattle.vhdl_parser.specs.declared.process.SelectedAssignment.{SelectedAssignment}
 use Rattle.vhdl_parser.specs.declared.instance.Instantiated.{Instantiated}
 use Rattle.vhdl_parser.specs.declared.instance.Instantiated.TheVariants as it
 use Rattle.vhdl_parser.specs.declared.instance.Instance.{Instance}
@@ -39,6 +39,9 @@ use Rattle.vhdl_parser.specs.declared.tree.Branch.{Branch}
 use Rattle.vhdl_parser.specs.declared.tree.Assignment.{Assignment}
 use Rattle.vhdl_parser.specs.declared.tree.Concurrent.{Concurrent}
 use Rattle.vhdl_parser.specs.declared.tree.Concurrent.TheVariants as c
+use Rattle.vhdl_parser.specs.declared.tree.Concurrent.TheBlock.{Row_of-Concurrent, end_of-Concurrent, more_of-Concurrent}
+use Rattle.vhdl_parser.specs.declared.tree.Scheme.{Scheme}
+use Rattle.vhdl_parser.specs.declared.tree.Scheme.TheVariants as sc
 use Rattle.vhdl_parser.specs.declared.tree.Subtype.{Subtype}
 use Rattle.vhdl_parser.specs.declared.tree.Generic.{Generic}
 use Rattle.vhdl_parser.specs.declared.tree.Port.{Port}
@@ -242,8 +245,21 @@ branches_view v = map branch_view v.items
 abbrev pub assignment_view : Assignment → tree.Assignment
 assignment_view a = record { label = option_map ident_view a.label; target = name_view a.target; branches = branches_view a.branches; otherwise = option_map value_view a.otherwise }
 
-abbrev pub concurrent_view : Concurrent → tree.Concurrent
-concurrent_view (c.Assignment a) = tree.assignment (assignment_view a)
+abbrev pub scheme_view : Scheme → tree.Scheme
+scheme_view (sc.For parameter range) = tree.for_each (ident_view parameter) (range_view range)
+scheme_view (sc.If condition) = tree.if_holds (view condition)
+
+abbrev mutual
+  pub concurrent_view : Concurrent → tree.Concurrent
+  concurrent_view (c.Assignment a) = tree.assignment (assignment_view a)
+  concurrent_view (c.Selected label s) = tree.selected (option_map ident_view label) (selected_assignment_view s)
+  concurrent_view (c.Process label p) = tree.process (option_map ident_view label) (process_view p)
+  concurrent_view (c.Instance label i) = tree.instance (ident_view label) (instance_view i)
+  concurrent_view (c.Generate' label at scheme begin_word shape statements end_label) = tree.generated (ident_view label) at (scheme_view scheme) begin_word (concurrents_row statements) (option_map ident_view end_label)
+
+  pub concurrents_row : {m : _} → Row_of-Concurrent m → tree.Concurrents
+  concurrents_row end_of-Concurrent = tree.no_concurrents
+  concurrents_row (more_of-Concurrent x rest) = tree.concurrent (concurrent_view x) (concurrents_row rest)
 
 abbrev pub concurrents_view : Vec Concurrent Global → List tree.Concurrent
 concurrents_view v = map concurrent_view v.items

@@ -146,7 +146,9 @@ fn is_value(value: &Value) -> bool {
 
 /// `y <= (A xor b) xor '1';`
 fn is_statement(statement: &Concurrent) -> bool {
-    let Concurrent::Assignment(assignment) = statement;
+    let Concurrent::Assignment(assignment) = statement else {
+        return false;
+    };
     let Some(value) = &assignment.otherwise else {
         return false;
     };

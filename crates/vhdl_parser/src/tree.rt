@@ -1,5 +1,8 @@
 //! The syntax tree of a file.
 
+use crate::instance::Instance;
+use crate::process::{Process, SelectedAssignment};
+
 /// An identifier in small letters, and the byte at which it starts.
 #[derive(Drop)]
 pub struct Identifier {
@@ -204,43 +207,6 @@ pub struct For {
     pub end_label: Option<Identifier>,
 }
 
-/// The names whose events resume a process.
-#[derive(Drop)]
-pub enum Sensitivity {
-    /// There is no sensitivity list.
-    Absent,
-    /// `( all )`: each name that the process reads.
-    All,
-    Names(Vec<Name>),
-}
-
-/// A process behind its label, and the byte at which it starts. `is_word` says whether `is`
-/// stands before its statements.
-#[derive(Drop)]
-pub struct Process {
-    pub at: usize,
-    pub sensitivity: Sensitivity,
-    pub is_word: bool,
-    pub statements: Vec<Sequential>,
-    pub end_label: Option<Identifier>,
-}
-
-/// `value when choices`.
-#[derive(Drop)]
-pub struct Waveform {
-    pub value: Value,
-    pub choices: Vec<Choice>,
-}
-
-/// A selected assignment behind its label, and the byte at which it starts.
-#[derive(Drop)]
-pub struct SelectedAssignment {
-    pub at: usize,
-    pub selector: Expr,
-    pub target: Name,
-    pub waveforms: Vec<Waveform>,
-}
-
 /// `value when condition`.
 #[derive(Drop)]
 pub struct Branch {
@@ -258,10 +224,35 @@ pub struct Assignment {
     pub otherwise: Option<Value>,
 }
 
-/// A concurrent statement.
+/// A concurrent statement and its label. An assignment keeps its own.
+#[cycle(concurrent)]
 #[derive(Drop)]
 pub enum Concurrent {
     Assignment(Assignment),
+    Selected(Option<Identifier>, SelectedAssignment),
+    Process(Option<Identifier>, Process),
+    Instance(Identifier, Instance),
+    Generate(Generate),
+}
+
+/// What a generate statement goes by: a parameter over a range, or a condition.
+#[derive(Drop)]
+pub enum Scheme {
+    For(Identifier, Range),
+    If(Expr),
+}
+
+/// A generate statement, and the byte at which its scheme starts. `begin_word` says whether
+/// `begin` stands before its statements.
+#[cycle(concurrent)]
+#[derive(Drop)]
+pub struct Generate {
+    pub label: Identifier,
+    pub at: usize,
+    pub scheme: Scheme,
+    pub begin_word: bool,
+    pub statements: Vec<Concurrent>,
+    pub end_label: Option<Identifier>,
 }
 
 /// A type's name, and the range in parentheses after it.

@@ -116,6 +116,10 @@ fn plain(statement: &Concurrent) -> Result<&Assignment, NameFault>
 {
     match statement {
         Concurrent::Assignment(assignment) => Ok(assignment),
+        Concurrent::Selected(_, other) => Err(NameFault::LeftOut { at: other.at }),
+        Concurrent::Process(_, other) => Err(NameFault::LeftOut { at: other.at }),
+        Concurrent::Instance(label, _) => Err(NameFault::LeftOut { at: label.at }),
+        Concurrent::Generate(other) => Err(NameFault::LeftOut { at: other.at }),
     }
 }
 

@@ -1,26 +1,116 @@
 -- How the parser reads concurrent statements.
-use Rattle.std.specs.Prelude.{ℕ, Bool, List, [], Option, Some, None}
+use Rattle.std.specs.Prelude.{ℕ, zero, suc, Bool, true, false, ◌||◌, if◌then◌else◌, List, [], Option, Some, None}
 use Rattle.vhdl_lexer.specs.declared.token.Kind.{Kind}
 use Rattle.vhdl_lexer.specs.declared.token.Kind.TheVariants as k
-use Rattle.vhdl_parser.specs.Tree.{Assignment, Concurrent, assignment}
-use Rattle.vhdl_parser.specs.reader.Input.{Parser, ◌>>=◌, ◌>>◌, ◌<$>◌, pure, is_kind, expect, many}
-use Rattle.vhdl_parser.specs.reader.Expressions.{inside, name}
+use Rattle.vhdl_parser.specs.Lexeme.{Lexeme}
+use Rattle.vhdl_parser.specs.Tree.{Ident, Assignment, Scheme, for_each, if_holds, Concurrent, assignment, selected, process, instance, generated, concurrents_of}
+use Rattle.vhdl_parser.specs.reader.Input.{Parser, ◌>>=◌, ◌>>◌, ◌<$>◌, pure, refuse, too_deep, choose, sees_both, expect, eat, identifier, many, below}
+use Rattle.vhdl_parser.specs.reader.Expressions.{expr, inside, name, range}
 use Rattle.vhdl_parser.specs.reader.Waves.{waves}
+use Rattle.vhdl_parser.specs.reader.Sequential.{optional_label, end_of}
+use Rattle.vhdl_parser.specs.reader.Process as process_reader
+use Rattle.vhdl_parser.specs.reader.Instance as instance_reader
 
-unfoldable pub assign : ℕ → Parser Assignment
-assign n = do
+-- behind its label
+unfoldable pub assign : ℕ → Option Ident → Parser Assignment
+assign n label = do
   target ← name (inside n)
   expect k.LessEqual
   w ← waves n
   expect k.Semicolon
-  pure (record { label = None; target = target; branches = w.branches; otherwise = w.otherwise })
-
-unfoldable pub concurrent : ℕ → Parser Concurrent
-concurrent n = assignment <$> assign n
+  pure (record { label = label; target = target; branches = w.branches; otherwise = w.otherwise })
 
 -- whether a statement begins, where statements stand
 abbrev pub begins_concurrent : Option Kind → Bool
-begins_concurrent next = is_kind k.Identifier next
+begins_concurrent (Some k.Identifier) = true
+begins_concurrent (Some k.With) = true
+begins_concurrent (Some k.Process) = true
+begins_concurrent _ = false
 
-unfoldable pub concurrents : ℕ → Parser (List Concurrent)
-concurrents n = many begins_concurrent (concurrent n) []
+abbrev pub select_with : ℕ → Option Ident → Parser Concurrent
+select_with n label = selected label <$> process_reader.selected n
+
+abbrev pub process_with : ℕ → Option Ident → Parser Concurrent
+process_with n label = process label <$> process_reader.process n
+
+abbrev pub assign_with : ℕ → Option Ident → Parser Concurrent
+assign_with n label = assignment <$> assign n label
+
+abbrev pub instance_with : ℕ → Ident → Parser Concurrent
+instance_with n label = instance label <$> instance_reader.instance n
+
+-- whether a component's name comes next, and no target
+abbrev pub sees_component : List Lexeme → Bool
+sees_component ts = sees_both k.Identifier k.Generic ts || (sees_both k.Identifier k.Port ts || sees_both k.Identifier k.Semicolon ts)
+
+unfoldable pub named_with : ℕ → Ident → Parser Concurrent
+named_with n label = λ ts. if sees_component ts then instance_with n label ts else assign_with n (Some label) ts
+
+abbrev pub unlabelled_by : ℕ → Option Kind → Parser Concurrent
+unlabelled_by n (Some k.With) = select_with n None
+unlabelled_by n (Some k.Process) = process_with n None
+unlabelled_by n (Some k.Identifier) = assign_with n None
+unlabelled_by n _ = refuse
+
+unfoldable pub unlabelled : ℕ → Parser Concurrent
+unlabelled n = choose (unlabelled_by n)
+
+-- What follows the scheme of a generate statement. The parameter reads the statements in it.
+module _ (inner : Parser (List Concurrent)) where
+  unfoldable pub generate_rest : Ident → ℕ → Scheme → Parser Concurrent
+  generate_rest label at scheme = do
+    expect k.Generate
+    word ← eat k.Begin
+    found ← inner
+    last ← end_of k.Generate
+    pure (generated label at scheme word (concurrents_of found) last)
+
+-- Where so many levels may be opened. The second parameter reads statements one level down.
+module _ (n : ℕ) (inner : Parser (List Concurrent)) where
+  unfoldable pub for_generate : Ident → Parser Concurrent
+  for_generate label = do
+    at ← expect k.For
+    m ← below n
+    parameter ← identifier
+    expect k.In
+    r ← range m
+    generate_rest inner label at (for_each parameter r)
+
+  unfoldable pub if_generate : Ident → Parser Concurrent
+  if_generate label = do
+    at ← expect k.If
+    m ← below n
+    condition ← expr m
+    generate_rest inner label at (if_holds condition)
+
+  abbrev pub labelled_by : Ident → Option Kind → Parser Concurrent
+  labelled_by label (Some k.With) = select_with n (Some label)
+  labelled_by label (Some k.Process) = process_with n (Some label)
+  labelled_by label (Some k.Entity) = instance_with n label
+  labelled_by label (Some k.Component) = instance_with n label
+  labelled_by label (Some k.For) = for_generate label
+  labelled_by label (Some k.If) = if_generate label
+  labelled_by label (Some k.Identifier) = named_with n label
+  labelled_by label _ = refuse
+
+  unfoldable pub labelled : Ident → Parser Concurrent
+  labelled label = choose (labelled_by label)
+
+  abbrev pub by_label : Option Ident → Parser Concurrent
+  by_label None = unlabelled n
+  by_label (Some label) = labelled label
+
+  unfoldable pub concurrent : Parser Concurrent
+  concurrent = optional_label >>= by_label
+
+  unfoldable pub concurrents_with : Parser (List Concurrent)
+  concurrents_with = many begins_concurrent concurrent []
+
+-- the statements one level down, where so many levels may be opened
+unfoldable pub deeper_concurrents : ℕ → Parser (List Concurrent)
+deeper_concurrents zero = too_deep
+deeper_concurrents (suc m) = concurrents_with m (deeper_concurrents m)
+
+-- concurrent statements, in which so many levels may be opened
+abbrev pub concurrents : ℕ → Parser (List Concurrent)
+concurrents n = concurrents_with n (deeper_concurrents n)

@@ -1,0 +1,240 @@
+-- Concurrent statements that are spelled are read.
+use Rattle.std.proofs.Common.{◌≡◌, ℕ, zero, suc, ◌+◌, ◌≤◌, ◌<◌, Bool, true, false, ◌||◌, cond, List, [], ◌∷◌, ◌++◌, length, Ok, Err, Option, Some, None, refl, sym, ap, ◌∙◌, subst, length-append, append_assoc, arith}
+use Rattle.vhdl_lexer.specs.declared.token.Kind.{Kind}
+use Rattle.vhdl_lexer.specs.declared.token.Kind.TheVariants as k
+use Rattle.vhdl_parser.specs.Lexeme.{Lexeme, same_kind}
+use Rattle.vhdl_parser.specs.Tree.{Ident, Expr, Suffix, plain, arguments, sliced, Range, Name, Value, Branch, Assignment, SelectedAssignment, Process, Association, Instantiated, entity_unit, component_unit, Instance, Scheme, for_each, if_holds, Concurrent, assignment, selected, process, instance, generated, Concurrents, no_concurrents, concurrents_of}
+use Rattle.vhdl_parser.specs.Tree as tree
+use Rattle.vhdl_parser.specs.Pieces.{Piece, some, one_at, word_at, Spells, spell_ident, spell_option, spell_word, spell_each, IsEach}
+use Rattle.vhdl_parser.specs.grammar.Expressions.{spell, spell_name, spell_range, IsExpr, IsName, IsRange}
+use Rattle.vhdl_parser.specs.grammar.Sequential.{spell_label, spell_end}
+use Rattle.vhdl_parser.specs.grammar.Process.{spell_process, spell_selected, IsProcess, IsSelected}
+use Rattle.vhdl_parser.specs.grammar.Instance.{spell_map, spell_instantiated, spell_instance, IsInstance}
+use Rattle.vhdl_parser.specs.grammar.Concurrent.{spell_waveforms, spell_assignment, spell_scheme, spell_concurrent, spell_concurrents, AreWaveforms, IsAssignment, IsScheme, IsConcurrent, AreConcurrents}
+use Rattle.vhdl_parser.specs.reader.Input.{Parser, Outcome, and_then, next_kind, is_kind, sees_both}
+use Rattle.vhdl_parser.specs.reader.Sequential.{label, optional_label}
+use Rattle.vhdl_parser.specs.reader.Concurrent.{concurrent, assign, begins_concurrent, select_with, process_with, assign_with, instance_with, sees_component, named_with, unlabelled_by, unlabelled, generate_rest, for_generate, if_generate, labelled_by, labelled, by_label, concurrents_with, deeper_concurrents, concurrents}
+use Rattle.vhdl_parser.proofs.Gives.{Reaches, Gives, Whatever, front, g_pure, g_then, g_map, g_at, g_some, g_ident, g_below, g_choose, g_weaken, eat_gives, more_gives}
+use Rattle.vhdl_parser.proofs.GiveValues.{both, sees_is, g_neither_then, expr_gives, name_gives, range_gives}
+use Rattle.vhdl_parser.proofs.Branches.{waves_gives}
+use Rattle.vhdl_parser.proofs.GiveSequential.{label_gives, end_gives}
+use Rattle.vhdl_parser.proofs.GiveProcess.{process_gives, selected_gives}
+use Rattle.vhdl_parser.proofs.GiveInstance.{instance_gives}
+use Rattle.vhdl_parser.proofs.Concurrents.{spelled_all, formed_all, spelled_all-each}
+
+-- ---- labels
+
+module _ (n : ℕ) (inner : Parser (List Concurrent)) where
+  without_label : (c : Concurrent) (ps : List Piece) → 1 ≤ length ps → ((next : Option Kind) → both k.Identifier k.Colon ps next ≡ false) → Gives (unlabelled n) c ps Whatever → Gives (concurrent n inner) c ps Whatever
+  unfolding concurrent optional_label
+  without_label c ps long none w = g_neither_then k.Identifier k.Colon long (λ ts. Ok (None, ts)) (λ ts. and_then (label ts) (λ x us. Ok (Some x, us))) (by_label n inner) (λ next _. none next) w
+
+  with_label : (i : Ident) (c : Concurrent) (ps : List Piece) → Gives (labelled n inner i) c ps Whatever → Gives (concurrent n inner) c (spell_label i ++ ps) Whatever
+  unfolding concurrent
+  with_label i c ps w = g_then (by_label n inner) (label_gives i) w (λ next _. tt)
+
+-- ---- a component's name or a target
+
+abbrev component : List Piece → Option Kind → Bool
+component ps next = both k.Identifier k.Generic ps next || (both k.Identifier k.Port ps next || both k.Identifier k.Semicolon ps next)
+
+component_is : (ps : List Piece) (ts rest : List Lexeme) → 1 ≤ length ps → Spells ps ts rest → sees_component ts ≡ component ps (next_kind rest)
+component_is ps ts rest le h =
+    ap (λ x. x || (sees_both k.Identifier k.Port ts || sees_both k.Identifier k.Semicolon ts)) (sees_is k.Identifier k.Generic ps ts rest le h)
+    ∙ ap (λ x. both k.Identifier k.Generic ps (next_kind rest) || (x || sees_both k.Identifier k.Semicolon ts)) (sees_is k.Identifier k.Port ps ts rest le h)
+    ∙ ap (λ x. both k.Identifier k.Generic ps (next_kind rest) || (both k.Identifier k.Port ps (next_kind rest) || x)) (sees_is k.Identifier k.Semicolon ps ts rest le h)
+
+module _ (n : ℕ) (i : Ident) (c : Concurrent) (ps : List Piece) (long : 1 ≤ length ps) where
+  component_gives : ((next : Option Kind) → component ps next ≡ true) → Gives (instance_with n i) c ps Whatever → Gives (named_with n i) c ps Whatever
+  unfolding named_with
+  component_gives is w = record {
+    reads = λ ts rest h g. subst (λ t. Reaches (cond {A = Outcome Concurrent} t (instance_with n i ts) (assign_with n (Some i) ts)) c rest) (sym (component_is ps ts rest long h ∙ is (next_kind rest))) (w.reads ts rest h g);
+  }
+
+  target_gives : ((next : Option Kind) → component ps next ≡ false) → Gives (assign_with n (Some i)) c ps Whatever → Gives (named_with n i) c ps Whatever
+  unfolding named_with
+  target_gives is w = record {
+    reads = λ ts rest h g. subst (λ t. Reaches (cond {A = Outcome Concurrent} t (instance_with n i ts) (assign_with n (Some i) ts)) c rest) (sym (component_is ps ts rest long h ∙ is (next_kind rest))) (w.reads ts rest h g);
+  }
+
+-- ---- assignments
+
+abbrev spell_behind : Name → List Branch → Option Value → List Piece
+spell_behind target branches last = spell_name target ++ (some k.LessEqual ∷ (spell_waveforms branches last ++ some k.Semicolon ∷ []))
+
+assign_gives : (n : ℕ) (l : Option Ident) (target : Name) (branches : List Branch) (last : Option Value) → IsName target → AreWaveforms branches last →
+    Gives (assign n l) (record { label = l; target = target; branches = branches; otherwise = last }) (spell_behind target branches last) Whatever
+unfolding assign
+assign_gives n l target branches last f g = g_then _ (name_gives n target f) (g_some (λ _. g_then _ (waves_gives n branches last g) (g_some (λ _. g_pure)) (λ next _. refl))) (λ next _. omega arith)
+
+target_label : (i : Ident) (x : Suffix) (a : Option Ident) (ps : List Piece) (next : Option Kind) → both k.Identifier k.Colon (spell_name (record { identifier = i; suffix = x; attribute = a }) ++ (some k.LessEqual ∷ ps)) next ≡ false
+unfolding same_kind
+target_label i plain None ps next = refl
+target_label i plain (Some a) ps next = refl
+target_label i (arguments all) a ps next = refl
+target_label i (sliced left direction right) a ps next = refl
+
+target_component : (i : Ident) (x : Suffix) (a : Option Ident) (ps : List Piece) (next : Option Kind) → component (spell_name (record { identifier = i; suffix = x; attribute = a }) ++ (some k.LessEqual ∷ ps)) next ≡ false
+unfolding same_kind
+target_component i plain None ps next = refl
+target_component i plain (Some a) ps next = refl
+target_component i (arguments all) a ps next = refl
+target_component i (sliced left direction right) a ps next = refl
+
+assignment_ready : (n : ℕ) (inner : Parser (List Concurrent)) (l : Option Ident) (t : Name) (branches : List Branch) (last : Option Value) → IsName t → AreWaveforms branches last →
+    Gives (concurrent n inner) (assignment (record { label = l; target = t; branches = branches; otherwise = last })) (spell_option spell_label l ++ spell_behind t branches last) Whatever
+unfolding unlabelled labelled
+assignment_ready n inner None t branches last f g =
+    without_label n inner _ (spell_behind t branches last) (omega arith) (λ next. target_label t.identifier t.suffix t.attribute _ next)
+    (g_choose (unlabelled_by n) (Some k.Identifier) (λ next _. refl) (g_map (λ x. assignment x) (assign_gives n None t branches last f g)))
+assignment_ready n inner (Some i) t branches last f g =
+    with_label n inner i _ (spell_behind t branches last)
+    (g_choose (labelled_by n inner i) (Some k.Identifier) (λ next _. refl)
+    (target_gives n i _ (spell_behind t branches last) (omega arith) (λ next. target_component t.identifier t.suffix t.attribute _ next) (g_map (λ x. assignment x) (assign_gives n (Some i) t branches last f g))))
+
+-- ---- selected assignments, processes and instances
+
+selected_ready : (n : ℕ) (inner : Parser (List Concurrent)) (l : Option Ident) (s : SelectedAssignment) → IsSelected s → Gives (concurrent n inner) (selected l s) (spell_option spell_label l ++ spell_selected s) Whatever
+unfolding unlabelled labelled same_kind
+selected_ready n inner None s f = without_label n inner _ (spell_selected s) (omega arith) (λ next. refl) (g_choose (unlabelled_by n) (Some k.With) (λ next _. refl) (g_map (λ x. selected None x) (selected_gives n s f)))
+selected_ready n inner (Some i) s f = with_label n inner i _ (spell_selected s) (g_choose (labelled_by n inner i) (Some k.With) (λ next _. refl) (g_map (λ x. selected (Some i) x) (selected_gives n s f)))
+
+process_ready : (n : ℕ) (inner : Parser (List Concurrent)) (l : Option Ident) (p : Process) → IsProcess p → Gives (concurrent n inner) (process l p) (spell_option spell_label l ++ spell_process p) Whatever
+unfolding unlabelled labelled same_kind
+process_ready n inner None p f = without_label n inner _ (spell_process p) (omega arith) (λ next. refl) (g_choose (unlabelled_by n) (Some k.Process) (λ next _. refl) (g_map (λ x. process None x) (process_gives n p f)))
+process_ready n inner (Some i) p f = with_label n inner i _ (spell_process p) (g_choose (labelled_by n inner i) (Some k.Process) (λ next _. refl) (g_map (λ x. process (Some i) x) (process_gives n p f)))
+
+is_component : (name : Ident) (g p : Option (List Association)) (next : Option Kind) → component (spell_ident name ++ (spell_option (spell_map k.Generic) g ++ (spell_option (spell_map k.Port) p ++ some k.Semicolon ∷ []))) next ≡ true
+unfolding same_kind
+is_component name None None next = refl
+is_component name None (Some p) next = refl
+is_component name (Some g) p next = refl
+
+instance_ready : (n : ℕ) (inner : Parser (List Concurrent)) (i : Ident) (u : Instantiated) (g p : Option (List Association)) → IsInstance (record { unit = u; generics = g; ports = p }) →
+    Gives (concurrent n inner) (instance i (record { unit = u; generics = g; ports = p })) (spell_label i ++ spell_instance (record { unit = u; generics = g; ports = p })) Whatever
+unfolding labelled
+instance_ready n inner i (entity_unit library name chosen) g p f = with_label n inner i _ (spell_instance (record { unit = entity_unit library name chosen; generics = g; ports = p }))
+    (g_choose (labelled_by n inner i) (Some k.Entity) (λ next _. refl) (g_map (λ x. instance i x) (instance_gives n (record { unit = entity_unit library name chosen; generics = g; ports = p }) f)))
+instance_ready n inner i (component_unit true name) g p f = with_label n inner i _ (spell_instance (record { unit = component_unit true name; generics = g; ports = p }))
+    (g_choose (labelled_by n inner i) (Some k.Component) (λ next _. refl) (g_map (λ x. instance i x) (instance_gives n (record { unit = component_unit true name; generics = g; ports = p }) f)))
+instance_ready n inner i (component_unit false name) g p f = with_label n inner i _ (spell_instance (record { unit = component_unit false name; generics = g; ports = p }))
+    (g_choose (labelled_by n inner i) (Some k.Identifier) (λ next _. refl)
+    (component_gives n i _ (spell_instance (record { unit = component_unit false name; generics = g; ports = p })) (omega arith) (λ next. is_component name g p next)
+    (g_map (λ x. instance i x) (instance_gives n (record { unit = component_unit false name; generics = g; ports = p }) f))))
+
+-- ---- lists
+
+abbrev Ready : Concurrent → Type 0
+Ready c = (n : ℕ) → Gives (concurrent n (deeper_concurrents n)) c (spell_concurrent c) Whatever
+
+concurrent_begins : (c : Concurrent) (next : Option Kind) → begins_concurrent (front (spell_concurrent c) next) ≡ true
+concurrent_begins (assignment a) next = by a.label
+  where
+    by : (l : Option Ident) → begins_concurrent (front (spell_option spell_label l ++ spell_behind a.target a.branches a.otherwise) next) ≡ true
+    by None = refl
+    by (Some i) = refl
+concurrent_begins (selected None s) next = refl
+concurrent_begins (selected (Some i) s) next = refl
+concurrent_begins (process None p) next = refl
+concurrent_begins (process (Some i) p) next = refl
+concurrent_begins (instance i x) next = refl
+concurrent_begins (generated i at s w cs l) next = refl
+
+concurrent_long : (c : Concurrent) → 1 ≤ length (spell_concurrent c)
+concurrent_long (assignment a) = omega (arith, length-append (spell_option spell_label a.label) (spell_behind a.target a.branches a.otherwise))
+concurrent_long (selected l s) = omega (arith, length-append (spell_option spell_label l) (spell_selected s))
+concurrent_long (process l p) = omega (arith, length-append (spell_option spell_label l) (spell_process p))
+concurrent_long (instance i x) = omega arith
+concurrent_long (generated i at s w cs l) = omega arith
+
+abbrev pub EndsConcurrents : Option Kind → Type 0
+EndsConcurrents next = (begins_concurrent next ≡ false) × Whatever next
+
+concurrents_from : (cs : List Concurrent) → IsEach Ready cs → (n : ℕ) → Gives (concurrents n) cs (spell_each spell_concurrent cs) EndsConcurrents
+unfolding concurrents_with
+concurrents_from cs r n = more_gives begins_concurrent (λ c good. good n) (λ c _ next. concurrent_begins c next) concurrent_long (λ next _. tt) cs r []
+
+deeper_from : (cs : List Concurrent) → IsEach Ready cs → (n m : ℕ) → n ≡ suc m → Gives (deeper_concurrents n) cs (spelled_all cs) EndsConcurrents
+unfolding deeper_concurrents
+deeper_from cs r n m e =
+    subst (λ x. Gives (deeper_concurrents x) cs (spelled_all cs) EndsConcurrents) (sym e)
+    (subst (λ ps. Gives (concurrents m) cs ps EndsConcurrents) (sym (spelled_all-each cs)) (concurrents_from cs r m))
+
+-- ---- generates
+
+no_begin : (c : Concurrent) (ps : List Piece) (next : Option Kind) → is_kind k.Begin (front (spell_concurrent c ++ ps) next) ≡ false
+unfolding same_kind
+no_begin (assignment a) ps next = by a.label
+  where
+    by : (l : Option Ident) → is_kind k.Begin (front ((spell_option spell_label l ++ spell_behind a.target a.branches a.otherwise) ++ ps) next) ≡ false
+    by None = refl
+    by (Some i) = refl
+no_begin (selected None s) ps next = refl
+no_begin (selected (Some i) s) ps next = refl
+no_begin (process None p) ps next = refl
+no_begin (process (Some i) p) ps next = refl
+no_begin (instance i x) ps next = refl
+no_begin (generated i at s w cs l) ps next = refl
+
+after_begin : (cs : List Concurrent) (ps : List Piece) (next : Option Kind) → is_kind k.Begin (front (spelled_all cs ++ (some k.End ∷ ps)) next) ≡ false
+unfolding same_kind
+after_begin [] ps next = refl
+after_begin (c ∷ cs) ps next = by (spelled_all cs)
+  where
+    by : (qs : List Piece) → is_kind k.Begin (front ((spell_concurrent c ++ qs) ++ (some k.End ∷ ps)) next) ≡ false
+    by qs = subst (λ x. is_kind k.Begin (front x next) ≡ false) (sym (append_assoc (spell_concurrent c) qs (some k.End ∷ ps))) (no_begin c (qs ++ (some k.End ∷ ps)) next)
+
+rest_gives : (i : Ident) (at : ℕ) (s : Scheme) (w : Bool) (cs : List Concurrent) → IsEach Ready cs → (l : Option Ident) (n m : ℕ) → n ≡ suc m →
+    Gives (generate_rest (deeper_concurrents n) i at s) (generated i at s w (concurrents_of cs) l) (some k.Generate ∷ (spell_word k.Begin w ++ (spelled_all cs ++ spell_end k.Generate l))) Whatever
+unfolding generate_rest same_kind
+rest_gives i at s w cs r l n m e =
+    g_some (λ _. g_then _ (eat_gives k.Begin w refl)
+    (g_then _ (deeper_from cs r n m e) (g_map (λ x. generated i at s w (concurrents_of cs) x) (end_gives k.Generate l)) (λ next _. (refl, tt)))
+    (λ next _. after_begin cs _ next))
+
+generate_ready : (i : Ident) (at : ℕ) (s : Scheme) → IsScheme s → (w : Bool) (cs : List Concurrent) → IsEach Ready cs → (l : Option Ident) (n : ℕ) →
+    Gives (concurrent n (deeper_concurrents n)) (generated i at s w (concurrents_of cs) l) (spell_concurrent (generated i at s w (concurrents_of cs) l)) Whatever
+unfolding labelled for_generate if_generate
+generate_ready i at (for_each p r) f w cs ready l n =
+    with_label n (deeper_concurrents n) i _ (spell_scheme at (for_each p r) ++ (some k.Generate ∷ (spell_word k.Begin w ++ (spelled_all cs ++ spell_end k.Generate l))))
+    (g_choose (labelled_by n (deeper_concurrents n) i) (Some k.For) (λ next _. refl)
+    (g_at _ (g_below _ n (λ m e. g_ident _ (g_some (λ _. g_then _ (range_gives m r f) (rest_gives i at (for_each p r) w cs ready l n m e) (λ next _. omega arith)))))))
+generate_ready i at (if_holds c) f w cs ready l n =
+    with_label n (deeper_concurrents n) i _ (spell_scheme at (if_holds c) ++ (some k.Generate ∷ (spell_word k.Begin w ++ (spelled_all cs ++ spell_end k.Generate l))))
+    (g_choose (labelled_by n (deeper_concurrents n) i) (Some k.If) (λ next _. refl)
+    (g_at _ (g_below _ n (λ m e. g_then _ (expr_gives m c f) (rest_gives i at (if_holds c) w cs ready l n m e) (λ next _. omega arith)))))
+
+-- ---- all statements
+
+list_of : Concurrents → List Concurrent
+list_of no_concurrents = []
+list_of (tree.concurrent c more) = c ∷ list_of more
+
+concurrents_of-list_of : (cs : Concurrents) → concurrents_of (list_of cs) ≡ cs
+unfolding list_of
+concurrents_of-list_of no_concurrents = refl
+concurrents_of-list_of (tree.concurrent c more) = ap (tree.concurrent c) (concurrents_of-list_of more)
+
+mutual
+  unfolding list_of
+
+  concurrent_ready : (c : Concurrent) → IsConcurrent c → Ready c
+  concurrent_ready (assignment a) f n = assignment_ready n (deeper_concurrents n) a.label a.target a.branches a.otherwise f.0 f.1
+  concurrent_ready (selected l s) f n = selected_ready n (deeper_concurrents n) l s f
+  concurrent_ready (process l p) f n = process_ready n (deeper_concurrents n) l p f
+  concurrent_ready (instance i x) f n = instance_ready n (deeper_concurrents n) i x.unit x.generics x.ports f
+  concurrent_ready (generated i at s w cs l) f n =
+      subst (λ x. Gives (concurrent n (deeper_concurrents n)) (generated i at s w x l) (spell_concurrent (generated i at s w x l)) Whatever) (concurrents_of-list_of cs)
+      (generate_ready i at s f.0 w (list_of cs) (all_ready cs f.1) l n)
+
+  all_ready : (cs : Concurrents) → AreConcurrents cs → IsEach Ready (list_of cs)
+  all_ready no_concurrents f = tt
+  all_ready (tree.concurrent c more) f = (concurrent_ready c f.0, all_ready more f.1)
+
+each_ready : (cs : List Concurrent) → IsEach IsConcurrent cs → IsEach Ready cs
+each_ready [] f = tt
+each_ready (c ∷ cs) f = (concurrent_ready c f.0, each_ready cs f.1)
+
+-- concurrent statements
+pub concurrents_gives : (n : ℕ) (cs : List Concurrent) → IsEach IsConcurrent cs → Gives (concurrents n) cs (spell_each spell_concurrent cs) EndsConcurrents
+concurrents_gives n cs f = concurrents_from cs (each_ready cs f) n
