@@ -2,7 +2,7 @@
 use Rattle.std.proofs.Common.{◌≡◌, ◌≢◌, ℕ, zero, suc, ◌+◌, ◌<◌, List, [], ◌∷◌, ◌++◌, map, length, get_or, slice_get, Option, Some, None, Result, Ok, Err, refl, ap, sym, ◌∙◌, arith}
 use Rattle.std.specs.Char.{to_ascii_lowercase}
 use Rattle.rtl_sink.specs.Written.{SinkState}
-use Rattle.vhdl_parser.specs.Tree as t
+use Rattle.vhdl_tree.specs.Tree as t
 use Rattle.rtlsim.specs.Design as d
 use Rattle.rtlsim.specs.NameRules.{Units, units_of}
 use Rattle.rtlsim.specs.Sources.{drivers, faults}

@@ -3,7 +3,7 @@ use Rattle.std.proofs.Common.{◌≡◌, ℕ, suc, ◌+◌, ◌<◌, Bool, true,
 use Rattle.std.specs.Prelude.{option_map, bytes_eq, is_none, if◌then◌else◌}
 use Rattle.std.proofs.Common.{◌++◌, true≢false}
 use Rattle.std.proofs.lemmas.List.{map-append}
-use Rattle.vhdl_parser.specs.Tree as i
+use Rattle.vhdl_tree.specs.Tree as i
 use Rattle.rtlsim.specs.NameRules.{declare, is_among, declare_label}
 use Rattle.std.specs.List.{list_any}
 use Rattle.std.specs.Prelude.{◌||◌, ◌&&◌}

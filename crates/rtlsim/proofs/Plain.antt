@@ -2,9 +2,9 @@
 use Rattle.std.proofs.Common.{◌≡◌, ℕ, zero, suc, ◌+◌, Bool, true, false, List, [], ◌∷◌, ◌++◌, slice_get, Option, Some, None, ◌⊎◌, inl, inr, refl, ap, sym, ◌∙◌, arith, subst}
 use Rattle.std.specs.Prelude.{option_map, bytes_eq, is_none, if◌then◌else◌}
 use Rattle.std.proofs.lemmas.Slice.Eq.{bytes_eq-Decides}
-use Rattle.vhdl_parser.specs.declared.tree.Mode.{Mode}
-use Rattle.vhdl_parser.specs.declared.tree.Mode.TheVariants.{In, Out}
-use Rattle.vhdl_parser.specs.Tree as t
+use Rattle.vhdl_tree.specs.declared.declaration.Mode.{Mode}
+use Rattle.vhdl_tree.specs.declared.declaration.Mode.TheVariants.{In, Out}
+use Rattle.vhdl_tree.specs.Tree as t
 use Rattle.rtlsim.specs.declared.names.context.Seen.{Seen}
 use Rattle.rtlsim.specs.Rules.{◌>>=◌, rule, in_turn}
 use Rattle.rtlsim.specs.Design.{Name, Port, Value, port, literal, inverse, binary, Equation, Design, port_from, port_named}

@@ -1,13 +1,13 @@
 -- Chains of operators, as contracts see them.
 use Rattle.std.proofs.Common.{◌≡◌, List, [], ◌∷◌, ◌++◌, map, Option, Some, None, Vec, Box, Global, refl, ap, ◌∙◌, sym, ℕ, suc, ◌<◌, length, get_or, drop, drop-cons}
 use mathlib.Core.Former.{Count}
-use Rattle.vhdl_parser.specs.Tree as t
-use Rattle.vhdl_parser.specs.View as s
-use Rattle.vhdl_parser.specs.declared.tree.Expr as e
-use Rattle.vhdl_parser.specs.declared.tree.Expr.{Expr}
-use Rattle.vhdl_parser.specs.declared.tree.Expr.TheBlock as b
-use Rattle.vhdl_parser.specs.declared.tree.Expr.TheVariants as ev
-use Rattle.vhdl_parser.specs.declared.tree.Link.{Link}
+use Rattle.vhdl_tree.specs.Tree as t
+use Rattle.vhdl_tree.specs.View as s
+use Rattle.vhdl_tree.specs.declared.expression.Expr as e
+use Rattle.vhdl_tree.specs.declared.expression.Expr.{Expr}
+use Rattle.vhdl_tree.specs.declared.expression.Expr.TheBlock as b
+use Rattle.vhdl_tree.specs.declared.expression.Expr.TheVariants as ev
+use Rattle.vhdl_tree.specs.declared.expression.Link.{Link}
 use Rattle.rtlsim.specs.declared.design.Value as v
 use Rattle.rtlsim.specs.declared.design.Value.{Value}
 use Rattle.rtlsim.specs.declared.design.Link as m

@@ -2,7 +2,7 @@
 use Rattle.std.specs.Prelude.{◌≡◌, ◌≢◌, ℕ, false, List, [], map, Option, Some, None, Result, Ok, Err}
 use Rattle.std.specs.Char.{to_ascii_lowercase}
 use Rattle.rtl_sink.specs.Written.{SinkState, IsIntact, HasFailed, TakesAll, TakesBeginning}
-use Rattle.vhdl_parser.specs.Tree as t
+use Rattle.vhdl_tree.specs.Tree as t
 use Rattle.rtlsim.specs.Design.{Name, Design}
 use Rattle.rtlsim.specs.NameRules.{Units, units_of}
 use Rattle.rtlsim.specs.Sources.{design_of, has_unresolved, faults}

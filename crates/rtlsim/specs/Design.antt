@@ -1,6 +1,6 @@
 -- A plain design: the ports of an entity, and the assignments of its architecture.
 use Rattle.std.specs.Prelude.{ℕ, suc, List, [], ◌∷◌, Option, Some, None, Bool, bytes_eq, if◌then◌else◌}
-use Rattle.vhdl_parser.specs.declared.tree.Mode.{Mode}
+use Rattle.vhdl_tree.specs.declared.declaration.Mode.{Mode}
 use Rattle.vhdl_values.specs.declared.scalar.Nine.{Nine}
 use Rattle.vhdl_values.specs.declared.kinds.Logic.{Logic}
 

@@ -1,6 +1,6 @@
 -- What finding a design answers.
 use Rattle.std.specs.Prelude.{ℕ, List, map, Result, Ok, Err}
-use Rattle.vhdl_parser.specs.Tree as t
+use Rattle.vhdl_tree.specs.Tree as t
 use Rattle.rtlsim.specs.Design.{Name}
 use Rattle.rtlsim.specs.Solution.{ArePlain}
 use Rattle.rtlsim.specs.Answer.{IsDesign, HasDesignFault}

@@ -1,7 +1,7 @@
 -- What `eval` answers, from the bytes of a source to the bytes that it writes.
 use Rattle.std.specs.Prelude.{◌≡◌, ℕ, List, Result, Ok, Err, ◌⊎◌}
 use Rattle.rtl_sink.specs.Written.{SinkState, Goes}
-use Rattle.vhdl_parser.specs.Tree as t
+use Rattle.vhdl_tree.specs.Tree as t
 use Rattle.rtlsim.specs.Answer.{IsDesign, HasDesignFault, RunAnswers}
 use Rattle.rtlsim.specs.Design.{Design}
 use Rattle.rtlsim.specs.DesignNames.{Names}

@@ -2,12 +2,12 @@
 -- or something stands that is no part of a plain design. Entities may stand in any order; an architecture stands after its entity.
 use Rattle.std.specs.Prelude.{◌≡◌, ℕ, ◌==◌, ◌&&◌, ◌||◌, Bool, true, false, not, if◌then◌else◌, List, [], ◌∷◌, ◌++◌, map, find, unwrap_or, Option, Some, None, is_none, option_map, bytes_eq, codes}
 use Rattle.std.specs.List.{list_any}
-use Rattle.vhdl_parser.specs.declared.tree.Mode.{Mode}
-use Rattle.vhdl_parser.specs.declared.tree.Mode.TheVariants.{In, Out}
-use Rattle.vhdl_parser.specs.declared.tree.Operator.{Operator}
-use Rattle.vhdl_parser.specs.declared.tree.Operator.TheVariants as o
-use Rattle.vhdl_parser.specs.Tree as t
-use Rattle.vhdl_parser.specs.Tree.{Ident, Expr}
+use Rattle.vhdl_tree.specs.declared.declaration.Mode.{Mode}
+use Rattle.vhdl_tree.specs.declared.declaration.Mode.TheVariants.{In, Out}
+use Rattle.vhdl_tree.specs.declared.operator.Operator.{Operator}
+use Rattle.vhdl_tree.specs.declared.operator.Operator.TheVariants as o
+use Rattle.vhdl_tree.specs.Tree as t
+use Rattle.vhdl_tree.specs.Tree.{Ident, Expr}
 use Rattle.vhdl_values.specs.declared.scalar.Nine.{Nine}
 use Rattle.vhdl_values.specs.declared.kinds.Logic.{Logic}
 use Rattle.vhdl_values.specs.declared.kinds.Logic.TheVariants as l

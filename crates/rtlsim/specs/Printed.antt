@@ -1,7 +1,7 @@
 -- What `eval` prints: for each out port in order of declaration a line NAME=VALUE.
 use Rattle.std.specs.Prelude.{ℕ, suc, List, [], ◌∷◌, ◌++◌, codes}
-use Rattle.vhdl_parser.specs.declared.tree.Mode.{Mode}
-use Rattle.vhdl_parser.specs.declared.tree.Mode.TheVariants.{In, Out}
+use Rattle.vhdl_tree.specs.declared.declaration.Mode.{Mode}
+use Rattle.vhdl_tree.specs.declared.declaration.Mode.TheVariants.{In, Out}
 use Rattle.vhdl_values.specs.declared.scalar.Nine.{Nine}
 use Rattle.vhdl_values.specs.Scalar.{letter_of}
 use Rattle.rtlsim.specs.Design.{Name, Port}

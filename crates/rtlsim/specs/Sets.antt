@@ -2,8 +2,8 @@
 use Rattle.std.specs.Prelude.{◌≡◌, ℕ, suc, ◌+◌, ◌==◌, ◌&&◌, ◌||◌, nat_le, Bool, true, false, not, if◌then◌else◌, List, [], ◌∷◌, length, map, take, drop, get_or, set, replicate, position, Option, Some, None, option_map, is_some, unwrap_or, Result, Ok, Err}
 use Rattle.std.specs.List.{list_all}
 use Rattle.std.specs.Char.{to_ascii_lowercase}
-use Rattle.vhdl_parser.specs.declared.tree.Mode.{Mode}
-use Rattle.vhdl_parser.specs.declared.tree.Mode.TheVariants.{In, Out}
+use Rattle.vhdl_tree.specs.declared.declaration.Mode.{Mode}
+use Rattle.vhdl_tree.specs.declared.declaration.Mode.TheVariants.{In, Out}
 use Rattle.vhdl_values.specs.declared.scalar.Nine.{Nine}
 use Rattle.vhdl_values.specs.declared.scalar.Nine.TheVariants.{U}
 use Rattle.vhdl_values.specs.Scalar.{value_of_letter}

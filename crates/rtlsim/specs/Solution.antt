@@ -1,6 +1,6 @@
 -- What a design's outputs are: a valuation of its ports that solves its equations.
 use Rattle.std.specs.Prelude.{◌≡◌, ℕ, suc, ◌<◌, List, [], ◌∷◌, length, Option, Some, None, slice_get}
-use Rattle.vhdl_parser.specs.declared.tree.Mode.TheVariants.{In, Out}
+use Rattle.vhdl_tree.specs.declared.declaration.Mode.TheVariants.{In, Out}
 use Rattle.vhdl_values.specs.declared.scalar.Nine.{Nine}
 use Rattle.vhdl_values.specs.declared.scalar.Nine.TheVariants.{U}
 use Rattle.vhdl_values.specs.Logic.{logic_of, not_of}

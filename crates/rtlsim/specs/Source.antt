@@ -4,13 +4,12 @@ use Rattle.vhdl_lexer.specs.Cut.{Cuts}
 use Rattle.vhdl_lexer.specs.Fault.{HasFault}
 use Rattle.vhdl_lexer.specs.declared.token.Token.{Token}
 use Rattle.vhdl_parser.specs.Fault.{IsRefusal, IsTooDeep}
-use Rattle.vhdl_parser.specs.Levels.{IsShallow, IsDeep}
-use Rattle.vhdl_parser.specs.Lexeme.{lexemes}
-use Rattle.vhdl_parser.specs.Pieces.{Spells}
-use Rattle.vhdl_parser.specs.Tree as t
-use Rattle.vhdl_parser.specs.grammar.Units.{spell_file, IsFile}
+use Rattle.vhdl_tree.specs.Levels.{IsShallow, IsDeep, most_open}
+use Rattle.vhdl_tree.specs.Lexeme.{lexemes}
+use Rattle.vhdl_tree.specs.Pieces.{Spells}
+use Rattle.vhdl_tree.specs.Tree as t
+use Rattle.vhdl_tree.specs.grammar.Units.{spell_file, IsFile}
 use Rattle.vhdl_parser.specs.declared.fault.SyntaxFault.{SyntaxFault}
-use Rattle.vhdl_parser.specs.declared.unit.TheConstants.{MAX_OPEN}
 use Rattle.rtlsim.specs.declared.faults.Fault.{Fault}
 use Rattle.rtlsim.specs.declared.faults.Fault.TheVariants.{Lex, Syntax, Memory}
 
@@ -26,14 +25,14 @@ pub record IsFileOf (source : List ℕ) (file : t.File) : Type 0 where
   pub spelled : SpellsTokens source tokens file
   pub well_formed : IsFile file
   pub only_file : (other : t.File) → IsFile other → SpellsTokens source tokens other → other ≡ file
-  pub shallow : IsShallow MAX_OPEN (lexemes source tokens)
+  pub shallow : IsShallow most_open (lexemes source tokens)
 
 -- no well-formed tree spells the tokens, or they are too deep
 pub record HasSyntaxFault (fault : SyntaxFault) (source : List ℕ) : Type 0 where
   pub tokens : List Token
   pub cut : Cuts None 0 source tokens
   pub refused : IsRefusal fault → (other : t.File) → IsFile other → SpellsTokens source tokens other → ⊥
-  pub deep : IsTooDeep fault → IsDeep MAX_OPEN (lexemes source tokens)
+  pub deep : IsTooDeep fault → IsDeep most_open (lexemes source tokens)
 
 -- why a source has no tree that is read
 abbrev pub HasSourceFault : Fault → List ℕ → Type 0

@@ -7,8 +7,8 @@ use Rattle.vhdl_values.specs.declared.kinds.Logic.{Logic}
 use Rattle.rtlsim.specs.Design as d
 use Rattle.rtlsim.specs.NameRules as n
 use Rattle.rtlsim.specs.Rules.{◌>>=◌}
-use Rattle.vhdl_parser.specs.declared.tree.Link as t
-use Rattle.vhdl_parser.specs.View.{view}
+use Rattle.vhdl_tree.specs.declared.expression.Link as t
+use Rattle.vhdl_tree.specs.View.{view}
 use Rattle.rtlsim.specs.declared.faults.names.NameFault.{NameFault}
 use Rattle.rtlsim.specs.declared.faults.names.NameFault.TheVariants.{NoMemory}
 use Rattle.rtlsim.specs.declared.design.Port.{Port}

@@ -1,7 +1,7 @@
 //! Plain designs: ports and equations.
 
 use indexmap::IndexMap;
-use vhdl_parser::Mode;
+use vhdl_tree::Mode;
 use vhdl_values::{Logic, Nine};
 
 /// A port of one element.

@@ -14,7 +14,7 @@ use crate::design::{Design, Equation, Link, Value};
 use crate::elaboration::{drivers_at, port_at};
 use crate::sources::Drivers;
 use rtl_sink::{Sink, push_text};
-use vhdl_parser::Mode;
+use vhdl_tree::Mode;
 use vhdl_values::Nine;
 
 /// The value of an input: what a word sets, else its default.

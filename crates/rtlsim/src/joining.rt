@@ -5,7 +5,7 @@ ghost use Rattle.rtl_sink.specs.Written.{IsIntact};
 ghost use Rattle.rtlsim.specs.Answer.{RunAnswers};
 ghost use Rattle.rtlsim.specs.Designed.{FindsDesign, IsPlain};
 ghost use Rattle.rtlsim.specs.Tables.{design_view};
-ghost use Rattle.vhdl_parser.specs.View.{file_view};
+ghost use Rattle.vhdl_tree.specs.View.{file_view};
 
 use crate::checker::{Verdict, check};
 use crate::design::Design;
@@ -16,7 +16,7 @@ use crate::names::units::analyse;
 use crate::stimulus::settings;
 use rtl_sink::{Sink, finish};
 use std::alloc::Global;
-use vhdl_parser::File;
+use vhdl_tree::File;
 
 /// The design of a top in a file.
 pub(crate) fn design_of_file(alloc: Global, file: &File, top: &[u8]) -> Result<Design, Fault>

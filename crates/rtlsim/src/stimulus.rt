@@ -10,7 +10,7 @@ use crate::elaboration::small_letters;
 use crate::faults::StimFault;
 use crate::names::region::port_named;
 use std::alloc::{AllocError, Global};
-use vhdl_parser::Mode;
+use vhdl_tree::Mode;
 use vhdl_values::Nine;
 
 /// Whether no blank and no control character stands in the word.

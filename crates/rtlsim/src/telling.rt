@@ -7,7 +7,7 @@ ghost use Rattle.rtlsim.specs.Designed.{IsPlain};
 ghost use Rattle.rtlsim.specs.Evaluates.{Evaluates, Tells};
 ghost use Rattle.rtlsim.specs.Source.{IsFileOf, HasSourceFault};
 ghost use Rattle.rtlsim.specs.Tables.{design_view};
-ghost use Rattle.vhdl_parser.specs.View.{file_view};
+ghost use Rattle.vhdl_tree.specs.View.{file_view};
 
 use crate::design::Design;
 use crate::faults::Fault;
@@ -16,7 +16,8 @@ use crate::lines::{NoDesign, push_fault};
 use rtl_sink::Sink;
 use std::alloc::Global;
 use vhdl_lexer::lex;
-use vhdl_parser::{File, parse};
+use vhdl_parser::parse;
+use vhdl_tree::File;
 
 /// Writes, for each out port of the top in order of declaration, the line `NAME=VALUE` with its value,
 /// settled under these inputs: `source` has the bytes of the file, `top` the name of an entity in it, in

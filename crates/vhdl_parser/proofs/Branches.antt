@@ -2,20 +2,20 @@
 use Rattle.std.proofs.Common.{◌≡◌, ℕ, zero, suc, ◌+◌, ◌≤◌, ◌<◌, Bool, true, false, List, [], ◌∷◌, ◌++◌, length, Ok, Option, Some, None, refl, sym, ap, ◌∙◌, subst, append_assoc, append-nil, length-append, arith}
 use Rattle.vhdl_lexer.specs.declared.token.Kind.{Kind}
 use Rattle.vhdl_lexer.specs.declared.token.Kind.TheVariants as k
-use Rattle.vhdl_parser.specs.Lexeme.{Lexeme, same_kind}
-use Rattle.vhdl_parser.specs.Tree.{Expr, Value, Branch}
-use Rattle.vhdl_parser.specs.Pieces.{Piece, some, spell_each, spell_option, IsEach, IsOption}
-use Rattle.vhdl_parser.specs.grammar.Expressions.{spell, spell_value, IsExpr, IsValue}
-use Rattle.vhdl_parser.specs.grammar.Concurrent.{spell_branch, spell_otherwise, spell_waveforms, IsBranch, AreWaveforms}
-use Rattle.vhdl_parser.specs.reader.Input.{Parser, and_then, expect, next_kind, is_kind}
+use Rattle.vhdl_tree.specs.Lexeme.{Lexeme, same_kind}
+use Rattle.vhdl_tree.specs.Tree.{Expr, Value, Branch}
+use Rattle.vhdl_tree.specs.Pieces.{Piece, some, spell_each, spell_option, IsEach, IsOption}
+use Rattle.vhdl_tree.specs.grammar.Expressions.{spell, spell_value, IsExpr, IsValue}
+use Rattle.vhdl_tree.specs.grammar.Concurrent.{spell_branch, spell_otherwise, spell_waveforms, IsBranch, AreWaveforms}
+use Rattle.vhdl_expressions.specs.reader.Input.{Parser, and_then, expect, next_kind, is_kind}
 use Rattle.vhdl_parser.specs.reader.Waves.{Waveforms, condition, Part, part, else_part, go_on, more_branches_from, more_branches, waves}
-use Rattle.vhdl_parser.proofs.Steps.{spells_length}
-use Rattle.vhdl_parser.proofs.Walks.{Rule, Walks, w_pure, w_then, w_last, w_rule}
-use Rattle.vhdl_parser.proofs.Rules.{w_some, w_test, option_rule}
-use Rattle.vhdl_parser.proofs.Gives.{Gives, front, g_pure, g_then, g_map, g_some, g_yes, g_no, option_gives}
-use Rattle.vhdl_parser.proofs.WalkExpressions.{w_before, expr_rule}
-use Rattle.vhdl_parser.proofs.WalkValues.{value_rule}
-use Rattle.vhdl_parser.proofs.GiveValues.{Ends, expr_gives, value_gives}
+use Rattle.vhdl_expressions.proofs.Steps.{spells_length}
+use Rattle.vhdl_expressions.proofs.Walks.{Rule, Walks, w_pure, w_then, w_last, w_rule}
+use Rattle.vhdl_expressions.proofs.Rules.{w_some, w_test, option_rule}
+use Rattle.vhdl_expressions.proofs.Gives.{Gives, front, g_pure, g_then, g_map, g_some, g_yes, g_no, option_gives}
+use Rattle.vhdl_expressions.proofs.WalkExpressions.{w_before, expr_rule}
+use Rattle.vhdl_expressions.proofs.WalkValues.{value_rule}
+use Rattle.vhdl_expressions.proofs.GiveValues.{Ends, expr_gives, value_gives}
 
 abbrev pub spell_whole : Waveforms → List Piece
 spell_whole w = spell_waveforms w.branches w.otherwise

@@ -2,19 +2,19 @@
 use Rattle.std.proofs.Common.{◌≡◌, ℕ, zero, suc, ◌+◌, ◌≤◌, Bool, true, false, List, [], ◌∷◌, ◌++◌, Ok, Err, Option, Some, None, refl, sym, ap, ◌∙◌, subst, append_assoc, append-nil, arith}
 use Rattle.vhdl_lexer.specs.declared.token.Kind.{Kind}
 use Rattle.vhdl_lexer.specs.declared.token.Kind.TheVariants as k
-use Rattle.vhdl_parser.specs.Lexeme.{Lexeme, same_kind}
-use Rattle.vhdl_parser.specs.Tree.{Ident, Statement, nothing, assigned, conditional, selection, loop, Conditionals, Otherwise, Alternatives, Sequential, Conditional, Alternative, statements_of, conditionals_of, alternatives_of, otherwise_of}
-use Rattle.vhdl_parser.specs.Pieces.{Piece, some, one_at, word_at, spell_ident, spell_option, spell_each, spell_list, IsAny, IsEach, IsList, IsOption}
-use Rattle.vhdl_parser.specs.Levels.{is_end, opening, closing}
-use Rattle.vhdl_parser.specs.grammar.Expressions.{spell, spell_range, spell_choices, IsExpr, IsRange, AreChoices}
-use Rattle.vhdl_parser.specs.grammar.Sequential.{spell_label, spell_end, spell_statement, spell_statements, spell_conditionals, spell_elsifs, spell_else, spell_alternatives, spell_sequential, IsStatement, AreStatements, AreBranches, AreElsifs, IsElse, AreCases, AreAlternatives}
-use Rattle.vhdl_parser.specs.reader.Input.{Parser, Outcome, and_then, expect, identifier, is_kind, optional, many, below}
-use Rattle.vhdl_parser.specs.reader.Expressions.{expr, range, choices}
+use Rattle.vhdl_tree.specs.Lexeme.{Lexeme, same_kind}
+use Rattle.vhdl_tree.specs.Tree.{Ident, Statement, nothing, assigned, conditional, selection, loop, Conditionals, Otherwise, Alternatives, Sequential, Conditional, Alternative, statements_of, conditionals_of, alternatives_of, otherwise_of}
+use Rattle.vhdl_tree.specs.Pieces.{Piece, some, one_at, word_at, spell_ident, spell_option, spell_each, spell_list, IsAny, IsEach, IsList, IsOption}
+use Rattle.vhdl_tree.specs.Levels.{is_end, opening, closing}
+use Rattle.vhdl_tree.specs.grammar.Expressions.{spell, spell_range, spell_choices, IsExpr, IsRange, AreChoices}
+use Rattle.vhdl_tree.specs.grammar.Sequential.{spell_label, spell_end, spell_statement, spell_statements, spell_conditionals, spell_elsifs, spell_else, spell_alternatives, spell_sequential, IsStatement, AreStatements, AreBranches, AreElsifs, IsElse, AreCases, AreAlternatives}
+use Rattle.vhdl_expressions.specs.reader.Input.{Parser, Outcome, and_then, expect, identifier, is_kind, optional, many, below}
+use Rattle.vhdl_expressions.specs.reader.Expressions.{expr, range, choices}
 use Rattle.vhdl_parser.specs.reader.Sequential.{label, optional_label, null_statement, assign, end_of, begins_sequential, condition, elsif, branches, else_part, if_rest, alternative_part, next_alternative, alternatives, case_rest, for_rest, if_statement, case_statement, for_statement, statement_by, statement_of, sequential, statements_with, deeper, statements}
-use Rattle.vhdl_parser.proofs.Walks.{Walks, Rule, w_pure, w_then, w_last}
-use Rattle.vhdl_parser.proofs.Rules.{w_take, w_at, w_some, w_end, w_ident, w_option_ident, w_refuse, w_choose, w_inner, w_below, under, under_none, option_rule, each_rule, list_rule}
-use Rattle.vhdl_parser.proofs.WalkExpressions.{w_ends, w_before, expr_rule, a_name_rule}
-use Rattle.vhdl_parser.proofs.WalkValues.{w_by, range_rule, value_rule, choices_rule}
+use Rattle.vhdl_expressions.proofs.Walks.{Walks, Rule, w_pure, w_then, w_last}
+use Rattle.vhdl_expressions.proofs.Rules.{w_take, w_at, w_some, w_end, w_ident, w_option_ident, w_refuse, w_choose, w_inner, w_below, under, under_none, option_rule, each_rule, list_rule}
+use Rattle.vhdl_expressions.proofs.WalkExpressions.{w_ends, w_before, expr_rule, a_name_rule}
+use Rattle.vhdl_expressions.proofs.WalkValues.{w_by, range_rule, value_rule, choices_rule}
 
 -- ---- words that open and close levels
 

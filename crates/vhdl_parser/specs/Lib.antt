@@ -1,9 +1,2 @@
-pub mod Lexeme
-pub mod Tree
-pub mod View
-pub mod Pieces
-pub mod Levels
 pub mod Fault
-pub mod Cursor
-pub mod grammar
 pub mod reader

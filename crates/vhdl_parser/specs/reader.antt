@@ -1,6 +1,4 @@
 -- How the parser reads: the grammar as functions of the tokens ahead. What a user relies on stands in `grammar`.
-pub mod Input
-pub mod Expressions
 pub mod Sequential
 pub mod Process
 pub mod Instance

@@ -1,36 +1,17 @@
 //! Concurrent statements.
 
 ghost use Rattle.std.specs.Prelude.{◌≡◌};
-ghost use Rattle.vhdl_parser.specs.Tree.{generated, concurrents_of};
-ghost use Rattle.vhdl_parser.specs.View.{ident_view, option_ident_view, scheme_view, assignment_view, concurrent_view, concurrents_view};
+ghost use Rattle.vhdl_tree.specs.View.{ident_view, option_ident_view, scheme_view, assignment_view, concurrent_view, concurrents_view};
 ghost use Rattle.vhdl_parser.specs.reader.Concurrent as read;
-ghost use Rattle.vhdl_parser.specs.reader.Input.{Reads};
+ghost use Rattle.vhdl_expressions.specs.reader.Input.{Reads};
 
-use crate::fault::Stop;
-use crate::parser::{Parser, below};
-use crate::tree::{Assignment, Concurrent, Generate, Identifier, Scheme};
+use crate::instance::instance;
+use crate::process::{process, selected_assignment};
+use crate::sequential::{end_of, optional_label};
+use crate::waves::waves;
+use vhdl_expressions::{Parser, Stop, below};
 use vhdl_lexer::Kind;
-
-fn generated(
-    label: Identifier,
-    at: usize,
-    scheme: Scheme,
-    begin_word: bool,
-    statements: Vec<Concurrent>,
-    end_label: Option<Identifier>,
-) -> Concurrent
-    ensures { concurrent_view result
-        ≡ generated (ident_view label) at (scheme_view scheme) begin_word (concurrents_of (concurrents_view statements)) (option_ident_view end_label) }
-{
-    Concurrent::Generate(Generate {
-        label,
-        at,
-        scheme,
-        begin_word,
-        statements,
-        end_label,
-    })
-}
+use vhdl_tree::{Assignment, Concurrent, Identifier, Scheme};
 
 fn begins_concurrent(kind: Option<Kind>) -> bool
     ensures { result ≡ read.begins_concurrent kind }
@@ -43,146 +24,156 @@ fn begins_concurrent(kind: Option<Kind>) -> bool
     }
 }
 
-impl Parser<'_> {
-    #[tactic(auto, unfolding(crate::specs::reader::Concurrent::assign))]
-    fn assignment(&mut self, levels: usize, label: Option<Identifier>) -> Result<Assignment, Stop>
-        ensures { Reads assignment_view (read.assign levels (option_ident_view label) self.old) result self.new }
-    {
-        let target = self.name(levels)?;
-        self.expect(Kind::LessEqual)?;
-        let (branches, otherwise) = self.waves(levels)?;
-        self.expect(Kind::Semicolon)?;
-        Ok(Assignment {
-            label,
-            target,
-            branches,
-            otherwise,
-        })
-    }
+#[tactic(auto, unfolding(crate::specs::reader::Concurrent::assign))]
+fn assignment(
+    parser: &mut Parser<'_>,
+    levels: usize,
+    label: Option<Identifier>,
+) -> Result<Assignment, Stop>
+    ensures { Reads assignment_view (read.assign levels (option_ident_view label) parser.old) result parser.new }
+{
+    let target = parser.name(levels)?;
+    parser.expect(Kind::LessEqual)?;
+    let (branches, otherwise) = waves(parser, levels)?;
+    parser.expect(Kind::Semicolon)?;
+    Ok(Assignment {
+        label,
+        target,
+        branches,
+        otherwise,
+    })
+}
 
-    /// Whether a component's name comes next, and no target.
-    fn sees_component(&self) -> bool
-        ensures { result ≡ read.sees_component self.now }
-    {
-        self.sees_both(Kind::Identifier, Kind::Generic)
-            || self.sees_both(Kind::Identifier, Kind::Port)
-            || self.sees_both(Kind::Identifier, Kind::Semicolon)
-    }
+/// Whether a component's name comes next, and no target.
+fn sees_component(parser: &Parser<'_>) -> bool
+    ensures { result ≡ read.sees_component parser.now }
+{
+    parser.sees_both(Kind::Identifier, Kind::Generic)
+        || parser.sees_both(Kind::Identifier, Kind::Port)
+        || parser.sees_both(Kind::Identifier, Kind::Semicolon)
+}
 
-    #[tactic(auto, unfolding(crate::specs::reader::Concurrent::named_with))]
-    fn instance_or_assignment(
-        &mut self,
-        levels: usize,
-        label: Identifier,
-    ) -> Result<Concurrent, Stop>
-        ensures { Reads concurrent_view (read.named_with levels (ident_view label) self.old) result self.new }
-    {
-        if self.sees_component() {
-            Ok(Concurrent::Instance(label, self.instance(levels)?))
-        } else {
-            Ok(Concurrent::Assignment(self.assignment(levels, Some(label))?))
+#[tactic(auto, unfolding(crate::specs::reader::Concurrent::named_with))]
+fn instance_or_assignment(
+    parser: &mut Parser<'_>,
+    levels: usize,
+    label: Identifier,
+) -> Result<Concurrent, Stop>
+    ensures { Reads concurrent_view (read.named_with levels (ident_view label) parser.old) result parser.new }
+{
+    if sees_component(parser) {
+        Ok(Concurrent::Instance(label, instance(parser, levels)?))
+    } else {
+        Ok(Concurrent::Assignment(assignment(parser, levels, Some(label))?))
+    }
+}
+
+#[tactic(auto, unfolding(crate::specs::reader::Concurrent::unlabelled))]
+fn unlabelled(parser: &mut Parser<'_>, levels: usize) -> Result<Concurrent, Stop>
+    ensures { Reads concurrent_view (read.unlabelled levels parser.old) result parser.new }
+{
+    match parser.peek() {
+        Some(Kind::With) => Ok(Concurrent::Selected(None, selected_assignment(parser, levels)?)),
+        Some(Kind::Process) => Ok(Concurrent::Process(None, process(parser, levels)?)),
+        Some(Kind::Identifier) => Ok(Concurrent::Assignment(assignment(parser, levels, None)?)),
+        _ => Err(parser.refuse()),
+    }
+}
+
+/// Concurrent statements, in which so many levels may be open.
+#[cycle(concurrent)]
+#[tactic(auto, unfolding(crate::specs::reader::Concurrent::concurrents_with))]
+pub fn concurrents(parser: &mut Parser<'_>, levels: usize) -> Result<Vec<Concurrent>, Stop>
+    ensures { Reads concurrents_view (read.concurrents levels parser.old) result parser.new }
+{
+    let mut found = Vec::new(parser.alloc);
+    for _turn in 0..parser.left() {
+        if !begins_concurrent(parser.peek()) {
+            return Ok(found);
         }
+        found.push(concurrent(parser, levels)?)?;
     }
+    Ok(found)
+}
 
-    #[tactic(auto, unfolding(crate::specs::reader::Concurrent::unlabelled))]
-    fn unlabelled(&mut self, levels: usize) -> Result<Concurrent, Stop>
-        ensures { Reads concurrent_view (read.unlabelled levels self.old) result self.new }
-    {
-        match self.peek() {
-            Some(Kind::With) => Ok(Concurrent::Selected(None, self.selected_assignment(levels)?)),
-            Some(Kind::Process) => Ok(Concurrent::Process(None, self.process(levels)?)),
-            Some(Kind::Identifier) => Ok(Concurrent::Assignment(self.assignment(levels, None)?)),
-            _ => Err(self.refuse()),
-        }
+#[cycle(concurrent)]
+#[tactic(auto, unfolding(crate::specs::reader::Concurrent::concurrent))]
+fn concurrent(parser: &mut Parser<'_>, levels: usize) -> Result<Concurrent, Stop>
+    ensures { Reads concurrent_view (read.concurrent levels (read.deeper_concurrents levels) parser.old) result parser.new }
+{
+    match optional_label(parser)? {
+        None => unlabelled(parser, levels),
+        Some(label) => labelled(parser, levels, label),
     }
+}
 
-    /// Concurrent statements, in which so many levels may be open.
-    #[cycle(concurrent)]
-    #[tactic(auto, unfolding(crate::specs::reader::Concurrent::concurrents_with))]
-    pub fn concurrents(&mut self, levels: usize) -> Result<Vec<Concurrent>, Stop>
-        ensures { Reads concurrents_view (read.concurrents levels self.old) result self.new }
-    {
-        let mut found = Vec::new(self.alloc);
-        for _turn in 0..self.left() {
-            if !begins_concurrent(self.peek()) {
-                return Ok(found);
-            }
-            found.push(self.concurrent(levels)?)?;
-        }
-        Ok(found)
+#[cycle(concurrent)]
+#[tactic(auto, unfolding(crate::specs::reader::Concurrent::labelled))]
+fn labelled(parser: &mut Parser<'_>, levels: usize, label: Identifier) -> Result<Concurrent, Stop>
+    ensures { Reads concurrent_view (read.labelled levels (read.deeper_concurrents levels) (ident_view label) parser.old) result parser.new }
+{
+    match parser.peek() {
+        Some(Kind::With) => Ok(Concurrent::Selected(
+            Some(label),
+            selected_assignment(parser, levels)?,
+        )),
+        Some(Kind::Process) => Ok(Concurrent::Process(Some(label), process(parser, levels)?)),
+        Some(Kind::Entity) => Ok(Concurrent::Instance(label, instance(parser, levels)?)),
+        Some(Kind::Component) => Ok(Concurrent::Instance(label, instance(parser, levels)?)),
+        Some(Kind::For) => for_generate(parser, levels, label),
+        Some(Kind::If) => if_generate(parser, levels, label),
+        Some(Kind::Identifier) => instance_or_assignment(parser, levels, label),
+        _ => Err(parser.refuse()),
     }
+}
 
-    #[cycle(concurrent)]
-    #[tactic(auto, unfolding(crate::specs::reader::Concurrent::concurrent))]
-    fn concurrent(&mut self, levels: usize) -> Result<Concurrent, Stop>
-        ensures { Reads concurrent_view (read.concurrent levels (read.deeper_concurrents levels) self.old) result self.new }
-    {
-        match self.optional_label()? {
-            None => self.unlabelled(levels),
-            Some(label) => self.labelled(levels, label),
-        }
-    }
+#[cycle(concurrent)]
+#[tactic(auto, unfolding(crate::specs::reader::Concurrent::for_generate))]
+fn for_generate(
+    parser: &mut Parser<'_>,
+    levels: usize,
+    label: Identifier,
+) -> Result<Concurrent, Stop>
+    ensures { Reads concurrent_view (read.for_generate levels (read.deeper_concurrents levels) (ident_view label) parser.old) result parser.new }
+{
+    let at = parser.expect(Kind::For)?;
+    let inner = below(levels)?;
+    let parameter = parser.identifier()?;
+    parser.expect(Kind::In)?;
+    let range = parser.range(inner)?;
+    generate_rest(parser, inner, label, at, Scheme::For(parameter, range))
+}
 
-    #[cycle(concurrent)]
-    #[tactic(auto, unfolding(crate::specs::reader::Concurrent::labelled))]
-    fn labelled(&mut self, levels: usize, label: Identifier) -> Result<Concurrent, Stop>
-        ensures { Reads concurrent_view (read.labelled levels (read.deeper_concurrents levels) (ident_view label) self.old) result self.new }
-    {
-        match self.peek() {
-            Some(Kind::With) => Ok(Concurrent::Selected(
-                Some(label),
-                self.selected_assignment(levels)?,
-            )),
-            Some(Kind::Process) => Ok(Concurrent::Process(Some(label), self.process(levels)?)),
-            Some(Kind::Entity) => Ok(Concurrent::Instance(label, self.instance(levels)?)),
-            Some(Kind::Component) => Ok(Concurrent::Instance(label, self.instance(levels)?)),
-            Some(Kind::For) => self.for_generate(levels, label),
-            Some(Kind::If) => self.if_generate(levels, label),
-            Some(Kind::Identifier) => self.instance_or_assignment(levels, label),
-            _ => Err(self.refuse()),
-        }
-    }
+#[cycle(concurrent)]
+#[tactic(auto, unfolding(crate::specs::reader::Concurrent::if_generate))]
+fn if_generate(
+    parser: &mut Parser<'_>,
+    levels: usize,
+    label: Identifier,
+) -> Result<Concurrent, Stop>
+    ensures { Reads concurrent_view (read.if_generate levels (read.deeper_concurrents levels) (ident_view label) parser.old) result parser.new }
+{
+    let at = parser.expect(Kind::If)?;
+    let inner = below(levels)?;
+    let condition = parser.expr(inner)?;
+    generate_rest(parser, inner, label, at, Scheme::If(condition))
+}
 
-    #[cycle(concurrent)]
-    #[tactic(auto, unfolding(crate::specs::reader::Concurrent::for_generate))]
-    fn for_generate(&mut self, levels: usize, label: Identifier) -> Result<Concurrent, Stop>
-        ensures { Reads concurrent_view (read.for_generate levels (read.deeper_concurrents levels) (ident_view label) self.old) result self.new }
-    {
-        let at = self.expect(Kind::For)?;
-        let inner = below(levels)?;
-        let parameter = self.identifier()?;
-        self.expect(Kind::In)?;
-        let range = self.range(inner)?;
-        self.generate_rest(inner, label, at, Scheme::For(parameter, range))
-    }
-
-    #[cycle(concurrent)]
-    #[tactic(auto, unfolding(crate::specs::reader::Concurrent::if_generate))]
-    fn if_generate(&mut self, levels: usize, label: Identifier) -> Result<Concurrent, Stop>
-        ensures { Reads concurrent_view (read.if_generate levels (read.deeper_concurrents levels) (ident_view label) self.old) result self.new }
-    {
-        let at = self.expect(Kind::If)?;
-        let inner = below(levels)?;
-        let condition = self.expr(inner)?;
-        self.generate_rest(inner, label, at, Scheme::If(condition))
-    }
-
-    /// What follows the scheme of a generate statement, whose statements may open so many levels.
-    #[cycle(concurrent)]
-    #[tactic(auto, unfolding(crate::specs::reader::Concurrent::generate_rest))]
-    fn generate_rest(
-        &mut self,
-        levels: usize,
-        label: Identifier,
-        at: usize,
-        scheme: Scheme,
-    ) -> Result<Concurrent, Stop>
-        ensures { Reads concurrent_view (read.generate_rest (read.concurrents levels) (ident_view label) at (scheme_view scheme) self.old) result self.new }
-    {
-        self.expect(Kind::Generate)?;
-        let begin_word = self.eat(Kind::Begin)?;
-        let statements = self.concurrents(levels)?;
-        let end_label = self.end_of(Kind::Generate)?;
-        Ok(generated(label, at, scheme, begin_word, statements, end_label))
-    }
+/// What follows the scheme of a generate statement, whose statements may open so many levels.
+#[cycle(concurrent)]
+#[tactic(auto, unfolding(crate::specs::reader::Concurrent::generate_rest))]
+fn generate_rest(
+    parser: &mut Parser<'_>,
+    levels: usize,
+    label: Identifier,
+    at: usize,
+    scheme: Scheme,
+) -> Result<Concurrent, Stop>
+    ensures { Reads concurrent_view (read.generate_rest (read.concurrents levels) (ident_view label) at (scheme_view scheme) parser.old) result parser.new }
+{
+    parser.expect(Kind::Generate)?;
+    let begin_word = parser.eat(Kind::Begin)?;
+    let statements = concurrents(parser, levels)?;
+    let end_label = end_of(parser, Kind::Generate)?;
+    Ok(Concurrent::generated(label, at, scheme, begin_word, statements, end_label))
 }

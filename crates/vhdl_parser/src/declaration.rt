@@ -1,123 +1,123 @@
 //! Declarations of an architecture.
 
 ghost use Rattle.std.specs.Prelude.{◌≡◌};
-ghost use Rattle.vhdl_parser.specs.View.{signals_view, constants_view, enumeration_view, component_view, declaration_view, declarations_view};
+ghost use Rattle.vhdl_tree.specs.View.{signals_view, constants_view, enumeration_view, component_view, declaration_view, declarations_view};
 ghost use Rattle.vhdl_parser.specs.reader.Declarations as read;
-ghost use Rattle.vhdl_parser.specs.reader.Input as input;
-ghost use Rattle.vhdl_parser.specs.reader.Input.{Reads};
+ghost use Rattle.vhdl_expressions.specs.reader.Input as input;
+ghost use Rattle.vhdl_expressions.specs.reader.Input.{Reads};
 
-use crate::fault::Stop;
-use crate::parser::{Parser, below};
-use crate::tree::{Component, Constants, Declaration, Enumeration, Signals};
+use crate::interface::{
+    end_name, identifiers, optional_default, optional_generics, optional_ports, subtype,
+};
+use vhdl_expressions::{Parser, Stop, below};
 use vhdl_lexer::Kind;
+use vhdl_tree::{Component, Constants, Declaration, Enumeration, Signals};
 
-impl Parser<'_> {
-    #[tactic(auto, unfolding(crate::specs::reader::Declarations::signals_of))]
-    fn signals(&mut self, levels: usize) -> Result<Signals, Stop>
-        ensures { Reads signals_view (read.signals_of levels self.old) result self.new }
-    {
-        self.expect(Kind::Signal)?;
-        let names = self.identifiers()?;
-        self.expect(Kind::Colon)?;
-        let subtype = self.subtype(levels)?;
-        let default = self.optional_default(levels)?;
-        self.expect(Kind::Semicolon)?;
-        Ok(Signals {
-            names,
-            subtype,
-            default,
-        })
+#[tactic(auto, unfolding(crate::specs::reader::Declarations::signals_of))]
+fn signals(parser: &mut Parser<'_>, levels: usize) -> Result<Signals, Stop>
+    ensures { Reads signals_view (read.signals_of levels parser.old) result parser.new }
+{
+    parser.expect(Kind::Signal)?;
+    let names = identifiers(parser)?;
+    parser.expect(Kind::Colon)?;
+    let subtype = subtype(parser, levels)?;
+    let default = optional_default(parser, levels)?;
+    parser.expect(Kind::Semicolon)?;
+    Ok(Signals {
+        names,
+        subtype,
+        default,
+    })
+}
+
+#[tactic(auto, unfolding(crate::specs::reader::Declarations::constants_of))]
+fn constants(parser: &mut Parser<'_>, levels: usize) -> Result<Constants, Stop>
+    ensures { Reads constants_view (read.constants_of levels parser.old) result parser.new }
+{
+    parser.expect(Kind::Constant)?;
+    let names = identifiers(parser)?;
+    parser.expect(Kind::Colon)?;
+    let subtype = subtype(parser, levels)?;
+    parser.expect(Kind::Assign)?;
+    let value = parser.value(levels)?;
+    parser.expect(Kind::Semicolon)?;
+    Ok(Constants {
+        names,
+        subtype,
+        value,
+    })
+}
+
+#[tactic(auto, unfolding(crate::specs::reader::Declarations::enumeration_of))]
+fn enumeration(parser: &mut Parser<'_>, levels: usize) -> Result<Enumeration, Stop>
+    ensures { Reads enumeration_view (read.enumeration_of levels parser.old) result parser.new }
+{
+    parser.expect(Kind::Type)?;
+    let name = parser.identifier()?;
+    parser.expect(Kind::Is)?;
+    parser.expect(Kind::LeftParen)?;
+    below(levels)?;
+    let literals = identifiers(parser)?;
+    parser.expect(Kind::RightParen)?;
+    parser.expect(Kind::Semicolon)?;
+    Ok(Enumeration { name, literals })
+}
+
+#[tactic(auto, unfolding(crate::specs::reader::Declarations::component_of))]
+fn component(parser: &mut Parser<'_>, levels: usize) -> Result<Component, Stop>
+    ensures { Reads component_view (read.component_of levels parser.old) result parser.new }
+{
+    parser.expect(Kind::Component)?;
+    let name = parser.identifier()?;
+    let is_word = parser.eat(Kind::Is)?;
+    let generics = optional_generics(parser, levels)?;
+    let ports = optional_ports(parser, levels)?;
+    parser.expect(Kind::End)?;
+    parser.expect(Kind::Component)?;
+    let end_name = end_name(parser)?;
+    parser.expect(Kind::Semicolon)?;
+    Ok(Component {
+        name,
+        is_word,
+        generics,
+        ports,
+        end_name,
+    })
+}
+
+#[tactic(auto, unfolding(crate::specs::reader::Declarations::declaration))]
+fn declaration(parser: &mut Parser<'_>, levels: usize) -> Result<Declaration, Stop>
+    ensures { Reads declaration_view (read.declaration levels parser.old) result parser.new }
+{
+    match parser.peek() {
+        Some(Kind::Signal) => Ok(Declaration::Signals(signals(parser, levels)?)),
+        Some(Kind::Constant) => Ok(Declaration::Constants(constants(parser, levels)?)),
+        Some(Kind::Type) => Ok(Declaration::Enumeration(enumeration(parser, levels)?)),
+        Some(Kind::Component) => Ok(Declaration::Component(component(parser, levels)?)),
+        _ => Err(parser.refuse()),
     }
+}
 
-    #[tactic(auto, unfolding(crate::specs::reader::Declarations::constants_of))]
-    fn constants(&mut self, levels: usize) -> Result<Constants, Stop>
-        ensures { Reads constants_view (read.constants_of levels self.old) result self.new }
-    {
-        self.expect(Kind::Constant)?;
-        let names = self.identifiers()?;
-        self.expect(Kind::Colon)?;
-        let subtype = self.subtype(levels)?;
-        self.expect(Kind::Assign)?;
-        let value = self.value(levels)?;
-        self.expect(Kind::Semicolon)?;
-        Ok(Constants {
-            names,
-            subtype,
-            value,
-        })
+fn begins_declaration(parser: &Parser<'_>) -> bool
+    ensures { result ≡ read.begins_declaration (input.next_kind parser.now) }
+{
+    match parser.peek() {
+        Some(Kind::Signal) | Some(Kind::Constant) | Some(Kind::Type) | Some(Kind::Component) =>
+            true,
+        _ => false,
     }
+}
 
-    #[tactic(auto, unfolding(crate::specs::reader::Declarations::enumeration_of))]
-    fn enumeration(&mut self, levels: usize) -> Result<Enumeration, Stop>
-        ensures { Reads enumeration_view (read.enumeration_of levels self.old) result self.new }
-    {
-        self.expect(Kind::Type)?;
-        let name = self.identifier()?;
-        self.expect(Kind::Is)?;
-        self.expect(Kind::LeftParen)?;
-        below(levels)?;
-        let literals = self.identifiers()?;
-        self.expect(Kind::RightParen)?;
-        self.expect(Kind::Semicolon)?;
-        Ok(Enumeration { name, literals })
-    }
-
-    #[tactic(auto, unfolding(crate::specs::reader::Declarations::component_of))]
-    fn component(&mut self, levels: usize) -> Result<Component, Stop>
-        ensures { Reads component_view (read.component_of levels self.old) result self.new }
-    {
-        self.expect(Kind::Component)?;
-        let name = self.identifier()?;
-        let is_word = self.eat(Kind::Is)?;
-        let generics = self.optional_generics(levels)?;
-        let ports = self.optional_ports(levels)?;
-        self.expect(Kind::End)?;
-        self.expect(Kind::Component)?;
-        let end_name = self.end_name()?;
-        self.expect(Kind::Semicolon)?;
-        Ok(Component {
-            name,
-            is_word,
-            generics,
-            ports,
-            end_name,
-        })
-    }
-
-    #[tactic(auto, unfolding(crate::specs::reader::Declarations::declaration))]
-    fn declaration(&mut self, levels: usize) -> Result<Declaration, Stop>
-        ensures { Reads declaration_view (read.declaration levels self.old) result self.new }
-    {
-        match self.peek() {
-            Some(Kind::Signal) => Ok(Declaration::Signals(self.signals(levels)?)),
-            Some(Kind::Constant) => Ok(Declaration::Constants(self.constants(levels)?)),
-            Some(Kind::Type) => Ok(Declaration::Enumeration(self.enumeration(levels)?)),
-            Some(Kind::Component) => Ok(Declaration::Component(self.component(levels)?)),
-            _ => Err(self.refuse()),
+/// The declarations of an architecture, in which so many levels may be open.
+pub fn declarations(parser: &mut Parser<'_>, levels: usize) -> Result<Vec<Declaration>, Stop>
+    ensures { Reads declarations_view (read.declarations levels parser.old) result parser.new }
+{
+    let mut found = Vec::new(parser.alloc);
+    for _turn in 0..parser.left() {
+        if !begins_declaration(parser) {
+            return Ok(found);
         }
+        found.push(declaration(parser, levels)?)?;
     }
-
-    fn begins_declaration(&self) -> bool
-        ensures { result ≡ read.begins_declaration (input.next_kind self.now) }
-    {
-        match self.peek() {
-            Some(Kind::Signal) | Some(Kind::Constant) | Some(Kind::Type) | Some(Kind::Component) =>
-                true,
-            _ => false,
-        }
-    }
-
-    /// The declarations of an architecture, in which so many levels may be open.
-    pub fn declarations(&mut self, levels: usize) -> Result<Vec<Declaration>, Stop>
-        ensures { Reads declarations_view (read.declarations levels self.old) result self.new }
-    {
-        let mut found = Vec::new(self.alloc);
-        for _turn in 0..self.left() {
-            if !self.begins_declaration() {
-                return Ok(found);
-            }
-            found.push(self.declaration(levels)?)?;
-        }
-        Ok(found)
-    }
+    Ok(found)
 }

@@ -2,35 +2,8 @@
 
 ghost use Rattle.std.specs.Prelude.{◌≡◌, ℕ, Option};
 ghost use Rattle.vhdl_parser.specs.Fault.{fault_number, fault_byte};
-ghost use Rattle.vhdl_parser.specs.declared.fault.Stop.TheVariants.{NoMemory};
 
-use std::alloc::{AllocError, AllocFailed};
 use thiserror::Error;
-
-/// Why the parser stopped. The token that it met is the next one.
-#[derive(Clone, Copy, Debug, PartialEq, Eq)]
-pub enum Stop {
-    Unexpected,
-    EndOfFile,
-    TooDeep,
-    NoMemory,
-}
-
-impl From<AllocError> for Stop {
-    ghost from_gives = { λ _ e. e ≡ NoMemory };
-
-    fn from(_e: AllocError) -> Stop {
-        Stop::NoMemory
-    }
-}
-
-impl<T: Drop> From<AllocFailed<T>> for Stop {
-    ghost from_gives = { λ _ e. e ≡ NoMemory };
-
-    fn from(_e: AllocFailed<T>) -> Stop {
-        Stop::NoMemory
-    }
-}
 
 /// Why tokens are no file. `at` is a byte of the source, counted from 0, and never above the
 /// source's length: where the token starts at which the reading stopped, or the source's length

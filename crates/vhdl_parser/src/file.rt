@@ -3,19 +3,20 @@
 ghost use Rattle.std.specs.Prelude.{◌≡◌, ◌≢◌, ◌≤◌, [], length, IfOk, IfErr, IfSome, OnOk};
 ghost use Rattle.vhdl_lexer.specs.Cut.{AreWithin};
 ghost use Rattle.vhdl_parser.specs.Fault.{IsRefusal, IsTooDeep, fault_byte};
-ghost use Rattle.vhdl_parser.specs.Levels.{IsShallow, IsDeep, most_open};
-ghost use Rattle.vhdl_parser.specs.Lexeme.{lexemes};
-ghost use Rattle.vhdl_parser.specs.Pieces.{Spells};
-ghost use Rattle.vhdl_parser.specs.Tree as tree;
-ghost use Rattle.vhdl_parser.specs.View.{file_view};
-ghost use Rattle.vhdl_parser.specs.declared.fault.Stop.TheVariants as s;
-ghost use Rattle.vhdl_parser.specs.grammar.Units.{spell_file, IsFile};
+ghost use Rattle.vhdl_tree.specs.Levels.{IsShallow, IsDeep, most_open};
+ghost use Rattle.vhdl_tree.specs.Lexeme.{lexemes};
+ghost use Rattle.vhdl_tree.specs.Pieces.{Spells};
+ghost use Rattle.vhdl_tree.specs.Tree as tree;
+ghost use Rattle.vhdl_tree.specs.View.{file_view};
+ghost use Rattle.vhdl_expressions.specs.declared.stop.Stop.TheVariants as s;
+ghost use Rattle.vhdl_tree.specs.grammar.Units.{spell_file, IsFile};
 
-use crate::fault::{Stop, SyntaxFault};
-use crate::parser::Parser;
-use crate::tree::File;
+use crate::fault::SyntaxFault;
+use crate::unit::file;
 use std::alloc::Global;
+use vhdl_expressions::{Parser, Stop};
 use vhdl_lexer::Token;
+use vhdl_tree::File;
 
 /// The tree that the tokens of a source spell, by the grammar of docs/LANGUAGE.md.
 ///
@@ -46,7 +47,7 @@ pub fn parse(alloc: Global, source: &[u8], tokens: &[Token]) -> Result<File, Syn
     ensures placed { IfErr result (λ e. IfSome (fault_byte e) (λ at. at ≤ length source.now)) }
 {
     let mut parser = Parser::new(alloc, source, tokens);
-    match parser.file() {
+    match file(&mut parser) {
         Ok(file) => Ok(file),
         Err(stop) => {
             let met = tokens.len().saturating_sub(parser.left());

@@ -3,6 +3,7 @@
 use crate::*;
 use std::test::Fail;
 use vhdl_lexer::lex;
+use vhdl_tree::*;
 
 /// The number of the fault that a source has, 0 for a file.
 fn number_of(rt: &HostRuntime, source: &[u8]) -> u8 {

@@ -2,215 +2,215 @@
 
 ghost use Rattle.std.specs.Prelude.{◌≡◌};
 ghost use Rattle.vhdl_lexer.specs.declared.token.Kind.TheVariants as k;
-ghost use Rattle.vhdl_parser.specs.View.{selected_view, selecteds_view, context_view, contexts_view, entity_view, architecture_view, library_unit_view, unit_view, units_view, file_view};
-ghost use Rattle.vhdl_parser.specs.reader.Input as input;
-ghost use Rattle.vhdl_parser.specs.reader.Input.{Reads};
+ghost use Rattle.vhdl_tree.specs.View.{selected_view, selecteds_view, context_view, contexts_view, entity_view, architecture_view, library_unit_view, unit_view, units_view, file_view};
+ghost use Rattle.vhdl_expressions.specs.reader.Input as input;
+ghost use Rattle.vhdl_expressions.specs.reader.Input.{Reads};
 ghost use Rattle.vhdl_parser.specs.reader.Units as read;
 
-use crate::fault::Stop;
-use crate::parser::Parser;
-use crate::tree::{Architecture, ContextItem, DesignUnit, Entity, File, LibraryUnit, Selected};
+use crate::concurrent::concurrents;
+use crate::declaration::declarations;
+use crate::interface::{end_name, identifiers, optional_generics, optional_ports};
+use vhdl_expressions::{Parser, Stop};
 use vhdl_lexer::Kind;
+use vhdl_tree::{Architecture, ContextItem, DesignUnit, Entity, File, LibraryUnit, Selected};
 
 /// How many parentheses, if and case statements, loops and generates may be open at once.
 pub const MAX_OPEN: usize = 64;
 
-impl Parser<'_> {
-    #[tactic(auto, unfolding(crate::specs::reader::Units::selected))]
-    fn selected(&mut self) -> Result<Selected, Stop>
-        ensures { Reads selected_view (read.selected self.old) result self.new }
-    {
-        let library = self.identifier()?;
-        self.expect(Kind::Dot)?;
-        let name = self.identifier()?;
-        self.expect(Kind::Dot)?;
-        self.expect(Kind::All)?;
-        Ok(Selected { library, name })
-    }
+#[tactic(auto, unfolding(crate::specs::reader::Units::selected))]
+fn selected(parser: &mut Parser<'_>) -> Result<Selected, Stop>
+    ensures { Reads selected_view (read.selected parser.old) result parser.new }
+{
+    let library = parser.identifier()?;
+    parser.expect(Kind::Dot)?;
+    let name = parser.identifier()?;
+    parser.expect(Kind::Dot)?;
+    parser.expect(Kind::All)?;
+    Ok(Selected { library, name })
+}
 
-    #[tactic(auto, unfolding(crate::specs::reader::Units::next_selected))]
-    fn next_selected(&mut self) -> Result<Selected, Stop>
-        ensures { Reads selected_view (read.next_selected self.old) result self.new }
-    {
-        self.expect(Kind::Comma)?;
-        self.selected()
-    }
+#[tactic(auto, unfolding(crate::specs::reader::Units::next_selected))]
+fn next_selected(parser: &mut Parser<'_>) -> Result<Selected, Stop>
+    ensures { Reads selected_view (read.next_selected parser.old) result parser.new }
+{
+    parser.expect(Kind::Comma)?;
+    selected(parser)
+}
 
-    #[tactic(auto, unfolding(crate::specs::reader::Units::selecteds))]
-    fn selecteds(&mut self) -> Result<Vec<Selected>, Stop>
-        ensures { Reads selecteds_view (read.selecteds self.old) result self.new }
-    {
-        let mut found = Vec::new(self.alloc);
-        found.push(self.selected()?)?;
-        self.more_selecteds(found)
-    }
+#[tactic(auto, unfolding(crate::specs::reader::Units::selecteds))]
+fn selecteds(parser: &mut Parser<'_>) -> Result<Vec<Selected>, Stop>
+    ensures { Reads selecteds_view (read.selecteds parser.old) result parser.new }
+{
+    let mut found = Vec::new(parser.alloc);
+    found.push(selected(parser)?)?;
+    more_selecteds(parser, found)
+}
 
-    fn more_selecteds(&mut self, mut found: Vec<Selected>) -> Result<Vec<Selected>, Stop>
-        ensures { Reads selecteds_view (input.many (input.is_kind k.Comma) read.next_selected (selecteds_view found) self.old) result self.new }
-    {
-        for _turn in 0..self.left() {
-            if !self.sees(Kind::Comma) {
-                return Ok(found);
-            }
-            found.push(self.next_selected()?)?;
+fn more_selecteds(parser: &mut Parser<'_>, mut found: Vec<Selected>) -> Result<Vec<Selected>, Stop>
+    ensures { Reads selecteds_view (input.many (input.is_kind k.Comma) read.next_selected (selecteds_view found) parser.old) result parser.new }
+{
+    for _turn in 0..parser.left() {
+        if !parser.sees(Kind::Comma) {
+            return Ok(found);
         }
-        Ok(found)
+        found.push(next_selected(parser)?)?;
     }
+    Ok(found)
+}
 
-    #[tactic(auto, unfolding(crate::specs::reader::Units::library_clause))]
-    fn library_clause(&mut self) -> Result<ContextItem, Stop>
-        ensures { Reads context_view (read.library_clause self.old) result self.new }
-    {
-        self.expect(Kind::Library)?;
-        let names = self.identifiers()?;
-        self.expect(Kind::Semicolon)?;
-        Ok(ContextItem::Library(names))
+#[tactic(auto, unfolding(crate::specs::reader::Units::library_clause))]
+fn library_clause(parser: &mut Parser<'_>) -> Result<ContextItem, Stop>
+    ensures { Reads context_view (read.library_clause parser.old) result parser.new }
+{
+    parser.expect(Kind::Library)?;
+    let names = identifiers(parser)?;
+    parser.expect(Kind::Semicolon)?;
+    Ok(ContextItem::Library(names))
+}
+
+#[tactic(auto, unfolding(crate::specs::reader::Units::use_clause))]
+fn use_clause(parser: &mut Parser<'_>) -> Result<ContextItem, Stop>
+    ensures { Reads context_view (read.use_clause parser.old) result parser.new }
+{
+    parser.expect(Kind::Use)?;
+    let all = selecteds(parser)?;
+    parser.expect(Kind::Semicolon)?;
+    Ok(ContextItem::Use(all))
+}
+
+#[tactic(auto, unfolding(crate::specs::reader::Units::context_item))]
+fn context_item(parser: &mut Parser<'_>) -> Result<ContextItem, Stop>
+    ensures { Reads context_view (read.context_item parser.old) result parser.new }
+{
+    if parser.sees(Kind::Library) {
+        library_clause(parser)
+    } else {
+        use_clause(parser)
     }
+}
 
-    #[tactic(auto, unfolding(crate::specs::reader::Units::use_clause))]
-    fn use_clause(&mut self) -> Result<ContextItem, Stop>
-        ensures { Reads context_view (read.use_clause self.old) result self.new }
-    {
-        self.expect(Kind::Use)?;
-        let all = self.selecteds()?;
-        self.expect(Kind::Semicolon)?;
-        Ok(ContextItem::Use(all))
+fn begins_context(parser: &Parser<'_>) -> bool
+    ensures { result ≡ read.begins_context (input.next_kind parser.now) }
+{
+    match parser.peek() {
+        Some(Kind::Library) | Some(Kind::Use) => true,
+        _ => false,
     }
+}
 
-    #[tactic(auto, unfolding(crate::specs::reader::Units::context_item))]
-    fn context_item(&mut self) -> Result<ContextItem, Stop>
-        ensures { Reads context_view (read.context_item self.old) result self.new }
-    {
-        if self.sees(Kind::Library) {
-            self.library_clause()
-        } else {
-            self.use_clause()
+fn context(parser: &mut Parser<'_>) -> Result<Vec<ContextItem>, Stop>
+    ensures { Reads contexts_view (read.context parser.old) result parser.new }
+{
+    let mut found = Vec::new(parser.alloc);
+    for _turn in 0..parser.left() {
+        if !begins_context(parser) {
+            return Ok(found);
         }
+        found.push(context_item(parser)?)?;
     }
+    Ok(found)
+}
 
-    fn begins_context(&self) -> bool
-        ensures { result ≡ read.begins_context (input.next_kind self.now) }
-    {
-        match self.peek() {
-            Some(Kind::Library) | Some(Kind::Use) => true,
-            _ => false,
+#[tactic(auto, unfolding(crate::specs::reader::Units::entity_unit))]
+fn entity(parser: &mut Parser<'_>) -> Result<Entity, Stop>
+    ensures { Reads entity_view (read.entity_unit parser.old) result parser.new }
+{
+    let at = parser.expect(Kind::Entity)?;
+    let name = parser.identifier()?;
+    parser.expect(Kind::Is)?;
+    let generics = optional_generics(parser, MAX_OPEN)?;
+    let ports = optional_ports(parser, MAX_OPEN)?;
+    parser.expect(Kind::End)?;
+    let end_word = parser.eat(Kind::Entity)?;
+    let end_name = end_name(parser)?;
+    parser.expect(Kind::Semicolon)?;
+    Ok(Entity {
+        at,
+        name,
+        generics,
+        ports,
+        end_word,
+        end_name,
+    })
+}
+
+#[tactic(auto, unfolding(crate::specs::reader::Units::architecture_unit))]
+fn architecture(parser: &mut Parser<'_>) -> Result<Architecture, Stop>
+    ensures { Reads architecture_view (read.architecture_unit parser.old) result parser.new }
+{
+    let at = parser.expect(Kind::Architecture)?;
+    let name = parser.identifier()?;
+    parser.expect(Kind::Of)?;
+    let entity = parser.identifier()?;
+    parser.expect(Kind::Is)?;
+    let declarations = declarations(parser, MAX_OPEN)?;
+    parser.expect(Kind::Begin)?;
+    let statements = concurrents(parser, MAX_OPEN)?;
+    parser.expect(Kind::End)?;
+    let end_word = parser.eat(Kind::Architecture)?;
+    let end_name = end_name(parser)?;
+    parser.expect(Kind::Semicolon)?;
+    Ok(Architecture {
+        at,
+        name,
+        entity,
+        declarations,
+        statements,
+        end_word,
+        end_name,
+    })
+}
+
+#[tactic(auto, unfolding(crate::specs::reader::Units::library_unit))]
+fn library_unit(parser: &mut Parser<'_>) -> Result<LibraryUnit, Stop>
+    ensures { Reads library_unit_view (read.library_unit parser.old) result parser.new }
+{
+    match parser.peek() {
+        Some(Kind::Entity) => Ok(LibraryUnit::Entity(entity(parser)?)),
+        Some(Kind::Architecture) => Ok(LibraryUnit::Architecture(architecture(parser)?)),
+        _ => Err(parser.refuse()),
+    }
+}
+
+#[tactic(auto, unfolding(crate::specs::reader::Units::unit))]
+fn unit(parser: &mut Parser<'_>) -> Result<DesignUnit, Stop>
+    ensures { Reads unit_view (read.unit parser.old) result parser.new }
+{
+    let context = context(parser)?;
+    let unit = library_unit(parser)?;
+    Ok(DesignUnit { context, unit })
+}
+
+fn is_more(parser: &Parser<'_>) -> bool
+    ensures { result ≡ input.is_more (input.next_kind parser.now) }
+{
+    match parser.peek() {
+        Some(_) => true,
+        None => false,
+    }
+}
+
+fn units(parser: &mut Parser<'_>) -> Result<Vec<DesignUnit>, Stop>
+    ensures { Reads units_view (read.units parser.old) result parser.new }
+{
+    let mut found = Vec::new(parser.alloc);
+    for _turn in 0..parser.left() {
+        if !is_more(parser) {
+            return Ok(found);
         }
+        found.push(unit(parser)?)?;
     }
+    Ok(found)
+}
 
-    fn context(&mut self) -> Result<Vec<ContextItem>, Stop>
-        ensures { Reads contexts_view (read.context self.old) result self.new }
-    {
-        let mut found = Vec::new(self.alloc);
-        for _turn in 0..self.left() {
-            if !self.begins_context() {
-                return Ok(found);
-            }
-            found.push(self.context_item()?)?;
-        }
-        Ok(found)
+/// A whole file.
+#[tactic(auto, unfolding(crate::specs::reader::Units::file, crate::specs::reader::Units::finish))]
+pub fn file(parser: &mut Parser<'_>) -> Result<File, Stop>
+    ensures { Reads file_view (read.file parser.old) result parser.new }
+{
+    let units = units(parser)?;
+    if is_more(parser) {
+        return Err(parser.refuse());
     }
-
-    #[tactic(auto, unfolding(crate::specs::reader::Units::entity_unit))]
-    fn entity(&mut self) -> Result<Entity, Stop>
-        ensures { Reads entity_view (read.entity_unit self.old) result self.new }
-    {
-        let at = self.expect(Kind::Entity)?;
-        let name = self.identifier()?;
-        self.expect(Kind::Is)?;
-        let generics = self.optional_generics(MAX_OPEN)?;
-        let ports = self.optional_ports(MAX_OPEN)?;
-        self.expect(Kind::End)?;
-        let end_word = self.eat(Kind::Entity)?;
-        let end_name = self.end_name()?;
-        self.expect(Kind::Semicolon)?;
-        Ok(Entity {
-            at,
-            name,
-            generics,
-            ports,
-            end_word,
-            end_name,
-        })
-    }
-
-    #[tactic(auto, unfolding(crate::specs::reader::Units::architecture_unit))]
-    fn architecture(&mut self) -> Result<Architecture, Stop>
-        ensures { Reads architecture_view (read.architecture_unit self.old) result self.new }
-    {
-        let at = self.expect(Kind::Architecture)?;
-        let name = self.identifier()?;
-        self.expect(Kind::Of)?;
-        let entity = self.identifier()?;
-        self.expect(Kind::Is)?;
-        let declarations = self.declarations(MAX_OPEN)?;
-        self.expect(Kind::Begin)?;
-        let statements = self.concurrents(MAX_OPEN)?;
-        self.expect(Kind::End)?;
-        let end_word = self.eat(Kind::Architecture)?;
-        let end_name = self.end_name()?;
-        self.expect(Kind::Semicolon)?;
-        Ok(Architecture {
-            at,
-            name,
-            entity,
-            declarations,
-            statements,
-            end_word,
-            end_name,
-        })
-    }
-
-    #[tactic(auto, unfolding(crate::specs::reader::Units::library_unit))]
-    fn library_unit(&mut self) -> Result<LibraryUnit, Stop>
-        ensures { Reads library_unit_view (read.library_unit self.old) result self.new }
-    {
-        match self.peek() {
-            Some(Kind::Entity) => Ok(LibraryUnit::Entity(self.entity()?)),
-            Some(Kind::Architecture) => Ok(LibraryUnit::Architecture(self.architecture()?)),
-            _ => Err(self.refuse()),
-        }
-    }
-
-    #[tactic(auto, unfolding(crate::specs::reader::Units::unit))]
-    fn unit(&mut self) -> Result<DesignUnit, Stop>
-        ensures { Reads unit_view (read.unit self.old) result self.new }
-    {
-        let context = self.context()?;
-        let unit = self.library_unit()?;
-        Ok(DesignUnit { context, unit })
-    }
-
-    fn is_more(&self) -> bool
-        ensures { result ≡ input.is_more (input.next_kind self.now) }
-    {
-        match self.peek() {
-            Some(_) => true,
-            None => false,
-        }
-    }
-
-    fn units(&mut self) -> Result<Vec<DesignUnit>, Stop>
-        ensures { Reads units_view (read.units self.old) result self.new }
-    {
-        let mut found = Vec::new(self.alloc);
-        for _turn in 0..self.left() {
-            if !self.is_more() {
-                return Ok(found);
-            }
-            found.push(self.unit()?)?;
-        }
-        Ok(found)
-    }
-
-    /// A whole file.
-    #[tactic(auto, unfolding(crate::specs::reader::Units::file, crate::specs::reader::Units::finish))]
-    pub fn file(&mut self) -> Result<File, Stop>
-        ensures { Reads file_view (read.file self.old) result self.new }
-    {
-        let units = self.units()?;
-        if self.is_more() {
-            return Err(self.refuse());
-        }
-        Ok(File { units })
-    }
+    Ok(File { units })
 }

@@ -4,10 +4,10 @@ ghost use Rattle.std.specs.Prelude.{◌≡◌, bytes_eq, map};
 ghost use Rattle.rtlsim.specs.NameRules as rules;
 ghost use Rattle.rtlsim.specs.Rules.{in_turn};
 ghost use Rattle.rtlsim.specs.View.{Gives};
-ghost use Rattle.vhdl_parser.specs.View.{ident_view, selected_view, context_view};
+ghost use Rattle.vhdl_tree.specs.View.{ident_view, selected_view, context_view};
 
 use crate::faults::NameFault;
-use vhdl_parser::{ContextItem, Identifier, Selected};
+use vhdl_tree::{ContextItem, Identifier, Selected};
 
 /// What context clauses make visible.
 #[derive(Clone, Copy, Debug, PartialEq, Eq)]

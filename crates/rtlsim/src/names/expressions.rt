@@ -4,13 +4,13 @@ ghost use Rattle.std.specs.Prelude.{◌≡◌, IfOk, Some, option_map, option_co
 ghost use Rattle.rtlsim.specs.Design as design;
 ghost use Rattle.rtlsim.specs.NameRules as rules;
 ghost use Rattle.rtlsim.specs.View.{Gives, ports_view, value_view, chained, all_linked};
-ghost use Rattle.vhdl_parser.specs.View.{view, suffix_view, ident_view};
+ghost use Rattle.vhdl_tree.specs.View.{view, suffix_view, ident_view};
 
 use crate::design::{Link, Ports, Value};
 use crate::faults::NameFault;
 use crate::names::region::port_named;
 use std::alloc::{AllocError, Global};
-use vhdl_parser::{Expr, Identifier, Link as TreeLink, Mode, Name, Operator, Suffix};
+use vhdl_tree::{Expr, Identifier, Link as TreeLink, Mode, Name, Operator, Suffix};
 use vhdl_values::{Logic, Nine};
 
 /// The value of a character, which is one of the nine, in capitals.

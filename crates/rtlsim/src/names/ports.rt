@@ -5,7 +5,7 @@ ghost use Rattle.rtlsim.specs.NameRules as rules;
 ghost use Rattle.rtlsim.specs.Rules.{in_turn};
 ghost use Rattle.rtlsim.specs.View.{Gives, ports_view};
 ghost use Rattle.rtlsim.specs.declared.faults.names.NameFault.TheVariants.{NoMemory};
-ghost use Rattle.vhdl_parser.specs.View as tree;
+ghost use Rattle.vhdl_tree.specs.View as tree;
 
 use crate::design::{Port, Ports};
 use crate::faults::NameFault;
@@ -13,7 +13,7 @@ use crate::names::context::{Seen, is_text};
 use crate::names::region::{declare_all, is_port};
 use indexmap::IndexMap;
 use std::alloc::Global;
-use vhdl_parser::{Identifier, Mode, Port as PortTree, Subtype};
+use vhdl_tree::{Identifier, Mode, Port as PortTree, Subtype};
 
 /// Why a type is none of one element.
 fn type_fault(seen: Seen, mark: &Identifier) -> NameFault

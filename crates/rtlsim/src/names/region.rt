@@ -5,12 +5,12 @@ ghost use Rattle.rtlsim.specs.Design as design;
 ghost use Rattle.rtlsim.specs.NameRules as rules;
 ghost use Rattle.rtlsim.specs.Rules.{in_turn};
 ghost use Rattle.rtlsim.specs.View.{Gives, ports_view, found_view};
-ghost use Rattle.vhdl_parser.specs.View.{ident_view};
+ghost use Rattle.vhdl_tree.specs.View.{ident_view};
 
 use crate::design::{Port, Ports};
 use crate::faults::NameFault;
 use std::alloc::{AllocError, Global};
-use vhdl_parser::Identifier;
+use vhdl_tree::Identifier;
 
 /// The port of a name, and its number.
 pub fn port_named(ports: &Ports, name: &[u8]) -> Option<(usize, Port)>

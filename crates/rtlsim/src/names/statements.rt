@@ -5,7 +5,7 @@ ghost use Rattle.rtlsim.specs.Design as design;
 ghost use Rattle.rtlsim.specs.NameRules as rules;
 ghost use Rattle.rtlsim.specs.Rules.{in_turn};
 ghost use Rattle.rtlsim.specs.View.{Gives, ports_view, value_view, equation_view, labels_view, body_view};
-ghost use Rattle.vhdl_parser.specs.View as tree;
+ghost use Rattle.vhdl_tree.specs.View as tree;
 
 use crate::design::{Equation, Ports, Value};
 use crate::faults::NameFault;
@@ -13,7 +13,7 @@ use crate::names::expressions::{identifier, value};
 use crate::names::region::{copied, is_port, port_named};
 use indexmap::IndexSet;
 use std::alloc::{AllocError, Global};
-use vhdl_parser::{Assignment, Concurrent, Expr, Identifier, Mode, Name, Value as ValueTree};
+use vhdl_tree::{Assignment, Concurrent, Expr, Identifier, Mode, Name, Value as ValueTree};
 
 /// The labels and equations of the statements so far.
 #[derive(Drop)]

@@ -4,7 +4,7 @@ ghost use Rattle.std.specs.Prelude.{◌≡◌, ◌++◌, ◌∷◌, [], false, i
 ghost use Rattle.rtlsim.specs.NameRules as rules;
 ghost use Rattle.rtlsim.specs.Rules.{rule, in_turn};
 ghost use Rattle.rtlsim.specs.View.{Gives, ports_view, equation_view, entities_view, architectures_view, units_view};
-ghost use Rattle.vhdl_parser.specs.View as tree;
+ghost use Rattle.vhdl_tree.specs.View as tree;
 
 use crate::design::{Entity, Equation, Ports, Units};
 use crate::faults::NameFault;
@@ -14,7 +14,7 @@ use crate::names::region::copied;
 use crate::names::statements::statements;
 use indexmap::IndexMap;
 use std::alloc::Global;
-use vhdl_parser::{Architecture, DesignUnit, Entity as EntityTree, File, Identifier, LibraryUnit};
+use vhdl_tree::{Architecture, DesignUnit, Entity as EntityTree, File, Identifier, LibraryUnit};
 
 /// The end name of a unit, if one stands, is its name.
 fn ends(name: &Identifier, end_name: &Option<Identifier>) -> Result<(), NameFault>

@@ -2,10 +2,10 @@
 use Rattle.std.specs.Prelude.{ℕ, zero, suc, Bool, true, false, ◌||◌, if◌then◌else◌, List, [], Option, Some, None}
 use Rattle.vhdl_lexer.specs.declared.token.Kind.{Kind}
 use Rattle.vhdl_lexer.specs.declared.token.Kind.TheVariants as k
-use Rattle.vhdl_parser.specs.Lexeme.{Lexeme}
-use Rattle.vhdl_parser.specs.Tree.{Ident, Assignment, Scheme, for_each, if_holds, Concurrent, assignment, selected, process, instance, generated, concurrents_of}
-use Rattle.vhdl_parser.specs.reader.Input.{Parser, ◌>>=◌, ◌>>◌, ◌<$>◌, pure, refuse, too_deep, choose, sees_both, expect, eat, identifier, many, below}
-use Rattle.vhdl_parser.specs.reader.Expressions.{expr, inside, name, range}
+use Rattle.vhdl_tree.specs.Lexeme.{Lexeme}
+use Rattle.vhdl_tree.specs.Tree.{Ident, Assignment, Scheme, for_each, if_holds, Concurrent, assignment, selected, process, instance, generated, concurrents_of}
+use Rattle.vhdl_expressions.specs.reader.Input.{Parser, ◌>>=◌, ◌>>◌, ◌<$>◌, pure, refuse, too_deep, choose, sees_both, expect, eat, identifier, many, below}
+use Rattle.vhdl_expressions.specs.reader.Expressions.{expr, inside, name, range}
 use Rattle.vhdl_parser.specs.reader.Waves.{waves}
 use Rattle.vhdl_parser.specs.reader.Sequential.{optional_label, end_of}
 use Rattle.vhdl_parser.specs.reader.Process as process_reader

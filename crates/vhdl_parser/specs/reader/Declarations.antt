@@ -2,11 +2,11 @@
 use Rattle.std.specs.Prelude.{ℕ, Bool, true, false, List, [], ◌∷◌, Option, Some, None}
 use Rattle.vhdl_lexer.specs.declared.token.Kind.{Kind}
 use Rattle.vhdl_lexer.specs.declared.token.Kind.TheVariants as k
-use Rattle.vhdl_parser.specs.declared.tree.Mode.{Mode}
-use Rattle.vhdl_parser.specs.declared.tree.Mode.TheVariants.{In, Out}
-use Rattle.vhdl_parser.specs.Tree.{Ident, Expr, Range, Value, Subtype, Generic, Port, Signals, Constants, Enumeration, Component, Declaration, signals, constants, enumeration, component}
-use Rattle.vhdl_parser.specs.reader.Input.{Parser, ◌>>=◌, ◌>>◌, ◌<$>◌, pure, refuse, is_kind, choose, expect, eat, identifier, optional, many, below}
-use Rattle.vhdl_parser.specs.reader.Expressions.{expr, range, value}
+use Rattle.vhdl_tree.specs.declared.declaration.Mode.{Mode}
+use Rattle.vhdl_tree.specs.declared.declaration.Mode.TheVariants.{In, Out}
+use Rattle.vhdl_tree.specs.Tree.{Ident, Expr, Range, Value, Subtype, Generic, Port, Signals, Constants, Enumeration, Component, Declaration, signals, constants, enumeration, component}
+use Rattle.vhdl_expressions.specs.reader.Input.{Parser, ◌>>=◌, ◌>>◌, ◌<$>◌, pure, refuse, is_kind, choose, expect, eat, identifier, optional, many, below}
+use Rattle.vhdl_expressions.specs.reader.Expressions.{expr, range, value}
 
 unfoldable pub next_ident : Parser Ident
 next_ident = expect k.Comma >> identifier

@@ -1,9 +1,9 @@
 -- How the parser reads processes and selected assignments.
 use Rattle.std.specs.Prelude.{ℕ, List, [], ◌∷◌, Option, Some, None}
 use Rattle.vhdl_lexer.specs.declared.token.Kind.TheVariants as k
-use Rattle.vhdl_parser.specs.Tree.{Ident, Name, Process, Sensitivity, absent, every, listed, Waveform, SelectedAssignment}
-use Rattle.vhdl_parser.specs.reader.Input.{Parser, ◌>>=◌, ◌>>◌, ◌<$>◌, pure, is_kind, test, expect, eat, identifier, optional, many, below}
-use Rattle.vhdl_parser.specs.reader.Expressions.{expr, inside, name, value, choices}
+use Rattle.vhdl_tree.specs.Tree.{Ident, Name, Process, Sensitivity, absent, every, listed, Waveform, SelectedAssignment}
+use Rattle.vhdl_expressions.specs.reader.Input.{Parser, ◌>>=◌, ◌>>◌, ◌<$>◌, pure, is_kind, test, expect, eat, identifier, optional, many, below}
+use Rattle.vhdl_expressions.specs.reader.Expressions.{expr, inside, name, value, choices}
 use Rattle.vhdl_parser.specs.reader.Sequential.{statements}
 
 unfoldable pub next_name : ℕ → Parser Name

@@ -2,9 +2,9 @@
 use Rattle.std.specs.Prelude.{ℕ, zero, suc, Bool, true, false, List, [], ◌∷◌, Option, Some, None}
 use Rattle.vhdl_lexer.specs.declared.token.Kind.{Kind}
 use Rattle.vhdl_lexer.specs.declared.token.Kind.TheVariants as k
-use Rattle.vhdl_parser.specs.Tree.{Ident, Expr, Choice, Statement, nothing, assigned, conditional, selection, loop, Sequential, Conditional, Alternative, statements_of, conditionals_of, alternatives_of, otherwise_of}
-use Rattle.vhdl_parser.specs.reader.Input.{Parser, ◌>>=◌, ◌>>◌, ◌<$>◌, pure, refuse, too_deep, is_kind, choose, test_both, expect, identifier, optional, many, below}
-use Rattle.vhdl_parser.specs.reader.Expressions.{expr, inside, name, value, range, choices}
+use Rattle.vhdl_tree.specs.Tree.{Ident, Expr, Choice, Statement, nothing, assigned, conditional, selection, loop, Sequential, Conditional, Alternative, statements_of, conditionals_of, alternatives_of, otherwise_of, guarded_by, chosen_by}
+use Rattle.vhdl_expressions.specs.reader.Input.{Parser, ◌>>=◌, ◌>>◌, ◌<$>◌, pure, refuse, too_deep, is_kind, choose, test_both, expect, identifier, optional, many, below}
+use Rattle.vhdl_expressions.specs.reader.Expressions.{expr, inside, name, value, range, choices}
 
 unfoldable pub label : Parser Ident
 label = do
@@ -46,12 +46,6 @@ begins_sequential (Some k.If) = true
 begins_sequential (Some k.Case) = true
 begins_sequential (Some k.For) = true
 begins_sequential _ = false
-
-abbrev pub guarded_by : Expr → List Sequential → Conditional
-guarded_by c found = record { condition = c; statements = found }
-
-abbrev pub chosen_by : List Choice → List Sequential → Alternative
-chosen_by cs found = record { choices = cs; statements = found }
 
 -- One level down, where so many more may be opened. The second parameter reads the statements there.
 module _ (m : ℕ) (inner : Parser (List Sequential)) where

@@ -2,13 +2,13 @@
 use Rattle.std.specs.Prelude.{ℕ, zero, suc, List, [], ◌∷◌, ◌++◌, length, Vec, Option, Some, None}
 use Rattle.std.specs.Global.{Global}
 use Rattle.vhdl_lexer.specs.declared.token.Kind.TheVariants as k
-use Rattle.vhdl_parser.specs.declared.tree.Branch as code
-use Rattle.vhdl_parser.specs.declared.tree.Value as code_value
-use Rattle.vhdl_parser.specs.declared.tree.Expr as code_expr
-use Rattle.vhdl_parser.specs.Tree.{Expr, Value, Branch}
-use Rattle.vhdl_parser.specs.View.{value_view, option_expr_view, branches_view, option_value_view}
-use Rattle.vhdl_parser.specs.reader.Input.{Parser, ◌>>=◌, ◌>>◌, pure, is_kind, test, expect, optional}
-use Rattle.vhdl_parser.specs.reader.Expressions.{expr, value}
+use Rattle.vhdl_tree.specs.declared.concurrent.Branch as code
+use Rattle.vhdl_tree.specs.declared.expression.Value as code_value
+use Rattle.vhdl_tree.specs.declared.expression.Expr as code_expr
+use Rattle.vhdl_tree.specs.Tree.{Expr, Value, Branch}
+use Rattle.vhdl_tree.specs.View.{value_view, option_expr_view, branches_view, option_value_view}
+use Rattle.vhdl_expressions.specs.reader.Input.{Parser, ◌>>=◌, ◌>>◌, pure, is_kind, test, expect, optional}
+use Rattle.vhdl_expressions.specs.reader.Expressions.{expr, value}
 
 -- the branches of an assignment, and what it assigns where none of them holds
 pub record Waveforms : Type 0 where

@@ -1,10 +1,10 @@
 use Rattle.std.proofs.Common.{◌≡◌, ℕ, [], Err, sym, ap, ◌∙◌, subst, arith}
-use Rattle.vhdl_parser.specs.declared.fault.Stop.{Stop}
-use Rattle.vhdl_parser.specs.declared.fault.Stop.TheVariants.{TooDeep, NoMemory}
-use Rattle.vhdl_parser.specs.Levels.{IsShallow, IsDeep}
-use Rattle.vhdl_parser.specs.Pieces.{Spells}
-use Rattle.vhdl_parser.specs.View.{file_view}
-use Rattle.vhdl_parser.specs.grammar.Units.{spell_file}
+use Rattle.vhdl_expressions.specs.declared.stop.Stop.{Stop}
+use Rattle.vhdl_expressions.specs.declared.stop.Stop.TheVariants.{TooDeep, NoMemory}
+use Rattle.vhdl_tree.specs.Levels.{IsShallow, IsDeep}
+use Rattle.vhdl_tree.specs.Pieces.{Spells}
+use Rattle.vhdl_tree.specs.View.{file_view}
+use Rattle.vhdl_tree.specs.grammar.Units.{spell_file}
 use Rattle.vhdl_parser.proofs.Files.{file_made, file_only, file_refused, file_deep}
 use Rattle.vhdl_parser.proofs.file.parse.Goals as goal
 

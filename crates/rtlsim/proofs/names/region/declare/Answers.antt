@@ -4,7 +4,7 @@ use Rattle.std.specs.Map.{lookup}
 use Rattle.indexmap.proofs.CallerLemmas.{insert_entry-new}
 use Rattle.rtlsim.specs.Design.{port_named}
 use Rattle.rtlsim.specs.View.{ports_view}
-use Rattle.vhdl_parser.specs.View.{ident_view}
+use Rattle.vhdl_tree.specs.View.{ident_view}
 use Rattle.rtlsim.proofs.Found.{absent, declared}
 use Rattle.rtlsim.proofs.names.region.declare.Goals as goal
 

@@ -3,7 +3,7 @@ use Rattle.std.specs.Prelude.{is_none}
 use Rattle.rtlsim.specs.Design.{port_named}
 use Rattle.rtlsim.specs.NameRules.{is_among}
 use Rattle.rtlsim.specs.View.{ports_view, labels_view}
-use Rattle.vhdl_parser.specs.View.{ident_view}
+use Rattle.vhdl_tree.specs.View.{ident_view}
 use Rattle.rtlsim.proofs.Found.{labelled}
 use Rattle.rtlsim.proofs.names.statements.declare_label.Goals as goal
 

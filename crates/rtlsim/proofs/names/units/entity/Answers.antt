@@ -1,8 +1,8 @@
 use Rattle.std.proofs.Common.{rules, arith, refl, sym, ◌≡◌, ◌≢◌, true, false, None, not, option_map, ap, ◌∙◌}
 use Rattle.std.specs.Prelude.{is_none, is_some}
 use Rattle.std.proofs.lemmas.Grind.{common_steps}
-use Rattle.vhdl_parser.specs.Tree as t
-use Rattle.vhdl_parser.specs.View as tree
+use Rattle.vhdl_tree.specs.Tree as t
+use Rattle.vhdl_tree.specs.View as tree
 use Rattle.rtlsim.specs.declared.names.context.Seen.{Seen}
 use Rattle.rtlsim.specs.declared.faults.names.NameFault.TheVariants.{NoMemory}
 use Rattle.rtlsim.specs.NameRules as n

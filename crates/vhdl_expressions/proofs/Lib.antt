@@ -1,0 +1,13 @@
+pub mod Cursor
+pub mod Turns
+pub mod Steps
+pub mod Operators
+pub mod Yields
+pub mod Complete
+pub mod CompleteNames
+pub mod Walks
+pub mod Rules
+pub mod Gives
+pub mod WalkExpressions
+pub mod WalkValues
+pub mod GiveValues

@@ -1,0 +1,3 @@
+-- How the parser reads: the grammar as functions of the tokens ahead.
+pub mod Input
+pub mod Expressions

@@ -1,0 +1,12 @@
+//! From tokens to expressions: a parser's place among the tokens, and how it reads names, ranges,
+//! expressions, values, choices and associations.
+#![tactic(auto)]
+
+mod expr;
+mod operator;
+mod parser;
+mod stop;
+mod value;
+
+pub use parser::{Parser, below};
+pub use stop::Stop;

@@ -1,0 +1,29 @@
+use Rattle.std.proofs.Common.{ℕ, ◌≡◌, ◌+◌, ◌-◌, ◌*◌}
+use Rattle.vhdl_tree.specs.View.{concurrents_view}
+use Rattle.vhdl_expressions.specs.reader.Input.{many_from}
+use Rattle.vhdl_parser.specs.reader.Concurrent as read
+use Rattle.vhdl_parser.proofs.concurrent.+concurrent.Given as goal
+
+-- each call goes down the grammar, and what stands in a generate statement is a level down
+abbrev pub decreases-concurrents : goal.decreases-concurrents
+decreases-concurrents l = 40 * l.levels + 20
+
+abbrev pub decreases-concurrent : goal.decreases-concurrent
+decreases-concurrent l = 40 * l.levels + 19
+
+abbrev pub decreases-labelled : goal.decreases-labelled
+decreases-labelled l = 40 * l.levels + 18
+
+abbrev pub decreases-for_generate : goal.decreases-for_generate
+decreases-for_generate l = 40 * l.levels + 17
+
+abbrev pub decreases-if_generate : goal.decreases-if_generate
+decreases-if_generate l = 40 * l.levels + 17
+
+abbrev pub decreases-generate_rest : goal.decreases-generate_rest
+decreases-generate_rest l = 40 * l.levels + 30
+
+-- what is still to be read gives what was to be read
+abbrev pub invariant-concurrents-loop-turn : goal.invariant-concurrents-loop-turn
+invariant-concurrents-loop-turn l =
+    read.concurrents l.levels l.fn.parser ≡ many_from read.begins_concurrent (read.concurrent l.levels (read.deeper_concurrents l.levels)) (l._turn-end - l._turn) (concurrents_view l.found) l.parser

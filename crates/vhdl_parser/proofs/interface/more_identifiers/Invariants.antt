@@ -1,0 +1,10 @@
+use Rattle.std.proofs.Common.{◌≡◌, [], ◌-◌}
+use Rattle.vhdl_lexer.specs.declared.token.Kind.TheVariants as k
+use Rattle.vhdl_tree.specs.View.{idents_view}
+use Rattle.vhdl_expressions.specs.reader.Input.{is_kind, is_more, many, many_from}
+use Rattle.vhdl_parser.specs.reader.Declarations as read
+use Rattle.vhdl_parser.proofs.interface.more_identifiers.Given as goal
+
+-- what is still to be read gives what was to be read
+abbrev pub invariant-loop-turn : goal.invariant-loop-turn
+invariant-loop-turn l = many (is_kind k.Comma) read.next_ident (idents_view l.fn.found) l.fn.parser ≡ many_from (is_kind k.Comma) read.next_ident (l._turn-end - l._turn) (idents_view l.found) l.parser

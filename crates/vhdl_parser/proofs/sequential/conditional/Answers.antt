@@ -1,5 +1,0 @@
-use Rattle.vhdl_parser.proofs.RowsStatements.{view_if}
-use Rattle.vhdl_parser.proofs.sequential.conditional.Goals as goal
-
-pub returns : goal.returns
-returns c = view_if c.args.at c.args.branches c.args.otherwise c.args.end_label

@@ -1,5 +1,0 @@
-use Rattle.vhdl_parser.proofs.RowsStatements.{view_for}
-use Rattle.vhdl_parser.proofs.sequential.repetition.Goals as goal
-
-pub returns : goal.returns
-returns c = view_for c.args.at c.args.parameter c.args.range c.args.statements c.args.end_label

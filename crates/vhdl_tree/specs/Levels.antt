@@ -1,0 +1,51 @@
+-- How many levels are open: parentheses, if and case statements, loops and generates.
+use Rattle.std.specs.Prelude.{ℕ, ◌+◌, ◌<◌, ◌≤◌, Bool, true, false, ◌&&◌, not, if◌then◌else◌, List, [], ◌∷◌, take}
+use Rattle.vhdl_lexer.specs.declared.token.Kind.{Kind}
+use Rattle.vhdl_lexer.specs.declared.token.Kind.TheVariants as k
+use Rattle.vhdl_tree.specs.Lexeme.{Lexeme, same_kind}
+
+-- the words that open a level where they don't stand after `end`
+abbrev pub begins_level : Kind → Bool
+begins_level k.If = true
+begins_level k.Case = true
+begins_level k.For = true
+begins_level _ = false
+
+-- the words that close a level where they stand after `end`
+abbrev pub ends_level : Kind → Bool
+ends_level k.If = true
+ends_level k.Case = true
+ends_level k.Loop = true
+ends_level k.Generate = true
+ends_level _ = false
+
+abbrev pub is_end : Kind → Bool
+is_end kind = same_kind kind k.End
+
+-- 1 for a token that opens a level, by whether it stands after `end`
+abbrev pub opening : Bool → Kind → ℕ
+opening after_end kind = if same_kind kind k.LeftParen then 1 else (if begins_level kind && not after_end then 1 else 0)
+
+-- 1 for one that closes a level
+abbrev pub closing : Bool → Kind → ℕ
+closing after_end kind = if same_kind kind k.RightParen then 1 else (if ends_level kind && after_end then 1 else 0)
+
+abbrev pub opens : Bool → List Lexeme → ℕ
+opens after_end [] = 0
+opens after_end (l ∷ ts) = opening after_end l.kind + opens (is_end l.kind) ts
+
+abbrev pub closes : Bool → List Lexeme → ℕ
+closes after_end [] = 0
+closes after_end (l ∷ ts) = closing after_end l.kind + closes (is_end l.kind) ts
+
+-- how many levels may be open in a file
+abbrev pub most_open : ℕ
+most_open = 64
+
+-- nowhere are more than n levels open
+abbrev pub IsShallow : ℕ → List Lexeme → Type 0
+IsShallow n ts = (j : ℕ) → opens false (take j ts) ≤ closes false (take j ts) + n
+
+-- somewhere more than n levels are open
+abbrev pub IsDeep : ℕ → List Lexeme → Type 0
+IsDeep n ts = (j : ℕ) × (closes false (take j ts) + n < opens false (take j ts))

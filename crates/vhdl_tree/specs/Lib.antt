@@ -1,0 +1,6 @@
+pub mod Lexeme
+pub mod Tree
+pub mod View
+pub mod Pieces
+pub mod Levels
+pub mod grammar

@@ -1,0 +1,349 @@
+-- What contracts see of a tree of the code.
+use Rattle.std.specs.Prelude.{ℕ, ◌∷◌, [], List, map, Vec, Option, option_map}
+use Rattle.std.specs.Global.{Global}
+use Rattle.vhdl_tree.specs.declared.expression.Identifier.{Identifier}
+use Rattle.vhdl_tree.specs.declared.expression.Literal.{Literal}
+use Rattle.vhdl_tree.specs.declared.expression.Expr.{Expr}
+use Rattle.vhdl_tree.specs.declared.expression.Expr.TheVariants as e
+use Rattle.vhdl_tree.specs.declared.expression.Expr.TheBlock.{Row_of-Link, end_of-Link, more_of-Link, Row_of-Expr, end_of-Expr, more_of-Expr}
+use Rattle.vhdl_tree.specs.declared.expression.Link.{Link}
+use Rattle.vhdl_tree.specs.declared.expression.Name.{Name}
+use Rattle.vhdl_tree.specs.declared.expression.Suffix.{Suffix}
+use Rattle.vhdl_tree.specs.declared.expression.Suffix.TheVariants as s
+use Rattle.vhdl_tree.specs.declared.expression.Range.{Range}
+use Rattle.vhdl_tree.specs.declared.expression.Value.{Value}
+use Rattle.vhdl_tree.specs.declared.expression.Value.TheVariants as v
+use Rattle.vhdl_tree.specs.declared.expression.Choice.{Choice}
+use Rattle.vhdl_tree.specs.declared.expression.Choice.TheVariants as ch
+use Rattle.vhdl_tree.specs.declared.expression.Actual.{Actual}
+use Rattle.vhdl_tree.specs.declared.expression.Actual.TheVariants as ac
+use Rattle.vhdl_tree.specs.declared.expression.Association.{Association}
+use Rattle.vhdl_tree.specs.declared.sequential.Sequential.{Sequential}
+use Rattle.vhdl_tree.specs.declared.sequential.Statement.{Statement}
+use Rattle.vhdl_tree.specs.declared.sequential.Statement.TheVariants as st
+use Rattle.vhdl_tree.specs.declared.sequential.Statement.TheBlock.{Held-If-otherwise, None', Some', Row_of-Sequential, end_of-Sequential, more_of-Sequential, Row_of-Conditional, end_of-Conditional, more_of-Conditional, Row_of-Alternative, end_of-Alternative, more_of-Alternative}
+use Rattle.vhdl_tree.specs.declared.sequential.If.{If, If'}
+use Rattle.vhdl_tree.specs.declared.sequential.Case.{Case, Case'}
+use Rattle.vhdl_tree.specs.declared.sequential.For.{For, For'}
+use Rattle.vhdl_tree.specs.declared.sequential.Conditional.{Conditional, Conditional', out-Conditional}
+use Rattle.vhdl_tree.specs.declared.sequential.Alternative.{Alternative, Alternative', out-Alternative}
+use Rattle.vhdl_tree.specs.declared.process.Sensitivity.{Sensitivity}
+use Rattle.vhdl_tree.specs.declared.process.Sensitivity.TheVariants as se
+use Rattle.vhdl_tree.specs.declared.process.Process.{Process}
+use Rattle.vhdl_tree.specs.declared.process.Waveform.{Waveform}
+use Rattle.vhdl_tree.specs.declared.process.SelectedAssignment.{SelectedAssignment}
+use Rattle.vhdl_tree.specs.declared.instance.Instantiated.{Instantiated}
+use Rattle.vhdl_tree.specs.declared.instance.Instantiated.TheVariants as it
+use Rattle.vhdl_tree.specs.declared.instance.Instance.{Instance}
+use Rattle.vhdl_tree.specs.declared.concurrent.Branch.{Branch}
+use Rattle.vhdl_tree.specs.declared.concurrent.Assignment.{Assignment}
+use Rattle.vhdl_tree.specs.declared.concurrent.Concurrent.{Concurrent}
+use Rattle.vhdl_tree.specs.declared.concurrent.Concurrent.TheVariants as c
+use Rattle.vhdl_tree.specs.declared.concurrent.Concurrent.TheBlock.{Row_of-Concurrent, end_of-Concurrent, more_of-Concurrent}
+use Rattle.vhdl_tree.specs.declared.concurrent.Scheme.{Scheme}
+use Rattle.vhdl_tree.specs.declared.concurrent.Scheme.TheVariants as sc
+use Rattle.vhdl_tree.specs.declared.declaration.Subtype.{Subtype}
+use Rattle.vhdl_tree.specs.declared.declaration.Generic.{Generic}
+use Rattle.vhdl_tree.specs.declared.declaration.Port.{Port}
+use Rattle.vhdl_tree.specs.declared.unit.Entity.{Entity}
+use Rattle.vhdl_tree.specs.declared.declaration.Signals.{Signals}
+use Rattle.vhdl_tree.specs.declared.declaration.Constants.{Constants}
+use Rattle.vhdl_tree.specs.declared.declaration.Enumeration.{Enumeration}
+use Rattle.vhdl_tree.specs.declared.declaration.Component.{Component}
+use Rattle.vhdl_tree.specs.declared.declaration.Declaration.{Declaration}
+use Rattle.vhdl_tree.specs.declared.declaration.Declaration.TheVariants as d
+use Rattle.vhdl_tree.specs.declared.unit.Architecture.{Architecture}
+use Rattle.vhdl_tree.specs.declared.unit.Selected.{Selected}
+use Rattle.vhdl_tree.specs.declared.unit.ContextItem.{ContextItem}
+use Rattle.vhdl_tree.specs.declared.unit.ContextItem.TheVariants as x
+use Rattle.vhdl_tree.specs.declared.unit.LibraryUnit.{LibraryUnit}
+use Rattle.vhdl_tree.specs.declared.unit.LibraryUnit.TheVariants as u
+use Rattle.vhdl_tree.specs.declared.unit.DesignUnit.{DesignUnit}
+use Rattle.vhdl_tree.specs.declared.unit.File.{File}
+use Rattle.vhdl_tree.specs.Tree as tree
+
+abbrev pub ident_view : Identifier → tree.Ident
+ident_view i = record { at = i.at; text = i.text.items }
+
+abbrev pub idents_view : Vec Identifier Global → List tree.Ident
+idents_view v = map ident_view v.items
+
+abbrev pub option_ident_view : Option Identifier → Option tree.Ident
+option_ident_view = option_map ident_view
+
+abbrev pub literal_view : Literal → ℕ × List ℕ
+literal_view l = (l.at, l.text.items)
+
+-- ---- expressions
+
+abbrev mutual
+  pub view : Expr → tree.Expr
+  view (e.Integer l) = tree.integer l.at l.text.items
+  view (e.Character at code) = tree.character at code
+  view (e.StringLiteral l) = tree.string l.at l.text.items
+  view (e.BitString l) = tree.bits l.at l.text.items
+  view (e.Name' identifier suffix attribute) = tree.named (ident_view identifier) (suffix_view suffix) (option_map ident_view attribute)
+  view (e.Parens' at p inner) = tree.parens at (view inner)
+  view (e.Not' at p operand) = tree.negation at (view operand)
+  view (e.Signed' sign at p operand) = tree.signed sign at (view operand)
+  view (e.Chain' p first shape rest) = links_view (view first) rest
+
+  pub suffix_view : Suffix → tree.Suffix
+  suffix_view s.Plain = tree.plain
+  suffix_view (s.Arguments' shape all) = tree.arguments (row_view all)
+  suffix_view (s.Range' p left direction right) = tree.sliced (view left) direction (view right)
+
+  pub row_view : {m : _} → Row_of-Expr m → tree.Exprs
+  row_view end_of-Expr = tree.no_exprs
+  row_view (more_of-Expr x rest) = tree.expr (view x) (row_view rest)
+
+  -- the operators of a chain, grouped from the left after its first operand
+  pub links_view : {m : _} → tree.Expr → Row_of-Link m → tree.Expr
+  links_view first end_of-Link = first
+  links_view first (more_of-Link operator at operand rest) = links_view (tree.binary operator at first (view operand)) rest
+
+abbrev pub pair_view : Link → tree.Pair
+pair_view l = record { operator = l.operator; at = l.at; operand = view l.operand }
+
+abbrev pub pairs_view : Vec Link Global → List tree.Pair
+pairs_view v = map pair_view v.items
+
+abbrev pub exprs_view : Vec Expr Global → List tree.Expr
+exprs_view v = map view v.items
+
+abbrev pub range_view : Range → tree.Range
+range_view r = record { left = view r.left; direction = r.direction; right = view r.right }
+
+abbrev pub option_expr_view : Option Expr → Option tree.Expr
+option_expr_view = option_map view
+
+abbrev pub option_range_view : Option Range → Option tree.Range
+option_range_view = option_map range_view
+
+abbrev pub name_view : Name → tree.Name
+name_view n = record { identifier = ident_view n.identifier; suffix = suffix_view n.suffix; attribute = option_map ident_view n.attribute }
+
+abbrev pub value_view : Value → tree.Value
+value_view (v.Expr x) = tree.single (view x)
+value_view (v.Others at x) = tree.others at (view x)
+
+abbrev pub choice_view : Choice → tree.Choice
+choice_view (ch.Expr x) = tree.chosen (view x)
+choice_view (ch.Others at) = tree.otherwise at
+
+abbrev pub choices_view : Vec Choice Global → List tree.Choice
+choices_view v = map choice_view v.items
+
+abbrev pub actual_view : Actual → tree.Actual
+actual_view (ac.Expr x) = tree.actual (view x)
+actual_view (ac.Open at) = tree.left_open at
+
+abbrev pub association_view : Association → tree.Association
+association_view a = record { formal = option_map ident_view a.formal; actual = actual_view a.actual }
+
+abbrev pub associations_view : Vec Association Global → List tree.Association
+associations_view v = map association_view v.items
+
+abbrev pub option_value_view : Option Value → Option tree.Value
+option_value_view = option_map value_view
+
+-- ---- sequential statements
+
+abbrev mutual
+  pub statement_view : Statement → tree.Statement
+  statement_view (st.Null at) = tree.nothing at
+  statement_view (st.Assignment target value) = tree.assigned (name_view target) (value_view value)
+  statement_view (st.If i) = if_view i
+  statement_view (st.Case c) = case_view c
+  statement_view (st.For f) = for_view f
+
+  pub if_view : If → tree.Statement
+  if_view (If' at shape branches otherwise end_label) = tree.conditional at (conditionals_row branches) (otherwise_row otherwise) (option_map ident_view end_label)
+
+  pub case_view : Case → tree.Statement
+  case_view (Case' at selector shape alternatives end_label) = tree.selection at (view selector) (alternatives_row alternatives) (option_map ident_view end_label)
+
+  pub for_view : For → tree.Statement
+  for_view (For' at parameter range shape statements end_label) = tree.loop at (ident_view parameter) (range_view range) (statements_row statements) (option_map ident_view end_label)
+
+  pub statements_row : {m : _} → Row_of-Sequential m → tree.Statements
+  statements_row end_of-Sequential = tree.no_statements
+  statements_row (more_of-Sequential label s rest) = tree.statement (option_map ident_view label) (statement_view s) (statements_row rest)
+
+  pub conditionals_row : {m : _} → Row_of-Conditional m → tree.Conditionals
+  conditionals_row end_of-Conditional = tree.no_conditionals
+  conditionals_row (more_of-Conditional c rest) = condition_row c (conditionals_row rest)
+
+  pub condition_row : Conditional → tree.Conditionals → tree.Conditionals
+  condition_row (Conditional' condition shape statements) rest = tree.guarded (view condition) (statements_row statements) rest
+
+  pub alternatives_row : {m : _} → Row_of-Alternative m → tree.Alternatives
+  alternatives_row end_of-Alternative = tree.no_alternatives
+  alternatives_row (more_of-Alternative a rest) = alternative_row a (alternatives_row rest)
+
+  pub alternative_row : Alternative → tree.Alternatives → tree.Alternatives
+  alternative_row (Alternative' choices shape statements) rest = tree.alternative (choices_view choices) (statements_row statements) rest
+
+  pub otherwise_row : Held-If-otherwise → tree.Otherwise
+  otherwise_row None' = tree.no_else
+  otherwise_row (Some' shape row) = tree.else_do (statements_row row)
+
+abbrev pub sequential_view : Sequential → tree.Sequential
+sequential_view s = record { label = option_map ident_view s.label; statement = statement_view s.statement }
+
+abbrev pub sequentials_view : Vec Sequential Global → List tree.Sequential
+sequentials_view v = map sequential_view v.items
+
+abbrev pub option_sequentials_view : Option (Vec Sequential Global) → Option (List tree.Sequential)
+option_sequentials_view = option_map sequentials_view
+
+abbrev pub conditional_view : Conditional → tree.Conditional
+conditional_view c = record { condition = view (out-Conditional c).condition; statements = sequentials_view (out-Conditional c).statements }
+
+abbrev pub conditionals_view : Vec Conditional Global → List tree.Conditional
+conditionals_view v = map conditional_view v.items
+
+abbrev pub alternative_view : Alternative → tree.Alternative
+alternative_view a = record { choices = choices_view (out-Alternative a).choices; statements = sequentials_view (out-Alternative a).statements }
+
+abbrev pub alternatives_view : Vec Alternative Global → List tree.Alternative
+alternatives_view v = map alternative_view v.items
+
+-- ---- processes and selected assignments
+
+abbrev pub names_view : Vec Name Global → List tree.Name
+names_view v = map name_view v.items
+
+abbrev pub sensitivity_view : Sensitivity → tree.Sensitivity
+sensitivity_view se.Absent = tree.absent
+sensitivity_view se.All = tree.every
+sensitivity_view (se.Names all) = tree.listed (names_view all)
+
+abbrev pub process_view : Process → tree.Process
+process_view p = record { at = p.at; sensitivity = sensitivity_view p.sensitivity; is_word = p.is_word; statements = sequentials_view p.statements; end_label = option_map ident_view p.end_label }
+
+abbrev pub waveform_view : Waveform → tree.Waveform
+waveform_view w = record { value = value_view w.value; choices = choices_view w.choices }
+
+abbrev pub waveforms_view : Vec Waveform Global → List tree.Waveform
+waveforms_view v = map waveform_view v.items
+
+abbrev pub selected_assignment_view : SelectedAssignment → tree.SelectedAssignment
+selected_assignment_view s = record { at = s.at; selector = view s.selector; target = name_view s.target; waveforms = waveforms_view s.waveforms }
+
+-- ---- instances
+
+abbrev pub instantiated_view : Instantiated → tree.Instantiated
+instantiated_view (it.Entity library name chosen) = tree.entity_unit (ident_view library) (ident_view name) (option_map ident_view chosen)
+instantiated_view (it.Component word name) = tree.component_unit word (ident_view name)
+
+abbrev pub instance_view : Instance → tree.Instance
+instance_view i = record { unit = instantiated_view i.unit; generics = option_map associations_view i.generics; ports = option_map associations_view i.ports }
+
+-- ---- concurrent statements
+
+abbrev pub branch_view : Branch → tree.Branch
+branch_view b = record { value = value_view b.value; condition = view b.condition }
+
+abbrev pub branches_view : Vec Branch Global → List tree.Branch
+branches_view v = map branch_view v.items
+
+abbrev pub assignment_view : Assignment → tree.Assignment
+assignment_view a = record { label = option_map ident_view a.label; target = name_view a.target; branches = branches_view a.branches; otherwise = option_map value_view a.otherwise }
+
+abbrev pub scheme_view : Scheme → tree.Scheme
+scheme_view (sc.For parameter range) = tree.for_each (ident_view parameter) (range_view range)
+scheme_view (sc.If condition) = tree.if_holds (view condition)
+
+abbrev mutual
+  pub concurrent_view : Concurrent → tree.Concurrent
+  concurrent_view (c.Assignment a) = tree.assignment (assignment_view a)
+  concurrent_view (c.Selected label s) = tree.selected (option_map ident_view label) (selected_assignment_view s)
+  concurrent_view (c.Process label p) = tree.process (option_map ident_view label) (process_view p)
+  concurrent_view (c.Instance label i) = tree.instance (ident_view label) (instance_view i)
+  concurrent_view (c.Generate' label at scheme begin_word shape statements end_label) = tree.generated (ident_view label) at (scheme_view scheme) begin_word (concurrents_row statements) (option_map ident_view end_label)
+
+  pub concurrents_row : {m : _} → Row_of-Concurrent m → tree.Concurrents
+  concurrents_row end_of-Concurrent = tree.no_concurrents
+  concurrents_row (more_of-Concurrent x rest) = tree.concurrent (concurrent_view x) (concurrents_row rest)
+
+abbrev pub concurrents_view : Vec Concurrent Global → List tree.Concurrent
+concurrents_view v = map concurrent_view v.items
+
+-- ---- declarations
+
+abbrev pub subtype_view : Subtype → tree.Subtype
+subtype_view t = record { mark = ident_view t.mark; range = option_map range_view t.range }
+
+abbrev pub generic_view : Generic → tree.Generic
+generic_view g = record { constant_word = g.constant_word; names = idents_view g.names; in_word = g.in_word; mark = ident_view g.mark; default = option_map view g.default }
+
+abbrev pub generics_view : Vec Generic Global → List tree.Generic
+generics_view v = map generic_view v.items
+
+abbrev pub port_view : Port → tree.Port
+port_view p = record { signal_word = p.signal_word; names = idents_view p.names; mode = p.mode; subtype = subtype_view p.subtype; default = option_map value_view p.default }
+
+abbrev pub ports_view : Vec Port Global → List tree.Port
+ports_view v = map port_view v.items
+
+abbrev pub signals_view : Signals → tree.Signals
+signals_view d = record { names = idents_view d.names; subtype = subtype_view d.subtype; default = option_map value_view d.default }
+
+abbrev pub constants_view : Constants → tree.Constants
+constants_view d = record { names = idents_view d.names; subtype = subtype_view d.subtype; value = value_view d.value }
+
+abbrev pub enumeration_view : Enumeration → tree.Enumeration
+enumeration_view d = record { name = ident_view d.name; literals = idents_view d.literals }
+
+abbrev pub component_view : Component → tree.Component
+component_view d = record { name = ident_view d.name; is_word = d.is_word; generics = option_map generics_view d.generics; ports = option_map ports_view d.ports; end_name = option_map ident_view d.end_name }
+
+abbrev pub declaration_view : Declaration → tree.Declaration
+declaration_view (d.Signals x) = tree.signals (signals_view x)
+declaration_view (d.Constants x) = tree.constants (constants_view x)
+declaration_view (d.Enumeration x) = tree.enumeration (enumeration_view x)
+declaration_view (d.Component x) = tree.component (component_view x)
+
+abbrev pub declarations_view : Vec Declaration Global → List tree.Declaration
+declarations_view v = map declaration_view v.items
+
+abbrev pub option_generics_view : Option (Vec Generic Global) → Option (List tree.Generic)
+option_generics_view = option_map generics_view
+
+abbrev pub option_ports_view : Option (Vec Port Global) → Option (List tree.Port)
+option_ports_view = option_map ports_view
+
+-- ---- units
+
+abbrev pub entity_view : Entity → tree.Entity
+entity_view n = record { at = n.at; name = ident_view n.name; generics = option_map generics_view n.generics; ports = option_map ports_view n.ports; end_word = n.end_word; end_name = option_map ident_view n.end_name }
+
+abbrev pub architecture_view : Architecture → tree.Architecture
+architecture_view a = record { at = a.at; name = ident_view a.name; entity = ident_view a.entity; declarations = declarations_view a.declarations; statements = concurrents_view a.statements; end_word = a.end_word; end_name = option_map ident_view a.end_name }
+
+abbrev pub selected_view : Selected → tree.Selected
+selected_view s = record { library = ident_view s.library; name = ident_view s.name }
+
+abbrev pub selecteds_view : Vec Selected Global → List tree.Selected
+selecteds_view v = map selected_view v.items
+
+abbrev pub context_view : ContextItem → tree.ContextItem
+context_view (x.Library names) = tree.library (idents_view names)
+context_view (x.Use all) = tree.uses (selecteds_view all)
+
+abbrev pub contexts_view : Vec ContextItem Global → List tree.ContextItem
+contexts_view v = map context_view v.items
+
+abbrev pub library_unit_view : LibraryUnit → tree.LibraryUnit
+library_unit_view (u.Entity n) = tree.entity (entity_view n)
+library_unit_view (u.Architecture a) = tree.architecture (architecture_view a)
+
+abbrev pub unit_view : DesignUnit → tree.DesignUnit
+unit_view n = record { context = contexts_view n.context; unit = library_unit_view n.unit }
+
+abbrev pub units_view : Vec DesignUnit Global → List tree.DesignUnit
+units_view v = map unit_view v.items
+
+abbrev pub file_view : File → tree.File
+file_view f = record { units = units_view f.units }

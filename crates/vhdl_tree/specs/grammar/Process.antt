@@ -1,0 +1,39 @@
+-- Processes and selected assignments (IEEE 1076-2008, 11.3, 11.6): how they are spelled, and which are well formed.
+use Rattle.std.specs.Prelude.{Option, Some, None, List, [], ◌∷◌, ◌++◌}
+use Rattle.vhdl_lexer.specs.declared.token.Kind.TheVariants as k
+use Rattle.vhdl_tree.specs.Tree.{Ident, Name, Process, Sensitivity, absent, every, listed, Waveform, SelectedAssignment, statements_of}
+use Rattle.vhdl_tree.specs.Pieces.{Piece, some, one_at, spell_ident, spell_word, spell_option, spell_list, IsList}
+use Rattle.vhdl_tree.specs.grammar.Expressions.{spell, spell_name, spell_value, spell_choices, IsExpr, IsName, IsValue, AreChoices}
+use Rattle.vhdl_tree.specs.grammar.Sequential.{spell_statements, AreStatements}
+
+-- [ ( all ) | ( name { , name } ) ]
+abbrev pub spell_sensitivity : Sensitivity → List Piece
+spell_sensitivity absent = []
+spell_sensitivity every = some k.LeftParen ∷ (some k.All ∷ (some k.RightParen ∷ []))
+spell_sensitivity (listed names) = some k.LeftParen ∷ (spell_list k.Comma spell_name names ++ some k.RightParen ∷ [])
+
+-- process = process [ .. ] [ is ] begin { seq } end process [ id ] ;
+abbrev pub spell_process : Process → List Piece
+spell_process p = one_at k.Process p.at ∷ (spell_sensitivity p.sensitivity ++ (spell_word k.Is p.is_word ++ (some k.Begin ∷ (spell_statements (statements_of p.statements) ++ (some k.End ∷ (some k.Process ∷ (spell_option spell_ident p.end_label ++ some k.Semicolon ∷ [])))))))
+
+abbrev pub IsSensitivity : Sensitivity → Type 0
+IsSensitivity absent = Unit {0}
+IsSensitivity every = Unit {0}
+IsSensitivity (listed names) = IsList IsName names
+
+abbrev pub IsProcess : Process → Type 0
+IsProcess p = IsSensitivity p.sensitivity × AreStatements (statements_of p.statements)
+
+-- value when choices
+abbrev pub spell_waveform : Waveform → List Piece
+spell_waveform w = spell_value w.value ++ (some k.When ∷ spell_choices w.choices)
+
+-- select = with expr select name <= value when choices { , value when choices } ;
+abbrev pub spell_selected : SelectedAssignment → List Piece
+spell_selected s = one_at k.With s.at ∷ (spell s.selector ++ (some k.Select ∷ (spell_name s.target ++ (some k.LessEqual ∷ (spell_list k.Comma spell_waveform s.waveforms ++ some k.Semicolon ∷ [])))))
+
+abbrev pub IsWaveform : Waveform → Type 0
+IsWaveform w = IsValue w.value × AreChoices w.choices
+
+abbrev pub IsSelected : SelectedAssignment → Type 0
+IsSelected s = IsExpr s.selector × IsName s.target × IsList IsWaveform s.waveforms

@@ -1,0 +1,61 @@
+-- Files, context clauses, entities and architectures (IEEE 1076-2008, 3.2, 3.3, 13): how they are spelled, and which are well formed.
+use Rattle.std.specs.Prelude.{◌≡◌, Bool, true, false, Option, Some, None, List, [], ◌∷◌, ◌++◌}
+use Rattle.vhdl_lexer.specs.declared.token.Kind.{Kind}
+use Rattle.vhdl_lexer.specs.declared.token.Kind.TheVariants as k
+use Rattle.vhdl_tree.specs.Tree.{Ident, Declaration, Concurrent, Entity, Architecture, Selected, ContextItem, library, uses, LibraryUnit, entity, architecture, DesignUnit, File}
+use Rattle.vhdl_tree.specs.Pieces.{Piece, some, one_at, spell_ident, spell_idents, spell_word, spell_option, spell_each, spell_list, IsAny, IsEach, IsList, IsOption}
+use Rattle.vhdl_tree.specs.grammar.Concurrent.{spell_concurrent, IsConcurrent}
+use Rattle.vhdl_tree.specs.grammar.Declarations.{spell_generics, spell_ports, spell_declaration, AreGenerics, ArePorts, IsDeclaration}
+
+-- id . id . all
+abbrev pub spell_selected : Selected → List Piece
+spell_selected s = spell_ident s.library ++ (some k.Dot ∷ (spell_ident s.name ++ (some k.Dot ∷ (some k.All ∷ []))))
+
+-- context = library ids ; | use id . id . all { , id . id . all } ;
+abbrev pub spell_context : ContextItem → List Piece
+spell_context (library names) = some k.Library ∷ (spell_idents names ++ some k.Semicolon ∷ [])
+spell_context (uses all) = some k.Use ∷ (spell_list k.Comma spell_selected all ++ some k.Semicolon ∷ [])
+
+-- end [ word ] [ id ] ;
+abbrev pub spell_end : Kind → Bool → Option Ident → List Piece
+spell_end word has_word name = some k.End ∷ (spell_word word has_word ++ (spell_option spell_ident name ++ some k.Semicolon ∷ []))
+
+-- entity = entity id is [ generics ] [ ports ] end [ entity ] [ id ] ;
+abbrev pub spell_entity : Entity → List Piece
+spell_entity e = one_at k.Entity e.at ∷ (spell_ident e.name ++ (some k.Is ∷ (spell_option spell_generics e.generics ++ (spell_option spell_ports e.ports ++ spell_end k.Entity e.end_word e.end_name))))
+
+-- arch = architecture id of id is { decl } begin { conc } end [ architecture ] [ id ] ;
+abbrev pub spell_architecture : Architecture → List Piece
+spell_architecture a = one_at k.Architecture a.at ∷ (spell_ident a.name ++ (some k.Of ∷ (spell_ident a.entity ++ (some k.Is ∷ (spell_each spell_declaration a.declarations ++ (some k.Begin ∷ (spell_each spell_concurrent a.statements ++ spell_end k.Architecture a.end_word a.end_name)))))))
+
+abbrev pub spell_library_unit : LibraryUnit → List Piece
+spell_library_unit (entity e) = spell_entity e
+spell_library_unit (architecture a) = spell_architecture a
+
+-- { context } ( entity | arch )
+abbrev pub spell_unit : DesignUnit → List Piece
+spell_unit u = spell_each spell_context u.context ++ spell_library_unit u.unit
+
+-- file = { { context } ( entity | arch ) }
+abbrev pub spell_file : File → List Piece
+spell_file f = spell_each spell_unit f.units
+
+abbrev pub IsContext : ContextItem → Type 0
+IsContext (library names) = IsList IsAny names
+IsContext (uses all) = IsList IsAny all
+
+abbrev pub IsEntity : Entity → Type 0
+IsEntity e = IsOption AreGenerics e.generics × IsOption ArePorts e.ports
+
+abbrev pub IsArchitecture : Architecture → Type 0
+IsArchitecture a = IsEach IsDeclaration a.declarations × IsEach IsConcurrent a.statements
+
+abbrev pub IsLibraryUnit : LibraryUnit → Type 0
+IsLibraryUnit (entity e) = IsEntity e
+IsLibraryUnit (architecture a) = IsArchitecture a
+
+abbrev pub IsUnit : DesignUnit → Type 0
+IsUnit u = IsEach IsContext u.context × IsLibraryUnit u.unit
+
+abbrev pub IsFile : File → Type 0
+IsFile f = IsEach IsUnit f.units

@@ -1,0 +1,81 @@
+//! Concurrent statements (IEEE 1076-2008 clause 11).
+
+ghost use Rattle.std.specs.Prelude.{◌≡◌};
+ghost use Rattle.vhdl_tree.specs.Tree.{generated, concurrents_of};
+ghost use Rattle.vhdl_tree.specs.View.{ident_view, option_ident_view, scheme_view, concurrent_view, concurrents_view};
+
+use crate::expression::{Expr, Identifier, Name, Range, Value};
+use crate::instance::Instance;
+use crate::process::{Process, SelectedAssignment};
+
+/// `value when condition`.
+#[derive(Drop)]
+pub struct Branch {
+    pub value: Value,
+    pub condition: Expr,
+}
+
+/// A concurrent assignment. The first branch whose condition holds gives the value, else the
+/// last value, if there is one. A plain assignment has no branch.
+#[derive(Drop)]
+pub struct Assignment {
+    pub label: Option<Identifier>,
+    pub target: Name,
+    pub branches: Vec<Branch>,
+    pub otherwise: Option<Value>,
+}
+
+/// A concurrent statement and its label. An assignment keeps its own.
+#[cycle(concurrent)]
+#[derive(Drop)]
+pub enum Concurrent {
+    Assignment(Assignment),
+    Selected(Option<Identifier>, SelectedAssignment),
+    Process(Option<Identifier>, Process),
+    Instance(Identifier, Instance),
+    Generate(Generate),
+}
+
+/// What a generate statement goes by: a parameter over a range, or a condition.
+#[derive(Drop)]
+pub enum Scheme {
+    For(Identifier, Range),
+    If(Expr),
+}
+
+/// A generate statement, and the byte at which its scheme starts. `begin_word` says whether
+/// `begin` stands before its statements.
+#[cycle(concurrent)]
+#[derive(Drop)]
+pub struct Generate {
+    pub label: Identifier,
+    pub at: usize,
+    pub scheme: Scheme,
+    pub begin_word: bool,
+    pub statements: Vec<Concurrent>,
+    pub end_label: Option<Identifier>,
+}
+
+impl Concurrent {
+    /// A generate statement.
+    pub fn generated(
+        label: Identifier,
+        at: usize,
+        scheme: Scheme,
+        begin_word: bool,
+        statements: Vec<Concurrent>,
+        end_label: Option<Identifier>,
+    ) -> Concurrent
+        ensures { concurrent_view result
+            ≡ generated (ident_view label) at (scheme_view scheme) begin_word (concurrents_of (concurrents_view statements)) (option_ident_view end_label) }
+    {
+        Concurrent::Generate(Generate {
+            label,
+            at,
+            scheme,
+            begin_word,
+            statements,
+            end_label,
+        })
+    }
+}

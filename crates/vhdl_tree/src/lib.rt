@@ -1,0 +1,24 @@
+//! The syntax tree of a file, and how it is spelled.
+#![tactic(auto)]
+
+mod concurrent;
+mod declaration;
+mod expression;
+mod instance;
+mod operator;
+mod process;
+mod sequential;
+mod unit;
+
+pub use concurrent::{Assignment, Branch, Concurrent, Generate, Scheme};
+pub use declaration::{
+    Component, Constants, Declaration, Enumeration, Generic, Mode, Port, Signals, Subtype,
+};
+pub use expression::{
+    Actual, Association, Choice, Expr, Identifier, Link, Literal, Name, Range, Suffix, Value,
+};
+pub use instance::{Instance, Instantiated};
+pub use operator::{Direction, Operator, Sign};
+pub use process::{Process, SelectedAssignment, Sensitivity, Waveform};
+pub use sequential::{Alternative, Case, Conditional, For, If, Sequential, Statement};
+pub use unit::{Architecture, ContextItem, DesignUnit, Entity, File, LibraryUnit, Selected};

@@ -1,0 +1,156 @@
+//! Sequential statements (IEEE 1076-2008 clause 10).
+
+ghost use Rattle.std.specs.Prelude.{◌≡◌};
+ghost use Rattle.vhdl_tree.specs.Tree.{conditional, selection, loop, guarded_by, chosen_by, statements_of, conditionals_of, alternatives_of, otherwise_of};
+ghost use Rattle.vhdl_tree.specs.View.{view, ident_view, option_ident_view, range_view, choices_view, statement_view, sequentials_view, option_sequentials_view, conditional_view, conditionals_view, alternative_view, alternatives_view};
+
+use crate::expression::{Choice, Expr, Identifier, Name, Range, Value};
+
+/// A sequential statement and its label.
+#[cycle(statement)]
+#[derive(Drop)]
+pub struct Sequential {
+    pub label: Option<Identifier>,
+    pub statement: Statement,
+}
+
+/// A sequential statement without its label.
+#[cycle(statement)]
+#[derive(Drop)]
+pub enum Statement {
+    /// `null`, and the byte at which it starts.
+    Null(usize),
+    /// A target and what is assigned to it.
+    Assignment(Name, Value),
+    If(If),
+    Case(Case),
+    For(For),
+}
+
+/// An if statement, and the byte at which it starts. Each branch but the first stands after
+/// `elsif`.
+#[cycle(statement)]
+#[derive(Drop)]
+pub struct If {
+    pub at: usize,
+    pub branches: Vec<Conditional>,
+    pub otherwise: Option<Vec<Sequential>>,
+    pub end_label: Option<Identifier>,
+}
+
+/// A condition, and the statements that it guards.
+#[cycle(statement)]
+#[derive(Drop)]
+pub struct Conditional {
+    pub condition: Expr,
+    pub statements: Vec<Sequential>,
+}
+
+/// A case statement, and the byte at which it starts.
+#[cycle(statement)]
+#[derive(Drop)]
+pub struct Case {
+    pub at: usize,
+    pub selector: Expr,
+    pub alternatives: Vec<Alternative>,
+    pub end_label: Option<Identifier>,
+}
+
+/// Choices, and the statements that they guard.
+#[cycle(statement)]
+#[derive(Drop)]
+pub struct Alternative {
+    pub choices: Vec<Choice>,
+    pub statements: Vec<Sequential>,
+}
+
+/// A for loop, and the byte at which it starts.
+#[cycle(statement)]
+#[derive(Drop)]
+pub struct For {
+    pub at: usize,
+    pub parameter: Identifier,
+    pub range: Range,
+    pub statements: Vec<Sequential>,
+    pub end_label: Option<Identifier>,
+}
+
+impl Conditional {
+    pub fn new(condition: Expr, statements: Vec<Sequential>) -> Conditional
+        ensures { conditional_view result ≡ guarded_by (view condition) (sequentials_view statements) }
+    {
+        Conditional {
+            condition,
+            statements,
+        }
+    }
+}
+
+impl Alternative {
+    pub fn new(choices: Vec<Choice>, statements: Vec<Sequential>) -> Alternative
+        ensures { alternative_view result ≡ chosen_by (choices_view choices) (sequentials_view statements) }
+    {
+        Alternative {
+            choices,
+            statements,
+        }
+    }
+}
+
+impl Statement {
+    /// An if statement.
+    pub fn conditional(
+        at: usize,
+        branches: Vec<Conditional>,
+        otherwise: Option<Vec<Sequential>>,
+        end_label: Option<Identifier>,
+    ) -> Statement
+        ensures { statement_view result
+            ≡ conditional at (conditionals_of (conditionals_view branches)) (otherwise_of (option_sequentials_view otherwise)) (option_ident_view end_label) }
+    {
+        Statement::If(If {
+            at,
+            branches,
+            otherwise,
+            end_label,
+        })
+    }
+
+    /// A case statement.
+    pub fn selection(
+        at: usize,
+        selector: Expr,
+        alternatives: Vec<Alternative>,
+        end_label: Option<Identifier>,
+    ) -> Statement
+        ensures { statement_view result
+            ≡ selection at (view selector) (alternatives_of (alternatives_view alternatives)) (option_ident_view end_label) }
+    {
+        Statement::Case(Case {
+            at,
+            selector,
+            alternatives,
+            end_label,
+        })
+    }
+
+    /// A for loop.
+    pub fn repetition(
+        at: usize,
+        parameter: Identifier,
+        range: Range,
+        statements: Vec<Sequential>,
+        end_label: Option<Identifier>,
+    ) -> Statement
+        ensures { statement_view result
+            ≡ loop at (ident_view parameter) (range_view range) (statements_of (sequentials_view statements)) (option_ident_view end_label) }
+    {
+        Statement::For(For {
+            at,
+            parameter,
+            range,
+            statements,
+            end_label,
+        })
+    }
+}
