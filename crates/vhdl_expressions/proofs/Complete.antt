@@ -1,5 +1,5 @@
 -- Expressions that are spelled are read, level by level.
-use Rattle.std.proofs.Common.{◌≡◌, ℕ, zero, suc, ◌+◌, ◌≤◌, ◌<◌, Bool, true, false, cond, List, [], ◌∷◌, ◌++◌, length, Ok, Err, Option, Some, None, ◌⊎◌, inl, inr, ⊎_elim, refl, sym, ap, ◌∙◌, subst, arith}
+use Rattle.std.proofs.Common.{◌≡◌, ℕ, zero, suc, ◌≤◌, ◌<◌, false, List, [], ◌∷◌, length, Ok, Option, Some, None, inl, refl, ap, ◌∙◌, arith}
 use Rattle.vhdl_lexer.specs.declared.token.Kind.{Kind}
 use Rattle.vhdl_lexer.specs.declared.token.Kind.TheVariants as k
 use Rattle.vhdl_tree.specs.declared.operator.Operator.{Operator}
@@ -8,11 +8,11 @@ use Rattle.vhdl_expressions.specs.declared.operator.Level.TheVariants.{Logical, 
 use Rattle.vhdl_tree.specs.declared.operator.Sign.{Sign}
 use Rattle.vhdl_tree.specs.declared.operator.Sign.TheVariants.{Plus, Minus}
 use Rattle.vhdl_tree.specs.Lexeme.{Lexeme, same_kind}
-use Rattle.vhdl_tree.specs.Tree.{Expr, integer, character, string, bits, named, parens, negation, signed, binary, Pair, joined}
-use Rattle.vhdl_tree.specs.Pieces.{Piece, some, one_at, Is, Spells}
-use Rattle.vhdl_tree.specs.grammar.Expressions.{kind_of, sign_kind, spell, rank, binding, Leads, IsExpr}
-use Rattle.vhdl_expressions.specs.reader.Input.{Outcome, Parser, and_then, next_kind, is_kind, test}
-use Rattle.vhdl_expressions.specs.reader.Expressions.{next_operator, sign_at, primary_by, primary, inverse, factor, pair, more_from, more, leading_by, leading, term, operand_of, first_of, chain_of, inside}
+use Rattle.vhdl_tree.specs.Tree.{Expr, negation, signed, binary, joined}
+use Rattle.vhdl_tree.specs.Pieces.{one_at, Spells}
+use Rattle.vhdl_tree.specs.grammar.Expressions.{kind_of, sign_kind, spell, rank, binding, IsExpr}
+use Rattle.vhdl_expressions.specs.reader.Input.{Parser, and_then, next_kind}
+use Rattle.vhdl_expressions.specs.reader.Expressions.{next_operator, sign_at, primary_by, primary, inverse, factor, pair, more_from, more, leading, term, operand_of, first_of, chain_of, inside}
 use Rattle.vhdl_expressions.proofs.Steps.{spells_split, spells_length}
 use Rattle.vhdl_expressions.proofs.Operators.{level_rank, grip, grip-kind_of, next_none, CanGo, can_first, can_after, leads_binding, level_of, rank-level_of, rank_most}
 use Rattle.vhdl_expressions.proofs.Yields.{Yields, yields_then, yields_is, yields_bind, expect_at, front}

@@ -1,5 +1,5 @@
 -- Names, parentheses and whole expressions that are spelled are read.
-use Rattle.std.proofs.Common.{◌≡◌, ℕ, zero, suc, ◌+◌, ◌≤◌, ◌<◌, Bool, true, false, cond, List, [], ◌∷◌, ◌++◌, length, Ok, Err, Option, Some, None, ◌⊎◌, inl, inr, refl, sym, ap, ◌∙◌, subst, append_assoc, append-nil, length-append, arith}
+use Rattle.std.proofs.Common.{◌≡◌, ℕ, zero, suc, ◌≤◌, ◌<◌, Bool, true, false, List, [], ◌∷◌, ◌++◌, length, Ok, Option, Some, None, inl, inr, refl, sym, ap, ◌∙◌, subst, append_assoc, append-nil, length-append, arith}
 use Rattle.vhdl_lexer.specs.declared.token.Kind.{Kind}
 use Rattle.vhdl_lexer.specs.declared.token.Kind.TheVariants as k
 use Rattle.vhdl_expressions.specs.declared.operator.Level.TheVariants.{Logical}
@@ -7,9 +7,9 @@ use Rattle.vhdl_tree.specs.declared.operator.Direction.{Direction}
 use Rattle.vhdl_tree.specs.declared.operator.Direction.TheVariants.{To, Downto}
 use Rattle.vhdl_tree.specs.Lexeme.{Lexeme, same_kind}
 use Rattle.vhdl_tree.specs.Tree.{Ident, Expr, integer, character, string, bits, named, parens, negation, signed, binary, Suffix, plain, arguments, sliced, Exprs, no_exprs, expr, exprs_of, Name}
-use Rattle.vhdl_tree.specs.Pieces.{Piece, some, one_at, word_at, literal_at, text_at, Is, Spells, spell_ident}
-use Rattle.vhdl_tree.specs.grammar.Expressions.{direction_kind, spell_attribute, spell, spell_suffix, spell_exprs, spell_more, spell_name, IsExpr, IsSuffix, AreArguments, AreExprs, IsName}
-use Rattle.vhdl_expressions.specs.reader.Input.{Outcome, Parser, and_then, next_kind, is_kind, optional, many_from, many}
+use Rattle.vhdl_tree.specs.Pieces.{Piece, some, one_at, word_at, literal_at, text_at, Spells, spell_ident}
+use Rattle.vhdl_tree.specs.grammar.Expressions.{direction_kind, spell_attribute, spell, spell_suffix, spell_more, spell_name, IsExpr, IsSuffix, AreExprs, IsName}
+use Rattle.vhdl_expressions.specs.reader.Input.{next_kind, is_kind, optional, many_from}
 use Rattle.vhdl_expressions.specs.reader.Expressions as read
 use Rattle.vhdl_expressions.specs.reader.Expressions.{attribute, sign_at, direction_at, argument, range_from, arguments_from, suffix_by, suffix, optional_suffix, name, name_expr, primary_by, parenthesis, inside}
 use Rattle.vhdl_expressions.proofs.Steps.{spells_append, spells_split, spells_length}

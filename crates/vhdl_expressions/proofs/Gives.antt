@@ -1,11 +1,11 @@
 -- What is spelled is read, or refused for its depth: one lemma for each way in which readers are made.
-use Rattle.std.proofs.Common.{◌≡◌, ℕ, zero, suc, ◌+◌, ◌≤◌, ◌<◌, Bool, true, false, cond, List, [], ◌∷◌, ◌++◌, length, slice_index, Result, Ok, Err, Option, Some, None, ◌⊎◌, inl, inr, ⊎_elim, refl, sym, ap, ◌∙◌, subst, append_assoc, append-nil, length-append, arith}
+use Rattle.std.proofs.Common.{◌≡◌, ℕ, zero, suc, ◌≤◌, Bool, true, false, cond, List, [], ◌∷◌, ◌++◌, length, slice_index, Ok, Err, Option, Some, None, ◌⊎◌, inl, inr, ⊎_elim, refl, sym, ap, ◌∙◌, subst, append_assoc, append-nil, length-append, arith}
 use Rattle.vhdl_lexer.specs.declared.token.Kind.{Kind}
 use Rattle.vhdl_lexer.specs.declared.token.Kind.TheVariants as k
 use Rattle.vhdl_expressions.specs.declared.stop.Stop.TheVariants.{TooDeep}
 use Rattle.vhdl_tree.specs.Lexeme.{Lexeme, same_kind}
 use Rattle.vhdl_tree.specs.Tree.{Ident}
-use Rattle.vhdl_tree.specs.Pieces.{Piece, some, one_at, word_at, literal_at, text_at, Is, Spells, spell_ident, spell_word, spell_option, spell_each, spell_list, IsAny, IsEach, IsList, IsOption}
+use Rattle.vhdl_tree.specs.Pieces.{Piece, some, one_at, word_at, literal_at, text_at, Is, Spells, spell_word, spell_option, spell_each, spell_list, IsEach, IsList, IsOption}
 use Rattle.vhdl_expressions.specs.reader.Input.{Outcome, Parser, and_then, token, expect, identifier, literal, next_kind, is_kind, test, eat, optional, many_from, many, below}
 use Rattle.vhdl_expressions.proofs.Steps.{spells_split, spells_length, kind_same, takes}
 

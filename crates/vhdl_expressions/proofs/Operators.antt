@@ -1,5 +1,5 @@
 -- Operators by level, and what may follow what.
-use Rattle.std.proofs.Common.{◌≡◌, ℕ, zero, suc, ◌+◌, ◌≤◌, ◌<◌, Bool, true, false, cond, Option, Some, None, ◌⊎◌, inl, inr, ⊎_elim, refl, sym, ap, ◌∙◌, subst, rules, arith}
+use Rattle.std.proofs.Common.{◌≡◌, ℕ, ◌≤◌, ◌<◌, Bool, true, false, cond, Option, Some, None, inl, inr, ⊎_elim, refl, sym, ap, ◌∙◌, subst, rules, arith}
 use denote.Enum.Bare.{same_true, true_same}
 use Rattle.vhdl_lexer.specs.declared.token.Kind.{Kind}
 use Rattle.vhdl_lexer.specs.declared.token.Kind.TheVariants as k
@@ -11,7 +11,7 @@ use Rattle.vhdl_expressions.specs.declared.operator.Level.TheVariants.{Logical, 
 use Rattle.vhdl_tree.specs.declared.operator.Sign.{Sign}
 use Rattle.vhdl_tree.specs.Lexeme.{same_kind}
 use Rattle.vhdl_tree.specs.Tree.{Expr, integer, character, string, bits, named, parens, negation, signed, binary}
-use Rattle.vhdl_tree.specs.grammar.Expressions.{kind_of, rank, repeats, binding, Chains, GoesOn, Leads}
+use Rattle.vhdl_tree.specs.grammar.Expressions.{kind_of, rank, repeats, binding, Leads}
 use Rattle.vhdl_expressions.specs.reader.Input.{is_kind}
 use Rattle.vhdl_expressions.specs.reader.Expressions.{logical_at, relation_at, adding_at, multiplying_at, operator_at, next_operator}
 

@@ -1,5 +1,5 @@
 -- How readers are made of tokens, choices and repetitions: what each makes.
-use Rattle.std.proofs.Common.{◌≡◌, ℕ, zero, suc, ◌+◌, ◌≤◌, ◌<◌, Bool, true, false, cond, List, [], ◌∷◌, ◌++◌, length, slice_index, Result, Ok, Err, Option, Some, None, ◌⊎◌, inl, inr, ⊎_elim, refl, sym, ap, ◌∙◌, subst, append_assoc, append-nil, arith}
+use Rattle.std.proofs.Common.{◌≡◌, ℕ, zero, suc, ◌+◌, ◌≤◌, Bool, true, false, cond, List, [], ◌∷◌, ◌++◌, length, slice_index, Ok, Err, Option, Some, None, ⊎_elim, refl, sym, ap, ◌∙◌, subst, append_assoc, append-nil, arith}
 use Rattle.vhdl_lexer.specs.declared.token.Kind.{Kind}
 use Rattle.vhdl_lexer.specs.declared.token.Kind.TheVariants as k
 use Rattle.vhdl_expressions.specs.declared.stop.Stop.TheVariants.{TooDeep}
@@ -8,8 +8,8 @@ use Rattle.vhdl_tree.specs.Tree.{Ident}
 use Rattle.vhdl_tree.specs.Pieces.{Piece, some, one_at, word_at, literal_at, Is, Spells, spell_ident, spell_word, spell_option, spell_each, spell_list, IsAny, IsEach, IsList, IsOption}
 use Rattle.vhdl_tree.specs.Levels.{is_end, opening, closing}
 use Rattle.vhdl_expressions.specs.reader.Input.{Outcome, Parser, and_then, token, expect, identifier, literal, next_kind, is_kind, test, refusal, eat, optional, many_from, many, below}
-use Rattle.vhdl_expressions.proofs.Steps.{bind_ok, bind_err, pure_ok, at_pure, pure_err, spells_append, Taken, taken, taken_shallow}
-use Rattle.vhdl_expressions.proofs.Walks.{Walk, walk_none, walk_append, walk_under, walk_least, walk_token, Deep, deep_after, deep_token, deep_under, deep_here, Made, Walks, Rule, afresh, w_pure, w_then, w_last}
+use Rattle.vhdl_expressions.proofs.Steps.{bind_ok, bind_err, at_pure, pure_err, spells_append, taken, taken_shallow}
+use Rattle.vhdl_expressions.proofs.Walks.{Walk, walk_none, walk_append, walk_under, walk_least, walk_token, Deep, deep_after, deep_token, deep_under, deep_here, Walks, Rule, w_pure, w_then, w_last}
 
 -- ---- tokens
 

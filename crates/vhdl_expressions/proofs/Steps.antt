@@ -1,15 +1,13 @@
 -- What the steps of a reader say of the tokens.
-use Rattle.std.proofs.Common.{◌≡◌, ℕ, Bool, true, false, cond, List, [], ◌∷◌, ◌++◌, length, Result, Ok, Err, Option, Some, None, ◌⊎◌, inl, inr, refl, sym, ap, ◌∙◌, subst, rules, slice_index, arith, ◌+◌}
+use Rattle.std.proofs.Common.{◌≡◌, ℕ, Bool, true, false, cond, List, [], ◌∷◌, ◌++◌, length, Result, Ok, Err, ◌⊎◌, inl, inr, refl, sym, ap, ◌∙◌, subst, rules, arith, ◌+◌}
 use denote.Enum.Bare.{same_true, true_same}
 use Rattle.vhdl_lexer.specs.declared.token.Kind.{Kind}
-use Rattle.vhdl_lexer.specs.declared.token.Kind.TheVariants as k
 use Rattle.vhdl_lexer.specs.contracts.token.Kind.{the_type}
 use Rattle.vhdl_expressions.specs.declared.stop.Stop.{Stop}
-use Rattle.vhdl_expressions.specs.declared.stop.Stop.TheVariants.{Unexpected, EndOfFile, TooDeep}
+use Rattle.vhdl_expressions.specs.declared.stop.Stop.TheVariants.{Unexpected, TooDeep}
 use Rattle.vhdl_tree.specs.Lexeme.{Lexeme, same_kind}
-use Rattle.vhdl_tree.specs.Tree.{Ident}
-use Rattle.vhdl_tree.specs.Pieces.{Piece, some, one_at, word_at, literal_at, text_at, Is, Spells, spell_ident}
-use Rattle.vhdl_expressions.specs.reader.Input.{Outcome, Parser, and_then, token, expect, identifier, literal, next_kind}
+use Rattle.vhdl_tree.specs.Pieces.{Piece, Is, Spells}
+use Rattle.vhdl_expressions.specs.reader.Input.{Outcome, Parser, and_then, token}
 
 pub bind_ok : {A B : Type 0} (r : Outcome A) (f : A → Parser B) (y : B × List Lexeme) → and_then r f ≡ Ok y → (p : A × List Lexeme) × (r ≡ Ok p) × (f p.0 p.1 ≡ Ok y)
 bind_ok (Ok p) f y h = (p, refl, h)

@@ -1,5 +1,5 @@
 -- What the readers of expressions make.
-use Rattle.std.proofs.Common.{◌≡◌, ℕ, zero, suc, ◌+◌, ◌≤◌, ◌<◌, Bool, true, false, List, [], ◌∷◌, ◌++◌, length, Ok, Err, Option, Some, None, inl, inr, refl, sym, ap, ◌∙◌, subst, append_assoc, append-nil, arith}
+use Rattle.std.proofs.Common.{◌≡◌, ℕ, zero, suc, ◌≤◌, Bool, true, false, List, [], ◌∷◌, ◌++◌, length, Ok, Option, Some, None, refl, sym, ap, ◌∙◌, subst, append_assoc, append-nil, arith}
 use Rattle.vhdl_lexer.specs.declared.token.Kind.{Kind}
 use Rattle.vhdl_lexer.specs.declared.token.Kind.TheVariants as k
 use Rattle.vhdl_tree.specs.declared.operator.Operator.{Operator}
@@ -10,15 +10,14 @@ use Rattle.vhdl_tree.specs.declared.operator.Sign.{Sign}
 use Rattle.vhdl_tree.specs.declared.operator.Sign.TheVariants.{Plus, Minus}
 use Rattle.vhdl_tree.specs.declared.operator.Direction.{Direction}
 use Rattle.vhdl_tree.specs.declared.operator.Direction.TheVariants.{To, Downto}
-use Rattle.vhdl_tree.specs.Lexeme.{Lexeme, same_kind}
-use Rattle.vhdl_tree.specs.Tree.{Ident, Expr, integer, character, string, bits, named, parens, negation, signed, binary, Suffix, plain, arguments, sliced, Exprs, no_exprs, expr, exprs_of, Name, Pair, joined}
-use Rattle.vhdl_tree.specs.Pieces.{Piece, some, one_at, word_at, literal_at, text_at, Spells, spell_each, IsAny, IsEach}
-use Rattle.vhdl_tree.specs.grammar.Expressions.{kind_of, sign_kind, direction_kind, spell_attribute, spell, spell_suffix, spell_exprs, spell_more, spell_name, rank, binding, Leads, IsExpr, IsSuffix, AreExprs, IsName}
-use Rattle.vhdl_expressions.specs.reader.Input.{Parser, Outcome, and_then, token, expect, identifier, text, is_kind, test, optional, many_from, many, next_kind}
+use Rattle.vhdl_tree.specs.Tree.{Expr, arguments, exprs_of, Pair, joined}
+use Rattle.vhdl_tree.specs.Pieces.{Piece, some, one_at, word_at, text_at, Spells, spell_each, IsAny, IsEach}
+use Rattle.vhdl_tree.specs.grammar.Expressions.{kind_of, sign_kind, direction_kind, spell_attribute, spell, spell_suffix, spell_more, spell_name, rank, binding, Leads, IsExpr, IsSuffix, AreExprs, IsName}
+use Rattle.vhdl_expressions.specs.reader.Input.{Parser, and_then, expect, text, is_kind, optional, many}
 use Rattle.vhdl_expressions.specs.reader.Expressions as read
 use Rattle.vhdl_expressions.specs.reader.Expressions.{next_operator, sign_at, direction_at, attribute, argument, range_from, arguments_from, suffix_by, suffix, optional_suffix, name, primary_by, primary, parenthesis, inverse, factor, pair, turn, more_from, more, leading_by, leading, chain, term, sum, relation, whole, operand_of, first_of, chain_of, inside}
 use Rattle.vhdl_expressions.proofs.Operators.{level_rank, next_is, Fits, fits_tight, fits_signed, fits_after}
-use Rattle.vhdl_expressions.proofs.Walks.{Walks, Rule, Made, afresh, w_pure, w_then}
+use Rattle.vhdl_expressions.proofs.Walks.{Walks, Rule, w_pure, w_then}
 use Rattle.vhdl_expressions.proofs.Rules.{is_neutral, neutral, w_take, w_at, w_some, w_left, w_left_at, w_right, w_ident, w_literal, w_refuse, w_choose, w_test, w_inner, under, under_none, many_made, many_deep}
 
 -- ---- rules under other names

@@ -1,13 +1,12 @@
 -- What the readers of ranges, values, choices and associations make.
-use Rattle.std.proofs.Common.{◌≡◌, ℕ, zero, suc, ◌≤◌, Bool, true, false, cond, List, [], ◌∷◌, ◌++◌, Ok, Err, Option, Some, None, refl, sym, ap, append-nil, arith}
-use Rattle.vhdl_lexer.specs.declared.token.Kind.{Kind}
+use Rattle.std.proofs.Common.{ℕ, Bool, true, false, cond, List, ◌++◌, Option, Some, None, refl, arith}
 use Rattle.vhdl_lexer.specs.declared.token.Kind.TheVariants as k
 use Rattle.vhdl_tree.specs.declared.operator.Direction.{Direction}
 use Rattle.vhdl_tree.specs.Lexeme.{Lexeme}
-use Rattle.vhdl_tree.specs.Tree.{Ident, Expr, Range, Value, single, others, Choice, chosen, otherwise, Actual, actual, left_open, Association}
-use Rattle.vhdl_tree.specs.Pieces.{Piece, some, spell_option, IsAny}
+use Rattle.vhdl_tree.specs.Tree.{Expr, single, chosen, actual}
+use Rattle.vhdl_tree.specs.Pieces.{Piece, spell_option, IsAny}
 use Rattle.vhdl_tree.specs.grammar.Expressions.{direction_kind, spell, spell_range, spell_value, spell_choice, spell_choices, spell_actual, spell_formal, spell_association, spell_associations, IsExpr, IsRange, IsValue, IsChoice, AreChoices, IsActual, IsAssociation, AreAssociations}
-use Rattle.vhdl_expressions.specs.reader.Input.{Parser, Outcome, and_then, expect, identifier, is_kind, test, test_both}
+use Rattle.vhdl_expressions.specs.reader.Input.{Parser, Outcome, expect, identifier, is_kind}
 use Rattle.vhdl_expressions.specs.reader.Expressions.{direction_at, range_by, range, others_value, value, choice, next_choice, choices, formal, optional_formal, actual_of, association, next_association, associations}
 use Rattle.vhdl_expressions.proofs.Walks.{Walks, Rule, w_pure, w_then, w_last}
 use Rattle.vhdl_expressions.proofs.Rules.{w_at, w_some, w_left_at, w_right, w_ident, w_refuse, w_choose, w_test, w_inner, list_rule}

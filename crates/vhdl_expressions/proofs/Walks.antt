@@ -1,15 +1,12 @@
 -- What a reader reads is spelled so and well formed, and what it refuses for its depth is too deep: one lemma for each way in which readers are made.
-use Rattle.std.proofs.Common.{◌≡◌, ℕ, zero, suc, ◌+◌, ◌≤◌, ◌<◌, Bool, true, false, ◌&&◌, not, cond, List, [], ◌∷◌, ◌++◌, length, take, Result, Ok, Err, Option, Some, None, ◌⊎◌, inl, inr, ⊎_elim, refl, sym, ap, ◌∙◌, subst, append_assoc, append-nil, arith}
+use Rattle.std.proofs.Common.{◌≡◌, ℕ, zero, suc, ◌+◌, ◌≤◌, ◌<◌, Bool, false, List, [], ◌∷◌, ◌++◌, length, take, Ok, Err, ⊎_elim, refl, sym, ap, ◌∙◌, subst, append_assoc, arith}
 use Rattle.std.proofs.Math.Seq.{take-append_seam}
-use Rattle.vhdl_lexer.specs.declared.token.Kind.{Kind}
-use Rattle.vhdl_lexer.specs.declared.token.Kind.TheVariants as k
 use Rattle.vhdl_expressions.specs.declared.stop.Stop.TheVariants.{TooDeep}
-use Rattle.vhdl_tree.specs.Lexeme.{Lexeme, same_kind}
-use Rattle.vhdl_tree.specs.Tree.{Ident}
-use Rattle.vhdl_tree.specs.Pieces.{Piece, some, one_at, word_at, literal_at, Is, Spells, spell_ident, spell_word, spell_option, spell_each, IsEach}
-use Rattle.vhdl_tree.specs.Levels.{begins_level, ends_level, is_end, opening, closing, opens, closes, IsShallow, IsDeep}
-use Rattle.vhdl_expressions.specs.reader.Input.{Outcome, Parser, and_then, token, expect, identifier, literal, next_kind, is_kind, test, choose, refusal, eat, optional, many_from, many, below}
-use Rattle.vhdl_expressions.proofs.Steps.{bind_ok, bind_err, pure_ok, at_pure, pure_err, spells_append, spells_one, Taken, taken, taken_shallow}
+use Rattle.vhdl_tree.specs.Lexeme.{Lexeme}
+use Rattle.vhdl_tree.specs.Pieces.{Piece, Spells}
+use Rattle.vhdl_tree.specs.Levels.{is_end, opening, closing, opens, closes, IsDeep}
+use Rattle.vhdl_expressions.specs.reader.Input.{Parser, and_then}
+use Rattle.vhdl_expressions.proofs.Steps.{bind_ok, bind_err, at_pure, pure_err, spells_append}
 
 -- ---- counting levels
 

@@ -1,12 +1,12 @@
 -- Readers that read what is spelled, unless it is too deep: one lemma for each step.
-use Rattle.std.proofs.Common.{◌≡◌, ℕ, ◌+◌, ◌≤◌, ◌<◌, Bool, true, false, cond, List, [], ◌∷◌, ◌++◌, length, slice_index, Ok, Err, Option, Some, None, ◌⊎◌, inl, inr, refl, sym, ap, ◌∙◌, subst, arith}
+use Rattle.std.proofs.Common.{◌≡◌, ℕ, List, [], ◌∷◌, slice_index, Ok, Err, Some, ◌⊎◌, inl, inr, refl, ap, ◌∙◌}
 use Rattle.vhdl_lexer.specs.declared.token.Kind.{Kind}
 use Rattle.vhdl_lexer.specs.declared.token.Kind.TheVariants as k
 use Rattle.vhdl_expressions.specs.declared.stop.Stop.TheVariants.{TooDeep}
 use Rattle.vhdl_tree.specs.Lexeme.{Lexeme}
 use Rattle.vhdl_tree.specs.Tree.{Ident}
 use Rattle.vhdl_tree.specs.Pieces.{Piece, some, one_at, word_at, literal_at, text_at, Is, Spells, spell_ident}
-use Rattle.vhdl_expressions.specs.reader.Input.{Outcome, Parser, and_then, token, expect, identifier, literal, text, next_kind}
+use Rattle.vhdl_expressions.specs.reader.Input.{Outcome, Parser, and_then, expect, identifier, literal, text, next_kind}
 use Rattle.vhdl_expressions.proofs.Steps.{spelled_one, takes}
 
 -- an outcome is the other one, or refused for its depth

@@ -1,5 +1,5 @@
 -- Conditional assignments: what is read is spelled so, and what is spelled is read.
-use Rattle.std.proofs.Common.{◌≡◌, ℕ, zero, suc, ◌+◌, ◌≤◌, ◌<◌, Bool, true, false, List, [], ◌∷◌, ◌++◌, length, Ok, Option, Some, None, refl, sym, ap, ◌∙◌, subst, append_assoc, append-nil, length-append, arith}
+use Rattle.std.proofs.Common.{◌≡◌, ℕ, zero, suc, ◌+◌, ◌≤◌, true, false, List, [], ◌∷◌, ◌++◌, length, Ok, Option, Some, None, refl, sym, ap, ◌∙◌, subst, append_assoc, append-nil, length-append, arith}
 use Rattle.vhdl_lexer.specs.declared.token.Kind.{Kind}
 use Rattle.vhdl_lexer.specs.declared.token.Kind.TheVariants as k
 use Rattle.vhdl_tree.specs.Lexeme.{Lexeme, same_kind}
@@ -7,7 +7,7 @@ use Rattle.vhdl_tree.specs.Tree.{Expr, Value, Branch}
 use Rattle.vhdl_tree.specs.Pieces.{Piece, some, spell_each, spell_option, IsEach, IsOption}
 use Rattle.vhdl_tree.specs.grammar.Expressions.{spell, spell_value, IsExpr, IsValue}
 use Rattle.vhdl_tree.specs.grammar.Concurrent.{spell_branch, spell_otherwise, spell_waveforms, IsBranch, AreWaveforms}
-use Rattle.vhdl_expressions.specs.reader.Input.{Parser, and_then, expect, next_kind, is_kind}
+use Rattle.vhdl_expressions.specs.reader.Input.{next_kind, is_kind}
 use Rattle.vhdl_parser.specs.reader.Waves.{Waveforms, condition, Part, part, else_part, go_on, more_branches_from, more_branches, waves}
 use Rattle.vhdl_expressions.proofs.Steps.{spells_length}
 use Rattle.vhdl_expressions.proofs.Walks.{Rule, Walks, w_pure, w_then, w_last, w_rule}

@@ -1,19 +1,18 @@
 -- What the readers of concurrent statements make.
-use Rattle.std.proofs.Common.{◌≡◌, ℕ, zero, suc, ◌+◌, ◌≤◌, Bool, true, false, cond, Ok, Err, ⊎_elim, List, [], ◌∷◌, ◌++◌, Option, Some, None, refl, sym, ap, ◌∙◌, subst, append-nil, arith}
+use Rattle.std.proofs.Common.{◌≡◌, ℕ, zero, suc, ◌≤◌, Bool, false, Ok, ⊎_elim, List, [], ◌∷◌, ◌++◌, Option, Some, None, refl, sym, ap, ◌∙◌, append-nil, arith}
 use Rattle.vhdl_lexer.specs.declared.token.Kind.{Kind}
 use Rattle.vhdl_lexer.specs.declared.token.Kind.TheVariants as k
-use Rattle.vhdl_tree.specs.Lexeme.{Lexeme, same_kind}
-use Rattle.vhdl_tree.specs.Tree.{Ident, Expr, Range, Name, Value, Branch, Assignment, Scheme, for_each, if_holds, Concurrent, assignment, selected, process, instance, generated, Concurrents, no_concurrents, concurrents_of}
-use Rattle.vhdl_tree.specs.Pieces.{Piece, some, one_at, word_at, spell_option, spell_word, spell_each, IsEach}
-use Rattle.vhdl_tree.specs.grammar.Expressions.{spell_range}
+use Rattle.vhdl_tree.specs.Lexeme.{same_kind}
+use Rattle.vhdl_tree.specs.Tree.{Ident, Scheme, for_each, if_holds, Concurrent, assignment, selected, process, instance, generated, concurrents_of}
+use Rattle.vhdl_tree.specs.Pieces.{Piece, some, spell_option, spell_word, spell_each, IsEach}
 use Rattle.vhdl_tree.specs.grammar.Sequential.{spell_label, spell_end}
 use Rattle.vhdl_tree.specs.grammar.Concurrent.{spell_assignment, spell_scheme, spell_concurrent, spell_concurrents, IsAssignment, IsScheme, IsConcurrent, AreConcurrents}
-use Rattle.vhdl_expressions.specs.reader.Input.{Parser, Outcome, and_then, expect, many}
+use Rattle.vhdl_expressions.specs.reader.Input.{Parser, and_then, expect}
 use Rattle.vhdl_parser.specs.reader.Concurrent.{concurrent, assign, begins_concurrent, select_with, process_with, assign_with, instance_with, named_with, unlabelled_by, unlabelled, generate_rest, for_generate, if_generate, labelled_by, labelled, by_label, concurrents_with, deeper_concurrents, concurrents}
 use Rattle.vhdl_expressions.specs.declared.stop.Stop.TheVariants.{TooDeep}
 use Rattle.vhdl_expressions.proofs.Steps.{bind_ok, bind_err, at_pure, pure_err}
 use Rattle.vhdl_expressions.proofs.Walks.{Walks, Rule, Made, w_pure, w_then, w_last}
-use Rattle.vhdl_expressions.proofs.Rules.{w_take, w_some, w_word, w_ident, w_refuse, w_choose, w_below, under, under_none, word_rule, each_rule}
+use Rattle.vhdl_expressions.proofs.Rules.{w_take, w_some, w_ident, w_refuse, w_choose, w_below, under, under_none, word_rule, each_rule}
 use Rattle.vhdl_expressions.proofs.WalkExpressions.{w_ends, expr_rule, a_name_rule}
 use Rattle.vhdl_expressions.proofs.WalkValues.{w_by, range_rule}
 use Rattle.vhdl_parser.proofs.Branches.{waves_rule}

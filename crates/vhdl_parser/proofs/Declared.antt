@@ -1,20 +1,19 @@
 -- Declarations: what is read is spelled so, and what is spelled is read.
-use Rattle.std.proofs.Common.{◌≡◌, ℕ, zero, suc, ◌+◌, ◌≤◌, ◌<◌, Bool, true, false, List, [], ◌∷◌, ◌++◌, length, Ok, Option, Some, None, refl, sym, ap, ◌∙◌, subst, arith}
+use Rattle.std.proofs.Common.{◌≡◌, ℕ, ◌≤◌, true, false, List, [], ◌∷◌, ◌++◌, length, Option, Some, None, refl, arith}
 use Rattle.vhdl_lexer.specs.declared.token.Kind.{Kind}
 use Rattle.vhdl_lexer.specs.declared.token.Kind.TheVariants as k
 use Rattle.vhdl_tree.specs.Lexeme.{same_kind}
-use Rattle.vhdl_tree.specs.Tree.{Ident, Value, Subtype, Generic, Port, Signals, Constants, Enumeration, Component, Declaration, signals, constants, enumeration, component}
-use Rattle.vhdl_tree.specs.Pieces.{Piece, some, spell_ident, spell_idents, spell_word, spell_option, spell_each, IsAny, IsEach, IsList, IsOption}
-use Rattle.vhdl_tree.specs.grammar.Expressions.{spell_value, IsValue}
-use Rattle.vhdl_tree.specs.grammar.Declarations.{spell_subtype, spell_default, spell_generics, spell_ports, spell_signals, spell_constants, spell_enumeration, spell_component, spell_declaration, IsSubtype, AreGenerics, ArePorts, IsSignals, IsConstants, IsEnumeration, IsComponent, IsDeclaration}
-use Rattle.vhdl_expressions.specs.reader.Input.{and_then, expect, identifier, next_kind, is_kind, many, eat, below, optional}
-use Rattle.vhdl_parser.specs.reader.Declarations.{idents, end_name, subtype, optional_default, optional_generics, optional_ports, signals_of, constants_of, enumeration_of, component_of, declaration_by, declaration, begins_declaration, declarations}
-use Rattle.vhdl_expressions.proofs.Walks.{Rule, Walks, w_pure, w_then, w_last}
+use Rattle.vhdl_tree.specs.Tree.{Value, Generic, Port, Signals, Constants, Enumeration, Component, Declaration, signals, constants, enumeration, component}
+use Rattle.vhdl_tree.specs.Pieces.{some, spell_ident, spell_option, spell_each, IsEach}
+use Rattle.vhdl_tree.specs.grammar.Declarations.{spell_default, spell_generics, spell_ports, spell_signals, spell_constants, spell_enumeration, spell_component, spell_declaration, IsSignals, IsConstants, IsEnumeration, IsComponent, IsDeclaration}
+use Rattle.vhdl_expressions.specs.reader.Input.{is_kind}
+use Rattle.vhdl_parser.specs.reader.Declarations.{end_name, signals_of, constants_of, enumeration_of, component_of, declaration_by, declaration, begins_declaration, declarations}
+use Rattle.vhdl_expressions.proofs.Walks.{Rule, w_pure, w_then, w_last}
 use Rattle.vhdl_expressions.proofs.Rules.{w_some, w_end, w_ident, w_left, w_right, w_below, w_choose, w_refuse, w_option_ident, under, word_rule, each_rule}
 use Rattle.vhdl_expressions.proofs.Gives.{Gives, Whatever, front, g_pure, g_then, g_map, g_some, g_ident, g_choose, g_below, eat_gives, more_gives}
 use Rattle.vhdl_expressions.proofs.WalkValues.{value_rule}
-use Rattle.vhdl_expressions.proofs.GiveValues.{Ends, value_gives}
-use Rattle.vhdl_parser.proofs.Ports.{idents_rule, idents_gives, end_name_gives, subtype_rule, subtype_gives, optional_default_rule, optional_default_gives, default_no_paren, optional_generics_rule, optional_generics_gives, optional_ports_rule, optional_ports_gives}
+use Rattle.vhdl_expressions.proofs.GiveValues.{value_gives}
+use Rattle.vhdl_parser.proofs.Ports.{idents_rule, idents_gives, end_name_gives, subtype_rule, subtype_gives, optional_default_rule, optional_default_gives, optional_generics_rule, optional_generics_gives, optional_ports_rule, optional_ports_gives}
 
 -- ---- what is read is spelled so
 

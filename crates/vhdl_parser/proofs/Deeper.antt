@@ -1,5 +1,5 @@
 -- What stands one level down, where so many levels may be opened.
-use Rattle.std.proofs.Common.{◌≡◌, ℕ, zero, suc, ◌+◌, List, Ok, ap}
+use Rattle.std.proofs.Common.{◌≡◌, ℕ, zero, suc, List, Ok, ap}
 use Rattle.vhdl_tree.specs.Lexeme.{Lexeme}
 use Rattle.vhdl_expressions.specs.reader.Input.{below}
 use Rattle.vhdl_parser.specs.reader.Sequential.{deeper, statements}

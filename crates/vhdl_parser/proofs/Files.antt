@@ -1,24 +1,22 @@
 -- Context clauses, units and files: what is read is spelled so, and what is spelled is read.
-use Rattle.std.proofs.Common.{◌≡◌, ℕ, zero, suc, ◌+◌, ◌≤◌, ◌<◌, Bool, true, false, List, [], ◌∷◌, ◌++◌, length, take, Ok, Err, Option, Some, None, ◌⊎◌, inl, inr, ⊎_elim, refl, sym, ap, ◌∙◌, subst, append-nil, arith}
+use Rattle.std.proofs.Common.{◌≡◌, ℕ, ◌+◌, ◌≤◌, Bool, true, false, List, [], ◌∷◌, ◌++◌, length, take, Ok, Err, Option, Some, None, inl, inr, ⊎_elim, refl, sym, ap, ◌∙◌, subst, append-nil, arith}
 use Rattle.vhdl_lexer.specs.declared.token.Kind.{Kind}
 use Rattle.vhdl_lexer.specs.declared.token.Kind.TheVariants as k
 use Rattle.vhdl_expressions.specs.declared.stop.Stop.{Stop}
 use Rattle.vhdl_expressions.specs.declared.stop.Stop.TheVariants.{TooDeep}
 use Rattle.vhdl_tree.specs.Lexeme.{Lexeme, same_kind}
-use Rattle.vhdl_tree.specs.Tree.{Ident, Generic, Port, Declaration, Concurrent, Entity, Architecture, Selected, ContextItem, library, uses, LibraryUnit, entity, architecture, DesignUnit, File}
-use Rattle.vhdl_tree.specs.Pieces.{Piece, some, Spells, spell_ident, spell_idents, spell_word, spell_option, spell_each, spell_list, IsAny, IsEach, IsList, IsOption, IsAbsent}
+use Rattle.vhdl_tree.specs.Tree.{Ident, Port, Entity, Architecture, Selected, ContextItem, library, uses, LibraryUnit, entity, architecture, DesignUnit, File}
+use Rattle.vhdl_tree.specs.Pieces.{some, Spells, spell_ident, spell_option, spell_each, spell_list, IsAny, IsEach, IsList}
 use Rattle.vhdl_tree.specs.Levels.{opens, closes, IsShallow, IsDeep}
-use Rattle.vhdl_tree.specs.grammar.Concurrent.{spell_concurrent, IsConcurrent}
-use Rattle.vhdl_tree.specs.grammar.Declarations.{spell_generics, spell_ports, spell_declaration, AreGenerics, ArePorts, IsDeclaration}
+use Rattle.vhdl_tree.specs.grammar.Declarations.{spell_ports}
 use Rattle.vhdl_tree.specs.grammar.Units.{spell_selected, spell_context, spell_end, spell_entity, spell_architecture, spell_library_unit, spell_unit, spell_file, IsContext, IsEntity, IsArchitecture, IsLibraryUnit, IsUnit, IsFile}
-use Rattle.vhdl_expressions.specs.reader.Input.{Outcome, Parser, and_then, expect, identifier, next_kind, is_kind, is_more, many, eat, optional, refusal}
-use Rattle.vhdl_parser.specs.reader.Concurrent.{concurrents, begins_concurrent}
-use Rattle.vhdl_parser.specs.reader.Declarations.{idents, end_name, optional_generics, optional_ports, declarations, begins_declaration}
+use Rattle.vhdl_expressions.specs.reader.Input.{Outcome, and_then, expect, next_kind, is_kind, is_more, eat, refusal}
+use Rattle.vhdl_parser.specs.reader.Declarations.{end_name}
 use Rattle.vhdl_parser.specs.reader.Units.{max_open, selected, next_selected, selecteds, library_clause, use_clause, context_item, begins_context, entity_unit, architecture_unit, library_unit_by, library_unit, context, unit, units, finish, file}
 use Rattle.vhdl_expressions.proofs.Steps.{bind_ok, bind_err, pure_ok, pure_err}
-use Rattle.vhdl_expressions.proofs.Walks.{Rule, Walks, Made, w_pure, w_then, w_last, w_rule, low_at, deep_is}
-use Rattle.vhdl_expressions.proofs.Rules.{w_at, w_some, w_end, w_ident, w_word, w_option_ident, w_choose, w_refuse, w_test, option_rule, each_rule, list_rule}
-use Rattle.vhdl_expressions.proofs.Gives.{Gives, Reaches, Whatever, front, g_pure, g_then, g_map, g_at, g_some, g_ident, g_choose, g_yes, g_no, eat_gives, option_gives, more_gives, list_gives}
+use Rattle.vhdl_expressions.proofs.Walks.{Rule, Made, w_pure, w_then, w_last, w_rule, low_at, deep_is}
+use Rattle.vhdl_expressions.proofs.Rules.{w_at, w_some, w_end, w_ident, w_word, w_option_ident, w_choose, w_refuse, w_test, each_rule, list_rule}
+use Rattle.vhdl_expressions.proofs.Gives.{Gives, Reaches, Whatever, front, g_pure, g_then, g_map, g_at, g_some, g_ident, g_choose, g_yes, g_no, eat_gives, more_gives, list_gives}
 use Rattle.vhdl_parser.proofs.Ports.{idents_rule, idents_gives, end_name_gives, optional_generics_rule, optional_generics_gives, optional_ports_rule, optional_ports_gives}
 use Rattle.vhdl_parser.proofs.Declared.{declarations_rule, declarations_gives}
 use Rattle.vhdl_parser.proofs.Concurrents.{concurrents_rule}

@@ -1,26 +1,26 @@
 -- Concurrent statements that are spelled are read.
-use Rattle.std.proofs.Common.{◌≡◌, ℕ, zero, suc, ◌+◌, ◌≤◌, ◌<◌, Bool, true, false, ◌||◌, cond, List, [], ◌∷◌, ◌++◌, length, Ok, Err, Option, Some, None, refl, sym, ap, ◌∙◌, subst, length-append, append_assoc, arith}
+use Rattle.std.proofs.Common.{◌≡◌, ℕ, suc, ◌≤◌, Bool, true, false, ◌||◌, cond, List, [], ◌∷◌, ◌++◌, length, Ok, Option, Some, None, refl, sym, ap, ◌∙◌, subst, length-append, append_assoc, arith}
 use Rattle.vhdl_lexer.specs.declared.token.Kind.{Kind}
 use Rattle.vhdl_lexer.specs.declared.token.Kind.TheVariants as k
 use Rattle.vhdl_tree.specs.Lexeme.{Lexeme, same_kind}
 use Rattle.vhdl_tree.specs.Tree.{Ident, Expr, Suffix, plain, arguments, sliced, Range, Name, Value, Branch, Assignment, SelectedAssignment, Process, Association, Instantiated, entity_unit, component_unit, Instance, Scheme, for_each, if_holds, Concurrent, assignment, selected, process, instance, generated, Concurrents, no_concurrents, concurrents_of}
 use Rattle.vhdl_tree.specs.Tree as tree
-use Rattle.vhdl_tree.specs.Pieces.{Piece, some, one_at, word_at, Spells, spell_ident, spell_option, spell_word, spell_each, IsEach}
-use Rattle.vhdl_tree.specs.grammar.Expressions.{spell, spell_name, spell_range, IsExpr, IsName, IsRange}
+use Rattle.vhdl_tree.specs.Pieces.{Piece, some, Spells, spell_ident, spell_option, spell_word, spell_each, IsEach}
+use Rattle.vhdl_tree.specs.grammar.Expressions.{spell_name, IsName}
 use Rattle.vhdl_tree.specs.grammar.Sequential.{spell_label, spell_end}
 use Rattle.vhdl_tree.specs.grammar.Process.{spell_process, spell_selected, IsProcess, IsSelected}
-use Rattle.vhdl_tree.specs.grammar.Instance.{spell_map, spell_instantiated, spell_instance, IsInstance}
-use Rattle.vhdl_tree.specs.grammar.Concurrent.{spell_waveforms, spell_assignment, spell_scheme, spell_concurrent, spell_concurrents, AreWaveforms, IsAssignment, IsScheme, IsConcurrent, AreConcurrents}
+use Rattle.vhdl_tree.specs.grammar.Instance.{spell_map, spell_instance, IsInstance}
+use Rattle.vhdl_tree.specs.grammar.Concurrent.{spell_waveforms, spell_scheme, spell_concurrent, AreWaveforms, IsScheme, IsConcurrent, AreConcurrents}
 use Rattle.vhdl_expressions.specs.reader.Input.{Parser, Outcome, and_then, next_kind, is_kind, sees_both}
 use Rattle.vhdl_parser.specs.reader.Sequential.{label, optional_label}
-use Rattle.vhdl_parser.specs.reader.Concurrent.{concurrent, assign, begins_concurrent, select_with, process_with, assign_with, instance_with, sees_component, named_with, unlabelled_by, unlabelled, generate_rest, for_generate, if_generate, labelled_by, labelled, by_label, concurrents_with, deeper_concurrents, concurrents}
-use Rattle.vhdl_expressions.proofs.Gives.{Reaches, Gives, Whatever, front, g_pure, g_then, g_map, g_at, g_some, g_ident, g_below, g_choose, g_weaken, eat_gives, more_gives}
+use Rattle.vhdl_parser.specs.reader.Concurrent.{concurrent, assign, begins_concurrent, assign_with, instance_with, sees_component, named_with, unlabelled_by, unlabelled, generate_rest, for_generate, if_generate, labelled_by, labelled, by_label, concurrents_with, deeper_concurrents, concurrents}
+use Rattle.vhdl_expressions.proofs.Gives.{Reaches, Gives, Whatever, front, g_pure, g_then, g_map, g_at, g_some, g_ident, g_below, g_choose, eat_gives, more_gives}
 use Rattle.vhdl_expressions.proofs.GiveValues.{both, sees_is, g_neither_then, expr_gives, name_gives, range_gives}
 use Rattle.vhdl_parser.proofs.Branches.{waves_gives}
 use Rattle.vhdl_parser.proofs.GiveSequential.{label_gives, end_gives}
 use Rattle.vhdl_parser.proofs.GiveProcess.{process_gives, selected_gives}
 use Rattle.vhdl_parser.proofs.GiveInstance.{instance_gives}
-use Rattle.vhdl_parser.proofs.Concurrents.{spelled_all, formed_all, spelled_all-each}
+use Rattle.vhdl_parser.proofs.Concurrents.{spelled_all, spelled_all-each}
 
 -- ---- labels
 

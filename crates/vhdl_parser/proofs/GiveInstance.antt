@@ -1,13 +1,13 @@
 -- Instances that are spelled are read.
-use Rattle.std.proofs.Common.{◌≡◌, ℕ, zero, suc, ◌+◌, ◌≤◌, ◌<◌, Bool, true, false, List, [], ◌∷◌, ◌++◌, Option, Some, None, refl, sym, ap, ◌∙◌, subst, arith}
+use Rattle.std.proofs.Common.{◌≡◌, ℕ, true, false, List, [], ◌∷◌, ◌++◌, Option, Some, None, refl, arith}
 use Rattle.vhdl_lexer.specs.declared.token.Kind.{Kind}
 use Rattle.vhdl_lexer.specs.declared.token.Kind.TheVariants as k
 use Rattle.vhdl_tree.specs.Lexeme.{same_kind}
 use Rattle.vhdl_tree.specs.Tree.{Ident, Association, Instantiated, entity_unit, component_unit, Instance}
-use Rattle.vhdl_tree.specs.Pieces.{Piece, some, spell_ident, spell_word, spell_option, IsAny, IsOption}
-use Rattle.vhdl_tree.specs.grammar.Expressions.{spell_associations, AreAssociations}
+use Rattle.vhdl_tree.specs.Pieces.{some, spell_option, IsAny, IsOption}
+use Rattle.vhdl_tree.specs.grammar.Expressions.{AreAssociations}
 use Rattle.vhdl_tree.specs.grammar.Instance.{spell_chosen, spell_instantiated, spell_map, spell_instance, IsInstance}
-use Rattle.vhdl_expressions.specs.reader.Input.{Parser, Outcome, and_then, expect, eat, identifier, is_kind, test, optional}
+use Rattle.vhdl_expressions.specs.reader.Input.{is_kind}
 use Rattle.vhdl_parser.specs.reader.Instance.{chosen, of_entity, of_component, instantiated, map_of, instance}
 use Rattle.vhdl_expressions.proofs.Gives.{Gives, Whatever, front, g_pure, g_then, g_map, g_some, g_ident, g_below, g_yes, g_no, eat_gives, option_gives}
 use Rattle.vhdl_expressions.proofs.GiveValues.{associations_gives}

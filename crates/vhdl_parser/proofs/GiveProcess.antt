@@ -1,18 +1,16 @@
 -- Processes and selected assignments that are spelled are read.
-use Rattle.std.proofs.Common.{◌≡◌, ℕ, zero, suc, ◌+◌, ◌≤◌, ◌<◌, Bool, true, false, List, [], ◌∷◌, ◌++◌, Option, Some, None, refl, sym, ap, ◌∙◌, subst, arith}
+use Rattle.std.proofs.Common.{◌≡◌, ℕ, Bool, true, false, List, [], ◌∷◌, ◌++◌, Option, Some, None, refl, arith}
 use Rattle.vhdl_lexer.specs.declared.token.Kind.{Kind}
 use Rattle.vhdl_lexer.specs.declared.token.Kind.TheVariants as k
 use Rattle.vhdl_tree.specs.Lexeme.{same_kind}
 use Rattle.vhdl_tree.specs.Tree.{Ident, Name, Process, Sensitivity, absent, every, listed, Waveform, SelectedAssignment}
-use Rattle.vhdl_tree.specs.Pieces.{Piece, some, one_at, spell_ident, spell_word, spell_option, spell_list, IsList, IsAny, IsOption}
-use Rattle.vhdl_tree.specs.grammar.Expressions.{spell, spell_name, spell_value, spell_choices, IsName}
+use Rattle.vhdl_tree.specs.Pieces.{Piece, some, spell_word, spell_list, IsList, IsAny, IsOption}
+use Rattle.vhdl_tree.specs.grammar.Expressions.{spell_name, IsName}
 use Rattle.vhdl_tree.specs.grammar.Process.{spell_sensitivity, spell_process, spell_waveform, spell_selected, IsSensitivity, IsProcess, IsWaveform, IsSelected}
-use Rattle.vhdl_expressions.specs.reader.Input.{Parser, Outcome, and_then, expect, eat, identifier, is_kind, test, optional}
+use Rattle.vhdl_expressions.specs.reader.Input.{is_kind}
 use Rattle.vhdl_parser.specs.reader.Process.{next_name, names, sensitivity_list, sensitivity, optional_sensitivity, process, waveform, next_waveform, waveforms, selected}
-use Rattle.vhdl_expressions.proofs.Operators.{grip, is_here}
-use Rattle.vhdl_expressions.proofs.Gives.{Gives, Whatever, front, g_pure, g_then, g_map, g_at, g_some, g_below, g_yes, g_no, g_weaken, eat_gives, option_gives, list_gives}
+use Rattle.vhdl_expressions.proofs.Gives.{Gives, Whatever, front, g_pure, g_then, g_map, g_at, g_some, g_below, g_yes, g_no, eat_gives, option_gives, list_gives}
 use Rattle.vhdl_expressions.proofs.GiveValues.{Ends, EndsName, expr_gives, name_gives, value_gives, choices_gives}
-use Rattle.vhdl_parser.proofs.WalkSequential.{spelled}
 use Rattle.vhdl_parser.proofs.GiveSequential.{ident_gives, statements_gives}
 
 abbrev EndsNames : Option Kind → Type 0

@@ -1,17 +1,17 @@
 -- Sequential statements that are spelled are read.
-use Rattle.std.proofs.Common.{◌≡◌, ℕ, zero, suc, ◌+◌, ◌≤◌, ◌<◌, Bool, true, false, List, [], ◌∷◌, ◌++◌, length, Ok, Err, Option, Some, None, refl, sym, ap, ◌∙◌, subst, append_assoc, append-nil, length-append, arith}
+use Rattle.std.proofs.Common.{◌≡◌, ℕ, suc, ◌≤◌, true, false, List, [], ◌∷◌, ◌++◌, length, Ok, Option, Some, None, refl, sym, ap, ◌∙◌, subst, length-append, arith}
 use Rattle.vhdl_lexer.specs.declared.token.Kind.{Kind}
 use Rattle.vhdl_lexer.specs.declared.token.Kind.TheVariants as k
-use Rattle.vhdl_tree.specs.Lexeme.{Lexeme, same_kind}
+use Rattle.vhdl_tree.specs.Lexeme.{same_kind}
 use Rattle.vhdl_tree.specs.Tree.{Ident, Expr, Suffix, plain, arguments, sliced, Name, Value, Range, Choice, Statement, nothing, assigned, conditional, selection, loop, Statements, no_statements, statement, Conditionals, no_conditionals, guarded, Otherwise, no_else, else_do, Alternatives, no_alternatives, alternative, Sequential, Conditional, Alternative, statements_of, conditionals_of, alternatives_of, otherwise_of}
-use Rattle.vhdl_tree.specs.Pieces.{Piece, some, one_at, word_at, spell_ident, spell_option, spell_each, spell_list, IsAny, IsEach, IsList, IsOption}
-use Rattle.vhdl_tree.specs.grammar.Expressions.{spell, spell_name, spell_value, spell_range, spell_choices, IsExpr, IsName, IsValue, IsRange, AreChoices}
-use Rattle.vhdl_tree.specs.grammar.Sequential.{spell_label, spell_end, spell_statement, spell_statements, spell_conditionals, spell_elsifs, spell_else, spell_alternatives, spell_sequential, IsStatement, AreStatements, AreBranches, AreElsifs, IsElse, AreCases, AreAlternatives}
-use Rattle.vhdl_expressions.specs.reader.Input.{Parser, Outcome, and_then, expect, identifier, is_kind, optional, many, below}
-use Rattle.vhdl_expressions.specs.reader.Expressions.{expr, range, choices}
+use Rattle.vhdl_tree.specs.Pieces.{Piece, some, one_at, word_at, spell_ident, spell_option, spell_list, IsAny, IsEach, IsList, IsOption}
+use Rattle.vhdl_tree.specs.grammar.Expressions.{spell, spell_name, spell_value, IsExpr, IsName, IsValue, IsRange, AreChoices}
+use Rattle.vhdl_tree.specs.grammar.Sequential.{spell_label, spell_end, spell_statement, spell_else, spell_sequential, IsStatement, AreStatements, AreElsifs, IsElse, AreAlternatives}
+use Rattle.vhdl_expressions.specs.reader.Input.{Parser, and_then, identifier, is_kind, optional}
+use Rattle.vhdl_expressions.specs.reader.Expressions.{range}
 use Rattle.vhdl_parser.specs.reader.Sequential.{label, optional_label, null_statement, assign, end_of, begins_sequential, condition, elsif, branches, else_part, if_rest, alternative_part, next_alternative, alternatives, case_rest, for_rest, if_statement, case_statement, for_statement, statement_by, statement_of, sequential, statements_with, deeper, statements}
 use Rattle.vhdl_expressions.proofs.Gives.{Gives, Whatever, front, g_pure, g_then, g_map, g_at, g_some, g_ident, g_below, g_choose, g_weaken, g_token, option_gives, more_gives, list_gives}
-use Rattle.vhdl_expressions.proofs.GiveValues.{Ends, EndsName, g_both, g_neither_then, expr_gives, name_gives, value_gives, range_gives, choices_gives, both}
+use Rattle.vhdl_expressions.proofs.GiveValues.{g_both, g_neither_then, expr_gives, name_gives, value_gives, range_gives, choices_gives, both}
 use Rattle.vhdl_parser.proofs.WalkSequential.{spelled, spell_condition, spell_alternative, spell_else_part, spelled-each, conditionals-list, alternatives-list, else-option}
 
 -- no statement begins

@@ -1,18 +1,18 @@
 -- Subtypes, generics and ports: what is read is spelled so, and what is spelled is read.
-use Rattle.std.proofs.Common.{◌≡◌, ℕ, zero, suc, ◌+◌, ◌≤◌, ◌<◌, Bool, true, false, List, [], ◌∷◌, ◌++◌, length, Ok, Option, Some, None, refl, sym, ap, ◌∙◌, subst, arith}
+use Rattle.std.proofs.Common.{◌≡◌, ℕ, Bool, true, false, List, [], ◌∷◌, Option, Some, None, refl, ap, arith}
 use Rattle.vhdl_lexer.specs.declared.token.Kind.{Kind}
 use Rattle.vhdl_lexer.specs.declared.token.Kind.TheVariants as k
 use Rattle.vhdl_tree.specs.declared.declaration.Mode.{Mode}
 use Rattle.vhdl_tree.specs.declared.declaration.Mode.TheVariants.{In, Out}
-use Rattle.vhdl_tree.specs.Lexeme.{Lexeme, same_kind}
+use Rattle.vhdl_tree.specs.Lexeme.{same_kind}
 use Rattle.vhdl_tree.specs.Tree.{Ident, Expr, Range, Value, Subtype, Generic, Port}
-use Rattle.vhdl_tree.specs.Pieces.{Piece, some, word_at, spell_ident, spell_idents, spell_word, spell_option, spell_each, spell_list, IsAny, IsEach, IsList, IsOption}
+use Rattle.vhdl_tree.specs.Pieces.{some, word_at, spell_ident, spell_idents, spell_option, spell_list, IsAny, IsList, IsOption}
 use Rattle.vhdl_tree.specs.grammar.Expressions.{IsExpr, IsRange, IsValue}
 use Rattle.vhdl_tree.specs.grammar.Declarations.{spell_constraint, spell_subtype, spell_default, spell_generic_default, spell_mode, spell_generic, spell_generics, spell_port, spell_ports, IsSubtype, IsGeneric, AreGenerics, IsPort, ArePorts}
-use Rattle.vhdl_expressions.specs.reader.Input.{and_then, expect, identifier, next_kind, is_kind, many, eat, below, optional}
+use Rattle.vhdl_expressions.specs.reader.Input.{identifier, is_kind}
 use Rattle.vhdl_parser.specs.reader.Declarations.{next_ident, idents, end_name, constraint, optional_constraint, subtype, default_value, optional_default, generic_default, optional_generic_default, generic, next_generic, generic_list, generics, optional_generics, mode_by, mode, port, next_port, port_list, ports, optional_ports}
 use Rattle.vhdl_expressions.proofs.Operators.{grip, is_here}
-use Rattle.vhdl_expressions.proofs.Walks.{Rule, Walks, afresh, w_pure, w_then, w_last, w_rule}
+use Rattle.vhdl_expressions.proofs.Walks.{Rule, w_pure, w_then, w_last, w_rule}
 use Rattle.vhdl_expressions.proofs.Rules.{w_token, w_some, w_ident, w_left, w_right, w_below, w_choose, under, word_rule, option_rule, list_rule}
 use Rattle.vhdl_expressions.proofs.Gives.{Gives, Whatever, front, g_pure, g_then, g_map, g_some, g_ident, g_choose, g_token, g_below, eat_gives, option_gives, list_gives}
 use Rattle.vhdl_expressions.proofs.WalkExpressions.{expr_rule}

@@ -1,14 +1,13 @@
 -- What the readers of instances make.
-use Rattle.std.proofs.Common.{◌≡◌, ℕ, zero, suc, ◌≤◌, Bool, true, false, List, [], ◌∷◌, ◌++◌, Option, Some, None, refl, sym, ap, ◌∙◌, append-nil, arith}
+use Rattle.std.proofs.Common.{◌≡◌, ℕ, true, ◌∷◌, refl, sym, ap, append-nil, arith}
 use Rattle.vhdl_lexer.specs.declared.token.Kind.{Kind}
 use Rattle.vhdl_lexer.specs.declared.token.Kind.TheVariants as k
-use Rattle.vhdl_tree.specs.Tree.{Ident, Association, Instantiated, entity_unit, component_unit, Instance}
-use Rattle.vhdl_tree.specs.Pieces.{Piece, some, word_at, spell_ident, spell_word, spell_option, IsAny, IsOption}
-use Rattle.vhdl_tree.specs.grammar.Expressions.{spell_associations, AreAssociations}
+use Rattle.vhdl_tree.specs.Pieces.{some, word_at, spell_option, IsAny}
+use Rattle.vhdl_tree.specs.grammar.Expressions.{AreAssociations}
 use Rattle.vhdl_tree.specs.grammar.Instance.{spell_chosen, spell_instantiated, spell_map, spell_instance, IsInstance}
-use Rattle.vhdl_expressions.specs.reader.Input.{Parser, Outcome, and_then, expect, identifier, is_kind, test, optional}
+use Rattle.vhdl_expressions.specs.reader.Input.{is_kind}
 use Rattle.vhdl_parser.specs.reader.Instance.{chosen, of_entity, of_component, instantiated, map_of, instance}
-use Rattle.vhdl_expressions.proofs.Walks.{Walks, Rule, w_pure, w_then}
+use Rattle.vhdl_expressions.proofs.Walks.{Rule, w_pure, w_then}
 use Rattle.vhdl_expressions.proofs.Rules.{is_neutral, w_some, w_left, w_right, w_ident, w_word, w_test, w_below, under, option_rule}
 use Rattle.vhdl_expressions.proofs.WalkValues.{associations_rule}
 

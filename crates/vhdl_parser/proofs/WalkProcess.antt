@@ -1,18 +1,17 @@
 -- What the readers of processes and selected assignments make.
-use Rattle.std.proofs.Common.{◌≡◌, ℕ, zero, suc, ◌≤◌, Bool, true, false, List, [], ◌∷◌, ◌++◌, Option, Some, None, refl, sym, ap, ◌∙◌, append-nil, arith}
+use Rattle.std.proofs.Common.{◌≡◌, ℕ, Bool, List, [], ◌∷◌, ◌++◌, Option, refl, arith}
 use Rattle.vhdl_lexer.specs.declared.token.Kind.TheVariants as k
-use Rattle.vhdl_tree.specs.Tree.{Ident, Name, Process, Sensitivity, absent, every, listed, Waveform, SelectedAssignment}
-use Rattle.vhdl_tree.specs.Pieces.{Piece, some, one_at, spell_ident, spell_word, spell_option, spell_list, IsAny, IsList}
-use Rattle.vhdl_tree.specs.grammar.Expressions.{spell, spell_name, spell_value, spell_choices, IsName, AreChoices}
+use Rattle.vhdl_tree.specs.Tree.{Ident, Sensitivity, absent, every, listed}
+use Rattle.vhdl_tree.specs.Pieces.{Piece, some, one_at, spell_ident, spell_word, spell_option, spell_list, IsList}
+use Rattle.vhdl_tree.specs.grammar.Expressions.{spell_name, IsName}
 use Rattle.vhdl_tree.specs.grammar.Process.{spell_sensitivity, spell_process, spell_waveform, spell_selected, IsSensitivity, IsProcess, IsWaveform, IsSelected}
-use Rattle.vhdl_expressions.specs.reader.Input.{Parser, Outcome, and_then, expect, is_kind, test}
-use Rattle.vhdl_expressions.specs.reader.Expressions.{inside, name}
+use Rattle.vhdl_expressions.specs.reader.Input.{is_kind}
 use Rattle.vhdl_parser.specs.reader.Process.{next_name, names, sensitivity_list, sensitivity, optional_sensitivity, process, waveform, next_waveform, waveforms, selected}
-use Rattle.vhdl_expressions.proofs.Walks.{Walks, Rule, w_pure, w_then, w_last}
-use Rattle.vhdl_expressions.proofs.Rules.{w_at, w_some, w_left, w_right, w_end, w_word, w_option_ident, w_test, w_inner, w_below, under, list_rule}
+use Rattle.vhdl_expressions.proofs.Walks.{Rule, w_pure, w_then, w_last}
+use Rattle.vhdl_expressions.proofs.Rules.{w_at, w_some, w_left, w_right, w_end, w_word, w_option_ident, w_test, w_below, under, list_rule}
 use Rattle.vhdl_expressions.proofs.WalkExpressions.{w_ends, expr_rule, a_name_rule}
 use Rattle.vhdl_expressions.proofs.WalkValues.{value_rule, choices_rule}
-use Rattle.vhdl_parser.proofs.WalkSequential.{spelled, formed, statements_rule}
+use Rattle.vhdl_parser.proofs.WalkSequential.{spelled, statements_rule}
 
 names_rule : (n : ℕ) → Rule n 0 (names n) (spell_list k.Comma spell_name) (IsList IsName)
 unfolding names next_name

@@ -1,15 +1,14 @@
 -- What the readers of sequential statements make.
-use Rattle.std.proofs.Common.{◌≡◌, ℕ, zero, suc, ◌+◌, ◌≤◌, Bool, true, false, List, [], ◌∷◌, ◌++◌, Ok, Err, Option, Some, None, refl, sym, ap, ◌∙◌, subst, append_assoc, append-nil, arith}
+use Rattle.std.proofs.Common.{◌≡◌, ℕ, zero, suc, ◌≤◌, true, false, List, [], ◌∷◌, ◌++◌, Option, Some, None, refl, sym, ap, ◌∙◌, append-nil, arith}
 use Rattle.vhdl_lexer.specs.declared.token.Kind.{Kind}
 use Rattle.vhdl_lexer.specs.declared.token.Kind.TheVariants as k
-use Rattle.vhdl_tree.specs.Lexeme.{Lexeme, same_kind}
-use Rattle.vhdl_tree.specs.Tree.{Ident, Statement, nothing, assigned, conditional, selection, loop, Conditionals, Otherwise, Alternatives, Sequential, Conditional, Alternative, statements_of, conditionals_of, alternatives_of, otherwise_of}
+use Rattle.vhdl_tree.specs.Lexeme.{same_kind}
+use Rattle.vhdl_tree.specs.Tree.{Ident, conditional, selection, loop, Sequential, Conditional, Alternative, statements_of, conditionals_of, alternatives_of, otherwise_of}
 use Rattle.vhdl_tree.specs.Pieces.{Piece, some, one_at, word_at, spell_ident, spell_option, spell_each, spell_list, IsAny, IsEach, IsList, IsOption}
 use Rattle.vhdl_tree.specs.Levels.{is_end, opening, closing}
-use Rattle.vhdl_tree.specs.grammar.Expressions.{spell, spell_range, spell_choices, IsExpr, IsRange, AreChoices}
+use Rattle.vhdl_tree.specs.grammar.Expressions.{spell, spell_range, spell_choices, IsExpr, AreChoices}
 use Rattle.vhdl_tree.specs.grammar.Sequential.{spell_label, spell_end, spell_statement, spell_statements, spell_conditionals, spell_elsifs, spell_else, spell_alternatives, spell_sequential, IsStatement, AreStatements, AreBranches, AreElsifs, IsElse, AreCases, AreAlternatives}
-use Rattle.vhdl_expressions.specs.reader.Input.{Parser, Outcome, and_then, expect, identifier, is_kind, optional, many, below}
-use Rattle.vhdl_expressions.specs.reader.Expressions.{expr, range, choices}
+use Rattle.vhdl_expressions.specs.reader.Input.{Parser, and_then, expect, identifier, is_kind, optional}
 use Rattle.vhdl_parser.specs.reader.Sequential.{label, optional_label, null_statement, assign, end_of, begins_sequential, condition, elsif, branches, else_part, if_rest, alternative_part, next_alternative, alternatives, case_rest, for_rest, if_statement, case_statement, for_statement, statement_by, statement_of, sequential, statements_with, deeper, statements}
 use Rattle.vhdl_expressions.proofs.Walks.{Walks, Rule, w_pure, w_then, w_last}
 use Rattle.vhdl_expressions.proofs.Rules.{w_take, w_at, w_some, w_end, w_ident, w_option_ident, w_refuse, w_choose, w_inner, w_below, under, under_none, option_rule, each_rule, list_rule}

@@ -1,5 +1,5 @@
 -- Tokens within a source.
-use Rattle.std.proofs.Common.{◌≡◌, ℕ, zero, suc, ◌<◌, ◌≤◌, List, [], ◌∷◌, length, arith}
+use Rattle.std.proofs.Common.{ℕ, zero, suc, ◌<◌, ◌≤◌, List, [], ◌∷◌, length, arith}
 use Rattle.std.specs.Prelude.{slice_index_or}
 use Rattle.vhdl_lexer.specs.Cut.{AreWithin}
 use Rattle.vhdl_lexer.specs.declared.token.Token.{Token}

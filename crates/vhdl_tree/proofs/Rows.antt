@@ -6,7 +6,6 @@ use Rattle.vhdl_tree.specs.declared.expression.Expr.{Expr}
 use Rattle.vhdl_tree.specs.declared.expression.Expr.TheVariants as e
 use Rattle.vhdl_tree.specs.declared.expression.Expr.TheBlock.{Row_of-Link, end_of-Link, more_of-Link, items-the_row-Link, items_hidden-the_row-Link-0, Row_of-Expr, end_of-Expr, more_of-Expr, items-the_row-Expr, hidden-the_row-Expr-1, items_hidden-the_row-Expr-1}
 use Rattle.vhdl_tree.specs.declared.expression.Link.{Link}
-use Rattle.vhdl_tree.specs.declared.expression.Suffix.{Suffix}
 use Rattle.vhdl_tree.specs.declared.expression.Suffix.TheVariants as s
 use Rattle.vhdl_tree.specs.Tree as tree
 use Rattle.vhdl_tree.specs.View.{view, suffix_view, row_view, links_view, exprs_view, pair_view, pairs_view}

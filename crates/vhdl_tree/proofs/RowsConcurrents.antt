@@ -1,5 +1,5 @@
 -- The concurrent statements in a `Vec`, as contracts see them.
-use Rattle.std.proofs.Common.{◌≡◌, ℕ, Bool, List, [], ◌∷◌, map, Vec, Option, Global, refl, ap, ◌∙◌}
+use Rattle.std.proofs.Common.{◌≡◌, ℕ, Bool, map, Vec, Option, Global, refl, ap, ◌∙◌}
 use mathlib.Core.Former.{Count}
 use Rattle.vhdl_tree.specs.declared.expression.Identifier.{Identifier}
 use Rattle.vhdl_tree.specs.declared.concurrent.Scheme.{Scheme}

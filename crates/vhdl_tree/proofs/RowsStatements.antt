@@ -1,5 +1,5 @@
 -- The statements in a `Vec`, as contracts see them.
-use Rattle.std.proofs.Common.{◌≡◌, ℕ, List, [], ◌∷◌, map, Vec, Option, Some, None, Global, refl, sym, ap, ◌∙◌}
+use Rattle.std.proofs.Common.{◌≡◌, ℕ, map, Vec, Option, Some, None, Global, refl, sym, ap, ◌∙◌}
 use Rattle.std.specs.Prelude.{option_map}
 use mathlib.Core.Former.{Count}
 use Rattle.vhdl_tree.specs.declared.expression.Identifier.{Identifier}

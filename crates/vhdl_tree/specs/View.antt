@@ -1,5 +1,5 @@
 -- What contracts see of a tree of the code.
-use Rattle.std.specs.Prelude.{ℕ, ◌∷◌, [], List, map, Vec, Option, option_map}
+use Rattle.std.specs.Prelude.{ℕ, List, map, Vec, Option, option_map}
 use Rattle.std.specs.Global.{Global}
 use Rattle.vhdl_tree.specs.declared.expression.Identifier.{Identifier}
 use Rattle.vhdl_tree.specs.declared.expression.Literal.{Literal}

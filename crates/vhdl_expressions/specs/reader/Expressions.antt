@@ -1,5 +1,5 @@
 -- How the parser reads expressions.
-use Rattle.std.specs.Prelude.{ℕ, zero, suc, if◌then◌else◌, List, [], ◌∷◌, ◌++◌, length, map, Vec, Option, Some, None, Bool, true, false, Ok}
+use Rattle.std.specs.Prelude.{ℕ, zero, suc, if◌then◌else◌, List, [], ◌∷◌, length, Option, Some, None}
 use Rattle.vhdl_lexer.specs.declared.token.Kind.{Kind}
 use Rattle.vhdl_lexer.specs.declared.token.Kind.TheVariants as k
 use Rattle.vhdl_tree.specs.declared.operator.Operator.{Operator}
@@ -11,7 +11,7 @@ use Rattle.vhdl_tree.specs.declared.operator.Sign.TheVariants.{Plus, Minus}
 use Rattle.vhdl_tree.specs.declared.operator.Direction.{Direction}
 use Rattle.vhdl_tree.specs.declared.operator.Direction.TheVariants.{To, Downto}
 use Rattle.vhdl_tree.specs.grammar.Expressions.{kind_of, repeats, sign_kind, direction_kind}
-use Rattle.vhdl_tree.specs.Tree.{Ident, Expr, integer, character, string, bits, named, parens, negation, signed, binary, Suffix, plain, arguments, sliced, exprs_of, Pair, joined, chained, Name, Range, Value, single, others, Choice, chosen, otherwise, Actual, actual, left_open, Association}
+use Rattle.vhdl_tree.specs.Tree.{Ident, Expr, integer, character, string, bits, named, parens, negation, signed, Suffix, plain, arguments, sliced, exprs_of, Pair, joined, Name, Range, Value, single, others, Choice, chosen, otherwise, Actual, actual, left_open, Association}
 use Rattle.vhdl_expressions.specs.reader.Input.{Parser, ◌>>=◌, ◌>>◌, ◌<$>◌, pure, refuse, too_deep, is_kind, choose, test, test_both, expect, many, many_from, optional, identifier, text}
 use Rattle.vhdl_expressions.specs.reader.Input as input
 

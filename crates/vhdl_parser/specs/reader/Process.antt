@@ -1,7 +1,7 @@
 -- How the parser reads processes and selected assignments.
-use Rattle.std.specs.Prelude.{ℕ, List, [], ◌∷◌, Option, Some, None}
+use Rattle.std.specs.Prelude.{ℕ, List, [], ◌∷◌}
 use Rattle.vhdl_lexer.specs.declared.token.Kind.TheVariants as k
-use Rattle.vhdl_tree.specs.Tree.{Ident, Name, Process, Sensitivity, absent, every, listed, Waveform, SelectedAssignment}
+use Rattle.vhdl_tree.specs.Tree.{Name, Process, Sensitivity, absent, every, listed, Waveform, SelectedAssignment}
 use Rattle.vhdl_expressions.specs.reader.Input.{Parser, ◌>>=◌, ◌>>◌, ◌<$>◌, pure, is_kind, test, expect, eat, identifier, optional, many, below}
 use Rattle.vhdl_expressions.specs.reader.Expressions.{expr, inside, name, value, choices}
 use Rattle.vhdl_parser.specs.reader.Sequential.{statements}

@@ -2,7 +2,7 @@
 use Rattle.std.specs.Prelude.{ℕ, zero, suc, Bool, true, false, List, [], ◌∷◌, Option, Some, None}
 use Rattle.vhdl_lexer.specs.declared.token.Kind.{Kind}
 use Rattle.vhdl_lexer.specs.declared.token.Kind.TheVariants as k
-use Rattle.vhdl_tree.specs.Tree.{Ident, Expr, Choice, Statement, nothing, assigned, conditional, selection, loop, Sequential, Conditional, Alternative, statements_of, conditionals_of, alternatives_of, otherwise_of, guarded_by, chosen_by}
+use Rattle.vhdl_tree.specs.Tree.{Ident, Statement, nothing, assigned, conditional, selection, loop, Sequential, Conditional, Alternative, statements_of, conditionals_of, alternatives_of, otherwise_of, guarded_by, chosen_by}
 use Rattle.vhdl_expressions.specs.reader.Input.{Parser, ◌>>=◌, ◌>>◌, ◌<$>◌, pure, refuse, too_deep, is_kind, choose, test_both, expect, identifier, optional, many, below}
 use Rattle.vhdl_expressions.specs.reader.Expressions.{expr, inside, name, value, range, choices}
 

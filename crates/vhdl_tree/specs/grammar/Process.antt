@@ -1,7 +1,7 @@
 -- Processes and selected assignments (IEEE 1076-2008, 11.3, 11.6): how they are spelled, and which are well formed.
-use Rattle.std.specs.Prelude.{Option, Some, None, List, [], ◌∷◌, ◌++◌}
+use Rattle.std.specs.Prelude.{List, [], ◌∷◌, ◌++◌}
 use Rattle.vhdl_lexer.specs.declared.token.Kind.TheVariants as k
-use Rattle.vhdl_tree.specs.Tree.{Ident, Name, Process, Sensitivity, absent, every, listed, Waveform, SelectedAssignment, statements_of}
+use Rattle.vhdl_tree.specs.Tree.{Process, Sensitivity, absent, every, listed, Waveform, SelectedAssignment, statements_of}
 use Rattle.vhdl_tree.specs.Pieces.{Piece, some, one_at, spell_ident, spell_word, spell_option, spell_list, IsList}
 use Rattle.vhdl_tree.specs.grammar.Expressions.{spell, spell_name, spell_value, spell_choices, IsExpr, IsName, IsValue, AreChoices}
 use Rattle.vhdl_tree.specs.grammar.Sequential.{spell_statements, AreStatements}

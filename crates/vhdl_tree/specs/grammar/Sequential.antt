@@ -1,8 +1,8 @@
 -- Sequential statements (IEEE 1076-2008, 10): how they are spelled, and which are well formed.
-use Rattle.std.specs.Prelude.{Option, Some, None, List, [], ◌∷◌, ◌++◌}
+use Rattle.std.specs.Prelude.{Option, List, [], ◌∷◌, ◌++◌}
 use Rattle.vhdl_lexer.specs.declared.token.Kind.{Kind}
 use Rattle.vhdl_lexer.specs.declared.token.Kind.TheVariants as k
-use Rattle.vhdl_tree.specs.Tree.{Ident, Statement, nothing, assigned, conditional, selection, loop, Statements, no_statements, statement, Conditionals, no_conditionals, guarded, Otherwise, no_else, else_do, Alternatives, no_alternatives, alternative, Sequential, Conditional, Alternative, statements_of}
+use Rattle.vhdl_tree.specs.Tree.{Ident, Statement, nothing, assigned, conditional, selection, loop, Statements, no_statements, statement, Conditionals, no_conditionals, guarded, Otherwise, no_else, else_do, Alternatives, no_alternatives, alternative, Sequential}
 use Rattle.vhdl_tree.specs.Pieces.{Piece, some, one_at, word_at, spell_ident, spell_option}
 use Rattle.vhdl_tree.specs.grammar.Expressions.{spell, spell_name, spell_value, spell_range, spell_choices, IsExpr, IsName, IsValue, IsRange, AreChoices}
 

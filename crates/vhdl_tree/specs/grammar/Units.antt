@@ -1,8 +1,8 @@
 -- Files, context clauses, entities and architectures (IEEE 1076-2008, 3.2, 3.3, 13): how they are spelled, and which are well formed.
-use Rattle.std.specs.Prelude.{◌≡◌, Bool, true, false, Option, Some, None, List, [], ◌∷◌, ◌++◌}
+use Rattle.std.specs.Prelude.{Bool, Option, List, [], ◌∷◌, ◌++◌}
 use Rattle.vhdl_lexer.specs.declared.token.Kind.{Kind}
 use Rattle.vhdl_lexer.specs.declared.token.Kind.TheVariants as k
-use Rattle.vhdl_tree.specs.Tree.{Ident, Declaration, Concurrent, Entity, Architecture, Selected, ContextItem, library, uses, LibraryUnit, entity, architecture, DesignUnit, File}
+use Rattle.vhdl_tree.specs.Tree.{Ident, Entity, Architecture, Selected, ContextItem, library, uses, LibraryUnit, entity, architecture, DesignUnit, File}
 use Rattle.vhdl_tree.specs.Pieces.{Piece, some, one_at, spell_ident, spell_idents, spell_word, spell_option, spell_each, spell_list, IsAny, IsEach, IsList, IsOption}
 use Rattle.vhdl_tree.specs.grammar.Concurrent.{spell_concurrent, IsConcurrent}
 use Rattle.vhdl_tree.specs.grammar.Declarations.{spell_generics, spell_ports, spell_declaration, AreGenerics, ArePorts, IsDeclaration}

@@ -1,4 +1,4 @@
-use Rattle.std.proofs.Common.{ℕ, ◌≡◌, ◌+◌, ◌-◌, ◌*◌}
+use Rattle.std.proofs.Common.{◌≡◌, ◌+◌, ◌-◌, ◌*◌}
 use Rattle.vhdl_tree.specs.View.{concurrents_view}
 use Rattle.vhdl_expressions.specs.reader.Input.{many_from}
 use Rattle.vhdl_parser.specs.reader.Concurrent as read

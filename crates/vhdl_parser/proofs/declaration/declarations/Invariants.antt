@@ -1,7 +1,6 @@
-use Rattle.std.proofs.Common.{◌≡◌, [], ◌-◌}
-use Rattle.vhdl_lexer.specs.declared.token.Kind.TheVariants as k
+use Rattle.std.proofs.Common.{◌≡◌, ◌-◌}
 use Rattle.vhdl_tree.specs.View.{declarations_view}
-use Rattle.vhdl_expressions.specs.reader.Input.{is_kind, many, many_from}
+use Rattle.vhdl_expressions.specs.reader.Input.{many_from}
 use Rattle.vhdl_parser.specs.reader.Declarations as read
 use Rattle.vhdl_parser.specs.reader.Declarations.{declarations}
 use Rattle.vhdl_parser.proofs.declaration.declarations.Given as goal

@@ -1,7 +1,7 @@
-use Rattle.std.proofs.Common.{◌≡◌, [], ◌-◌}
+use Rattle.std.proofs.Common.{◌≡◌, ◌-◌}
 use Rattle.vhdl_lexer.specs.declared.token.Kind.TheVariants as k
 use Rattle.vhdl_tree.specs.View.{idents_view}
-use Rattle.vhdl_expressions.specs.reader.Input.{is_kind, is_more, many, many_from}
+use Rattle.vhdl_expressions.specs.reader.Input.{is_kind, many, many_from}
 use Rattle.vhdl_parser.specs.reader.Declarations as read
 use Rattle.vhdl_parser.proofs.interface.more_identifiers.Given as goal
 

@@ -1,8 +1,8 @@
-use Rattle.std.proofs.Common.{ap, rules, arith}
+use Rattle.std.proofs.Common.{rules, arith}
 use Rattle.std.proofs.lemmas.Grind.{common_steps}
 use Rattle.vhdl_lexer.specs.declared.token.Kind.TheVariants as k
 use Rattle.vhdl_tree.specs.View.{ports_view}
-use Rattle.vhdl_expressions.specs.reader.Input.{is_kind, many, many_from}
+use Rattle.vhdl_expressions.specs.reader.Input.{is_kind, many_from}
 use Rattle.vhdl_parser.specs.reader.Declarations as read
 use Rattle.vhdl_expressions.proofs.Turns.{one_more, no_more}
 use Rattle.vhdl_parser.proofs.interface.more_ports.Goals as goal

@@ -1,8 +1,7 @@
-use Rattle.std.proofs.Common.{ap, rules, arith}
+use Rattle.std.proofs.Common.{rules, arith}
 use Rattle.std.proofs.lemmas.Grind.{common_steps}
-use Rattle.vhdl_lexer.specs.declared.token.Kind.TheVariants as k
 use Rattle.vhdl_tree.specs.View.{contexts_view}
-use Rattle.vhdl_expressions.specs.reader.Input.{is_kind, is_more, many, many_from}
+use Rattle.vhdl_expressions.specs.reader.Input.{many_from}
 use Rattle.vhdl_parser.specs.reader.Units as read
 use Rattle.vhdl_parser.specs.reader.Units.{context}
 use Rattle.vhdl_expressions.proofs.Turns.{one_more, no_more}

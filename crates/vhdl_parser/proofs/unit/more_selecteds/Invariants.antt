@@ -1,7 +1,7 @@
-use Rattle.std.proofs.Common.{◌≡◌, [], ◌-◌}
+use Rattle.std.proofs.Common.{◌≡◌, ◌-◌}
 use Rattle.vhdl_lexer.specs.declared.token.Kind.TheVariants as k
 use Rattle.vhdl_tree.specs.View.{selecteds_view}
-use Rattle.vhdl_expressions.specs.reader.Input.{is_kind, is_more, many, many_from}
+use Rattle.vhdl_expressions.specs.reader.Input.{is_kind, many, many_from}
 use Rattle.vhdl_parser.specs.reader.Units as read
 use Rattle.vhdl_parser.proofs.unit.more_selecteds.Given as goal
 

@@ -1,7 +1,6 @@
-use Rattle.std.proofs.Common.{◌≡◌, [], ◌-◌}
-use Rattle.vhdl_lexer.specs.declared.token.Kind.TheVariants as k
+use Rattle.std.proofs.Common.{◌≡◌, ◌-◌}
 use Rattle.vhdl_tree.specs.View.{units_view}
-use Rattle.vhdl_expressions.specs.reader.Input.{is_kind, is_more, many, many_from}
+use Rattle.vhdl_expressions.specs.reader.Input.{is_more, many_from}
 use Rattle.vhdl_parser.specs.reader.Units as read
 use Rattle.vhdl_parser.specs.reader.Units.{units}
 use Rattle.vhdl_parser.proofs.unit.units.Given as goal

@@ -1,4 +1,4 @@
-use Rattle.std.proofs.Common.{ap, rules, arith}
+use Rattle.std.proofs.Common.{rules, arith}
 use Rattle.std.proofs.lemmas.Grind.{common_steps}
 use Rattle.vhdl_tree.specs.View.{branches_view}
 use Rattle.vhdl_parser.specs.reader.Waves.{more_branches, more_branches_from}

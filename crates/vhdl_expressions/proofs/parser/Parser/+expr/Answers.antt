@@ -1,11 +1,11 @@
-use Rattle.std.proofs.Common.{ap, rules, arith}
+use Rattle.std.proofs.Common.{rules, arith}
 use Rattle.std.proofs.lemmas.Grind.{common_steps}
 use Rattle.vhdl_lexer.specs.declared.token.Kind.TheVariants as k
-use Rattle.vhdl_tree.specs.View.{exprs_view, pair_view, pairs_view}
+use Rattle.vhdl_tree.specs.View.{exprs_view, pairs_view}
 use Rattle.vhdl_expressions.specs.reader.Input.{is_kind, many_from}
-use Rattle.vhdl_tree.specs.Tree.{joined, chained}
-use Rattle.vhdl_expressions.specs.reader.Expressions.{inside, argument, operand_of, next_operator, pair, turn, more, more_from}
-use Rattle.vhdl_tree.proofs.Rows.{chained-push, pairs-push}
+use Rattle.vhdl_tree.specs.Tree.{chained}
+use Rattle.vhdl_expressions.specs.reader.Expressions.{inside, argument, operand_of, more, more_from}
+use Rattle.vhdl_tree.proofs.Rows.{pairs-push}
 use Rattle.vhdl_expressions.proofs.Turns.{one_more, no_more, inside_more}
 use Rattle.vhdl_expressions.proofs.parser.Parser.+expr.Goals as goal
 

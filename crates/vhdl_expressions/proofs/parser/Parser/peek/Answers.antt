@@ -1,4 +1,4 @@
-use Rattle.std.proofs.Common.{ap, ◌∙◌, arith, rules}
+use Rattle.std.proofs.Common.{ap, ◌∙◌, arith}
 use Rattle.std.proofs.lemmas.Bool.Decides.{nat_tests}
 use Rattle.vhdl_expressions.specs.reader.Input.{next_kind}
 use Rattle.vhdl_expressions.proofs.Cursor.{next_kind_at}
