@@ -1,13 +1,12 @@
 -- What drives a port, as assignments are added.
-use Rattle.std.proofs.Common.{◌≡◌, ◌≢◌, ℕ, suc, ◌+◌, ◌<◌, ◌≤◌, Bool, true, false, List, [], ◌∷◌, ◌++◌, map, length, get_or, set, take, drop, slice_get, zero, refl, ap, sym, ◌∙◌, arith, append-nil, append_assoc, add-suc, zero-add, subst}
+use Rattle.std.proofs.Common.{◌≡◌, ◌≢◌, ℕ, suc, ◌+◌, ◌<◌, ◌≤◌, Bool, true, false, List, [], ◌∷◌, ◌++◌, map, length, get_or, set, take, drop, slice_get, zero, refl, ap, sym, ◌∙◌, arith, append-nil, zero-add, subst}
 use Rattle.std.specs.Prelude.{◌==◌, ◌&&◌, ◌||◌, not, if◌then◌else◌}
 use Rattle.std.proofs.lemmas.List.{take_more, map-append, length-set, length-map, length-take-le, get_or-set_same, get_or-set_other}
 use Rattle.std.proofs.lemmas.Bool.Decides.{nat_tests}
-use Rattle.std.proofs.lemmas.Bool.{cases_eq}
 use Rattle.rtlsim.specs.Design as d
 use Rattle.rtlsim.specs.Sources.{drivers_from, drivers, are_several, fault_of, faults_from, unresolved_from}
-use Rattle.rtlsim.specs.Tables.{summary, HoldsDrivers, is_several, table_fault, table_faults, table_unresolved, unresolved_at}
-use Rattle.rtlsim.specs.View.{equation_view}
+use Rattle.rtlsim.specs.steps.Tables.{summary, HoldsDrivers, is_several, table_fault, table_faults, table_unresolved, unresolved_at}
+use Rattle.rtlsim.specs.steps.View.{equation_view}
 use Rattle.rtlsim.specs.declared.sources.Drivers.{Drivers}
 use Rattle.rtlsim.specs.declared.sources.Drivers.TheVariants.{Undriven}
 use Rattle.rtlsim.specs.declared.design.Equation.{Equation}

@@ -1,13 +1,11 @@
 -- What the code evaluates.
-use Rattle.std.proofs.Common.{◌≡◌, ℕ, zero, suc, ◌+◌, List, [], ◌∷◌, ◌++◌, map, take, Option, Some, None, Vec, Box, Global, refl, ap, sym, ◌∙◌, append_assoc, append-nil, arith}
+use Rattle.std.proofs.Common.{◌≡◌, ℕ, zero, suc, ◌+◌, List, [], ◌∷◌, ◌++◌, map, take, Vec, Box, Global, refl, ap, sym, ◌∙◌, append_assoc, append-nil, arith}
 use Rattle.std.specs.Prelude.{slice_get, option_map}
-use Rattle.vhdl_values.specs.declared.scalar.Nine.{Nine}
-use Rattle.vhdl_values.specs.Logic.{logic_of}
 use Rattle.rtlsim.specs.Design as d
 use Rattle.rtlsim.specs.Solution.{Valuation, value_of}
 use Rattle.rtlsim.specs.Printed.{line_by, lines_from}
-use Rattle.rtlsim.specs.Evaluation.{all_operated, line_at}
-use Rattle.rtlsim.specs.View.{value_view, chained}
+use Rattle.rtlsim.specs.steps.Evaluation.{all_operated, line_at}
+use Rattle.rtlsim.specs.steps.View.{value_view, chained}
 use Rattle.rtlsim.specs.declared.design.Value.{Value, Chain}
 use Rattle.rtlsim.specs.declared.design.Link.{Link}
 use Rattle.rtlsim.proofs.Rows.{chain_rows}

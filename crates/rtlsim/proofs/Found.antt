@@ -1,5 +1,5 @@
 -- Look-ups in a table of ports.
-use Rattle.std.proofs.Common.{◌≡◌, ℕ, suc, ◌+◌, ◌<◌, Bool, true, false, cond, not, nat_lt, List, [], ◌∷◌, map, length, position, Option, Some, None, Vec, Global, refl, sym, ap, ◌∙◌, arith, lt-ltb}
+use Rattle.std.proofs.Common.{◌≡◌, ℕ, suc, ◌+◌, Bool, true, false, cond, not, nat_lt, List, [], ◌∷◌, map, length, position, Option, Some, None, Vec, Global, refl, sym, ap, ◌∙◌, arith}
 use Rattle.std.specs.Prelude.{option_map, bytes_eq, is_none, if◌then◌else◌}
 use Rattle.std.proofs.Common.{◌++◌, true≢false}
 use Rattle.std.proofs.lemmas.List.{map-append}
@@ -14,7 +14,7 @@ use Rattle.std.proofs.lemmas.Bool.Decides.{nat_tests}
 use Rattle.std.proofs.lemmas.Slice.Eq.{bytes_eq-Decides}
 use Rattle.rtlsim.specs.declared.design.Port.{Port}
 use Rattle.rtlsim.specs.Design as d
-use Rattle.rtlsim.specs.View.{port_view, found_view}
+use Rattle.rtlsim.specs.steps.View.{port_view}
 
 pub position-cons : {X : Type 0} (p : X → Bool) (x : X) (xs : List X) → position p (x ∷ xs) ≡ cond (p x) (Some 0) (option_map suc (position p xs))
 position-cons {X} p x xs = go (p x)

@@ -1,10 +1,9 @@
 -- What rules give, along equations, and in turn.
-use Rattle.std.proofs.Common.{◌≡◌, ◌≢◌, ℕ, suc, ◌+◌, ◌<◌, ◌≤◌, List, [], ◌∷◌, map, length, get_or, drop, drop-cons, Option, Some, None, Result, Ok, Err, refl, ap, sym, ◌∙◌, arith}
-use Rattle.std.proofs.lemmas.List.{at_drop_more, at_drop_all}
+use Rattle.std.proofs.Common.{◌≡◌, ℕ, suc, ◌+◌, ◌<◌, ◌≤◌, List, map, length, get_or, drop, drop-cons, Option, Some, None, Result, Ok, Err, ap, sym, ◌∙◌, arith}
+use Rattle.std.proofs.lemmas.List.{at_drop_all}
 use Rattle.rtlsim.specs.declared.faults.names.NameFault.{NameFault}
-use Rattle.rtlsim.specs.declared.faults.names.NameFault.TheVariants.{NoMemory}
 use Rattle.rtlsim.specs.Rules.{◌>>=◌, in_turn}
-use Rattle.rtlsim.specs.View.{Gives}
+use Rattle.rtlsim.specs.steps.View.{Gives}
 
 pub gives_along : {X Y : Type 0} (view : X → Y) (given given' : Option Y) (r : Result X NameFault) → given ≡ given' → Gives view given' r → Gives view given r
 gives_along view given given' (Ok x) e h = e ∙ h

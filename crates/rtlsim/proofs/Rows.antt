@@ -14,7 +14,7 @@ use Rattle.rtlsim.specs.declared.design.Link as m
 use Rattle.rtlsim.specs.Design as d
 use Rattle.rtlsim.specs.NameRules as n
 use Rattle.rtlsim.specs.Rules.{◌>>=◌}
-use Rattle.rtlsim.specs.View.{value_view, value_row_view, chained, linked, all_linked}
+use Rattle.rtlsim.specs.steps.View.{value_view, value_row_view, chained, linked, all_linked}
 
 -- ---- values
 value_links_row : (acc : d.Value) (n : Count) (row : v.Row_of-Link n) → value_row_view acc row ≡ chained acc (v.items-the_row-Link n row)

@@ -1,17 +1,16 @@
 -- Exactly one valuation solves a plain design.
-use Rattle.std.proofs.Common.{◌≡◌, ◌≢◌, ℕ, zero, suc, ◌+◌, ◌<◌, ◌≤◌, Bool, true, false, List, [], ◌∷◌, ◌++◌, length, slice_get, Option, Some, None, refl, ap, sym, ◌∙◌, arith, true≢false, subst}
+use Rattle.std.proofs.Common.{◌≡◌, ℕ, zero, suc, ◌+◌, ◌<◌, Bool, true, false, List, [], ◌∷◌, ◌++◌, length, slice_get, Some, refl, ap, sym, ◌∙◌, arith, true≢false, subst}
 use Rattle.std.specs.Prelude.{◌==◌, if◌then◌else◌}
 use Rattle.std.proofs.lemmas.Bool.Decides.{nat_tests}
 use Rattle.vhdl_tree.specs.declared.declaration.Mode.{Mode}
 use Rattle.vhdl_tree.specs.declared.declaration.Mode.TheVariants.{In, Out}
-use Rattle.vhdl_values.specs.declared.scalar.Nine.{Nine}
 use Rattle.vhdl_values.specs.declared.scalar.Nine.TheVariants.{U}
 use Rattle.vhdl_values.specs.Logic.{logic_of, not_of}
 use Rattle.rtlsim.specs.Design.{Port, Value, port, literal, inverse, binary, Equation, Design}
 use Rattle.rtlsim.specs.Sources.{drivers_from, drivers, are_several, fault_of, faults_from, faults}
 use Rattle.rtlsim.specs.Solution.{Valuation, value_of, Solves, AgreeAt, ReadsInputs, ArePlain, IsTheSolution}
-use Rattle.rtlsim.specs.Tables.{summary}
-use Rattle.rtlsim.specs.Evaluation.{assigned, by_drivers, by_mode, by_port}
+use Rattle.rtlsim.specs.steps.Tables.{summary}
+use Rattle.rtlsim.specs.steps.Evaluation.{assigned, by_drivers, by_mode, by_port}
 
 -- the valuation that what drives each port gives
 abbrev pub solution : Design → Valuation → Valuation

@@ -3,7 +3,6 @@ use Rattle.std.proofs.Common.{◌≡◌, ℕ, Bool, true, false, cond, List, [],
 use Rattle.std.specs.Prelude.{option_map, bytes_eq, is_some}
 use Rattle.std.specs.Map.{lookup}
 use Rattle.std.proofs.lemmas.List.{map-append}
-use Rattle.indexmap.specs.IndexMap.{insert_entry}
 use Rattle.rtlsim.specs.Design.{Name}
 use Rattle.rtlsim.specs.NameRules.{named}
 

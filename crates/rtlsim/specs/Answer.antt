@@ -1,15 +1,16 @@
 -- What `eval` answers for a plain design, and why it refuses.
-use Rattle.std.specs.Prelude.{◌≡◌, ◌≢◌, ℕ, false, List, [], map, Option, Some, None, Result, Ok, Err}
+use Rattle.std.specs.Prelude.{◌≡◌, ◌≢◌, ℕ, true, false, List, [], map, Some, None, Result, Ok, Err}
 use Rattle.std.specs.Char.{to_ascii_lowercase}
 use Rattle.rtl_sink.specs.Written.{SinkState, IsIntact, HasFailed, TakesAll, TakesBeginning}
 use Rattle.vhdl_tree.specs.Tree as t
 use Rattle.rtlsim.specs.Design.{Name, Design}
 use Rattle.rtlsim.specs.NameRules.{Units, units_of}
 use Rattle.rtlsim.specs.Sources.{design_of, has_unresolved, faults}
-use Rattle.rtlsim.specs.Tables.{HasElabFault}
 use Rattle.rtlsim.specs.Sets.{Table, settings, input_value}
 use Rattle.rtlsim.specs.Solution.{Valuation, IsTheSolution}
 use Rattle.rtlsim.specs.Printed.{lines}
+use Rattle.rtlsim.specs.declared.faults.elab.ElabFault.{ElabFault}
+use Rattle.rtlsim.specs.declared.faults.elab.ElabFault.TheVariants as elab
 use Rattle.rtlsim.specs.declared.faults.Fault.{Fault}
 use Rattle.rtlsim.specs.declared.faults.Fault.TheVariants.{Name as NameOf, Elab, Rejected, Stim, Memory, Output}
 
@@ -19,6 +20,13 @@ pub record IsDesign (file : t.File) (top : Name) (d : Design) : Type 0 where
   pub named : units_of file ≡ Some units
   pub found : design_of units (map to_ascii_lowercase top) ≡ Some d
   pub resolved : has_unresolved d ≡ false
+
+-- why a file's units have no design of this top, given in small letters
+abbrev pub HasElabFault : ElabFault → Units → Name → Type 0
+HasElabFault (elab.NoTop at) u top = design_of u top ≡ None
+HasElabFault (elab.TwoUnresolved at) u top = (d : Design) × (design_of u top ≡ Some d) × (has_unresolved d ≡ true)
+HasElabFault elab.NoMemory u top = Unit {0}
+HasElabFault _ u top = ⊥
 
 -- why the file is no such design
 abbrev pub HasDesignFault : Fault → t.File → Name → Type 0

@@ -1,6 +1,6 @@
 -- Names and types of plain designs (IEEE 1076-2008, 12.1 to 12.4 and 9.1): the units of a file, or None where a rule is broken
 -- or something stands that is no part of a plain design. Entities may stand in any order; an architecture stands after its entity.
-use Rattle.std.specs.Prelude.{◌≡◌, ℕ, ◌==◌, ◌&&◌, ◌||◌, Bool, true, false, not, if◌then◌else◌, List, [], ◌∷◌, ◌++◌, map, find, unwrap_or, Option, Some, None, is_none, option_map, bytes_eq, codes}
+use Rattle.std.specs.Prelude.{ℕ, ◌==◌, ◌&&◌, ◌||◌, Bool, true, false, not, if◌then◌else◌, List, [], ◌∷◌, ◌++◌, find, unwrap_or, Option, Some, None, is_none, option_map, bytes_eq, codes}
 use Rattle.std.specs.List.{list_any}
 use Rattle.vhdl_tree.specs.declared.declaration.Mode.{Mode}
 use Rattle.vhdl_tree.specs.declared.declaration.Mode.TheVariants.{In, Out}

@@ -1,5 +1,5 @@
 -- The tree of a source, and why there is none.
-use Rattle.std.specs.Prelude.{◌≡◌, ℕ, List, [], Option, None, Result, Ok, Err}
+use Rattle.std.specs.Prelude.{◌≡◌, ℕ, List, [], None}
 use Rattle.vhdl_lexer.specs.Cut.{Cuts}
 use Rattle.vhdl_lexer.specs.Fault.{HasFault}
 use Rattle.vhdl_lexer.specs.declared.token.Token.{Token}

@@ -1,5 +1,5 @@
 -- What drives a port (IEEE 1076-2008, 14.7.2 and 14.7.3): the concurrent assignments to it.
-use Rattle.std.specs.Prelude.{◌≡◌, ℕ, suc, ◌==◌, ◌&&◌, ◌||◌, Bool, true, false, not, if◌then◌else◌, List, [], ◌∷◌, ◌++◌, Option, Some, None}
+use Rattle.std.specs.Prelude.{ℕ, suc, ◌==◌, ◌&&◌, ◌||◌, Bool, true, false, not, if◌then◌else◌, List, [], ◌∷◌, ◌++◌, Option, Some}
 use Rattle.rtlsim.specs.Rules.{◌>>=◌}
 use Rattle.rtlsim.specs.Design.{Name, Port, Equation, Design}
 use Rattle.rtlsim.specs.NameRules.{Units, named}

@@ -1,8 +1,8 @@
 //! The checker: no net has two drivers.
 
 ghost use Rattle.std.specs.Prelude.{◌≡◌, IfOk};
-ghost use Rattle.rtlsim.specs.Tables.{design_view, table_faults};
-ghost use Rattle.rtlsim.specs.Evaluation.{HasVerdict};
+ghost use Rattle.rtlsim.specs.steps.Tables.{design_view, table_faults};
+ghost use Rattle.rtlsim.specs.steps.Evaluation.{HasVerdict};
 
 use crate::design::Design;
 use crate::faults::{CheckFault, SourceId};

@@ -3,9 +3,9 @@
 ghost use Rattle.std.specs.Prelude.{◌≡◌, map, option_map, is_some, IfOk, get_or, slice_get};
 ghost use Rattle.std.specs.Char.{to_ascii_lowercase};
 ghost use Rattle.rtlsim.specs.NameRules as rules;
-ghost use Rattle.rtlsim.specs.Tables.{entry_view, table_unresolved, unresolved_at, Finds, Elaborates};
+ghost use Rattle.rtlsim.specs.steps.Tables.{entry_view, table_unresolved, unresolved_at, Finds, Elaborates};
 ghost use Rattle.rtlsim.specs.Sources.{design_of};
-ghost use Rattle.rtlsim.specs.View.{ports_view, equation_view, entities_view, architectures_view, units_view};
+ghost use Rattle.rtlsim.specs.steps.View.{ports_view, equation_view, entities_view, architectures_view, units_view};
 ghost use Rattle.rtlsim.specs.declared.sources.Drivers.TheVariants.{Undriven};
 
 use crate::design::{Design, Entity, Equation, Port, Ports, Units};

@@ -2,12 +2,12 @@
 
 ghost use Rattle.std.specs.Prelude.{◌≡◌, map, get_or, slice_get};
 ghost use Rattle.rtl_sink.specs.Written.{Goes};
-ghost use Rattle.rtlsim.specs.Evaluation.{by_drivers, evaluated, all_operated, line_at};
+ghost use Rattle.rtlsim.specs.steps.Evaluation.{by_drivers, evaluated, all_operated, line_at};
 ghost use Rattle.rtlsim.specs.Printed.{value_line, lines};
 ghost use Rattle.rtlsim.specs.Sets as sets;
 ghost use Rattle.rtlsim.specs.Solution.{value_of};
-ghost use Rattle.rtlsim.specs.Tables.{design_view};
-ghost use Rattle.rtlsim.specs.View.{ports_view, value_view, equation_view};
+ghost use Rattle.rtlsim.specs.steps.Tables.{design_view};
+ghost use Rattle.rtlsim.specs.steps.View.{ports_view, value_view, equation_view};
 ghost use Rattle.rtlsim.specs.declared.sources.Drivers.TheVariants.{Undriven};
 
 use crate::design::{Design, Equation, Link, Value};

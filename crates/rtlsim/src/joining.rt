@@ -3,8 +3,8 @@
 ghost use Rattle.std.specs.Prelude.{◌≡◌, map, IfOk};
 ghost use Rattle.rtl_sink.specs.Written.{IsIntact};
 ghost use Rattle.rtlsim.specs.Answer.{RunAnswers};
-ghost use Rattle.rtlsim.specs.Designed.{FindsDesign, IsPlain};
-ghost use Rattle.rtlsim.specs.Tables.{design_view};
+ghost use Rattle.rtlsim.specs.steps.Designed.{FindsDesign, IsPlain};
+ghost use Rattle.rtlsim.specs.steps.Tables.{design_view};
 ghost use Rattle.vhdl_tree.specs.View.{file_view};
 
 use crate::checker::{Verdict, check};

@@ -4,8 +4,8 @@ ghost use Rattle.std.specs.Prelude.{◌≡◌, ◌++◌, codes, decimal, map, sl
 ghost use Rattle.std.specs.Option.{option_map};
 ghost use Rattle.rtl_sink.specs.Written.{Goes};
 ghost use Rattle.rtlsim.specs.Naming.{names_of, label_of, label_text, port_text};
-ghost use Rattle.rtlsim.specs.Tables.{design_view};
-ghost use Rattle.rtlsim.specs.View.{ports_view, equation_view};
+ghost use Rattle.rtlsim.specs.steps.Tables.{design_view};
+ghost use Rattle.rtlsim.specs.steps.View.{ports_view, equation_view};
 
 use crate::design::{Design, Equation, Ports};
 use crate::elaboration::port_at;

@@ -1,8 +1,8 @@
 //! What drives each port of a design.
 
 ghost use Rattle.std.specs.Prelude.{◌≡◌, ◌++◌, ◌∷◌, [], ℕ, List, IfOk, map};
-ghost use Rattle.rtlsim.specs.Tables.{summary, is_several, HoldsDrivers};
-ghost use Rattle.rtlsim.specs.View.{equation_view};
+ghost use Rattle.rtlsim.specs.steps.Tables.{summary, is_several, HoldsDrivers};
+ghost use Rattle.rtlsim.specs.steps.View.{equation_view};
 
 use crate::design::Equation;
 use std::alloc::{AllocError, Global};

@@ -2,8 +2,8 @@
 
 ghost use Rattle.std.specs.Prelude.{◌≡◌, ◌<◌, length, map, position, IfOk, IfSome, ◌==◌, Some};
 ghost use Rattle.rtlsim.specs.Sets as sets;
-ghost use Rattle.rtlsim.specs.Setting.{sides_view, SetsTable, GivesTable};
-ghost use Rattle.rtlsim.specs.View.{ports_view};
+ghost use Rattle.rtlsim.specs.steps.Setting.{sides_view, SetsTable, GivesTable};
+ghost use Rattle.rtlsim.specs.steps.View.{ports_view};
 
 use crate::design::Ports;
 use crate::elaboration::small_letters;

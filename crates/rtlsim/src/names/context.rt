@@ -3,7 +3,7 @@
 ghost use Rattle.std.specs.Prelude.{◌≡◌, bytes_eq, map};
 ghost use Rattle.rtlsim.specs.NameRules as rules;
 ghost use Rattle.rtlsim.specs.Rules.{in_turn};
-ghost use Rattle.rtlsim.specs.View.{Gives};
+ghost use Rattle.rtlsim.specs.steps.View.{Gives};
 ghost use Rattle.vhdl_tree.specs.View.{ident_view, selected_view, context_view};
 
 use crate::faults::NameFault;

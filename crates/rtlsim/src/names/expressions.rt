@@ -3,7 +3,7 @@
 ghost use Rattle.std.specs.Prelude.{◌≡◌, IfOk, Some, option_map, option_copied};
 ghost use Rattle.rtlsim.specs.Design as design;
 ghost use Rattle.rtlsim.specs.NameRules as rules;
-ghost use Rattle.rtlsim.specs.View.{Gives, ports_view, value_view, chained, all_linked};
+ghost use Rattle.rtlsim.specs.steps.View.{Gives, ports_view, value_view, chained, all_linked};
 ghost use Rattle.vhdl_tree.specs.View.{view, suffix_view, ident_view};
 
 use crate::design::{Link, Ports, Value};

@@ -3,7 +3,7 @@
 ghost use Rattle.std.specs.Prelude.{◌≡◌, ◌≢◌, [], map, option_map};
 ghost use Rattle.rtlsim.specs.NameRules as rules;
 ghost use Rattle.rtlsim.specs.Rules.{in_turn};
-ghost use Rattle.rtlsim.specs.View.{Gives, ports_view};
+ghost use Rattle.rtlsim.specs.steps.View.{Gives, ports_view};
 ghost use Rattle.rtlsim.specs.declared.faults.names.NameFault.TheVariants.{NoMemory};
 ghost use Rattle.vhdl_tree.specs.View as tree;
 

@@ -4,7 +4,7 @@ ghost use Rattle.std.specs.Prelude.{◌≡◌, not, is_none, IfOk, map};
 ghost use Rattle.rtlsim.specs.Design as design;
 ghost use Rattle.rtlsim.specs.NameRules as rules;
 ghost use Rattle.rtlsim.specs.Rules.{in_turn};
-ghost use Rattle.rtlsim.specs.View.{Gives, ports_view, found_view};
+ghost use Rattle.rtlsim.specs.steps.View.{Gives, ports_view, found_view};
 ghost use Rattle.vhdl_tree.specs.View.{ident_view};
 
 use crate::design::{Port, Ports};

@@ -4,7 +4,7 @@ ghost use Rattle.std.specs.Prelude.{◌≡◌, ◌≢◌, not, map, IfOk, option
 ghost use Rattle.rtlsim.specs.Design as design;
 ghost use Rattle.rtlsim.specs.NameRules as rules;
 ghost use Rattle.rtlsim.specs.Rules.{in_turn};
-ghost use Rattle.rtlsim.specs.View.{Gives, ports_view, value_view, equation_view, labels_view, body_view};
+ghost use Rattle.rtlsim.specs.steps.View.{Gives, ports_view, value_view, equation_view, labels_view, body_view};
 ghost use Rattle.vhdl_tree.specs.View as tree;
 
 use crate::design::{Equation, Ports, Value};

@@ -1,9 +1,9 @@
-use Rattle.std.proofs.Common.{◌≡◌, ◌≢◌, [], List, map, length, rules, arith, ap, sym, ◌∙◌}
+use Rattle.std.proofs.Common.{◌≡◌, ◌≢◌, [], map, length, arith, ap, sym, ◌∙◌}
 use Rattle.std.proofs.lemmas.Grind.{common_steps}
 use Rattle.std.proofs.lemmas.List.{length-map}
 use Rattle.rtlsim.specs.Sources.{faults}
-use Rattle.rtlsim.specs.Tables.{design_view, table_faults, HoldsDrivers}
-use Rattle.rtlsim.specs.View.{equation_view, port_view, ports_view}
+use Rattle.rtlsim.specs.steps.Tables.{design_view, table_faults, HoldsDrivers}
+use Rattle.rtlsim.specs.steps.View.{equation_view, port_view}
 use Rattle.rtlsim.proofs.Driving.{holds_along, faults-held}
 use Rattle.rtlsim.proofs.checker.check.Goals as goal
 

@@ -1,5 +1,5 @@
 use Rattle.std.proofs.Common.{◌≡◌, ◌++◌, drop}
-use Rattle.rtlsim.specs.Tables.{table_faults}
+use Rattle.rtlsim.specs.steps.Tables.{table_faults}
 use Rattle.rtlsim.proofs.checker.two_drivers.Given as goal
 
 -- what is found, and then what is left, is the whole

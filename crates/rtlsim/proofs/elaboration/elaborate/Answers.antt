@@ -1,9 +1,8 @@
-use Rattle.std.proofs.Common.{◌≡◌, List, ℕ, map, length, true, false, Some, ap, sym, ◌∙◌}
-use Rattle.std.specs.Prelude.{is_some}
+use Rattle.std.proofs.Common.{map, length, ap, sym, ◌∙◌}
 use Rattle.std.proofs.lemmas.List.{length-map}
-use Rattle.rtlsim.specs.Sources.{design_of, has_unresolved}
-use Rattle.rtlsim.specs.Tables.{design_view, table_unresolved, HoldsDrivers}
-use Rattle.rtlsim.specs.View.{equation_view, port_view, units_view}
+use Rattle.rtlsim.specs.Sources.{design_of}
+use Rattle.rtlsim.specs.steps.Tables.{design_view, table_unresolved, HoldsDrivers}
+use Rattle.rtlsim.specs.steps.View.{equation_view, port_view, units_view}
 use Rattle.rtlsim.proofs.Driving.{holds_along, unresolved-held}
 use Rattle.rtlsim.proofs.elaboration.elaborate.Goals as goal
 

@@ -1,6 +1,6 @@
 use Rattle.std.proofs.Common.{◌∙◌, ap, sym, map, Vec, Global}
 use Rattle.std.specs.Prelude.{option_map}
-use Rattle.rtlsim.specs.View.{equation_view}
+use Rattle.rtlsim.specs.steps.View.{equation_view}
 use Rattle.rtlsim.specs.declared.design.Equation.{Equation}
 use Rattle.rtlsim.proofs.Tables.{named-lookup}
 use Rattle.rtlsim.proofs.elaboration.take_equations.Goals as goal

@@ -1,5 +1,5 @@
 use Rattle.std.proofs.Common.{sym, ◌∙◌}
-use Rattle.rtlsim.specs.View.{ports_view}
+use Rattle.rtlsim.specs.steps.View.{ports_view}
 use Rattle.rtlsim.proofs.Driving.{unresolved-found, unresolved-passed}
 use Rattle.rtlsim.proofs.elaboration.unresolved.Goals as goal
 

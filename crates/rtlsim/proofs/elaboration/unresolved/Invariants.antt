@@ -1,6 +1,6 @@
 use Rattle.std.proofs.Common.{◌≡◌, drop}
-use Rattle.rtlsim.specs.Tables.{table_unresolved}
-use Rattle.rtlsim.specs.View.{ports_view}
+use Rattle.rtlsim.specs.steps.Tables.{table_unresolved}
+use Rattle.rtlsim.specs.steps.View.{ports_view}
 use Rattle.rtlsim.proofs.elaboration.unresolved.Given as goal
 
 -- what is left gives what the whole gives

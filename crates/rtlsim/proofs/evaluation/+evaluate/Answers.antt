@@ -1,8 +1,8 @@
 use Rattle.std.proofs.Common.{ap, sym, ◌∙◌}
-use Rattle.rtlsim.specs.Evaluation.{all_operated}
+use Rattle.rtlsim.specs.steps.Evaluation.{all_operated}
 use Rattle.rtlsim.specs.Sets.{input_value}
 use Rattle.rtlsim.specs.Solution.{value_of}
-use Rattle.rtlsim.specs.View.{value_view}
+use Rattle.rtlsim.specs.steps.View.{value_view}
 use Rattle.rtlsim.specs.declared.design.Value.{Value}
 use Rattle.rtlsim.proofs.Evaluating.{value-chain}
 use Rattle.rtlsim.proofs.evaluation.+evaluate.Goals as goal

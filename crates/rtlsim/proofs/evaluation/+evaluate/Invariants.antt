@@ -1,5 +1,5 @@
 use Rattle.std.proofs.Common.{◌≡◌, drop}
-use Rattle.rtlsim.specs.Evaluation.{all_operated}
+use Rattle.rtlsim.specs.steps.Evaluation.{all_operated}
 use Rattle.rtlsim.specs.Sets.{input_value}
 use Rattle.rtlsim.proofs.evaluation.+evaluate.Given as goal
 

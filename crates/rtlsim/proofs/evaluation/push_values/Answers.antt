@@ -1,10 +1,9 @@
-use Rattle.std.proofs.Common.{sym, subst, take, List, ℕ}
+use Rattle.std.proofs.Common.{sym, subst, List, ℕ}
 use Rattle.rtl_sink.specs.Written.{Goes}
 use Rattle.rtl_sink.proofs.Writing.{Goes-append}
-use Rattle.rtlsim.specs.Evaluation.{evaluated}
+use Rattle.rtlsim.specs.steps.Evaluation.{evaluated}
 use Rattle.rtlsim.specs.Sets.{input_value}
-use Rattle.rtlsim.specs.Tables.{design_view}
-use Rattle.rtlsim.specs.View.{ports_view}
+use Rattle.rtlsim.specs.steps.Tables.{design_view}
 use Rattle.rtlsim.proofs.Evaluating.{lines-next}
 use Rattle.rtlsim.proofs.evaluation.push_values.Goals as goal
 

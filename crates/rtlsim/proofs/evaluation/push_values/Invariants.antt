@@ -1,10 +1,10 @@
 use Rattle.std.proofs.Common.{take}
 use Rattle.rtl_sink.specs.Written.{Goes}
-use Rattle.rtlsim.specs.Evaluation.{evaluated}
+use Rattle.rtlsim.specs.steps.Evaluation.{evaluated}
 use Rattle.rtlsim.specs.Printed.{lines_from}
 use Rattle.rtlsim.specs.Sets.{input_value}
-use Rattle.rtlsim.specs.Tables.{design_view}
-use Rattle.rtlsim.specs.View.{ports_view}
+use Rattle.rtlsim.specs.steps.Tables.{design_view}
+use Rattle.rtlsim.specs.steps.View.{ports_view}
 use Rattle.rtlsim.proofs.evaluation.push_values.Given as goal
 
 -- the lines of the ports so far went out

@@ -1,9 +1,9 @@
 use Rattle.std.proofs.Common.{◌≡◌, List, ℕ, map, ap, subst, ◌∙◌, Bor}
 use Rattle.rtl_sink.specs.Written.{Goes}
-use Rattle.rtlsim.specs.Evaluation.{HasVerdict, evaluated}
+use Rattle.rtlsim.specs.steps.Evaluation.{HasVerdict, evaluated}
 use Rattle.rtlsim.specs.Printed.{lines}
 use Rattle.rtlsim.specs.Sets.{Table, input_value}
-use Rattle.rtlsim.specs.Tables.{design_view}
+use Rattle.rtlsim.specs.steps.Tables.{design_view}
 use Rattle.rtlsim.specs.declared.checker.Verdict.TheVariants.{Yes}
 use Rattle.rtlsim.specs.declared.sources.Drivers.{Drivers}
 use Rattle.rtlsim.proofs.Answering.{prints}

@@ -1,7 +1,7 @@
-use Rattle.std.proofs.Common.{◌≡◌, ◌+◌, ◌<◌, ◌≤◌, map, take, length, rules, arith, ap, sym, subst, ◌∙◌, Vec, Global}
+use Rattle.std.proofs.Common.{◌+◌, ◌<◌, ◌≤◌, map, take, length, rules, ap, sym, subst, ◌∙◌, Vec, Global}
 use Rattle.std.proofs.lemmas.List.{get_or_default}
-use Rattle.rtlsim.specs.Tables.{HoldsDrivers}
-use Rattle.rtlsim.specs.View.{equation_view}
+use Rattle.rtlsim.specs.steps.Tables.{HoldsDrivers}
+use Rattle.rtlsim.specs.steps.View.{equation_view}
 use Rattle.rtlsim.specs.declared.sources.Drivers.{Drivers}
 use Rattle.rtlsim.proofs.Driving.{joined, skipped}
 use Rattle.rtlsim.proofs.sources.drivers_of.Goals as goal

@@ -1,6 +1,6 @@
 use Rattle.std.proofs.Common.{map, take}
-use Rattle.rtlsim.specs.Tables.{HoldsDrivers}
-use Rattle.rtlsim.specs.View.{equation_view}
+use Rattle.rtlsim.specs.steps.Tables.{HoldsDrivers}
+use Rattle.rtlsim.specs.steps.View.{equation_view}
 use Rattle.rtlsim.proofs.sources.drivers_of.Given as goal
 
 -- the table has what the equations so far drive

@@ -1,6 +1,6 @@
 use Rattle.std.proofs.Common.{◌≡◌, ◌+◌, map, drop, length, replicate, None, List, ℕ, Bor}
 use Rattle.rtlsim.specs.Sets.{set_words}
-use Rattle.rtlsim.specs.View.{ports_view}
+use Rattle.rtlsim.specs.steps.View.{ports_view}
 use Rattle.rtlsim.proofs.stimulus.settings.Given as goal
 
 -- the words that are left, on what is set, give what all give

@@ -1,4 +1,4 @@
-use Rattle.std.proofs.Common.{◌≡◌, map, drop, []}
+use Rattle.std.proofs.Common.{◌≡◌, map, drop}
 use Rattle.rtlsim.specs.NameRules as rules
 use Rattle.vhdl_tree.specs.View as tree
 use Rattle.rtlsim.specs.Rules.{in_turn}

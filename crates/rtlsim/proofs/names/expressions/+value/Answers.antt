@@ -1,10 +1,10 @@
-use Rattle.std.proofs.Common.{rules, arith, ◌≡◌, ◌≢◌, ◌<◌, ◌∷◌, drop, length, Some, None, ap, sym, ◌∙◌}
+use Rattle.std.proofs.Common.{rules, arith, ◌≡◌, ◌≢◌, ◌<◌, length, Some, None, ap, sym, ◌∙◌}
 use Rattle.std.proofs.lemmas.Grind.{common_steps}
 use Rattle.rtlsim.specs.Rules.{◌>>=◌}
 use Rattle.rtlsim.specs.NameRules.{value, operated}
 use Rattle.rtlsim.specs.declared.faults.names.NameFault.TheVariants.{NoMemory}
 use Rattle.vhdl_tree.specs.View.{view}
-use Rattle.rtlsim.specs.View.{ports_view, value_view, all_linked}
+use Rattle.rtlsim.specs.steps.View.{ports_view, value_view, all_linked}
 use Rattle.rtlsim.proofs.Rows.{value-chain, all_linked_none, link_fails}
 use Rattle.rtlsim.proofs.Giving.{gives_along}
 use Rattle.rtlsim.proofs.names.expressions.+value.Goals as goal

@@ -1,5 +1,5 @@
 use Rattle.std.proofs.Common.{◌≡◌, drop, Some}
-use Rattle.rtlsim.specs.View.{ports_view, value_view, all_linked}
+use Rattle.rtlsim.specs.steps.View.{ports_view, value_view, all_linked}
 use Rattle.rtlsim.proofs.names.expressions.+value.Given as goal
 
 -- the links that are left, on what is done, give the whole

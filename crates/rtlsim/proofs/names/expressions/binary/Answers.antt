@@ -1,6 +1,6 @@
-use Rattle.std.proofs.Common.{◌≡◌, ap, sym, ◌∙◌}
+use Rattle.std.proofs.Common.{ap, sym, ◌∙◌}
 use Rattle.rtlsim.specs.Design as design
-use Rattle.rtlsim.specs.View.{value_view}
+use Rattle.rtlsim.specs.steps.View.{value_view}
 use Rattle.rtlsim.proofs.Rows.{chain_rows, chained-binary}
 use Rattle.rtlsim.proofs.names.expressions.binary.Goals as goal
 

@@ -1,9 +1,9 @@
-use Rattle.std.proofs.Common.{◌≡◌, ◌++◌, [], ◌∷◌, true, None, not, ap, sym, ◌∙◌}
+use Rattle.std.proofs.Common.{◌≡◌, true, None, not, ap, sym, ◌∙◌}
 use Rattle.std.specs.Prelude.{bytes_eq, is_none}
 use Rattle.std.specs.Map.{lookup}
 use Rattle.indexmap.proofs.CallerLemmas.{insert_entry-new}
 use Rattle.rtlsim.specs.Design.{port_named}
-use Rattle.rtlsim.specs.View.{ports_view}
+use Rattle.rtlsim.specs.steps.View.{ports_view}
 use Rattle.vhdl_tree.specs.View.{ident_view}
 use Rattle.rtlsim.proofs.Found.{absent, declared}
 use Rattle.rtlsim.proofs.names.region.declare.Goals as goal

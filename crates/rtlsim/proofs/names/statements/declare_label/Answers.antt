@@ -2,7 +2,7 @@ use Rattle.std.proofs.Common.{◌≡◌, true, false, not, ap, sym, ◌∙◌}
 use Rattle.std.specs.Prelude.{is_none}
 use Rattle.rtlsim.specs.Design.{port_named}
 use Rattle.rtlsim.specs.NameRules.{is_among}
-use Rattle.rtlsim.specs.View.{ports_view, labels_view}
+use Rattle.rtlsim.specs.steps.View.{ports_view, labels_view}
 use Rattle.vhdl_tree.specs.View.{ident_view}
 use Rattle.rtlsim.proofs.Found.{labelled}
 use Rattle.rtlsim.proofs.names.statements.declare_label.Goals as goal

@@ -1,7 +1,7 @@
 use Rattle.std.proofs.Common.{◌≡◌, map, drop}
 use Rattle.rtlsim.specs.NameRules as rules
 use Rattle.vhdl_tree.specs.View as tree
-use Rattle.rtlsim.specs.View.{ports_view, body_view}
+use Rattle.rtlsim.specs.steps.View.{ports_view, body_view}
 use Rattle.rtlsim.specs.Rules.{in_turn}
 use Rattle.rtlsim.proofs.names.statements.statements.Given as goal
 

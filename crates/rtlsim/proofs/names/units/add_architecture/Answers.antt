@@ -2,7 +2,7 @@ use Rattle.std.proofs.Common.{◌≡◌, None, Some, ap, map, ◌∙◌, Vec, Gl
 use Rattle.std.specs.Prelude.{bytes_eq}
 use Rattle.std.specs.Map.{lookup}
 use Rattle.indexmap.proofs.CallerLemmas.{insert_entry-new}
-use Rattle.rtlsim.specs.View.{equation_view}
+use Rattle.rtlsim.specs.steps.View.{equation_view}
 use Rattle.rtlsim.specs.declared.design.Equation.{Equation}
 use Rattle.rtlsim.proofs.Tables.{unknown, grown}
 use Rattle.rtlsim.proofs.names.units.add_architecture.Goals as goal

@@ -2,7 +2,7 @@ use Rattle.std.proofs.Common.{◌≡◌, None, Some, ap, ◌∙◌}
 use Rattle.std.specs.Prelude.{bytes_eq}
 use Rattle.std.specs.Map.{lookup}
 use Rattle.indexmap.proofs.CallerLemmas.{insert_entry-new}
-use Rattle.rtlsim.specs.View.{ports_view}
+use Rattle.rtlsim.specs.steps.View.{ports_view}
 use Rattle.rtlsim.specs.declared.design.Entity.{Entity}
 use Rattle.rtlsim.proofs.Tables.{unknown, grown}
 use Rattle.rtlsim.proofs.names.units.add_entity.Goals as goal

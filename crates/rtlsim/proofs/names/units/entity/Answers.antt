@@ -1,12 +1,12 @@
-use Rattle.std.proofs.Common.{rules, arith, refl, sym, ◌≡◌, ◌≢◌, true, false, None, not, option_map, ap, ◌∙◌}
-use Rattle.std.specs.Prelude.{is_none, is_some}
+use Rattle.std.proofs.Common.{rules, arith, refl, sym, ◌≡◌, ◌≢◌, true, None, not, option_map, ap, ◌∙◌}
+use Rattle.std.specs.Prelude.{is_none}
 use Rattle.std.proofs.lemmas.Grind.{common_steps}
 use Rattle.vhdl_tree.specs.Tree as t
 use Rattle.vhdl_tree.specs.View as tree
 use Rattle.rtlsim.specs.declared.names.context.Seen.{Seen}
 use Rattle.rtlsim.specs.declared.faults.names.NameFault.TheVariants.{NoMemory}
 use Rattle.rtlsim.specs.NameRules as n
-use Rattle.rtlsim.specs.View.{units_view}
+use Rattle.rtlsim.specs.steps.View.{units_view}
 use Rattle.rtlsim.proofs.names.units.entity.Goals as goal
 
 no_ports : (u : n.Units) (seen : Seen) (e : t.Entity) → is_none (n.named u.entities e.name.text) ≡ true → is_none e.generics ≡ true → n.ports_of seen e.ports ≡ None → n.entity u seen e ≡ None

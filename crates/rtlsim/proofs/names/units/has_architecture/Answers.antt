@@ -1,5 +1,5 @@
 use Rattle.std.proofs.Common.{◌∙◌, map, Vec, Global}
-use Rattle.rtlsim.specs.View.{equation_view}
+use Rattle.rtlsim.specs.steps.View.{equation_view}
 use Rattle.rtlsim.specs.declared.design.Equation.{Equation}
 use Rattle.rtlsim.proofs.Tables.{is_named}
 use Rattle.rtlsim.proofs.names.units.has_architecture.Goals as goal

@@ -1,5 +1,5 @@
 use Rattle.std.proofs.Common.{◌∙◌}
-use Rattle.rtlsim.specs.View.{ports_view}
+use Rattle.rtlsim.specs.steps.View.{ports_view}
 use Rattle.rtlsim.specs.declared.design.Entity.{Entity}
 use Rattle.rtlsim.proofs.Tables.{is_named}
 use Rattle.rtlsim.proofs.names.units.is_entity.Goals as goal

@@ -1,6 +1,6 @@
 use Rattle.std.proofs.Common.{◌∙◌, ap, sym}
 use Rattle.std.specs.Prelude.{option_map}
-use Rattle.rtlsim.specs.View.{ports_view}
+use Rattle.rtlsim.specs.steps.View.{ports_view}
 use Rattle.rtlsim.specs.declared.design.Entity.{Entity}
 use Rattle.rtlsim.proofs.Tables.{named-lookup}
 use Rattle.rtlsim.proofs.names.units.ports_named.Goals as goal

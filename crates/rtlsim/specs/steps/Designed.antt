@@ -1,11 +1,11 @@
 -- What finding a design answers.
-use Rattle.std.specs.Prelude.{ℕ, List, map, Result, Ok, Err}
+use Rattle.std.specs.Prelude.{map, Result, Ok, Err}
 use Rattle.vhdl_tree.specs.Tree as t
 use Rattle.rtlsim.specs.Design.{Name}
 use Rattle.rtlsim.specs.Solution.{ArePlain}
 use Rattle.rtlsim.specs.Answer.{IsDesign, HasDesignFault}
-use Rattle.rtlsim.specs.Tables.{design_view}
-use Rattle.rtlsim.specs.View.{ports_view, equation_view}
+use Rattle.rtlsim.specs.steps.Tables.{design_view}
+use Rattle.rtlsim.specs.steps.View.{ports_view, equation_view}
 use Rattle.rtlsim.specs.declared.design.Design.{Design}
 use Rattle.rtlsim.specs.declared.faults.Fault.{Fault}
 

@@ -1,5 +1,5 @@
 -- How the code evaluates: from what drives each port. The laws show that this is the one solution.
-use Rattle.std.specs.Prelude.{◌≡◌, ◌≢◌, ℕ, List, [], ◌∷◌, length, get_or, slice_get, Option, Some, None, Result, Ok, Err}
+use Rattle.std.specs.Prelude.{◌≡◌, ◌≢◌, ℕ, List, [], ◌∷◌, length, get_or, slice_get, Option, Some, None}
 use Rattle.vhdl_tree.specs.declared.declaration.Mode.{Mode}
 use Rattle.vhdl_tree.specs.declared.declaration.Mode.TheVariants.{In, Out}
 use Rattle.vhdl_values.specs.declared.scalar.Nine.{Nine}
@@ -8,10 +8,10 @@ use Rattle.rtlsim.specs.Design as d
 use Rattle.rtlsim.specs.Sources.{drivers, faults}
 use Rattle.rtlsim.specs.Solution.{Valuation, value_of}
 use Rattle.rtlsim.specs.Printed.{line_by}
-use Rattle.rtlsim.specs.View.{value_view}
+use Rattle.rtlsim.specs.steps.View.{value_view}
 use Rattle.rtlsim.specs.declared.design.Link.{Link}
 use Rattle.vhdl_values.specs.Logic.{logic_of}
-use Rattle.rtlsim.specs.Tables.{summary, HoldsDrivers}
+use Rattle.rtlsim.specs.steps.Tables.{HoldsDrivers}
 use Rattle.rtlsim.specs.declared.sources.Drivers.{Drivers}
 use Rattle.rtlsim.specs.declared.sources.Drivers.TheVariants.{Undriven, One, Several}
 use Rattle.rtlsim.specs.declared.checker.Verdict.{Verdict}

@@ -1,9 +1,8 @@
 -- What contracts see of the code's units.
-use Rattle.std.specs.Prelude.{◌≡◌, ◌≢◌, ℕ, Bool, List, [], ◌∷◌, map, Option, Some, None, option_map, Result, Ok, Err, Vec, Box}
+use Rattle.std.specs.Prelude.{◌≡◌, ◌≢◌, ℕ, List, [], ◌∷◌, map, Option, Some, None, option_map, Result, Ok, Err, Vec}
 use Rattle.std.specs.Global.{Global}
 use Rattle.indexmap.specs.IndexMap.{IndexMap}
 use Rattle.indexmap.specs.IndexSet.{IndexSet}
-use Rattle.vhdl_values.specs.declared.kinds.Logic.{Logic}
 use Rattle.rtlsim.specs.Design as d
 use Rattle.rtlsim.specs.NameRules as n
 use Rattle.rtlsim.specs.Rules.{◌>>=◌}

@@ -1,11 +1,11 @@
 -- What tables of the code hold.
-use Rattle.std.specs.Prelude.{◌≡◌, ℕ, suc, ◌<◌, ◌&&◌, ◌||◌, Bool, true, false, not, List, [], ◌∷◌, ◌++◌, length, map, Option, Some, None, Result, Ok, Err, get_or, Vec}
-use Rattle.std.specs.Global.{Global}
+use Rattle.std.specs.Prelude.{◌≡◌, ℕ, suc, ◌<◌, ◌&&◌, ◌||◌, Bool, true, false, not, List, [], ◌∷◌, ◌++◌, length, map, Option, Some, None, Result, Ok, Err, get_or}
 use Rattle.std.specs.Borrow.{Bor}
 use Rattle.rtlsim.specs.Design as d
 use Rattle.rtlsim.specs.NameRules.{Units}
-use Rattle.rtlsim.specs.Sources.{drivers, design_of, has_unresolved, faults}
-use Rattle.rtlsim.specs.View.{ports_view, equation_view}
+use Rattle.rtlsim.specs.Sources.{drivers, design_of, has_unresolved}
+use Rattle.rtlsim.specs.Answer.{HasElabFault}
+use Rattle.rtlsim.specs.steps.View.{ports_view, equation_view}
 use Rattle.rtlsim.specs.declared.sources.Drivers.{Drivers}
 use Rattle.rtlsim.specs.declared.sources.Drivers.TheVariants.{Undriven, One, Several}
 use Rattle.rtlsim.specs.declared.design.Design.{Design}
@@ -14,7 +14,6 @@ use Rattle.rtlsim.specs.declared.faults.check.CheckFault.{CheckFault}
 use Rattle.rtlsim.specs.declared.faults.check.CheckFault.TheVariants.{TwoDrivers}
 use Rattle.rtlsim.specs.declared.faults.check.SourceId.TheVariants.{Process}
 use Rattle.rtlsim.specs.declared.faults.elab.ElabFault.{ElabFault}
-use Rattle.rtlsim.specs.declared.faults.elab.ElabFault.TheVariants.{NoTop, TwoUnresolved, NoMemory}
 
 abbrev pub design_view : Design → d.Design
 design_view x = record { name = x.name.items; ports = ports_view x.ports; equations = map equation_view x.equations.items }
@@ -49,12 +48,6 @@ table_faults n [] = []
 table_faults n (t ∷ ts) = table_fault n t ++ table_faults (suc n) ts
 
 -- what elaboration answers for a top
-abbrev pub HasElabFault : ElabFault → Units → d.Name → Type 0
-HasElabFault (NoTop at) u top = design_of u top ≡ None
-HasElabFault (TwoUnresolved at) u top = (x : d.Design) × (design_of u top ≡ Some x) × (has_unresolved x ≡ true)
-HasElabFault NoMemory u top = Unit {0}
-HasElabFault _ u top = ⊥
-
 abbrev pub Elaborates : Units → d.Name → Result Design ElabFault → Type 0
 Elaborates u top (Ok x) = (design_of u top ≡ Some (design_view x)) × (has_unresolved (design_view x) ≡ false)
 Elaborates u top (Err e) = HasElabFault e u top
