@@ -3,11 +3,10 @@ use Rattle.std.proofs.Common.{◌≡◌, List, [], ◌∷◌, ◌++◌, map, Opt
 use mathlib.Core.Former.{Count}
 use Rattle.vhdl_tree.specs.Tree as t
 use Rattle.vhdl_tree.specs.View as s
-use Rattle.vhdl_tree.specs.declared.expression.Expr as e
 use Rattle.vhdl_tree.specs.declared.expression.Expr.{Expr}
-use Rattle.vhdl_tree.specs.declared.expression.Expr.TheBlock as b
-use Rattle.vhdl_tree.specs.declared.expression.Expr.TheVariants as ev
+use Rattle.vhdl_tree.specs.declared.expression.Expr.TheVariants as e
 use Rattle.vhdl_tree.specs.declared.expression.Link.{Link}
+use Rattle.vhdl_tree.proofs.Rows.{view_chain}
 use Rattle.rtlsim.specs.declared.design.Value as v
 use Rattle.rtlsim.specs.declared.design.Value.{Value}
 use Rattle.rtlsim.specs.declared.design.Link as m
@@ -42,24 +41,6 @@ first-binary acc ls ls' l e h = chained-binary acc ls ls' l h ∙ ap (λ xs. d.b
 
 -- ---- expressions
 
--- a chain of the tree, its operators grouped from the left
-abbrev pub tree_chained : t.Expr → List Link → t.Expr
-tree_chained acc [] = acc
-tree_chained acc (l ∷ ls) = tree_chained (t.binary l.operator l.at acc (s.view l.operand)) ls
-
-links_row : (acc : t.Expr) (n : Count) (row : b.Row_of-Link n) → s.links_view acc row ≡ tree_chained acc (b.items-the_row-Link n row)
-links_row acc n b.end_of-Link = refl
-links_row acc n (b.more_of-Link operator at operand rest) = links_row (t.binary operator at acc (s.view operand)) _ rest
-
-abbrev row_of : Expr → (n : Count) × b.Row_of-Link n
-row_of (ev.Chain' p first shape row) = (_, row)
-row_of _ = (_, b.end_of-Link)
-
-pub view_chain : (first : Box Expr Global) (rest : Vec Link Global) → s.view (ev.Chain first rest) ≡ tree_chained (s.view first.value) rest.items
-view_chain first rest =
-    let row = row_of (ev.Chain first rest) in
-    links_row (s.view first.value) row.0 row.1 ∙ ap (tree_chained (s.view first.value)) (b.items_hidden-the_row-Link-0 rest)
-
 linked_value : (ports : List d.Port) (x : t.Expr) (l : Link) → n.value ports (t.binary l.operator l.at x (s.view l.operand)) ≡ linked ports (n.value ports x) l
 unfolding n.value
 linked_value ports x l = go (n.value ports x)
@@ -68,15 +49,15 @@ linked_value ports x l = go (n.value ports x)
     go None = refl
     go (Some v) = refl
 
-pub value-chained : (ports : List d.Port) (x : t.Expr) (ls : List Link) → n.value ports (tree_chained x ls) ≡ all_linked ports (n.value ports x) ls
+pub value-chained : (ports : List d.Port) (x : t.Expr) (ls : List Link) → n.value ports (t.chained x (map s.pair_view ls)) ≡ all_linked ports (n.value ports x) ls
 value-chained ports x [] = refl
-value-chained ports x (l ∷ ls) = value-chained ports (t.binary l.operator l.at x (s.view l.operand)) ls ∙ ap (λ o. all_linked ports o ls) (linked_value ports x l)
+value-chained ports x (l ∷ ls) = value-chained ports (t.joined x (s.pair_view l)) ls ∙ ap (λ o. all_linked ports o ls) (linked_value ports x l)
 
 pub all_linked_none : (ports : List d.Port) (ls : List Link) → all_linked ports None ls ≡ None
 all_linked_none ports [] = refl
 all_linked_none ports (l ∷ ls) = all_linked_none ports ls
 
-pub value-chain : (ports : List d.Port) (first : Box Expr Global) (rest : Vec Link Global) → n.value ports (s.view (ev.Chain first rest)) ≡ all_linked ports (n.value ports (s.view first.value)) rest.items
+pub value-chain : (ports : List d.Port) (first : Box Expr Global) (rest : Vec Link Global) → n.value ports (s.view (e.Chain first rest)) ≡ all_linked ports (n.value ports (s.view first.value)) rest.items
 value-chain ports first rest = ap (n.value ports) (view_chain first rest) ∙ value-chained ports (s.view first.value) rest.items
 
 -- a link that gives nothing leaves nothing

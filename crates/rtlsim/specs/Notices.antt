@@ -1,10 +1,12 @@
 -- What the printed line of a fault tells: its layer, number, name and place.
 use Rattle.std.specs.Prelude.{ℕ, List, Option, Some, None, codes}
 use Rattle.rtlsim.specs.declared.faults.notice.Place.{Place}
-use Rattle.rtlsim.specs.declared.faults.notice.Place.TheVariants.{Nowhere, Byte, Line, Time, Change}
+use Rattle.rtlsim.specs.declared.faults.notice.Place.TheVariants.{Nowhere, Byte, Line, Change}
 use Rattle.rtlsim.specs.declared.faults.notice.Notice.{Notice}
+use Rattle.vhdl_lexer.specs.Fault as lexer
 use Rattle.vhdl_lexer.specs.declared.fault.LexFault.{LexFault}
 use Rattle.vhdl_lexer.specs.declared.fault.LexFault.TheVariants as lex
+use Rattle.vhdl_parser.specs.Fault as parser
 use Rattle.vhdl_parser.specs.declared.fault.SyntaxFault.{SyntaxFault}
 use Rattle.vhdl_parser.specs.declared.fault.SyntaxFault.TheVariants as syntax
 use Rattle.rtlsim.specs.declared.faults.names.NameFault.{NameFault}
@@ -30,20 +32,31 @@ some_entry layer number name place = Some (entry layer number name place)
 abbrev pub entry_of : Notice → Entry
 entry_of notice = entry notice.layer.now notice.number notice.name.now notice.place
 
+-- what a layer says of a fault with this byte; without one it is want of memory, which is told as such
+abbrev pub byte_entry : List ℕ → ℕ → List ℕ → Option ℕ → Option Entry
+byte_entry layer number name None = None
+byte_entry layer number name (Some at) = some_entry layer number name (Byte at)
+
+abbrev pub lex_name : LexFault → List ℕ
+lex_name (lex.BadByte at) = codes "BadByte"
+lex_name (lex.OpenComment at) = codes "OpenComment"
+lex_name (lex.OpenString at) = codes "OpenString"
+lex_name (lex.BadIdentifier at) = codes "BadIdentifier"
+lex_name (lex.BadNumber at) = codes "BadNumber"
+lex_name (lex.TooLong at) = codes "TooLong"
+lex_name lex.NoMemory = codes "NoMemory"
+
 abbrev pub lex_entry : LexFault → Option Entry
-lex_entry (lex.BadByte at) = some_entry (codes "lex") 1 (codes "BadByte") (Byte at)
-lex_entry (lex.OpenComment at) = some_entry (codes "lex") 2 (codes "OpenComment") (Byte at)
-lex_entry (lex.OpenString at) = some_entry (codes "lex") 3 (codes "OpenString") (Byte at)
-lex_entry (lex.BadIdentifier at) = some_entry (codes "lex") 4 (codes "BadIdentifier") (Byte at)
-lex_entry (lex.BadNumber at) = some_entry (codes "lex") 5 (codes "BadNumber") (Byte at)
-lex_entry (lex.TooLong at) = some_entry (codes "lex") 6 (codes "TooLong") (Byte at)
-lex_entry lex.NoMemory = None
+lex_entry fault = byte_entry (codes "lex") (lexer.fault_number fault) (lex_name fault) (lexer.fault_byte fault)
+
+abbrev pub syntax_name : SyntaxFault → List ℕ
+syntax_name (syntax.Unexpected at) = codes "Unexpected"
+syntax_name (syntax.EndOfFile at) = codes "EndOfFile"
+syntax_name (syntax.TooDeep at) = codes "TooDeep"
+syntax_name syntax.NoMemory = codes "NoMemory"
 
 abbrev pub syntax_entry : SyntaxFault → Option Entry
-syntax_entry (syntax.Unexpected at) = some_entry (codes "syntax") 1 (codes "Unexpected") (Byte at)
-syntax_entry (syntax.EndOfFile at) = some_entry (codes "syntax") 2 (codes "EndOfFile") (Byte at)
-syntax_entry (syntax.TooDeep at) = some_entry (codes "syntax") 3 (codes "TooDeep") (Byte at)
-syntax_entry syntax.NoMemory = None
+syntax_entry fault = byte_entry (codes "syntax") (parser.fault_number fault) (syntax_name fault) (parser.fault_byte fault)
 
 abbrev pub names_entry : NameFault → Option Entry
 names_entry (names.Undeclared at) = some_entry (codes "name") 1 (codes "Undeclared") (Byte at)

@@ -2,6 +2,7 @@
 
 ghost use Rattle.std.specs.Prelude.{◌≡◌};
 ghost use Rattle.std.specs.Option.{option_map};
+ghost use Rattle.rtlsim.specs.Notices as notices;
 ghost use Rattle.rtlsim.specs.Notices.{entry_of, lex_entry, syntax_entry};
 
 use super::{Notice, Place};
@@ -12,14 +13,21 @@ use vhdl_parser::SyntaxFault;
 pub(crate) fn lex_notice(fault: &LexFault) -> Option<Notice>
     ensures { option_map entry_of result ≡ lex_entry fault.now }
 {
+    let at = fault.byte()?;
+    Notice::some("lex", fault.number(), lex_name(fault), Place::Byte(at))
+}
+
+fn lex_name(fault: &LexFault) -> &'static str
+    ensures { result.now ≡ notices.lex_name fault.now }
+{
     match *fault {
-        LexFault::BadByte { at } => Notice::some("lex", 1, "BadByte", Place::Byte(at)),
-        LexFault::OpenComment { at } => Notice::some("lex", 2, "OpenComment", Place::Byte(at)),
-        LexFault::OpenString { at } => Notice::some("lex", 3, "OpenString", Place::Byte(at)),
-        LexFault::BadIdentifier { at } => Notice::some("lex", 4, "BadIdentifier", Place::Byte(at)),
-        LexFault::BadNumber { at } => Notice::some("lex", 5, "BadNumber", Place::Byte(at)),
-        LexFault::TooLong { at } => Notice::some("lex", 6, "TooLong", Place::Byte(at)),
-        LexFault::NoMemory => None,
+        LexFault::BadByte { .. } => "BadByte",
+        LexFault::OpenComment { .. } => "OpenComment",
+        LexFault::OpenString { .. } => "OpenString",
+        LexFault::BadIdentifier { .. } => "BadIdentifier",
+        LexFault::BadNumber { .. } => "BadNumber",
+        LexFault::TooLong { .. } => "TooLong",
+        LexFault::NoMemory => "NoMemory",
     }
 }
 
@@ -27,10 +35,22 @@ pub(crate) fn lex_notice(fault: &LexFault) -> Option<Notice>
 pub(crate) fn syntax_notice(fault: &SyntaxFault) -> Option<Notice>
     ensures { option_map entry_of result ≡ syntax_entry fault.now }
 {
+    let at = fault.byte()?;
+    Notice::some(
+        "syntax",
+        fault.number(),
+        syntax_name(fault),
+        Place::Byte(at),
+    )
+}
+
+fn syntax_name(fault: &SyntaxFault) -> &'static str
+    ensures { result.now ≡ notices.syntax_name fault.now }
+{
     match *fault {
-        SyntaxFault::Unexpected { at } => Notice::some("syntax", 1, "Unexpected", Place::Byte(at)),
-        SyntaxFault::EndOfFile { at } => Notice::some("syntax", 2, "EndOfFile", Place::Byte(at)),
-        SyntaxFault::TooDeep { at } => Notice::some("syntax", 3, "TooDeep", Place::Byte(at)),
-        SyntaxFault::NoMemory => None,
+        SyntaxFault::Unexpected { .. } => "Unexpected",
+        SyntaxFault::EndOfFile { .. } => "EndOfFile",
+        SyntaxFault::TooDeep { .. } => "TooDeep",
+        SyntaxFault::NoMemory => "NoMemory",
     }
 }
