@@ -2,6 +2,7 @@ pub mod DesignNames
 pub mod Faults
 pub mod Lines
 pub mod Notices
+pub mod Places
 pub mod Status
 pub mod Words
 pub mod Rules

@@ -1,11 +1,12 @@
 -- What the program does for its words.
 use Rattle.std.specs.List.{before_first, after_first, slice_split}
-use Rattle.std.specs.Prelude.{◌≡◌, ◌==◌, not, filter, length, Some, ℕ, List, Option, Result, Ok, Err, Bool, true, false, IfSome, ◌⊎◌, ◌||◌, codes, map}
+use Rattle.std.specs.Prelude.{◌≡◌, ◌==◌, not, filter, length, Some, ℕ, List, Option, Result, Ok, Err, Bool, true, false, IfSome, IfErr, ◌⊎◌, ◌||◌, codes, map}
 use Rattle.rtl_sink.specs.Written.{SinkState, Goes}
 use Rattle.rtlsim.specs.Faults.{status_of}
 use Rattle.rtlsim.specs.Lines.{memory_line, input_line}
 use Rattle.rtlsim.specs.Words.{words_of}
 use Rattle.rtlsim.specs.Evaluates.{Evaluates, Tells}
+use Rattle.rtlsim.specs.Places.{IsTold}
 use Rattle.rtlsim.specs.declared.faults.Fault.{Fault}
 use Rattle.rtlsim.specs.declared.inputs.InputFault.{InputFault}
 use Rattle.rtlsim.specs.declared.inputs.InputFault.TheVariants.{Failed, NoMemory}
@@ -52,6 +53,7 @@ pub record TellsInput (fault : InputFault) (outcome : Status) (o : Outputs) : Ty
 -- the source is read and evaluated
 pub record TellsAnswer (source top : List ℕ) (sets : List (List ℕ)) (answer : Result (Unit {0}) Fault) (outcome : Status) (o : Outputs) : Type 0 where
   pub output : Evaluates source top sets answer o.out o.out_after
+  pub placed : IfErr answer (IsTold (length source))
   pub told : Tells source top answer o.err o.err_after
   pub status : outcome ≡ ended (answer_status answer) o.out_after o.err_after
 

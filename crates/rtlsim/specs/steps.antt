@@ -5,3 +5,4 @@ pub mod Tables
 pub mod Evaluation
 pub mod Setting
 pub mod Designed
+pub mod Within

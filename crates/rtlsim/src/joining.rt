@@ -1,8 +1,9 @@
 //! From a file to the design of a top, and from a design to the lines of its out ports.
 
-ghost use Rattle.std.specs.Prelude.{◌≡◌, map, IfOk};
+ghost use Rattle.std.specs.Prelude.{◌≡◌, map, IfOk, IfErr};
 ghost use Rattle.rtl_sink.specs.Written.{IsIntact};
 ghost use Rattle.rtlsim.specs.Answer.{RunAnswers};
+ghost use Rattle.rtlsim.specs.Places.{IsTold};
 ghost use Rattle.rtlsim.specs.steps.Designed.{FindsDesign, IsPlain};
 ghost use Rattle.rtlsim.specs.steps.Tables.{design_view};
 ghost use Rattle.vhdl_tree.specs.View.{file_view};
@@ -18,18 +19,24 @@ use rtl_sink::{Sink, finish};
 use std::alloc::Global;
 use vhdl_tree::File;
 
-/// The design of a top in a file.
-pub(crate) fn design_of_file(alloc: Global, file: &File, top: &[u8]) -> Result<Design, Fault>
+/// The design of a top in a file, whose source has `size` bytes.
+pub(crate) fn design_of_file(
+    alloc: Global,
+    file: &File,
+    size: usize,
+    top: &[u8],
+) -> Result<Design, Fault>
     ensures found { FindsDesign result (file_view file.now) top.now }
     ensures plain { IfOk result (λ design. IsPlain design) }
+    ensures told { IfErr result (IsTold size) }
 {
     let units = match analyse(alloc, file) {
         Ok(units) => units,
-        Err(names) => return Err(Fault::from(names)),
+        Err(names) => return Err(Fault::from(names.within(size))),
     };
     match elaborate(alloc, units, top) {
         Ok(design) => Ok(design),
-        Err(elab) => Err(Fault::from(elab)),
+        Err(elab) => Err(Fault::from(elab.within(size))),
     }
 }
 

@@ -1,10 +1,11 @@
 //! `eval`, and the same with its refusals told.
 
-ghost use Rattle.std.specs.Prelude.{◌≡◌, map, IfErr, IfOk};
+ghost use Rattle.std.specs.Prelude.{◌≡◌, length, map, IfErr, IfOk};
 ghost use Rattle.rtl_sink.specs.Written.{IsIntact};
 ghost use Rattle.rtlsim.specs.Answer.{IsDesign, HasDesignFault};
 ghost use Rattle.rtlsim.specs.steps.Designed.{IsPlain};
 ghost use Rattle.rtlsim.specs.Evaluates.{Evaluates, Tells};
+ghost use Rattle.rtlsim.specs.Places.{IsTold};
 ghost use Rattle.rtlsim.specs.Source.{IsFileOf, HasSourceFault};
 ghost use Rattle.rtlsim.specs.steps.Tables.{design_view};
 ghost use Rattle.vhdl_tree.specs.View.{file_view};
@@ -41,10 +42,11 @@ pub fn eval<S: Sink>(
     out: &mut S,
 ) -> Result<(), Fault>
     requires intact { IsIntact (S.state out.old) }
-    ensures { Evaluates source.now top.now (map (λ set. set.now) sets.now) result (S.state out.old) (S.state out.new) }
+    ensures evaluates { Evaluates source.now top.now (map (λ set. set.now) sets.now) result (S.state out.old) (S.state out.new) }
+    ensures told { IfErr result (IsTold (length source.now)) }
 {
     let file = read_file(alloc, source)?;
-    let design = design_of_file(alloc, &file, top)?;
+    let design = design_of_file(alloc, &file, source.len(), top)?;
     run_design(alloc, &design, sets, out)
 }
 
@@ -59,6 +61,7 @@ pub(crate) fn eval_telling<S: Sink, E: Sink>(
 ) -> Result<(), Fault>
     requires intact { IsIntact (S.state out.old) }
     ensures evaluates { Evaluates source.now top.now (map (λ set. set.now) sets.now) result (S.state out.old) (S.state out.new) }
+    ensures told { IfErr result (IsTold (length source.now)) }
     ensures tells { Tells source.now top.now result (E.state err.old) (E.state err.new) }
 {
     let file = match read_file(alloc, source) {
@@ -68,7 +71,7 @@ pub(crate) fn eval_telling<S: Sink, E: Sink>(
             return Err(fault);
         }
     };
-    match design_of_file(alloc, &file, top) {
+    match design_of_file(alloc, &file, source.len(), top) {
         Ok(design) => {
             let answer = run_design(alloc, &design, sets, out);
             if let Err(fault) = &answer {
@@ -87,6 +90,7 @@ pub(crate) fn eval_telling<S: Sink, E: Sink>(
 fn read_file(alloc: Global, source: &[u8]) -> Result<File, Fault>
     ensures read { IfOk result (λ file. IsFileOf source.now (file_view file)) }
     ensures refused { IfErr result (λ fault. HasSourceFault fault source.now) }
+    ensures told { IfErr result (IsTold (length source.now)) }
 {
     let tokens = lex(alloc, source)?;
     Ok(parse(alloc, source, &tokens)?)

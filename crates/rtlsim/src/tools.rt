@@ -5,7 +5,8 @@ ghost use Rattle.rtl_sink.specs.Written.{SinkState, IsIntact, Goes};
 ghost use Rattle.rtlsim.specs.Evaluates.{Evaluates, Tells};
 ghost use Rattle.rtlsim.specs.Faults.{status_of};
 ghost use Rattle.rtlsim.specs.Status.{code_of};
-ghost use Rattle.rtlsim.specs.Tools.{Outputs, Performs, RefusesWords, Serves, ended, IsFile, input_text, answer_status, input_status};
+ghost use Rattle.rtlsim.specs.Tools.{Outputs, Performs, TellsAnswer, RefusesWords, Serves, ended, IsFile, input_text, answer_status, input_status};
+ghost use Rattle.rtlsim.specs.declared.faults.Fault.{Fault};
 ghost use Rattle.rtlsim.specs.declared.status.Status.{Status};
 
 use crate::faults::Fault;
@@ -87,12 +88,27 @@ pub fn perform<I: Inputs, O: Sink, E: Sink>(
 {
     let Request::Eval { file, top, sets } = request;
     match read_eval(alloc, inputs, file, sets) {
-        Ok((source, sets)) => {
-            let answer = eval_telling(alloc, &source, top.as_bytes(), &sets, out, err);
-            ended_by_writes(status_of_answer(&answer), out, err)
-        }
+        Ok((source, sets)) => serve_source(alloc, &source, top.as_bytes(), &sets, out, err),
         Err(fault) => refuse_input(fault, out, err),
     }
+}
+
+/// Evaluates a source, tells its fault, and answers the status.
+fn serve_source<O: Sink, E: Sink>(
+    alloc: Global,
+    source: &[u8],
+    top: &[u8],
+    sets: &[&[u8]],
+    out: &mut O,
+    err: &mut E,
+) -> Status
+    requires out { IsIntact (O.state out.old) }
+    requires err { IsIntact (E.state err.old) }
+    ensures { (answer : Result (Unit {0}) Fault) × TellsAnswer source.now top.now (map (λ set. set.now) sets.now) answer result
+        (record { out = O.state out.old; out_after = O.state out.new; err = E.state err.old; err_after = E.state err.new }) }
+{
+    let answer = eval_telling(alloc, source, top, sets, out, err);
+    ended_by_writes(status_of_answer(&answer), out, err)
 }
 
 /// Tells that an input failed, and answers the status.

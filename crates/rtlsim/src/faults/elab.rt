@@ -54,6 +54,7 @@ pub enum ElabFault {
 impl ElabFault {
     ghost use Rattle.std.specs.Prelude.{◌≡◌};
     ghost use Rattle.std.specs.Option.{option_map};
+    ghost use Rattle.rtlsim.specs.steps.Within.{elab_within};
     ghost use Rattle.rtlsim.specs.Notices.{entry_of, elab_entry};
 
     /// What its printed line tells. Want of memory is told as such, without layer or number.
@@ -99,6 +100,27 @@ impl ElabFault {
             ElabFault::TooDeep { at } => Notice::some("elab", 11, "TooDeep", Place::Byte(at)),
             ElabFault::TooMany { at } => Notice::some("elab", 12, "TooMany", Place::Byte(at)),
             ElabFault::NoMemory => None,
+        }
+    }
+
+    /// The same fault, told at byte `most` where its byte lies behind that one.
+    pub(crate) fn within(self, most: usize) -> ElabFault
+        ensures { result ≡ elab_within most self }
+    {
+        match self {
+            ElabFault::NoTop { at } => ElabFault::NoTop { at: at.min(most) },
+            ElabFault::NoGeneric { at } => ElabFault::NoGeneric { at: at.min(most) },
+            ElabFault::GenericRange { at } => ElabFault::GenericRange { at: at.min(most) },
+            ElabFault::StaticError { at } => ElabFault::StaticError { at: at.min(most) },
+            ElabFault::Length { at } => ElabFault::Length { at: at.min(most) },
+            ElabFault::Index { at } => ElabFault::Index { at: at.min(most) },
+            ElabFault::TooWide { at } => ElabFault::TooWide { at: at.min(most) },
+            ElabFault::Unassociated { at } => ElabFault::Unassociated { at: at.min(most) },
+            ElabFault::TwoUnresolved { at } => ElabFault::TwoUnresolved { at: at.min(most) },
+            ElabFault::ReadOfShared { at } => ElabFault::ReadOfShared { at: at.min(most) },
+            ElabFault::TooDeep { at } => ElabFault::TooDeep { at: at.min(most) },
+            ElabFault::TooMany { at } => ElabFault::TooMany { at: at.min(most) },
+            ElabFault::NoMemory => ElabFault::NoMemory,
         }
     }
 }

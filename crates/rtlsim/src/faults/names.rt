@@ -52,6 +52,7 @@ pub enum NameFault {
 impl NameFault {
     ghost use Rattle.std.specs.Prelude.{◌≡◌};
     ghost use Rattle.std.specs.Option.{option_map};
+    ghost use Rattle.rtlsim.specs.steps.Within.{names_within};
     ghost use Rattle.rtlsim.specs.Notices.{entry_of, names_entry};
 
     /// What its printed line tells. Want of memory is told as such, without layer or number.
@@ -91,6 +92,28 @@ impl NameFault {
             ),
             NameFault::LeftOut { at } => Notice::some("name", 11, "LeftOut", Place::Byte(at)),
             NameFault::NoMemory => None,
+        }
+    }
+
+    /// The same fault, told at byte `most` where its byte lies behind that one.
+    pub(crate) fn within(self, most: usize) -> NameFault
+        ensures { result ≡ names_within most self }
+    {
+        match self {
+            NameFault::Undeclared { at } => NameFault::Undeclared { at: at.min(most) },
+            NameFault::Twice { at } => NameFault::Twice { at: at.min(most) },
+            NameFault::WrongKind { at } => NameFault::WrongKind { at: at.min(most) },
+            NameFault::TypeMismatch { at } => NameFault::TypeMismatch { at: at.min(most) },
+            NameFault::NotVisible { at } => NameFault::NotVisible { at: at.min(most) },
+            NameFault::WriteOfIn { at } => NameFault::WriteOfIn { at: at.min(most) },
+            NameFault::NoOthers { at } => NameFault::NoOthers { at: at.min(most) },
+            NameFault::ChoiceTwice { at } => NameFault::ChoiceTwice { at: at.min(most) },
+            NameFault::SecondArchitecture { at } => NameFault::SecondArchitecture {
+                at: at.min(most),
+            },
+            NameFault::NoSensitivity { at } => NameFault::NoSensitivity { at: at.min(most) },
+            NameFault::LeftOut { at } => NameFault::LeftOut { at: at.min(most) },
+            NameFault::NoMemory => NameFault::NoMemory,
         }
     }
 }
