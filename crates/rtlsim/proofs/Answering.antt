@@ -11,8 +11,6 @@ use Rattle.rtlsim.specs.Answer.{Prints}
 use Rattle.rtlsim.specs.declared.sources.Drivers.{Drivers}
 use Rattle.rtlsim.proofs.Solving.{solution, the_solution}
 
--- ---- lines
-
 -- valuations that agree at the ports print the same
 lines_agree : (ps : List d.Port) (j : ℕ) (v w : Valuation) → ((n : ℕ) → n < length ps → v (j + n) ≡ w (j + n)) → lines_from j ps v ≡ lines_from j ps w
 lines_agree [] j v w h = refl

@@ -7,3 +7,4 @@ pub mod Driving
 pub mod Tables
 pub mod Giving
 pub mod Rows
+pub mod Refusing

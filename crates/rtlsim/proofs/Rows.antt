@@ -36,9 +36,6 @@ chained-push acc (k ∷ ls) l = chained-push (d.binary k.operator acc (value_vie
 pub chained-binary : (acc : d.Value) (ls ls' : List m.Link) (l : m.Link) → ls' ≡ ls ++ l ∷ [] → chained acc ls' ≡ d.binary l.operator (chained acc ls) (value_view l.operand)
 chained-binary acc ls ls' l h = ap (chained acc) h ∙ chained-push acc ls l
 
-pub first-binary : (acc : d.Value) (ls ls' : List m.Link) (l : m.Link) → ls ≡ [] → ls' ≡ ls ++ l ∷ [] → chained acc ls' ≡ d.binary l.operator acc (value_view l.operand)
-first-binary acc ls ls' l e h = chained-binary acc ls ls' l h ∙ ap (λ xs. d.binary l.operator (chained acc xs) (value_view l.operand)) e
-
 -- ---- expressions
 
 linked_value : (ports : List d.Port) (x : t.Expr) (l : Link) → n.value ports (t.binary l.operator l.at x (s.view l.operand)) ≡ linked ports (n.value ports x) l

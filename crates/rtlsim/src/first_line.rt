@@ -1,9 +1,10 @@
 //! The program without words: they stand in the first line of the standard input.
 
-ghost use Rattle.std.specs.Prelude.{◌≡◌, ◌<◌, ◌==◌, not, filter, IfOk, IfSome, length, map, position};
+ghost use Rattle.std.specs.Prelude.{◌≡◌, ◌<◌, ◌==◌, not, filter, IfOk, IfErr, IfSome, IsUtf8, length, map, position};
 ghost use Rattle.std.specs.List.{before_first, after_first, slice_split};
 ghost use Rattle.rtl_sink.specs.Written.{IsIntact};
-ghost use Rattle.rtlsim.specs.Tools.{ServesFirstLine, Serves, ends_line, words_in};
+ghost use Rattle.rtlsim.specs.Tools.{ServesFirstLine, ServesLine, ends_line, words_in};
+ghost use Rattle.rtlsim.specs.Words.{IsOfWords};
 ghost use Rattle.rtlsim.specs.declared.status.Status.{Status};
 
 use crate::inputs::{Inputs, Named, read_input};
@@ -52,7 +53,7 @@ fn serve_line<I: Inputs, O: Sink, E: Sink>(
 ) -> Status
     requires out { IsIntact (O.state out.old) }
     requires err { IsIntact (E.state err.old) }
-    ensures { Serves (words_in line.now) (I.standard inputs.old) result
+    ensures { ServesLine line.now (I.standard inputs.old) (λ file. I.fails inputs.old file inputs.new) result
         (record { out = O.state out.old; out_after = O.state out.new; err = E.state err.old; err_after = E.state err.new }) }
 {
     match read_words(alloc, line) {
@@ -63,7 +64,8 @@ fn serve_line<I: Inputs, O: Sink, E: Sink>(
 
 /// The words of a line, cut at runs of spaces.
 fn read_words(alloc: Global, line: &[u8]) -> Result<Vec<&str>, Refused>
-    ensures { IfOk result (λ words. map (λ word. word.now) words.items ≡ words_in line.now) }
+    ensures read { IfOk result (λ words. map (λ word. word.now) words.items ≡ words_in line.now) }
+    ensures refused { IfErr result (λ refused. IsOfWords refused → ¬ (IsUtf8 line.now)) }
 {
     let Ok(text) = str::from_utf8(line) else {
         let reason = "error: the words are not UTF-8\n";

@@ -1,7 +1,7 @@
 //! The files that the words of the command line name.
 
-ghost use Rattle.std.specs.Prelude.{◌≡◌, ◌≤◌, ℕ, List, Option, IfOk, IfSome, codes, length};
-ghost use Rattle.rtlsim.specs.declared.inputs.InputFault.TheVariants.{NoMemory};
+ghost use Rattle.std.specs.Prelude.{◌≡◌, ◌≤◌, ℕ, List, Option, IfOk, IfErr, IfSome, codes, length, ⊤};
+ghost use Rattle.rtlsim.specs.declared.inputs.InputFault.TheVariants.{Failed, NoMemory};
 
 use std::alloc::{AllocError, Global};
 use std::fs;
@@ -39,11 +39,15 @@ pub trait Inputs {
     // What the standard input has left, where it is known.
     ghost standard: { Self → Option (List ℕ) };
 
+    // What is known of a read of the file of this name that fails, between these states.
+    ghost fails: { Self → List ℕ → Self → Type 0 };
+
     /// The whole file of this name, at most `MAX_INPUT` bytes.
     fn read(&mut self, alloc: Global, name: &str) -> Result<Vec<u8>, InputFault>
         ensures whole { name.now ≡ codes "@" → IfOk result (λ all.
             IfSome (standard self.old) (λ bytes. all.items ≡ bytes)) }
-        ensures short { IfOk result (λ all. length all.items ≤ MAX_INPUT) };
+        ensures short { IfOk result (λ all. length all.items ≤ MAX_INPUT) }
+        ensures failed { IfErr result (λ fault. fault ≡ Failed → fails self.old name.now self.new) };
 }
 
 /// The standard input alone.
@@ -54,6 +58,9 @@ pub struct Standard<R: Read> {
 
 impl<R: Read> Inputs for Standard<R> {
     ghost standard = { λ s. R.remaining s.reader };
+
+    // No reader says when it fails.
+    ghost fails = { λ _ _ _. ⊤ };
 
     fn read(&mut self, alloc: Global, name: &str) -> Result<Vec<u8>, InputFault> {
         if name != "@" {
@@ -72,6 +79,9 @@ pub struct Named<'a, F: Files, R: Read> {
 
 impl<F: Files, R: Read> Inputs for Named<'_, F, R> {
     ghost standard = { λ s. R.remaining s.reader };
+
+    // No reader says when it fails.
+    ghost fails = { λ _ _ _. ⊤ };
 
     fn read(&mut self, alloc: Global, name: &str) -> Result<Vec<u8>, InputFault> {
         if name == "@" {

@@ -1,12 +1,14 @@
 //! The program, over any inputs and two sinks.
 
-ghost use Rattle.std.specs.Prelude.{◌≡◌, ℕ, List, IfOk, map, Result};
+ghost use Rattle.std.specs.Prelude.{◌≡◌, ℕ, List, IfOk, IfErr, map, Result, ⊤};
 ghost use Rattle.rtl_sink.specs.Written.{SinkState, IsIntact, Goes};
 ghost use Rattle.rtlsim.specs.Evaluates.{Evaluates, Tells};
 ghost use Rattle.rtlsim.specs.Faults.{status_of};
 ghost use Rattle.rtlsim.specs.Status.{code_of};
+ghost use Rattle.rtlsim.specs.Words.{IsOfWords};
 ghost use Rattle.rtlsim.specs.Tools.{Outputs, Performs, TellsAnswer, RefusesWords, Serves, ended, IsFile, input_text, answer_status, input_status};
 ghost use Rattle.rtlsim.specs.declared.faults.Fault.{Fault};
+ghost use Rattle.rtlsim.specs.declared.inputs.InputFault.TheVariants.{Failed};
 ghost use Rattle.rtlsim.specs.declared.status.Status.{Status};
 
 use crate::faults::Fault;
@@ -31,7 +33,7 @@ pub fn tool<R: Read + Drop, O: Sink, E: Sink>(
     requires out { IsIntact (O.state out.old) }
     requires err { IsIntact (E.state err.old) }
     ensures { (outcome : Status) × (result ≡ code_of outcome)
-        × Serves (map (λ word. word.now) words.now) (R.remaining reader) outcome
+        × Serves (map (λ word. word.now) words.now) (R.remaining reader) (λ file. ⊤) outcome
         (record { out = O.state out.old; out_after = O.state out.new; err = E.state err.old; err_after = E.state err.new }) }
 {
     tool_with(alloc, words, &mut Standard { reader }, out, err).code()
@@ -47,7 +49,7 @@ pub fn tool_with<I: Inputs, O: Sink, E: Sink>(
 ) -> Status
     requires out { IsIntact (O.state out.old) }
     requires err { IsIntact (E.state err.old) }
-    ensures { Serves (map (λ word. word.now) words.now) (I.standard inputs.old) result
+    ensures { Serves (map (λ word. word.now) words.now) (I.standard inputs.old) (λ file. I.fails inputs.old file inputs.new) result
         (record { out = O.state out.old; out_after = O.state out.new; err = E.state err.old; err_after = E.state err.new }) }
 {
     match parse_words(alloc, words) {
@@ -58,7 +60,7 @@ pub fn tool_with<I: Inputs, O: Sink, E: Sink>(
 
 /// Tells why the words are refused, and answers the status.
 pub(crate) fn refuse_words<O: Sink, E: Sink>(refused: &Refused, out: &O, err: &mut E) -> Status
-    ensures { RefusesWords result
+    ensures { RefusesWords (IsOfWords refused.now) result
         (record { out = O.state out.now; out_after = O.state out.now; err = E.state err.old; err_after = E.state err.new }) }
 {
     match refused {
@@ -83,7 +85,7 @@ pub fn perform<I: Inputs, O: Sink, E: Sink>(
 ) -> Status
     requires out { IsIntact (O.state out.old) }
     requires err { IsIntact (E.state err.old) }
-    ensures { Performs request.now (I.standard inputs.old) result
+    ensures { Performs request.now (I.standard inputs.old) (λ file. I.fails inputs.old file inputs.new) result
         (record { out = O.state out.old; out_after = O.state out.new; err = E.state err.old; err_after = E.state err.new }) }
 {
     let Request::Eval { file, top, sets } = request;
@@ -127,6 +129,7 @@ fn read_eval<'a, I: Inputs>(
     file: &str,
     sets: &'a [&'a str],
 ) -> Result<(Vec<u8>, Vec<&'a [u8]>), InputFault>
+    ensures failed { IfErr result (λ fault. fault ≡ Failed → I.fails inputs.old file.now inputs.new) }
     ensures source { IfOk result (λ read. IsFile file.now (I.standard inputs.old) read.0.items) }
     ensures sets { IfOk result (λ read. map (λ set. set.now) read.1.items ≡ map (λ set. set.now) sets.now) }
 {

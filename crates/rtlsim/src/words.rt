@@ -1,7 +1,10 @@
 //! The words of the command line.
 
-ghost use Rattle.std.specs.Prelude.{◌≡◌, IfOk, map};
-ghost use Rattle.rtlsim.specs.Words.{words_of};
+ghost use Rattle.std.specs.Prelude.{◌≡◌, false, IfOk, IfErr, IfSome, IfNone, map};
+ghost use Rattle.std.specs.List.{list_any};
+ghost use Rattle.rtlsim.specs.Words as words;
+ghost use Rattle.rtlsim.specs.declared.words.Refused.TheVariants.{NoMemory};
+ghost use Rattle.rtlsim.specs.Words.{words_of, is_eval, is_option, is_command, IsOfWords};
 
 use clap::error::ErrorKind;
 use clap::{Arg, ArgAction, Command};
@@ -31,12 +34,16 @@ pub enum Refused {
 }
 
 impl From<AllocError> for Refused {
+    ghost from_gives = { λ _ refused. refused ≡ NoMemory };
+
     fn from(_refused: AllocError) -> Refused {
         Refused::NoMemory
     }
 }
 
 impl<T: Drop> From<AllocFailed<T>> for Refused {
+    ghost from_gives = { λ _ refused. refused ≡ NoMemory };
+
     fn from(_refused: AllocFailed<T>) -> Refused {
         Refused::NoMemory
     }
@@ -44,16 +51,55 @@ impl<T: Drop> From<AllocFailed<T>> for Refused {
 
 /// Reads the words after the program's name.
 pub fn parse_words<'a>(alloc: Global, words: &'a [&'a str]) -> Result<Request<'a>, Refused>
-    ensures { IfOk result (λ request. words_of request ≡ map (λ word. word.now) words.now) }
+    ensures spelled { IfOk result (λ request. words_of request ≡ map (λ word. word.now) words.now) }
+
+    // A command is refused for want of memory alone.
+    ensures refused { IfErr result (λ refused. IsOfWords refused → is_command (map (λ word. word.now) words.now) ≡ false) }
 {
-    check_words(alloc, words)?;
+    let request = eval_request(words);
+    if request.is_none() || has_option(words) {
+        check_words(alloc, words)?;
+    }
+    let text = "error: the words of a command stand in its order\n";
+    match request {
+        Some(request) => Ok(request),
+        None => Err(Refused::Words(String::from_str(alloc, text)?)),
+    }
+}
+
+/// The request of an `eval`.
+fn eval_request<'a>(words: &'a [&'a str]) -> Option<Request<'a>>
+    ensures spelled { IfSome result (λ request. words_of request ≡ map (λ word. word.now) words.now) }
+    ensures missed { IfNone result (is_eval (map (λ word. word.now) words.now) ≡ false) }
+{
     if let [command, file, top, sets @ ..] = words
         && *command == "eval"
     {
-        return Ok(Request::Eval { file, top, sets });
+        return Some(Request::Eval { file, top, sets });
     }
-    let text = "error: the words of a command stand in its order\n";
-    Err(Refused::Words(String::from_str(alloc, text)?))
+    None
+}
+
+/// Whether an option is among the words.
+fn has_option(words: &[&str]) -> bool
+    ensures { result ≡ list_any is_option (map (λ word. word.now) words.now) }
+{
+    for word in words {
+        if is_option(word) {
+            return true;
+        }
+    }
+    false
+}
+
+/// Whether a word begins with `-`.
+fn is_option(word: &str) -> bool
+    ensures { result ≡ words.is_option word.now }
+{
+    match word.as_bytes() {
+        [first, ..] => *first == b'-',
+        [] => false,
+    }
 }
 
 /// Refuses what is no command, and a call for help, with the text for it.

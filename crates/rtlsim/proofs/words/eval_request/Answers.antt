@@ -1,7 +1,7 @@
 use Rattle.std.proofs.Common.{◌≡◌, ℕ, ◌-◌, ◌≤◌, List, [], ◌∷◌, length, length-drop, map, take, drop, Bor, slice_index_or, refl, arith, ◌∙◌, sym}
 use Rattle.std.proofs.Math.Seq.{take-length}
 use Rattle.std.proofs.lemmas.Slice.Eq.{bytes_eq-Decides}
-use Rattle.rtlsim.proofs.words.parse_words.Goals as goal
+use Rattle.rtlsim.proofs.words.eval_request.Goals as goal
 
 abbrev text_of : Bor (List ℕ) → List ℕ
 text_of word = word.now
@@ -17,5 +17,5 @@ spelled (a ∷ []) d command three e = absurd (omega (arith, three))
 spelled (a ∷ b ∷ []) d command three e = absurd (omega (arith, three))
 spelled (a ∷ b ∷ c ∷ rest) d command three e = rw (← e) refl
 
-pub returns : goal.returns
-returns c = rw (rest_of c.args.words.now) (spelled _ _ _ c.in-len3-up.len_at_least ((bytes_eq-Decides _ _).0 (sym c.eq.ensures ∙ c.if-eq.true)))
+pub returns-clause-spelled : goal.returns-clause-spelled
+returns-clause-spelled c = rw (rest_of c.args.words.now) (spelled _ _ _ c.in-len3-up.len_at_least ((bytes_eq-Decides _ _).0 (sym c.eq.ensures ∙ c.if-eq.true)))
