@@ -1,5 +1,5 @@
 -- Words that are refused.
-use Rattle.std.proofs.Common.{◌⊎◌, inl, inr}
+use Rattle.std.proofs.Common.{inl, inr}
 use Rattle.rtlsim.specs.Tools.{Outputs, RefusesWords}
 use Rattle.rtlsim.specs.declared.status.Status.{Status}
 

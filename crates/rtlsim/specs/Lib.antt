@@ -16,5 +16,6 @@ pub mod Answer
 pub mod Source
 pub mod Evaluates
 pub mod Naming
+pub mod Inputs
 pub mod Tools
 pub mod steps

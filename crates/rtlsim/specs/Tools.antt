@@ -1,8 +1,9 @@
 -- What the program does for its words.
 use Rattle.std.specs.List.{before_first, after_first, slice_split}
-use Rattle.std.specs.Prelude.{◌≡◌, ◌==◌, not, filter, length, Some, ℕ, List, Option, Result, Ok, Err, Bool, true, false, IfSome, IfErr, ◌⊎◌, ◌||◌, codes, map, IsUtf8, ⊤}
+use Rattle.std.specs.Prelude.{◌≡◌, ◌==◌, not, filter, length, Some, None, ℕ, List, Option, Result, Ok, Err, Bool, true, false, IfSome, IfErr, ◌⊎◌, ◌||◌, map, IsUtf8}
 use Rattle.rtl_sink.specs.Written.{SinkState, Goes}
 use Rattle.rtlsim.specs.Faults.{status_of}
+use Rattle.rtlsim.specs.Inputs.{GivesStandard}
 use Rattle.rtlsim.specs.Lines.{memory_line, input_line}
 use Rattle.rtlsim.specs.Words.{words_of, is_command}
 use Rattle.rtlsim.specs.Evaluates.{Evaluates, Tells}
@@ -57,15 +58,11 @@ pub record TellsAnswer (source top : List ℕ) (sets : List (List ℕ)) (answer 
   pub told : Tells source top answer o.err o.err_after
   pub status : outcome ≡ ended (answer_status answer) o.out_after o.err_after
 
--- the bytes of a file, where it is the standard input and that is known
-abbrev pub IsFile : List ℕ → Option (List ℕ) → List ℕ → Type 0
-IsFile name standard source = name ≡ codes "@" → IfSome standard (λ bytes. source ≡ bytes)
-
--- what is done for a request, where `fails` holds of the names of files whose reading failed
-abbrev pub Performs : Request → Option (List ℕ) → (List ℕ → Type 0) → Status → Outputs → Type 0
-Performs (Eval file top sets) standard fails outcome o =
-    ((fault : InputFault) × (fault ≡ Failed → fails file.now) × TellsInput fault outcome o)
-    ⊎ ((source : List ℕ) × (answer : Result (Unit {0}) Fault) × IsFile file.now standard source
+-- what is done for a request, where a read of the file of this name gave these bytes, or none
+abbrev pub Performs : Request → (List ℕ → Option (List ℕ) → Type 0) → Status → Outputs → Type 0
+Performs (Eval file top sets) Gives outcome o =
+    ((fault : InputFault) × (fault ≡ Failed → Gives file.now None) × TellsInput fault outcome o)
+    ⊎ ((source : List ℕ) × (answer : Result (Unit {0}) Fault) × Gives file.now (Some source)
     × TellsAnswer source top.now (map (λ set. set.now) sets.now) answer outcome o)
 
 -- the words are refused for this reason, or for want of memory, with a text on the standard error and nothing else
@@ -77,9 +74,9 @@ pub record RefusesWords (Reason : Type 0) (outcome : Status) (o : Outputs) : Typ
       ⊎ ((outcome ≡ ended status.Memory o.out_after o.err_after) × (text ≡ memory_line))
 
 -- what the program does: it serves the request that its words spell, or refuses words that are no command
-abbrev pub Serves : List (List ℕ) → Option (List ℕ) → (List ℕ → Type 0) → Status → Outputs → Type 0
-Serves words standard fails outcome o =
-    ((request : Request) × (words_of request ≡ words) × Performs request standard fails outcome o) ⊎ RefusesWords (is_command words ≡ false) outcome o
+abbrev pub Serves : List (List ℕ) → (List ℕ → Option (List ℕ) → Type 0) → Status → Outputs → Type 0
+Serves words Gives outcome o =
+    ((request : Request) × (words_of request ≡ words) × Performs request Gives outcome o) ⊎ RefusesWords (is_command words ≡ false) outcome o
 
 -- the byte that ends a line
 abbrev pub ends_line : ℕ → Bool
@@ -90,11 +87,11 @@ abbrev pub words_in : List ℕ → List (List ℕ)
 words_in line = filter (λ word. not (length word == 0)) (slice_split (λ byte. byte == 32) line)
 
 -- the same for the words of a line, which have to be text
-abbrev pub ServesLine : List ℕ → Option (List ℕ) → (List ℕ → Type 0) → Status → Outputs → Type 0
-ServesLine line standard fails outcome o = Serves (words_in line) standard fails outcome o ⊎ RefusesWords (¬ (IsUtf8 line)) outcome o
+abbrev pub ServesLine : List ℕ → (List ℕ → Option (List ℕ) → Type 0) → Status → Outputs → Type 0
+ServesLine line Gives outcome o = Serves (words_in line) Gives outcome o ⊎ RefusesWords (¬ (IsUtf8 line)) outcome o
 
 -- what the program does without words: those of the first line count, and the rest of the input is the standard input
 abbrev pub ServesFirstLine : Option (List ℕ) → Status → Outputs → Type 0
 ServesFirstLine standard outcome o =
     ((fault : InputFault) × TellsInput fault outcome o)
-    ⊎ ((all : List ℕ) × IfSome standard (λ bytes. all ≡ bytes) × ServesLine (before_first ends_line all) (Some (after_first ends_line all)) (λ file. ⊤) outcome o)
+    ⊎ ((all : List ℕ) × IfSome standard (λ bytes. all ≡ bytes) × ServesLine (before_first ends_line all) (GivesStandard (Some (after_first ends_line all))) outcome o)

@@ -1,5 +1,5 @@
 -- What the words of the command line ask for.
-use Rattle.std.specs.Prelude.{ℕ, Bool, true, false, not, ◌==◌, ◌&&◌, List, [], ◌∷◌, bytes_eq, codes, map}
+use Rattle.std.specs.Prelude.{ℕ, Bool, false, not, ◌==◌, ◌&&◌, List, [], ◌∷◌, bytes_eq, codes, map}
 use Rattle.std.specs.List.{list_any}
 use Rattle.rtlsim.specs.declared.words.Refused.{Refused}
 use Rattle.rtlsim.specs.declared.words.Refused.TheVariants as refused

@@ -53,7 +53,7 @@ fn serve_line<I: Inputs, O: Sink, E: Sink>(
 ) -> Status
     requires out { IsIntact (O.state out.old) }
     requires err { IsIntact (E.state err.old) }
-    ensures { ServesLine line.now (I.standard inputs.old) (λ file. I.fails inputs.old file inputs.new) result
+    ensures { ServesLine line.now (λ file given. I.gives inputs.old file given inputs.new) result
         (record { out = O.state out.old; out_after = O.state out.new; err = E.state err.old; err_after = E.state err.new }) }
 {
     match read_words(alloc, line) {

@@ -1,6 +1,7 @@
 //! The files that the words of the command line name.
 
-ghost use Rattle.std.specs.Prelude.{◌≡◌, ◌≤◌, ℕ, List, Option, IfOk, IfErr, IfSome, codes, length, ⊤};
+ghost use Rattle.std.specs.Prelude.{◌≡◌, ◌≤◌, ℕ, List, Option, Some, None, IfOk, IfErr, IfSome, length};
+ghost use Rattle.rtlsim.specs.Inputs.{GivesStandard, GivesStandardAlone};
 ghost use Rattle.rtlsim.specs.declared.inputs.InputFault.TheVariants.{Failed, NoMemory};
 
 use std::alloc::{AllocError, Global};
@@ -36,18 +37,14 @@ impl From<AllocError> for InputFault {
 
 /// Gives the bytes of a file; `@` names the standard input.
 pub trait Inputs {
-    // What the standard input has left, where it is known.
-    ghost standard: { Self → Option (List ℕ) };
-
-    // What is known of a read of the file of this name that fails, between these states.
-    ghost fails: { Self → List ℕ → Self → Type 0 };
+    // What a read of the file of this name may give, between these states: its bytes, or none where it fails.
+    ghost gives: { Self → List ℕ → Option (List ℕ) → Self → Type 0 };
 
     /// The whole file of this name, at most `MAX_INPUT` bytes.
     fn read(&mut self, alloc: Global, name: &str) -> Result<Vec<u8>, InputFault>
-        ensures whole { name.now ≡ codes "@" → IfOk result (λ all.
-            IfSome (standard self.old) (λ bytes. all.items ≡ bytes)) }
+        ensures whole { IfOk result (λ all. gives self.old name.now (Some all.items) self.new) }
         ensures short { IfOk result (λ all. length all.items ≤ MAX_INPUT) }
-        ensures failed { IfErr result (λ fault. fault ≡ Failed → fails self.old name.now self.new) };
+        ensures failed { IfErr result (λ fault. fault ≡ Failed → gives self.old name.now None self.new) };
 }
 
 /// The standard input alone.
@@ -57,10 +54,7 @@ pub struct Standard<R: Read> {
 }
 
 impl<R: Read> Inputs for Standard<R> {
-    ghost standard = { λ s. R.remaining s.reader };
-
-    // No reader says when it fails.
-    ghost fails = { λ _ _ _. ⊤ };
+    ghost gives = { λ s name given _. GivesStandardAlone (R.remaining s.reader) name given };
 
     fn read(&mut self, alloc: Global, name: &str) -> Result<Vec<u8>, InputFault> {
         if name != "@" {
@@ -78,10 +72,7 @@ pub struct Named<'a, F: Files, R: Read> {
 }
 
 impl<F: Files, R: Read> Inputs for Named<'_, F, R> {
-    ghost standard = { λ s. R.remaining s.reader };
-
-    // No reader says when it fails.
-    ghost fails = { λ _ _ _. ⊤ };
+    ghost gives = { λ s name given _. GivesStandard (R.remaining s.reader) name given };
 
     fn read(&mut self, alloc: Global, name: &str) -> Result<Vec<u8>, InputFault> {
         if name == "@" {

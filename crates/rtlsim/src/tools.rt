@@ -1,12 +1,13 @@
 //! The program, over any inputs and two sinks.
 
-ghost use Rattle.std.specs.Prelude.{◌≡◌, ℕ, List, IfOk, IfErr, map, Result, ⊤};
+ghost use Rattle.std.specs.Prelude.{◌≡◌, ℕ, List, Some, None, IfOk, IfErr, map, Result};
 ghost use Rattle.rtl_sink.specs.Written.{SinkState, IsIntact, Goes};
 ghost use Rattle.rtlsim.specs.Evaluates.{Evaluates, Tells};
 ghost use Rattle.rtlsim.specs.Faults.{status_of};
+ghost use Rattle.rtlsim.specs.Inputs.{GivesStandardAlone};
 ghost use Rattle.rtlsim.specs.Status.{code_of};
 ghost use Rattle.rtlsim.specs.Words.{IsOfWords};
-ghost use Rattle.rtlsim.specs.Tools.{Outputs, Performs, TellsAnswer, RefusesWords, Serves, ended, IsFile, input_text, answer_status, input_status};
+ghost use Rattle.rtlsim.specs.Tools.{Outputs, Performs, TellsAnswer, RefusesWords, Serves, ended, input_text, answer_status, input_status};
 ghost use Rattle.rtlsim.specs.declared.faults.Fault.{Fault};
 ghost use Rattle.rtlsim.specs.declared.inputs.InputFault.TheVariants.{Failed};
 ghost use Rattle.rtlsim.specs.declared.status.Status.{Status};
@@ -33,7 +34,7 @@ pub fn tool<R: Read + Drop, O: Sink, E: Sink>(
     requires out { IsIntact (O.state out.old) }
     requires err { IsIntact (E.state err.old) }
     ensures { (outcome : Status) × (result ≡ code_of outcome)
-        × Serves (map (λ word. word.now) words.now) (R.remaining reader) (λ file. ⊤) outcome
+        × Serves (map (λ word. word.now) words.now) (GivesStandardAlone (R.remaining reader)) outcome
         (record { out = O.state out.old; out_after = O.state out.new; err = E.state err.old; err_after = E.state err.new }) }
 {
     tool_with(alloc, words, &mut Standard { reader }, out, err).code()
@@ -49,7 +50,7 @@ pub fn tool_with<I: Inputs, O: Sink, E: Sink>(
 ) -> Status
     requires out { IsIntact (O.state out.old) }
     requires err { IsIntact (E.state err.old) }
-    ensures { Serves (map (λ word. word.now) words.now) (I.standard inputs.old) (λ file. I.fails inputs.old file inputs.new) result
+    ensures { Serves (map (λ word. word.now) words.now) (λ file given. I.gives inputs.old file given inputs.new) result
         (record { out = O.state out.old; out_after = O.state out.new; err = E.state err.old; err_after = E.state err.new }) }
 {
     match parse_words(alloc, words) {
@@ -85,7 +86,7 @@ pub fn perform<I: Inputs, O: Sink, E: Sink>(
 ) -> Status
     requires out { IsIntact (O.state out.old) }
     requires err { IsIntact (E.state err.old) }
-    ensures { Performs request.now (I.standard inputs.old) (λ file. I.fails inputs.old file inputs.new) result
+    ensures { Performs request.now (λ file given. I.gives inputs.old file given inputs.new) result
         (record { out = O.state out.old; out_after = O.state out.new; err = E.state err.old; err_after = E.state err.new }) }
 {
     let Request::Eval { file, top, sets } = request;
@@ -129,8 +130,8 @@ fn read_eval<'a, I: Inputs>(
     file: &str,
     sets: &'a [&'a str],
 ) -> Result<(Vec<u8>, Vec<&'a [u8]>), InputFault>
-    ensures failed { IfErr result (λ fault. fault ≡ Failed → I.fails inputs.old file.now inputs.new) }
-    ensures source { IfOk result (λ read. IsFile file.now (I.standard inputs.old) read.0.items) }
+    ensures failed { IfErr result (λ fault. fault ≡ Failed → I.gives inputs.old file.now None inputs.new) }
+    ensures source { IfOk result (λ read. I.gives inputs.old file.now (Some read.0.items) inputs.new) }
     ensures sets { IfOk result (λ read. map (λ set. set.now) read.1.items ≡ map (λ set. set.now) sets.now) }
 {
     let source = inputs.read(alloc, file)?;

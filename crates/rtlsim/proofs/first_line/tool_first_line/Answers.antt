@@ -1,6 +1,6 @@
 use Rattle.std.proofs.Common.{◌≡◌, List, ℕ, Some, inr, ap, subst, ◌∙◌}
 use Rattle.std.specs.List.{before_first, after_first}
-use Rattle.std.specs.Prelude.{⊤}
+use Rattle.rtlsim.specs.Inputs.{GivesStandard}
 use Rattle.rtlsim.specs.Tools.{Outputs, ServesLine, ends_line}
 use Rattle.rtlsim.proofs.first_line.tool_first_line.Goals as goal
 
@@ -10,10 +10,10 @@ returns-in-Ok g c =
     let o : Outputs = record { out = g.O.Sink.state c.args.out.now; out_after = g.O.Sink.state c.serve_line.new.out; err = g.E.Sink.state c.args.err.now; err_after = g.E.Sink.state c.serve_line.new.err } in
     let line : c.first_line.result.0.now ≡ before_first ends_line all = c.first_line.ensures.line ∙ ap (before_first ends_line) c.deref.ensures.value in
     let rest : c.first_line.result.1.now ≡ after_first ends_line all = c.first_line.ensures.rest ∙ ap (after_first ends_line) c.deref.ensures.value in
-    let served : ServesLine c.first_line.result.0.now (Some c.first_line.result.1.now) (λ file. ⊤) c.serve_line.result o = c.serve_line.ensures in
+    let served : ServesLine c.first_line.result.0.now (GivesStandard (Some c.first_line.result.1.now)) c.serve_line.result o = c.serve_line.ensures in
     inr (
       all,
       c.in-Ok.ensures.whole,
-      subst (λ (l : List ℕ). ServesLine l (Some (after_first ends_line all)) (λ file. ⊤) c.serve_line.result o) line
-          (subst (λ (r : List ℕ). ServesLine c.first_line.result.0.now (Some r) (λ file. ⊤) c.serve_line.result o) rest served),
+      subst (λ (l : List ℕ). ServesLine l (GivesStandard (Some (after_first ends_line all))) c.serve_line.result o) line
+          (subst (λ (r : List ℕ). ServesLine c.first_line.result.0.now (GivesStandard (Some r)) c.serve_line.result o) rest served),
     )
