@@ -1,5 +1,6 @@
 pub mod Cursor
 pub mod Turns
+pub mod Lists
 pub mod Steps
 pub mod Operators
 pub mod Yields

@@ -12,3 +12,9 @@ pub inside_more : (n : ℕ) → 0 < n → inside n ≡ expr (n - 1)
 unfolding inside
 inside_more zero h = absurd (omega arith)
 inside_more (suc n) h = let e : n ≡ suc n - 1 = omega arith in ap expr e
+
+pub this_turn : (n at : ℕ) → at < n → n - at ≡ suc (n - (at + 1))
+this_turn n at below = omega arith
+
+pub last_turn : (n at : ℕ) → n ≤ at → n - at ≡ 0
+last_turn n at done = omega arith

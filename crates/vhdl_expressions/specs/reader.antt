@@ -1,3 +1,4 @@
 -- How the parser reads: the grammar as functions of the tokens ahead.
 pub mod Input
 pub mod Expressions
+pub mod Lists

@@ -3,10 +3,12 @@
 #![tactic(auto)]
 
 mod expr;
+mod list;
 mod operator;
 mod parser;
 mod stop;
 mod value;
 
+pub use list::many;
 pub use parser::{Parser, below};
 pub use stop::Stop;

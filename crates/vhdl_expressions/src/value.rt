@@ -1,12 +1,11 @@
 //! Ranges, values, choices and associations.
 
 ghost use Rattle.std.specs.Prelude.{◌≡◌, option_map};
-ghost use Rattle.vhdl_lexer.specs.declared.token.Kind.TheVariants as k;
 ghost use Rattle.vhdl_tree.specs.View.{ident_view, range_view, value_view, choice_view, choices_view, actual_view, association_view, associations_view};
-ghost use Rattle.vhdl_expressions.specs.reader.Input as input;
 ghost use Rattle.vhdl_expressions.specs.reader.Input.{Reads};
 ghost use Rattle.vhdl_expressions.specs.reader.Expressions as read;
 
+use crate::list::many;
 use crate::operator::direction_at;
 use crate::parser::Parser;
 use crate::stop::Stop;
@@ -65,19 +64,12 @@ impl Parser<'_> {
     {
         let mut found = Vec::new(self.alloc);
         found.push(self.choice(levels)?)?;
-        self.more_choices(levels, found)
-    }
-
-    fn more_choices(&mut self, levels: usize, mut found: Vec<Choice>) -> Result<Vec<Choice>, Stop>
-        ensures { Reads choices_view (input.many (input.is_kind k.Bar) (read.next_choice levels) (choices_view found) self.old) result self.new }
-    {
-        for _turn in 0..self.left() {
-            if !self.sees(Kind::Bar) {
-                return Ok(found);
-            }
-            found.push(self.next_choice(levels)?)?;
-        }
-        Ok(found)
+        many(
+            self,
+            |parser| parser.sees(Kind::Bar),
+            |parser| parser.next_choice(levels),
+            found,
+        )
     }
 
     #[tactic(auto, unfolding(crate::specs::reader::Expressions::next_choice))]
@@ -106,23 +98,12 @@ impl Parser<'_> {
     {
         let mut found = Vec::new(self.alloc);
         found.push(self.association(levels)?)?;
-        self.more_associations(levels, found)
-    }
-
-    fn more_associations(
-        &mut self,
-        levels: usize,
-        mut found: Vec<Association>,
-    ) -> Result<Vec<Association>, Stop>
-        ensures { Reads associations_view (input.many (input.is_kind k.Comma) (read.next_association levels) (associations_view found) self.old) result self.new }
-    {
-        for _turn in 0..self.left() {
-            if !self.sees(Kind::Comma) {
-                return Ok(found);
-            }
-            found.push(self.next_association(levels)?)?;
-        }
-        Ok(found)
+        many(
+            self,
+            |parser| parser.sees(Kind::Comma),
+            |parser| parser.next_association(levels),
+            found,
+        )
     }
 
     #[tactic(auto, unfolding(crate::specs::reader::Expressions::next_association))]

@@ -9,7 +9,7 @@ ghost use Rattle.vhdl_expressions.specs.reader.Input.{Reads};
 use crate::interface::{
     end_name, identifiers, optional_default, optional_generics, optional_ports, subtype,
 };
-use vhdl_expressions::{Parser, Stop, below};
+use vhdl_expressions::{Parser, Stop, below, many};
 use vhdl_lexer::Kind;
 use vhdl_tree::{Component, Constants, Declaration, Enumeration, Signals};
 
@@ -112,12 +112,11 @@ fn begins_declaration(parser: &Parser<'_>) -> bool
 pub fn declarations(parser: &mut Parser<'_>, levels: usize) -> Result<Vec<Declaration>, Stop>
     ensures { Reads declarations_view (read.declarations levels parser.old) result parser.new }
 {
-    let mut found = Vec::new(parser.alloc);
-    for _turn in 0..parser.left() {
-        if !begins_declaration(parser) {
-            return Ok(found);
-        }
-        found.push(declaration(parser, levels)?)?;
-    }
-    Ok(found)
+    let found = Vec::new(parser.alloc);
+    many(
+        parser,
+        begins_declaration,
+        |parser| declaration(parser, levels),
+        found,
+    )
 }

@@ -1,13 +1,11 @@
 //! Subtypes, generics and ports.
 
 ghost use Rattle.std.specs.Prelude.{◌≡◌};
-ghost use Rattle.vhdl_lexer.specs.declared.token.Kind.TheVariants as k;
 ghost use Rattle.vhdl_tree.specs.View.{ident_view, idents_view, option_ident_view, view, option_expr_view, range_view, option_range_view, value_view, option_value_view, subtype_view, generic_view, generics_view, option_generics_view, port_view, ports_view, option_ports_view};
 ghost use Rattle.vhdl_parser.specs.reader.Declarations as read;
-ghost use Rattle.vhdl_expressions.specs.reader.Input as input;
 ghost use Rattle.vhdl_expressions.specs.reader.Input.{Reads};
 
-use vhdl_expressions::{Parser, Stop, below};
+use vhdl_expressions::{Parser, Stop, below, many};
 use vhdl_lexer::Kind;
 use vhdl_tree::{Expr, Generic, Identifier, Mode, Port, Range, Subtype, Value};
 
@@ -18,22 +16,12 @@ pub fn identifiers(parser: &mut Parser<'_>) -> Result<Vec<Identifier>, Stop>
 {
     let mut found = Vec::new(parser.alloc);
     found.push(parser.identifier()?)?;
-    more_identifiers(parser, found)
-}
-
-fn more_identifiers(
-    parser: &mut Parser<'_>,
-    mut found: Vec<Identifier>,
-) -> Result<Vec<Identifier>, Stop>
-    ensures { Reads idents_view (input.many (input.is_kind k.Comma) read.next_ident (idents_view found) parser.old) result parser.new }
-{
-    for _turn in 0..parser.left() {
-        if !parser.sees(Kind::Comma) {
-            return Ok(found);
-        }
-        found.push(next_identifier(parser)?)?;
-    }
-    Ok(found)
+    many(
+        parser,
+        |parser| parser.sees(Kind::Comma),
+        next_identifier,
+        found,
+    )
 }
 
 #[tactic(auto, unfolding(crate::specs::reader::Declarations::next_ident))]
@@ -156,23 +144,12 @@ fn generic_list(parser: &mut Parser<'_>, levels: usize) -> Result<Vec<Generic>, 
 {
     let mut found = Vec::new(parser.alloc);
     found.push(generic(parser, levels)?)?;
-    more_generics(parser, levels, found)
-}
-
-fn more_generics(
-    parser: &mut Parser<'_>,
-    levels: usize,
-    mut found: Vec<Generic>,
-) -> Result<Vec<Generic>, Stop>
-    ensures { Reads generics_view (input.many (input.is_kind k.Semicolon) (read.next_generic levels) (generics_view found) parser.old) result parser.new }
-{
-    for _turn in 0..parser.left() {
-        if !parser.sees(Kind::Semicolon) {
-            return Ok(found);
-        }
-        found.push(next_generic(parser, levels)?)?;
-    }
-    Ok(found)
+    many(
+        parser,
+        |parser| parser.sees(Kind::Semicolon),
+        |parser| next_generic(parser, levels),
+        found,
+    )
 }
 
 #[tactic(auto, unfolding(crate::specs::reader::Declarations::generics))]
@@ -253,23 +230,12 @@ fn port_list(parser: &mut Parser<'_>, levels: usize) -> Result<Vec<Port>, Stop>
 {
     let mut found = Vec::new(parser.alloc);
     found.push(port(parser, levels)?)?;
-    more_ports(parser, levels, found)
-}
-
-fn more_ports(
-    parser: &mut Parser<'_>,
-    levels: usize,
-    mut found: Vec<Port>,
-) -> Result<Vec<Port>, Stop>
-    ensures { Reads ports_view (input.many (input.is_kind k.Semicolon) (read.next_port levels) (ports_view found) parser.old) result parser.new }
-{
-    for _turn in 0..parser.left() {
-        if !parser.sees(Kind::Semicolon) {
-            return Ok(found);
-        }
-        found.push(next_port(parser, levels)?)?;
-    }
-    Ok(found)
+    many(
+        parser,
+        |parser| parser.sees(Kind::Semicolon),
+        |parser| next_port(parser, levels),
+        found,
+    )
 }
 
 #[tactic(auto, unfolding(crate::specs::reader::Declarations::ports))]

@@ -1,14 +1,12 @@
 //! Processes and selected assignments.
 
 ghost use Rattle.std.specs.Prelude.{◌≡◌};
-ghost use Rattle.vhdl_lexer.specs.declared.token.Kind.TheVariants as k;
 ghost use Rattle.vhdl_tree.specs.View.{name_view, names_view, sensitivity_view, process_view, waveform_view, waveforms_view, selected_assignment_view};
-ghost use Rattle.vhdl_expressions.specs.reader.Input as input;
 ghost use Rattle.vhdl_expressions.specs.reader.Input.{Reads};
 ghost use Rattle.vhdl_parser.specs.reader.Process as read;
 
 use crate::sequential::statements;
-use vhdl_expressions::{Parser, Stop, below};
+use vhdl_expressions::{Parser, Stop, below, many};
 use vhdl_lexer::Kind;
 use vhdl_tree::{Name, Process, SelectedAssignment, Sensitivity, Waveform};
 
@@ -18,23 +16,12 @@ fn names(parser: &mut Parser<'_>, levels: usize) -> Result<Vec<Name>, Stop>
 {
     let mut found = Vec::new(parser.alloc);
     found.push(parser.name(levels)?)?;
-    more_names(parser, levels, found)
-}
-
-fn more_names(
-    parser: &mut Parser<'_>,
-    levels: usize,
-    mut found: Vec<Name>,
-) -> Result<Vec<Name>, Stop>
-    ensures { Reads names_view (input.many (input.is_kind k.Comma) (read.next_name levels) (names_view found) parser.old) result parser.new }
-{
-    for _turn in 0..parser.left() {
-        if !parser.sees(Kind::Comma) {
-            return Ok(found);
-        }
-        found.push(next_name(parser, levels)?)?;
-    }
-    Ok(found)
+    many(
+        parser,
+        |parser| parser.sees(Kind::Comma),
+        |parser| next_name(parser, levels),
+        found,
+    )
 }
 
 #[tactic(auto, unfolding(crate::specs::reader::Process::next_name))]
@@ -126,23 +113,12 @@ fn waveforms(parser: &mut Parser<'_>, levels: usize) -> Result<Vec<Waveform>, St
 {
     let mut found = Vec::new(parser.alloc);
     found.push(waveform(parser, levels)?)?;
-    more_waveforms(parser, levels, found)
-}
-
-fn more_waveforms(
-    parser: &mut Parser<'_>,
-    levels: usize,
-    mut found: Vec<Waveform>,
-) -> Result<Vec<Waveform>, Stop>
-    ensures { Reads waveforms_view (input.many (input.is_kind k.Comma) (read.next_waveform levels) (waveforms_view found) parser.old) result parser.new }
-{
-    for _turn in 0..parser.left() {
-        if !parser.sees(Kind::Comma) {
-            return Ok(found);
-        }
-        found.push(next_waveform(parser, levels)?)?;
-    }
-    Ok(found)
+    many(
+        parser,
+        |parser| parser.sees(Kind::Comma),
+        |parser| next_waveform(parser, levels),
+        found,
+    )
 }
 
 /// A selected assignment behind its label, in which so many levels may be opened.

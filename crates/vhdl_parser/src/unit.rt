@@ -1,7 +1,6 @@
 //! Context clauses, entities and architectures.
 
 ghost use Rattle.std.specs.Prelude.{◌≡◌};
-ghost use Rattle.vhdl_lexer.specs.declared.token.Kind.TheVariants as k;
 ghost use Rattle.vhdl_tree.specs.View.{selected_view, selecteds_view, context_view, contexts_view, entity_view, architecture_view, library_unit_view, unit_view, units_view, file_view};
 ghost use Rattle.vhdl_expressions.specs.reader.Input as input;
 ghost use Rattle.vhdl_expressions.specs.reader.Input.{Reads};
@@ -10,7 +9,7 @@ ghost use Rattle.vhdl_parser.specs.reader.Units as read;
 use crate::concurrent::concurrents;
 use crate::declaration::declarations;
 use crate::interface::{end_name, identifiers, optional_generics, optional_ports};
-use vhdl_expressions::{Parser, Stop};
+use vhdl_expressions::{Parser, Stop, many};
 use vhdl_lexer::Kind;
 use vhdl_tree::{Architecture, ContextItem, DesignUnit, Entity, File, LibraryUnit, Selected};
 
@@ -43,19 +42,12 @@ fn selecteds(parser: &mut Parser<'_>) -> Result<Vec<Selected>, Stop>
 {
     let mut found = Vec::new(parser.alloc);
     found.push(selected(parser)?)?;
-    more_selecteds(parser, found)
-}
-
-fn more_selecteds(parser: &mut Parser<'_>, mut found: Vec<Selected>) -> Result<Vec<Selected>, Stop>
-    ensures { Reads selecteds_view (input.many (input.is_kind k.Comma) read.next_selected (selecteds_view found) parser.old) result parser.new }
-{
-    for _turn in 0..parser.left() {
-        if !parser.sees(Kind::Comma) {
-            return Ok(found);
-        }
-        found.push(next_selected(parser)?)?;
-    }
-    Ok(found)
+    many(
+        parser,
+        |parser| parser.sees(Kind::Comma),
+        next_selected,
+        found,
+    )
 }
 
 #[tactic(auto, unfolding(crate::specs::reader::Units::library_clause))]
@@ -101,14 +93,8 @@ fn begins_context(parser: &Parser<'_>) -> bool
 fn context(parser: &mut Parser<'_>) -> Result<Vec<ContextItem>, Stop>
     ensures { Reads contexts_view (read.context parser.old) result parser.new }
 {
-    let mut found = Vec::new(parser.alloc);
-    for _turn in 0..parser.left() {
-        if !begins_context(parser) {
-            return Ok(found);
-        }
-        found.push(context_item(parser)?)?;
-    }
-    Ok(found)
+    let found = Vec::new(parser.alloc);
+    many(parser, begins_context, context_item, found)
 }
 
 #[tactic(auto, unfolding(crate::specs::reader::Units::entity_unit))]
@@ -193,14 +179,8 @@ fn is_more(parser: &Parser<'_>) -> bool
 fn units(parser: &mut Parser<'_>) -> Result<Vec<DesignUnit>, Stop>
     ensures { Reads units_view (read.units parser.old) result parser.new }
 {
-    let mut found = Vec::new(parser.alloc);
-    for _turn in 0..parser.left() {
-        if !is_more(parser) {
-            return Ok(found);
-        }
-        found.push(unit(parser)?)?;
-    }
-    Ok(found)
+    let found = Vec::new(parser.alloc);
+    many(parser, is_more, unit, found)
 }
 
 /// A whole file.

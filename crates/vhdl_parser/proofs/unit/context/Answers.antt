@@ -1,36 +1,11 @@
-use Rattle.std.proofs.Common.{rules, arith}
-use Rattle.std.proofs.lemmas.Grind.{common_steps}
-use Rattle.vhdl_tree.specs.View.{contexts_view}
-use Rattle.vhdl_expressions.specs.reader.Input.{many_from}
-use Rattle.vhdl_parser.specs.reader.Units as read
-use Rattle.vhdl_parser.specs.reader.Units.{context}
-use Rattle.vhdl_expressions.proofs.Turns.{one_more, no_more}
+use Rattle.std.proofs.Common.{rules}
+use Rattle.vhdl_tree.specs.View.{context_view}
+use Rattle.vhdl_expressions.proofs.Lists.{reads_many}
+use Rattle.vhdl_parser.specs.reader.Units.{context, begins_context, context_item}
 use Rattle.vhdl_parser.proofs.unit.context.Goals as goal
 
-pub loop-turn-init : goal.loop-turn-init
-unfolding context
-loop-turn-init c = first_of (search rules, grind (arith, common_steps))
-
-pub returns-then-not-begins_context : goal.returns-then-not-begins_context
-unfolding many_from
-returns-then-not-begins_context c =
-    let e = one_more (λ n. many_from read.begins_context read.context_item n (contexts_view c.loop-turn.found) c.loop-turn.parser) _ c.loop-turn._turn c.loop-turn-test.true c.loop-turn.invariant in
-    first_of (search rules, grind (arith, common_steps))
-
-pub returns-in_err-context_item : goal.returns-in_err-context_item
-unfolding many_from
-returns-in_err-context_item c =
-    let e = one_more (λ n. many_from read.begins_context read.context_item n (contexts_view c.loop-turn.found) c.loop-turn.parser) _ c.loop-turn._turn c.loop-turn-test.true c.loop-turn.invariant in
-    first_of (search rules, grind (arith, common_steps))
-
-pub loop-turn-preserved : goal.loop-turn-preserved
-unfolding many_from
-loop-turn-preserved c =
-    let e = one_more (λ n. many_from read.begins_context read.context_item n (contexts_view c.loop-turn.found) c.loop-turn.parser) _ c.loop-turn._turn c.loop-turn-test.true c.loop-turn.invariant in
-    first_of (search rules, grind (arith, common_steps))
-
 pub returns : goal.returns
-unfolding many_from
+unfolding context
 returns c =
-    let e = no_more (λ n. many_from read.begins_context read.context_item n (contexts_view c.loop-turn.found) c.loop-turn.parser) _ c.loop-turn._turn c.loop-turn-test.false c.loop-turn.invariant in
-    first_of (search rules, grind (arith, common_steps))
+    let e = reads_many context_view begins_context context_item (λ ts b h. search rules) (λ ts r rest h. search rules) c.many.ensures in
+    search rules

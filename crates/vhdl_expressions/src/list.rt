@@ -1,0 +1,32 @@
+//! Lists of items.
+
+ghost use Rattle.std.specs.Prelude.{length};
+ghost use Rattle.std.specs.Fn.{FnReturnsAt};
+ghost use Rattle.vhdl_expressions.specs.reader.Lists.{Collects, FnReturnsAtMut};
+
+use crate::parser::Parser;
+use crate::stop::Stop;
+
+/// Items behind those found, while one begins.
+pub fn many<T, B, I>(
+    parser: &mut Parser<'_>,
+    begins: B,
+    item: I,
+    mut found: Vec<T>,
+) -> Result<Vec<T>, Stop>
+where
+    T: Drop,
+    B: Fn(&Parser<'_>) -> bool + Drop,
+    I: Fn(&mut Parser<'_>) -> Result<T, Stop> + Drop,
+    requires begins { B.IsAlwaysCallable begins }
+    requires item { I.IsAlwaysCallable item }
+    ensures { Collects (FnReturnsAt B.Fn begins) (FnReturnsAtMut I.Fn item) (length parser.old) found.items parser.old result parser.new }
+{
+    for _turn in 0..parser.left() {
+        if !begins(parser) {
+            return Ok(found);
+        }
+        found.push(item(parser)?)?;
+    }
+    Ok(found)
+}

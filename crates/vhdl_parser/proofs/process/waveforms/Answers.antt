@@ -1,0 +1,13 @@
+use Rattle.std.proofs.Common.{rules}
+use Rattle.vhdl_lexer.specs.declared.token.Kind.TheVariants as k
+use Rattle.vhdl_tree.specs.View.{waveform_view}
+use Rattle.vhdl_expressions.specs.reader.Input.{is_kind}
+use Rattle.vhdl_expressions.proofs.Lists.{reads_many}
+use Rattle.vhdl_parser.specs.reader.Process.{waveforms, next_waveform}
+use Rattle.vhdl_parser.proofs.process.waveforms.Goals as goal
+
+pub returns : goal.returns
+unfolding waveforms
+returns c =
+    let e = reads_many waveform_view (is_kind k.Comma) (next_waveform c.args.levels) (λ ts b h. search rules) (λ ts r rest h. search rules) c.many.ensures in
+    search rules
