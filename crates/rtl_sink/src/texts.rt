@@ -1,6 +1,6 @@
 //! Whole texts, numbers and lines written to a sink.
 
-ghost use Rattle.std.specs.Prelude.{◌≡◌, ◌++◌, codes, decimal, OnOk, OnErr, OkIff};
+ghost use Rattle.std.specs.Prelude.{◌≡◌, ◌++◌, codes, decimal, OnOk, OnErr};
 ghost use Rattle.rtl_sink.specs.Written.{Goes, IsIntact, HasFailed};
 
 use crate::sink::{Sink, WriteFailed};

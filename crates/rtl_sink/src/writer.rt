@@ -1,7 +1,7 @@
 //! A sink over any writer.
 
 ghost use Rattle.std.specs.Prelude.{◌≡◌, false};
-ghost use Rattle.rtl_sink.specs.Written.{SinkState, IsIntact};
+ghost use Rattle.rtl_sink.specs.Written.{IsIntact};
 
 use crate::sink::Sink;
 use std::io::{ErrorKind, Write};

@@ -1,6 +1,6 @@
 //! The values of a design's out ports, and their lines.
 
-ghost use Rattle.std.specs.Prelude.{◌≡◌, map, get_or, slice_get};
+ghost use Rattle.std.specs.Prelude.{◌≡◌, map, slice_get};
 ghost use Rattle.rtl_sink.specs.Written.{Goes};
 ghost use Rattle.rtlsim.specs.steps.Evaluation.{by_drivers, evaluated, all_operated, line_at};
 ghost use Rattle.rtlsim.specs.Printed.{value_line, lines};

@@ -2,15 +2,11 @@
 
 ghost use Rattle.std.specs.Prelude.{◌≡◌, length, map, IfErr, IfOk};
 ghost use Rattle.rtl_sink.specs.Written.{IsIntact};
-ghost use Rattle.rtlsim.specs.Answer.{IsDesign, HasDesignFault};
-ghost use Rattle.rtlsim.specs.steps.Designed.{IsPlain};
 ghost use Rattle.rtlsim.specs.Evaluates.{Evaluates, Tells};
 ghost use Rattle.rtlsim.specs.Places.{IsTold};
 ghost use Rattle.rtlsim.specs.Source.{IsFileOf, HasSourceFault};
-ghost use Rattle.rtlsim.specs.steps.Tables.{design_view};
 ghost use Rattle.vhdl_tree.specs.View.{file_view};
 
-use crate::design::Design;
 use crate::faults::Fault;
 use crate::joining::{design_of_file, run_design};
 use crate::lines::{NoDesign, push_fault};

@@ -3,8 +3,6 @@
 mod edges;
 mod rows;
 
-ghost use Rattle.std.specs.Prelude.{Some};
-
 use crate::tools::tool;
 use rtl_sink::Out;
 use std::alloc::{AllocError, Global};

@@ -1,13 +1,12 @@
 //! The program, over any inputs and two sinks.
 
-ghost use Rattle.std.specs.Prelude.{◌≡◌, ℕ, List, Some, None, IfOk, IfErr, map, Result};
-ghost use Rattle.rtl_sink.specs.Written.{SinkState, IsIntact, Goes};
+ghost use Rattle.std.specs.Prelude.{◌≡◌, Some, None, IfOk, IfErr, map, Result};
+ghost use Rattle.rtl_sink.specs.Written.{IsIntact, Goes};
 ghost use Rattle.rtlsim.specs.Evaluates.{Evaluates, Tells};
-ghost use Rattle.rtlsim.specs.Faults.{status_of};
 ghost use Rattle.rtlsim.specs.Inputs.{GivesStandardAlone};
 ghost use Rattle.rtlsim.specs.Status.{code_of};
 ghost use Rattle.rtlsim.specs.Words.{IsOfWords};
-ghost use Rattle.rtlsim.specs.Tools.{Outputs, Performs, TellsAnswer, RefusesWords, Serves, ended, input_text, answer_status, input_status};
+ghost use Rattle.rtlsim.specs.Tools.{Performs, TellsAnswer, RefusesWords, Serves, ended, input_text, answer_status, input_status};
 ghost use Rattle.rtlsim.specs.declared.faults.Fault.{Fault};
 ghost use Rattle.rtlsim.specs.declared.inputs.InputFault.TheVariants.{Failed};
 ghost use Rattle.rtlsim.specs.declared.status.Status.{Status};

@@ -12,7 +12,7 @@ use crate::operator::{Level, direction_at, sign_at};
 use crate::parser::Parser;
 use crate::stop::Stop;
 use vhdl_lexer::Kind;
-use vhdl_tree::{Direction, Expr, Identifier, Link, Name, Operator, Range, Sign, Suffix};
+use vhdl_tree::{Direction, Expr, Identifier, Link, Name, Operator, Range, Suffix};
 
 impl Parser<'_> {
     /// The operator that a chain of a level goes on with, by its last one.

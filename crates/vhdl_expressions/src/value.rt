@@ -10,7 +10,7 @@ use crate::operator::direction_at;
 use crate::parser::Parser;
 use crate::stop::Stop;
 use vhdl_lexer::Kind;
-use vhdl_tree::{Actual, Association, Choice, Direction, Identifier, Range, Value};
+use vhdl_tree::{Actual, Association, Choice, Identifier, Range, Value};
 
 impl Parser<'_> {
     /// A range, in which so many levels may be opened.

@@ -187,9 +187,9 @@ mark_sound last b after kind n plain h = by_test (b == slash && begins star afte
     no_tick : b ∷ [] ≡ tick ∷ [] → ⊥
     no_tick is = let e : b ≡ tick = cc in true≢false (ap (λ x. x == tick) (sym e) ∙ plain)
 
-    longer : (after : List ℕ) (other : Kind) → pair b (next after) ≡ Some other → IsSliced last other 2 (b ∷ after)
-    longer [] other e = let never : ◌≡◌ {A = Option Kind} None (Some other) = sym (pair_zero b) ∙ e in absurd (cc)
-    longer (c ∷ rest) other e = record {
+    longer : (after : List ℕ) (found : Kind) → pair b (next after) ≡ Some found → IsSliced last found 2 (b ∷ after)
+    longer [] found e = let never : ◌≡◌ {A = Option Kind} None (Some found) = sym (pair_zero b) ∙ e in absurd (cc)
+    longer (c ∷ rest) found e = record {
       slice = b ∷ c ∷ [];
       rest = rest;
       whole = refl;
@@ -198,8 +198,8 @@ mark_sound last b after kind n plain h = by_test (b == slash && begins star afte
       form = inr (inr (inr (inr (inr (e, (λ d more is. refl), (λ is. let l : ◌≡◌ {A = ℕ} 2 1 = ap (λ (x : List ℕ). length x) is in absurd (omega (arith, l))))))));
     }
 
-    alone : (other : Kind) → pair b (next after) ≡ None → single b ≡ Some other → IsSliced last other 1 (b ∷ after)
-    alone other p e = record {
+    alone : (found : Kind) → pair b (next after) ≡ None → single b ≡ Some found → IsSliced last found 1 (b ∷ after)
+    alone found p e = record {
       slice = b ∷ [];
       rest = after;
       whole = refl;

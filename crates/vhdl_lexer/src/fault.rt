@@ -1,6 +1,6 @@
 //! Why a source has no tokens.
 
-ghost use Rattle.std.specs.Prelude.{◌≡◌, ℕ, Option};
+ghost use Rattle.std.specs.Prelude.{◌≡◌, Option};
 ghost use Rattle.vhdl_lexer.specs.Fault.{fault_number, fault_byte};
 ghost use Rattle.vhdl_lexer.specs.declared.fault.LexFault.TheVariants.{NoMemory};
 

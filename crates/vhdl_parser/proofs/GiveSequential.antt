@@ -29,25 +29,25 @@ name_first n (sliced left direction right) a ps next = refl
 
 no_label : (s : Statement) (next : Option Kind) → both k.Identifier k.Colon (spell_statement s) next ≡ false
 unfolding same_kind
-no_label (nothing at) next = refl
+no_label (nothing _) next = refl
 no_label (assigned target value) next = name_first target.identifier target.suffix target.attribute (spell_value value ++ some k.Semicolon ∷ []) next
-no_label (conditional at branches otherwise label) next = refl
-no_label (selection at selector alternatives label) next = refl
-no_label (loop at parameter range statements label) next = refl
+no_label (conditional _ _ _ _) next = refl
+no_label (selection _ _ _ _) next = refl
+no_label (loop _ _ _ _ _) next = refl
 
 statement_long : (s : Statement) → 1 ≤ length (spell_statement s)
-statement_long (nothing at) = omega arith
-statement_long (assigned target value) = omega arith
-statement_long (conditional at branches otherwise label) = omega arith
-statement_long (selection at selector alternatives label) = omega arith
-statement_long (loop at parameter range statements label) = omega arith
+statement_long (nothing _) = omega arith
+statement_long (assigned _ _) = omega arith
+statement_long (conditional _ _ _ _) = omega arith
+statement_long (selection _ _ _ _) = omega arith
+statement_long (loop _ _ _ _ _) = omega arith
 
 statement_begins : (s : Statement) (next : Option Kind) → begins_sequential (front (spell_statement s) next) ≡ true
-statement_begins (nothing at) next = refl
-statement_begins (assigned target value) next = refl
-statement_begins (conditional at branches otherwise label) next = refl
-statement_begins (selection at selector alternatives label) next = refl
-statement_begins (loop at parameter range statements label) next = refl
+statement_begins (nothing _) next = refl
+statement_begins (assigned _ _) next = refl
+statement_begins (conditional _ _ _ _) next = refl
+statement_begins (selection _ _ _ _) next = refl
+statement_begins (loop _ _ _ _ _) next = refl
 
 pub label_gives : (i : Ident) → Gives optional_label (Some i) (spell_label i) Whatever
 unfolding optional_label label same_kind

@@ -1,6 +1,6 @@
 //! Why tokens are no file.
 
-ghost use Rattle.std.specs.Prelude.{◌≡◌, ℕ, Option};
+ghost use Rattle.std.specs.Prelude.{◌≡◌, Option};
 ghost use Rattle.vhdl_parser.specs.Fault.{fault_number, fault_byte};
 
 use thiserror::Error;

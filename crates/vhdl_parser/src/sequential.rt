@@ -1,8 +1,8 @@
 //! Sequential statements.
 
-ghost use Rattle.std.specs.Prelude.{◌≡◌, option_map};
+ghost use Rattle.std.specs.Prelude.{◌≡◌};
 ghost use Rattle.vhdl_lexer.specs.declared.token.Kind.TheVariants as k;
-ghost use Rattle.vhdl_tree.specs.View.{view, ident_view, option_ident_view, range_view, choices_view, statement_view, sequential_view, sequentials_view, option_sequentials_view, conditional_view, conditionals_view, alternative_view, alternatives_view};
+ghost use Rattle.vhdl_tree.specs.View.{option_ident_view, statement_view, sequential_view, sequentials_view, option_sequentials_view, conditional_view, conditionals_view, alternative_view, alternatives_view};
 ghost use Rattle.vhdl_expressions.specs.reader.Input as input;
 ghost use Rattle.vhdl_expressions.specs.reader.Input.{Reads};
 ghost use Rattle.vhdl_parser.specs.reader.Sequential as read;

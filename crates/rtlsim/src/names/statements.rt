@@ -1,6 +1,6 @@
 //! Concurrent statements of an architecture.
 
-ghost use Rattle.std.specs.Prelude.{◌≡◌, ◌≢◌, not, map, IfOk, option_map, option_copied, Some};
+ghost use Rattle.std.specs.Prelude.{◌≡◌, ◌≢◌, map, IfOk, option_map, option_copied, Some};
 ghost use Rattle.rtlsim.specs.Design as design;
 ghost use Rattle.rtlsim.specs.NameRules as rules;
 ghost use Rattle.rtlsim.specs.Rules.{in_turn};
@@ -13,7 +13,7 @@ use crate::names::expressions::{identifier, value};
 use crate::names::region::{copied, is_port, port_named};
 use indexmap::IndexSet;
 use std::alloc::{AllocError, Global};
-use vhdl_tree::{Assignment, Concurrent, Expr, Identifier, Mode, Name, Value as ValueTree};
+use vhdl_tree::{Assignment, Concurrent, Expr, Identifier, Mode, Value as ValueTree};
 
 /// The labels and equations of the statements so far.
 #[derive(Drop)]

@@ -2,7 +2,7 @@
 
 ghost use Rattle.std.specs.Prelude.{◌≡◌, ◌++◌, ◌∷◌, [], false, is_some, map, option_map, option_copied, Some};
 ghost use Rattle.rtlsim.specs.NameRules as rules;
-ghost use Rattle.rtlsim.specs.Rules.{rule, in_turn};
+ghost use Rattle.rtlsim.specs.Rules.{rule};
 ghost use Rattle.rtlsim.specs.steps.View.{Gives, ports_view, equation_view, entities_view, architectures_view, units_view};
 ghost use Rattle.vhdl_tree.specs.View as tree;
 

@@ -2,8 +2,8 @@
 
 use super::file_of;
 use super::parts::{
-    Word, assigns, is_choice, is_filled, is_given, is_indexed, is_integer, is_name, is_named,
-    is_only_null, is_others, is_plain, is_range, is_value, statements_of,
+    Word, assigns, is_choice, is_filled, is_given, is_indexed, is_name, is_named, is_only_null,
+    is_others, is_plain, is_range, is_value, statements_of,
 };
 use std::test::Fail;
 use vhdl_tree::*;

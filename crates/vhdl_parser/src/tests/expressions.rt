@@ -1,7 +1,7 @@
 //! Expressions that are read or refused, and trees of expressions.
 
 use super::parts::{
-    Word, is_character, is_indexed, is_integer, is_name, is_named, is_plain, is_range, is_written,
+    Word, is_character, is_indexed, is_integer, is_name, is_named, is_range, is_written,
     statements_of,
 };
 use super::{VALUE, file_of, nested, number_in, wrong_row};
