@@ -47,7 +47,8 @@ pub fn has_its_width()
     ensures targets { TargetsFitValues }
 {}
 
-/// Each entry is that of a driver, and below the limit of its net.
+/// Each entry of a body that fits is that of a driver of its process, and a value of its net's type, where the values now are
+/// of their nets' types.
 pub fn entries_keep_types()
     ensures { EntriesKeepTypes }
 {}

@@ -27,24 +27,31 @@ use vhdl_parser::SyntaxFault;
 /// Why a call of this library is refused. Each layer's want of memory is `Memory`.
 #[derive(PartialEq, Eq, Debug, Drop, Error)]
 pub enum Fault {
+    /// The source has no tokens.
     #[error("lexer: {0}")]
     Lex(LexFault),
+    /// The tokens are no file.
     #[error("parser: {0}")]
     Syntax(SyntaxFault),
+    /// A rule on names or types is broken, or the file has what no plain design has.
     #[error("names: {0}")]
     Name(NameFault),
+    /// The file's units have no such design.
     #[error("elaboration: {0}")]
     Elab(ElabFault),
     /// What the checker found, in order.
     #[error("the checker says no")]
     Rejected(Vec<CheckFault>),
+    /// The stimulus, or a NAME=VALUE word, is refused.
     #[error("stimulus: {0}")]
     Stim(StimFault),
     /// The simulation does not settle at this time, in ns.
     #[error("the simulation does not settle at {time} ns")]
     NoSettling { time: u64 },
+    /// Memory was refused.
     #[error("out of memory")]
     Memory,
+    /// The sink took less than the whole.
     #[error("the output failed")]
     Output,
 }

@@ -16,8 +16,8 @@ use std::alloc::{AllocError, Global};
 use std::io::Read;
 use std::rt::Files;
 
-/// Does what the words of the first line ask for, cut at runs of spaces; `@` is what stands after that
-/// line.
+/// Does what the words of the first line ask for, cut at runs of spaces, as `tool_with` does; `@` is what
+/// stands after that line. Where the input can't be read, or the line isn't UTF-8, it tells so.
 pub fn tool_first_line<F: Files, R: Read + Drop, O: Sink, E: Sink>(
     alloc: Global,
     files: &F,

@@ -40,7 +40,8 @@ pub trait Inputs {
     // What a read of the file of this name may give, between these states: its bytes, or none where it fails.
     ghost gives: { Self → List ℕ → Option (List ℕ) → Self → Type 0 };
 
-    /// The whole file of this name, at most `MAX_INPUT` bytes.
+    /// The whole file of this name, at most `MAX_INPUT` bytes: `Failed` where it isn't there, can't be read
+    /// or is longer, and `NoMemory` where memory was refused.
     fn read(&mut self, alloc: Global, name: &str) -> Result<Vec<u8>, InputFault>
         ensures whole { IfOk result (λ all. gives self.old name.now (Some all.items) self.new) }
         ensures short { IfOk result (λ all. length all.items ≤ MAX_INPUT) }
@@ -86,8 +87,9 @@ impl<F: Files, R: Read> Inputs for Named<'_, F, R> {
     }
 }
 
-/// Reads to the end, which has to come within the limit and within as many reads. A read that a
-/// signal interrupts is tried again.
+/// Reads to the end, which has to come within `MAX_INPUT` bytes and within as many reads. A read that a
+/// signal interrupts is tried again. `Failed` where a read fails or the end doesn't come, and `NoMemory`
+/// where memory was refused.
 pub fn read_input<R: Read>(alloc: Global, reader: &mut R) -> Result<Vec<u8>, InputFault>
     ensures whole { IfOk result (λ all. IfSome (R.remaining reader.old) (λ bytes. all.items ≡ bytes)) }
     ensures short { IfOk result (λ all. length all.items ≤ MAX_INPUT) }

@@ -39,7 +39,9 @@ pub fn tool<R: Read + Drop, O: Sink, E: Sink>(
     tool_with(alloc, words, &mut Standard { reader }, out, err).code()
 }
 
-/// Does what the words ask for.
+/// Does what the words ask for: reads the file that they name by `inputs`, writes the result to `out` and
+/// the lines of a fault to `err`, and answers the status. Words that are no command are refused with a text
+/// on `err`. It takes memory in proportion to the words and the file.
 pub fn tool_with<I: Inputs, O: Sink, E: Sink>(
     alloc: Global,
     words: &[&str],
@@ -75,7 +77,8 @@ pub(crate) fn refuse_words<O: Sink, E: Sink>(refused: &Refused, out: &O, err: &m
     }
 }
 
-/// Does what is asked for.
+/// Does what is asked for: reads the file by `inputs`, writes the line of each out port to `out` and the
+/// lines of a fault to `err`, and answers the status. It takes memory in proportion to the file.
 pub fn perform<I: Inputs, O: Sink, E: Sink>(
     alloc: Global,
     request: &Request<'_>,

@@ -49,7 +49,13 @@ impl<T: Drop> From<AllocFailed<T>> for Refused {
     }
 }
 
-/// Reads the words after the program's name.
+/// Reads the words after the program's name: `eval FILE TOP`, and any number of NAME=VALUE words.
+/// What these words are is not looked at, but that none begins with `-`.
+///
+/// # Errors
+///
+/// - `Words` where they are no command, or ask for help.
+/// - `NoMemory` where memory was refused.
 pub fn parse_words<'a>(alloc: Global, words: &'a [&'a str]) -> Result<Request<'a>, Refused>
     ensures spelled { IfOk result (λ request. words_of request ≡ map (λ word. word.now) words.now) }
 

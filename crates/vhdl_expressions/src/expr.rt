@@ -1,4 +1,4 @@
-//! Expressions.
+//! Names and expressions (IEEE 1076-2008 clauses 8 and 9).
 
 ghost use Rattle.std.specs.Prelude.{◌≡◌, option_map};
 ghost use Rattle.vhdl_lexer.specs.declared.token.Kind.TheVariants as k;
@@ -52,7 +52,7 @@ impl Parser<'_> {
         Ok(Some(self.identifier()?))
     }
 
-    /// A name, in which so many levels may be opened.
+    /// A name (clause 8), in which so many levels may be opened.
     #[cycle(expr)]
     #[tactic(auto, unfolding(crate::specs::reader::Expressions::name))]
     pub fn name(&mut self, levels: usize) -> Result<Name, Stop>
@@ -148,7 +148,7 @@ impl Parser<'_> {
         self.inside(levels)
     }
 
-    /// An expression, in which so many levels may be opened.
+    /// An expression (clause 9), in which so many levels may be opened.
     #[cycle(expr)]
     pub fn expr(&mut self, levels: usize) -> Result<Expr, Stop>
         ensures { Reads view (read.expr levels self.old) result self.new }
@@ -283,7 +283,7 @@ impl Parser<'_> {
         Ok(Expr::in_parens(self.alloc, at, inner)?)
     }
 
-    /// What stands in a parenthesis, where so many more levels may be opened.
+    /// The expression behind a `(`, where so many levels may be opened, that parenthesis among them.
     #[cycle(expr)]
     #[tactic(auto, unfolding(crate::specs::reader::Expressions::inside))]
     pub fn inside(&mut self, levels: usize) -> Result<Expr, Stop>

@@ -7,7 +7,9 @@ ghost use Rattle.vhdl_expressions.specs.reader.Lists.{Collects, FnReturnsAtMut};
 use crate::parser::Parser;
 use crate::stop::Stop;
 
-/// Items behind those found, while one begins.
+/// The items found so far, and behind them those that `item` reads while `begins` says that one
+/// begins: at most as many as tokens are ahead. Where `item` stops, so does this. It takes the memory
+/// of the list.
 pub fn many<T, B, I>(
     parser: &mut Parser<'_>,
     begins: B,

@@ -15,9 +15,21 @@ use std::marker::Model;
 use vhdl_lexer::{Kind, Token};
 use vhdl_tree::{Identifier, Literal};
 
-/// The tokens that are ahead, which contracts see as lexemes.
+/// A place among the tokens of a source. Contracts see it as the lexemes that are ahead.
+///
+/// A call that reads takes the tokens that it reads, and answers what they spell, which takes memory
+/// in proportion to them. Where `levels` is given, no more levels than these are opened in what is read
+/// (docs/LANGUAGE.md).
+///
+/// # Errors
+///
+/// - `Unexpected` where what is read doesn't go on with the next token, and `EndOfFile` where no
+///   token is left and one has to stand.
+/// - `TooDeep` where one level more would open than may.
+/// - `NoMemory` where memory was refused.
 #[derive(Drop)]
 pub struct Parser<'a> {
+    /// What trees are made with.
     pub alloc: Global,
     source: &'a [u8],
     tokens: &'a [Token],
@@ -37,6 +49,7 @@ impl<'a> Model for Parser<'a> {
 }
 
 impl<'a> Parser<'a> {
+    /// A parser at the first of these tokens, which are places in `source`, in order.
     pub fn new(alloc: Global, source: &'a [u8], tokens: &'a [Token]) -> Parser<'a>
         requires { AreWithin source.now tokens.now }
         ensures { result ≡ lexemes source.now tokens.now }
@@ -55,6 +68,7 @@ impl<'a> Parser<'a> {
         self.tokens.len()
     }
 
+    /// The kind of the next token, or `None` behind the last one.
     #[tactic(auto, unfolding(crate::specs::reader::Input::next_kind))]
     pub fn peek(&self) -> Option<Kind>
         ensures { result ≡ read.next_kind self.now }
@@ -65,6 +79,7 @@ impl<'a> Parser<'a> {
         Some(self.tokens[0].kind)
     }
 
+    /// Whether the next token is of this kind.
     #[tactic(auto, unfolding(crate::specs::reader::Input::next_kind, vhdl_tree::specs::Lexeme::same_kind, vhdl_tree::specs::Lexeme::lexeme))]
     pub fn sees(&self, kind: Kind) -> bool
         ensures { result ≡ read.sees kind self.now }
@@ -86,6 +101,7 @@ impl<'a> Parser<'a> {
         }
     }
 
+    /// Why nothing goes on here: `Unexpected` before a token, `EndOfFile` behind the last one.
     #[tactic(auto, unfolding(crate::specs::reader::Input::refusal))]
     pub fn refuse(&self) -> Stop
         ensures { result ≡ read.refusal self.now }
@@ -106,7 +122,7 @@ impl<'a> Parser<'a> {
         Ok(token.start)
     }
 
-    /// Takes the next token, if it is of this kind.
+    /// Takes the next token, if it is of this kind, and answers whether it is.
     #[tactic(auto, unfolding(crate::specs::reader::Input::eat))]
     pub fn eat(&mut self, kind: Kind) -> Result<bool, Stop>
         ensures { Reads (λ b. b) (read.eat kind self.old) result self.new }
@@ -119,6 +135,7 @@ impl<'a> Parser<'a> {
         }
     }
 
+    /// Takes the next token, which is an identifier.
     #[tactic(auto, unfolding(crate::specs::reader::Input::identifier, vhdl_tree::specs::Lexeme::lexeme, vhdl_tree::specs::Lexeme::same_kind))]
     pub fn identifier(&mut self) -> Result<Identifier, Stop>
         ensures { Reads ident_view (read.identifier self.old) result self.new }
@@ -132,7 +149,7 @@ impl<'a> Parser<'a> {
         })
     }
 
-    /// Where a character literal stands, and its character.
+    /// Takes the next token, which is a character literal: where it starts, and its character.
     #[tactic(auto, unfolding(crate::specs::reader::Input::literal, vhdl_tree::specs::Lexeme::lexeme, vhdl_tree::specs::Lexeme::same_kind))]
     pub fn literal(&mut self) -> Result<(usize, u8), Stop>
         ensures { Reads (λ c. c) (read.literal self.old) result self.new }
@@ -171,7 +188,7 @@ impl<'a> Parser<'a> {
     }
 }
 
-/// The level below, of so many that may still open.
+/// One less of the levels that may be opened, or `TooDeep` where none may.
 #[tactic(auto, unfolding(crate::specs::reader::Input::below))]
 pub fn below(levels: usize) -> Result<usize, Stop>
     ensures value { (ts : List Lexeme) → Reads (λ n. n) (read.below levels ts) result ts }

@@ -5,12 +5,16 @@ ghost use Rattle.vhdl_expressions.specs.declared.stop.Stop.TheVariants.{NoMemory
 
 use std::alloc::{AllocError, AllocFailed};
 
-/// Why the parser stopped. The token that it met is the next one.
+/// Why a parser stopped. The token that it met is its next one.
 #[derive(Clone, Copy, Debug, PartialEq, Eq)]
 pub enum Stop {
+    /// What is read doesn't go on with the next token.
     Unexpected,
+    /// No token is left, and one has to stand.
     EndOfFile,
+    /// One level more would open than may.
     TooDeep,
+    /// Memory was refused.
     NoMemory,
 }
 

@@ -13,7 +13,7 @@ use vhdl_lexer::Kind;
 use vhdl_tree::{Actual, Association, Choice, Identifier, Range, Value};
 
 impl Parser<'_> {
-    /// A range, in which so many levels may be opened.
+    /// A range (IEEE 1076-2008, 5.2.1), in which so many levels may be opened.
     #[tactic(auto, unfolding(crate::specs::reader::Expressions::range))]
     pub fn range(&mut self, levels: usize) -> Result<Range, Stop>
         ensures { Reads range_view (read.range levels self.old) result self.new }
@@ -33,7 +33,8 @@ impl Parser<'_> {
         }
     }
 
-    /// A value, in which so many levels may be opened.
+    /// A value, which is an expression or `( others => expression )` (9.3.3), in which so many levels may
+    /// be opened.
     #[tactic(auto, unfolding(crate::specs::reader::Expressions::value))]
     pub fn value(&mut self, levels: usize) -> Result<Value, Stop>
         ensures { Reads value_view (read.value levels self.old) result self.new }
@@ -57,7 +58,7 @@ impl Parser<'_> {
         Ok(Value::Others(at, element))
     }
 
-    /// The choices of an alternative, in which so many levels may be opened.
+    /// The choices of an alternative (10.9), with bars between, in which so many levels may be opened.
     #[tactic(auto, unfolding(crate::specs::reader::Expressions::choices))]
     pub fn choices(&mut self, levels: usize) -> Result<Vec<Choice>, Stop>
         ensures { Reads choices_view (read.choices levels self.old) result self.new }
@@ -91,7 +92,7 @@ impl Parser<'_> {
         }
     }
 
-    /// Associations with commas between, in which so many levels may be opened.
+    /// Associations (6.5.7) with commas between, in which so many levels may be opened.
     #[tactic(auto, unfolding(crate::specs::reader::Expressions::associations))]
     pub fn associations(&mut self, levels: usize) -> Result<Vec<Association>, Stop>
         ensures { Reads associations_view (read.associations levels self.old) result self.new }

@@ -14,6 +14,7 @@ pub enum Class {
 }
 
 impl Class {
+    /// Whether the byte is of this class.
     pub fn has(self, b: u8) -> bool
         ensures { result ≡ spec.has_class self b }
     {
@@ -41,12 +42,14 @@ pub fn is_separator(b: u8) -> bool
     b == b' ' || b == b'\t' || ends_line(b)
 }
 
+/// A byte of 32 to 126.
 pub fn is_printable(b: u8) -> bool
     ensures { result ≡ spec.is_printable b }
 {
     b' ' <= b && b <= b'~'
 }
 
+/// A letter, a digit or an underscore.
 pub fn is_word_byte(b: u8) -> bool
     ensures { result ≡ spec.is_word_byte b }
 {

@@ -59,6 +59,7 @@ fn begins_digit(text: &[u8]) -> bool
     }
 }
 
+/// The integer at the front of a text that begins with a digit, and its length.
 #[tactic(auto, unfolding(crate::specs::Scan::number))]
 pub fn number(text: &[u8]) -> Result<(Kind, usize), Problem>
     ensures { result ≡ scan.number text.now }

@@ -103,6 +103,7 @@ fn word_kind(text: &[u8]) -> Kind
     kind_among(words_of(text[0]), text)
 }
 
+/// The identifier or reserved word at the front of a text, and its length.
 #[tactic(auto, unfolding(crate::specs::Scan::word))]
 pub fn word(text: &[u8]) -> Result<(Kind, usize), Problem>
     ensures { result ≡ scan.word text.now }

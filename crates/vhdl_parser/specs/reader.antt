@@ -1,4 +1,4 @@
--- How the parser reads: the grammar as functions of the tokens ahead. What a user relies on stands in `grammar`.
+-- How the parser reads: the grammar as functions of the tokens ahead. What a user relies on stands in `specs/grammar` of vhdl_tree.
 pub mod Sequential
 pub mod Process
 pub mod Instance

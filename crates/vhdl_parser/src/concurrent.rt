@@ -80,7 +80,7 @@ fn unlabelled(parser: &mut Parser<'_>, levels: usize) -> Result<Concurrent, Stop
     }
 }
 
-/// Concurrent statements, in which so many levels may be open.
+/// Concurrent statements, in which so many levels may be opened.
 #[cycle(concurrent)]
 #[tactic(auto, unfolding(crate::specs::reader::Concurrent::concurrents_with))]
 pub fn concurrents(parser: &mut Parser<'_>, levels: usize) -> Result<Vec<Concurrent>, Stop>

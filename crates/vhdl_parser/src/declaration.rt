@@ -108,7 +108,7 @@ fn begins_declaration(parser: &Parser<'_>) -> bool
     }
 }
 
-/// The declarations of an architecture, in which so many levels may be open.
+/// The declarations of an architecture, in which so many levels may be opened.
 pub fn declarations(parser: &mut Parser<'_>, levels: usize) -> Result<Vec<Declaration>, Stop>
     ensures { Reads declarations_view (read.declarations levels parser.old) result parser.new }
 {

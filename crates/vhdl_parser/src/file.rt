@@ -20,10 +20,18 @@ use vhdl_tree::File;
 
 /// The tree that the tokens of a source spell, by the grammar of docs/LANGUAGE.md.
 ///
-/// `tokens` are places in `source`, in order, as `vhdl_lexer::lex` finds them. A fault carries
-/// the byte of the token at which the reading stopped. Of several faults the first one that the
-/// parser meets is given. The tree takes memory in proportion to the tokens, and the call's stack
-/// is bounded by the levels, of which 64 may be open at once.
+/// `tokens` are places in `source`, in order, as `vhdl_lexer::lex` finds them. The tree takes memory
+/// in proportion to the tokens, and the call's stack is bounded by the levels, of which 64 may be
+/// open at once.
+///
+/// # Errors
+///
+/// - `Unexpected` and `EndOfFile` where no well-formed tree spells the tokens.
+/// - `TooDeep` where more than 64 levels are open somewhere.
+/// - `NoMemory` where a part of the tree could not grow.
+///
+/// Of several faults the first one that the parser meets is given, with the byte of the token at which
+/// it stopped. The contract says of that byte that it is not above the source's length.
 pub fn parse(alloc: Global, source: &[u8], tokens: &[Token]) -> Result<File, SyntaxFault>
     requires { AreWithin source.now tokens.now }
 

@@ -62,7 +62,7 @@ fn optional_constraint(parser: &mut Parser<'_>, levels: usize) -> Result<Option<
     }
 }
 
-/// A subtype, in which so many levels may be open.
+/// A subtype, in which so many levels may be opened.
 #[tactic(auto, unfolding(crate::specs::reader::Declarations::subtype))]
 pub fn subtype(parser: &mut Parser<'_>, levels: usize) -> Result<Subtype, Stop>
     ensures { Reads subtype_view (read.subtype levels parser.old) result parser.new }
@@ -165,7 +165,7 @@ fn generics(parser: &mut Parser<'_>, levels: usize) -> Result<Vec<Generic>, Stop
     Ok(found)
 }
 
-/// A generic clause, if one comes next, in which so many levels may be open.
+/// A generic clause, if one comes next, in which so many levels may be opened.
 #[tactic(auto, unfolding(crate::specs::reader::Declarations::optional_generics, vhdl_expressions::specs::reader::Input::optional))]
 pub fn optional_generics(
     parser: &mut Parser<'_>,
@@ -251,7 +251,7 @@ fn ports(parser: &mut Parser<'_>, levels: usize) -> Result<Vec<Port>, Stop>
     Ok(found)
 }
 
-/// A port clause, if one comes next, in which so many levels may be open.
+/// A port clause, if one comes next, in which so many levels may be opened.
 #[tactic(auto, unfolding(crate::specs::reader::Declarations::optional_ports, vhdl_expressions::specs::reader::Input::optional))]
 pub fn optional_ports(parser: &mut Parser<'_>, levels: usize) -> Result<Option<Vec<Port>>, Stop>
     ensures { Reads option_ports_view (read.optional_ports levels parser.old) result parser.new }

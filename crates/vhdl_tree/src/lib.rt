@@ -1,4 +1,4 @@
-//! The syntax tree of a file, and how it is spelled.
+//! The syntax tree of a file. `specs/grammar` says which tokens a tree spells, and which trees are well formed.
 #![tactic(auto)]
 
 mod concurrent;

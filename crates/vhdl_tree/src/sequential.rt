@@ -76,6 +76,7 @@ pub struct For {
 }
 
 impl Conditional {
+    /// A condition, and the statements that it guards.
     pub fn new(condition: Expr, statements: Vec<Sequential>) -> Conditional
         ensures { conditional_view result ≡ guarded_by (view condition) (sequentials_view statements) }
     {
@@ -87,6 +88,7 @@ impl Conditional {
 }
 
 impl Alternative {
+    /// Choices, and the statements that they guard.
     pub fn new(choices: Vec<Choice>, statements: Vec<Sequential>) -> Alternative
         ensures { alternative_view result ≡ chosen_by (choices_view choices) (sequentials_view statements) }
     {

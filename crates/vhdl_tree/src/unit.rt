@@ -43,6 +43,7 @@ pub enum ContextItem {
     Use(Vec<Selected>),
 }
 
+/// An entity or an architecture.
 #[derive(Drop)]
 pub enum LibraryUnit {
     Entity(Entity),

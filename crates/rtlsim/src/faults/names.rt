@@ -41,7 +41,7 @@ pub enum NameFault {
     /// A process without a sensitivity list.
     #[error("a process without a sensitivity list, at byte {at}")]
     NoSensitivity { at: usize },
-    /// A form of the language that is not read.
+    /// What parses and is no part of a plain design.
     #[error("a form that is not read, at byte {at}")]
     LeftOut { at: usize },
     /// Memory was refused.

@@ -1,4 +1,4 @@
-//! Readers and writers that fail or never end, and memory that is refused.
+//! Readers and writers that fail or never end, and the lines and status of each kind of fault.
 
 ghost use Rattle.std.specs.Prelude.{Some, decimal};
 ghost use Rattle.rtl_sink.specs.Written.{IsIntact};

@@ -210,12 +210,12 @@ module _ (inside : Parser Expr) where
   abbrev pub chain_of : Level → Parser Expr
   chain_of level = chain (first_of level) (operand_of level) level
 
--- what stands in a parenthesis, where so many more may open
+-- what stands in a parenthesis, where so many levels may be opened, that parenthesis among them
 unfoldable pub inside : ℕ → Parser Expr
 inside zero = too_deep
 inside (suc n) = whole (inside n)
 
--- an expression, in which so many parentheses may be open
+-- an expression, in which so many levels may be opened
 abbrev pub expr : ℕ → Parser Expr
 expr n = whole (inside n)
 

@@ -18,7 +18,7 @@ abbrev mutual
   pub spell_statement : Statement → List Piece
   -- seq = null ;
   spell_statement (nothing at) = one_at k.Null at ∷ (some k.Semicolon ∷ [])
-  -- simple = name <= value ;
+  -- seq = name <= value ;
   spell_statement (assigned target value) = spell_name target ++ (some k.LessEqual ∷ (spell_value value ++ some k.Semicolon ∷ []))
   -- if = if expr then { seq } { elsif expr then { seq } } [ else { seq } ] end if [ id ] ;
   spell_statement (conditional at branches otherwise label) = one_at k.If at ∷ (spell_conditionals branches ++ (spell_else otherwise ++ spell_end k.If label))
