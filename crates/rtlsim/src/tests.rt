@@ -1,6 +1,7 @@
 //! The program over readers and writers in memory.
 
 mod edges;
+mod places;
 mod rows;
 
 use crate::tools::tool;

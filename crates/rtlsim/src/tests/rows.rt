@@ -14,18 +14,6 @@ entity and2 is port (a, b : in std_logic; y : out std_logic); end;
 architecture r of and2 is begin y <= a and b; y <= a; end;
 ";
 
-/// The same, where the output's type is not resolved.
-const TWICE_UNRESOLVED: &str = "library ieee; use ieee.std_logic_1164.all;
-entity and2 is port (a, b : in std_logic; y : out std_ulogic); end;
-architecture r of and2 is begin y <= a and b; y <= a; end;
-";
-
-/// Two operators without parentheses.
-const MIXED: &str = "library ieee; use ieee.std_logic_1164.all;
-entity and2 is port (a, b : in std_logic; y : out std_logic); end;
-architecture r of and2 is begin y <= a and b or a; end;
-";
-
 /// Two outputs, one of which has no assignment, with names in capitals.
 const OPEN: &str = "library IEEE; use IEEE.STD_LOGIC_1164.all;
 entity Open_Out is port (A : std_logic; Q, R : out std_logic); end entity Open_Out;
@@ -114,25 +102,6 @@ fn answers_each_row(rt: HostRuntime) -> Result<(), Fail> {
         assert_eq!(rt; printed.as_slice(), out.as_bytes(), "output of {line}");
         assert_eq!(rt; told.as_slice(), err.as_bytes(), "errors of {line}");
         assert!(rt; code == status, "status of {line}");
-    }
-    Ok(())
-}
-
-/// Where the byte at which a fault is told is no part of the row.
-#[test]
-fn names_each_fault_of_a_source(rt: HostRuntime) -> Result<(), Fail> {
-    for (source, beginning) in [
-        (TWICE_UNRESOLVED, "rtlsim: elab 9 TwoUnresolved at "),
-        (MIXED, "rtlsim: syntax 1 Unexpected at "),
-        ("entity and2 is", "rtlsim: syntax 2 EndOfFile at "),
-    ] {
-        let words = cut(rt.alloc(), "eval @ and2")?;
-        let (code, printed, told) = answer(rt.alloc(), &words, source.as_bytes());
-        assert!(rt; code == 3 && printed.is_empty(), "{beginning}");
-        assert!(rt;
-            told.as_slice().starts_with(beginning.as_bytes()),
-            "{beginning}"
-        );
     }
     Ok(())
 }
