@@ -11,6 +11,7 @@ use Rattle.rtlsim.specs.Solution.{Valuation, IsTheSolution}
 use Rattle.rtlsim.specs.Printed.{lines}
 use Rattle.rtlsim.specs.declared.faults.elab.ElabFault.{ElabFault}
 use Rattle.rtlsim.specs.declared.faults.elab.ElabFault.TheVariants as elab
+use Rattle.rtlsim.specs.declared.faults.names.NameFault.TheVariants as names
 use Rattle.rtlsim.specs.declared.faults.Fault.{Fault}
 use Rattle.rtlsim.specs.declared.faults.Fault.TheVariants.{Name as NameOf, Elab, Rejected, Stim, Memory, Output}
 
@@ -28,9 +29,11 @@ HasElabFault (elab.TwoUnresolved at) u top = (d : Design) × (design_of u top �
 HasElabFault elab.NoMemory u top = Unit {0}
 HasElabFault _ u top = ⊥
 
--- why the file is no such design
+-- why the file is no such design; a layer's want of memory is Memory
 abbrev pub HasDesignFault : Fault → t.File → Name → Type 0
+HasDesignFault (NameOf names.NoMemory) file top = ⊥
 HasDesignFault (NameOf e) file top = units_of file ≡ None
+HasDesignFault (Elab elab.NoMemory) file top = ⊥
 HasDesignFault (Elab e) file top = (u : Units) × (units_of file ≡ Some u) × HasElabFault e u (map to_ascii_lowercase top)
 HasDesignFault Memory file top = Unit {0}
 HasDesignFault _ file top = ⊥

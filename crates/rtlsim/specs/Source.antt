@@ -2,6 +2,7 @@
 use Rattle.std.specs.Prelude.{◌≡◌, ℕ, List, [], None}
 use Rattle.vhdl_lexer.specs.Cut.{Cuts}
 use Rattle.vhdl_lexer.specs.Fault.{HasFault}
+use Rattle.vhdl_lexer.specs.declared.fault.LexFault.TheVariants as lex
 use Rattle.vhdl_lexer.specs.declared.token.Token.{Token}
 use Rattle.vhdl_parser.specs.Fault.{IsRefusal, IsTooDeep}
 use Rattle.vhdl_tree.specs.Levels.{IsShallow, IsDeep, most_open}
@@ -10,6 +11,7 @@ use Rattle.vhdl_tree.specs.Pieces.{Spells}
 use Rattle.vhdl_tree.specs.Tree as t
 use Rattle.vhdl_tree.specs.grammar.Units.{spell_file, IsFile}
 use Rattle.vhdl_parser.specs.declared.fault.SyntaxFault.{SyntaxFault}
+use Rattle.vhdl_parser.specs.declared.fault.SyntaxFault.TheVariants as syntax
 use Rattle.rtlsim.specs.declared.faults.Fault.{Fault}
 use Rattle.rtlsim.specs.declared.faults.Fault.TheVariants.{Lex, Syntax, Memory}
 
@@ -34,9 +36,11 @@ pub record HasSyntaxFault (fault : SyntaxFault) (source : List ℕ) : Type 0 whe
   pub refused : IsRefusal fault → (other : t.File) → IsFile other → SpellsTokens source tokens other → ⊥
   pub deep : IsTooDeep fault → IsDeep most_open (lexemes source tokens)
 
--- why a source has no tree that is read
+-- why a source has no tree that is read; a layer's want of memory is Memory
 abbrev pub HasSourceFault : Fault → List ℕ → Type 0
+HasSourceFault (Lex lex.NoMemory) source = ⊥
 HasSourceFault (Lex fault) source = HasFault fault source
+HasSourceFault (Syntax syntax.NoMemory) source = ⊥
 HasSourceFault (Syntax fault) source = HasSyntaxFault fault source
 HasSourceFault Memory source = Unit {0}
 HasSourceFault _ source = ⊥
