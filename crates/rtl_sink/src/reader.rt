@@ -1,6 +1,6 @@
 //! Readers.
 
-ghost use Rattle.std.specs.Prelude.{◌≡◌, ◌≤◌, false, length, take};
+ghost use Rattle.std.specs.Prelude.{◌≡◌, ◌≤◌, false, length, take, Some};
 ghost use Rattle.std.specs.Io.KnownBytes.{Consumes};
 ghost use Rattle.rtl_sink.specs.Read.{ReaderState, EndsOrFails, StaysFailed};
 
@@ -64,5 +64,22 @@ impl<R: Read> Reader for In<R> {
 
     fn failed(&self) -> bool {
         self.failed
+    }
+}
+
+/// Bytes in memory, which never fail.
+impl Reader for &[u8] {
+    ghost state = { λ s. record { left = Some s.now; failed = false } };
+
+    fn get(&mut self, buffer: &mut [u8]) -> usize {
+        let count = buffer.len().min(self.len());
+        let (part, rest) = self.split_at(count);
+        buffer[..count].copy_from_slice(part);
+        *self = rest;
+        count
+    }
+
+    fn failed(&self) -> bool {
+        false
     }
 }
