@@ -1,14 +1,17 @@
-//! Where printed text goes: a sink takes bytes in order, or has failed.
+//! Where printed text goes, and where an input comes from: a sink takes bytes in order, and a reader gives
+//! them, until it fails.
 //!
-//! `specs/Written.antt` has the words in which contracts say what was written.
+//! `specs/Written.antt` and `specs/Read.antt` have the words in which contracts say what was written and read.
 #![tactic(auto)]
 
+mod reader;
 mod sink;
 #[cfg(test)]
 mod tests;
 mod texts;
 mod writer;
 
+pub use reader::{In, Reader};
 pub use sink::{Sink, WriteFailed};
 pub use texts::{finish, push_line, push_number, push_text};
 pub use writer::Out;

@@ -1,10 +1,3 @@
-pub mod Found
-pub mod Plain
-pub mod Answering
-pub mod Solving
-pub mod Evaluating
-pub mod Driving
-pub mod Tables
-pub mod Giving
-pub mod Rows
 pub mod Refusing
+pub mod Reading
+pub mod Telling

@@ -5,12 +5,12 @@ use Rattle.vhdl_lexer.specs.declared.fault.LexFault.{LexFault}
 use Rattle.vhdl_lexer.specs.declared.fault.LexFault.TheVariants as lex
 use Rattle.vhdl_parser.specs.declared.fault.SyntaxFault.{SyntaxFault}
 use Rattle.vhdl_parser.specs.declared.fault.SyntaxFault.TheVariants as syntax
-use Rattle.rtlsim.specs.declared.faults.names.NameFault.{NameFault}
-use Rattle.rtlsim.specs.declared.faults.names.NameFault.TheVariants as names
-use Rattle.rtlsim.specs.declared.faults.elab.ElabFault.{ElabFault}
-use Rattle.rtlsim.specs.declared.faults.elab.ElabFault.TheVariants as elab
-use Rattle.rtlsim.specs.declared.faults.stim.StimFault.{StimFault}
-use Rattle.rtlsim.specs.declared.faults.stim.StimFault.TheVariants as stim
+use Rattle.rtl_plain.specs.declared.faults.names.NameFault.{NameFault}
+use Rattle.rtl_plain.specs.declared.faults.names.NameFault.TheVariants as names
+use Rattle.rtl_plain.specs.declared.faults.elab.ElabFault.{ElabFault}
+use Rattle.rtl_plain.specs.declared.faults.elab.ElabFault.TheVariants as elab
+use Rattle.rtl_plain.specs.declared.faults.stim.StimFault.{StimFault}
+use Rattle.rtl_plain.specs.declared.faults.stim.StimFault.TheVariants as stim
 use Rattle.rtlsim.specs.declared.status.Status.{Status}
 use Rattle.rtlsim.specs.declared.status.Status.TheVariants as status
 

@@ -2,13 +2,13 @@
 use Rattle.std.specs.Prelude.{ℕ, List, [], Option, Some, None, ◌++◌, codes, decimal, flat_map}
 use Rattle.rtlsim.specs.declared.faults.notice.Place.{Place}
 use Rattle.rtlsim.specs.declared.faults.notice.Place.TheVariants.{Nowhere, Byte, Line, Time, Change}
-use Rattle.rtlsim.specs.declared.faults.check.SourceId.{SourceId}
-use Rattle.rtlsim.specs.declared.faults.check.SourceId.TheVariants.{Process, Idle}
-use Rattle.rtlsim.specs.declared.faults.check.CheckFault.{CheckFault}
-use Rattle.rtlsim.specs.declared.faults.check.CheckFault.TheVariants.{TwoDrivers, Mixed, ClockNotInput, EdgeNotSensitive, ClockAsData, MissingSensitivity, Latch, Loop}
+use Rattle.rtl_plain.specs.declared.faults.check.SourceId.{SourceId}
+use Rattle.rtl_plain.specs.declared.faults.check.SourceId.TheVariants.{Process, Idle}
+use Rattle.rtl_plain.specs.declared.faults.check.CheckFault.{CheckFault}
+use Rattle.rtl_plain.specs.declared.faults.check.CheckFault.TheVariants.{TwoDrivers, Mixed, ClockNotInput, EdgeNotSensitive, ClockAsData, MissingSensitivity, Latch, Loop}
 use Rattle.rtlsim.specs.declared.faults.Fault.{Fault}
 use Rattle.rtlsim.specs.declared.faults.Fault.TheVariants.{Lex, Syntax, Name, Elab, Rejected, Stim, NoSettling, Memory, Output}
-use Rattle.rtlsim.specs.DesignNames.{Names}
+use Rattle.rtl_plain.specs.DesignNames.{Names}
 use Rattle.rtlsim.specs.Notices.{Entry, entry, lex_entry, syntax_entry, names_entry, elab_entry, stim_entry}
 
 -- where a fault is found

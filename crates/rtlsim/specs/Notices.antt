@@ -9,12 +9,15 @@ use Rattle.vhdl_lexer.specs.declared.fault.LexFault.TheVariants as lex
 use Rattle.vhdl_parser.specs.Fault as parser
 use Rattle.vhdl_parser.specs.declared.fault.SyntaxFault.{SyntaxFault}
 use Rattle.vhdl_parser.specs.declared.fault.SyntaxFault.TheVariants as syntax
-use Rattle.rtlsim.specs.declared.faults.names.NameFault.{NameFault}
-use Rattle.rtlsim.specs.declared.faults.names.NameFault.TheVariants as names
-use Rattle.rtlsim.specs.declared.faults.elab.ElabFault.{ElabFault}
-use Rattle.rtlsim.specs.declared.faults.elab.ElabFault.TheVariants as elab
-use Rattle.rtlsim.specs.declared.faults.stim.StimFault.{StimFault}
-use Rattle.rtlsim.specs.declared.faults.stim.StimFault.TheVariants as stim
+use Rattle.rtl_plain.specs.NameFaults as name
+use Rattle.rtl_plain.specs.ElabFaults as elaboration
+use Rattle.rtl_plain.specs.StimFaults as stimulus
+use Rattle.rtl_plain.specs.declared.faults.names.NameFault.{NameFault}
+use Rattle.rtl_plain.specs.declared.faults.names.NameFault.TheVariants as names
+use Rattle.rtl_plain.specs.declared.faults.elab.ElabFault.{ElabFault}
+use Rattle.rtl_plain.specs.declared.faults.elab.ElabFault.TheVariants as elab
+use Rattle.rtl_plain.specs.declared.faults.stim.StimFault.{StimFault}
+use Rattle.rtl_plain.specs.declared.faults.stim.StimFault.TheVariants as stim
 
 pub record Entry : Type 0 where
   pub layer : List ℕ
@@ -59,41 +62,15 @@ abbrev pub syntax_entry : SyntaxFault → Option Entry
 syntax_entry fault = byte_entry (codes "syntax") (parser.fault_number fault) (syntax_name fault) (parser.fault_byte fault)
 
 abbrev pub names_entry : NameFault → Option Entry
-names_entry (names.Undeclared at) = some_entry (codes "name") 1 (codes "Undeclared") (Byte at)
-names_entry (names.Twice at) = some_entry (codes "name") 2 (codes "Twice") (Byte at)
-names_entry (names.WrongKind at) = some_entry (codes "name") 3 (codes "WrongKind") (Byte at)
-names_entry (names.TypeMismatch at) = some_entry (codes "name") 4 (codes "TypeMismatch") (Byte at)
-names_entry (names.NotVisible at) = some_entry (codes "name") 5 (codes "NotVisible") (Byte at)
-names_entry (names.WriteOfIn at) = some_entry (codes "name") 6 (codes "WriteOfIn") (Byte at)
-names_entry (names.NoOthers at) = some_entry (codes "name") 7 (codes "NoOthers") (Byte at)
-names_entry (names.ChoiceTwice at) = some_entry (codes "name") 8 (codes "ChoiceTwice") (Byte at)
-names_entry (names.SecondArchitecture at) = some_entry (codes "name") 9 (codes "SecondArchitecture") (Byte at)
-names_entry (names.NoSensitivity at) = some_entry (codes "name") 10 (codes "NoSensitivity") (Byte at)
-names_entry (names.LeftOut at) = some_entry (codes "name") 11 (codes "LeftOut") (Byte at)
+names_entry (names.At problem at) = some_entry (codes "name") (name.number_of problem) (name.title_of problem) (Byte at)
 names_entry names.NoMemory = None
 
 abbrev pub elab_entry : ElabFault → Option Entry
-elab_entry (elab.NoTop at) = some_entry (codes "elab") 1 (codes "NoTop") (Byte at)
-elab_entry (elab.NoGeneric at) = some_entry (codes "elab") 2 (codes "NoGeneric") (Byte at)
-elab_entry (elab.GenericRange at) = some_entry (codes "elab") 3 (codes "GenericRange") (Byte at)
-elab_entry (elab.StaticError at) = some_entry (codes "elab") 4 (codes "StaticError") (Byte at)
-elab_entry (elab.Length at) = some_entry (codes "elab") 5 (codes "Length") (Byte at)
-elab_entry (elab.Index at) = some_entry (codes "elab") 6 (codes "Index") (Byte at)
-elab_entry (elab.TooWide at) = some_entry (codes "elab") 7 (codes "TooWide") (Byte at)
-elab_entry (elab.Unassociated at) = some_entry (codes "elab") 8 (codes "Unassociated") (Byte at)
-elab_entry (elab.TwoUnresolved at) = some_entry (codes "elab") 9 (codes "TwoUnresolved") (Byte at)
-elab_entry (elab.ReadOfShared at) = some_entry (codes "elab") 10 (codes "ReadOfShared") (Byte at)
-elab_entry (elab.TooDeep at) = some_entry (codes "elab") 11 (codes "TooDeep") (Byte at)
-elab_entry (elab.TooMany at) = some_entry (codes "elab") 12 (codes "TooMany") (Byte at)
+elab_entry (elab.At problem at) = some_entry (codes "elab") (elaboration.number_of problem) (elaboration.title_of problem) (Byte at)
 elab_entry elab.NoMemory = None
 
 abbrev pub stim_entry : StimFault → Option Entry
-stim_entry (stim.BadLine line) = some_entry (codes "stim") 1 (codes "BadLine") (Line line)
-stim_entry (stim.NotAnInput line) = some_entry (codes "stim") 2 (codes "NotAnInput") (Line line)
-stim_entry (stim.BadValue line) = some_entry (codes "stim") 3 (codes "BadValue") (Line line)
-stim_entry (stim.SetTwice line) = some_entry (codes "stim") 4 (codes "SetTwice") (Line line)
-stim_entry (stim.ClockAndSet line) = some_entry (codes "stim") 5 (codes "ClockAndSet") (Line line)
+stim_entry (stim.InLine problem line) = some_entry (codes "stim") (stimulus.number_of problem) (stimulus.title_of problem) (Line line)
 stim_entry stim.NoStop = some_entry (codes "stim") 6 (codes "NoStop") Nowhere
-stim_entry (stim.TimeTooLarge line) = some_entry (codes "stim") 7 (codes "TimeTooLarge") (Line line)
 stim_entry (stim.Race time input clock) = some_entry (codes "stim") 8 (codes "Race") (Change time input clock)
 stim_entry stim.NoMemory = None

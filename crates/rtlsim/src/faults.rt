@@ -4,22 +4,15 @@ ghost use Rattle.std.specs.Prelude.{◌≡◌};
 ghost use Rattle.rtlsim.specs.Faults.{of_lex, of_syntax, of_names, of_elab, of_stim};
 ghost use Rattle.rtlsim.specs.declared.faults.Fault.TheVariants.{Memory, Output};
 
-mod check;
-mod elab;
-mod names;
+mod layers;
 mod notice;
-mod source;
-mod stim;
 
 use crate::status::Status;
-pub use check::{CheckFault, SourceId};
-pub use elab::ElabFault;
-pub use names::NameFault;
+pub(crate) use layers::{elab_notice, lex_notice, name_notice, stim_notice, syntax_notice};
 pub use notice::{Notice, Place};
+use rtl_plain::{CheckFault, ElabFault, NameFault, StimFault};
 use rtl_sink::WriteFailed;
-pub(crate) use source::{lex_notice, syntax_notice};
 use std::alloc::{AllocError, AllocFailed};
-pub use stim::StimFault;
 use thiserror::Error;
 use vhdl_lexer::LexFault;
 use vhdl_parser::SyntaxFault;
@@ -59,6 +52,17 @@ pub enum Fault {
 impl Fault {
     ghost use Rattle.std.specs.Prelude.{◌≡◌};
     ghost use Rattle.rtlsim.specs.Faults.{status_of};
+    ghost use Rattle.rtlsim.specs.Opens.{has_names};
+
+    /// Whether its line names nets or processes of the design.
+    pub(crate) fn has_names(&self) -> bool
+        ensures { result ≡ has_names self.now }
+    {
+        matches!(
+            self,
+            Fault::Rejected(_) | Fault::Stim(StimFault::Race { .. })
+        )
+    }
 
     /// The status with which the program ends.
     pub fn status(&self) -> Status

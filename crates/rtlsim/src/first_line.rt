@@ -3,40 +3,64 @@
 ghost use Rattle.std.specs.Prelude.{◌≡◌, ◌<◌, ◌==◌, not, filter, IfOk, IfErr, IfSome, IsUtf8, length, map, position};
 ghost use Rattle.std.specs.List.{before_first, after_first, slice_split};
 ghost use Rattle.rtl_sink.specs.Written.{IsIntact};
-ghost use Rattle.rtlsim.specs.Tools.{ServesFirstLine, ServesLine, ends_line, words_in};
-ghost use Rattle.rtlsim.specs.Words.{IsOfWords};
+ghost use Rattle.rtl_words.specs.Words.{IsOfWords};
+ghost use Rattle.rtlsim.specs.Inputs.{GivesStandard, GivesStandardAlone};
+ghost use Rattle.rtlsim.specs.Tools as tools;
+ghost use Rattle.rtlsim.specs.Tools.{ServesFirstLine, ServesLine, ends_line, first_line_of, words_in};
 ghost use Rattle.rtlsim.specs.declared.status.Status.{Status};
 
-use crate::inputs::{Inputs, Named, read_input};
+use crate::inputs::{Inputs, Named, Standard, read_input};
+use crate::program::{refuse_input, refuse_words, tool_with};
 use crate::status::Status;
-use crate::tools::{refuse_input, refuse_words, tool_with};
-use crate::words::Refused;
-use rtl_sink::Sink;
+use rtl_sink::{Reader, Sink};
+use rtl_words::Refused;
 use std::alloc::{AllocError, Global};
-use std::io::Read;
 use std::rt::Files;
 
-/// Does what the words of the first line ask for, cut at runs of spaces, as `tool_with` does; `@` is what
-/// stands after that line. Where the input can't be read, or the line isn't UTF-8, it tells so.
-pub fn tool_first_line<F: Files, R: Read + Drop, O: Sink, E: Sink>(
+/// The program without words: does what the words of the first line of the input ask for, cut at runs of
+/// spaces, as `tool_with` does; `@` is what stands after that line. Where the input can't be read, or the
+/// line isn't UTF-8, it tells so.
+pub fn tool_first_line<F: Files, R: Reader, O: Sink, E: Sink>(
     alloc: Global,
     files: &F,
-    mut reader: R,
+    reader: &mut R,
     out: &mut O,
     err: &mut E,
 ) -> Status
     requires out { IsIntact (O.state out.old) }
     requires err { IsIntact (E.state err.old) }
-    ensures { ServesFirstLine (R.remaining reader) result
+    ensures { ServesFirstLine GivesStandard (R.state reader.old) (R.state reader.new) result
         (record { out = O.state out.old; out_after = O.state out.new; err = E.state err.old; err_after = E.state err.new }) }
 {
-    match read_input(alloc, &mut reader) {
+    match read_input(alloc, reader) {
         Ok(all) => {
             let (line, rest) = first_line(&all);
             let mut inputs = Named {
                 files,
                 reader: rest,
             };
+            serve_line(alloc, line, &mut inputs, out, err)
+        }
+        Err(fault) => refuse_input(fault, out, err),
+    }
+}
+
+/// The same, where `@` is the only file.
+pub(crate) fn serve_reader_line<R: Reader, O: Sink, E: Sink>(
+    alloc: Global,
+    reader: &mut R,
+    out: &mut O,
+    err: &mut E,
+) -> Status
+    requires out { IsIntact (O.state out.old) }
+    requires err { IsIntact (E.state err.old) }
+    ensures { ServesFirstLine GivesStandardAlone (R.state reader.old) (R.state reader.new) result
+        (record { out = O.state out.old; out_after = O.state out.new; err = E.state err.old; err_after = E.state err.new }) }
+{
+    match read_input(alloc, reader) {
+        Ok(all) => {
+            let (line, rest) = first_line(&all);
+            let mut inputs = Standard { reader: rest };
             serve_line(alloc, line, &mut inputs, out, err)
         }
         Err(fault) => refuse_input(fault, out, err),
@@ -96,8 +120,27 @@ fn filled<'a>(alloc: Global, pieces: &[&'a str]) -> Result<Vec<&'a str>, AllocEr
     Ok(words)
 }
 
-/// The bytes before the first line feed, and those after it.
+/// The first line, without its end, and what stands behind it.
 fn first_line(all: &[u8]) -> (&[u8], &[u8])
+    ensures line { result.0.now ≡ first_line_of all.now }
+    ensures rest { result.1.now ≡ after_first ends_line all.now }
+{
+    let (line, rest) = cut_line(all);
+    (without_return(line), rest)
+}
+
+/// A line without the carriage return at its end.
+fn without_return(line: &[u8]) -> &[u8]
+    ensures { result.now ≡ tools.without_return line.now }
+{
+    match line {
+        [front @ .., b'\r'] => front,
+        _ => line,
+    }
+}
+
+/// The bytes before the first line feed, and those after it.
+fn cut_line(all: &[u8]) -> (&[u8], &[u8])
     ensures line { result.0.now ≡ before_first ends_line all.now }
     ensures rest { result.1.now ≡ after_first ends_line all.now }
 {

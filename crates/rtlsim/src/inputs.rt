@@ -1,12 +1,13 @@
 //! The files that the words of the command line name.
 
-ghost use Rattle.std.specs.Prelude.{◌≡◌, ◌≤◌, ℕ, List, Option, Some, None, IfOk, IfErr, IfSome, length};
-ghost use Rattle.rtlsim.specs.Inputs.{GivesStandard, GivesStandardAlone};
+ghost use Rattle.std.specs.Prelude.{◌≡◌, ◌≤◌, ℕ, List, Option, Some, None, IfOk, IfErr, length};
+ghost use Rattle.rtlsim.specs.Inputs.{GivesWhole, GivesStandard, GivesStandardAlone, greatest_input};
 ghost use Rattle.rtlsim.specs.declared.inputs.InputFault.TheVariants.{Failed, NoMemory};
 
+use rtl_sink::{In, Reader};
 use std::alloc::{AllocError, Global};
 use std::fs;
-use std::io::{ErrorKind, Read};
+use std::io::ErrorKind;
 use std::rt::Files;
 use thiserror::Error;
 
@@ -44,18 +45,18 @@ pub trait Inputs {
     /// or is longer, and `NoMemory` where memory was refused.
     fn read(&mut self, alloc: Global, name: &str) -> Result<Vec<u8>, InputFault>
         ensures whole { IfOk result (λ all. gives self.old name.now (Some all.items) self.new) }
-        ensures short { IfOk result (λ all. length all.items ≤ MAX_INPUT) }
+        ensures short { IfOk result (λ all. length all.items ≤ greatest_input) }
         ensures failed { IfErr result (λ fault. fault ≡ Failed → gives self.old name.now None self.new) };
 }
 
 /// The standard input alone.
 #[derive(Drop)]
-pub struct Standard<R: Read> {
+pub struct Standard<R: Reader> {
     pub reader: R,
 }
 
-impl<R: Read> Inputs for Standard<R> {
-    ghost gives = { λ s name given _. GivesStandardAlone (R.remaining s.reader) name given };
+impl<R: Reader> Inputs for Standard<R> {
+    ghost gives = { λ s name given t. GivesStandardAlone (R.state s.reader) (R.state t.reader) name given };
 
     fn read(&mut self, alloc: Global, name: &str) -> Result<Vec<u8>, InputFault> {
         if name != "@" {
@@ -67,41 +68,40 @@ impl<R: Read> Inputs for Standard<R> {
 
 /// The standard input and the files of the system.
 #[derive(Drop)]
-pub struct Named<'a, F: Files, R: Read> {
+pub struct Named<'a, F: Files, R: Reader> {
     pub files: &'a F,
     pub reader: R,
 }
 
-impl<F: Files, R: Read> Inputs for Named<'_, F, R> {
-    ghost gives = { λ s name given _. GivesStandard (R.remaining s.reader) name given };
+impl<F: Files, R: Reader> Inputs for Named<'_, F, R> {
+    ghost gives = { λ s name given t. GivesStandard (R.state s.reader) (R.state t.reader) name given };
 
     fn read(&mut self, alloc: Global, name: &str) -> Result<Vec<u8>, InputFault> {
         if name == "@" {
             return read_input(alloc, &mut self.reader);
         }
         match fs::open(self.files, name) {
-            Ok(mut file) => read_input(alloc, &mut file),
+            Ok(file) => read_input(alloc, &mut In::new(file)),
             Err(error) if error.kind() == ErrorKind::OutOfMemory => Err(InputFault::NoMemory),
             Err(_) => Err(InputFault::Failed),
         }
     }
 }
 
-/// Reads to the end, which has to come within `MAX_INPUT` bytes and within as many reads. A read that a
-/// signal interrupts is tried again. `Failed` where a read fails or the end doesn't come, and `NoMemory`
-/// where memory was refused.
-pub fn read_input<R: Read>(alloc: Global, reader: &mut R) -> Result<Vec<u8>, InputFault>
-    ensures whole { IfOk result (λ all. IfSome (R.remaining reader.old) (λ bytes. all.items ≡ bytes)) }
-    ensures short { IfOk result (λ all. length all.items ≤ MAX_INPUT) }
+/// Reads to the end, which has to come within `MAX_INPUT` bytes and within as many reads: `Failed` where
+/// the reader fails or the end doesn't come, and `NoMemory` where memory was refused.
+pub fn read_input<R: Reader>(alloc: Global, reader: &mut R) -> Result<Vec<u8>, InputFault>
+    ensures whole { IfOk result (λ all. GivesWhole (R.state reader.old) (R.state reader.new) (Some all.items)) }
+    ensures short { IfOk result (λ all. length all.items ≤ greatest_input) }
+    ensures failed { IfErr result (λ fault. fault ≡ Failed → GivesWhole (R.state reader.old) (R.state reader.new) None) }
 {
     let mut all = Vec::new(alloc);
     let mut part = [0u8; PART];
     for _ in 0..MAX_INPUT {
-        let count = match reader.read(&mut part) {
-            Ok(count) => count,
-            Err(error) if error.kind() == ErrorKind::Interrupted => continue,
-            Err(_) => return Err(InputFault::Failed),
-        };
+        let count = reader.get(&mut part);
+        if reader.failed() {
+            return Err(InputFault::Failed);
+        }
         if count == 0 {
             return Ok(all);
         }

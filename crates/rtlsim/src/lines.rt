@@ -3,23 +3,15 @@
 ghost use Rattle.std.specs.Prelude.{◌≡◌, ◌++◌, codes, decimal, flat_map};
 ghost use Rattle.std.specs.Option.{option_map};
 ghost use Rattle.rtl_sink.specs.Written.{Goes};
-ghost use Rattle.rtlsim.specs.DesignNames.{Names, no_names};
+ghost use Rattle.rtl_plain.specs.DesignNames.{no_names};
 ghost use Rattle.rtlsim.specs.Notices.{entry_of};
 ghost use Rattle.rtlsim.specs.Lines.{place_text, notice_line, told_line, source_text, at_net, check_line, rejection_lines, fault_lines, memory_line};
 
-use crate::faults::{CheckFault, Fault, Notice, Place, SourceId, lex_notice, syntax_notice};
+use crate::faults::{
+    Fault, Notice, Place, elab_notice, lex_notice, name_notice, stim_notice, syntax_notice,
+};
+use rtl_plain::{CheckFault, DesignNames, SourceId};
 use rtl_sink::{Sink, push_number, push_text};
-
-/// Writes the names of a design's nets and processes.
-pub(crate) trait DesignNames {
-    ghost names: { Self → Names };
-
-    fn push_net<S: Sink>(&self, sink: &mut S, net: usize)
-        ensures { Goes (S.state sink.old) (S.state sink.new) ((names self.now).net net) };
-
-    fn push_process<S: Sink>(&self, sink: &mut S, process: usize)
-        ensures { Goes (S.state sink.old) (S.state sink.new) ((names self.now).process process) };
-}
 
 /// Before a design stands.
 pub(crate) struct NoDesign;
@@ -39,10 +31,10 @@ pub(crate) fn push_fault<S: Sink, N: DesignNames>(sink: &mut S, design: &N, faul
     match fault {
         Fault::Lex(lex) => push_notice(sink, design, lex_notice(lex)),
         Fault::Syntax(syntax) => push_notice(sink, design, syntax_notice(syntax)),
-        Fault::Name(names) => push_notice(sink, design, names.notice()),
-        Fault::Elab(elab) => push_notice(sink, design, elab.notice()),
+        Fault::Name(names) => push_notice(sink, design, name_notice(names)),
+        Fault::Elab(elab) => push_notice(sink, design, elab_notice(elab)),
         Fault::Rejected(faults) => push_rejection(sink, design, faults),
-        Fault::Stim(stim) => push_notice(sink, design, stim.notice()),
+        Fault::Stim(stim) => push_notice(sink, design, stim_notice(stim)),
         Fault::NoSettling { time } => {
             let notice = Notice::some("settle", 1, "NoSettling", Place::Time(*time));
             push_notice(sink, design, notice)

@@ -1,13 +1,13 @@
 use Rattle.rtlsim.proofs.lines.push_fault.Goals as goal
 
 pub returns-in-Name : goal.returns-in-Name
-returns-in-Name g c = rw c.in-Name.is (rw c.notice.ensures at c.push_notice-in-Name.ensures)
+returns-in-Name g c = rw c.in-Name.is (rw c.name_notice.ensures at c.push_notice-in-Name.ensures)
 
 pub returns-in-Elab : goal.returns-in-Elab
-returns-in-Elab g c = rw c.in-Elab.is (rw c.notice-in-Elab.ensures at c.push_notice-in-Elab.ensures)
+returns-in-Elab g c = rw c.in-Elab.is (rw c.elab_notice.ensures at c.push_notice-in-Elab.ensures)
 
 pub returns-in-Stim : goal.returns-in-Stim
-returns-in-Stim g c = rw c.in-Stim.is (rw c.notice-in-Stim.ensures at c.push_notice-in-Stim.ensures)
+returns-in-Stim g c = rw c.in-Stim.is (rw c.stim_notice.ensures at c.push_notice-in-Stim.ensures)
 
 pub returns-in-NoSettling : goal.returns-in-NoSettling
 returns-in-NoSettling g c = rw c.in-NoSettling.is (rw c.some-notice.ensures at c.push_notice-in-NoSettling.ensures)

@@ -1,0 +1,63 @@
+-- Chains of operators, as contracts see them.
+use Rattle.std.proofs.Common.{◌≡◌, List, [], ◌∷◌, ◌++◌, map, Option, Some, None, Vec, Box, Global, refl, ap, ◌∙◌, sym, ℕ, suc, ◌<◌, length, get_or, drop, drop-cons}
+use mathlib.Core.Former.{Count}
+use Rattle.vhdl_tree.specs.Tree as t
+use Rattle.vhdl_tree.specs.View as s
+use Rattle.vhdl_tree.specs.declared.expression.Expr.{Expr}
+use Rattle.vhdl_tree.specs.declared.expression.Expr.TheVariants as e
+use Rattle.vhdl_tree.specs.declared.expression.Link.{Link}
+use Rattle.vhdl_tree.proofs.Rows.{view_chain}
+use Rattle.rtl_plain.specs.declared.design.Value as v
+use Rattle.rtl_plain.specs.declared.design.Value.{Value}
+use Rattle.rtl_plain.specs.declared.design.Link as m
+use Rattle.rtl_plain.specs.Design as d
+use Rattle.rtl_plain.specs.NameRules as n
+use Rattle.rtl_plain.specs.Rules.{◌>>=◌}
+use Rattle.rtl_plain.specs.steps.View.{value_view, value_row_view, chained, linked, all_linked}
+
+-- ---- values
+value_links_row : (acc : d.Value) (n : Count) (row : v.Row_of-Link n) → value_row_view acc row ≡ chained acc (v.items-the_row-Link n row)
+value_links_row acc n v.end_of-Link = refl
+value_links_row acc n (v.more_of-Link operator operand rest) = value_links_row (d.binary operator acc (value_view operand)) _ rest
+
+abbrev value_row_of : Value → (n : Count) × v.Row_of-Link n
+value_row_of (v.Chain' p first shape row) = (_, row)
+value_row_of _ = (_, v.end_of-Link)
+
+pub chain_rows : (first : Box Value Global) (rest : Vec m.Link Global) → value_view (v.Chain first rest) ≡ chained (value_view first.value) rest.items
+chain_rows first rest =
+    let row = value_row_of (v.Chain first rest) in
+    value_links_row (value_view first.value) row.0 row.1 ∙ ap (chained (value_view first.value)) (v.items_hidden-the_row-Link-0 rest)
+
+pub chained-push : (acc : d.Value) (ls : List m.Link) (l : m.Link) → chained acc (ls ++ l ∷ []) ≡ d.binary l.operator (chained acc ls) (value_view l.operand)
+chained-push acc [] l = refl
+chained-push acc (k ∷ ls) l = chained-push (d.binary k.operator acc (value_view k.operand)) ls l
+
+pub chained-binary : (acc : d.Value) (ls ls' : List m.Link) (l : m.Link) → ls' ≡ ls ++ l ∷ [] → chained acc ls' ≡ d.binary l.operator (chained acc ls) (value_view l.operand)
+chained-binary acc ls ls' l h = ap (chained acc) h ∙ chained-push acc ls l
+
+-- ---- expressions
+
+linked_value : (ports : List d.Port) (x : t.Expr) (l : Link) → n.value ports (t.binary l.operator l.at x (s.view l.operand)) ≡ linked ports (n.value ports x) l
+unfolding n.value
+linked_value ports x l = go (n.value ports x)
+  where
+    go : (o : Option d.Value) → (o >>= λ v. (n.value ports (s.view l.operand) >>= λ w. n.operated l.operator v w)) ≡ linked ports o l
+    go None = refl
+    go (Some v) = refl
+
+pub value-chained : (ports : List d.Port) (x : t.Expr) (ls : List Link) → n.value ports (t.chained x (map s.pair_view ls)) ≡ all_linked ports (n.value ports x) ls
+value-chained ports x [] = refl
+value-chained ports x (l ∷ ls) = value-chained ports (t.joined x (s.pair_view l)) ls ∙ ap (λ o. all_linked ports o ls) (linked_value ports x l)
+
+pub all_linked_none : (ports : List d.Port) (ls : List Link) → all_linked ports None ls ≡ None
+all_linked_none ports [] = refl
+all_linked_none ports (l ∷ ls) = all_linked_none ports ls
+
+pub value-chain : (ports : List d.Port) (first : Box Expr Global) (rest : Vec Link Global) → n.value ports (s.view (e.Chain first rest)) ≡ all_linked ports (n.value ports (s.view first.value)) rest.items
+value-chain ports first rest = ap (n.value ports) (view_chain first rest) ∙ value-chained ports (s.view first.value) rest.items
+
+-- a link that gives nothing leaves nothing
+pub link_fails : (ports : List d.Port) (whole : Option d.Value) (v : d.Value) (ls : List Link) (i : ℕ) (l : Link) → whole ≡ all_linked ports (Some v) (drop i ls) → i < length ls → l ≡ get_or ls i l → linked ports (Some v) l ≡ None → whole ≡ None
+link_fails ports whole v ls i l h lt e f =
+    h ∙ ap (all_linked ports (Some v)) (drop-cons ls i l lt) ∙ ap (λ k. all_linked ports (linked ports (Some v) k) (drop (suc i) ls)) (sym e) ∙ ap (λ o. all_linked ports o (drop (suc i) ls)) f ∙ all_linked_none ports (drop (suc i) ls)

@@ -1,0 +1,10 @@
+use Rattle.std.proofs.Common.{◌≡◌, map, drop}
+use Rattle.rtl_plain.specs.NameRules as rules
+use Rattle.vhdl_tree.specs.View as tree
+use Rattle.rtl_plain.specs.steps.View.{ports_view}
+use Rattle.rtl_plain.specs.Rules.{in_turn}
+use Rattle.rtl_plain.proofs.names.region.declare_all.Given as goal
+
+-- what is left, on what is done, gives the whole
+abbrev pub invariant-loop-name : goal.invariant-loop-name
+invariant-loop-name l = in_turn (rules.declare l.port.mode l.port.is_resolved) (ports_view l.initial.ports) (map tree.ident_view l.names) ≡ in_turn (rules.declare l.port.mode l.port.is_resolved) (ports_view l.ports) (map tree.ident_view (drop l.name-index l.names))

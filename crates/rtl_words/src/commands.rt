@@ -1,0 +1,69 @@
+//! The commands, as clap reads them.
+
+use clap::{Arg, ArgAction, Command};
+use std::alloc::{AllocError, Global};
+
+/// The orders of a run.
+static ORDERS: [&str; 2] = ["forward", "reverse"];
+
+/// The commands.
+pub fn command<'a>(alloc: Global) -> Result<Command<'a>, AllocError> {
+    let net = design_command(alloc, "net", "Prints the nets and what drives each")?;
+    let check = design_command(alloc, "check", "Says whether the design settles")?;
+    Command::new(alloc, "rtlsim")
+        .about("Simulates the register-transfer subset of VHDL")
+        .after_help("FILE or STIM may be @, the standard input.")
+        .no_binary_name(true)
+        .subcommand_required(true)
+        .subcommand(eval_command(alloc)?)?
+        .subcommand(net)?
+        .subcommand(check)?
+        .subcommand(run_command(alloc)?)
+}
+
+/// An operand that has to be there.
+fn operand<'a>(alloc: Global, name: &'a str, help: &'a str) -> Arg<'a> {
+    Arg::new(alloc, name)
+        .help(help)
+        .required(true)
+        .action(ArgAction::Set)
+}
+
+/// A command on a design.
+fn design_command<'a>(
+    alloc: Global,
+    name: &'a str,
+    about: &'a str,
+) -> Result<Command<'a>, AllocError> {
+    Command::new(alloc, name)
+        .about(about)
+        .arg(operand(alloc, "FILE", "The source, or @ for the standard input"))?
+        .arg(operand(alloc, "TOP", "The entity at the top"))
+}
+
+/// The command that evaluates a design.
+fn eval_command<'a>(alloc: Global) -> Result<Command<'a>, AllocError> {
+    let sets = Arg::new(alloc, "NAME=VALUE")
+        .help("An input's value, of the characters U X 0 1 Z W L H -")
+        .num_args(0..)
+        .action(ArgAction::Append);
+    design_command(alloc, "eval", "Prints the outputs under these inputs")?
+        .override_usage("rtlsim eval <FILE> <TOP> [NAME=VALUE]...")
+        .arg(sets)
+}
+
+/// The command that simulates a design.
+fn run_command<'a>(alloc: Global) -> Result<Command<'a>, AllocError> {
+    let event = Arg::new(alloc, "event")
+        .long("event")
+        .help("Simulates by events alone, without the checker")
+        .action(ArgAction::SetTrue);
+    let order = Arg::new(alloc, "order")
+        .long("order")
+        .help("The order in which resumed processes run")
+        .value_parser(ORDERS.as_slice());
+    design_command(alloc, "run", "Prints the trace under a stimulus")?
+        .arg(operand(alloc, "STIM", "The stimulus, or @ for the standard input"))?
+        .arg(event)?
+        .arg(order)
+}

@@ -1,5 +1,0 @@
-use Rattle.rtlsim.proofs.Solving.{solution, the_solution}
-use Rattle.rtlsim.proofs.laws.exactly_one_valuation_solves.Goals as goal
-
-pub returns : goal.returns
-returns c = λ d plain none inputs. (solution d inputs, the_solution d plain none inputs)
