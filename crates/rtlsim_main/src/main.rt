@@ -3,7 +3,7 @@
 
 ghost use Rattle.rtl_sink.specs.Written.{IsIntact};
 
-use rtl_sink::{Out, Sink, push_text};
+use rtl_sink::{In, Out, Sink, push_text};
 use rtlsim::{Named, Status, tool_first_line, tool_with};
 use std::alloc::{AllocError, Global};
 use std::env;
@@ -15,27 +15,47 @@ fn main(rt: HostRuntime) -> ExitCode {
     ExitCode::from(run(&rt, rt.reader(), rt.stdout(), rt.stderr()).code())
 }
 
-/// Runs the program, and sees that all that it printed goes out.
+/// Runs the program, and sees that all that it told goes out, in as few writes as it can.
 fn run<T: Files + Env + AllocGlobal, R: Read + Drop, O: Write + Drop, E: Write + Drop>(
     rt: &T,
     reader: R,
     stdout: O,
-    stderr: E,
+    mut stderr: E,
 ) -> Status {
-    let mut err = Out::new(stderr);
+    let Ok(writer) = BufWriter::new(rt.alloc(), &mut stderr) else {
+        return refuse(
+            Status::Memory,
+            b"rtlsim: memory\n",
+            &mut Out::new(&mut stderr),
+        );
+    };
+    let mut err = Out::new(writer);
+    let status = run_out(rt, reader, stdout, &mut err);
+    match err.into_inner().flush() {
+        Err(_) => Status::Failed,
+        Ok(()) => status,
+    }
+}
+
+/// Runs the program, and sees that all that it printed goes out.
+fn run_out<T: Files + Env + AllocGlobal, R: Read + Drop, O: Write + Drop, E: Sink>(
+    rt: &T,
+    reader: R,
+    stdout: O,
+    err: &mut E,
+) -> Status
+    requires { IsIntact (E.state err.old) }
+{
     let Ok(writer) = BufWriter::new(rt.alloc(), stdout) else {
-        return refuse(Status::Memory, b"rtlsim: memory\n", &mut err);
+        return refuse(Status::Memory, b"rtlsim: memory\n", err);
     };
     let mut out = Out::new(writer);
     let status = match words_of(rt) {
-        Ok(words) if words.is_empty() => {
-            tool_first_line(rt.alloc(), rt, reader, &mut out, &mut err)
-        }
-        Ok(words) => run_words(rt, &words, reader, &mut out, &mut err),
-        Err(Status::Memory) => refuse(Status::Memory, b"rtlsim: memory\n", &mut err),
-        Err(status) => refuse(status, b"error: the words are not UTF-8\n", &mut err),
+        Ok(words) => run_words(rt, &words, reader, &mut out, err),
+        Err(Status::Memory) => refuse(Status::Memory, b"rtlsim: memory\n", err),
+        Err(status) => refuse(status, b"error: the words are not UTF-8\n", err),
     };
-    flush(out, status, &mut err)
+    flush(out, status, err)
 }
 
 /// The words after the program's name, or the status where there are none to be had.
@@ -54,7 +74,7 @@ fn words_of<T: Env + AllocGlobal>(rt: &T) -> Result<Vec<String>, Status> {
     Ok(words)
 }
 
-/// Does what the words ask for.
+/// Does what the words ask for; without words, what the first line of the input asks for.
 fn run_words<T: Files + AllocGlobal, R: Read + Drop, O: Sink, E: Sink>(
     rt: &T,
     args: &[String],
@@ -65,6 +85,10 @@ fn run_words<T: Files + AllocGlobal, R: Read + Drop, O: Sink, E: Sink>(
     requires out { IsIntact (O.state out.old) }
     requires err { IsIntact (E.state err.old) }
 {
+    let mut reader = In::new(reader);
+    if args.is_empty() {
+        return tool_first_line(rt.alloc(), rt, &mut reader, out, err);
+    }
     let Ok(words) = texts_of(rt.alloc(), args) else {
         return refuse(Status::Memory, b"rtlsim: memory\n", err);
     };
