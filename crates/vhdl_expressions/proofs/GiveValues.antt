@@ -68,7 +68,7 @@ head (named n suffix attribute) = k.Identifier
 head (parens at inner) = k.LeftParen
 head (negation at operand) = k.Not
 head (signed sign at operand) = sign_kind sign
-head (binary op at left right) = head left
+head (binary b op at left right) = head left
 
 head_is : (e : Expr) (ps : List Piece) (next : Option Kind) → front (spell e ++ ps) next ≡ Some (head e)
 head_is (integer at text) ps next = refl
@@ -79,7 +79,7 @@ head_is (named n suffix attribute) ps next = refl
 head_is (parens at inner) ps next = refl
 head_is (negation at operand) ps next = refl
 head_is (signed sign at operand) ps next = refl
-head_is (binary op at left right) ps next = ap (λ qs. front qs next) (append_assoc (spell left) (one_at (kind_of op) at ∷ spell right) ps) ∙ head_is left ((one_at (kind_of op) at ∷ spell right) ++ ps) next
+head_is (binary b op at left right) ps next = ap (λ qs. front qs next) (append_assoc (spell left) (one_at (kind_of op) at ∷ spell right) ps) ∙ head_is left ((one_at (kind_of op) at ∷ spell right) ++ ps) next
 
 abbrev begins : Kind → Bool
 begins k.Others = false
@@ -96,7 +96,7 @@ head_begins (parens at inner) = refl
 head_begins (negation at operand) = refl
 head_begins (signed Plus at operand) = refl
 head_begins (signed Minus at operand) = refl
-head_begins (binary op at left right) = head_begins left
+head_begins (binary b op at left right) = head_begins left
 
 not_head : (kind : Kind) (e : Expr) → begins kind ≡ false → same_kind (head e) kind ≡ false
 not_head kind e h = by (same_kind (head e) kind) refl
@@ -118,7 +118,7 @@ second (named n (sliced left direction right) attribute) f = Some k.LeftParen
 second (parens at inner) f = Some (head inner)
 second (negation at operand) f = Some (head operand)
 second (signed sign at operand) f = Some (head operand)
-second (binary op at left right) f = second left (Some (kind_of op))
+second (binary b op at left right) f = second left (Some (kind_of op))
 
 abbrev pub behind : List Piece → Option Kind → Option Kind
 behind [] next = None
@@ -136,7 +136,7 @@ second_is (named n (sliced left direction right) attribute) ps next = refl
 second_is (parens at inner) ps next = ap (λ qs. front qs next) (append_assoc (spell inner) (some k.RightParen ∷ []) ps) ∙ head_is inner (some k.RightParen ∷ ps) next
 second_is (negation at operand) ps next = head_is operand ps next
 second_is (signed sign at operand) ps next = head_is operand ps next
-second_is (binary op at left right) ps next = ap (λ qs. behind qs next) (append_assoc (spell left) (one_at (kind_of op) at ∷ spell right) ps) ∙ second_is left ((one_at (kind_of op) at ∷ spell right) ++ ps) next
+second_is (binary b op at left right) ps next = ap (λ qs. behind qs next) (append_assoc (spell left) (one_at (kind_of op) at ∷ spell right) ps) ∙ second_is left ((one_at (kind_of op) at ∷ spell right) ++ ps) next
 
 -- no expression begins with ( others
 no_others : (e : Expr) (f : Option Kind) → same_kind (head e) k.LeftParen && is_kind k.Others (second e f) ≡ false
@@ -150,7 +150,7 @@ no_others (parens at inner) f = not_head k.Others inner refl
 no_others (negation at operand) f = refl
 no_others (signed Plus at operand) f = refl
 no_others (signed Minus at operand) f = refl
-no_others (binary op at left right) f = no_others left (Some (kind_of op))
+no_others (binary b op at left right) f = no_others left (Some (kind_of op))
 
 operator_no_arrow : (op : Operator) → is_kind k.Arrow (Some (kind_of op)) ≡ false
 unfolding same_kind
@@ -189,7 +189,7 @@ no_formal (parens at inner) f s = refl
 no_formal (negation at operand) f s = refl
 no_formal (signed Plus at operand) f s = refl
 no_formal (signed Minus at operand) f s = refl
-no_formal (binary op at left right) f s = no_formal left (Some (kind_of op)) (operator_no_arrow op)
+no_formal (binary b op at left right) f s = no_formal left (Some (kind_of op)) (operator_no_arrow op)
 
 spell_long : (e : Expr) → 1 ≤ length (spell e)
 spell_long (integer at text) = omega arith
@@ -200,7 +200,7 @@ spell_long (named n suffix attribute) = omega arith
 spell_long (parens at inner) = omega arith
 spell_long (negation at operand) = omega arith
 spell_long (signed sign at operand) = omega arith
-spell_long (binary op at left right) = omega (arith, spell_long left, length-append (spell left) (one_at (kind_of op) at ∷ spell right))
+spell_long (binary b op at left right) = omega (arith, spell_long left, length-append (spell left) (one_at (kind_of op) at ∷ spell right))
 
 -- ---- choices by two tokens
 

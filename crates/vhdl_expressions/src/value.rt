@@ -55,7 +55,7 @@ impl Parser<'_> {
         self.expect(Kind::Arrow)?;
         let element = self.inside(levels)?;
         self.expect(Kind::RightParen)?;
-        Ok(Value::Others(at, element))
+        Ok(Value::Others { at, element })
     }
 
     /// The choices of an alternative (10.9), with bars between, in which so many levels may be opened.
@@ -86,7 +86,9 @@ impl Parser<'_> {
         ensures { Reads choice_view (read.choice levels self.old) result self.new }
     {
         if self.sees(Kind::Others) {
-            Ok(Choice::Others(self.expect(Kind::Others)?))
+            Ok(Choice::Others {
+                at: self.expect(Kind::Others)?,
+            })
         } else {
             Ok(Choice::Expr(self.expr(levels)?))
         }
@@ -142,7 +144,9 @@ impl Parser<'_> {
         ensures { Reads actual_view (read.actual_of levels self.old) result self.new }
     {
         if self.sees(Kind::Open) {
-            Ok(Actual::Open(self.expect(Kind::Open)?))
+            Ok(Actual::Open {
+                at: self.expect(Kind::Open)?,
+            })
         } else {
             Ok(Actual::Expr(self.expr(levels)?))
         }
