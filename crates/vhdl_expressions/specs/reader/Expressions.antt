@@ -12,7 +12,7 @@ use Rattle.vhdl_tree.specs.declared.operator.Direction.{Direction}
 use Rattle.vhdl_tree.specs.declared.operator.Direction.TheVariants.{To, Downto}
 use Rattle.vhdl_tree.specs.grammar.Expressions.{kind_of, repeats, sign_kind, direction_kind}
 use Rattle.vhdl_tree.specs.Tree.{Ident, Expr, integer, character, string, bits, named, parens, negation, signed, Suffix, plain, arguments, sliced, exprs_of, Pair, joined, begun, Name, Range, Value, single, others, Choice, chosen, otherwise, Actual, actual, left_open, Association}
-use Rattle.vhdl_expressions.specs.reader.Input.{Parser, ◌>>=◌, ◌>>◌, ◌<$>◌, pure, refuse, too_deep, is_kind, choose, test, test_both, expect, many, many_from, optional, identifier, text}
+use Rattle.vhdl_expressions.specs.reader.Input.{Parser, ◌>>=◌, ◌>>◌, ◌<$>◌, pure, refuse, too_deep, is_kind, choose, test, test_both, expect, many, many_from, separated, optional, identifier, text}
 use Rattle.vhdl_expressions.specs.reader.Input as input
 
 abbrev pub name_expr : Name → Expr
@@ -254,13 +254,8 @@ value n = test_both k.LeftParen k.Others (others_value n) (single <$> expr n)
 unfoldable pub choice : ℕ → Parser Choice
 choice n = test (is_kind k.Others) (otherwise <$> expect k.Others) (chosen <$> expr n)
 
-unfoldable pub next_choice : ℕ → Parser Choice
-next_choice n = expect k.Bar >> choice n
-
-unfoldable pub choices : ℕ → Parser (List Choice)
-choices n = do
-  first ← choice n
-  many (is_kind k.Bar) (next_choice n) (first ∷ [])
+abbrev pub choices : ℕ → Parser (List Choice)
+choices n = separated k.Bar (choice n)
 
 unfoldable pub formal : Parser Ident
 formal = do
@@ -280,10 +275,5 @@ association n = do
   a ← actual_of n
   pure (record { formal = f; actual = a })
 
-unfoldable pub next_association : ℕ → Parser Association
-next_association n = expect k.Comma >> association n
-
-unfoldable pub associations : ℕ → Parser (List Association)
-associations n = do
-  first ← association n
-  many (is_kind k.Comma) (next_association n) (first ∷ [])
+abbrev pub associations : ℕ → Parser (List Association)
+associations n = separated k.Comma (association n)
