@@ -1,11 +1,11 @@
 -- The operands and arguments in a `Vec`, as contracts see them.
-use Rattle.std.proofs.Common.{◌≡◌, false, List, [], ◌∷◌, ◌++◌, map, Vec, Global, refl, ap, ◌∙◌}
+use Rattle.std.proofs.Common.{◌≡◌, true, false, List, [], ◌∷◌, ◌++◌, map, Vec, Global, refl, sym, ap, ◌∙◌}
 use Rattle.std.proofs.lemmas.List.{map-append}
 use mathlib.Core.Former.{Count}
 use Rattle.vhdl_tree.specs.declared.expression.Expr.{Expr}
-use Rattle.vhdl_tree.specs.declared.expression.Expr.TheBlock.{Row_of-Link, end_of-Link, more_of-Link, items-the_row-Link, items_hidden-the_row-Link-1, hidden-the_row-Link-1, Row_of-Expr, end_of-Expr, more_of-Expr, items-the_row-Expr, hidden-the_row-Expr-0, items_hidden-the_row-Expr-0}
+use Rattle.vhdl_tree.specs.declared.expression.Expr.TheBlock.{Row_of-Link, end_of-Link, more_of-Link, items-the_row-Link, items_hidden-the_row-Link-1, items_shown-the_row-Link-1, hidden-the_row-Link-1, Row_of-Expr, end_of-Expr, more_of-Expr, items-the_row-Expr, hidden-the_row-Expr-0, items_hidden-the_row-Expr-0}
 use Rattle.vhdl_tree.specs.declared.expression.Link.{Link}
-use Rattle.vhdl_tree.specs.declared.expression.Chain.{roll-Chain}
+use Rattle.vhdl_tree.specs.declared.expression.Chain.{Chain, Chain', out-Chain, roll-Chain}
 use Rattle.vhdl_tree.specs.declared.expression.Suffix.TheVariants as s
 use Rattle.vhdl_tree.specs.Tree as tree
 use Rattle.vhdl_tree.specs.View.{view, suffix_view, row_view, chain_view, links_view, exprs_view, pair_view, pairs_view}
@@ -21,6 +21,13 @@ unfolding roll-Chain denote.Hole.Carrier.roll
 view_chain first second rest =
     let left = begun (view first) (pair_view second) in
     links_row left _ (hidden-the_row-Link-1 rest) ∙ ap (λ ls. all_joined left (map pair_view ls)) (items_hidden-the_row-Link-1 rest)
+
+-- a chain by its parts
+pub chain_is : (c : Chain) → chain_view c ≡ chained (view (out-Chain c).first) (pair_view (out-Chain c).second) (pairs_view (out-Chain c).rest)
+unfolding out-Chain denote.Hole.Carrier.out
+chain_is (Chain' first operator at operand shape rest) =
+    let left = tree.binary true operator at (view first) (view operand) in
+    links_row left _ rest ∙ sym (ap (λ ls. all_joined left (map pair_view ls)) (items_shown-the_row-Link-1 shape rest))
 
 exprs_row : (n : Count) (row : Row_of-Expr n) → row_view row ≡ tree.exprs_of (map view (items-the_row-Expr n row))
 exprs_row n end_of-Expr = refl
