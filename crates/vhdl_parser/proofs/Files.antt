@@ -13,7 +13,7 @@ use Rattle.vhdl_tree.specs.grammar.Units.{spell_selected, spell_context, spell_e
 use Rattle.vhdl_expressions.specs.reader.Input.{Outcome, and_then, expect, next_kind, is_kind, is_more, eat, identifier, optional, refusal}
 use Rattle.vhdl_parser.specs.reader.Units.{max_open, selected, selecteds, library_clause, use_clause, context_item, begins_context, entity_unit, architecture_unit, library_unit_by, library_unit, context, unit, units, finish, file}
 use Rattle.vhdl_expressions.proofs.Steps.{bind_ok, bind_err, pure_ok, pure_err}
-use Rattle.vhdl_expressions.proofs.Walks.{Rule, Made, w_pure, w_then, w_last, w_rule, low_at, deep_is}
+use Rattle.vhdl_expressions.proofs.Walks.{Rule, Made, w_pure, w_then, w_last, low_at, deep_is}
 use Rattle.vhdl_expressions.proofs.Rules.{w_at, w_some, w_end, w_ident, w_word, w_option_ident, w_choose, w_refuse, w_test, each_rule, separated_rule}
 use Rattle.vhdl_expressions.proofs.Gives.{Gives, Reaches, Whatever, front, g_pure, g_then, g_map, g_at, g_some, g_ident, g_choose, g_yes, g_no, eat_gives, more_gives, separated_gives}
 use Rattle.vhdl_statements.proofs.Subtypes.{idents_rule, idents_gives, last_gives}

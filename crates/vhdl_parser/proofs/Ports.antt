@@ -1,21 +1,20 @@
 -- Generics and ports: what is read is spelled so, and what is spelled is read.
-use Rattle.std.proofs.Common.{◌≡◌, ℕ, Bool, true, false, List, [], ◌∷◌, Option, Some, None, refl, ap, arith}
+use Rattle.std.proofs.Common.{◌≡◌, ℕ, Bool, true, false, List, [], ◌∷◌, Option, Some, None, refl, arith}
 use Rattle.vhdl_lexer.specs.declared.token.Kind.{Kind}
 use Rattle.vhdl_lexer.specs.declared.token.Kind.TheVariants as k
 use Rattle.vhdl_tree.specs.declared.declaration.Mode.{Mode}
 use Rattle.vhdl_tree.specs.declared.declaration.Mode.TheVariants.{In, Out}
 use Rattle.vhdl_tree.specs.Lexeme.{same_kind}
-use Rattle.vhdl_tree.specs.Tree.{Ident, Expr, Range, Value, Subtype, Generic, Port}
-use Rattle.vhdl_tree.specs.Pieces.{some, word_at, spell_ident, spell_idents, spell_option, spell_list, IsAny, IsList, IsOption}
-use Rattle.vhdl_tree.specs.grammar.Expressions.{IsExpr, IsRange, IsValue}
-use Rattle.vhdl_tree.specs.grammar.Subtypes.{spell_subtype, spell_default, IsSubtype}
+use Rattle.vhdl_tree.specs.Tree.{Ident, Expr, Value, Subtype, Generic, Port}
+use Rattle.vhdl_tree.specs.Pieces.{spell_option, spell_list, IsAny, IsList, IsOption}
+use Rattle.vhdl_tree.specs.grammar.Expressions.{IsExpr, IsValue}
+use Rattle.vhdl_tree.specs.grammar.Subtypes.{IsSubtype}
 use Rattle.vhdl_tree.specs.grammar.Declarations.{spell_generic_default, spell_mode, spell_generic, spell_generics, spell_port, spell_ports, IsGeneric, AreGenerics, IsPort, ArePorts}
-use Rattle.vhdl_expressions.specs.reader.Input.{identifier, is_kind}
+use Rattle.vhdl_expressions.specs.reader.Input.{is_kind}
 use Rattle.vhdl_parser.specs.reader.Declarations.{generic_default, optional_generic_default, generic, generic_list, generics, optional_generics, mode_by, mode, port, port_list, ports, optional_ports}
-use Rattle.vhdl_expressions.proofs.Operators.{grip, is_here}
 use Rattle.vhdl_expressions.proofs.Walks.{Rule, w_pure, w_then, w_last, w_rule}
-use Rattle.vhdl_expressions.proofs.Rules.{w_token, w_some, w_ident, w_left, w_right, w_below, w_choose, under, word_rule, option_rule, separated_rule}
-use Rattle.vhdl_expressions.proofs.Gives.{Gives, Whatever, front, g_pure, g_then, g_map, g_some, g_ident, g_choose, g_token, g_below, eat_gives, option_gives, separated_gives}
+use Rattle.vhdl_expressions.proofs.Rules.{w_some, w_ident, w_left, w_right, w_below, w_choose, under, word_rule, option_rule, separated_rule}
+use Rattle.vhdl_expressions.proofs.Gives.{Gives, Whatever, front, g_pure, g_then, g_map, g_some, g_ident, g_choose, g_below, eat_gives, option_gives, separated_gives}
 use Rattle.vhdl_expressions.proofs.WalkExpressions.{expr_rule}
 use Rattle.vhdl_expressions.proofs.GiveValues.{Ends, expr_gives}
 use Rattle.vhdl_statements.proofs.Subtypes.{idents_rule, idents_gives, subtype_rule, subtype_gives, optional_default_rule, optional_default_gives, EndsDefault, default_no_paren}

@@ -1,10 +1,10 @@
 -- Processes and selected assignments that are spelled are read.
-use Rattle.std.proofs.Common.{◌≡◌, ℕ, Bool, true, false, List, [], ◌∷◌, ◌++◌, Option, Some, None, refl, arith}
+use Rattle.std.proofs.Common.{◌≡◌, ℕ, Bool, true, false, List, [], ◌∷◌, ◌++◌, Option, refl, arith}
 use Rattle.vhdl_lexer.specs.declared.token.Kind.{Kind}
 use Rattle.vhdl_lexer.specs.declared.token.Kind.TheVariants as k
 use Rattle.vhdl_tree.specs.Lexeme.{same_kind}
-use Rattle.vhdl_tree.specs.Tree.{Ident, Name, Variables, Process, statements_of, Sensitivity, absent, every, listed, Waveform, SelectedAssignment}
-use Rattle.vhdl_tree.specs.Pieces.{Piece, some, spell_word, spell_each, spell_list, IsEach, IsList}
+use Rattle.vhdl_tree.specs.Tree.{Name, Variables, Process, statements_of, Sensitivity, absent, every, listed, Waveform, SelectedAssignment}
+use Rattle.vhdl_tree.specs.Pieces.{spell_word, spell_each, spell_list, IsEach, IsList}
 use Rattle.vhdl_tree.specs.grammar.Expressions.{spell_name, IsName}
 use Rattle.vhdl_tree.specs.grammar.Sequential.{AreStatements}
 use Rattle.vhdl_tree.specs.grammar.Process.{spell_sensitivity, spell_variables, spell_body, spell_process, spell_waveform, spell_selected, IsSensitivity, IsVariables, IsProcess, IsWaveform, IsSelected}

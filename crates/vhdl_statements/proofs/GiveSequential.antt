@@ -4,13 +4,12 @@ use Rattle.vhdl_lexer.specs.declared.token.Kind.{Kind}
 use Rattle.vhdl_lexer.specs.declared.token.Kind.TheVariants as k
 use Rattle.vhdl_tree.specs.Lexeme.{same_kind}
 use Rattle.vhdl_tree.specs.Tree.{Ident, Expr, Suffix, plain, arguments, sliced, Name, Value, Range, Choice, Statement, nothing, assigned, variable_assigned, conditional, selection, loop, Statements, no_statements, statement, Conditionals, no_conditionals, guarded, Otherwise, no_else, else_do, Alternatives, no_alternatives, alternative, Sequential, Conditional, Alternative, statements_of, conditionals_of, alternatives_of, otherwise_of}
-use Rattle.vhdl_tree.specs.Pieces.{Piece, some, one_at, word_at, spell_ident, spell_option, spell_list, IsAny, IsEach, IsList, IsOption}
+use Rattle.vhdl_tree.specs.Pieces.{Piece, some, one_at, spell_ident, spell_option, spell_list, IsEach, IsList, IsOption}
 use Rattle.vhdl_tree.specs.grammar.Expressions.{spell, spell_name, spell_value, IsExpr, IsName, IsValue, IsRange, AreChoices}
 use Rattle.vhdl_tree.specs.grammar.Sequential.{spell_label, spell_end, spell_statement, spell_else, spell_sequential, IsStatement, AreStatements, AreElsifs, IsElse, AreAlternatives}
-use Rattle.vhdl_expressions.specs.reader.Input.{Parser, and_then, identifier, is_kind, optional}
-use Rattle.vhdl_expressions.specs.reader.Expressions.{range}
+use Rattle.vhdl_expressions.specs.reader.Input.{Parser, and_then, is_kind, optional}
 use Rattle.vhdl_statements.specs.reader.Sequential.{label, optional_label, null_statement, assigned_value, assign_by, assign, end_of, begins_sequential, condition, branches, else_part, if_rest, alternative_part, alternatives, case_rest, for_rest, if_statement, case_statement, for_statement, statement_by, statement_of, sequential, statements_with, deeper, statements}
-use Rattle.vhdl_expressions.proofs.Gives.{Gives, Whatever, front, g_pure, g_then, g_map, g_at, g_some, g_ident, g_below, g_choose, g_weaken, g_token, option_gives, more_gives, separated_gives}
+use Rattle.vhdl_expressions.proofs.Gives.{Gives, Whatever, front, g_pure, g_then, g_map, g_at, g_some, g_ident, g_below, g_choose, g_weaken, option_gives, more_gives, separated_gives}
 use Rattle.vhdl_expressions.proofs.GiveValues.{g_both, g_neither_then, expr_gives, name_gives, value_gives, range_gives, choices_gives, both}
 use Rattle.vhdl_statements.proofs.Subtypes.{last_gives}
 use Rattle.vhdl_statements.proofs.WalkSequential.{spelled, spell_condition, spell_alternative, spell_else_part, spelled-each, conditionals-list, alternatives-list, else-option}

@@ -1,8 +1,8 @@
 -- What the readers of processes and selected assignments make.
-use Rattle.std.proofs.Common.{◌≡◌, ℕ, Bool, List, [], ◌∷◌, ◌++◌, Option, refl, sym, ap, append-nil, arith}
+use Rattle.std.proofs.Common.{◌≡◌, ℕ, List, [], ◌∷◌, ◌++◌, refl, sym, ap, append-nil, arith}
 use Rattle.vhdl_lexer.specs.declared.token.Kind.TheVariants as k
-use Rattle.vhdl_tree.specs.Tree.{Ident, Sensitivity, absent, every, listed}
-use Rattle.vhdl_tree.specs.Pieces.{Piece, some, one_at, spell_ident, spell_word, spell_option, spell_list, IsList}
+use Rattle.vhdl_tree.specs.Tree.{Sensitivity, absent, every, listed}
+use Rattle.vhdl_tree.specs.Pieces.{Piece, some, spell_list, IsList}
 use Rattle.vhdl_tree.specs.grammar.Expressions.{spell_name, IsName}
 use Rattle.vhdl_tree.specs.grammar.Sequential.{spell_end}
 use Rattle.vhdl_tree.specs.grammar.Process.{spell_sensitivity, spell_variables, spell_process, spell_waveform, spell_selected, IsSensitivity, IsVariables, IsProcess, IsWaveform, IsSelected}
@@ -10,8 +10,8 @@ use Rattle.vhdl_expressions.specs.reader.Input.{is_kind}
 use Rattle.vhdl_statements.specs.reader.Process.{names, sensitivity_list, sensitivity, optional_sensitivity, variables, Body, body, process}
 use Rattle.vhdl_statements.specs.reader.Waveforms.{waveform, waveforms, selected}
 use Rattle.vhdl_expressions.proofs.Walks.{Rule, w_pure, w_then, w_last}
-use Rattle.vhdl_expressions.proofs.Rules.{w_at, w_some, w_left, w_right, w_end, word_rule, w_option_ident, w_test, w_below, under, separated_rule, each_rule}
-use Rattle.vhdl_expressions.proofs.WalkExpressions.{w_ends, expr_rule, a_name_rule}
+use Rattle.vhdl_expressions.proofs.Rules.{w_at, w_some, w_left, w_right, word_rule, w_test, w_below, under, separated_rule, each_rule}
+use Rattle.vhdl_expressions.proofs.WalkExpressions.{expr_rule, a_name_rule}
 use Rattle.vhdl_expressions.proofs.WalkValues.{value_rule, choices_rule}
 use Rattle.vhdl_statements.proofs.Subtypes.{objects_rule}
 use Rattle.vhdl_statements.proofs.WalkSequential.{spelled, formed, w_end_neutral, statements_rule}

@@ -1,10 +1,10 @@
 -- How the parser reads generics, ports and declarations.
-use Rattle.std.specs.Prelude.{ℕ, Bool, true, false, List, [], ◌∷◌, Option, Some, None}
+use Rattle.std.specs.Prelude.{ℕ, Bool, true, false, List, [], Option, Some, None}
 use Rattle.vhdl_lexer.specs.declared.token.Kind.{Kind}
 use Rattle.vhdl_lexer.specs.declared.token.Kind.TheVariants as k
 use Rattle.vhdl_tree.specs.declared.declaration.Mode.{Mode}
 use Rattle.vhdl_tree.specs.declared.declaration.Mode.TheVariants.{In, Out}
-use Rattle.vhdl_tree.specs.Tree.{Ident, Expr, Range, Value, Subtype, Generic, Port, Signals, Constants, Enumeration, Component, Declaration, signals, constants, enumeration, component}
+use Rattle.vhdl_tree.specs.Tree.{Expr, Value, Generic, Port, Signals, Constants, Enumeration, Component, Declaration, signals, constants, enumeration, component}
 use Rattle.vhdl_expressions.specs.reader.Input.{Parser, ◌>>=◌, ◌>>◌, ◌<$>◌, pure, refuse, is_kind, choose, expect, eat, identifier, optional, many, separated, below}
 use Rattle.vhdl_expressions.specs.reader.Expressions.{expr, value}
 use Rattle.vhdl_statements.specs.reader.Subtypes.{idents, subtype, optional_default, objects}

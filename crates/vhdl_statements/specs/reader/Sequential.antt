@@ -1,5 +1,5 @@
 -- How the parser reads sequential statements.
-use Rattle.std.specs.Prelude.{ℕ, zero, suc, Bool, true, false, List, [], ◌∷◌, Option, Some, None}
+use Rattle.std.specs.Prelude.{ℕ, zero, suc, Bool, true, false, List, [], Option, Some, None}
 use Rattle.vhdl_lexer.specs.declared.token.Kind.{Kind}
 use Rattle.vhdl_lexer.specs.declared.token.Kind.TheVariants as k
 use Rattle.vhdl_tree.specs.Tree.{Ident, Name, Value, Statement, nothing, assigned, variable_assigned, conditional, selection, loop, Sequential, Conditional, Alternative, statements_of, conditionals_of, alternatives_of, otherwise_of, guarded_by, chosen_by}

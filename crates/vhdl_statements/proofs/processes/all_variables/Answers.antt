@@ -1,4 +1,4 @@
-use Rattle.std.proofs.Common.{rules, [], length}
+use Rattle.std.proofs.Common.{rules}
 use Rattle.vhdl_lexer.specs.declared.token.Kind.TheVariants as k
 use Rattle.vhdl_tree.specs.View.{variables_view}
 use Rattle.vhdl_expressions.specs.reader.Input.{is_kind}
