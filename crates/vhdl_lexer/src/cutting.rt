@@ -22,7 +22,7 @@ pub const MAX_LEN: usize = 4_194_304;
 /// Each token is the longest from its start. `start` and `end` count bytes of the source from 0.
 /// A tick opens a character literal where a printable byte and then a tick follow it, unless the
 /// token before is an identifier or `)`. The list is the one thing that takes memory: up to
-/// 24 bytes for each byte of the source, and as much again while it grows.
+/// 12 bytes for each byte of the source, and as much again while it grows.
 ///
 /// # Errors
 ///
@@ -68,8 +68,8 @@ pub fn lex(alloc: Global, source: &[u8]) -> Result<Vec<Token>, LexFault>
         };
         let next = Token {
             kind,
-            start,
-            end: start + len,
+            start: start as u32,
+            end: (start + len) as u32,
         };
         tokens.push(next)?;
         before = Some(kind);

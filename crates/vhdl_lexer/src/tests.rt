@@ -4,11 +4,7 @@ use crate::*;
 use std::test::Fail;
 
 /// Whether the source has these tokens, each given by its kind, its first byte and the one behind.
-fn has_tokens(
-    rt: &HostRuntime,
-    source: &[u8],
-    wanted: &[(Kind, usize, usize)],
-) -> Result<bool, Fail> {
+fn has_tokens(rt: &HostRuntime, source: &[u8], wanted: &[(Kind, u32, u32)]) -> Result<bool, Fail> {
     let tokens = lex(rt.alloc(), source)?;
     Ok(
         tokens.len() == wanted.len()
@@ -88,7 +84,7 @@ fn reserved_words(rt: HostRuntime) -> Result<(), Fail> {
     assert_eq!(rt; tokens.len(), 98);
     for token in &tokens {
         let name = format!(in rt.alloc(); "{:?}", token.kind)?;
-        let same = match source.get(token.start..token.end) {
+        let same = match source.get(token.start as usize..token.end as usize) {
             Some(word) => word.eq_ignore_ascii_case(name.as_bytes()),
             None => false,
         };
