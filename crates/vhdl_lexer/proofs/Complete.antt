@@ -13,13 +13,13 @@ use Rattle.vhdl_lexer.specs.Bytes.{quote, tick, hash, point, slash, star, dash, 
 use Rattle.vhdl_lexer.specs.Separators.{opens_comment}
 use Rattle.vhdl_lexer.specs.Words.{is_joined, is_identifier, word_kind, base_class, opened_class, IsWord}
 use Rattle.vhdl_lexer.specs.Literals.{greatest_integer, integer_of, begins_digit, goes_on_number, may_open, IsInteger, IsCharacter, IsString, IsBitString}
-use Rattle.vhdl_lexer.specs.Delimiters.{pair, single, delimiter, IsDelimiter}
+use Rattle.vhdl_lexer.specs.Delimiters.{single, delimiter, IsDelimiter}
 use Rattle.vhdl_lexer.specs.Cut.{IsToken}
-use Rattle.vhdl_lexer.specs.Scan.{Found, run, word, fits, number, string, bit_string, word_or_bit_string, character, next, front}
+use Rattle.vhdl_lexer.specs.Scan.{Found, run, word, fits, number, string, bit_string, word_or_bit_string, character, longer, front}
 use Rattle.vhdl_lexer.proofs.Choices.{both_true, either_false}
 use Rattle.vhdl_lexer.proofs.Runs.{run_is, is_joined-all, is_identifier-all, all-unquoted, begins_word-digit, letter_begins}
 use Rattle.vhdl_lexer.proofs.Strings.{string_closed, bit_string_closed}
-use Rattle.vhdl_lexer.proofs.Marks.{pair_zero, front_single, front_pair, mark_one, mark_two}
+use Rattle.vhdl_lexer.proofs.Marks.{front_single, front_pair, mark_one, mark_two}
 
 -- ---- which token a first byte asks for
 
@@ -141,8 +141,8 @@ bit_string_complete last kind slice rest s =
 
 -- ---- delimiters
 
-no_longer : (b : ℕ) (rest : List ℕ) → ((c : ℕ) (after : List ℕ) → rest ≡ c ∷ after → delimiter (b ∷ c ∷ []) ≡ None) → pair b (next rest) ≡ None
-no_longer b [] h = pair_zero b
+no_longer : (b : ℕ) (rest : List ℕ) → ((c : ℕ) (after : List ℕ) → rest ≡ c ∷ after → delimiter (b ∷ c ∷ []) ≡ None) → longer b rest ≡ None
+no_longer b [] h = refl
 no_longer b (c ∷ rest) h = h c rest refl
 
 as_tick : (last : Option Kind) (b : ℕ) (kind : Kind) (rest : List ℕ) → IsDelimiter last kind (b ∷ []) rest → b ≡ tick → front last (b ∷ rest) ≡ Ok (kind, 1)

@@ -15,7 +15,7 @@ use Rattle.vhdl_lexer.specs.Words.{is_joined, is_identifier, word_kind, base_cla
 use Rattle.vhdl_lexer.specs.Literals.{goes_on_number, may_open, closes, IsInteger}
 use Rattle.vhdl_lexer.specs.Delimiters.{pair, single}
 use Rattle.vhdl_lexer.specs.Fault.{Absent, IsStray, Faulty}
-use Rattle.vhdl_lexer.specs.Scan.{Found, run, word, fits, number, from_quote, from_first_quote, string, bit_string, word_or_bit_string, character, one, next, mark, front, Stands}
+use Rattle.vhdl_lexer.specs.Scan.{Found, run, word, fits, number, from_quote, from_first_quote, string, bit_string, word_or_bit_string, character, one, longer, mark, front, Stands}
 use Rattle.vhdl_lexer.proofs.Choices.{both_true, begins_with}
 use Rattle.vhdl_lexer.proofs.Runs.{run_stops}
 use Rattle.vhdl_lexer.proofs.Strings.{Closed, closed_or_open, quoted_end, string_closed, string_open, ClosedBits, closed_or_open_bits, first_end, bit_string_closed, bit_string_open}
@@ -33,8 +33,8 @@ ok_err x p h = absurd (cc)
 faulty : (p q : Problem) (text : List ℕ) → ◌≡◌ {A = Found} (Err p) (Err q) → Faulty p text → Faulty q text
 faulty p q text e f = subst (λ x. Faulty x text) (err_same p q e) f
 
-cons_nil : {A : Type 0} (b : ℕ) (text : List ℕ) → ◌≡◌ {A = List ℕ} (b ∷ text) [] → A
-cons_nil b text e = let l : length (b ∷ text) ≡ 0 = ap (λ (x : List ℕ). length x) e in absurd (omega (arith, l))
+some_none : {A : Type 0} (text : List ℕ) → ◌≡◌ {A = Option (List ℕ)} (Some text) None → A
+some_none text e = absurd (cc)
 
 rest_same : (a b : ℕ) (xs ys : List ℕ) → ◌≡◌ {A = List ℕ} (a ∷ xs) (b ∷ ys) → xs ≡ ys
 rest_same a b xs ys e = ap (λ (x : List ℕ). drop 1 x) e
@@ -73,9 +73,9 @@ bits_faulty class base after p is h = ⊎_elim closed opened (closed_or_open_bit
     closed : ClosedBits after → Faulty p (base ∷ quote ∷ after)
     closed c = by_test c (is_joined class c.body) refl (sym (bit_string_closed class after c.body c.rest c.whole c.unquoted) ∙ h)
 
-    opened : from_first_quote after ≡ [] → Faulty p (base ∷ quote ∷ after)
+    opened : from_first_quote after ≡ None → Faulty p (base ∷ quote ∷ after)
     opened e = faulty OpenString p (base ∷ quote ∷ after) (sym (bit_string_open class after e) ∙ h)
-        (inr (class, is, λ body rest c. cons_nil quote rest (sym (first_end body rest c.3) ∙ ap (λ (x : List ℕ). from_first_quote (drop 2 x)) (sym c.1) ∙ e)))
+        (inr (class, is, λ body rest c. some_none (quote ∷ rest) (sym (first_end body rest c.3) ∙ ap (λ (x : List ℕ). from_first_quote (drop 2 x)) (sym c.1) ∙ e)))
 
 string_faulty : (after : List ℕ) (p : Problem) → string after ≡ Err p → Faulty p (quote ∷ after)
 string_faulty after p h = ⊎_elim closed opened (closed_or_open after)
@@ -87,9 +87,9 @@ string_faulty after p h = ⊎_elim closed opened (closed_or_open after)
     closed : Closed after → Faulty p (quote ∷ after)
     closed c = by_test c (list_all is_printable c.body) refl (sym (string_closed after c.body c.rest c.whole c.quoted c.ended) ∙ h)
 
-    opened : from_quote after ≡ [] → Faulty p (quote ∷ after)
+    opened : from_quote after ≡ None → Faulty p (quote ∷ after)
     opened e = faulty OpenString p (quote ∷ after) (sym (string_open after e) ∙ h)
-        (inl (refl, λ body rest c. cons_nil quote rest (sym (quoted_end body rest c.1 c.2) ∙ ap (λ (x : List ℕ). from_quote (drop 1 x)) (sym c.0) ∙ e)))
+        (inl (refl, λ body rest c. some_none (quote ∷ rest) (sym (quoted_end body rest c.1 c.2) ∙ ap (λ (x : List ℕ). from_quote (drop 1 x)) (sym c.0) ∙ e)))
 
 no_word : (b : ℕ) → is_ascii_digit b ≡ false → begins_word b ≡ false → is_word_byte b ≡ false
 no_word b d w = grind (arith, nat_tests)
@@ -101,7 +101,7 @@ mark_faulty b after p s w q h = by_test (b == slash && begins star after) refl
     by_single None e g = faulty BadByte p (b ∷ after) g (inl (b, after, refl, (s.0, w, q, e)))
     by_single (Some kind) e g = ok_err (kind, 1) p g
 
-    by_pair : (found : Option Kind) → pair b (next after) ≡ found → (b == slash && begins star after) ≡ false → Faulty p (b ∷ after)
+    by_pair : (found : Option Kind) → longer b after ≡ found → (b == slash && begins star after) ≡ false → Faulty p (b ∷ after)
     by_pair None e t = by_single (single b) refl (sym (mark_one b after (single b) t e refl) ∙ h)
     by_pair (Some kind) e t = ok_err (kind, 2) p (sym (mark_two b after kind t e) ∙ h)
 
@@ -112,7 +112,7 @@ mark_faulty b after p s w q h = by_test (b == slash && begins star after) refl
 
     by_test : (t : Bool) → (b == slash && begins star after) ≡ t → Faulty p (b ∷ after)
     by_test true e = let f = both_true (b == slash) (begins star after) e in opened (eqb-true b slash f.0) (begins_with star after f.1) e
-    by_test false e = by_pair (pair b (next after)) refl e
+    by_test false e = by_pair (longer b after) refl e
 
 character_passes : {A : Type 0} (last : Option Kind) (after : List ℕ) (p : Problem) → character last after ≡ Err p → A
 unfolding character
@@ -151,7 +151,7 @@ front_faulty last (b ∷ after) p s some h = by_first (is_ascii_digit b) refl (b
 stray_found : (last : Option Kind) (b : ℕ) (after : List ℕ) → IsStray b → front last (b ∷ after) ≡ Err BadByte
 stray_found last b after s =
     front_mark last b after (no_digit b s.1) (no_letter b s.1) s.2 (not_mark b tick k.Tick s.3 refl)
-    ∙ mark_one b after None (ap (λ t. t && begins star after) (not_mark b slash k.Slash s.3 refl)) (no_pair (next after)) s.3
+    ∙ mark_one b after None (ap (λ t. t && begins star after) (not_mark b slash k.Slash s.3 refl)) (no_longer after) s.3
   where
     no_digit : (b : ℕ) → is_word_byte b ≡ false → is_ascii_digit b ≡ false
     no_digit b e = grind (arith, nat_tests)
@@ -167,6 +167,10 @@ stray_found last b after s =
         let greater = not_mark b 62 k.Greater s.3 refl in
         let bar = not_mark b 47 k.Slash s.3 refl in
         rw (equal, colon, less, greater, bar) refl
+
+    no_longer : (after : List ℕ) → longer b after ≡ None
+    no_longer [] = refl
+    no_longer (c ∷ after) = no_pair c
 
 word_refused : (text : List ℕ) → opened_class text ≡ None → Absent IsWord text → word text ≡ Err BadIdentifier
 unfolding word

@@ -7,10 +7,7 @@ use Rattle.vhdl_lexer.specs.declared.fault.Problem.TheVariants.{OpenComment}
 use Rattle.vhdl_lexer.specs.declared.token.Kind.{Kind}
 use Rattle.vhdl_lexer.specs.Bytes.{quote, tick, star, slash, begins_word, begins}
 use Rattle.vhdl_lexer.specs.Delimiters.{pair, single}
-use Rattle.vhdl_lexer.specs.Scan.{one, two, next, mark, front}
-
-pub pair_zero : (b : ℕ) → pair b 0 ≡ None
-pair_zero b = grind (arith, nat_tests)
+use Rattle.vhdl_lexer.specs.Scan.{one, two, longer, mark, front}
 
 -- no delimiter begins with a digit or as a word
 digit_single : (b : ℕ) → is_ascii_digit b ≡ true → single b ≡ None
@@ -51,14 +48,14 @@ front_pair last b c kind rest e =
     front_mark last b rest (fails (is_ascii_digit b) (pair b c) kind e (digit_pair b c)) (fails (begins_word b) (pair b c) kind e (word_pair b c))
     (fails (b == quote) (pair b c) kind e (λ q. ap (λ x. pair x c) (eqb-true b quote q))) (fails (b == tick) (pair b c) kind e (λ q. ap (λ x. pair x c) (eqb-true b tick q)))
 
-pub mark_one : (b : ℕ) (rest : List ℕ) (found : Option Kind) → (b == slash && begins star rest) ≡ false → pair b (next rest) ≡ None → single b ≡ found → mark b rest ≡ one found
+pub mark_one : (b : ℕ) (rest : List ℕ) (found : Option Kind) → (b == slash && begins star rest) ≡ false → longer b rest ≡ None → single b ≡ found → mark b rest ≡ one found
 unfolding mark
-mark_one b rest found t p e = ap (λ x. cond x (Err OpenComment) (two (pair b (next rest)) (one (single b)))) t ∙ ap (λ x. two x (one (single b))) p ∙ ap one e
+mark_one b rest found t p e = ap (λ x. cond x (Err OpenComment) (two (longer b rest) (one (single b)))) t ∙ ap (λ x. two x (one (single b))) p ∙ ap one e
 
-pub mark_two : (b : ℕ) (rest : List ℕ) (kind : Kind) → (b == slash && begins star rest) ≡ false → pair b (next rest) ≡ Some kind → mark b rest ≡ Ok (kind, 2)
+pub mark_two : (b : ℕ) (rest : List ℕ) (kind : Kind) → (b == slash && begins star rest) ≡ false → longer b rest ≡ Some kind → mark b rest ≡ Ok (kind, 2)
 unfolding mark
-mark_two b rest kind t p = ap (λ x. cond x (Err OpenComment) (two (pair b (next rest)) (one (single b)))) t ∙ ap (λ x. two x (one (single b))) p
+mark_two b rest kind t p = ap (λ x. cond x (Err OpenComment) (two (longer b rest) (one (single b)))) t ∙ ap (λ x. two x (one (single b))) p
 
 pub mark_comment : (b : ℕ) (rest : List ℕ) → (b == slash && begins star rest) ≡ true → mark b rest ≡ Err OpenComment
 unfolding mark
-mark_comment b rest t = ap (λ x. cond x (Err OpenComment) (two (pair b (next rest)) (one (single b)))) t
+mark_comment b rest t = ap (λ x. cond x (Err OpenComment) (two (longer b rest) (one (single b)))) t

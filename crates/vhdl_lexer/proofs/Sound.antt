@@ -15,13 +15,13 @@ use Rattle.vhdl_lexer.specs.Bytes.{quote, tick, slash, star, is_printable, begin
 use Rattle.vhdl_lexer.specs.Separators.{opens_comment}
 use Rattle.vhdl_lexer.specs.Words.{is_joined, is_identifier, word_kind, base_class, opened_class}
 use Rattle.vhdl_lexer.specs.Literals.{greatest_integer, integer_of, goes_on_number, may_open, closes}
-use Rattle.vhdl_lexer.specs.Delimiters.{pair, single}
+use Rattle.vhdl_lexer.specs.Delimiters.{single}
 use Rattle.vhdl_lexer.specs.Cut.{IsElement}
-use Rattle.vhdl_lexer.specs.Scan.{Found, run, word, fits, number, string, bit_string, word_or_bit_string, character, one, next, mark, front, Stands, IsFront}
+use Rattle.vhdl_lexer.specs.Scan.{Found, run, word, fits, number, string, bit_string, word_or_bit_string, character, one, longer, mark, front, Stands, IsFront}
 use Rattle.vhdl_lexer.proofs.Choices.{both_true, begins_with}
 use Rattle.vhdl_lexer.proofs.Runs.{run_within, run_stops}
 use Rattle.vhdl_lexer.proofs.Strings.{Closed, closed_or_open, string_closed, string_open, ClosedBits, closed_or_open_bits, bit_string_closed, bit_string_open}
-use Rattle.vhdl_lexer.proofs.Marks.{pair_zero, mark_one, mark_two, mark_comment}
+use Rattle.vhdl_lexer.proofs.Marks.{mark_one, mark_two, mark_comment}
 
 pub ok_pair : (a b : Kind) (m n : ℕ) → ◌≡◌ {A = Found} (Ok (a, m)) (Ok (b, n)) → (a ≡ b) × (m ≡ n)
 ok_pair a b m n h =
@@ -187,9 +187,9 @@ mark_sound last b after kind n plain h = by_test (b == slash && begins star afte
     no_tick : b ∷ [] ≡ tick ∷ [] → ⊥
     no_tick is = let e : b ≡ tick = cc in true≢false (ap (λ x. x == tick) (sym e) ∙ plain)
 
-    longer : (after : List ℕ) (found : Kind) → pair b (next after) ≡ Some found → IsSliced last found 2 (b ∷ after)
-    longer [] found e = let never : ◌≡◌ {A = Option Kind} None (Some found) = sym (pair_zero b) ∙ e in absurd (cc)
-    longer (c ∷ rest) found e = record {
+    both : (after : List ℕ) (found : Kind) → longer b after ≡ Some found → IsSliced last found 2 (b ∷ after)
+    both [] found e = let never : ◌≡◌ {A = Option Kind} None (Some found) = e in absurd (cc)
+    both (c ∷ rest) found e = record {
       slice = b ∷ c ∷ [];
       rest = rest;
       whole = refl;
@@ -198,27 +198,27 @@ mark_sound last b after kind n plain h = by_test (b == slash && begins star afte
       form = inr (inr (inr (inr (inr (e, (λ d more is. refl), (λ is. let l : ◌≡◌ {A = ℕ} 2 1 = ap (λ (x : List ℕ). length x) is in absurd (omega (arith, l))))))));
     }
 
-    alone : (found : Kind) → pair b (next after) ≡ None → single b ≡ Some found → IsSliced last found 1 (b ∷ after)
+    alone : (found : Kind) → longer b after ≡ None → single b ≡ Some found → IsSliced last found 1 (b ∷ after)
     alone found p e = record {
       slice = b ∷ [];
       rest = after;
       whole = refl;
       count = refl;
       some = omega arith;
-      form = inr (inr (inr (inr (inr (e, (λ d more is. sym (ap (λ x. pair b (next x)) is) ∙ p), (λ is. absurd (no_tick is)))))));
+      form = inr (inr (inr (inr (inr (e, (λ d more is. sym (ap (longer b) is) ∙ p), (λ is. absurd (no_tick is)))))));
     }
 
-    by_single : (found : Option Kind) → single b ≡ found → pair b (next after) ≡ None → one found ≡ Ok (kind, n) → IsSliced last kind n (b ∷ after)
+    by_single : (found : Option Kind) → single b ≡ found → longer b after ≡ None → one found ≡ Ok (kind, n) → IsSliced last kind n (b ∷ after)
     by_single None e p g = err_ok BadByte (kind, n) g
     by_single (Some other) e p g = sliced last other kind 1 n (b ∷ after) g (alone other p e)
 
-    by_pair : (b == slash && begins star after) ≡ false → (found : Option Kind) → pair b (next after) ≡ found → IsSliced last kind n (b ∷ after)
+    by_pair : (b == slash && begins star after) ≡ false → (found : Option Kind) → longer b after ≡ found → IsSliced last kind n (b ∷ after)
     by_pair t None e = by_single (single b) refl e (sym (mark_one b after (single b) t e refl) ∙ h)
-    by_pair t (Some other) e = sliced last other kind 2 n (b ∷ after) (sym (mark_two b after other t e) ∙ h) (longer after other e)
+    by_pair t (Some other) e = sliced last other kind 2 n (b ∷ after) (sym (mark_two b after other t e) ∙ h) (both after other e)
 
     by_test : (t : Bool) → (b == slash && begins star after) ≡ t → IsSliced last kind n (b ∷ after)
     by_test true e = err_ok OpenComment (kind, n) (sym (mark_comment b after e) ∙ h)
-    by_test false e = by_pair e (pair b (next after)) refl
+    by_test false e = by_pair e (longer b after) refl
 
 -- ---- the front
 

@@ -1,5 +1,6 @@
 -- The token at the front of a text, as the lexer finds it. What it has to do with the definitions is proved.
-use Rattle.std.specs.Prelude.{◌≡◌, ℕ, ◌+◌, ◌-◌, ◌≤◌, ◌&&◌, ◌==◌, nat_le, not, Bool, false, if◌then◌else◌, List, [], ◌∷◌, take, drop, length, map, Option, Some, None, Result, Ok, Err, slice_index}
+use Rattle.std.specs.Prelude.{◌≡◌, ℕ, ◌+◌, ◌-◌, ◌≤◌, ◌&&◌, ◌==◌, if◌then◌else◌, [], ◌∷◌}
+use Rattle.std.specs.Prelude.{nat_le, not, Bool, false, List, take, drop, length, map, Option, Some, None, Result, Ok, Err}
 use Rattle.std.specs.Char.{is_ascii_digit, to_ascii_lowercase}
 use Rattle.std.specs.List.{list_all, filter, prefix_len}
 use Rattle.vhdl_lexer.specs.declared.byte.Class.{Class}
@@ -84,36 +85,42 @@ number text =
     if is_joined Decimal (take (run text) text) && not (goes_on_number (drop (run text) text)) && fits (take (run text) text)
     then Ok (k.Integer, run text) else Err BadNumber
 
--- the text from the closing quotation mark of a string on, or nothing
+-- the text from the closing quotation mark of a string on, if there is one on the line
 abbrev mutual
-  pub from_quote : List ℕ → List ℕ
-  from_quote [] = []
-  from_quote (b ∷ text) = if b == quote then from_pair (b ∷ text) text else (if ends_line b then [] else from_quote text)
+  pub from_quote : List ℕ → Option (List ℕ)
+  from_quote [] = None
+  from_quote (b ∷ text) = if b == quote then from_pair (b ∷ text) text else (if ends_line b then None else from_quote text)
 
-  pub from_pair : List ℕ → List ℕ → List ℕ
-  from_pair marks [] = marks
-  from_pair marks (c ∷ text) = if c == quote then from_quote text else marks
+  pub from_pair : List ℕ → List ℕ → Option (List ℕ)
+  from_pair marks [] = Some marks
+  from_pair marks (c ∷ text) = if c == quote then from_quote text else Some marks
 
--- the text from the line's first quotation mark on, or nothing
-abbrev pub from_first_quote : List ℕ → List ℕ
-from_first_quote [] = []
-from_first_quote (b ∷ text) = if b == quote then b ∷ text else (if ends_line b then [] else from_first_quote text)
+-- the text from the line's first quotation mark on, if there is one
+abbrev pub from_first_quote : List ℕ → Option (List ℕ)
+from_first_quote [] = None
+from_first_quote (b ∷ text) = if b == quote then Some (b ∷ text) else (if ends_line b then None else from_first_quote text)
 
 -- how many bytes stand before the end of a text
 abbrev pub before : List ℕ → List ℕ → ℕ
 before text end = length text - length end
 
--- behind its opening quotation mark
-unfoldable pub string : List ℕ → Found
-string text =
-    if length (from_quote text) == 0 then Err OpenString
-    else (if list_all is_printable (take (before text (from_quote text)) text) then Ok (k.String, before text (from_quote text) + 2) else Err BadByte)
+-- behind its opening quotation mark, and closed where this end begins
+abbrev pub string_to : List ℕ → Option (List ℕ) → Found
+string_to text None = Err OpenString
+string_to text (Some end) =
+    if list_all is_printable (take (before text end) text) then Ok (k.String, before text end + 2) else Err BadByte
 
--- behind its base specifier and quotation mark
+unfoldable pub string : List ℕ → Found
+string text = string_to text (from_quote text)
+
+-- behind its base specifier and quotation mark, and closed where this end begins
+abbrev pub bit_string_to : Class → List ℕ → Option (List ℕ) → Found
+bit_string_to class text None = Err OpenString
+bit_string_to class text (Some end) =
+    if is_joined class (take (before text end) text) then Ok (k.BitString, before text end + 3) else Err BadNumber
+
 unfoldable pub bit_string : Class → List ℕ → Found
-bit_string class text =
-    if length (from_first_quote text) == 0 then Err OpenString
-    else (if is_joined class (take (before text (from_first_quote text)) text) then Ok (k.BitString, before text (from_first_quote text) + 3) else Err BadNumber)
+bit_string class text = bit_string_to class text (from_first_quote text)
 
 abbrev pub word_or_bit_string : Option Class → List ℕ → Found
 word_or_bit_string None text = word text
@@ -130,12 +137,13 @@ abbrev pub two : Option Kind → Found → Found
 two None shorter = shorter
 two (Some kind) shorter = Ok (kind, 2)
 
--- the byte at the front, or 0
-abbrev pub next : List ℕ → ℕ
-next text = slice_index text 0
+-- the delimiter of two bytes that begins with a byte, where this text follows it
+abbrev pub longer : ℕ → List ℕ → Option Kind
+longer b [] = None
+longer b (c ∷ after) = pair b c
 
 unfoldable pub mark : ℕ → List ℕ → Found
-mark b after = if b == slash && begins star after then Err OpenComment else two (pair b (next after)) (one (single b))
+mark b after = if b == slash && begins star after then Err OpenComment else two (longer b after) (one (single b))
 
 unfoldable pub front : Option Kind → List ℕ → Found
 front last [] = Err BadByte

@@ -45,10 +45,14 @@ fn single(b: u8) -> Option<Kind>
     }
 }
 
-fn next(text: &[u8]) -> u8
-    ensures { result ≡ scan.next text.now }
+/// The delimiter of two bytes that begins with a byte, where this text follows it.
+fn longer(b: u8, after: &[u8]) -> Option<Kind>
+    ensures { result ≡ scan.longer b after.now }
 {
-    if text.is_empty() { 0 } else { text[0] }
+    match after.first() {
+        None => None,
+        Some(c) => pair(b, *c),
+    }
 }
 
 /// The longest delimiter that begins with a byte, where this text follows it.
@@ -59,7 +63,7 @@ pub fn mark(b: u8, after: &[u8]) -> Result<(Kind, usize), Problem>
     if b == b'/' && begins(b'*', after) {
         return Err(Problem::OpenComment);
     }
-    if let Some(kind) = pair(b, next(after)) {
+    if let Some(kind) = longer(b, after) {
         return Ok((kind, 2));
     }
     match single(b) {

@@ -57,6 +57,7 @@ fn is_identifier(text: &[u8]) -> bool
     first.is_ascii_alphabetic() && goes_on(Class::LetterOrDigit, rest)
 }
 
+/// Whether two texts are one word, in capitals or small letters.
 fn same_word(a: &[u8], b: &[u8]) -> bool
     ensures { result ≡ str_eq_ignore_ascii_case a.now b.now }
 {
