@@ -4,7 +4,7 @@ ghost use Rattle.std.specs.Prelude.{◌≡◌};
 ghost use Rattle.vhdl_lexer.specs.Bytes as spec;
 
 /// The bytes that may stand in a word, or in a number of some base, beside underscores.
-#[derive(Clone, Copy, Debug, PartialEq, Eq)]
+#[derive(Clone, Copy)]
 pub enum Class {
     /// What a word has.
     LetterOrDigit,

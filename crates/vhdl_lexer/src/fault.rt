@@ -8,7 +8,7 @@ use std::alloc::AllocFailed;
 use thiserror::Error;
 
 /// What is wrong at the start of a token.
-#[derive(Clone, Copy, Debug, PartialEq, Eq)]
+#[derive(Clone, Copy)]
 pub enum Problem {
     BadByte,
     OpenComment,
