@@ -4,7 +4,7 @@ use Rattle.std.specs.List.{list_all}
 use Rattle.std.proofs.lemmas.Bool.{eqb-true}
 use Rattle.std.proofs.Math.Seq.{take-append_seam}
 use Rattle.vhdl_lexer.specs.declared.byte.Class.{Class}
-use Rattle.vhdl_lexer.specs.declared.fault.Problem.TheVariants.{BadByte, OpenString, BadNumber}
+use Rattle.vhdl_lexer.specs.declared.fault.LexFault.TheVariants.{BadByte, OpenString, BadNumber}
 use Rattle.vhdl_lexer.specs.declared.token.Kind.TheVariants as k
 use Rattle.vhdl_lexer.specs.Bytes.{quote, ends_line, is_printable, begins}
 use Rattle.vhdl_lexer.specs.Words.{is_joined}
@@ -92,17 +92,17 @@ before_end text body rest e = omega (arith, ap (λ x. length x) e, length-append
 take_before : (text body rest : List ℕ) → text ≡ body ++ quote ∷ rest → take (before text (quote ∷ rest)) text ≡ body
 take_before text body rest e = ap (λ n. take n text) (before_end text body rest e) ∙ ap (λ x. take (length body) x) e ∙ take-append_seam body (quote ∷ rest)
 
-pub string_closed : (text body rest : List ℕ) → text ≡ body ++ quote ∷ rest → is_quoted body ≡ true → begins quote rest ≡ false →
-    string text ≡ cond (list_all is_printable body) (Ok (k.String, length body + 2)) (Err BadByte)
+pub string_closed : (at : ℕ) → (text body rest : List ℕ) → text ≡ body ++ quote ∷ rest → is_quoted body ≡ true → begins quote rest ≡ false →
+    string at text ≡ cond (list_all is_printable body) (Ok (k.String, length body + 2)) (Err (BadByte at))
 unfolding string
-string_closed text body rest e q s =
-    ap (string_to text) (ap from_quote e ∙ quoted_end body rest q s)
-    ∙ ap (λ x. cond (list_all is_printable x) (Ok (k.String, before text (quote ∷ rest) + 2)) (Err BadByte)) (take_before text body rest e)
-    ∙ ap (λ n. cond (list_all is_printable body) (Ok (k.String, n + 2)) (Err BadByte)) (before_end text body rest e)
+string_closed at text body rest e q s =
+    ap (string_to at text) (ap from_quote e ∙ quoted_end body rest q s)
+    ∙ ap (λ x. cond (list_all is_printable x) (Ok (k.String, before text (quote ∷ rest) + 2)) (Err (BadByte at))) (take_before text body rest e)
+    ∙ ap (λ n. cond (list_all is_printable body) (Ok (k.String, n + 2)) (Err (BadByte at))) (before_end text body rest e)
 
-pub string_open : (text : List ℕ) → from_quote text ≡ None → string text ≡ Err OpenString
+pub string_open : (at : ℕ) → (text : List ℕ) → from_quote text ≡ None → string at text ≡ Err (OpenString at)
 unfolding string
-string_open text e = ap (string_to text) e
+string_open at text e = ap (string_to at text) e
 
 -- ---- bit strings
 
@@ -139,14 +139,14 @@ closed_or_open_bits (b ∷ text) = by_mark (b == quote) refl (ends_line b) refl 
     by_mark false e true f later = inr (rw (e, f) refl)
     by_mark false e false f later = more e f later
 
-pub bit_string_closed : (class : Class) (text body rest : List ℕ) → text ≡ body ++ quote ∷ rest → is_unquoted body ≡ true →
-    bit_string class text ≡ cond (is_joined class body) (Ok (k.BitString, length body + 3)) (Err BadNumber)
+pub bit_string_closed : (at : ℕ) → (class : Class) (text body rest : List ℕ) → text ≡ body ++ quote ∷ rest → is_unquoted body ≡ true →
+    bit_string at class text ≡ cond (is_joined class body) (Ok (k.BitString, length body + 3)) (Err (BadNumber at))
 unfolding bit_string
-bit_string_closed class text body rest e q =
-    ap (bit_string_to class text) (ap from_first_quote e ∙ first_end body rest q)
-    ∙ ap (λ x. cond (is_joined class x) (Ok (k.BitString, before text (quote ∷ rest) + 3)) (Err BadNumber)) (take_before text body rest e)
-    ∙ ap (λ n. cond (is_joined class body) (Ok (k.BitString, n + 3)) (Err BadNumber)) (before_end text body rest e)
+bit_string_closed at class text body rest e q =
+    ap (bit_string_to at class text) (ap from_first_quote e ∙ first_end body rest q)
+    ∙ ap (λ x. cond (is_joined class x) (Ok (k.BitString, before text (quote ∷ rest) + 3)) (Err (BadNumber at))) (take_before text body rest e)
+    ∙ ap (λ n. cond (is_joined class body) (Ok (k.BitString, n + 3)) (Err (BadNumber at))) (before_end text body rest e)
 
-pub bit_string_open : (class : Class) (text : List ℕ) → from_first_quote text ≡ None → bit_string class text ≡ Err OpenString
+pub bit_string_open : (at : ℕ) → (class : Class) (text : List ℕ) → from_first_quote text ≡ None → bit_string at class text ≡ Err (OpenString at)
 unfolding bit_string
-bit_string_open class text e = ap (bit_string_to class text) e
+bit_string_open at class text e = ap (bit_string_to at class text) e

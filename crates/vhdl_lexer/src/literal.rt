@@ -7,7 +7,7 @@ ghost use Rattle.vhdl_lexer.specs.Literals as spec;
 ghost use Rattle.vhdl_lexer.specs.Scan as scan;
 
 use crate::byte::{Class, begins, ends_line, is_printable, is_word_byte};
-use crate::fault::Problem;
+use crate::fault::LexFault;
 use crate::token::Kind;
 use crate::word::{is_joined, run};
 
@@ -53,10 +53,10 @@ fn begins_digit(text: &[u8]) -> bool
     }
 }
 
-/// The integer at the front of a text that begins with a digit, and its length.
+/// The integer at the front of a text that begins with a digit, at `at`, and its length.
 #[tactic(auto, unfolding(crate::specs::Scan::number))]
-pub fn number(text: &[u8]) -> Result<(Kind, usize), Problem>
-    ensures { result ≡ scan.number text.now }
+pub fn number(text: &[u8], at: usize) -> Result<(Kind, usize), LexFault>
+    ensures { result ≡ scan.number at text.now }
 {
     let len = run(text);
     let (digits, rest) = text.split_at(len);
@@ -66,7 +66,7 @@ pub fn number(text: &[u8]) -> Result<(Kind, usize), Problem>
     {
         Ok((Kind::Integer, len))
     } else {
-        Err(Problem::BadNumber)
+        Err(LexFault::BadNumber { at })
     }
 }
 
@@ -92,7 +92,7 @@ fn closes(text: &[u8]) -> bool
 
 /// The character literal or the tick that stands before the text, behind that token.
 #[tactic(auto, unfolding(crate::specs::Scan::character))]
-pub fn character(last: Option<Kind>, after: &[u8]) -> Result<(Kind, usize), Problem>
+pub fn character(last: Option<Kind>, after: &[u8]) -> Result<(Kind, usize), LexFault>
     ensures { result ≡ scan.character last after.now }
 {
     if may_open(last) && closes(after) {
@@ -147,34 +147,34 @@ fn are_printable(text: &[u8]) -> bool
     text.iter().all(|b| is_printable(*b))
 }
 
-/// The string before whose text, behind the opening quotation mark, this is.
+/// The string at `at` before whose text, behind the opening quotation mark, this is.
 #[tactic(auto, unfolding(crate::specs::Scan::string))]
-pub fn string(text: &[u8]) -> Result<(Kind, usize), Problem>
-    ensures { result ≡ scan.string text.now }
+pub fn string(text: &[u8], at: usize) -> Result<(Kind, usize), LexFault>
+    ensures { result ≡ scan.string at text.now }
 {
     let Some(end) = from_quote(text) else {
-        return Err(Problem::OpenString);
+        return Err(LexFault::OpenString { at });
     };
     let len = text.len() - end.len();
     if are_printable(&text[..len]) {
         Ok((Kind::String, len + 2))
     } else {
-        Err(Problem::BadByte)
+        Err(LexFault::BadByte { at })
     }
 }
 
-/// The bit string of such digits, behind the opening quotation mark.
+/// The bit string of such digits at `at`, behind the opening quotation mark.
 #[tactic(auto, unfolding(crate::specs::Scan::bit_string))]
-pub fn bit_string(class: Class, text: &[u8]) -> Result<(Kind, usize), Problem>
-    ensures { result ≡ scan.bit_string class text.now }
+pub fn bit_string(class: Class, text: &[u8], at: usize) -> Result<(Kind, usize), LexFault>
+    ensures { result ≡ scan.bit_string at class text.now }
 {
     let Some(end) = from_first_quote(text) else {
-        return Err(Problem::OpenString);
+        return Err(LexFault::OpenString { at });
     };
     let len = text.len() - end.len();
     if is_joined(class, &text[..len]) {
         Ok((Kind::BitString, len + 3))
     } else {
-        Err(Problem::BadNumber)
+        Err(LexFault::BadNumber { at })
     }
 }

@@ -8,7 +8,7 @@ ghost use Rattle.vhdl_lexer.specs.Words.{Word};
 ghost use Rattle.vhdl_lexer.specs.Scan as scan;
 
 use crate::byte::{Class, begins, is_word_byte};
-use crate::fault::Problem;
+use crate::fault::LexFault;
 use crate::token::{Kind, RESERVED_WORDS};
 
 /// How many letters, digits and underscores the text begins with.
@@ -104,17 +104,17 @@ fn word_kind(text: &[u8]) -> Kind
     kind_among(words_of(text[0]), text)
 }
 
-/// The identifier or reserved word at the front of a text, and its length.
+/// The identifier or reserved word at the front of a text, at `at`, and its length.
 #[tactic(auto, unfolding(crate::specs::Scan::word))]
-pub fn word(text: &[u8]) -> Result<(Kind, usize), Problem>
-    ensures { result ≡ scan.word text.now }
+pub fn word(text: &[u8], at: usize) -> Result<(Kind, usize), LexFault>
+    ensures { result ≡ scan.word at text.now }
 {
     let len = run(text);
     let slice = &text[..len];
     if is_identifier(slice) {
         Ok((word_kind(slice), len))
     } else {
-        Err(Problem::BadIdentifier)
+        Err(LexFault::BadIdentifier { at })
     }
 }
 
