@@ -74,7 +74,7 @@ fn assigned(assignment: &Assignment) -> Option<&Expr>
     }
     match assignment.otherwise {
         Some(ValueTree::Expr(ref e)) => Some(e),
-        Some(ValueTree::Others(_, _)) => None,
+        Some(ValueTree::Others { .. }) => None,
         None => None,
     }
 }
@@ -116,9 +116,9 @@ fn plain(statement: &Concurrent) -> Result<&Assignment, NameFault>
 {
     match statement {
         Concurrent::Assignment(assignment) => Ok(assignment),
-        Concurrent::Selected(_, other) => Err(NameFault::LeftOut { at: other.at }),
-        Concurrent::Process(_, other) => Err(NameFault::LeftOut { at: other.at }),
-        Concurrent::Instance(label, _) => Err(NameFault::LeftOut { at: label.at }),
+        Concurrent::Selected { assignment, .. } => Err(NameFault::LeftOut { at: assignment.at }),
+        Concurrent::Process { process, .. } => Err(NameFault::LeftOut { at: process.at }),
+        Concurrent::Instance { label, .. } => Err(NameFault::LeftOut { at: label.at }),
         Concurrent::Generate(other) => Err(NameFault::LeftOut { at: other.at }),
     }
 }
