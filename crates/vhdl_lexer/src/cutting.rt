@@ -2,12 +2,12 @@
 
 ghost use Rattle.std.specs.Prelude.{◌≡◌, ◌≤◌, List, None, length, ◌<◌, Err, IfOk, IfErr, IfSome, OnOk};
 ghost use Rattle.vhdl_lexer.specs.Cut.{Cuts, AreWithin};
-ghost use Rattle.vhdl_lexer.specs.Fault.{greatest_length, IsRefusal, HasFault, fault_of, fault_byte};
+ghost use Rattle.vhdl_lexer.specs.Fault.{greatest_length, IsRefusal, HasFault, fault_byte};
 ghost use Rattle.vhdl_lexer.specs.declared.fault.LexFault.{LexFault};
 ghost use Rattle.vhdl_lexer.specs.declared.fault.LexFault.TheVariants.{TooLong};
 ghost use Rattle.vhdl_lexer.specs.declared.token.Token.{Token};
 
-use crate::fault::{LexFault, Problem};
+use crate::fault::LexFault;
 use crate::front::token;
 use crate::separator::skip;
 use crate::token::Token;
@@ -62,9 +62,9 @@ pub fn lex(alloc: Global, source: &[u8]) -> Result<Vec<Token>, LexFault>
             return Ok(tokens);
         }
         let start = source.len() - ahead.len();
-        let (kind, len) = match token(before, ahead) {
+        let (kind, len) = match token(before, ahead, start) {
             Ok(found) => found,
-            Err(problem) => return Err(fault_at(problem, start)),
+            Err(fault) => return Err(fault),
         };
         let next = Token {
             kind,
@@ -74,17 +74,5 @@ pub fn lex(alloc: Global, source: &[u8]) -> Result<Vec<Token>, LexFault>
         tokens.push(next)?;
         before = Some(kind);
         text = &ahead[len..];
-    }
-}
-
-fn fault_at(problem: Problem, at: usize) -> LexFault
-    ensures { result ≡ fault_of problem at }
-{
-    match problem {
-        Problem::BadByte => LexFault::BadByte { at },
-        Problem::OpenComment => LexFault::OpenComment { at },
-        Problem::OpenString => LexFault::OpenString { at },
-        Problem::BadIdentifier => LexFault::BadIdentifier { at },
-        Problem::BadNumber => LexFault::BadNumber { at },
     }
 }
