@@ -1,7 +1,14 @@
+pub mod Bits
+pub mod Coded
 pub mod Codes
 pub mod Digits
-pub mod Elements
 pub mod Lengths
-pub mod Padded
+pub mod Marks
+pub mod Numbered
+pub mod Parts
+pub mod Kept
+pub mod Remade
 pub mod Resolving
 pub mod Shifting
+pub mod Stripping
+pub mod Tables

@@ -8,11 +8,14 @@
 
 mod edges;
 mod kinds;
+mod planes;
 mod resolution;
 mod scalar;
+mod stripped;
 #[cfg(test)]
 mod tests;
 mod vector;
+mod words;
 
 pub use edges::edge;
 pub use kinds::{Cmp, Edge, Logic};

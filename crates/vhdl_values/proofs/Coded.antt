@@ -1,0 +1,95 @@
+-- Codes and planes: what words have of codes, and the values of codes.
+use Rattle.std.proofs.Common.{◌≡◌, ℕ, zero, suc, ◌+◌, ◌*◌, ◌^◌, ◌<◌, ◌≤◌, Bool, List, [], ◌∷◌, ◌++◌, length, map, get_or, set, take, refl, sym, ap, ◌∙◌, arith, add-one}
+use Rattle.std.specs.List.{All}
+use Rattle.std.specs.Int.{bit_at}
+use Rattle.std.proofs.lemmas.List.{length-map, map-append, take_all, take_more}
+use Rattle.std.proofs.Math.Seq.{take-suc-set}
+use Rattle.std.proofs.lemmas.Nat.Bits.{bit_at-lt}
+use Rattle.vhdl_values.specs.declared.scalar.Nine.{Nine}
+use Rattle.vhdl_values.specs.Scalar.{code_of, value_of_code}
+use Rattle.vhdl_values.specs.Planes.{bit, bit-test, marks, code_has, has_bit, plane_of, HaveCodes, code_of-value_of_code}
+use Rattle.vhdl_values.proofs.Codes.{value_of_code-code_of, code_of_below}
+use Rattle.vhdl_values.proofs.Marks.{marks_fit, marks-append, marks-map}
+use Rattle.vhdl_values.proofs.Kept.{IsKept}
+
+-- marks that agree on the elements that there are
+marks-like_on : {A : Type 0} (f g : A → Bool) (xs : List A) → All (λ x. f x ≡ g x) xs → marks f xs ≡ marks g xs
+unfolding marks
+marks-like_on f g [] same = refl
+marks-like_on f g (x ∷ xs) same =
+    ap (λ b. bit b * 2 ^ length xs + marks f xs) (same 0 x (omega arith))
+    ∙ ap (λ n. bit (g x) * 2 ^ length xs + n) (marks-like_on f g xs (λ k d lt. same (suc k) d (omega arith)))
+
+plane_of-codes : (j : ℕ) (codes : List ℕ) → All (λ code. code < 9) codes → plane_of j (map value_of_code codes) ≡ marks (code_has j) codes
+plane_of-codes j codes below =
+    marks-map (has_bit j) value_of_code codes
+    ∙ marks-like_on (λ code. has_bit j (value_of_code code)) (code_has j) codes (λ k d lt. ap (code_has j) (code_of-value_of_code _ (below k d lt)))
+
+-- words that have codes keep their values
+pub IsKept-codes : (codes : List ℕ) (a b c d : ℕ) → 1 ≤ length codes → length codes ≤ 64 → All (λ code. code < 9) codes → HaveCodes codes a b c d →
+    IsKept (map value_of_code codes) (length codes) a b c d
+IsKept-codes codes a b c d some room below h =
+    let long = length-map codes value_of_code in record {
+      same = sym long;
+      some = rw long some;
+      room = rw long room;
+      first = h.firsts ∙ sym (plane_of-codes 0 codes below);
+      second = h.seconds ∙ sym (plane_of-codes 1 codes below);
+      third = h.thirds ∙ sym (plane_of-codes 2 codes below);
+      fourth = h.fourths ∙ sym (plane_of-codes 3 codes below);
+    }
+
+-- one code more
+one-more : (j code e w n : ℕ) (codes : List ℕ) → length codes < 64 → w ≡ marks (code_has j) codes → e ≡ bit_at code j → (w < 2 ^ 63 → e < 2 → n ≡ w * 2 + e) → n ≡ marks (code_has j) (codes ++ code ∷ [])
+unfolding marks
+one-more j code e w n codes lt word digit put =
+    let fits : w < 2 ^ 63 = rw word (marks_fit (code_has j) codes 63 (omega arith)) in
+    let small : e < 2 = rw digit (bit_at-lt code j) in
+    let value : e ≡ bit (code_has j code) = digit ∙ sym (bit-test (bit_at code j) (bit_at-lt code j)) in
+    put fits small ∙ rw (word, value) (omega (arith, marks-append (code_has j) codes (code ∷ [])))
+
+pub HaveCodes-one : (codes : List ℕ) (code a b c d e f g h p q r s : ℕ) → length codes < 64 → HaveCodes codes a b c d →
+    e ≡ bit_at code 0 → f ≡ bit_at code 1 → g ≡ bit_at code 2 → h ≡ bit_at code 3 →
+    (a < 2 ^ 63 → e < 2 → p ≡ a * 2 + e) → (b < 2 ^ 63 → f < 2 → q ≡ b * 2 + f) → (c < 2 ^ 63 → g < 2 → r ≡ c * 2 + g) → (d < 2 ^ 63 → h < 2 → s ≡ d * 2 + h) →
+    HaveCodes (codes ++ code ∷ []) p q r s
+HaveCodes-one codes code a b c d e f g h p q r s lt have de df dg dh pp pq pr ps = record {
+  firsts = one-more 0 code e a p codes lt have.firsts de pp;
+  seconds = one-more 1 code f b q codes lt have.seconds df pq;
+  thirds = one-more 2 code g c r codes lt have.thirds dg pr;
+  fourths = one-more 3 code h d s codes lt have.fourths dh ps;
+}
+
+-- the codes up to the next one
+pub HaveCodes-more : (codes : List ℕ) (i z a b c d : ℕ) → i < length codes → HaveCodes (take i codes ++ get_or codes i z ∷ []) a b c d → HaveCodes (take (i + 1) codes) a b c d
+HaveCodes-more codes i z a b c d lt h = rw (take_more codes i z lt) h
+
+pub HaveCodes-none : HaveCodes [] 0 0 0 0
+unfolding marks
+HaveCodes-none = record { firsts = refl; seconds = refl; thirds = refl; fourths = refl }
+
+-- a code written behind those that are
+pub write-more : (xs : List Nine) (codes : List ℕ) (i code : ℕ) (x d : Nine) → i < length codes → i < length xs → get_or xs i d ≡ x → code ≡ code_of x →
+    take i codes ≡ map code_of (take i xs) → take (i + 1) (set codes i code) ≡ map code_of (take (i + 1) xs)
+write-more xs codes i code x d room lt here is_code so_far =
+    let next : take (i + 1) xs ≡ take i xs ++ x ∷ [] = take_more xs i d lt ∙ ap (λ y. take i xs ++ y ∷ []) here in
+    rw (next, map-append, add-one, take-suc-set codes i code room, so_far, is_code) refl
+
+codes_below-at : (vs : List Nine) (k d : ℕ) → k < length vs → get_or (map code_of vs) k d < 9
+codes_below-at [] k d lt = absurd (omega arith)
+codes_below-at (v ∷ vs) zero d lt = code_of_below v
+codes_below-at (v ∷ vs) (suc k) d lt = codes_below-at vs k d (omega arith)
+
+pub codes_below : (vs : List Nine) (codes : List ℕ) → codes ≡ map code_of vs → All (λ code. code < 9) codes
+codes_below vs codes e = rw e (λ k d lt. codes_below-at vs k d (omega (arith, length-map vs code_of)))
+
+back : (vs : List Nine) → map value_of_code (map code_of vs) ≡ vs
+back [] = refl
+back (v ∷ vs) = ap (λ w. w ∷ map value_of_code (map code_of vs)) (value_of_code-code_of v) ∙ ap (λ ws. v ∷ ws) (back vs)
+
+pub values-of_codes : (vs : List Nine) (codes : List ℕ) → codes ≡ map code_of vs → map value_of_code codes ≡ vs
+values-of_codes vs codes e = ap (map value_of_code) e ∙ back vs
+
+-- all are written
+pub written-all : (xs : List Nine) (codes : List ℕ) (i : ℕ) → i ≡ length xs → take i codes ≡ map code_of (take i xs) → take (length xs) codes ≡ map code_of xs
+written-all xs codes i end so_far =
+    ap (λ n. take n codes) (sym end) ∙ so_far ∙ ap (λ n. map code_of (take n xs)) end ∙ ap (map code_of) (take_all (length xs) xs (omega arith))
