@@ -1,15 +1,15 @@
 -- Codes and planes: what words have of codes, and the values of codes.
-use Rattle.std.proofs.Common.{◌≡◌, ℕ, zero, suc, ◌+◌, ◌*◌, ◌^◌, ◌<◌, ◌≤◌, Bool, List, [], ◌∷◌, ◌++◌, length, map, get_or, set, take, refl, sym, ap, ◌∙◌, arith, add-one}
+use Rattle.std.proofs.Common.{◌≡◌, ℕ, zero, suc, ◌+◌, ◌-◌, ◌*◌, ◌^◌, ◌<◌, ◌≤◌, Bool, List, [], ◌∷◌, ◌++◌, length, map, get_or, set, drop, take, refl, sym, ap, ◌∙◌, arith, add-one}
 use Rattle.std.specs.List.{All}
 use Rattle.std.specs.Int.{bit_at}
 use Rattle.std.proofs.lemmas.List.{length-map, map-append, take_all, take_more}
-use Rattle.std.proofs.Math.Seq.{take-suc-set}
+use Rattle.std.proofs.Math.Seq.{take-add, take-suc-set}
 use Rattle.std.proofs.lemmas.Nat.Bits.{bit_at-lt}
 use Rattle.vhdl_values.specs.declared.scalar.Nine.{Nine}
 use Rattle.vhdl_values.specs.Scalar.{code_of, value_of_code}
 use Rattle.vhdl_values.specs.Planes.{bit, bit-test, marks, code_has, has_bit, plane_of, HaveCodes, code_of-value_of_code}
 use Rattle.vhdl_values.proofs.Codes.{value_of_code-code_of, code_of_below}
-use Rattle.vhdl_values.proofs.Marks.{marks_fit, marks-append, marks-map}
+use Rattle.vhdl_values.proofs.Marks.{marks-beside, marks-map}
 use Rattle.vhdl_values.proofs.Kept.{IsKept}
 
 -- marks that agree on the elements that there are
@@ -39,29 +39,30 @@ IsKept-codes codes a b c d some room below h =
       fourth = h.fourths ∙ sym (plane_of-codes 3 codes below);
     }
 
--- one code more
-one-more : (j code e w n : ℕ) (codes : List ℕ) → length codes < 64 → w ≡ marks (code_has j) codes → e ≡ bit_at code j → (w < 2 ^ 63 → e < 2 → n ≡ w * 2 + e) → n ≡ marks (code_has j) (codes ++ code ∷ [])
-unfolding marks
-one-more j code e w n codes lt word digit put =
-    let fits : w < 2 ^ 63 = rw word (marks_fit (code_has j) codes 63 (omega arith)) in
-    let small : e < 2 = rw digit (bit_at-lt code j) in
-    let value : e ≡ bit (code_has j code) = digit ∙ sym (bit-test (bit_at code j) (bit_at-lt code j)) in
-    put fits small ∙ rw (word, value) (omega (arith, marks-append (code_has j) codes (code ∷ [])))
-
-pub HaveCodes-one : (codes : List ℕ) (code a b c d e f g h p q r s : ℕ) → length codes < 64 → HaveCodes codes a b c d →
-    e ≡ bit_at code 0 → f ≡ bit_at code 1 → g ≡ bit_at code 2 → h ≡ bit_at code 3 →
-    (a < 2 ^ 63 → e < 2 → p ≡ a * 2 + e) → (b < 2 ^ 63 → f < 2 → q ≡ b * 2 + f) → (c < 2 ^ 63 → g < 2 → r ≡ c * 2 + g) → (d < 2 ^ 63 → h < 2 → s ≡ d * 2 + h) →
-    HaveCodes (codes ++ code ∷ []) p q r s
-HaveCodes-one codes code a b c d e f g h p q r s lt have de df dg dh pp pq pr ps = record {
-  firsts = one-more 0 code e a p codes lt have.firsts de pp;
-  seconds = one-more 1 code f b q codes lt have.seconds df pq;
-  thirds = one-more 2 code g c r codes lt have.thirds dg pr;
-  fourths = one-more 3 code h d s codes lt have.fourths dh ps;
+-- more codes behind those that are
+pub HaveCodes-append : (codes group : List ℕ) (n a b c d e f g h p q r s : ℕ) → length codes + length group ≤ 64 → n ≡ length group →
+    HaveCodes codes a b c d → HaveCodes group e f g h →
+    (a < 2 ^ (64 - n) → e < 2 ^ n → p ≡ a * 2 ^ n + e) → (b < 2 ^ (64 - n) → f < 2 ^ n → q ≡ b * 2 ^ n + f) →
+    (c < 2 ^ (64 - n) → g < 2 ^ n → r ≡ c * 2 ^ n + g) → (d < 2 ^ (64 - n) → h < 2 ^ n → s ≡ d * 2 ^ n + h) → HaveCodes (codes ++ group) p q r s
+HaveCodes-append codes group n a b c d e f g h p q r s room long have more pp pq pr ps = record {
+  firsts = marks-beside (code_has 0) codes group n a e p have.firsts more.firsts long room pp;
+  seconds = marks-beside (code_has 1) codes group n b f q have.seconds more.seconds long room pq;
+  thirds = marks-beside (code_has 2) codes group n c g r have.thirds more.thirds long room pr;
+  fourths = marks-beside (code_has 3) codes group n d h s have.fourths more.fourths long room ps;
 }
 
--- the codes up to the next one
-pub HaveCodes-more : (codes : List ℕ) (i z a b c d : ℕ) → i < length codes → HaveCodes (take i codes ++ get_or codes i z ∷ []) a b c d → HaveCodes (take (i + 1) codes) a b c d
-HaveCodes-more codes i z a b c d lt h = rw (take_more codes i z lt) h
+-- the codes up to the end of a part
+pub HaveCodes-next : (codes : List ℕ) (i n m a b c d : ℕ) → m ≡ i + n → HaveCodes (take i codes ++ take n (drop i codes)) a b c d → HaveCodes (take m codes) a b c d
+HaveCodes-next codes i n m a b c d e h = rw (e, take-add i n codes) h
+
+pub HaveCodes-whole : (codes : List ℕ) (m a b c d : ℕ) → length codes ≤ m → HaveCodes (take m codes) a b c d → HaveCodes codes a b c d
+HaveCodes-whole codes m a b c d le h = rw (take_all m codes le) at h
+
+-- bytes are below 256, whatever is taken past the end
+pub all_below : (codes : List ℕ) → ((i : ℕ) → get_or codes i 0 < 256) → All (λ code. code < 256) codes
+all_below [] each k d lt = absurd (omega arith)
+all_below (code ∷ codes) each zero d lt = each 0
+all_below (code ∷ codes) each (suc k) d lt = all_below codes (λ i. each (suc i)) k d (omega arith)
 
 pub HaveCodes-none : HaveCodes [] 0 0 0 0
 unfolding marks

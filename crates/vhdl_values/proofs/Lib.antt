@@ -12,3 +12,4 @@ pub mod Resolving
 pub mod Shifting
 pub mod Stripping
 pub mod Tables
+pub mod Transposing

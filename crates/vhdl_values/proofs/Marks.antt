@@ -110,6 +110,14 @@ marks-append f (x ∷ xs) ys =
     ∙ ap (λ n. bit (f x) * n + (marks f xs * 2 ^ length ys + marks f ys)) (pow-add 2 (length xs) (length ys))
     ∙ append-step (bit (f x)) (2 ^ length xs) (2 ^ length ys) (marks f xs) (marks f ys)
 
+-- a word beside another
+pub marks-beside : {A : Type 0} (f : A → Bool) (xs ys : List A) (n a b w : ℕ) → a ≡ marks f xs → b ≡ marks f ys → n ≡ length ys → length xs + length ys ≤ 64 →
+    (a < 2 ^ (64 - n) → b < 2 ^ n → w ≡ a * 2 ^ n + b) → w ≡ marks f (xs ++ ys)
+marks-beside f xs ys n a b w e g m room put =
+    let left : a < 2 ^ (64 - n) = rw e (marks_fit f xs (64 - n) (omega arith)) in
+    let right : b < 2 ^ n = rw (g, m) (marks_below f ys) in
+    put left right ∙ rw (e, g, m) (sym (marks-append f xs ys))
+
 -- parts of a list, by the list that they make
 pub marks-shr : {A : Type 0} (f : A → Bool) (xs ys : List A) → marks f (xs ++ ys) / 2 ^ length ys ≡ marks f xs
 marks-shr f xs ys = rw marks-append (shr_high (marks f xs) (length ys) (marks f ys) (marks_below f ys))

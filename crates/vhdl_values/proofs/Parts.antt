@@ -8,7 +8,7 @@ use Rattle.std.proofs.Math.Nat.{pow-suc}
 use Rattle.vhdl_values.specs.declared.scalar.Nine.{Nine}
 use Rattle.vhdl_values.specs.Scalar.{code_of}
 use Rattle.vhdl_values.specs.Planes.{bit, bit-test, marks, has_bit, plane_of}
-use Rattle.vhdl_values.proofs.Marks.{marks_below, marks_fit, marks-append, marks-shr, marks-mod, marks-replicate}
+use Rattle.vhdl_values.proofs.Marks.{marks_below, marks-append, marks-beside, marks-shr, marks-mod, marks-replicate}
 use Rattle.vhdl_values.proofs.Kept.{IsKept}
 
 bit-has : (j : ℕ) (v : Nine) → bit_at (code_of v) j ≡ bit (has_bit j v)
@@ -29,14 +29,6 @@ IsKept-filled len all v some room e = record {
   fourth = filled 3 len all v e;
 }
 
--- one plane beside another
-beside : (f : Nine → Bool) (vs ws : List Nine) (n a p w : ℕ) → a ≡ marks f vs → p ≡ marks f ws → n ≡ length ws → length vs + length ws ≤ 64 →
-    (a < 2 ^ (64 - n) → p < 2 ^ n → w ≡ a * 2 ^ n + p) → w ≡ marks f (vs ++ ws)
-beside f vs ws n a p w e g m room put =
-    let left : a < 2 ^ (64 - n) = rw e (marks_fit f vs (64 - n) (omega arith)) in
-    let right : p < 2 ^ n = rw (g, m) (marks_below f ws) in
-    put left right ∙ rw (e, g, m) (sym (marks-append f vs ws))
-
 pub IsKept-beside : (vs ws : List Nine) (l m n k a b c d p q r s w x y z : ℕ) → IsKept vs l a b c d → IsKept ws k p q r s →
     m ≡ length vs → n ≡ length ws → length vs + length ws ≤ 64 →
     (a < 2 ^ (64 - n) → p < 2 ^ n → w ≡ a * 2 ^ n + p) → (b < 2 ^ (64 - n) → q < 2 ^ n → x ≡ b * 2 ^ n + q) →
@@ -48,10 +40,10 @@ IsKept-beside vs ws l m n k a b c d p q r s w x y z h g left right room e f i j 
       same = rw (long, left, right) refl;
       some = rw long (omega arith);
       room = rw long room;
-      first = beside (has_bit 0) vs ws n a p w h.first g.first right room e;
-      second = beside (has_bit 1) vs ws n b q x h.second g.second right room f;
-      third = beside (has_bit 2) vs ws n c r y h.third g.third right room i;
-      fourth = beside (has_bit 3) vs ws n d s z h.fourth g.fourth right room j;
+      first = marks-beside (has_bit 0) vs ws n a p w h.first g.first right room e;
+      second = marks-beside (has_bit 1) vs ws n b q x h.second g.second right room f;
+      third = marks-beside (has_bit 2) vs ws n c r y h.third g.third right room i;
+      fourth = marks-beside (has_bit 3) vs ws n d s z h.fourth g.fourth right room j;
     }
 
 -- a part of a list

@@ -14,6 +14,7 @@ mod scalar;
 mod stripped;
 #[cfg(test)]
 mod tests;
+mod transposed;
 mod vector;
 mod words;
 

@@ -1,9 +1,10 @@
 //! Four words that codes are put into one after the other.
 
-ghost use Rattle.std.specs.Prelude.{ℕ, ◌≡◌, ◌<◌, ◌≤◌, ◌++◌, List, [], ◌∷◌, length};
+ghost use Rattle.std.specs.Prelude.{ℕ, ◌≡◌, ◌<◌, ◌≤◌, ◌++◌, ◌+◌, List, [], length};
 ghost use Rattle.vhdl_values.specs.Planes.{HaveCodes};
 
-use crate::words::{beside, bit};
+use crate::transposed::{gathered, packed};
+use crate::words::beside;
 
 /// The bits of codes, leftmost first: bit k of a word stands for the code k places from the right.
 #[derive(Clone, Copy)]
@@ -33,22 +34,24 @@ impl Planes {
         ensures { HaveCodes codes.now result.first result.second result.third result.fourth }
     {
         let mut planes = Planes::new();
-        for code in codes {
-            planes = planes.and_code(*code);
+        let whole = codes.len() / 8;
+        for group in 0..whole {
+            planes = planes.and_group(&codes[8 * group..8 * group + 8]);
         }
-        planes
+        planes.and_group(&codes[8 * whole..])
     }
 
-    /// The codes, and one more to their right.
-    fn and_code(self, code: u8) -> Planes
-        ensures { (codes : List ℕ) → length codes < 64 → HaveCodes codes self.first self.second self.third self.fourth → HaveCodes (codes ++ code ∷ []) result.first result.second result.third result.fourth }
+    /// The codes, and up to eight more to their right.
+    fn and_group(self, group: &[u8]) -> Planes
+        requires { length group.now ≤ 8 }
+        ensures { (codes : List ℕ) → length codes + length group.now ≤ 64 → HaveCodes codes self.first self.second self.third self.fourth → HaveCodes (codes ++ group.now) result.first result.second result.third result.fourth }
     {
-        let code = u64::from(code);
+        let (word, len) = (packed(group), group.len());
         Planes {
-            first: beside(self.first, bit(code, 0), 1),
-            second: beside(self.second, bit(code, 1), 1),
-            third: beside(self.third, bit(code, 2), 1),
-            fourth: beside(self.fourth, bit(code, 3), 1),
+            first: beside(self.first, gathered(word, 0), len),
+            second: beside(self.second, gathered(word, 1), len),
+            third: beside(self.third, gathered(word, 2), len),
+            fourth: beside(self.fourth, gathered(word, 3), len),
         }
     }
 }

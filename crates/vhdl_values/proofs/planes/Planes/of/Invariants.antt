@@ -1,6 +1,6 @@
-use Rattle.std.proofs.Common.{take}
+use Rattle.std.proofs.Common.{◌*◌, take}
 use Rattle.vhdl_values.specs.Planes.{HaveCodes}
 use Rattle.vhdl_values.proofs.planes.Planes.of.Given as goal
 
-abbrev pub invariant-loop-code : goal.invariant-loop-code
-invariant-loop-code l = HaveCodes (take l.code-index l.codes) l.planes.first l.planes.second l.planes.third l.planes.fourth
+abbrev pub invariant-loop-group : goal.invariant-loop-group
+invariant-loop-group l = HaveCodes (take (8 * l.group) l.codes) l.planes.first l.planes.second l.planes.third l.planes.fourth
