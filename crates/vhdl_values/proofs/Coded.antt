@@ -1,13 +1,12 @@
 -- Codes and planes: what words have of codes, and the values of codes.
-use Rattle.std.proofs.Common.{◌≡◌, ℕ, zero, suc, ◌+◌, ◌-◌, ◌*◌, ◌^◌, ◌<◌, ◌≤◌, Bool, List, [], ◌∷◌, ◌++◌, length, map, get_or, set, drop, take, refl, sym, ap, ◌∙◌, arith, add-one}
+use Rattle.std.proofs.Common.{◌≡◌, ℕ, zero, suc, ◌+◌, ◌-◌, ◌*◌, ◌^◌, ◌<◌, ◌≤◌, Bool, List, [], ◌∷◌, ◌++◌, length, map, get_or, set, drop, take, refl, sym, ap, ◌∙◌, arith, add-one, append_assoc}
 use Rattle.std.specs.List.{All}
-use Rattle.std.specs.Int.{bit_at}
-use Rattle.std.proofs.lemmas.List.{length-map, map-append, take_all, take_more}
-use Rattle.std.proofs.Math.Seq.{take-add, take-suc-set}
-use Rattle.std.proofs.lemmas.Nat.Bits.{bit_at-lt}
+use Rattle.std.proofs.lemmas.List.{append-nil, drop_all, length-map, length-take, map-append, take_all, take_more}
+use Rattle.std.proofs.Math.Seq.{take-add, take-append_seam, take-suc-set}
+use borrow.Rule.Slice.PartMut.{put_mid, post_of, Post-is}
 use Rattle.vhdl_values.specs.declared.scalar.Nine.{Nine}
 use Rattle.vhdl_values.specs.Scalar.{code_of, value_of_code}
-use Rattle.vhdl_values.specs.Planes.{bit, bit-test, marks, code_has, has_bit, plane_of, HaveCodes, code_of-value_of_code}
+use Rattle.vhdl_values.specs.Planes.{bit, marks, code_has, has_bit, plane_of, HaveCodes, code_of-value_of_code}
 use Rattle.vhdl_values.proofs.Codes.{value_of_code-code_of, code_of_below}
 use Rattle.vhdl_values.proofs.Marks.{marks-beside, marks-map}
 use Rattle.vhdl_values.proofs.Kept.{IsKept}
@@ -94,3 +93,33 @@ values-of_codes vs codes e = ap (map value_of_code) e ∙ back vs
 pub written-all : (xs : List Nine) (codes : List ℕ) (i : ℕ) → i ≡ length xs → take i codes ≡ map code_of (take i xs) → take (length xs) codes ≡ map code_of xs
 written-all xs codes i end so_far =
     ap (λ n. take n codes) (sym end) ∙ so_far ∙ ap (λ n. map code_of (take n xs)) end ∙ ap (map code_of) (take_all (length xs) xs (omega arith))
+
+-- a part is written behind those that are
+behind : (xs : List Nine) (out put bytes : List ℕ) (i n m : ℕ) → put ≡ bytes → bytes ≡ map code_of (take n (drop i xs)) → m ≡ i + n → take i out ≡ map code_of (take i xs) → take i out ++ put ≡ map code_of (take m xs)
+behind xs out put bytes i n m e f g so_far =
+    ap (λ l. l ++ put) so_far ∙ ap (λ l. map code_of (take i xs) ++ l) (e ∙ f) ∙ sym (map-append code_of (take i xs) (take n (drop i xs)))
+    ∙ ap (map code_of) (sym (take-add i n xs)) ∙ ap (λ k. map code_of (take k xs)) (sym g)
+
+pub write-part : (xs : List Nine) (out put bytes : List ℕ) (i k n m : ℕ) → put ≡ bytes → bytes ≡ map code_of (take n (drop i xs)) → m ≡ i + n → m ≤ length xs →
+    take i out ≡ map code_of (take i xs) → take m (put_mid i k out put) ≡ map code_of (take m xs)
+write-part xs out put bytes i k n m e f g le so_far =
+    let both = behind xs out put bytes i n m e f g so_far in
+    let long : m ≡ length (take i out ++ put) = sym (ap length both ∙ length-map (take m xs) code_of ∙ length-take m xs ∙ omega arith) in
+    ap (take m) (sym (append_assoc (take i out) put (post_of i k out)))
+    ∙ ap (λ j. take j ((take i out ++ put) ++ post_of i k out)) long
+    ∙ take-append_seam (take i out ++ put) (post_of i k out)
+    ∙ both
+
+pub write-rest : (xs : List Nine) (out put bytes : List ℕ) (i k n : ℕ) → put ≡ bytes → bytes ≡ map code_of (take n (drop i xs)) → length xs ≡ i + n → k ≡ length out - i → i ≤ length out →
+    take i out ≡ map code_of (take i xs) → put_mid i k out put ≡ map code_of xs
+write-rest xs out put bytes i k n e f g last le so_far =
+    let none : post_of i k out ≡ [] = ap (λ j. post_of i j out) last ∙ Post-is i (length out) out le ∙ drop_all (length out) out (omega arith) in
+    ap (λ l. take i out ++ (put ++ l)) none
+    ∙ ap (λ l. take i out ++ l) (append-nil put)
+    ∙ behind xs out put bytes i n (length xs) e f g so_far
+    ∙ ap (map code_of) (take_all (length xs) xs (omega arith))
+
+-- no more bytes are taken than there are codes
+pub whole-part : (xs : List Nine) (bytes : List ℕ) (k n i : ℕ) → bytes ≡ map code_of (take n (drop i xs)) → n ≤ k → take k bytes ≡ map code_of (take n (drop i xs))
+whole-part xs bytes k n i e le =
+    ap (take k) e ∙ take_all k (map code_of (take n (drop i xs))) (omega (arith, length-map (take n (drop i xs)) code_of, length-take n (drop i xs)))

@@ -10,6 +10,7 @@ pub mod Kept
 pub mod Remade
 pub mod Resolving
 pub mod Shifting
+pub mod Spreading
 pub mod Stripping
 pub mod Tables
 pub mod Transposing

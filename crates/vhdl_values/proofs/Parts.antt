@@ -62,7 +62,7 @@ marks-part f xs at len le =
     ∙ ap (λ n. marks f (front ++ middle) % 2 ^ n) (sym long)
     ∙ marks-mod f front middle
 
-part : (f : Nine → Bool) (vs : List Nine) (a at len right w : ℕ) → a ≡ marks f vs → at + len ≤ length vs → right ≡ length vs - at - len → w ≡ a / 2 ^ right % 2 ^ len → w ≡ marks f (take len (drop at vs))
+pub part : (f : Nine → Bool) (vs : List Nine) (a at len right w : ℕ) → a ≡ marks f vs → at + len ≤ length vs → right ≡ length vs - at - len → w ≡ a / 2 ^ right % 2 ^ len → w ≡ marks f (take len (drop at vs))
 part f vs a at len right w e le r cut = cut ∙ rw (e, r) (marks-part f vs at len le)
 
 pub IsKept-part : (vs : List Nine) (n a b c d at len right w x y z : ℕ) → IsKept vs n a b c d → 1 ≤ len → at + len ≤ length vs → right ≡ length vs - at - len →

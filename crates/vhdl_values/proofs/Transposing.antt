@@ -1,6 +1,6 @@
 -- Eight codes as the bytes of a word: a plane of them is gathered by a mask and a product, and spread likewise.
-use Rattle.std.proofs.Common.{◌≡◌, ℕ, zero, suc, ◌+◌, ◌-◌, ◌*◌, ◌/◌, ◌%◌, ◌^◌, ◌<◌, ◌≤◌, Bool, true, false, List, [], ◌∷◌, ◌++◌, length, map, get_or, take, drop, replicate, refl, sym, ap, ◌∙◌, arith, length-append, append_assoc}
-use Rattle.std.specs.Prelude.{◌&&◌, ◌==◌, bit_and, bit_or, slice_index}
+use Rattle.std.proofs.Common.{◌≡◌, ℕ, zero, suc, ◌+◌, ◌-◌, ◌*◌, ◌/◌, ◌%◌, ◌^◌, ◌<◌, ◌≤◌, Bool, true, false, List, [], ◌∷◌, ◌++◌, length, map, get_or, take, replicate, refl, sym, ap, ◌∙◌, arith, length-append}
+use Rattle.std.specs.Prelude.{◌&&◌, ◌==◌, bit_and}
 use Rattle.std.specs.List.{All}
 use Rattle.std.specs.Int.{bit_at, w64, from_be_bytes, to_be_bytes}
 use Rattle.std.proofs.lemmas.List.{length-map, length-replicate, length-take, take_more}
@@ -118,11 +118,11 @@ packed-times f m (c ∷ cs) =
     ∙ times (f c) m (2 ^ (8 * length cs)) (packed (map f cs))
     ∙ ap (λ n. (f c * 2 ^ (8 * n) + packed (map f cs)) * m) (sym (length-map cs f))
 
-map-like : {A B : Type 0} (f g : A → B) (xs : List A) → ((x : A) → f x ≡ g x) → map f xs ≡ map g xs
+pub map-like : {A B : Type 0} (f g : A → B) (xs : List A) → ((x : A) → f x ≡ g x) → map f xs ≡ map g xs
 map-like f g [] same = refl
 map-like f g (x ∷ xs) same = ap (λ y. y ∷ map f xs) (same x) ∙ ap (λ ys. g x ∷ ys) (map-like f g xs same)
 
-map-twice : {A B C : Type 0} (g : B → C) (f : A → B) (xs : List A) → map g (map f xs) ≡ map (λ x. g (f x)) xs
+pub map-twice : {A B C : Type 0} (g : B → C) (f : A → B) (xs : List A) → map g (map f xs) ≡ map (λ x. g (f x)) xs
 map-twice g f [] = refl
 map-twice g f (x ∷ xs) = ap (λ ys. g (f x) ∷ ys) (map-twice g f xs)
 
@@ -178,14 +178,10 @@ gathered j cs word lt le all e =
 
 -- ---- eight codes from planes
 
-spread-marks : {A : Type 0} (f : A → Bool) (xs : List A) → length xs ≡ 8 → spread_of (marks f xs) ≡ packed (map (λ x. bit (f x)) xs)
-spread-marks f xs long =
-    ap spread_of (sym (marks-map (λ b. b) f xs)) ∙ spread-bits (map f xs) (length-map xs f ∙ long) ∙ ap packed (map-twice bit f xs)
-
 sums : (a b c d p k l m n : ℕ) → a * p + k + 2 * (b * p + l) + 4 * (c * p + m + 2 * (d * p + n)) ≡ (a + 2 * b + 4 * (c + 2 * d)) * p + (k + 2 * l + 4 * (m + 2 * n))
 sums a b c d p k l m n = grind arith
 
-packed-sum : {A : Type 0} (f g h i : A → ℕ) (xs : List A) →
+pub packed-sum : {A : Type 0} (f g h i : A → ℕ) (xs : List A) →
     packed (map f xs) + 2 * packed (map g xs) + 4 * (packed (map h xs) + 2 * packed (map i xs)) ≡ packed (map (λ x. f x + 2 * g x + 4 * (h x + 2 * i x)) xs)
 unfolding packed
 packed-sum f g h i [] = refl

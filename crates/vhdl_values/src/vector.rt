@@ -1,18 +1,18 @@
 //! Vectors of 1 to 64 values.
 
-ghost use Rattle.std.specs.Prelude.{◌≡◌, ◌+◌, ◌%◌, ◌^◌, ◌<◌, ◌≤◌, ◌++◌, ◌↔◌, if◌then◌else◌, IsTrue, Some, None, true, All, List, length, map, max, replicate, slice_get, slice_set, take, drop};
-ghost use Rattle.vhdl_values.specs.Scalar.{are_same, code_of, value_of_code};
+ghost use Rattle.std.specs.Prelude.{◌≡◌, ◌+◌, ◌%◌, ◌^◌, ◌<◌, ◌≤◌, ◌++◌, ◌↔◌, if◌then◌else◌, IsTrue, Some, None, true, List, length, map, max, replicate, slice_get, slice_set, take, drop};
+ghost use Rattle.vhdl_values.specs.Scalar.{are_same};
 ghost use Rattle.vhdl_values.specs.Logic.{strip, logic_of_all, not_of_all};
 ghost use Rattle.vhdl_values.specs.Numbers.{all_good, number_of, digits_of};
 ghost use Rattle.vhdl_values.specs.Arithmetic.{sum_of, difference_of, product_of};
 ghost use Rattle.vhdl_values.specs.Relations.{compares, compares_number};
 ghost use Rattle.vhdl_values.specs.Shifts.{shifted_left, shifted_right, resized};
-ghost use Rattle.vhdl_values.specs.Planes.{planes_of};
 ghost use Rattle.vhdl_values.specs.Marked.{IsMarked};
 ghost use Rattle.vhdl_values.specs.declared.scalar.Nine.{Nine as Value};
 
+mod codes;
+
 use crate::kinds::{Cmp, Logic};
-use crate::planes::Planes;
 use crate::scalar::Nine;
 use crate::stripped::Stripped;
 use crate::words::{beside, bit, mask, part, with_bit};
@@ -313,42 +313,6 @@ impl Vec9 {
         } else {
             Vec9::fill(Nine::Zero, len)
         }
-    }
-
-    /// The vector of these codes, 1 to 64 of them and each below 9, leftmost first.
-    pub fn of_codes(codes: &[u8]) -> Vec9
-        requires some { 1 ≤ length codes.now }
-        requires room { length codes.now ≤ 64 }
-        requires codes { All (λ code. code < 9) codes.now }
-        ensures list { result ≡ map value_of_code codes.now }
-        ensures len { length result ≡ length codes.now }
-    {
-        let planes = Planes::of(codes);
-        Vec9 {
-            first: planes.first,
-            second: planes.second,
-            third: planes.third,
-            fourth: planes.fourth,
-            len: codes.len(),
-        }
-    }
-
-    /// Writes the codes of the values, 0 to 8, over a slice of the vector's length, leftmost first.
-    pub fn write_codes(&self, out: &mut [u8])
-        requires { length out.old ≡ length self.now }
-        ensures { out.new ≡ map code_of self.now }
-    {
-        for at in 0..self.len() {
-            out[at] = self.get(at).code();
-        }
-    }
-
-    /// The four words that keep the vector: bit k of word j is bit j of the code of the value that stands k places
-    /// from the right, and a bit at the length or above is 0.
-    pub fn planes(&self) -> [u64; 4]
-        ensures { result ≡ planes_of self.now }
-    {
-        [self.first, self.second, self.third, self.fourth]
     }
 
     /// The number that the values stand for, if each stands for a digit.

@@ -40,6 +40,16 @@ pub(crate) fn part(word: u64, right: usize, len: usize) -> u64
     (word >> right) & mask(len)
 }
 
+/// Up to eight bits, with so many to their right.
+pub(crate) fn byte(word: u64, right: usize, len: usize) -> u8
+    requires right { right < 64 }
+    requires some { 1 ≤ len }
+    requires room { len ≤ 8 }
+    ensures { result ≡ word / 2 ^ right % 2 ^ len }
+{
+    part(word, right, len) as u8
+}
+
 /// The bits of a word, and those of another, so many, to their right, where there is room for both.
 pub(crate) fn beside(left: u64, right: u64, len: usize) -> u64
     requires { len < 64 }

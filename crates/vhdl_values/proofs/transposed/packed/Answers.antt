@@ -1,4 +1,4 @@
-use Rattle.std.proofs.Common.{◌≡◌, ◌∙◌, ap, arith, take}
+use Rattle.std.proofs.Common.{◌∙◌, ap, arith}
 use Rattle.std.proofs.lemmas.List.{take_all}
 use Rattle.vhdl_values.specs.Packed.{packed}
 use Rattle.vhdl_values.proofs.Transposing.{from_be_bytes-packed, packed-none, packed-next}

@@ -1,4 +1,4 @@
-use Rattle.std.proofs.Common.{◌≡◌, ◌+◌, ◌*◌, ◌-◌, ◌/◌, ap, arith, drop, length, length-drop, refl, take}
+use Rattle.std.proofs.Common.{◌≡◌, ◌+◌, ◌*◌, ◌-◌, ◌/◌, arith, length, length-drop, refl, take}
 use Rattle.std.proofs.lemmas.List.{length-take}
 use Rattle.vhdl_values.specs.Planes.{HaveCodes}
 use Rattle.vhdl_values.proofs.Coded.{HaveCodes-next, HaveCodes-whole}
