@@ -8,11 +8,15 @@
 
 mod edges;
 mod kinds;
+mod planes;
 mod resolution;
 mod scalar;
+mod stripped;
 #[cfg(test)]
 mod tests;
+mod transposed;
 mod vector;
+mod words;
 
 pub use edges::edge;
 pub use kinds::{Cmp, Edge, Logic};
