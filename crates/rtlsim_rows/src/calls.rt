@@ -1,0 +1,179 @@
+//! The calls by which a row is made.
+
+use crate::answer::{Answer, text_of};
+use crate::faulty::{FailingReader, FailingWriter, Failure};
+use crate::row::Row;
+use rtl_sink::Out;
+use rtlsim::{Named, eval, tool, tool_first_line, tool_with};
+use std::alloc::{AllocError, Global};
+use std::io;
+use std::io::{ErrorKind, Read};
+use std::rt::Files;
+
+/// What the call of this name gives, where it isn't what the row says.
+///
+/// # Errors
+///
+/// `InvalidData` where there is no such call; and those of memory.
+pub fn wrong_answer<R: Files + AllocGlobal>(
+    rt: &R,
+    row: &Row<'_>,
+    call: &str,
+) -> io::Result<Option<Answer>> {
+    let answer = match call.as_bytes() {
+        b"tool" => by_tool(rt.alloc(), row, row.input.as_slice()),
+        b"files" => by_files(rt, row),
+        b"line" => by_line(rt, row, b"\n")?,
+        b"crlf" => by_line(rt, row, b"\r\n")?,
+        b"eval" => by_eval(rt.alloc(), row)?,
+        b"reads" => return wrong_by_reads(rt.alloc(), row),
+        b"writes" => return wrong_by_writes(rt.alloc(), row),
+        _ => return Err(io::Error::from(ErrorKind::InvalidData)),
+    };
+    Ok(unless_told(row, answer))
+}
+
+/// The answer, where it isn't the row's.
+fn unless_told(row: &Row<'_>, answer: Answer) -> Option<Answer> {
+    if is_told(row, &answer) {
+        None
+    } else {
+        Some(answer)
+    }
+}
+
+/// Whether an answer is the row's.
+fn is_told(row: &Row<'_>, answer: &Answer) -> bool {
+    if row.parts.is_empty() {
+        return answer.is(row.answer.status, &row.answer.out, &row.answer.err);
+    }
+    answer.status == row.answer.status
+        && answer.out.is_empty()
+        && answer.err.ends_with(b"\n")
+        && row
+            .parts
+            .iter()
+            .all(|part| text_of(&answer.err).find(*part).is_some())
+}
+
+/// `tool` over a reader.
+fn by_tool<R: Read + Drop>(alloc: Global, row: &Row<'_>, reader: R) -> Answer {
+    let mut out = Out::new(Vec::new(alloc));
+    let mut err = Out::new(Vec::new(alloc));
+    let status = tool(alloc, &row.words, reader, &mut out, &mut err);
+    Answer {
+        status,
+        out: out.into_inner(),
+        err: err.into_inner(),
+    }
+}
+
+/// `tool_with` over the input and the files of the folder.
+fn by_files<R: Files + AllocGlobal>(rt: &R, row: &Row<'_>) -> Answer {
+    let mut out = Out::new(Vec::new(rt.alloc()));
+    let mut err = Out::new(Vec::new(rt.alloc()));
+    let mut inputs = Named {
+        files: rt,
+        reader: row.input.as_slice(),
+    };
+    let status = tool_with(rt.alloc(), &row.words, &mut inputs, &mut out, &mut err);
+    Answer {
+        status: status.code(),
+        out: out.into_inner(),
+        err: err.into_inner(),
+    }
+}
+
+/// `tool_first_line` over a line of the words, and behind it the input. Where there are no words, the input
+/// has the line.
+fn by_line<R: Files + AllocGlobal>(
+    rt: &R,
+    row: &Row<'_>,
+    end: &[u8],
+) -> Result<Answer, AllocError> {
+    let mut all = Vec::new(rt.alloc());
+    if !row.words.is_empty() {
+        all.extend_from_slice(row.line.as_bytes())?;
+        all.extend_from_slice(end)?;
+    }
+    all.extend_from_slice(&row.input)?;
+    let mut out = Out::new(Vec::new(rt.alloc()));
+    let mut err = Out::new(Vec::new(rt.alloc()));
+    let status = tool_first_line(rt.alloc(), rt, all.as_slice(), &mut out, &mut err);
+    Ok(Answer {
+        status: status.code(),
+        out: out.into_inner(),
+        err: err.into_inner(),
+    })
+}
+
+/// `eval` over the input. It tells a fault by its answer, and so the error output is the row's.
+fn by_eval(alloc: Global, row: &Row<'_>) -> Result<Answer, AllocError> {
+    let mut answer = Answer::new(alloc);
+    let [_command, _file, top, sets @ ..] = row.words.as_slice() else {
+        return Ok(answer);
+    };
+    let mut texts = Vec::new(alloc);
+    for set in sets {
+        texts.push(set.as_bytes())?;
+    }
+    let mut out = Out::new(Vec::new(alloc));
+    if let Err(fault) = eval(alloc, &row.input, top.as_bytes(), &texts, &mut out) {
+        answer.status = fault.status().code();
+    }
+    answer.out = out.into_inner();
+    answer.err = row.answer.err.as_slice().to_vec(alloc)?;
+    Ok(answer)
+}
+
+/// `tool`, where each read in turn fails: it tells so, and nothing else. Where none does, it is the row's.
+fn wrong_by_reads(alloc: Global, row: &Row<'_>) -> io::Result<Option<Answer>> {
+    for failure in [Failure::Once, Failure::Interrupted] {
+        for reads in 0..=row.input.len() {
+            let reader = FailingReader::new(&row.input, reads, failure);
+            let answer = by_tool(alloc, row, reader);
+            if !answer.is(8, b"", b"rtlsim: input\n") {
+                return Ok(Some(answer));
+            }
+        }
+    }
+    let reader = FailingReader::new(&row.input, usize::MAX, Failure::Once);
+    Ok(unless_told(row, by_tool(alloc, row, reader)))
+}
+
+/// `tool`, where each write in turn fails: a beginning went out. Where none does, it is the row's.
+fn wrong_by_writes(alloc: Global, row: &Row<'_>) -> io::Result<Option<Answer>> {
+    let never = (usize::MAX, Failure::Once);
+    for failure in [Failure::Once, Failure::Interrupted, Failure::Stuck] {
+        for writes in 0..row.answer.out.len() {
+            let answer = by_writers(alloc, row, (writes, failure), never);
+            if !answer.is(8, &row.answer.out[..writes], b"rtlsim: output\n") {
+                return Ok(Some(answer));
+            }
+        }
+        for writes in 0..row.answer.err.len() {
+            let answer = by_writers(alloc, row, never, (writes, failure));
+            if !answer.is(8, &row.answer.out, &row.answer.err[..writes]) {
+                return Ok(Some(answer));
+            }
+        }
+    }
+    Ok(unless_told(row, by_writers(alloc, row, never, never)))
+}
+
+/// `tool` over outputs that fail after so many writes.
+fn by_writers(
+    alloc: Global,
+    row: &Row<'_>,
+    out_fails: (usize, Failure),
+    err_fails: (usize, Failure),
+) -> Answer {
+    let mut out = Out::new(FailingWriter::new(alloc, out_fails.0, out_fails.1));
+    let mut err = Out::new(FailingWriter::new(alloc, err_fails.0, err_fails.1));
+    let status = tool(alloc, &row.words, row.input.as_slice(), &mut out, &mut err);
+    Answer {
+        status,
+        out: out.into_inner().taken,
+        err: err.into_inner().taken,
+    }
+}

@@ -1,0 +1,140 @@
+//! A row of a table.
+
+use crate::answer::{Answer, text_of};
+use std::alloc::{AllocError, Global};
+use std::io::ErrorKind;
+use std::rt::Files;
+use std::{fs, io};
+
+/// As many spaces are added to an input at a time.
+const BLOCK: usize = 4096;
+
+/// Words and an input, and what a call with them must answer.
+#[derive(Drop)]
+pub struct Row<'a> {
+    /// The words as they stand in the table.
+    pub line: &'a str,
+    pub words: Vec<&'a str>,
+    pub input: Vec<u8>,
+    pub answer: Answer,
+    /// Where the error output is the text of the reader of words: texts that stand in it.
+    pub parts: Vec<&'a str>,
+    /// The names of the calls by which the row is made, with a space between.
+    pub calls: &'a str,
+    /// The byte of the input that is marked.
+    mark: usize,
+}
+
+impl<'a> Row<'a> {
+    /// Reads a row, from its words on.
+    ///
+    /// # Errors
+    ///
+    /// `InvalidData` where a line is of no kind; and those of reading a file, and of memory.
+    pub fn read<R: Files + AllocGlobal>(rt: &R, part: &'a str) -> io::Result<Row<'a>> {
+        let (line, rest) = part.split_once('\n').unwrap_or((part, ""));
+        let mut row = Row {
+            line: line.trim(),
+            words: words_of(rt.alloc(), line)?,
+            input: Vec::new(rt.alloc()),
+            answer: Answer::new(rt.alloc()),
+            parts: Vec::new(rt.alloc()),
+            calls: "",
+            mark: 0,
+        };
+        for line in rest.split('\n') {
+            row.take_line(rt, line)?;
+        }
+        if row.calls.is_empty() {
+            row.calls = row.usual_calls();
+        }
+        Ok(row)
+    }
+
+    /// Takes a line, whose first word is its kind.
+    fn take_line<R: Files + AllocGlobal>(&mut self, rt: &R, line: &'a str) -> io::Result<()> {
+        let (kind, text) = line.split_once(' ').unwrap_or((line, ""));
+        match kind.as_bytes() {
+            b"<" => self.push_input(text, b"\n")?,
+            b"<-" => self.push_input(text, b"")?,
+            b"<<" => self.input.extend_from_slice(&fs::read(rt, text)?)?,
+            b"<*" => self.push_spaces(text.parse::<usize>().unwrap_or(0))?,
+            b">" => self.answer.push_output(text)?,
+            b"!" => self.push_error(rt.alloc(), text)?,
+            b"!~" => self.parts.push(text)?,
+            b"=" => self.answer.status = text.parse::<u8>().unwrap_or(u8::MAX),
+            b"by" => self.calls = text,
+            b"" | b"#" => {}
+            _ => return Err(io::Error::from(ErrorKind::InvalidData)),
+        }
+        Ok(())
+    }
+
+    /// Adds a text to the input, and marks the byte behind `^`.
+    fn push_input(&mut self, text: &str, end: &[u8]) -> Result<(), AllocError> {
+        let (before, after) = match text.split_once('^') {
+            Some((before, after)) => (before, Some(after)),
+            None => (text, None),
+        };
+        self.input.extend_from_slice(before.as_bytes())?;
+        if let Some(after) = after {
+            self.mark = self.input.len();
+            self.input.extend_from_slice(after.as_bytes())?;
+        }
+        self.input.extend_from_slice(end)
+    }
+
+    fn push_spaces(&mut self, count: usize) -> Result<(), AllocError> {
+        let block = [b' '; BLOCK];
+        for _ in 0..count / BLOCK {
+            self.input.extend_from_slice(&block)?;
+        }
+        self.input.extend_from_slice(&block[..count % BLOCK])
+    }
+
+    /// Adds a line to the error output that is wanted, with the number of the marked byte in place of `^`.
+    fn push_error(&mut self, alloc: Global, text: &str) -> Result<(), AllocError> {
+        match text.split_once('^') {
+            Some((before, after)) => {
+                let line = format!(in alloc; "{before}{}{after}", self.mark)?;
+                self.answer.push_error(line.as_str())
+            }
+            None => self.answer.push_error(text),
+        }
+    }
+
+    /// The first line that must come, or a text that must stand in one.
+    pub fn told(&self) -> &str {
+        if let [part, ..] = self.parts.as_slice() {
+            return part;
+        }
+        let text = if self.answer.out.is_empty() {
+            &self.answer.err
+        } else {
+            &self.answer.out
+        };
+        text_of(text).split('\n').next().unwrap_or("")
+    }
+
+    /// The calls by which a row is made that names none.
+    fn usual_calls(&self) -> &'static str {
+        if !self.parts.is_empty() {
+            return "tool files line";
+        }
+        if self.answer.status == 8 || self.words.is_empty() {
+            return "tool files line writes";
+        }
+        "tool files line eval reads writes"
+    }
+}
+
+/// The words of a line, cut at runs of spaces.
+fn words_of(alloc: Global, line: &str) -> Result<Vec<&str>, AllocError> {
+    let mut words = Vec::new(alloc);
+    for word in line.split(' ') {
+        if !word.is_empty() {
+            words.push(word)?;
+        }
+    }
+    Ok(words)
+}
