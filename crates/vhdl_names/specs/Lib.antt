@@ -1,1 +1,17 @@
 pub mod units
+pub mod Rules
+pub mod Visibility
+pub mod Packages
+pub mod Literals
+pub mod Operators
+pub mod Names
+pub mod Expressions
+pub mod Subtypes
+pub mod Declarations
+pub mod SameText
+pub mod Choices
+pub mod Statements
+pub mod Interfaces
+pub mod Instances
+pub mod Concurrent
+pub mod Files
