@@ -24,7 +24,8 @@ in_order with_more declares sight (d ∷ ds) = do
   xs ← in_order with_more declares (with_more sight x.declared) ds
   Some (followed_by x xs)
 
--- within its own declaration a name hides outer ones and means nothing yet (12.3)
+-- Within the declaration of a signal, constant or variable its name hides outer ones, and means nothing yet (12.3). In an interface
+-- list a name is there, and hides, from the end of its declaration on.
 abbrev pub within : Sight → List Ident → Sight
 within sight ns = with_declared sight (all_declared m.unfinished (names_of ns))
 
@@ -44,9 +45,9 @@ for_each f ns = map f (names_of ns)
 -- generics are integers; a default is a static integer
 unfoldable pub generic : Sight → t.Generic → Option (Declares u.Generic)
 generic sight g = do
-  mark ← meaning (within sight g.names) g.mark.text
+  mark ← meaning sight g.mark.text
   type ← as_integer_type mark
-  default ← if_any (static (within sight g.names)) g.default
+  default ← if_any (static sight) g.default
   Some (record {
     declared = declared_as m.is_generic m.generic sight.region g.names;
     analysed = for_each (λ n. record { type = type; default = default }) g.names;
@@ -63,9 +64,9 @@ mode_of mode = unwrap_or mode In
 
 unfoldable pub port : Sight → t.Port → Option (Declares u.Port)
 port sight p = do
-  s ← subtype (within sight p.names) p.subtype
+  s ← subtype sight p.subtype
   kind ← as_kind s.type
-  default ← if_any (fixed_value (within sight p.names) s.type) p.default
+  default ← if_any (fixed_value sight s.type) p.default
   Some (record {
     declared = declared_as m.is_port (λ k. m.port k (mode_of p.mode) kind) sight.region p.names;
     analysed = for_each (λ n. record { mode = mode_of p.mode; object = object s default n }) p.names;

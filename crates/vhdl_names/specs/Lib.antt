@@ -15,3 +15,4 @@ pub mod Interfaces
 pub mod Instances
 pub mod Concurrent
 pub mod Files
+pub mod examples

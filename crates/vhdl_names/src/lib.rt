@@ -1,7 +1,8 @@
 //! Names and types of a file (IEEE 1076-2008, clauses 6 and 8 to 13). The definitions stand in `specs`: what an analysed
-//! file is (`units`), and which file is well typed, one rule a line.
+//! file is (`units`), which file is well typed, one rule a line, and small examples of both.
 #![tactic(auto)]
 
 mod operator;
+pub mod rule_examples;
 
 pub use operator::{Arithmetic, IntegerType, Numeric, VectorOperator};
