@@ -10,7 +10,7 @@ use Rattle.vhdl_names.specs.units.Units as u
 use Rattle.vhdl_names.specs.units.Units.{Fixed, Object}
 use Rattle.vhdl_names.specs.Rules.{◌>>=◌, ◌>>◌, rule, if_any}
 use Rattle.vhdl_names.specs.Visibility as m
-use Rattle.vhdl_names.specs.Visibility.{Name, Kind, ObjectType, Meaning, Declared, Sight, meaning, names_of, numbered, all_declared, count_of, with_declared, with_variables, Declares, followed_by}
+use Rattle.vhdl_names.specs.Visibility.{declare, Name, Kind, ObjectType, Meaning, Declared, Sight, meaning, names_of, numbered, all_declared, count_of, with_declared, with_variables, Declares, followed_by}
 use Rattle.vhdl_names.specs.Expressions.{static}
 use Rattle.vhdl_names.specs.Subtypes.{subtype, as_integer_type, fixed_value, declaring_literal, object}
 
@@ -133,14 +133,15 @@ constants sight d = do
 -- the literals of an enumeration, by position from here on
 abbrev pub literals : (number count position : ℕ) → List Name → List Declared
 literals e count p [] = []
-literals e count p (n ∷ ns) = record { name = n; meaning = m.literal e count p } ∷ literals e count (suc p) ns
+literals e count p (n ∷ ns) = declare n (m.literal e count p) ∷ literals e count (suc p) ns
 
 -- an enumeration has at most 256 literals
 unfoldable pub enumeration : Sight → t.Enumeration → Option (Declares u.Declaration)
 enumeration sight d = do
   rule (nat_le (length d.literals) 256)
   Some (record {
-    declared = record { name = d.name.text; meaning = m.enumeration_type (number) (length d.literals) } ∷ literals number (length d.literals) 0 (names_of d.literals);
+    declared = declare d.name.text (m.enumeration_type number (length d.literals))
+        ∷ literals number (length d.literals) 0 (names_of d.literals);
     analysed = [];
   })
   where

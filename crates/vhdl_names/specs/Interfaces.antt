@@ -6,7 +6,7 @@ use Rattle.vhdl_tree.specs.Tree.{Ident}
 use Rattle.vhdl_names.specs.units.Units as u
 use Rattle.vhdl_names.specs.Rules.{◌>>=◌, ◌>>◌, rule, all_of}
 use Rattle.vhdl_names.specs.Visibility as m
-use Rattle.vhdl_names.specs.Visibility.{Name, Kind, Meaning, Declared, Sight, are_distinct, ends, with_declared, Declares}
+use Rattle.vhdl_names.specs.Visibility.{declare, Name, Kind, Meaning, Declared, Sight, are_distinct, ends, with_declared, Declares}
 use Rattle.vhdl_names.specs.Packages.{Context, no_context, context, sight_of}
 use Rattle.vhdl_names.specs.Declarations.{in_order, generic, port}
 use Rattle.vhdl_names.specs.SameText.{same_generics, same_ports}
@@ -72,4 +72,4 @@ component entities sight c = do
   rule (same_generics c.generics e.1.generic_text && same_ports c.ports e.1.port_text)
   i ← interface (record sight { region = []; outside = sight.region ++ sight.outside }) c.generics c.ports
   rule (ends c.name.text c.end_name)
-  Some (record { declared = record { name = c.name.text; meaning = m.component e.0 } ∷ []; analysed = [] })
+  Some (record { declared = declare c.name.text (m.component e.0) ∷ []; analysed = [] })

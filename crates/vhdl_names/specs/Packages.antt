@@ -5,10 +5,7 @@ use Rattle.vhdl_values.specs.declared.kinds.Edge.TheVariants.{Rising, Falling}
 use Rattle.vhdl_tree.specs.Tree.{Ident, Selected, ContextItem, library, uses}
 use Rattle.vhdl_names.specs.declared.operator.IntegerType.TheVariants.{Integer, Natural, Positive}
 use Rattle.vhdl_names.specs.Rules.{◌>>◌, rule}
-use Rattle.vhdl_names.specs.Visibility.{Name, Meaning, Declared, logic_vector, unsigned, integer_type, element_type, vector_type, function, edge_call, resize, shift_left, shift_right, to_unsigned, Sight}
-
-abbrev pub declare : Name → Meaning → Declared
-declare n m = record { name = n; meaning = m }
+use Rattle.vhdl_names.specs.Visibility.{declare, Declared, logic_vector, unsigned, integer_type, element_type, vector_type, function, edge_call, resize, shift_left, shift_right, to_unsigned, Sight}
 
 -- package standard of library std is always in sight (16.3)
 abbrev pub standard : List Declared

@@ -90,14 +90,17 @@ pub record Declared : Type 0 where
   pub name : Name
   pub meaning : Meaning
 
+abbrev pub declare : Name → Meaning → Declared
+declare n m = record { name = n; meaning = m }
+
 -- names of one meaning
 abbrev pub all_declared : Meaning → List Name → List Declared
-all_declared m ns = map (λ n. record { name = n; meaning = m }) ns
+all_declared m ns = map (λ n. declare n m) ns
 
 -- names that are declared together, numbered from here on
 abbrev pub numbered : (ℕ → Meaning) → ℕ → List Name → List Declared
 numbered meaning k [] = []
-numbered meaning k (n ∷ ns) = record { name = n; meaning = meaning k } ∷ numbered meaning (suc k) ns
+numbered meaning k (n ∷ ns) = declare n (meaning k) ∷ numbered meaning (suc k) ns
 
 -- ---- the declarations in sight of a place
 
@@ -125,12 +128,12 @@ meaning s n = option_map (λ d. d.meaning) (find (λ d. bytes_eq n d.name) (in_s
 
 -- a loop's parameter, numbered by the loops round it; it hides outer names
 abbrev pub within_loop : Sight → Ident → Sight
-within_loop s i = record s { loops = record { name = i.text; meaning = loop_parameter (length s.loops) } ∷ s.loops }
+within_loop s i = record s { loops = declare i.text (loop_parameter (length s.loops)) ∷ s.loops }
 
 -- a generate's parameter likewise
 abbrev pub within_generate : Sight → Ident → Sight
 within_generate s i =
-    record s { generates = record { name = i.text; meaning = generate_parameter (length s.generates) } ∷ s.generates }
+    record s { generates = declare i.text (generate_parameter (length s.generates)) ∷ s.generates }
 
 -- further declarations of the region, and further variables
 abbrev pub with_declared : Sight → List Declared → Sight

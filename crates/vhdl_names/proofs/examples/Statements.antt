@@ -17,7 +17,7 @@ processes_are_regions = record { hiding = refl; no_variable = refl; twice = refl
 
 pub turns_have_parameters : TurnsHaveParameters
 unfolding typed static condition given subtype variables signal target variable statement statements assignment process concurrent concurrents
-turns_have_parameters = record { loop = refl; generate_for = refl; undeclared = refl; static_condition = refl; signal_condition = refl }
+turns_have_parameters = record { for_loop = refl; generate_for = refl; undeclared = refl; static_condition = refl; signal_condition = refl }
 
 pub conditions_become_ifs : ConditionsBecomeIfs
 unfolding typed static condition given subtype variables signal target variable statement statements assignment process concurrent concurrents

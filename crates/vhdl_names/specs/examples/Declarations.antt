@@ -8,8 +8,8 @@ use Rattle.vhdl_names.specs.units.Expressions as u
 use Rattle.vhdl_names.specs.units.Statements as s
 use Rattle.vhdl_names.specs.units.Units as u'
 use Rattle.vhdl_names.specs.Visibility as m
-use Rattle.vhdl_names.specs.Visibility.{Sight, Declares}
-use Rattle.vhdl_names.specs.Packages.{declare, sight_of}
+use Rattle.vhdl_names.specs.Visibility.{declare, Sight, Declares}
+use Rattle.vhdl_names.specs.Packages.{sight_of}
 use Rattle.vhdl_names.specs.Subtypes.{fixed_value}
 use Rattle.vhdl_names.specs.Declarations.{generic, port, signals}
 use Rattle.vhdl_names.specs.Choices.{covered}

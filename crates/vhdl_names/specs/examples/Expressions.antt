@@ -36,18 +36,23 @@ literal_01 = u.Vector.literal (Zero ∷ One ∷ [])
 
 pub record OperatorsHaveTypes : Type 0 where
   -- v and "01" is a std_logic_vector
-  pub logical : typed sight (binary o.And named_v (string (codes "01"))) ≡ Some (elements m.logic_vector (u.Vector.binary (op.Logical And) v literal_01))
+  pub logical : typed sight (binary o.And named_v (string (codes "01")))
+      ≡ Some (elements m.logic_vector (u.Vector.binary (op.Logical And) v literal_01))
   -- a and v mixes an element with a vector
   pub mixed : typed sight (binary o.And named_a named_v) ≡ None
   -- a & "01" is open: its type is found from where it stands
-  pub concatenated : typed sight (binary o.Concatenate named_a (string (codes "01"))) ≡ Some (elements m.open_vector (u.Vector.binary op.Concatenate a literal_01))
+  pub concatenated : typed sight (binary o.Concatenate named_a (string (codes "01")))
+      ≡ Some (elements m.open_vector (u.Vector.binary op.Concatenate a literal_01))
   -- n - 1, and 1 - n
-  pub number_first : typed sight (binary o.Subtract named_n (number (codes "1"))) ≡ Some (elements m.unsigned (u.with_integer by.Subtract n (u.number 1)))
-  pub integer_first : typed sight (binary o.Subtract (number (codes "1")) named_n) ≡ Some (elements m.unsigned (u.integer_with by.Subtract (u.number 1) n))
+  pub number_first : typed sight (binary o.Subtract named_n (number (codes "1")))
+      ≡ Some (elements m.unsigned (u.with_integer by.Subtract n (u.number 1)))
+  pub integer_first : typed sight (binary o.Subtract (number (codes "1")) named_n)
+      ≡ Some (elements m.unsigned (u.integer_with by.Subtract (u.number 1) n))
   -- v + 1
   pub no_number : typed sight (binary o.Add named_v (number (codes "1"))) ≡ None
   -- "01" + "1" is an unsigned, and needs numeric_std in sight
-  pub open_sum : given sight (m.elements m.unsigned) (t.single sum) ≡ Some (s.single (u.elements (u.Vector.binary (op.Arithmetic by.Add) literal_01 (u.Vector.literal (One ∷ [])))))
+  pub open_sum : given sight (m.elements m.unsigned) (t.single sum)
+      ≡ Some (s.single (u.elements (u.Vector.binary (op.Arithmetic by.Add) literal_01 (u.Vector.literal (One ∷ [])))))
   pub vector_sum : given sight (m.elements m.logic_vector) (t.single sum) ≡ None
   pub unseen_sum : typed (sight_of logic_alone region) sum ≡ None
   -- v = n, v < v, and 3 < n, which is n > 3
@@ -55,7 +60,8 @@ pub record OperatorsHaveTypes : Type 0 where
   pub ordered_vectors : typed sight (binary o.Less named_v named_v) ≡ None
   pub ordered_numbers : typed sight (binary o.Less (number (codes "3")) named_n) ≡ Some (truth (u.compared_to Gt n (u.number 3)))
   -- q = red
-  pub enumerations : typed sight (binary o.Equal (name (codes "q")) (name (codes "red"))) ≡ Some (truth (u.alike (u.state_of (u.Signal.signal 0)) (u.position 0)))
+  pub enumerations : typed sight (binary o.Equal (name (codes "q")) (name (codes "red")))
+      ≡ Some (truth (u.alike (u.state_of (u.Signal.signal 0)) (u.position 0)))
 
 abbrev pub sight_in_loop : Sight
 sight_in_loop = within_loop (within_generate sight (word (codes "i"))) (word (codes "a"))
@@ -64,7 +70,8 @@ pub record NamesHaveMeanings : Type 0 where
   pub undeclared : typed sight (name (codes "b")) ≡ None
   -- a loop's parameter hides the port a; a generate's parameter i
   pub hidden : typed sight_in_loop named_a ≡ Some (integer (u.loop_parameter 0))
-  pub turn : typed sight_in_loop (with_one (codes "v") (name (codes "i"))) ≡ Some (elements m.element (u.of_signal (record { signal = u.port 1; part = u.Part.element (u.generate_parameter 0) })))
+  pub turn : typed sight_in_loop (with_one (codes "v") (name (codes "i")))
+      ≡ Some (elements m.element (u.of_signal (record { signal = u.port 1; part = u.Part.element (u.generate_parameter 0) })))
   -- a(1): an element has no elements
   pub no_elements : typed sight (with_one (codes "a") (number (codes "1"))) ≡ None
   -- unsigned(v), in sight and not
@@ -72,7 +79,8 @@ pub record NamesHaveMeanings : Type 0 where
   pub not_visible : typed (sight_of logic_alone region) (with_one (codes "unsigned") named_v) ≡ None
   -- resize(v, 4) and to_unsigned(k, 4)
   pub no_resize : typed sight (with_two (codes "resize") named_v (number (codes "4"))) ≡ None
-  pub encoded : typed sight (with_two (codes "to_unsigned") (name (codes "k")) (number (codes "4"))) ≡ Some (elements m.unsigned (u.encoded (u.Static.constant 0) (u.number 4)))
+  pub encoded : typed sight (with_two (codes "to_unsigned") (name (codes "k")) (number (codes "4")))
+      ≡ Some (elements m.unsigned (u.encoded (u.Static.constant 0) (u.number 4)))
 
 pub record EdgesAskForSignals : Type 0 where
   pub call : typed sight (with_one (codes "rising_edge") named_a) ≡ Some (truth (u.edge Rising (record { signal = u.port 0; part = u.whole })))
@@ -82,8 +90,10 @@ pub record EdgesAskForSignals : Type 0 where
   pub in_loop : typed sight_in_loop (with_one (codes "rising_edge") (with_one (codes "v") named_a)) ≡ None
   -- a'event and a = '1' keeps the character literal, and with ('1') or (a) in its place it doesn't
   pub level : typed sight (binary o.Equal named_a (character 49)) ≡ Some (truth (u.alike (u.elements a) (u.elements (u.character One))))
-  pub enclosed_level : typed sight (binary o.Equal named_a (enclosed (character 49))) ≡ Some (truth (u.alike (u.elements a) (u.elements (u.Vector.literal (One ∷ [])))))
-  pub enclosed_signal : typed sight (binary o.Equal (enclosed named_a) (character 49)) ≡ Some (truth (u.alike (u.elements a) (u.elements (u.Vector.literal (One ∷ [])))))
+  pub enclosed_level : typed sight (binary o.Equal named_a (enclosed (character 49)))
+      ≡ Some (truth (u.alike (u.elements a) (u.elements (u.Vector.literal (One ∷ [])))))
+  pub enclosed_signal : typed sight (binary o.Equal (enclosed named_a) (character 49))
+      ≡ Some (truth (u.alike (u.elements a) (u.elements (u.Vector.literal (One ∷ [])))))
   pub event_of_vector : typed sight (event (codes "v")) ≡ None
 
 pub record LiteralsHaveValues : Type 0 where

@@ -1,5 +1,5 @@
 -- Entities, architectures, components and instances of small files.
-use Rattle.std.specs.Prelude.{◌≡◌, ℕ, Bool, true, false, List, [], ◌∷◌, Option, Some, None, is_some, codes}
+use Rattle.std.specs.Prelude.{◌≡◌, ℕ, Bool, true, false, List, [], ◌∷◌, ◌++◌, Option, Some, None, is_some, codes}
 use Rattle.vhdl_tree.specs.declared.declaration.Mode.{Mode}
 use Rattle.vhdl_tree.specs.declared.declaration.Mode.TheVariants.{In, Out}
 use Rattle.vhdl_tree.specs.Tree as t
@@ -127,7 +127,8 @@ pub record FormalsAreAssociated : Type 0 where
   pub enclosed_actual : is_accepted (with_instance [] work_k (for_formal (codes "a") (enclosed (name (codes "a"))) ∷ [])) ≡ false
   pub expression : is_accepted (with_instance [] work_k (for_formal (codes "a") (character 49) ∷ [])) ≡ false
   -- a component that is its entity's text, one that isn't, and none
-  pub of_component : is_accepted (with_instance (component_with two_ports ∷ []) (t.component_unit false (word k)) (actual_named (codes "a") ∷ [])) ≡ true
+  pub of_component : is_accepted (with_instance (component_with two_ports ∷ []) (t.component_unit false (word k)) (actual_named (codes "a") ∷ []))
+      ≡ true
   pub other_component : is_accepted (with_instance (component_with (Some (port_of In (codes "a") ∷ [])) ∷ []) work_k []) ≡ false
   pub no_component : is_accepted (with_instance [] (t.component_unit false (word k)) (actual_named (codes "a") ∷ [])) ≡ false
 
@@ -140,7 +141,8 @@ with_items items = file (record (entity e) { context = items } ∷ [])
 pub record ContextsBringNames : Type 0 where
   pub nothing : is_accepted (with_items []) ≡ false
   -- use ieee.std_logic_1164.all without library ieee
-  pub no_library : is_accepted (with_items (t.uses (record { library = word (codes "ieee"); name = word (codes "std_logic_1164") } ∷ []) ∷ [])) ≡ false
+  pub no_library : is_accepted (with_items (t.uses (record { library = word (codes "ieee"); name = word (codes "std_logic_1164") } ∷ []) ∷ []))
+      ≡ false
   -- a library and a package that aren't offered
   pub other_library : is_accepted (with_items (t.library (words (codes "other" ∷ [])) ∷ with_logic)) ≡ false
-  pub other_package : is_accepted (with_items (t.library (words (codes "ieee" ∷ [])) ∷ t.uses (record { library = word (codes "ieee"); name = word (codes "std_logic_arith") } ∷ []) ∷ with_logic)) ≡ false
+  pub other_package : is_accepted (with_items (with_logic ++ t.uses (record { library = word (codes "ieee"); name = word (codes "std_logic_arith") } ∷ []) ∷ [])) ≡ false

@@ -107,13 +107,25 @@ generate scheme = t.generated (word (codes "g")) 0 scheme false (t.concurrent as
 abbrev pub empty_if : Expr → t.Concurrent
 empty_if test = t.generated (word (codes "g")) 0 (t.if_holds test) false t.no_concurrents None
 
+-- for i in 0 to 3 loop y <= v(i); end loop;
+abbrev pub loop_over_v : t.Statement
+loop_over_v =
+    t.Statement.loop 0 (word (codes "i")) to_three
+    (t.statement None (t.assigned (target (codes "y")) (y_from_v (word (codes "i")))) t.no_statements) None
+
+-- an assignment of an element of v to y, alone
+abbrev pub y_is_element : u.Static → s.Statements
+y_is_element i = s.step (s.assign at_y (s.single (u.elements (element_of_v i)))) s.done
+
+-- a process that is sensitive to what it reads
+abbrev pub reading : s.Statements → u'.Concurrent
+reading body = u'.process (record { label = None; variables = []; sensitivity = u'.as_read; body = body })
+
 pub record TurnsHaveParameters : Type 0 where
-  -- for i in 0 to 3 loop y <= v(i); end loop;
-  pub loop : statement sight None (t.Statement.loop 0 (word (codes "i")) to_three (t.statement None (t.assigned (target (codes "y")) (y_from_v (word (codes "i")))) t.no_statements) None)
-      ≡ Some (s.loop zero_to_three (s.step (s.assign at_y (s.single (u.elements (element_of_v (u.loop_parameter 0))))) s.done))
+  pub for_loop : statement sight None loop_over_v ≡ Some (s.loop zero_to_three (y_is_element (u.loop_parameter 0)))
   -- g : for i in 0 to 3 generate y <= v(i); end generate;
-  pub generate_for : concurrent [] sight (generate (t.for_each (word (codes "i")) to_three)) ≡ Some (u'.generate_for (codes "g") zero_to_three
-      (u'.concurrent (u'.process (record { label = None; variables = []; sensitivity = u'.as_read; body = s.step (s.assign at_y (s.single (u.elements (element_of_v (u.generate_parameter 0))))) s.done })) u'.no_concurrents))
+  pub generate_for : concurrent [] sight (generate (t.for_each (word (codes "i")) to_three))
+      ≡ Some (u'.generate_for (codes "g") zero_to_three (u'.concurrent (reading (y_is_element (u.generate_parameter 0))) u'.no_concurrents))
   -- with another parameter i isn't declared
   pub undeclared : concurrent [] sight (generate (t.for_each (word (codes "j")) to_three)) ≡ None
   -- g : if k = 2 generate, and with a signal in the condition
@@ -123,9 +135,20 @@ pub record TurnsHaveParameters : Type 0 where
 
 -- ---- conditional assignments
 
+-- y <= a when test;
+abbrev pub y_when : Expr → t.Assignment
+y_when test = record {
+  label = None;
+  target = target (codes "y");
+  branches = record { value = t.single named_a; condition = test } ∷ [];
+  otherwise = None;
+}
+
+abbrev pub y_is_a : s.Statements
+y_is_a = s.step (s.assign at_y (s.single (u.elements a))) s.done
+
 pub record ConditionsBecomeIfs : Type 0 where
-  -- y <= a when a; which leaves the driver alone where a doesn't hold
-  pub without_else : assignment sight (record { label = None; target = target (codes "y"); branches = record { value = t.single named_a; condition = named_a } ∷ []; otherwise = None })
-      ≡ Some (u'.process (record { label = None; variables = []; sensitivity = u'.as_read; body = s.step (s.choose (s.branch (u.holds a) (s.step (s.assign at_y (s.single (u.elements a))) s.done) s.no_else)) s.done }))
+  -- y <= a when a; leaves the driver alone where a doesn't hold
+  pub without_else : assignment sight (y_when named_a) ≡ Some (reading (s.step (s.choose (s.branch (u.holds a) y_is_a s.no_else)) s.done))
   -- a vector is no condition
-  pub vector : assignment sight (record { label = None; target = target (codes "y"); branches = record { value = t.single named_a; condition = name (codes "v") } ∷ []; otherwise = None }) ≡ None
+  pub vector : assignment sight (y_when (name (codes "v"))) ≡ None

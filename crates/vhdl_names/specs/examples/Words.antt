@@ -9,8 +9,8 @@ use Rattle.vhdl_tree.specs.Tree.{Ident, Expr}
 use Rattle.vhdl_names.specs.units.Expressions as u
 use Rattle.vhdl_names.specs.units.Expressions.{Part, Vector}
 use Rattle.vhdl_names.specs.Visibility as m
-use Rattle.vhdl_names.specs.Visibility.{Declared, Sight}
-use Rattle.vhdl_names.specs.Packages.{declare, Context, sight_of}
+use Rattle.vhdl_names.specs.Visibility.{declare, Declared, Sight}
+use Rattle.vhdl_names.specs.Packages.{Context, sight_of}
 
 -- ---- trees
 
