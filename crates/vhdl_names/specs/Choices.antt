@@ -4,12 +4,15 @@ use Rattle.std.specs.List.{list_any}
 use Rattle.vhdl_values.specs.Scalar.{are_same}
 use Rattle.vhdl_tree.specs.Tree as t
 use Rattle.vhdl_tree.specs.Tree.{Expr}
+use Rattle.vhdl_names.specs.declared.kind.Kind.TheVariants.{Element, LogicVector, Unsigned, OpenVector}
+use Rattle.vhdl_names.specs.declared.kind.ObjectType.{ObjectType}
+use Rattle.vhdl_names.specs.declared.kind.ObjectType.TheVariants.{Elements, Enumeration}
 use Rattle.vhdl_names.specs.units.Expressions as u
 use Rattle.vhdl_names.specs.units.Expressions.{Value}
 use Rattle.vhdl_names.specs.units.Statements.{Choice, values, position, Statements, Alternatives, others, alternative}
 use Rattle.vhdl_names.specs.Rules.{◌>>=◌, ◌>>◌, rule, each, given_that}
 use Rattle.vhdl_names.specs.Visibility as m
-use Rattle.vhdl_names.specs.Visibility.{element, logic_vector, unsigned, open_vector, ObjectType, Meaning, Sight, meaning}
+use Rattle.vhdl_names.specs.Visibility.{Meaning, Sight, meaning}
 use Rattle.vhdl_names.specs.Operators.{Typed, elements, enumerated}
 use Rattle.vhdl_names.specs.Subtypes.{literal_values}
 
@@ -17,14 +20,14 @@ use Rattle.vhdl_names.specs.Subtypes.{literal_values}
 
 -- a constant of the same kind that a literal declares, or a literal of the same enumeration
 abbrev pub named_choice : ObjectType → Meaning → Option Choice
-named_choice (m.elements element) (m.constant k element (Some vs)) = Some (values vs)
-named_choice (m.elements logic_vector) (m.constant k logic_vector (Some vs)) = Some (values vs)
-named_choice (m.elements unsigned) (m.constant k unsigned (Some vs)) = Some (values vs)
-named_choice (m.enumeration e count) (m.literal d size p) = given_that (d == e) (position p)
+named_choice (Elements Element) (m.constant k Element (Some vs)) = Some (values vs)
+named_choice (Elements LogicVector) (m.constant k LogicVector (Some vs)) = Some (values vs)
+named_choice (Elements Unsigned) (m.constant k Unsigned (Some vs)) = Some (values vs)
+named_choice (Enumeration e count) (m.literal d size p) = given_that (d == e) (position p)
 named_choice _ _ = None
 
 abbrev pub literal_choice : ObjectType → Expr → Option Choice
-literal_choice (m.elements k) e = option_map values (literal_values k e)
+literal_choice (Elements k) e = option_map values (literal_values k e)
 literal_choice _ e = None
 
 -- a literal as it stands, or a name with nothing behind it; no other expression
@@ -71,8 +74,8 @@ only_last_others (cs ∷ ds ∷ rest) = not (is_others cs) && only_last_others (
 
 -- as many distinct choices as the enumeration has literals name each of them
 abbrev pub names_all : ObjectType → List Choice → Bool
-names_all (m.elements k) cs = false
-names_all (m.enumeration e count) cs = length cs == count
+names_all (Elements k) cs = false
+names_all (Enumeration e count) cs = length cs == count
 
 -- the choices of each alternative
 abbrev pub covered : Sight → ObjectType → List (List t.Choice) → Option (List (List Choice))
@@ -87,9 +90,9 @@ covered sight type alternatives = do
 
 -- a case is on elements of the nine values or an enumeration; on an open vector it is one on std_logic_vector
 abbrev pub selector : Typed → Option (ObjectType × Value)
-selector (elements open_vector x) = Some (m.elements logic_vector, u.elements x)
-selector (elements k x) = Some (m.elements k, u.elements x)
-selector (enumerated e count x) = Some (m.enumeration e count, x)
+selector (elements OpenVector x) = Some (Elements LogicVector, u.elements x)
+selector (elements k x) = Some (Elements k, u.elements x)
+selector (enumerated e count x) = Some (Enumeration e count, x)
 selector _ = None
 
 -- alternatives with what each does; the last is done otherwise

@@ -5,12 +5,15 @@ use Rattle.vhdl_tree.specs.declared.declaration.Mode.{Mode}
 use Rattle.vhdl_tree.specs.declared.declaration.Mode.TheVariants.{In}
 use Rattle.vhdl_tree.specs.Tree as t
 use Rattle.vhdl_tree.specs.Tree.{Ident, Expr}
+use Rattle.vhdl_names.specs.declared.kind.Kind.{Kind}
+use Rattle.vhdl_names.specs.declared.kind.ObjectType.{ObjectType}
+use Rattle.vhdl_names.specs.declared.kind.ObjectType.TheVariants.{Elements, Enumeration}
 use Rattle.vhdl_names.specs.declared.operator.IntegerType.{IntegerType}
 use Rattle.vhdl_names.specs.units.Units as u
 use Rattle.vhdl_names.specs.units.Units.{Fixed, Object}
 use Rattle.vhdl_names.specs.Rules.{◌>>=◌, ◌>>◌, rule, if_any}
 use Rattle.vhdl_names.specs.Visibility as m
-use Rattle.vhdl_names.specs.Visibility.{declare, Name, Kind, ObjectType, Meaning, Declared, Sight, meaning, names_of, numbered, all_declared, count_of, with_declared, with_variables, Declares, followed_by}
+use Rattle.vhdl_names.specs.Visibility.{declare, Name, Meaning, Declared, Sight, meaning, names_of, numbered, all_declared, count_of, with_declared, with_variables, Declares, followed_by}
 use Rattle.vhdl_names.specs.Expressions.{static}
 use Rattle.vhdl_names.specs.Subtypes.{subtype, as_integer_type, fixed_value, declaring_literal, object}
 
@@ -55,8 +58,8 @@ generic sight g = do
 
 -- ports are of the nine values
 abbrev pub as_kind : ObjectType → Option Kind
-as_kind (m.elements k) = Some k
-as_kind (m.enumeration e count) = None
+as_kind (Elements k) = Some k
+as_kind (Enumeration e count) = None
 
 -- a port with no mode is an input
 abbrev pub mode_of : Option Mode → Mode

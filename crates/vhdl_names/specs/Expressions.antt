@@ -6,12 +6,15 @@ use Rattle.vhdl_tree.specs.declared.operator.Sign.{Sign}
 use Rattle.vhdl_tree.specs.declared.operator.Sign.TheVariants.{Plus, Minus}
 use Rattle.vhdl_tree.specs.Tree as t
 use Rattle.vhdl_tree.specs.Tree.{Expr, Exprs, Ident}
+use Rattle.vhdl_names.specs.declared.kind.Kind.{Kind}
+use Rattle.vhdl_names.specs.declared.kind.Kind.TheVariants.{Element, LogicVector, Unsigned, OpenVector}
+use Rattle.vhdl_names.specs.declared.kind.ObjectType.{ObjectType}
+use Rattle.vhdl_names.specs.declared.kind.ObjectType.TheVariants.{Elements, Enumeration}
 use Rattle.vhdl_names.specs.units.Expressions as u
 use Rattle.vhdl_names.specs.units.Expressions.{Static, Place, Test}
 use Rattle.vhdl_names.specs.units.Statements.{Given, single, filled}
 use Rattle.vhdl_names.specs.Rules.{◌>>=◌, given_that}
-use Rattle.vhdl_names.specs.Visibility as m
-use Rattle.vhdl_names.specs.Visibility.{Kind, element, logic_vector, unsigned, open_vector, ObjectType, Sight, meaning}
+use Rattle.vhdl_names.specs.Visibility.{Sight, meaning}
 use Rattle.vhdl_names.specs.Literals.{nine_of, values_of_string, values_of_bits}
 use Rattle.vhdl_names.specs.Operators.{Typed, integer, elements, enumerated, truth, inverse, operated}
 use Rattle.vhdl_names.specs.Names.{Suffix, plain, arguments, range, denoted, attributed}
@@ -27,7 +30,7 @@ signed Minus s = u.Static.negated s
 
 -- in parentheses a character literal is a value like any other
 abbrev pub enclosed : Typed → Typed
-enclosed (elements element (u.character v)) = elements element (u.Vector.literal (v ∷ []))
+enclosed (elements Element (u.character v)) = elements Element (u.Vector.literal (v ∷ []))
 enclosed x = x
 
 -- beside an operand in parentheses too: `(s) = '1'` is no part of an edge test
@@ -43,9 +46,9 @@ unfoldable mutual
   pub typed : Sight → Expr → Option Typed
   -- literals (9.3.2)
   typed sight (t.integer at text) = Some (integer (u.number (integer_of text)))
-  typed sight (t.character at c) = option_map (λ v. elements element (u.character v)) (nine_of c)
-  typed sight (t.string at text) = option_map (λ vs. elements open_vector (u.Vector.literal vs)) (values_of_string text)
-  typed sight (t.bits at text) = option_map (λ vs. elements open_vector (u.Vector.literal vs)) (values_of_bits text)
+  typed sight (t.character at c) = option_map (λ v. elements Element (u.character v)) (nine_of c)
+  typed sight (t.string at text) = option_map (λ vs. elements OpenVector (u.Vector.literal vs)) (values_of_string text)
+  typed sight (t.bits at text) = option_map (λ vs. elements OpenVector (u.Vector.literal vs)) (values_of_bits text)
   -- names (8), conversions and calls (9.3.4, 9.3.6)
   typed sight (t.named n suffix attribute) = do
     s ← typed_suffix sight suffix
@@ -97,7 +100,7 @@ static_range sight r = do
 -- a condition is a truth, or one element (9.2.9)
 abbrev pub as_test : Typed → Option Test
 as_test (truth t) = Some t
-as_test (elements element x) = Some (u.holds x)
+as_test (elements Element x) = Some (u.holds x)
 as_test _ = None
 
 unfoldable pub condition : Sight → Expr → Option Test
@@ -112,26 +115,26 @@ as_static_test _ = None
 
 -- an open vector takes the kind of the vector that it is assigned to
 abbrev pub fits : Kind → Kind → Bool
-fits element element = true
-fits logic_vector logic_vector = true
-fits logic_vector open_vector = true
-fits unsigned unsigned = true
-fits unsigned open_vector = true
+fits Element Element = true
+fits LogicVector LogicVector = true
+fits LogicVector OpenVector = true
+fits Unsigned Unsigned = true
+fits Unsigned OpenVector = true
 fits _ _ = false
 
 abbrev pub is_vector : Kind → Bool
-is_vector logic_vector = true
-is_vector unsigned = true
+is_vector LogicVector = true
+is_vector Unsigned = true
 is_vector _ = false
 
 abbrev pub as_value : ObjectType → Typed → Option Given
-as_value (m.elements k) (elements j x) = given_that (fits k j) (single (u.elements x))
-as_value (m.enumeration e count) (enumerated d size x) = given_that (e == d) (single x)
+as_value (Elements k) (elements j x) = given_that (fits k j) (single (u.elements x))
+as_value (Enumeration e count) (enumerated d size x) = given_that (e == d) (single x)
 as_value _ _ = None
 
 -- (others => e): one element for each of a vector (9.3.3)
 abbrev pub as_filled : ObjectType → Typed → Option Given
-as_filled (m.elements k) (elements element x) = given_that (is_vector k) (filled x)
+as_filled (Elements k) (elements Element x) = given_that (is_vector k) (filled x)
 as_filled _ _ = None
 
 -- what is given to a target of this type

@@ -5,11 +5,15 @@ use Rattle.vhdl_tree.specs.declared.declaration.Mode.{Mode}
 use Rattle.vhdl_tree.specs.declared.declaration.Mode.TheVariants.{In, Out}
 use Rattle.vhdl_tree.specs.Tree as t
 use Rattle.vhdl_tree.specs.Tree.{Ident, Expr, Association}
+use Rattle.vhdl_names.specs.declared.kind.Kind.{Kind}
+use Rattle.vhdl_names.specs.declared.kind.Kind.TheVariants.{Element, LogicVector, Unsigned}
+use Rattle.vhdl_names.specs.declared.kind.ObjectType.{ObjectType}
+use Rattle.vhdl_names.specs.declared.kind.ObjectType.TheVariants.{Elements}
 use Rattle.vhdl_names.specs.units.Expressions.{Place}
 use Rattle.vhdl_names.specs.units.Units as u
 use Rattle.vhdl_names.specs.Rules.{◌>>=◌, ◌>>◌, rule, each, if_any, all_of}
 use Rattle.vhdl_names.specs.Visibility as m
-use Rattle.vhdl_names.specs.Visibility.{Name, Kind, element, logic_vector, unsigned, Meaning, Declared, Sight, meaning, is_among, are_distinct}
+use Rattle.vhdl_names.specs.Visibility.{Name, Meaning, Declared, Sight, meaning, is_among, are_distinct}
 use Rattle.vhdl_names.specs.Expressions.{static}
 use Rattle.vhdl_names.specs.Statements.{signal, is_input}
 use Rattle.vhdl_names.specs.Interfaces.{EntityView, entity_named}
@@ -88,10 +92,10 @@ as_name (t.named n suffix attribute) = Some (record { identifier = n; suffix = s
 as_name _ = None
 
 -- an actual has the kind of the formal
-abbrev pub is_kind : Kind → m.ObjectType → Bool
-is_kind element (m.elements element) = true
-is_kind logic_vector (m.elements logic_vector) = true
-is_kind unsigned (m.elements unsigned) = true
+abbrev pub is_kind : Kind → ObjectType → Bool
+is_kind Element (Elements Element) = true
+is_kind LogicVector (Elements LogicVector) = true
+is_kind Unsigned (Elements Unsigned) = true
 is_kind _ _ = false
 
 -- an out port drives no in port

@@ -6,7 +6,7 @@ use Rattle.vhdl_tree.specs.Tree.{Ident}
 use Rattle.vhdl_names.specs.units.Units as u
 use Rattle.vhdl_names.specs.Rules.{◌>>=◌, ◌>>◌, rule, all_of}
 use Rattle.vhdl_names.specs.Visibility as m
-use Rattle.vhdl_names.specs.Visibility.{declare, Name, Kind, Meaning, Declared, Sight, are_distinct, ends, with_declared, Declares}
+use Rattle.vhdl_names.specs.Visibility.{declare, Name, Meaning, Declared, Sight, are_distinct, ends, with_declared, Declares}
 use Rattle.vhdl_names.specs.Packages.{Context, no_context, context, sight_of}
 use Rattle.vhdl_names.specs.Declarations.{in_order, generic, port}
 use Rattle.vhdl_names.specs.SameText.{same_generics, same_ports}

@@ -3,11 +3,17 @@
 use Rattle.std.specs.Prelude.{Bool, true, false, ◌&&◌, if◌then◌else◌, List, [], ◌∷◌, Option, Some, None, option_map, bytes_eq, codes}
 use Rattle.vhdl_values.specs.declared.kinds.Edge.{Edge}
 use Rattle.vhdl_tree.specs.Tree.{Ident}
+use Rattle.vhdl_names.specs.declared.kind.Kind.{Kind}
+use Rattle.vhdl_names.specs.declared.kind.Kind.TheVariants.{Element, LogicVector, Unsigned, OpenVector}
+use Rattle.vhdl_names.specs.declared.kind.ObjectType.{ObjectType}
+use Rattle.vhdl_names.specs.declared.kind.ObjectType.TheVariants.{Elements, Enumeration}
+use Rattle.vhdl_names.specs.declared.kind.Function.{Function}
+use Rattle.vhdl_names.specs.declared.kind.Function.TheVariants.{EdgeCall, Resize, ShiftLeft, ShiftRight, ToUnsigned}
 use Rattle.vhdl_names.specs.units.Expressions as u
 use Rattle.vhdl_names.specs.units.Expressions.{Static, Part, Place, Signal, Vector}
 use Rattle.vhdl_names.specs.Rules.{◌>>=◌, ◌>>◌, rule}
 use Rattle.vhdl_names.specs.Visibility as m
-use Rattle.vhdl_names.specs.Visibility.{Kind, element, logic_vector, unsigned, open_vector, ObjectType, Function, Meaning}
+use Rattle.vhdl_names.specs.Visibility.{Meaning}
 use Rattle.vhdl_names.specs.Operators.{Typed, integer, elements, enumerated, truth}
 
 -- ---- parts of an object
@@ -22,17 +28,17 @@ pub data Suffix : Type 0 where
 -- the whole; an element of a vector (8.4); a slice of a vector, which is of its kind (8.5)
 abbrev pub part : Kind → Suffix → Option (Part × Kind)
 part k plain = Some (u.whole, k)
-part logic_vector (arguments b (integer s ∷ [])) = Some (u.Part.element s, element)
-part unsigned (arguments b (integer s ∷ [])) = Some (u.Part.element s, element)
-part logic_vector (range r) = Some (u.slice r, logic_vector)
-part unsigned (range r) = Some (u.slice r, unsigned)
+part LogicVector (arguments b (integer s ∷ [])) = Some (u.Part.element s, Element)
+part Unsigned (arguments b (integer s ∷ [])) = Some (u.Part.element s, Element)
+part LogicVector (range r) = Some (u.slice r, LogicVector)
+part Unsigned (range r) = Some (u.slice r, Unsigned)
 part _ _ = None
 
 -- an object of an enumeration has no parts
 abbrev pub part_of : ObjectType → Suffix → Option (Part × ObjectType)
-part_of (m.elements k) s = option_map (λ p. (p.0, m.elements p.1)) (part k s)
-part_of (m.enumeration e count) plain = Some (u.whole, m.enumeration e count)
-part_of (m.enumeration e count) _ = None
+part_of (Elements k) s = option_map (λ p. (p.0, Elements p.1)) (part k s)
+part_of (Enumeration e count) plain = Some (u.whole, Enumeration e count)
+part_of (Enumeration e count) _ = None
 
 abbrev pub place_of : Signal → Part → Place
 place_of s p = record { signal = s; part = p }
@@ -52,9 +58,9 @@ read_signal x k s = read_by (λ p. u.of_signal (place_of x p)) k s
 
 -- unsigned(x), std_logic_vector(x), std_ulogic_vector(x): of any vector
 abbrev pub converted : Kind → Suffix → Option Typed
-converted k (arguments b (elements logic_vector x ∷ [])) = Some (elements k x)
-converted k (arguments b (elements unsigned x ∷ [])) = Some (elements k x)
-converted k (arguments b (elements open_vector x ∷ [])) = Some (elements k x)
+converted k (arguments b (elements LogicVector x ∷ [])) = Some (elements k x)
+converted k (arguments b (elements Unsigned x ∷ [])) = Some (elements k x)
+converted k (arguments b (elements OpenVector x ∷ [])) = Some (elements k x)
 converted _ _ = None
 
 -- no loop's parameter stands in it
@@ -72,7 +78,7 @@ is_static_part (u.slice r) = false
 
 -- the signal that an edge call or 'event asks for
 abbrev pub edge_signal : Typed → Option Place
-edge_signal (elements element (u.of_signal p)) = if is_static_part p.part then Some p else None
+edge_signal (elements Element (u.of_signal p)) = if is_static_part p.part then Some p else None
 edge_signal _ = None
 
 -- rising_edge(s), falling_edge(s): of a signal's name
@@ -82,19 +88,19 @@ edge_of e _ = None
 
 -- a number by a count
 abbrev pub counted : (Vector → Static → Vector) → Suffix → Option Typed
-counted f (arguments b (elements unsigned x ∷ integer n ∷ [])) = Some (elements unsigned (f x n))
+counted f (arguments b (elements Unsigned x ∷ integer n ∷ [])) = Some (elements Unsigned (f x n))
 counted f _ = None
 
 abbrev pub encoding : Suffix → Option Typed
-encoding (arguments b (integer n ∷ integer size ∷ [])) = Some (elements unsigned (u.encoded n size))
+encoding (arguments b (integer n ∷ integer size ∷ [])) = Some (elements Unsigned (u.encoded n size))
 encoding _ = None
 
 abbrev pub called : Function → Suffix → Option Typed
-called (m.edge_call e) = edge_of e
-called m.resize = counted u.resized
-called m.shift_left = counted u.shifted_left
-called m.shift_right = counted u.shifted_right
-called m.to_unsigned = encoding
+called (EdgeCall e) = edge_of e
+called Resize = counted u.resized
+called ShiftLeft = counted u.shifted_left
+called ShiftRight = counted u.shifted_right
+called ToUnsigned = encoding
 
 -- ---- all names
 
@@ -105,10 +111,10 @@ denoted (m.integer_constant k) s = if_plain s (integer (u.Static.constant k))
 denoted (m.generate_parameter k) s = if_plain s (integer (u.generate_parameter k))
 denoted (m.loop_parameter k) s = if_plain s (integer (u.loop_parameter k))
 denoted (m.port k mode kind) s = read_signal (u.port k) kind s
-denoted (m.signal k (m.elements kind)) s = read_signal (u.Signal.signal k) kind s
-denoted (m.signal k (m.enumeration e count)) s = if_plain s (enumerated e count (u.state_of (u.Signal.signal k)))
-denoted (m.variable k (m.elements kind)) s = read_by (u.of_variable k) kind s
-denoted (m.variable k (m.enumeration e count)) s = if_plain s (enumerated e count (u.state_of_variable k))
+denoted (m.signal k (Elements kind)) s = read_signal (u.Signal.signal k) kind s
+denoted (m.signal k (Enumeration e count)) s = if_plain s (enumerated e count (u.state_of (u.Signal.signal k)))
+denoted (m.variable k (Elements kind)) s = read_by (u.of_variable k) kind s
+denoted (m.variable k (Enumeration e count)) s = if_plain s (enumerated e count (u.state_of_variable k))
 denoted (m.constant k kind values) s = read_by (u.of_constant k) kind s
 denoted (m.literal e count p) s = if_plain s (enumerated e count (u.position p))
 denoted (m.vector_type k is_resolved) s = converted k s

@@ -6,6 +6,8 @@ use Rattle.vhdl_values.specs.declared.kinds.Cmp.{Cmp}
 use Rattle.vhdl_values.specs.declared.kinds.Cmp.TheVariants as c
 use Rattle.vhdl_tree.specs.declared.operator.Operator.{Operator}
 use Rattle.vhdl_tree.specs.declared.operator.Operator.TheVariants as o
+use Rattle.vhdl_names.specs.declared.kind.Kind.{Kind}
+use Rattle.vhdl_names.specs.declared.kind.Kind.TheVariants.{Element, LogicVector, Unsigned, OpenVector}
 use Rattle.vhdl_names.specs.declared.operator.Arithmetic.{Arithmetic}
 use Rattle.vhdl_names.specs.declared.operator.Arithmetic.TheVariants as a
 use Rattle.vhdl_names.specs.declared.operator.Numeric.{Numeric}
@@ -15,7 +17,6 @@ use Rattle.vhdl_names.specs.declared.operator.VectorOperator.TheVariants as v
 use Rattle.vhdl_names.specs.units.Expressions as u
 use Rattle.vhdl_names.specs.units.Expressions.{Static, StaticTest, Vector, Value, Test}
 use Rattle.vhdl_names.specs.Rules.{◌>>◌, rule, given_that}
-use Rattle.vhdl_names.specs.Visibility.{Kind, element, logic_vector, unsigned, open_vector}
 
 -- what an expression is: a static integer, one element or a vector of a kind, a value of an enumeration, or a truth
 pub data Typed : Type 0 where
@@ -28,27 +29,27 @@ pub data Typed : Type 0 where
 
 -- two operands of one kind; an open vector takes the kind of the vector beside it
 abbrev pub common_kind : Kind → Kind → Option Kind
-common_kind element element = Some element
-common_kind logic_vector logic_vector = Some logic_vector
-common_kind logic_vector open_vector = Some logic_vector
-common_kind open_vector logic_vector = Some logic_vector
-common_kind unsigned unsigned = Some unsigned
-common_kind unsigned open_vector = Some unsigned
-common_kind open_vector unsigned = Some unsigned
-common_kind open_vector open_vector = Some open_vector
+common_kind Element Element = Some Element
+common_kind LogicVector LogicVector = Some LogicVector
+common_kind LogicVector OpenVector = Some LogicVector
+common_kind OpenVector LogicVector = Some LogicVector
+common_kind Unsigned Unsigned = Some Unsigned
+common_kind Unsigned OpenVector = Some Unsigned
+common_kind OpenVector Unsigned = Some Unsigned
+common_kind OpenVector OpenVector = Some OpenVector
 common_kind _ _ = None
 
 -- the kind of a concatenation: elements stand beside elements and any vector (9.2.5)
 abbrev pub joined_kind : Kind → Kind → Option Kind
-joined_kind element element = Some open_vector
-joined_kind element k = Some k
-joined_kind k element = Some k
+joined_kind Element Element = Some OpenVector
+joined_kind Element k = Some k
+joined_kind k Element = Some k
 joined_kind j k = common_kind j k
 
 -- what numeric_std takes for a number: unsigned, and an open vector
 abbrev pub is_number : Kind → Bool
-is_number unsigned = true
-is_number open_vector = true
+is_number Unsigned = true
+is_number OpenVector = true
 is_number _ = false
 
 abbrev pub are_numbers : Kind → Kind → Bool
@@ -98,13 +99,13 @@ abbrev pub arithmetic : (numbers : Bool) → Arithmetic → Numeric → Typed �
 arithmetic numbers op by (integer s) (integer t) = Some (integer (u.Static.binary op s t))
 arithmetic numbers op by (elements j x) (elements k y) = do
   rule numbers
-  given_that (are_numbers j k) (elements unsigned (u.Vector.binary (v.Arithmetic by) x y))
+  given_that (are_numbers j k) (elements Unsigned (u.Vector.binary (v.Arithmetic by) x y))
 arithmetic numbers op by (elements j x) (integer t) = do
   rule numbers
-  given_that (is_number j) (elements unsigned (u.with_integer by x t))
+  given_that (is_number j) (elements Unsigned (u.with_integer by x t))
 arithmetic numbers op by (integer s) (elements k y) = do
   rule numbers
-  given_that (is_number k) (elements unsigned (u.integer_with by s y))
+  given_that (is_number k) (elements Unsigned (u.integer_with by s y))
 arithmetic numbers op by _ _ = None
 
 -- ---- relations (9.2.3)
@@ -123,15 +124,15 @@ turned c.Ge = c.Le
 
 -- = and /= of one kind: numbers are compared as numbers, all else by its values
 abbrev pub equal_by : Cmp → (Value → Value → Test) → Vector → Vector → Kind → Typed
-equal_by op same x y unsigned = truth (u.Test.compared op x y)
+equal_by op same x y Unsigned = truth (u.Test.compared op x y)
 equal_by op same x y _ = truth (same (u.elements x) (u.elements y))
 
 -- = and /=: integers; one kind; a number and an integer; one enumeration
 abbrev pub equality : Cmp → (Value → Value → Test) → Typed → Typed → Option Typed
 equality op same (integer s) (integer t) = Some (integers_compared op s t)
 equality op same (elements j x) (elements k y) = option_map (equal_by op same x y) (common_kind j k)
-equality op same (elements unsigned x) (integer t) = Some (truth (u.compared_to op x t))
-equality op same (integer s) (elements unsigned y) = Some (truth (u.compared_to (turned op) y s))
+equality op same (elements Unsigned x) (integer t) = Some (truth (u.compared_to op x t))
+equality op same (integer s) (elements Unsigned y) = Some (truth (u.compared_to (turned op) y s))
 equality op same (enumerated d m x) (enumerated e n y) = given_that (d == e) (truth (same x y))
 equality op same _ _ = None
 

@@ -3,9 +3,11 @@ use Rattle.std.specs.Prelude.{Bool, true, false, ◌&&◌, ◌||◌, if◌then�
 use Rattle.std.specs.List.{list_any, list_all}
 use Rattle.vhdl_values.specs.declared.kinds.Edge.TheVariants.{Rising, Falling}
 use Rattle.vhdl_tree.specs.Tree.{Ident, Selected, ContextItem, library, uses}
+use Rattle.vhdl_names.specs.declared.kind.Kind.TheVariants.{LogicVector, Unsigned}
+use Rattle.vhdl_names.specs.declared.kind.Function.TheVariants.{EdgeCall, Resize, ShiftLeft, ShiftRight, ToUnsigned}
 use Rattle.vhdl_names.specs.declared.operator.IntegerType.TheVariants.{Integer, Natural, Positive}
 use Rattle.vhdl_names.specs.Rules.{◌>>◌, rule}
-use Rattle.vhdl_names.specs.Visibility.{declare, Declared, logic_vector, unsigned, integer_type, element_type, vector_type, function, edge_call, resize, shift_left, shift_right, to_unsigned, Sight}
+use Rattle.vhdl_names.specs.Visibility.{declare, Declared, integer_type, element_type, vector_type, function, Sight}
 
 -- package standard of library std is always in sight (16.3)
 abbrev pub standard : List Declared
@@ -17,16 +19,16 @@ standard =
 abbrev pub std_logic_1164 : List Declared
 std_logic_1164 =
     declare (codes "std_logic") (element_type true) ∷ declare (codes "std_ulogic") (element_type false)
-    ∷ declare (codes "std_logic_vector") (vector_type logic_vector true)
-    ∷ declare (codes "std_ulogic_vector") (vector_type logic_vector false)
-    ∷ declare (codes "rising_edge") (function (edge_call Rising)) ∷ declare (codes "falling_edge") (function (edge_call Falling)) ∷ []
+    ∷ declare (codes "std_logic_vector") (vector_type LogicVector true)
+    ∷ declare (codes "std_ulogic_vector") (vector_type LogicVector false)
+    ∷ declare (codes "rising_edge") (function (EdgeCall Rising)) ∷ declare (codes "falling_edge") (function (EdgeCall Falling)) ∷ []
 
 -- package numeric_std of library ieee (16.8); its operators stand in the rules of expressions
 abbrev pub numeric_std : List Declared
 numeric_std =
-    declare (codes "unsigned") (vector_type unsigned true) ∷ declare (codes "resize") (function resize)
-    ∷ declare (codes "shift_left") (function shift_left) ∷ declare (codes "shift_right") (function shift_right)
-    ∷ declare (codes "to_unsigned") (function to_unsigned) ∷ []
+    declare (codes "unsigned") (vector_type Unsigned true) ∷ declare (codes "resize") (function Resize)
+    ∷ declare (codes "shift_left") (function ShiftLeft) ∷ declare (codes "shift_right") (function ShiftRight)
+    ∷ declare (codes "to_unsigned") (function ToUnsigned) ∷ []
 
 -- ---- context clauses
 

@@ -4,12 +4,14 @@ use Rattle.vhdl_tree.specs.declared.declaration.Mode.{Mode}
 use Rattle.vhdl_tree.specs.declared.declaration.Mode.TheVariants.{In, Out}
 use Rattle.vhdl_tree.specs.Tree as t
 use Rattle.vhdl_tree.specs.Tree.{Ident}
+use Rattle.vhdl_names.specs.declared.kind.ObjectType.{ObjectType}
+use Rattle.vhdl_names.specs.declared.kind.ObjectType.TheVariants.{Elements}
 use Rattle.vhdl_names.specs.units.Expressions as u
 use Rattle.vhdl_names.specs.units.Expressions.{Part, Place, Signal}
 use Rattle.vhdl_names.specs.units.Statements as s
 use Rattle.vhdl_names.specs.Rules.{◌>>=◌, ◌>>◌, rule}
 use Rattle.vhdl_names.specs.Visibility as m
-use Rattle.vhdl_names.specs.Visibility.{Name, ObjectType, Meaning, Sight, meaning, label_ends, within_loop}
+use Rattle.vhdl_names.specs.Visibility.{Name, Meaning, Sight, meaning, label_ends, within_loop}
 use Rattle.vhdl_names.specs.Names.{Suffix, part_of, place_of}
 use Rattle.vhdl_names.specs.Expressions.{typed, typed_suffix, static_range, condition, given}
 use Rattle.vhdl_names.specs.Choices.{covered, selector, arranged}
@@ -26,7 +28,7 @@ abbrev pub named_part : Signal → Option Mode → Part × ObjectType → Signal
 named_part x mode p = record { place = place_of x p.0; mode = mode; type = p.1 }
 
 abbrev pub as_signal : Meaning → Suffix → Option SignalName
-as_signal (m.port k mode kind) suffix = option_map (named_part (u.port k) (Some mode)) (part_of (m.elements kind) suffix)
+as_signal (m.port k mode kind) suffix = option_map (named_part (u.port k) (Some mode)) (part_of (Elements kind) suffix)
 as_signal (m.signal k type) suffix = option_map (named_part (u.Signal.signal k) None) (part_of type suffix)
 as_signal _ suffix = None
 

@@ -3,13 +3,18 @@ use Rattle.std.specs.Prelude.{◌==◌, Bool, false, List, [], ◌∷◌, Option
 use Rattle.vhdl_values.specs.declared.scalar.Nine.{Nine}
 use Rattle.vhdl_tree.specs.Tree as t
 use Rattle.vhdl_tree.specs.Tree.{Expr}
+use Rattle.vhdl_names.specs.declared.kind.Kind.{Kind}
+use Rattle.vhdl_names.specs.declared.kind.Kind.TheVariants.{Element, LogicVector, Unsigned}
+use Rattle.vhdl_names.specs.declared.kind.ObjectType.{ObjectType}
+use Rattle.vhdl_names.specs.declared.kind.ObjectType.TheVariants.{Elements, Enumeration}
+use Rattle.vhdl_names.specs.declared.kind.Function.TheVariants.{ToUnsigned}
 use Rattle.vhdl_names.specs.declared.operator.IntegerType.{IntegerType}
 use Rattle.vhdl_names.specs.units.Expressions.{Range}
 use Rattle.vhdl_names.specs.units.Units as u
 use Rattle.vhdl_names.specs.units.Units.{Form, Fixed, Object}
 use Rattle.vhdl_names.specs.Rules.{◌>>=◌, ◌>>◌, rule, if_any, given_that}
 use Rattle.vhdl_names.specs.Visibility as m
-use Rattle.vhdl_names.specs.Visibility.{Name, Kind, element, logic_vector, unsigned, ObjectType, Meaning, Sight, meaning}
+use Rattle.vhdl_names.specs.Visibility.{Name, Meaning, Sight, meaning}
 use Rattle.vhdl_names.specs.Literals.{nine_of, values_of_string, values_of_bits}
 use Rattle.vhdl_names.specs.Operators.{Typed, integer}
 use Rattle.vhdl_names.specs.Expressions.{typed_each, static_range, is_vector}
@@ -24,10 +29,10 @@ pub record Subtype : Type 0 where
 
 -- a vector type needs a range, and no other type takes one (5.3.2)
 abbrev pub marked : Meaning → Option Range → Option Subtype
-marked (m.element_type r) None = Some (record { type = m.elements element; form = u.element; is_resolved = r })
-marked (m.vector_type k r) (Some range) = Some (record { type = m.elements k; form = u.vector range; is_resolved = r })
+marked (m.element_type r) None = Some (record { type = Elements Element; form = u.element; is_resolved = r })
+marked (m.vector_type k r) (Some range) = Some (record { type = Elements k; form = u.vector range; is_resolved = r })
 marked (m.enumeration_type e count) None =
-    Some (record { type = m.enumeration e count; form = u.enumeration count; is_resolved = false })
+    Some (record { type = Enumeration e count; form = u.enumeration count; is_resolved = false })
 marked _ _ = None
 
 -- the type of a signal, port or variable, or of a constant that is no integer
@@ -46,11 +51,11 @@ as_integer_type _ = None
 
 -- a character for one element, a string or a bit string for a vector
 abbrev pub literal_values : Kind → Expr → Option (List Nine)
-literal_values element (t.character at c) = option_map (λ v. v ∷ []) (nine_of c)
-literal_values logic_vector (t.string at text) = values_of_string text
-literal_values logic_vector (t.bits at text) = values_of_bits text
-literal_values unsigned (t.string at text) = values_of_string text
-literal_values unsigned (t.bits at text) = values_of_bits text
+literal_values Element (t.character at c) = option_map (λ v. v ∷ []) (nine_of c)
+literal_values LogicVector (t.string at text) = values_of_string text
+literal_values LogicVector (t.bits at text) = values_of_bits text
+literal_values Unsigned (t.string at text) = values_of_string text
+literal_values Unsigned (t.bits at text) = values_of_bits text
 literal_values _ _ = None
 
 -- an identifier with nothing behind it
@@ -62,19 +67,19 @@ simple_name _ = None
 
 -- a constant of the same kind, or a literal of the same enumeration
 abbrev pub named_value : ObjectType → Meaning → Option Fixed
-named_value (m.elements element) (m.constant k element values) = Some (u.Fixed.constant k)
-named_value (m.elements logic_vector) (m.constant k logic_vector values) = Some (u.Fixed.constant k)
-named_value (m.elements unsigned) (m.constant k unsigned values) = Some (u.Fixed.constant k)
-named_value (m.enumeration e count) (m.literal d size p) = given_that (d == e) (u.Fixed.position p)
+named_value (Elements Element) (m.constant k Element values) = Some (u.Fixed.constant k)
+named_value (Elements LogicVector) (m.constant k LogicVector values) = Some (u.Fixed.constant k)
+named_value (Elements Unsigned) (m.constant k Unsigned values) = Some (u.Fixed.constant k)
+named_value (Enumeration e count) (m.literal d size p) = given_that (d == e) (u.Fixed.position p)
 named_value _ _ = None
 
 -- to_unsigned of two static integers
 abbrev pub encoded_value : ObjectType → Meaning → List Typed → Option Fixed
-encoded_value (m.elements unsigned) (m.function m.to_unsigned) (integer n ∷ integer size ∷ []) = Some (u.Fixed.encoded n size)
+encoded_value (Elements Unsigned) (m.function ToUnsigned) (integer n ∷ integer size ∷ []) = Some (u.Fixed.encoded n size)
 encoded_value _ _ _ = None
 
 abbrev pub literal_value : ObjectType → Expr → Option Fixed
-literal_value (m.elements k) e = option_map u.Fixed.literal (literal_values k e)
+literal_value (Elements k) e = option_map u.Fixed.literal (literal_values k e)
 literal_value _ e = None
 
 -- a name, a call of to_unsigned, or a literal; no other expression
@@ -88,7 +93,7 @@ fixed sight type e = literal_value type e
 
 -- (others => c), c being a character literal
 abbrev pub filled_value : ObjectType → Expr → Option Fixed
-filled_value (m.elements k) (t.character at c) = do
+filled_value (Elements k) (t.character at c) = do
   rule (is_vector k)
   v ← nine_of c
   Some (u.Fixed.filled v)

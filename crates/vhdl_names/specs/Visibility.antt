@@ -2,9 +2,11 @@
 use Rattle.std.specs.Prelude.{ℕ, suc, Bool, true, false, not, ◌&&◌, List, [], ◌∷◌, ◌++◌, map, length, count_by, find, Option, Some, None, option_map, bytes_eq}
 use Rattle.std.specs.List.{list_any}
 use Rattle.vhdl_values.specs.declared.scalar.Nine.{Nine}
-use Rattle.vhdl_values.specs.declared.kinds.Edge.{Edge}
 use Rattle.vhdl_tree.specs.declared.declaration.Mode.{Mode}
 use Rattle.vhdl_tree.specs.Tree.{Ident}
+use Rattle.vhdl_names.specs.declared.kind.Kind.{Kind}
+use Rattle.vhdl_names.specs.declared.kind.ObjectType.{ObjectType}
+use Rattle.vhdl_names.specs.declared.kind.Function.{Function}
 use Rattle.vhdl_names.specs.declared.operator.IntegerType.{IntegerType}
 
 abbrev pub Name : Type 0
@@ -38,26 +40,6 @@ label_ends None (Some e) = false
 label_ends (Some l) (Some e) = bytes_eq l.text e.text
 
 -- ---- declarations
-
--- the kind of one element or of a vector of the nine values; an open vector is one whose type is found from where it stands
-pub data Kind : Type 0 where
-  element : Kind
-  logic_vector : Kind
-  unsigned : Kind
-  open_vector : Kind
-
--- the type of an object that isn't an integer: of the nine values, or the enumeration of this number, with so many literals
-pub data ObjectType : Type 0 where
-  elements : Kind → ObjectType
-  enumeration : (number count : ℕ) → ObjectType
-
--- a function of the packages
-pub data Function : Type 0 where
-  edge_call : Edge → Function
-  resize : Function
-  shift_left : Function
-  shift_right : Function
-  to_unsigned : Function
 
 -- What a name is declared to be. Objects are numbered from 0 within their class.
 pub data Meaning : Type 0 where

@@ -2,7 +2,9 @@
 //! file is (`units`), which file is well typed, one rule a line, and small examples of both.
 #![tactic(auto)]
 
+mod kind;
 mod operator;
 pub mod rule_examples;
 
+pub use kind::{Function, Kind, ObjectType};
 pub use operator::{Arithmetic, IntegerType, Numeric, VectorOperator};

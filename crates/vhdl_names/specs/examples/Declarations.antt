@@ -4,6 +4,8 @@ use Rattle.vhdl_values.specs.declared.scalar.Nine.TheVariants.{Zero, One}
 use Rattle.vhdl_tree.specs.declared.declaration.Mode.TheVariants.{In}
 use Rattle.vhdl_tree.specs.Tree as t
 use Rattle.vhdl_tree.specs.Tree.{Expr}
+use Rattle.vhdl_names.specs.declared.kind.Kind.TheVariants.{Element, LogicVector, Unsigned}
+use Rattle.vhdl_names.specs.declared.kind.ObjectType.TheVariants.{Elements, Enumeration}
 use Rattle.vhdl_names.specs.units.Expressions as u
 use Rattle.vhdl_names.specs.units.Statements as s
 use Rattle.vhdl_names.specs.units.Units as u'
@@ -37,7 +39,7 @@ generics_of mark = record { constant_word = false; names = words (codes "w" ∷ 
 pub record DeclarationsDeclare : Type 0 where
   -- a, b : std_logic, which are inputs
   pub ports : port empty_sight (ports_of (codes "a" ∷ codes "b" ∷ []) (plain_type (codes "std_logic"))) ≡ Some (record {
-    declared = declare (codes "a") (m.port 0 In m.element) ∷ declare (codes "b") (m.port 1 In m.element) ∷ [];
+    declared = declare (codes "a") (m.port 0 In Element) ∷ declare (codes "b") (m.port 1 In Element) ∷ [];
     analysed = record { mode = In; object = object_of (codes "a") } ∷ record { mode = In; object = object_of (codes "b") } ∷ [];
   })
   -- a, a : std_logic
@@ -56,17 +58,17 @@ pub record DeclarationsDeclare : Type 0 where
 -- ---- values of constants and defaults
 
 pub record ValuesAreFixed : Type 0 where
-  pub a_character : fixed_value sight (m.elements m.element) (t.single (character 49)) ≡ Some (u'.Fixed.literal (One ∷ []))
-  pub a_string : fixed_value sight (m.elements m.unsigned) (t.single (string (codes "01"))) ≡ Some (u'.Fixed.literal (Zero ∷ One ∷ []))
-  pub a_filling : fixed_value sight (m.elements m.logic_vector) (t.Value.others 0 (character 48)) ≡ Some (u'.Fixed.filled Zero)
-  pub a_literal : fixed_value sight (m.enumeration 0 2) (t.single (name (codes "green"))) ≡ Some (u'.Fixed.position 1)
-  pub a_constant : fixed_value sight (m.elements m.element) (t.single (name (codes "one"))) ≡ Some (u'.Fixed.constant 0)
-  pub an_encoding : fixed_value sight (m.elements m.unsigned) (t.single (with_two (codes "to_unsigned") (name (codes "k")) (number (codes "4"))))
+  pub a_character : fixed_value sight (Elements Element) (t.single (character 49)) ≡ Some (u'.Fixed.literal (One ∷ []))
+  pub a_string : fixed_value sight (Elements Unsigned) (t.single (string (codes "01"))) ≡ Some (u'.Fixed.literal (Zero ∷ One ∷ []))
+  pub a_filling : fixed_value sight (Elements LogicVector) (t.Value.others 0 (character 48)) ≡ Some (u'.Fixed.filled Zero)
+  pub a_literal : fixed_value sight (Enumeration 0 2) (t.single (name (codes "green"))) ≡ Some (u'.Fixed.position 1)
+  pub a_constant : fixed_value sight (Elements Element) (t.single (name (codes "one"))) ≡ Some (u'.Fixed.constant 0)
+  pub an_encoding : fixed_value sight (Elements Unsigned) (t.single (with_two (codes "to_unsigned") (name (codes "k")) (number (codes "4"))))
       ≡ Some (u'.Fixed.encoded (u.Static.constant 0) (u.number 4))
   -- a signal's name, a literal in parentheses, and not '1'
-  pub a_signal : fixed_value sight (m.elements m.element) (t.single (name (codes "a"))) ≡ None
-  pub enclosed_literal : fixed_value sight (m.elements m.element) (t.single (enclosed (character 49))) ≡ None
-  pub computed : fixed_value sight (m.elements m.element) (t.single (t.negation 0 (character 49))) ≡ None
+  pub a_signal : fixed_value sight (Elements Element) (t.single (name (codes "a"))) ≡ None
+  pub enclosed_literal : fixed_value sight (Elements Element) (t.single (enclosed (character 49))) ≡ None
+  pub computed : fixed_value sight (Elements Element) (t.single (t.negation 0 (character 49))) ≡ None
 
 -- ---- choices
 
@@ -78,10 +80,10 @@ abbrev pub on_others : List t.Choice
 on_others = t.Choice.otherwise 0 ∷ []
 
 abbrev pub of_element : List (List t.Choice) → Option (List (List s.Choice))
-of_element = covered sight (m.elements m.element)
+of_element = covered sight (Elements Element)
 
 abbrev pub of_colour : List (List t.Choice) → Option (List (List s.Choice))
-of_colour = covered sight (m.enumeration 0 2)
+of_colour = covered sight (Enumeration 0 2)
 
 pub record ChoicesCover : Type 0 where
   pub with_others : of_element (on (character 48) ∷ on_others ∷ []) ≡ Some ((s.values (Zero ∷ []) ∷ []) ∷ [] ∷ [])

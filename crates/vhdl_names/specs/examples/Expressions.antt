@@ -7,11 +7,12 @@ use Rattle.vhdl_values.specs.declared.kinds.Edge.TheVariants.{Rising}
 use Rattle.vhdl_tree.specs.declared.operator.Operator.TheVariants as o
 use Rattle.vhdl_tree.specs.Tree as t
 use Rattle.vhdl_tree.specs.Tree.{Expr}
+use Rattle.vhdl_names.specs.declared.kind.Kind.TheVariants.{Element, LogicVector, Unsigned, OpenVector}
+use Rattle.vhdl_names.specs.declared.kind.ObjectType.TheVariants.{Elements}
 use Rattle.vhdl_names.specs.declared.operator.Numeric.TheVariants as by
 use Rattle.vhdl_names.specs.declared.operator.VectorOperator.TheVariants as op
 use Rattle.vhdl_names.specs.units.Expressions as u
 use Rattle.vhdl_names.specs.units.Statements as s
-use Rattle.vhdl_names.specs.Visibility as m
 use Rattle.vhdl_names.specs.Visibility.{Sight, within_loop, within_generate}
 use Rattle.vhdl_names.specs.Packages.{sight_of}
 use Rattle.vhdl_names.specs.Operators.{integer, elements, truth}
@@ -37,23 +38,23 @@ literal_01 = u.Vector.literal (Zero ∷ One ∷ [])
 pub record OperatorsHaveTypes : Type 0 where
   -- v and "01" is a std_logic_vector
   pub logical : typed sight (binary o.And named_v (string (codes "01")))
-      ≡ Some (elements m.logic_vector (u.Vector.binary (op.Logical And) v literal_01))
+      ≡ Some (elements LogicVector (u.Vector.binary (op.Logical And) v literal_01))
   -- a and v mixes an element with a vector
   pub mixed : typed sight (binary o.And named_a named_v) ≡ None
   -- a & "01" is open: its type is found from where it stands
   pub concatenated : typed sight (binary o.Concatenate named_a (string (codes "01")))
-      ≡ Some (elements m.open_vector (u.Vector.binary op.Concatenate a literal_01))
+      ≡ Some (elements OpenVector (u.Vector.binary op.Concatenate a literal_01))
   -- n - 1, and 1 - n
   pub number_first : typed sight (binary o.Subtract named_n (number (codes "1")))
-      ≡ Some (elements m.unsigned (u.with_integer by.Subtract n (u.number 1)))
+      ≡ Some (elements Unsigned (u.with_integer by.Subtract n (u.number 1)))
   pub integer_first : typed sight (binary o.Subtract (number (codes "1")) named_n)
-      ≡ Some (elements m.unsigned (u.integer_with by.Subtract (u.number 1) n))
+      ≡ Some (elements Unsigned (u.integer_with by.Subtract (u.number 1) n))
   -- v + 1
   pub no_number : typed sight (binary o.Add named_v (number (codes "1"))) ≡ None
   -- "01" + "1" is an unsigned, and needs numeric_std in sight
-  pub open_sum : given sight (m.elements m.unsigned) (t.single sum)
+  pub open_sum : given sight (Elements Unsigned) (t.single sum)
       ≡ Some (s.single (u.elements (u.Vector.binary (op.Arithmetic by.Add) literal_01 (u.Vector.literal (One ∷ [])))))
-  pub vector_sum : given sight (m.elements m.logic_vector) (t.single sum) ≡ None
+  pub vector_sum : given sight (Elements LogicVector) (t.single sum) ≡ None
   pub unseen_sum : typed (sight_of logic_alone region) sum ≡ None
   -- v = n, v < v, and 3 < n, which is n > 3
   pub unlike_kinds : typed sight (binary o.Equal named_v named_n) ≡ None
@@ -71,16 +72,16 @@ pub record NamesHaveMeanings : Type 0 where
   -- a loop's parameter hides the port a; a generate's parameter i
   pub hidden : typed sight_in_loop named_a ≡ Some (integer (u.loop_parameter 0))
   pub turn : typed sight_in_loop (with_one (codes "v") (name (codes "i")))
-      ≡ Some (elements m.element (u.of_signal (record { signal = u.port 1; part = u.Part.element (u.generate_parameter 0) })))
+      ≡ Some (elements Element (u.of_signal (record { signal = u.port 1; part = u.Part.element (u.generate_parameter 0) })))
   -- a(1): an element has no elements
   pub no_elements : typed sight (with_one (codes "a") (number (codes "1"))) ≡ None
   -- unsigned(v), in sight and not
-  pub converted : typed sight (with_one (codes "unsigned") named_v) ≡ Some (elements m.unsigned v)
+  pub converted : typed sight (with_one (codes "unsigned") named_v) ≡ Some (elements Unsigned v)
   pub not_visible : typed (sight_of logic_alone region) (with_one (codes "unsigned") named_v) ≡ None
   -- resize(v, 4) and to_unsigned(k, 4)
   pub no_resize : typed sight (with_two (codes "resize") named_v (number (codes "4"))) ≡ None
   pub encoded : typed sight (with_two (codes "to_unsigned") (name (codes "k")) (number (codes "4")))
-      ≡ Some (elements m.unsigned (u.encoded (u.Static.constant 0) (u.number 4)))
+      ≡ Some (elements Unsigned (u.encoded (u.Static.constant 0) (u.number 4)))
 
 pub record EdgesAskForSignals : Type 0 where
   pub call : typed sight (with_one (codes "rising_edge") named_a) ≡ Some (truth (u.edge Rising (record { signal = u.port 0; part = u.whole })))
@@ -98,8 +99,8 @@ pub record EdgesAskForSignals : Type 0 where
 
 pub record LiteralsHaveValues : Type 0 where
   -- X"5" is "0101"; '1' is one element
-  pub bits : typed sight (t.bits 0 (88 ∷ 34 ∷ 53 ∷ 34 ∷ [])) ≡ Some (elements m.open_vector (u.Vector.literal (Zero ∷ One ∷ Zero ∷ One ∷ [])))
-  pub element : typed sight (character 49) ≡ Some (elements m.element (u.character One))
+  pub bits : typed sight (t.bits 0 (88 ∷ 34 ∷ 53 ∷ 34 ∷ [])) ≡ Some (elements OpenVector (u.Vector.literal (Zero ∷ One ∷ Zero ∷ One ∷ [])))
+  pub element : typed sight (character 49) ≡ Some (elements Element (u.character One))
   -- 'z', which is no capital, and the empty string
   pub small_letter : typed sight (character 122) ≡ None
   pub empty : typed sight (string []) ≡ None

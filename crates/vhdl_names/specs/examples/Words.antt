@@ -6,6 +6,8 @@ use Rattle.vhdl_tree.specs.declared.operator.Direction.TheVariants.{Downto}
 use Rattle.vhdl_tree.specs.declared.declaration.Mode.TheVariants.{In, Out}
 use Rattle.vhdl_tree.specs.Tree as t
 use Rattle.vhdl_tree.specs.Tree.{Ident, Expr}
+use Rattle.vhdl_names.specs.declared.kind.Kind.TheVariants.{Element, LogicVector, Unsigned}
+use Rattle.vhdl_names.specs.declared.kind.ObjectType.TheVariants.{Enumeration}
 use Rattle.vhdl_names.specs.units.Expressions as u
 use Rattle.vhdl_names.specs.units.Expressions.{Part, Vector}
 use Rattle.vhdl_names.specs.Visibility as m
@@ -81,11 +83,11 @@ logic_alone = record { has_ieee = true; has_logic = true; has_numbers = false }
 -- in ports a, v and n, out port y; signal q of an enumeration (red, green); a constant one declared by '1'; an integer k
 abbrev pub region : List Declared
 region =
-    declare (codes "a") (m.port 0 In m.element) ∷ declare (codes "v") (m.port 1 In m.logic_vector)
-    ∷ declare (codes "n") (m.port 2 In m.unsigned) ∷ declare (codes "y") (m.port 3 Out m.element)
+    declare (codes "a") (m.port 0 In Element) ∷ declare (codes "v") (m.port 1 In LogicVector)
+    ∷ declare (codes "n") (m.port 2 In Unsigned) ∷ declare (codes "y") (m.port 3 Out Element)
     ∷ declare (codes "colour") (m.enumeration_type 0 2) ∷ declare (codes "red") (m.literal 0 2 0)
-    ∷ declare (codes "green") (m.literal 0 2 1) ∷ declare (codes "q") (m.signal 0 (m.enumeration 0 2))
-    ∷ declare (codes "one") (m.constant 0 m.element (Some (One ∷ []))) ∷ declare (codes "k") (m.integer_constant 0) ∷ []
+    ∷ declare (codes "green") (m.literal 0 2 1) ∷ declare (codes "q") (m.signal 0 (Enumeration 0 2))
+    ∷ declare (codes "one") (m.constant 0 Element (Some (One ∷ []))) ∷ declare (codes "k") (m.integer_constant 0) ∷ []
 
 abbrev pub sight : Sight
 sight = sight_of both_packages region
