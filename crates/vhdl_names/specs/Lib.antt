@@ -1,5 +1,6 @@
 pub mod units
 pub mod Rules
+pub mod Gives
 pub mod Visibility
 pub mod Packages
 pub mod Literals

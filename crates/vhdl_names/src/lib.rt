@@ -2,9 +2,13 @@
 //! file is (`units`), which file is well typed, one rule a line, and small examples of both.
 #![tactic(auto)]
 
+mod fault;
 mod kind;
+mod literal;
 mod operator;
 pub mod rule_examples;
 
+pub use fault::{NameFault, NameProblem};
 pub use kind::{Function, Kind, ObjectType};
+pub use literal::nine_of;
 pub use operator::{Arithmetic, IntegerType, Numeric, VectorOperator};
