@@ -1,6 +1,7 @@
 pub mod units
 pub mod Rules
 pub mod Gives
+pub mod views
 pub mod Visibility
 pub mod Packages
 pub mod Literals

@@ -3,12 +3,14 @@
 #![tactic(auto)]
 
 mod fault;
+mod integer;
 mod kind;
 mod literal;
 mod operator;
 pub mod rule_examples;
 
 pub use fault::{NameFault, NameProblem};
+pub use integer::{Static, StaticLink, StaticRange};
 pub use kind::{Function, Kind, ObjectType};
 pub use literal::nine_of;
 pub use operator::{Arithmetic, IntegerType, Numeric, VectorOperator};
