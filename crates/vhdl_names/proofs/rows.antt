@@ -1,0 +1,2 @@
+-- Lists within the code's types, as contracts see them.
+pub mod Integers

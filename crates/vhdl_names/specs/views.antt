@@ -1,0 +1,2 @@
+-- What contracts see of the code's types.
+pub mod Integers
