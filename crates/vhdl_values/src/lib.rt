@@ -12,8 +12,6 @@ mod planes;
 mod resolution;
 mod scalar;
 mod stripped;
-#[cfg(test)]
-mod tests;
 mod transposed;
 mod vector;
 mod words;
