@@ -3,11 +3,11 @@
 use crate::answer::{Answer, text_of};
 use crate::faulty::{FailingReader, FailingWriter, Failure};
 use crate::row::Row;
-use rtl_sink::Out;
-use rtlsim::{Named, eval, tool, tool_first_line, tool_with};
+use rtl_sink::{In, Out, Reader};
+use rtlsim::{Named, Standard, eval, tool, tool_first_line, tool_with};
 use std::alloc::{AllocError, Global};
 use std::io;
-use std::io::{ErrorKind, Read};
+use std::io::ErrorKind;
 use std::rt::Files;
 
 /// What the call of this name gives, where it isn't what the row says.
@@ -57,10 +57,11 @@ fn is_told(row: &Row<'_>, answer: &Answer) -> bool {
 }
 
 /// `tool` over a reader.
-fn by_tool<R: Read + Drop>(alloc: Global, row: &Row<'_>, reader: R) -> Answer {
+fn by_tool<R: Reader + Drop>(alloc: Global, row: &Row<'_>, reader: R) -> Answer {
+    let mut input = Standard { reader };
     let mut out = Out::new(Vec::new(alloc));
     let mut err = Out::new(Vec::new(alloc));
-    let status = tool(alloc, &row.words, reader, &mut out, &mut err);
+    let status = tool(alloc, &row.words, &mut input, &mut out, &mut err);
     Answer {
         status,
         out: out.into_inner(),
@@ -99,7 +100,8 @@ fn by_line<R: Files + AllocGlobal>(
     all.extend_from_slice(&row.input)?;
     let mut out = Out::new(Vec::new(rt.alloc()));
     let mut err = Out::new(Vec::new(rt.alloc()));
-    let status = tool_first_line(rt.alloc(), rt, all.as_slice(), &mut out, &mut err);
+    let mut reader = all.as_slice();
+    let status = tool_first_line(rt.alloc(), rt, &mut reader, &mut out, &mut err);
     Ok(Answer {
         status: status.code(),
         out: out.into_inner(),
@@ -128,30 +130,34 @@ fn by_eval(alloc: Global, row: &Row<'_>) -> Result<Answer, AllocError> {
 
 /// `tool`, where each read in turn fails: it tells so, and nothing else. Where none does, it is the row's.
 fn wrong_by_reads(alloc: Global, row: &Row<'_>) -> io::Result<Option<Answer>> {
-    for failure in [Failure::Once, Failure::Interrupted] {
-        for reads in 0..=row.input.len() {
+    for (failure, last) in [(Failure::Once, usize::MAX), (Failure::Interrupted, 0)] {
+        for reads in 0..=row.input.len().min(last) {
             let reader = FailingReader::new(&row.input, reads, failure);
-            let answer = by_tool(alloc, row, reader);
+            let answer = by_tool(alloc, row, In::new(reader));
             if !answer.is(8, b"", b"rtlsim: input\n") {
                 return Ok(Some(answer));
             }
         }
     }
     let reader = FailingReader::new(&row.input, usize::MAX, Failure::Once);
-    Ok(unless_told(row, by_tool(alloc, row, reader)))
+    Ok(unless_told(row, by_tool(alloc, row, In::new(reader))))
 }
 
 /// `tool`, where each write in turn fails: a beginning went out. Where none does, it is the row's.
 fn wrong_by_writes(alloc: Global, row: &Row<'_>) -> io::Result<Option<Answer>> {
     let never = (usize::MAX, Failure::Once);
-    for failure in [Failure::Once, Failure::Interrupted, Failure::Stuck] {
-        for writes in 0..row.answer.out.len() {
+    for (failure, most) in [
+        (Failure::Once, usize::MAX),
+        (Failure::Interrupted, 1),
+        (Failure::Stuck, 1),
+    ] {
+        for writes in 0..row.answer.out.len().min(most) {
             let answer = by_writers(alloc, row, (writes, failure), never);
             if !answer.is(8, &row.answer.out[..writes], b"rtlsim: output\n") {
                 return Ok(Some(answer));
             }
         }
-        for writes in 0..row.answer.err.len() {
+        for writes in 0..row.answer.err.len().min(most) {
             let answer = by_writers(alloc, row, never, (writes, failure));
             if !answer.is(8, &row.answer.out, &row.answer.err[..writes]) {
                 return Ok(Some(answer));
@@ -168,9 +174,12 @@ fn by_writers(
     out_fails: (usize, Failure),
     err_fails: (usize, Failure),
 ) -> Answer {
+    let mut input = Standard {
+        reader: row.input.as_slice(),
+    };
     let mut out = Out::new(FailingWriter::new(alloc, out_fails.0, out_fails.1));
     let mut err = Out::new(FailingWriter::new(alloc, err_fails.0, err_fails.1));
-    let status = tool(alloc, &row.words, row.input.as_slice(), &mut out, &mut err);
+    let status = tool(alloc, &row.words, &mut input, &mut out, &mut err);
     Answer {
         status,
         out: out.into_inner().taken,

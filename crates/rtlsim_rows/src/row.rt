@@ -121,7 +121,10 @@ impl<'a> Row<'a> {
         if !self.parts.is_empty() {
             return "tool files line";
         }
-        if self.answer.status == 8 || self.words.is_empty() {
+        if self.words.is_empty() {
+            return "tool line reads writes";
+        }
+        if self.answer.status == 8 {
             return "tool files line writes";
         }
         "tool files line eval reads writes"
