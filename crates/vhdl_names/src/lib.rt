@@ -8,9 +8,13 @@ mod kind;
 mod literal;
 mod operator;
 pub mod rule_examples;
+mod test;
+mod vector;
 
 pub use fault::{NameFault, NameProblem};
 pub use integer::{Static, StaticLink, StaticRange};
 pub use kind::{Function, Kind, ObjectType};
 pub use literal::nine_of;
 pub use operator::{Arithmetic, IntegerType, Numeric, VectorOperator};
+pub use test::{StaticTest, StaticTestLink, Test, TestLink};
+pub use vector::{Part, Place, Signal, Value, Vector, VectorLink};
