@@ -1,9 +1,10 @@
--- What the small nets compute.
-pub mod Bodies
-pub mod BodyMistakes
+-- Proofs of the examples.
 pub mod Computing
 pub mod Deciding
+pub mod Sound
+pub mod Bodies
+pub mod Counter
 pub mod Toggling
 pub mod Rows
+pub mod BodyMistakes
 pub mod SimulationMistakes
-pub mod Counter

@@ -2,5 +2,7 @@
 pub mod Processes
 pub mod Values
 pub mod InRange
+pub mod Sources
 pub mod Connected
 pub mod SourcesInRange
+pub mod Headline

@@ -18,3 +18,8 @@ pub mod Range
 pub mod OneReport
 pub mod StatesInRange
 pub mod Greatest
+pub mod Shown
+pub mod Consistent
+pub mod Past
+pub mod RaceNames
+pub mod FaultLists

@@ -1,4 +1,5 @@
+pub mod basics
 pub mod bodies
-pub mod nets
 pub mod simulation
+pub mod nets
 pub mod examples

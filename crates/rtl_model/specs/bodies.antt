@@ -3,9 +3,11 @@
 pub mod Body
 pub mod Values
 pub mod Tests
+pub mod Variables
 pub mod Effect
 pub mod Reads
 pub mod Assigns
+pub mod Stored
 pub mod Kinds
 pub mod Types
 pub mod Fits

@@ -1,9 +1,8 @@
--- Small nets on which the definitions are tried.
+-- Small bodies and nets on which the definitions are tried. In order of reading:
 pub mod Bodies
-pub mod BodyMistakes
-pub mod Gates
 pub mod Circuits
+pub mod Counter
 pub mod Toggling
 pub mod Rows
+pub mod BodyMistakes
 pub mod SimulationMistakes
-pub mod Counter

@@ -4,6 +4,7 @@ pub mod Cycle
 pub mod Moments
 pub mod Elaborated
 pub mod Accepted
+pub mod Faults
 pub mod Levels
 pub mod Report
 pub mod Races

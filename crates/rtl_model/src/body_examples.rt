@@ -1,12 +1,13 @@
 //! Examples about bodies, over `specs/examples`.
 
-ghost use Rattle.rtl_model.specs.examples.Bodies.{AssignsOfBodies, KindsOfBodies, RunsOfBodies};
+ghost use Rattle.rtl_model.specs.examples.Bodies.{KindsOfBodies, KindsOfResets, AssignsOfBodies, RunsOfBodies, VariablesOfBodies, StoresOfBodies, ReadsOfBodies};
 ghost use Rattle.rtl_model.specs.examples.Counter.{CounterCounts};
 ghost use Rattle.rtl_model.specs.examples.BodyMistakes.{LatchWouldPass, DefaultWouldStay, TestWouldBeRising};
 
-/// What is clocked, what is combinational, and what is neither.
+/// What is clocked, with a reset and without, what is combinational, and what is neither.
 pub fn kinds_of_bodies()
-    ensures { KindsOfBodies }
+    ensures kinds { KindsOfBodies }
+    ensures resets { KindsOfResets }
 {}
 
 /// What small bodies assign on every syntactic path.
@@ -17,6 +18,17 @@ pub fn assigns_of_bodies()
 /// What runs of small bodies assign.
 pub fn runs_of_bodies()
     ensures { RunsOfBodies }
+{}
+
+/// What small bodies do with variables, and which they store.
+pub fn variables_of_bodies()
+    ensures runs { VariablesOfBodies }
+    ensures stores { StoresOfBodies }
+{}
+
+/// What a body with every form of expression, test and statement reads.
+pub fn reads_of_bodies()
+    ensures { ReadsOfBodies }
 {}
 
 /// A counter as a flat net is in range, connected and accepted, and its simulation counts.

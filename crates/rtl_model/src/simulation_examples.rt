@@ -1,9 +1,9 @@
 //! Small nets (`specs/examples`) on which the definitions of simulation are tried: that the laws' premises can be met, that
 //! known counts of delta cycles come out, and that wrong definitions would differ.
 
-ghost use Rattle.rtl_model.specs.examples.SimulationMistakes.{ActivityWouldGoOn, BoundWouldBreak, LevelsWouldMiss, OrderWouldCount, RaceWouldPass, RegisterWouldFallBack, RegisterWouldRunAhead};
+ghost use Rattle.rtl_model.specs.examples.Toggling.{PremisesCanBeMet, BoundsAreMet};
 ghost use Rattle.rtl_model.specs.examples.Rows.{OscillatorSettles, SiblingWakes};
-ghost use Rattle.rtl_model.specs.examples.Toggling.{BoundsAreMet, PremisesCanBeMet};
+ghost use Rattle.rtl_model.specs.examples.SimulationMistakes.{OrderWouldCount, ActivityWouldGoOn, BoundWouldBreak, LevelsWouldMiss, RegisterWouldFallBack, RegisterWouldRunAhead, RaceWouldPass};
 
 /// A toggling register, with an asynchronous reset and without, has all that the laws ask for, and its moments take as many
 /// delta cycles as the bound says.

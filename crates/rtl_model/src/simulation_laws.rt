@@ -1,6 +1,6 @@
 //! The laws of simulation (`specs/simulation/Laws.antt`), each the contract of a function that does nothing.
 
-ghost use Rattle.rtl_model.specs.simulation.Laws.{EachMomentComes, EveryOrderIsOne, IsTheMachine, LevelsAreShown, LevelsExist, OneGreatestCount, OneMachineRun, OneReport, OneSolution, OrderIsFree, ReportsAreShown, ReportsLeadDown, RunsInRange, SettlesInBound, SolutionsInRange, StatesInRange};
+ghost use Rattle.rtl_model.specs.simulation.Laws.{EachChangeIsMade, EachClockShowsRaces, EachDependsOnPast, EachEndsAtLast, EachFaultIsListed, EachInputHolds, EachMomentComes, EachRunShows, EachStaysConsistent, EachTakesInputsAlone, EveryOrderIsOne, IsTheMachine, LevelsAreShown, LevelsExist, OneGreatestCount, OneMachineRun, OneReport, OneSolution, OrderIsFree, ReportsAreShown, ReportsLeadDown, RunsInRange, SettlesInBound, SettlesOrNot, SolutionsInRange, StatesInRange};
 
 /// Two orders of one cycle's Runs end in the same state, in every net.
 pub fn order_is_free()
@@ -85,4 +85,42 @@ pub fn reports_are_shown()
 /// In a report, following `from` leads from each process down to level 1, through as many processes as its level says.
 pub fn reports_lead_down()
     ensures { ReportsLeadDown }
+{}
+
+/// Each net with sources has the resolution of their values at the start, and each step keeps it so; hence a net none of
+/// whose drivers is active keeps its value in an update.
+pub fn stays_consistent()
+    ensures { EachStaysConsistent }
+{}
+
+/// What new inputs do depends on the values of the inputs alone; throughout a moment they have them; and a list of changes
+/// gives each net that it names the value that it names last.
+pub fn inputs_are_taken_alone()
+    ensures alone { EachTakesInputsAlone }
+    ensures hold { EachInputHolds }
+    ensures changes { EachChangeIsMade }
+{}
+
+/// One run of delta cycles shows what every order does, and a state with nothing to run settles within a limit or is
+/// unsettled there.
+pub fn one_run_shows()
+    ensures shows { EachRunShows }
+    ensures either { SettlesOrNot }
+{}
+
+/// What happens up to a moment depends on the moments up to it alone, and past the last of its times a stimulus changes
+/// nothing.
+pub fn depends_on_past()
+    ensures past { EachDependsOnPast }
+    ensures last { EachEndsAtLast }
+{}
+
+/// Races are what a report's clocks show, and the earliest has one name.
+pub fn clocks_show_races()
+    ensures { EachClockShowsRaces }
+{}
+
+/// A net has one list of faults, unless it has loops alone; and it has one at all only where it isn't accepted.
+pub fn faults_are_listed()
+    ensures { EachFaultIsListed }
 {}

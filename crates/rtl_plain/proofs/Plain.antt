@@ -71,7 +71,7 @@ value_plain ps (t.character at c) v h =
 value_plain ps (t.parens at e) v h = value_plain ps e v h
 value_plain ps (t.negation at e) v h =
     let b = map_some (n.value ps e) inverse v h in subst (ReadsInputs ps) b.2 (value_plain ps e b.0 b.1)
-value_plain ps (t.binary op at x y) v h =
+value_plain ps (t.binary begins op at x y) v h =
     let a = bind_some (n.value ps x) (λ p. (n.value ps y >>= λ q. n.operated op p q)) v h in
     let b = bind_some (n.value ps y) (λ q. n.operated op a.0 q) v a.2 in
     let c = map_some (n.logic_of op) (λ l. binary l a.0 b.0) v b.2 in

@@ -1,12 +1,11 @@
 -- Chains of operators, as contracts see them.
-use Rattle.std.proofs.Common.{◌≡◌, List, [], ◌∷◌, ◌++◌, map, Option, Some, None, Vec, Box, Global, refl, ap, ◌∙◌, sym, ℕ, suc, ◌<◌, length, get_or, drop, drop-cons}
+use Rattle.std.proofs.Common.{◌≡◌, Bool, true, false, List, [], ◌∷◌, ◌++◌, map, Option, Some, None, Vec, Box, Global, refl, ap, ◌∙◌, sym, ℕ, suc, ◌<◌, length, get_or, drop, drop-cons}
 use mathlib.Core.Former.{Count}
 use Rattle.vhdl_tree.specs.Tree as t
 use Rattle.vhdl_tree.specs.View as s
-use Rattle.vhdl_tree.specs.declared.expression.Expr.{Expr}
-use Rattle.vhdl_tree.specs.declared.expression.Expr.TheVariants as e
+use Rattle.vhdl_tree.specs.declared.expression.Chain.{Chain, out-Chain}
 use Rattle.vhdl_tree.specs.declared.expression.Link.{Link}
-use Rattle.vhdl_tree.proofs.Rows.{view_chain}
+use Rattle.vhdl_tree.proofs.Rows.{chain_is}
 use Rattle.rtl_plain.specs.declared.design.Value as v
 use Rattle.rtl_plain.specs.declared.design.Value.{Value}
 use Rattle.rtl_plain.specs.declared.design.Link as m
@@ -38,24 +37,34 @@ chained-binary acc ls ls' l h = ap (chained acc) h ∙ chained-push acc ls l
 
 -- ---- expressions
 
-linked_value : (ports : List d.Port) (x : t.Expr) (l : Link) → n.value ports (t.binary l.operator l.at x (s.view l.operand)) ≡ linked ports (n.value ports x) l
+linked_value : (ports : List d.Port) (begins : Bool) (x : t.Expr) (l : Link) → n.value ports (t.binary begins l.operator l.at x (s.view l.operand)) ≡ linked ports (n.value ports x) l
 unfolding n.value
-linked_value ports x l = go (n.value ports x)
+linked_value ports begins x l = go (n.value ports x)
   where
     go : (o : Option d.Value) → (o >>= λ v. (n.value ports (s.view l.operand) >>= λ w. n.operated l.operator v w)) ≡ linked ports o l
     go None = refl
     go (Some v) = refl
 
-pub value-chained : (ports : List d.Port) (x : t.Expr) (ls : List Link) → n.value ports (t.chained x (map s.pair_view ls)) ≡ all_linked ports (n.value ports x) ls
-value-chained ports x [] = refl
-value-chained ports x (l ∷ ls) = value-chained ports (t.joined x (s.pair_view l)) ls ∙ ap (λ o. all_linked ports o ls) (linked_value ports x l)
+value-joined : (ports : List d.Port) (x : t.Expr) (ls : List Link) → n.value ports (t.all_joined x (map s.pair_view ls)) ≡ all_linked ports (n.value ports x) ls
+value-joined ports x [] = refl
+value-joined ports x (l ∷ ls) = value-joined ports (t.joined x (s.pair_view l)) ls ∙ ap (λ o. all_linked ports o ls) (linked_value ports false x l)
 
 pub all_linked_none : (ports : List d.Port) (ls : List Link) → all_linked ports None ls ≡ None
 all_linked_none ports [] = refl
 all_linked_none ports (l ∷ ls) = all_linked_none ports ls
 
-pub value-chain : (ports : List d.Port) (first : Box Expr Global) (rest : Vec Link Global) → n.value ports (s.view (e.Chain first rest)) ≡ all_linked ports (n.value ports (s.view first.value)) rest.items
-value-chain ports first rest = ap (n.value ports) (view_chain first rest) ∙ value-chained ports (s.view first.value) rest.items
+value-chain : (ports : List d.Port) (chain : Chain) →
+    n.value ports (s.chain_view chain) ≡ all_linked ports (linked ports (n.value ports (s.view (out-Chain chain).first)) (out-Chain chain).second) (out-Chain chain).rest.items
+value-chain ports chain =
+    let c = out-Chain chain in
+    ap (n.value ports) (chain_is chain)
+    ∙ value-joined ports (t.begun (s.view c.first) (s.pair_view c.second)) c.rest.items
+    ∙ ap (λ o. all_linked ports o c.rest.items) (linked_value ports true (s.view c.first) c.second)
+
+-- a chain's value by its parts, each as the code comes to it
+pub chain_whole : (ports : List d.Port) (whole : Option d.Value) (chain c1 c2 c3 : Chain) → whole ≡ n.value ports (s.chain_view chain) → c1 ≡ chain → c2 ≡ chain → c3 ≡ chain →
+    whole ≡ all_linked ports (linked ports (n.value ports (s.view (out-Chain c1).first)) (out-Chain c2).second) (out-Chain c3).rest.items
+chain_whole ports whole chain c1 c2 c3 h e1 e2 e3 = rw (e1, e2, e3) (h ∙ value-chain ports chain)
 
 -- a link that gives nothing leaves nothing
 pub link_fails : (ports : List d.Port) (whole : Option d.Value) (v : d.Value) (ls : List Link) (i : ℕ) (l : Link) → whole ≡ all_linked ports (Some v) (drop i ls) → i < length ls → l ≡ get_or ls i l → linked ports (Some v) l ≡ None → whole ≡ None

@@ -132,7 +132,7 @@ value ports (t.named n suffix attribute) = identifier_of suffix attribute n >>= 
 value ports (t.character at c) = option_map literal (value_of_character c)
 value ports (t.parens at e) = value ports e
 value ports (t.negation at e) = option_map inverse (value ports e)
-value ports (t.binary op at x y) = value ports x >>= λ v. (value ports y >>= λ w. operated op v w)
+value ports (t.binary begins op at x y) = value ports x >>= λ v. (value ports y >>= λ w. operated op v w)
 value ports (t.integer at text) = None
 value ports (t.string at text) = None
 value ports (t.bits at text) = None

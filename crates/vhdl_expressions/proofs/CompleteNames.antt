@@ -39,7 +39,7 @@ parens_reads at e c f n ts rest h =
 
 parens_complete : (at : ℕ) (e : Expr) → Complete e → Complete (parens at e)
 unfolding same_kind
-parens_complete at e c = primary_complete (parens at e) k.LeftParen refl refl
+parens_complete at e c = primary_complete (parens at e) k.LeftParen refl refl (omega arith)
     (λ ts rest h. front (one_at k.LeftParen at) (spell e ++ some k.RightParen ∷ []) k.LeftParen ts rest (λ l i. i.0) h)
     (λ f n ts rest h s. parens_reads at e c f n ts rest h)
 
@@ -47,25 +47,25 @@ parens_complete at e c = primary_complete (parens at e) k.LeftParen refl refl
 
 integer_complete : (at : ℕ) (bytes : List ℕ) → Complete (integer at bytes)
 unfolding same_kind
-integer_complete at bytes = primary_complete (integer at bytes) k.Integer refl refl
+integer_complete at bytes = primary_complete (integer at bytes) k.Integer refl refl (omega arith)
     (λ ts rest h. front (text_at k.Integer at bytes) [] k.Integer ts rest (λ l i. i.0) h)
     (λ f n ts rest h s. yields_bind _ (inl (reads_text k.Integer at bytes ts rest h)) (inl refl))
 
 string_complete : (at : ℕ) (bytes : List ℕ) → Complete (string at bytes)
 unfolding same_kind
-string_complete at bytes = primary_complete (string at bytes) k.String refl refl
+string_complete at bytes = primary_complete (string at bytes) k.String refl refl (omega arith)
     (λ ts rest h. front (text_at k.String at bytes) [] k.String ts rest (λ l i. i.0) h)
     (λ f n ts rest h s. yields_bind _ (inl (reads_text k.String at bytes ts rest h)) (inl refl))
 
 bits_complete : (at : ℕ) (bytes : List ℕ) → Complete (bits at bytes)
 unfolding same_kind
-bits_complete at bytes = primary_complete (bits at bytes) k.BitString refl refl
+bits_complete at bytes = primary_complete (bits at bytes) k.BitString refl refl (omega arith)
     (λ ts rest h. front (text_at k.BitString at bytes) [] k.BitString ts rest (λ l i. i.0) h)
     (λ f n ts rest h s. yields_bind _ (inl (reads_text k.BitString at bytes ts rest h)) (inl refl))
 
 character_complete : (at code : ℕ) → Complete (character at code)
 unfolding same_kind
-character_complete at code = primary_complete (character at code) k.Character refl refl
+character_complete at code = primary_complete (character at code) k.Character refl refl (omega arith)
     (λ ts rest h. front (literal_at at code) [] k.Character ts rest (λ l i. i.0) h)
     (λ f n ts rest h s. yields_bind _ (inl (reads_literal at code ts rest h)) (inl refl))
 
@@ -224,7 +224,7 @@ name_reads x c f n ts rest h s =
 
 named_complete : (i : Ident) (x : Suffix) (a : Option Ident) → SuffixComplete x → Complete (named i x a)
 unfolding same_kind
-named_complete i x a c = primary_complete (named i x a) k.Identifier refl refl
+named_complete i x a c = primary_complete (named i x a) k.Identifier refl refl (omega arith)
     (λ ts rest h. front (word_at i.at i.text) (spell_suffix x ++ spell_attribute a) k.Identifier ts rest (λ l i. i.0) h)
     (λ f n ts rest h s. yields_bind _ (name_reads (record { identifier = i; suffix = x; attribute = a }) c f n ts rest h s) (inl refl))
 
@@ -240,7 +240,7 @@ mutual
   complete (parens at inner) = parens_complete at inner (complete inner)
   complete (negation at operand) = negation_complete at operand (complete operand)
   complete (signed sign at operand) = signed_complete sign at operand (complete operand)
-  complete (binary op at left right) = binary_complete op at left right (complete left) (complete right)
+  complete (binary b op at left right) = binary_complete b op at left right (complete left) (complete right)
 
   pub complete_suffix : (x : Suffix) → SuffixComplete x
   complete_suffix plain = plain_complete

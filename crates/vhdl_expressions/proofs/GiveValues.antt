@@ -13,10 +13,10 @@ use Rattle.vhdl_tree.specs.Pieces.{Piece, some, one_at, Spells, spell_each, spel
 use Rattle.vhdl_tree.specs.grammar.Expressions.{kind_of, sign_kind, direction_kind, spell, spell_name, spell_range, spell_value, spell_choice, spell_choices, spell_actual, spell_formal, spell_association, spell_associations, IsExpr, IsName, IsRange, IsValue, IsChoice, AreChoices, IsActual, IsAssociation, AreAssociations}
 use Rattle.vhdl_expressions.specs.reader.Input.{Parser, Outcome, and_then, next_kind, second_kind, is_kind, sees_both, test_both, many}
 use Rattle.vhdl_expressions.specs.reader.Expressions as read
-use Rattle.vhdl_expressions.specs.reader.Expressions.{direction_at, range_by, range, others_value, value, choice, next_choice, choices, formal, optional_formal, actual_of, association, next_association, associations, inside, name}
+use Rattle.vhdl_expressions.specs.reader.Expressions.{direction_at, range_by, range, others_value, value, choice, choices, formal, optional_formal, actual_of, association, associations, inside, name}
 use Rattle.vhdl_expressions.proofs.Steps.{kind_same}
 use Rattle.vhdl_expressions.proofs.Operators.{grip, is_here}
-use Rattle.vhdl_expressions.proofs.Gives.{Reaches, Gives, front, front_is, g_pure, g_then, g_map, g_at, g_some, g_ident, g_choose, g_yes, g_no, more_gives}
+use Rattle.vhdl_expressions.proofs.Gives.{Reaches, Gives, front, front_is, g_pure, g_then, g_map, g_at, g_some, g_ident, g_choose, g_yes, g_no, more_gives, separated_gives}
 use Rattle.vhdl_expressions.proofs.CompleteNames.{complete_suffix, expr_reads, inside_reads, complete, name_reads}
 
 -- nothing goes on with an expression
@@ -68,7 +68,7 @@ head (named n suffix attribute) = k.Identifier
 head (parens at inner) = k.LeftParen
 head (negation at operand) = k.Not
 head (signed sign at operand) = sign_kind sign
-head (binary op at left right) = head left
+head (binary b op at left right) = head left
 
 head_is : (e : Expr) (ps : List Piece) (next : Option Kind) → front (spell e ++ ps) next ≡ Some (head e)
 head_is (integer at text) ps next = refl
@@ -79,7 +79,7 @@ head_is (named n suffix attribute) ps next = refl
 head_is (parens at inner) ps next = refl
 head_is (negation at operand) ps next = refl
 head_is (signed sign at operand) ps next = refl
-head_is (binary op at left right) ps next = ap (λ qs. front qs next) (append_assoc (spell left) (one_at (kind_of op) at ∷ spell right) ps) ∙ head_is left ((one_at (kind_of op) at ∷ spell right) ++ ps) next
+head_is (binary b op at left right) ps next = ap (λ qs. front qs next) (append_assoc (spell left) (one_at (kind_of op) at ∷ spell right) ps) ∙ head_is left ((one_at (kind_of op) at ∷ spell right) ++ ps) next
 
 abbrev begins : Kind → Bool
 begins k.Others = false
@@ -96,7 +96,7 @@ head_begins (parens at inner) = refl
 head_begins (negation at operand) = refl
 head_begins (signed Plus at operand) = refl
 head_begins (signed Minus at operand) = refl
-head_begins (binary op at left right) = head_begins left
+head_begins (binary b op at left right) = head_begins left
 
 not_head : (kind : Kind) (e : Expr) → begins kind ≡ false → same_kind (head e) kind ≡ false
 not_head kind e h = by (same_kind (head e) kind) refl
@@ -118,7 +118,7 @@ second (named n (sliced left direction right) attribute) f = Some k.LeftParen
 second (parens at inner) f = Some (head inner)
 second (negation at operand) f = Some (head operand)
 second (signed sign at operand) f = Some (head operand)
-second (binary op at left right) f = second left (Some (kind_of op))
+second (binary b op at left right) f = second left (Some (kind_of op))
 
 abbrev pub behind : List Piece → Option Kind → Option Kind
 behind [] next = None
@@ -136,7 +136,7 @@ second_is (named n (sliced left direction right) attribute) ps next = refl
 second_is (parens at inner) ps next = ap (λ qs. front qs next) (append_assoc (spell inner) (some k.RightParen ∷ []) ps) ∙ head_is inner (some k.RightParen ∷ ps) next
 second_is (negation at operand) ps next = head_is operand ps next
 second_is (signed sign at operand) ps next = head_is operand ps next
-second_is (binary op at left right) ps next = ap (λ qs. behind qs next) (append_assoc (spell left) (one_at (kind_of op) at ∷ spell right) ps) ∙ second_is left ((one_at (kind_of op) at ∷ spell right) ++ ps) next
+second_is (binary b op at left right) ps next = ap (λ qs. behind qs next) (append_assoc (spell left) (one_at (kind_of op) at ∷ spell right) ps) ∙ second_is left ((one_at (kind_of op) at ∷ spell right) ++ ps) next
 
 -- no expression begins with ( others
 no_others : (e : Expr) (f : Option Kind) → same_kind (head e) k.LeftParen && is_kind k.Others (second e f) ≡ false
@@ -150,7 +150,7 @@ no_others (parens at inner) f = not_head k.Others inner refl
 no_others (negation at operand) f = refl
 no_others (signed Plus at operand) f = refl
 no_others (signed Minus at operand) f = refl
-no_others (binary op at left right) f = no_others left (Some (kind_of op))
+no_others (binary b op at left right) f = no_others left (Some (kind_of op))
 
 operator_no_arrow : (op : Operator) → is_kind k.Arrow (Some (kind_of op)) ≡ false
 unfolding same_kind
@@ -189,7 +189,7 @@ no_formal (parens at inner) f s = refl
 no_formal (negation at operand) f s = refl
 no_formal (signed Plus at operand) f s = refl
 no_formal (signed Minus at operand) f s = refl
-no_formal (binary op at left right) f s = no_formal left (Some (kind_of op)) (operator_no_arrow op)
+no_formal (binary b op at left right) f s = no_formal left (Some (kind_of op)) (operator_no_arrow op)
 
 spell_long : (e : Expr) → 1 ≤ length (spell e)
 spell_long (integer at text) = omega arith
@@ -200,7 +200,7 @@ spell_long (named n suffix attribute) = omega arith
 spell_long (parens at inner) = omega arith
 spell_long (negation at operand) = omega arith
 spell_long (signed sign at operand) = omega arith
-spell_long (binary op at left right) = omega (arith, spell_long left, length-append (spell left) (one_at (kind_of op) at ∷ spell right))
+spell_long (binary b op at left right) = omega (arith, spell_long left, length-append (spell left) (one_at (kind_of op) at ∷ spell right))
 
 -- ---- choices by two tokens
 
@@ -253,23 +253,6 @@ value_gives n (others at e) f =
     g_both k.LeftParen k.Others (omega arith) (λ ts. and_then (read.expr n ts) (λ x us. Ok (single x, us))) (λ next. refl)
     (g_at _ (g_some (λ _. g_some (λ _. g_then _ (inside_gives n e f) (g_some (λ _. g_pure)) (λ next _. omega arith)))))
 
--- ---- lists with separators
-
-module _ {A : Type 0} {item more_item : Parser A} {part : A → List Piece} {Part : A → Type 0} {F : Option Kind → Type 0} (separator : Kind) (same : same_kind separator separator ≡ true)
-    (each : (a : A) → Part a → Gives item a (part a) F) (more : (a : A) → Part a → Gives more_item a (some separator ∷ part a) F)
-    (goes_on : (next : Option Kind) → is_kind separator next ≡ true → F next) where
-  abbrev EndsList : Option Kind → Type 0
-  EndsList next = (is_kind separator next ≡ false) × F next
-
-  goes : (xs : List A) (next : Option Kind) → EndsList next → F (front (spell_each (λ y. some separator ∷ part y) xs) next)
-  goes [] next g = g.1
-  goes (x ∷ xs) next g = goes_on (Some separator) same
-
-  separated_gives : (x : A) (xs : List A) → Part x → IsEach Part xs →
-      Gives (λ ts. and_then (item ts) (λ first us. many (is_kind separator) more_item (first ∷ []) us)) (x ∷ xs) (part x ++ spell_each (λ y. some separator ∷ part y) xs) EndsList
-  separated_gives x xs f g = g_then (λ first us. many (is_kind separator) more_item (first ∷ []) us) (each x f)
-      (more_gives (is_kind separator) more (λ a good next. same) (λ a. omega arith) goes_on xs g (x ∷ [])) (goes xs)
-
 -- ---- choices
 
 choice_gives : (n : ℕ) (c : Choice) → IsChoice c → Gives (choice n) c (spell_choice c) Ends
@@ -279,13 +262,9 @@ choice_gives n (chosen e) f =
     g_no _ (is_kind k.Others) (λ next _. head_alone k.Others e next refl)
     (g_map (λ x. chosen x) (expr_gives n e f))
 
-bar_ends : (next : Option Kind) → is_kind k.Bar next ≡ true → Ends next
-bar_ends next h = let e = ap grip (is_here k.Bar next h) in omega (arith, e)
-
 pub choices_gives : (n : ℕ) (cs : List Choice) → AreChoices cs → Gives (choices n) cs (spell_choices cs) (λ next. (is_kind k.Bar next ≡ false) × Ends next)
-unfolding choices next_choice same_kind
-choices_gives n [] f = absurd f
-choices_gives n (c ∷ cs) f = separated_gives k.Bar refl (choice_gives n) (λ a good. g_some (λ _. choice_gives n a good)) bar_ends c cs f.0 f.1
+unfolding same_kind
+choices_gives n cs f = separated_gives k.Bar refl (omega arith) (choice_gives n) cs f
 
 -- ---- associations
 
@@ -325,14 +304,6 @@ association_by n (Some i) a f = g_then _ (formal_gives i) (g_map (λ x. record {
 association_gives : (n : ℕ) (a : Association) → IsAssociation a → Gives (association n) a (spell_association a) EndsActual
 association_gives n a f = association_by n a.formal a.actual f
 
-comma_ends : (next : Option Kind) → is_kind k.Comma next ≡ true → EndsActual next
-unfolding same_kind
-comma_ends next h =
-    let e = is_here k.Comma next h in
-    let g = ap grip e in
-    (ap (is_kind k.Arrow) e, omega (arith, g))
-
 pub associations_gives : (n : ℕ) (all : List Association) → AreAssociations all → Gives (associations n) all (spell_associations all) (λ next. (is_kind k.Comma next ≡ false) × EndsActual next)
-unfolding associations next_association same_kind
-associations_gives n [] f = absurd f
-associations_gives n (a ∷ all) f = separated_gives k.Comma refl (association_gives n) (λ x good. g_some (λ _. association_gives n x good)) comma_ends a all f.0 f.1
+unfolding same_kind
+associations_gives n all f = separated_gives k.Comma refl (refl, omega arith) (association_gives n) all f

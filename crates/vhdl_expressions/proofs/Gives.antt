@@ -6,7 +6,7 @@ use Rattle.vhdl_expressions.specs.declared.stop.Stop.TheVariants.{TooDeep}
 use Rattle.vhdl_tree.specs.Lexeme.{Lexeme, same_kind}
 use Rattle.vhdl_tree.specs.Tree.{Ident}
 use Rattle.vhdl_tree.specs.Pieces.{Piece, some, one_at, word_at, literal_at, text_at, Is, Spells, spell_word, spell_option, spell_each, spell_list, IsEach, IsList, IsOption}
-use Rattle.vhdl_expressions.specs.reader.Input.{Outcome, Parser, and_then, token, expect, identifier, literal, next_kind, is_kind, test, eat, optional, many_from, many, below}
+use Rattle.vhdl_expressions.specs.reader.Input.{Outcome, Parser, and_then, token, expect, identifier, literal, next_kind, is_kind, test, eat, optional, many_from, many, separated, below}
 use Rattle.vhdl_expressions.proofs.Steps.{spells_split, spells_length, kind_same, takes}
 
 -- the outcome is this, or the depth refuses it
@@ -201,13 +201,13 @@ module _ {A : Type 0} {item : Parser A} {part : A → List Piece} {Part : A → 
   more_gives xs good found = record { reads = λ ts rest h g. (many_gives xs good (length ts) found (omega (arith, each_short xs, spells_length (spell_each part xs) ts rest h))).reads ts rest h g }
 
 -- item { separator item }
-pub list_gives : {A : Type 0} {item : Parser A} {part : A → List Piece} {Part : A → Type 0} {F : Option Kind → Type 0} (separator : Kind) (next : Parser A) → same_kind separator separator ≡ true → F (Some separator) →
-    ((a : A) → Part a → Gives item a (part a) F) → ((a : A) → Part a → Gives next a (some separator ∷ part a) F) → (xs : List A) → IsList Part xs →
-    Gives (λ ts. and_then (item ts) (λ first us. many (is_kind separator) next (first ∷ []) us)) xs (spell_list separator part xs) (λ kind. (is_kind separator kind ≡ false) × F kind)
-list_gives {A} {item} {part} {Part} {F} separator next same goes_on each later [] good = absurd good
-list_gives {A} {item} {part} {Part} {F} separator next same goes_on each later (x ∷ xs) good =
-    g_then (λ first us. many (is_kind separator) next (first ∷ []) us) (each x good.0)
-    (more_gives (is_kind separator) later (λ a fine kind. same) (λ a. omega arith) (λ kind e. may_follow kind e) xs good.1 (x ∷ []))
+pub separated_gives : {A : Type 0} {item : Parser A} {part : A → List Piece} {Part : A → Type 0} {F : Option Kind → Type 0} (separator : Kind) → same_kind separator separator ≡ true → F (Some separator) →
+    ((a : A) → Part a → Gives item a (part a) F) → (xs : List A) → IsList Part xs → Gives (separated separator item) xs (spell_list separator part xs) (λ kind. (is_kind separator kind ≡ false) × F kind)
+unfolding separated
+separated_gives {A} {item} {part} {Part} {F} separator same goes_on each [] good = absurd good
+separated_gives {A} {item} {part} {Part} {F} separator same goes_on each (x ∷ xs) good =
+    g_then (λ first us. many (is_kind separator) (λ ts. and_then (expect separator ts) (λ _. item)) (first ∷ []) us) (each x good.0)
+    (more_gives (is_kind separator) (λ a fine. g_some (λ _. each a fine)) (λ a fine kind. same) (λ a. omega arith) (λ kind e. may_follow kind e) xs good.1 (x ∷ []))
     (λ kind g. behind xs kind g)
   where
     may_follow : (kind : Option Kind) → is_kind separator kind ≡ true → F kind

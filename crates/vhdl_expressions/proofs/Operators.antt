@@ -8,10 +8,9 @@ use Rattle.vhdl_tree.specs.declared.operator.Operator.{Operator}
 use Rattle.vhdl_tree.specs.declared.operator.Operator.TheVariants.{And, Or, Xor, Xnor, Nand, Nor, Equal, NotEqual, Less, LessEqual, Greater, GreaterEqual, Add, Subtract, Concatenate, Multiply, Divide, Modulo, Remainder}
 use Rattle.vhdl_expressions.specs.declared.operator.Level.{Level}
 use Rattle.vhdl_expressions.specs.declared.operator.Level.TheVariants.{Logical, Relation, Adding, Multiplying}
-use Rattle.vhdl_tree.specs.declared.operator.Sign.{Sign}
 use Rattle.vhdl_tree.specs.Lexeme.{same_kind}
 use Rattle.vhdl_tree.specs.Tree.{Expr, integer, character, string, bits, named, parens, negation, signed, binary}
-use Rattle.vhdl_tree.specs.grammar.Expressions.{kind_of, rank, repeats, binding, Leads}
+use Rattle.vhdl_tree.specs.grammar.Expressions.{kind_of, rank, repeats, binding, Chains, GoesOn, IsSigned, Leads}
 use Rattle.vhdl_expressions.specs.reader.Input.{is_kind}
 use Rattle.vhdl_expressions.specs.reader.Expressions.{logical_at, relation_at, adding_at, multiplying_at, operator_at, next_operator}
 
@@ -125,7 +124,7 @@ pub rank_most : (op : Operator) → rank op ≤ 4
 rank_most op = omega (arith, rank-level_of op, level_most (level_of op))
 
 pub binding_least : (e : Expr) → 1 ≤ binding e
-binding_least (binary op at left right) = omega (arith, rank-level_of op, level_least (level_of op))
+binding_least (binary b op at left right) = omega (arith, rank-level_of op, level_least (level_of op))
 binding_least (signed sign at e) = omega arith
 binding_least (negation at e) = omega arith
 binding_least (integer at text) = omega arith
@@ -213,11 +212,17 @@ unfolding same_kind
 is_here kind None h = absurd (cc)
 is_here kind (Some found) h = ap Some (same_true the_type (search rules) found kind h)
 
--- what a chain goes on with is an operator of its level
-pub next_is : (level : Level) (last : Option Operator) (next : Option Kind) (op : Operator) → next_operator level last next ≡ Some op → At level next op
+-- what a chain begins with is an operator of its level
+pub first_is : (level : Level) (next : Option Kind) (op : Operator) → operator_at level next ≡ Some op → At level next op
+first_is Logical next op h = logical_is next op h
+first_is Relation next op h = relation_is next op h
+first_is Adding next op h = adding_is next op h
+first_is Multiplying next op h = multiplying_is next op h
+
+-- what it goes on with is one
+pub next_is : (level : Level) (last : Operator) (next : Option Kind) (op : Operator) → next_operator level last next ≡ Some op → At level next op
 unfolding next_operator
-next_is Logical None next op h = logical_is next op h
-next_is Logical (Some last) next op h = by_repeats (repeats last) refl h
+next_is Logical last next op h = by_repeats (repeats last) refl h
   where
     by_kind : rank last ≡ 1 → (b : Bool) → is_kind (kind_of last) next ≡ b → ◌≡◌ {A = Option Operator} (cond b (Some last) None) (Some op) → At Logical next op
     by_kind r true e g = row Logical next last op g (is_here (kind_of last) next e) r
@@ -226,93 +231,119 @@ next_is Logical (Some last) next op h = by_repeats (repeats last) refl h
     by_repeats : (b : Bool) → repeats last ≡ b → ◌≡◌ {A = Option Operator} (cond b (cond (is_kind (kind_of last) next) (Some last) None) None) (Some op) → At Logical next op
     by_repeats true e g = by_kind (repeated_rank last e) (is_kind (kind_of last) next) refl g
     by_repeats false e g = absurd (cc)
-next_is Relation None next op h = relation_is next op h
-next_is Relation (Some last) next op h = absurd (cc)
+next_is Relation last next op h = absurd (cc)
 next_is Adding last next op h = adding_is next op h
 next_is Multiplying last next op h = multiplying_is next op h
 
--- nothing of this level goes on where what comes next is looser
-pub next_none : (level : Level) (last : Option Operator) (next : Option Kind) → grip next < level_rank level → next_operator level last next ≡ None
-next_none level last next s = by_result (next_operator level last next) refl
-  where
-    by_result : (o : Option Operator) → next_operator level last next ≡ o → next_operator level last next ≡ None
-    by_result None e = e
-    by_result (Some op) e =
-        let a = next_is level last next op e in
-        let g : grip next ≡ rank op = ap grip a.kind_is ∙ grip-kind_of op in
-        absurd (omega (arith, s, g, a.rank_is))
+-- nothing of this level follows where what comes next is looser
+none_at : (level : Level) (next : Option Kind) (o : Option Operator) → ((op : Operator) → o ≡ Some op → At level next op) → grip next < level_rank level → o ≡ None
+none_at level next None is s = refl
+none_at level next (Some op) is s =
+    let a = is op refl in
+    let g : grip next ≡ rank op = ap grip a.kind_is ∙ grip-kind_of op in
+    absurd (omega (arith, s, g, a.rank_is))
+
+pub first_none : (level : Level) (next : Option Kind) → grip next < level_rank level → operator_at level next ≡ None
+first_none level next s = none_at level next (operator_at level next) (first_is level next) s
+
+pub next_none : (level : Level) (last : Operator) (next : Option Kind) → grip next < level_rank level → next_operator level last next ≡ None
+next_none level last next s = none_at level next (next_operator level last next) (next_is level last next) s
 
 -- ---- what may follow a tree is read after it
 
-abbrev pub CanGo : Level → Option Operator → Expr → Type 0
-CanGo level last left = (op : Operator) → rank op ≡ level_rank level → Leads op left → next_operator level last (Some (kind_of op)) ≡ Some op
+abbrev pub CanGo : Level → Operator → Expr → Type 0
+CanGo level last left = (op : Operator) → rank op ≡ level_rank level → GoesOn op left → next_operator level last (Some (kind_of op)) ≡ Some op
 
-pub can_first : (level : Level) (left : Expr) → CanGo level None left
-unfolding next_operator
-can_first Logical left op r l = reads_operator Logical op r
-can_first Relation left op r l = reads_operator Relation op r
-can_first Adding left op r l = reads_operator Adding op r
-can_first Multiplying left op r l = reads_operator Multiplying op r
-
-repeated : (op next : Operator) → op ≡ next → repeats next ≡ true → next_operator Logical (Some op) (Some (kind_of next)) ≡ Some next
+repeated : (op next : Operator) → op ≡ next → repeats next ≡ true → next_operator Logical op (Some (kind_of next)) ≡ Some next
 unfolding next_operator
 repeated op next e r = rw (e, r, same_here (kind_of next))
 
-pub can_after : (level : Level) (op : Operator) (at : ℕ) (left right : Expr) → rank op ≡ level_rank level → CanGo level (Some op) (binary op at left right)
+pub can_after : (level : Level) (b : Bool) (op : Operator) (at : ℕ) (left right : Expr) → rank op ≡ level_rank level → CanGo level op (binary b op at left right)
 unfolding next_operator
-can_after Logical op at left right r next s l =
-    ⊎_elim (λ tight. absurd (omega (arith, tight, r, s)))
-    (λ chain. ⊎_elim (λ great. absurd (omega (arith, great, s))) (λ again. repeated op next again.0 again.1) chain.1) l
-can_after Relation op at left right r next s l =
-    ⊎_elim (λ tight. absurd (omega (arith, tight, r, s)))
-    (λ chain. ⊎_elim (λ great. absurd (omega (arith, great, s))) (λ again. absurd (omega (arith, repeated_rank next again.1, s))) chain.1) l
-can_after Adding op at left right r next s l = reads_operator Adding next s
-can_after Multiplying op at left right r next s l = reads_operator Multiplying next s
+can_after Logical b op at left right r next s chain =
+    ⊎_elim (λ great. absurd (omega (arith, great, s))) (λ again. repeated op next again.0 again.1) chain.1
+can_after Relation b op at left right r next s chain =
+    ⊎_elim (λ great. absurd (omega (arith, great, s))) (λ again. absurd (omega (arith, repeated_rank next again.1, s))) chain.1
+can_after Adding b op at left right r next s chain = reads_operator Adding next s
+can_after Multiplying b op at left right r next s chain = reads_operator Multiplying next s
+
+-- ---- a tree that no operator of the level goes on with
+
+abbrev pub Alone : Level → Expr → Type 0
+Alone level e = (op : Operator) → rank op ≡ level_rank level → GoesOn op e → ⊥
+
+pub tight_alone : (level : Level) (e : Expr) → level_rank level < binding e → Alone level e
+tight_alone level (binary b first at l r) h op s g = absurd (omega (arith, h, s, g.0))
+tight_alone level (signed sign at e) h op s g = g
+tight_alone level (negation at e) h op s g = g
+tight_alone level (integer at text) h op s g = g
+tight_alone level (character at code) h op s g = g
+tight_alone level (string at text) h op s g = g
+tight_alone level (bits at text) h op s g = g
+tight_alone level (named n x a) h op s g = g
+tight_alone level (parens at e) h op s g = g
 
 -- ---- what is read after a tree may follow it
 
-abbrev pub Fits : Level → Option Operator → Expr → Type 0
-Fits level last left = (next : Option Kind) (op : Operator) → next_operator level last next ≡ Some op → Leads op left
+-- as the first operator of a chain
+abbrev pub Begins : Level → Expr → Type 0
+Begins level first = (op : Operator) → rank op ≡ level_rank level → Leads true op first
 
-pub fits_tight : (level : Level) (last : Option Operator) (left : Expr) → level_rank level < binding left → Fits level last left
-fits_tight level last left b next op h = inl (let a = next_is level last next op h in omega (arith, a.rank_is, b))
+pub begins_tight : (level : Level) (first : Expr) → level_rank level < binding first → Begins level first
+begins_tight level first b op r = inl (omega (arith, r, b))
 
-pub fits_signed : (last : Option Operator) (sign : Sign) (at : ℕ) (e : Expr) → Fits Adding last (signed sign at e)
-fits_signed last sign at e next op h = inr (next_is Adding last next op h).rank_is
+-- as a further one
+abbrev pub Fits : Level → Operator → Expr → Type 0
+Fits level last left = (next : Option Kind) (op : Operator) → next_operator level last next ≡ Some op → GoesOn op left
 
-pub fits_after : (level : Level) (op : Operator) (at : ℕ) (left right : Expr) → rank op ≡ level_rank level → Fits level (Some op) (binary op at left right)
+pub fits_after : (level : Level) (b : Bool) (op : Operator) (at : ℕ) (left right : Expr) → rank op ≡ level_rank level → Fits level op (binary b op at left right)
 unfolding next_operator
-fits_after Logical op at left right r next found h = by_repeats (repeats op) refl h
+fits_after Logical b op at left right r next found h = by_repeats (repeats op) refl h
   where
-    again : repeats op ≡ true → ◌≡◌ {A = Option Operator} (Some op) (Some found) → Leads found (binary op at left right)
+    again : repeats op ≡ true → ◌≡◌ {A = Option Operator} (Some op) (Some found) → Chains op found
     again e g =
         let same : op ≡ found = cc in
-        inr (ap rank same, inr (same, sym (ap repeats same) ∙ e))
+        (ap rank same, inr (same, sym (ap repeats same) ∙ e))
 
-    by_kind : repeats op ≡ true → (b : Bool) → ◌≡◌ {A = Option Operator} (cond b (Some op) None) (Some found) → Leads found (binary op at left right)
+    by_kind : repeats op ≡ true → (t : Bool) → ◌≡◌ {A = Option Operator} (cond t (Some op) None) (Some found) → Chains op found
     by_kind e true g = again e g
     by_kind e false g = absurd (cc)
 
-    by_repeats : (b : Bool) → repeats op ≡ b → ◌≡◌ {A = Option Operator} (cond b (cond (is_kind (kind_of op) next) (Some op) None) None) (Some found) → Leads found (binary op at left right)
+    by_repeats : (t : Bool) → repeats op ≡ t → ◌≡◌ {A = Option Operator} (cond t (cond (is_kind (kind_of op) next) (Some op) None) None) (Some found) → Chains op found
     by_repeats true e g = by_kind e (is_kind (kind_of op) next) g
     by_repeats false e g = absurd (cc)
-fits_after Relation op at left right r next found h = absurd (cc)
-fits_after Adding op at left right r next found h =
-    let a = next_is Adding (Some op) next found h in
-    inr (r ∙ sym a.rank_is, inl (omega (arith, a.rank_is)))
-fits_after Multiplying op at left right r next found h =
-    let a = next_is Multiplying (Some op) next found h in
-    inr (r ∙ sym a.rank_is, inl (omega (arith, a.rank_is)))
+fits_after Relation b op at left right r next found h = absurd (cc)
+fits_after Adding b op at left right r next found h =
+    let a = next_is Adding op next found h in
+    (r ∙ sym a.rank_is, inl (omega (arith, a.rank_is)))
+fits_after Multiplying b op at left right r next found h =
+    let a = next_is Multiplying op next found h in
+    (r ∙ sym a.rank_is, inl (omega (arith, a.rank_is)))
 
 -- what stands before an operator binds as tightly at least
-pub leads_binding : (op : Operator) (left : Expr) → Leads op left → rank op ≤ binding left
-leads_binding op left (inl b) = omega (arith, b)
-leads_binding op (binary first at l r) (inr g) = omega (arith, g.0)
-leads_binding op (signed sign at e) (inr g) = omega (arith, g)
-leads_binding op (negation at e) (inr g) = absurd g
-leads_binding op (integer at text) (inr g) = absurd g
-leads_binding op (character at code) (inr g) = absurd g
-leads_binding op (string at text) (inr g) = absurd g
-leads_binding op (bits at text) (inr g) = absurd g
-leads_binding op (named n s a) (inr g) = absurd g
-leads_binding op (parens at e) (inr g) = absurd g
+pub goes_on_binding : (op : Operator) (left : Expr) → GoesOn op left → rank op ≤ binding left
+goes_on_binding op (binary b first at l r) g = omega (arith, g.0)
+goes_on_binding op (signed sign at e) g = absurd g
+goes_on_binding op (negation at e) g = absurd g
+goes_on_binding op (integer at text) g = absurd g
+goes_on_binding op (character at code) g = absurd g
+goes_on_binding op (string at text) g = absurd g
+goes_on_binding op (bits at text) g = absurd g
+goes_on_binding op (named n s a) g = absurd g
+goes_on_binding op (parens at e) g = absurd g
+
+signed_binding : (op : Operator) (left : Expr) → IsSigned op left → rank op ≤ binding left
+signed_binding op (signed sign at e) g = omega (arith, g)
+signed_binding op (binary b first at l r) g = absurd g
+signed_binding op (negation at e) g = absurd g
+signed_binding op (integer at text) g = absurd g
+signed_binding op (character at code) g = absurd g
+signed_binding op (string at text) g = absurd g
+signed_binding op (bits at text) g = absurd g
+signed_binding op (named n s a) g = absurd g
+signed_binding op (parens at e) g = absurd g
+
+pub leads_binding : (b : Bool) (op : Operator) (left : Expr) → Leads b op left → rank op ≤ binding left
+leads_binding true op left (inl b) = omega (arith, b)
+leads_binding true op left (inr g) = signed_binding op left g
+leads_binding false op left g = goes_on_binding op left g

@@ -7,9 +7,9 @@ use Rattle.vhdl_tree.specs.Lexeme.{Lexeme, same_kind}
 use Rattle.vhdl_tree.specs.Tree.{Ident}
 use Rattle.vhdl_tree.specs.Pieces.{Piece, some, one_at, word_at, literal_at, Is, Spells, spell_ident, spell_word, spell_option, spell_each, spell_list, IsAny, IsEach, IsList, IsOption}
 use Rattle.vhdl_tree.specs.Levels.{is_end, opening, closing}
-use Rattle.vhdl_expressions.specs.reader.Input.{Outcome, Parser, and_then, token, expect, identifier, literal, next_kind, is_kind, test, refusal, eat, optional, many_from, many, below}
+use Rattle.vhdl_expressions.specs.reader.Input.{Outcome, Parser, and_then, token, expect, identifier, literal, next_kind, is_kind, test, refusal, eat, optional, many_from, many, separated, below}
 use Rattle.vhdl_expressions.proofs.Steps.{bind_ok, bind_err, at_pure, pure_err, spells_append, taken, taken_shallow}
-use Rattle.vhdl_expressions.proofs.Walks.{Walk, walk_none, walk_append, walk_under, walk_least, walk_token, Deep, deep_after, deep_token, deep_under, deep_here, Walks, Rule, w_pure, w_then, w_last}
+use Rattle.vhdl_expressions.proofs.Walks.{Walk, walk_none, walk_append, walk_under, walk_least, walk_token, Deep, deep_after, deep_token, deep_under, deep_here, Walks, Rule, w_pure, w_then, w_last, w_rule}
 
 -- ---- tokens
 
@@ -272,10 +272,17 @@ module _ {A : Type 0} {n d : ℕ} {part : A → List Piece} {Part : A → Type 0
   }
 
 -- item { separator item }
-pub list_rule : {A : Type 0} {n d : ℕ} {item next : Parser A} {part : A → List Piece} {Part : A → Type 0} (separator : Kind) → d ≤ n → Rule n d item part Part → Rule n d next (λ x. some separator ∷ part x) Part →
-    Rule n d (λ ts. and_then (item ts) (λ first us. many (is_kind separator) next (first ∷ []) us)) (spell_list separator part) (IsList Part)
-list_rule {A} {n} {d} {item} {next} {part} {Part} separator le one more = w_then one (λ first good le. rest_of first good)
+pub separated_rule : {A : Type 0} {n d : ℕ} {item : Parser A} {part : A → List Piece} {Part : A → Type 0} (separator : Kind) → is_neutral separator ≡ true → d ≤ n → Rule n d item part Part →
+    Rule n d (separated separator item) (spell_list separator part) (IsList Part)
+unfolding separated
+separated_rule {A} {n} {d} {item} {part} {Part} separator ok le each = w_then each (λ first good le. rest_of first good)
   where
+    next : Parser A
+    next = λ ts. and_then (expect separator ts) (λ _. item)
+
+    more : Rule n d next (λ x. some separator ∷ part x) Part
+    more = w_some separator ok (λ _. w_rule (λ x. refl) each)
+
     rest_of : (first : A) → Part first → Walks n d false d (λ r. part first ++ r) (λ us. many (is_kind separator) next (first ∷ []) us) (spell_list separator part) (IsList Part)
     rest_of first good = record {
       reads = λ ts all rest h.

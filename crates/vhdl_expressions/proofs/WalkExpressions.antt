@@ -1,5 +1,5 @@
 -- What the readers of expressions make.
-use Rattle.std.proofs.Common.{◌≡◌, ℕ, zero, suc, ◌≤◌, Bool, true, false, List, [], ◌∷◌, ◌++◌, length, Ok, Option, Some, None, refl, sym, ap, ◌∙◌, subst, append_assoc, append-nil, arith}
+use Rattle.std.proofs.Common.{◌≡◌, ℕ, zero, suc, ◌≤◌, Bool, true, false, List, [], ◌∷◌, ◌++◌, length, Ok, Option, Some, None, inr, refl, sym, ap, ◌∙◌, subst, append_assoc, append-nil, arith}
 use Rattle.vhdl_lexer.specs.declared.token.Kind.{Kind}
 use Rattle.vhdl_lexer.specs.declared.token.Kind.TheVariants as k
 use Rattle.vhdl_tree.specs.declared.operator.Operator.{Operator}
@@ -10,13 +10,13 @@ use Rattle.vhdl_tree.specs.declared.operator.Sign.{Sign}
 use Rattle.vhdl_tree.specs.declared.operator.Sign.TheVariants.{Plus, Minus}
 use Rattle.vhdl_tree.specs.declared.operator.Direction.{Direction}
 use Rattle.vhdl_tree.specs.declared.operator.Direction.TheVariants.{To, Downto}
-use Rattle.vhdl_tree.specs.Tree.{Expr, arguments, exprs_of, Pair, joined}
+use Rattle.vhdl_tree.specs.Tree.{Expr, binary, arguments, exprs_of, Pair, joined, begun}
 use Rattle.vhdl_tree.specs.Pieces.{Piece, some, one_at, word_at, text_at, Spells, spell_each, IsAny, IsEach}
 use Rattle.vhdl_tree.specs.grammar.Expressions.{kind_of, sign_kind, direction_kind, spell_attribute, spell, spell_suffix, spell_more, spell_name, rank, binding, Leads, IsExpr, IsSuffix, AreExprs, IsName}
 use Rattle.vhdl_expressions.specs.reader.Input.{Parser, and_then, expect, text, is_kind, optional, many}
 use Rattle.vhdl_expressions.specs.reader.Expressions as read
-use Rattle.vhdl_expressions.specs.reader.Expressions.{next_operator, sign_at, direction_at, attribute, argument, range_from, arguments_from, suffix_by, suffix, optional_suffix, name, primary_by, primary, parenthesis, inverse, factor, pair, turn, more_from, more, leading_by, leading, chain, term, sum, relation, whole, operand_of, first_of, chain_of, inside}
-use Rattle.vhdl_expressions.proofs.Operators.{level_rank, next_is, Fits, fits_tight, fits_signed, fits_after}
+use Rattle.vhdl_expressions.specs.reader.Expressions.{operator_at, next_operator, sign_at, direction_at, attribute, argument, range_from, arguments_from, suffix_by, suffix, optional_suffix, name, primary_by, primary, parenthesis, inverse, factor, pair, turn, more_from, more, begin_by, begin, leading_by, leading, chain, term, sum, relation, whole, operand_of, first_of, chain_of, inside}
+use Rattle.vhdl_expressions.proofs.Operators.{level_rank, first_is, next_is, Begins, begins_tight, Fits, fits_after}
 use Rattle.vhdl_expressions.proofs.Walks.{Walks, Rule, w_pure, w_then}
 use Rattle.vhdl_expressions.proofs.Rules.{is_neutral, neutral, w_take, w_at, w_some, w_left, w_left_at, w_right, w_ident, w_literal, w_refuse, w_choose, w_test, w_inner, under, under_none, many_made, many_deep}
 
@@ -104,7 +104,7 @@ Tight r e = (r ≤ binding e) × IsExpr e
 
 -- one that an operator of the level may follow
 abbrev First : Level → Expr → Type 0
-First level e = (level_rank level ≤ binding e) × IsExpr e × Fits level None e
+First level e = (level_rank level ≤ binding e) × IsExpr e × Begins level e
 
 abbrev spell_pair : Pair → List Piece
 spell_pair p = one_at (kind_of p.operator) p.at ∷ spell p.operand
@@ -183,51 +183,65 @@ module _ (n : ℕ) (inner : Rule n 1 (inside n) spell IsExpr) where
     unfolding pair
     pair_rule op = w_at (kind_of op) (operator_neutral op) (λ at. w_then each (λ e good _. w_pure (omega arith) (ap (λ ps. one_at (kind_of op) at ∷ ps) (sym (append-nil (spell e)))) (refl, good)))
 
+    -- how the rest of a chain is read, of which a tree was read
+    abbrev Goes : Parser Expr → Expr → Type 0
+    Goes p left = Walks n 0 false 0 (λ r. spell left ++ r) p spell (Tight (level_rank level))
+
     abbrev More : ℕ → Type 0
-    More turns = (last : Option Operator) (left : Expr) → Tight (level_rank level) left → Fits level last left →
-        Walks n 0 false 0 (λ r. spell left ++ r) (more_from operand turns level last left) spell (Tight (level_rank level))
+    More turns = (last : Operator) (left : Expr) → Tight (level_rank level) left → Fits level last left → Goes (more_from operand turns level last left) left
 
-    more_stops : (left : Expr) → Tight (level_rank level) left → Walks n 0 false 0 (λ r. spell left ++ r) (λ ts. Ok (left, ts)) spell (Tight (level_rank level))
-    more_stops left good = w_pure (omega arith) (sym (append-nil (spell left))) good
+    stops : (left : Expr) → Tight (level_rank level) left → Goes (λ ts. Ok (left, ts)) left
+    stops left good = w_pure (omega arith) (sym (append-nil (spell left))) good
 
-    joined_tight : (next : Option Kind) (last : Option Operator) (left : Expr) (op : Operator) (p : Pair) → next_operator level last next ≡ Some op → Tight (level_rank level) left → Fits level last left →
-        p.operator ≡ op → Tight (suc (level_rank level)) p.operand → Tight (level_rank level) (joined left p) × Fits level (Some op) (joined left p)
-    joined_tight next last left op p h good fits same right =
-        let a = next_is level last next op h in
-        let r : rank p.operator ≡ level_rank level = ap rank same ∙ a.rank_is in (
-          (omega (arith, r), (subst (λ o. Leads o left) (sym same) (fits next op h), omega (arith, r, right.0), good.1, right.1)),
-          subst (λ o. Fits level (Some o) (joined left p)) same (fits_after level p.operator p.at left p.operand r),
+    -- a tree with one operator and operand more
+    longer : (b : Bool) (left : Expr) (op : Operator) (p : Pair) → rank op ≡ level_rank level → Leads b op left → IsExpr left → p.operator ≡ op → Tight (suc (level_rank level)) p.operand →
+        let e = binary b p.operator p.at left p.operand in Tight (level_rank level) e × Fits level op e
+    longer b left op p r leads good same right =
+        let s : rank p.operator ≡ level_rank level = ap rank same ∙ r in (
+          (omega (arith, s), (subst (λ o. Leads b o left) (sym same) leads, omega (arith, s, right.0), good, right.1)),
+          subst (λ o. Fits level o (binary b p.operator p.at left p.operand)) same (fits_after level b p.operator p.at left p.operand s),
         )
 
-    turn_rule : (turns : ℕ) → More turns → (next : Option Kind) (last : Option Operator) (left : Expr) → Tight (level_rank level) left → Fits level last left →
-        (o : Option Operator) → next_operator level last next ≡ o → Walks n 0 false 0 (λ r. spell left ++ r) (turn operand o (λ op t. more_from operand turns level (Some op) t) left) spell (Tight (level_rank level))
-    turn_rule turns later next last left good fits None h = more_stops left good
+    turn_rule : (turns : ℕ) → More turns → (next : Option Kind) (last : Operator) (left : Expr) → Tight (level_rank level) left → Fits level last left →
+        (o : Option Operator) → next_operator level last next ≡ o → Goes (turn operand o (more_from operand turns level) left) left
+    turn_rule turns later next last left good fits None h = stops left good
     turn_rule turns later next last left good fits (Some op) h = w_then (pair_rule op) (λ p made _.
-        let j = joined_tight next last left op p h good fits made.0 made.1 in
-        w_before (λ ps. append_assoc (spell left) (spell_pair p) ps) (later (Some op) (joined left p) j.0 j.1))
+        let j = longer false left op p (next_is level last next op h).rank_is (fits next op h) good.1 made.0 made.1 in
+        w_before (λ ps. append_assoc (spell left) (spell_pair p) ps) (later op (joined left p) j.0 j.1))
 
     more_rule : (turns : ℕ) → More turns
     unfolding more_from
-    more_rule zero last left good fits = more_stops left good
+    more_rule zero last left good fits = stops left good
     more_rule (suc turns) last left good fits = w_choose (λ next. turn_rule turns (more_rule turns) next last left good fits (next_operator level last next) refl)
 
-    chain_rule : (first : Parser Expr) → Rule n 0 first spell (First level) → Rule n 0 (chain first operand level) spell (Tight (level_rank level))
+    all_rule : (last : Operator) (left : Expr) → Tight (level_rank level) left → Fits level last left → Goes (more operand level last left) left
     unfolding more
-    chain_rule first leads = w_then leads (λ left good _. record {
-      reads = λ ts b rest h. (more_rule (length ts) None left (good.0, good.1) good.2).reads ts b rest h;
-      deep = λ ts h. (more_rule (length ts) None left (good.0, good.1) good.2).deep ts h;
-    })
+    all_rule last left good fits = record {
+      reads = λ ts b rest h. (more_rule (length ts) last left good fits).reads ts b rest h;
+      deep = λ ts h. (more_rule (length ts) last left good fits).deep ts h;
+    }
+
+    begin_rule : (next : Option Kind) (first : Expr) → First level first → (o : Option Operator) → operator_at level next ≡ o → Goes (begin_by operand level first o) first
+    begin_rule next first good None h = stops first (good.0, good.1)
+    begin_rule next first good (Some op) h = w_then (pair_rule op) (λ p made _.
+        let r = (first_is level next op h).rank_is in
+        let j = longer true first op p r (good.2 op r) good.1 made.0 made.1 in
+        w_before (λ ps. append_assoc (spell first) (spell_pair p) ps) (all_rule op (begun first p) j.0 j.1))
+
+    chain_rule : (first : Parser Expr) → Rule n 0 first spell (First level) → Rule n 0 (chain first operand level) spell (Tight (level_rank level))
+    unfolding begin
+    chain_rule first leads = w_then leads (λ left good _. w_choose (λ next. begin_rule next left good (operator_at level next) refl))
 
   -- what binds tighter than a level may stand first in it
   tight_first : (level : Level) (e : Expr) → Tight (suc (level_rank level)) e → First level e
-  tight_first level e good = (omega (arith, good.0), good.1, fits_tight level None e (omega (arith, good.0)))
+  tight_first level e good = (omega (arith, good.0), good.1, begins_tight level e (omega (arith, good.0)))
 
   term_rule : Rule n 0 (term (inside n)) spell (Tight 4)
   term_rule = chain_rule Multiplying (factor (inside n)) factor_rule (factor (inside n)) (w_weaken (tight_first Multiplying) factor_rule)
 
   leading_next : (sign : Option Sign) → Rule n 0 (leading_by (term (inside n)) sign) spell (First Adding)
   leading_next None = w_weaken (tight_first Adding) term_rule
-  leading_next (Some sign) = w_at (sign_kind sign) (sign_neutral sign) (λ at. w_then term_rule (λ e good _. w_pure (omega arith) (ap (λ ps. one_at (sign_kind sign) at ∷ ps) (sym (append-nil (spell e)))) (omega arith, (omega (arith, good.0), good.1), fits_signed None sign at e)))
+  leading_next (Some sign) = w_at (sign_kind sign) (sign_neutral sign) (λ at. w_then term_rule (λ e good _. w_pure (omega arith) (ap (λ ps. one_at (sign_kind sign) at ∷ ps) (sym (append-nil (spell e)))) (omega arith, (omega (arith, good.0), good.1), λ op r. inr r)))
 
   leading_rule : Rule n 0 (leading (term (inside n))) spell (First Adding)
   unfolding leading

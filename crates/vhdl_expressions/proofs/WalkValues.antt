@@ -7,9 +7,9 @@ use Rattle.vhdl_tree.specs.Tree.{Expr, single, chosen, actual}
 use Rattle.vhdl_tree.specs.Pieces.{Piece, spell_option, IsAny}
 use Rattle.vhdl_tree.specs.grammar.Expressions.{direction_kind, spell, spell_range, spell_value, spell_choice, spell_choices, spell_actual, spell_formal, spell_association, spell_associations, IsExpr, IsRange, IsValue, IsChoice, AreChoices, IsActual, IsAssociation, AreAssociations}
 use Rattle.vhdl_expressions.specs.reader.Input.{Parser, Outcome, expect, identifier, is_kind}
-use Rattle.vhdl_expressions.specs.reader.Expressions.{direction_at, range_by, range, others_value, value, choice, next_choice, choices, formal, optional_formal, actual_of, association, next_association, associations}
+use Rattle.vhdl_expressions.specs.reader.Expressions.{direction_at, range_by, range, others_value, value, choice, choices, formal, optional_formal, actual_of, association, associations}
 use Rattle.vhdl_expressions.proofs.Walks.{Walks, Rule, w_pure, w_then, w_last}
-use Rattle.vhdl_expressions.proofs.Rules.{w_at, w_some, w_left_at, w_right, w_ident, w_refuse, w_choose, w_test, w_inner, list_rule}
+use Rattle.vhdl_expressions.proofs.Rules.{w_at, w_some, w_left_at, w_right, w_ident, w_refuse, w_choose, w_test, w_inner, separated_rule}
 use Rattle.vhdl_expressions.proofs.WalkExpressions.{w_ends, direction_neutral, inside_rule, expr_rule}
 
 -- by the tokens ahead
@@ -43,8 +43,7 @@ unfolding choice
 choice_rule n = w_test (is_kind k.Others) (w_at k.Others refl (λ at. w_pure (omega arith) refl tt)) (w_last (λ e. chosen e) (expr_rule n) (λ e good. (refl, good)))
 
 pub choices_rule : (n : ℕ) → Rule n 0 (choices n) spell_choices AreChoices
-unfolding choices next_choice
-choices_rule n = list_rule k.Bar (omega arith) (choice_rule n) (w_some k.Bar refl (λ _. w_ends (λ x. refl) (λ x good. good) (choice_rule n)))
+choices_rule n = separated_rule k.Bar refl (omega arith) (choice_rule n)
 
 formal_rule : (n : ℕ) → Rule n 0 optional_formal (spell_option spell_formal) IsAny
 unfolding optional_formal formal
@@ -61,5 +60,4 @@ unfolding association
 association_rule n = w_then (formal_rule n) (λ f _ _. w_last (λ a. record { formal = f; actual = a }) (actual_rule n) (λ a good. (refl, good)))
 
 pub associations_rule : (n : ℕ) → Rule n 0 (associations n) spell_associations AreAssociations
-unfolding associations next_association
-associations_rule n = list_rule k.Comma (omega arith) (association_rule n) (w_some k.Comma refl (λ _. w_ends (λ x. refl) (λ x good. good) (association_rule n)))
+associations_rule n = separated_rule k.Comma refl (omega arith) (association_rule n)

@@ -2,7 +2,7 @@
 
 ghost use Rattle.std.specs.Prelude.{◌≡◌, option_map};
 ghost use Rattle.vhdl_lexer.specs.declared.token.Kind.TheVariants as k;
-ghost use Rattle.vhdl_tree.specs.Tree.{Expr as Tree, chained};
+ghost use Rattle.vhdl_tree.specs.Tree.{Expr as Tree, all_joined};
 ghost use Rattle.vhdl_tree.specs.View.{view, suffix_view, name_view, ident_view, exprs_view, pair_view, pairs_view};
 ghost use Rattle.vhdl_expressions.specs.reader.Input as input;
 ghost use Rattle.vhdl_expressions.specs.reader.Input.{Reads};
@@ -15,28 +15,21 @@ use vhdl_lexer::Kind;
 use vhdl_tree::{Direction, Expr, Identifier, Link, Name, Operator, Range, Suffix};
 
 impl Parser<'_> {
-    /// The operator that a chain of a level goes on with, by its last one.
+    /// The operator that a chain of a level goes on with behind its last one.
     #[tactic(auto, unfolding(crate::specs::reader::Expressions::next_operator))]
-    fn next_operator(&self, level: Level, last: Option<Operator>) -> Option<Operator>
+    fn next_operator(&self, level: Level, last: Operator) -> Option<Operator>
         ensures { result ≡ read.next_operator level last (input.next_kind self.now) }
     {
-        let next = self.peek();
         match level {
-            Level::Logical => match last {
-                None => level.operator_at(next),
-                Some(operator) => {
-                    if operator.repeats() && self.sees(operator.kind()) {
-                        Some(operator)
-                    } else {
-                        None
-                    }
+            Level::Logical => {
+                if last.repeats() && self.sees(last.kind()) {
+                    Some(last)
+                } else {
+                    None
                 }
-            },
-            Level::Relation => match last {
-                None => level.operator_at(next),
-                Some(_) => None,
-            },
-            Level::Adding | Level::Multiplying => level.operator_at(next),
+            }
+            Level::Relation => None,
+            Level::Adding | Level::Multiplying => level.operator_at(self.peek()),
         }
     }
 
@@ -156,14 +149,19 @@ impl Parser<'_> {
         self.chain(levels, Level::Logical)
     }
 
-    /// A chain of operators of a level.
+    /// A chain of operators of a level, or its first operand alone.
     #[cycle(expr)]
+    #[tactic(auto, unfolding(crate::specs::reader::Expressions::begin))]
     fn chain(&mut self, levels: usize, level: Level) -> Result<Expr, Stop>
         ensures { Reads view (read.chain_of (read.inside levels) level self.old) result self.new }
     {
         let first = self.first(levels, level)?;
-        let rest = self.links(levels, level)?;
-        Ok(Expr::from_links(self.alloc, first, rest)?)
+        let Some(operator) = level.operator_at(self.peek()) else {
+            return Ok(first);
+        };
+        let second = self.link(levels, level, operator)?;
+        let rest = self.links(levels, level, operator)?;
+        Ok(Expr::chain(self.alloc, first, second, rest)?)
     }
 
     /// The first operand of a chain.
@@ -195,19 +193,19 @@ impl Parser<'_> {
         }
     }
 
-    /// What follows the first operand of a chain, whatever that is.
+    /// What follows the last operator of a chain and its operand, whatever stands before.
     #[cycle(expr)]
-    fn links(&mut self, levels: usize, level: Level) -> Result<Vec<Link>, Stop>
-        ensures { (left : Tree) → Reads (λ ls. chained left (pairs_view ls)) (read.more (read.operand_of (read.inside levels) level) level left self.old) result self.new }
+    fn links(&mut self, levels: usize, level: Level, last: Operator) -> Result<Vec<Link>, Stop>
+        ensures { (left : Tree) → Reads (λ ls. all_joined left (pairs_view ls)) (read.more (read.operand_of (read.inside levels) level) level last left self.old) result self.new }
     {
         let mut found = Vec::new(self.alloc);
-        let mut last = None;
+        let mut last = last;
         for _turn in 0..self.left() {
             let Some(operator) = self.next_operator(level, last) else {
                 return Ok(found);
             };
             found.push(self.link(levels, level, operator)?)?;
-            last = Some(operator);
+            last = operator;
         }
         Ok(found)
     }
@@ -263,7 +261,7 @@ impl Parser<'_> {
             Some(Kind::Integer) => Ok(Expr::Integer(self.text(Kind::Integer)?)),
             Some(Kind::Character) => {
                 let (at, code) = self.literal()?;
-                Ok(Expr::Character(at, code))
+                Ok(Expr::Character { at, code })
             }
             Some(Kind::String) => Ok(Expr::StringLiteral(self.text(Kind::String)?)),
             Some(Kind::BitString) => Ok(Expr::BitString(self.text(Kind::BitString)?)),

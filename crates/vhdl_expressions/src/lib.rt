@@ -9,6 +9,6 @@ mod parser;
 mod stop;
 mod value;
 
-pub use list::many;
+pub use list::{many, separated};
 pub use parser::{Parser, below};
 pub use stop::Stop;

@@ -119,7 +119,7 @@ impl<'a> Parser<'a> {
     {
         let (token, rest) = next_token(self.tokens, kind)?;
         self.tokens = rest;
-        Ok(token.start)
+        Ok(token.start as usize)
     }
 
     /// Takes the next token, if it is of this kind, and answers whether it is.
@@ -141,10 +141,13 @@ impl<'a> Parser<'a> {
         ensures { Reads ident_view (read.identifier self.old) result self.new }
     {
         let (token, rest) = next_token(self.tokens, Kind::Identifier)?;
-        let text = small_letters(self.alloc, &self.source[token.start..token.end])?;
+        let text = small_letters(
+            self.alloc,
+            &self.source[token.start as usize..token.end as usize],
+        )?;
         self.tokens = rest;
         Ok(Identifier {
-            at: token.start,
+            at: token.start as usize,
             text,
         })
     }
@@ -155,9 +158,9 @@ impl<'a> Parser<'a> {
         ensures { Reads (λ c. c) (read.literal self.old) result self.new }
     {
         let (token, rest) = next_token(self.tokens, Kind::Character)?;
-        let code = second(&self.source[token.start..token.end]);
+        let code = second(&self.source[token.start as usize..token.end as usize]);
         self.tokens = rest;
-        Ok((token.start, code))
+        Ok((token.start as usize, code))
     }
 
     /// Takes the next token, which is a literal of this kind, with its bytes.
@@ -167,10 +170,10 @@ impl<'a> Parser<'a> {
         ensures { Reads literal_view (read.text kind self.old) result self.new }
     {
         let (token, rest) = next_token(self.tokens, kind)?;
-        let text = self.source[token.start..token.end].to_vec(self.alloc)?;
+        let text = self.source[token.start as usize..token.end as usize].to_vec(self.alloc)?;
         self.tokens = rest;
         Ok(Literal {
-            at: token.start,
+            at: token.start as usize,
             text,
         })
     }

@@ -5,7 +5,7 @@ ghost use Rattle.vhdl_tree.specs.View.{ident_view, range_view, value_view, choic
 ghost use Rattle.vhdl_expressions.specs.reader.Input.{Reads};
 ghost use Rattle.vhdl_expressions.specs.reader.Expressions as read;
 
-use crate::list::many;
+use crate::list::separated;
 use crate::operator::direction_at;
 use crate::parser::Parser;
 use crate::stop::Stop;
@@ -55,30 +55,14 @@ impl Parser<'_> {
         self.expect(Kind::Arrow)?;
         let element = self.inside(levels)?;
         self.expect(Kind::RightParen)?;
-        Ok(Value::Others(at, element))
+        Ok(Value::Others { at, element })
     }
 
     /// The choices of an alternative (10.9), with bars between, in which so many levels may be opened.
-    #[tactic(auto, unfolding(crate::specs::reader::Expressions::choices))]
     pub fn choices(&mut self, levels: usize) -> Result<Vec<Choice>, Stop>
         ensures { Reads choices_view (read.choices levels self.old) result self.new }
     {
-        let mut found = Vec::new(self.alloc);
-        found.push(self.choice(levels)?)?;
-        many(
-            self,
-            |parser| parser.sees(Kind::Bar),
-            |parser| parser.next_choice(levels),
-            found,
-        )
-    }
-
-    #[tactic(auto, unfolding(crate::specs::reader::Expressions::next_choice))]
-    fn next_choice(&mut self, levels: usize) -> Result<Choice, Stop>
-        ensures { Reads choice_view (read.next_choice levels self.old) result self.new }
-    {
-        self.expect(Kind::Bar)?;
-        self.choice(levels)
+        separated(self, Kind::Bar, |parser| parser.choice(levels))
     }
 
     #[tactic(auto, unfolding(crate::specs::reader::Expressions::choice))]
@@ -86,33 +70,19 @@ impl Parser<'_> {
         ensures { Reads choice_view (read.choice levels self.old) result self.new }
     {
         if self.sees(Kind::Others) {
-            Ok(Choice::Others(self.expect(Kind::Others)?))
+            Ok(Choice::Others {
+                at: self.expect(Kind::Others)?,
+            })
         } else {
             Ok(Choice::Expr(self.expr(levels)?))
         }
     }
 
     /// Associations (6.5.7) with commas between, in which so many levels may be opened.
-    #[tactic(auto, unfolding(crate::specs::reader::Expressions::associations))]
     pub fn associations(&mut self, levels: usize) -> Result<Vec<Association>, Stop>
         ensures { Reads associations_view (read.associations levels self.old) result self.new }
     {
-        let mut found = Vec::new(self.alloc);
-        found.push(self.association(levels)?)?;
-        many(
-            self,
-            |parser| parser.sees(Kind::Comma),
-            |parser| parser.next_association(levels),
-            found,
-        )
-    }
-
-    #[tactic(auto, unfolding(crate::specs::reader::Expressions::next_association))]
-    fn next_association(&mut self, levels: usize) -> Result<Association, Stop>
-        ensures { Reads association_view (read.next_association levels self.old) result self.new }
-    {
-        self.expect(Kind::Comma)?;
-        self.association(levels)
+        separated(self, Kind::Comma, |parser| parser.association(levels))
     }
 
     #[tactic(auto, unfolding(crate::specs::reader::Expressions::association))]
@@ -142,7 +112,9 @@ impl Parser<'_> {
         ensures { Reads actual_view (read.actual_of levels self.old) result self.new }
     {
         if self.sees(Kind::Open) {
-            Ok(Actual::Open(self.expect(Kind::Open)?))
+            Ok(Actual::Open {
+                at: self.expect(Kind::Open)?,
+            })
         } else {
             Ok(Actual::Expr(self.expr(levels)?))
         }

@@ -4,8 +4,8 @@ use Rattle.std.specs.Char.{is_ascii_digit}
 use Rattle.std.proofs.lemmas.Bool.{eqb-true}
 use Rattle.std.proofs.lemmas.Bool.Decides.{nat_tests}
 use Rattle.vhdl_lexer.specs.declared.byte.Class.{Class}
-use Rattle.vhdl_lexer.specs.declared.fault.Problem.{Problem}
-use Rattle.vhdl_lexer.specs.declared.fault.Problem.TheVariants as problem
+use Rattle.vhdl_lexer.specs.declared.fault.LexFault.{LexFault}
+use Rattle.vhdl_lexer.specs.declared.fault.LexFault.TheVariants as fault
 use Rattle.vhdl_lexer.specs.declared.token.Kind.{Kind}
 use Rattle.vhdl_lexer.specs.declared.token.Kind.TheVariants as k
 use Rattle.vhdl_lexer.specs.Bytes.{quote, slash, star, dash, is_separator, is_word_byte, begins}
@@ -107,14 +107,16 @@ digits_stand : (text : List ℕ) → begins_digit text ≡ true → Stands text
 digits_stand [] d = absurd (true≢false (sym d))
 digits_stand (b ∷ text) d = word_stands b text (digit_word b d)
 
-pub fault_stands : (p : Problem) (text : List ℕ) → Faulty p text → Stands text
-fault_stands problem.BadByte text (inl s) = subst Stands (sym s.2) (stray_stands s.0 s.1 s.3)
-fault_stands problem.BadByte text (inr s) = subst Stands (sym s.2.0) (quote_stands (s.0 ++ quote ∷ s.1))
-fault_stands problem.OpenComment text c =
+pub fault_stands : (p : LexFault) (text : List ℕ) → Faulty p text → Stands text
+fault_stands (fault.BadByte at) text (inl s) = subst Stands (sym s.2) (stray_stands s.0 s.1 s.3)
+fault_stands (fault.BadByte at) text (inr s) = subst Stands (sym s.2.0) (quote_stands (s.0 ++ quote ∷ s.1))
+fault_stands (fault.OpenComment at) text c =
     subst Stands (sym c.1) (refl, refl, λ body e. ap has_close (sym (ap (λ (x : List ℕ). drop 2 x) e)) ∙ c.2)
-fault_stands problem.OpenString text (inl s) = quoted_stands text s.0
-fault_stands problem.OpenString text (inr s) = bits_stand text s.0 s.1
-fault_stands problem.BadIdentifier text i = begun_stands text i.0
-fault_stands problem.BadNumber text (inl i) = digits_stand text i.0
-fault_stands problem.BadNumber text (inr s) =
+fault_stands (fault.OpenString at) text (inl s) = quoted_stands text s.0
+fault_stands (fault.OpenString at) text (inr s) = bits_stand text s.0 s.1
+fault_stands (fault.BadIdentifier at) text i = begun_stands text i.0
+fault_stands (fault.BadNumber at) text (inl i) = digits_stand text i.0
+fault_stands (fault.BadNumber at) text (inr s) =
     subst Stands (sym s.3.1) (word_stands s.3.0 (quote ∷ (s.1 ++ quote ∷ s.2)) (begins_word-word s.3.0 (base_begins s.3.0 s.0 s.3.2)))
+fault_stands (fault.TooLong at) text f = absurd f
+fault_stands fault.NoMemory text f = absurd f

@@ -1,38 +1,38 @@
 -- Delimiters (IEEE 1076-2008, 15.3).
 use Rattle.std.specs.Prelude.{◌≡◌, ℕ, ◌&&◌, ◌==◌, false, if◌then◌else◌, List, [], ◌∷◌, ◌++◌, Option, Some, None}
 use Rattle.vhdl_lexer.specs.declared.token.Kind.{Kind}
-use Rattle.vhdl_lexer.specs.declared.token.Kind.TheVariants.{Arrow, Assign, LessEqual, GreaterEqual, NotEqual, Ampersand, Tick, LeftParen, RightParen, Star, Plus, Comma, Minus, Dot, Slash, Colon, Semicolon, Less, Equal, Greater, Bar}
+use Rattle.vhdl_lexer.specs.declared.token.Kind.TheVariants as k
 use Rattle.vhdl_lexer.specs.Bytes.{tick}
 use Rattle.vhdl_lexer.specs.Literals.{may_open, closes}
 
 -- `=>` `:=` `<=` `>=` `/=`
 abbrev pub pair : ℕ → ℕ → Option Kind
 pair b c =
-    if b == 61 && c == 62 then Some Arrow else
-    (if b == 58 && c == 61 then Some Assign else
-    (if b == 60 && c == 61 then Some LessEqual else
-    (if b == 62 && c == 61 then Some GreaterEqual else
-    (if b == 47 && c == 61 then Some NotEqual else None))))
+    if b == 61 && c == 62 then Some k.Arrow else
+    (if b == 58 && c == 61 then Some k.Assign else
+    (if b == 60 && c == 61 then Some k.LessEqual else
+    (if b == 62 && c == 61 then Some k.GreaterEqual else
+    (if b == 47 && c == 61 then Some k.NotEqual else None))))
 
 -- `&` `'` `(` `)` `*` `+` `,` `-` `.` `/` `:` `;` `<` `=` `>` `|`
 abbrev pub single : ℕ → Option Kind
 single b =
-    if b == 38 then Some Ampersand else
-    (if b == 39 then Some Tick else
-    (if b == 40 then Some LeftParen else
-    (if b == 41 then Some RightParen else
-    (if b == 42 then Some Star else
-    (if b == 43 then Some Plus else
-    (if b == 44 then Some Comma else
-    (if b == 45 then Some Minus else
-    (if b == 46 then Some Dot else
-    (if b == 47 then Some Slash else
-    (if b == 58 then Some Colon else
-    (if b == 59 then Some Semicolon else
-    (if b == 60 then Some Less else
-    (if b == 61 then Some Equal else
-    (if b == 62 then Some Greater else
-    (if b == 124 then Some Bar else None)))))))))))))))
+    if b == 38 then Some k.Ampersand else
+    (if b == 39 then Some k.Tick else
+    (if b == 40 then Some k.LeftParen else
+    (if b == 41 then Some k.RightParen else
+    (if b == 42 then Some k.Star else
+    (if b == 43 then Some k.Plus else
+    (if b == 44 then Some k.Comma else
+    (if b == 45 then Some k.Minus else
+    (if b == 46 then Some k.Dot else
+    (if b == 47 then Some k.Slash else
+    (if b == 58 then Some k.Colon else
+    (if b == 59 then Some k.Semicolon else
+    (if b == 60 then Some k.Less else
+    (if b == 61 then Some k.Equal else
+    (if b == 62 then Some k.Greater else
+    (if b == 124 then Some k.Bar else None)))))))))))))))
 
 -- the delimiter that a text is
 abbrev pub delimiter : List ℕ → Option Kind

@@ -2,8 +2,6 @@
 use Rattle.std.specs.Prelude.{◌≡◌, ℕ, ◌+◌, ◌-◌, ◌<◌, ◌≤◌, ◌==◌, true, false, List, [], ◌∷◌, ◌++◌, length, Option, Some, None, ◌⊎◌}
 use Rattle.std.specs.List.{list_all}
 use Rattle.vhdl_lexer.specs.declared.byte.Class.{Class}
-use Rattle.vhdl_lexer.specs.declared.fault.Problem.{Problem}
-use Rattle.vhdl_lexer.specs.declared.fault.Problem.TheVariants as problem
 use Rattle.vhdl_lexer.specs.declared.fault.LexFault.{LexFault}
 use Rattle.vhdl_lexer.specs.declared.fault.LexFault.TheVariants.{BadByte, OpenComment, OpenString, BadIdentifier, BadNumber, TooLong, NoMemory}
 use Rattle.vhdl_lexer.specs.declared.token.Kind.{Kind}
@@ -14,6 +12,28 @@ use Rattle.vhdl_lexer.specs.Words.{is_joined, opened_class, IsWord}
 use Rattle.vhdl_lexer.specs.Literals.{begins_digit, IsInteger, IsClosedString, IsClosedBitString}
 use Rattle.vhdl_lexer.specs.Delimiters.{single}
 use Rattle.vhdl_lexer.specs.Cut.{CutsTo}
+
+-- ---- how a fault is reported
+
+-- the number
+abbrev pub fault_number : LexFault → ℕ
+fault_number (BadByte at) = 1
+fault_number (OpenComment at) = 2
+fault_number (OpenString at) = 3
+fault_number (BadIdentifier at) = 4
+fault_number (BadNumber at) = 5
+fault_number (TooLong at) = 6
+fault_number NoMemory = 7
+
+-- the byte
+abbrev pub fault_byte : LexFault → Option ℕ
+fault_byte (BadByte at) = Some at
+fault_byte (OpenComment at) = Some at
+fault_byte (OpenString at) = Some at
+fault_byte (BadIdentifier at) = Some at
+fault_byte (BadNumber at) = Some at
+fault_byte (TooLong at) = Some at
+fault_byte NoMemory = None
 
 -- ---- the conditions
 
@@ -56,15 +76,18 @@ IsBadNumber text =
     ((begins_digit text ≡ true) × Absent IsInteger text)
     ⊎ ((class : Class) × (body : List ℕ) × (rest : List ℕ) × IsClosedBitString class text body rest × (is_joined class body ≡ false))
 
-abbrev pub Faulty : Problem → List ℕ → Type 0
-Faulty problem.BadByte text = IsBadByte text
-Faulty problem.OpenComment text = IsOpenComment text
-Faulty problem.OpenString text = IsOpenString text
-Faulty problem.BadIdentifier text = IsBadIdentifier text
-Faulty problem.BadNumber text = IsBadNumber text
+-- what stands at the front of the text, where the fault is one of a token
+abbrev pub Faulty : LexFault → List ℕ → Type 0
+Faulty (BadByte at) text = IsBadByte text
+Faulty (OpenComment at) text = IsOpenComment text
+Faulty (OpenString at) text = IsOpenString text
+Faulty (BadIdentifier at) text = IsBadIdentifier text
+Faulty (BadNumber at) text = IsBadNumber text
+Faulty (TooLong at) text = ⊥
+Faulty NoMemory text = ⊥
 
--- tokens cut the source up to this byte, separators and comments aside, and there this problem is
-pub record StartsFirst (problem : Problem) (at : ℕ) (source : List ℕ) : Type 0 where
+-- tokens cut the source up to the fault's byte, separators and comments aside, and there it is
+pub record StartsFirst (fault : LexFault) (source : List ℕ) : Type 0 where
   pub tokens : List Token
   pub last : Option Kind
   pub place : ℕ
@@ -73,8 +96,8 @@ pub record StartsFirst (problem : Problem) (at : ℕ) (source : List ℕ) : Type
   pub pieces : List (List ℕ)
   pub ahead : List ℕ
   pub led : LeadsTo pieces left ahead
-  pub starts : at ≡ place + (length left - length ahead)
-  pub faulty : Faulty problem ahead
+  pub starts : fault_byte fault ≡ Some (place + (length left - length ahead))
+  pub faulty : Faulty fault ahead
 
 -- ---- the faults
 
@@ -84,50 +107,12 @@ greatest_length = 4194304
 
 -- the text has no tokens
 abbrev pub IsRefusal : LexFault → Type 0
-IsRefusal (BadByte at) = Unit {0}
-IsRefusal (OpenComment at) = Unit {0}
-IsRefusal (OpenString at) = Unit {0}
-IsRefusal (BadIdentifier at) = Unit {0}
-IsRefusal (BadNumber at) = Unit {0}
 IsRefusal (TooLong at) = ⊥
 IsRefusal NoMemory = ⊥
+IsRefusal fault = Unit {0}
 
 -- what each fault says of the text
 abbrev pub HasFault : LexFault → List ℕ → Type 0
-HasFault (BadByte at) source = StartsFirst problem.BadByte at source
-HasFault (OpenComment at) source = StartsFirst problem.OpenComment at source
-HasFault (OpenString at) source = StartsFirst problem.OpenString at source
-HasFault (BadIdentifier at) source = StartsFirst problem.BadIdentifier at source
-HasFault (BadNumber at) source = StartsFirst problem.BadNumber at source
 HasFault (TooLong at) source = (greatest_length < length source) × (at ≡ greatest_length)
 HasFault NoMemory source = length source ≤ greatest_length
-
--- the fault of a token that starts here
-abbrev pub fault_of : Problem → ℕ → LexFault
-fault_of problem.BadByte at = BadByte at
-fault_of problem.OpenComment at = OpenComment at
-fault_of problem.OpenString at = OpenString at
-fault_of problem.BadIdentifier at = BadIdentifier at
-fault_of problem.BadNumber at = BadNumber at
-
--- ---- how a fault is reported
-
--- the number
-abbrev pub fault_number : LexFault → ℕ
-fault_number (BadByte at) = 1
-fault_number (OpenComment at) = 2
-fault_number (OpenString at) = 3
-fault_number (BadIdentifier at) = 4
-fault_number (BadNumber at) = 5
-fault_number (TooLong at) = 6
-fault_number NoMemory = 7
-
--- the byte
-abbrev pub fault_byte : LexFault → Option ℕ
-fault_byte (BadByte at) = Some at
-fault_byte (OpenComment at) = Some at
-fault_byte (OpenString at) = Some at
-fault_byte (BadIdentifier at) = Some at
-fault_byte (BadNumber at) = Some at
-fault_byte (TooLong at) = Some at
-fault_byte NoMemory = None
+HasFault fault source = StartsFirst fault source

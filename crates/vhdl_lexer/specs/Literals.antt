@@ -52,7 +52,8 @@ closes [] = false
 closes (c ∷ text) = is_printable c && begins tick text
 
 abbrev pub IsCharacter : Option Kind → Kind → List ℕ → Type 0
-IsCharacter before kind slice = (c : ℕ) × (slice ≡ tick ∷ c ∷ tick ∷ []) × (is_printable c ≡ true) × (may_open before ≡ true) × (kind ≡ k.Character)
+IsCharacter before kind slice =
+    (c : ℕ) × (slice ≡ tick ∷ c ∷ tick ∷ []) × (is_printable c ≡ true) × (may_open before ≡ true) × (kind ≡ k.Character)
 
 -- ---- strings
 

@@ -1,11 +1,12 @@
 -- The token at the front of a text, as the lexer finds it. What it has to do with the definitions is proved.
-use Rattle.std.specs.Prelude.{◌≡◌, ℕ, ◌+◌, ◌-◌, ◌≤◌, ◌&&◌, ◌==◌, nat_le, not, Bool, false, if◌then◌else◌, List, [], ◌∷◌, take, drop, length, map, Option, Some, None, Result, Ok, Err, slice_index}
+use Rattle.std.specs.Prelude.{◌≡◌, ℕ, ◌+◌, ◌-◌, ◌≤◌, ◌&&◌, ◌==◌, if◌then◌else◌, [], ◌∷◌}
+use Rattle.std.specs.Prelude.{nat_le, not, Bool, false, List, take, drop, length, map, Option, Some, None, Result, Ok, Err}
 use Rattle.std.specs.Char.{is_ascii_digit, to_ascii_lowercase}
 use Rattle.std.specs.List.{list_all, filter, prefix_len}
 use Rattle.vhdl_lexer.specs.declared.byte.Class.{Class}
 use Rattle.vhdl_lexer.specs.declared.byte.Class.TheVariants.{Decimal}
-use Rattle.vhdl_lexer.specs.declared.fault.Problem.{Problem}
-use Rattle.vhdl_lexer.specs.declared.fault.Problem.TheVariants.{BadByte, OpenComment, OpenString, BadIdentifier, BadNumber}
+use Rattle.vhdl_lexer.specs.declared.fault.LexFault.{LexFault}
+use Rattle.vhdl_lexer.specs.declared.fault.LexFault.TheVariants.{BadByte, OpenComment, OpenString, BadIdentifier, BadNumber}
 use Rattle.vhdl_lexer.specs.declared.token.Kind.{Kind}
 use Rattle.vhdl_lexer.specs.declared.token.Kind.TheVariants as k
 use Rattle.vhdl_lexer.specs.Bytes.{quote, tick, star, dash, slash, ends_line, is_separator, is_printable, is_word_byte, begins_word, begins}
@@ -56,9 +57,9 @@ Stands (b ∷ text) =
 
 -- ---- tokens
 
--- a kind, and a length in bytes
+-- a kind and a length in bytes, or a fault of the token that starts at some byte
 abbrev pub Found : Type 0
-Found = Result (Kind × ℕ) Problem
+Found = Result (Kind × ℕ) LexFault
 
 -- the bytes of a word or number at the front
 abbrev pub run : List ℕ → ℕ
@@ -72,78 +73,85 @@ has_letter letter w = begins letter (map to_ascii_lowercase w.0)
 abbrev pub words_of : ℕ → List Word
 words_of letter = filter (has_letter (to_ascii_lowercase letter)) reserved_words
 
-unfoldable pub word : List ℕ → Found
-word text = if is_identifier (take (run text) text) then Ok (word_kind (take (run text) text), run text) else Err BadIdentifier
+unfoldable pub word : ℕ → List ℕ → Found
+word at text = if is_identifier (take (run text) text) then Ok (word_kind (take (run text) text), run text) else Err (BadIdentifier at)
 
 -- the number that the text writes is read
 abbrev pub fits : List ℕ → Bool
 fits text = nat_le (integer_of text) greatest_integer
 
-unfoldable pub number : List ℕ → Found
-number text =
+unfoldable pub number : ℕ → List ℕ → Found
+number at text =
     if is_joined Decimal (take (run text) text) && not (goes_on_number (drop (run text) text)) && fits (take (run text) text)
-    then Ok (k.Integer, run text) else Err BadNumber
+    then Ok (k.Integer, run text) else Err (BadNumber at)
 
--- the text from the closing quotation mark of a string on, or nothing
+-- the text from the closing quotation mark of a string on, if there is one on the line
 abbrev mutual
-  pub from_quote : List ℕ → List ℕ
-  from_quote [] = []
-  from_quote (b ∷ text) = if b == quote then from_pair (b ∷ text) text else (if ends_line b then [] else from_quote text)
+  pub from_quote : List ℕ → Option (List ℕ)
+  from_quote [] = None
+  from_quote (b ∷ text) = if b == quote then from_pair (b ∷ text) text else (if ends_line b then None else from_quote text)
 
-  pub from_pair : List ℕ → List ℕ → List ℕ
-  from_pair marks [] = marks
-  from_pair marks (c ∷ text) = if c == quote then from_quote text else marks
+  pub from_pair : List ℕ → List ℕ → Option (List ℕ)
+  from_pair marks [] = Some marks
+  from_pair marks (c ∷ text) = if c == quote then from_quote text else Some marks
 
--- the text from the line's first quotation mark on, or nothing
-abbrev pub from_first_quote : List ℕ → List ℕ
-from_first_quote [] = []
-from_first_quote (b ∷ text) = if b == quote then b ∷ text else (if ends_line b then [] else from_first_quote text)
+-- the text from the line's first quotation mark on, if there is one
+abbrev pub from_first_quote : List ℕ → Option (List ℕ)
+from_first_quote [] = None
+from_first_quote (b ∷ text) = if b == quote then Some (b ∷ text) else (if ends_line b then None else from_first_quote text)
 
 -- how many bytes stand before the end of a text
 abbrev pub before : List ℕ → List ℕ → ℕ
 before text end = length text - length end
 
--- behind its opening quotation mark
-unfoldable pub string : List ℕ → Found
-string text =
-    if length (from_quote text) == 0 then Err OpenString
-    else (if list_all is_printable (take (before text (from_quote text)) text) then Ok (k.String, before text (from_quote text) + 2) else Err BadByte)
+-- behind its opening quotation mark, and closed where this end begins
+abbrev pub string_to : ℕ → List ℕ → Option (List ℕ) → Found
+string_to at text None = Err (OpenString at)
+string_to at text (Some end) =
+    if list_all is_printable (take (before text end) text) then Ok (k.String, before text end + 2) else Err (BadByte at)
 
--- behind its base specifier and quotation mark
-unfoldable pub bit_string : Class → List ℕ → Found
-bit_string class text =
-    if length (from_first_quote text) == 0 then Err OpenString
-    else (if is_joined class (take (before text (from_first_quote text)) text) then Ok (k.BitString, before text (from_first_quote text) + 3) else Err BadNumber)
+unfoldable pub string : ℕ → List ℕ → Found
+string at text = string_to at text (from_quote text)
 
-abbrev pub word_or_bit_string : Option Class → List ℕ → Found
-word_or_bit_string None text = word text
-word_or_bit_string (Some class) text = bit_string class (drop 2 text)
+-- behind its base specifier and quotation mark, and closed where this end begins
+abbrev pub bit_string_to : ℕ → Class → List ℕ → Option (List ℕ) → Found
+bit_string_to at class text None = Err (OpenString at)
+bit_string_to at class text (Some end) =
+    if is_joined class (take (before text end) text) then Ok (k.BitString, before text end + 3) else Err (BadNumber at)
+
+unfoldable pub bit_string : ℕ → Class → List ℕ → Found
+bit_string at class text = bit_string_to at class text (from_first_quote text)
+
+abbrev pub word_or_bit_string : ℕ → Option Class → List ℕ → Found
+word_or_bit_string at None text = word at text
+word_or_bit_string at (Some class) text = bit_string at class (drop 2 text)
 
 unfoldable pub character : Option Kind → List ℕ → Found
 character last after = if may_open last && closes after then Ok (k.Character, 3) else Ok (k.Tick, 1)
 
-abbrev pub one : Option Kind → Found
-one None = Err BadByte
-one (Some kind) = Ok (kind, 1)
+abbrev pub one : ℕ → Option Kind → Found
+one at None = Err (BadByte at)
+one at (Some kind) = Ok (kind, 1)
 
 abbrev pub two : Option Kind → Found → Found
 two None shorter = shorter
 two (Some kind) shorter = Ok (kind, 2)
 
--- the byte at the front, or 0
-abbrev pub next : List ℕ → ℕ
-next text = slice_index text 0
+-- the delimiter of two bytes that begins with a byte, where this text follows it
+abbrev pub longer : ℕ → List ℕ → Option Kind
+longer b [] = None
+longer b (c ∷ after) = pair b c
 
-unfoldable pub mark : ℕ → List ℕ → Found
-mark b after = if b == slash && begins star after then Err OpenComment else two (pair b (next after)) (one (single b))
+unfoldable pub mark : ℕ → ℕ → List ℕ → Found
+mark at b after = if b == slash && begins star after then Err (OpenComment at) else two (longer b after) (one at (single b))
 
-unfoldable pub front : Option Kind → List ℕ → Found
-front last [] = Err BadByte
-front last (b ∷ after) =
-    if is_ascii_digit b then number (b ∷ after)
-    else (if begins_word b then word_or_bit_string (opened_class (b ∷ after)) (b ∷ after)
-    else (if b == quote then string after
-    else (if b == tick then character last after else mark b after)))
+unfoldable pub front : ℕ → Option Kind → List ℕ → Found
+front at last [] = Err (BadByte at)
+front at last (b ∷ after) =
+    if is_ascii_digit b then number at (b ∷ after)
+    else (if begins_word b then word_or_bit_string at (opened_class (b ∷ after)) (b ∷ after)
+    else (if b == quote then string at after
+    else (if b == tick then character last after else mark at b after)))
 
 -- a token of this kind and length stands at the front
 pub record IsFront (last : Option Kind) (kind : Kind) (n : ℕ) (text : List ℕ) : Type 0 where

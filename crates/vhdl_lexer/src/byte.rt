@@ -4,12 +4,17 @@ ghost use Rattle.std.specs.Prelude.{◌≡◌};
 ghost use Rattle.vhdl_lexer.specs.Bytes as spec;
 
 /// The bytes that may stand in a word, or in a number of some base, beside underscores.
-#[derive(Clone, Copy, Debug, PartialEq, Eq)]
+#[derive(Clone, Copy)]
 pub enum Class {
+    /// What a word has.
     LetterOrDigit,
+    /// Digits of base 10.
     Decimal,
+    /// Digits of base 16, capital and small letters among them.
     Hexadecimal,
+    /// Digits of base 8.
     Octal,
+    /// 0 and 1.
     Binary,
 }
 
@@ -22,8 +27,8 @@ impl Class {
             Class::LetterOrDigit => b.is_ascii_alphanumeric(),
             Class::Decimal => b.is_ascii_digit(),
             Class::Hexadecimal => b.is_ascii_hexdigit(),
-            Class::Octal => b'0' <= b && b <= b'7',
-            Class::Binary => b'0' <= b && b <= b'1',
+            Class::Octal => matches!(b, b'0'..=b'7'),
+            Class::Binary => matches!(b, b'0'..=b'1'),
         }
     }
 }
@@ -32,7 +37,7 @@ impl Class {
 pub fn ends_line(b: u8) -> bool
     ensures { result ≡ spec.ends_line b }
 {
-    b'\n' <= b && b <= b'\r'
+    matches!(b, b'\n'..=b'\r')
 }
 
 /// A space, a tab or the end of a line.
@@ -46,7 +51,7 @@ pub fn is_separator(b: u8) -> bool
 pub fn is_printable(b: u8) -> bool
     ensures { result ≡ spec.is_printable b }
 {
-    b' ' <= b && b <= b'~'
+    matches!(b, b' '..=b'~')
 }
 
 /// A letter, a digit or an underscore.

@@ -2,12 +2,12 @@
 
 ghost use Rattle.std.specs.Prelude.{◌≡◌, ◌≤◌, List, None, length, ◌<◌, Err, IfOk, IfErr, IfSome, OnOk};
 ghost use Rattle.vhdl_lexer.specs.Cut.{Cuts, AreWithin};
-ghost use Rattle.vhdl_lexer.specs.Fault.{greatest_length, IsRefusal, HasFault, fault_of, fault_byte};
+ghost use Rattle.vhdl_lexer.specs.Fault.{greatest_length, IsRefusal, HasFault, fault_byte};
 ghost use Rattle.vhdl_lexer.specs.declared.fault.LexFault.{LexFault};
 ghost use Rattle.vhdl_lexer.specs.declared.fault.LexFault.TheVariants.{TooLong};
 ghost use Rattle.vhdl_lexer.specs.declared.token.Token.{Token};
 
-use crate::fault::{LexFault, Problem};
+use crate::fault::LexFault;
 use crate::front::token;
 use crate::separator::skip;
 use crate::token::Token;
@@ -22,7 +22,7 @@ pub const MAX_LEN: usize = 4_194_304;
 /// Each token is the longest from its start. `start` and `end` count bytes of the source from 0.
 /// A tick opens a character literal where a printable byte and then a tick follow it, unless the
 /// token before is an identifier or `)`. The list is the one thing that takes memory: up to
-/// 24 bytes for each byte of the source, and as much again while it grows.
+/// 12 bytes for each byte of the source, and as much again while it grows.
 ///
 /// # Errors
 ///
@@ -62,29 +62,17 @@ pub fn lex(alloc: Global, source: &[u8]) -> Result<Vec<Token>, LexFault>
             return Ok(tokens);
         }
         let start = source.len() - ahead.len();
-        let (kind, len) = match token(before, ahead) {
+        let (kind, len) = match token(before, ahead, start) {
             Ok(found) => found,
-            Err(problem) => return Err(fault_at(problem, start)),
+            Err(fault) => return Err(fault),
         };
         let next = Token {
             kind,
-            start,
-            end: start + len,
+            start: start as u32,
+            end: (start + len) as u32,
         };
         tokens.push(next)?;
         before = Some(kind);
         text = &ahead[len..];
-    }
-}
-
-fn fault_at(problem: Problem, at: usize) -> LexFault
-    ensures { result ≡ fault_of problem at }
-{
-    match problem {
-        Problem::BadByte => LexFault::BadByte { at },
-        Problem::OpenComment => LexFault::OpenComment { at },
-        Problem::OpenString => LexFault::OpenString { at },
-        Problem::BadIdentifier => LexFault::BadIdentifier { at },
-        Problem::BadNumber => LexFault::BadNumber { at },
     }
 }

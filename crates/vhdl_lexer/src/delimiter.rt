@@ -5,7 +5,7 @@ ghost use Rattle.vhdl_lexer.specs.Delimiters as spec;
 ghost use Rattle.vhdl_lexer.specs.Scan as scan;
 
 use crate::byte::begins;
-use crate::fault::Problem;
+use crate::fault::LexFault;
 use crate::token::Kind;
 
 fn pair(b: u8, c: u8) -> Option<Kind>
@@ -45,25 +45,29 @@ fn single(b: u8) -> Option<Kind>
     }
 }
 
-fn next(text: &[u8]) -> u8
-    ensures { result ≡ scan.next text.now }
+/// The delimiter of two bytes that begins with a byte, where this text follows it.
+fn longer(b: u8, after: &[u8]) -> Option<Kind>
+    ensures { result ≡ scan.longer b after.now }
 {
-    if text.is_empty() { 0 } else { text[0] }
+    match after.first() {
+        None => None,
+        Some(c) => pair(b, *c),
+    }
 }
 
-/// The longest delimiter that begins with a byte, where this text follows it.
+/// The longest delimiter that begins with a byte, which stands at `at`, where this text follows it.
 #[tactic(auto, unfolding(crate::specs::Scan::mark))]
-pub fn mark(b: u8, after: &[u8]) -> Result<(Kind, usize), Problem>
-    ensures { result ≡ scan.mark b after.now }
+pub fn mark(b: u8, after: &[u8], at: usize) -> Result<(Kind, usize), LexFault>
+    ensures { result ≡ scan.mark at b after.now }
 {
     if b == b'/' && begins(b'*', after) {
-        return Err(Problem::OpenComment);
+        return Err(LexFault::OpenComment { at });
     }
-    if let Some(kind) = pair(b, next(after)) {
+    if let Some(kind) = longer(b, after) {
         return Ok((kind, 2));
     }
     match single(b) {
-        None => Err(Problem::BadByte),
+        None => Err(LexFault::BadByte { at }),
         Some(kind) => Ok((kind, 1)),
     }
 }

@@ -7,16 +7,6 @@ ghost use Rattle.vhdl_lexer.specs.declared.fault.LexFault.TheVariants.{NoMemory}
 use std::alloc::AllocFailed;
 use thiserror::Error;
 
-/// What is wrong at the start of a token.
-#[derive(Clone, Copy, Debug, PartialEq, Eq)]
-pub enum Problem {
-    BadByte,
-    OpenComment,
-    OpenString,
-    BadIdentifier,
-    BadNumber,
-}
-
 /// Why a source has no tokens. `at` is a byte of the source, counted from 0, and never above the
 /// source's length: of the first five faults the first byte of the token that starts first and
 /// is none.

@@ -1,13 +1,13 @@
 //! Integers (IEEE 1076-2008, 15.5.2), characters (15.6), strings (15.7) and bit strings (15.8).
 
-ghost use Rattle.std.specs.Prelude.{◌≡◌, ◌≤◌, ◌<◌, length, IfSome, IfNone};
+ghost use Rattle.std.specs.Prelude.{◌≡◌, ◌≤◌, ◌<◌, length, Some, None, IfSome, IfNone};
 ghost use Rattle.std.specs.List.{list_all};
 ghost use Rattle.vhdl_lexer.specs.Bytes as bytes;
 ghost use Rattle.vhdl_lexer.specs.Literals as spec;
 ghost use Rattle.vhdl_lexer.specs.Scan as scan;
 
 use crate::byte::{Class, begins, ends_line, is_printable, is_word_byte};
-use crate::fault::Problem;
+use crate::fault::LexFault;
 use crate::token::Kind;
 use crate::word::{is_joined, run};
 
@@ -34,12 +34,6 @@ pub fn integer_value(mut text: &[u8]) -> Option<u32>
     Some(value as u32)
 }
 
-fn fits(text: &[u8]) -> bool
-    ensures { result ≡ scan.fits text.now }
-{
-    integer_value(text).is_some()
-}
-
 /// Whether a byte stands here that may not directly follow an integer.
 fn goes_on_number(text: &[u8]) -> bool
     ensures { result ≡ spec.goes_on_number text.now }
@@ -59,17 +53,20 @@ fn begins_digit(text: &[u8]) -> bool
     }
 }
 
-/// The integer at the front of a text that begins with a digit, and its length.
+/// The integer at the front of a text that begins with a digit, at `at`, and its length.
 #[tactic(auto, unfolding(crate::specs::Scan::number))]
-pub fn number(text: &[u8]) -> Result<(Kind, usize), Problem>
-    ensures { result ≡ scan.number text.now }
+pub fn number(text: &[u8], at: usize) -> Result<(Kind, usize), LexFault>
+    ensures { result ≡ scan.number at text.now }
 {
     let len = run(text);
     let (digits, rest) = text.split_at(len);
-    if is_joined(Class::Decimal, digits) && !goes_on_number(rest) && fits(digits) {
+    if is_joined(Class::Decimal, digits)
+        && !goes_on_number(rest)
+        && integer_value(digits).is_some()
+    {
         Ok((Kind::Integer, len))
     } else {
-        Err(Problem::BadNumber)
+        Err(LexFault::BadNumber { at })
     }
 }
 
@@ -95,7 +92,7 @@ fn closes(text: &[u8]) -> bool
 
 /// The character literal or the tick that stands before the text, behind that token.
 #[tactic(auto, unfolding(crate::specs::Scan::character))]
-pub fn character(last: Option<Kind>, after: &[u8]) -> Result<(Kind, usize), Problem>
+pub fn character(last: Option<Kind>, after: &[u8]) -> Result<(Kind, usize), LexFault>
     ensures { result ≡ scan.character last after.now }
 {
     if may_open(last) && closes(after) {
@@ -105,41 +102,43 @@ pub fn character(last: Option<Kind>, after: &[u8]) -> Result<(Kind, usize), Prob
     }
 }
 
-/// The text from a string's closing quotation mark on, or nothing where the line ends before.
-fn from_quote(mut text: &[u8]) -> &[u8]
-    ensures value { result.now ≡ scan.from_quote text.entry.now }
-    ensures within { length result.now ≤ length text.entry.now }
+/// The text from a string's closing quotation mark on, or `None` where the line ends before.
+fn from_quote(mut text: &[u8]) -> Option<&[u8]>
+    ensures closed { IfSome result (λ end. scan.from_quote text.entry.now ≡ Some end.now) }
+    ensures within { IfSome result (λ end. length end.now ≤ length text.entry.now) }
+    ensures left_open { IfNone result (scan.from_quote text.entry.now ≡ None) }
 {
     while let [b, rest @ ..] = text {
         if *b == b'"' {
             let [b'"', after @ ..] = rest else {
-                return text;
+                return Some(text);
             };
             text = after;
         } else if ends_line(*b) {
-            return &[];
+            return None;
         } else {
             text = rest;
         }
     }
-    text
+    None
 }
 
-/// The text from the line's first quotation mark on, or nothing.
-fn from_first_quote(mut text: &[u8]) -> &[u8]
-    ensures value { result.now ≡ scan.from_first_quote text.entry.now }
-    ensures within { length result.now ≤ length text.entry.now }
+/// The text from the line's first quotation mark on, or `None` where the line has none.
+fn from_first_quote(mut text: &[u8]) -> Option<&[u8]>
+    ensures closed { IfSome result (λ end. scan.from_first_quote text.entry.now ≡ Some end.now) }
+    ensures within { IfSome result (λ end. length end.now ≤ length text.entry.now) }
+    ensures left_open { IfNone result (scan.from_first_quote text.entry.now ≡ None) }
 {
     while let [b, rest @ ..] = text {
         if *b == b'"' {
-            return text;
+            return Some(text);
         }
         if ends_line(*b) {
-            return &[];
+            return None;
         }
         text = rest;
     }
-    text
+    None
 }
 
 fn are_printable(text: &[u8]) -> bool
@@ -148,36 +147,34 @@ fn are_printable(text: &[u8]) -> bool
     text.iter().all(|b| is_printable(*b))
 }
 
-/// The string before whose text, behind the opening quotation mark, this is.
+/// The string at `at` before whose text, behind the opening quotation mark, this is.
 #[tactic(auto, unfolding(crate::specs::Scan::string))]
-pub fn string(text: &[u8]) -> Result<(Kind, usize), Problem>
-    ensures { result ≡ scan.string text.now }
+pub fn string(text: &[u8], at: usize) -> Result<(Kind, usize), LexFault>
+    ensures { result ≡ scan.string at text.now }
 {
-    let end = from_quote(text);
-    if end.is_empty() {
-        return Err(Problem::OpenString);
-    }
+    let Some(end) = from_quote(text) else {
+        return Err(LexFault::OpenString { at });
+    };
     let len = text.len() - end.len();
     if are_printable(&text[..len]) {
         Ok((Kind::String, len + 2))
     } else {
-        Err(Problem::BadByte)
+        Err(LexFault::BadByte { at })
     }
 }
 
-/// The bit string of such digits, behind the opening quotation mark.
+/// The bit string of such digits at `at`, behind the opening quotation mark.
 #[tactic(auto, unfolding(crate::specs::Scan::bit_string))]
-pub fn bit_string(class: Class, text: &[u8]) -> Result<(Kind, usize), Problem>
-    ensures { result ≡ scan.bit_string class text.now }
+pub fn bit_string(class: Class, text: &[u8], at: usize) -> Result<(Kind, usize), LexFault>
+    ensures { result ≡ scan.bit_string at class text.now }
 {
-    let end = from_first_quote(text);
-    if end.is_empty() {
-        return Err(Problem::OpenString);
-    }
+    let Some(end) = from_first_quote(text) else {
+        return Err(LexFault::OpenString { at });
+    };
     let len = text.len() - end.len();
     if is_joined(class, &text[..len]) {
         Ok((Kind::BitString, len + 3))
     } else {
-        Err(Problem::BadNumber)
+        Err(LexFault::BadNumber { at })
     }
 }

@@ -2,7 +2,8 @@
 
 /// What a token is: an identifier, a literal, a delimiter or a reserved word.
 ///
-/// Only a basic identifier that is no reserved word is an `Identifier`.
+/// Only a basic identifier that is no reserved word is an `Identifier`. A kind without a comment is
+/// the reserved word of its name (15.10).
 #[derive(Clone, Copy, Debug, PartialEq, Eq)]
 pub enum Kind {
     /// A basic identifier (15.4.2).
@@ -158,12 +159,12 @@ pub enum Kind {
 }
 
 /// A token, by its kind and the bytes of the source that it takes: from `start` up to `end`,
-/// both counted from the source's first byte.
+/// both counted from the source's first byte. A source has 4,194,304 bytes at most, so 32 bits do.
 #[derive(Clone, Copy, Debug, PartialEq, Eq)]
 pub struct Token {
     pub kind: Kind,
-    pub start: usize,
-    pub end: usize,
+    pub start: u32,
+    pub end: u32,
 }
 
 /// The reserved words (15.10) in small letters, by their first letter from `a` to `z`.

@@ -8,7 +8,7 @@ ghost use Rattle.vhdl_lexer.specs.Words.{Word};
 ghost use Rattle.vhdl_lexer.specs.Scan as scan;
 
 use crate::byte::{Class, begins, is_word_byte};
-use crate::fault::Problem;
+use crate::fault::LexFault;
 use crate::token::{Kind, RESERVED_WORDS};
 
 /// How many letters, digits and underscores the text begins with.
@@ -57,6 +57,7 @@ fn is_identifier(text: &[u8]) -> bool
     first.is_ascii_alphabetic() && goes_on(Class::LetterOrDigit, rest)
 }
 
+/// Whether two texts are one word, in capitals or small letters.
 fn same_word(a: &[u8], b: &[u8]) -> bool
     ensures { result ≡ str_eq_ignore_ascii_case a.now b.now }
 {
@@ -103,17 +104,17 @@ fn word_kind(text: &[u8]) -> Kind
     kind_among(words_of(text[0]), text)
 }
 
-/// The identifier or reserved word at the front of a text, and its length.
+/// The identifier or reserved word at the front of a text, at `at`, and its length.
 #[tactic(auto, unfolding(crate::specs::Scan::word))]
-pub fn word(text: &[u8]) -> Result<(Kind, usize), Problem>
-    ensures { result ≡ scan.word text.now }
+pub fn word(text: &[u8], at: usize) -> Result<(Kind, usize), LexFault>
+    ensures { result ≡ scan.word at text.now }
 {
     let len = run(text);
     let slice = &text[..len];
     if is_identifier(slice) {
         Ok((word_kind(slice), len))
     } else {
-        Err(Problem::BadIdentifier)
+        Err(LexFault::BadIdentifier { at })
     }
 }
 

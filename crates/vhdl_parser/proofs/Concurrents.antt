@@ -7,17 +7,19 @@ use Rattle.vhdl_tree.specs.Tree.{Ident, Scheme, for_each, if_holds, Concurrent, 
 use Rattle.vhdl_tree.specs.Pieces.{Piece, some, spell_option, spell_word, spell_each, IsEach}
 use Rattle.vhdl_tree.specs.grammar.Sequential.{spell_label, spell_end}
 use Rattle.vhdl_tree.specs.grammar.Concurrent.{spell_assignment, spell_scheme, spell_concurrent, spell_concurrents, IsAssignment, IsScheme, IsConcurrent, AreConcurrents}
-use Rattle.vhdl_expressions.specs.reader.Input.{Parser, and_then, expect}
-use Rattle.vhdl_parser.specs.reader.Concurrent.{concurrent, assign, begins_concurrent, select_with, process_with, assign_with, instance_with, named_with, unlabelled_by, unlabelled, generate_rest, for_generate, if_generate, labelled_by, labelled, by_label, concurrents_with, deeper_concurrents, concurrents}
+use Rattle.vhdl_expressions.specs.reader.Input.{Parser, and_then, expect, eat, identifier}
+use Rattle.vhdl_expressions.specs.reader.Expressions.{range}
+use Rattle.vhdl_statements.specs.reader.Sequential.{end_of}
+use Rattle.vhdl_parser.specs.reader.Concurrent.{concurrent, assign, begins_concurrent, select_with, process_with, assign_with, instance_with, named_with, unlabelled_by, unlabelled, generate_body, generate_rest, for_scheme, for_generate, if_generate, labelled_by, labelled, by_label, concurrents_with, deeper_concurrents, concurrents}
 use Rattle.vhdl_expressions.specs.declared.stop.Stop.TheVariants.{TooDeep}
 use Rattle.vhdl_expressions.proofs.Steps.{bind_ok, bind_err, at_pure, pure_err}
 use Rattle.vhdl_expressions.proofs.Walks.{Walks, Rule, Made, w_pure, w_then, w_last}
-use Rattle.vhdl_expressions.proofs.Rules.{w_take, w_some, w_ident, w_refuse, w_choose, w_below, under, under_none, word_rule, each_rule}
+use Rattle.vhdl_expressions.proofs.Rules.{w_take, w_some, w_ident, w_refuse, w_choose, w_inner, w_below, under, under_none, word_rule, each_rule}
 use Rattle.vhdl_expressions.proofs.WalkExpressions.{w_ends, expr_rule, a_name_rule}
 use Rattle.vhdl_expressions.proofs.WalkValues.{w_by, range_rule}
-use Rattle.vhdl_parser.proofs.Branches.{waves_rule}
-use Rattle.vhdl_parser.proofs.WalkSequential.{w_open, w_end_of, label_rule}
-use Rattle.vhdl_parser.proofs.WalkProcess.{process_rule, selected_rule}
+use Rattle.vhdl_statements.proofs.Conditional.{conditional_rule}
+use Rattle.vhdl_statements.proofs.WalkSequential.{w_open, w_end_of, label_rule}
+use Rattle.vhdl_statements.proofs.WalkProcess.{process_rule, selected_rule}
 use Rattle.vhdl_parser.proofs.WalkInstance.{instance_rule}
 
 -- behind its label
@@ -29,7 +31,7 @@ unfolding assign
 assign_rule n label =
     w_then (a_name_rule n) (λ target named _.
     w_some k.LessEqual refl (λ _.
-    w_then (waves_rule n) (λ w good _.
+    w_then (conditional_rule n) (λ w good _.
     w_some k.Semicolon refl (λ _.
     w_pure (omega arith) refl (named, good)))))
 
@@ -99,12 +101,18 @@ generate_spelled label at s w cs l = ap (λ ps. spell_label label ++ (spell_sche
 
 module _ (n : ℕ) (inner : Parser (List Concurrent)) (each : Rule n 1 inner spelled_all formed_all) where
   generate_rest_rule : (label : Ident) (at : ℕ) (s : Scheme) → IsScheme s → 1 ≤ n → Walks n 1 false 0 (λ r. spell_label label ++ (spell_scheme at s ++ r)) (generate_rest inner label at s) spell_concurrent IsConcurrent
-  unfolding generate_rest same_kind
-  generate_rest_rule label at s good le = w_generate (λ _. w_then (word_rule k.Begin refl le) (λ w _ _. w_then each (λ cs fine _. w_end_of k.Generate refl refl refl le (λ l. w_pure (omega arith) (generate_spelled label at s w cs l) (good, fine)))))
+  unfolding generate_rest generate_body same_kind
+  generate_rest_rule label at s good le =
+      w_inner (expect k.Generate) _ _ (w_generate (λ _.
+      w_inner (eat k.Begin) _ _ (w_then (word_rule k.Begin refl le) (λ w _ _.
+      w_inner inner _ _ (w_then each (λ cs fine _.
+      w_inner (end_of k.Generate) _ _ (w_end_of k.Generate refl refl refl le (λ l. w_pure (omega arith) (generate_spelled label at s w cs l) (good, fine)))))))))
 
   for_rule : (label : Ident) → Behind n (Some label) (for_generate n inner label)
-  unfolding for_generate same_kind
-  for_rule label = w_open k.For refl refl refl (λ at. w_below n (λ m e. w_ident (λ p. w_some k.In refl (λ _. w_then (under e (range_rule m)) (λ r good le. generate_rest_rule label at (for_each p r) good le)))))
+  unfolding for_generate for_scheme same_kind
+  for_rule label = w_open k.For refl refl refl (λ at. w_below n (λ m e.
+      w_inner identifier _ _ (w_ident (λ p. w_inner (expect k.In) _ _ (w_some k.In refl (λ _.
+      w_inner (range m) _ _ (w_then (under e (range_rule m)) (λ r good le. generate_rest_rule label at (for_each p r) good le))))))))
 
   if_rule : (label : Ident) → Behind n (Some label) (if_generate n inner label)
   unfolding if_generate same_kind

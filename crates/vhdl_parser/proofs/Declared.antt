@@ -4,29 +4,32 @@ use Rattle.vhdl_lexer.specs.declared.token.Kind.{Kind}
 use Rattle.vhdl_lexer.specs.declared.token.Kind.TheVariants as k
 use Rattle.vhdl_tree.specs.Lexeme.{same_kind}
 use Rattle.vhdl_tree.specs.Tree.{Value, Generic, Port, Signals, Constants, Enumeration, Component, Declaration, signals, constants, enumeration, component}
-use Rattle.vhdl_tree.specs.Pieces.{some, spell_ident, spell_option, spell_each, IsEach}
-use Rattle.vhdl_tree.specs.grammar.Declarations.{spell_default, spell_generics, spell_ports, spell_signals, spell_constants, spell_enumeration, spell_component, spell_declaration, IsSignals, IsConstants, IsEnumeration, IsComponent, IsDeclaration}
+use Rattle.vhdl_tree.specs.Pieces.{Piece, some, spell_ident, spell_option, spell_each, IsEach}
+use Rattle.vhdl_tree.specs.grammar.Expressions.{spell_value, IsValue}
+use Rattle.vhdl_tree.specs.grammar.Declarations.{spell_generics, spell_ports, spell_signals, spell_constants, spell_enumeration, spell_component, spell_declaration, IsSignals, IsConstants, IsEnumeration, IsComponent, IsDeclaration}
 use Rattle.vhdl_expressions.specs.reader.Input.{is_kind}
-use Rattle.vhdl_parser.specs.reader.Declarations.{end_name, signals_of, constants_of, enumeration_of, component_of, declaration_by, declaration, begins_declaration, declarations}
+use Rattle.vhdl_parser.specs.reader.Declarations.{signals_of, constant_value, constants_of, enumeration_of, component_of, declaration_by, declaration, begins_declaration, declarations}
 use Rattle.vhdl_expressions.proofs.Walks.{Rule, w_pure, w_then, w_last}
 use Rattle.vhdl_expressions.proofs.Rules.{w_some, w_end, w_ident, w_left, w_right, w_below, w_choose, w_refuse, w_option_ident, under, word_rule, each_rule}
 use Rattle.vhdl_expressions.proofs.Gives.{Gives, Whatever, front, g_pure, g_then, g_map, g_some, g_ident, g_choose, g_below, eat_gives, more_gives}
 use Rattle.vhdl_expressions.proofs.WalkValues.{value_rule}
 use Rattle.vhdl_expressions.proofs.GiveValues.{value_gives}
-use Rattle.vhdl_parser.proofs.Ports.{idents_rule, idents_gives, end_name_gives, subtype_rule, subtype_gives, optional_default_rule, optional_default_gives, optional_generics_rule, optional_generics_gives, optional_ports_rule, optional_ports_gives}
+use Rattle.vhdl_statements.proofs.Subtypes.{idents_rule, idents_gives, last_gives, subtype_rule, subtype_gives, objects_rule, objects_gives}
+use Rattle.vhdl_parser.proofs.Ports.{optional_generics_rule, optional_generics_gives, optional_ports_rule, optional_ports_gives}
 
 -- ---- what is read is spelled so
 
 signals_rule : (n : ℕ) → Rule n 0 (signals_of n) spell_signals IsSignals
 unfolding signals_of
-signals_rule n =
-    w_some k.Signal refl (λ _.
-    w_then (idents_rule n) (λ names several _.
-    w_some k.Colon refl (λ _.
-    w_then (subtype_rule n) (λ t fine _.
-    w_then (optional_default_rule n) (λ d good _.
-    w_some k.Semicolon refl (λ _.
-    w_pure (omega arith) refl (several, fine, good)))))))
+signals_rule n = w_last (λ o. record { names = o.names; subtype = o.subtype; default = o.default }) (objects_rule n k.Signal refl) (λ o good. (refl, good))
+
+-- := value ;
+abbrev spell_constant_value : Value → List Piece
+spell_constant_value v = some k.Assign ∷ (spell_value v ++ some k.Semicolon ∷ [])
+
+constant_value_rule : (n : ℕ) → Rule n 0 (constant_value n) spell_constant_value IsValue
+unfolding constant_value
+constant_value_rule n = w_some k.Assign refl (λ _. w_then (value_rule n) (λ v good _. w_some k.Semicolon refl (λ _. w_pure (omega arith) refl good)))
 
 constants_rule : (n : ℕ) → Rule n 0 (constants_of n) spell_constants IsConstants
 unfolding constants_of
@@ -35,10 +38,7 @@ constants_rule n =
     w_then (idents_rule n) (λ names several _.
     w_some k.Colon refl (λ _.
     w_then (subtype_rule n) (λ t fine _.
-    w_some k.Assign refl (λ _.
-    w_then (value_rule n) (λ v good _.
-    w_some k.Semicolon refl (λ _.
-    w_pure (omega arith) refl (several, fine, good))))))))
+    w_last (λ v. record { names = names; subtype = t; value = v }) (constant_value_rule n) (λ v good. (refl, (several, fine, good)))))))
 
 enumeration_rule : (n : ℕ) → Rule n 0 (enumeration_of n) spell_enumeration IsEnumeration
 unfolding enumeration_of
@@ -54,7 +54,7 @@ enumeration_rule n =
     w_pure (omega arith) refl several))))))))
 
 component_rule : (n : ℕ) → Rule n 0 (component_of n) spell_component IsComponent
-unfolding component_of end_name
+unfolding component_of
 component_rule n =
     w_some k.Component refl (λ _.
     w_ident (λ name.
@@ -85,24 +85,19 @@ declarations_rule n = each_rule begins_declaration (declaration n) (omega arith)
 -- ---- what is spelled is read
 
 signals_gives : (n : ℕ) (d : Signals) → IsSignals d → Gives (signals_of n) d (spell_signals d) Whatever
-unfolding signals_of same_kind
-signals_gives n d good =
-    g_some (λ _. g_then _ (idents_gives d.names good.0) (g_some (λ _.
-    g_then _ (subtype_gives n d.subtype good.1)
-    (g_then _ (optional_default_gives n d.default good.2) (g_some (λ _. g_pure)) (λ next g. (refl, omega arith)))
-    (λ next g. behind d.default next)))
-    (λ next g. (refl, tt)))
-  where
-    behind : (o : Option Value) (next : Option Kind) → (is_kind k.LeftParen (front (spell_option spell_default o ++ some k.Semicolon ∷ []) next) ≡ false) × Unit {0}
-    behind None next = (refl, tt)
-    behind (Some v) next = (refl, tt)
+unfolding signals_of
+signals_gives n d good = g_map (λ o. record { names = o.names; subtype = o.subtype; default = o.default }) (objects_gives n k.Signal (record { names = d.names; subtype = d.subtype; default = d.default }) good)
+
+constant_value_gives : (n : ℕ) (v : Value) → IsValue v → Gives (constant_value n) v (spell_constant_value v) Whatever
+unfolding constant_value
+constant_value_gives n v good = g_some (λ _. g_then _ (value_gives n v good) (g_some (λ _. g_pure)) (λ next g. omega arith))
 
 constants_gives : (n : ℕ) (d : Constants) → IsConstants d → Gives (constants_of n) d (spell_constants d) Whatever
 unfolding constants_of same_kind
 constants_gives n d good =
     g_some (λ _. g_then _ (idents_gives d.names good.0) (g_some (λ _.
     g_then _ (subtype_gives n d.subtype good.1)
-    (g_some (λ _. g_then _ (value_gives n d.value good.2) (g_some (λ _. g_pure)) (λ next g. omega arith)))
+    (g_map (λ v. record { names = d.names; subtype = d.subtype; value = v }) (constant_value_gives n d.value good.2))
     (λ next g. (refl, tt))))
     (λ next g. (refl, tt)))
 
@@ -119,7 +114,7 @@ component_gives n c good =
     g_then _ (eat_gives k.Is c.is_word refl)
     (g_then _ (optional_generics_gives n c.generics good.0)
     (g_then _ (optional_ports_gives n c.ports good.1)
-    (g_some (λ _. g_some (λ _. g_then _ (end_name_gives c.end_name) (g_some (λ _. g_pure)) (λ next g. (refl, tt)))))
+    (g_some (λ _. g_some (λ _. g_then _ (last_gives c.end_name) (g_some (λ _. g_pure)) (λ next g. (refl, tt)))))
     (λ next g. (refl, tt)))
     (λ next g. no_generic c.ports next))
     (λ next g. no_is c.generics c.ports next)))

@@ -2,14 +2,8 @@
 use Rattle.std.proofs.Common.{◌≡◌, ℕ, zero, suc, List, Ok, ap}
 use Rattle.vhdl_tree.specs.Lexeme.{Lexeme}
 use Rattle.vhdl_expressions.specs.reader.Input.{below}
-use Rattle.vhdl_parser.specs.reader.Sequential.{deeper, statements}
 use Rattle.vhdl_parser.specs.reader.Concurrent.{deeper_concurrents, concurrents}
 use Rattle.vhdl_expressions.proofs.Steps.{pure_ok}
-
-pub statements_below : (n m : ℕ) (ts : List Lexeme) → below n ts ≡ Ok (m, ts) → deeper n ≡ statements m
-unfolding deeper below
-statements_below zero m ts h = absurd (cc)
-statements_below (suc n) m ts h = ap statements (pure_ok n m ts ts h).0
 
 pub concurrents_below : (n m : ℕ) (ts : List Lexeme) → below n ts ≡ Ok (m, ts) → deeper_concurrents n ≡ concurrents m
 unfolding deeper_concurrents below

@@ -10,14 +10,14 @@ use Rattle.vhdl_tree.specs.Pieces.{some, Spells, spell_ident, spell_option, spel
 use Rattle.vhdl_tree.specs.Levels.{opens, closes, IsShallow, IsDeep}
 use Rattle.vhdl_tree.specs.grammar.Declarations.{spell_ports}
 use Rattle.vhdl_tree.specs.grammar.Units.{spell_selected, spell_context, spell_end, spell_entity, spell_architecture, spell_library_unit, spell_unit, spell_file, IsContext, IsEntity, IsArchitecture, IsLibraryUnit, IsUnit, IsFile}
-use Rattle.vhdl_expressions.specs.reader.Input.{Outcome, and_then, expect, next_kind, is_kind, is_more, eat, refusal}
-use Rattle.vhdl_parser.specs.reader.Declarations.{end_name}
-use Rattle.vhdl_parser.specs.reader.Units.{max_open, selected, next_selected, selecteds, library_clause, use_clause, context_item, begins_context, entity_unit, architecture_unit, library_unit_by, library_unit, context, unit, units, finish, file}
+use Rattle.vhdl_expressions.specs.reader.Input.{Outcome, and_then, expect, next_kind, is_kind, is_more, eat, identifier, optional, refusal}
+use Rattle.vhdl_parser.specs.reader.Units.{max_open, selected, selecteds, library_clause, use_clause, context_item, begins_context, entity_unit, architecture_unit, library_unit_by, library_unit, context, unit, units, finish, file}
 use Rattle.vhdl_expressions.proofs.Steps.{bind_ok, bind_err, pure_ok, pure_err}
-use Rattle.vhdl_expressions.proofs.Walks.{Rule, Made, w_pure, w_then, w_last, w_rule, low_at, deep_is}
-use Rattle.vhdl_expressions.proofs.Rules.{w_at, w_some, w_end, w_ident, w_word, w_option_ident, w_choose, w_refuse, w_test, each_rule, list_rule}
-use Rattle.vhdl_expressions.proofs.Gives.{Gives, Reaches, Whatever, front, g_pure, g_then, g_map, g_at, g_some, g_ident, g_choose, g_yes, g_no, eat_gives, more_gives, list_gives}
-use Rattle.vhdl_parser.proofs.Ports.{idents_rule, idents_gives, end_name_gives, optional_generics_rule, optional_generics_gives, optional_ports_rule, optional_ports_gives}
+use Rattle.vhdl_expressions.proofs.Walks.{Rule, Made, w_pure, w_then, w_last, low_at, deep_is}
+use Rattle.vhdl_expressions.proofs.Rules.{w_at, w_some, w_end, w_ident, w_word, w_option_ident, w_choose, w_refuse, w_test, each_rule, separated_rule}
+use Rattle.vhdl_expressions.proofs.Gives.{Gives, Reaches, Whatever, front, g_pure, g_then, g_map, g_at, g_some, g_ident, g_choose, g_yes, g_no, eat_gives, more_gives, separated_gives}
+use Rattle.vhdl_statements.proofs.Subtypes.{idents_rule, idents_gives, last_gives}
+use Rattle.vhdl_parser.proofs.Ports.{optional_generics_rule, optional_generics_gives, optional_ports_rule, optional_ports_gives}
 use Rattle.vhdl_parser.proofs.Declared.{declarations_rule, declarations_gives}
 use Rattle.vhdl_parser.proofs.Concurrents.{concurrents_rule}
 use Rattle.vhdl_parser.proofs.GiveConcurrents.{concurrents_gives}
@@ -28,13 +28,8 @@ selected_rule : (n : ℕ) → Rule n 0 selected spell_selected IsAny
 unfolding selected
 selected_rule n = w_ident (λ place. w_some k.Dot refl (λ _. w_ident (λ name. w_some k.Dot refl (λ _. w_some k.All refl (λ _. w_pure (omega arith) refl tt)))))
 
-next_selected_rule : (n : ℕ) → Rule n 0 next_selected (λ s. some k.Comma ∷ spell_selected s) IsAny
-unfolding next_selected
-next_selected_rule n = w_some k.Comma refl (λ _. w_rule (λ s. refl) (selected_rule n))
-
 selecteds_rule : (n : ℕ) → Rule n 0 selecteds (spell_list k.Comma spell_selected) (IsList IsAny)
-unfolding selecteds
-selecteds_rule n = list_rule k.Comma (omega arith) (selected_rule n) (next_selected_rule n)
+selecteds_rule n = separated_rule k.Comma refl (omega arith) (selected_rule n)
 
 context_item_rule : (n : ℕ) → Rule n 0 context_item spell_context IsContext
 unfolding context_item library_clause use_clause
@@ -50,13 +45,9 @@ selected_gives : (s : Selected) → IsAny s → Gives selected s (spell_selected
 unfolding selected
 selected_gives s good = g_ident _ (g_some (λ _. g_ident _ (g_some (λ _. g_some (λ _. g_pure)))))
 
-next_selected_gives : (s : Selected) → IsAny s → Gives next_selected s (some k.Comma ∷ spell_selected s) Whatever
-unfolding next_selected
-next_selected_gives s good = g_some (λ _. selected_gives s good)
-
 selecteds_gives : (all : List Selected) → IsList IsAny all → Gives selecteds all (spell_list k.Comma spell_selected all) (λ next. (is_kind k.Comma next ≡ false) × Whatever next)
-unfolding selecteds same_kind
-selecteds_gives all good = list_gives k.Comma next_selected refl tt selected_gives next_selected_gives all good
+unfolding same_kind
+selecteds_gives all good = separated_gives k.Comma refl tt selected_gives all good
 
 library_gives : (names : List Ident) → IsList IsAny names → Gives library_clause (library names) (spell_context (library names)) Whatever
 unfolding library_clause same_kind
@@ -86,7 +77,7 @@ context_gives cs good = more_gives begins_context context_item_gives context_beg
 -- ---- entities and architectures
 
 entity_rule : Rule max_open 0 entity_unit spell_entity IsEntity
-unfolding entity_unit end_name
+unfolding entity_unit
 entity_rule =
     w_at k.Entity refl (λ at.
     w_ident (λ name.
@@ -100,7 +91,7 @@ entity_rule =
     w_pure (omega arith) refl (fine, good))))))))))
 
 architecture_rule : Rule max_open 0 architecture_unit spell_architecture IsArchitecture
-unfolding architecture_unit end_name
+unfolding architecture_unit
 architecture_rule =
     w_at k.Architecture refl (λ at.
     w_ident (λ name.
@@ -135,10 +126,10 @@ units_rule = each_rule is_more unit (omega arith) unit_rule
 
 -- end [ word ] [ id ] ;
 end_gives : {B : Type 0} (f : Bool → Option Ident → B) (kind : Kind) (word : Bool) (last : Option Ident) → same_kind kind kind ≡ true → same_kind k.Identifier kind ≡ false → same_kind k.Semicolon kind ≡ false →
-    Gives (λ ts. and_then (expect k.End ts) (λ _ us. and_then (eat kind us) (λ w vs. and_then (end_name vs) (λ l ws. and_then (expect k.Semicolon ws) (λ _ xs. Ok (f w l, xs)))))) (f word last) (spell_end kind word last) Whatever
+    Gives (λ ts. and_then (expect k.End ts) (λ _ us. and_then (eat kind us) (λ w vs. and_then (optional (is_kind k.Identifier) identifier vs) (λ l ws. and_then (expect k.Semicolon ws) (λ _ xs. Ok (f w l, xs)))))) (f word last) (spell_end kind word last) Whatever
 unfolding same_kind
 end_gives f kind word last same no_name no_end =
-    g_some (λ _. g_then _ (eat_gives kind word same) (g_then _ (end_name_gives last) (g_some (λ _. g_pure)) (λ next g. (refl, tt))) (λ next g. behind last next))
+    g_some (λ _. g_then _ (eat_gives kind word same) (g_then _ (last_gives last) (g_some (λ _. g_pure)) (λ next g. (refl, tt))) (λ next g. behind last next))
   where
     behind : (last : Option Ident) (next : Option Kind) → is_kind kind (front (spell_option spell_ident last ++ some k.Semicolon ∷ []) next) ≡ false
     behind None next = no_end

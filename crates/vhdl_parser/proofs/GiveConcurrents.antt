@@ -5,20 +5,20 @@ use Rattle.vhdl_lexer.specs.declared.token.Kind.TheVariants as k
 use Rattle.vhdl_tree.specs.Lexeme.{Lexeme, same_kind}
 use Rattle.vhdl_tree.specs.Tree.{Ident, Expr, Suffix, plain, arguments, sliced, Range, Name, Value, Branch, Assignment, SelectedAssignment, Process, Association, Instantiated, entity_unit, component_unit, Instance, Scheme, for_each, if_holds, Concurrent, assignment, selected, process, instance, generated, Concurrents, no_concurrents, concurrents_of}
 use Rattle.vhdl_tree.specs.Tree as tree
-use Rattle.vhdl_tree.specs.Pieces.{Piece, some, Spells, spell_ident, spell_option, spell_word, spell_each, IsEach}
-use Rattle.vhdl_tree.specs.grammar.Expressions.{spell_name, IsName}
+use Rattle.vhdl_tree.specs.Pieces.{Piece, some, word_at, Spells, spell_ident, spell_option, spell_word, spell_each, IsEach}
+use Rattle.vhdl_tree.specs.grammar.Expressions.{spell_name, spell_range, IsName, IsRange}
 use Rattle.vhdl_tree.specs.grammar.Sequential.{spell_label, spell_end}
 use Rattle.vhdl_tree.specs.grammar.Process.{spell_process, spell_selected, IsProcess, IsSelected}
 use Rattle.vhdl_tree.specs.grammar.Instance.{spell_map, spell_instance, IsInstance}
 use Rattle.vhdl_tree.specs.grammar.Concurrent.{spell_waveforms, spell_scheme, spell_concurrent, AreWaveforms, IsScheme, IsConcurrent, AreConcurrents}
 use Rattle.vhdl_expressions.specs.reader.Input.{Parser, Outcome, and_then, next_kind, is_kind, sees_both}
-use Rattle.vhdl_parser.specs.reader.Sequential.{label, optional_label}
-use Rattle.vhdl_parser.specs.reader.Concurrent.{concurrent, assign, begins_concurrent, assign_with, instance_with, sees_component, named_with, unlabelled_by, unlabelled, generate_rest, for_generate, if_generate, labelled_by, labelled, by_label, concurrents_with, deeper_concurrents, concurrents}
+use Rattle.vhdl_statements.specs.reader.Sequential.{label, optional_label}
+use Rattle.vhdl_parser.specs.reader.Concurrent.{concurrent, assign, begins_concurrent, assign_with, instance_with, sees_component, named_with, unlabelled_by, unlabelled, GenerateBody, generate_body, generate_rest, for_scheme, for_generate, if_generate, labelled_by, labelled, by_label, concurrents_with, deeper_concurrents, concurrents}
 use Rattle.vhdl_expressions.proofs.Gives.{Reaches, Gives, Whatever, front, g_pure, g_then, g_map, g_at, g_some, g_ident, g_below, g_choose, eat_gives, more_gives}
-use Rattle.vhdl_expressions.proofs.GiveValues.{both, sees_is, g_neither_then, expr_gives, name_gives, range_gives}
-use Rattle.vhdl_parser.proofs.Branches.{waves_gives}
-use Rattle.vhdl_parser.proofs.GiveSequential.{label_gives, end_gives}
-use Rattle.vhdl_parser.proofs.GiveProcess.{process_gives, selected_gives}
+use Rattle.vhdl_expressions.proofs.GiveValues.{Ends, both, sees_is, g_neither_then, expr_gives, name_gives, range_gives}
+use Rattle.vhdl_statements.proofs.Conditional.{conditional_gives}
+use Rattle.vhdl_statements.proofs.GiveSequential.{label_gives, end_gives}
+use Rattle.vhdl_statements.proofs.GiveProcess.{process_gives, selected_gives}
 use Rattle.vhdl_parser.proofs.GiveInstance.{instance_gives}
 use Rattle.vhdl_parser.proofs.Concurrents.{spelled_all, spelled_all-each}
 
@@ -65,7 +65,7 @@ spell_behind target branches last = spell_name target ++ (some k.LessEqual ∷ (
 assign_gives : (n : ℕ) (l : Option Ident) (target : Name) (branches : List Branch) (last : Option Value) → IsName target → AreWaveforms branches last →
     Gives (assign n l) (record { label = l; target = target; branches = branches; otherwise = last }) (spell_behind target branches last) Whatever
 unfolding assign
-assign_gives n l target branches last f g = g_then _ (name_gives n target f) (g_some (λ _. g_then _ (waves_gives n branches last g) (g_some (λ _. g_pure)) (λ next _. refl))) (λ next _. omega arith)
+assign_gives n l target branches last f g = g_then _ (name_gives n target f) (g_some (λ _. g_then _ (conditional_gives n branches last g) (g_some (λ _. g_pure)) (λ next _. refl))) (λ next _. omega arith)
 
 target_label : (i : Ident) (x : Suffix) (a : Option Ident) (ps : List Piece) (next : Option Kind) → both k.Identifier k.Colon (spell_name (record { identifier = i; suffix = x; attribute = a }) ++ (some k.LessEqual ∷ ps)) next ≡ false
 unfolding same_kind
@@ -184,13 +184,23 @@ after_begin (c ∷ cs) ps next = by (spelled_all cs)
     by : (qs : List Piece) → is_kind k.Begin (front ((spell_concurrent c ++ qs) ++ (some k.End ∷ ps)) next) ≡ false
     by qs = subst (λ x. is_kind k.Begin (front x next) ≡ false) (sym (append_assoc (spell_concurrent c) qs (some k.End ∷ ps))) (no_begin c (qs ++ (some k.End ∷ ps)) next)
 
+body_gives : (w : Bool) (cs : List Concurrent) → IsEach Ready cs → (l : Option Ident) (n m : ℕ) → n ≡ suc m →
+    Gives (generate_body (deeper_concurrents n)) (record { begin_word = w; statements = cs; end_label = l }) (some k.Generate ∷ (spell_word k.Begin w ++ (spelled_all cs ++ spell_end k.Generate l))) Whatever
+unfolding generate_body same_kind
+body_gives w cs r l n m e =
+    g_some (λ _. g_then _ (eat_gives k.Begin w refl)
+    (g_then _ (deeper_from cs r n m e) (g_map (λ x. record { begin_word = w; statements = cs; end_label = x }) (end_gives k.Generate l)) (λ next _. (refl, tt)))
+    (λ next _. after_begin cs _ next))
+
 rest_gives : (i : Ident) (at : ℕ) (s : Scheme) (w : Bool) (cs : List Concurrent) → IsEach Ready cs → (l : Option Ident) (n m : ℕ) → n ≡ suc m →
     Gives (generate_rest (deeper_concurrents n) i at s) (generated i at s w (concurrents_of cs) l) (some k.Generate ∷ (spell_word k.Begin w ++ (spelled_all cs ++ spell_end k.Generate l))) Whatever
-unfolding generate_rest same_kind
-rest_gives i at s w cs r l n m e =
-    g_some (λ _. g_then _ (eat_gives k.Begin w refl)
-    (g_then _ (deeper_from cs r n m e) (g_map (λ x. generated i at s w (concurrents_of cs) x) (end_gives k.Generate l)) (λ next _. (refl, tt)))
-    (λ next _. after_begin cs _ next))
+unfolding generate_rest
+rest_gives i at s w cs r l n m e = g_map (λ (b : GenerateBody). generated i at s b.begin_word (concurrents_of b.statements) b.end_label) (body_gives w cs r l n m e)
+
+-- id in range
+scheme_gives : (p : Ident) (r : Range) → IsRange r → (m : ℕ) → Gives (for_scheme m) (for_each p r) (word_at p.at p.text ∷ (some k.In ∷ spell_range r)) Ends
+unfolding for_scheme
+scheme_gives p r f m = g_ident _ (g_some (λ _. g_map (λ x. for_each p x) (range_gives m r f)))
 
 generate_ready : (i : Ident) (at : ℕ) (s : Scheme) → IsScheme s → (w : Bool) (cs : List Concurrent) → IsEach Ready cs → (l : Option Ident) (n : ℕ) →
     Gives (concurrent n (deeper_concurrents n)) (generated i at s w (concurrents_of cs) l) (spell_concurrent (generated i at s w (concurrents_of cs) l)) Whatever
@@ -198,7 +208,7 @@ unfolding labelled for_generate if_generate
 generate_ready i at (for_each p r) f w cs ready l n =
     with_label n (deeper_concurrents n) i _ (spell_scheme at (for_each p r) ++ (some k.Generate ∷ (spell_word k.Begin w ++ (spelled_all cs ++ spell_end k.Generate l))))
     (g_choose (labelled_by n (deeper_concurrents n) i) (Some k.For) (λ next _. refl)
-    (g_at _ (g_below _ n (λ m e. g_ident _ (g_some (λ _. g_then _ (range_gives m r f) (rest_gives i at (for_each p r) w cs ready l n m e) (λ next _. omega arith)))))))
+    (g_at _ (g_below _ n (λ m e. g_then _ (scheme_gives p r f m) (rest_gives i at (for_each p r) w cs ready l n m e) (λ next _. omega arith)))))
 generate_ready i at (if_holds c) f w cs ready l n =
     with_label n (deeper_concurrents n) i _ (spell_scheme at (if_holds c) ++ (some k.Generate ∷ (spell_word k.Begin w ++ (spelled_all cs ++ spell_end k.Generate l))))
     (g_choose (labelled_by n (deeper_concurrents n) i) (Some k.If) (λ next _. refl)

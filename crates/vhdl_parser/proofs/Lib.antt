@@ -1,13 +1,8 @@
-pub mod Branches
 pub mod Concurrents
 pub mod Ports
 pub mod Declared
 pub mod Files
 pub mod Within
-pub mod WalkSequential
-pub mod GiveSequential
-pub mod WalkProcess
-pub mod GiveProcess
 pub mod WalkInstance
 pub mod GiveInstance
 pub mod GiveConcurrents

@@ -1,76 +1,25 @@
--- Subtypes, generics and ports: what is read is spelled so, and what is spelled is read.
-use Rattle.std.proofs.Common.{◌≡◌, ℕ, Bool, true, false, List, [], ◌∷◌, Option, Some, None, refl, ap, arith}
+-- Generics and ports: what is read is spelled so, and what is spelled is read.
+use Rattle.std.proofs.Common.{◌≡◌, ℕ, Bool, true, false, List, [], ◌∷◌, Option, Some, None, refl, arith}
 use Rattle.vhdl_lexer.specs.declared.token.Kind.{Kind}
 use Rattle.vhdl_lexer.specs.declared.token.Kind.TheVariants as k
 use Rattle.vhdl_tree.specs.declared.declaration.Mode.{Mode}
 use Rattle.vhdl_tree.specs.declared.declaration.Mode.TheVariants.{In, Out}
 use Rattle.vhdl_tree.specs.Lexeme.{same_kind}
-use Rattle.vhdl_tree.specs.Tree.{Ident, Expr, Range, Value, Subtype, Generic, Port}
-use Rattle.vhdl_tree.specs.Pieces.{some, word_at, spell_ident, spell_idents, spell_option, spell_list, IsAny, IsList, IsOption}
-use Rattle.vhdl_tree.specs.grammar.Expressions.{IsExpr, IsRange, IsValue}
-use Rattle.vhdl_tree.specs.grammar.Declarations.{spell_constraint, spell_subtype, spell_default, spell_generic_default, spell_mode, spell_generic, spell_generics, spell_port, spell_ports, IsSubtype, IsGeneric, AreGenerics, IsPort, ArePorts}
-use Rattle.vhdl_expressions.specs.reader.Input.{identifier, is_kind}
-use Rattle.vhdl_parser.specs.reader.Declarations.{next_ident, idents, end_name, constraint, optional_constraint, subtype, default_value, optional_default, generic_default, optional_generic_default, generic, next_generic, generic_list, generics, optional_generics, mode_by, mode, port, next_port, port_list, ports, optional_ports}
-use Rattle.vhdl_expressions.proofs.Operators.{grip, is_here}
+use Rattle.vhdl_tree.specs.Tree.{Ident, Expr, Value, Subtype, Generic, Port}
+use Rattle.vhdl_tree.specs.Pieces.{spell_option, spell_list, IsAny, IsList, IsOption}
+use Rattle.vhdl_tree.specs.grammar.Expressions.{IsExpr, IsValue}
+use Rattle.vhdl_tree.specs.grammar.Subtypes.{IsSubtype}
+use Rattle.vhdl_tree.specs.grammar.Declarations.{spell_generic_default, spell_mode, spell_generic, spell_generics, spell_port, spell_ports, IsGeneric, AreGenerics, IsPort, ArePorts}
+use Rattle.vhdl_expressions.specs.reader.Input.{is_kind}
+use Rattle.vhdl_parser.specs.reader.Declarations.{generic_default, optional_generic_default, generic, generic_list, generics, optional_generics, mode_by, mode, port, port_list, ports, optional_ports}
 use Rattle.vhdl_expressions.proofs.Walks.{Rule, w_pure, w_then, w_last, w_rule}
-use Rattle.vhdl_expressions.proofs.Rules.{w_token, w_some, w_ident, w_left, w_right, w_below, w_choose, under, word_rule, option_rule, list_rule}
-use Rattle.vhdl_expressions.proofs.Gives.{Gives, Whatever, front, g_pure, g_then, g_map, g_some, g_ident, g_choose, g_token, g_below, eat_gives, option_gives, list_gives}
+use Rattle.vhdl_expressions.proofs.Rules.{w_some, w_ident, w_left, w_right, w_below, w_choose, under, word_rule, option_rule, separated_rule}
+use Rattle.vhdl_expressions.proofs.Gives.{Gives, Whatever, front, g_pure, g_then, g_map, g_some, g_ident, g_choose, g_below, eat_gives, option_gives, separated_gives}
 use Rattle.vhdl_expressions.proofs.WalkExpressions.{expr_rule}
-use Rattle.vhdl_expressions.proofs.WalkValues.{range_rule, value_rule}
-use Rattle.vhdl_expressions.proofs.GiveValues.{Ends, expr_gives, range_gives, value_gives}
+use Rattle.vhdl_expressions.proofs.GiveValues.{Ends, expr_gives}
+use Rattle.vhdl_statements.proofs.Subtypes.{idents_rule, idents_gives, subtype_rule, subtype_gives, optional_default_rule, optional_default_gives, EndsDefault, default_no_paren}
 
--- ---- identifiers
-
-pub ident_rule : (n : ℕ) → Rule n 0 identifier spell_ident IsAny
-unfolding identifier same_kind
-ident_rule n = w_token (λ l. record { at = l.at; text = l.text }) k.Identifier (λ i. word_at i.at i.text) refl (λ l i. (i, refl, refl))
-
-next_ident_rule : (n : ℕ) → Rule n 0 next_ident (λ i. some k.Comma ∷ spell_ident i) IsAny
-unfolding next_ident
-next_ident_rule n = w_some k.Comma refl (λ _. w_rule (λ i. refl) (ident_rule n))
-
-pub idents_rule : (n : ℕ) → Rule n 0 idents spell_idents (IsList IsAny)
-unfolding idents
-idents_rule n = list_rule k.Comma (omega arith) (ident_rule n) (next_ident_rule n)
-
-pub ident_gives : (i : Ident) → IsAny i → Gives identifier i (spell_ident i) Whatever
-unfolding identifier
-ident_gives i good = g_token (λ l. record { at = l.at; text = l.text }) k.Identifier (word_at i.at i.text) (λ l h. h.0) (λ l h. rw (h.1, h.2))
-
-next_ident_gives : (i : Ident) → IsAny i → Gives next_ident i (some k.Comma ∷ spell_ident i) Whatever
-unfolding next_ident
-next_ident_gives i good = g_some (λ _. ident_gives i good)
-
--- no comma follows
-pub idents_gives : (names : List Ident) → IsList IsAny names → Gives idents names (spell_idents names) (λ next. (is_kind k.Comma next ≡ false) × Whatever next)
-unfolding idents same_kind
-idents_gives names good = list_gives k.Comma next_ident refl tt ident_gives next_ident_gives names good
-
-any_option : {A : Type 0} (o : Option A) → IsOption IsAny o
-any_option None = tt
-any_option (Some x) = tt
-
-pub end_name_gives : (last : Option Ident) → Gives end_name last (spell_option spell_ident last) (λ next. (is_kind k.Identifier next ≡ false) × Whatever next)
-unfolding end_name same_kind
-end_name_gives last = option_gives (is_kind k.Identifier) ident_gives (λ i good next. refl) last (any_option last)
-
--- ---- subtypes and defaults
-
-constraint_rule : (n : ℕ) → Rule n 0 (constraint n) spell_constraint IsRange
-unfolding constraint
-constraint_rule n = w_left (λ _. w_below n (λ m e. w_then (under e (range_rule m)) (λ r good le. w_right le (λ _. w_pure (omega arith) refl good))))
-
-pub subtype_rule : (n : ℕ) → Rule n 0 (subtype n) spell_subtype IsSubtype
-unfolding subtype optional_constraint
-subtype_rule n = w_ident (λ i. w_last (λ r. record { mark = i; range = r }) (option_rule (is_kind k.LeftParen) (omega arith) (constraint_rule n)) (λ r good. (refl, good)))
-
-default_rule : (n : ℕ) → Rule n 0 (default_value n) spell_default IsValue
-unfolding default_value
-default_rule n = w_some k.Assign refl (λ _. w_rule (λ v. refl) (value_rule n))
-
-pub optional_default_rule : (n : ℕ) → Rule n 0 (optional_default n) (spell_option spell_default) (IsOption IsValue)
-unfolding optional_default
-optional_default_rule n = option_rule (is_kind k.Assign) (omega arith) (default_rule n)
+-- ---- defaults of generics
 
 generic_default_rule : (n : ℕ) → Rule n 0 (generic_default n) spell_generic_default IsExpr
 unfolding generic_default
@@ -79,38 +28,6 @@ generic_default_rule n = w_some k.Assign refl (λ _. w_rule (λ e. refl) (expr_r
 optional_generic_default_rule : (n : ℕ) → Rule n 0 (optional_generic_default n) (spell_option spell_generic_default) (IsOption IsExpr)
 unfolding optional_generic_default
 optional_generic_default_rule n = option_rule (is_kind k.Assign) (omega arith) (generic_default_rule n)
-
-constraint_gives : (n : ℕ) (r : Range) → IsRange r → Gives (constraint n) r (spell_constraint r) Whatever
-unfolding constraint
-constraint_gives n r good = g_some (λ _. g_below _ n (λ m e. g_then _ (range_gives m r good) (g_some (λ _. g_pure)) (λ next g. omega arith)))
-
-constraint_begins : (r : Range) → IsRange r → (next : Option Kind) → is_kind k.LeftParen (front (spell_constraint r) next) ≡ true
-unfolding same_kind
-constraint_begins r good next = refl
-
--- no parenthesis follows
-abbrev pub EndsSubtype : Option Kind → Type 0
-EndsSubtype next = (is_kind k.LeftParen next ≡ false) × Whatever next
-
-pub subtype_gives : (n : ℕ) (t : Subtype) → IsSubtype t → Gives (subtype n) t (spell_subtype t) EndsSubtype
-unfolding subtype optional_constraint
-subtype_gives n t good = g_ident _ (g_map (λ r. record { mark = t.mark; range = r }) (option_gives (is_kind k.LeftParen) (constraint_gives n) constraint_begins t.range good))
-
-default_gives : (n : ℕ) (v : Value) → IsValue v → Gives (default_value n) v (spell_default v) Ends
-unfolding default_value
-default_gives n v good = g_some (λ _. value_gives n v good)
-
-default_begins : (v : Value) → IsValue v → (next : Option Kind) → is_kind k.Assign (front (spell_default v) next) ≡ true
-unfolding same_kind
-default_begins v good next = refl
-
--- neither a default nor the rest of an expression follows
-abbrev pub EndsDefault : Option Kind → Type 0
-EndsDefault next = (is_kind k.Assign next ≡ false) × Ends next
-
-pub optional_default_gives : (n : ℕ) (d : Option Value) → IsOption IsValue d → Gives (optional_default n) d (spell_option spell_default d) EndsDefault
-unfolding optional_default
-optional_default_gives n d good = option_gives (is_kind k.Assign) (default_gives n) default_begins d good
 
 generic_default_gives : (n : ℕ) (e : Expr) → IsExpr e → Gives (generic_default n) e (spell_generic_default e) Ends
 unfolding generic_default
@@ -124,19 +41,6 @@ optional_generic_default_gives : (n : ℕ) (d : Option Expr) → IsOption IsExpr
 unfolding optional_generic_default
 optional_generic_default_gives n d good = option_gives (is_kind k.Assign) (generic_default_gives n) generic_default_begins d good
 
-no_paren : (next : Option Kind) → Ends next → is_kind k.LeftParen next ≡ false
-no_paren next g = by_test (is_kind k.LeftParen next) refl
-  where
-    by_test : (b : Bool) → is_kind k.LeftParen next ≡ b → is_kind k.LeftParen next ≡ false
-    by_test false e = e
-    by_test true e = let held = ap grip (is_here k.LeftParen next e) in absurd (omega (arith, held, g))
-
--- a default or what follows it is no parenthesis
-pub default_no_paren : (d : Option Value) (next : Option Kind) → Ends next → EndsSubtype (front (spell_option spell_default d) next)
-unfolding same_kind
-default_no_paren None next g = (no_paren next g, tt)
-default_no_paren (Some v) next g = (refl, tt)
-
 -- ---- generics
 
 generic_rule : (n : ℕ) → Rule n 0 (generic n) spell_generic IsGeneric
@@ -149,13 +53,8 @@ generic_rule n =
     w_ident (λ mark.
     w_last (λ d. record { constant_word = word; names = names; in_word = way; mark = mark; default = d }) (optional_generic_default_rule n) (λ d good. (refl, (several, good))))))))
 
-next_generic_rule : (n : ℕ) → Rule n 0 (next_generic n) (λ g. some k.Semicolon ∷ spell_generic g) IsGeneric
-unfolding next_generic
-next_generic_rule n = w_some k.Semicolon refl (λ _. w_rule (λ g. refl) (generic_rule n))
-
 generic_list_rule : (n : ℕ) → Rule n 0 (generic_list n) (spell_list k.Semicolon spell_generic) AreGenerics
-unfolding generic_list
-generic_list_rule n = list_rule k.Semicolon (omega arith) (generic_rule n) (next_generic_rule n)
+generic_list_rule n = separated_rule k.Semicolon refl (omega arith) (generic_rule n)
 
 generics_rule : (n : ℕ) → Rule n 0 (generics n) spell_generics AreGenerics
 unfolding generics
@@ -189,13 +88,9 @@ generic_gives n g good = of g.constant_word g.names g.in_word g.mark g.default g
         (λ next g. (refl, tt)))
         (λ next g. refl)
 
-next_generic_gives : (n : ℕ) (g : Generic) → IsGeneric g → Gives (next_generic n) g (some k.Semicolon ∷ spell_generic g) EndsDefault
-unfolding next_generic
-next_generic_gives n g good = g_some (λ _. generic_gives n g good)
-
 generic_list_gives : (n : ℕ) (all : List Generic) → AreGenerics all → Gives (generic_list n) all (spell_list k.Semicolon spell_generic all) (λ next. (is_kind k.Semicolon next ≡ false) × EndsDefault next)
-unfolding generic_list same_kind
-generic_list_gives n all good = list_gives k.Semicolon (next_generic n) refl (refl, omega arith) (generic_gives n) (next_generic_gives n) all good
+unfolding same_kind
+generic_list_gives n all good = separated_gives k.Semicolon refl (refl, omega arith) (generic_gives n) all good
 
 generics_gives : (n : ℕ) (all : List Generic) → AreGenerics all → Gives (generics n) all (spell_generics all) Whatever
 unfolding generics same_kind
@@ -230,13 +125,8 @@ port_rule n =
     w_then (subtype_rule n) (λ t fine _.
     w_last (λ d. record { signal_word = word; names = names; mode = way; subtype = t; default = d }) (optional_default_rule n) (λ d good. (refl, (several, fine, good))))))))
 
-next_port_rule : (n : ℕ) → Rule n 0 (next_port n) (λ p. some k.Semicolon ∷ spell_port p) IsPort
-unfolding next_port
-next_port_rule n = w_some k.Semicolon refl (λ _. w_rule (λ p. refl) (port_rule n))
-
 port_list_rule : (n : ℕ) → Rule n 0 (port_list n) (spell_list k.Semicolon spell_port) ArePorts
-unfolding port_list
-port_list_rule n = list_rule k.Semicolon (omega arith) (port_rule n) (next_port_rule n)
+port_list_rule n = separated_rule k.Semicolon refl (omega arith) (port_rule n)
 
 ports_rule : (n : ℕ) → Rule n 0 (ports n) spell_ports ArePorts
 unfolding ports
@@ -277,13 +167,9 @@ port_gives n p good = of p.signal_word p.names p.mode p.subtype p.default good.0
         (λ next g. (refl, tt)))
         (λ next g. refl)
 
-next_port_gives : (n : ℕ) (p : Port) → IsPort p → Gives (next_port n) p (some k.Semicolon ∷ spell_port p) EndsDefault
-unfolding next_port
-next_port_gives n p good = g_some (λ _. port_gives n p good)
-
 port_list_gives : (n : ℕ) (all : List Port) → ArePorts all → Gives (port_list n) all (spell_list k.Semicolon spell_port all) (λ next. (is_kind k.Semicolon next ≡ false) × EndsDefault next)
-unfolding port_list same_kind
-port_list_gives n all good = list_gives k.Semicolon (next_port n) refl (refl, omega arith) (port_gives n) (next_port_gives n) all good
+unfolding same_kind
+port_list_gives n all good = separated_gives k.Semicolon refl (refl, omega arith) (port_gives n) all good
 
 ports_gives : (n : ℕ) (all : List Port) → ArePorts all → Gives (ports n) all (spell_ports all) Whatever
 unfolding ports same_kind

@@ -1,8 +1,5 @@
 -- How the parser reads: the grammar as functions of the tokens ahead. What a user relies on stands in `specs/grammar` of vhdl_tree.
-pub mod Sequential
-pub mod Process
 pub mod Instance
-pub mod Waves
 pub mod Concurrent
 pub mod Declarations
 pub mod Units

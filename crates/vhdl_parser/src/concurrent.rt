@@ -3,14 +3,15 @@
 ghost use Rattle.std.specs.Prelude.{◌≡◌};
 ghost use Rattle.vhdl_tree.specs.View.{ident_view, option_ident_view, scheme_view, assignment_view, concurrent_view, concurrents_view};
 ghost use Rattle.vhdl_parser.specs.reader.Concurrent as read;
+ghost use Rattle.vhdl_parser.specs.reader.Concurrent.{generate_body_view};
 ghost use Rattle.vhdl_expressions.specs.reader.Input.{Reads};
 
 use crate::instance::instance;
-use crate::process::{process, selected_assignment};
-use crate::sequential::{end_of, optional_label};
-use crate::waves::waves;
 use vhdl_expressions::{Parser, Stop, below};
 use vhdl_lexer::Kind;
+use vhdl_statements::{
+    conditional_waveforms, end_of, optional_label, process, selected_assignment,
+};
 use vhdl_tree::{Assignment, Concurrent, Identifier, Scheme};
 
 fn begins_concurrent(kind: Option<Kind>) -> bool
@@ -34,7 +35,7 @@ fn assignment(
 {
     let target = parser.name(levels)?;
     parser.expect(Kind::LessEqual)?;
-    let (branches, otherwise) = waves(parser, levels)?;
+    let (branches, otherwise) = conditional_waveforms(parser, levels)?;
     parser.expect(Kind::Semicolon)?;
     Ok(Assignment {
         label,
@@ -42,6 +43,39 @@ fn assignment(
         branches,
         otherwise,
     })
+}
+
+fn selected(
+    parser: &mut Parser<'_>,
+    levels: usize,
+    label: Option<Identifier>,
+) -> Result<Concurrent, Stop>
+    ensures { Reads concurrent_view (read.select_with levels (option_ident_view label) parser.old) result parser.new }
+{
+    let assignment = selected_assignment(parser, levels)?;
+    Ok(Concurrent::Selected { label, assignment })
+}
+
+fn process_statement(
+    parser: &mut Parser<'_>,
+    levels: usize,
+    label: Option<Identifier>,
+) -> Result<Concurrent, Stop>
+    ensures { Reads concurrent_view (read.process_with levels (option_ident_view label) parser.old) result parser.new }
+{
+    let process = process(parser, levels)?;
+    Ok(Concurrent::Process { label, process })
+}
+
+fn instance_statement(
+    parser: &mut Parser<'_>,
+    levels: usize,
+    label: Identifier,
+) -> Result<Concurrent, Stop>
+    ensures { Reads concurrent_view (read.instance_with levels (ident_view label) parser.old) result parser.new }
+{
+    let instance = instance(parser, levels)?;
+    Ok(Concurrent::Instance { label, instance })
 }
 
 /// Whether a component's name comes next, and no target.
@@ -62,7 +96,7 @@ fn instance_or_assignment(
     ensures { Reads concurrent_view (read.named_with levels (ident_view label) parser.old) result parser.new }
 {
     if sees_component(parser) {
-        Ok(Concurrent::Instance(label, instance(parser, levels)?))
+        instance_statement(parser, levels, label)
     } else {
         Ok(Concurrent::Assignment(assignment(parser, levels, Some(label))?))
     }
@@ -73,8 +107,8 @@ fn unlabelled(parser: &mut Parser<'_>, levels: usize) -> Result<Concurrent, Stop
     ensures { Reads concurrent_view (read.unlabelled levels parser.old) result parser.new }
 {
     match parser.peek() {
-        Some(Kind::With) => Ok(Concurrent::Selected(None, selected_assignment(parser, levels)?)),
-        Some(Kind::Process) => Ok(Concurrent::Process(None, process(parser, levels)?)),
+        Some(Kind::With) => selected(parser, levels, None),
+        Some(Kind::Process) => process_statement(parser, levels, None),
         Some(Kind::Identifier) => Ok(Concurrent::Assignment(assignment(parser, levels, None)?)),
         _ => Err(parser.refuse()),
     }
@@ -113,18 +147,24 @@ fn labelled(parser: &mut Parser<'_>, levels: usize, label: Identifier) -> Result
     ensures { Reads concurrent_view (read.labelled levels (read.deeper_concurrents levels) (ident_view label) parser.old) result parser.new }
 {
     match parser.peek() {
-        Some(Kind::With) => Ok(Concurrent::Selected(
-            Some(label),
-            selected_assignment(parser, levels)?,
-        )),
-        Some(Kind::Process) => Ok(Concurrent::Process(Some(label), process(parser, levels)?)),
-        Some(Kind::Entity) => Ok(Concurrent::Instance(label, instance(parser, levels)?)),
-        Some(Kind::Component) => Ok(Concurrent::Instance(label, instance(parser, levels)?)),
+        Some(Kind::With) => selected(parser, levels, Some(label)),
+        Some(Kind::Process) => process_statement(parser, levels, Some(label)),
+        Some(Kind::Entity) | Some(Kind::Component) => instance_statement(parser, levels, label),
         Some(Kind::For) => for_generate(parser, levels, label),
         Some(Kind::If) => if_generate(parser, levels, label),
         Some(Kind::Identifier) => instance_or_assignment(parser, levels, label),
         _ => Err(parser.refuse()),
     }
+}
+
+#[tactic(auto, unfolding(crate::specs::reader::Concurrent::for_scheme))]
+fn for_scheme(parser: &mut Parser<'_>, levels: usize) -> Result<Scheme, Stop>
+    ensures { Reads scheme_view (read.for_scheme levels parser.old) result parser.new }
+{
+    let parameter = parser.identifier()?;
+    parser.expect(Kind::In)?;
+    let range = parser.range(levels)?;
+    Ok(Scheme::For { parameter, range })
 }
 
 #[cycle(concurrent)]
@@ -138,10 +178,8 @@ fn for_generate(
 {
     let at = parser.expect(Kind::For)?;
     let inner = below(levels)?;
-    let parameter = parser.identifier()?;
-    parser.expect(Kind::In)?;
-    let range = parser.range(inner)?;
-    generate_rest(parser, inner, label, at, Scheme::For(parameter, range))
+    let scheme = for_scheme(parser, inner)?;
+    generated(parser, inner, label, at, scheme)
 }
 
 #[cycle(concurrent)]
@@ -156,13 +194,13 @@ fn if_generate(
     let at = parser.expect(Kind::If)?;
     let inner = below(levels)?;
     let condition = parser.expr(inner)?;
-    generate_rest(parser, inner, label, at, Scheme::If(condition))
+    generated(parser, inner, label, at, Scheme::If { condition })
 }
 
-/// What follows the scheme of a generate statement, whose statements may open so many levels.
+/// A generate statement by what stands before its statements, which may open so many levels.
 #[cycle(concurrent)]
 #[tactic(auto, unfolding(crate::specs::reader::Concurrent::generate_rest))]
-fn generate_rest(
+fn generated(
     parser: &mut Parser<'_>,
     levels: usize,
     label: Identifier,
@@ -171,9 +209,22 @@ fn generate_rest(
 ) -> Result<Concurrent, Stop>
     ensures { Reads concurrent_view (read.generate_rest (read.concurrents levels) (ident_view label) at (scheme_view scheme) parser.old) result parser.new }
 {
+    let (begin_word, statements, end_label) = generate_body(parser, levels)?;
+    Ok(Concurrent::generated(label, at, scheme, begin_word, statements, end_label))
+}
+
+/// Whether `begin` stands there, the statements behind it, and the label at the end.
+#[cycle(concurrent)]
+#[tactic(auto, unfolding(crate::specs::reader::Concurrent::generate_body))]
+fn generate_body(
+    parser: &mut Parser<'_>,
+    levels: usize,
+) -> Result<(bool, Vec<Concurrent>, Option<Identifier>), Stop>
+    ensures { Reads generate_body_view (read.generate_body (read.concurrents levels) parser.old) result parser.new }
+{
     parser.expect(Kind::Generate)?;
     let begin_word = parser.eat(Kind::Begin)?;
     let statements = concurrents(parser, levels)?;
     let end_label = end_of(parser, Kind::Generate)?;
-    Ok(Concurrent::generated(label, at, scheme, begin_word, statements, end_label))
+    Ok((begin_word, statements, end_label))
 }

@@ -1,33 +1,38 @@
 //! Declarations of an architecture.
 
 ghost use Rattle.std.specs.Prelude.{◌≡◌};
-ghost use Rattle.vhdl_tree.specs.View.{signals_view, constants_view, enumeration_view, component_view, declaration_view, declarations_view};
+ghost use Rattle.vhdl_tree.specs.View.{value_view, signals_view, constants_view, enumeration_view, component_view, declaration_view, declarations_view};
 ghost use Rattle.vhdl_parser.specs.reader.Declarations as read;
 ghost use Rattle.vhdl_expressions.specs.reader.Input as input;
 ghost use Rattle.vhdl_expressions.specs.reader.Input.{Reads};
 
-use crate::interface::{
-    end_name, identifiers, optional_default, optional_generics, optional_ports, subtype,
-};
+use crate::interface::{optional_generics, optional_ports};
 use vhdl_expressions::{Parser, Stop, below, many};
 use vhdl_lexer::Kind;
-use vhdl_tree::{Component, Constants, Declaration, Enumeration, Signals};
+use vhdl_statements::{identifiers, object_declaration, subtype};
+use vhdl_tree::{Component, Constants, Declaration, Enumeration, Signals, Value};
 
 #[tactic(auto, unfolding(crate::specs::reader::Declarations::signals_of))]
 fn signals(parser: &mut Parser<'_>, levels: usize) -> Result<Signals, Stop>
     ensures { Reads signals_view (read.signals_of levels parser.old) result parser.new }
 {
-    parser.expect(Kind::Signal)?;
-    let names = identifiers(parser)?;
-    parser.expect(Kind::Colon)?;
-    let subtype = subtype(parser, levels)?;
-    let default = optional_default(parser, levels)?;
-    parser.expect(Kind::Semicolon)?;
+    let (names, subtype, default) = object_declaration(parser, levels, Kind::Signal)?;
     Ok(Signals {
         names,
         subtype,
         default,
     })
+}
+
+/// The value behind a constant's subtype, and the semicolon behind it.
+#[tactic(auto, unfolding(crate::specs::reader::Declarations::constant_value))]
+fn constant_value(parser: &mut Parser<'_>, levels: usize) -> Result<Value, Stop>
+    ensures { Reads value_view (read.constant_value levels parser.old) result parser.new }
+{
+    parser.expect(Kind::Assign)?;
+    let value = parser.value(levels)?;
+    parser.expect(Kind::Semicolon)?;
+    Ok(value)
 }
 
 #[tactic(auto, unfolding(crate::specs::reader::Declarations::constants_of))]
@@ -38,9 +43,7 @@ fn constants(parser: &mut Parser<'_>, levels: usize) -> Result<Constants, Stop>
     let names = identifiers(parser)?;
     parser.expect(Kind::Colon)?;
     let subtype = subtype(parser, levels)?;
-    parser.expect(Kind::Assign)?;
-    let value = parser.value(levels)?;
-    parser.expect(Kind::Semicolon)?;
+    let value = constant_value(parser, levels)?;
     Ok(Constants {
         names,
         subtype,
@@ -74,7 +77,7 @@ fn component(parser: &mut Parser<'_>, levels: usize) -> Result<Component, Stop>
     let ports = optional_ports(parser, levels)?;
     parser.expect(Kind::End)?;
     parser.expect(Kind::Component)?;
-    let end_name = end_name(parser)?;
+    let end_name = parser.optional_identifier()?;
     parser.expect(Kind::Semicolon)?;
     Ok(Component {
         name,

@@ -71,7 +71,7 @@ fn byte_of(source: &[u8], tokens: &[Token], index: usize) -> usize
     ensures { result ≤ length source.now }
 {
     if index < tokens.len() {
-        tokens[index].start
+        tokens[index].start as usize
     } else {
         source.len()
     }

@@ -42,7 +42,11 @@ fn instantiated_entity(parser: &mut Parser<'_>, levels: usize) -> Result<Instant
     parser.expect(Kind::Dot)?;
     let name = parser.identifier()?;
     let architecture = optional_architecture(parser, levels)?;
-    Ok(Instantiated::Entity(library, name, architecture))
+    Ok(Instantiated::Entity {
+        library,
+        name,
+        architecture,
+    })
 }
 
 #[tactic(auto, unfolding(crate::specs::reader::Instance::instantiated, crate::specs::reader::Instance::of_component))]
@@ -52,9 +56,12 @@ fn instantiated(parser: &mut Parser<'_>, levels: usize) -> Result<Instantiated, 
     if parser.sees(Kind::Entity) {
         return instantiated_entity(parser, levels);
     }
-    let word = parser.eat(Kind::Component)?;
+    let component_word = parser.eat(Kind::Component)?;
     let name = parser.identifier()?;
-    Ok(Instantiated::Component(word, name))
+    Ok(Instantiated::Component {
+        component_word,
+        name,
+    })
 }
 
 #[tactic(auto, unfolding(crate::specs::reader::Instance::map_of))]

@@ -1,96 +1,14 @@
-//! Subtypes, generics and ports.
+//! Generics and ports.
 
 ghost use Rattle.std.specs.Prelude.{◌≡◌};
-ghost use Rattle.vhdl_tree.specs.View.{ident_view, idents_view, option_ident_view, view, option_expr_view, range_view, option_range_view, value_view, option_value_view, subtype_view, generic_view, generics_view, option_generics_view, port_view, ports_view, option_ports_view};
+ghost use Rattle.vhdl_tree.specs.View.{view, option_expr_view, generic_view, generics_view, option_generics_view, port_view, ports_view, option_ports_view};
 ghost use Rattle.vhdl_parser.specs.reader.Declarations as read;
 ghost use Rattle.vhdl_expressions.specs.reader.Input.{Reads};
 
-use vhdl_expressions::{Parser, Stop, below, many};
+use vhdl_expressions::{Parser, Stop, below, separated};
 use vhdl_lexer::Kind;
-use vhdl_tree::{Expr, Generic, Identifier, Mode, Port, Range, Subtype, Value};
-
-/// One identifier or more, with commas between.
-#[tactic(auto, unfolding(crate::specs::reader::Declarations::idents))]
-pub fn identifiers(parser: &mut Parser<'_>) -> Result<Vec<Identifier>, Stop>
-    ensures { Reads idents_view (read.idents parser.old) result parser.new }
-{
-    let mut found = Vec::new(parser.alloc);
-    found.push(parser.identifier()?)?;
-    many(
-        parser,
-        |parser| parser.sees(Kind::Comma),
-        next_identifier,
-        found,
-    )
-}
-
-#[tactic(auto, unfolding(crate::specs::reader::Declarations::next_ident))]
-fn next_identifier(parser: &mut Parser<'_>) -> Result<Identifier, Stop>
-    ensures { Reads ident_view (read.next_ident parser.old) result parser.new }
-{
-    parser.expect(Kind::Comma)?;
-    parser.identifier()
-}
-
-/// The name at the end, if there is one.
-#[tactic(auto, unfolding(crate::specs::reader::Declarations::end_name))]
-pub fn end_name(parser: &mut Parser<'_>) -> Result<Option<Identifier>, Stop>
-    ensures { Reads option_ident_view (read.end_name parser.old) result parser.new }
-{
-    parser.optional_identifier()
-}
-
-#[tactic(auto, unfolding(crate::specs::reader::Declarations::constraint))]
-fn constraint(parser: &mut Parser<'_>, levels: usize) -> Result<Range, Stop>
-    ensures { Reads range_view (read.constraint levels parser.old) result parser.new }
-{
-    parser.expect(Kind::LeftParen)?;
-    let inner = below(levels)?;
-    let range = parser.range(inner)?;
-    parser.expect(Kind::RightParen)?;
-    Ok(range)
-}
-
-#[tactic(auto, unfolding(crate::specs::reader::Declarations::optional_constraint, vhdl_expressions::specs::reader::Input::optional))]
-fn optional_constraint(parser: &mut Parser<'_>, levels: usize) -> Result<Option<Range>, Stop>
-    ensures { Reads option_range_view (read.optional_constraint levels parser.old) result parser.new }
-{
-    if parser.sees(Kind::LeftParen) {
-        Ok(Some(constraint(parser, levels)?))
-    } else {
-        Ok(None)
-    }
-}
-
-/// A subtype, in which so many levels may be opened.
-#[tactic(auto, unfolding(crate::specs::reader::Declarations::subtype))]
-pub fn subtype(parser: &mut Parser<'_>, levels: usize) -> Result<Subtype, Stop>
-    ensures { Reads subtype_view (read.subtype levels parser.old) result parser.new }
-{
-    let mark = parser.identifier()?;
-    let range = optional_constraint(parser, levels)?;
-    Ok(Subtype { mark, range })
-}
-
-#[tactic(auto, unfolding(crate::specs::reader::Declarations::default_value))]
-fn default_value(parser: &mut Parser<'_>, levels: usize) -> Result<Value, Stop>
-    ensures { Reads value_view (read.default_value levels parser.old) result parser.new }
-{
-    parser.expect(Kind::Assign)?;
-    parser.value(levels)
-}
-
-/// A default, if one comes next.
-#[tactic(auto, unfolding(crate::specs::reader::Declarations::optional_default, vhdl_expressions::specs::reader::Input::optional))]
-pub fn optional_default(parser: &mut Parser<'_>, levels: usize) -> Result<Option<Value>, Stop>
-    ensures { Reads option_value_view (read.optional_default levels parser.old) result parser.new }
-{
-    if parser.sees(Kind::Assign) {
-        Ok(Some(default_value(parser, levels)?))
-    } else {
-        Ok(None)
-    }
-}
+use vhdl_statements::{identifiers, optional_default, subtype};
+use vhdl_tree::{Expr, Generic, Mode, Port};
 
 #[tactic(auto, unfolding(crate::specs::reader::Declarations::generic_default))]
 fn generic_default(parser: &mut Parser<'_>, levels: usize) -> Result<Expr, Stop>
@@ -130,26 +48,10 @@ fn generic(parser: &mut Parser<'_>, levels: usize) -> Result<Generic, Stop>
     })
 }
 
-#[tactic(auto, unfolding(crate::specs::reader::Declarations::next_generic))]
-fn next_generic(parser: &mut Parser<'_>, levels: usize) -> Result<Generic, Stop>
-    ensures { Reads generic_view (read.next_generic levels parser.old) result parser.new }
-{
-    parser.expect(Kind::Semicolon)?;
-    generic(parser, levels)
-}
-
-#[tactic(auto, unfolding(crate::specs::reader::Declarations::generic_list))]
 fn generic_list(parser: &mut Parser<'_>, levels: usize) -> Result<Vec<Generic>, Stop>
     ensures { Reads generics_view (read.generic_list levels parser.old) result parser.new }
 {
-    let mut found = Vec::new(parser.alloc);
-    found.push(generic(parser, levels)?)?;
-    many(
-        parser,
-        |parser| parser.sees(Kind::Semicolon),
-        |parser| next_generic(parser, levels),
-        found,
-    )
+    separated(parser, Kind::Semicolon, |parser| generic(parser, levels))
 }
 
 #[tactic(auto, unfolding(crate::specs::reader::Declarations::generics))]
@@ -216,26 +118,10 @@ fn port(parser: &mut Parser<'_>, levels: usize) -> Result<Port, Stop>
     })
 }
 
-#[tactic(auto, unfolding(crate::specs::reader::Declarations::next_port))]
-fn next_port(parser: &mut Parser<'_>, levels: usize) -> Result<Port, Stop>
-    ensures { Reads port_view (read.next_port levels parser.old) result parser.new }
-{
-    parser.expect(Kind::Semicolon)?;
-    port(parser, levels)
-}
-
-#[tactic(auto, unfolding(crate::specs::reader::Declarations::port_list))]
 fn port_list(parser: &mut Parser<'_>, levels: usize) -> Result<Vec<Port>, Stop>
     ensures { Reads ports_view (read.port_list levels parser.old) result parser.new }
 {
-    let mut found = Vec::new(parser.alloc);
-    found.push(port(parser, levels)?)?;
-    many(
-        parser,
-        |parser| parser.sees(Kind::Semicolon),
-        |parser| next_port(parser, levels),
-        found,
-    )
+    separated(parser, Kind::Semicolon, |parser| port(parser, levels))
 }
 
 #[tactic(auto, unfolding(crate::specs::reader::Declarations::ports))]

@@ -7,13 +7,9 @@ mod fault;
 mod file;
 mod instance;
 mod interface;
-mod process;
-mod sequential;
 #[cfg(test)]
 mod tests;
 mod unit;
-mod waves;
 
 pub use fault::SyntaxFault;
 pub use file::parse;
-pub use unit::MAX_OPEN;

@@ -8,13 +8,13 @@ ghost use Rattle.vhdl_parser.specs.reader.Units as read;
 
 use crate::concurrent::concurrents;
 use crate::declaration::declarations;
-use crate::interface::{end_name, identifiers, optional_generics, optional_ports};
-use vhdl_expressions::{Parser, Stop, many};
+use crate::interface::{optional_generics, optional_ports};
+use vhdl_expressions::{Parser, Stop, many, separated};
 use vhdl_lexer::Kind;
-use vhdl_tree::{Architecture, ContextItem, DesignUnit, Entity, File, LibraryUnit, Selected};
-
-/// How many parentheses, if and case statements, loops and generates may be open at once.
-pub const MAX_OPEN: usize = 64;
+use vhdl_statements::identifiers;
+use vhdl_tree::{
+    Architecture, ContextItem, DesignUnit, Entity, File, LibraryUnit, MAX_OPEN, Selected,
+};
 
 #[tactic(auto, unfolding(crate::specs::reader::Units::selected))]
 fn selected(parser: &mut Parser<'_>) -> Result<Selected, Stop>
@@ -28,26 +28,10 @@ fn selected(parser: &mut Parser<'_>) -> Result<Selected, Stop>
     Ok(Selected { library, name })
 }
 
-#[tactic(auto, unfolding(crate::specs::reader::Units::next_selected))]
-fn next_selected(parser: &mut Parser<'_>) -> Result<Selected, Stop>
-    ensures { Reads selected_view (read.next_selected parser.old) result parser.new }
-{
-    parser.expect(Kind::Comma)?;
-    selected(parser)
-}
-
-#[tactic(auto, unfolding(crate::specs::reader::Units::selecteds))]
 fn selecteds(parser: &mut Parser<'_>) -> Result<Vec<Selected>, Stop>
     ensures { Reads selecteds_view (read.selecteds parser.old) result parser.new }
 {
-    let mut found = Vec::new(parser.alloc);
-    found.push(selected(parser)?)?;
-    many(
-        parser,
-        |parser| parser.sees(Kind::Comma),
-        next_selected,
-        found,
-    )
+    separated(parser, Kind::Comma, selected)
 }
 
 #[tactic(auto, unfolding(crate::specs::reader::Units::library_clause))]
@@ -108,7 +92,7 @@ fn entity(parser: &mut Parser<'_>) -> Result<Entity, Stop>
     let ports = optional_ports(parser, MAX_OPEN)?;
     parser.expect(Kind::End)?;
     let end_word = parser.eat(Kind::Entity)?;
-    let end_name = end_name(parser)?;
+    let end_name = parser.optional_identifier()?;
     parser.expect(Kind::Semicolon)?;
     Ok(Entity {
         at,
@@ -134,7 +118,7 @@ fn architecture(parser: &mut Parser<'_>) -> Result<Architecture, Stop>
     let statements = concurrents(parser, MAX_OPEN)?;
     parser.expect(Kind::End)?;
     let end_word = parser.eat(Kind::Architecture)?;
-    let end_name = end_name(parser)?;
+    let end_name = parser.optional_identifier()?;
     parser.expect(Kind::Semicolon)?;
     Ok(Architecture {
         at,

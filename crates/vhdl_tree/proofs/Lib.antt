@@ -1,3 +1,4 @@
 pub mod Rows
 pub mod RowsStatements
 pub mod RowsConcurrents
+pub mod Heights

@@ -2,6 +2,7 @@
 use Rattle.std.specs.Prelude.{ℕ, ◌+◌, ◌<◌, ◌≤◌, Bool, true, false, ◌&&◌, not, if◌then◌else◌, List, [], ◌∷◌, take}
 use Rattle.vhdl_lexer.specs.declared.token.Kind.{Kind}
 use Rattle.vhdl_lexer.specs.declared.token.Kind.TheVariants as k
+use Rattle.vhdl_tree.specs.declared.levels.TheConstants.{MAX_OPEN}
 use Rattle.vhdl_tree.specs.Lexeme.{Lexeme, same_kind}
 
 -- the words that open a level where they don't stand after `end`
@@ -40,7 +41,7 @@ closes after_end (l ∷ ts) = closing after_end l.kind + closes (is_end l.kind) 
 
 -- how many levels may be open in a file
 abbrev pub most_open : ℕ
-most_open = 64
+most_open = MAX_OPEN
 
 -- nowhere are more than n levels open
 abbrev pub IsShallow : ℕ → List Lexeme → Type 0

@@ -4,3 +4,4 @@ pub mod View
 pub mod Pieces
 pub mod Levels
 pub mod grammar
+pub mod Height

@@ -1,5 +1,5 @@
 -- A syntax tree as contracts see it: without where it lies in memory, and with a chain of operators of one level grouped from the left.
-use Rattle.std.specs.Prelude.{ℕ, Bool, Option, Some, None, List, [], ◌∷◌}
+use Rattle.std.specs.Prelude.{ℕ, Bool, true, false, Option, Some, None, List, [], ◌∷◌}
 use Rattle.vhdl_tree.specs.declared.operator.Operator.{Operator}
 use Rattle.vhdl_tree.specs.declared.operator.Sign.{Sign}
 use Rattle.vhdl_tree.specs.declared.operator.Direction.{Direction}
@@ -25,8 +25,8 @@ mutual
     parens : ℕ → Expr → Expr
     negation : ℕ → Expr → Expr
     signed : Sign → ℕ → Expr → Expr
-    -- where the operator starts, and its operands
-    binary : Operator → ℕ → Expr → Expr → Expr
+    -- whether the operator is the first one of its chain, the operator, where it starts, and its operands
+    binary : Bool → Operator → ℕ → Expr → Expr → Expr
 
   pub data Suffix : Type 0 where
     plain : Suffix
@@ -43,13 +43,21 @@ pub record Pair : Type 0 where
   pub at : ℕ
   pub operand : Expr
 
+-- the chain goes on
 abbrev pub joined : Expr → Pair → Expr
-joined left p = binary p.operator p.at left p.operand
+joined left p = binary false p.operator p.at left p.operand
 
--- a first operand and what follows it, grouped from the left
-abbrev pub chained : Expr → List Pair → Expr
-chained left [] = left
-chained left (p ∷ ps) = chained (joined left p) ps
+abbrev pub all_joined : Expr → List Pair → Expr
+all_joined left [] = left
+all_joined left (p ∷ ps) = all_joined (joined left p) ps
+
+-- the chain begins
+abbrev pub begun : Expr → Pair → Expr
+begun first p = binary true p.operator p.at first p.operand
+
+-- a chain's first operand and what follows it, grouped from the left
+abbrev pub chained : Expr → Pair → List Pair → Expr
+chained first second rest = all_joined (begun first second) rest
 
 abbrev pub exprs_of : List Expr → Exprs
 exprs_of [] = no_exprs
@@ -84,13 +92,19 @@ pub record Association : Type 0 where
   pub formal : Option Ident
   pub actual : Actual
 
+pub record Subtype : Type 0 where
+  pub mark : Ident
+  pub range : Option Range
+
 -- ---- sequential statements
 
 mutual
   pub data Statement : Type 0 where
     -- where `null` starts
     nothing : ℕ → Statement
+    -- name <= value, and name := value
     assigned : Name → Value → Statement
+    variable_assigned : Name → Value → Statement
     -- where `if` starts, its branches, what else is done, and the label at its end
     conditional : ℕ → Conditionals → Otherwise → Option Ident → Statement
     -- where `case` starts, its selector and alternatives, and the label at its end
@@ -158,10 +172,17 @@ pub data Sensitivity : Type 0 where
   every : Sensitivity
   listed : List Name → Sensitivity
 
+-- variables of a process
+pub record Variables : Type 0 where
+  pub names : List Ident
+  pub subtype : Subtype
+  pub default : Option Value
+
 pub record Process : Type 0 where
   pub at : ℕ
   pub sensitivity : Sensitivity
   pub is_word : Bool
+  pub variables : List Variables
   pub statements : List Sequential
   pub end_label : Option Ident
 
@@ -227,10 +248,6 @@ concurrents_of [] = no_concurrents
 concurrents_of (c ∷ cs) = concurrent c (concurrents_of cs)
 
 -- ---- declarations
-
-pub record Subtype : Type 0 where
-  pub mark : Ident
-  pub range : Option Range
 
 pub record Generic : Type 0 where
   pub constant_word : Bool

@@ -1,5 +1,5 @@
 -- What contracts see of a tree of the code.
-use Rattle.std.specs.Prelude.{ℕ, List, map, Vec, Option, option_map}
+use Rattle.std.specs.Prelude.{ℕ, true, false, List, map, Vec, Option, option_map}
 use Rattle.std.specs.Global.{Global}
 use Rattle.vhdl_tree.specs.declared.expression.Identifier.{Identifier}
 use Rattle.vhdl_tree.specs.declared.expression.Literal.{Literal}
@@ -7,6 +7,7 @@ use Rattle.vhdl_tree.specs.declared.expression.Expr.{Expr}
 use Rattle.vhdl_tree.specs.declared.expression.Expr.TheVariants as e
 use Rattle.vhdl_tree.specs.declared.expression.Expr.TheBlock.{Row_of-Link, end_of-Link, more_of-Link, Row_of-Expr, end_of-Expr, more_of-Expr}
 use Rattle.vhdl_tree.specs.declared.expression.Link.{Link}
+use Rattle.vhdl_tree.specs.declared.expression.Chain.{Chain, Chain'}
 use Rattle.vhdl_tree.specs.declared.expression.Name.{Name}
 use Rattle.vhdl_tree.specs.declared.expression.Suffix.{Suffix}
 use Rattle.vhdl_tree.specs.declared.expression.Suffix.TheVariants as s
@@ -47,6 +48,7 @@ use Rattle.vhdl_tree.specs.declared.declaration.Generic.{Generic}
 use Rattle.vhdl_tree.specs.declared.declaration.Port.{Port}
 use Rattle.vhdl_tree.specs.declared.unit.Entity.{Entity}
 use Rattle.vhdl_tree.specs.declared.declaration.Signals.{Signals}
+use Rattle.vhdl_tree.specs.declared.declaration.Variables.{Variables}
 use Rattle.vhdl_tree.specs.declared.declaration.Constants.{Constants}
 use Rattle.vhdl_tree.specs.declared.declaration.Enumeration.{Enumeration}
 use Rattle.vhdl_tree.specs.declared.declaration.Component.{Component}
@@ -86,7 +88,7 @@ abbrev mutual
   view (e.Parens' at p inner) = tree.parens at (view inner)
   view (e.Not' at p operand) = tree.negation at (view operand)
   view (e.Signed' sign at p operand) = tree.signed sign at (view operand)
-  view (e.Chain' p first shape rest) = links_view (view first) rest
+  view (e.Chain' p chain) = chain_view chain
 
   pub suffix_view : Suffix → tree.Suffix
   suffix_view s.Plain = tree.plain
@@ -97,10 +99,13 @@ abbrev mutual
   row_view end_of-Expr = tree.no_exprs
   row_view (more_of-Expr x rest) = tree.expr (view x) (row_view rest)
 
-  -- the operators of a chain, grouped from the left after its first operand
+  pub chain_view : Chain → tree.Expr
+  chain_view (Chain' first operator at operand shape rest) = links_view (tree.binary true operator at (view first) (view operand)) rest
+
+  -- the further operators of a chain, grouped from the left
   pub links_view : {m : _} → tree.Expr → Row_of-Link m → tree.Expr
-  links_view first end_of-Link = first
-  links_view first (more_of-Link operator at operand rest) = links_view (tree.binary operator at first (view operand)) rest
+  links_view left end_of-Link = left
+  links_view left (more_of-Link operator at operand rest) = links_view (tree.binary false operator at left (view operand)) rest
 
 abbrev pub pair_view : Link → tree.Pair
 pair_view l = record { operator = l.operator; at = l.at; operand = view l.operand }
@@ -147,12 +152,16 @@ associations_view v = map association_view v.items
 abbrev pub option_value_view : Option Value → Option tree.Value
 option_value_view = option_map value_view
 
+abbrev pub subtype_view : Subtype → tree.Subtype
+subtype_view t = record { mark = ident_view t.mark; range = option_map range_view t.range }
+
 -- ---- sequential statements
 
 abbrev mutual
   pub statement_view : Statement → tree.Statement
   statement_view (st.Null at) = tree.nothing at
-  statement_view (st.Assignment target value) = tree.assigned (name_view target) (value_view value)
+  statement_view (st.SignalAssignment target value) = tree.assigned (name_view target) (value_view value)
+  statement_view (st.VariableAssignment target value) = tree.variable_assigned (name_view target) (value_view value)
   statement_view (st.If i) = if_view i
   statement_view (st.Case c) = case_view c
   statement_view (st.For f) = for_view f
@@ -219,8 +228,21 @@ sensitivity_view se.Absent = tree.absent
 sensitivity_view se.All = tree.every
 sensitivity_view (se.Names all) = tree.listed (names_view all)
 
+abbrev pub variables_view : Variables → tree.Variables
+variables_view d = record { names = idents_view d.names; subtype = subtype_view d.subtype; default = option_map value_view d.default }
+
+abbrev pub all_variables_view : Vec Variables Global → List tree.Variables
+all_variables_view v = map variables_view v.items
+
 abbrev pub process_view : Process → tree.Process
-process_view p = record { at = p.at; sensitivity = sensitivity_view p.sensitivity; is_word = p.is_word; statements = sequentials_view p.statements; end_label = option_map ident_view p.end_label }
+process_view p = record {
+  at = p.at;
+  sensitivity = sensitivity_view p.sensitivity;
+  is_word = p.is_word;
+  variables = all_variables_view p.variables;
+  statements = sequentials_view p.statements;
+  end_label = option_map ident_view p.end_label;
+}
 
 abbrev pub waveform_view : Waveform → tree.Waveform
 waveform_view w = record { value = value_view w.value; choices = choices_view w.choices }
@@ -271,9 +293,6 @@ abbrev pub concurrents_view : Vec Concurrent Global → List tree.Concurrent
 concurrents_view v = map concurrent_view v.items
 
 -- ---- declarations
-
-abbrev pub subtype_view : Subtype → tree.Subtype
-subtype_view t = record { mark = ident_view t.mark; range = option_map range_view t.range }
 
 abbrev pub generic_view : Generic → tree.Generic
 generic_view g = record { constant_word = g.constant_word; names = idents_view g.names; in_word = g.in_word; mark = ident_view g.mark; default = option_map view g.default }

@@ -1,5 +1,6 @@
 -- The grammar: how each tree is spelled, and which trees are well formed.
 pub mod Expressions
+pub mod Subtypes
 pub mod Sequential
 pub mod Process
 pub mod Instance

@@ -30,17 +30,26 @@ pub struct Assignment {
 #[derive(Drop)]
 pub enum Concurrent {
     Assignment(Assignment),
-    Selected(Option<Identifier>, SelectedAssignment),
-    Process(Option<Identifier>, Process),
-    Instance(Identifier, Instance),
+    Selected {
+        label: Option<Identifier>,
+        assignment: SelectedAssignment,
+    },
+    Process {
+        label: Option<Identifier>,
+        process: Process,
+    },
+    Instance {
+        label: Identifier,
+        instance: Instance,
+    },
     Generate(Generate),
 }
 
 /// What a generate statement goes by: a parameter over a range, or a condition.
 #[derive(Drop)]
 pub enum Scheme {
-    For(Identifier, Range),
-    If(Expr),
+    For { parameter: Identifier, range: Range },
+    If { condition: Expr },
 }
 
 /// A generate statement, and the byte at which its scheme starts. `begin_word` says whether

@@ -44,6 +44,14 @@ pub struct Signals {
     pub default: Option<Value>,
 }
 
+/// Variables of a process, of one subtype (6.4.2.4).
+#[derive(Drop)]
+pub struct Variables {
+    pub names: Vec<Identifier>,
+    pub subtype: Subtype,
+    pub default: Option<Value>,
+}
+
 /// Constants of one subtype and value.
 #[derive(Drop)]
 pub struct Constants {

@@ -2,7 +2,7 @@
 
 ghost use Rattle.std.specs.Prelude.{◌≡◌, IfOk};
 ghost use Rattle.vhdl_tree.specs.Tree.{parens, negation, signed, chained, arguments, sliced, exprs_of};
-ghost use Rattle.vhdl_tree.specs.View.{view, suffix_view, exprs_view, pairs_view};
+ghost use Rattle.vhdl_tree.specs.View.{view, suffix_view, exprs_view, pair_view, pairs_view};
 
 use crate::operator::{Direction, Operator, Sign};
 use std::alloc::{AllocError, Global};
@@ -27,16 +27,37 @@ pub struct Literal {
 #[derive(Drop)]
 pub enum Expr {
     Integer(Literal),
-    /// A character literal: where it starts, and the character between its ticks.
-    Character(usize, u8),
+    /// A character literal, and the character between its ticks.
+    Character {
+        at: usize,
+        code: u8,
+    },
     StringLiteral(Literal),
     BitString(Literal),
     Name(Name),
-    Parens(usize, Box<Expr>),
-    Not(usize, Box<Expr>),
-    Signed(Sign, usize, Box<Expr>),
-    /// Operators of one level, grouped from the left.
-    Chain(Box<Expr>, Vec<Link>),
+    Parens {
+        at: usize,
+        inner: Box<Expr>,
+    },
+    Not {
+        at: usize,
+        operand: Box<Expr>,
+    },
+    Signed {
+        sign: Sign,
+        at: usize,
+        operand: Box<Expr>,
+    },
+    Chain(Box<Chain>),
+}
+
+/// Operators of one level, grouped from the left: the first operand, and one link or more.
+#[cycle(tree)]
+#[derive(Drop)]
+pub struct Chain {
+    pub first: Expr,
+    pub second: Link,
+    pub rest: Vec<Link>,
 }
 
 /// An operator and its right operand.
@@ -80,21 +101,21 @@ pub struct Range {
 #[derive(Drop)]
 pub enum Value {
     Expr(Expr),
-    Others(usize, Expr),
+    Others { at: usize, element: Expr },
 }
 
 /// A choice of an alternative: an expression, or `others` with the byte at which it starts.
 #[derive(Drop)]
 pub enum Choice {
     Expr(Expr),
-    Others(usize),
+    Others { at: usize },
 }
 
 /// What is associated: an expression, or `open` with the byte at which it starts.
 #[derive(Drop)]
 pub enum Actual {
     Expr(Expr),
-    Open(usize),
+    Open { at: usize },
 }
 
 /// An actual for a formal, or for the formal of its position.
@@ -109,14 +130,20 @@ impl Expr {
     pub fn in_parens(alloc: Global, at: usize, inner: Expr) -> Result<Expr, AllocError>
         ensures { IfOk result (λ e. view e ≡ parens at (view inner)) }
     {
-        Ok(Expr::Parens(at, Box::new(alloc, inner)?))
+        Ok(Expr::Parens {
+            at,
+            inner: Box::new(alloc, inner)?,
+        })
     }
 
     /// `not operand`, whose `not` starts at byte `at`. It takes the memory of a box.
     pub fn negated(alloc: Global, at: usize, operand: Expr) -> Result<Expr, AllocError>
         ensures { IfOk result (λ e. view e ≡ negation at (view operand)) }
     {
-        Ok(Expr::Not(at, Box::new(alloc, operand)?))
+        Ok(Expr::Not {
+            at,
+            operand: Box::new(alloc, operand)?,
+        })
     }
 
     /// An operand after a sign, which starts at byte `at`. It takes the memory of a box.
@@ -128,19 +155,28 @@ impl Expr {
     ) -> Result<Expr, AllocError>
         ensures { IfOk result (λ e. view e ≡ signed sign at (view operand)) }
     {
-        Ok(Expr::Signed(sign, at, Box::new(alloc, operand)?))
+        Ok(Expr::Signed {
+            sign,
+            at,
+            operand: Box::new(alloc, operand)?,
+        })
     }
 
-    /// A first operand, and the operators and operands after it, grouped from the left. Without
-    /// any it is the operand itself; else it takes the memory of a box.
-    #[tactic(auto, using(crate::proofs::Rows::view_chain))]
-    pub fn from_links(alloc: Global, first: Expr, rest: Vec<Link>) -> Result<Expr, AllocError>
-        ensures { IfOk result (λ e. view e ≡ chained (view first) (pairs_view rest)) }
+    /// Operators of one level, grouped from the left. It takes the memory of a box.
+    pub fn chain(
+        alloc: Global,
+        first: Expr,
+        second: Link,
+        rest: Vec<Link>,
+    ) -> Result<Expr, AllocError>
+        ensures { IfOk result (λ e. view e ≡ chained (view first) (pair_view second) (pairs_view rest)) }
     {
-        if rest.is_empty() {
-            return Ok(first);
-        }
-        Ok(Expr::Chain(Box::new(alloc, first)?, rest))
+        let chain = Chain {
+            first,
+            second,
+            rest,
+        };
+        Ok(Expr::Chain(Box::new(alloc, chain)?))
     }
 }
 

@@ -5,10 +5,17 @@ use crate::expression::{Association, Identifier};
 /// What is instantiated.
 #[derive(Drop)]
 pub enum Instantiated {
-    /// `entity`, a library, an entity's name, and the architecture in parentheses.
-    Entity(Identifier, Identifier, Option<Identifier>),
-    /// Whether `component` stands there, and a component's name.
-    Component(bool, Identifier),
+    /// `entity library . name ( architecture )`.
+    Entity {
+        library: Identifier,
+        name: Identifier,
+        architecture: Option<Identifier>,
+    },
+    /// `component_word` says whether `component` stands before the name.
+    Component {
+        component_word: bool,
+        name: Identifier,
+    },
 }
 
 /// An instance behind its label.

@@ -5,6 +5,8 @@ mod concurrent;
 mod declaration;
 mod expression;
 mod instance;
+mod laws;
+mod levels;
 mod operator;
 mod process;
 mod sequential;
@@ -13,11 +15,14 @@ mod unit;
 pub use concurrent::{Assignment, Branch, Concurrent, Generate, Scheme};
 pub use declaration::{
     Component, Constants, Declaration, Enumeration, Generic, Mode, Port, Signals, Subtype,
+    Variables,
 };
 pub use expression::{
-    Actual, Association, Choice, Expr, Identifier, Link, Literal, Name, Range, Suffix, Value,
+    Actual, Association, Chain, Choice, Expr, Identifier, Link, Literal, Name, Range, Suffix, Value,
 };
 pub use instance::{Instance, Instantiated};
+pub use laws::height_is_bounded;
+pub use levels::MAX_OPEN;
 pub use operator::{Direction, Operator, Sign};
 pub use process::{Process, SelectedAssignment, Sensitivity, Waveform};
 pub use sequential::{Alternative, Case, Conditional, For, If, Sequential, Statement};

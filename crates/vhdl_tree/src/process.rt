@@ -1,5 +1,6 @@
 //! Processes and selected assignments (IEEE 1076-2008 clauses 11.3 and 11.6).
 
+use crate::declaration::Variables;
 use crate::expression::{Choice, Expr, Identifier, Name, Value};
 use crate::sequential::Sequential;
 
@@ -14,12 +15,13 @@ pub enum Sensitivity {
 }
 
 /// A process behind its label, and the byte at which it starts. `is_word` says whether `is`
-/// stands before its statements.
+/// stands before its variables and statements.
 #[derive(Drop)]
 pub struct Process {
     pub at: usize,
     pub sensitivity: Sensitivity,
     pub is_word: bool,
+    pub variables: Vec<Variables>,
     pub statements: Vec<Sequential>,
     pub end_label: Option<Identifier>,
 }

@@ -19,9 +19,11 @@ pub struct Sequential {
 #[derive(Drop)]
 pub enum Statement {
     /// `null`, and the byte at which it starts.
-    Null(usize),
-    /// A target and what is assigned to it.
-    Assignment(Name, Value),
+    Null { at: usize },
+    /// `target <= value` (10.5).
+    SignalAssignment { target: Name, value: Value },
+    /// `target := value` (10.6).
+    VariableAssignment { target: Name, value: Value },
     If(If),
     Case(Case),
     For(For),

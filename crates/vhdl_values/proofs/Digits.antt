@@ -1,12 +1,10 @@
 -- Numbers of vectors and vectors of numbers.
-use Rattle.std.proofs.Common.{◌≡◌, ℕ, zero, suc, ◌+◌, ◌-◌, ◌*◌, ◌/◌, ◌%◌, ◌^◌, ◌<◌, ◌≤◌, List, [], ◌∷◌, ◌++◌, Some, length, take, set, replicate, refl, sym, ap, ◌∙◌, arith, add-one, length-append, Bool, true, false, get_or, None}
+use Rattle.std.proofs.Common.{◌≡◌, ℕ, zero, suc, ◌+◌, ◌-◌, ◌*◌, ◌/◌, ◌%◌, ◌^◌, ◌<◌, ◌≤◌, List, [], ◌∷◌, ◌++◌, Some, length, refl, sym, ap, ◌∙◌, arith, length-append, Bool, true, false, None}
 use Rattle.std.specs.Prelude.{if◌then◌else◌, max}
-use Rattle.std.proofs.lemmas.List.{take_more, length-take}
 use Rattle.std.proofs.lemmas.Bool.Decides.{nat_tests}
-use Rattle.std.proofs.lemmas.List.Folds.{list_all-append}
 use Rattle.std.proofs.Math.Nat.{pow-suc, pow-le-pow_right, add-mul-mod_self_right}
 use Rattle.std.proofs.Math.Pow.{mod-mod-pow}
-use Rattle.std.proofs.lemmas.Nat.{pow_pos, pow-add, mod-pow-add, field_of, mul-lt, shr-shr}
+use Rattle.std.proofs.lemmas.Nat.{pow_pos, pow-add, mod-pow-add, field_of, mul-lt}
 use Rattle.vhdl_values.specs.declared.scalar.Nine.{Nine}
 use Rattle.vhdl_values.specs.declared.scalar.Nine.TheVariants.{U, X, Zero, One, Z, W, L, H, Dash}
 use Rattle.vhdl_values.specs.Numbers.{is_good, all_good, bit_of, digit_of, number_of, digits_of}
@@ -82,51 +80,6 @@ digits_of-difference len w a b le below =
     (ap (λ p. (a + (p - b)) % 2 ^ len) split
     ∙ ap (λ n. n % 2 ^ len) (difference-shift a b (2 ^ len) (2 ^ (w - len) - 1) below)
     ∙ add-mul-mod_self_right (a + (2 ^ len - b)) (2 ^ (w - len) - 1) (2 ^ len))
-
--- the loop of `of_nat` writes one more digit before those that it has
-pub set-replicate : (k : ℕ) (y z : Nine) (ds : List Nine) → set (replicate (suc k) z ++ ds) k y ≡ replicate k z ++ y ∷ ds
-set-replicate zero y z ds = refl
-set-replicate (suc k) y z ds = ap (λ l. z ∷ l) (set-replicate k y z ds)
-
-pub replicate-one_less : (k : ℕ) (z : Nine) (ds : List Nine) → replicate (suc k) z ++ ds ≡ replicate k z ++ z ∷ ds
-replicate-one_less zero z ds = refl
-replicate-one_less (suc k) z ds = ap (λ l. z ∷ l) (replicate-one_less k z ds)
-
-pub digits_of-suc : (k n : ℕ) → digits_of (k + 1) n ≡ digit_of (n / 2 ^ k % 2) ∷ digits_of k n
-unfolding digits_of
-digits_of-suc k n = rw add-one refl
-
--- one digit more, of the number that is left
-pub digits_of-one : (len k n rest : ℕ) (all : List Nine) → k < len → rest ≡ n / 2 ^ k → rest % 2 ≡ 1 →
-    all ≡ replicate (len - k) Zero ++ digits_of k n → set all (len - 1 - k) One ≡ replicate (len - (k + 1)) Zero ++ digits_of (k + 1) n
-digits_of-one len k n rest all lt r odd e =
-    let m : len - k ≡ suc (len - (k + 1)) = omega arith in
-    let at : len - 1 - k ≡ len - (k + 1) = omega arith in
-    let d : digit_of (n / 2 ^ k % 2) ≡ One = rw (← r, odd) refl in
-    rw (e, m, at, digits_of-suc, d) (set-replicate (len - (k + 1)) One Zero (digits_of k n))
-
-pub digits_of-zero : (len k n rest : ℕ) (all : List Nine) → k < len → rest ≡ n / 2 ^ k → (rest % 2 ≡ 1 → ⊥) →
-    all ≡ replicate (len - k) Zero ++ digits_of k n → all ≡ replicate (len - (k + 1)) Zero ++ digits_of (k + 1) n
-digits_of-zero len k n rest all lt r even e =
-    let m : len - k ≡ suc (len - (k + 1)) = omega arith in
-    let zero_left : rest % 2 ≡ 0 = omega arith in
-    let d : digit_of (n / 2 ^ k % 2) ≡ Zero = rw (← r, zero_left) refl in
-    rw (e, m, digits_of-suc, d) (replicate-one_less (len - (k + 1)) Zero (digits_of k n))
-
-pub rest-half : (k n rest : ℕ) → rest ≡ n / 2 ^ k → rest / 2 ≡ n / 2 ^ (k + 1)
-rest-half k n rest r = rw r (shr-shr n k 1)
-
--- the number of one element more
-pub number_of-take_more : (vs : List Nine) (i : ℕ) (d : Nine) → i < length vs → number_of (take (i + 1) vs) ≡ number_of (take i vs) * 2 + bit_of (get_or vs i d)
-number_of-take_more vs i d lt = rw (take_more vs i d lt) (number_of-append_one (take i vs) (get_or vs i d))
-
-pub all_good-take_more : (vs : List Nine) (i : ℕ) (d : Nine) → i < length vs → all_good (take i vs) ≡ true → is_good (get_or vs i d) ≡ true → all_good (take (i + 1) vs) ≡ true
-all_good-take_more vs i d lt so_far here = rw (take_more vs i d lt, list_all-append, so_far, here) refl
-
--- the number before the last element has room for it
-pub number_of-room : (vs : List Nine) (i w : ℕ) (d : Nine) → i < length vs → length vs ≤ w → number_of (take i vs) * 2 + bit_of (get_or vs i d) < 2 ^ w
-number_of-room vs i w d lt le =
-    rw (← number_of-take_more vs i d lt) (number_fits (take (i + 1) vs) w (omega (arith, length-take (i + 1) vs)))
 
 pub if_good : (b : Bool) (m n : ℕ) → Some n ≡ (if b then Some m else None) → (b ≡ true) × (n ≡ m)
 if_good true m n e = (refl, cc)

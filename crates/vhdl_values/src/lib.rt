@@ -8,11 +8,13 @@
 
 mod edges;
 mod kinds;
+mod planes;
 mod resolution;
 mod scalar;
-#[cfg(test)]
-mod tests;
+mod stripped;
+mod transposed;
 mod vector;
+mod words;
 
 pub use edges::edge;
 pub use kinds::{Cmp, Edge, Logic};

@@ -3,7 +3,6 @@
 ghost use Rattle.std.specs.Prelude.{◌≡◌, ◌<◌, None, Some, if◌then◌else◌, slice_get};
 ghost use Rattle.vhdl_values.specs.Scalar.{nines, code_of, letter_of, value_of_letter, x01_of, is_true};
 ghost use Rattle.vhdl_values.specs.Logic.{and_of, or_of, xor_of, not_of};
-ghost use Rattle.vhdl_values.specs.Numbers.{is_good, bit_of};
 
 /// One of the nine values of a `std_ulogic`, in the order of package std_logic_1164.
 #[derive(Clone, Copy, PartialEq, Eq, Debug)]
@@ -176,16 +175,5 @@ impl Nine {
         ensures { result ≡ not_of (xor_of self other) }
     {
         self.xor(other).not()
-    }
-
-    /// The binary digit that the value stands for in a number, if it stands for one.
-    pub(crate) fn digit(self) -> Option<u64>
-        ensures { result ≡ (if is_good self then Some (bit_of self) else None) }
-    {
-        match self {
-            Nine::Zero | Nine::L => Some(0),
-            Nine::One | Nine::H => Some(1),
-            _ => None,
-        }
     }
 }

@@ -1,15 +1,21 @@
 //! Vectors of 1 to 64 values.
 
-ghost use Rattle.std.specs.Prelude.{◌≡◌, ◌+◌, ◌%◌, ◌^◌, ◌<◌, ◌≤◌, ◌++◌, ◌↔◌, if◌then◌else◌, IsTrue, Some, None, true, length, max, replicate, slice_get, slice_set, take, drop};
+ghost use Rattle.std.specs.Prelude.{◌≡◌, ◌+◌, ◌%◌, ◌^◌, ◌<◌, ◌≤◌, ◌++◌, ◌↔◌, if◌then◌else◌, IsTrue, Some, None, true, List, length, map, max, replicate, slice_get, slice_set, take, drop};
 ghost use Rattle.vhdl_values.specs.Scalar.{are_same};
-ghost use Rattle.vhdl_values.specs.Logic.{logic_of_all, not_of_all};
+ghost use Rattle.vhdl_values.specs.Logic.{strip, logic_of_all, not_of_all};
 ghost use Rattle.vhdl_values.specs.Numbers.{all_good, number_of, digits_of};
 ghost use Rattle.vhdl_values.specs.Arithmetic.{sum_of, difference_of, product_of};
 ghost use Rattle.vhdl_values.specs.Relations.{compares, compares_number};
 ghost use Rattle.vhdl_values.specs.Shifts.{shifted_left, shifted_right, resized};
+ghost use Rattle.vhdl_values.specs.Marked.{IsMarked};
+ghost use Rattle.vhdl_values.specs.declared.scalar.Nine.{Nine as Value};
+
+mod codes;
 
 use crate::kinds::{Cmp, Logic};
 use crate::scalar::Nine;
+use crate::stripped::Stripped;
+use crate::words::{beside, bit, mask, part, with_bit};
 use std::marker::Model;
 
 /// A vector of 1 to 64 values, leftmost first: a `std_logic_vector` or an `unsigned`, whatever its index range.
@@ -22,24 +28,33 @@ use std::marker::Model;
 /// for a relation there is `cmp_nat`, and a number on the left of it is the relation turned round.
 #[derive(Clone, Copy, PartialEq, Eq, Debug)]
 pub struct Vec9 {
-    values: [Nine; 64],
+    first: u64,
+    second: u64,
+    third: u64,
+    fourth: u64,
     len: usize,
 }
 
 impl Model for Vec9 {
-    ghost use Rattle.std.specs.Prelude.{List, length, take, refl};
+    ghost use Rattle.std.specs.Prelude.{List, length, refl};
     ghost use Rattle.vhdl_values.specs.declared.scalar.Nine.{Nine};
-    ghost use Rattle.vhdl_values.specs.Padding.{padded, IsPadded, padded-take, length-taken};
+    ghost use Rattle.vhdl_values.specs.Planes.{values_at, plane_of, IsPlanes, length-values_at, plane_of-first, plane_of-second, plane_of-third, plane_of-fourth};
 
     ghost Value = { List Nine };
 
-    ghost view = { λ v. take v.len v.values };
+    ghost view = { λ v. values_at v.len v.first v.second v.third v.fourth };
 
-    ghost invariant = { λ v. IsPadded v.values v.len };
+    ghost invariant = { λ v. IsPlanes v.len v.first v.second v.third v.fourth };
 
-    ghost inverse = { λ vs. record { values = padded vs; len = length vs } };
+    ghost inverse = { λ vs. record { first = plane_of 0 vs; second = plane_of 1 vs; third = plane_of 2 vs; fourth = plane_of 3 vs; len = length vs } };
 
-    ghost inverse_ok = { λ v h. rw (padded-take v.values v.len h, length-taken v.values v.len h) refl };
+    ghost inverse_ok = { λ v h. rw (
+      plane_of-first v.len v.first v.second v.third v.fourth h,
+      plane_of-second v.len v.first v.second v.third v.fourth h,
+      plane_of-third v.len v.first v.second v.third v.fourth h,
+      plane_of-fourth v.len v.first v.second v.third v.fourth h,
+      length-values_at v.len v.first v.second v.third v.fourth,
+    ) refl };
 }
 
 impl Vec9 {
@@ -50,10 +65,11 @@ impl Vec9 {
         ensures list { result ≡ values.now }
         ensures len { length result ≡ length values.now }
     {
-        let len = values.len();
-        let mut all = [Nine::U; 64];
-        put_front(&mut all, values);
-        Vec9 { values: all, len }
+        let mut codes = [0; 64];
+        for (at, value) in values.iter().enumerate() {
+            codes[at] = value.code();
+        }
+        Vec9::of_codes(&codes[..values.len()])
     }
 
     /// How many values it has, 1 to 64.
@@ -70,7 +86,10 @@ impl Vec9 {
         requires { at < length self.now }
         ensures { slice_get self.now at ≡ Some result }
     {
-        self.values[at]
+        let place = self.len() - 1 - at;
+        let low = bit(self.first, place) + 2 * bit(self.second, place);
+        let high = bit(self.third, place) + 2 * bit(self.fourth, place);
+        Nine::from_code((low + 4 * high) as u8).unwrap_or(Nine::X)
     }
 
     /// Puts a value at a place below the length, 0 being the leftmost. The other values stay.
@@ -79,7 +98,12 @@ impl Vec9 {
         ensures list { self.new ≡ slice_set self.old at value }
         ensures len { length self.new ≡ length self.old }
     {
-        self.values[at] = value;
+        let place = self.len() - 1 - at;
+        let code = u64::from(value.code());
+        self.first = with_bit(self.first, place, bit(code, 0));
+        self.second = with_bit(self.second, place, bit(code, 1));
+        self.third = with_bit(self.third, place, bit(code, 2));
+        self.fourth = with_bit(self.fourth, place, bit(code, 3));
     }
 
     /// The vector of this value at each of 1 to 64 places.
@@ -89,7 +113,15 @@ impl Vec9 {
         ensures list { result ≡ replicate len value }
         ensures len { length result ≡ len }
     {
-        Vec9::of(&[value; 64][..len])
+        let code = u64::from(value.code());
+        let all = mask(len);
+        Vec9 {
+            first: bit(code, 0) * all,
+            second: bit(code, 1) * all,
+            third: bit(code, 2) * all,
+            fourth: bit(code, 3) * all,
+            len,
+        }
     }
 
     /// The part of this length, at least 1, that begins at a place, 0 being the leftmost, and ends within the vector
@@ -100,7 +132,14 @@ impl Vec9 {
         ensures list { result ≡ take len (drop at self.now) }
         ensures len { length result ≡ len }
     {
-        Vec9::of(&self.values()[at..at + len])
+        let right = self.len() - at - len;
+        Vec9 {
+            first: part(self.first, right, len),
+            second: part(self.second, right, len),
+            third: part(self.third, right, len),
+            fourth: part(self.fourth, right, len),
+            len,
+        }
     }
 
     /// `&`: this vector, and the other to its right, at most 64 values together (IEEE 1076-2008, 9.2.5).
@@ -109,10 +148,14 @@ impl Vec9 {
         ensures list { result ≡ self.now ++ other.now }
         ensures len { length result ≡ length self.now + length other.now }
     {
-        let mut all = [Nine::U; 64];
-        put_front(&mut all, self.values());
-        put_front(&mut all[self.len()..], other.values());
-        Vec9::of(&all[..self.len() + other.len()])
+        let (left, right) = (self.len(), other.len());
+        Vec9 {
+            first: beside(self.first, other.first, right),
+            second: beside(self.second, other.second, right),
+            third: beside(self.third, other.third, right),
+            fourth: beside(self.fourth, other.fourth, right),
+            len: left + right,
+        }
     }
 
     /// `not` of each value (std_logic_1164; numeric_std, L.1).
@@ -120,12 +163,7 @@ impl Vec9 {
         ensures list { result ≡ not_of_all self.now }
         ensures len { length result ≡ length self.now }
     {
-        let mut out = *self;
-        for at in 0..self.len() {
-            let value = out.get(at);
-            out.set(at, value.not());
-        }
-        out
+        Vec9::of_stripped(self.stripped().not(), self.len())
     }
 
     /// The logical operator of two vectors of one length, value by value from the left (std_logic_1164;
@@ -135,13 +173,8 @@ impl Vec9 {
         ensures list { result ≡ logic_of_all kind self.now other.now }
         ensures len { length result ≡ length self.now }
     {
-        let mut out = *self;
-        for at in 0..self.len() {
-            let left = self.get(at);
-            let right = other.get(at);
-            out.set(at, kind.of(left, right));
-        }
-        out
+        let stripped = self.stripped().logic(kind, other.stripped());
+        Vec9::of_stripped(stripped, self.len())
     }
 
     /// `=` of two `std_logic_vector`s (IEEE 1076-2008, 9.2.3): as long as each other, and equal value by value. An X
@@ -150,7 +183,7 @@ impl Vec9 {
         ensures meaning { IsTrue result ↔ (self.now ≡ other.now) }
         ensures test { result ≡ are_same self.now other.now }
     {
-        self.values() == other.values()
+        self == other
     }
 
     /// The last 1 to 64 binary digits of a number, as 0s and 1s: it stands for the number modulo 2 to the power of
@@ -163,15 +196,14 @@ impl Vec9 {
         ensures good { all_good result ≡ true }
         ensures number { number_of result ≡ number % 2 ^ len }
     {
-        let mut out = Vec9::fill(Nine::Zero, len);
-        let mut rest = number;
-        for place in 0..len {
-            if rest % 2 == 1 {
-                out.set(len - 1 - place, Nine::One);
-            }
-            rest /= 2;
+        let all = mask(len);
+        Vec9 {
+            first: number & all,
+            second: all,
+            third: 0,
+            fourth: 0,
+            len,
         }
-        out
     }
 
     /// `+` (numeric_std, A.3): as long as the longer one, modulo 2 to the power of that length; X everywhere where
@@ -243,11 +275,11 @@ impl Vec9 {
         ensures list { result ≡ resized len self.now }
         ensures len { length result ≡ len }
     {
-        let kept = len.min(self.len());
-        let skipped = self.len() - kept;
-        let mut all = [Nine::Zero; 64];
-        put_front(&mut all[len - kept..], &self.values()[skipped..]);
-        Vec9::of(&all[..len])
+        if len <= self.len() {
+            self.slice(self.len() - len, len)
+        } else {
+            Vec9::fill(Nine::Zero, len - self.len()).concat(self)
+        }
     }
 
     /// The values moved that many places to the left, with 0s to their right (numeric_std, `SHIFT_LEFT`, S.1): all
@@ -256,10 +288,15 @@ impl Vec9 {
         ensures list { result ≡ shifted_left count self.now }
         ensures len { length result ≡ length self.now }
     {
-        let gone = count.min(self.len());
-        let mut all = [Nine::Zero; 64];
-        put_front(&mut all, &self.values()[gone..]);
-        Vec9::of(&all[..self.len()])
+        let len = self.len();
+        if count == 0 {
+            *self
+        } else if count < len {
+            self.slice(count, len - count)
+                .concat(&Vec9::fill(Nine::Zero, count))
+        } else {
+            Vec9::fill(Nine::Zero, len)
+        }
     }
 
     /// The values moved that many places to the right, with 0s to their left (numeric_std, `SHIFT_RIGHT`, S.2): all
@@ -268,37 +305,52 @@ impl Vec9 {
         ensures list { result ≡ shifted_right count self.now }
         ensures len { length result ≡ length self.now }
     {
-        let gone = count.min(self.len());
-        let mut all = [Nine::Zero; 64];
-        put_front(&mut all[gone..], &self.values()[..self.len() - gone]);
-        Vec9::of(&all[..self.len()])
+        let len = self.len();
+        if count == 0 {
+            *self
+        } else if count < len {
+            Vec9::fill(Nine::Zero, count).concat(&self.slice(0, len - count))
+        } else {
+            Vec9::fill(Nine::Zero, len)
+        }
     }
 
     /// The number that the values stand for, if each stands for a digit.
     fn number(&self) -> Option<u64>
         ensures { result ≡ (if all_good self.now then Some (number_of self.now) else None) }
     {
-        let mut number = 0;
-        for value in self.values() {
-            number = number * 2 + value.digit()?;
+        if self.second == mask(self.len()) {
+            Some(self.first)
+        } else {
+            None
         }
-        Some(number)
     }
 
-    /// The values as a slice.
-    fn values(&self) -> &[Nine]
-        ensures list { result.now ≡ self.now }
-        ensures some { 1 ≤ length self.now }
-        ensures room { length self.now ≤ 64 }
+    /// Which values the logical operators take for 1, for 0 and for U.
+    fn stripped(&self) -> Stripped
+        ensures { IsMarked self.now result.ones result.zeros result.unset }
     {
-        &self.values[..self.len]
+        let any = self.first | self.second | self.third | self.fourth;
+        Stripped {
+            ones: self.second & self.first,
+            zeros: self.second & !self.first,
+            unset: mask(self.len) & !any,
+        }
     }
-}
 
-/// Writes these values over the first ones.
-fn put_front(all: &mut [Nine], values: &[Nine])
-    requires { length values.now ≤ length all.old }
-    ensures { all.new ≡ values.now ++ drop (length values.now) all.old }
-{
-    all[..values.len()].copy_from_slice(values);
+    /// The vector of the values U, X, 0 and 1 that are marked so.
+    fn of_stripped(stripped: Stripped, len: usize) -> Vec9
+        requires some { 1 ≤ len }
+        requires room { len ≤ 64 }
+        ensures { (vs : List Value) → IsMarked vs stripped.ones stripped.zeros stripped.unset → length vs ≡ len → result ≡ map strip vs }
+    {
+        let all = mask(len);
+        Vec9 {
+            first: all & !(stripped.zeros | stripped.unset),
+            second: all & (stripped.ones | stripped.zeros),
+            third: 0,
+            fourth: 0,
+            len,
+        }
+    }
 }

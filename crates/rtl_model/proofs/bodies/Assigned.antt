@@ -2,11 +2,15 @@
 use Rattle.std.proofs.Common.{◌≡◌, ℕ, Bool, true, false, List, [], ◌∷◌, Option, Some, None, refl, inl, inr, IsSome, IsTrue, slice_index, drop}
 use Rattle.std.specs.List.{list_any}
 use Rattle.std.proofs.lemmas.Bool.{or_cases, and_parts, eq-eqb}
-use Rattle.rtl_model.specs.bodies.Body.{Stmt, nothing, assign, choose, select, Stmts, done, step, Branches, no_else, otherwise, branch, Alternatives, others, alternative}
-use Rattle.rtl_model.specs.bodies.Values.{value_of}
+use Rattle.rtl_model.specs.basics.Valuations.{or_else}
+use Rattle.rtl_model.specs.bodies.Body.{Stmt, nothing, assign, set, if_of, case_of, Stmts, done, step}
+use Rattle.rtl_model.specs.bodies.Body.{Branches, no_else, otherwise, branch, Alternatives, others, alternative}
+use Rattle.rtl_model.specs.bodies.Values.{Seen, value_of}
 use Rattle.rtl_model.specs.bodies.Tests.{same, is_met}
-use Rattle.rtl_model.specs.bodies.Effect.{Entries, or_else, over, one_entry, entries, chosen, stmt_effect, effect, branches_effect, alternatives_effect}
-use Rattle.rtl_model.specs.bodies.Assigns.{stmt_must_assign, must_assign, branches_must_assign, alternatives_must_assign}
+use Rattle.rtl_model.specs.bodies.Variables.{after_stmt}
+use Rattle.rtl_model.specs.bodies.Effect.{Entries, later_over, one_entry, entries, chosen}
+use Rattle.rtl_model.specs.bodies.Effect.{stmt_effect, effect, branches_effect, alternatives_effect}
+use Rattle.rtl_model.specs.bodies.Assigns.{of_drivers, stmt_must_assign, must_assign, branches_must_assign, alternatives_must_assign}
 use Rattle.rtl_model.specs.bodies.Laws.{EachRunAssigns}
 
 or_else-left : (a b : Option ℕ) → IsSome a → IsSome (or_else a b)
@@ -24,10 +28,10 @@ module _ (these : ℕ → Bool) where
     is_one : IsTrue (these place)
     entry : IsSome (e place)
 
-  earlier : (a b : Entries) → HasEntry b → HasEntry (over a b)
+  earlier : (a b : Entries) → HasEntry b → HasEntry (later_over a b)
   earlier a b h = record { place = h.place; is_one = h.is_one; entry = or_else-right (a h.place) (b h.place) h.entry }
 
-  later : (a b : Entries) → HasEntry a → HasEntry (over a b)
+  later : (a b : Entries) → HasEntry a → HasEntry (later_over a b)
   later a b h = record { place = h.place; is_one = h.is_one; entry = or_else-left (a h.place) (b h.place) h.entry }
 
   either : (t : Bool) (a b : Entries) → HasEntry a → HasEntry b → HasEntry (chosen t a b)
@@ -45,36 +49,41 @@ module _ (these : ℕ → Bool) where
         | inr g ↦ later (entries ps (drop 1 values)) (one_entry p (slice_index values 0)) (of_places ps (drop 1 values) g)
       ]
 
-  module _ (before now : List ℕ) where
-    mutual
-      of_stmt : (s : Stmt) → stmt_must_assign these s ≡ true → HasEntry (stmt_effect before now s)
-      of_stmt nothing h = absurd cc
-      of_stmt (assign places v) h = of_places places (value_of now v) h
-      of_stmt (choose bs) h = of_branches bs h
-      of_stmt (select v alts) h = of_alternatives alts (value_of now v) h
+  no_element : (es : List ℕ) → list_any (λ e. false) es ≡ true → ⊥
+  no_element [] h = cc
+  no_element (e ∷ es) h = no_element es h
 
-      of_body : (s : Stmts) → must_assign these s ≡ true → HasEntry (effect before now s)
-      of_body done h = absurd cc
-      of_body (step s rest) h =
-          elim (or_cases (stmt_must_assign these s) (must_assign these rest) h) [
-            | inl g ↦ earlier (effect before now rest) (stmt_effect before now s) (of_stmt s g)
-            | inr g ↦ later (effect before now rest) (stmt_effect before now s) (of_body rest g)
-          ]
+  mutual
+    of_stmt : (s : Stmt) (seen : Seen) → stmt_must_assign (of_drivers these) s ≡ true → HasEntry (stmt_effect seen s)
+    of_stmt nothing seen h = absurd cc
+    of_stmt (assign places v) seen h = of_places places (value_of seen v) h
+    of_stmt (set es v) seen h = absurd (no_element es h)
+    of_stmt (if_of bs) seen h = of_branches bs seen h
+    of_stmt (case_of v alts) seen h = of_alternatives alts (value_of seen v) seen h
 
-      of_branches : (bs : Branches) → branches_must_assign these bs ≡ true → HasEntry (branches_effect before now bs)
-      of_branches no_else h = absurd cc
-      of_branches (otherwise s) h = of_body s h
-      of_branches (branch t s bs) h =
-          let g = and_parts (must_assign these s) (branches_must_assign these bs) h in
-          either (is_met before now t) (effect before now s) (branches_effect before now bs) (of_body s g.0) (of_branches bs g.1)
+    of_body : (s : Stmts) (seen : Seen) → must_assign (of_drivers these) s ≡ true → HasEntry (effect seen s)
+    of_body done seen h = absurd cc
+    of_body (step s rest) seen h =
+        elim (or_cases (stmt_must_assign (of_drivers these) s) (must_assign (of_drivers these) rest) h) [
+          | inl g ↦ earlier (effect (after_stmt seen s) rest) (stmt_effect seen s) (of_stmt s seen g)
+          | inr g ↦ later (effect (after_stmt seen s) rest) (stmt_effect seen s) (of_body rest (after_stmt seen s) g)
+        ]
 
-      of_alternatives : (alts : Alternatives) (v : List ℕ) → alternatives_must_assign these alts ≡ true → HasEntry (alternatives_effect before now v alts)
-      of_alternatives (others s) v h = of_body s h
-      of_alternatives (alternative choices s alts) v h =
-          let g = and_parts (must_assign these s) (alternatives_must_assign these alts) h in
-          either (list_any (same v) choices) (effect before now s) (alternatives_effect before now v alts) (of_body s g.0) (of_alternatives alts v g.1)
+    of_branches : (bs : Branches) (seen : Seen) → branches_must_assign (of_drivers these) bs ≡ true → HasEntry (branches_effect seen bs)
+    of_branches no_else seen h = absurd cc
+    of_branches (otherwise s) seen h = of_body s seen h
+    of_branches (branch t s bs) seen h =
+        let g = and_parts (must_assign (of_drivers these) s) (branches_must_assign (of_drivers these) bs) h in
+        either (is_met seen t) (effect seen s) (branches_effect seen bs) (of_body s seen g.0) (of_branches bs seen g.1)
+
+    of_alternatives : (alts : Alternatives) (v : List ℕ) (seen : Seen) → alternatives_must_assign (of_drivers these) alts ≡ true
+        → HasEntry (alternatives_effect seen v alts)
+    of_alternatives (others s) v seen h = of_body s seen h
+    of_alternatives (alternative choices s alts) v seen h =
+        let g = and_parts (must_assign (of_drivers these) s) (alternatives_must_assign (of_drivers these) alts) h in
+        either (list_any (same v) choices) (effect seen s) (alternatives_effect seen v alts) (of_body s seen g.0) (of_alternatives alts v seen g.1)
 
 pub each_run_assigns : EachRunAssigns
-each_run_assigns body these before now h =
-    let e : HasEntry these (effect before now body) = of_body these before now body h in
+each_run_assigns body these seen h =
+    let e : HasEntry these (effect seen body) = of_body these body seen h in
     (e.place, e.is_one, e.entry)

@@ -1,19 +1,96 @@
--- An edge test is met where its net has the edge.
-use Rattle.std.proofs.Common.{◌≡◌, ℕ, zero, suc, ◌<◌, Bool, true, false, not, cond, ◌&&◌, ◌==◌, List, [], ◌∷◌, slice_index, Option, Some, None, refl, sym, ap, ◌∙◌, subst, arith}
-use Rattle.std.proofs.lemmas.Bool.{eqb-true, ne_eqb}
+-- Edge tests and reset tests are as they are said, and are met where their net has the edge, or the value.
+use Rattle.std.proofs.Common.{◌≡◌, ℕ, zero, suc, ◌<◌, Bool, true, false, not, ◌&&◌, ◌==◌, List, [], ◌∷◌, slice_index}
+use Rattle.std.proofs.Common.{Option, Some, refl, sym, ap, ◌∙◌, arith}
+use Rattle.std.proofs.lemmas.Bool.{eqb-true, eq-eqb, ne_eqb}
+use Rattle.vhdl_values.specs.declared.scalar.Nine.{Nine}
 use Rattle.vhdl_values.specs.declared.scalar.Nine.TheVariants.{Zero, One}
 use Rattle.vhdl_values.specs.declared.kinds.Logic.TheVariants.{And}
-use Rattle.vhdl_values.specs.declared.kinds.Edge.TheVariants.{To1, To0}
+use Rattle.vhdl_values.specs.declared.kinds.Edge.{Edge}
+use Rattle.vhdl_values.specs.declared.kinds.Edge.TheVariants.{Rising, Falling, To1, To0}
 use Rattle.vhdl_values.specs.Scalar.{code_of, value_of_code}
-use Rattle.vhdl_values.specs.Edges.{has_edge}
-use Rattle.rtl_model.specs.simulation.Cycle.{has_event}
-use Rattle.rtl_model.specs.bodies.Body.{read, character, elements, Test, alike, edge, event, both}
-use Rattle.rtl_model.specs.bodies.Values.{element_at}
-use Rattle.rtl_model.specs.bodies.Tests.{is_met}
-use Rattle.rtl_model.specs.bodies.Kinds.{EdgeTest, event_of, level_of, on_one_net, first_of_two, edge_test}
+use Rattle.rtl_model.specs.basics.Valuations.{has_event}
+use Rattle.rtl_model.specs.bodies.Body.{Test, level, rising, falling, event, combined}
+use Rattle.rtl_model.specs.bodies.Values.{Seen}
+use Rattle.rtl_model.specs.bodies.Tests.{edge_at, is_met}
+use Rattle.rtl_model.specs.bodies.Reads.{test_events}
+use Rattle.rtl_model.specs.bodies.Kinds.{edge_to, IsEdgeTest, rising_call, falling_call, event_and_level, level_and_event}
+use Rattle.rtl_model.specs.bodies.Kinds.{EdgeTest, edge_of_net, edge_test, IsResetTest, ResetTest, reset_of_level, reset_test}
+use Rattle.rtl_model.proofs.basics.Lists.{is_in, in_contains, contains_in}
 
-abbrev pub holds_at : EdgeTest → (before now : List ℕ) → Bool
-holds_at e b w = has_edge e.kind (element_at b e.clock) (element_at w e.clock)
+-- ---- the tests are as they are said
+
+record Made (same : Bool) (net : ℕ) (o : Option Edge) (e : EdgeTest) : Type 0 where
+  same_is : same ≡ true
+  edge_is : o ≡ Some e.edge
+  clock_is : net ≡ e.clock
+
+made : (same : Bool) (net : ℕ) (o : Option Edge) (e : EdgeTest) → edge_of_net same net o ≡ Some e → Made same net o e
+made true net (Some edge) e h =
+    let k : record { clock = net; edge = edge } ≡ e = cc in
+    record { same_is = refl; edge_is = ap (λ (x : EdgeTest). Some x.edge) k; clock_is = ap (λ (x : EdgeTest). x.clock) k }
+made same net o e h = absurd cc
+
+-- `s'event` and a level of net other
+event_level : (net other : ℕ) (v : Nine) (e : EdgeTest) → edge_of_net (net == other) net (edge_to v) ≡ Some e
+    → (event net ≡ event e.clock) × (level true other v ≡ level true e.clock v) × (edge_to v ≡ Some e.edge)
+event_level net other v e h =
+    let m = made (net == other) net (edge_to v) e h in
+    (ap event m.clock_is, ap (λ (n : ℕ). level true n v) (sym (eqb-true net other m.same_is) ∙ m.clock_is), m.edge_is)
+
+pub is_edge_test : (t : Test) (e : EdgeTest) → edge_test t ≡ Some e → IsEdgeTest t e.clock e.edge
+is_edge_test (rising net) e h =
+    let k : record { clock = net; edge = Rising } ≡ e = cc in
+    rising_call (ap (λ (x : EdgeTest). rising x.clock) k) (sym (ap (λ (x : EdgeTest). x.edge) k))
+is_edge_test (falling net) e h =
+    let k : record { clock = net; edge = Falling } ≡ e = cc in
+    falling_call (ap (λ (x : EdgeTest). falling x.clock) k) (sym (ap (λ (x : EdgeTest). x.edge) k))
+is_edge_test (combined And (event net) (level true other v)) e h =
+    let (a, b, c) = event_level net other v e h in
+    event_and_level v (λ i. combined And (a i) (b i)) c
+is_edge_test (combined And (level true other v) (event net)) e h =
+    let (a, b, c) = event_level net other v e h in
+    level_and_event v (λ i. combined And (b i) (a i)) c
+is_edge_test t e h = absurd cc
+
+edge_found : (clock : ℕ) (o : Option Edge) (edge : Edge) → o ≡ Some edge → edge_of_net (clock == clock) clock o ≡ Some (record { clock = clock; edge = edge })
+edge_found clock o edge h = rw (eq-eqb clock clock refl, h) refl
+
+pub has_edge_test : (t : Test) (clock : ℕ) (edge : Edge) → IsEdgeTest t clock edge → edge_test t ≡ Some (record { clock = clock; edge = edge })
+has_edge_test t clock edge (rising_call p q) = ap edge_test p ∙ ap (λ (x : Edge). Some (record { clock = clock; edge = x })) (sym q)
+has_edge_test t clock edge (falling_call p q) = ap edge_test p ∙ ap (λ (x : Edge). Some (record { clock = clock; edge = x })) (sym q)
+has_edge_test t clock edge (event_and_level v p q) = ap edge_test p ∙ edge_found clock (edge_to v) edge q
+has_edge_test t clock edge (level_and_event v p q) = ap edge_test p ∙ edge_found clock (edge_to v) edge q
+
+-- the net of an edge test is one whose events are looked at
+pub edge_test_event : (t : Test) (clock : ℕ) (edge : Edge) → IsEdgeTest t clock edge → test_events t ≡ clock ∷ []
+edge_test_event t clock edge (rising_call p q) = ap test_events p
+edge_test_event t clock edge (falling_call p q) = ap test_events p
+edge_test_event t clock edge (event_and_level v p q) = ap test_events p
+edge_test_event t clock edge (level_and_event v p q) = ap test_events p
+
+pub is_reset_test : (inputs : List ℕ) (t : Test) (r : ResetTest) → reset_test inputs t ≡ Some r → IsResetTest inputs t r.net r.value
+is_reset_test inputs (level plain net v) r h = go (is_in inputs net) (edge_to v) refl refl h
+  where
+    go : (input : Bool) (o : Option Edge) → is_in inputs net ≡ input → edge_to v ≡ o → reset_of_level input net v o ≡ Some r → IsResetTest inputs (level plain net v) r.net r.value
+    go true (Some edge) a b g =
+        let k : record { net = net; value = code_of v } ≡ r = cc in
+        let n : net ≡ r.net = ap (λ (x : ResetTest). x.net) k in
+        record {
+          plain = plain;
+          v = v;
+          is = ap (λ (m : ℕ). level plain m v) n;
+          one_or_zero = (edge, b);
+          value_is = sym (ap (λ (x : ResetTest). x.value) k);
+          is_input = in_contains inputs r.net (ap (is_in inputs) (sym n) ∙ a);
+        }
+    go input o a b g = absurd cc
+is_reset_test inputs t r h = absurd cc
+
+pub has_reset_test : (inputs : List ℕ) (t : Test) (net value : ℕ) → IsResetTest inputs t net value → reset_test inputs t ≡ Some (record { net = net; value = value })
+has_reset_test inputs t net value h = ap (reset_test inputs) h.is ∙ found (contains_in inputs net h.is_input) h.one_or_zero
+  where
+    found : is_in inputs net ≡ true → ((edge : Edge) × (edge_to h.v ≡ Some edge)) → reset_of_level (is_in inputs net) net h.v (edge_to h.v) ≡ Some (record { net = net; value = value })
+    found a (edge, b) = rw (a, b) (ap (λ (x : ℕ). Some (record { net = net; value = x })) (sym h.value_is))
 
 -- ---- '0' and '1' are what only their own numbers stand for
 
@@ -50,6 +127,17 @@ exact_one (suc (suc (suc (suc (suc (suc (suc zero))))))) = refl
 exact_one (suc (suc (suc (suc (suc (suc (suc (suc zero)))))))) = refl
 exact_one (suc (suc (suc (suc (suc (suc (suc (suc (suc c))))))))) = past c 3 (omega arith)
 
+exact : (v : Nine) (edge : Edge) → edge_to v ≡ Some edge → IsExact (code_of v)
+exact Zero edge h = exact_zero
+exact One edge h = exact_one
+exact v edge h = absurd cc
+
+pub reset_meets : (inputs : List ℕ) (t : Test) (net value : ℕ) (seen : Seen) → IsResetTest inputs t net value → is_met seen t ≡ (slice_index seen.now net == value)
+reset_meets inputs t net value seen h =
+    ap (is_met seen) h.is
+    ∙ exact h.v h.one_or_zero.0 h.one_or_zero.1 (slice_index seen.now net)
+    ∙ ap (λ (x : ℕ). slice_index seen.now net == x) (sym h.value_is)
+
 -- ---- an event, and the net being '0' or '1' now
 
 and_false : (a b : Bool) → a && false ≡ b && false
@@ -58,16 +146,11 @@ and_false true false = refl
 and_false false true = refl
 and_false false false = refl
 
-and_true : (a b c : Bool) → a && b ≡ c → a && (b && true) ≡ c
-and_true true true c h = h
-and_true true false c h = h
-and_true false b c h = h
-
-and_swap : (a b c : Bool) → a && b ≡ c → b && a ≡ c
-and_swap true true c h = h
-and_swap true false c h = h
-and_swap false true c h = h
-and_swap false false c h = h
+and_swap : (a b : Bool) → b && a ≡ a && b
+and_swap true true = refl
+and_swap true false = refl
+and_swap false true = refl
+and_swap false false = refl
 
 event_to : (v x y : ℕ) → IsExact v → not (x == y) && (number y == v) ≡ not (number x == number y) && (number y == v)
 event_to v x y h = go (number y == v) refl
@@ -79,51 +162,16 @@ event_to v x y h = go (number y == v) refl
         ap (λ (b : Bool). not b && true) (ap (λ (z : ℕ). x == z) at' ∙ sym (h x) ∙ ap (λ (z : ℕ). number x == z) (sym at))
     go false e = and_false (not (x == y)) (not (number x == number y))
 
--- the level that a test is, together with an event of its net, is the edge
-record IsLevel (t : Test) (e : EdgeTest) : Type 0 where
-  meets : (b w : List ℕ) → has_event b w e.clock && is_met b w t ≡ holds_at e b w
+level_edge : (v : Nine) (edge : Edge) (net : ℕ) (seen : Seen) → edge_to v ≡ Some edge
+    → has_event seen.before seen.now net && is_met seen (level true net v) ≡ edge_at seen edge net
+level_edge One To1 net seen h = event_to 3 (slice_index seen.before net) (slice_index seen.now net) exact_one
+level_edge Zero To0 net seen h = event_to 2 (slice_index seen.before net) (slice_index seen.now net) exact_zero
+level_edge v edge net seen h = absurd cc
 
-some_inj : (d e : EdgeTest) → Some d ≡ Some e → d ≡ e
-some_inj d e h = cc
-
-is_level : (t : Test) (e : EdgeTest) → level_of t ≡ Some e → IsLevel t e
-is_level (alike (elements (read by_port (net ∷ []))) (elements (character One))) e h =
-    let k : record { clock = net; kind = To1 } ≡ e = some_inj (record { clock = net; kind = To1 }) e h in
-    subst (λ (x : EdgeTest). IsLevel (alike (elements (read by_port (net ∷ []))) (elements (character One))) x) k
-    (record { meets = λ b w. and_true (has_event b w net) (number (slice_index w net) == 3) _ (event_to 3 (slice_index b net) (slice_index w net) exact_one) })
-is_level (alike (elements (read by_port (net ∷ []))) (elements (character Zero))) e h =
-    let k : record { clock = net; kind = To0 } ≡ e = some_inj (record { clock = net; kind = To0 }) e h in
-    subst (λ (x : EdgeTest). IsLevel (alike (elements (read by_port (net ∷ []))) (elements (character Zero))) x) k
-    (record { meets = λ b w. and_true (has_event b w net) (number (slice_index w net) == 2) _ (event_to 2 (slice_index b net) (slice_index w net) exact_zero) })
-is_level t e h = absurd cc
-
-is_event : (t : Test) (n : ℕ) (b w : List ℕ) → event_of t ≡ Some n → is_met b w t ≡ has_event b w n
-is_event (event by_port net) n b w h = let k : net ≡ n = cc in ap (λ (x : ℕ). has_event b w x) k
-is_event t n b w h = absurd cc
-
-taken : (t : Bool) (x : Option EdgeTest) (e : EdgeTest) → cond t x None ≡ Some e → (t ≡ true) × (x ≡ Some e)
-taken true x e h = (refl, h)
-taken false x e h = absurd cc
-
--- an event and a level of one net
-on_one : (s t : Test) (o : Option ℕ) (l : Option EdgeTest) (e : EdgeTest) (b w : List ℕ) → event_of s ≡ o → level_of t ≡ l → on_one_net o l ≡ Some e → is_met b w s && is_met b w t ≡ holds_at e b w
-on_one s t None l e b w p q h = absurd cc
-on_one s t (Some n) None e b w p q h = absurd cc
-on_one s t (Some n) (Some d) e b w p q h =
-    let g = taken (d.clock == n) (Some d) e h in
-    let k : d ≡ e = some_inj d e g.1 in
-    let m : n ≡ e.clock = sym (eqb-true d.clock n g.0) ∙ ap (λ x. x.clock) k in
-    ap (λ (x : Bool). x && is_met b w t) (is_event s n b w p ∙ ap (λ (x : ℕ). has_event b w x) m) ∙ (is_level t e (q ∙ ap Some k)).meets b w
-
--- a pair of tests under `and`, in either order
-pair : (s t : Test) (e : EdgeTest) (b w : List ℕ) → first_of_two (on_one_net (event_of s) (level_of t)) (on_one_net (event_of t) (level_of s)) ≡ Some e → is_met b w s && is_met b w t ≡ holds_at e b w
-pair s t e b w h = go (on_one_net (event_of s) (level_of t)) (on_one_net (event_of t) (level_of s)) refl refl h
-  where
-    go : (x y : Option EdgeTest) → on_one_net (event_of s) (level_of t) ≡ x → on_one_net (event_of t) (level_of s) ≡ y → first_of_two x y ≡ Some e → is_met b w s && is_met b w t ≡ holds_at e b w
-    go (Some x) y p q g = on_one s t (event_of s) (level_of t) e b w refl refl (p ∙ g)
-    go None y p q g = and_swap (is_met b w t) (is_met b w s) _ (on_one t s (event_of t) (level_of s) e b w refl refl (q ∙ g))
-
-pub edge_meets : (t : Test) (e : EdgeTest) (b w : List ℕ) → edge_test t ≡ Some e → is_met b w t ≡ holds_at e b w
-edge_meets (edge kind by_port net) e b w h = ap (λ x. holds_at x b w) (some_inj (record { clock = net; kind = kind }) e h)
-edge_meets (both And s t) e b w h = pair s t e b w h
-edge_meets t e b w h = absurd cc
+-- an edge test is met where its net has the edge
+pub edge_meets : (t : Test) (clock : ℕ) (edge : Edge) (seen : Seen) → IsEdgeTest t clock edge → is_met seen t ≡ edge_at seen edge clock
+edge_meets t clock edge seen (rising_call p q) = ap (is_met seen) p ∙ ap (λ (x : Edge). edge_at seen x clock) (sym q)
+edge_meets t clock edge seen (falling_call p q) = ap (is_met seen) p ∙ ap (λ (x : Edge). edge_at seen x clock) (sym q)
+edge_meets t clock edge seen (event_and_level v p q) = ap (is_met seen) p ∙ level_edge v edge clock seen q
+edge_meets t clock edge seen (level_and_event v p q) =
+    ap (is_met seen) p ∙ and_swap (has_event seen.before seen.now clock) (is_met seen (level true clock v)) ∙ level_edge v edge clock seen q

@@ -1,33 +1,58 @@
--- Each entry is that of a driver, and a value of its net's type.
-use Rattle.std.proofs.Common.{◌≡◌, ℕ, suc, ◌<◌, Bool, true, false, cond, ◌==◌, List, [], ◌∷◌, map, drop, slice_get, slice_index, Option, Some, None, refl, sym, ◌∙◌, subst, arith, All}
+-- Each entry is that of a driver, and a value of its net's type; and variables keep their types.
+use Rattle.std.proofs.Common.{◌≡◌, ℕ, zero, suc, ◌<◌, ◌≤◌, Bool, true, false, cond, ◌==◌, List, [], ◌∷◌, length, get_or, map, slice_get, slice_index, slice_set}
+use Rattle.std.proofs.Common.{Option, Some, None, refl, sym, ◌∙◌, subst, arith, All, ◌⊎◌, inl, inr}
 use Rattle.std.specs.List.{list_any}
-use Rattle.std.proofs.lemmas.Bool.{eqb-true}
+use Rattle.std.proofs.lemmas.Bool.{eqb-true, cases_eq, cases_lt}
+use Rattle.std.proofs.lemmas.List.{get_or-set_same, get_or-set_other, get_or_past, length-set}
 use Rattle.vhdl_values.specs.declared.scalar.Nine.{Nine}
 use Rattle.vhdl_values.specs.Scalar.{code_of}
 use Rattle.vhdl_values.proofs.Codes.{code_of_below}
-use Rattle.rtl_model.specs.bodies.Body.{Value, elements, position, position_of, Stmt, nothing, assign, choose, select, Stmts, done, step, Branches, no_else, otherwise, branch, Alternatives, others, alternative}
-use Rattle.rtl_model.specs.bodies.Values.{elements_of, value_of}
+use Rattle.rtl_model.specs.basics.Valuations.{or_else}
+use Rattle.rtl_model.specs.bodies.Body.{Value, elements, position, position_of, position_in, Stmt, nothing, assign, set, if_of, case_of, Stmts, done, step}
+use Rattle.rtl_model.specs.bodies.Body.{Branches, no_else, otherwise, branch, Alternatives, others, alternative}
+use Rattle.rtl_model.specs.bodies.Values.{Seen, elements_of, value_of}
 use Rattle.rtl_model.specs.bodies.Tests.{same, is_met}
-use Rattle.rtl_model.specs.bodies.Effect.{Entries, no_entries, or_else, over, one_entry, entries, chosen, stmt_effect, effect, branches_effect, alternatives_effect}
-use Rattle.rtl_model.specs.bodies.Types.{NetType, nine_valued, enumeration, limit_of, HasType, KeepsTypes}
-use Rattle.rtl_model.specs.bodies.Fits.{FitsTarget, DrivesType, FitsStmt, Fits, FitsBranches, FitsAlternatives, value_width}
-use Rattle.rtl_model.specs.bodies.Laws.{EntriesKeepTypes}
+use Rattle.rtl_model.specs.bodies.Variables.{put, stmt_variables, variables_after, branches_variables, alternatives_variables, after_stmt}
+use Rattle.rtl_model.specs.bodies.Effect.{Entries, no_entries, later_over, one_entry, entries, chosen}
+use Rattle.rtl_model.specs.bodies.Effect.{stmt_effect, effect, branches_effect, alternatives_effect}
+use Rattle.rtl_model.specs.bodies.Types.{ElementType, nine_valued, enumeration, limit_of, HasType, KeepsTypes}
+use Rattle.rtl_model.specs.bodies.Fits.{Scope, FitsAs, DrivesType, FitsStmt, Fits, FitsBranches, FitsAlternatives, value_width}
+use Rattle.rtl_model.specs.bodies.Laws.{SeesTypes, EntriesKeepTypes}
+use Rattle.rtl_model.proofs.bodies.Widths.{length-value_of}
 
-first_below : (vs : List Nine) → slice_index (map code_of vs) 0 < 9
-first_below [] = omega arith
-first_below (v ∷ vs) = code_of_below v
+-- ---- values
 
-drop_map : (vs : List Nine) → drop 1 (map code_of vs) ≡ map code_of (drop 1 vs)
-drop_map [] = refl
-drop_map (v ∷ vs) = refl
+abbrev IsBelow : ℕ → List ℕ → Type 0
+IsBelow limit values = (k : ℕ) → k < length values → slice_index values k < limit
 
-module _ (types : List NetType) (targets : List ℕ) where
+codes_below : (vs : List Nine) → IsBelow 9 (map code_of vs)
+codes_below [] k l = absurd (omega arith)
+codes_below (v ∷ vs) zero l = code_of_below v
+codes_below (v ∷ vs) (suc k) l = codes_below vs k (omega arith)
+
+one_below : (limit v : ℕ) → v < limit → IsBelow limit (v ∷ [])
+one_below limit v h zero l = h
+one_below limit v h (suc k) l = absurd (omega arith)
+
+module _ (scope : Scope) where
+  of_value : (t : ElementType) (v : Value) (seen : Seen) → SeesTypes scope seen → FitsAs scope t v → IsBelow (limit_of t) (value_of seen v)
+  of_value nine_valued (elements e) seen sees h = codes_below (elements_of seen e)
+  of_value (enumeration n) (position k) seen sees h = one_below n k h
+  of_value (enumeration n) (position_of net) seen sees h = one_below n _ (sees.nets net (enumeration n) h)
+  of_value (enumeration n) (position_in element) seen sees h = one_below n _ (sees.variables element (enumeration n) h)
+  of_value nine_valued (position k) seen sees h = elim h [ ]
+  of_value nine_valued (position_of net) seen sees h = elim h [ ]
+  of_value nine_valued (position_in element) seen sees h = elim h [ ]
+  of_value (enumeration n) (elements e) seen sees h = elim h [ ]
+
+  -- ---- entries
+
   -- the driver at the place is there, and its net has this value
   record Suits (place value : ℕ) : Type 0 where
     net : ℕ
-    type_is : NetType
-    target : slice_get targets place ≡ Some net
-    has_type : HasType types type_is net
+    type_is : ElementType
+    target : slice_get scope.targets place ≡ Some net
+    has_type : HasType scope.nets type_is net
     below : value < limit_of type_is
 
   record Kept (e : Entries) : Type 0 where
@@ -36,7 +61,7 @@ module _ (types : List NetType) (targets : List ℕ) where
   none : Kept no_entries
   none = record { each = λ place value h. absurd cc }
 
-  both : (a b : Entries) → Kept a → Kept b → Kept (over a b)
+  both : (a b : Entries) → Kept a → Kept b → Kept (later_over a b)
   both a b h g = record { each = λ place value k. go place value (a place) refl k }
     where
       go : (place value : ℕ) (o : Option ℕ) → a place ≡ o → or_else o (b place) ≡ Some value → Suits place value
@@ -57,55 +82,90 @@ module _ (types : List NetType) (targets : List ℕ) where
           subst (λ (x : ℕ). Suits place x) b (subst (λ (x : ℕ). Suits x v) a s)
       go place value false e k = absurd cc
 
-  suits : (t : NetType) (p v : ℕ) → DrivesType types targets t p → v < limit_of t → Suits p v
+  suits : (t : ElementType) (p v : ℕ) → DrivesType scope t p → v < limit_of t → Suits p v
   suits t p v h l = record { net = h.0; type_is = t; target = h.1; has_type = h.2; below = l }
 
-  tail : (P : ℕ → Type 0) (p : ℕ) (ps : List ℕ) → All P (p ∷ ps) → All P ps
-  tail P p ps h k d l = h (suc k) d (omega arith)
+  of_target : (t : ElementType) (ps values : List ℕ) → length ps ≡ length values → All (DrivesType scope t) ps → IsBelow (limit_of t) values → Kept (entries ps values)
+  of_target t [] values l h below = none
+  of_target t (p ∷ ps) [] l h below = absurd (omega arith)
+  of_target t (p ∷ ps) (v ∷ vs) l h below =
+      both (entries ps vs) (one_entry p v)
+      (of_target t ps vs (omega arith) (λ k d m. h (suc k) d (omega arith)) (λ k m. below (suc k) (omega arith)))
+      (one p v (suits t p v (h 0 0 (omega arith)) (below 0 (omega arith))))
 
-  of_elements : (ps : List ℕ) (vs : List Nine) → All (DrivesType types targets nine_valued) ps → Kept (entries ps (map code_of vs))
-  of_elements [] vs h = none
-  of_elements (p ∷ ps) vs h =
-      both (entries ps (drop 1 (map code_of vs))) (one_entry p (slice_index (map code_of vs) 0))
-      (subst (λ (x : List ℕ). Kept (entries ps x)) (sym (drop_map vs)) (of_elements ps (drop 1 vs) (tail (DrivesType types targets nine_valued) p ps h)))
-      (one p (slice_index (map code_of vs) 0) (suits nine_valued p _ (h 0 0 (omega arith)) (first_below vs)))
+  -- ---- variables
 
-  module _ (before now : List ℕ) (keeps : KeepsTypes types now) where
-    of_target : (v : Value) (ps : List ℕ) → FitsTarget types targets v ps → Kept (entries ps (value_of now v))
-    of_target (elements e) ps h = of_elements ps (elements_of now e) h.1
-    of_target (position n) [] h = none
-    of_target (position n) (p ∷ []) h =
-        let g = h.1 0 0 (omega arith) in
-        both no_entries (one_entry p n) none (one p n (suits (enumeration g.0) p n g.1 g.2))
-    of_target (position n) (p ∷ q ∷ ps) h = let l = h.0 in absurd (omega arith)
-    of_target (position_of net) [] h = none
-    of_target (position_of net) (p ∷ []) h =
-        let g = h.1 0 0 (omega arith) in
-        both no_entries (one_entry p (slice_index now net)) none (one p (slice_index now net) (suits (enumeration g.0) p _ g.1 (keeps net (enumeration g.0) g.2)))
-    of_target (position_of net) (p ∷ q ∷ ps) h = let l = h.0 in absurd (omega arith)
+  same_type : (s t : ElementType) (e : ℕ) → HasType scope.variables s e → HasType scope.variables t e → s ≡ t
+  same_type s t e h g = cc
 
-    mutual
-      of_stmt : (s : Stmt) → FitsStmt types targets s → Kept (stmt_effect before now s)
-      of_stmt nothing h = none
-      of_stmt (assign places v) h = of_target v places h.1
-      of_stmt (choose bs) h = of_branches bs h
-      of_stmt (select v alts) h = of_alternatives (value_width v) alts (value_of now v) h.1
+  one_put : (t : ElementType) (d v : ℕ) (old : List ℕ) → HasType scope.variables t d → v < limit_of t → KeepsTypes scope.variables old → KeepsTypes scope.variables (slice_set old d v)
+  one_put t d v old typed below keeps e s h = go (cases_eq e d) (cases_lt d (length old))
+    where
+      go : (e ≡ d) ⊎ (e ≡ d → ⊥) → (d < length old) ⊎ (length old ≤ d) → slice_index (slice_set old d v) e < limit_of s
+      go (inr other) l = rw (get_or-set_other old d e v 0 other) (keeps e s h)
+      go (inl same) (inl l) =
+          let k : t ≡ s = same_type t s d typed (subst (λ (x : ℕ). HasType scope.variables s x) same h) in
+          rw (same, get_or-set_same old d v 0 l) (subst (λ (x : ElementType). v < limit_of x) k below)
+      go (inl same) (inr l) =
+          let p : get_or (slice_set old d v) e 0 ≡ 0 = get_or_past (slice_set old d v) e 0 (omega (arith, length-set old d v)) in
+          let q : get_or old e 0 ≡ 0 = get_or_past old e 0 (omega arith) in
+          let b = keeps e s h in
+          omega arith
 
-      of_body : (s : Stmts) → Fits types targets s → Kept (effect before now s)
-      of_body done h = none
-      of_body (step s rest) h = both (effect before now rest) (stmt_effect before now s) (of_body rest h.1) (of_stmt s h.0)
+  puts : (t : ElementType) (es values old : List ℕ) → length es ≡ length values → All (HasType scope.variables t) es → IsBelow (limit_of t) values → KeepsTypes scope.variables old
+      → KeepsTypes scope.variables (put es values old)
+  puts t [] values old l h below keeps = keeps
+  puts t (d ∷ ds) [] old l h below keeps = absurd (omega arith)
+  puts t (d ∷ ds) (v ∷ vs) old l h below keeps =
+      puts t ds vs (slice_set old d v) (omega arith) (λ k e m. h (suc k) e (omega arith)) (λ k m. below (suc k) (omega arith))
+      (one_put t d v old (h 0 0 (omega arith)) (below 0 (omega arith)) keeps)
 
-      of_branches : (bs : Branches) → FitsBranches types targets bs → Kept (branches_effect before now bs)
-      of_branches no_else h = none
-      of_branches (otherwise s) h = of_body s h
-      of_branches (branch t s bs) h = either (is_met before now t) (effect before now s) (branches_effect before now bs) (of_body s h.1) (of_branches bs h.2)
+  -- ---- statements
 
-      of_alternatives : (len : ℕ) (alts : Alternatives) (v : List ℕ) → FitsAlternatives types targets len alts → Kept (alternatives_effect before now v alts)
-      of_alternatives len (others s) v h = of_body s h
-      of_alternatives len (alternative choices s alts) v h =
-          either (list_any (same v) choices) (effect before now s) (alternatives_effect before now v alts) (of_body s h.1) (of_alternatives len alts v h.2)
+  record Fine (e : Entries) (values : List ℕ) : Type 0 where
+    entries : Kept e
+    variables : KeepsTypes scope.variables values
+
+  chosen_fine : (t : Bool) (a b : Entries) (v w : List ℕ) → Fine a v → Fine b w → Fine (chosen t a b) (cond t v w)
+  chosen_fine true a b v w h g = record { entries = either true a b h.entries g.entries; variables = h.variables }
+  chosen_fine false a b v w h g = record { entries = either false a b h.entries g.entries; variables = g.variables }
+
+  mutual
+    of_stmt : (s : Stmt) (seen : Seen) → SeesTypes scope seen → FitsStmt scope s → Fine (stmt_effect seen s) (stmt_variables seen s)
+    of_stmt nothing seen sees h = record { entries = none; variables = sees.variables }
+    of_stmt (assign places v) seen sees h = record {
+      entries = of_target h.0 places (value_of seen v) (h.2 ∙ sym (length-value_of scope seen h.0 v h.1)) h.3 (of_value h.0 v seen sees h.1);
+      variables = sees.variables;
+    }
+    of_stmt (set es v) seen sees h = record {
+      entries = none;
+      variables = puts h.0 es (value_of seen v) seen.variables (h.2 ∙ sym (length-value_of scope seen h.0 v h.1)) h.3 (of_value h.0 v seen sees h.1) sees.variables;
+    }
+    of_stmt (if_of bs) seen sees h = of_branches bs seen sees h
+    of_stmt (case_of v alts) seen sees h = of_alternatives h.0 (value_width v) alts (value_of seen v) seen sees h.2
+
+    of_body : (s : Stmts) (seen : Seen) → SeesTypes scope seen → Fits scope s → Fine (effect seen s) (variables_after seen s)
+    of_body done seen sees h = record { entries = none; variables = sees.variables }
+    of_body (step s rest) seen sees h =
+        let first = of_stmt s seen sees h.0 in
+        let more = of_body rest (after_stmt seen s) (record { nets = sees.nets; variables = first.variables }) h.1 in
+        record { entries = both (effect (after_stmt seen s) rest) (stmt_effect seen s) more.entries first.entries; variables = more.variables }
+
+    of_branches : (bs : Branches) (seen : Seen) → SeesTypes scope seen → FitsBranches scope bs → Fine (branches_effect seen bs) (branches_variables seen bs)
+    of_branches no_else seen sees h = record { entries = none; variables = sees.variables }
+    of_branches (otherwise s) seen sees h = of_body s seen sees h
+    of_branches (branch t s bs) seen sees h = chosen_fine (is_met seen t) (effect seen s) (branches_effect seen bs) _ _ (of_body s seen sees h.1) (of_branches bs seen sees h.2)
+
+    of_alternatives : (t : ElementType) (len : ℕ) (alts : Alternatives) (v : List ℕ) (seen : Seen) → SeesTypes scope seen → FitsAlternatives scope t len alts
+        → Fine (alternatives_effect seen v alts) (alternatives_variables seen v alts)
+    of_alternatives t len (others s) v seen sees h = of_body s seen sees h
+    of_alternatives t len (alternative choices s alts) v seen sees h =
+        chosen_fine (list_any (same v) choices) (effect seen s) (alternatives_effect seen v alts) _ _ (of_body s seen sees h.1) (of_alternatives t len alts v seen sees h.2)
 
 pub entries_keep_types : EntriesKeepTypes
-entries_keep_types types targets body before now fits keeps place value h =
-    let s : Suits types targets place value = (of_body types targets before now keeps body fits).each place value h in
-    (s.net, s.type_is, s.target, s.has_type, s.below)
+entries_keep_types scope body seen fits sees =
+    let f = of_body scope body seen sees fits in
+    record {
+      entries = λ place value h. let s = f.entries.each place value h in (s.net, s.type_is, s.target, s.has_type, s.below);
+      variables = f.variables;
+    }

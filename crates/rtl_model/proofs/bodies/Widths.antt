@@ -1,16 +1,20 @@
--- The value of an expression that fits is as long as its width.
-use Rattle.std.proofs.Common.{◌≡◌, ℕ, List, length, slice_index_or, refl, ◌∙◌, arith, length-append}
+-- Lengths in a body that fits: values are as long as their widths, and targets and choices as long as values.
+use Rattle.std.proofs.Common.{◌≡◌, ℕ, Bool, true, false, List, length, slice_index_or, refl, sym, ◌∙◌, length-append, inl, inr, subst}
 use Rattle.std.proofs.lemmas.List.{length-map, length-replicate}
+use Rattle.std.proofs.lemmas.Option.{slice_get_within}
 use Rattle.vhdl_values.specs.declared.scalar.Nine.{Nine}
 use Rattle.vhdl_values.specs.declared.scalar.Nine.TheVariants.{X}
 use Rattle.vhdl_values.specs.Scalar.{code_of}
 use Rattle.vhdl_values.specs.Logic.{not_of}
 use Rattle.vhdl_values.proofs.Lengths.{length-logic_of_all, length-sum_of, length-difference_of, length-product_of, length-shifted_left, length-shifted_right, length-resized}
-use Rattle.rtl_model.specs.bodies.Body.{Operator, logical, joined, plus, minus, times, Expr, read, character, constant, inverse, filled, binary, resized, shifted_left, shifted_right, Value, elements, position, position_of}
-use Rattle.rtl_model.specs.bodies.Values.{element_at, operated, elements_of, value_of}
-use Rattle.rtl_model.specs.bodies.Types.{NetType}
-use Rattle.rtl_model.specs.bodies.Fits.{operated_width, width, value_width, IsWidth, FitsOperands, FitsExpr, FitsValue, FitsTarget}
-use Rattle.rtl_model.specs.bodies.Laws.{HasItsWidth, TargetsFitValues}
+use Rattle.rtl_model.specs.bodies.Body.{Operator, logical, joined, plus, minus, times, Expr, signal, variable, constant}
+use Rattle.rtl_model.specs.bodies.Body.{inverse, filled, binary, resized, shifted_left, shifted_right}
+use Rattle.rtl_model.specs.bodies.Body.{Value, elements, position, position_of, position_in, Alternatives, others, alternative}
+use Rattle.rtl_model.specs.bodies.Values.{Seen, element_at, operated, elements_of, value_of}
+use Rattle.rtl_model.specs.bodies.Types.{ElementType, nine_valued, enumeration}
+use Rattle.rtl_model.specs.bodies.Fits.{operated_width, width, value_width, IsWidth, FitsOperands, Scope, FitsExpr, FitsAs}
+use Rattle.rtl_model.specs.bodies.Fits.{FitsChoice, FitsAlternatives}
+use Rattle.rtl_model.specs.bodies.Laws.{HasItsWidth, is_of_elements, IsChoice, EachPartIsSafe}
 
 length-operated : (op : Operator) (a b : List Nine) → FitsOperands op (length a) (length b) → length (operated op a b) ≡ operated_width op (length a) (length b)
 length-operated (logical op) a b h = length-logic_of_all op a b h
@@ -19,45 +23,74 @@ length-operated plus a b h = length-sum_of a b
 length-operated minus a b h = length-difference_of a b
 length-operated times a b h = length-product_of a b
 
-module _ (types : List NetType) (now : List ℕ) where
-  length-elements_of : (e : Expr) → FitsExpr types e → length (elements_of now e) ≡ width e
-  length-elements_of (read by_port nets) h = length-map nets (element_at now)
-  length-elements_of (character v) h = refl
+is_width : (scope : Scope) (e : Expr) → FitsExpr scope e → IsWidth (width e)
+is_width scope (signal nets) h = h.0
+is_width scope (variable es) h = h.0
+is_width scope (constant values) h = h
+is_width scope (inverse e) h = is_width scope e h
+is_width scope (filled len e) h = h.0
+is_width scope (binary op d e) h = h.0
+is_width scope (resized len e) h = h.0
+is_width scope (shifted_left count e) h = is_width scope e h
+is_width scope (shifted_right count e) h = is_width scope e h
+
+module _ (scope : Scope) (seen : Seen) where
+  length-elements_of : (e : Expr) → FitsExpr scope e → length (elements_of seen e) ≡ width e
+  length-elements_of (signal nets) h = length-map nets (element_at seen.now)
+  length-elements_of (variable es) h = length-map es (element_at seen.variables)
   length-elements_of (constant values) h = refl
-  length-elements_of (inverse e) h = length-map (elements_of now e) not_of ∙ length-elements_of e h
-  length-elements_of (filled len e) h = length-replicate len (slice_index_or (elements_of now e) 0 X)
+  length-elements_of (inverse e) h = length-map (elements_of seen e) not_of ∙ length-elements_of e h
+  length-elements_of (filled len e) h = length-replicate len (slice_index_or (elements_of seen e) 0 X)
   length-elements_of (binary op d e) h =
       let p = length-elements_of d h.1 in
       let q = length-elements_of e h.2 in
-      length-operated op (elements_of now d) (elements_of now e) (rw (p, q) h.3)
+      length-operated op (elements_of seen d) (elements_of seen e) (rw (p, q) h.3)
       ∙ λ i. operated_width op (p i) (q i)
-  length-elements_of (resized len e) h = length-resized len (elements_of now e)
-  length-elements_of (shifted_left count e) h = length-shifted_left count (elements_of now e) ∙ length-elements_of e h
-  length-elements_of (shifted_right count e) h = length-shifted_right count (elements_of now e) ∙ length-elements_of e h
+  length-elements_of (resized len e) h = length-resized len (elements_of seen e)
+  length-elements_of (shifted_left count e) h = length-shifted_left count (elements_of seen e) ∙ length-elements_of e h
+  length-elements_of (shifted_right count e) h = length-shifted_right count (elements_of seen e) ∙ length-elements_of e h
 
-is_width : (types : List NetType) (e : Expr) → FitsExpr types e → IsWidth (width e)
-is_width types (read by_port nets) h = h.0
-is_width types (character v) h = (omega arith, omega arith)
-is_width types (constant values) h = h
-is_width types (inverse e) h = is_width types e h
-is_width types (filled len e) h = h.0
-is_width types (binary op d e) h = h.0
-is_width types (resized len e) h = h.0
-is_width types (shifted_left count e) h = is_width types e h
-is_width types (shifted_right count e) h = is_width types e h
+  pub length-value_of : (t : ElementType) (v : Value) → FitsAs scope t v → length (value_of seen v) ≡ value_width v
+  length-value_of nine_valued (elements e) h = length-map (elements_of seen e) code_of ∙ length-elements_of e h
+  length-value_of t (position n) h = refl
+  length-value_of t (position_of net) h = refl
+  length-value_of t (position_in element) h = refl
+  length-value_of (enumeration literals) (elements e) h = elim h [ ]
+
+  of_one_type : (t : ElementType) (v w : Value) → FitsAs scope t v → FitsAs scope t w → is_of_elements v ≡ is_of_elements w
+  of_one_type t v w h g = of_type t v h ∙ sym (of_type t w g)
+    where
+      is_nine : ElementType → Bool
+      is_nine nine_valued = true
+      is_nine (enumeration literals) = false
+
+      of_type : (t : ElementType) (v : Value) → FitsAs scope t v → is_of_elements v ≡ is_nine t
+      of_type nine_valued (elements e) h = refl
+      of_type (enumeration literals) (position n) h = refl
+      of_type (enumeration literals) (position_of net) h = refl
+      of_type (enumeration literals) (position_in element) h = refl
+      of_type nine_valued (position n) h = elim h [ ]
+      of_type nine_valued (position_of net) h = elim h [ ]
+      of_type nine_valued (position_in element) h = elim h [ ]
+      of_type (enumeration literals) (elements e) h = elim h [ ]
+
+  choice_fits : (t : ElementType) (len : ℕ) (alts : Alternatives) (choice : List ℕ) → FitsAlternatives scope t len alts → IsChoice choice alts → FitsChoice scope t len choice
+  choice_fits t len (others s) choice h c = elim c [ ]
+  choice_fits t len (alternative choices s alts) choice h (inl (k, l, at)) = subst (λ (x : List ℕ). FitsChoice scope t len x) at (h.0 k choice l)
+  choice_fits t len (alternative choices s alts) choice h (inr c) = choice_fits t len alts choice h.2 c
 
 pub has_its_width : HasItsWidth
-has_its_width types e now h = (length-elements_of types now e h, is_width types e h)
+has_its_width scope e seen h = (length-elements_of scope seen e h, is_width scope e h)
 
-value_is_long : (types : List NetType) (v : Value) (now : List ℕ) → FitsValue types v → length (value_of now v) ≡ value_width v
-value_is_long types (elements e) now h = length-map (elements_of now e) code_of ∙ length-elements_of types now e h
-value_is_long types (position n) now h = refl
-value_is_long types (position_of net) now h = refl
-
-target_is_long : (types : List NetType) (targets places : List ℕ) (v : Value) → FitsTarget types targets v places → length places ≡ value_width v
-target_is_long types targets places (elements e) h = h.0
-target_is_long types targets places (position n) h = h.0
-target_is_long types targets places (position_of net) h = h.0
-
-pub targets_fit_values : TargetsFitValues
-targets_fit_values types targets places v now h = (value_is_long types v now h, target_is_long types targets places v)
+pub each_part_is_safe : EachPartIsSafe
+each_part_is_safe scope seen = record {
+  condition_is_one = λ e h. length-elements_of scope seen e h.0 ∙ h.1;
+  filler_is_one = λ len e h. length-elements_of scope seen e h.1 ∙ h.2;
+  equals_are_of_one_type = λ v w h. of_one_type scope seen h.0 v w h.1 h.2;
+  unequals_are_of_one_type = λ v w h. of_one_type scope seen h.0 v w h.1 h.2;
+  choices_fit = λ v alts choice h c.
+      let f = choice_fits scope seen h.0 (value_width v) alts choice h.2 c in
+      (f.0 ∙ sym (length-value_of scope seen h.0 v h.1), (h.0, h.1, f.1));
+  places_fit = λ places v h. (h.2 ∙ sym (length-value_of scope seen h.0 v h.1), λ k d l. let p = h.3 k d l in slice_get_within scope.targets _ p.0 p.1);
+  elements_fit = λ es v h. (h.2 ∙ sym (length-value_of scope seen h.0 v h.1), λ k d l. slice_get_within scope.variables _ h.0 (h.3 k d l));
+}

@@ -41,12 +41,13 @@ settles_by net s k done e = record {
 }
 
 pub unsettled_by : (net : Net) (s : State) (k : ℕ) → HasNoneToRun s → is_busy net k s ≡ true → IsUnsettled net s k (after net k s)
-unsettled_by net s k done e = (
-  λ j l set.
-      let (t, r) = set.goes_on in
-      busy_at net k s e j l (subst (λ (u : State). is_quiet u ≡ true) (HasDeltas-after net j s t r) (set.settled t r)),
-  deltas_exist net k s done,
-)
+unsettled_by net s k done e = record {
+  ready = done;
+  never = λ j l settles.
+      let (t, r) = settles.goes_on in
+      busy_at net k s e j l (subst (λ (u : State). is_quiet u ≡ true) (HasDeltas-after net j s t r) (settles.settled t r));
+  leads = deltas_exist net k s done;
+}
 
 -- the states after a moment's first cycle, and after k delta cycles from there
 abbrev pub first_cycle : Net → (ℕ → ℕ) → State

@@ -1,16 +1,16 @@
 -- Where wrong definitions differ.
 use Rattle.std.proofs.Common.{◌≡◌, ℕ, ◌+◌, zero, suc, true, false, [], get_or, Option, Some, None, refl, sym, ap, arith, Contains}
+use Rattle.rtl_model.proofs.basics.Lists.{Contains-one}
 use Rattle.rtl_model.specs.nets.CoreNet.{core_net}
 use Rattle.rtl_model.specs.simulation.Net.{Edge, Falling, process, target, HasPlace, IsCombinational, IsClockedBy}
 use Rattle.rtl_model.specs.simulation.Cycle.{State}
 use Rattle.rtl_model.specs.simulation.Moments.{HasSettled}
 use Rattle.rtl_model.specs.examples.Rows.{sibling}
-use Rattle.rtl_model.specs.examples.SimulationMistakes.{shift, shift_edge, OrderWouldCount, ActivityWouldGoOn, BoundWouldBreak, FeedsByReading, LevelsWouldMiss, enabled, enable_drops, RegisterWouldFallBack, RegisterWouldRunAhead, falling, both_change, RaceWouldPass}
-use Rattle.rtl_model.proofs.simulation.Levels.{Contains-one}
+use Rattle.rtl_model.specs.examples.SimulationMistakes.{shift, shift_edge, OrderWouldCount, ActivityWouldGoOn, BoundWouldBreak, FeedsByReading, LevelsWouldMiss, enabled, enable_drops, RegisterWouldFallBack, RegisterWouldRunAhead, falls, both_change, RaceWouldPass}
 use Rattle.rtl_model.proofs.simulation.Deltas.{after}
-use Rattle.rtl_model.proofs.examples.Deciding.{fit_by}
+use Rattle.rtl_model.proofs.examples.Sound.{sound_by}
 use Rattle.rtl_model.proofs.examples.Computing.{first_cycle, next_cycle, starts_in, goes_on}
-use Rattle.rtl_model.proofs.examples.Toggling.{fit, levels_are, edge_takes_two}
+use Rattle.rtl_model.proofs.examples.Toggling.{sound, levels_are, edge_takes_two}
 use Rattle.rtl_model.proofs.examples.Rows.{sibling_wakes}
 
 -- what process 1 has pending
@@ -26,10 +26,10 @@ order_would_count = record {
 }
 
 pub activity_would_go_on : ActivityWouldGoOn
-activity_would_go_on = record { right = refl; wrong = refl; fit = fit true; accepted_right = refl; accepted_wrong = refl }
+activity_would_go_on = record { right = refl; wrong = refl; fit = sound true; accepted_right = refl; accepted_wrong = refl }
 
 pub bound_would_break : BoundWouldBreak
-bound_would_break = record { fit = fit false; levels = levels_are false; right = refl; takes = edge_takes_two; wrong = omega arith }
+bound_would_break = record { fit = sound false; levels = levels_are false; right = refl; takes = edge_takes_two; wrong = omega arith }
 
 -- both processes read net 0, and neither drives it
 reading_none : (p q : ℕ) → FeedsByReading (core_net sibling) p q → ⊥
@@ -52,7 +52,7 @@ reading_none p q f = go p q f.place f.drives f.fed f.reads
 
 pub levels_would_miss : LevelsWouldMiss
 levels_would_miss = record {
-  fit = fit_by sibling (λ p. p + 1) refl refl;
+  fit = sound_by sibling (λ p. p + 1) refl;
   right = (0, (omega arith, refl), record { feeder = (omega arith, refl); fed = (omega arith, refl); place = 0; drives = omega arith; wakes = (1, omega arith, refl) });
   wrong = reading_none;
   takes = sibling_wakes.takes_two;
@@ -85,7 +85,7 @@ enabled_3 = goes_on (core_net enabled) enable_drops 2 0 enabled_state_2 0 enable
 
 pub register_would_fall_back : RegisterWouldFallBack
 register_would_fall_back = record {
-  fit = fit_by enabled (λ p. 1) refl refl;
+  fit = sound_by enabled (λ p. 1) refl;
   earlier = (0, enabled_state_2, enabled_2, refl);
   simulated = (0, enabled_state_3, enabled_3, refl);
   right = refl;
@@ -101,7 +101,7 @@ shift_1 = goes_on (core_net shift) shift_edge 0 0 (first_cycle (core_net shift) 
 
 pub register_would_run_ahead : RegisterWouldRunAhead
 register_would_run_ahead = record {
-  fit = fit_by shift (λ p. 1) refl refl;
+  fit = sound_by shift (λ p. 1) refl;
   earlier = (0, first_cycle (core_net shift) (shift_edge 0), shift_0, refl);
   simulated = (1, after (core_net shift) 1 (next_cycle (core_net shift) (shift_edge 1) (first_cycle (core_net shift) (shift_edge 0))), shift_1, refl);
   right = refl;
@@ -109,19 +109,19 @@ register_would_run_ahead = record {
 }
 
 -- the register at the falling edge
-falling_0 : HasSettled (core_net falling) both_change 0 0 (first_cycle (core_net falling) (both_change 0))
-falling_0 = starts_in (core_net falling) both_change 0 refl
+falling_0 : HasSettled (core_net falls) both_change 0 0 (first_cycle (core_net falls) (both_change 0))
+falling_0 = starts_in (core_net falls) both_change 0 refl
 
-falling_1 : HasSettled (core_net falling) both_change 1 1 (after (core_net falling) 1 (next_cycle (core_net falling) (both_change 1) (first_cycle (core_net falling) (both_change 0))))
-falling_1 = goes_on (core_net falling) both_change 0 0 (first_cycle (core_net falling) (both_change 0)) 1 falling_0 refl
+falling_1 : HasSettled (core_net falls) both_change 1 1 (after (core_net falls) 1 (next_cycle (core_net falls) (both_change 1) (first_cycle (core_net falls) (both_change 0))))
+falling_1 = goes_on (core_net falls) both_change 0 0 (first_cycle (core_net falls) (both_change 0)) 1 falling_0 refl
 
-falling_clock : (p clock : ℕ) (edge : Edge) → IsClockedBy (core_net falling) p clock edge → (clock ≡ 0) × (edge ≡ Falling)
+falling_clock : (p clock : ℕ) (edge : Edge) → IsClockedBy (core_net falls) p clock edge → (clock ≡ 0) × (edge ≡ Falling)
 falling_clock zero clock edge (reset, h) = (cc, cc)
 falling_clock (suc p) clock edge (reset, h) = cc
 
 pub race_would_pass : RaceWouldPass
 race_would_pass = record {
-  fit = fit_by falling (λ p. 1) refl refl;
+  fit = sound_by falls (λ p. 1) refl;
   right = record {
     process = 0;
     clock = 0;
@@ -134,7 +134,7 @@ race_would_pass = record {
     changes = λ e. cc;
   };
   wrong = λ race. let (z, e) = falling_clock race.0.process race.0.clock race.0.edge race.0.clocked in let r = race.1 in cc;
-  earlier = (0, first_cycle (core_net falling) (both_change 0), falling_0, refl);
-  simulated = (1, after (core_net falling) 1 (next_cycle (core_net falling) (both_change 1) (first_cycle (core_net falling) (both_change 0))), falling_1, refl);
+  earlier = (0, first_cycle (core_net falls) (both_change 0), falling_0, refl);
+  simulated = (1, after (core_net falls) 1 (next_cycle (core_net falls) (both_change 1) (first_cycle (core_net falls) (both_change 0))), falling_1, refl);
   machine = refl;
 }

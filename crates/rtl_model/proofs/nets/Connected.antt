@@ -1,79 +1,96 @@
 -- A net that is in range and connected has all that the laws of simulation ask.
-use Rattle.std.proofs.Common.{◌≡◌, ℕ, ◌<◌, List, [], ◌∷◌, length, get_or, map, slice_index, refl, sym, ap, ◌∙◌, subst, arith, Contains, ◌==◌}
-use Rattle.std.proofs.lemmas.List.{length-map, get_or-map}
+use Rattle.std.proofs.Common.{◌≡◌, ℕ, ◌<◌, List, [], ◌∷◌, length, get_or, map, slice_index, slice_index_or, ◌≤◌, ◌⊎◌, inl, inr, refl, sym, ap, ◌∙◌, subst, arith, Contains}
+use Rattle.std.proofs.lemmas.List.{length-map, get_or-map, get_or_past}
+use Rattle.std.proofs.lemmas.Bool.{cases_lt}
 use Rattle.std.proofs.lemmas.Option.{slice_get_within}
-use Rattle.std.proofs.lemmas.Bool.{eqb-true}
 use Rattle.rtl_model.specs.bodies.Types.{nine_valued, HasType}
 use Rattle.rtl_model.specs.nets.FlatNet as flat
-use Rattle.rtl_model.specs.nets.FlatNet.{FlatNet, FlatProcess, FlatDriver, targets, starts, DriverInRange, IsInRange}
-use Rattle.rtl_model.specs.nets.Wiring.{sources_of, IsConnected}
+use Rattle.rtl_model.specs.nets.FlatNet.{FlatNet, FlatProcess, FlatDriver, targets, starts, DriverInRange, IsInRange, sources_of}
+use Rattle.rtl_model.specs.nets.Wiring.{IsConnected}
 use Rattle.rtl_model.specs.nets.CoreNet.{core_process, core_net, core_resolve}
 use Rattle.rtl_model.specs.nets.Laws.{EachIsElaborated}
 use Rattle.rtl_model.specs.simulation.Net as c
 use Rattle.rtl_model.specs.simulation.Cycle.{source_value}
 use Rattle.rtl_model.specs.simulation.Elaborated.{IsWired}
-use Rattle.rtl_model.proofs.simulation.Rows.{any_at}
+use Rattle.rtl_model.proofs.basics.Lists.{Contains-none, in_contains}
 use Rattle.rtl_model.proofs.nets.Processes.{process-core_net, has_bodies}
 use Rattle.rtl_model.proofs.nets.Values.{has_values}
 use Rattle.rtl_model.proofs.nets.InRange.{has_process, process_in_range}
+use Rattle.rtl_model.proofs.nets.Sources.{sources-core_net, source_there, source_is_driver, driver_is_source, source_is_idle}
 
-core_starts : (ps : List FlatProcess) → map (λ (p : c.Process). p.starts) (map core_process ps) ≡ map starts ps
-core_starts [] = refl
-core_starts (p ∷ ps) = ap (λ (rest : List (List ℕ)). starts p ∷ rest) (core_starts ps)
+core_starts : (inputs : List ℕ) (ps : List FlatProcess) → map (λ (p : c.Process). p.starts) (map (core_process inputs) ps) ≡ map starts ps
+core_starts inputs [] = refl
+core_starts inputs (p ∷ ps) = ap (λ (rest : List (List ℕ)). starts p ∷ rest) (core_starts inputs ps)
 
 as_many : (p : FlatProcess) → length (starts p) ≡ length (targets p)
 as_many p = length-map p.drivers (λ (d : FlatDriver). d.start) ∙ sym (length-map p.drivers (λ (d : FlatDriver). d.net))
 
-no_driver : FlatDriver
+pub no_driver : FlatDriver
 no_driver = record { net = 0; start = 0 }
 
-is_among : (net : FlatNet) (n : ℕ) → c.IsInput (core_net net) n → Contains net.inputs n
-is_among net n h =
-    let a = any_at (λ (m : ℕ). m == n) net.inputs h in
-    subst (λ (x : ℕ). Contains net.inputs x) (eqb-true a.0 n a.2) a.1
-
-module _ (net : FlatNet) (in_range : IsInRange net) (connected : IsConnected net) where
-  target_below : (p place : ℕ) → place < length (targets (flat.process net p)) → slice_index (targets (flat.process net p)) place < length net.start
+module _ (net : FlatNet) (in_range : IsInRange net) where
+  target_below : (p place : ℕ) → place < length (targets (flat.process net p)) → slice_index (targets (flat.process net p)) place < length net.types
   target_below p place l =
       let q : FlatProcess = flat.process net p in
-      let e = in_range.each_starts in
       let l' : place < length q.drivers = omega (arith, length-map q.drivers (λ (d : FlatDriver). d.net)) in
       let d : DriverInRange net.types (get_or q.drivers place no_driver) = (process_in_range net in_range p (has_process net in_range p place l)).drivers place no_driver l' in
       let b : (get_or q.drivers place no_driver).net < length net.types = slice_get_within net.types _ d.0 d.1 in
       let k : slice_index (targets q) place ≡ (get_or q.drivers place no_driver).net = get_or-map (λ (x : FlatDriver). x.net) q.drivers place no_driver 0 l' in
       omega arith
 
-  input_below : (n : ℕ) → Contains net.inputs n → n < length net.start
-  input_below n (k, l, at) =
-      let e = in_range.each_starts in
-      let t : HasType net.types nine_valued n = subst (λ (x : ℕ). HasType net.types nine_valued x) at (in_range.inputs k n l) in
-      let b : n < length net.types = slice_get_within net.types n nine_valued t in
-      omega arith
+  -- a net with a source is there
+  pub source_below : (n : ℕ) (source : c.Source) → Contains (sources_of net n) source → n < length net.types
+  source_below n (c.Driver p place) h = let (l, e) = source_is_driver net n p place h in subst (λ (x : ℕ). x < length net.types) e (target_below p place l)
+  source_below n (c.Idle v) h = go (source_is_idle net n v h) (cases_lt n (length net.idle))
+    where
+      go : Contains (slice_index_or net.idle n []) v → (n < length net.idle) ⊎ (length net.idle ≤ n) → n < length net.types
+      go h (inl l) = let e = in_range.each_has_idle in omega arith
+      go h (inr l) = absurd (Contains-none v (subst (λ (xs : List ℕ). Contains xs v) (get_or_past net.idle n [] l) h))
+
+module _ (net : FlatNet) (in_range : IsInRange net) (connected : IsConnected net) where
+  input_below : (n : ℕ) → Contains net.inputs n → n < length net.types
+  input_below n (k, l, at) = slice_get_within net.types n nine_valued (subst (λ (x : ℕ). HasType net.types nine_valued x) at (in_range.inputs k n l))
 
   of_targets : (p place : ℕ) → c.HasPlace (core_net net) p place → c.target (core_net net) p place < length net.start
-  of_targets p place = rw (process-core_net net p) (target_below p place)
+  of_targets p place = rw (process-core_net net p, in_range.each_starts) (target_below net in_range p place)
 
-  of_sources : (n p place : ℕ) → Contains (sources_of net n) (c.Driver p place) → c.HasPlace (core_net net) p place × (c.target (core_net net) p place ≡ n)
+  of_inputs : (n : ℕ) → c.IsInput (core_net net) n → n < length net.start
+  of_inputs n h = let b = input_below n (in_contains net.inputs n h) in let e = in_range.each_starts in omega arith
+
+  without_source : (n : ℕ) → c.IsInput (core_net net) n → c.sources_of (core_net net) n ≡ []
+  without_source n h =
+      let i = in_contains net.inputs n h in
+      sources-core_net net n (input_below n i) ∙ connected.inputs_have_no_source n i
+
+  of_sources : (n p place : ℕ) → Contains (c.sources_of (core_net net) n) (c.Driver p place) → c.HasPlace (core_net net) p place × (c.target (core_net net) p place ≡ n)
   of_sources n p place h =
-      let d = connected.sources_are_drivers n p place h in
-      let l : place < length (targets (flat.process net p)) = omega (arith, length-map (flat.process net p).drivers (λ (x : FlatDriver). x.net)) in
-      rw (process-core_net net p) (l, d.1)
+      let there = source_there net n (c.Driver p place) h in
+      rw (process-core_net net p) (source_is_driver net n p place (subst (λ (xs : List c.Source). Contains xs (c.Driver p place)) (sources-core_net net n there) h))
 
-  of_drivers : (p place : ℕ) → c.HasPlace (core_net net) p place → Contains (sources_of net (c.target (core_net net) p place)) (c.Driver p place)
-  of_drivers p place = rw (process-core_net net p) (λ l. connected.drivers_are_sources _ p place (omega (arith, length-map (flat.process net p).drivers (λ (x : FlatDriver). x.net)), refl))
+  of_drivers : (p place : ℕ) → c.HasPlace (core_net net) p place → Contains (c.sources_of (core_net net) (c.target (core_net net) p place)) (c.Driver p place)
+  of_drivers p place = rw (process-core_net net p) (λ l.
+      let n = slice_index (targets (flat.process net p)) place in
+      subst (λ (xs : List c.Source). Contains xs (c.Driver p place)) (sym (sources-core_net net n (target_below net in_range p place l))) (driver_is_source net n p place l refl))
 
   of_starts : (p : ℕ) → length (c.process (core_net net) p).starts ≡ length (c.process (core_net net) p).drives
   of_starts p = rw (process-core_net net p) (as_many (flat.process net p))
 
+  nets_start : (n : ℕ) (source : c.Source) → Contains (c.sources_of (core_net net) n) source
+      → slice_index net.start n ≡ core_resolve (map (source_value (map (λ (p : c.Process). p.starts) (map (core_process net.inputs) net.processes))) (c.sources_of (core_net net) n))
+  nets_start n source h =
+      let e = sources-core_net net n (source_there net n source h) in
+      connected.nets_start n source (subst (λ (xs : List c.Source). Contains xs source) e h)
+      ∙ (λ i. core_resolve (map (source_value (sym (core_starts net.inputs net.processes) i)) (sym e i)))
+
   is_wired : IsWired (core_net net)
   is_wired = record {
     targets_are_nets = of_targets;
-    inputs_are_nets = λ n h. input_below n (is_among net n h);
-    inputs_have_no_source = λ n h. connected.inputs_have_no_source n (is_among net n h);
+    inputs_are_nets = of_inputs;
+    inputs_have_no_source = without_source;
     sources_are_drivers = of_sources;
     drivers_are_sources = of_drivers;
     each_driver_starts = of_starts;
-    nets_start = λ n source h. connected.nets_start n source h ∙ ap (λ (rows : List (List ℕ)). core_resolve (map (source_value rows) (sources_of net n))) (sym (core_starts net.processes));
+    nets_start = nets_start;
   }
 
 pub connected_is_elaborated : EachIsElaborated

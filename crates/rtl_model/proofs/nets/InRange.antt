@@ -1,48 +1,83 @@
--- The bodies of a net in range assign values of their targets' types.
-use Rattle.std.proofs.Common.{◌≡◌, ℕ, zero, suc, ◌<◌, ◌≤◌, List, [], ◌∷◌, length, get_or, map, slice_index, Option, Some, None, refl, sym, ap, ◌∙◌, subst, arith, ◌⊎◌, inl, inr}
-use Rattle.std.proofs.lemmas.List.{length-map}
+-- The bodies of a net in range assign values of their targets' types, and read nothing that isn't there.
+use Rattle.std.proofs.Common.{◌≡◌, ℕ, zero, suc, ◌+◌, ◌<◌, ◌≤◌, List, [], ◌∷◌, ◌++◌, length, get_or, map, replicate, slice_index, Option, Some, None}
+use Rattle.std.proofs.Common.{refl, sym, ap, ◌∙◌, subst, arith, ◌⊎◌, inl, inr, All, length-append}
+use Rattle.std.proofs.lemmas.List.{length-map, length-replicate, get_or_past}
 use Rattle.std.proofs.lemmas.Option.{slice_get_within, get_or_from_slice_get}
 use Rattle.std.proofs.lemmas.Bool.{cases_lt}
-use Rattle.std.proofs.lemmas.List.{get_or_past}
-use Rattle.rtl_model.specs.bodies.Body.{Stmts, choose, branch, step, done, no_else}
-use Rattle.rtl_model.specs.bodies.Effect.{effect_of}
-use Rattle.rtl_model.specs.bodies.Kinds.{BodyKind, Plain, AtEdge, Neither, kind_of, branch_or, branch_of}
-use Rattle.rtl_model.specs.bodies.Laws.{IsClockedBody}
-use Rattle.rtl_model.specs.bodies.Types.{NetType, limit_of, HasType, KeepsTypes}
+use Rattle.rtl_model.specs.bodies.Body.{Stmts}
+use Rattle.rtl_model.specs.bodies.Kinds.{ResetPart, Clocking, clocking, IsClockedAlone, IsClockedWithReset}
+use Rattle.rtl_model.specs.bodies.Laws.{SeesTypes}
+use Rattle.rtl_model.specs.bodies.Types.{ElementType, enumeration, limit_of, HasType, KeepsTypes}
 use Rattle.rtl_model.specs.bodies.Fits.{Fits}
 use Rattle.rtl_model.specs.nets.FlatNet as flat
-use Rattle.rtl_model.specs.nets.FlatNet.{FlatNet, FlatProcess, FlatDriver, targets, ProcessInRange, IsInRange}
-use Rattle.rtl_model.specs.nets.CoreNet.{core_net}
+use Rattle.rtl_model.specs.nets.FlatNet.{FlatNet, FlatProcess, FlatDriver, FlatVariable, VariableInRange, targets, element_starts, element_types, scope_of, ProcessInRange, IsInRange}
+use Rattle.rtl_model.specs.nets.CoreNet.{seen_from, part_effect, core_reset, core_kind, acting_branch, core_net}
+use Rattle.rtl_model.specs.nets.Laws.{InRangeIsSafe}
 use Rattle.rtl_model.specs.simulation.Net as c
 use Rattle.rtl_model.specs.simulation.Range.{limit, IsValuation, KeepsRange}
 use Rattle.rtl_model.proofs.bodies.Ranges.{entries_keep_types}
-use Rattle.rtl_model.proofs.bodies.Clocking.{clocked_shape}
-use Rattle.rtl_model.proofs.nets.Processes.{process-core_net, at_row, no_reset}
+use Rattle.rtl_model.proofs.bodies.There.{each_read_is_there}
+use Rattle.rtl_model.proofs.bodies.Clocking.{clocked_is}
+use Rattle.rtl_model.proofs.nets.Processes.{process-core_net, at_row, reset_anywhere}
 
 -- ---- limits
 
-pub limit-at : (types : List NetType) (n : ℕ) (t : NetType) → HasType types t n → slice_index (map limit_of types) n ≡ limit_of t
+pub limit-at : (types : List ElementType) (n : ℕ) (t : ElementType) → HasType types t n → slice_index (map limit_of types) n ≡ limit_of t
 limit-at [] n t h = absurd cc
 limit-at (x ∷ types) zero t h = let k : x ≡ t = cc in ap limit_of k
 limit-at (x ∷ types) (suc n) t h = limit-at types n t h
 
-type_at : (types : List NetType) (n : ℕ) → n < length types → (t : NetType) × HasType types t n
+pub type_at : (types : List ElementType) (n : ℕ) → n < length types → (t : ElementType) × HasType types t n
 type_at [] n h = absurd (omega arith)
 type_at (x ∷ types) zero h = (x, refl)
 type_at (x ∷ types) (suc n) h = type_at types n (omega arith)
 
+-- ---- variables
+
+no_variable : FlatVariable
+no_variable = record { type_of = enumeration 0; starts = [] }
+
+same_length : (vs : List FlatVariable) → length (element_types vs) ≡ length (element_starts vs)
+same_length [] = refl
+same_length (v ∷ vs) =
+    length-append (replicate (length v.starts) v.type_of) (element_types vs)
+    ∙ (λ i. length-replicate (length v.starts) v.type_of i + same_length vs i)
+    ∙ sym (length-append v.starts (element_starts vs))
+
+-- of elements of one type, and others after them
+block_keeps : (t : ElementType) (values : List ℕ) (types : List ElementType) (rest : List ℕ) → All (λ x. x < limit_of t) values → KeepsTypes types rest
+    → KeepsTypes (replicate (length values) t ++ types) (values ++ rest)
+block_keeps t [] types rest h keeps n s e = keeps n s e
+block_keeps t (x ∷ values) types rest h keeps zero s e = let k : t ≡ s = cc in subst (λ (u : ElementType). x < limit_of u) k (h 0 0 (omega arith))
+block_keeps t (x ∷ values) types rest h keeps (suc n) s e = block_keeps t values types rest (λ k d l. h (suc k) d (omega arith)) keeps n s e
+
+starts_keep : (vs : List FlatVariable) → All VariableInRange vs → KeepsTypes (element_types vs) (element_starts vs)
+starts_keep [] h n t e = absurd cc
+starts_keep (v ∷ vs) h n t e =
+    block_keeps v.type_of v.starts (element_types vs) (element_starts vs) (h 0 no_variable (omega arith)).starts (starts_keep vs (λ k d l. h (suc k) d (omega arith))) n t e
+
 -- ---- parts of a body that fits
 
-branch_fits : (types : List NetType) (nets : List ℕ) (body : Stmts) → Fits types nets body → Fits types nets (branch_of body)
-branch_fits types nets body h = go (kind_of body) refl
+branch_fits : (inputs : List ℕ) (types : List ElementType) (p : FlatProcess) → Fits (scope_of types p) p.body → Fits (scope_of types p) (acting_branch (clocking inputs p.body))
+branch_fits inputs types p h = go (clocking inputs p.body) refl
   where
-    go : (k : BodyKind) → kind_of body ≡ k → Fits types nets (branch_or k body)
-    go Plain e = h
-    go Neither e = h
-    go (AtEdge t s) e =
-        let c : IsClockedBody body s t = clocked_shape body s t e in
-        let g : Fits types nets (step (choose (branch c.test s no_else)) done) = subst (λ (x : Stmts). Fits types nets x) c.is h in
-        g.0.1
+    part : (k : Clocking) → IsClockedAlone p.body k ⊎ IsClockedWithReset inputs p.body k → Fits (scope_of types p) k.branch
+    part k (inl x) = (subst (λ (s : Stmts). Fits (scope_of types p) s) x.is h).0.1
+    part k (inr x) = (subst (λ (s : Stmts). Fits (scope_of types p) s) x.is h).0.2.1
+
+    go : (o : Option Clocking) → clocking inputs p.body ≡ o → Fits (scope_of types p) (acting_branch o)
+    go None e = tt
+    go (Some k) e = part k (clocked_is inputs p.body k e)
+
+reset_fits : (inputs : List ℕ) (types : List ElementType) (p : FlatProcess) (k : Clocking) (x : ResetPart) → clocking inputs p.body ≡ Some k → k.reset ≡ Some x
+    → Fits (scope_of types p) p.body → Fits (scope_of types p) x.branch
+reset_fits inputs types p k x e r h = part (clocked_is inputs p.body k e)
+  where
+    part : IsClockedAlone p.body k ⊎ IsClockedWithReset inputs p.body k → Fits (scope_of types p) x.branch
+    part (inl y) = let f = y.no_reset in absurd cc
+    part (inr y) =
+        let same : y.reset ≡ x = (let f = y.reset_is in cc) in
+        subst (λ (z : ResetPart). Fits (scope_of types p) z.branch) same (subst (λ (s : Stmts). Fits (scope_of types p) s) y.is h).0.1
 
 module _ (net : FlatNet) (in_range : IsInRange net) where
   pub process_in_range : (p : ℕ) → p < length net.processes → ProcessInRange net.types (flat.process net p)
@@ -69,13 +104,15 @@ module _ (net : FlatNet) (in_range : IsInRange net) where
       let b : slice_index v n < slice_index (map limit_of net.types) n = is.in_range n (omega arith) in
       subst (λ (x : ℕ). slice_index v n < x) (limit-at net.types n t h) b
 
-  entry_below : (p place x : ℕ) (body : Stmts) (before now : List ℕ) → Fits net.types (targets (flat.process net p)) body → KeepsTypes net.types now
-      → place < length (targets (flat.process net p)) → get_or (effect_of (length (flat.process net p).drivers) body before now) place None ≡ Some x
+  -- an entry of a part that fits, of a process that is there
+  entry_below : (p place x : ℕ) (part : Stmts) (before now : List ℕ) → p < length net.processes → Fits (scope_of net.types (flat.process net p)) part → KeepsTypes net.types now
+      → place < length (targets (flat.process net p)) → get_or (part_effect (flat.process net p) part before now) place None ≡ Some x
       → x < slice_index (map limit_of net.types) (slice_index (targets (flat.process net p)) place)
-  entry_below p place x body before now fits keeps l h =
+  entry_below p place x part before now there fits keeps l h =
       let q : FlatProcess = flat.process net p in
       let l' : place < length q.drivers = omega (arith, length-map q.drivers (λ (d : FlatDriver). d.net)) in
-      let g = entries_keep_types net.types (targets q) body before now fits keeps place x (sym (at_row body (length q.drivers) place before now l') ∙ h) in
+      let sees : SeesTypes (scope_of net.types q) (seen_from q before now) = record { nets = keeps; variables = starts_keep q.variables (process_in_range p there).variables } in
+      let g = (entries_keep_types (scope_of net.types q) part (seen_from q before now) fits sees).entries place x (sym (at_row part (length q.drivers) place (seen_from q before now) l') ∙ h) in
       let at : slice_index (targets q) place ≡ g.0 = get_or_from_slice_get (targets q) place g.0 0 g.2 in
       let lim : slice_index (map limit_of net.types) g.0 ≡ limit_of g.1 = limit-at net.types g.0 g.1 g.3 in
       subst (λ (y : ℕ). x < y) (sym (ap (slice_index (map limit_of net.types)) at ∙ lim)) g.4
@@ -91,22 +128,49 @@ module _ (net : FlatNet) (in_range : IsInRange net) where
 
   of_effect : (p place x : ℕ) (before now : List ℕ) → IsValuation (core_net net) now → c.HasPlace (core_net net) p place
       → get_or ((c.process (core_net net) p).effect before now) place None ≡ Some x → x < limit (core_net net) (c.target (core_net net) p place)
-  of_effect p place x before now is = rw (process-core_net net p) (λ l h. entry_below p place x (flat.process net p).body before now (process_in_range p (has_process p place l)).body (keeps_types now is) l h)
+  of_effect p place x before now is =
+      rw (process-core_net net p)
+      (λ l h. let there = has_process p place l in entry_below p place x (flat.process net p).body before now there (process_in_range p there).body (keeps_types now is) l h)
 
   of_branch : (p place x : ℕ) (now : List ℕ) → IsValuation (core_net net) now → c.HasPlace (core_net net) p place
-      → get_or ((c.process (core_net net) p).branch now) place None ≡ Some x → x < limit (core_net net) (c.target (core_net net) p place)
-  of_branch p place x now is = rw (process-core_net net p) (λ l h. entry_below p place x (branch_of (flat.process net p).body) now now (branch_fits net.types _ (flat.process net p).body (process_in_range p (has_process p place l)).body) (keeps_types now is) l h)
+      → get_or ((c.process (core_net net) p).acting_effect now) place None ≡ Some x → x < limit (core_net net) (c.target (core_net net) p place)
+  of_branch p place x now is =
+      rw (process-core_net net p)
+      (λ l h.
+      let there = has_process p place l in
+      entry_below p place x (acting_branch (clocking net.inputs (flat.process net p).body)) now now there (branch_fits net.inputs net.types (flat.process net p) (process_in_range p there).body) (keeps_types now is) l h)
 
-  of_reset : (p place x : ℕ) → c.reset_entry (c.reset_of (core_net net) p) place ≡ Some x → ⊥
-  of_reset p place x h =
-      let k : c.kind_reset (c.process (core_net net) p).kind ≡ None = rw (process-core_net net p) (no_reset (kind_of (flat.process net p).body)) in
-      let e : c.reset_entry (c.reset_of (core_net net) p) place ≡ None = ap (λ (r : Option c.Reset). c.reset_entry r place) k in
-      absurd cc
+  -- a reset's branch reads nothing, so its entries are those in the starting valuation
+  of_reset : (p place x : ℕ) → c.HasPlace (core_net net) p place → c.reset_entry (c.reset_of (core_net net) p) place ≡ Some x → x < limit (core_net net) (c.target (core_net net) p place)
+  of_reset p place x = rw (process-core_net net p) (λ l h. go l (clocking net.inputs (flat.process net p).body) _ refl h)
+    where
+      go : place < length (targets (flat.process net p)) → (o : Option Clocking) (ns : List ℕ) → clocking net.inputs (flat.process net p).body ≡ o
+          → c.reset_entry (c.kind_reset (core_kind (flat.process net p) o ns)) place ≡ Some x
+          → x < slice_index (map limit_of net.types) (slice_index (targets (flat.process net p)) place)
+      go l None [] e h = absurd cc
+      go l None (n ∷ ns) e h = absurd cc
+      go l (Some k) ns e h = of_part k.reset refl h
+        where
+          of_part : (o : Option ResetPart) → k.reset ≡ o → c.reset_entry (core_reset (flat.process net p) o) place ≡ Some x
+              → x < slice_index (map limit_of net.types) (slice_index (targets (flat.process net p)) place)
+          of_part None r g = absurd cc
+          of_part (Some y) r g =
+              let there = has_process p place l in
+              let q = flat.process net p in
+              let fits = reset_fits net.inputs net.types q k y e r (process_in_range p there).body in
+              entry_below p place x y.branch [] net.start there fits (keeps_types net.start start_is_valuation) l (ap (λ (row : List (Option ℕ)). get_or row place None) (reset_anywhere net.inputs q k y e r [] net.start) ∙ g)
 
   pub keeps_range : KeepsRange (core_net net)
   keeps_range = record {
     starts_in_range = start_is_valuation;
     effect_in_range = λ p place x before now b is l h. of_effect p place x before now is l h;
     branch_in_range = λ p place clock x edge now k is l h. of_branch p place x now is l h;
-    reset_in_range = λ p place x l h. absurd (of_reset p place x h);
+    reset_in_range = of_reset;
   }
+
+pub in_range_is_safe : InRangeIsSafe
+in_range_is_safe net in_range p l =
+    let q = flat.process net p in
+    let there = process_in_range net in_range p l in
+    let r = each_read_is_there (scope_of net.types q) q.body there.body in
+    record { wakes = there.wakes; reads_there = r.nets; elements = λ e t. let b = r.elements e t in let s = same_length q.variables in omega arith }

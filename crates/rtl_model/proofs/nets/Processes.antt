@@ -1,126 +1,234 @@
 -- What a process's body gives the laws of simulation.
-use Rattle.std.proofs.Common.{◌≡◌, ◌==◌, ℕ, ◌<◌, ◌≤◌, Bool, true, false, List, length, get_or, map, slice_index, Option, Some, None, refl, sym, ap, ◌∙◌, subst, IsSome, IsTrue, arith, ◌⊎◌, inl, inr}
+use Rattle.std.proofs.Common.{◌≡◌, ◌==◌, ℕ, ◌<◌, ◌≤◌, Bool, true, false, List, [], ◌∷◌, length, get_or, map, slice_index, Option, Some, None}
+use Rattle.std.proofs.Common.{refl, sym, ap, ◌∙◌, subst, IsSome, IsTrue, arith, ◌⊎◌, inl, inr, Contains}
 use Rattle.std.specs.List.{range_with_len}
 use Rattle.std.specs.Prelude.{nat_lt}
-use Rattle.std.proofs.Math.ListN.{get_or-map}
 use Rattle.std.proofs.lemmas.List.{get_or_past, length-map}
 use Rattle.std.proofs.lemmas.List.FromFn.{length-map-range_with_len, get_or-map-range_with_len}
 use Rattle.std.proofs.lemmas.Bool.{cases_lt, eqb-true, ltb-true, and_parts}
-use Rattle.vhdl_values.specs.Edges.{has_edge}
+use Rattle.rtl_model.specs.basics.Valuations.{AgreeOn, clocked_entry}
 use Rattle.rtl_model.specs.bodies.Body.{Stmts}
-use Rattle.rtl_model.specs.bodies.Values.{element_at}
+use Rattle.rtl_model.specs.bodies.Values.{Seen}
+use Rattle.rtl_model.specs.bodies.Tests.{edge_at}
 use Rattle.rtl_model.specs.bodies.Effect.{effect, effect_of}
-use Rattle.rtl_model.specs.bodies.Reads.{reads}
-use Rattle.rtl_model.specs.bodies.Kinds.{EdgeTest, BodyKind, Plain, AtEdge, Neither, kind_of, branch_or, branch_of}
+use Rattle.rtl_model.specs.bodies.Reads.{reads, events}
+use Rattle.rtl_model.specs.bodies.Kinds.{ResetPart, Clocking, clocking, IsClockedAlone, IsClockedWithReset}
+use Rattle.rtl_model.specs.bodies.Laws.{reset_holds, entry_of_reset}
 use Rattle.rtl_model.specs.nets.FlatNet as flat
 use Rattle.rtl_model.specs.nets.FlatNet.{FlatNet, FlatProcess, FlatDriver, targets}
-use Rattle.rtl_model.specs.nets.CoreNet.{core_kind, core_process, core_edges, core_net, drives_net}
+use Rattle.rtl_model.specs.nets.CoreNet.{seen_from, part_effect, core_reset, core_kind, acting_branch, core_process, core_edges, core_net, drives_net}
+use Rattle.rtl_model.specs.nets.Laws.{EachKindIsOfBody}
 use Rattle.rtl_model.specs.simulation.Net as c
-use Rattle.rtl_model.specs.simulation.Elaborated.{AgreeOn, HasBodies}
-use Rattle.rtl_model.proofs.bodies.BodyKinds.{plain}
+use Rattle.rtl_model.specs.simulation.Elaborated.{HasBodies}
+use Rattle.rtl_model.proofs.basics.Lists.{Contains-none, is_in, contains_in}
+use Rattle.rtl_model.proofs.simulation.Rows.{get_or-map}
 use Rattle.rtl_model.proofs.bodies.Assigned.{each_run_assigns}
 use Rattle.rtl_model.proofs.bodies.Looking.{looks_at_reads}
-use Rattle.rtl_model.proofs.bodies.BeforeEdge.{looks_at_now}
-use Rattle.rtl_model.proofs.bodies.Clocking.{follows_its_edge}
+use Rattle.rtl_model.proofs.bodies.Clocking.{clocked_is, each_kind_is_as_said, follows_its_edge, resets_read_nothing}
 
 -- ---- a process of the net
 
-pub process-core_net : (net : FlatNet) (p : ℕ) → c.process (core_net net) p ≡ core_process (flat.process net p)
-process-core_net net p = get_or-map core_process net.processes p flat.no_process
+pub process-core_net : (net : FlatNet) (p : ℕ) → c.process (core_net net) p ≡ core_process net.inputs (flat.process net p)
+process-core_net net p = get_or-map (core_process net.inputs) net.processes p flat.no_process
 
 -- ---- rows of entries
 
-pub at_row : (body : Stmts) (n k : ℕ) (b w : List ℕ) → k < n → get_or (effect_of n body b w) k None ≡ effect b w body k
-at_row body n k b w h = get_or-map-range_with_len (effect b w body) 0 n k k None h (omega arith)
+pub at_row : (body : Stmts) (n k : ℕ) (seen : Seen) → k < n → get_or (effect_of n body seen) k None ≡ effect seen body k
+at_row body n k seen h = get_or-map-range_with_len (effect seen body) 0 n k k None h (omega arith)
 
-past_row : (body : Stmts) (n k : ℕ) (b w : List ℕ) → n ≤ k → get_or (effect_of n body b w) k None ≡ None
-past_row body n k b w h = get_or_past (effect_of n body b w) k None (omega (arith, length-map-range_with_len (effect b w body) 0 n))
+pub past_row : (body : Stmts) (n k : ℕ) (seen : Seen) → n ≤ k → get_or (effect_of n body seen) k None ≡ None
+past_row body n k seen h = get_or_past (effect_of n body seen) k None (omega (arith, length-map-range_with_len (effect seen body) 0 n))
 
-same_rows : (s t : Stmts) (n : ℕ) (b w b' w' : List ℕ) → ((k : ℕ) → effect b w s k ≡ effect b' w' t k) → effect_of n s b w ≡ effect_of n t b' w'
-same_rows s t n b w b' w' h = λ i. map (λ k. h k i) (range_with_len 0 n)
-
--- ---- kinds
-
-is_plain : (x : BodyKind) → core_kind x ≡ c.Combinational → x ≡ Plain
-is_plain Plain h = refl
-is_plain (AtEdge t s) h = absurd cc
-is_plain Neither h = absurd cc
-
-pub record IsAtEdge (x : BodyKind) (clock : ℕ) (edge : c.Edge) (reset : Option c.Reset) : Type 0 where
-  pub test : EdgeTest
-  pub branch : Stmts
-  pub is : x ≡ AtEdge test branch
-  pub clock_is : clock ≡ test.clock
-  pub edge_is : edge ≡ test.kind
-  pub reset_is : reset ≡ None
-
-pub is_at_edge : (x : BodyKind) (clock : ℕ) (edge : c.Edge) (reset : Option c.Reset) → core_kind x ≡ c.Clocked clock edge reset → IsAtEdge x clock edge reset
-is_at_edge Plain clock edge reset h = absurd cc
-is_at_edge Neither clock edge reset h = absurd cc
-is_at_edge (AtEdge t s) clock edge reset h =
-    let k : t.clock ≡ clock = cc in
-    let l : t.kind ≡ edge = cc in
-    let r : None ≡ reset = cc in
-    record { test = t; branch = s; is = refl; clock_is = sym k; edge_is = sym l; reset_is = sym r }
-
-pub no_reset : (x : BodyKind) → c.kind_reset (core_kind x) ≡ None
-no_reset Plain = refl
-no_reset (AtEdge t s) = refl
-no_reset Neither = refl
+same_rows : (body : Stmts) (n : ℕ) (seen other : Seen) → ((k : ℕ) → effect seen body k ≡ effect other body k) → effect_of n body seen ≡ effect_of n body other
+same_rows body n seen other h = λ i. map (λ k. h k i) (range_with_len 0 n)
 
 -- ---- the facts, of a process
 
-module _ (p : FlatProcess) where
+module _ (inputs : List ℕ) (p : FlatProcess) where
+  abbrev clocked : Option Clocking
+  clocked = clocking inputs p.body
+
+  -- two runs from the initial values that see the same nets, or the same events
+  alike_parts : (part : Stmts) (before now before' now' : List ℕ) → AgreeOn (reads part) now now' → AgreeOn (events part) before before'
+      → part_effect p part before now ≡ part_effect p part before' now'
+  alike_parts part before now before' now' a b =
+      same_rows part (length p.drivers) (seen_from p before now) (seen_from p before' now')
+      (looks_at_reads part (seen_from p before now) (seen_from p before' now') (record { now = a; before = b; as_many = refl; variables = λ e t. refl }))
+
+  without_events : (part : Stmts) → events part ≡ [] → (before before' : List ℕ) → AgreeOn (events part) before before'
+  without_events part e before before' n h = absurd (Contains-none n (subst (λ (ns : List ℕ). Contains ns n) e h))
+
   assigned : (place : ℕ) (before now : List ℕ) → place < length (targets p)
       → ((other : ℕ) → other < length (targets p) → slice_index (targets p) other ≡ slice_index (targets p) place → other ≡ place)
-      → IsTrue ((core_process p).assigns (slice_index (targets p) place)) → IsSome (get_or ((core_process p).effect before now) place None)
+      → IsTrue ((core_process inputs p).assigns (slice_index (targets p) place)) → IsSome (get_or ((core_process inputs p).effect before now) place None)
   assigned place before now l only h =
-      let a = each_run_assigns p.body (drives_net (targets p) (slice_index (targets p) place)) before now h in
+      let a = each_run_assigns p.body (drives_net (targets p) (slice_index (targets p) place)) (seen_from p before now) h in
       let f = and_parts (nat_lt a.0 (length (targets p))) (slice_index (targets p) a.0 == slice_index (targets p) place) a.1 in
       let k : a.0 ≡ place = only a.0 (ltb-true a.0 (length (targets p)) f.0) (eqb-true (slice_index (targets p) a.0) (slice_index (targets p) place) f.1) in
       let l' : place < length p.drivers = omega (arith, length-map p.drivers (λ (d : FlatDriver). d.net)) in
-      rw (at_row p.body (length p.drivers) place before now l') (subst (λ (x : ℕ). IsSome (effect before now p.body x)) k a.2)
+      rw (at_row p.body (length p.drivers) place (seen_from p before now) l') (subst (λ (x : ℕ). IsSome (effect (seen_from p before now) p.body x)) k a.2)
 
-  effect_reads : (before now before' now' : List ℕ) → (core_process p).kind ≡ c.Combinational → AgreeOn (core_process p).reads now now' → (core_process p).effect before now ≡ (core_process p).effect before' now'
+  -- a combinational body has no edge test and no `'event`
+  combinational_is : (o : Option Clocking) (ns : List ℕ) → core_kind p o ns ≡ c.Combinational → ns ≡ []
+  combinational_is (Some k) ns h = absurd cc
+  combinational_is None [] h = refl
+  combinational_is None (n ∷ ns) h = absurd cc
+
+  effect_reads : (before now before' now' : List ℕ) → (core_process inputs p).kind ≡ c.Combinational → AgreeOn (core_process inputs p).reads now now'
+      → (core_process inputs p).effect before now ≡ (core_process inputs p).effect before' now'
   effect_reads before now before' now' h a =
-      let x : kind_of p.body ≡ Plain = is_plain (kind_of p.body) h in
-      let r : reads (branch_of p.body) ≡ reads p.body = ap (λ (y : BodyKind). reads (branch_or y p.body)) x in
-      let a' : AgreeOn (reads p.body) now now' = subst (λ (ys : List ℕ). AgreeOn ys now now') r a in
-      same_rows p.body p.body (length p.drivers) before now before' now' (looks_at_now p.body before now before' now' (plain p.body x) a')
+      alike_parts p.body before now before' now' a (without_events p.body (combinational_is clocked (events p.body) h) before before')
 
-  branch_reads : (x y : List ℕ) → AgreeOn (core_process p).reads x y → (core_process p).branch x ≡ (core_process p).branch y
-  branch_reads x y a =
-      let s : Stmts = branch_of p.body in
-      same_rows s s (length p.drivers) x x y y (looks_at_reads s x x y y a a)
-
-  clocked_acts : (clock place : ℕ) (edge : c.Edge) (reset : Option c.Reset) (before now : List ℕ) → (core_process p).kind ≡ c.Clocked clock edge reset
-      → get_or ((core_process p).effect before now) place None
-      ≡ c.clocked_entry (c.resets (c.kind_reset (core_process p).kind) (slice_index now)) (core_edges edge (slice_index before clock) (slice_index now clock)) (c.reset_entry (c.kind_reset (core_process p).kind) place) (get_or ((core_process p).branch now) place None)
-  clocked_acts clock place edge reset before now h =
-      let x : IsAtEdge (kind_of p.body) clock edge reset = is_at_edge (kind_of p.body) clock edge reset h in
-      rw (no_reset (kind_of p.body))
-      (go x (cases_lt place (length p.drivers)))
+  branch_reads : (v w : List ℕ) → AgreeOn (core_process inputs p).acting_reads v w → (core_process inputs p).acting_effect v ≡ (core_process inputs p).acting_effect w
+  branch_reads v w a = go clocked refl a
     where
-      by_edge : (t : Bool) (e s : Option ℕ) → (t ≡ true → e ≡ s) × (t ≡ false → e ≡ None) → e ≡ c.clocked_entry false t None s
-      by_edge true e s f = f.0 refl
-      by_edge false e s f = f.1 refl
+      branch_event : (k : Clocking) → IsClockedAlone p.body k ⊎ IsClockedWithReset inputs p.body k → events k.branch ≡ []
+      branch_event k (inl x) = x.no_event
+      branch_event k (inr x) = x.no_event
 
-      go : IsAtEdge (kind_of p.body) clock edge reset → (place < length p.drivers) ⊎ (length p.drivers ≤ place)
-          → get_or (effect_of (length p.drivers) p.body before now) place None ≡ c.clocked_entry false (core_edges edge (slice_index before clock) (slice_index now clock)) None (get_or (effect_of (length p.drivers) (branch_of p.body) now now) place None)
-      go x (inl l) =
-          at_row p.body (length p.drivers) place before now l
-          ∙ by_edge (has_edge x.test.kind (element_at before x.test.clock) (element_at now x.test.clock)) (effect before now p.body place) (effect now now x.branch place) (follows_its_edge p.body x.branch x.test before now x.is place)
-          ∙ sym (λ i. c.clocked_entry false (has_edge (x.edge_is i) (element_at before (x.clock_is i)) (element_at now (x.clock_is i))) None (effect now now x.branch place))
-          ∙ ap (λ (o : Option ℕ). c.clocked_entry false (core_edges edge (slice_index before clock) (slice_index now clock)) None o)
-          (sym (at_row x.branch (length p.drivers) place now now l) ∙ ap (λ (y : BodyKind). get_or (effect_of (length p.drivers) (branch_or y p.body) now now) place None) (sym x.is))
-      go x (inr l) =
-          past_row p.body (length p.drivers) place before now l
-          ∙ nothing (core_edges edge (slice_index before clock) (slice_index now clock))
-          ∙ ap (λ (o : Option ℕ). c.clocked_entry false (core_edges edge (slice_index before clock) (slice_index now clock)) None o) (sym (past_row (branch_of p.body) (length p.drivers) place now now l))
+      go : (o : Option Clocking) → clocked ≡ o → AgreeOn (reads (acting_branch o)) v w → part_effect p (acting_branch o) v v ≡ part_effect p (acting_branch o) w w
+      go None e a = refl
+      go (Some k) e a = alike_parts k.branch v v w w a (without_events k.branch (branch_event k (clocked_is inputs p.body k e)) v w)
+
+  -- ---- clocked processes
+
+  -- a clocked kind is that of a clocked body
+  pub record IsAtEdge (clock : ℕ) (edge : c.Edge) (reset : Option c.Reset) : Type 0 where
+    pub parts : Clocking
+    pub is : clocking inputs p.body ≡ Some parts
+    pub clock_is : parts.test.clock ≡ clock
+    pub edge_is : parts.test.edge ≡ edge
+    pub reset_is : core_reset p parts.reset ≡ reset
+
+  pub is_at_edge : (clock : ℕ) (edge : c.Edge) (reset : Option c.Reset) → (core_process inputs p).kind ≡ c.Clocked clock edge reset → IsAtEdge clock edge reset
+  is_at_edge clock edge reset h = go clocked (events p.body) refl h
+    where
+      go : (o : Option Clocking) (ns : List ℕ) → clocked ≡ o → core_kind p o ns ≡ c.Clocked clock edge reset → IsAtEdge clock edge reset
+      go None [] e h = absurd cc
+      go None (n ∷ ns) e h = absurd cc
+      go (Some k) ns e h =
+          let a : k.test.clock ≡ clock = cc in
+          let b : k.test.edge ≡ edge = cc in
+          let d : core_reset p k.reset ≡ reset = cc in
+          record { parts = k; is = e; clock_is = a; edge_is = b; reset_is = d }
+
+  -- a reset's branch has the same entries in all valuations
+  pub reset_anywhere : (k : Clocking) (x : ResetPart) → clocking inputs p.body ≡ Some k → k.reset ≡ Some x → (before now : List ℕ)
+      → part_effect p x.branch before now ≡ part_effect p x.branch [] []
+  reset_anywhere k x e r before now =
+      let (a, b) = resets_read_nothing inputs p.body k x e r in
+      alike_parts x.branch before now [] []
+      (λ n h. absurd (Contains-none n (subst (λ (ns : List ℕ). Contains ns n) a h)))
+      (without_events x.branch b before [])
+
+  reset_entries : (k : Clocking) → clocking inputs p.body ≡ Some k → (before now : List ℕ) (place : ℕ) → place < length p.drivers
+      → entry_of_reset (seen_from p before now) k.reset place ≡ c.reset_entry (core_reset p k.reset) place
+  reset_entries k e before now place l = go k.reset refl
+    where
+      go : (o : Option ResetPart) → k.reset ≡ o → entry_of_reset (seen_from p before now) o place ≡ c.reset_entry (core_reset p o) place
+      go None r = refl
+      go (Some x) r =
+          sym (at_row x.branch (length p.drivers) place (seen_from p before now) l)
+          ∙ ap (λ (row : List (Option ℕ)). get_or row place None) (reset_anywhere k x e r before now)
+
+  holds_alike : (o : Option ResetPart) (before now : List ℕ) → reset_holds (seen_from p before now) o ≡ c.resets (core_reset p o) (slice_index now)
+  holds_alike None before now = refl
+  holds_alike (Some x) before now = refl
+
+  no_entry : (o : Option ResetPart) (place : ℕ) → length p.drivers ≤ place → None ≡ c.reset_entry (core_reset p o) place
+  no_entry None place l = refl
+  no_entry (Some x) place l = sym (past_row x.branch (length p.drivers) place (seen_from p [] []) l)
+
+  none_at_all : (r t : Bool) → None ≡ clocked_entry r t None None
+  none_at_all true t = refl
+  none_at_all false true = refl
+  none_at_all false false = refl
+
+  clocked_acts : (clock place : ℕ) (edge : c.Edge) (reset : Option c.Reset) (before now : List ℕ) → (core_process inputs p).kind ≡ c.Clocked clock edge reset
+      → get_or ((core_process inputs p).effect before now) place None
+      ≡ clocked_entry (c.resets reset (slice_index now)) (core_edges edge (slice_index before clock) (slice_index now clock)) (c.reset_entry reset place) (get_or ((core_process inputs p).acting_effect now) place None)
+  clocked_acts clock place edge reset before now h =
+      let x = is_at_edge clock edge reset h in
+      let k = x.parts in
+      go x (cases_lt place (length p.drivers))
+      ∙ (λ i. clocked_entry (c.resets (x.reset_is i) (slice_index now)) (core_edges (x.edge_is i) (slice_index before (x.clock_is i)) (slice_index now (x.clock_is i))) (c.reset_entry (x.reset_is i) place) (get_or (part_effect p (acting_branch (sym x.is i)) now now) place None))
+    where
+      acts : (k : Clocking) → clocking inputs p.body ≡ Some k → effect (seen_from p now now) k.branch place ≡ effect (seen_from p before now) k.branch place
+      acts k e = looks_at_reads k.branch (seen_from p now now) (seen_from p before now) (record {
+        now = λ n h. refl;
+        before = without_events k.branch (no_event (clocked_is inputs p.body k e)) now before;
+        as_many = refl;
+        variables = λ e t. refl;
+      }) place
         where
-          nothing : (t : Bool) → None ≡ c.clocked_entry false t None None
-          nothing true = refl
-          nothing false = refl
+          no_event : IsClockedAlone p.body k ⊎ IsClockedWithReset inputs p.body k → events k.branch ≡ []
+          no_event (inl y) = y.no_event
+          no_event (inr y) = y.no_event
+
+      go : (x : IsAtEdge clock edge reset) → (place < length p.drivers) ⊎ (length p.drivers ≤ place)
+          → get_or (part_effect p p.body before now) place None
+          ≡ clocked_entry (c.resets (core_reset p x.parts.reset) (slice_index now)) (core_edges x.parts.test.edge (slice_index before x.parts.test.clock) (slice_index now x.parts.test.clock)) (c.reset_entry (core_reset p x.parts.reset) place) (get_or (part_effect p x.parts.branch now now) place None)
+      go x (inl l) =
+          let k = x.parts in
+          let row : get_or (part_effect p k.branch now now) place None ≡ effect (seen_from p before now) k.branch place = at_row k.branch (length p.drivers) place (seen_from p now now) l ∙ acts k x.is in
+          at_row p.body (length p.drivers) place (seen_from p before now) l
+          ∙ follows_its_edge inputs p.body k x.is (seen_from p before now) place
+          ∙ (λ i. clocked_entry (holds_alike k.reset before now i) (edge_at (seen_from p before now) k.test.edge k.test.clock) (reset_entries k x.is before now place l i) (sym row i))
+      go x (inr l) =
+          let k = x.parts in
+          past_row p.body (length p.drivers) place (seen_from p before now) l
+          ∙ none_at_all (c.resets (core_reset p k.reset) (slice_index now)) (core_edges k.test.edge (slice_index before k.test.clock) (slice_index now k.test.clock))
+          ∙ (λ i. clocked_entry (c.resets (core_reset p k.reset) (slice_index now)) (core_edges k.test.edge (slice_index before k.test.clock) (slice_index now k.test.clock)) (no_entry k.reset place l i) (sym (past_row k.branch (length p.drivers) place (seen_from p now now) l) i))
+
+  -- ---- resets
+
+  reset_part : (o : Option ResetPart) (r : c.Reset) → core_reset p o ≡ Some r → (x : ResetPart) × (o ≡ Some x) × (x.test.net ≡ r.net)
+  reset_part None r h = absurd cc
+  reset_part (Some x) r h =
+      let e : record { net = x.test.net; value = x.test.value; entries = part_effect p x.branch [] [] } ≡ r = cc in
+      (x, refl, ap (λ (y : c.Reset). y.net) e)
+
+  reset_is_input : (r : c.Reset) → c.kind_reset (core_process inputs p).kind ≡ Some r → IsTrue (is_in inputs r.net)
+  reset_is_input r h = go clocked (events p.body) refl h
+    where
+      among : (k : Clocking) (x : ResetPart) → k.reset ≡ Some x → IsClockedAlone p.body k ⊎ IsClockedWithReset inputs p.body k → Contains inputs x.test.net
+      among k x e (inl y) = let f = y.no_reset in absurd cc
+      among k x e (inr y) = subst (λ (z : ResetPart). Contains inputs z.test.net) (let f = y.reset_is in let g : y.reset ≡ x = cc in g) y.resets.is_input
+
+      go : (o : Option Clocking) (ns : List ℕ) → clocked ≡ o → c.kind_reset (core_kind p o ns) ≡ Some r → IsTrue (is_in inputs r.net)
+      go None [] e h = absurd cc
+      go None (n ∷ ns) e h = absurd cc
+      go (Some k) ns e h =
+          let (x, is, at) = reset_part k.reset r h in
+          subst (λ (n : ℕ). is_in inputs n ≡ true) at (contains_in inputs x.test.net (among k x is (clocked_is inputs p.body k e)))
+
+-- ---- kinds
+
+module _ (p : FlatProcess) where
+  plain_kind : (inputs : List ℕ) (o : Option Clocking) (ns : List ℕ) → clocking inputs p.body ≡ o → events p.body ≡ ns → ns ≡ [] → core_kind p o ns ≡ c.Combinational
+  plain_kind inputs None [] a b e = refl
+  plain_kind inputs None (n ∷ ns) a b e = absurd cc
+  plain_kind inputs (Some k) ns a b e = absurd ((each_kind_is_as_said inputs).has_event p.body k a (b ∙ e))
+
+  mixed_parts : (o : Option Clocking) (ns : List ℕ) → core_kind p o ns ≡ c.Mixed → (o ≡ None) × (ns ≡ [] → ⊥)
+  mixed_parts None [] h = absurd cc
+  mixed_parts None (n ∷ ns) h = (refl, λ e. cc)
+  mixed_parts (Some k) ns h = absurd cc
+
+  mixed_kind : (o : Option Clocking) (ns : List ℕ) → o ≡ None → (ns ≡ [] → ⊥) → core_kind p o ns ≡ c.Mixed
+  mixed_kind None [] e h = absurd (h refl)
+  mixed_kind None (n ∷ ns) e h = refl
+  mixed_kind (Some k) ns e h = absurd cc
+
+pub each_kind_is_of_body : EachKindIsOfBody
+each_kind_is_of_body inputs p = record {
+  combinational = (combinational_is inputs p (clocking inputs p.body) (events p.body), plain_kind p inputs (clocking inputs p.body) (events p.body) refl refl);
+  clocked = (
+    λ (clock, edge, reset, h). let x = is_at_edge inputs p clock edge reset h in (x.parts, x.is),
+    λ (k, e). (k.test.clock, k.test.edge, core_reset p k.reset, ap (λ (o : Option Clocking). core_kind p o (events p.body)) e),
+  );
+  mixed = (mixed_parts p (clocking inputs p.body) (events p.body), λ (e, some). mixed_kind p (clocking inputs p.body) (events p.body) e some);
+}
 
 -- ---- the facts, of a net
 
@@ -130,26 +238,34 @@ has_bodies net = record {
   effect_reads = λ p before now before' now' is a. of_effect p before now before' now' is.1 a;
   branch_reads = λ p clock edge v w is a. of_branch p v w a;
   clocked_acts = λ p clock place edge before now is. of_clocked p clock place edge is.0 before now is.1;
-  reset_is_input = λ p reset h. absurd (of_reset p reset h);
+  reset_is_input = of_reset;
 }
   where
     of_assigned : (p place : ℕ) (before now : List ℕ) → c.HasPlace (core_net net) p place
         → ((other : ℕ) → c.HasPlace (core_net net) p other → c.target (core_net net) p other ≡ c.target (core_net net) p place → other ≡ place)
         → IsTrue ((c.process (core_net net) p).assigns (c.target (core_net net) p place)) → IsSome (get_or ((c.process (core_net net) p).effect before now) place None)
-    of_assigned p place before now = rw (process-core_net net p) (assigned (flat.process net p) place before now)
+    of_assigned p place before now = rw (process-core_net net p) (assigned net.inputs (flat.process net p) place before now)
 
-    of_effect : (p : ℕ) (before now before' now' : List ℕ) → (c.process (core_net net) p).kind ≡ c.Combinational → AgreeOn (c.process (core_net net) p).reads now now' → (c.process (core_net net) p).effect before now ≡ (c.process (core_net net) p).effect before' now'
-    of_effect p before now before' now' = rw (process-core_net net p) (effect_reads (flat.process net p) before now before' now')
+    of_effect : (p : ℕ) (before now before' now' : List ℕ) → (c.process (core_net net) p).kind ≡ c.Combinational → AgreeOn (c.process (core_net net) p).reads now now'
+        → (c.process (core_net net) p).effect before now ≡ (c.process (core_net net) p).effect before' now'
+    of_effect p before now before' now' = rw (process-core_net net p) (effect_reads net.inputs (flat.process net p) before now before' now')
 
-    of_branch : (p : ℕ) (v w : List ℕ) → AgreeOn (c.process (core_net net) p).reads v w → (c.process (core_net net) p).branch v ≡ (c.process (core_net net) p).branch w
-    of_branch p v w = rw (process-core_net net p) (branch_reads (flat.process net p) v w)
+    of_branch : (p : ℕ) (v w : List ℕ) → AgreeOn (c.process (core_net net) p).acting_reads v w
+        → (c.process (core_net net) p).acting_effect v ≡ (c.process (core_net net) p).acting_effect w
+    of_branch p v w = rw (process-core_net net p) (branch_reads net.inputs (flat.process net p) v w)
 
     of_clocked : (p clock place : ℕ) (edge : c.Edge) (reset : Option c.Reset) (before now : List ℕ) → (c.process (core_net net) p).kind ≡ c.Clocked clock edge reset
         → get_or ((c.process (core_net net) p).effect before now) place None
-        ≡ c.clocked_entry (c.resets (c.kind_reset (c.process (core_net net) p).kind) (slice_index now)) (core_edges edge (slice_index before clock) (slice_index now clock)) (c.reset_entry (c.kind_reset (c.process (core_net net) p).kind) place) (get_or ((c.process (core_net net) p).branch now) place None)
-    of_clocked p clock place edge reset before now = rw (process-core_net net p) (clocked_acts (flat.process net p) clock place edge reset before now)
+        ≡ clocked_entry (c.resets (c.reset_of (core_net net) p) (slice_index now)) (core_edges edge (slice_index before clock) (slice_index now clock)) (c.reset_entry (c.reset_of (core_net net) p) place) (get_or ((c.process (core_net net) p).acting_effect now) place None)
+    of_clocked p clock place edge reset before now h =
+        subst (λ (r : Option c.Reset). get_or ((c.process (core_net net) p).effect before now) place None
+        ≡ clocked_entry (c.resets r (slice_index now)) (core_edges edge (slice_index before clock) (slice_index now clock)) (c.reset_entry r place) (get_or ((c.process (core_net net) p).acting_effect now) place None))
+        (sym (ap c.kind_reset h)) (of_kind p clock place edge reset before now h)
+      where
+        of_kind : (p clock place : ℕ) (edge : c.Edge) (reset : Option c.Reset) (before now : List ℕ) → (c.process (core_net net) p).kind ≡ c.Clocked clock edge reset
+            → get_or ((c.process (core_net net) p).effect before now) place None
+            ≡ clocked_entry (c.resets reset (slice_index now)) (core_edges edge (slice_index before clock) (slice_index now clock)) (c.reset_entry reset place) (get_or ((c.process (core_net net) p).acting_effect now) place None)
+        of_kind p clock place edge reset before now = rw (process-core_net net p) (clocked_acts net.inputs (flat.process net p) clock place edge reset before now)
 
-    of_reset : (p : ℕ) (reset : c.Reset) → c.kind_reset (c.process (core_net net) p).kind ≡ Some reset → ⊥
-    of_reset p reset h =
-        let k : c.kind_reset (c.process (core_net net) p).kind ≡ None = rw (process-core_net net p) (no_reset (kind_of (flat.process net p).body)) in
-        absurd cc
+    of_reset : (p : ℕ) (reset : c.Reset) → c.HasReset (core_net net) p reset → c.IsInput (core_net net) reset.net
+    of_reset p reset = rw (process-core_net net p) (reset_is_input net.inputs (flat.process net p) reset)

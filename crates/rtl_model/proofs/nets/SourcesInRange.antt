@@ -1,28 +1,29 @@
 -- The sources of a net in range give values of its type.
-use Rattle.std.proofs.Common.{◌≡◌, ℕ, ◌<◌, ◌≤◌, List, [], ◌∷◌, length, get_or, map, slice_index, refl, subst, arith, Contains, ◌⊎◌, inl, inr}
-use Rattle.std.proofs.lemmas.List.{length-map, get_or_past}
-use Rattle.std.proofs.lemmas.Bool.{cases_lt}
+use Rattle.std.proofs.Common.{◌≡◌, ℕ, ◌<◌, ◌≤◌, List, [], ◌∷◌, length, get_or, map, slice_index, refl, ap, subst, arith, Contains}
+use Rattle.std.proofs.lemmas.List.{length-map}
 use Rattle.vhdl_values.specs.Scalar.{value_of_code}
 use Rattle.vhdl_values.specs.Resolution.{resolved}
 use Rattle.vhdl_values.proofs.Codes.{code_of_below}
-use Rattle.rtl_model.specs.bodies.Types.{nine_valued}
+use Rattle.rtl_model.specs.bodies.Types.{nine_valued, limit_of}
 use Rattle.rtl_model.specs.nets.FlatNet as flat
-use Rattle.rtl_model.specs.nets.FlatNet.{FlatNet, FlatDriver, targets, starts, DriverInRange, SourceInRange, IsInRange}
-use Rattle.rtl_model.specs.nets.Wiring.{sources_of, SharedAreResolved}
+use Rattle.rtl_model.specs.nets.FlatNet.{FlatNet, FlatDriver, targets, starts, IsInRange, sources_of}
+use Rattle.rtl_model.specs.nets.Wiring.{IsConnected}
 use Rattle.rtl_model.specs.nets.CoreNet.{core_net, core_resolve}
 use Rattle.rtl_model.specs.nets.Laws.{EachSourceKeepsRange}
 use Rattle.rtl_model.specs.simulation.Net as c
 use Rattle.rtl_model.specs.simulation.Net.{Source, Idle}
 use Rattle.rtl_model.specs.simulation.Range.{limit, SourcesKeepRange}
-use Rattle.rtl_model.proofs.simulation.Levels.{Contains-none}
-use Rattle.rtl_model.proofs.simulation.Starting.{get_or-map_within}
+use Rattle.rtl_model.proofs.basics.Lists.{Contains-first, get_or-map_within}
 use Rattle.rtl_model.proofs.nets.Processes.{process-core_net}
-use Rattle.rtl_model.proofs.nets.InRange.{limit-at, has_process, process_in_range}
+use Rattle.rtl_model.proofs.nets.InRange.{limit-at, type_at, has_process, process_in_range}
+use Rattle.rtl_model.proofs.nets.Sources.{sources-core_net, source_there, source_is_idle}
+use Rattle.rtl_model.proofs.nets.Connected.{no_driver}
 
-no_driver : FlatDriver
-no_driver = record { net = 0; start = 0 }
+some_source : (xs : List Source) → 1 ≤ length xs → (x : Source) × Contains xs x
+some_source [] l = absurd (omega arith)
+some_source (x ∷ xs) l = (x, Contains-first x xs)
 
-module _ (net : FlatNet) (in_range : IsInRange net) (shared : SharedAreResolved net) where
+module _ (net : FlatNet) (in_range : IsInRange net) (connected : IsConnected net) where
   -- at a place of a process, its driver's start and net
   driver_starts : (p place : ℕ) → place < length (targets (flat.process net p)) → slice_index (starts (flat.process net p)) place < limit (core_net net) (slice_index (targets (flat.process net p)) place)
   driver_starts p place l =
@@ -31,25 +32,22 @@ module _ (net : FlatNet) (in_range : IsInRange net) (shared : SharedAreResolved 
       let (t, typed, below) = (process_in_range net in_range p (has_process net in_range p place l)).drivers place no_driver l' in
       rw (get_or-map_within (λ (d : FlatDriver). d.start) ds place no_driver 0 l', get_or-map_within (λ (d : FlatDriver). d.net) ds place no_driver 0 l', limit-at net.types (get_or ds place no_driver).net t typed) below
 
-  sources_there : (n : ℕ) (source : Source) → Contains (sources_of net n) source → n < length net.types
-  sources_there n source c = go (cases_lt n (length net.types))
-    where
-      go : (n < length net.types) ⊎ (length net.types ≤ n) → n < length net.types
-      go (inl l) = l
-      go (inr l) =
-          let e = in_range.each_has_sources in
-          absurd (Contains-none source (subst (λ (xs : List Source). Contains xs source) (get_or_past net.sources n [] (omega arith)) c))
+  idle_below : (n v : ℕ) → Contains (c.sources_of (core_net net) n) (Idle v) → v < limit (core_net net) n
+  idle_below n v h =
+      let there = source_there net n (Idle v) h in
+      let (t, typed) = type_at net.types n there in
+      let (k, l, at) = source_is_idle net n v (subst (λ (xs : List Source). Contains xs (Idle v)) (sources-core_net net n there) h) in
+      rw (limit-at net.types n t typed) (subst (λ (x : ℕ). x < limit_of t) at (in_range.idle n t typed k v l))
 
-  idle_below : (n v : ℕ) → Contains (sources_of net n) (Idle v) → v < limit (core_net net) n
-  idle_below n v (k, l, e) =
-      let there = in_range.sources n (sources_there n (Idle v) (k, l, e)) k (Idle v) l in
-      let (t, typed, below) = subst (λ (x : Source). SourceInRange net n x) e there in
-      rw (limit-at net.types n t typed) below
-
-  resolved_below : (n : ℕ) (values : List ℕ) → length values ≡ length (sources_of net n) → (length values ≡ 0 → ⊥) → ((k : ℕ) → k < length values → slice_index values k < limit (core_net net) n) → core_resolve values < limit (core_net net) n
+  resolved_below : (n : ℕ) (values : List ℕ) → length values ≡ length (c.sources_of (core_net net) n) → (length values ≡ 0 → ⊥)
+      → ((k : ℕ) → k < length values → slice_index values k < limit (core_net net) n) → core_resolve values < limit (core_net net) n
   resolved_below n [] e some below = absurd (some refl)
   resolved_below n (v ∷ []) e some below = below 0 (omega arith)
-  resolved_below n (v ∷ w ∷ more) e some below = rw (limit-at net.types n nine_valued (shared n (omega arith))) (code_of_below (resolved (map value_of_code (v ∷ w ∷ more))))
+  resolved_below n (v ∷ w ∷ more) e some below =
+      let (source, among) = some_source (c.sources_of (core_net net) n) (omega arith) in
+      let there = source_there net n source among in
+      let two : 2 ≤ length (sources_of net n) = omega (arith, ap length (sources-core_net net n there)) in
+      rw (limit-at net.types n nine_valued (connected.shared_are_resolved n two)) (code_of_below (resolved (map value_of_code (v ∷ w ∷ more))))
 
   keep_range : SourcesKeepRange (core_net net)
   keep_range = record {
@@ -62,4 +60,4 @@ module _ (net : FlatNet) (in_range : IsInRange net) (shared : SharedAreResolved 
       starts_at p place = rw (process-core_net net p) (driver_starts p place)
 
 pub sources_keep_range : EachSourceKeepsRange
-sources_keep_range net in_range shared = keep_range net in_range shared
+sources_keep_range net in_range connected = keep_range net in_range connected

@@ -14,7 +14,7 @@ pub record Faultless (net : Net) : Type 0 where
   pub clock_wakes : (p clock : ℕ) (edge : Edge) → IsClockedBy net p clock edge → Contains (process net p).wakes clock
   pub reset_wakes : (p : ℕ) (reset : Reset) → HasReset net p reset → Contains (process net p).wakes reset.net
   -- no branch reads a clock, its own or another's
-  pub no_clock_as_data : (p clock q other : ℕ) (edge edge' : Edge) → IsClockedBy net p clock edge → IsClockedBy net q other edge' → Contains (process net p).reads other → ⊥
+  pub no_clock_as_data : (p clock q other : ℕ) (edge edge' : Edge) → IsClockedBy net p clock edge → IsClockedBy net q other edge' → Contains (process net p).acting_reads other → ⊥
   pub reads_wake : (p n : ℕ) → IsCombinational net p → Contains (process net p).reads n → Contains (process net p).wakes n
   pub no_latch : (p place : ℕ) → IsCombinational net p → HasPlace net p place → IsTrue ((process net p).assigns (target net p place))
   pub no_loop : (ps : List ℕ) → IsLoop net ps → ⊥

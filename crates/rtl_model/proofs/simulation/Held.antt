@@ -6,16 +6,18 @@ use Rattle.std.proofs.lemmas.List.{length-map, get_or_past}
 use Rattle.std.proofs.lemmas.List.Elements.{Contains-get_or}
 use Rattle.std.proofs.lemmas.List.FromFn.{length-map-range_with_len}
 use Rattle.std.proofs.lemmas.Bool.{and_from, cases_lt, cases_Bool, cond-true, cond-false}
+use Rattle.rtl_model.proofs.basics.Lists.{Contains-none, any_at, any_true, Contains-first, none_contained, only_source}
+use Rattle.rtl_model.specs.basics.Valuations.{AgreeOn, clocked_entry, has_event}
 use Rattle.rtl_model.proofs.simulation.Faultless.{Faultless}
-use Rattle.rtl_model.specs.simulation.Net.{Clocked, clocked_entry, Combinational, Driver, Edge, HasPlace, Idle, IsClockedBy, IsCombinational, IsInput, Kind, kind_reset, Mixed, Net, no_process, process, Process, Reset, reset_entry, reset_of, resets, Source, sources_of, target}
-use Rattle.rtl_model.specs.simulation.Cycle.{has_event, is_quiet, resolved, resumed, source_value, State, updated}
-use Rattle.rtl_model.specs.simulation.Elaborated.{AgreeOn, IsElaborated}
+use Rattle.rtl_model.specs.simulation.Net.{Clocked, Combinational, Driver, Edge, HasPlace, Idle, IsClockedBy, IsCombinational, IsInput, Kind, kind_reset, Mixed, Net, no_process, process, Process, Reset, reset_entry, reset_of, resets, Source, sources_of, target}
+use Rattle.rtl_model.specs.simulation.Cycle.{is_quiet, net_value, resumed, source_value, State, updated}
+use Rattle.rtl_model.specs.simulation.Elaborated.{IsElaborated}
 use Rattle.rtl_model.specs.simulation.Levels.{AreLevels, has_late_reset, is_driver}
 use Rattle.rtl_model.specs.simulation.Machine.{entry_or, IsDriven}
 use Rattle.rtl_model.proofs.simulation.Order.{finished, waits, row_after, get_or-rows}
-use Rattle.rtl_model.proofs.simulation.Levels.{assigned, kinds, sole, driven_or_not, level_or, level_of, level_of_clocked, level_above_none, level_rises, Contains-none, first_source, only_source}
+use Rattle.rtl_model.proofs.simulation.Levels.{assigned, kinds, sole, driven_or_not, level_or, level_of, level_of_clocked, level_above_none, level_rises}
 use Rattle.rtl_model.proofs.simulation.Solution.{get_or-table, length-table}
-use Rattle.rtl_model.proofs.simulation.Rows.{any_true, transaction, value, out, driven_all_at, length-driven, driven_at, over_none, none_pending_at, any_at, none_contained, quiet_from, resumed_at, event_differs, no_event_same}
+use Rattle.rtl_model.proofs.simulation.Rows.{transaction, value, out, driven_all_at, length-driven, driven_at, over_none, none_pending_at, quiet_from, resumed_at, event_differs, no_event_same}
 use Rattle.rtl_model.proofs.simulation.Deltas.{after_delta, after}
 
 -- r is what the driver of each register has from the next update on
@@ -107,7 +109,7 @@ module _ (net : Net) (levels : List (Option ℕ)) (greatest : ℕ) (E : IsElabor
 
   -- what a clocked process has after its run
   pub clocked_awake : (u : State) (p place clock : ℕ) (edge : Edge) → IsFresh net u → IsClockedBy net p clock edge → p < length net.processes → waits u p ≡ true
-      → transaction (finished net u) p place ≡ clocked_entry (resets (reset_of net p) (λ n. get_or u.now n 0)) (net.edge edge (get_or u.before clock 0) (get_or u.now clock 0)) (reset_entry (reset_of net p) place) (get_or ((process net p).branch u.now) place None)
+      → transaction (finished net u) p place ≡ clocked_entry (resets (reset_of net p) (λ n. get_or u.now n 0)) (net.edge edge (get_or u.before clock 0) (get_or u.now clock 0)) (reset_entry (reset_of net p) place) (get_or ((process net p).acting_effect u.now) place None)
   clocked_awake u p place clock edge f is l w = ran_awake net u p place f l w ∙ E.bodies.clocked_acts p clock place edge u.before u.now is
 
   -- a clocked process whose clock has no event assigns nothing, unless its reset holds
@@ -171,8 +173,8 @@ module _ (net : Net) (levels : List (Option ℕ)) (greatest : ℕ) (E : IsElabor
 
     pub updated_driven : (p place : ℕ) → HasPlace net p place → get_or (updated net s).now (target net p place) 0 ≡ value (updated net s) p place
     updated_driven p place h =
-        get_or-table (length net.start) (λ n. resolved net (updated net s).drivers (sources_of net n) (get_or s.now n 0)) (target net p place) (E.wiring.targets_are_nets p place h)
-        ∙ ap (λ (xs : List Source). resolved net (updated net s).drivers xs (get_or s.now (target net p place) 0)) (sole net levels greatest E A V p place h)
+        get_or-table (length net.start) (λ n. net_value net (updated net s).drivers (sources_of net n) (get_or s.now n 0)) (target net p place) (E.wiring.targets_are_nets p place h)
+        ∙ ap (λ (xs : List Source). net_value net (updated net s).drivers xs (get_or s.now (target net p place) 0)) (sole net levels greatest E A V p place h)
         ∙ E.values.one_resolves _
 
     pub updated_rest : (n : ℕ) → (IsDriven net n → ⊥) → get_or (updated net s).now n 0 ≡ get_or s.now n 0
@@ -183,17 +185,17 @@ module _ (net : Net) (levels : List (Option ℕ)) (greatest : ℕ) (E : IsElabor
 
         go : (n < length net.start) ⊎ (length net.start ≤ n) → (xs : List Source) → sources_of net n ≡ xs → get_or (updated net s).now n 0 ≡ get_or s.now n 0
         go (inl l) [] e =
-            get_or-table (length net.start) (λ m. resolved net (updated net s).drivers (sources_of net m) (get_or s.now m 0)) n l
-            ∙ ap (λ (xs : List Source). resolved net (updated net s).drivers xs (get_or s.now n 0)) e
+            get_or-table (length net.start) (λ m. net_value net (updated net s).drivers (sources_of net m) (get_or s.now m 0)) n l
+            ∙ ap (λ (xs : List Source). net_value net (updated net s).drivers xs (get_or s.now n 0)) e
         go (inl l) (Idle v ∷ more) e =
-            let has = subst (λ (xs : List Source). Contains xs (Idle v)) (sym e) (first_source (Idle v) more) in
+            let has = subst (λ (xs : List Source). Contains xs (Idle v)) (sym e) (Contains-first (Idle v) more) in
             let one = only_source (sources_of net n) (Idle v) (A.one_source n) has in
             let given : IsInput net n → ⊥ = λ is. Contains-none (Idle v) (subst (λ (xs : List Source). Contains xs (Idle v)) (E.wiring.inputs_have_no_source n is) has) in
-            get_or-table (length net.start) (λ m. resolved net (updated net s).drivers (sources_of net m) (get_or s.now m 0)) n l
-            ∙ ap (λ (xs : List Source). resolved net (updated net s).drivers xs (get_or s.now n 0)) one
+            get_or-table (length net.start) (λ m. net_value net (updated net s).drivers (sources_of net m) (get_or s.now m 0)) n l
+            ∙ ap (λ (xs : List Source). net_value net (updated net s).drivers xs (get_or s.now n 0)) one
             ∙ sym (H.on_others n l given free ∙ E.wiring.nets_start n (Idle v) has ∙ ap (λ (xs : List Source). net.resolve (map (source_value starts) xs)) one)
         go (inl l) (Driver p place ∷ more) e =
-            let f = E.wiring.sources_are_drivers n p place (subst (λ (xs : List Source). Contains xs (Driver p place)) (sym e) (first_source (Driver p place) more)) in
+            let f = E.wiring.sources_are_drivers n p place (subst (λ (xs : List Source). Contains xs (Driver p place)) (sym e) (Contains-first (Driver p place) more)) in
             absurd (free (p, place, f.0, f.1))
         go (inr l) xs e =
             let k = H.now_length in

@@ -2,30 +2,13 @@
 use Rattle.std.proofs.Common.{◌≡◌, ℕ, zero, suc, ◌<◌, ◌≤◌, List, [], ◌∷◌, length, get_or, Option, None, refl, sym, ap, IsSome, arith, ◌⊎◌, inl, inr, subst, Contains}
 use Rattle.std.proofs.lemmas.List.{get_or_past}
 use Rattle.std.proofs.lemmas.Bool.{cases_lt}
+use Rattle.rtl_model.proofs.basics.Lists.{Contains-none, Contains-one, Contains-first, only_source}
 use Rattle.rtl_model.proofs.simulation.Faultless.{Faultless}
 use Rattle.rtl_model.specs.simulation.Net.{Clocked, Combinational, Driver, Edge, HasPlace, Idle, IsClockedBy, IsCombinational, Kind, Mixed, Net, no_process, Process, process, Source, sources_of, target}
 use Rattle.rtl_model.specs.simulation.Elaborated.{IsElaborated, IsOnlyPlace}
 use Rattle.rtl_model.specs.simulation.Accepted.{Feeds}
 use Rattle.rtl_model.specs.simulation.Levels.{AreLevels, ChainTo, IsLevel}
 use Rattle.rtl_model.specs.simulation.Machine.{entry_or, IsDriven}
-
-pub Contains-none : {X : Type 0} (x : X) → Contains [] x → ⊥
-Contains-none x h = let l : h.0 < 0 = h.1 in omega arith
-
-pub Contains-one : {X : Type 0} (x y : X) → Contains (x ∷ []) y → x ≡ y
-Contains-one x y (k, l, e) = go k l e
-  where
-    go : (k : ℕ) → k < 1 → get_or (x ∷ []) k y ≡ y → x ≡ y
-    go zero l e = e
-    go (suc k) l e = absurd (omega arith)
-
-pub only_source : (xs : List Source) (x : Source) → length xs ≤ 1 → Contains xs x → xs ≡ x ∷ []
-only_source [] x l h = absurd (Contains-none x h)
-only_source (y ∷ []) x l h = ap (λ z. z ∷ []) (Contains-one y x h)
-only_source (y ∷ z ∷ zs) x l h = absurd (omega arith)
-
-pub first_source : {X : Type 0} (x : X) (xs : List X) → Contains (x ∷ xs) x
-first_source x xs = (0, omega arith, refl)
 
 pub place_in_range : (net : Net) (p place : ℕ) → HasPlace net p place → p < length net.processes
 place_in_range net p place h = go (cases_lt p (length net.processes))
@@ -73,9 +56,9 @@ module _ (net : Net) (levels : List (Option ℕ)) (greatest : ℕ) (E : IsElabor
       go : (xs : List Source) → sources_of net n ≡ xs → IsDriven net n ⊎ (IsDriven net n → ⊥)
       go [] e = inr (λ (p, place, has, t). Contains-none (Driver p place) (subst (λ (xs : List Source). Contains xs (Driver p place)) e (subst (λ (m : ℕ). Contains (sources_of net m) (Driver p place)) t (E.wiring.drivers_are_sources p place has))))
       go (Driver p place ∷ more) e =
-          let f = E.wiring.sources_are_drivers n p place (subst (λ (xs : List Source). Contains xs (Driver p place)) (sym e) (first_source (Driver p place) more)) in
+          let f = E.wiring.sources_are_drivers n p place (subst (λ (xs : List Source). Contains xs (Driver p place)) (sym e) (Contains-first (Driver p place) more)) in
           inl (p, place, f.0, f.1)
-      go (Idle v ∷ more) e = inr (not (Idle v) (only_source (sources_of net n) (Idle v) (A.one_source n) (rw e (first_source (Idle v) more))) (λ p place q. cc))
+      go (Idle v ∷ more) e = inr (not (Idle v) (only_source (sources_of net n) (Idle v) (A.one_source n) (rw e (Contains-first (Idle v) more))) (λ p place q. cc))
 
   pub level_of : (p : ℕ) → IsCombinational net p → IsLevel net p (level_or levels p) × (level_or levels p ≤ greatest)
   level_of p c =

@@ -2,14 +2,16 @@
 use Rattle.std.proofs.Common.{◌≡◌, ℕ, zero, suc, ◌<◌, Bool, true, false, List, [], ◌∷◌, length, get_or, Option, Some, None, refl, sym, if◌then◌else◌, ◌⊎◌, inl, inr, subst, IsSome, Contains, ◌==◌}
 use Rattle.std.specs.List.{list_any}
 use Rattle.std.proofs.lemmas.Bool.{cases_Bool, cond-true, cond-false}
-use Rattle.rtl_model.specs.simulation.Net.{Clocked, clocked_entry, Combinational, Driver, HasPlace, Idle, Kind, Mixed, Net, process, Source, sources_of, target}
+use Rattle.rtl_model.proofs.basics.Lists.{Contains-first}
+use Rattle.rtl_model.specs.basics.Valuations.{clocked_entry}
+use Rattle.rtl_model.specs.simulation.Net.{Clocked, Combinational, Driver, HasPlace, Idle, Kind, Mixed, Net, process, Source, sources_of, target}
 use Rattle.rtl_model.specs.simulation.Elaborated.{IsElaborated}
 use Rattle.rtl_model.specs.simulation.Levels.{AreLevels}
 use Rattle.rtl_model.specs.simulation.Machine.{entry_or, IsMachineRun, Solves}
 use Rattle.rtl_model.specs.simulation.Range.{AreInputs, AreRegisters, IsValuation, KeepsRange, limit}
 use Rattle.rtl_model.specs.simulation.Laws.{RunsInRange, SolutionsInRange}
 use Rattle.rtl_model.proofs.simulation.Faultless.{Faultless, faultless}
-use Rattle.rtl_model.proofs.simulation.Levels.{assigned, first_source, place_in_range}
+use Rattle.rtl_model.proofs.simulation.Levels.{assigned, place_in_range}
 use Rattle.rtl_model.proofs.simulation.Loops.{levels_exist}
 use Rattle.rtl_model.proofs.simulation.Solution.{length-table, by_kind, evaluated, evaluations, evaluate_at, solution_is, solution_solves, one_solves}
 
@@ -43,7 +45,7 @@ module _ (net : Net) (levels : List (Option ℕ)) (greatest : ℕ) (E : IsElabor
         go (inr f) = rw (cond-false _ (inputs n) (get_or net.start n 0) f) (K.starts_in_range.in_range n l)
     value_in_range v is n l (Idle value ∷ more) e = K.starts_in_range.in_range n l
     value_in_range v is n l (Driver p place ∷ more) e =
-        let (h, t) = E.wiring.sources_are_drivers n p place (subst (λ (xs : List Source). Contains xs (Driver p place)) (sym e) (first_source (Driver p place) more)) in
+        let (h, t) = E.wiring.sources_are_drivers n p place (subst (λ (xs : List Source). Contains xs (Driver p place)) (sym e) (Contains-first (Driver p place) more)) in
         go h t (process net p).kind refl
       where
         go : HasPlace net p place → target net p place ≡ n → (k : Kind) → (process net p).kind ≡ k → by_kind k (entry_or (get_or ((process net p).effect v v) place None) 0) (registers n) < limit net n

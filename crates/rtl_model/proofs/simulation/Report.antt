@@ -126,13 +126,9 @@ module _ (net : Net) (levels from : List (Option ℕ)) (clocks : List (ℕ × Ed
     clocked = R.levels_are.clocked;
     none_above = R.levels_are.none_above;
     met = R.levels_are.met;
-    bound_is = R.bound_is;
-    each_from = R.each_from;
     from_first = none_at_one;
     from_lowest = lowest;
-    from_clocked = R.from_clocked;
-    clocks_are = R.clocks_are;
-    clocks_rise = R.clocks_rise;
+    rest = R.rest;
   }
 
 -- and what satisfies them is a report
@@ -167,12 +163,8 @@ module _ (net : Net) (levels from : List (Option ℕ)) (clocks : List (ℕ × Ed
       none_above = S.none_above;
       met = S.met;
     };
-    bound_is = S.bound_is;
-    each_from = S.each_from;
     from_combinational = λ q c. let (below, e) = S.shown.each q c in shown_from q below c e (get_or from q None) refl;
-    from_clocked = S.from_clocked;
-    clocks_are = S.clocks_are;
-    clocks_rise = S.clocks_rise;
+    rest = S.rest;
   }
 
 pub reports_are_shown : ReportsAreShown

@@ -1,10 +1,12 @@
 -- What the rows of transactions and values have at a place.
-use Rattle.std.proofs.Common.{◌≡◌, ℕ, zero, suc, ◌<◌, Bool, true, false, not, List, [], ◌∷◌, length, get_or, map, Option, Some, None, refl, ap, arith, ◌⊎◌, inl, inr, subst, IsSome, Contains}
+use Rattle.std.proofs.Common.{◌≡◌, ℕ, zero, suc, ◌<◌, true, false, not, List, [], ◌∷◌, length, get_or, map, Option, Some, None, refl, ap, arith, IsSome}
 use Rattle.std.specs.List.{list_any}
 use Rattle.std.specs.Option.{is_some}
-use Rattle.std.proofs.lemmas.Bool.{or_cases, or_parts, not-true, not-false, eqb-true, ne_eqb, eqb-false, cases_Bool}
+use Rattle.std.proofs.lemmas.Bool.{not-true, not-false, eqb-true, ne_eqb, eqb-false}
+use Rattle.rtl_model.proofs.basics.Lists.{all_none, none_at}
+use Rattle.rtl_model.specs.basics.Valuations.{has_event}
 use Rattle.rtl_model.specs.simulation.Net.{Net, no_process, process, Process}
-use Rattle.rtl_model.specs.simulation.Cycle.{driven, driven_all, has_event, is_quiet, none_pending, over, resumed, State}
+use Rattle.rtl_model.specs.simulation.Cycle.{driven, driven_all, is_quiet, none_pending, over, resumed, State}
 use Rattle.rtl_model.specs.simulation.Machine.{entry_or}
 
 abbrev pub transaction : State → ℕ → ℕ → Option ℕ
@@ -63,29 +65,6 @@ no_entries (x ∷ xs) (suc k) = no_entries xs k
 pub none_pending_at : (pend : List (List (Option ℕ))) (p place : ℕ) → get_or (get_or (none_pending pend) p []) place None ≡ None
 none_pending_at pend p place = rw (get_or-map (map {B = Option ℕ} (λ (x : Option ℕ). None)) pend p []) (no_entries (get_or pend p []) place)
 
--- tests of a list
-pub any_at : {X : Type 0} (f : X → Bool) (xs : List X) → list_any f xs ≡ true → (x : X) × Contains xs x × (f x ≡ true)
-any_at f [] e = cc
-any_at {X} f (x ∷ xs) e = go (λ h. any_at f xs h) (or_cases (f x) (list_any f xs) e)
-  where
-    go : (list_any f xs ≡ true → (y : X) × Contains xs y × (f y ≡ true)) → (f x ≡ true) ⊎ (list_any f xs ≡ true) → (y : X) × Contains (x ∷ xs) y × (f y ≡ true)
-    go more (inl h) = (x, (0, omega arith, refl), h)
-    go more (inr h) = let (y, (k, l, at), t) = more h in (y, (suc k, omega arith, at), t)
-
-pub none_at : {X : Type 0} (f : X → Bool) (xs : List X) (k : ℕ) (d : X) → list_any f xs ≡ false → f d ≡ false → f (get_or xs k d) ≡ false
-none_at f [] k d e h = h
-none_at f (x ∷ xs) zero d e h = (or_parts (f x) (list_any f xs) e).0
-none_at f (x ∷ xs) (suc k) d e h = none_at f xs k d (or_parts (f x) (list_any f xs) e).1 h
-
-pub none_contained : {X : Type 0} (f : X → Bool) (xs : List X) (x : X) → list_any f xs ≡ false → Contains xs x → f x ≡ false
-none_contained f [] x e (k, l, at) = absurd (omega arith)
-none_contained {X} f (y ∷ xs) x e (zero, l, at) = subst (λ (z : X). f z ≡ false) at (or_parts (f y) (list_any f xs) e).0
-none_contained {X} f (y ∷ xs) x e (suc k, l, at) = none_contained f xs x (or_parts (f y) (list_any f xs) e).1 (k, omega arith, at)
-
-pub all_none : {X : Type 0} (f : X → Bool) (xs : List X) (d : X) → ((k : ℕ) → k < length xs → f (get_or xs k d) ≡ false) → list_any f xs ≡ false
-all_none f [] d h = refl
-all_none f (x ∷ xs) d h = rw (h 0 (omega arith)) (all_none f xs d (λ k l. h (suc k) (omega arith)))
-
 -- quiet is to have no transaction
 pub quiet_at : (s : State) → is_quiet s ≡ true → (p place : ℕ) → transaction s p place ≡ None
 quiet_at s q p place = go (transaction s p place) (none_at is_some (get_or s.pending p []) place None (none_at (list_any is_some) s.pending p [] (not_true' q) refl) refl)
@@ -116,10 +95,3 @@ no_event_same before now n e = eqb-true _ _ (not-false _ e)
 
 pub differs_event : (before now : List ℕ) (n : ℕ) → (get_or before n 0 ≡ get_or now n 0 → ⊥) → has_event before now n ≡ true
 differs_event before now n h = ap not (ne_eqb _ _ h)
-
-pub any_true : {X : Type 0} (f : X → Bool) (xs : List X) (x : X) → Contains xs x → f x ≡ true → list_any f xs ≡ true
-any_true f xs x c t = go (cases_Bool (list_any f xs))
-  where
-    go : (list_any f xs ≡ true) ⊎ (list_any f xs ≡ false) → list_any f xs ≡ true
-    go (inl h) = h
-    go (inr h) = let k = none_contained f xs x h c in cc

@@ -1,7 +1,8 @@
 -- An accepted net has one machine run under each stimulus.
 use Rattle.std.proofs.Common.{◌≡◌, ℕ, zero, suc, Bool, false, List, [], ◌∷◌, get_or, None, sym, ap, ◌∙◌, subst}
+use Rattle.rtl_model.specs.basics.Valuations.{clocked_entry}
 use Rattle.rtl_model.proofs.simulation.Faultless.{Faultless, faultless}
-use Rattle.rtl_model.specs.simulation.Net.{Clocked, clocked_entry, Combinational, Driver, Edge, HasPlace, Idle, IsClockedBy, Kind, Mixed, Net, process, reset_entry, reset_of, resets, Source, sources_of, target}
+use Rattle.rtl_model.specs.simulation.Net.{Clocked, Combinational, Driver, Edge, HasPlace, Idle, IsClockedBy, Kind, Mixed, Net, process, reset_entry, reset_of, resets, Source, sources_of, target}
 use Rattle.rtl_model.specs.simulation.Elaborated.{IsElaborated}
 use Rattle.rtl_model.specs.simulation.Machine.{entry_or, IsFirst, IsMachineRun, IsStep, Solves}
 use Rattle.rtl_model.specs.simulation.Laws.{OneMachineRun}
@@ -42,7 +43,7 @@ module _ (net : Net) (E : IsElaborated net) (A : Faultless net) where
     Machine-run v run (suc m) w (earlier, machine, step) =
         step_once (v m) w (v (suc m)) (stimulus (suc m)) (subst (λ (u : List ℕ). IsStep net u (stimulus (suc m)) w) (Machine-run v run m earlier machine) step) (run.step m)
 
-    run_is : (v : ℕ → List ℕ) → IsMachineRun net stimulus v → (m : ℕ) → Machine net stimulus m (v m)
+    pub run_is : (v : ℕ → List ℕ) → IsMachineRun net stimulus v → (m : ℕ) → Machine net stimulus m (v m)
     run_is v run zero = run.first
     run_is v run (suc m) = (v m, run_is v run m, run.step m)
 
@@ -56,7 +57,7 @@ module _ (net : Net) (E : IsElaborated net) (A : Faultless net) where
     next_from v inputs n [] = 0
     next_from v inputs n (Idle x ∷ more) = 0
     next_from v inputs n (Driver p place ∷ more) =
-        entry_or (clocked_entry (resets (reset_of net p) inputs) (edge_of v inputs (process net p).kind) (reset_entry (reset_of net p) place) (get_or ((process net p).branch v) place None)) (get_or v n 0)
+        entry_or (clocked_entry (resets (reset_of net p) inputs) (edge_of v inputs (process net p).kind) (reset_entry (reset_of net p) place) (get_or ((process net p).acting_effect v) place None)) (get_or v n 0)
 
     first_from : (ℕ → ℕ) → ℕ → List Source → ℕ
     first_from inputs n [] = 0
@@ -75,7 +76,7 @@ module _ (net : Net) (E : IsElaborated net) (A : Faultless net) where
           record {
             registers = registers;
             next = λ p place clock edge is h. at_sole (next_from v inputs (target net p place)) p place h
-                ∙ ap (λ (k : Kind). entry_or (clocked_entry (resets (reset_of net p) inputs) (edge_of v inputs k) (reset_entry (reset_of net p) place) (get_or ((process net p).branch v) place None)) (get_or v (target net p place) 0)) is.1;
+                ∙ ap (λ (k : Kind). entry_or (clocked_entry (resets (reset_of net p) inputs) (edge_of v inputs k) (reset_entry (reset_of net p) place) (get_or ((process net p).acting_effect v) place None)) (get_or v (target net p place) 0)) is.1;
             solves = s;
           },
         )

@@ -3,6 +3,7 @@ use Rattle.std.proofs.Common.{◌≡◌, ℕ, zero, suc, ◌+◌, ◌<◌, ◌�
 use Rattle.std.specs.List.{list_any}
 use Rattle.std.specs.Option.{is_some}
 use Rattle.std.proofs.lemmas.Bool.{cases_eq, cases_Bool, cond-true, and_parts}
+use Rattle.rtl_model.proofs.basics.Lists.{any_at, none_at}
 use Rattle.rtl_model.proofs.simulation.Faultless.{Faultless, faultless}
 use Rattle.rtl_model.proofs.simulation.Orders.{one_number}
 use Rattle.rtl_model.specs.simulation.Net.{Edge, HasPlace, IsClockedBy, IsInput, kind_reset, Net, no_process, process, Process, Reset, sources_of, target}
@@ -16,7 +17,7 @@ use Rattle.rtl_model.specs.simulation.Machine.{entry_or, Solves}
 use Rattle.rtl_model.specs.simulation.Laws.{EachMomentComes, HasNoReset, IsTheMachine, SettlesInBound}
 use Rattle.rtl_model.proofs.simulation.Order.{finished, HasRun-finished, HasRun-done}
 use Rattle.rtl_model.proofs.simulation.Levels.{level_above_none}
-use Rattle.rtl_model.proofs.simulation.Rows.{any_at, value, out, none_at, quiet_at}
+use Rattle.rtl_model.proofs.simulation.Rows.{value, out, quiet_at}
 use Rattle.rtl_model.proofs.simulation.Deltas.{HasDeltas-after, settles_within, runs_exist}
 use Rattle.rtl_model.proofs.simulation.Loops.{levels_exist}
 use Rattle.rtl_model.proofs.simulation.Runs.{Machine, Machine-run}

@@ -4,15 +4,17 @@ use Rattle.std.specs.List.{list_any}
 use Rattle.std.proofs.lemmas.List.{ext_get_or, get_or_past}
 use Rattle.std.proofs.lemmas.List.FromFn.{length-map-range_with_len, get_or-map-range_with_len}
 use Rattle.std.proofs.lemmas.Bool.{cases_lt, cases_Bool, cond-true, cond-false, false_from_ne_true}
+use Rattle.rtl_model.proofs.basics.Lists.{Contains-first}
+use Rattle.rtl_model.specs.basics.Valuations.{AgreeOn}
 use Rattle.rtl_model.proofs.simulation.Faultless.{Faultless, faultless}
 use Rattle.rtl_model.specs.simulation.Net.{Clocked, Combinational, Driver, Edge, HasPlace, Idle, IsClockedBy, IsCombinational, IsInput, Kind, Mixed, Net, process, Source, sources_of, table, target}
 use Rattle.rtl_model.specs.simulation.Cycle.{given}
-use Rattle.rtl_model.specs.simulation.Elaborated.{AgreeOn, IsElaborated}
+use Rattle.rtl_model.specs.simulation.Elaborated.{IsElaborated}
 use Rattle.rtl_model.specs.simulation.Levels.{AreLevels}
 use Rattle.rtl_model.specs.simulation.Machine.{entry_or, IsDriven, Solves}
 use Rattle.rtl_model.specs.simulation.Laws.{OneSolution}
 use Rattle.rtl_model.proofs.simulation.Loops.{levels_exist}
-use Rattle.rtl_model.proofs.simulation.Levels.{assigned, kinds, sole, driven_or_not, level_or, level_of, level_of_clocked, level_above_none, level_rises, first_source}
+use Rattle.rtl_model.proofs.simulation.Levels.{assigned, kinds, sole, driven_or_not, level_or, level_of, level_of_clocked, level_above_none, level_rises}
 
 pub get_or-table : (n : ℕ) (f : ℕ → ℕ) (k : ℕ) → k < n → get_or (table n f) k 0 ≡ f k
 get_or-table n f k h = get_or-map-range_with_len f 0 n k k 0 h (omega arith)
@@ -129,7 +131,7 @@ module _ (net : Net) (levels : List (Option ℕ)) (greatest : ℕ) (E : IsElabor
         go (inl l) [] e = rw (evaluate_at v n l, evaluate_at w n l, e) refl
         go (inl l) (Idle value ∷ more) e = rw (evaluate_at v n l, evaluate_at w n l, e) refl
         go (inl l) (Driver p place ∷ more) e =
-            let f = E.wiring.sources_are_drivers n p place (subst (λ (xs : List Source). Contains xs (Driver p place)) (sym e) (first_source (Driver p place) more)) in
+            let f = E.wiring.sources_are_drivers n p place (subst (λ (xs : List Source). Contains xs (Driver p place)) (sym e) (Contains-first (Driver p place) more)) in
             absurd (free (p, place, f.0, f.1))
         go (inr l) xs e = get_or_past (evaluate net inputs registers v) n 0 (rw length-table l) ∙ sym (get_or_past (evaluate net inputs registers w) n 0 (rw length-table l))
 
@@ -164,7 +166,7 @@ module _ (net : Net) (levels : List (Option ℕ)) (greatest : ℕ) (E : IsElabor
         other n given free [] k = ap (λ (xs : List Source). evaluated net inputs registers v n xs) k ∙ cond-false _ _ _ (false_from_ne_true _ given)
         other n given free (Idle value ∷ more) k = ap (λ (xs : List Source). evaluated net inputs registers v n xs) k
         other n given free (Driver p place ∷ more) k =
-            let f = E.wiring.sources_are_drivers n p place (subst (λ (xs : List Source). Contains xs (Driver p place)) (sym k) (first_source (Driver p place) more)) in
+            let f = E.wiring.sources_are_drivers n p place (subst (λ (xs : List Source). Contains xs (Driver p place)) (sym k) (Contains-first (Driver p place) more)) in
             absurd (free (p, place, f.0, f.1))
 
     -- the evaluation after the greatest level

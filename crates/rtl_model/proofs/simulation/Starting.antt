@@ -1,11 +1,13 @@
 -- What holds after the run of initialization.
-use Rattle.std.proofs.Common.{◌≡◌, ℕ, zero, suc, ◌<◌, ◌≤◌, true, false, List, [], ◌∷◌, length, get_or, map, Option, Some, None, refl, sym, ap, ◌∙◌, arith, ◌⊎◌, inl, inr, ◌==◌, if◌then◌else◌}
+use Rattle.std.proofs.Common.{◌≡◌, ℕ, ◌<◌, ◌≤◌, true, false, List, [], length, get_or, map, Option, Some, None, refl, sym, ap, ◌∙◌, arith, ◌⊎◌, inl, inr, ◌==◌, if◌then◌else◌}
 use Rattle.std.specs.List.{list_any}
 use Rattle.std.proofs.lemmas.List.{length-map, get_or_past}
 use Rattle.std.proofs.lemmas.List.FromFn.{length-map-range_with_len}
 use Rattle.std.proofs.lemmas.Bool.{cases_lt, cases_Bool, false_from_ne_true, cond-true, cond-false}
+use Rattle.rtl_model.proofs.basics.Lists.{get_or-map_within}
+use Rattle.rtl_model.specs.basics.Valuations.{clocked_entry}
 use Rattle.rtl_model.proofs.simulation.Faultless.{Faultless}
-use Rattle.rtl_model.specs.simulation.Net.{clocked_entry, Driver, Edge, HasPlace, IsClockedBy, IsInput, Net, no_process, process, Process, Reset, reset_entry, reset_of, resets, Source, target}
+use Rattle.rtl_model.specs.simulation.Net.{Driver, Edge, HasPlace, IsClockedBy, IsInput, Net, no_process, process, Process, Reset, reset_entry, reset_of, resets, Source, target}
 use Rattle.rtl_model.specs.simulation.Cycle.{given, source_value, started, State, with_inputs}
 use Rattle.rtl_model.specs.simulation.Elaborated.{IsElaborated}
 use Rattle.rtl_model.specs.simulation.Levels.{AreLevels}
@@ -16,11 +18,6 @@ use Rattle.rtl_model.proofs.simulation.Levels.{sole, place_in_range}
 use Rattle.rtl_model.proofs.simulation.Solution.{get_or-table, length-table}
 use Rattle.rtl_model.proofs.simulation.Rows.{transaction, value, out, get_or-map, no_entries}
 use Rattle.rtl_model.proofs.simulation.Held.{entry_none, entry_of_reset, reset_ran, reset_now, Holds, IsFresh, input_not_driven, clocked_ran, no_edge_same, combinational_awake}
-
-pub get_or-map_within : {X Y : Type 0} (f : X → Y) (xs : List X) (k : ℕ) (d : X) (e : Y) → k < length xs → get_or (map f xs) k e ≡ f (get_or xs k d)
-get_or-map_within f [] k d e l = absurd (omega arith)
-get_or-map_within f (x ∷ xs) zero d e l = refl
-get_or-map_within f (x ∷ xs) (suc k) d e l = get_or-map_within f xs k d e (omega arith)
 
 pub entry_twice : (o : Option ℕ) (x : ℕ) → entry_or o (entry_or o x) ≡ entry_or o x
 entry_twice (Some v) x = refl

@@ -4,8 +4,9 @@ use Rattle.std.specs.List.{list_any}
 use Rattle.std.proofs.lemmas.List.{length-map, length-set, get_or-set_same, get_or-set_other, get_or_past}
 use Rattle.std.proofs.lemmas.List.Elements.{Contains-get_or}
 use Rattle.std.proofs.lemmas.Bool.{cases_Bool, cases_eq, cases_lt, cond-true, cond-false}
+use Rattle.rtl_model.proofs.basics.Lists.{get_or-map_within}
 use Rattle.rtl_model.specs.simulation.Net.{no_process, Driver, HasPlace, Idle, Net, Process, process, Source, sources_of, target}
-use Rattle.rtl_model.specs.simulation.Cycle.{driven_all, given, over, ran, resolved, source_value, started, State, updated, with_inputs}
+use Rattle.rtl_model.specs.simulation.Cycle.{driven_all, given, over, ran, net_value, source_value, started, State, updated, with_inputs}
 use Rattle.rtl_model.specs.simulation.Moments.{Begun, Deltas, HasSettled, Runs}
 use Rattle.rtl_model.specs.simulation.Elaborated.{IsWired}
 use Rattle.rtl_model.specs.simulation.Range.{AreInputs, IsValuation, KeepsRange, limit, SourcesKeepRange, StateInRange}
@@ -13,7 +14,6 @@ use Rattle.rtl_model.specs.simulation.Laws.{StatesInRange}
 use Rattle.rtl_model.proofs.simulation.Rows.{get_or-map, no_entries, none_pending_at, driven_all_at, length-driven, driven_at}
 use Rattle.rtl_model.proofs.simulation.Solution.{get_or-table, length-table}
 use Rattle.rtl_model.proofs.simulation.Range.{EntryBelow, entry_or_below, none_below}
-use Rattle.rtl_model.proofs.simulation.Starting.{get_or-map_within}
 
 -- entries laid over others
 over_below : (most : ℕ) (as' bs : List (Option ℕ)) (k : ℕ) → EntryBelow most (get_or as' k None) → EntryBelow most (get_or bs k None) → EntryBelow most (get_or (over as' bs) k None)
@@ -27,14 +27,14 @@ over_below most (None ∷ as') (y ∷ bs) (suc k) a b = over_below most as' bs k
 module _ (net : Net) (W : IsWired net) (K : KeepsRange net) (S : SourcesKeepRange net) where
   -- what a net's sources give
   resolved_below : (drivers : List (List ℕ)) → ((p place : ℕ) → HasPlace net p place → get_or (get_or drivers p []) place 0 < limit net (target net p place))
-      → (n old : ℕ) → old < limit net n → resolved net drivers (sources_of net n) old < limit net n
+      → (n old : ℕ) → old < limit net n → net_value net drivers (sources_of net n) old < limit net n
   resolved_below drivers below n old l = go (sources_of net n) refl
     where
       source_below : (x : Source) → Contains (sources_of net n) x → source_value drivers x < limit net n
       source_below (Driver p place) c = let (h, t) = W.sources_are_drivers n p place c in subst (λ (m : ℕ). get_or (get_or drivers p []) place 0 < limit net m) t (below p place h)
       source_below (Idle v) c = S.idle_in_range n v c
 
-      go : (xs : List Source) → sources_of net n ≡ xs → resolved net drivers xs old < limit net n
+      go : (xs : List Source) → sources_of net n ≡ xs → net_value net drivers xs old < limit net n
       go [] e = l
       go (x ∷ more) e =
           let same = length-map (x ∷ more) (source_value drivers) in
@@ -76,7 +76,7 @@ module _ (net : Net) (W : IsWired net) (K : KeepsRange net) (S : SourcesKeepRang
     before = R.now;
     now = record {
       each_net = length-table (length net.start) _;
-      in_range = λ n l. rw (get_or-table (length net.start) (λ m. resolved net (updated net s).drivers (sources_of net m) (get_or s.now m 0)) n l) (resolved_below (updated net s).drivers value_below n (get_or s.now n 0) (R.now.in_range n l));
+      in_range = λ n l. rw (get_or-table (length net.start) (λ m. net_value net (updated net s).drivers (sources_of net m) (get_or s.now m 0)) n l) (resolved_below (updated net s).drivers value_below n (get_or s.now n 0) (R.now.in_range n l));
     };
     each_driver = λ p. ap length (driven_all_at s.pending s.drivers p) ∙ length-driven (get_or s.pending p []) (get_or s.drivers p []) ∙ R.each_driver p;
     drivers = value_below;

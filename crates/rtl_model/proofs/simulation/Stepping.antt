@@ -3,17 +3,19 @@ use Rattle.std.proofs.Common.{◌≡◌, ℕ, true, false, List, length, get_or,
 use Rattle.std.specs.List.{list_any}
 use Rattle.std.proofs.lemmas.List.FromFn.{length-map-range_with_len}
 use Rattle.std.proofs.lemmas.Bool.{cases_Bool}
+use Rattle.rtl_model.proofs.basics.Lists.{any_true, none_contained}
+use Rattle.rtl_model.specs.basics.Valuations.{AgreeOn, clocked_entry, has_event}
 use Rattle.rtl_model.proofs.simulation.Faultless.{Faultless}
-use Rattle.rtl_model.specs.simulation.Net.{clocked_entry, Edge, HasPlace, IsClockedBy, IsInput, Net, process, Reset, reset_entry, reset_of, resets, target}
-use Rattle.rtl_model.specs.simulation.Cycle.{given, has_event, is_quiet, State}
-use Rattle.rtl_model.specs.simulation.Elaborated.{AgreeOn, IsElaborated}
+use Rattle.rtl_model.specs.simulation.Net.{Edge, HasPlace, IsClockedBy, IsInput, Net, process, Reset, reset_entry, reset_of, resets, target}
+use Rattle.rtl_model.specs.simulation.Cycle.{given, is_quiet, State}
+use Rattle.rtl_model.specs.simulation.Elaborated.{IsElaborated}
 use Rattle.rtl_model.specs.simulation.Accepted.{IsClock}
 use Rattle.rtl_model.specs.simulation.Levels.{AreLevels}
 use Rattle.rtl_model.specs.simulation.Machine.{entry_or}
 use Rattle.rtl_model.proofs.simulation.Order.{finished, waits, row_after}
 use Rattle.rtl_model.proofs.simulation.Levels.{place_in_range}
 use Rattle.rtl_model.proofs.simulation.Solution.{length-table}
-use Rattle.rtl_model.proofs.simulation.Rows.{any_true, transaction, none_contained, no_event_same, value, out, quiet_at, resumed_at, differs_event}
+use Rattle.rtl_model.proofs.simulation.Rows.{transaction, no_event_same, value, out, quiet_at, resumed_at, differs_event}
 use Rattle.rtl_model.proofs.simulation.Held.{clocked_awake, entry_none, entry_of_reset, entry_of_branch, ran_asleep, reset_ran, reset_now, Holds, IsFresh, clocked_ran, no_edge_same, combinational_ran}
 use Rattle.rtl_model.proofs.simulation.Starting.{entry_twice, inputs_at, others_at, target_no_input}
 
@@ -71,7 +73,7 @@ module _ (net : Net) (levels : List (Option ℕ)) (greatest : ℕ) (E : IsElabor
 
     -- what a register is assigned, as the machine has it
     abbrev pub next_entry : (p place clock : ℕ) → Edge → Option ℕ
-    next_entry p place clock edge = clocked_entry (resets (reset_of net p) inputs) (net.edge edge (get_or t.now clock 0) (inputs clock)) (reset_entry (reset_of net p) place) (get_or ((process net p).branch t.now) place None)
+    next_entry p place clock edge = clocked_entry (resets (reset_of net p) inputs) (net.edge edge (get_or t.now clock 0) (inputs clock)) (reset_entry (reset_of net p) place) (get_or ((process net p).acting_effect t.now) place None)
 
     -- a register's driver then has what the machine's step gives
     pub next_register : ((p clock : ℕ) (edge : Edge) → IsClockedBy net p clock edge → IsTrue (net.edge edge (was clock) (inputs clock)) → (n : ℕ) → IsInput net n → (IsClock net n → ⊥) → was n ≡ inputs n)
@@ -88,7 +90,7 @@ module _ (net : Net) (levels : List (Option ℕ)) (greatest : ℕ) (E : IsElabor
         old : value t p place ≡ get_or t.now (target net p place) 0
         old = sym (H.on_driven p place h)
 
-        agree : IsTrue (net.edge edge (get_or t.now clock 0) (inputs clock)) → AgreeOn (process net p).reads next.now t.now
+        agree : IsTrue (net.edge edge (get_or t.now clock 0) (inputs clock)) → AgreeOn (process net p).acting_reads next.now t.now
         agree e n reads = at (cases_Bool (list_any (λ m. m == n) net.inputs))
           where
             at : (list_any (λ m. m == n) net.inputs ≡ true) ⊎ (list_any (λ m. m == n) net.inputs ≡ false) → get_or next.now n 0 ≡ get_or t.now n 0

@@ -1,28 +1,44 @@
 -- What a body assigns on every syntactic path. A net may be reached by several drivers of a process, under several port
--- names; `these` are the places of its drivers, and an assignment to any of them assigns the net.
-use Rattle.std.specs.Prelude.{ℕ, Bool, false, ◌&&◌, ◌||◌}
+-- names; `these` are targets, and an assignment to any of them assigns it.
+use Rattle.std.specs.Prelude.{ℕ, Bool, false, ◌&&◌, ◌||◌, ◌==◌}
 use Rattle.std.specs.List.{list_any}
-use Rattle.rtl_model.specs.bodies.Body.{Stmt, nothing, assign, choose, select, Stmts, done, step, Branches, no_else, otherwise, branch, Alternatives, others, alternative}
+use Rattle.rtl_model.specs.bodies.Body.{Stmt, nothing, assign, set, if_of, case_of, Stmts, done, step}
+use Rattle.rtl_model.specs.bodies.Body.{Branches, no_else, otherwise, branch, Alternatives, others, alternative}
+
+-- what an assignment assigns: a driver, by its place, or an element of a variable
+pub data Target : Type 0 where
+  driver : (place : ℕ) → Target
+  element : ℕ → Target
+
+-- one of these drivers, and one element
+abbrev pub of_drivers : (these : ℕ → Bool) → Target → Bool
+of_drivers these (driver place) = these place
+of_drivers these (element e) = false
+
+abbrev pub is_element : ℕ → Target → Bool
+is_element e (driver place) = false
+is_element e (element d) = d == e
 
 abbrev mutual
-  pub stmt_must_assign : (these : ℕ → Bool) → Stmt → Bool
+  pub stmt_must_assign : (these : Target → Bool) → Stmt → Bool
   stmt_must_assign these nothing = false
-  stmt_must_assign these (assign places v) = list_any these places
-  stmt_must_assign these (choose bs) = branches_must_assign these bs
-  stmt_must_assign these (select v alts) = alternatives_must_assign these alts
+  stmt_must_assign these (assign places v) = list_any (λ place. these (driver place)) places
+  stmt_must_assign these (set es v) = list_any (λ e. these (element e)) es
+  stmt_must_assign these (if_of bs) = branches_must_assign these bs
+  stmt_must_assign these (case_of v alts) = alternatives_must_assign these alts
 
   -- a sequence with a member that does
-  pub must_assign : (these : ℕ → Bool) → Stmts → Bool
+  pub must_assign : (these : Target → Bool) → Stmts → Bool
   must_assign these done = false
   must_assign these (step s rest) = stmt_must_assign these s || must_assign these rest
 
   -- an if with an else, all of whose branches do
-  pub branches_must_assign : (these : ℕ → Bool) → Branches → Bool
+  pub branches_must_assign : (these : Target → Bool) → Branches → Bool
   branches_must_assign these no_else = false
   branches_must_assign these (otherwise s) = must_assign these s
   branches_must_assign these (branch t s bs) = must_assign these s && branches_must_assign these bs
 
   -- a case, all of whose alternatives do
-  pub alternatives_must_assign : (these : ℕ → Bool) → Alternatives → Bool
+  pub alternatives_must_assign : (these : Target → Bool) → Alternatives → Bool
   alternatives_must_assign these (others s) = must_assign these s
   alternatives_must_assign these (alternative choices s alts) = must_assign these s && alternatives_must_assign these alts

@@ -1,8 +1,14 @@
--- When a body fits its process and the nets: each net and each place is there and has the type that is wanted of it,
+-- When a body fits its process and the nets: each net, place and element is there and has the type that is wanted of it,
 -- and each length is one that a vector can have, and the one that is wanted of it.
 use Rattle.std.specs.Prelude.{◌≡◌, ℕ, ◌+◌, ◌<◌, ◌≤◌, max, ⊤, All, List, length, slice_get, Some}
-use Rattle.rtl_model.specs.bodies.Body.{Operator, logical, joined, plus, minus, times, Expr, read, character, constant, inverse, filled, binary, resized, shifted_left, shifted_right, Value, elements, position, position_of, Test, holds, fixed, alike, unlike, compared, compared_to, edge, event, negated, both, Stmt, nothing, assign, choose, select, Stmts, done, step, Branches, no_else, otherwise, branch, Alternatives, others, alternative}
-use Rattle.rtl_model.specs.bodies.Types.{NetType, nine_valued, enumeration, HasType}
+use Rattle.rtl_model.specs.bodies.Body.{Operator, logical, joined, plus, minus, times, Expr, signal, variable, constant}
+use Rattle.rtl_model.specs.bodies.Body.{inverse, filled, binary, resized, shifted_left, shifted_right}
+use Rattle.rtl_model.specs.bodies.Body.{Value, elements, position, position_of, position_in}
+use Rattle.rtl_model.specs.bodies.Body.{Test, condition, decided, equal, unequal, level, compared, compared_to}
+use Rattle.rtl_model.specs.bodies.Body.{rising, falling, event, negated, combined}
+use Rattle.rtl_model.specs.bodies.Body.{Stmt, nothing, assign, set, if_of, case_of, Stmts, done, step}
+use Rattle.rtl_model.specs.bodies.Body.{Branches, no_else, otherwise, branch, Alternatives, others, alternative}
+use Rattle.rtl_model.specs.bodies.Types.{ElementType, nine_valued, enumeration, limit_of, HasType}
 
 -- ---- lengths
 
@@ -15,8 +21,8 @@ operated_width minus m n = max m n
 operated_width times m n = m + n
 
 abbrev pub width : Expr → ℕ
-width (read by_port nets) = length nets
-width (character v) = 1
+width (signal nets) = length nets
+width (variable es) = length es
 width (constant values) = length values
 width (inverse e) = width e
 width (filled len e) = len
@@ -29,6 +35,7 @@ abbrev pub value_width : Value → ℕ
 value_width (elements e) = width e
 value_width (position n) = 1
 value_width (position_of net) = 1
+value_width (position_in element) = 1
 
 -- a vector has 1 to 64 elements
 abbrev pub IsWidth : ℕ → Type 0
@@ -39,12 +46,18 @@ abbrev pub FitsOperands : Operator → ℕ → ℕ → Type 0
 FitsOperands (logical op) m n = m ≡ n
 FitsOperands _ m n = ⊤
 
--- ---- the parts of a body, where the nets have these types and the drivers of the process these nets
+-- ---- the parts of a body
 
-module _ (types : List NetType) where
+-- what a body stands in: the types of the nets and of the process's variable elements, and the nets of its drivers
+pub record Scope : Type 0 where
+  pub nets : List ElementType
+  pub variables : List ElementType
+  pub targets : List ℕ
+
+module _ (scope : Scope) where
   abbrev pub FitsExpr : Expr → Type 0
-  FitsExpr (read by_port nets) = IsWidth (length nets) × All (HasType types nine_valued) nets
-  FitsExpr (character v) = ⊤
+  FitsExpr (signal nets) = IsWidth (length nets) × All (HasType scope.nets nine_valued) nets
+  FitsExpr (variable es) = IsWidth (length es) × All (HasType scope.variables nine_valued) es
   FitsExpr (constant values) = IsWidth (length values)
   FitsExpr (inverse e) = FitsExpr e
   FitsExpr (filled len e) = IsWidth len × FitsExpr e × (width e ≡ 1)
@@ -53,54 +66,61 @@ module _ (types : List NetType) where
   FitsExpr (shifted_left count e) = FitsExpr e
   FitsExpr (shifted_right count e) = FitsExpr e
 
-  abbrev pub IsEnumeration : (net : ℕ) → Type 0
-  IsEnumeration net = (literals : ℕ) × HasType types (enumeration literals) net
+  -- the value's elements are of this type, or it is one of this enumeration's
+  abbrev pub FitsAs : ElementType → Value → Type 0
+  FitsAs nine_valued (elements e) = FitsExpr e
+  FitsAs (enumeration literals) (position n) = n < literals
+  FitsAs (enumeration literals) (position_of net) = HasType scope.nets (enumeration literals) net
+  FitsAs (enumeration literals) (position_in element) = HasType scope.variables (enumeration literals) element
+  FitsAs _ _ = ⊥
 
-  abbrev pub FitsValue : Value → Type 0
-  FitsValue (elements e) = FitsExpr e
-  FitsValue (position n) = ⊤
-  FitsValue (position_of net) = IsEnumeration net
+  -- both are of one type
+  abbrev pub FitBoth : Value → Value → Type 0
+  FitBoth v w = (t : ElementType) × FitsAs t v × FitsAs t w
 
   abbrev pub FitsTest : Test → Type 0
-  FitsTest (holds e) = FitsExpr e × (width e ≡ 1)
-  FitsTest (fixed b) = ⊤
-  FitsTest (alike v w) = FitsValue v × FitsValue w
-  FitsTest (unlike v w) = FitsValue v × FitsValue w
+  FitsTest (condition e) = FitsExpr e × (width e ≡ 1)
+  FitsTest (decided b) = ⊤
+  FitsTest (equal v w) = FitBoth v w
+  FitsTest (unequal v w) = FitBoth v w
+  FitsTest (level plain net v) = HasType scope.nets nine_valued net
   FitsTest (compared op d e) = FitsExpr d × FitsExpr e
   FitsTest (compared_to op e n) = FitsExpr e
-  FitsTest (edge kind by_port net) = HasType types nine_valued net
-  FitsTest (event by_port net) = HasType types nine_valued net
+  FitsTest (rising net) = HasType scope.nets nine_valued net
+  FitsTest (falling net) = HasType scope.nets nine_valued net
+  FitsTest (event net) = HasType scope.nets nine_valued net
   FitsTest (negated t) = FitsTest t
-  FitsTest (both op s t) = FitsTest s × FitsTest t
+  FitsTest (combined op s t) = FitsTest s × FitsTest t
 
-  module _ (targets : List ℕ) where
-    -- the driver at this place is there, and its net has this type
-    abbrev pub DrivesType : NetType → (place : ℕ) → Type 0
-    DrivesType t place = (net : ℕ) × (slice_get targets place ≡ Some net) × HasType types t net
+  -- the driver at this place is there, and its net has this type
+  abbrev pub DrivesType : ElementType → (place : ℕ) → Type 0
+  DrivesType t place = (net : ℕ) × (slice_get scope.targets place ≡ Some net) × HasType scope.nets t net
 
-    -- the places are those of a target for this value: as many as it has elements, and of its type
-    abbrev pub FitsTarget : Value → (places : List ℕ) → Type 0
-    FitsTarget (elements e) places = (length places ≡ width e) × All (DrivesType nine_valued) places
-    FitsTarget (position n) places = (length places ≡ 1) × All (λ place. (literals : ℕ) × DrivesType (enumeration literals) place × (n < literals)) places
-    FitsTarget (position_of net) places = (length places ≡ 1) × All (λ place. (literals : ℕ) × DrivesType (enumeration literals) place × HasType types (enumeration literals) net) places
+  -- what is assigned to: as many as the value has elements, and of its type
+  abbrev pub FitsTarget : (OfType : ElementType → ℕ → Type 0) → (target : List ℕ) → Value → Type 0
+  FitsTarget OfType target v = (t : ElementType) × FitsAs t v × (length target ≡ value_width v) × All (OfType t) target
 
-    abbrev mutual
-      pub FitsStmt : Stmt → Type 0
-      FitsStmt nothing = ⊤
-      FitsStmt (assign places v) = FitsValue v × FitsTarget v places
-      FitsStmt (choose bs) = FitsBranches bs
-      FitsStmt (select v alts) = FitsValue v × FitsAlternatives (value_width v) alts
+  -- a choice is as long as the value, and of its type
+  abbrev pub FitsChoice : ElementType → (len : ℕ) → List ℕ → Type 0
+  FitsChoice t len choice = (length choice ≡ len) × All (λ n. n < limit_of t) choice
 
-      pub Fits : Stmts → Type 0
-      Fits done = ⊤
-      Fits (step s rest) = FitsStmt s × Fits rest
+  abbrev mutual
+    pub FitsStmt : Stmt → Type 0
+    FitsStmt nothing = ⊤
+    FitsStmt (assign places v) = FitsTarget DrivesType places v
+    FitsStmt (set es v) = FitsTarget (HasType scope.variables) es v
+    FitsStmt (if_of bs) = FitsBranches bs
+    FitsStmt (case_of v alts) = (t : ElementType) × FitsAs t v × FitsAlternatives t (value_width v) alts
 
-      pub FitsBranches : Branches → Type 0
-      FitsBranches no_else = ⊤
-      FitsBranches (otherwise s) = Fits s
-      FitsBranches (branch t s bs) = FitsTest t × Fits s × FitsBranches bs
+    pub Fits : Stmts → Type 0
+    Fits done = ⊤
+    Fits (step s rest) = FitsStmt s × Fits rest
 
-      -- each choice is as long as the value
-      pub FitsAlternatives : (len : ℕ) → Alternatives → Type 0
-      FitsAlternatives len (others s) = Fits s
-      FitsAlternatives len (alternative choices s alts) = All (λ (choice : List ℕ). length choice ≡ len) choices × Fits s × FitsAlternatives len alts
+    pub FitsBranches : Branches → Type 0
+    FitsBranches no_else = ⊤
+    FitsBranches (otherwise s) = Fits s
+    FitsBranches (branch t s bs) = FitsTest t × Fits s × FitsBranches bs
+
+    pub FitsAlternatives : ElementType → (len : ℕ) → Alternatives → Type 0
+    FitsAlternatives t len (others s) = Fits s
+    FitsAlternatives t len (alternative choices s alts) = All (FitsChoice t len) choices × Fits s × FitsAlternatives t len alts

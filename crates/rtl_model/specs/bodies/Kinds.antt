@@ -1,119 +1,127 @@
 -- Clocked and combinational bodies.
-use Rattle.std.specs.Prelude.{ℕ, Bool, true, false, ◌||◌, ◌==◌, if◌then◌else◌, [], ◌∷◌, Option, Some, None}
+use Rattle.std.specs.Prelude.{◌≡◌, ℕ, Bool, true, false, ◌&&◌, ◌==◌, List, [], Contains, Option, Some, None, IsTrue}
+use Rattle.std.specs.List.{list_any}
 use Rattle.vhdl_values.specs.declared.scalar.Nine.{Nine}
 use Rattle.vhdl_values.specs.declared.scalar.Nine.TheVariants.{Zero, One}
-use Rattle.vhdl_values.specs.declared.kinds.Logic.{Logic}
 use Rattle.vhdl_values.specs.declared.kinds.Logic.TheVariants.{And}
 use Rattle.vhdl_values.specs.declared.kinds.Edge.{Edge}
-use Rattle.vhdl_values.specs.declared.kinds.Edge.TheVariants.{To1, To0}
-use Rattle.rtl_model.specs.bodies.Body.{read, character, elements, Test, alike, edge, event, negated, both, Stmt, nothing, assign, choose, select, Stmts, done, step, Branches, no_else, otherwise, branch, Alternatives, others, alternative}
-
--- ---- whether an edge test or `'event` stands in it
-
-abbrev pub test_has_event : Test → Bool
-test_has_event (edge kind by_port net) = true
-test_has_event (event by_port net) = true
-test_has_event (negated t) = test_has_event t
-test_has_event (both op s t) = test_has_event s || test_has_event t
-test_has_event _ = false
-
-abbrev mutual
-  pub stmt_has_event : Stmt → Bool
-  stmt_has_event nothing = false
-  stmt_has_event (assign places v) = false
-  stmt_has_event (choose bs) = branches_have_event bs
-  stmt_has_event (select v alts) = alternatives_have_event alts
-
-  pub body_has_event : Stmts → Bool
-  body_has_event done = false
-  body_has_event (step s rest) = stmt_has_event s || body_has_event rest
-
-  pub branches_have_event : Branches → Bool
-  branches_have_event no_else = false
-  branches_have_event (otherwise s) = body_has_event s
-  branches_have_event (branch t s bs) = test_has_event t || body_has_event s || branches_have_event bs
-
-  pub alternatives_have_event : Alternatives → Bool
-  alternatives_have_event (others s) = body_has_event s
-  alternatives_have_event (alternative choices s alts) = body_has_event s || alternatives_have_event alts
+use Rattle.vhdl_values.specs.declared.kinds.Edge.TheVariants.{Rising, Falling, To1, To0}
+use Rattle.vhdl_values.specs.Scalar.{code_of}
+use Rattle.rtl_model.specs.basics.Lists.{is_empty}
+use Rattle.rtl_model.specs.bodies.Body.{Test, level, rising, falling, event, combined}
+use Rattle.rtl_model.specs.bodies.Body.{nothing, assign, if_of, Stmts, done, step, no_else, branch}
+use Rattle.rtl_model.specs.bodies.Reads.{value_reads, events}
 
 -- ---- edge tests
 
--- the edge that is tested, and the net
-pub record EdgeTest : Type 0 where
-  pub clock : ℕ
-  pub kind : Edge
-
--- the net of `s'event`
-abbrev pub event_of : Test → Option ℕ
-event_of (event by_port net) = Some net
-event_of _ = None
-
--- a value that a net is tested to have: '1' or '0'
+-- the edge that a plain level makes together with an event: of '1' or '0' (IEEE 1076-2008, 16.2.4)
 abbrev pub edge_to : Nine → Option Edge
 edge_to One = Some To1
 edge_to Zero = Some To0
 edge_to _ = None
 
-abbrev pub edge_of_net : ℕ → Option Edge → Option EdgeTest
-edge_of_net net (Some kind) = Some (record { clock = net; kind = kind })
-edge_of_net net None = None
+-- the test t tests this edge of the net clock
+pub data IsEdgeTest (t : Test) (clock : ℕ) (edge : Edge) : Type 0 where
+  -- `rising_edge(s)` and `falling_edge(s)`
+  rising_call : t ≡ rising clock → edge ≡ Rising → IsEdgeTest t clock edge
+  falling_call : t ≡ falling clock → edge ≡ Falling → IsEdgeTest t clock edge
+  -- `s'event and s = '1'`, and the same with '0'
+  event_and_level : (v : Nine) → t ≡ combined And (event clock) (level true clock v) → edge_to v ≡ Some edge → IsEdgeTest t clock edge
+  -- `s = '1' and s'event`
+  level_and_event : (v : Nine) → t ≡ combined And (level true clock v) (event clock) → edge_to v ≡ Some edge → IsEdgeTest t clock edge
 
--- `s = '1'` or `s = '0'`, the right side being a character literal
-abbrev pub level_of : Test → Option EdgeTest
-level_of (alike (elements (read by_port (net ∷ []))) (elements (character v))) = edge_of_net net (edge_to v)
-level_of _ = None
+pub record EdgeTest : Type 0 where
+  pub clock : ℕ
+  pub edge : Edge
 
-abbrev pub on_one_net : Option ℕ → Option EdgeTest → Option EdgeTest
-on_one_net (Some net) (Some e) = if e.clock == net then Some e else None
-on_one_net _ _ = None
+abbrev pub edge_of_net : (same : Bool) → ℕ → Option Edge → Option EdgeTest
+edge_of_net true net (Some edge) = Some (record { clock = net; edge = edge })
+edge_of_net _ net _ = None
 
-abbrev pub first_of_two : Option EdgeTest → Option EdgeTest → Option EdgeTest
-first_of_two (Some e) o = Some e
-first_of_two None o = o
-
--- `s'event and s = '1'`, the sides of `and` in either order
-abbrev pub pair_edge : Logic → Test → Test → Option EdgeTest
-pair_edge And s t = first_of_two (on_one_net (event_of s) (level_of t)) (on_one_net (event_of t) (level_of s))
-pair_edge _ _ _ = None
-
--- the edge test that a test is: a call, or an event of a net that is '1' or '0' now
+-- the same as a function
 abbrev pub edge_test : Test → Option EdgeTest
-edge_test (edge kind by_port net) = Some (record { clock = net; kind = kind })
-edge_test (both op s t) = pair_edge op s t
+edge_test (rising net) = Some (record { clock = net; edge = Rising })
+edge_test (falling net) = Some (record { clock = net; edge = Falling })
+edge_test (combined And (event net) (level true other v)) = edge_of_net (net == other) net (edge_to v)
+edge_test (combined And (level true other v) (event net)) = edge_of_net (net == other) net (edge_to v)
 edge_test _ = None
 
--- ---- kinds
+-- ---- reset tests
 
-pub data BodyKind : Type 0 where
-  -- combinational: no edge test and no `'event` stands in it
-  Plain : BodyKind
-  -- clocked: it is one if, with no elsif and no else, whose condition is this edge test and whose branch has no edge test and
-  -- no `'event`
-  AtEdge : EdgeTest → (branch : Stmts) → BodyKind
-  -- mixed: neither of the two
-  Neither : BodyKind
+-- the test t is that this input of the top has just this value, '1' or '0', in either order, parentheses aside
+pub record IsResetTest (inputs : List ℕ) (t : Test) (net value : ℕ) : Type 0 where
+  pub plain : Bool
+  pub v : Nine
+  pub is : t ≡ level plain net v
+  pub one_or_zero : (edge : Edge) × (edge_to v ≡ Some edge)
+  pub value_is : value ≡ code_of v
+  pub is_input : Contains inputs net
 
-abbrev pub at_edge : Option EdgeTest → Stmts → Option BodyKind
-at_edge (Some e) s = if body_has_event s then None else Some (AtEdge e s)
-at_edge None s = None
+pub record ResetTest : Type 0 where
+  pub net : ℕ
+  pub value : ℕ
 
-abbrev pub clocked : Stmts → Option BodyKind
-clocked (step (choose (branch t s no_else)) done) = at_edge (edge_test t) s
-clocked _ = None
+abbrev pub reset_of_level : (input : Bool) → ℕ → Nine → Option Edge → Option ResetTest
+reset_of_level true net v (Some edge) = Some (record { net = net; value = code_of v })
+reset_of_level _ net v _ = None
 
-abbrev pub kind_or : Option BodyKind → Bool → BodyKind
-kind_or (Some k) b = k
-kind_or None false = Plain
-kind_or None true = Neither
+-- the same as a function
+abbrev pub reset_test : (inputs : List ℕ) → Test → Option ResetTest
+reset_test inputs (level plain net v) = reset_of_level (list_any (λ m. m == net) inputs) net v (edge_to v)
+reset_test inputs _ = None
 
-abbrev pub kind_of : Stmts → BodyKind
-kind_of s = kind_or (clocked s) (body_has_event s)
+-- signal assignments and nulls alone, and no value reads a signal
+abbrev pub assigns_constants : Stmts → Bool
+assigns_constants done = true
+assigns_constants (step nothing rest) = assigns_constants rest
+assigns_constants (step (assign places v) rest) = is_empty (value_reads v) && assigns_constants rest
+assigns_constants (step _ rest) = false
 
--- the branch under the edge of a clocked body; any other body is its own
-abbrev pub branch_or : BodyKind → Stmts → Stmts
-branch_or (AtEdge e s) body = s
-branch_or _ body = body
+-- ---- clocked bodies
 
-abbrev pub branch_of : Stmts → Stmts
-branch_of body = branch_or (kind_of body) body
+-- a reset: its test, and the branch that runs while it holds
+pub record ResetPart : Type 0 where
+  pub test : ResetTest
+  pub branch : Stmts
+
+-- what a clocked body is made of: its edge, the branch that runs at it, and its reset if it has one
+pub record Clocking : Type 0 where
+  pub test : EdgeTest
+  pub branch : Stmts
+  pub reset : Option ResetPart
+
+-- the body is one if, with no elsif and no else, whose condition is one edge test and whose branch has no edge test and no
+-- `'event`
+pub record IsClockedAlone (body : Stmts) (c : Clocking) : Type 0 where
+  pub test : Test
+  pub is : body ≡ step (if_of (branch test c.branch no_else)) done
+  pub edge : IsEdgeTest test c.test.clock c.test.edge
+  pub no_event : events c.branch ≡ []
+  pub no_reset : c.reset ≡ None
+
+-- the body is one if, with one elsif and no else: first a reset test and a branch of constants, then as above
+pub record IsClockedWithReset (inputs : List ℕ) (body : Stmts) (c : Clocking) : Type 0 where
+  pub reset : ResetPart
+  pub first : Test
+  pub test : Test
+  pub is : body ≡ step (if_of (branch first reset.branch (branch test c.branch no_else))) done
+  pub reset_is : c.reset ≡ Some reset
+  pub resets : IsResetTest inputs first reset.test.net reset.test.value
+  pub constants : IsTrue (assigns_constants reset.branch)
+  pub edge : IsEdgeTest test c.test.clock c.test.edge
+  pub no_event : events c.branch ≡ []
+
+-- the same as a function
+abbrev pub clocking_of : (constants no_event : Bool) → Option EdgeTest → Stmts → Option ResetPart → Option Clocking
+clocking_of true true (Some e) s reset = Some (record { test = e; branch = s; reset = reset })
+clocking_of _ _ _ s reset = None
+
+abbrev pub with_reset : Option ResetTest → (constants no_event : Bool) → Option EdgeTest → (of_reset of_edge : Stmts) → Option Clocking
+with_reset (Some r) constants no_event e a s = clocking_of constants no_event e s (Some (record { test = r; branch = a }))
+with_reset None constants no_event e a s = None
+
+abbrev pub clocking : (inputs : List ℕ) → Stmts → Option Clocking
+clocking inputs (step (if_of (branch t s no_else)) done) = clocking_of true (is_empty (events s)) (edge_test t) s None
+clocking inputs (step (if_of (branch r a (branch t s no_else))) done) =
+    with_reset (reset_test inputs r) (assigns_constants a) (is_empty (events s)) (edge_test t) a s
+clocking inputs _ = None

@@ -1,88 +1,172 @@
 -- The laws of bodies.
-use Rattle.std.specs.Prelude.{◌≡◌, ℕ, ◌<◌, ◌⊎◌, ◌↔◌, Bool, true, false, ◌||◌, List, ◌++◌, length, slice_get, Some, None, IsTrue, IsSome}
-use Rattle.vhdl_values.specs.Edges.{has_edge}
-use Rattle.rtl_model.specs.bodies.Body.{Expr, Value, Test, choose, Stmts, done, step, no_else, branch, Alternatives, others, alternative, followed_by}
-use Rattle.rtl_model.specs.bodies.Values.{element_at, elements_of, value_of}
-use Rattle.rtl_model.specs.bodies.Effect.{or_else, effect, alternatives_effect}
-use Rattle.rtl_model.specs.bodies.Reads.{reads}
-use Rattle.rtl_model.specs.bodies.Assigns.{must_assign}
-use Rattle.rtl_model.specs.bodies.Kinds.{EdgeTest, edge_test, Plain, AtEdge, kind_of, body_has_event}
-use Rattle.rtl_model.specs.bodies.Types.{NetType, limit_of, HasType, KeepsTypes}
-use Rattle.rtl_model.specs.simulation.Elaborated.{AgreeOn}
-use Rattle.rtl_model.specs.bodies.Fits.{width, value_width, IsWidth, FitsExpr, FitsValue, FitsTarget, Fits}
+use Rattle.std.specs.Prelude.{◌≡◌, ℕ, ◌<◌, ◌⊎◌, ◌↔◌, Bool, true, false, not, ◌&&◌, ◌||◌, ◌==◌, All, Contains}
+use Rattle.std.specs.Prelude.{List, [], ◌++◌, length, slice_index, slice_get, Option, Some, None, IsTrue, IsSome}
+use Rattle.vhdl_values.specs.declared.kinds.Edge.{Edge}
+use Rattle.rtl_model.specs.basics.Valuations.{AgreeOn, or_else, clocked_entry}
+use Rattle.rtl_model.specs.bodies.Body.{Expr, filled, Value, elements, Test, condition, equal, unequal}
+use Rattle.rtl_model.specs.bodies.Body.{assign, set, case_of, Stmts, Alternatives, others, alternative, followed_by}
+use Rattle.rtl_model.specs.bodies.Values.{Seen, elements_of, value_of}
+use Rattle.rtl_model.specs.bodies.Tests.{edge_at}
+use Rattle.rtl_model.specs.bodies.Variables.{variables_after, after, alternatives_variables}
+use Rattle.rtl_model.specs.bodies.Effect.{effect, alternatives_effect}
+use Rattle.rtl_model.specs.bodies.Reads.{reads, events}
+use Rattle.rtl_model.specs.bodies.Assigns.{of_drivers, is_element, Target, must_assign}
+use Rattle.rtl_model.specs.bodies.Stored.{stores_element}
+use Rattle.rtl_model.specs.bodies.Kinds.{edge_test, IsEdgeTest, reset_test, IsResetTest, ResetPart, Clocking, IsClockedAlone}
+use Rattle.rtl_model.specs.bodies.Kinds.{IsClockedWithReset, clocking}
+use Rattle.rtl_model.specs.bodies.Types.{ElementType, limit_of, HasType, KeepsTypes}
+use Rattle.rtl_model.specs.bodies.Fits.{Scope, width, IsWidth, FitsExpr, FitsAs, FitsTest, FitsStmt, Fits}
+
+-- ---- what a run does
 
 -- What is assigned on every syntactic path has an entry on every run, at one of its places.
 abbrev pub EachRunAssigns : Type 0
-EachRunAssigns = (body : Stmts) (these : ℕ → Bool) (before now : List ℕ) → IsTrue (must_assign these body)
-    → (place : ℕ) × IsTrue (these place) × IsSome (effect before now body place)
+EachRunAssigns =
+    (body : Stmts) (these : ℕ → Bool) (seen : Seen) → IsTrue (must_assign (of_drivers these) body)
+    → (place : ℕ) × IsTrue (these place) × IsSome (effect seen body place)
 
--- A run looks at what the body reads and at nothing else,
+-- Two runs see the same: now of the nets that the body reads, before of those whose events it looks at, and of the elements
+-- that it reads where it hasn't assigned them.
+pub record SeesAlike (body : Stmts) (seen other : Seen) : Type 0 where
+  pub now : AgreeOn (reads body) seen.now other.now
+  pub before : AgreeOn (events body) seen.before other.before
+  pub as_many : length seen.variables ≡ length other.variables
+  pub variables : (e : ℕ) → IsTrue (stores_element e body) → slice_index seen.variables e ≡ slice_index other.variables e
+
+-- What a run does depends on this alone.
 abbrev pub LooksAtReads : Type 0
-LooksAtReads = (body : Stmts) (before now before' now' : List ℕ) → AgreeOn (reads body) before before' → AgreeOn (reads body) now now'
-    → (place : ℕ) → effect before now body place ≡ effect before' now' body place
+LooksAtReads = (body : Stmts) (seen other : Seen) → SeesAlike body seen other → (place : ℕ) → effect seen body place ≡ effect other body place
 
--- and without an edge test or `'event` not at the valuation before.
-abbrev pub LooksAtNow : Type 0
-LooksAtNow = (body : Stmts) (before now before' now' : List ℕ) → body_has_event body ≡ false → AgreeOn (reads body) now now'
-    → (place : ℕ) → effect before now body place ≡ effect before' now' body place
+-- So a body that stores no element does the same whatever values its variables had before the run.
+abbrev pub NothingIsKept : Type 0
+NothingIsKept =
+    (body : Stmts) → ((e : ℕ) → stores_element e body ≡ false)
+    → (seen : Seen) (values : List ℕ) → length values ≡ length seen.variables → (place : ℕ)
+    → effect (record seen { variables = values }) body place ≡ effect seen body place
 
--- A clocked body does at its edge what its branch does, and nothing at all else.
-abbrev pub FollowsItsEdge : Type 0
-FollowsItsEdge = (body branch : Stmts) (e : EdgeTest) (before now : List ℕ) → kind_of body ≡ AtEdge e branch → (place : ℕ)
-    → (has_edge e.kind (element_at before e.clock) (element_at now e.clock) ≡ true → effect before now body place ≡ effect now now branch place)
-    × (has_edge e.kind (element_at before e.clock) (element_at now e.clock) ≡ false → effect before now body place ≡ None)
-
--- one if, with no elsif and no else, whose condition is this edge test and whose branch has no edge test and no `'event`
-pub record IsClockedBody (body branch' : Stmts) (e : EdgeTest) : Type 0 where
-  pub test : Test
-  pub is : body ≡ step (choose (branch test branch' no_else)) done
-  pub edge : edge_test test ≡ Some e
-  pub plain : body_has_event branch' ≡ false
-
--- Bodies of the first kind are clocked, and combinational is what has no edge test and no `'event`.
-pub record KindsAreAsSaid (body : Stmts) : Type 0 where
-  pub clocked_is : (branch' : Stmts) (e : EdgeTest) → kind_of body ≡ AtEdge e branch' ↔ IsClockedBody body branch' e
-  pub combinational_is : kind_of body ≡ Plain ↔ (body_has_event body ≡ false)
-
-abbrev pub EachKindIsAsSaid : Type 0
-EachKindIsAsSaid = (body : Stmts) → KindsAreAsSaid body
-
--- this is the body of an alternative
+-- A case always takes a branch, whatever the value. This is the body of an alternative:
 abbrev pub IsAlternative : Stmts → Alternatives → Type 0
 IsAlternative s (others t) = s ≡ t
 IsAlternative s (alternative choices t alts) = (s ≡ t) ⊎ IsAlternative s alts
 
--- A case always takes a branch, whatever the value.
+pub record TakesBranch (seen : Seen) (value : List ℕ) (alts : Alternatives) : Type 0 where
+  pub branch : Stmts
+  pub is : IsAlternative branch alts
+  pub effect_is : (place : ℕ) → alternatives_effect seen value alts place ≡ effect seen branch place
+  pub variables_are : alternatives_variables seen value alts ≡ variables_after seen branch
+
 abbrev pub CaseTakesABranch : Type 0
-CaseTakesABranch = (alts : Alternatives) (value : List ℕ) → (s : Stmts) × IsAlternative s alts
-    × ((before now : List ℕ) (place : ℕ) → alternatives_effect before now value alts place ≡ effect before now s place)
+CaseTakesABranch = (seen : Seen) (value : List ℕ) (alts : Alternatives) → TakesBranch seen value alts
 
--- What a sequence assigns is what its later part assigns, and else what its earlier part does.
-abbrev pub LaterReplaces : Type 0
-LaterReplaces = (earlier later : Stmts) (before now : List ℕ) (place : ℕ)
-    → effect before now (followed_by earlier later) place ≡ or_else (effect before now later place) (effect before now earlier place)
+-- ---- sequences
 
--- A sequence reads, assigns and tests what its parts do, and fits where they do.
+-- What a sequence assigns is what its later part assigns, which sees the variables as its earlier part left them, and else
+-- what its earlier part does.
+pub record LaterReplaces (earlier later : Stmts) (seen : Seen) : Type 0 where
+  pub effect_is : (place : ℕ) → effect seen (followed_by earlier later) place ≡ or_else (effect (after seen earlier) later place) (effect seen earlier place)
+  pub variables_are : variables_after seen (followed_by earlier later) ≡ variables_after (after seen earlier) later
+
+abbrev pub EachLaterReplaces : Type 0
+EachLaterReplaces = (earlier later : Stmts) (seen : Seen) → LaterReplaces earlier later seen
+
+-- A sequence reads, assigns, tests and stores what its parts do, and fits where they do.
 pub record AddsUp (s t : Stmts) : Type 0 where
   pub reads_both : reads (followed_by s t) ≡ reads s ++ reads t
-  pub assigns_either : (these : ℕ → Bool) → must_assign these (followed_by s t) ≡ must_assign these s || must_assign these t
-  pub has_events : body_has_event (followed_by s t) ≡ body_has_event s || body_has_event t
-  pub fits : (types : List NetType) (targets : List ℕ) → Fits types targets (followed_by s t) ↔ (Fits types targets s × Fits types targets t)
+  pub events_of_both : events (followed_by s t) ≡ events s ++ events t
+  pub assigns_either : (these : Target → Bool) → must_assign these (followed_by s t) ≡ must_assign these s || must_assign these t
+  pub stores_either : (e : ℕ) → stores_element e (followed_by s t) ≡ stores_element e s || (not (must_assign (is_element e) s) && stores_element e t)
+  pub fits : (scope : Scope) → Fits scope (followed_by s t) ↔ (Fits scope s × Fits scope t)
 
 abbrev pub SequencesAddUp : Type 0
 SequencesAddUp = (s t : Stmts) → AddsUp s t
 
+-- ---- clocked bodies
+
+-- Tests are edge tests and reset tests, and bodies clocked, just where they are as said; and what is clocked has an event.
+pub record KindsAreAsSaid (inputs : List ℕ) : Type 0 where
+  pub edge_tests : (t : Test) (clock : ℕ) (edge : Edge) → edge_test t ≡ Some (record { clock = clock; edge = edge }) ↔ IsEdgeTest t clock edge
+  pub reset_tests : (t : Test) (net value : ℕ) → reset_test inputs t ≡ Some (record { net = net; value = value }) ↔ IsResetTest inputs t net value
+  pub clocked : (body : Stmts) (c : Clocking) → clocking inputs body ≡ Some c ↔ (IsClockedAlone body c ⊎ IsClockedWithReset inputs body c)
+  pub has_event : (body : Stmts) (c : Clocking) → clocking inputs body ≡ Some c → events body ≡ [] → ⊥
+
+abbrev pub EachKindIsAsSaid : Type 0
+EachKindIsAsSaid = (inputs : List ℕ) → KindsAreAsSaid inputs
+
+-- whether the reset of a clocked body holds, and the entry of its branch
+abbrev pub reset_holds : Seen → Option ResetPart → Bool
+reset_holds seen None = false
+reset_holds seen (Some reset) = slice_index seen.now reset.test.net == reset.test.value
+
+abbrev pub entry_of_reset : Seen → Option ResetPart → (place : ℕ) → Option ℕ
+entry_of_reset seen None place = None
+entry_of_reset seen (Some reset) place = effect seen reset.branch place
+
+-- A clocked body does what its reset's branch does where its reset holds, else at its edge what its branch does, and else
+-- nothing at all.
+abbrev pub FollowsItsEdge : Type 0
+FollowsItsEdge =
+    (inputs : List ℕ) (body : Stmts) (c : Clocking) → clocking inputs body ≡ Some c → (seen : Seen) (place : ℕ)
+    → effect seen body place
+    ≡ clocked_entry (reset_holds seen c.reset) (edge_at seen c.test.edge c.test.clock) (entry_of_reset seen c.reset place) (effect seen c.branch place)
+
+-- A reset's branch reads no net.
+abbrev pub ResetsReadNothing : Type 0
+ResetsReadNothing =
+    (inputs : List ℕ) (body : Stmts) (c : Clocking) (reset : ResetPart) → clocking inputs body ≡ Some c → c.reset ≡ Some reset
+    → (reads reset.branch ≡ []) × (events reset.branch ≡ [])
+
+-- ---- bodies that fit
+
 -- The value of an expression that fits is as long as its width, which a vector can have.
 abbrev pub HasItsWidth : Type 0
-HasItsWidth = (types : List NetType) (e : Expr) (now : List ℕ) → FitsExpr types e → (length (elements_of now e) ≡ width e) × IsWidth (width e)
+HasItsWidth = (scope : Scope) (e : Expr) (seen : Seen) → FitsExpr scope e → (length (elements_of seen e) ≡ width e) × IsWidth (width e)
 
--- A value that fits is as long as its width, and so is a target that fits it: each place has its element.
-abbrev pub TargetsFitValues : Type 0
-TargetsFitValues = (types : List NetType) (targets places : List ℕ) (v : Value) (now : List ℕ) → FitsValue types v
-    → (length (value_of now v) ≡ value_width v) × (FitsTarget types targets v places → length places ≡ value_width v)
+-- whether it is one of elements of the nine values
+abbrev pub is_of_elements : Value → Bool
+is_of_elements (elements e) = true
+is_of_elements _ = false
 
--- Each entry of a body that fits is that of a driver, and one of the values of its net, where the valuation keeps the types.
+-- a choice of one of the alternatives
+abbrev pub IsChoice : List ℕ → Alternatives → Type 0
+IsChoice choice (others s) = ⊥
+IsChoice choice (alternative choices s alts) = Contains choices choice ⊎ IsChoice choice alts
+
+-- The parts of a body that fits look nothing up that isn't there, and compare and assign what is as long as it should be.
+pub record PartsAreSafe (scope : Scope) (seen : Seen) : Type 0 where
+  pub condition_is_one : (e : Expr) → FitsTest scope (condition e) → length (elements_of seen e) ≡ 1
+  pub filler_is_one : (len : ℕ) (e : Expr) → FitsExpr scope (filled len e) → length (elements_of seen e) ≡ 1
+  pub equals_are_of_one_type : (v w : Value) → FitsTest scope (equal v w) → is_of_elements v ≡ is_of_elements w
+  pub unequals_are_of_one_type : (v w : Value) → FitsTest scope (unequal v w) → is_of_elements v ≡ is_of_elements w
+  pub choices_fit : (v : Value) (alts : Alternatives) (choice : List ℕ) → FitsStmt scope (case_of v alts) → IsChoice choice alts
+      → (length choice ≡ length (value_of seen v)) × ((t : ElementType) × FitsAs scope t v × All (λ n. n < limit_of t) choice)
+  pub places_fit : (places : List ℕ) (v : Value) → FitsStmt scope (assign places v)
+      → (length places ≡ length (value_of seen v)) × All (λ place. place < length scope.targets) places
+  pub elements_fit : (es : List ℕ) (v : Value) → FitsStmt scope (set es v)
+      → (length es ≡ length (value_of seen v)) × All (λ e. e < length scope.variables) es
+
+abbrev pub EachPartIsSafe : Type 0
+EachPartIsSafe = (scope : Scope) (seen : Seen) → PartsAreSafe scope seen
+
+-- All nets that a body that fits reads are there, and all elements that it stores.
+pub record ReadsAreThere (scope : Scope) (body : Stmts) : Type 0 where
+  pub nets : All (λ n. n < length scope.nets) (reads body)
+  pub events_too : All (λ n. n < length scope.nets) (events body)
+  pub elements : (e : ℕ) → IsTrue (stores_element e body) → e < length scope.variables
+
+abbrev pub EachReadIsThere : Type 0
+EachReadIsThere = (scope : Scope) (body : Stmts) → Fits scope body → ReadsAreThere scope body
+
+-- what is seen keeps the types
+pub record SeesTypes (scope : Scope) (seen : Seen) : Type 0 where
+  pub nets : KeepsTypes scope.nets seen.now
+  pub variables : KeepsTypes scope.variables seen.variables
+
+-- Each entry of a body that fits is that of a driver, and one of the values of its net, and the variables keep their types,
+-- where what is seen keeps the types.
+pub record RunKeepsTypes (scope : Scope) (body : Stmts) (seen : Seen) : Type 0 where
+  pub entries : (place value : ℕ) → effect seen body place ≡ Some value
+      → (net : ℕ) × (t : ElementType) × (slice_get scope.targets place ≡ Some net) × HasType scope.nets t net × (value < limit_of t)
+  pub variables : KeepsTypes scope.variables (variables_after seen body)
+
 abbrev pub EntriesKeepTypes : Type 0
-EntriesKeepTypes = (types : List NetType) (targets : List ℕ) (body : Stmts) (before now : List ℕ) → Fits types targets body → KeepsTypes types now
-    → (place value : ℕ) → effect before now body place ≡ Some value
-    → (net : ℕ) × (t : NetType) × (slice_get targets place ≡ Some net) × HasType types t net × (value < limit_of t)
+EntriesKeepTypes = (scope : Scope) (body : Stmts) (seen : Seen) → Fits scope body → SeesTypes scope seen → RunKeepsTypes scope body seen

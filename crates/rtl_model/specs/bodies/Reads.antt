@@ -1,10 +1,18 @@
--- What a body reads: the nets whose values or whose events it looks at, in each branch, taken or not.
+-- What a body reads, in each branch, taken or not: the nets whose values or whose events it looks at, and those whose
+-- events alone. Variables are no nets.
 use Rattle.std.specs.Prelude.{ℕ, List, [], ◌∷◌, ◌++◌}
-use Rattle.rtl_model.specs.bodies.Body.{Expr, read, character, constant, inverse, filled, binary, resized, shifted_left, shifted_right, Value, elements, position, position_of, Test, holds, fixed, alike, unlike, compared, compared_to, edge, event, negated, both, Stmt, nothing, assign, choose, select, Stmts, done, step, Branches, no_else, otherwise, branch, Alternatives, others, alternative}
+use Rattle.rtl_model.specs.bodies.Body.{Expr, signal, variable, constant, inverse, filled, binary, resized, shifted_left}
+use Rattle.rtl_model.specs.bodies.Body.{shifted_right, Value, elements, position, position_of, position_in}
+use Rattle.rtl_model.specs.bodies.Body.{Test, condition, decided, equal, unequal, level, compared, compared_to}
+use Rattle.rtl_model.specs.bodies.Body.{rising, falling, event, negated, combined}
+use Rattle.rtl_model.specs.bodies.Body.{Stmt, nothing, assign, set, if_of, case_of, Stmts, done, step}
+use Rattle.rtl_model.specs.bodies.Body.{Branches, no_else, otherwise, branch, Alternatives, others, alternative}
+
+-- ---- what is read
 
 abbrev pub expr_reads : Expr → List ℕ
-expr_reads (read by_port nets) = nets
-expr_reads (character v) = []
+expr_reads (signal nets) = nets
+expr_reads (variable es) = []
 expr_reads (constant values) = []
 expr_reads (inverse e) = expr_reads e
 expr_reads (filled len e) = expr_reads e
@@ -17,25 +25,29 @@ abbrev pub value_reads : Value → List ℕ
 value_reads (elements e) = expr_reads e
 value_reads (position n) = []
 value_reads (position_of net) = net ∷ []
+value_reads (position_in element) = []
 
 abbrev pub test_reads : Test → List ℕ
-test_reads (holds e) = expr_reads e
-test_reads (fixed b) = []
-test_reads (alike v w) = value_reads v ++ value_reads w
-test_reads (unlike v w) = value_reads v ++ value_reads w
+test_reads (condition e) = expr_reads e
+test_reads (decided b) = []
+test_reads (equal v w) = value_reads v ++ value_reads w
+test_reads (unequal v w) = value_reads v ++ value_reads w
+test_reads (level plain net v) = net ∷ []
 test_reads (compared op d e) = expr_reads d ++ expr_reads e
 test_reads (compared_to op e n) = expr_reads e
-test_reads (edge kind by_port net) = net ∷ []
-test_reads (event by_port net) = net ∷ []
+test_reads (rising net) = net ∷ []
+test_reads (falling net) = net ∷ []
+test_reads (event net) = net ∷ []
 test_reads (negated t) = test_reads t
-test_reads (both op s t) = test_reads s ++ test_reads t
+test_reads (combined op s t) = test_reads s ++ test_reads t
 
 abbrev mutual
   pub stmt_reads : Stmt → List ℕ
   stmt_reads nothing = []
   stmt_reads (assign places v) = value_reads v
-  stmt_reads (choose bs) = branches_reads bs
-  stmt_reads (select v alts) = value_reads v ++ alternatives_reads alts
+  stmt_reads (set es v) = value_reads v
+  stmt_reads (if_of bs) = branches_reads bs
+  stmt_reads (case_of v alts) = value_reads v ++ alternatives_reads alts
 
   pub reads : Stmts → List ℕ
   reads done = []
@@ -44,8 +56,39 @@ abbrev mutual
   pub branches_reads : Branches → List ℕ
   branches_reads no_else = []
   branches_reads (otherwise s) = reads s
-  branches_reads (branch t s bs) = test_reads t ++ reads s ++ branches_reads bs
+  branches_reads (branch t s bs) = test_reads t ++ (reads s ++ branches_reads bs)
 
   pub alternatives_reads : Alternatives → List ℕ
   alternatives_reads (others s) = reads s
   alternatives_reads (alternative choices s alts) = reads s ++ alternatives_reads alts
+
+-- ---- edge tests and `'event`
+
+abbrev pub test_events : Test → List ℕ
+test_events (rising net) = net ∷ []
+test_events (falling net) = net ∷ []
+test_events (event net) = net ∷ []
+test_events (negated t) = test_events t
+test_events (combined op s t) = test_events s ++ test_events t
+test_events _ = []
+
+abbrev mutual
+  pub stmt_events : Stmt → List ℕ
+  stmt_events nothing = []
+  stmt_events (assign places v) = []
+  stmt_events (set es v) = []
+  stmt_events (if_of bs) = branches_events bs
+  stmt_events (case_of v alts) = alternatives_events alts
+
+  pub events : Stmts → List ℕ
+  events done = []
+  events (step s rest) = stmt_events s ++ events rest
+
+  pub branches_events : Branches → List ℕ
+  branches_events no_else = []
+  branches_events (otherwise s) = events s
+  branches_events (branch t s bs) = test_events t ++ (events s ++ branches_events bs)
+
+  pub alternatives_events : Alternatives → List ℕ
+  alternatives_events (others s) = events s
+  alternatives_events (alternative choices s alts) = events s ++ alternatives_events alts

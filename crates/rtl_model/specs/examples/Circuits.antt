@@ -1,20 +1,27 @@
 -- Flat nets of std_logic signals whose processes have one driver each. The values are those of std_logic by place: 0 is 'U',
 -- 1 is 'X', 2 is '0' and 3 is '1'.
-use Rattle.std.specs.Prelude.{ℕ, List, [], ◌∷◌, map}
+use Rattle.std.specs.Prelude.{◌≡◌, ℕ, List, [], ◌∷◌, map}
 use Rattle.rtl_model.specs.bodies.Body.{Stmts}
 use Rattle.rtl_model.specs.bodies.Types.{nine_valued}
 use Rattle.rtl_model.specs.nets.FlatNet.{FlatProcess, FlatNet}
-use Rattle.rtl_model.specs.simulation.Net.{Net, Source}
-use Rattle.rtl_model.specs.simulation.Elaborated.{IsElaborated}
-use Rattle.rtl_model.specs.simulation.Accepted.{IsAccepted}
+use Rattle.rtl_model.specs.simulation.Net.{Net}
+use Rattle.rtl_model.specs.simulation.Cycle.{State}
+use Rattle.rtl_model.specs.simulation.Moments.{HasSettled}
 
 -- a process whose body assigns place 0, which is the driver of this net
 abbrev pub drives_one : (target start : ℕ) → (wakes : List ℕ) → Stmts → FlatProcess
-drives_one target start wakes body = record { drivers = record { net = target; start = start } ∷ []; wakes = wakes; body = body }
+drives_one target start wakes body = record { drivers = record { net = target; start = start } ∷ []; wakes = wakes; variables = []; body = body }
 
-abbrev pub circuit : (inputs start : List ℕ) → List (List Source) → List FlatProcess → FlatNet
-circuit inputs start sources processes = record { types = map (λ n. nine_valued) start; start = start; sources = sources; inputs = inputs; processes = processes }
+-- without idle ports
+abbrev pub circuit : (inputs start : List ℕ) → List FlatProcess → FlatNet
+circuit inputs start processes = record {
+  types = map (λ n. nine_valued) start;
+  start = start;
+  inputs = inputs;
+  idle = map (λ n. []) start;
+  processes = processes;
+}
 
--- the laws on accepted nets speak of this one
-abbrev pub IsFit : Net → Type 0
-IsFit net = IsElaborated net × IsAccepted net
+-- at the moment m the net settles in this valuation
+abbrev pub SettlesAs : Net → (stimulus : ℕ → ℕ → ℕ) → (m : ℕ) → (v : List ℕ) → Type 0
+SettlesAs net stimulus m v = (k : ℕ) × (t : State) × HasSettled net stimulus m k t × (t.now ≡ v)

@@ -4,19 +4,16 @@
 --     y <= std_logic_vector(q);
 --
 -- The nets are clk, y(1), y(0), q(1) and q(0), and q starts at "00".
-use Rattle.std.specs.Prelude.{ℕ, false, [], ◌∷◌, slice_index}
+use Rattle.std.specs.Prelude.{ℕ, [], ◌∷◌, slice_index}
 use Rattle.vhdl_values.specs.declared.scalar.Nine.TheVariants.{Zero, One}
-use Rattle.vhdl_values.specs.declared.kinds.Edge.TheVariants as v
-use Rattle.rtl_model.specs.bodies.Body.{plus, Expr, constant, binary, elements, edge, assign, Stmts, done, step}
+use Rattle.rtl_model.specs.bodies.Body.{plus, Expr, constant, binary, elements, assign, Stmts, done, step}
 use Rattle.rtl_model.specs.bodies.Types.{nine_valued}
-use Rattle.rtl_model.specs.nets.FlatNet.{FlatDriver, FlatProcess, FlatNet, IsInRange}
-use Rattle.rtl_model.specs.nets.Wiring.{IsConnected}
+use Rattle.rtl_model.specs.nets.FlatNet.{FlatDriver, FlatProcess, FlatNet}
 use Rattle.rtl_model.specs.nets.CoreNet.{core_net}
-use Rattle.rtl_model.specs.simulation.Net.{Driver}
 use Rattle.rtl_model.specs.simulation.Moments.{Takes}
-use Rattle.rtl_model.specs.simulation.Accepted.{IsAccepted}
-use Rattle.rtl_model.specs.examples.Bodies.{pair, if_only}
-use Rattle.rtl_model.specs.examples.Gates.{SettlesAs}
+use Rattle.rtl_model.specs.nets.Laws.{IsSound}
+use Rattle.rtl_model.specs.examples.Bodies.{pair, if_only, rising_clk}
+use Rattle.rtl_model.specs.examples.Circuits.{SettlesAs}
 
 abbrev pub assigned_pair : Expr → Stmts
 assigned_pair e = step (assign (0 ∷ 1 ∷ []) (elements e)) done
@@ -29,18 +26,19 @@ abbrev pub counting : FlatProcess
 counting = record {
   drivers = driver 3 2 ∷ driver 4 2 ∷ [];
   wakes = 0 ∷ [];
-  body = if_only (edge v.Rising false 0) (assigned_pair (binary plus (pair 3 4) (constant (Zero ∷ One ∷ []))));
+  variables = [];
+  body = if_only rising_clk (assigned_pair (binary plus (pair 3 4) (constant (Zero ∷ One ∷ []))));
 }
 
 abbrev pub showing : FlatProcess
-showing = record { drivers = driver 1 0 ∷ driver 2 0 ∷ []; wakes = 3 ∷ 4 ∷ []; body = assigned_pair (pair 3 4) }
+showing = record { drivers = driver 1 0 ∷ driver 2 0 ∷ []; wakes = 3 ∷ 4 ∷ []; variables = []; body = assigned_pair (pair 3 4) }
 
 abbrev pub counter : FlatNet
 counter = record {
   types = nine_valued ∷ nine_valued ∷ nine_valued ∷ nine_valued ∷ nine_valued ∷ [];
   start = 0 ∷ 0 ∷ 0 ∷ 2 ∷ 2 ∷ [];
-  sources = [] ∷ (Driver 1 0 ∷ []) ∷ (Driver 1 1 ∷ []) ∷ (Driver 0 0 ∷ []) ∷ (Driver 0 1 ∷ []) ∷ [];
   inputs = 0 ∷ [];
+  idle = [] ∷ [] ∷ [] ∷ [] ∷ [] ∷ [];
   processes = counting ∷ showing ∷ [];
 }
 
@@ -49,9 +47,7 @@ abbrev pub clock : (m n : ℕ) → ℕ
 clock m n = slice_index (2 ∷ 3 ∷ 2 ∷ 3 ∷ []) m
 
 pub record CounterCounts : Type 0 where
-  pub in_range : IsInRange counter
-  pub connected : IsConnected counter
-  pub accepted : IsAccepted (core_net counter)
+  pub sound : IsSound counter
   pub at_start : SettlesAs (core_net counter) clock 0 (2 ∷ 2 ∷ 2 ∷ 2 ∷ 2 ∷ [])
   pub first_edge : SettlesAs (core_net counter) clock 1 (3 ∷ 2 ∷ 3 ∷ 2 ∷ 3 ∷ [])
   pub no_edge : SettlesAs (core_net counter) clock 2 (2 ∷ 2 ∷ 3 ∷ 2 ∷ 3 ∷ [])

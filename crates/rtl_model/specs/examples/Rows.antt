@@ -3,15 +3,15 @@ use Rattle.std.specs.Prelude.{◌≡◌, ℕ, ◌==◌, [], ◌∷◌, if◌then
 use Rattle.rtl_model.specs.bodies.Body.{inverse}
 use Rattle.rtl_model.specs.nets.FlatNet.{FlatNet}
 use Rattle.rtl_model.specs.nets.CoreNet.{core_net}
-use Rattle.rtl_model.specs.simulation.Net.{Net, Driver}
+use Rattle.rtl_model.specs.simulation.Net.{Net}
 use Rattle.rtl_model.specs.simulation.Cycle.{State}
 use Rattle.rtl_model.specs.simulation.Moments.{HasDeltas, IsUnsettled, Begun, Takes}
-use Rattle.rtl_model.specs.examples.Bodies.{signal, assigned}
+use Rattle.rtl_model.specs.examples.Bodies.{one_signal, assigned}
 use Rattle.rtl_model.specs.examples.Circuits.{circuit, drives_one}
 
 -- y <= not y, from this value
 abbrev pub oscillator : (start : ℕ) → Net
-oscillator start = core_net (circuit [] (start ∷ []) ((Driver 0 0 ∷ []) ∷ []) (drives_one 0 start (0 ∷ []) (assigned (inverse (signal 0))) ∷ []))
+oscillator start = core_net (circuit [] (start ∷ []) (drives_one 0 start (0 ∷ []) (assigned (inverse (one_signal 0))) ∷ []))
 
 abbrev pub no_inputs : ℕ → ℕ → ℕ
 no_inputs m n = 0
@@ -23,7 +23,7 @@ pub record OscillatorSettles : Type 0 where
 
 -- z <= not a;  process (a, z) begin y <= a; end process;  the nets are a, y and z
 abbrev pub sibling : FlatNet
-sibling = circuit (0 ∷ []) (0 ∷ 0 ∷ 0 ∷ []) ([] ∷ (Driver 1 0 ∷ []) ∷ (Driver 0 0 ∷ []) ∷ []) (drives_one 2 0 (0 ∷ []) (assigned (inverse (signal 0))) ∷ drives_one 1 0 (0 ∷ 2 ∷ []) (assigned (signal 0)) ∷ [])
+sibling = circuit (0 ∷ []) (0 ∷ 0 ∷ 0 ∷ []) (drives_one 2 0 (0 ∷ []) (assigned (inverse (one_signal 0))) ∷ drives_one 1 0 (0 ∷ 2 ∷ []) (assigned (one_signal 0)) ∷ [])
 
 -- a is '0' and from moment 1 on '1'
 abbrev pub a_rises : ℕ → ℕ → ℕ

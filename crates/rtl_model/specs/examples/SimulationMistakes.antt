@@ -4,26 +4,27 @@ use Rattle.std.specs.Prelude.{◌≡◌, ℕ, suc, zero, ◌<◌, Bool, true, fa
 use Rattle.std.specs.List.{list_any}
 use Rattle.std.specs.Option.{is_some}
 use Rattle.vhdl_values.specs.declared.scalar.Nine.TheVariants.{One}
-use Rattle.rtl_model.specs.bodies.Body.{edge}
+use Rattle.rtl_model.specs.basics.Valuations.{clocked_entry}
+use Rattle.rtl_model.specs.bodies.Body.{falling}
 use Rattle.rtl_model.specs.nets.FlatNet.{FlatNet}
 use Rattle.rtl_model.specs.nets.CoreNet.{core_net}
-use Rattle.rtl_model.specs.simulation.Net.{Net, Source, Driver, Idle, Edge, Rising, Falling, process, sources_of, target, reset_of, reset_entry, resets, clocked_entry, HasPlace, IsCombinational}
+use Rattle.rtl_model.specs.nets.Laws.{IsSound}
+use Rattle.rtl_model.specs.simulation.Net.{Net, Source, Driver, Idle, Edge, Rising, Falling, process, sources_of, target, reset_of, reset_entry, resets, HasPlace, IsCombinational}
 use Rattle.rtl_model.specs.simulation.Cycle.{State, IsToRun, driven_all, net_values, none_pending, over, ran, updated, started, is_quiet}
 use Rattle.rtl_model.specs.simulation.Moments.{Takes}
 use Rattle.rtl_model.specs.simulation.Levels.{AreLevels, ChainTo, bound}
 use Rattle.rtl_model.specs.simulation.Races.{IsRace, IsRaceAt}
 use Rattle.rtl_model.specs.simulation.Machine.{entry_or, register_next}
-use Rattle.rtl_model.specs.examples.Bodies.{signal, assigned, is_at, if_only, rising_clk}
-use Rattle.rtl_model.specs.examples.Circuits.{circuit, drives_one, IsFit}
-use Rattle.rtl_model.specs.examples.Gates.{SettlesAs}
+use Rattle.rtl_model.specs.examples.Bodies.{one_signal, assigned, is_at, if_only, rising_clk}
+use Rattle.rtl_model.specs.examples.Circuits.{circuit, drives_one, SettlesAs}
 use Rattle.rtl_model.specs.examples.Toggling.{toggling, one_edge}
 use Rattle.rtl_model.specs.examples.Rows.{oscillator, sibling, a_rises, no_inputs}
 
 -- ---- two registers in a row: q1 <= d and q2 <= q1; the nets are clk, d, q1 and q2
 
 abbrev pub shift : FlatNet
-shift = circuit (0 ∷ 1 ∷ []) (0 ∷ 0 ∷ 2 ∷ 2 ∷ []) ([] ∷ [] ∷ (Driver 0 0 ∷ []) ∷ (Driver 1 0 ∷ []) ∷ [])
-    (drives_one 2 2 (0 ∷ []) (if_only rising_clk (assigned (signal 1))) ∷ drives_one 3 2 (0 ∷ []) (if_only rising_clk (assigned (signal 2))) ∷ [])
+shift = circuit (0 ∷ 1 ∷ []) (0 ∷ 0 ∷ 2 ∷ 2 ∷ [])
+    (drives_one 2 2 (0 ∷ []) (if_only rising_clk (assigned (one_signal 1))) ∷ drives_one 3 2 (0 ∷ []) (if_only rising_clk (assigned (one_signal 2))) ∷ [])
 
 -- d is '1', and clk rises at moment 1
 abbrev pub shift_edge : ℕ → ℕ → ℕ
@@ -90,9 +91,9 @@ cycles_from_start update net order k inputs = cycles update net order k (run_eac
 pub record ActivityWouldGoOn : Type 0 where
   pub right : is_quiet (cycles_from_start updated (oscillator 0) (0 ∷ []) 1 (no_inputs 0)) ≡ true
   pub wrong : is_quiet (cycles_from_start updated_by_activity (oscillator 0) (0 ∷ []) 9 (no_inputs 0)) ≡ false
-  pub fit : IsFit (toggling true)
-  pub accepted_right : is_quiet (cycles_from_start updated (toggling true) (0 ∷ 1 ∷ []) 3 (one_edge true 0)) ≡ true
-  pub accepted_wrong : is_quiet (cycles_from_start updated_by_activity (toggling true) (0 ∷ 1 ∷ []) 9 (one_edge true 0)) ≡ false
+  pub fit : IsSound (toggling true)
+  pub accepted_right : is_quiet (cycles_from_start updated (core_net (toggling true)) (0 ∷ 1 ∷ []) 3 (one_edge true 0)) ≡ true
+  pub accepted_wrong : is_quiet (cycles_from_start updated_by_activity (core_net (toggling true)) (0 ∷ 1 ∷ []) 9 (one_edge true 0)) ≡ false
 
 -- ---- the bound without the registers' cycle
 
@@ -101,11 +102,11 @@ abbrev pub bound_of_levels : Net → (greatest : ℕ) → ℕ
 bound_of_levels net greatest = greatest
 
 pub record BoundWouldBreak : Type 0 where
-  pub fit : IsFit (toggling false)
-  pub levels : AreLevels (toggling false) (None ∷ Some 1 ∷ []) 1
-  pub right : bound (toggling false) 1 ≡ 2
-  pub takes : Takes (toggling false) (one_edge false) 1 2
-  pub wrong : bound_of_levels (toggling false) 1 < 2
+  pub fit : IsSound (toggling false)
+  pub levels : AreLevels (core_net (toggling false)) (None ∷ Some 1 ∷ []) 1
+  pub right : bound (core_net (toggling false)) 1 ≡ 2
+  pub takes : Takes (core_net (toggling false)) (one_edge false) 1 2
+  pub wrong : bound_of_levels (core_net (toggling false)) 1 < 2
 
 -- ---- levels by reads in place of sensitivities
 
@@ -119,7 +120,7 @@ pub record FeedsByReading (net : Net) (p q : ℕ) : Type 0 where
 
 -- no process would be above level 1, and the bound would be 1
 pub record LevelsWouldMiss : Type 0 where
-  pub fit : IsFit (core_net sibling)
+  pub fit : IsSound sibling
   pub right : ChainTo (core_net sibling) 1 2
   pub wrong : (p q : ℕ) → FeedsByReading (core_net sibling) p q → ⊥
   pub takes : Takes (core_net sibling) a_rises 1 2
@@ -128,7 +129,7 @@ pub record LevelsWouldMiss : Type 0 where
 
 -- if rising_edge(clk) then if en = '1' then q <= d; end if; end if;  the nets are clk, en, d and q, which starts at '0'
 abbrev pub enabled : FlatNet
-enabled = circuit (0 ∷ 1 ∷ 2 ∷ []) (0 ∷ 0 ∷ 0 ∷ 2 ∷ []) ([] ∷ [] ∷ [] ∷ (Driver 0 0 ∷ []) ∷ []) (drives_one 3 2 (0 ∷ []) (if_only rising_clk (if_only (is_at 1 One) (assigned (signal 2)))) ∷ [])
+enabled = circuit (0 ∷ 1 ∷ 2 ∷ []) (0 ∷ 0 ∷ 0 ∷ 2 ∷ []) (drives_one 3 2 (0 ∷ []) (if_only rising_clk (if_only (is_at 1 One) (assigned (one_signal 2)))) ∷ [])
 
 -- clk rises at 1 and 3, d is '1', en is '1' before 2
 abbrev pub enable_drops : ℕ → ℕ → ℕ
@@ -140,11 +141,11 @@ enable_drops (suc (suc (suc m))) n = if n == 1 then 2 else 3
 -- wrong: without an entry the starting value
 abbrev pub register_or_start : Net → (p place clock : ℕ) → Edge → (v : List ℕ) → (inputs : ℕ → ℕ) → ℕ
 register_or_start net p place clock tested v inputs =
-    entry_or (clocked_entry (resets (reset_of net p) inputs) (net.edge tested (slice_index v clock) (inputs clock)) (reset_entry (reset_of net p) place) (slice_index_or ((process net p).branch v) place None)) (slice_index net.start (target net p place))
+    entry_or (clocked_entry (resets (reset_of net p) inputs) (net.edge tested (slice_index v clock) (inputs clock)) (reset_entry (reset_of net p) place) (slice_index_or ((process net p).acting_effect v) place None)) (slice_index net.start (target net p place))
 
 -- the simulation keeps '1', and the machine would have '0'
 pub record RegisterWouldFallBack : Type 0 where
-  pub fit : IsFit (core_net enabled)
+  pub fit : IsSound enabled
   pub earlier : SettlesAs (core_net enabled) enable_drops 2 (2 ∷ 2 ∷ 3 ∷ 3 ∷ [])
   pub simulated : SettlesAs (core_net enabled) enable_drops 3 (3 ∷ 2 ∷ 3 ∷ 3 ∷ [])
   pub right : register_next (core_net enabled) 0 0 0 Rising (2 ∷ 2 ∷ 3 ∷ 3 ∷ []) (enable_drops 3) ≡ 3
@@ -155,11 +156,11 @@ pub record RegisterWouldFallBack : Type 0 where
 -- wrong: the branch looks at the new valuation w
 abbrev pub register_from_after : Net → (p place clock : ℕ) → Edge → (v w : List ℕ) → (inputs : ℕ → ℕ) → ℕ
 register_from_after net p place clock tested v w inputs =
-    entry_or (clocked_entry (resets (reset_of net p) inputs) (net.edge tested (slice_index v clock) (inputs clock)) (reset_entry (reset_of net p) place) (slice_index_or ((process net p).branch w) place None)) (slice_index v (target net p place))
+    entry_or (clocked_entry (resets (reset_of net p) inputs) (net.edge tested (slice_index v clock) (inputs clock)) (reset_entry (reset_of net p) place) (slice_index_or ((process net p).acting_effect w) place None)) (slice_index v (target net p place))
 
 -- at the edge q1 becomes '1' and q2 keeps '0'; the machine's q2 would be '1'
 pub record RegisterWouldRunAhead : Type 0 where
-  pub fit : IsFit (core_net shift)
+  pub fit : IsSound shift
   pub earlier : SettlesAs (core_net shift) shift_edge 0 (2 ∷ 3 ∷ 2 ∷ 2 ∷ [])
   pub simulated : SettlesAs (core_net shift) shift_edge 1 (3 ∷ 3 ∷ 3 ∷ 2 ∷ [])
   pub right : register_next (core_net shift) 1 0 0 Rising (2 ∷ 3 ∷ 2 ∷ 2 ∷ []) (shift_edge 1) ≡ 2
@@ -168,8 +169,8 @@ pub record RegisterWouldRunAhead : Type 0 where
 -- ---- races are looked for at rising edges alone
 
 -- if falling_edge(clk) then q <= d; end if;  the nets are clk, d and q
-abbrev pub falling : FlatNet
-falling = circuit (0 ∷ 1 ∷ []) (0 ∷ 0 ∷ 2 ∷ []) ([] ∷ [] ∷ (Driver 0 0 ∷ []) ∷ []) (drives_one 2 2 (0 ∷ []) (if_only (edge Falling false 0) (assigned (signal 1))) ∷ [])
+abbrev pub falls : FlatNet
+falls = circuit (0 ∷ 1 ∷ []) (0 ∷ 0 ∷ 2 ∷ []) (drives_one 2 2 (0 ∷ []) (if_only (falling 0) (assigned (one_signal 1))) ∷ [])
 
 -- clk falls at moment 1, and d rises with it
 abbrev pub both_change : ℕ → ℕ → ℕ
@@ -181,9 +182,9 @@ IsRisingRace net before now = (race : IsRace net before now) × (race.edge ≡ R
 
 -- none would be found, and the simulation takes the new d where the machine takes the old one
 pub record RaceWouldPass : Type 0 where
-  pub fit : IsFit (core_net falling)
-  pub right : IsRaceAt (core_net falling) both_change 1
-  pub wrong : IsRisingRace (core_net falling) (both_change 0) (both_change 1) → ⊥
-  pub earlier : SettlesAs (core_net falling) both_change 0 (3 ∷ 2 ∷ 2 ∷ [])
-  pub simulated : SettlesAs (core_net falling) both_change 1 (2 ∷ 3 ∷ 3 ∷ [])
-  pub machine : register_next (core_net falling) 0 0 0 Falling (3 ∷ 2 ∷ 2 ∷ []) (both_change 1) ≡ 2
+  pub fit : IsSound falls
+  pub right : IsRaceAt (core_net falls) both_change 1
+  pub wrong : IsRisingRace (core_net falls) (both_change 0) (both_change 1) → ⊥
+  pub earlier : SettlesAs (core_net falls) both_change 0 (3 ∷ 2 ∷ 2 ∷ [])
+  pub simulated : SettlesAs (core_net falls) both_change 1 (2 ∷ 3 ∷ 3 ∷ [])
+  pub machine : register_next (core_net falls) 0 0 0 Falling (3 ∷ 2 ∷ 2 ∷ []) (both_change 1) ≡ 2

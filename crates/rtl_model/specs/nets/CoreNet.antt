@@ -1,40 +1,81 @@
 -- What a flat net is to a simulation: bodies as their effects, values resolved by std_logic_1164's table, and its edges.
-use Rattle.std.specs.Prelude.{ℕ, Bool, ◌&&◌, ◌==◌, nat_lt, List, [], ◌∷◌, length, map, slice_index, None}
+use Rattle.std.specs.Prelude.{ℕ, zero, suc, ◌+◌, Bool, false, ◌&&◌, ◌==◌, nat_lt, if◌then◌else◌, List, [], ◌∷◌, length, map, slice_index, Option, Some, None}
+use Rattle.std.specs.List.{range_with_len}
 use Rattle.vhdl_values.specs.Scalar.{code_of, value_of_code}
 use Rattle.vhdl_values.specs.Resolution.{resolved}
 use Rattle.vhdl_values.specs.Edges.{has_edge}
+use Rattle.rtl_model.specs.bodies.Body.{Stmts, done}
+use Rattle.rtl_model.specs.bodies.Values.{Seen}
 use Rattle.rtl_model.specs.bodies.Effect.{effect_of}
-use Rattle.rtl_model.specs.bodies.Reads.{reads}
-use Rattle.rtl_model.specs.bodies.Assigns.{must_assign}
-use Rattle.rtl_model.specs.bodies.Kinds.{BodyKind, Plain, AtEdge, Neither, kind_of, branch_of}
+use Rattle.rtl_model.specs.bodies.Reads.{reads, events}
+use Rattle.rtl_model.specs.bodies.Assigns.{of_drivers, must_assign}
+use Rattle.rtl_model.specs.bodies.Stored.{stores_element}
+use Rattle.rtl_model.specs.bodies.Kinds.{ResetPart, Clocking, clocking}
 use Rattle.rtl_model.specs.bodies.Types.{limit_of}
-use Rattle.rtl_model.specs.nets.FlatNet.{FlatNet, FlatProcess, targets, starts}
-use Rattle.rtl_model.specs.simulation.Net.{Net, Process, Kind, Combinational, Clocked, Mixed, Edge}
+use Rattle.rtl_model.specs.nets.FlatNet.{FlatNet, FlatProcess, FlatVariable, targets, starts, element_starts, sources_of}
+use Rattle.rtl_model.specs.simulation.Net.{Net, Process, Kind, Combinational, Clocked, Mixed, Reset, Edge}
 
--- a body's kind; today no body has a reset
-abbrev pub core_kind : BodyKind → Kind
-core_kind Plain = Combinational
-core_kind (AtEdge e s) = Clocked e.clock e.kind None
-core_kind Neither = Mixed
+-- ---- processes
+
+-- what a run of a process sees that starts with these valuations: its variables have their initial values
+abbrev pub seen_from : FlatProcess → (before now : List ℕ) → Seen
+seen_from p before now = record { before = before; now = now; variables = element_starts p.variables }
+
+-- the entries of a part of a process's body
+abbrev pub part_effect : FlatProcess → Stmts → (before now : List ℕ) → List (Option ℕ)
+part_effect p part before now = effect_of (length p.drivers) part (seen_from p before now)
+
+-- a reset's branch reads no net, so its entries are the same in all valuations
+abbrev pub core_reset : FlatProcess → Option ResetPart → Option Reset
+core_reset p None = None
+core_reset p (Some r) = Some (record { net = r.test.net; value = r.test.value; entries = part_effect p r.branch [] [] })
+
+-- clocked; else combinational, where no edge test and no `'event` stands in the body; else mixed
+abbrev pub core_kind : FlatProcess → Option Clocking → (events : List ℕ) → Kind
+core_kind p (Some c) ns = Clocked c.test.clock c.test.edge (core_reset p c.reset)
+core_kind p None [] = Combinational
+core_kind p None (n ∷ ns) = Mixed
+
+-- the branch under the edge of a clocked body
+abbrev pub acting_branch : Option Clocking → Stmts
+acting_branch (Some c) = c.branch
+acting_branch None = done
 
 -- whether the driver at this place is one of this net
 abbrev pub drives_net : (targets : List ℕ) → (net place : ℕ) → Bool
 drives_net nets net place = nat_lt place (length nets) && slice_index nets place == net
 
-abbrev pub core_process : FlatProcess → Process
-core_process p =
-    let drivers = length p.drivers in
-    let branch = branch_of p.body in
+-- the number of the element at this place of this variable, if there is one: elements are numbered through the variables
+abbrev pub raised_by : ℕ → Option ℕ → Option ℕ
+raised_by n None = None
+raised_by n (Some e) = Some (n + e)
+
+abbrev pub element_number : List FlatVariable → (variable place : ℕ) → Option ℕ
+element_number [] variable place = None
+element_number (v ∷ vs) zero place = if nat_lt place (length v.starts) then Some place else None
+element_number (v ∷ vs) (suc variable) place = raised_by (length v.starts) (element_number vs variable place)
+
+abbrev pub stores_one : Stmts → Option ℕ → Bool
+stores_one body None = false
+stores_one body (Some e) = stores_element e body
+
+abbrev pub core_process : (inputs : List ℕ) → FlatProcess → Process
+core_process inputs p =
+    let clocked = clocking inputs p.body in
     record {
       drives = targets p;
       starts = starts p;
       wakes = p.wakes;
-      reads = reads branch;
-      kind = core_kind (kind_of p.body);
-      effect = effect_of drivers p.body;
-      branch = λ now. effect_of drivers branch now now;
-      assigns = λ net. must_assign (drives_net (targets p) net) p.body;
+      reads = reads p.body;
+      acting_reads = reads (acting_branch clocked);
+      kind = core_kind p clocked (events p.body);
+      effect = part_effect p p.body;
+      acting_effect = λ now. part_effect p (acting_branch clocked) now now;
+      assigns = λ net. must_assign (of_drivers (drives_net (targets p) net)) p.body;
+      stores = λ variable place. stores_one p.body (element_number p.variables variable place);
     }
+
+-- ---- the net
 
 -- one value is passed on as it is, an enumeration's too; several are of the nine and are resolved by the table
 abbrev pub core_resolve : List ℕ → ℕ
@@ -49,8 +90,8 @@ core_net net = record {
   inputs = net.inputs;
   start = net.start;
   limits = map limit_of net.types;
-  sources = net.sources;
-  processes = map core_process net.processes;
+  sources = map (sources_of net) (range_with_len 0 (length net.types));
+  processes = map (core_process net.inputs) net.processes;
   resolve = core_resolve;
   edge = core_edges;
 }

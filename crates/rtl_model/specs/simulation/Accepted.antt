@@ -1,5 +1,5 @@
--- When a net is accepted: the eight faults.
-use Rattle.std.specs.Prelude.{◌≡◌, ℕ, ◌⊎◌, false, List, [], ◌∷◌, Contains}
+-- When a net is accepted: the nine faults.
+use Rattle.std.specs.Prelude.{◌≡◌, ℕ, ◌⊎◌, false, List, [], ◌∷◌, Contains, IsTrue}
 use Rattle.rtl_model.specs.simulation.Net.{Net, Source, Reset, Mixed, Edge, process, sources_of, target, HasPlace, HasReset, IsInput, IsCombinational, IsClockedBy}
 
 -- n is the clock of process p
@@ -45,6 +45,7 @@ pub data Fault : Type 0 where
   MissingSensitivity : (process net : ℕ) → Fault
   Latch : (process net : ℕ) → Fault
   Loop : (processes : List ℕ) → Fault
+  StoredVariable : (process variable place : ℕ) → Fault
 
 -- the net has this fault
 abbrev pub IsFault : Net → Fault → Type 0
@@ -57,13 +58,15 @@ IsFault net (ClockNotInput p n) = IsClockOf net p n × (IsInput net n → ⊥)
 -- p isn't sensitive to its clock, or its reset, n
 IsFault net (EdgeNotSensitive p n) = (IsClockOf net p n ⊎ IsResetOf net p n) × (Contains (process net p).wakes n → ⊥)
 -- n is a clock, of p or of another process, and the branch of the clocked process p reads it, or it is p's reset
-IsFault net (ClockAsData p n) = IsClock net n × (((clock : ℕ) × IsClockOf net p clock × Contains (process net p).reads n) ⊎ IsResetOf net p n)
+IsFault net (ClockAsData p n) = IsClock net n × (((clock : ℕ) × IsClockOf net p clock × Contains (process net p).acting_reads n) ⊎ IsResetOf net p n)
 -- the combinational process p reads n and isn't sensitive to it
 IsFault net (MissingSensitivity p n) = IsCombinational net p × Contains (process net p).reads n × (Contains (process net p).wakes n → ⊥)
 -- the combinational process p drives n and doesn't assign it on every syntactic path
 IsFault net (Latch p n) = IsCombinational net p × Contains (process net p).drives n × ((process net p).assigns n ≡ false)
 -- these processes are a loop
 IsFault net (Loop ps) = IsLoop net ps
+-- p reads the element at this place of this variable where it hasn't assigned it on every syntactic path
+IsFault net (StoredVariable p variable place) = IsTrue ((process net p).stores variable place)
 
 -- accepted: no fault
 abbrev pub IsAccepted : Net → Type 0

@@ -4,6 +4,7 @@
 use Rattle.std.specs.Prelude.{ℕ, Bool, true, false, not, List, [], ◌∷◌, length, slice_index, slice_index_or, slice_set, map, Option, Some, None, IsTrue, ◌==◌, if◌then◌else◌}
 use Rattle.std.specs.List.{list_any}
 use Rattle.std.specs.Option.{is_some}
+use Rattle.rtl_model.specs.basics.Valuations.{has_event}
 use Rattle.rtl_model.specs.simulation.Net.{Net, Source, Driver, Idle, process, sources_of, table}
 
 pub record State : Type 0 where
@@ -46,10 +47,6 @@ is_quiet s = not (list_any (list_any is_some) s.pending)
 
 -- ---- events
 
--- an event: the net's values before and now differ (14.7.3.4)
-abbrev pub has_event : (before now : List ℕ) → ℕ → Bool
-has_event before now n = not (slice_index before n == slice_index now n)
-
 -- of each process, whether it is sensitive to a net with an event (14.7.5.3)
 abbrev pub resumed : Net → (before now : List ℕ) → List Bool
 resumed net before now = map (λ p. list_any (has_event before now) p.wakes) net.processes
@@ -61,12 +58,12 @@ source_value drivers (Driver p place) = slice_index (slice_index_or drivers p []
 source_value drivers (Idle v) = v
 
 -- a net with sources gets their resolution, any other keeps its value
-abbrev pub resolved : Net → List (List ℕ) → List Source → (old : ℕ) → ℕ
-resolved net drivers [] old = old
-resolved net drivers (source ∷ more) old = net.resolve (map (source_value drivers) (source ∷ more))
+abbrev pub net_value : Net → List (List ℕ) → List Source → (old : ℕ) → ℕ
+net_value net drivers [] old = old
+net_value net drivers (source ∷ more) old = net.resolve (map (source_value drivers) (source ∷ more))
 
 abbrev pub net_values : Net → List (List ℕ) → (old : List ℕ) → List ℕ
-net_values net drivers old = table (length net.start) (λ n. resolved net drivers (sources_of net n) (slice_index old n))
+net_values net drivers old = table (length net.start) (λ n. net_value net drivers (sources_of net n) (slice_index old n))
 
 -- the inputs have the values given, all other nets those of old
 abbrev pub with_inputs : Net → (inputs : ℕ → ℕ) → (old : List ℕ) → List ℕ
@@ -97,11 +94,17 @@ updated net s =
     let now' = net_values net drivers' s.now in
     record { before = s.now; now = now'; drivers = drivers'; pending = none_pending s.pending; waiting = resumed net s.now now' }
 
--- the step Inputs: as Update, with new values of the inputs in place of the drivers'
+-- the step Inputs of a quiet state: as Update, with new values of the inputs in place of the drivers'. It leaves the
+-- transactions as they are, since there are none.
 abbrev pub given : Net → (inputs : ℕ → ℕ) → State → State
 given net inputs s =
     let now' = with_inputs net inputs s.now in
     record { before = s.now; now = now'; drivers = s.drivers; pending = s.pending; waiting = resumed net s.now now' }
+
+-- the values that a list of changes gives nets, the last change of a net counting, and those of old elsewhere
+abbrev pub changed : (changes : List (ℕ × ℕ)) → (old : List ℕ) → (net : ℕ) → ℕ
+changed [] old net = slice_index old net
+changed ((n, value) ∷ changes) old net = changed changes (slice_set old n value) net
 
 abbrev pub IsToRun : State → ℕ → Type 0
 IsToRun s p = IsTrue (slice_index_or s.waiting p false)

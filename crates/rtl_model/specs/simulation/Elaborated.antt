@@ -1,11 +1,8 @@
 -- What holds of every net that was elaborated: of its wiring, of the nine values' resolution and edges, and of its bodies.
 use Rattle.std.specs.Prelude.{◌≡◌, ℕ, ◌<◌, false, List, [], ◌∷◌, length, slice_index, slice_index_or, map, None, IsSome, IsTrue, Contains}
-use Rattle.rtl_model.specs.simulation.Net.{Net, Source, Driver, Reset, Edge, process, sources_of, target, HasPlace, HasReset, IsInput, IsCombinational, IsClockedBy, reset_of, reset_entry, resets, clocked_entry}
+use Rattle.rtl_model.specs.basics.Valuations.{AgreeOn, clocked_entry}
+use Rattle.rtl_model.specs.simulation.Net.{Net, Source, Driver, Reset, Edge, process, sources_of, target, HasPlace, HasReset, IsInput, IsCombinational, IsClockedBy, reset_of, reset_entry, resets}
 use Rattle.rtl_model.specs.simulation.Cycle.{source_value, starting_drivers}
-
--- two valuations have the same values at these nets
-abbrev pub AgreeOn : (nets : List ℕ) → List ℕ → List ℕ → Type 0
-AgreeOn nets v w = (n : ℕ) → Contains nets n → slice_index v n ≡ slice_index w n
 
 -- drivers, sources and starting values fit together (14.7.2, 14.7.3.2)
 pub record IsWired (net : Net) : Type 0 where
@@ -36,10 +33,11 @@ pub record HasBodies (net : Net) : Type 0 where
   -- and looks at what it reads and at nothing else;
   pub effect_reads : (p : ℕ) (before now before' now' : List ℕ) → IsCombinational net p → AgreeOn (process net p).reads now now' → (process net p).effect before now ≡ (process net p).effect before' now'
   -- the branch under an edge likewise;
-  pub branch_reads : (p clock : ℕ) (edge : Edge) (v w : List ℕ) → IsClockedBy net p clock edge → AgreeOn (process net p).reads v w → (process net p).branch v ≡ (process net p).branch w
+  pub branch_reads : (p clock : ℕ) (edge : Edge) (v w : List ℕ) → IsClockedBy net p clock edge → AgreeOn (process net p).acting_reads v w
+      → (process net p).acting_effect v ≡ (process net p).acting_effect w
   -- and a clocked body acts by its reset where that holds, else by its branch at its edge, and else not at all
   pub clocked_acts : (p clock place : ℕ) (edge : Edge) (before now : List ℕ) → IsClockedBy net p clock edge
-      → slice_index_or ((process net p).effect before now) place None ≡ clocked_entry (resets (reset_of net p) (slice_index now)) (net.edge edge (slice_index before clock) (slice_index now clock)) (reset_entry (reset_of net p) place) (slice_index_or ((process net p).branch now) place None)
+      → slice_index_or ((process net p).effect before now) place None ≡ clocked_entry (resets (reset_of net p) (slice_index now)) (net.edge edge (slice_index before clock) (slice_index now clock)) (reset_entry (reset_of net p) place) (slice_index_or ((process net p).acting_effect now) place None)
   -- a body with a test of another net in a reset's place is mixed
   pub reset_is_input : (p : ℕ) (reset : Reset) → HasReset net p reset → IsInput net reset.net
 

@@ -1,13 +1,14 @@
 -- The laws of simulation, over the definitions beside this file.
-use Rattle.std.specs.Prelude.{◌≡◌, ◌↔◌, ℕ, ◌≤◌, List, Option, Some, None, slice_index_or}
-use Rattle.rtl_model.specs.simulation.Net.{Net, Edge, Reset, HasReset, IsCombinational}
-use Rattle.rtl_model.specs.simulation.Cycle.{State, started, updated, given, ran}
-use Rattle.rtl_model.specs.simulation.Moments.{HasRun, Begun, SettlesIn, HasSettled, IsMost}
+use Rattle.std.specs.Prelude.{◌≡◌, ◌↔◌, ◌⊎◌, ℕ, suc, pred, ◌<◌, ◌≤◌, Bool, false, List, [], ◌∷◌, ◌++◌, length, map, Option, Some, None, slice_index, slice_index_or, Contains, IsTrue}
+use Rattle.rtl_model.specs.simulation.Net.{Net, Source, Driver, Edge, Reset, process, sources_of, HasReset, IsInput, IsCombinational}
+use Rattle.rtl_model.specs.simulation.Cycle.{State, started, updated, given, ran, is_quiet, source_value, changed}
+use Rattle.rtl_model.specs.simulation.Moments.{HasNoneToRun, HasRun, HasDeltas, Delta, Begun, SettlesIn, SettlesTo, IsUnsettled, HasSettled, IsMost, at_moments}
 use Rattle.rtl_model.specs.simulation.Elaborated.{IsElaborated, IsWired}
-use Rattle.rtl_model.specs.simulation.Accepted.{IsAccepted, HasNoLoop}
+use Rattle.rtl_model.specs.simulation.Accepted.{Fault, IsAccepted, HasNoLoop}
+use Rattle.rtl_model.specs.simulation.Faults.{AreFaultsOf, AreFaultsButLoops, AreStored, IsOneLoop, AreFaults}
 use Rattle.rtl_model.specs.simulation.Levels.{AreLevels, IsLevel, ShowLevels, Rises, bound}
-use Rattle.rtl_model.specs.simulation.Report.{IsReport, LeadsDown, ShowReport}
-use Rattle.rtl_model.specs.simulation.Races.{HasNoRace}
+use Rattle.rtl_model.specs.simulation.Report.{AreClocks, IsReport, LeadsDown, ShowReport}
+use Rattle.rtl_model.specs.simulation.Races.{IsRace, HasNoRace, IsRaceOf, IsFirstRace}
 use Rattle.rtl_model.specs.simulation.Machine.{Solves, IsMachineRun}
 use Rattle.rtl_model.specs.simulation.Range.{IsValuation, KeepsRange, SourcesKeepRange, StateInRange, AreInputs, AreRegisters}
 
@@ -22,6 +23,124 @@ abbrev pub EveryOrderIsOne : Type 0
 EveryOrderIsOne =
     (net : Net) (stimulus : ℕ → ℕ → ℕ) (m : ℕ) → ((s t : State) → Begun net stimulus m s → Begun net stimulus m t → s ≡ t)
     × ((k j : ℕ) (t u : State) → HasSettled net stimulus m k t → HasSettled net stimulus m j u → (k ≡ j) × (t ≡ u))
+
+-- each net with sources has the resolution of their values
+abbrev pub IsConsistent : Net → State → Type 0
+IsConsistent net s =
+    (n : ℕ) (source : Source) → n < length net.start → Contains (sources_of net n) source
+    → slice_index s.now n ≡ net.resolve (map (source_value s.drivers) (sources_of net n))
+
+-- A simulation begins consistent, and its steps keep it so; hence a net none of whose drivers is active keeps its value.
+pub record StaysConsistent (net : Net) : Type 0 where
+  pub starts : (inputs : ℕ → ℕ) → IsConsistent net (started net inputs)
+  pub updates : (s : State) → IsConsistent net (updated net s)
+  pub gives : (inputs : ℕ → ℕ) (s : State) → IsConsistent net s → IsConsistent net (given net inputs s)
+  pub runs : (p : ℕ) (s : State) → IsConsistent net s → IsConsistent net (ran net p s)
+  pub keeps : (s : State) (n : ℕ) → IsConsistent net s → n < length net.start
+      → ((p place : ℕ) → Contains (sources_of net n) (Driver p place) → slice_index_or (slice_index_or s.pending p []) place None ≡ None)
+      → slice_index (updated net s).now n ≡ slice_index s.now n
+
+abbrev pub EachStaysConsistent : Type 0
+EachStaysConsistent = (net : Net) → IsWired net → StaysConsistent net
+
+-- The inputs alone are looked at.
+pub record InputsAlone (net : Net) (inputs other : ℕ → ℕ) : Type 0 where
+  pub starts : started net inputs ≡ started net other
+  pub gives : (s : State) → given net inputs s ≡ given net other s
+
+abbrev pub EachTakesInputsAlone : Type 0
+EachTakesInputsAlone = (net : Net) (inputs other : ℕ → ℕ) → ((n : ℕ) → IsInput net n → inputs n ≡ other n) → InputsAlone net inputs other
+
+-- Throughout a moment the inputs have the stimulus's values.
+pub record InputsHold (net : Net) (stimulus : ℕ → ℕ → ℕ) (m n : ℕ) : Type 0 where
+  pub begun : (s : State) → Begun net stimulus m s → slice_index s.now n ≡ stimulus m n
+  pub settled : (k : ℕ) (t : State) → HasSettled net stimulus m k t → slice_index t.now n ≡ stimulus m n
+
+abbrev pub EachInputHolds : Type 0
+EachInputHolds = (net : Net) → IsWired net → (stimulus : ℕ → ℕ → ℕ) (m n : ℕ) → IsInput net n → InputsHold net stimulus m n
+
+-- A net that no change names keeps its value, and one that a change names, and no later one, has that change's.
+pub record ChangesAreMade (changes : List (ℕ × ℕ)) (old : List ℕ) : Type 0 where
+  pub kept : (n : ℕ) → ((value : ℕ) → Contains changes (n, value) → ⊥) → changed changes old n ≡ slice_index old n
+  pub last : (n value : ℕ) → n < length old → changed (changes ++ ((n, value) ∷ [])) old n ≡ value
+  pub others : (n m value : ℕ) → (n ≡ m → ⊥) → changed (changes ++ ((m, value) ∷ [])) old n ≡ changed changes old n
+
+abbrev pub EachChangeIsMade : Type 0
+EachChangeIsMade = (changes : List (ℕ × ℕ)) (old : List ℕ) → ChangesAreMade changes old
+
+-- no state less than k delta cycles from s is quiet
+abbrev pub IsBusyBefore : Net → State → ℕ → Type 0
+IsBusyBefore net s k = (j : ℕ) (t : State) → j < k → HasDeltas net j s t → is_quiet t ≡ false
+
+-- One run of delta cycles shows what every order does.
+pub record OneRunShows (net : Net) (s : State) : Type 0 where
+  pub one_state : (k : ℕ) (t u : State) → HasDeltas net k s t → HasDeltas net k s u → t ≡ u
+  pub none_yet : HasDeltas net 0 s s × IsBusyBefore net s 0
+  pub one_more : (k : ℕ) (order : List ℕ) (t u : State) → HasDeltas net k s t → Delta net order t u → HasDeltas net (suc k) s u
+  pub still_busy : (k : ℕ) (t : State) → IsBusyBefore net s k → HasDeltas net k s t → is_quiet t ≡ false → IsBusyBefore net s (suc k)
+  pub settles_by : (k : ℕ) (t : State) → HasNoneToRun s → IsBusyBefore net s k → HasDeltas net k s t → IsTrue (is_quiet t) → SettlesIn net s k
+  pub unsettled_by : (limit : ℕ) (t : State) → HasNoneToRun s → IsBusyBefore net s limit → HasDeltas net limit s t → is_quiet t ≡ false → IsUnsettled net s limit t
+
+abbrev pub EachRunShows : Type 0
+EachRunShows = (net : Net) (s : State) → OneRunShows net s
+
+-- So a state with nothing to run settles within a limit, or is unsettled there, and not both.
+abbrev pub HasSettledWithin : Net → State → (limit : ℕ) → Type 0
+HasSettledWithin net s limit = (k : ℕ) × (t : State) × (k ≤ limit) × SettlesTo net s k t
+
+abbrev pub SettlesOrNot : Type 0
+SettlesOrNot =
+    (net : Net) (s : State) (limit : ℕ) → HasNoneToRun s
+    → (HasSettledWithin net s limit ⊎ ((t : State) × IsUnsettled net s limit t))
+    × (HasSettledWithin net s limit → (t : State) → IsUnsettled net s limit t → ⊥)
+
+-- two stimuli agree on the inputs up to a moment
+abbrev pub AgreeUpTo : Net → (stimulus other : ℕ → ℕ → ℕ) → (m : ℕ) → Type 0
+AgreeUpTo net stimulus other m = (j n : ℕ) → j ≤ m → IsInput net n → stimulus j n ≡ other j n
+
+-- What happens up to a moment depends on the moments up to it alone.
+pub record DependsOnPast (net : Net) (stimulus other : ℕ → ℕ → ℕ) (m : ℕ) : Type 0 where
+  pub begins : (s : State) → Begun net stimulus m s → Begun net other m s
+  pub settles : (k : ℕ) (t : State) → HasSettled net stimulus m k t → HasSettled net other m k t
+  pub machine : IsElaborated net → IsAccepted net → (v w : ℕ → List ℕ) → IsMachineRun net stimulus v → IsMachineRun net other w → v m ≡ w m
+  pub races : IsAccepted net → HasNoRace net stimulus m → HasNoRace net other m
+
+abbrev pub EachDependsOnPast : Type 0
+EachDependsOnPast = (net : Net) (stimulus other : ℕ → ℕ → ℕ) (m : ℕ) → AgreeUpTo net stimulus other m → DependsOnPast net stimulus other m
+
+-- Past the last of its times a stimulus changes nothing: no race is there, and its values are in range where those at its
+-- times are.
+pub record EndsAtLast (net : Net) (times : List ℕ) (value : (time n : ℕ) → ℕ) : Type 0 where
+  pub is_at : (m : ℕ) → m < length times → at_moments times value m ≡ value (slice_index times m)
+  pub stays : (m : ℕ) → length times ≤ suc m → at_moments times value (suc m) ≡ at_moments times value m
+  pub no_race : HasNoRace net (at_moments times value) (pred (length times)) → (last : ℕ) → HasNoRace net (at_moments times value) last
+  pub in_range : 1 ≤ length times → ((k : ℕ) → k < length times → AreInputs net (value (slice_index times k)))
+      → (m : ℕ) → AreInputs net (at_moments times value m)
+
+abbrev pub EachEndsAtLast : Type 0
+EachEndsAtLast = (net : Net) (times : List ℕ) (value : (time n : ℕ) → ℕ) → EndsAtLast net times value
+
+-- Races are what a report's clocks show, and the earliest has one name.
+pub record ClocksShowRaces (net : Net) (clocks : List (ℕ × Edge)) : Type 0 where
+  pub same : (before now : ℕ → ℕ) → IsRace net before now ↔ ((input clock : ℕ) × IsRaceOf net clocks before now input clock)
+  pub one_first : (stimulus : ℕ → ℕ → ℕ) (m input clock m' input' clock' : ℕ)
+      → IsFirstRace net clocks stimulus m input clock → IsFirstRace net clocks stimulus m' input' clock'
+      → (m ≡ m') × (input ≡ input') × (clock ≡ clock')
+
+abbrev pub EachClockShowsRaces : Type 0
+EachClockShowsRaces = (net : Net) (clocks : List (ℕ × Edge)) → AreClocks net clocks → ClocksShowRaces net clocks
+
+-- A net has one list of faults, unless it has loops alone; and one at all only where it isn't accepted.
+pub record FaultsAreListed (net : Net) : Type 0 where
+  pub one_of : (among : Fault → Bool) (faults other : List Fault) → AreFaultsOf net among faults → AreFaultsOf net among other → faults ≡ other
+  pub one_list : (faults other : List Fault) → AreFaults net faults → AreFaults net other
+      → (faults ≡ other) ⊎ (IsOneLoop net faults × IsOneLoop net other)
+  pub none_if_accepted : (faults : List Fault) → AreFaults net faults → IsAccepted net → ⊥
+  pub accepted_is : IsAccepted net ↔ (AreFaultsButLoops net [] × HasNoLoop net)
+  pub stores_none : AreStored net [] ↔ ((p variable place : ℕ) → (process net p).stores variable place ≡ false)
+
+abbrev pub EachFaultIsListed : Type 0
+EachFaultIsListed = (net : Net) → FaultsAreListed net
 
 -- The steps keep a state's values in range.
 pub record StepsKeepRange (net : Net) : Type 0 where

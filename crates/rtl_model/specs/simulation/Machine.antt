@@ -1,7 +1,8 @@
 -- The synchronous machine: registers computed from the valuation before an edge, and all else by equations. It knows no
 -- event, sensitivity, delta cycle or order.
 use Rattle.std.specs.Prelude.{◌≡◌, ℕ, suc, ◌<◌, false, List, length, slice_index, slice_index_or, Option, Some, None}
-use Rattle.rtl_model.specs.simulation.Net.{Net, Edge, process, target, reset_of, reset_entry, resets, clocked_entry, HasPlace, IsInput, IsCombinational, IsClockedBy}
+use Rattle.rtl_model.specs.basics.Valuations.{clocked_entry}
+use Rattle.rtl_model.specs.simulation.Net.{Net, Edge, process, target, reset_of, reset_entry, resets, HasPlace, IsInput, IsCombinational, IsClockedBy}
 
 -- some process drives n
 abbrev pub IsDriven : Net → ℕ → Type 0
@@ -29,7 +30,7 @@ register_first net p place inputs = entry_or (clocked_entry (resets (reset_of ne
 -- its edge holds from v's clock to the new one; without an entry v's value.
 abbrev pub register_next : Net → (p place clock : ℕ) → Edge → (v : List ℕ) → (inputs : ℕ → ℕ) → ℕ
 register_next net p place clock edge v inputs =
-    entry_or (clocked_entry (resets (reset_of net p) inputs) (net.edge edge (slice_index v clock) (inputs clock)) (reset_entry (reset_of net p) place) (slice_index_or ((process net p).branch v) place None)) (slice_index v (target net p place))
+    entry_or (clocked_entry (resets (reset_of net p) inputs) (net.edge edge (slice_index v clock) (inputs clock)) (reset_entry (reset_of net p) place) (slice_index_or ((process net p).acting_effect v) place None)) (slice_index v (target net p place))
 
 -- the first valuation, for the first inputs
 pub record IsFirst (net : Net) (inputs : ℕ → ℕ) (v : List ℕ) : Type 0 where

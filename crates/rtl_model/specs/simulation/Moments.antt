@@ -1,5 +1,5 @@
 -- Runs in every order, delta cycles, and the moments of a simulation (IEEE 1076-2008, 14.7.5).
-use Rattle.std.specs.Prelude.{◌≡◌, ℕ, suc, zero, ◌<◌, ◌≤◌, List, [], ◌∷◌, length, IsTrue}
+use Rattle.std.specs.Prelude.{◌≡◌, ℕ, suc, zero, pred, min, ◌<◌, ◌≤◌, List, [], ◌∷◌, length, slice_index, IsTrue}
 use Rattle.rtl_model.specs.simulation.Net.{Net}
 use Rattle.rtl_model.specs.simulation.Cycle.{State, started, updated, given, ran, is_quiet, IsToRun}
 
@@ -41,9 +41,11 @@ pub record SettlesIn (net : Net) (s : State) (k : ℕ) : Type 0 where
 abbrev pub SettlesTo : Net → State → ℕ → State → Type 0
 SettlesTo net s k t = SettlesIn net s k × HasDeltas net k s t
 
--- no number of delta cycles up to limit settles s, and so many lead to t
-abbrev pub IsUnsettled : Net → State → (limit : ℕ) → State → Type 0
-IsUnsettled net s limit t = ((k : ℕ) → k ≤ limit → SettlesIn net s k → ⊥) × HasDeltas net limit s t
+-- From a state with nothing to run, no number of delta cycles up to limit settles s, and so many lead to t.
+pub record IsUnsettled (net : Net) (s : State) (limit : ℕ) (t : State) : Type 0 where
+  pub ready : HasNoneToRun s
+  pub never : (k : ℕ) → k ≤ limit → SettlesIn net s k → ⊥
+  pub leads : HasDeltas net limit s t
 
 -- A stimulus gives each input's value at each moment, the first being 0. s is a state in which the simulation may be, by
 -- some orders, after the first cycle of the moment m: at 0 the run of initialization, later the cycle of the new inputs.
@@ -64,3 +66,9 @@ Takes net stimulus m k = (t : State) × HasSettled net stimulus m k t
 pub record IsMost (net : Net) (stimulus : ℕ → ℕ → ℕ) (last most : ℕ) : Type 0 where
   pub at_most : (m k : ℕ) → m ≤ last → Takes net stimulus m k → k ≤ most
   pub met : (m : ℕ) × (m ≤ last) × Takes net stimulus m most
+
+-- ---- moments without end
+
+-- A stimulus of values at times: moment m is at the m-th of the times, and past the last of them nothing changes.
+abbrev pub at_moments : (times : List ℕ) → (value : (time net : ℕ) → ℕ) → (m net : ℕ) → ℕ
+at_moments times value m net = value (slice_index times (min m (pred (length times)))) net

@@ -1,7 +1,7 @@
 -- What a net is to a simulation: its processes, where each net's value comes from, and how values are resolved and
 -- compared (IEEE 1076-2008, 14.7.2 and 14.7.3). Nets, processes and values are numbers: a net and a process by its place
 -- in the elaborated design, a value by its place in its type. A valuation is the list of all nets' values.
-use Rattle.std.specs.Prelude.{true, false, ◌≡◌, ℕ, ◌<◌, Bool, List, [], length, slice_index, slice_index_or, map, Option, Some, None, IsTrue, ◌==◌}
+use Rattle.std.specs.Prelude.{false, ◌≡◌, ℕ, ◌<◌, Bool, List, [], length, slice_index, slice_index_or, map, Option, Some, None, IsTrue, ◌==◌}
 use Rattle.std.specs.List.{list_any, range_with_len}
 -- the edge tests: `rising_edge`, `falling_edge`, and an event to exactly '1' or '0'
 pub use Rattle.vhdl_values.specs.declared.kinds.Edge.{Edge}
@@ -28,15 +28,20 @@ pub record Process : Type 0 where
   pub starts : List ℕ
   -- its sensitivity: the nets whose events resume it
   pub wakes : List ℕ
-  -- the nets that its body reads; of a clocked process, those that its branch reads
+  -- the nets that its body reads, and of a clocked process those that the branch under its edge reads: in any order, and
+  -- perhaps several times
   pub reads : List ℕ
+  pub acting_reads : List ℕ
   pub kind : Kind
   -- from the valuations before and now, at each driver's place the value that the body assigns, if it assigns one
   pub effect : (before now : List ℕ) → List (Option ℕ)
   -- of a clocked process, the effect of the branch under its edge, in a valuation
-  pub branch : (now : List ℕ) → List (Option ℕ)
+  pub acting_effect : (now : List ℕ) → List (Option ℕ)
   -- whether the body assigns this net on every syntactic path
   pub assigns : (net : ℕ) → Bool
+  -- whether the body stores the element at this place of this variable: it reads it where the statements before don't
+  -- assign it on every syntactic path
+  pub stores : (variable place : ℕ) → Bool
 
 -- a source of a net: a driver, by its process and place, or an idle port with the value that it holds for ever
 pub data Source : Type 0 where
@@ -59,7 +64,18 @@ pub record Net : Type 0 where
 
 -- what stands at a number that no process has
 abbrev pub no_process : Process
-no_process = record { drives = []; starts = []; wakes = []; reads = []; kind = Combinational; effect = λ before now. []; branch = λ now. []; assigns = λ net. false }
+no_process = record {
+  drives = [];
+  starts = [];
+  wakes = [];
+  reads = [];
+  acting_reads = [];
+  kind = Combinational;
+  effect = λ before now. [];
+  acting_effect = λ now. [];
+  assigns = λ net. false;
+  stores = λ variable place. false;
+}
 
 abbrev pub process : Net → ℕ → Process
 process net p = slice_index_or net.processes p no_process
@@ -106,13 +122,6 @@ resets (Some reset) values = values reset.net == reset.value
 abbrev pub reset_entry : Option Reset → (place : ℕ) → Option ℕ
 reset_entry None place = None
 reset_entry (Some reset) place = slice_index_or reset.entries place None
-
--- What a clocked process has for a driver: its reset's entry where the reset holds, else its branch's where its edge
--- does, else none.
-abbrev pub clocked_entry : (reset_holds edge_holds : Bool) → (of_reset of_branch : Option ℕ) → Option ℕ
-clocked_entry true edge_holds of_reset of_branch = of_reset
-clocked_entry false true of_reset of_branch = of_branch
-clocked_entry false false of_reset of_branch = None
 
 -- n numbers, the k-th of them f k
 abbrev pub table : ℕ → (ℕ → ℕ) → List ℕ

@@ -18,7 +18,7 @@ pub record KeepsRange (net : Net) : Type 0 where
   pub effect_in_range : (p place x : ℕ) (before now : List ℕ) → IsValuation net before → IsValuation net now → HasPlace net p place
       → slice_index_or ((process net p).effect before now) place None ≡ Some x → x < limit net (target net p place)
   pub branch_in_range : (p place clock x : ℕ) (edge : Edge) (now : List ℕ) → IsClockedBy net p clock edge → IsValuation net now → HasPlace net p place
-      → slice_index_or ((process net p).branch now) place None ≡ Some x → x < limit net (target net p place)
+      → slice_index_or ((process net p).acting_effect now) place None ≡ Some x → x < limit net (target net p place)
   pub reset_in_range : (p place x : ℕ) → HasPlace net p place → reset_entry (reset_of net p) place ≡ Some x → x < limit net (target net p place)
 
 -- So do idle ports, drivers at the start, and resolution: where several sources meet, it stays within their net's type.

@@ -3,7 +3,7 @@
 ghost use Rattle.std.specs.Prelude.{◌≡◌, IfOk, Some, option_map, option_copied};
 ghost use Rattle.rtl_plain.specs.Design as design;
 ghost use Rattle.rtl_plain.specs.NameRules as rules;
-ghost use Rattle.rtl_plain.specs.steps.View.{Gives, ports_view, value_view, chained, all_linked};
+ghost use Rattle.rtl_plain.specs.steps.View.{Gives, ports_view, value_view, chained, linked, all_linked};
 ghost use Rattle.vhdl_tree.specs.View.{view, suffix_view, ident_view};
 
 use crate::design::{Link, Ports, Value};
@@ -142,24 +142,34 @@ pub fn value(alloc: Global, ports: &Ports, e: &Expr) -> Result<Value, NameFault>
             None => Err(NameProblem::LeftOut.at(name.identifier.at)),
             Some(found) => read(ports, found),
         },
-        Expr::Character(at, code) => literal(*at, *code),
-        Expr::Parens(_, inner) => value(alloc, ports, inner),
-        Expr::Not(_, inner) => {
+        Expr::Character { at, code } => literal(*at, *code),
+        Expr::Parens { inner, .. } => value(alloc, ports, inner),
+        Expr::Not { operand: inner, .. } => {
             let operand = value(alloc, ports, inner)?;
             Ok(inverse(alloc, operand)?)
         }
-        Expr::Chain(first, links) => {
-            let operand = value(alloc, ports, first)?;
-            linked(alloc, ports, links, operand)
+        Expr::Chain(chain) => {
+            let first = value(alloc, ports, &chain.first)?;
+            let begun = link(alloc, ports, &chain.second, first)?;
+            linked(alloc, ports, &chain.rest, begun)
         }
         Expr::Integer(l) => Err(NameProblem::LeftOut.at(l.at)),
         Expr::StringLiteral(l) => Err(NameProblem::LeftOut.at(l.at)),
         Expr::BitString(l) => Err(NameProblem::LeftOut.at(l.at)),
-        Expr::Signed(_, at, _) => Err(NameProblem::LeftOut.at(*at)),
+        Expr::Signed { at, .. } => Err(NameProblem::LeftOut.at(*at)),
     }
 }
 
-/// A chain's links, on what its first operand stands for.
+/// An operator and its right operand, on what its left operand stands for.
+#[cycle(value)]
+fn link(alloc: Global, ports: &Ports, link: &TreeLink, first: Value) -> Result<Value, NameFault>
+    ensures { Gives value_view (linked (ports_view ports.now) (Some (value_view first)) link.now) result }
+{
+    let operand = value(alloc, ports, &link.operand)?;
+    operated(alloc, link.operator, link.at, first, operand)
+}
+
+/// A chain's further links, on what stands before them.
 #[cycle(value)]
 #[tactic(auto, using(crate::proofs::Rows::all_linked_none))]
 fn linked(
@@ -171,9 +181,8 @@ fn linked(
     ensures { Gives value_view (all_linked (ports_view ports.now) (Some (value_view first)) links.now) result }
 {
     let mut done = first;
-    for link in links {
-        let operand = value(alloc, ports, &link.operand)?;
-        done = operated(alloc, link.operator, link.at, done, operand)?;
+    for next in links {
+        done = link(alloc, ports, next, done)?;
     }
     Ok(done)
 }

@@ -74,7 +74,7 @@ fn assigned(assignment: &Assignment) -> Option<&Expr>
     }
     match assignment.otherwise {
         Some(ValueTree::Expr(ref e)) => Some(e),
-        Some(ValueTree::Others(_, _)) => None,
+        Some(ValueTree::Others { .. }) => None,
         None => None,
     }
 }
@@ -116,9 +116,9 @@ fn plain(statement: &Concurrent) -> Result<&Assignment, NameFault>
 {
     match statement {
         Concurrent::Assignment(assignment) => Ok(assignment),
-        Concurrent::Selected(_, other) => Err(NameProblem::LeftOut.at(other.at)),
-        Concurrent::Process(_, other) => Err(NameProblem::LeftOut.at(other.at)),
-        Concurrent::Instance(label, _) => Err(NameProblem::LeftOut.at(label.at)),
+        Concurrent::Selected { assignment, .. } => Err(NameProblem::LeftOut.at(assignment.at)),
+        Concurrent::Process { process, .. } => Err(NameProblem::LeftOut.at(process.at)),
+        Concurrent::Instance { label, .. } => Err(NameProblem::LeftOut.at(label.at)),
         Concurrent::Generate(other) => Err(NameProblem::LeftOut.at(other.at)),
     }
 }

@@ -11,8 +11,8 @@ use Rattle.vhdl_tree.specs.declared.operator.Sign.TheVariants.{Plus, Minus}
 use Rattle.vhdl_tree.specs.declared.operator.Direction.{Direction}
 use Rattle.vhdl_tree.specs.declared.operator.Direction.TheVariants.{To, Downto}
 use Rattle.vhdl_tree.specs.grammar.Expressions.{kind_of, repeats, sign_kind, direction_kind}
-use Rattle.vhdl_tree.specs.Tree.{Ident, Expr, integer, character, string, bits, named, parens, negation, signed, Suffix, plain, arguments, sliced, exprs_of, Pair, joined, Name, Range, Value, single, others, Choice, chosen, otherwise, Actual, actual, left_open, Association}
-use Rattle.vhdl_expressions.specs.reader.Input.{Parser, ◌>>=◌, ◌>>◌, ◌<$>◌, pure, refuse, too_deep, is_kind, choose, test, test_both, expect, many, many_from, optional, identifier, text}
+use Rattle.vhdl_tree.specs.Tree.{Ident, Expr, integer, character, string, bits, named, parens, negation, signed, Suffix, plain, arguments, sliced, exprs_of, Pair, joined, begun, Name, Range, Value, single, others, Choice, chosen, otherwise, Actual, actual, left_open, Association}
+use Rattle.vhdl_expressions.specs.reader.Input.{Parser, ◌>>=◌, ◌>>◌, ◌<$>◌, pure, refuse, too_deep, is_kind, choose, test, test_both, expect, many, many_from, separated, optional, identifier, text}
 use Rattle.vhdl_expressions.specs.reader.Input as input
 
 abbrev pub name_expr : Name → Expr
@@ -57,11 +57,9 @@ operator_at Adding next = adding_at next
 operator_at Multiplying next = multiplying_at next
 
 -- the operator that a chain of a level goes on with, by its last one and the next token
-unfoldable pub next_operator : Level → Option Operator → Option Kind → Option Operator
-next_operator Logical None next = logical_at next
-next_operator Logical (Some last) next = if repeats last then (if is_kind (kind_of last) next then Some last else None) else None
-next_operator Relation None next = relation_at next
-next_operator Relation (Some last) next = None
+unfoldable pub next_operator : Level → Operator → Option Kind → Option Operator
+next_operator Logical last next = if repeats last then (if is_kind (kind_of last) next then Some last else None) else None
+next_operator Relation last next = None
 next_operator Adding last next = adding_at next
 next_operator Multiplying last next = multiplying_at next
 
@@ -157,13 +155,21 @@ module _ (operand : Parser Expr) where
   turn (Some op) go left = pair op >>= (λ p. go op (joined left p))
 
   -- The number bounds the turns, and each turn takes a token.
-  unfoldable pub more_from : ℕ → Level → Option Operator → Expr → Parser Expr
+  unfoldable pub more_from : ℕ → Level → Operator → Expr → Parser Expr
   more_from zero level last left = pure left
-  more_from (suc n) level last left = choose (λ next. turn (next_operator level last next) (λ op t. more_from n level (Some op) t) left)
+  more_from (suc n) level last left = choose (λ next. turn (next_operator level last next) (more_from n level) left)
+
+  -- what follows the last operator of a chain and its operand
+  unfoldable pub more : Level → Operator → Expr → Parser Expr
+  more level last left = λ ts. more_from (length ts) level last left ts
+
+  abbrev pub begin_by : Level → Expr → Option Operator → Parser Expr
+  begin_by level first None = pure first
+  begin_by level first (Some op) = pair op >>= (λ p. more level op (begun first p))
 
   -- what follows the first operand of a chain
-  unfoldable pub more : Level → Expr → Parser Expr
-  more level left = λ ts. more_from (length ts) level None left ts
+  unfoldable pub begin : Level → Expr → Parser Expr
+  begin level first = choose (λ next. begin_by level first (operator_at level next))
 
 -- a term with a sign before it, or without one, by the parser of terms
 module _ (term : Parser Expr) where
@@ -178,7 +184,7 @@ module _ (term : Parser Expr) where
   leading = choose (λ next. leading_by (sign_at next))
 
 abbrev pub chain : Parser Expr → Parser Expr → Level → Parser Expr
-chain first operand level = first >>= more operand level
+chain first operand level = first >>= begin operand level
 
 module _ (inside : Parser Expr) where
   abbrev pub term : Parser Expr
@@ -248,13 +254,8 @@ value n = test_both k.LeftParen k.Others (others_value n) (single <$> expr n)
 unfoldable pub choice : ℕ → Parser Choice
 choice n = test (is_kind k.Others) (otherwise <$> expect k.Others) (chosen <$> expr n)
 
-unfoldable pub next_choice : ℕ → Parser Choice
-next_choice n = expect k.Bar >> choice n
-
-unfoldable pub choices : ℕ → Parser (List Choice)
-choices n = do
-  first ← choice n
-  many (is_kind k.Bar) (next_choice n) (first ∷ [])
+abbrev pub choices : ℕ → Parser (List Choice)
+choices n = separated k.Bar (choice n)
 
 unfoldable pub formal : Parser Ident
 formal = do
@@ -274,10 +275,5 @@ association n = do
   a ← actual_of n
   pure (record { formal = f; actual = a })
 
-unfoldable pub next_association : ℕ → Parser Association
-next_association n = expect k.Comma >> association n
-
-unfoldable pub associations : ℕ → Parser (List Association)
-associations n = do
-  first ← association n
-  many (is_kind k.Comma) (next_association n) (first ∷ [])
+abbrev pub associations : ℕ → Parser (List Association)
+associations n = separated k.Comma (association n)

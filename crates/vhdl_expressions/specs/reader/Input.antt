@@ -127,6 +127,12 @@ many_from begins item (suc n) found = test begins (do x ← item; many_from begi
 abbrev pub many : {A : Type 0} → (Option Kind → Bool) → Parser A → List A → Parser (List A)
 many begins item found = λ ts. many_from begins item (length ts) found ts
 
+-- item { separator item }
+unfoldable pub separated : {A : Type 0} → Kind → Parser A → Parser (List A)
+separated separator item = do
+  first ← item
+  many (is_kind separator) (expect separator >> item) (first ∷ [])
+
 -- the level below, of so many
 unfoldable pub below : ℕ → Parser ℕ
 below zero = too_deep

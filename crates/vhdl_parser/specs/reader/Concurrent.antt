@@ -1,14 +1,19 @@
 -- How the parser reads concurrent statements.
-use Rattle.std.specs.Prelude.{ℕ, zero, suc, Bool, true, false, ◌||◌, if◌then◌else◌, List, [], Option, Some, None}
+use Rattle.std.specs.Prelude.{ℕ, zero, suc, Bool, true, false, ◌||◌, if◌then◌else◌, List, [], Vec, Option, Some, None}
+use Rattle.std.specs.Global.{Global}
 use Rattle.vhdl_lexer.specs.declared.token.Kind.{Kind}
 use Rattle.vhdl_lexer.specs.declared.token.Kind.TheVariants as k
+use Rattle.vhdl_tree.specs.declared.concurrent.Concurrent as code_concurrent
+use Rattle.vhdl_tree.specs.declared.expression.Identifier as code_identifier
+use Rattle.vhdl_tree.specs.View.{option_ident_view, concurrents_view}
 use Rattle.vhdl_tree.specs.Lexeme.{Lexeme}
 use Rattle.vhdl_tree.specs.Tree.{Ident, Assignment, Scheme, for_each, if_holds, Concurrent, assignment, selected, process, instance, generated, concurrents_of}
 use Rattle.vhdl_expressions.specs.reader.Input.{Parser, ◌>>=◌, ◌>>◌, ◌<$>◌, pure, refuse, too_deep, choose, sees_both, expect, eat, identifier, many, below}
 use Rattle.vhdl_expressions.specs.reader.Expressions.{expr, inside, name, range}
-use Rattle.vhdl_parser.specs.reader.Waves.{waves}
-use Rattle.vhdl_parser.specs.reader.Sequential.{optional_label, end_of}
-use Rattle.vhdl_parser.specs.reader.Process as process_reader
+use Rattle.vhdl_statements.specs.reader.Sequential.{optional_label, end_of}
+use Rattle.vhdl_statements.specs.reader.Process as process_reader
+use Rattle.vhdl_statements.specs.reader.Waveforms as waveforms_reader
+use Rattle.vhdl_statements.specs.reader.Waveforms.{conditional_waveforms}
 use Rattle.vhdl_parser.specs.reader.Instance as instance_reader
 
 -- behind its label
@@ -16,7 +21,7 @@ unfoldable pub assign : ℕ → Option Ident → Parser Assignment
 assign n label = do
   target ← name (inside n)
   expect k.LessEqual
-  w ← waves n
+  w ← conditional_waveforms n
   expect k.Semicolon
   pure (record { label = label; target = target; branches = w.branches; otherwise = w.otherwise })
 
@@ -28,7 +33,7 @@ begins_concurrent (Some k.Process) = true
 begins_concurrent _ = false
 
 abbrev pub select_with : ℕ → Option Ident → Parser Concurrent
-select_with n label = selected label <$> process_reader.selected n
+select_with n label = selected label <$> waveforms_reader.selected n
 
 abbrev pub process_with : ℕ → Option Ident → Parser Concurrent
 process_with n label = process label <$> process_reader.process n
@@ -55,15 +60,34 @@ unlabelled_by n _ = refuse
 unfoldable pub unlabelled : ℕ → Parser Concurrent
 unlabelled n = choose (unlabelled_by n)
 
+-- whether `begin` stands there, the statements behind it, and the label at the end
+pub record GenerateBody : Type 0 where
+  pub begin_word : Bool
+  pub statements : List Concurrent
+  pub end_label : Option Ident
+
+abbrev pub generate_body_view : Bool × Vec code_concurrent.Concurrent Global × Option code_identifier.Identifier → GenerateBody
+generate_body_view b = record { begin_word = b.0; statements = concurrents_view b.1; end_label = option_ident_view b.2 }
+
 -- What follows the scheme of a generate statement. The parameter reads the statements in it.
 module _ (inner : Parser (List Concurrent)) where
-  unfoldable pub generate_rest : Ident → ℕ → Scheme → Parser Concurrent
-  generate_rest label at scheme = do
+  unfoldable pub generate_body : Parser GenerateBody
+  generate_body = do
     expect k.Generate
     word ← eat k.Begin
     found ← inner
     last ← end_of k.Generate
-    pure (generated label at scheme word (concurrents_of found) last)
+    pure (record { begin_word = word; statements = found; end_label = last })
+
+  unfoldable pub generate_rest : Ident → ℕ → Scheme → Parser Concurrent
+  generate_rest label at scheme = (λ b. generated label at scheme b.begin_word (concurrents_of b.statements) b.end_label) <$> generate_body
+
+unfoldable pub for_scheme : ℕ → Parser Scheme
+for_scheme m = do
+  parameter ← identifier
+  expect k.In
+  r ← range m
+  pure (for_each parameter r)
 
 -- Where so many levels may be opened. The second parameter reads statements one level down.
 module _ (n : ℕ) (inner : Parser (List Concurrent)) where
@@ -71,10 +95,8 @@ module _ (n : ℕ) (inner : Parser (List Concurrent)) where
   for_generate label = do
     at ← expect k.For
     m ← below n
-    parameter ← identifier
-    expect k.In
-    r ← range m
-    generate_rest inner label at (for_each parameter r)
+    scheme ← for_scheme m
+    generate_rest inner label at scheme
 
   unfoldable pub if_generate : Ident → Parser Concurrent
   if_generate label = do

@@ -1,47 +1,13 @@
 -- How the parser reads generics, ports and declarations.
-use Rattle.std.specs.Prelude.{ℕ, Bool, true, false, List, [], ◌∷◌, Option, Some, None}
+use Rattle.std.specs.Prelude.{ℕ, Bool, true, false, List, [], Option, Some, None}
 use Rattle.vhdl_lexer.specs.declared.token.Kind.{Kind}
 use Rattle.vhdl_lexer.specs.declared.token.Kind.TheVariants as k
 use Rattle.vhdl_tree.specs.declared.declaration.Mode.{Mode}
 use Rattle.vhdl_tree.specs.declared.declaration.Mode.TheVariants.{In, Out}
-use Rattle.vhdl_tree.specs.Tree.{Ident, Expr, Range, Value, Subtype, Generic, Port, Signals, Constants, Enumeration, Component, Declaration, signals, constants, enumeration, component}
-use Rattle.vhdl_expressions.specs.reader.Input.{Parser, ◌>>=◌, ◌>>◌, ◌<$>◌, pure, refuse, is_kind, choose, expect, eat, identifier, optional, many, below}
-use Rattle.vhdl_expressions.specs.reader.Expressions.{expr, range, value}
-
-unfoldable pub next_ident : Parser Ident
-next_ident = expect k.Comma >> identifier
-
--- id { , id }
-unfoldable pub idents : Parser (List Ident)
-idents = do
-  first ← identifier
-  many (is_kind k.Comma) next_ident (first ∷ [])
-
-unfoldable pub end_name : Parser (Option Ident)
-end_name = optional (is_kind k.Identifier) identifier
-
-unfoldable pub constraint : ℕ → Parser Range
-constraint n = do
-  expect k.LeftParen
-  inner ← below n
-  r ← range inner
-  expect k.RightParen
-  pure r
-
-unfoldable pub optional_constraint : ℕ → Parser (Option Range)
-optional_constraint n = optional (is_kind k.LeftParen) (constraint n)
-
-unfoldable pub subtype : ℕ → Parser Subtype
-subtype n = do
-  mark ← identifier
-  r ← optional_constraint n
-  pure (record { mark = mark; range = r })
-
-unfoldable pub default_value : ℕ → Parser Value
-default_value n = expect k.Assign >> value n
-
-unfoldable pub optional_default : ℕ → Parser (Option Value)
-optional_default n = optional (is_kind k.Assign) (default_value n)
+use Rattle.vhdl_tree.specs.Tree.{Expr, Value, Generic, Port, Signals, Constants, Enumeration, Component, Declaration, signals, constants, enumeration, component}
+use Rattle.vhdl_expressions.specs.reader.Input.{Parser, ◌>>=◌, ◌>>◌, ◌<$>◌, pure, refuse, is_kind, choose, expect, eat, identifier, optional, many, separated, below}
+use Rattle.vhdl_expressions.specs.reader.Expressions.{expr, value}
+use Rattle.vhdl_statements.specs.reader.Subtypes.{idents, subtype, optional_default, objects}
 
 -- ---- generics and ports
 
@@ -61,13 +27,8 @@ generic n = do
   d ← optional_generic_default n
   pure (record { constant_word = word; names = names; in_word = way; mark = mark; default = d })
 
-unfoldable pub next_generic : ℕ → Parser Generic
-next_generic n = expect k.Semicolon >> generic n
-
-unfoldable pub generic_list : ℕ → Parser (List Generic)
-generic_list n = do
-  first ← generic n
-  many (is_kind k.Semicolon) (next_generic n) (first ∷ [])
+abbrev pub generic_list : ℕ → Parser (List Generic)
+generic_list n = separated k.Semicolon (generic n)
 
 unfoldable pub generics : ℕ → Parser (List Generic)
 generics n = do
@@ -100,13 +61,8 @@ port n = do
   d ← optional_default n
   pure (record { signal_word = word; names = names; mode = way; subtype = t; default = d })
 
-unfoldable pub next_port : ℕ → Parser Port
-next_port n = expect k.Semicolon >> port n
-
-unfoldable pub port_list : ℕ → Parser (List Port)
-port_list n = do
-  first ← port n
-  many (is_kind k.Semicolon) (next_port n) (first ∷ [])
+abbrev pub port_list : ℕ → Parser (List Port)
+port_list n = separated k.Semicolon (port n)
 
 unfoldable pub ports : ℕ → Parser (List Port)
 ports n = do
@@ -124,14 +80,14 @@ optional_ports n = optional (is_kind k.Port) (ports n)
 -- ---- declarations
 
 unfoldable pub signals_of : ℕ → Parser Signals
-signals_of n = do
-  expect k.Signal
-  names ← idents
-  expect k.Colon
-  t ← subtype n
-  d ← optional_default n
+signals_of n = (λ o. record { names = o.names; subtype = o.subtype; default = o.default }) <$> objects n k.Signal
+
+unfoldable pub constant_value : ℕ → Parser Value
+constant_value n = do
+  expect k.Assign
+  v ← value n
   expect k.Semicolon
-  pure (record { names = names; subtype = t; default = d })
+  pure v
 
 unfoldable pub constants_of : ℕ → Parser Constants
 constants_of n = do
@@ -139,9 +95,7 @@ constants_of n = do
   names ← idents
   expect k.Colon
   t ← subtype n
-  expect k.Assign
-  v ← value n
-  expect k.Semicolon
+  v ← constant_value n
   pure (record { names = names; subtype = t; value = v })
 
 unfoldable pub enumeration_of : ℕ → Parser Enumeration
@@ -165,7 +119,7 @@ component_of n = do
   ps ← optional_ports n
   expect k.End
   expect k.Component
-  last ← end_name
+  last ← optional (is_kind k.Identifier) identifier
   expect k.Semicolon
   pure (record { name = name; is_word = word; generics = gs; ports = ps; end_name = last })
 

@@ -1,12 +1,13 @@
 -- How the parser reads context clauses, entities, architectures and files.
-use Rattle.std.specs.Prelude.{ℕ, List, [], ◌∷◌, Bool, true, false, Option, Some}
+use Rattle.std.specs.Prelude.{ℕ, List, [], Bool, true, false, Option, Some}
 use Rattle.vhdl_lexer.specs.declared.token.Kind.{Kind}
 use Rattle.vhdl_lexer.specs.declared.token.Kind.TheVariants as k
 use Rattle.vhdl_tree.specs.Tree.{Entity, Architecture, Selected, ContextItem, library, uses, LibraryUnit, entity, architecture, DesignUnit, File}
 use Rattle.vhdl_tree.specs.Levels.{most_open}
-use Rattle.vhdl_expressions.specs.reader.Input.{Parser, ◌>>=◌, ◌>>◌, ◌<$>◌, pure, refuse, is_kind, is_more, choose, test, expect, eat, identifier, many}
+use Rattle.vhdl_expressions.specs.reader.Input.{Parser, ◌>>=◌, ◌>>◌, ◌<$>◌, pure, refuse, is_kind, is_more, choose, test, expect, eat, identifier, optional, many, separated}
 use Rattle.vhdl_parser.specs.reader.Concurrent.{concurrents}
-use Rattle.vhdl_parser.specs.reader.Declarations.{idents, end_name, optional_generics, optional_ports, declarations}
+use Rattle.vhdl_statements.specs.reader.Subtypes.{idents}
+use Rattle.vhdl_parser.specs.reader.Declarations.{optional_generics, optional_ports, declarations}
 
 abbrev pub max_open : ℕ
 max_open = most_open
@@ -20,13 +21,8 @@ selected = do
   expect k.All
   pure (record { library = place; name = name })
 
-unfoldable pub next_selected : Parser Selected
-next_selected = expect k.Comma >> selected
-
-unfoldable pub selecteds : Parser (List Selected)
-selecteds = do
-  first ← selected
-  many (is_kind k.Comma) next_selected (first ∷ [])
+abbrev pub selecteds : Parser (List Selected)
+selecteds = separated k.Comma selected
 
 unfoldable pub library_clause : Parser ContextItem
 library_clause = do
@@ -59,7 +55,7 @@ entity_unit = do
   ps ← optional_ports max_open
   expect k.End
   word ← eat k.Entity
-  last ← end_name
+  last ← optional (is_kind k.Identifier) identifier
   expect k.Semicolon
   pure (record { at = at; name = name; generics = gs; ports = ps; end_word = word; end_name = last })
 
@@ -75,7 +71,7 @@ architecture_unit = do
   found ← concurrents max_open
   expect k.End
   word ← eat k.Architecture
-  last ← end_name
+  last ← optional (is_kind k.Identifier) identifier
   expect k.Semicolon
   pure (record { at = at; name = name; entity = of_entity; declarations = ds; statements = found; end_word = word; end_name = last })
 

@@ -104,7 +104,11 @@ fn is_last_waveform(waveform: &Waveform) -> bool {
 
 /// `l2 : with s select y <= a when b | c, (others => '1') when others;`
 fn is_labelled_selection(statement: &Concurrent) -> bool {
-    let Concurrent::Selected(label, found) = statement else {
+    let Concurrent::Selected {
+        label,
+        assignment: found,
+    } = statement
+    else {
         return false;
     };
     let [first, last] = found.waveforms.as_slice() else {
@@ -120,7 +124,11 @@ fn is_labelled_selection(statement: &Concurrent) -> bool {
 
 /// `with s select z <= a when b;`
 fn is_selection(statement: &Concurrent) -> bool {
-    let Concurrent::Selected(None, found) = statement else {
+    let Concurrent::Selected {
+        label: None,
+        assignment: found,
+    } = statement
+    else {
         return false;
     };
     found.at == 96
@@ -147,7 +155,7 @@ const PROCESSES: &str =
 
 /// `p : process (all) is begin null; end process q;`
 fn is_labelled_process(statement: &Concurrent) -> bool {
-    let Concurrent::Process(label, process) = statement else {
+    let Concurrent::Process { label, process } = statement else {
         return false;
     };
     is_given(label, (29, "p"))
@@ -171,7 +179,11 @@ fn are_two_names(sensitivity: &Sensitivity) -> bool {
 
 /// `process (a, b (1)) begin end process;`
 fn is_empty_process(statement: &Concurrent) -> bool {
-    let Concurrent::Process(None, process) = statement else {
+    let Concurrent::Process {
+        label: None,
+        process,
+    } = statement
+    else {
         return false;
     };
     process.at == 77
@@ -183,7 +195,11 @@ fn is_empty_process(statement: &Concurrent) -> bool {
 
 /// `process is begin y <= a; y <= b; end process;`
 fn is_process_with_no_list(statement: &Concurrent) -> bool {
-    let Concurrent::Process(None, process) = statement else {
+    let Concurrent::Process {
+        label: None,
+        process,
+    } = statement
+    else {
         return false;
     };
     let [first, second] = process.statements.as_slice() else {
@@ -218,7 +234,7 @@ fn is_inner_generate(statement: &Concurrent) -> bool {
     let Concurrent::Generate(found) = statement else {
         return false;
     };
-    let (Scheme::If(condition), [one]) = (&found.scheme, found.statements.as_slice()) else {
+    let (Scheme::If { condition }, [one]) = (&found.scheme, found.statements.as_slice()) else {
         return false;
     };
     is_named(&found.label, (72, "h"))
@@ -232,10 +248,10 @@ fn is_inner_generate(statement: &Concurrent) -> bool {
 /// `for i in 0 to 3`
 fn is_ascending(scheme: &Scheme) -> bool {
     match scheme {
-        Scheme::For(parameter, range) => {
+        Scheme::For { parameter, range } => {
             is_named(parameter, (37, "i")) && is_range(range, (42, "0"), Direction::To, (47, "3"))
         }
-        Scheme::If(_) => false,
+        Scheme::If { .. } => false,
     }
 }
 
@@ -261,7 +277,7 @@ fn is_descending(statement: &Concurrent) -> bool {
     let Concurrent::Generate(found) = statement else {
         return false;
     };
-    let Scheme::For(parameter, range) = &found.scheme else {
+    let Scheme::For { parameter, range } = &found.scheme else {
         return false;
     };
     is_named(&found.label, (160, "f"))

@@ -132,10 +132,10 @@ fn assigned_name(file: &File) -> Option<&Name> {
     }
 }
 
-/// The first operand of a chain, and its links.
-fn chain(expr: &Expr) -> Option<(&Expr, &[Link])> {
+/// The first operand of a chain, its first link, and the further ones.
+fn chain(expr: &Expr) -> Option<(&Expr, &Link, &[Link])> {
     match expr {
-        Expr::Chain(left, links) => Some((left.as_ref(), links.as_slice())),
+        Expr::Chain(found) => Some((&found.first, &found.second, found.rest.as_slice())),
         _ => None,
     }
 }
@@ -148,7 +148,7 @@ fn is_link(link: &Link, operator: Operator, at: usize, operand: Word<'_>) -> boo
 /// Whether a chain is two names with an operator between.
 fn is_pair(expr: &Expr, left: Word<'_>, operator: Operator, at: usize, right: Word<'_>) -> bool {
     match chain(expr) {
-        Some((first, [link])) => is_name(first, left) && is_link(link, operator, at, right),
+        Some((first, link, [])) => is_name(first, left) && is_link(link, operator, at, right),
         _ => false,
     }
 }
@@ -193,7 +193,17 @@ fn each_operator(rt: HostRuntime) -> Result<(), Fail> {
 
 /// `not a * b`
 fn is_product(expr: &Expr) -> bool {
-    let Some((Expr::Not(34, inner), [link])) = chain(expr) else {
+    let Some(
+        (
+            Expr::Not {
+                at: 34,
+                operand: inner,
+            },
+            link,
+            [],
+        ),
+    ) = chain(expr)
+    else {
         return false;
     };
     is_name(inner, (38, "a")) && is_link(link, Operator::Multiply, 40, (42, "b"))
@@ -202,7 +212,7 @@ fn is_product(expr: &Expr) -> bool {
 /// `not a * b + c`
 fn is_sum(expr: &Expr) -> bool {
     match chain(expr) {
-        Some((left, [link])) => is_product(left) && is_link(link, Operator::Add, 44, (46, "c")),
+        Some((left, link, [])) => is_product(left) && is_link(link, Operator::Add, 44, (46, "c")),
         _ => false,
     }
 }
@@ -210,14 +220,14 @@ fn is_sum(expr: &Expr) -> bool {
 /// `not a * b + c = d`
 fn is_relation(expr: &Expr) -> bool {
     match chain(expr) {
-        Some((left, [link])) => is_sum(left) && is_link(link, Operator::Equal, 48, (50, "d")),
+        Some((left, link, [])) => is_sum(left) && is_link(link, Operator::Equal, 48, (50, "d")),
         _ => false,
     }
 }
 
 /// `not a * b + c = d and e < f`
 fn is_conjunction(expr: &Expr) -> bool {
-    let Some((left, [link])) = chain(expr) else {
+    let Some((left, link, [])) = chain(expr) else {
         return false;
     };
     is_relation(left)
@@ -229,7 +239,7 @@ fn is_conjunction(expr: &Expr) -> bool {
 /// `a - b & c + d`
 fn is_grouped_from_the_left(expr: &Expr) -> bool {
     match chain(expr) {
-        Some((left, [first, second, third])) => {
+        Some((left, first, [second, third])) => {
             is_name(left, (34, "a"))
                 && is_link(first, Operator::Subtract, 36, (38, "b"))
                 && is_link(second, Operator::Concatenate, 40, (42, "c"))
@@ -241,7 +251,18 @@ fn is_grouped_from_the_left(expr: &Expr) -> bool {
 
 /// `-a * b + c`
 fn is_signed(expr: &Expr) -> bool {
-    let Some((Expr::Signed(Sign::Minus, 34, product), [link])) = chain(expr) else {
+    let Some(
+        (
+            Expr::Signed {
+                sign: Sign::Minus,
+                at: 34,
+                operand: product,
+            },
+            link,
+            [],
+        ),
+    ) = chain(expr)
+    else {
         return false;
     };
     is_link(link, Operator::Add, 41, (43, "c"))
@@ -250,14 +271,22 @@ fn is_signed(expr: &Expr) -> bool {
 
 /// `((+a))`
 fn is_in_parentheses(expr: &Expr) -> bool {
-    let Expr::Parens(34, outer) = expr else {
+    let Expr::Parens {
+        at: 34,
+        inner: outer,
+    } = expr
+    else {
         return false;
     };
-    let Expr::Parens(35, inner) = outer.as_ref() else {
+    let Expr::Parens { at: 35, inner } = outer.as_ref() else {
         return false;
     };
     match inner.as_ref() {
-        Expr::Signed(Sign::Plus, 36, operand) => is_name(operand, (37, "a")),
+        Expr::Signed {
+            sign: Sign::Plus,
+            at: 36,
+            operand,
+        } => is_name(operand, (37, "a")),
         _ => false,
     }
 }

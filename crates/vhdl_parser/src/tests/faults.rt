@@ -1,8 +1,9 @@
 //! Faults: their numbers, bytes and texts.
 
 use super::{file_of, has_fault};
-use crate::{MAX_OPEN, SyntaxFault};
+use crate::SyntaxFault;
 use std::test::Fail;
+use vhdl_tree::MAX_OPEN;
 
 #[test]
 fn numbers_bytes_and_texts(rt: HostRuntime) -> Result<(), Fail> {

@@ -10,10 +10,18 @@ const INSTANCES: &str =
 
 /// `u : k;`
 fn is_bare(statement: &Concurrent) -> bool {
-    let Concurrent::Instance(label, found) = statement else {
+    let Concurrent::Instance {
+        label,
+        instance: found,
+    } = statement
+    else {
         return false;
     };
-    let Instantiated::Component(false, name) = &found.unit else {
+    let Instantiated::Component {
+        component_word: false,
+        name,
+    } = &found.unit
+    else {
         return false;
     };
     is_named(label, (29, "u"))
@@ -26,7 +34,7 @@ fn is_bare(statement: &Concurrent) -> bool {
 fn is_name_given(association: &Association, word: Word<'_>) -> bool {
     match &association.actual {
         Actual::Expr(expr) => is_name(expr, word),
-        Actual::Open(_) => false,
+        Actual::Open { .. } => false,
     }
 }
 
@@ -34,14 +42,14 @@ fn is_name_given(association: &Association, word: Word<'_>) -> bool {
 fn is_integer_given(association: &Association, word: Word<'_>) -> bool {
     match &association.actual {
         Actual::Expr(expr) => is_integer(expr, word),
-        Actual::Open(_) => false,
+        Actual::Open { .. } => false,
     }
 }
 
 /// Whether what is associated is `open`, at this place.
 fn is_open(association: &Association, place: usize) -> bool {
     match &association.actual {
-        Actual::Open(at) => *at == place,
+        Actual::Open { at } => *at == place,
         Actual::Expr(_) => false,
     }
 }
@@ -82,10 +90,18 @@ fn are_four_ports(map: &Option<Vec<Association>>) -> bool {
 
 /// `v : component k generic map (..) port map (..);`
 fn is_of_component(statement: &Concurrent) -> bool {
-    let Concurrent::Instance(label, found) = statement else {
+    let Concurrent::Instance {
+        label,
+        instance: found,
+    } = statement
+    else {
         return false;
     };
-    let Instantiated::Component(true, name) = &found.unit else {
+    let Instantiated::Component {
+        component_word: true,
+        name,
+    } = &found.unit
+    else {
         return false;
     };
     is_named(label, (36, "v"))
@@ -107,10 +123,19 @@ fn is_one_port(map: &Option<Vec<Association>>) -> bool {
 
 /// `w : entity work.k port map (c);`
 fn is_of_entity(statement: &Concurrent) -> bool {
-    let Concurrent::Instance(label, found) = statement else {
+    let Concurrent::Instance {
+        label,
+        instance: found,
+    } = statement
+    else {
         return false;
     };
-    let Instantiated::Entity(library, name, None) = &found.unit else {
+    let Instantiated::Entity {
+        library,
+        name,
+        architecture: None,
+    } = &found.unit
+    else {
         return false;
     };
     is_named(label, (115, "w"))
@@ -133,10 +158,19 @@ fn is_one_generic(map: &Option<Vec<Association>>) -> bool {
 
 /// `x : entity work.k (r) generic map (m => 3);`
 fn is_of_architecture(statement: &Concurrent) -> bool {
-    let Concurrent::Instance(label, found) = statement else {
+    let Concurrent::Instance {
+        label,
+        instance: found,
+    } = statement
+    else {
         return false;
     };
-    let Instantiated::Entity(library, name, Some(architecture)) = &found.unit else {
+    let Instantiated::Entity {
+        library,
+        name,
+        architecture: Some(architecture),
+    } = &found.unit
+    else {
         return false;
     };
     is_named(label, (147, "x"))

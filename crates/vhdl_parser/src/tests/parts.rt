@@ -43,7 +43,7 @@ pub fn is_integer(expr: &Expr, word: Word<'_>) -> bool {
 
 pub fn is_character(expr: &Expr, place: usize, character: u8) -> bool {
     match expr {
-        Expr::Character(at, code) => *at == place && *code == character,
+        Expr::Character { at, code } => *at == place && *code == character,
         _ => false,
     }
 }
@@ -65,14 +65,14 @@ pub fn is_indexed(name: &Name, word: Word<'_>, index: Word<'_>) -> bool {
 pub fn is_value(value: &Value, word: Word<'_>) -> bool {
     match value {
         Value::Expr(expr) => is_name(expr, word),
-        Value::Others(..) => false,
+        Value::Others { .. } => false,
     }
 }
 
 /// Whether a value is `(others => c)`, with this character, from this place.
 pub fn is_filled(value: &Value, place: usize, character: (usize, u8)) -> bool {
     match value {
-        Value::Others(at, element) => {
+        Value::Others { at, element } => {
             *at == place && is_character(element, character.0, character.1)
         }
         Value::Expr(_) => false,
@@ -82,13 +82,13 @@ pub fn is_filled(value: &Value, place: usize, character: (usize, u8)) -> bool {
 pub fn is_choice(choice: &Choice, word: Word<'_>) -> bool {
     match choice {
         Choice::Expr(expr) => is_name(expr, word),
-        Choice::Others(_) => false,
+        Choice::Others { .. } => false,
     }
 }
 
 pub fn is_others(choice: &Choice, place: usize) -> bool {
     match choice {
-        Choice::Others(at) => *at == place,
+        Choice::Others { at } => *at == place,
         Choice::Expr(_) => false,
     }
 }
@@ -112,14 +112,18 @@ pub fn statements_of(file: &File) -> &[Concurrent] {
 /// The sequential statements of a file of one process.
 pub fn body_of(file: &File) -> &[Sequential] {
     match statements_of(file) {
-        [Concurrent::Process(_, process)] => process.statements.as_slice(),
+        [Concurrent::Process { process, .. }] => process.statements.as_slice(),
         _ => &[],
     }
 }
 
 /// Whether a sequential statement assigns a name to a name, with no label.
 pub fn assigns(sequential: &Sequential, target: Word<'_>, value: Word<'_>) -> bool {
-    let Statement::Assignment(name, found) = &sequential.statement else {
+    let Statement::SignalAssignment {
+        target: name,
+        value: found,
+    } = &sequential.statement
+    else {
         return false;
     };
     sequential.label.is_none() && is_plain(name, target) && is_value(found, value)
@@ -127,7 +131,7 @@ pub fn assigns(sequential: &Sequential, target: Word<'_>, value: Word<'_>) -> bo
 
 /// Whether a sequential statement is `null` at this place, with no label.
 pub fn is_null(sequential: &Sequential, place: usize) -> bool {
-    let Statement::Null(at) = &sequential.statement else {
+    let Statement::Null { at } = &sequential.statement else {
         return false;
     };
     sequential.label.is_none() && *at == place

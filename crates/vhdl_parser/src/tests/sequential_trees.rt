@@ -17,7 +17,7 @@ fn assigns_an_element(statements: &[Sequential]) -> bool {
         return false;
     };
     match &one.statement {
-        Statement::Assignment(target, value) => {
+        Statement::SignalAssignment { target, value } => {
             is_indexed(target, (98, "y"), (101, "3")) && is_value(value, (107, "e"))
         }
         _ => false,
@@ -30,7 +30,7 @@ fn fills(statements: &[Sequential]) -> bool {
         return false;
     };
     match &one.statement {
-        Statement::Assignment(target, value) => {
+        Statement::SignalAssignment { target, value } => {
             is_plain(target, (115, "z")) && is_filled(value, 120, (131, b'1'))
         }
         _ => false,
@@ -129,7 +129,7 @@ fn is_second_alternative(alternative: &Alternative) -> bool {
     };
     is_others(choice, 91)
         && is_given(&null.label, (101, "l3"))
-        && matches!(null.statement, Statement::Null(106))
+        && matches!(null.statement, Statement::Null { at: 106 })
 }
 
 /// `when i =>`
@@ -202,7 +202,7 @@ fn assigns_in_a_loop(statements: &[Sequential]) -> bool {
         return false;
     };
     match &one.statement {
-        Statement::Assignment(target, value) => {
+        Statement::SignalAssignment { target, value } => {
             is_indexed(target, (73, "q"), (76, "5")) && is_value(value, (82, "p"))
         }
         _ => false,
@@ -228,7 +228,7 @@ fn are_null_and_assignment(statements: &[Sequential]) -> bool {
         return false;
     };
     match &second.statement {
-        Statement::Assignment(target, value) => {
+        Statement::SignalAssignment { target, value } => {
             is_null(first, 119)
                 && is_given(&second.label, (125, "l5"))
                 && is_plain(target, (130, "q"))

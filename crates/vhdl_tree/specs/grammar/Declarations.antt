@@ -3,21 +3,10 @@ use Rattle.std.specs.Prelude.{List, [], ◌∷◌, ◌++◌}
 use Rattle.vhdl_lexer.specs.declared.token.Kind.TheVariants as k
 use Rattle.vhdl_tree.specs.declared.declaration.Mode.{Mode}
 use Rattle.vhdl_tree.specs.declared.declaration.Mode.TheVariants.{In, Out}
-use Rattle.vhdl_tree.specs.Tree.{Expr, Range, Value, Subtype, Generic, Port, Signals, Constants, Enumeration, Component, Declaration, signals, constants, enumeration, component}
+use Rattle.vhdl_tree.specs.Tree.{Expr, Generic, Port, Signals, Constants, Enumeration, Component, Declaration, signals, constants, enumeration, component}
 use Rattle.vhdl_tree.specs.Pieces.{Piece, some, spell_ident, spell_idents, spell_word, spell_option, spell_list, IsAny, IsList, IsOption}
-use Rattle.vhdl_tree.specs.grammar.Expressions.{spell, spell_value, spell_range, IsExpr, IsRange, IsValue}
-
--- ( range )
-abbrev pub spell_constraint : Range → List Piece
-spell_constraint r = some k.LeftParen ∷ (spell_range r ++ some k.RightParen ∷ [])
-
--- subtype = id [ ( range ) ]
-abbrev pub spell_subtype : Subtype → List Piece
-spell_subtype t = spell_ident t.mark ++ spell_option spell_constraint t.range
-
--- := value
-abbrev pub spell_default : Value → List Piece
-spell_default v = some k.Assign ∷ spell_value v
+use Rattle.vhdl_tree.specs.grammar.Expressions.{spell, spell_value, IsExpr, IsValue}
+use Rattle.vhdl_tree.specs.grammar.Subtypes.{spell_subtype, spell_default, IsSubtype}
 
 -- := expr
 abbrev pub spell_generic_default : Expr → List Piece
@@ -65,9 +54,6 @@ spell_declaration (signals d) = spell_signals d
 spell_declaration (constants d) = spell_constants d
 spell_declaration (enumeration d) = spell_enumeration d
 spell_declaration (component c) = spell_component c
-
-abbrev pub IsSubtype : Subtype → Type 0
-IsSubtype t = IsOption IsRange t.range
 
 abbrev pub IsGeneric : Generic → Type 0
 IsGeneric g = IsList IsAny g.names × IsOption IsExpr g.default

@@ -61,7 +61,7 @@ abbrev mutual
   -- sum = [ + | - ] term { .. }
   spell (signed sign at operand) = one_at (sign_kind sign) at ∷ spell operand
   -- expr = rel { and rel } | .., rel = sum [ .. sum ], sum = .. term { .. term }, term = factor { .. factor }
-  spell (binary operator at left right) = spell left ++ (one_at (kind_of operator) at ∷ spell right)
+  spell (binary begins operator at left right) = spell left ++ (one_at (kind_of operator) at ∷ spell right)
 
   -- name = id [ ( expr { , expr } ) | ( range ) ] .., range = expr ( to | downto ) expr
   pub spell_suffix : Suffix → List Piece
@@ -150,7 +150,7 @@ binding (named n suffix attribute) = 6
 binding (parens at inner) = 6
 binding (negation at operand) = 5
 binding (signed sign at operand) = 3
-binding (binary operator at left right) = rank operator
+binding (binary begins operator at left right) = rank operator
 
 -- the logical operators of expr = rel { and rel } | rel { or rel } | rel { xor rel } | rel { xnor rel } | rel nand rel | rel nor rel that may stand more than once
 abbrev pub repeats : Operator → Bool
@@ -164,15 +164,20 @@ repeats _ = false
 abbrev pub Chains : Operator → Operator → Type 0
 Chains first next = (rank first ≡ rank next) × ((3 ≤ rank next) ⊎ ((first ≡ next) × (repeats next ≡ true)))
 
--- the operator goes on with the chain that a tree is; a sign stands before the first term of a sum
+-- the operator goes on with the chain that a tree is
 abbrev pub GoesOn : Operator → Expr → Type 0
-GoesOn operator (binary first at left right) = Chains first operator
-GoesOn operator (signed sign at operand) = rank operator ≡ 3
+GoesOn operator (binary begins first at left right) = Chains first operator
 GoesOn operator _ = ⊥
 
--- what stands before an operator binds more tightly, or the operator goes on with it
-abbrev pub Leads : Operator → Expr → Type 0
-Leads operator left = (rank operator < binding left) ⊎ GoesOn operator left
+-- a sign before the first term of a sum
+abbrev pub IsSigned : Operator → Expr → Type 0
+IsSigned operator (signed sign at operand) = rank operator ≡ 3
+IsSigned operator _ = ⊥
+
+-- An operator begins a chain behind what binds more tightly, or behind a sign. So a chain's first operand is none of its own chain's trees.
+abbrev pub Leads : Bool → Operator → Expr → Type 0
+Leads true operator left = (rank operator < binding left) ⊎ IsSigned operator left
+Leads false operator left = GoesOn operator left
 
 abbrev mutual
   pub IsExpr : Expr → Type 0
@@ -186,7 +191,7 @@ abbrev mutual
   IsExpr (negation at operand) = (5 < binding operand) × IsExpr operand
   -- sum = ( + | - ) term { .. }
   IsExpr (signed sign at operand) = (3 < binding operand) × IsExpr operand
-  IsExpr (binary operator at left right) = Leads operator left × (rank operator < binding right) × IsExpr left × IsExpr right
+  IsExpr (binary begins operator at left right) = Leads begins operator left × (rank operator < binding right) × IsExpr left × IsExpr right
 
   pub IsSuffix : Suffix → Type 0
   IsSuffix plain = Unit {0}

@@ -1,10 +1,11 @@
 -- Processes and selected assignments (IEEE 1076-2008, 11.3, 11.6): how they are spelled, and which are well formed.
 use Rattle.std.specs.Prelude.{List, [], ◌∷◌, ◌++◌}
 use Rattle.vhdl_lexer.specs.declared.token.Kind.TheVariants as k
-use Rattle.vhdl_tree.specs.Tree.{Process, Sensitivity, absent, every, listed, Waveform, SelectedAssignment, statements_of}
-use Rattle.vhdl_tree.specs.Pieces.{Piece, some, one_at, spell_ident, spell_word, spell_option, spell_list, IsList}
+use Rattle.vhdl_tree.specs.Tree.{Variables, Process, Sensitivity, absent, every, listed, Waveform, SelectedAssignment, statements_of}
+use Rattle.vhdl_tree.specs.Pieces.{Piece, some, one_at, spell_idents, spell_word, spell_option, spell_each, spell_list, IsAny, IsEach, IsList, IsOption}
 use Rattle.vhdl_tree.specs.grammar.Expressions.{spell, spell_name, spell_value, spell_choices, IsExpr, IsName, IsValue, AreChoices}
-use Rattle.vhdl_tree.specs.grammar.Sequential.{spell_statements, AreStatements}
+use Rattle.vhdl_tree.specs.grammar.Subtypes.{spell_subtype, spell_default, IsSubtype}
+use Rattle.vhdl_tree.specs.grammar.Sequential.{spell_statements, spell_end, AreStatements}
 
 -- [ ( all ) | ( name { , name } ) ]
 abbrev pub spell_sensitivity : Sensitivity → List Piece
@@ -12,17 +13,30 @@ spell_sensitivity absent = []
 spell_sensitivity every = some k.LeftParen ∷ (some k.All ∷ (some k.RightParen ∷ []))
 spell_sensitivity (listed names) = some k.LeftParen ∷ (spell_list k.Comma spell_name names ++ some k.RightParen ∷ [])
 
--- process = process [ .. ] [ is ] begin { seq } end process [ id ] ;
+-- variable ids : subtype [ := value ] ;
+abbrev pub spell_variables : Variables → List Piece
+spell_variables d =
+    some k.Variable ∷ (spell_idents d.names ++ (some k.Colon ∷ (spell_subtype d.subtype ++ (spell_option spell_default d.default ++ some k.Semicolon ∷ []))))
+
+-- begin { seq } end process [ id ] ;
+abbrev pub spell_body : Process → List Piece
+spell_body p = some k.Begin ∷ (spell_statements (statements_of p.statements) ++ spell_end k.Process p.end_label)
+
+-- process = process [ .. ] [ is ] { variable ids : subtype [ := value ] ; } begin { seq } end process [ id ] ;
 abbrev pub spell_process : Process → List Piece
-spell_process p = one_at k.Process p.at ∷ (spell_sensitivity p.sensitivity ++ (spell_word k.Is p.is_word ++ (some k.Begin ∷ (spell_statements (statements_of p.statements) ++ (some k.End ∷ (some k.Process ∷ (spell_option spell_ident p.end_label ++ some k.Semicolon ∷ [])))))))
+spell_process p =
+    one_at k.Process p.at ∷ (spell_sensitivity p.sensitivity ++ (spell_word k.Is p.is_word ++ (spell_each spell_variables p.variables ++ spell_body p)))
 
 abbrev pub IsSensitivity : Sensitivity → Type 0
 IsSensitivity absent = Unit {0}
 IsSensitivity every = Unit {0}
 IsSensitivity (listed names) = IsList IsName names
 
+abbrev pub IsVariables : Variables → Type 0
+IsVariables d = IsList IsAny d.names × IsSubtype d.subtype × IsOption IsValue d.default
+
 abbrev pub IsProcess : Process → Type 0
-IsProcess p = IsSensitivity p.sensitivity × AreStatements (statements_of p.statements)
+IsProcess p = IsSensitivity p.sensitivity × IsEach IsVariables p.variables × AreStatements (statements_of p.statements)
 
 -- value when choices
 abbrev pub spell_waveform : Waveform → List Piece

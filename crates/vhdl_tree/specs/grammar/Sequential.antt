@@ -2,7 +2,7 @@
 use Rattle.std.specs.Prelude.{Option, List, [], ◌∷◌, ◌++◌}
 use Rattle.vhdl_lexer.specs.declared.token.Kind.{Kind}
 use Rattle.vhdl_lexer.specs.declared.token.Kind.TheVariants as k
-use Rattle.vhdl_tree.specs.Tree.{Ident, Statement, nothing, assigned, conditional, selection, loop, Statements, no_statements, statement, Conditionals, no_conditionals, guarded, Otherwise, no_else, else_do, Alternatives, no_alternatives, alternative, Sequential}
+use Rattle.vhdl_tree.specs.Tree.{Ident, Statement, nothing, assigned, variable_assigned, conditional, selection, loop, Statements, no_statements, statement, Conditionals, no_conditionals, guarded, Otherwise, no_else, else_do, Alternatives, no_alternatives, alternative, Sequential}
 use Rattle.vhdl_tree.specs.Pieces.{Piece, some, one_at, word_at, spell_ident, spell_option}
 use Rattle.vhdl_tree.specs.grammar.Expressions.{spell, spell_name, spell_value, spell_range, spell_choices, IsExpr, IsName, IsValue, IsRange, AreChoices}
 
@@ -20,6 +20,8 @@ abbrev mutual
   spell_statement (nothing at) = one_at k.Null at ∷ (some k.Semicolon ∷ [])
   -- seq = name <= value ;
   spell_statement (assigned target value) = spell_name target ++ (some k.LessEqual ∷ (spell_value value ++ some k.Semicolon ∷ []))
+  -- seq = name := value ;
+  spell_statement (variable_assigned target value) = spell_name target ++ (some k.Assign ∷ (spell_value value ++ some k.Semicolon ∷ []))
   -- if = if expr then { seq } { elsif expr then { seq } } [ else { seq } ] end if [ id ] ;
   spell_statement (conditional at branches otherwise label) = one_at k.If at ∷ (spell_conditionals branches ++ (spell_else otherwise ++ spell_end k.If label))
   -- case = case expr is alt { alt } end case [ id ] ;
@@ -59,6 +61,7 @@ abbrev mutual
   pub IsStatement : Statement → Type 0
   IsStatement (nothing at) = Unit {0}
   IsStatement (assigned target value) = IsName target × IsValue value
+  IsStatement (variable_assigned target value) = IsName target × IsValue value
   IsStatement (conditional at branches otherwise label) = AreBranches branches × IsElse otherwise
   IsStatement (selection at selector alternatives label) = IsExpr selector × AreCases alternatives
   IsStatement (loop at parameter range statements label) = IsRange range × AreStatements statements

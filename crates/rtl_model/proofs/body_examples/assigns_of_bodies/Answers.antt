@@ -1,5 +1,5 @@
-use Rattle.rtl_model.proofs.examples.Bodies as examples
+use Rattle.rtl_model.proofs.examples.Bodies.{assigns_of_bodies}
 use Rattle.rtl_model.proofs.body_examples.assigns_of_bodies.Goals as goal
 
 pub returns : goal.returns
-returns c = examples.assigns_of_bodies
+returns c = assigns_of_bodies

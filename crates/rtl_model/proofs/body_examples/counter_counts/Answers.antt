@@ -1,5 +1,5 @@
-use Rattle.rtl_model.proofs.examples.Counter as examples
+use Rattle.rtl_model.proofs.examples.Counter.{counter_counts}
 use Rattle.rtl_model.proofs.body_examples.counter_counts.Goals as goal
 
 pub returns : goal.returns
-returns c = examples.counter_counts
+returns c = counter_counts

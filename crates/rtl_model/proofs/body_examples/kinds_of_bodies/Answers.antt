@@ -1,5 +1,8 @@
-use Rattle.rtl_model.proofs.examples.Bodies as examples
+use Rattle.rtl_model.proofs.examples.Bodies.{kinds_of_bodies, kinds_of_resets}
 use Rattle.rtl_model.proofs.body_examples.kinds_of_bodies.Goals as goal
 
-pub returns : goal.returns
-returns c = examples.kinds_of_bodies
+pub returns-clause-kinds : goal.returns-clause-kinds
+returns-clause-kinds c = kinds_of_bodies
+
+pub returns-clause-resets : goal.returns-clause-resets
+returns-clause-resets c = kinds_of_resets

@@ -1,5 +1,5 @@
-use Rattle.rtl_model.proofs.examples.Bodies as examples
+use Rattle.rtl_model.proofs.examples.Bodies.{runs_of_bodies}
 use Rattle.rtl_model.proofs.body_examples.runs_of_bodies.Goals as goal
 
 pub returns : goal.returns
-returns c = examples.runs_of_bodies
+returns c = runs_of_bodies

@@ -20,8 +20,11 @@ decreases-for_generate l = 40 * l.levels + 17
 abbrev pub decreases-if_generate : goal.decreases-if_generate
 decreases-if_generate l = 40 * l.levels + 17
 
-abbrev pub decreases-generate_rest : goal.decreases-generate_rest
-decreases-generate_rest l = 40 * l.levels + 30
+abbrev pub decreases-generated : goal.decreases-generated
+decreases-generated l = 40 * l.levels + 31
+
+abbrev pub decreases-generate_body : goal.decreases-generate_body
+decreases-generate_body l = 40 * l.levels + 30
 
 -- what is still to be read gives what was to be read
 abbrev pub invariant-concurrents-loop-turn : goal.invariant-concurrents-loop-turn

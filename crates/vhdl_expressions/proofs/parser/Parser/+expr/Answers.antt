@@ -3,7 +3,7 @@ use Rattle.std.proofs.lemmas.Grind.{common_steps}
 use Rattle.vhdl_lexer.specs.declared.token.Kind.TheVariants as k
 use Rattle.vhdl_tree.specs.View.{exprs_view, pairs_view}
 use Rattle.vhdl_expressions.specs.reader.Input.{is_kind, many_from}
-use Rattle.vhdl_tree.specs.Tree.{chained}
+use Rattle.vhdl_tree.specs.Tree.{all_joined}
 use Rattle.vhdl_expressions.specs.reader.Expressions.{inside, argument, operand_of, more, more_from}
 use Rattle.vhdl_tree.proofs.Rows.{pairs-push}
 use Rattle.vhdl_expressions.proofs.Turns.{one_more, no_more, inside_more}
@@ -46,24 +46,24 @@ links-loop-turn-init t c left = first_of (search rules, grind (arith, common_ste
 pub links-returns-in_default : goal.links-returns-in_default
 unfolding more_from
 links-returns-in_default t c left =
-    let e = one_more (λ n. more_from (operand_of (inside c.args.levels) c.args.level) n c.args.level c.loop-turn.last (chained left (pairs_view c.loop-turn.found)) c.loop-turn.self) _ c.loop-turn._turn c.loop-turn-test.true (c.loop-turn.invariant left) in
+    let e = one_more (λ n. more_from (operand_of (inside c.args.levels) c.args.level) n c.args.level c.loop-turn.last (all_joined left (pairs_view c.loop-turn.found)) c.loop-turn.self) _ c.loop-turn._turn c.loop-turn-test.true (c.loop-turn.invariant left) in
     first_of (search rules, grind (arith, common_steps))
 
 pub links-returns-in_err-link : goal.links-returns-in_err-link
 unfolding more_from
 links-returns-in_err-link t c left =
-    let e = one_more (λ n. more_from (operand_of (inside c.args.levels) c.args.level) n c.args.level c.loop-turn.last (chained left (pairs_view c.loop-turn.found)) c.loop-turn.self) _ c.loop-turn._turn c.loop-turn-test.true (c.loop-turn.invariant left) in
+    let e = one_more (λ n. more_from (operand_of (inside c.args.levels) c.args.level) n c.args.level c.loop-turn.last (all_joined left (pairs_view c.loop-turn.found)) c.loop-turn.self) _ c.loop-turn._turn c.loop-turn-test.true (c.loop-turn.invariant left) in
     first_of (search rules, grind (arith, common_steps))
 
 pub links-loop-turn-preserved : goal.links-loop-turn-preserved
 unfolding more_from
 links-loop-turn-preserved t c left =
-    let e = one_more (λ n. more_from (operand_of (inside c.args.levels) c.args.level) n c.args.level c.loop-turn.last (chained left (pairs_view c.loop-turn.found)) c.loop-turn.self) _ c.loop-turn._turn c.loop-turn-test.true (c.loop-turn.invariant left) in
+    let e = one_more (λ n. more_from (operand_of (inside c.args.levels) c.args.level) n c.args.level c.loop-turn.last (all_joined left (pairs_view c.loop-turn.found)) c.loop-turn.self) _ c.loop-turn._turn c.loop-turn-test.true (c.loop-turn.invariant left) in
     let p = pairs-push left c.loop-turn.found c.push.new.self c.in_ok-link.field-0 c.in_ok-push.ensures.items in
     first_of (search rules, grind (arith, common_steps))
 
 pub links-returns : goal.links-returns
 unfolding more_from
 links-returns t c left =
-    let e = no_more (λ n. more_from (operand_of (inside c.args.levels) c.args.level) n c.args.level c.loop-turn.last (chained left (pairs_view c.loop-turn.found)) c.loop-turn.self) _ c.loop-turn._turn c.loop-turn-test.false (c.loop-turn.invariant left) in
+    let e = no_more (λ n. more_from (operand_of (inside c.args.levels) c.args.level) n c.args.level c.loop-turn.last (all_joined left (pairs_view c.loop-turn.found)) c.loop-turn.self) _ c.loop-turn._turn c.loop-turn-test.false (c.loop-turn.invariant left) in
     first_of (search rules, grind (arith, common_steps))

@@ -2,7 +2,7 @@ use Rattle.std.proofs.Common.{ℕ, ◌≡◌, ◌+◌, ◌-◌, ◌*◌}
 use Rattle.vhdl_lexer.specs.declared.token.Kind.TheVariants as k
 use Rattle.vhdl_expressions.specs.declared.operator.Level.{Level}
 use Rattle.vhdl_expressions.specs.declared.operator.Level.TheVariants.{Logical, Relation, Adding, Multiplying}
-use Rattle.vhdl_tree.specs.Tree.{Expr, chained}
+use Rattle.vhdl_tree.specs.Tree.{Expr, all_joined}
 use Rattle.vhdl_tree.specs.View.{exprs_view, pairs_view}
 use Rattle.vhdl_expressions.specs.reader.Input.{is_kind, many, many_from}
 use Rattle.vhdl_expressions.specs.reader.Expressions as read
@@ -77,4 +77,5 @@ invariant-arguments-loop-turn l =
 
 abbrev pub invariant-links-loop-turn : goal.invariant-links-loop-turn
 invariant-links-loop-turn l = (left : Expr) →
-    read.more (read.operand_of (read.inside l.levels) l.level) l.level left l.fn.self ≡ read.more_from (read.operand_of (read.inside l.levels) l.level) (l._turn-end - l._turn) l.level l.last (chained left (pairs_view l.found)) l.self
+    let operand = read.operand_of (read.inside l.levels) l.level in
+    read.more operand l.level l.fn.last left l.fn.self ≡ read.more_from operand (l._turn-end - l._turn) l.level l.last (all_joined left (pairs_view l.found)) l.self

@@ -1,15 +1,15 @@
-use Rattle.std.proofs.Common.{arith, ap, ◌∙◌}
-use Rattle.std.proofs.Math.ListN.{length}
-use Rattle.vhdl_values.specs.Logic.{logic_of}
-use Rattle.vhdl_values.proofs.Elements.{zipped_to-more, length-zipped_to}
+use Rattle.std.proofs.Common.{◌∙◌, ap, length, sym}
+use Rattle.vhdl_values.specs.Logic.{logic_of_all}
+use Rattle.vhdl_values.proofs.Lengths.{length-logic_of_all}
+use Rattle.vhdl_values.proofs.Remade.{map-strip-logic}
 use Rattle.vhdl_values.proofs.vector.Vec9.logic.Goals as goal
 
-pub set-requires : goal.set-requires
-set-requires c = omega (arith, ap length c.loop-at.invariant, length-zipped_to (logic_of c.args.kind) c.args.self.now c.args.other.now c.loop-at.at c.requires)
-
-pub loop-at-preserved : goal.loop-at-preserved
-loop-at-preserved c = rw (c.set.ensures.list, c.of.ensures) (zipped_to-more _ _ _ _ _ _ _ c.loop-at.invariant c.get-left.ensures c.get-right.ensures)
+pub returns-clause-list : goal.returns-clause-list
+returns-clause-list c =
+    c.of_stripped.ensures (logic_of_all c.args.kind c.args.self.now c.args.other.now)
+    (c.logic-stripped.ensures c.args.self.now c.args.other.now c.stripped.ensures c.stripped-2.ensures c.requires)
+    (length-logic_of_all c.args.kind c.args.self.now c.args.other.now c.requires ∙ sym c.len.ensures.len)
+    ∙ map-strip-logic c.args.kind c.args.self.now c.args.other.now
 
 pub returns-clause-len : goal.returns-clause-len
-returns-clause-len c =
-    ap length c.loop-at.invariant ∙ length-zipped_to (logic_of c.args.kind) c.args.self.now c.args.other.now c.loop-at.at c.requires
+returns-clause-len c = ap length (returns-clause-list c) ∙ length-logic_of_all c.args.kind c.args.self.now c.args.other.now c.requires

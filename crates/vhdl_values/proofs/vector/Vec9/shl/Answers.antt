@@ -1,9 +1,10 @@
-use Rattle.std.proofs.Common.{◌∙◌, ◌≡◌, length}
-use Rattle.std.specs.Prelude.{min}
-use Rattle.vhdl_values.proofs.Shifting.{shifted_left-placed}
+use Rattle.std.proofs.Common.{◌∙◌, ap, replicate, sym, arith}
+use Rattle.vhdl_values.specs.declared.scalar.Nine.TheVariants.{Zero}
+use Rattle.vhdl_values.proofs.Shifting.{shifted_left-all}
 use Rattle.vhdl_values.proofs.vector.Vec9.shl.Goals as goal
 
-pub returns-clause-list : goal.returns-clause-list
-returns-clause-list c =
-    let gone : c.min-gone.result ≡ min c.args.count (length c.args.self.now) = rw (← c.len.ensures.len) c.min-gone.ensures in
-    c.of.ensures.list ∙ shifted_left-placed c.args.self.now _ _ c.args.count _ _ c.values.ensures.list gone c.len-2.ensures.len c.len.ensures.room c.put_front.ensures
+pub returns-else-count-len-clause-list : goal.returns-else-count-len-clause-list
+returns-else-count-len-clause-list c =
+    c.fill-else-count-len.ensures.list
+    ∙ ap (λ n. replicate n Zero) c.len-len.ensures.len
+    ∙ sym (shifted_left-all c.args.count c.args.self.now (omega arith))

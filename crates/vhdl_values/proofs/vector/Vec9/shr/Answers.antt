@@ -1,10 +1,15 @@
-use Rattle.std.proofs.Common.{◌∙◌, ◌≡◌, ◌-◌, length, refl}
-use Rattle.std.specs.Prelude.{min}
-use Rattle.vhdl_values.proofs.Shifting.{shifted_right-placed}
+use Rattle.std.proofs.Common.{◌∙◌, ap, replicate, sym, arith}
+use Rattle.vhdl_values.specs.declared.scalar.Nine.TheVariants.{Zero}
+use Rattle.vhdl_values.proofs.Shifting.{shifted_right-all, shifted_right-part}
 use Rattle.vhdl_values.proofs.vector.Vec9.shr.Goals as goal
 
-pub returns-clause-list : goal.returns-clause-list
-returns-clause-list c =
-    let gone : c.min-gone.result ≡ min c.args.count (length c.args.self.now) = rw (← c.len.ensures.len) c.min-gone.ensures in
-    c.of.ensures.list
-    ∙ shifted_right-placed c.args.self.now _ _ c.args.count _ c.len-3.result (c.len-2.result - c.min-gone.result) c.values.ensures.list gone c.len-3.ensures.len (rw (c.len-2.ensures.len, c.len-3.ensures.len) refl) c.len.ensures.room c.put_front.ensures
+pub returns-then-count-len-clause-list : goal.returns-then-count-len-clause-list
+returns-then-count-len-clause-list c =
+    c.concat.ensures.list
+    ∙ rw (c.fill.ensures.list, c.slice.ensures.list, c.len-len.ensures.len) (sym (shifted_right-part c.args.count c.args.self.now (omega arith)))
+
+pub returns-else-count-len-clause-list : goal.returns-else-count-len-clause-list
+returns-else-count-len-clause-list c =
+    c.fill-else-count-len.ensures.list
+    ∙ ap (λ n. replicate n Zero) c.len-len.ensures.len
+    ∙ sym (shifted_right-all c.args.count c.args.self.now (omega arith))

@@ -1,0 +1,75 @@
+-- A net has one list of faults, unless it has loops alone; and one at all only where it isn't accepted.
+use Rattle.std.proofs.Common.{◌≡◌, ℕ, Bool, true, false, List, [], ◌∷◌, refl, subst, arith, ◌⊎◌, inl, inr, IsTrue}
+use Rattle.std.proofs.lemmas.Bool.{false_from_ne_true}
+use Rattle.rtl_model.specs.simulation.Net.{Net, process}
+use Rattle.rtl_model.specs.simulation.Accepted.{Fault, TwoDrivers, MixedProcess, ClockNotInput, EdgeNotSensitive, ClockAsData, MissingSensitivity, Latch, Loop, StoredVariable, IsFault, IsAccepted, HasNoLoop}
+use Rattle.rtl_model.specs.simulation.Faults.{fault_key, is_no_loop, is_of_stored, AreFaultsOf, AreFaultsButLoops, AreStored, IsOneLoop, AreFaults}
+use Rattle.rtl_model.specs.simulation.Laws.{EachFaultIsListed}
+use Rattle.rtl_model.proofs.basics.Lists.{Contains-none, Contains-first}
+use Rattle.rtl_model.proofs.basics.Rising.{same_elements}
+
+one_of : (net : Net) (among : Fault → Bool) (faults other : List Fault) → AreFaultsOf net among faults → AreFaultsOf net among other → faults ≡ other
+one_of net among faults other a b = same_elements fault_key faults other a.rise b.rise (λ f c. (b.are f).1 ((a.are f).0 c)) (λ f c. (a.are f).1 ((b.are f).0 c))
+
+-- no fault but loops, or a loop
+loop_or_not : (f : Fault) → (is_no_loop f ≡ true) ⊎ ((processes : List ℕ) × (f ≡ Loop processes))
+loop_or_not (TwoDrivers net first second) = inl refl
+loop_or_not (MixedProcess p) = inl refl
+loop_or_not (ClockNotInput p net) = inl refl
+loop_or_not (EdgeNotSensitive p net) = inl refl
+loop_or_not (ClockAsData p net) = inl refl
+loop_or_not (MissingSensitivity p net) = inl refl
+loop_or_not (Latch p net) = inl refl
+loop_or_not (Loop ps) = inr (ps, refl)
+loop_or_not (StoredVariable p v place) = inl refl
+
+module _ (net : Net) where
+  none_listed : (among : Fault → Bool) → ((f : Fault) → IsFault net f → IsTrue (among f) → ⊥) → AreFaultsOf net among []
+  none_listed among h = record { are = λ f. (λ c. absurd (Contains-none f c), λ (is, t). absurd (h f is t)); rise = λ i j d l k. absurd (omega arith) }
+
+  nothing_is : (among : Fault → Bool) → AreFaultsOf net among [] → (f : Fault) → IsFault net f → IsTrue (among f) → ⊥
+  nothing_is among a f is t = Contains-none f ((a.are f).1 (is, t))
+
+  one_list : (faults other : List Fault) → AreFaults net faults → AreFaults net other → (faults ≡ other) ⊎ (IsOneLoop net faults × IsOneLoop net other)
+  one_list faults other (inl (a, some)) (inl (b, more)) = inl (one_of net is_no_loop faults other a b)
+  one_list faults other (inl (a, some)) (inr loop) = absurd (some (one_of net is_no_loop faults [] a loop.no_other))
+  one_list faults other (inr loop) (inl (b, more)) = absurd (more (one_of net is_no_loop other [] b loop.no_other))
+  one_list faults other (inr loop) (inr loop') = inr (loop, loop')
+
+  none_if_accepted : (faults : List Fault) → AreFaults net faults → IsAccepted net → ⊥
+  none_if_accepted [] (inl (a, some)) accepted = some refl
+  none_if_accepted (f ∷ faults) (inl (a, some)) accepted = accepted f ((a.are f).0 (Contains-first f faults)).0
+  none_if_accepted faults (inr loop) accepted = accepted (Loop loop.processes) loop.loop
+
+  accepted_from : AreFaultsButLoops net [] × HasNoLoop net → IsAccepted net
+  accepted_from (none, no_loop) f is = go (loop_or_not f)
+    where
+      go : (is_no_loop f ≡ true) ⊎ ((processes : List ℕ) × (f ≡ Loop processes)) → ⊥
+      go (inl t) = nothing_is is_no_loop none f is t
+      go (inr (ps, e)) = no_loop ps (subst (λ (g : Fault). IsFault net g) e is)
+
+  stores_nothing : AreStored net [] → (p variable place : ℕ) → (process net p).stores variable place ≡ false
+  stores_nothing none p variable place = false_from_ne_true _ (λ t. nothing_is is_of_stored none (StoredVariable p variable place) t refl)
+
+  none_stored : ((p variable place : ℕ) → (process net p).stores variable place ≡ false) → AreStored net []
+  none_stored h = none_listed is_of_stored go
+    where
+      go : (f : Fault) → IsFault net f → is_of_stored f ≡ true → ⊥
+      go (StoredVariable p v place) is t = let e = h p v place in cc
+      go (TwoDrivers n first second) is t = cc
+      go (MixedProcess p) is t = cc
+      go (ClockNotInput p n) is t = cc
+      go (EdgeNotSensitive p n) is t = cc
+      go (ClockAsData p n) is t = cc
+      go (MissingSensitivity p n) is t = cc
+      go (Latch p n) is t = cc
+      go (Loop ps) is t = cc
+
+pub each_fault_is_listed : EachFaultIsListed
+each_fault_is_listed net = record {
+  one_of = one_of net;
+  one_list = one_list net;
+  none_if_accepted = none_if_accepted net;
+  accepted_is = (λ accepted. (none_listed net is_no_loop (λ f is t. accepted f is), λ ps loop. accepted (Loop ps) loop), accepted_from net);
+  stores_none = (stores_nothing net, none_stored net);
+}

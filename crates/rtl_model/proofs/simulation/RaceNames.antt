@@ -1,0 +1,74 @@
+-- Races are what a report's clocks show, and the earliest has one name.
+use Rattle.std.proofs.Common.{◌≡◌, ℕ, suc, ◌<◌, List, arith, sym, ◌⊎◌, inl, inr, subst}
+use Rattle.std.proofs.lemmas.Bool.{cases_order}
+use Rattle.rtl_model.specs.simulation.Net.{Net, Edge}
+use Rattle.rtl_model.specs.simulation.Report.{AreClocks}
+use Rattle.rtl_model.specs.simulation.Races.{IsRace, IsRaceOf, IsLowestRace, IsFirstRace}
+use Rattle.rtl_model.specs.simulation.Laws.{EachClockShowsRaces}
+
+module _ (net : Net) (clocks : List (ℕ × Edge)) (C : AreClocks net clocks) where
+  named : (before now : ℕ → ℕ) → IsRace net before now → (input clock : ℕ) × IsRaceOf net clocks before now input clock
+  named before now r = (
+    r.input,
+    r.clock,
+    (
+      record {
+        is_input = r.is_input;
+        no_clock = λ edge c. r.no_clock (let (p, is) = (C.are r.input edge).0 c in (p, (edge, is)));
+        changes = r.changes;
+      },
+      (r.edge, (C.are r.clock r.edge).1 (r.process, r.clocked), r.active),
+    ),
+  )
+
+  is_race : (before now : ℕ → ℕ) (input clock : ℕ) → IsRaceOf net clocks before now input clock → IsRace net before now
+  is_race before now input clock (data', (edge, c, active)) =
+      let (p, is) = (C.are clock edge).0 c in
+      record {
+        process = p;
+        clock = clock;
+        edge = edge;
+        clocked = is;
+        active = active;
+        input = input;
+        is_input = data'.is_input;
+        no_clock = λ (q, (other, tested)). data'.no_clock other ((C.are input other).1 (q, tested));
+        changes = data'.changes;
+      }
+
+  -- of two races that are earliest neither comes before the other
+  not_before : (stimulus : ℕ → ℕ → ℕ) (m input clock m' input' clock' : ℕ) → IsFirstRace net clocks stimulus m input clock → IsFirstRace net clocks stimulus m' input' clock' → m < m' → ⊥
+  not_before stimulus m input clock m' input' clock' r s l = s.earliest (suc m) (omega arith) (is_race (stimulus m) (stimulus (suc m)) input clock r.race.race)
+
+  one_first : (stimulus : ℕ → ℕ → ℕ) (m input clock m' input' clock' : ℕ) → IsFirstRace net clocks stimulus m input clock → IsFirstRace net clocks stimulus m' input' clock'
+      → (m ≡ m') × (input ≡ input') × (clock ≡ clock')
+  one_first stimulus m input clock m' input' clock' r s = go (cases_order m m')
+    where
+      inputs : (a b c d : ℕ) → IsLowestRace net clocks (stimulus m) (stimulus (suc m)) a c → IsLowestRace net clocks (stimulus m) (stimulus (suc m)) b d → a ≡ b
+      inputs a b c d x y = at (cases_order a b)
+        where
+          at : (a ≡ b) ⊎ ((a < b) ⊎ (b < a)) → a ≡ b
+          at (inl e) = e
+          at (inr (inl l)) = absurd (y.lowest_input a l x.race.0)
+          at (inr (inr l)) = absurd (x.lowest_input b l y.race.0)
+
+      tested : (a b c d : ℕ) → IsLowestRace net clocks (stimulus m) (stimulus (suc m)) a c → IsLowestRace net clocks (stimulus m) (stimulus (suc m)) b d → c ≡ d
+      tested a b c d x y = at (cases_order c d)
+        where
+          at : (c ≡ d) ⊎ ((c < d) ⊎ (d < c)) → c ≡ d
+          at (inl e) = e
+          at (inr (inl l)) = absurd (y.lowest_clock c l x.race.1)
+          at (inr (inr l)) = absurd (x.lowest_clock d l y.race.1)
+
+      go : (m ≡ m') ⊎ ((m < m') ⊎ (m' < m)) → (m ≡ m') × (input ≡ input') × (clock ≡ clock')
+      go (inl e) =
+          let other = subst (λ (k : ℕ). IsLowestRace net clocks (stimulus k) (stimulus (suc k)) input' clock') (sym e) s.race in
+          (e, inputs input input' clock clock' r.race other, tested input input' clock clock' r.race other)
+      go (inr (inl l)) = absurd (not_before stimulus m input clock m' input' clock' r s l)
+      go (inr (inr l)) = absurd (not_before stimulus m' input' clock' m input clock s r l)
+
+pub each_clock_shows_races : EachClockShowsRaces
+each_clock_shows_races net clocks C = record {
+  same = λ before now. (named net clocks C before now, λ (input, clock, race). is_race net clocks C before now input clock race);
+  one_first = one_first net clocks C;
+}

@@ -1,0 +1,3 @@
+-- What bodies and simulation share. In order of reading:
+pub mod Valuations
+pub mod Lists

@@ -1,0 +1,65 @@
+-- Stored variables: whether some expression of a body reads an element that the statements before it don't assign on
+-- every syntactic path. Its value would be the one that the run before left.
+use Rattle.std.specs.Prelude.{ℕ, Bool, false, not, ◌&&◌, ◌||◌, ◌==◌}
+use Rattle.std.specs.List.{list_any}
+use Rattle.rtl_model.specs.bodies.Body.{Expr, signal, variable, constant, inverse, filled, binary, resized, shifted_left}
+use Rattle.rtl_model.specs.bodies.Body.{shifted_right, Value, elements, position, position_of, position_in}
+use Rattle.rtl_model.specs.bodies.Body.{Test, condition, equal, unequal, compared, compared_to}
+use Rattle.rtl_model.specs.bodies.Body.{negated, combined}
+use Rattle.rtl_model.specs.bodies.Body.{Stmt, nothing, assign, set, if_of, case_of, Stmts, done, step}
+use Rattle.rtl_model.specs.bodies.Body.{Branches, no_else, otherwise, branch, Alternatives, others, alternative}
+use Rattle.rtl_model.specs.bodies.Assigns.{is_element, stmt_must_assign}
+
+module _ (e : ℕ) where
+  -- ---- whether it reads the element e
+
+  abbrev pub expr_looks_at : Expr → Bool
+  expr_looks_at (signal nets) = false
+  expr_looks_at (variable es) = list_any (λ d. d == e) es
+  expr_looks_at (constant values) = false
+  expr_looks_at (inverse d) = expr_looks_at d
+  expr_looks_at (filled len d) = expr_looks_at d
+  expr_looks_at (binary op c d) = expr_looks_at c || expr_looks_at d
+  expr_looks_at (resized len d) = expr_looks_at d
+  expr_looks_at (shifted_left count d) = expr_looks_at d
+  expr_looks_at (shifted_right count d) = expr_looks_at d
+
+  abbrev pub value_looks_at : Value → Bool
+  value_looks_at (elements d) = expr_looks_at d
+  value_looks_at (position n) = false
+  value_looks_at (position_of net) = false
+  value_looks_at (position_in element) = element == e
+
+  abbrev pub test_looks_at : Test → Bool
+  test_looks_at (condition d) = expr_looks_at d
+  test_looks_at (equal v w) = value_looks_at v || value_looks_at w
+  test_looks_at (unequal v w) = value_looks_at v || value_looks_at w
+  test_looks_at (compared op c d) = expr_looks_at c || expr_looks_at d
+  test_looks_at (compared_to op d n) = expr_looks_at d
+  test_looks_at (negated t) = test_looks_at t
+  test_looks_at (combined op s t) = test_looks_at s || test_looks_at t
+  test_looks_at _ = false
+
+  -- ---- whether it does so where it isn't assigned before
+
+  abbrev mutual
+    pub stmt_stores : Stmt → Bool
+    stmt_stores nothing = false
+    stmt_stores (assign places v) = value_looks_at v
+    stmt_stores (set es v) = value_looks_at v
+    stmt_stores (if_of bs) = branches_store bs
+    stmt_stores (case_of v alts) = value_looks_at v || alternatives_store alts
+
+    -- what a statement assigns on every path, the later ones may read
+    pub stores_element : Stmts → Bool
+    stores_element done = false
+    stores_element (step s rest) = stmt_stores s || (not (stmt_must_assign (is_element e) s) && stores_element rest)
+
+    pub branches_store : Branches → Bool
+    branches_store no_else = false
+    branches_store (otherwise s) = stores_element s
+    branches_store (branch t s bs) = test_looks_at t || (stores_element s || branches_store bs)
+
+    pub alternatives_store : Alternatives → Bool
+    alternatives_store (others s) = stores_element s
+    alternatives_store (alternative choices s alts) = stores_element s || alternatives_store alts

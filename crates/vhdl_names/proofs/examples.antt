@@ -1,0 +1,5 @@
+-- What the small trees compute.
+pub mod Expressions
+pub mod Declarations
+pub mod Statements
+pub mod Files

@@ -1,0 +1,4 @@
+-- Lists within the code's types, as contracts see them.
+pub mod Integers
+pub mod Vectors
+pub mod Tests

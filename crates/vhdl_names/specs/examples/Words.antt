@@ -1,0 +1,107 @@
+-- Words to write small trees with. Places don't count, and stand as 0.
+use Rattle.std.specs.Prelude.{ℕ, true, false, List, [], ◌∷◌, ◌++◌, map, Some, None, codes}
+use Rattle.vhdl_values.specs.declared.scalar.Nine.TheVariants.{One}
+use Rattle.vhdl_tree.specs.declared.operator.Operator.{Operator}
+use Rattle.vhdl_tree.specs.declared.operator.Direction.TheVariants.{Downto}
+use Rattle.vhdl_tree.specs.declared.declaration.Mode.TheVariants.{In, Out}
+use Rattle.vhdl_tree.specs.Tree as t
+use Rattle.vhdl_tree.specs.Tree.{Ident, Expr}
+use Rattle.vhdl_names.specs.declared.kind.Kind.TheVariants.{Element, LogicVector, Unsigned}
+use Rattle.vhdl_names.specs.declared.kind.ObjectType.TheVariants.{Enumeration}
+use Rattle.vhdl_names.specs.units.Expressions as u
+use Rattle.vhdl_names.specs.units.Expressions.{Part, Vector}
+use Rattle.vhdl_names.specs.Visibility as m
+use Rattle.vhdl_names.specs.Visibility.{declare, Declared, Sight}
+use Rattle.vhdl_names.specs.Packages.{Context, sight_of}
+
+-- ---- trees
+
+abbrev pub word : List ℕ → Ident
+word text = record { at = 0; text = text }
+
+abbrev pub words : List (List ℕ) → List Ident
+words = map word
+
+-- n
+abbrev pub name : List ℕ → Expr
+name n = t.named (word n) t.plain None
+
+-- n ( e )
+abbrev pub with_one : List ℕ → Expr → Expr
+with_one n e = t.named (word n) (t.arguments (t.expr e t.no_exprs)) None
+
+-- n ( d , e )
+abbrev pub with_two : List ℕ → Expr → Expr → Expr
+with_two n d e = t.named (word n) (t.arguments (t.expr d (t.expr e t.no_exprs))) None
+
+-- n ( d downto e )
+abbrev pub slice : List ℕ → Expr → Expr → Expr
+slice n d e = t.named (word n) (t.sliced d Downto e) None
+
+-- n'event
+abbrev pub event : List ℕ → Expr
+event n = t.named (word n) t.plain (Some (word (codes "event")))
+
+-- ( e )
+abbrev pub enclosed : Expr → Expr
+enclosed = t.parens 0
+
+-- a number, a character and a string of these characters
+abbrev pub number : List ℕ → Expr
+number = t.Expr.integer 0
+
+abbrev pub character : ℕ → Expr
+character = t.Expr.character 0
+
+abbrev pub string : List ℕ → Expr
+string text = t.Expr.string 0 (34 ∷ (text ++ 34 ∷ []))
+
+-- an operator between two operands
+abbrev pub binary : Operator → Expr → Expr → Expr
+binary op d e = t.binary true op 0 d e
+
+-- a target, or a name of a sensitivity list
+abbrev pub target : List ℕ → t.Name
+target n = record { identifier = word n; suffix = t.plain; attribute = None }
+
+-- a type without a range, and with ( 3 downto 0 )
+abbrev pub plain_type : List ℕ → t.Subtype
+plain_type mark = record { mark = word mark; range = None }
+
+abbrev pub of_four : List ℕ → t.Subtype
+of_four mark = record { mark = word mark; range = Some (record { left = number (codes "3"); direction = Downto; right = number (codes "0") }) }
+
+-- ---- what names mean where the examples stand
+
+-- both packages, std_logic_1164 alone, and none
+abbrev pub both_packages : Context
+both_packages = record { has_ieee = true; has_logic = true; has_numbers = true }
+
+abbrev pub logic_alone : Context
+logic_alone = record { has_ieee = true; has_logic = true; has_numbers = false }
+
+-- in ports a, v and n, out port y; signal q of an enumeration (red, green); a constant one declared by '1'; an integer k
+abbrev pub region : List Declared
+region =
+    declare (codes "a") (m.port 0 In Element) ∷ declare (codes "v") (m.port 1 In LogicVector)
+    ∷ declare (codes "n") (m.port 2 In Unsigned) ∷ declare (codes "y") (m.port 3 Out Element)
+    ∷ declare (codes "colour") (m.enumeration_type 0 2) ∷ declare (codes "red") (m.literal 0 2 0)
+    ∷ declare (codes "green") (m.literal 0 2 1) ∷ declare (codes "q") (m.signal 0 (Enumeration 0 2))
+    ∷ declare (codes "one") (m.constant 0 Element (Some (One ∷ []))) ∷ declare (codes "k") (m.integer_constant 0) ∷ []
+
+abbrev pub sight : Sight
+sight = sight_of both_packages region
+
+-- ---- what they are analysed to
+
+abbrev pub a : Vector
+a = u.of_signal (record { signal = u.port 0; part = u.whole })
+
+abbrev pub v : Vector
+v = u.of_signal (record { signal = u.port 1; part = u.whole })
+
+abbrev pub n : Vector
+n = u.of_signal (record { signal = u.port 2; part = u.whole })
+
+abbrev pub y : Vector
+y = u.of_signal (record { signal = u.port 3; part = u.whole })

@@ -1,0 +1,4 @@
+-- What an analysed file is.
+pub mod Expressions
+pub mod Statements
+pub mod Units

@@ -1,0 +1,129 @@
+//! Elements and vectors of the nine values, and values, as they are analysed.
+
+ghost use Rattle.std.specs.Prelude.{◌≡◌, IfOk};
+ghost use Rattle.vhdl_names.specs.units.Expressions as units;
+ghost use Rattle.vhdl_names.specs.views.Integers.{static_view};
+ghost use Rattle.vhdl_names.specs.views.Vectors.{vector_view, vector_chained};
+
+use crate::integer::{Static, StaticRange};
+use crate::operator::{Numeric, VectorOperator};
+use std::alloc::{AllocError, Global};
+use vhdl_values::Nine;
+
+/// A port or signal of the unit, by its number.
+#[derive(Clone, Copy, Debug, PartialEq, Eq)]
+pub enum Signal {
+    Port(usize),
+    Signal(usize),
+}
+
+/// The whole of what is declared, one element of it, or a slice.
+#[derive(Drop)]
+pub enum Part {
+    Whole,
+    Element(Static),
+    Slice(StaticRange),
+}
+
+/// A signal or port or a part of one, and the byte at which its name starts.
+#[derive(Drop)]
+pub struct Place {
+    pub at: usize,
+    pub signal: Signal,
+    pub part: Part,
+}
+
+/// One element of the nine values, or a vector of them. Offsets are the bytes at which a name, a
+/// literal, a call or an operator starts.
+#[cycle(vector)]
+#[derive(Drop)]
+pub enum Vector {
+    Signal(Place),
+    /// The variable of this number, or a part of it.
+    Variable(usize, usize, Part),
+    /// The constant of this number that is no integer, or a part of it.
+    Constant(usize, usize, Part),
+    /// A character literal without parentheses round it.
+    Character(usize, Nine),
+    /// Any other literal.
+    Literal(usize, Vec<Nine>),
+    Not(usize, Box<Vector>),
+    /// Operators, grouped from the left after the first operand.
+    Chain(Box<Vector>, Vec<VectorLink>),
+    /// A static integer, an operator, and a number.
+    IntegerWith(Numeric, usize, Static, Box<Vector>),
+    /// `to_unsigned`, of a number and a size.
+    Encoded(usize, Static, Static),
+    Resized(usize, Box<Vector>, Static),
+    ShiftedLeft(usize, Box<Vector>, Static),
+    ShiftedRight(usize, Box<Vector>, Static),
+}
+
+/// An operator on vectors, the byte at which it starts, and its right operand.
+#[cycle(vector)]
+#[derive(Drop)]
+pub enum VectorLink {
+    Vector(VectorOperator, usize, Vector),
+    Integer(Numeric, usize, Static),
+}
+
+/// What is assigned, compared or selected by.
+#[derive(Drop)]
+pub enum Value {
+    Elements(Vector),
+    /// An enumeration's literal, by its position.
+    Position(usize),
+    /// A signal, or the variable of this number, of an enumeration.
+    StateOf(Signal),
+    StateOfVariable(usize),
+}
+
+/// A first operand, and operators with their right operands.
+#[tactic(auto, using(crate::proofs::rows::Vectors::view_chain))]
+fn chain(first: Box<Vector>, links: Vec<VectorLink>) -> Vector
+    ensures { vector_view result ≡ vector_chained (vector_view first.value) links.items }
+{
+    Vector::Chain(first, links)
+}
+
+impl Vector {
+    ghost use Rattle.vhdl_names.specs.views.Vectors.{linked};
+
+    /// This operand with one more operator and its right operand. A chain goes on, so that its
+    /// height doesn't grow. It takes the memory of a list.
+    pub fn with_link(self, alloc: Global, link: VectorLink) -> Result<Vector, AllocError>
+        ensures { IfOk result (λ v. vector_view v ≡ linked (vector_view self) link) }
+    {
+        match self {
+            Vector::Chain(first, mut links) => {
+                links.push(link)?;
+                Ok(chain(first, links))
+            }
+            first => {
+                let mut links = Vec::new(alloc);
+                links.push(link)?;
+                Ok(chain(Box::new(alloc, first)?, links))
+            }
+        }
+    }
+
+    /// `not operand`, whose `not` starts at byte `at`. It takes the memory of a box.
+    pub fn inverse(alloc: Global, at: usize, operand: Vector) -> Result<Vector, AllocError>
+        ensures { IfOk result (λ v. vector_view v ≡ units.Vector.inverse (vector_view operand)) }
+    {
+        Ok(Vector::Not(at, Box::new(alloc, operand)?))
+    }
+
+    /// An integer, an operator that starts at byte `at`, and a number. It takes the memory of a box.
+    pub fn integer_with(
+        alloc: Global,
+        operator: Numeric,
+        at: usize,
+        integer: Static,
+        number: Vector,
+    ) -> Result<Vector, AllocError>
+        ensures { IfOk result (λ v. vector_view v ≡ units.integer_with operator (static_view integer) (vector_view number)) }
+    {
+        Ok(Vector::IntegerWith(operator, at, integer, Box::new(alloc, number)?))
+    }
+}
