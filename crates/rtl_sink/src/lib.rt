@@ -6,8 +6,6 @@
 
 mod reader;
 mod sink;
-#[cfg(test)]
-mod tests;
 mod texts;
 mod writer;
 

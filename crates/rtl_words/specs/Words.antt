@@ -2,7 +2,6 @@
 -- between them.
 use Rattle.std.specs.Prelude.{◌≡◌, ℕ, Bool, true, false, not, ◌==◌, ◌&&◌, List, [], ◌∷◌, Option, Some, None, unwrap_or, ◌⊎◌, bytes_eq, codes, map}
 use Rattle.std.specs.List.{list_any}
-use Rattle.std.specs.Borrow.{Bor}
 use Rattle.rtl_words.specs.declared.request.Order.{Order}
 use Rattle.rtl_words.specs.declared.request.Order.TheVariants.{Forward, Reverse}
 use Rattle.rtl_words.specs.declared.request.Refused.{Refused}

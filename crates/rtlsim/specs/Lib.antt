@@ -1,6 +1,7 @@
 -- the program
 pub mod Tools
 pub mod Inputs
+pub mod Halves
 pub mod Status
 -- evaluating
 pub mod Opens

@@ -1,6 +1,6 @@
 -- What the program does for its words.
 use Rattle.std.specs.List.{before_first, after_first, slice_split}
-use Rattle.std.specs.Prelude.{◌≡◌, ◌==◌, ◌-◌, ◌++◌, not, filter, length, take, slice_index_or, if◌then◌else◌, codes, [], ◌∷◌, Some, None, ℕ, List, Option, Result, Ok, Err, Bool, true, false, IfSome, IfErr, ◌⊎◌, ◌||◌, map, IsUtf8}
+use Rattle.std.specs.Prelude.{◌≡◌, ◌==◌, ◌-◌, ◌++◌, not, filter, length, take, slice_index_or, if◌then◌else◌, codes, [], ◌∷◌, Some, None, ℕ, List, Option, Result, Ok, Err, Bool, true, false, IfErr, ◌⊎◌, ◌||◌, map, IsUtf8}
 use Rattle.rtl_sink.specs.Written.{SinkState, Goes}
 use Rattle.rtlsim.specs.Faults.{status_of}
 use Rattle.rtl_sink.specs.Read.{ReaderState}

@@ -121,7 +121,7 @@ fn filled<'a>(alloc: Global, pieces: &[&'a str]) -> Result<Vec<&'a str>, AllocEr
 }
 
 /// The first line, without its end, and what stands behind it.
-fn first_line(all: &[u8]) -> (&[u8], &[u8])
+pub(crate) fn first_line(all: &[u8]) -> (&[u8], &[u8])
     ensures line { result.0.now ≡ first_line_of all.now }
     ensures rest { result.1.now ≡ after_first ends_line all.now }
 {

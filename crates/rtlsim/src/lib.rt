@@ -3,6 +3,7 @@
 
 mod faults;
 mod first_line;
+mod halves;
 mod inputs;
 mod lines;
 mod pipeline;
@@ -11,6 +12,7 @@ mod status;
 
 pub use faults::{Fault, Notice, Place};
 pub use first_line::tool_first_line;
+pub use halves::halves_at_line;
 pub use inputs::{InputFault, Inputs, MAX_INPUT, Named, Standard, read_input};
 pub use pipeline::eval;
 pub use program::{perform, tool, tool_with};

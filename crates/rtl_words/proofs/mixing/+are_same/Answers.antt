@@ -1,4 +1,4 @@
-use Rattle.std.proofs.Common.{◌≡◌, map, ap₂, sym, ◌∙◌, ◌∷◌, List, Bor}
+use Rattle.std.proofs.Common.{ap₂, sym, ◌∙◌, ◌∷◌, List}
 use Rattle.std.proofs.lemmas.Slice.Eq.{bytes_eq-Decides}
 use Rattle.rtl_words.specs.Words.{Word}
 use Rattle.rtl_words.proofs.Operands.{cut}

@@ -1,4 +1,4 @@
-use Rattle.std.proofs.Common.{◌≡◌, map, sym, ◌∙◌}
+use Rattle.std.proofs.Common.{sym, ◌∙◌}
 use Rattle.std.proofs.lemmas.Slice.Eq.{bytes_eq-Decides}
 use Rattle.rtl_words.proofs.Operands.{operand_first, event_first, order_first, forward_first, reverse_first, given_first}
 use Rattle.rtl_words.proofs.mixing.+mixing.Goals as goal

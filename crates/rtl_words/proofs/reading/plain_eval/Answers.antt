@@ -1,4 +1,4 @@
-use Rattle.std.proofs.Common.{◌≡◌, false, codes, None, [], Bor, map, sym, ◌∙◌}
+use Rattle.std.proofs.Common.{false, codes, None, [], Bor, map, sym, ◌∙◌}
 use Rattle.std.proofs.lemmas.Option.{IfSome_then}
 use Rattle.std.proofs.lemmas.Result.{IfOk-weaker}
 use Rattle.std.proofs.lemmas.Slice.Eq.{bytes_eq-Decides}

@@ -1,8 +1,8 @@
-use Rattle.std.proofs.Common.{◌≡◌, List, map, sym, ◌∙◌, subst}
+use Rattle.std.proofs.Common.{map, sym, ◌∙◌, subst}
 use Rattle.std.proofs.lemmas.Option.{IfSome_then}
 use Rattle.std.proofs.lemmas.Result.{IfOk-weaker}
 use Rattle.std.proofs.lemmas.Slice.Eq.{bytes_eq-Decides}
-use Rattle.rtl_words.specs.Words.{Word, Mixes}
+use Rattle.rtl_words.specs.Words.{Mixes}
 use Rattle.rtl_words.proofs.Operands.{says, others_of, text_of}
 use Rattle.rtl_words.proofs.reading.said.Goals as goal
 

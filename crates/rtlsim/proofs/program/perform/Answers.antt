@@ -1,4 +1,4 @@
-use Rattle.std.proofs.Common.{◌≡◌, ℕ, List, map, Bor, inr, ap, sym, ◌∙◌}
+use Rattle.std.proofs.Common.{ℕ, List, map, Bor, inr, ap, ◌∙◌}
 use Rattle.rtlsim.proofs.Telling.{tells_along}
 use Rattle.rtlsim.proofs.program.perform.Goals as goal
 

@@ -1,4 +1,4 @@
-use Rattle.std.proofs.Common.{length, map, Err, ap, ◌∙◌}
+use Rattle.std.proofs.Common.{Err, ap, ◌∙◌}
 use Rattle.rtlsim.specs.Tools.{ended}
 use Rattle.rtlsim.specs.declared.status.Status.{Status}
 use Rattle.rtlsim.proofs.Telling.{evaluates_told, placed_told}
