@@ -6,3 +6,5 @@ pub mod Toggling
 pub mod Rows
 pub mod BodyMistakes
 pub mod SimulationMistakes
+pub mod Variables
+pub mod Nets

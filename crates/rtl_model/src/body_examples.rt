@@ -3,6 +3,7 @@
 ghost use Rattle.rtl_model.specs.examples.Bodies.{KindsOfBodies, KindsOfResets, AssignsOfBodies, RunsOfBodies, VariablesOfBodies, StoresOfBodies, ReadsOfBodies};
 ghost use Rattle.rtl_model.specs.examples.Counter.{CounterCounts};
 ghost use Rattle.rtl_model.specs.examples.BodyMistakes.{LatchWouldPass, DefaultWouldStay, TestWouldBeRising};
+ghost use Rattle.rtl_model.specs.examples.Variables.{VariablesOfNets, VariableWouldBeKept, StoredWouldPass};
 
 /// What is clocked, with a reset and without, what is combinational, and what is neither.
 pub fn kinds_of_bodies()
@@ -41,4 +42,16 @@ pub fn body_mistakes()
     ensures latch { LatchWouldPass }
     ensures default { DefaultWouldStay }
     ensures rising { TestWouldBeRising }
+{}
+
+/// What processes with variables settle in, and which variables they store.
+pub fn variables_of_nets()
+    ensures { VariablesOfNets }
+{}
+
+/// A variable that keeps its value from run to run, and an if without else that counts as assigning a variable, differ from
+/// the right definitions, and with them a law would fail.
+pub fn variable_mistakes()
+    ensures kept { VariableWouldBeKept }
+    ensures stored { StoredWouldPass }
 {}

@@ -1,7 +1,13 @@
--- Codes as the bytes of one number.
+-- Codes as the bytes of one number, and codes that planes hold.
 use Rattle.std.specs.Prelude.{ℕ, ◌+◌, ◌*◌, ◌^◌, List, [], ◌∷◌, length}
+use Rattle.vhdl_values.specs.declared.planes.Planes.{Planes}
+use Rattle.vhdl_values.specs.Planes.{HaveCodes}
 
 -- the leftmost highest
 unfoldable pub packed : List ℕ → ℕ
 packed [] = 0
 packed (code ∷ codes) = code * 2 ^ (8 * length codes) + packed codes
+
+-- the planes have the bits of these codes, leftmost first
+abbrev pub Hold : Planes → List ℕ → Type 0
+Hold planes codes = HaveCodes codes planes.first planes.second planes.third planes.fourth

@@ -1,7 +1,7 @@
 //! Four words that codes are put into one after the other.
 
-ghost use Rattle.std.specs.Prelude.{ℕ, ◌≡◌, ◌<◌, ◌≤◌, ◌++◌, ◌+◌, List, [], length};
-ghost use Rattle.vhdl_values.specs.Planes.{HaveCodes};
+ghost use Rattle.std.specs.Prelude.{ℕ, ◌≤◌, ◌++◌, ◌+◌, List, [], length};
+ghost use Rattle.vhdl_values.specs.Packed.{Hold};
 
 use crate::transposed::{gathered, packed};
 use crate::words::beside;
@@ -18,7 +18,7 @@ pub(crate) struct Planes {
 impl Planes {
     /// No code.
     fn new() -> Planes
-        ensures { HaveCodes [] result.first result.second result.third result.fourth }
+        ensures { Hold result [] }
     {
         Planes {
             first: 0,
@@ -31,7 +31,7 @@ impl Planes {
     /// The planes of up to 64 codes.
     pub(crate) fn of(codes: &[u8]) -> Planes
         requires { length codes.now ≤ 64 }
-        ensures { HaveCodes codes.now result.first result.second result.third result.fourth }
+        ensures { Hold result codes.now }
     {
         let mut planes = Planes::new();
         let whole = codes.len() / 8;
@@ -44,7 +44,7 @@ impl Planes {
     /// The codes, and up to eight more to their right.
     fn and_group(self, group: &[u8]) -> Planes
         requires { length group.now ≤ 8 }
-        ensures { (codes : List ℕ) → length codes + length group.now ≤ 64 → HaveCodes codes self.first self.second self.third self.fourth → HaveCodes (codes ++ group.now) result.first result.second result.third result.fourth }
+        ensures { (codes : List ℕ) → length codes + length group.now ≤ 64 → Hold self codes → Hold result (codes ++ group.now) }
     {
         let (word, len) = (packed(group), group.len());
         Planes {

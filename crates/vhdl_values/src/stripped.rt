@@ -1,8 +1,8 @@
 //! The logical operators on words that mark values.
 
-ghost use Rattle.std.specs.Prelude.{◌≡◌, ◌≤◌, List, length};
-ghost use Rattle.vhdl_values.specs.Logic.{logic_of_all, not_of_all};
-ghost use Rattle.vhdl_values.specs.Marked.{IsMarked};
+ghost use Rattle.std.specs.Prelude.{List};
+ghost use Rattle.vhdl_values.specs.Logic.{not_of_all};
+ghost use Rattle.vhdl_values.specs.Marked.{Combines, IsMarkedBy};
 ghost use Rattle.vhdl_values.specs.declared.kinds.Logic.TheVariants.{And, Or, Xor};
 ghost use Rattle.vhdl_values.specs.declared.scalar.Nine.{Nine};
 
@@ -20,7 +20,7 @@ pub(crate) struct Stripped {
 impl Stripped {
     /// `not` of each value.
     pub(crate) fn not(self) -> Stripped
-        ensures { (vs : List Nine) → IsMarked vs self.ones self.zeros self.unset → IsMarked (not_of_all vs) result.ones result.zeros result.unset }
+        ensures { (vs : List Nine) → IsMarkedBy self vs → IsMarkedBy result (not_of_all vs) }
     {
         Stripped {
             ones: self.zeros,
@@ -31,7 +31,7 @@ impl Stripped {
 
     /// `and`: 0 wins, then U, then X.
     fn and(self, other: Stripped) -> Stripped
-        ensures { (vs ws : List Nine) → IsMarked vs self.ones self.zeros self.unset → IsMarked ws other.ones other.zeros other.unset → length vs ≡ length ws → IsMarked (logic_of_all And vs ws) result.ones result.zeros result.unset }
+        ensures { Combines And self other result }
     {
         let zeros = self.zeros | other.zeros;
         Stripped {
@@ -43,7 +43,7 @@ impl Stripped {
 
     /// `or`: 1 wins, then U, then X.
     fn or(self, other: Stripped) -> Stripped
-        ensures { (vs ws : List Nine) → IsMarked vs self.ones self.zeros self.unset → IsMarked ws other.ones other.zeros other.unset → length vs ≡ length ws → IsMarked (logic_of_all Or vs ws) result.ones result.zeros result.unset }
+        ensures { Combines Or self other result }
     {
         let ones = self.ones | other.ones;
         Stripped {
@@ -55,7 +55,7 @@ impl Stripped {
 
     /// `xor`: U wins, then X.
     fn xor(self, other: Stripped) -> Stripped
-        ensures { (vs ws : List Nine) → IsMarked vs self.ones self.zeros self.unset → IsMarked ws other.ones other.zeros other.unset → length vs ≡ length ws → IsMarked (logic_of_all Xor vs ws) result.ones result.zeros result.unset }
+        ensures { Combines Xor self other result }
     {
         Stripped {
             ones: self.ones & other.zeros | self.zeros & other.ones,
@@ -66,7 +66,7 @@ impl Stripped {
 
     /// The operator of two vectors of one length.
     pub(crate) fn logic(self, kind: Logic, other: Stripped) -> Stripped
-        ensures { (vs ws : List Nine) → IsMarked vs self.ones self.zeros self.unset → IsMarked ws other.ones other.zeros other.unset → length vs ≡ length ws → IsMarked (logic_of_all kind vs ws) result.ones result.zeros result.unset }
+        ensures { Combines kind self other result }
     {
         match kind {
             Logic::And => self.and(other),

@@ -7,7 +7,7 @@ ghost use Rattle.vhdl_values.specs.Numbers.{all_good, number_of, digits_of};
 ghost use Rattle.vhdl_values.specs.Arithmetic.{sum_of, difference_of, product_of};
 ghost use Rattle.vhdl_values.specs.Relations.{compares, compares_number};
 ghost use Rattle.vhdl_values.specs.Shifts.{shifted_left, shifted_right, resized};
-ghost use Rattle.vhdl_values.specs.Marked.{IsMarked};
+ghost use Rattle.vhdl_values.specs.Marked.{IsMarkedBy};
 ghost use Rattle.vhdl_values.specs.declared.scalar.Nine.{Nine as Value};
 
 mod codes;
@@ -328,7 +328,7 @@ impl Vec9 {
 
     /// Which values the logical operators take for 1, for 0 and for U.
     fn stripped(&self) -> Stripped
-        ensures { IsMarked self.now result.ones result.zeros result.unset }
+        ensures { IsMarkedBy result self.now }
     {
         let any = self.first | self.second | self.third | self.fourth;
         Stripped {
@@ -342,7 +342,7 @@ impl Vec9 {
     fn of_stripped(stripped: Stripped, len: usize) -> Vec9
         requires some { 1 ≤ len }
         requires room { len ≤ 64 }
-        ensures { (vs : List Value) → IsMarked vs stripped.ones stripped.zeros stripped.unset → length vs ≡ len → result ≡ map strip vs }
+        ensures { (values : List Value) → IsMarkedBy stripped values → length values ≡ len → result ≡ map strip values }
     {
         let all = mask(len);
         Vec9 {
