@@ -7,7 +7,6 @@
 mod beginnings;
 mod outcome;
 mod text;
-mod tree;
 
 use beginnings::tell_beginnings;
 use outcome::{told_fault, told_source, told_text};

@@ -1,8 +1,8 @@
 //! What the parser makes of a text, in words.
 
 use crate::text::Frame;
-use crate::tree::push_file;
 use std::alloc::{AllocError, Global};
+use tree_text::push_file;
 use vhdl_lexer::lex;
 use vhdl_parser::{SyntaxFault, parse};
 use vhdl_tree::File;

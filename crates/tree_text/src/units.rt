@@ -1,8 +1,8 @@
 //! Design units and files.
 
-use crate::tree::concurrent::push_concurrents;
-use crate::tree::declarations::{push_declaration, push_interface};
-use crate::tree::expressions::{push_comma, push_end, push_identifier, push_identifiers};
+use crate::concurrent::push_concurrents;
+use crate::declarations::{push_declaration, push_interface};
+use crate::expressions::{push_comma, push_end, push_identifier, push_identifiers};
 use std::alloc::AllocError;
 use vhdl_tree::{Architecture, ContextItem, Entity, File, LibraryUnit, Selected};
 

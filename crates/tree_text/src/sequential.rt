@@ -1,6 +1,6 @@
 //! Sequential statements.
 
-use crate::tree::expressions::{
+use crate::expressions::{
     push_choices, push_end, push_expr, push_identifier, push_label, push_name, push_range,
     push_value,
 };

@@ -1,6 +1,6 @@
 //! Declarations and interfaces.
 
-use crate::tree::expressions::{
+use crate::expressions::{
     push_default, push_end, push_expr, push_identifier, push_identifiers, push_range, push_value,
 };
 use std::alloc::AllocError;

@@ -1,11 +1,11 @@
 //! Concurrent statements.
 
-use crate::tree::declarations::push_variables;
-use crate::tree::expressions::{
+use crate::declarations::push_variables;
+use crate::expressions::{
     push_choices, push_comma, push_end, push_expr, push_identifier, push_label, push_map,
     push_name, push_range, push_value,
 };
-use crate::tree::sequential::push_sequentials;
+use crate::sequential::push_sequentials;
 use std::alloc::AllocError;
 use vhdl_tree::{
     Assignment, Concurrent, Generate, Instance, Instantiated, Process, Scheme, SelectedAssignment,
