@@ -7,8 +7,6 @@ mod fault;
 mod file;
 mod instance;
 mod interface;
-#[cfg(test)]
-mod tests;
 mod unit;
 
 pub use fault::SyntaxFault;
