@@ -53,13 +53,18 @@ pub all_linked_none : (ports : List d.Port) (ls : List Link) → all_linked port
 all_linked_none ports [] = refl
 all_linked_none ports (l ∷ ls) = all_linked_none ports ls
 
-pub value-chain : (ports : List d.Port) (chain : Chain) →
+value-chain : (ports : List d.Port) (chain : Chain) →
     n.value ports (s.chain_view chain) ≡ all_linked ports (linked ports (n.value ports (s.view (out-Chain chain).first)) (out-Chain chain).second) (out-Chain chain).rest.items
 value-chain ports chain =
     let c = out-Chain chain in
     ap (n.value ports) (chain_is chain)
     ∙ value-joined ports (t.begun (s.view c.first) (s.pair_view c.second)) c.rest.items
     ∙ ap (λ o. all_linked ports o c.rest.items) (linked_value ports true (s.view c.first) c.second)
+
+-- a chain's value by its parts, each as the code comes to it
+pub chain_whole : (ports : List d.Port) (whole : Option d.Value) (chain c1 c2 c3 : Chain) → whole ≡ n.value ports (s.chain_view chain) → c1 ≡ chain → c2 ≡ chain → c3 ≡ chain →
+    whole ≡ all_linked ports (linked ports (n.value ports (s.view (out-Chain c1).first)) (out-Chain c2).second) (out-Chain c3).rest.items
+chain_whole ports whole chain c1 c2 c3 h e1 e2 e3 = rw (e1, e2, e3) (h ∙ value-chain ports chain)
 
 -- a link that gives nothing leaves nothing
 pub link_fails : (ports : List d.Port) (whole : Option d.Value) (v : d.Value) (ls : List Link) (i : ℕ) (l : Link) → whole ≡ all_linked ports (Some v) (drop i ls) → i < length ls → l ≡ get_or ls i l → linked ports (Some v) l ≡ None → whole ≡ None
