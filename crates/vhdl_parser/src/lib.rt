@@ -2,11 +2,8 @@
 #![tactic(auto)]
 
 mod concurrent;
-mod declaration;
 mod fault;
 mod file;
-mod instance;
-mod interface;
 mod unit;
 
 pub use fault::SyntaxFault;

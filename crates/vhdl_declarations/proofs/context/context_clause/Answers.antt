@@ -1,8 +1,8 @@
 use Rattle.std.proofs.Common.{rules}
 use Rattle.vhdl_tree.specs.View.{context_view}
 use Rattle.vhdl_expressions.proofs.Lists.{reads_many}
-use Rattle.vhdl_parser.specs.reader.Units.{context, begins_context, context_item}
-use Rattle.vhdl_parser.proofs.unit.context.Goals as goal
+use Rattle.vhdl_declarations.specs.reader.Context.{context, begins_context, context_item}
+use Rattle.vhdl_declarations.proofs.context.context_clause.Goals as goal
 
 pub returns : goal.returns
 unfolding context
