@@ -1,6 +1,7 @@
 -- Proofs of the examples.
 pub mod Computing
 pub mod Deciding
+pub mod Fitting
 pub mod Sound
 pub mod Bodies
 pub mod Counter

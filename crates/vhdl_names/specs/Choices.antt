@@ -1,6 +1,6 @@
 -- Choices of case statements and selected assignments (IEEE 1076-2008, 10.9 and 11.6).
 use Rattle.std.specs.Prelude.{◌==◌, Bool, true, false, not, ◌&&◌, ◌||◌, List, [], ◌∷◌, length, flat_map, Option, Some, None, option_map}
-use Rattle.std.specs.List.{list_any}
+use Rattle.std.specs.List.{list_all, list_any, range_with_len}
 use Rattle.vhdl_values.specs.Scalar.{are_same}
 use Rattle.vhdl_tree.specs.Tree as t
 use Rattle.vhdl_tree.specs.Tree.{Expr}
@@ -72,10 +72,10 @@ only_last_others [] = true
 only_last_others (cs ∷ []) = true
 only_last_others (cs ∷ ds ∷ rest) = not (is_others cs) && only_last_others (ds ∷ rest)
 
--- as many distinct choices as the enumeration has literals name each of them
+-- each literal of an enumeration has its choice
 abbrev pub names_all : ObjectType → List Choice → Bool
 names_all (Elements k) cs = false
-names_all (Enumeration e count) cs = length cs == count
+names_all (Enumeration e count) cs = list_all (λ p. list_any (same_choice (position p)) cs) (range_with_len 0 count)
 
 -- the choices of each alternative
 abbrev pub covered : Sight → ObjectType → List (List t.Choice) → Option (List (List Choice))

@@ -28,12 +28,12 @@ abbrev pub signed : Sign → Static → Static
 signed Plus s = s
 signed Minus s = u.Static.negated s
 
--- in parentheses a character literal is a value like any other
+-- in parentheses a character literal is no part of an edge test
 abbrev pub enclosed : Typed → Typed
-enclosed (elements Element (u.character v)) = elements Element (u.Vector.literal (v ∷ []))
+enclosed (elements Element (u.character v)) = elements Element (u.enclosed_character v)
 enclosed x = x
 
--- beside an operand in parentheses too: `(s) = '1'` is no part of an edge test
+-- behind an operand in parentheses it isn't either: `(s) = '1'`
 abbrev pub beside : Expr → Typed → Typed
 beside (t.parens at e) x = enclosed x
 beside _ x = x

@@ -1,5 +1,6 @@
 -- The well-typed file and its units (IEEE 1076-2008, 3.2, 3.3 and clause 13).
-use Rattle.std.specs.Prelude.{◌≡◌, Bool, true, ◌&&◌, List, [], ◌∷◌, ◌++◌, map, find, filter_map, Option, Some, None, option_map, bytes_eq}
+use Rattle.std.specs.Prelude.{◌≡◌, ℕ, take, Bool, true, ◌&&◌, List, [], ◌∷◌, ◌++◌, map, find, filter_map, Option, Some, None, option_map, bytes_eq}
+use Rattle.std.specs.List.{list_all, enumerate_from}
 use Rattle.vhdl_tree.specs.Tree as t
 use Rattle.vhdl_tree.specs.Tree.{File, DesignUnit, LibraryUnit, ContextItem}
 use Rattle.vhdl_names.specs.units.Units as u
@@ -41,15 +42,12 @@ entity_names ds = map (λ e. e.1.name.text) (entities_of ds)
 abbrev pub described_names : List DesignUnit → List Name
 described_names ds = map (λ a. a.1.entity.text) (architectures_of ds)
 
--- each architecture stands after its entity; so many entities stand before
-abbrev pub stand_after : (before : List Name) → List DesignUnit → Bool
-stand_after before [] = true
-stand_after before (d ∷ ds) =
-    list_within (described_names (d ∷ [])) before && stand_after (entity_names (d ∷ []) ++ before) ds
-  where
-    list_within : List Name → List Name → Bool
-    list_within [] before = true
-    list_within (n ∷ ns) before = is_among n before && list_within ns before
+-- each architecture stands after its entity, which is among the units before it
+abbrev pub stands_after : List DesignUnit → ℕ × DesignUnit → Bool
+stands_after ds d = list_all (λ n. is_among n (entity_names (take d.0 ds))) (described_names (d.1 ∷ []))
+
+abbrev pub stand_after : List DesignUnit → Bool
+stand_after ds = list_all (stands_after ds) (enumerate_from 0 ds)
 
 -- the architecture of an entity
 abbrev pub architecture_of : Name → List DesignUnit → Option (List ContextItem × t.Architecture)
@@ -97,7 +95,7 @@ unfoldable pub units_of : File → Option Units
 units_of f = do
   rule (are_distinct (entity_names f.units))
   rule (are_distinct (described_names f.units))
-  rule (stand_after [] f.units)
+  rule (stand_after f.units)
   entities ← each (viewed f.units) (entities_of f.units)
   each (unit entities f.units) entities
 

@@ -17,4 +17,5 @@ pub mod Interfaces
 pub mod Instances
 pub mod Concurrent
 pub mod Files
+pub mod sound
 pub mod examples

@@ -113,15 +113,6 @@ arithmetic numbers op by _ _ = None
 abbrev pub integers_compared : Cmp → Static → Static → Typed
 integers_compared op s t = truth (u.fixed (u.StaticTest.compared op s t))
 
--- n < v is v > n
-abbrev pub turned : Cmp → Cmp
-turned c.Eq = c.Eq
-turned c.Ne = c.Ne
-turned c.Lt = c.Gt
-turned c.Le = c.Ge
-turned c.Gt = c.Lt
-turned c.Ge = c.Le
-
 -- = and /= of one kind: numbers are compared as numbers, all else by its values
 abbrev pub equal_by : Cmp → (Value → Value → Test) → Vector → Vector → Kind → Typed
 equal_by op same x y Unsigned = truth (u.Test.compared op x y)
@@ -132,7 +123,7 @@ abbrev pub equality : Cmp → (Value → Value → Test) → Typed → Typed →
 equality op same (integer s) (integer t) = Some (integers_compared op s t)
 equality op same (elements j x) (elements k y) = option_map (equal_by op same x y) (common_kind j k)
 equality op same (elements Unsigned x) (integer t) = Some (truth (u.compared_to op x t))
-equality op same (integer s) (elements Unsigned y) = Some (truth (u.compared_to (turned op) y s))
+equality op same (integer s) (elements Unsigned y) = Some (truth (u.compared_with op s y))
 equality op same (enumerated d m x) (enumerated e n y) = given_that (d == e) (truth (same x y))
 equality op same _ _ = None
 
@@ -147,7 +138,7 @@ ordering numbers op (elements j x) (integer t) = do
   given_that (is_number j) (truth (u.compared_to op x t))
 ordering numbers op (integer s) (elements k y) = do
   rule numbers
-  given_that (is_number k) (truth (u.compared_to (turned op) y s))
+  given_that (is_number k) (truth (u.compared_with op s y))
 ordering numbers op _ _ = None
 
 -- ---- all binary operators

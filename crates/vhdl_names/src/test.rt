@@ -37,9 +37,10 @@ pub enum Test {
     /// Equality of the values, and its negation.
     Alike(usize, Value, Value),
     Unlike(usize, Value, Value),
-    /// Of two numbers, and of a number and a static integer.
+    /// Of two numbers, of a number and a static integer, and of a static integer and a number.
     Compared(Cmp, usize, Vector, Vector),
     ComparedTo(Cmp, usize, Vector, Static),
+    ComparedWith(Cmp, usize, Static, Vector),
     /// `rising_edge` and `falling_edge`, and `'event`.
     Edge(Edge, Place),
     Event(Place),

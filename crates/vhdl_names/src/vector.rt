@@ -43,9 +43,11 @@ pub enum Vector {
     Variable(usize, usize, Part),
     /// The constant of this number that is no integer, or a part of it.
     Constant(usize, usize, Part),
-    /// A character literal without parentheses round it.
+    /// A character literal with no parentheses round it, nor round the operand on its left.
     Character(usize, Nine),
-    /// Any other literal.
+    /// Any other character literal.
+    EnclosedCharacter(usize, Nine),
+    /// A string or bit string.
     Literal(usize, Vec<Nine>),
     Not(usize, Box<Vector>),
     /// Operators, grouped from the left after the first operand.

@@ -20,7 +20,7 @@ use Rattle.vhdl_expressions.proofs.WalkValues.{w_by, range_rule}
 use Rattle.vhdl_statements.proofs.Conditional.{conditional_rule}
 use Rattle.vhdl_statements.proofs.WalkSequential.{w_open, w_end_of, label_rule}
 use Rattle.vhdl_statements.proofs.WalkProcess.{process_rule, selected_rule}
-use Rattle.vhdl_parser.proofs.WalkInstance.{instance_rule}
+use Rattle.vhdl_declarations.proofs.WalkInstance.{instance_rule}
 
 -- behind its label
 abbrev Behind : ℕ → Option Ident → Parser Concurrent → Type 0

@@ -19,7 +19,7 @@ use Rattle.vhdl_expressions.proofs.GiveValues.{Ends, both, sees_is, g_neither_th
 use Rattle.vhdl_statements.proofs.Conditional.{conditional_gives}
 use Rattle.vhdl_statements.proofs.GiveSequential.{label_gives, end_gives}
 use Rattle.vhdl_statements.proofs.GiveProcess.{process_gives, selected_gives}
-use Rattle.vhdl_parser.proofs.GiveInstance.{instance_gives}
+use Rattle.vhdl_declarations.proofs.GiveInstance.{instance_gives}
 use Rattle.vhdl_parser.proofs.Concurrents.{spelled_all, spelled_all-each}
 
 -- ---- labels

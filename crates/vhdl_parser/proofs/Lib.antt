@@ -1,9 +1,5 @@
 pub mod Concurrents
-pub mod Ports
-pub mod Declared
 pub mod Files
 pub mod Within
-pub mod WalkInstance
-pub mod GiveInstance
 pub mod GiveConcurrents
 pub mod Deeper

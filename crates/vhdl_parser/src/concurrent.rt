@@ -6,7 +6,7 @@ ghost use Rattle.vhdl_parser.specs.reader.Concurrent as read;
 ghost use Rattle.vhdl_parser.specs.reader.Concurrent.{generate_body_view};
 ghost use Rattle.vhdl_expressions.specs.reader.Input.{Reads};
 
-use crate::instance::instance;
+use vhdl_declarations::instance;
 use vhdl_expressions::{Parser, Stop, below};
 use vhdl_lexer::Kind;
 use vhdl_statements::{

@@ -2,13 +2,8 @@
 #![tactic(auto)]
 
 mod concurrent;
-mod declaration;
 mod fault;
 mod file;
-mod instance;
-mod interface;
-#[cfg(test)]
-mod tests;
 mod unit;
 
 pub use fault::SyntaxFault;

@@ -29,14 +29,6 @@ number_of_below (v ∷ vs) =
     let top : bit_of v * 2 ^ length vs ≤ 1 * 2 ^ length vs = grind (arith, bit_of_le v) in
     rw pow-suc (omega (arith, top, rest))
 
--- one more element at the right
-pub number_of-append_one : (vs : List Nine) (w : Nine) → number_of (vs ++ w ∷ []) ≡ number_of vs * 2 + bit_of w
-number_of-append_one [] w = omega arith
-number_of-append_one (v ∷ vs) w =
-    let longer : length (vs ++ w ∷ []) ≡ suc (length vs) = simp length-append (omega arith) in
-    let power : 2 ^ length (vs ++ w ∷ []) ≡ 2 ^ length vs * 2 = rw longer (pow-suc 2 (length vs)) in
-    rw (power, number_of-append_one vs w) (grind arith)
-
 -- a number below a shorter power fits a longer one
 pub number_fits : (vs : List Nine) (w : ℕ) → length vs ≤ w → number_of vs < 2 ^ w
 number_fits vs w le = let below = number_of_below vs in let more : 2 ^ length vs ≤ 2 ^ w = pow-le-pow_right (omega arith) le in omega arith

@@ -5,7 +5,7 @@ use Rattle.std.proofs.lemmas.Bool.{cases_lt}
 use Rattle.std.proofs.lemmas.Option.{slice_get_within}
 use Rattle.rtl_model.specs.bodies.Types.{nine_valued, HasType}
 use Rattle.rtl_model.specs.nets.FlatNet as flat
-use Rattle.rtl_model.specs.nets.FlatNet.{FlatNet, FlatProcess, FlatDriver, targets, starts, DriverInRange, IsInRange, sources_of}
+use Rattle.rtl_model.specs.nets.FlatNet.{FlatNet, FlatProcess, FlatDriver, targets, starts, DriverInRange, IsInRange, flat_sources}
 use Rattle.rtl_model.specs.nets.Wiring.{IsConnected}
 use Rattle.rtl_model.specs.nets.CoreNet.{core_process, core_net, core_resolve}
 use Rattle.rtl_model.specs.nets.Laws.{EachIsElaborated}
@@ -29,9 +29,9 @@ pub no_driver : FlatDriver
 no_driver = record { net = 0; start = 0 }
 
 module _ (net : FlatNet) (in_range : IsInRange net) where
-  target_below : (p place : ℕ) → place < length (targets (flat.process net p)) → slice_index (targets (flat.process net p)) place < length net.types
+  target_below : (p place : ℕ) → place < length (targets (flat.process_at net p)) → slice_index (targets (flat.process_at net p)) place < length net.types
   target_below p place l =
-      let q : FlatProcess = flat.process net p in
+      let q : FlatProcess = flat.process_at net p in
       let l' : place < length q.drivers = omega (arith, length-map q.drivers (λ (d : FlatDriver). d.net)) in
       let d : DriverInRange net.types (get_or q.drivers place no_driver) = (process_in_range net in_range p (has_process net in_range p place l)).drivers place no_driver l' in
       let b : (get_or q.drivers place no_driver).net < length net.types = slice_get_within net.types _ d.0 d.1 in
@@ -39,7 +39,7 @@ module _ (net : FlatNet) (in_range : IsInRange net) where
       omega arith
 
   -- a net with a source is there
-  pub source_below : (n : ℕ) (source : c.Source) → Contains (sources_of net n) source → n < length net.types
+  pub source_below : (n : ℕ) (source : c.Source) → Contains (flat_sources net n) source → n < length net.types
   source_below n (c.Driver p place) h = let (l, e) = source_is_driver net n p place h in subst (λ (x : ℕ). x < length net.types) e (target_below p place l)
   source_below n (c.Idle v) h = go (source_is_idle net n v h) (cases_lt n (length net.idle))
     where
@@ -69,11 +69,11 @@ module _ (net : FlatNet) (in_range : IsInRange net) (connected : IsConnected net
 
   of_drivers : (p place : ℕ) → c.HasPlace (core_net net) p place → Contains (c.sources_of (core_net net) (c.target (core_net net) p place)) (c.Driver p place)
   of_drivers p place = rw (process-core_net net p) (λ l.
-      let n = slice_index (targets (flat.process net p)) place in
+      let n = slice_index (targets (flat.process_at net p)) place in
       subst (λ (xs : List c.Source). Contains xs (c.Driver p place)) (sym (sources-core_net net n (target_below net in_range p place l))) (driver_is_source net n p place l refl))
 
   of_starts : (p : ℕ) → length (c.process (core_net net) p).starts ≡ length (c.process (core_net net) p).drives
-  of_starts p = rw (process-core_net net p) (as_many (flat.process net p))
+  of_starts p = rw (process-core_net net p) (as_many (flat.process_at net p))
 
   nets_start : (n : ℕ) (source : c.Source) → Contains (c.sources_of (core_net net) n) source
       → slice_index net.start n ≡ core_resolve (map (source_value (map (λ (p : c.Process). p.starts) (map (core_process net.inputs) net.processes))) (c.sources_of (core_net net) n))

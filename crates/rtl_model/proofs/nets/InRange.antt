@@ -80,21 +80,21 @@ reset_fits inputs types p k x e r h = part (clocked_is inputs p.body k e)
         subst (λ (z : ResetPart). Fits (scope_of types p) z.branch) same (subst (λ (s : Stmts). Fits (scope_of types p) s) y.is h).0.1
 
 module _ (net : FlatNet) (in_range : IsInRange net) where
-  pub process_in_range : (p : ℕ) → p < length net.processes → ProcessInRange net.types (flat.process net p)
-  process_in_range p l = in_range.processes p flat.no_process l
+  pub process_in_range : (p : ℕ) → p < length net.processes → ProcessInRange net.types (flat.process_at net p)
+  process_in_range p l = in_range.processes p flat.no_flat_process l
 
   -- a place is that of a process that is there
-  pub has_process : (p place : ℕ) → place < length (targets (flat.process net p)) → p < length net.processes
+  pub has_process : (p place : ℕ) → place < length (targets (flat.process_at net p)) → p < length net.processes
   has_process p place h = go (cases_lt p (length net.processes))
     where
-      none : (q : FlatProcess) → q ≡ flat.no_process → place < length (targets q) → ⊥
+      none : (q : FlatProcess) → q ≡ flat.no_flat_process → place < length (targets q) → ⊥
       none q e l =
           let k : length (targets q) ≡ 0 = ap (λ (x : FlatProcess). length (targets x)) e in
           absurd (omega arith)
 
       go : (p < length net.processes) ⊎ (length net.processes ≤ p) → p < length net.processes
       go (inl l) = l
-      go (inr l) = absurd (none (flat.process net p) (get_or_past net.processes p flat.no_process l) h)
+      go (inr l) = absurd (none (flat.process_at net p) (get_or_past net.processes p flat.no_flat_process l) h)
 
   -- a valuation of the core keeps the types
   keeps_types : (v : List ℕ) → IsValuation (core_net net) v → KeepsTypes net.types v
@@ -105,11 +105,11 @@ module _ (net : FlatNet) (in_range : IsInRange net) where
       subst (λ (x : ℕ). slice_index v n < x) (limit-at net.types n t h) b
 
   -- an entry of a part that fits, of a process that is there
-  entry_below : (p place x : ℕ) (part : Stmts) (before now : List ℕ) → p < length net.processes → Fits (scope_of net.types (flat.process net p)) part → KeepsTypes net.types now
-      → place < length (targets (flat.process net p)) → get_or (part_effect (flat.process net p) part before now) place None ≡ Some x
-      → x < slice_index (map limit_of net.types) (slice_index (targets (flat.process net p)) place)
+  entry_below : (p place x : ℕ) (part : Stmts) (before now : List ℕ) → p < length net.processes → Fits (scope_of net.types (flat.process_at net p)) part → KeepsTypes net.types now
+      → place < length (targets (flat.process_at net p)) → get_or (part_effect (flat.process_at net p) part before now) place None ≡ Some x
+      → x < slice_index (map limit_of net.types) (slice_index (targets (flat.process_at net p)) place)
   entry_below p place x part before now there fits keeps l h =
-      let q : FlatProcess = flat.process net p in
+      let q : FlatProcess = flat.process_at net p in
       let l' : place < length q.drivers = omega (arith, length-map q.drivers (λ (d : FlatDriver). d.net)) in
       let sees : SeesTypes (scope_of net.types q) (seen_from q before now) = record { nets = keeps; variables = starts_keep q.variables (process_in_range p there).variables } in
       let g = (entries_keep_types (scope_of net.types q) part (seen_from q before now) fits sees).entries place x (sym (at_row part (length q.drivers) place (seen_from q before now) l') ∙ h) in
@@ -130,7 +130,7 @@ module _ (net : FlatNet) (in_range : IsInRange net) where
       → get_or ((c.process (core_net net) p).effect before now) place None ≡ Some x → x < limit (core_net net) (c.target (core_net net) p place)
   of_effect p place x before now is =
       rw (process-core_net net p)
-      (λ l h. let there = has_process p place l in entry_below p place x (flat.process net p).body before now there (process_in_range p there).body (keeps_types now is) l h)
+      (λ l h. let there = has_process p place l in entry_below p place x (flat.process_at net p).body before now there (process_in_range p there).body (keeps_types now is) l h)
 
   of_branch : (p place x : ℕ) (now : List ℕ) → IsValuation (core_net net) now → c.HasPlace (core_net net) p place
       → get_or ((c.process (core_net net) p).acting_effect now) place None ≡ Some x → x < limit (core_net net) (c.target (core_net net) p place)
@@ -138,25 +138,25 @@ module _ (net : FlatNet) (in_range : IsInRange net) where
       rw (process-core_net net p)
       (λ l h.
       let there = has_process p place l in
-      entry_below p place x (acting_branch (clocking net.inputs (flat.process net p).body)) now now there (branch_fits net.inputs net.types (flat.process net p) (process_in_range p there).body) (keeps_types now is) l h)
+      entry_below p place x (acting_branch (clocking net.inputs (flat.process_at net p).body)) now now there (branch_fits net.inputs net.types (flat.process_at net p) (process_in_range p there).body) (keeps_types now is) l h)
 
   -- a reset's branch reads nothing, so its entries are those in the starting valuation
   of_reset : (p place x : ℕ) → c.HasPlace (core_net net) p place → c.reset_entry (c.reset_of (core_net net) p) place ≡ Some x → x < limit (core_net net) (c.target (core_net net) p place)
-  of_reset p place x = rw (process-core_net net p) (λ l h. go l (clocking net.inputs (flat.process net p).body) _ refl h)
+  of_reset p place x = rw (process-core_net net p) (λ l h. go l (clocking net.inputs (flat.process_at net p).body) _ refl h)
     where
-      go : place < length (targets (flat.process net p)) → (o : Option Clocking) (ns : List ℕ) → clocking net.inputs (flat.process net p).body ≡ o
-          → c.reset_entry (c.kind_reset (core_kind (flat.process net p) o ns)) place ≡ Some x
-          → x < slice_index (map limit_of net.types) (slice_index (targets (flat.process net p)) place)
+      go : place < length (targets (flat.process_at net p)) → (o : Option Clocking) (ns : List ℕ) → clocking net.inputs (flat.process_at net p).body ≡ o
+          → c.reset_entry (c.kind_reset (core_kind (flat.process_at net p) o ns)) place ≡ Some x
+          → x < slice_index (map limit_of net.types) (slice_index (targets (flat.process_at net p)) place)
       go l None [] e h = absurd cc
       go l None (n ∷ ns) e h = absurd cc
       go l (Some k) ns e h = of_part k.reset refl h
         where
-          of_part : (o : Option ResetPart) → k.reset ≡ o → c.reset_entry (core_reset (flat.process net p) o) place ≡ Some x
-              → x < slice_index (map limit_of net.types) (slice_index (targets (flat.process net p)) place)
+          of_part : (o : Option ResetPart) → k.reset ≡ o → c.reset_entry (core_reset (flat.process_at net p) o) place ≡ Some x
+              → x < slice_index (map limit_of net.types) (slice_index (targets (flat.process_at net p)) place)
           of_part None r g = absurd cc
           of_part (Some y) r g =
               let there = has_process p place l in
-              let q = flat.process net p in
+              let q = flat.process_at net p in
               let fits = reset_fits net.inputs net.types q k y e r (process_in_range p there).body in
               entry_below p place x y.branch [] net.start there fits (keeps_types net.start start_is_valuation) l (ap (λ (row : List (Option ℕ)). get_or row place None) (reset_anywhere net.inputs q k y e r [] net.start) ∙ g)
 
@@ -170,7 +170,7 @@ module _ (net : FlatNet) (in_range : IsInRange net) where
 
 pub in_range_is_safe : InRangeIsSafe
 in_range_is_safe net in_range p l =
-    let q = flat.process net p in
+    let q = flat.process_at net p in
     let there = process_in_range net in_range p l in
     let r = each_read_is_there (scope_of net.types q) q.body there.body in
     record { wakes = there.wakes; reads_there = r.nets; elements = λ e t. let b = r.elements e t in let s = same_length q.variables in omega arith }

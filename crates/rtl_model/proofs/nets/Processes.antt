@@ -28,8 +28,8 @@ use Rattle.rtl_model.proofs.bodies.Clocking.{clocked_is, each_kind_is_as_said, f
 
 -- ---- a process of the net
 
-pub process-core_net : (net : FlatNet) (p : ℕ) → c.process (core_net net) p ≡ core_process net.inputs (flat.process net p)
-process-core_net net p = get_or-map (core_process net.inputs) net.processes p flat.no_process
+pub process-core_net : (net : FlatNet) (p : ℕ) → c.process (core_net net) p ≡ core_process net.inputs (flat.process_at net p)
+process-core_net net p = get_or-map (core_process net.inputs) net.processes p flat.no_flat_process
 
 -- ---- rows of entries
 
@@ -244,15 +244,15 @@ has_bodies net = record {
     of_assigned : (p place : ℕ) (before now : List ℕ) → c.HasPlace (core_net net) p place
         → ((other : ℕ) → c.HasPlace (core_net net) p other → c.target (core_net net) p other ≡ c.target (core_net net) p place → other ≡ place)
         → IsTrue ((c.process (core_net net) p).assigns (c.target (core_net net) p place)) → IsSome (get_or ((c.process (core_net net) p).effect before now) place None)
-    of_assigned p place before now = rw (process-core_net net p) (assigned net.inputs (flat.process net p) place before now)
+    of_assigned p place before now = rw (process-core_net net p) (assigned net.inputs (flat.process_at net p) place before now)
 
     of_effect : (p : ℕ) (before now before' now' : List ℕ) → (c.process (core_net net) p).kind ≡ c.Combinational → AgreeOn (c.process (core_net net) p).reads now now'
         → (c.process (core_net net) p).effect before now ≡ (c.process (core_net net) p).effect before' now'
-    of_effect p before now before' now' = rw (process-core_net net p) (effect_reads net.inputs (flat.process net p) before now before' now')
+    of_effect p before now before' now' = rw (process-core_net net p) (effect_reads net.inputs (flat.process_at net p) before now before' now')
 
     of_branch : (p : ℕ) (v w : List ℕ) → AgreeOn (c.process (core_net net) p).acting_reads v w
         → (c.process (core_net net) p).acting_effect v ≡ (c.process (core_net net) p).acting_effect w
-    of_branch p v w = rw (process-core_net net p) (branch_reads net.inputs (flat.process net p) v w)
+    of_branch p v w = rw (process-core_net net p) (branch_reads net.inputs (flat.process_at net p) v w)
 
     of_clocked : (p clock place : ℕ) (edge : c.Edge) (reset : Option c.Reset) (before now : List ℕ) → (c.process (core_net net) p).kind ≡ c.Clocked clock edge reset
         → get_or ((c.process (core_net net) p).effect before now) place None
@@ -265,7 +265,7 @@ has_bodies net = record {
         of_kind : (p clock place : ℕ) (edge : c.Edge) (reset : Option c.Reset) (before now : List ℕ) → (c.process (core_net net) p).kind ≡ c.Clocked clock edge reset
             → get_or ((c.process (core_net net) p).effect before now) place None
             ≡ clocked_entry (c.resets reset (slice_index now)) (core_edges edge (slice_index before clock) (slice_index now clock)) (c.reset_entry reset place) (get_or ((c.process (core_net net) p).acting_effect now) place None)
-        of_kind p clock place edge reset before now = rw (process-core_net net p) (clocked_acts net.inputs (flat.process net p) clock place edge reset before now)
+        of_kind p clock place edge reset before now = rw (process-core_net net p) (clocked_acts net.inputs (flat.process_at net p) clock place edge reset before now)
 
     of_reset : (p : ℕ) (reset : c.Reset) → c.HasReset (core_net net) p reset → c.IsInput (core_net net) reset.net
-    of_reset p reset = rw (process-core_net net p) (reset_is_input net.inputs (flat.process net p) reset)
+    of_reset p reset = rw (process-core_net net p) (reset_is_input net.inputs (flat.process_at net p) reset)

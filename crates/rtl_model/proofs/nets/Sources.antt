@@ -7,7 +7,7 @@ use Rattle.std.proofs.lemmas.List.FromFn.{length-map-range_with_len, get_or-map-
 use Rattle.std.proofs.lemmas.List.Elements.{Contains-append_left, Contains-append_right}
 use Rattle.std.proofs.lemmas.Bool.{cases_lt, eqb-true, eq-eqb}
 use Rattle.rtl_model.specs.nets.FlatNet as flat
-use Rattle.rtl_model.specs.nets.FlatNet.{FlatNet, FlatProcess, targets, drivers_of, all_drivers_of, sources_of}
+use Rattle.rtl_model.specs.nets.FlatNet.{FlatNet, FlatProcess, targets, drivers_of, all_drivers_of, flat_sources}
 use Rattle.rtl_model.specs.nets.CoreNet.{core_net}
 use Rattle.rtl_model.specs.simulation.Net as c
 use Rattle.rtl_model.specs.simulation.Net.{Source, Driver, Idle}
@@ -15,8 +15,8 @@ use Rattle.rtl_model.proofs.basics.Lists.{Contains-none, Contains-first}
 
 -- ---- the sources in the core
 
-pub sources-core_net : (net : FlatNet) (n : ℕ) → n < length net.types → c.sources_of (core_net net) n ≡ sources_of net n
-sources-core_net net n l = get_or-map-range_with_len (sources_of net) 0 (length net.types) n n [] l (omega arith)
+pub sources-core_net : (net : FlatNet) (n : ℕ) → n < length net.types → c.sources_of (core_net net) n ≡ flat_sources net n
+sources-core_net net n l = get_or-map-range_with_len (flat_sources net) 0 (length net.types) n n [] l (omega arith)
 
 -- a net with a source in the core is there
 pub source_there : (net : FlatNet) (n : ℕ) (source : Source) → Contains (c.sources_of (core_net net) n) source → n < length net.types
@@ -25,7 +25,7 @@ source_there net n source h = go (cases_lt n (length net.types))
     go : (n < length net.types) ⊎ (length net.types ≤ n) → n < length net.types
     go (inl l) = l
     go (inr l) =
-        let none : c.sources_of (core_net net) n ≡ [] = get_or_past (map (sources_of net) (range_with_len 0 (length net.types))) n [] (omega (arith, length-map-range_with_len (sources_of net) 0 (length net.types))) in
+        let none : c.sources_of (core_net net) n ≡ [] = get_or_past (map (flat_sources net) (range_with_len 0 (length net.types))) n [] (omega (arith, length-map-range_with_len (flat_sources net) 0 (length net.types))) in
         absurd (Contains-none source (subst (λ (xs : List Source). Contains xs source) none h))
 
 -- ---- either of two lists
@@ -73,8 +73,8 @@ is_among n p place (net ∷ nets) (suc k) l e = go (net == n) (subst (λ (x : �
 record IsOf (ps : List FlatProcess) (n p : ℕ) (source : Source) : Type 0 where
   offset : ℕ
   place : ℕ
-  there : place < length (targets (slice_index_or ps offset flat.no_process))
-  net_is : slice_index (targets (slice_index_or ps offset flat.no_process)) place ≡ n
+  there : place < length (targets (slice_index_or ps offset flat.no_flat_process))
+  net_is : slice_index (targets (slice_index_or ps offset flat.no_flat_process)) place ≡ n
   source_is : source ≡ Driver (p + offset) place
 
 all_are : (n p : ℕ) (ps : List FlatProcess) (source : Source) → Contains (all_drivers_of n p ps) source → IsOf ps n p source
@@ -95,7 +95,7 @@ all_are n p (q ∷ qs) source h = go (Contains-either (drivers_of n p 0 (targets
         let r = more h in
         record { offset = suc r.offset; place = r.place; there = r.there; net_is = r.net_is; source_is = r.source_is ∙ ap (λ (x : ℕ). Driver x r.place) (omega arith) }
 
-all_among : (n p : ℕ) (ps : List FlatProcess) (i place : ℕ) → place < length (targets (slice_index_or ps i flat.no_process)) → slice_index (targets (slice_index_or ps i flat.no_process)) place ≡ n
+all_among : (n p : ℕ) (ps : List FlatProcess) (i place : ℕ) → place < length (targets (slice_index_or ps i flat.no_flat_process)) → slice_index (targets (slice_index_or ps i flat.no_flat_process)) place ≡ n
     → Contains (all_drivers_of n p ps) (Driver (p + i) place)
 all_among n p [] i place l e = absurd (omega arith)
 all_among n p (q ∷ qs) zero place l e =
@@ -122,25 +122,25 @@ module _ (net : FlatNet) (n : ℕ) where
   abbrev idle : List ℕ
   idle = slice_index_or net.idle n []
 
-  pub source_is_driver : (p place : ℕ) → Contains (sources_of net n) (Driver p place) → (place < length (targets (flat.process net p))) × (slice_index (targets (flat.process net p)) place ≡ n)
+  pub source_is_driver : (p place : ℕ) → Contains (flat_sources net n) (Driver p place) → (place < length (targets (flat.process_at net p))) × (slice_index (targets (flat.process_at net p)) place ≡ n)
   source_is_driver p place h = go (Contains-either drivers (map Idle idle) (Driver p place) h)
     where
-      go : Contains drivers (Driver p place) ⊎ Contains (map Idle idle) (Driver p place) → (place < length (targets (flat.process net p))) × (slice_index (targets (flat.process net p)) place ≡ n)
+      go : Contains drivers (Driver p place) ⊎ Contains (map Idle idle) (Driver p place) → (place < length (targets (flat.process_at net p))) × (slice_index (targets (flat.process_at net p)) place ≡ n)
       go (inl d) =
           let r = all_are n 0 net.processes (Driver p place) d in
           let a : r.offset ≡ p = (let e = r.source_is in let f : 0 + r.offset ≡ p = cc in omega arith) in
           let b : r.place ≡ place = (let e = r.source_is in cc) in
-          let l = subst (λ (x : ℕ). x < length (targets (slice_index_or net.processes r.offset flat.no_process))) b r.there in
-          let m = subst (λ (x : ℕ). slice_index (targets (slice_index_or net.processes r.offset flat.no_process)) x ≡ n) b r.net_is in
-          (subst (λ (x : ℕ). place < length (targets (flat.process net x))) a l, subst (λ (x : ℕ). slice_index (targets (flat.process net x)) place ≡ n) a m)
+          let l = subst (λ (x : ℕ). x < length (targets (slice_index_or net.processes r.offset flat.no_flat_process))) b r.there in
+          let m = subst (λ (x : ℕ). slice_index (targets (slice_index_or net.processes r.offset flat.no_flat_process)) x ≡ n) b r.net_is in
+          (subst (λ (x : ℕ). place < length (targets (flat.process_at net x))) a l, subst (λ (x : ℕ). slice_index (targets (flat.process_at net x)) place ≡ n) a m)
       go (inr i) = let (v, c, e) = idle_values idle (Driver p place) i in absurd cc
 
-  pub driver_is_source : (p place : ℕ) → place < length (targets (flat.process net p)) → slice_index (targets (flat.process net p)) place ≡ n → Contains (sources_of net n) (Driver p place)
+  pub driver_is_source : (p place : ℕ) → place < length (targets (flat.process_at net p)) → slice_index (targets (flat.process_at net p)) place ≡ n → Contains (flat_sources net n) (Driver p place)
   driver_is_source p place l e =
       Contains-append_left drivers (map Idle idle) (Driver p place)
       (subst (λ (x : ℕ). Contains drivers (Driver x place)) (omega arith) (all_among n 0 net.processes p place l e))
 
-  pub source_is_idle : (v : ℕ) → Contains (sources_of net n) (Idle v) → Contains idle v
+  pub source_is_idle : (v : ℕ) → Contains (flat_sources net n) (Idle v) → Contains idle v
   source_is_idle v h = go (Contains-either drivers (map Idle idle) (Idle v) h)
     where
       go : Contains drivers (Idle v) ⊎ Contains (map Idle idle) (Idle v) → Contains idle v

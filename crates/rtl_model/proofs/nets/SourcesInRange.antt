@@ -6,7 +6,7 @@ use Rattle.vhdl_values.specs.Resolution.{resolved}
 use Rattle.vhdl_values.proofs.Codes.{code_of_below}
 use Rattle.rtl_model.specs.bodies.Types.{nine_valued, limit_of}
 use Rattle.rtl_model.specs.nets.FlatNet as flat
-use Rattle.rtl_model.specs.nets.FlatNet.{FlatNet, FlatDriver, targets, starts, IsInRange, sources_of}
+use Rattle.rtl_model.specs.nets.FlatNet.{FlatNet, FlatDriver, targets, starts, IsInRange, flat_sources}
 use Rattle.rtl_model.specs.nets.Wiring.{IsConnected}
 use Rattle.rtl_model.specs.nets.CoreNet.{core_net, core_resolve}
 use Rattle.rtl_model.specs.nets.Laws.{EachSourceKeepsRange}
@@ -25,9 +25,9 @@ some_source (x ∷ xs) l = (x, Contains-first x xs)
 
 module _ (net : FlatNet) (in_range : IsInRange net) (connected : IsConnected net) where
   -- at a place of a process, its driver's start and net
-  driver_starts : (p place : ℕ) → place < length (targets (flat.process net p)) → slice_index (starts (flat.process net p)) place < limit (core_net net) (slice_index (targets (flat.process net p)) place)
+  driver_starts : (p place : ℕ) → place < length (targets (flat.process_at net p)) → slice_index (starts (flat.process_at net p)) place < limit (core_net net) (slice_index (targets (flat.process_at net p)) place)
   driver_starts p place l =
-      let ds = (flat.process net p).drivers in
+      let ds = (flat.process_at net p).drivers in
       let l' : place < length ds = omega (arith, length-map ds (λ (d : FlatDriver). d.net)) in
       let (t, typed, below) = (process_in_range net in_range p (has_process net in_range p place l)).drivers place no_driver l' in
       rw (get_or-map_within (λ (d : FlatDriver). d.start) ds place no_driver 0 l', get_or-map_within (λ (d : FlatDriver). d.net) ds place no_driver 0 l', limit-at net.types (get_or ds place no_driver).net t typed) below
@@ -46,7 +46,7 @@ module _ (net : FlatNet) (in_range : IsInRange net) (connected : IsConnected net
   resolved_below n (v ∷ w ∷ more) e some below =
       let (source, among) = some_source (c.sources_of (core_net net) n) (omega arith) in
       let there = source_there net n source among in
-      let two : 2 ≤ length (sources_of net n) = omega (arith, ap length (sources-core_net net n there)) in
+      let two : 2 ≤ length (flat_sources net n) = omega (arith, ap length (sources-core_net net n there)) in
       rw (limit-at net.types n nine_valued (connected.shared_are_resolved n two)) (code_of_below (resolved (map value_of_code (v ∷ w ∷ more))))
 
   keep_range : SourcesKeepRange (core_net net)

@@ -110,7 +110,8 @@ pub record KindsOfResets : Type 0 where
   -- `'0' = rst`, or a side in parentheses
   pub turned_round : kind_of (if_elsif (level false 1 Zero) low rising_clk load) ≡ Clocked 0 v.Rising (reset_at 2 (Some 2 ∷ []))
   -- `null; q <= (others => '0');`, and nothing
-  pub with_null : kind_of (if_elsif (is_at 1 One) (step nothing (assigned (filled 1 (text (Zero ∷ []))))) rising_clk load) ≡ Clocked 0 v.Rising (reset_at 3 (Some 2 ∷ []))
+  pub with_null : kind_of (if_elsif (is_at 1 One) (step nothing (assigned (filled 1 (text (Zero ∷ []))))) rising_clk load)
+      ≡ Clocked 0 v.Rising (reset_at 3 (Some 2 ∷ []))
   pub of_nothing : kind_of (if_elsif (is_at 1 One) done rising_clk load) ≡ Clocked 0 v.Rising (reset_at 3 (None ∷ []))
   -- a net that is no input, a level of 'X', a declared constant, another test
   pub no_input : kind_of (if_elsif (is_at 2 One) low rising_clk load) ≡ Mixed
@@ -152,7 +153,8 @@ value e = elements_of seen e
 
 -- an operator of two truth values, at true and true, true and false, false and true, false and false
 abbrev pub truth_table : Logic → List Bool
-truth_table op = met (combined op (decided true) (decided true)) ∷ met (combined op (decided true) (decided false)) ∷ met (combined op (decided false) (decided true)) ∷ met (combined op (decided false) (decided false)) ∷ []
+truth_table op = met (combined op (decided true) (decided true)) ∷ met (combined op (decided true) (decided false)) ∷ met
+    (combined op (decided false) (decided true)) ∷ met (combined op (decided false) (decided false)) ∷ []
 
 pub record RunsOfBodies : Type 0 where
   -- `1X` as std_logic_vector equals itself, and as unsigned doesn't
@@ -173,7 +175,8 @@ pub record RunsOfBodies : Type 0 where
   pub less_number : met (compared_to Lt (text (Zero ∷ One ∷ [])) 2) ≡ true
   -- the logical operators on truth values
   pub truths : map truth_table (And ∷ Or ∷ Nand ∷ Nor ∷ Xor ∷ Xnor ∷ [])
-      ≡ (true ∷ false ∷ false ∷ false ∷ []) ∷ (true ∷ true ∷ true ∷ false ∷ []) ∷ (false ∷ true ∷ true ∷ true ∷ []) ∷ (false ∷ false ∷ false ∷ true ∷ []) ∷ (false ∷ true ∷ true ∷ false ∷ []) ∷ (true ∷ false ∷ false ∷ true ∷ []) ∷ []
+      ≡ (true ∷ false ∷ false ∷ false ∷ []) ∷ (true ∷ true ∷ true ∷ false ∷ []) ∷ (false ∷ true ∷ true ∷ true ∷ []) ∷
+      (false ∷ false ∷ false ∷ true ∷ []) ∷ (false ∷ true ∷ true ∷ false ∷ []) ∷ (true ∷ false ∷ false ∷ true ∷ []) ∷ []
   pub negation : met (negated (decided true)) ≡ false
   -- the leftmost element goes to the first place, and the left operand of `&` stands first
   pub in_order : runs (step (assign (5 ∷ 4 ∷ []) (elements (binary joined (one_signal 2) (one_signal 1)))) done) 5 ≡ Some 3
@@ -197,14 +200,19 @@ pub record RunsOfBodies : Type 0 where
   pub fills : value (filled 3 (one_signal 1)) ≡ X ∷ X ∷ X ∷ []
   pub fills_ones : value (filled 2 (text (One ∷ []))) ≡ One ∷ One ∷ []
   -- the first branch that holds is taken, later ones aren't, and the else only where none holds
-  pub first_branch : runs (step (if_of (branch (is_at 0 One) (assigned (text (Zero ∷ []))) (branch (is_at 2 One) (assigned (text (One ∷ []))) (branch (decided true) (assigned (text (X ∷ []))) no_else)))) done) 0 ≡ Some 3
+  pub first_branch : runs
+      (step (if_of (branch (is_at 0 One) (assigned (text (Zero ∷ []))) (branch (is_at 2 One) (assigned (text (One ∷ []))) (branch (decided true) (assigned (text (X ∷ []))) no_else)))) done) 0 ≡ Some 3
   pub the_else : runs (step (if_of (branch (is_at 0 One) (assigned (text (Zero ∷ []))) (otherwise (assigned (text (X ∷ [])))))) done) 0 ≡ Some 1
   pub no_branch : runs (if_only (is_at 0 One) (assigned (text (Zero ∷ [])))) 0 ≡ None
   -- a case matches the values as they are: 'H' isn't '1'
-  pub case_others : runs (step (case_of (elements (one_signal 0)) (alternative ((3 ∷ []) ∷ []) (assigned (text (One ∷ []))) (others (assigned (text (X ∷ [])))))) done) 0 ≡ Some 1
-  pub case_choice : runs (step (case_of (elements (pair 2 1)) (alternative ((2 ∷ 2 ∷ []) ∷ (3 ∷ 1 ∷ []) ∷ []) (assigned (text (One ∷ []))) (others (assigned (text (X ∷ [])))))) done) 0 ≡ Some 3
+  pub case_others : runs
+      (step (case_of (elements (one_signal 0)) (alternative ((3 ∷ []) ∷ []) (assigned (text (One ∷ []))) (others (assigned (text (X ∷ [])))))) done) 0
+      ≡ Some 1
+  pub case_choice : runs
+      (step (case_of (elements (pair 2 1)) (alternative ((2 ∷ 2 ∷ []) ∷ (3 ∷ 1 ∷ []) ∷ []) (assigned (text (One ∷ []))) (others (assigned (text (X ∷ [])))))) done) 0 ≡ Some 3
   -- a case that names every literal: the last alternative stands as others
-  pub case_literal : runs (step (case_of (position_of 3) (alternative ((0 ∷ []) ∷ []) (assigned (text (Zero ∷ []))) (alternative ((1 ∷ []) ∷ []) (assigned (text (X ∷ []))) (others (assigned (text (One ∷ []))))))) done) 0 ≡ Some 3
+  pub case_literal : runs
+      (step (case_of (position_of 3) (alternative ((0 ∷ []) ∷ []) (assigned (text (Zero ∷ []))) (alternative ((1 ∷ []) ∷ []) (assigned (text (X ∷ []))) (others (assigned (text (One ∷ []))))))) done) 0 ≡ Some 3
   pub literal : runs (step (assign (0 ∷ []) (position 2)) done) 0 ≡ Some 2
   pub copied : runs (step (assign (0 ∷ []) (position_of 3)) done) 0 ≡ Some 2
 
@@ -230,13 +238,17 @@ pub record AssignsOfBodies : Type 0 where
   pub with_else : assigns 6 (one_stmt (if_else (to_place 2) (to_place 2))) ≡ true
   pub with_null : assigns 6 (one_stmt (if_else (to_place 2) nothing)) ≡ false
   -- an else doesn't help where an elsif is left out
-  pub elsif_left_out : assigns 6 (one_stmt (if_of (branch (is_at 1 One) (one_stmt (to_place 2)) (branch (is_at 0 One) (one_stmt nothing) (otherwise (one_stmt (to_place 2))))))) ≡ false
+  pub elsif_left_out : assigns 6
+      (one_stmt (if_of (branch (is_at 1 One) (one_stmt (to_place 2)) (branch (is_at 0 One) (one_stmt nothing) (otherwise (one_stmt (to_place 2)))))))
+      ≡ false
   -- one net under two names, each assigned in one branch
   pub two_names : assigns 5 (one_stmt (if_else (to_place 0) (to_place 1))) ≡ true
   pub two_nets : assigns 6 (one_stmt (if_else (to_place 0) (to_place 2))) ≡ false
   -- each alternative of a case, and one that doesn't
-  pub each_alternative : assigns 6 (one_stmt (case_of (elements (one_signal 1)) (alternative ((3 ∷ []) ∷ []) (one_stmt (to_place 2)) (others (one_stmt (to_place 2)))))) ≡ true
-  pub no_alternative : assigns 6 (one_stmt (case_of (elements (one_signal 1)) (alternative ((3 ∷ []) ∷ []) (one_stmt (to_place 2)) (others (one_stmt nothing))))) ≡ false
+  pub each_alternative : assigns 6
+      (one_stmt (case_of (elements (one_signal 1)) (alternative ((3 ∷ []) ∷ []) (one_stmt (to_place 2)) (others (one_stmt (to_place 2)))))) ≡ true
+  pub no_alternative : assigns 6
+      (one_stmt (case_of (elements (one_signal 1)) (alternative ((3 ∷ []) ∷ []) (one_stmt (to_place 2)) (others (one_stmt nothing))))) ≡ false
 
 -- ---- variables: a is net 2, which has '1'; b net 1, which has 'X'; elements 0 and 1
 
@@ -253,15 +265,22 @@ pub record VariablesOfBodies : Type 0 where
   pub at_once : entry (7 ∷ []) (step (set_one 0 (one_signal 2)) (then_show 0)) ≡ Some 3
   pub too_late : entry (7 ∷ []) (step (assign (0 ∷ []) (elements (one_variable 0))) (step (set_one 0 (one_signal 2)) done)) ≡ Some 7
   -- `v := v xor a;` twice reads the old value each time
-  pub twice : entry (2 ∷ []) (step (set_one 0 (binary (logical Xor) (one_variable 0) (one_signal 2))) (step (set_one 0 (binary (logical Xor) (one_variable 0) (one_signal 2))) (then_show 0))) ≡ Some 2
+  pub twice : entry (2 ∷ [])
+      (step (set_one 0 (binary (logical Xor) (one_variable 0) (one_signal 2))) (step (set_one 0 (binary (logical Xor) (one_variable 0) (one_signal 2))) (then_show 0))) ≡ Some 2
   -- `w := a & b;`: the left element gets the left value
   pub in_order : entry (0 ∷ 0 ∷ []) (step (set (0 ∷ 1 ∷ []) (elements (binary joined (one_signal 2) (one_signal 1)))) (then_show 0)) ≡ Some 3
   pub in_order' : entry (0 ∷ 0 ∷ []) (step (set (0 ∷ 1 ∷ []) (elements (binary joined (one_signal 2) (one_signal 1)))) (then_show 1)) ≡ Some 1
   -- what the branch taken leaves, and what stays where none is
-  pub of_branch : entry (2 ∷ []) (step (if_of (branch (is_at 2 One) (step (set_one 0 (one_signal 1)) done) (otherwise (step (set_one 0 (one_signal 2)) done)))) (then_show 0)) ≡ Some 1
-  pub of_else : entry (2 ∷ []) (step (if_of (branch (is_at 2 Zero) (step (set_one 0 (one_signal 1)) done) (otherwise (step (set_one 0 (one_signal 2)) done)))) (then_show 0)) ≡ Some 3
+  pub of_branch : entry (2 ∷ [])
+      (step (if_of (branch (is_at 2 One) (step (set_one 0 (one_signal 1)) done) (otherwise (step (set_one 0 (one_signal 2)) done)))) (then_show 0))
+      ≡ Some 1
+  pub of_else : entry (2 ∷ [])
+      (step (if_of (branch (is_at 2 Zero) (step (set_one 0 (one_signal 1)) done) (otherwise (step (set_one 0 (one_signal 2)) done)))) (then_show 0))
+      ≡ Some 3
   pub of_none : entry (2 ∷ []) (step (if_of (branch (is_at 2 Zero) (step (set_one 0 (one_signal 1)) done) no_else)) (then_show 0)) ≡ Some 2
-  pub of_others : entry (2 ∷ []) (step (case_of (elements (one_signal 2)) (alternative ((2 ∷ []) ∷ []) done (others (step (set_one 0 (one_signal 1)) done)))) (then_show 0)) ≡ Some 1
+  pub of_others : entry (2 ∷ [])
+      (step (case_of (elements (one_signal 2)) (alternative ((2 ∷ []) ∷ []) done (others (step (set_one 0 (one_signal 1)) done)))) (then_show 0))
+      ≡ Some 1
   -- a test and a case look at variables too
   pub tested : entry (3 ∷ []) (if_only (condition (one_variable 0)) load) ≡ Some 3
   pub cased : entry (6 ∷ []) (step (case_of (position_in 0) (alternative ((6 ∷ []) ∷ []) load (others done))) done) ≡ Some 3
@@ -306,7 +325,8 @@ abbrev pub of_each_form : Stmts
 of_each_form =
     step (if_of (
     branch (condition (inverse (one_signal 1))) (assigned (filled 2 (one_signal 2))) (
-    branch (combined Or (equal (elements (one_signal 3)) (position_of 4)) (unequal (position 0) (elements (one_signal 5)))) (assigned (resized 3 (one_signal 6))) (
+    branch (combined Or (equal (elements (one_signal 3)) (position_of 4)) (unequal (position 0) (elements (one_signal 5))))
+    (assigned (resized 3 (one_signal 6))) (
     branch (combined And (event 7) (level true 8 One)) (assigned (shifted_left 1 (one_signal 9))) (
     branch (compared Lt (one_signal 10) (one_signal 11)) (assigned (shifted_right 1 (one_signal 12))) (
     branch (negated (compared_to Eq (one_signal 13) 7)) (step (set_one 0 (one_signal 14)) done) (

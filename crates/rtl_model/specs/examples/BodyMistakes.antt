@@ -41,7 +41,9 @@ latch = record {
   start = 0 ∷ 0 ∷ 0 ∷ [];
   inputs = 0 ∷ 1 ∷ [];
   idle = [] ∷ [] ∷ [] ∷ [];
-  processes = record { drivers = record { net = 2; start = 0 } ∷ []; wakes = 0 ∷ 1 ∷ []; variables = []; body = if_only (is_at 1 One) (assigned (one_signal 0)) } ∷ [];
+  processes = record
+      { drivers = record { net = 2; start = 0 } ∷ []; wakes = 0 ∷ 1 ∷ []; variables = []; body = if_only (is_at 1 One) (assigned (one_signal 0)) } ∷
+      [];
 }
 
 -- The run with s at '0' assigns nothing, and no valuation solves the net's equations: what is combinational and accepted

@@ -8,12 +8,13 @@ use Rattle.rtl_model.specs.bodies.Body.{logical, plus, binary, equal, position, 
 use Rattle.rtl_model.specs.bodies.Body.{case_of, if_of, branch, otherwise, others, alternative}
 use Rattle.rtl_model.specs.bodies.Effect.{effect}
 use Rattle.rtl_model.specs.bodies.Types.{nine_valued, enumeration}
-use Rattle.rtl_model.specs.nets.FlatNet.{FlatNet, sources_of}
+use Rattle.rtl_model.specs.nets.FlatNet.{FlatNet, flat_sources}
 use Rattle.rtl_model.specs.nets.CoreNet.{core_net}
 use Rattle.rtl_model.specs.nets.Laws.{IsSound}
 use Rattle.rtl_model.specs.simulation.Net.{Driver, Idle, Edge, Rising, Falling, To1, To0}
 use Rattle.rtl_model.specs.simulation.Moments.{Takes}
-use Rattle.rtl_model.specs.simulation.Accepted.{TwoDrivers, MixedProcess, EdgeNotSensitive, ClockAsData, MissingSensitivity, Latch, Loop, StoredVariable, IsFault, IsLoop}
+use Rattle.rtl_model.specs.simulation.Accepted.{TwoDrivers, MixedProcess, EdgeNotSensitive, ClockAsData, MissingSensitivity}
+use Rattle.rtl_model.specs.simulation.Accepted.{Latch, Loop, StoredVariable, IsFault, IsLoop}
 use Rattle.rtl_model.specs.simulation.Faults.{fault_key}
 use Rattle.rtl_model.specs.simulation.Levels.{bound}
 use Rattle.rtl_model.specs.simulation.Report.{clock_key, IsFrom, LeadsDown}
@@ -51,7 +52,8 @@ half_idle = record {
 -- `x <= z; y <= x; z <= y;`
 abbrev pub ring : FlatNet
 ring = circuit [] (0 ∷ 0 ∷ 0 ∷ []) (
-    drives_one 0 0 (2 ∷ []) (assigned (one_signal 2)) ∷ drives_one 1 0 (0 ∷ []) (assigned (one_signal 0)) ∷ drives_one 2 0 (1 ∷ []) (assigned (one_signal 1)) ∷ [])
+    drives_one 0 0 (2 ∷ []) (assigned (one_signal 2)) ∷ drives_one 1 0 (0 ∷ []) (assigned (one_signal 0)) ∷ drives_one 2 0 (1 ∷ [])
+    (assigned (one_signal 1)) ∷ [])
 
 -- process 0 is clocked by c, net 0, and reset by r, net 1; process 1 is clocked by r
 abbrev pub reset_as_clock : FlatNet
@@ -59,7 +61,7 @@ reset_as_clock = circuit (0 ∷ 1 ∷ 2 ∷ []) (0 ∷ 0 ∷ 0 ∷ 0 ∷ 0 ∷ [
     drives_one 3 0 (0 ∷ 1 ∷ []) (if_elsif (is_at 1 One) low rising_clk load) ∷ drives_one 4 0 (1 ∷ []) (if_only (rising 1) load) ∷ [])
 
 pub record FaultsOfNets : Type 0 where
-  pub in_order : sources_of shared 0 ≡ Driver 0 0 ∷ Driver 0 1 ∷ Driver 1 0 ∷ Idle 4 ∷ []
+  pub in_order : flat_sources shared 0 ≡ Driver 0 0 ∷ Driver 0 1 ∷ Driver 1 0 ∷ Idle 4 ∷ []
   pub first_two : IsFault (core_net shared) (TwoDrivers 0 (Driver 0 0) (Driver 0 1))
   pub idle_last : IsFault (core_net half_idle) (TwoDrivers 0 (Driver 0 0) (Idle 4))
   pub loop : IsFault (core_net ring) (Loop (0 ∷ 2 ∷ 1 ∷ []))
@@ -78,7 +80,8 @@ pub record OrderOfFaults : Type 0 where
 
 -- by net, then rising, falling, to '1', to '0'
 pub record OrderOfClocks : Type 0 where
-  pub edges : IsLess (clock_key (0, Rising)) (clock_key (0, Falling)) × IsLess (clock_key (0, Falling)) (clock_key (0, To1)) × IsLess (clock_key (0, To1)) (clock_key (0, To0))
+  pub edges : IsLess (clock_key (0, Rising)) (clock_key (0, Falling)) × IsLess (clock_key (0, Falling)) (clock_key (0, To1))
+      × IsLess (clock_key (0, To1)) (clock_key (0, To0))
   pub net_first : IsLess (clock_key (0, To0)) (clock_key (1, Rising))
 
 -- ---- reports

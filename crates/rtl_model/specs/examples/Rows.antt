@@ -23,7 +23,8 @@ pub record OscillatorSettles : Type 0 where
 
 -- z <= not a;  process (a, z) begin y <= a; end process;  the nets are a, y and z
 abbrev pub sibling : FlatNet
-sibling = circuit (0 ∷ []) (0 ∷ 0 ∷ 0 ∷ []) (drives_one 2 0 (0 ∷ []) (assigned (inverse (one_signal 0))) ∷ drives_one 1 0 (0 ∷ 2 ∷ []) (assigned (one_signal 0)) ∷ [])
+sibling = circuit (0 ∷ []) (0 ∷ 0 ∷ 0 ∷ [])
+    (drives_one 2 0 (0 ∷ []) (assigned (inverse (one_signal 0))) ∷ drives_one 1 0 (0 ∷ 2 ∷ []) (assigned (one_signal 0)) ∷ [])
 
 -- a is '0' and from moment 1 on '1'
 abbrev pub a_rises : ℕ → ℕ → ℕ
@@ -32,4 +33,5 @@ a_rises m n = if m == 0 then 2 else 3
 -- The change takes two delta cycles: the second process is resumed again by z, and assigns y the value that it has.
 pub record SiblingWakes : Type 0 where
   pub takes_two : Takes (core_net sibling) a_rises 1 2
-  pub second_has_no_event : (s mid t : State) → Begun (core_net sibling) a_rises 1 s → HasDeltas (core_net sibling) 1 s mid → HasDeltas (core_net sibling) 2 s t → t.now ≡ mid.now
+  pub second_has_no_event : (s mid t : State) → Begun (core_net sibling) a_rises 1 s → HasDeltas (core_net sibling) 1 s mid
+      → HasDeltas (core_net sibling) 2 s t → t.now ≡ mid.now

@@ -1,6 +1,7 @@
 -- Wrong definitions, each with a small net on which it differs from the right one. Where a law asks for an elaborated and
 -- accepted net, the net is one (`fit`).
-use Rattle.std.specs.Prelude.{◌≡◌, ℕ, suc, zero, ◌<◌, Bool, true, false, ◌==◌, List, [], ◌∷◌, slice_index, slice_index_or, slice_set, map, Some, None, Contains, if◌then◌else◌}
+use Rattle.std.specs.Prelude.{◌≡◌, ℕ, suc, zero, ◌<◌, Bool, true, false, ◌==◌, List}
+use Rattle.std.specs.Prelude.{[], ◌∷◌, slice_index, slice_index_or, slice_set, map, Some, None, Contains, if◌then◌else◌}
 use Rattle.std.specs.List.{list_any}
 use Rattle.std.specs.Option.{is_some}
 use Rattle.vhdl_values.specs.declared.scalar.Nine.TheVariants.{One}
@@ -9,7 +10,8 @@ use Rattle.rtl_model.specs.bodies.Body.{falling}
 use Rattle.rtl_model.specs.nets.FlatNet.{FlatNet}
 use Rattle.rtl_model.specs.nets.CoreNet.{core_net}
 use Rattle.rtl_model.specs.nets.Laws.{IsSound}
-use Rattle.rtl_model.specs.simulation.Net.{Net, Source, Driver, Idle, Edge, Rising, Falling, process, sources_of, target, reset_of, reset_entry, resets, HasPlace, IsCombinational}
+use Rattle.rtl_model.specs.simulation.Net.{Net, Source, Driver, Idle, Edge, Rising, Falling}
+use Rattle.rtl_model.specs.simulation.Net.{process, sources_of, target, reset_of, reset_entry, resets, HasPlace, IsCombinational}
 use Rattle.rtl_model.specs.simulation.Cycle.{State, IsToRun, driven_all, net_values, none_pending, over, ran, updated, started, is_quiet}
 use Rattle.rtl_model.specs.simulation.Moments.{Takes}
 use Rattle.rtl_model.specs.simulation.Levels.{AreLevels, ChainTo, bound}
@@ -46,7 +48,8 @@ at_edge = record {
 abbrev pub ran_seeing : Net → ℕ → State → State
 ran_seeing net p s =
     record s {
-      pending = slice_set s.pending p (over ((process net p).effect s.before (net_values net (driven_all s.pending s.drivers) s.now)) (slice_index_or s.pending p []));
+      pending = slice_set s.pending p
+          (over ((process net p).effect s.before (net_values net (driven_all s.pending s.drivers) s.now)) (slice_index_or s.pending p []));
       waiting = slice_set s.waiting p false;
     }
 

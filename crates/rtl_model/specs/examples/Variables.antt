@@ -58,11 +58,13 @@ pub record VariablesOfNets : Type 0 where
   pub of_unknown : SettlesAs (core_net par) (inputs_of (3 ∷ 2 ∷ 1 ∷ 3 ∷ [])) 0 (3 ∷ 2 ∷ 1 ∷ 3 ∷ 1 ∷ [])
   -- without `v := '0';`, and with an if in its place
   pub without_first : IsFault (core_net (of_process (logic_variable (0 ∷ []) ∷ []) turns)) (StoredVariable 0 0 0)
-  pub with_if : IsFault (core_net (of_process (logic_variable (0 ∷ []) ∷ []) (step (if_of (branch (is_at 3 Zero) zero_it no_else)) turns))) (StoredVariable 0 0 0)
+  pub with_if : IsFault (core_net (of_process (logic_variable (0 ∷ []) ∷ []) (step (if_of (branch (is_at 3 Zero) zero_it no_else)) turns)))
+      (StoredVariable 0 0 0)
   -- `w(0) := a(0); y <= w(1);`
   pub of_vector : IsFault (core_net (of_process (logic_variable (0 ∷ 0 ∷ []) ∷ []) (step (set_one 1 (one_signal 3)) (then_show 0)))) (StoredVariable 0 0 0)
   -- elements are numbered through the variables, from the left
-  pub numbers : (element_number three_variables 0 0 ≡ Some 0) × (element_number three_variables 1 0 ≡ Some 1) × (element_number three_variables 1 1 ≡ Some 2) × (element_number three_variables 2 0 ≡ Some 3)
+  pub numbers : (element_number three_variables 0 0 ≡ Some 0) × (element_number three_variables 1 0 ≡ Some 1)
+      × (element_number three_variables 1 1 ≡ Some 2) × (element_number three_variables 2 0 ≡ Some 3)
   pub of_second : IsFault (core_net (of_process three_variables (step (set_one 1 (one_signal 3)) (then_show 2)))) (StoredVariable 0 1 1)
   pub not_of_first : IsFault (core_net (of_process three_variables (step (set_one 1 (one_signal 3)) (then_show 2)))) (StoredVariable 0 1 0) → ⊥
   -- each run begins with the initial values

@@ -12,7 +12,7 @@ use Rattle.rtl_model.specs.bodies.Assigns.{of_drivers, must_assign}
 use Rattle.rtl_model.specs.bodies.Stored.{stores_element}
 use Rattle.rtl_model.specs.bodies.Kinds.{ResetPart, Clocking, clocking}
 use Rattle.rtl_model.specs.bodies.Types.{limit_of}
-use Rattle.rtl_model.specs.nets.FlatNet.{FlatNet, FlatProcess, FlatVariable, targets, starts, element_starts, sources_of}
+use Rattle.rtl_model.specs.nets.FlatNet.{FlatNet, FlatProcess, FlatVariable, targets, starts, element_starts, flat_sources}
 use Rattle.rtl_model.specs.simulation.Net.{Net, Process, Kind, Combinational, Clocked, Mixed, Reset, Edge}
 
 -- ---- processes
@@ -90,7 +90,7 @@ core_net net = record {
   inputs = net.inputs;
   start = net.start;
   limits = map limit_of net.types;
-  sources = map (sources_of net) (range_with_len 0 (length net.types));
+  sources = map (flat_sources net) (range_with_len 0 (length net.types));
   processes = map (core_process net.inputs) net.processes;
   resolve = core_resolve;
   edge = core_edges;

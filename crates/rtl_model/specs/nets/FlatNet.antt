@@ -38,11 +38,11 @@ pub record FlatNet : Type 0 where
   pub processes : List FlatProcess
 
 -- what stands at a number that no process has
-abbrev pub no_process : FlatProcess
-no_process = record { drivers = []; wakes = []; variables = []; body = done }
+abbrev pub no_flat_process : FlatProcess
+no_flat_process = record { drivers = []; wakes = []; variables = []; body = done }
 
-abbrev pub process : FlatNet → ℕ → FlatProcess
-process net p = slice_index_or net.processes p no_process
+abbrev pub process_at : FlatNet → ℕ → FlatProcess
+process_at net p = slice_index_or net.processes p no_flat_process
 
 -- ---- drivers and variables of a process
 
@@ -79,8 +79,8 @@ all_drivers_of n p [] = []
 all_drivers_of n p (q ∷ qs) = drivers_of n p 0 (targets q) ++ all_drivers_of n (suc p) qs
 
 -- The sources of net n: its drivers, by process and place, and after them its idle out ports.
-abbrev pub sources_of : FlatNet → (n : ℕ) → List Source
-sources_of net n = all_drivers_of n 0 net.processes ++ map Idle (slice_index_or net.idle n [])
+abbrev pub flat_sources : FlatNet → (n : ℕ) → List Source
+flat_sources net n = all_drivers_of n 0 net.processes ++ map Idle (slice_index_or net.idle n [])
 
 -- ---- in range
 

@@ -4,7 +4,7 @@ use Rattle.std.specs.Prelude.{◌≡◌, ◌≢◌, ◌↔◌, ℕ, ◌<◌, ◌
 use Rattle.rtl_model.specs.bodies.Effect.{effect_of}
 use Rattle.rtl_model.specs.bodies.Reads.{reads, events}
 use Rattle.rtl_model.specs.bodies.Stored.{stores_element}
-use Rattle.rtl_model.specs.nets.FlatNet.{FlatNet, FlatProcess, IsInRange, process, element_starts}
+use Rattle.rtl_model.specs.nets.FlatNet.{FlatNet, FlatProcess, IsInRange, process_at, element_starts}
 use Rattle.rtl_model.specs.nets.CoreNet.{core_net, core_process}
 use Rattle.rtl_model.specs.nets.Wiring.{IsConnected}
 use Rattle.rtl_model.specs.bodies.Kinds.{Clocking, clocking}
@@ -55,7 +55,7 @@ pub record IsThere (net : FlatNet) (p : FlatProcess) : Type 0 where
   pub elements : (e : ℕ) → IsTrue (stores_element e p.body) → e < length (element_starts p.variables)
 
 abbrev pub InRangeIsSafe : Type 0
-InRangeIsSafe = (net : FlatNet) → IsInRange net → (p : ℕ) → p < length net.processes → IsThere net (process net p)
+InRangeIsSafe = (net : FlatNet) → IsInRange net → (p : ℕ) → p < length net.processes → IsThere net (process_at net p)
 
 abbrev pub EachKeepsRange : Type 0
 EachKeepsRange = (net : FlatNet) → IsInRange net → KeepsRange (core_net net)

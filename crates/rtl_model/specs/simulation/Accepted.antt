@@ -1,6 +1,7 @@
 -- When a net is accepted: the nine faults.
 use Rattle.std.specs.Prelude.{◌≡◌, ℕ, ◌⊎◌, false, List, [], ◌∷◌, Contains, IsTrue}
-use Rattle.rtl_model.specs.simulation.Net.{Net, Source, Reset, Mixed, Edge, process, sources_of, target, HasPlace, HasReset, IsInput, IsCombinational, IsClockedBy}
+use Rattle.rtl_model.specs.simulation.Net.{Net, Source, Reset, Mixed, Edge, process}
+use Rattle.rtl_model.specs.simulation.Net.{sources_of, target, HasPlace, HasReset, IsInput, IsCombinational, IsClockedBy}
 
 -- n is the clock of process p
 abbrev pub IsClockOf : Net → (p n : ℕ) → Type 0

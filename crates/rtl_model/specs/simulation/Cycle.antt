@@ -1,7 +1,8 @@
 -- The steps of a simulation cycle (IEEE 1076-2008, 14.7.5.2 and 14.7.5.3): Update gives active drivers and the nets their
 -- new values and resumes processes, Inputs does so for new values of the top's in ports, and Run executes one resumed
 -- process.
-use Rattle.std.specs.Prelude.{ℕ, Bool, true, false, not, List, [], ◌∷◌, length, slice_index, slice_index_or, slice_set, map, Option, Some, None, IsTrue, ◌==◌, if◌then◌else◌}
+use Rattle.std.specs.Prelude.{ℕ, Bool, true, false, not, List, [], ◌∷◌, length}
+use Rattle.std.specs.Prelude.{slice_index, slice_index_or, slice_set, map, Option, Some, None, IsTrue, ◌==◌, if◌then◌else◌}
 use Rattle.std.specs.List.{list_any}
 use Rattle.std.specs.Option.{is_some}
 use Rattle.rtl_model.specs.basics.Valuations.{has_event}

@@ -1,7 +1,8 @@
 -- What holds of every net that was elaborated: of its wiring, of the nine values' resolution and edges, and of its bodies.
 use Rattle.std.specs.Prelude.{◌≡◌, ℕ, ◌<◌, false, List, [], ◌∷◌, length, slice_index, slice_index_or, map, None, IsSome, IsTrue, Contains}
 use Rattle.rtl_model.specs.basics.Valuations.{AgreeOn, clocked_entry}
-use Rattle.rtl_model.specs.simulation.Net.{Net, Source, Driver, Reset, Edge, process, sources_of, target, HasPlace, HasReset, IsInput, IsCombinational, IsClockedBy, reset_of, reset_entry, resets}
+use Rattle.rtl_model.specs.simulation.Net.{Net, Source, Driver, Reset, Edge, process, sources_of, target}
+use Rattle.rtl_model.specs.simulation.Net.{HasPlace, HasReset, IsInput, IsCombinational, IsClockedBy, reset_of, reset_entry, resets}
 use Rattle.rtl_model.specs.simulation.Cycle.{source_value, starting_drivers}
 
 -- drivers, sources and starting values fit together (14.7.2, 14.7.3.2)
@@ -14,7 +15,8 @@ pub record IsWired (net : Net) : Type 0 where
   pub drivers_are_sources : (p place : ℕ) → HasPlace net p place → Contains (sources_of net (target net p place)) (Driver p place)
   pub each_driver_starts : (p : ℕ) → length (process net p).starts ≡ length (process net p).drives
   -- a net with sources starts with their resolution (14.7.5.2)
-  pub nets_start : (n : ℕ) (source : Source) → Contains (sources_of net n) source → slice_index net.start n ≡ net.resolve (map (source_value (starting_drivers net)) (sources_of net n))
+  pub nets_start : (n : ℕ) (source : Source) → Contains (sources_of net n) source → slice_index net.start n
+      ≡ net.resolve (map (source_value (starting_drivers net)) (sources_of net n))
 
 -- resolution leaves one value as it is (14.7.3.2), and an edge is an event
 pub record HasValues (net : Net) : Type 0 where
@@ -31,13 +33,16 @@ pub record HasBodies (net : Net) : Type 0 where
   pub assigned : (p place : ℕ) (before now : List ℕ) → IsCombinational net p → HasPlace net p place → IsOnlyPlace net p place
       → IsTrue ((process net p).assigns (target net p place)) → IsSome (slice_index_or ((process net p).effect before now) place None)
   -- and looks at what it reads and at nothing else;
-  pub effect_reads : (p : ℕ) (before now before' now' : List ℕ) → IsCombinational net p → AgreeOn (process net p).reads now now' → (process net p).effect before now ≡ (process net p).effect before' now'
+  pub effect_reads : (p : ℕ) (before now before' now' : List ℕ) → IsCombinational net p → AgreeOn (process net p).reads now now'
+      → (process net p).effect before now ≡ (process net p).effect before' now'
   -- the branch under an edge likewise;
   pub branch_reads : (p clock : ℕ) (edge : Edge) (v w : List ℕ) → IsClockedBy net p clock edge → AgreeOn (process net p).acting_reads v w
       → (process net p).acting_effect v ≡ (process net p).acting_effect w
   -- and a clocked body acts by its reset where that holds, else by its branch at its edge, and else not at all
   pub clocked_acts : (p clock place : ℕ) (edge : Edge) (before now : List ℕ) → IsClockedBy net p clock edge
-      → slice_index_or ((process net p).effect before now) place None ≡ clocked_entry (resets (reset_of net p) (slice_index now)) (net.edge edge (slice_index before clock) (slice_index now clock)) (reset_entry (reset_of net p) place) (slice_index_or ((process net p).acting_effect now) place None)
+      → slice_index_or ((process net p).effect before now) place None
+      ≡ clocked_entry (resets (reset_of net p) (slice_index now)) (net.edge edge (slice_index before clock) (slice_index now clock))
+      (reset_entry (reset_of net p) place) (slice_index_or ((process net p).acting_effect now) place None)
   -- a body with a test of another net in a reset's place is mixed
   pub reset_is_input : (p : ℕ) (reset : Reset) → HasReset net p reset → IsInput net reset.net
 

@@ -1,5 +1,6 @@
 -- The laws of simulation, over the definitions beside this file.
-use Rattle.std.specs.Prelude.{◌≡◌, ◌↔◌, ◌⊎◌, ℕ, suc, pred, ◌<◌, ◌≤◌, Bool, false, List, [], ◌∷◌, ◌++◌, length, map, Option, Some, None, slice_index, slice_index_or, Contains, IsTrue}
+use Rattle.std.specs.Prelude.{◌≡◌, ◌↔◌, ◌⊎◌, ℕ, suc, pred, ◌<◌, ◌≤◌, Bool, false, List}
+use Rattle.std.specs.Prelude.{[], ◌∷◌, ◌++◌, length, map, Option, Some, None, slice_index, slice_index_or, Contains, IsTrue}
 use Rattle.rtl_model.specs.simulation.Net.{Net, Source, Driver, Edge, Reset, process, sources_of, HasReset, IsInput, IsCombinational}
 use Rattle.rtl_model.specs.simulation.Cycle.{State, started, updated, given, ran, is_quiet, source_value, changed}
 use Rattle.rtl_model.specs.simulation.Moments.{HasNoneToRun, HasRun, HasDeltas, Delta, Begun, SettlesIn, SettlesTo, IsUnsettled, HasSettled, IsMost, at_moments}
@@ -79,7 +80,8 @@ pub record OneRunShows (net : Net) (s : State) : Type 0 where
   pub one_more : (k : ℕ) (order : List ℕ) (t u : State) → HasDeltas net k s t → Delta net order t u → HasDeltas net (suc k) s u
   pub still_busy : (k : ℕ) (t : State) → IsBusyBefore net s k → HasDeltas net k s t → is_quiet t ≡ false → IsBusyBefore net s (suc k)
   pub settles_by : (k : ℕ) (t : State) → HasNoneToRun s → IsBusyBefore net s k → HasDeltas net k s t → IsTrue (is_quiet t) → SettlesIn net s k
-  pub unsettled_by : (limit : ℕ) (t : State) → HasNoneToRun s → IsBusyBefore net s limit → HasDeltas net limit s t → is_quiet t ≡ false → IsUnsettled net s limit t
+  pub unsettled_by : (limit : ℕ) (t : State) → HasNoneToRun s → IsBusyBefore net s limit → HasDeltas net limit s t → is_quiet t ≡ false
+      → IsUnsettled net s limit t
 
 abbrev pub EachRunShows : Type 0
 EachRunShows = (net : Net) (s : State) → OneRunShows net s
@@ -153,7 +155,8 @@ pub record StepsKeepRange (net : Net) : Type 0 where
 abbrev pub StatesInRange : Type 0
 StatesInRange =
     (net : Net) → IsWired net → KeepsRange net → SourcesKeepRange net
-    → StepsKeepRange net × ((stimulus : ℕ → ℕ → ℕ) → ((m : ℕ) → AreInputs net (stimulus m)) → (m k : ℕ) (t : State) → HasSettled net stimulus m k t → StateInRange net t)
+    → StepsKeepRange net
+    × ((stimulus : ℕ → ℕ → ℕ) → ((m : ℕ) → AreInputs net (stimulus m)) → (m k : ℕ) (t : State) → HasSettled net stimulus m k t → StateInRange net t)
 
 -- without a loop each combinational process has a level
 abbrev pub LevelsExist : Type 0
@@ -168,7 +171,8 @@ LevelsAreShown =
 
 -- What is a report is shown by local facts, and what they show is a report.
 abbrev pub ReportsAreShown : Type 0
-ReportsAreShown = (net : Net) (levels from : List (Option ℕ)) (clocks : List (ℕ × Edge)) (most : ℕ) → IsReport net levels from clocks most ↔ ShowReport net levels from clocks most
+ReportsAreShown = (net : Net) (levels from : List (Option ℕ)) (clocks : List (ℕ × Edge)) (most : ℕ) → IsReport net levels from clocks most
+    ↔ ShowReport net levels from clocks most
 
 -- In a report each level is reached by following `from` down to level 1.
 abbrev pub ReportsLeadDown : Type 0
@@ -182,7 +186,8 @@ ReportsLeadDown =
 abbrev pub OneReport : Type 0
 OneReport =
     (net : Net) → IsAccepted net → (levels levels' from from' : List (Option ℕ)) (clocks clocks' : List (ℕ × Edge)) (most most' : ℕ)
-    → IsReport net levels from clocks most → IsReport net levels' from' clocks' most' → (levels ≡ levels') × (from ≡ from') × (clocks ≡ clocks') × (most ≡ most')
+    → IsReport net levels from clocks most → IsReport net levels' from' clocks' most' → (levels ≡ levels') × (from ≡ from') × (clocks ≡ clocks')
+    × (most ≡ most')
 
 -- for given inputs and registers one valuation solves, and no other
 abbrev pub OneSolution : Type 0
@@ -228,7 +233,8 @@ SettlesInBound =
 -- So there is one greatest number of delta cycles of the moments up to a last one, and it is within the bound.
 abbrev pub OneGreatestCount : Type 0
 OneGreatestCount =
-    (net : Net) (levels : List (Option ℕ)) (greatest : ℕ) → IsElaborated net → IsAccepted net → AreLevels net levels greatest → (stimulus : ℕ → ℕ → ℕ) (last : ℕ)
+    (net : Net) (levels : List (Option ℕ)) (greatest : ℕ) → IsElaborated net → IsAccepted net → AreLevels net levels greatest
+    → (stimulus : ℕ → ℕ → ℕ) (last : ℕ)
     → (most : ℕ) × IsMost net stimulus last most × (most ≤ bound net greatest) × ((other : ℕ) → IsMost net stimulus last other → other ≡ most)
 
 -- Where no moment up to m has a race, what has settled at m is the valuation of the machine's run.

@@ -2,7 +2,8 @@
 use Rattle.std.specs.Prelude.{◌≡◌, ◌≢◌, ℕ, suc, zero, ◌+◌, ◌<◌, ◌≤◌, Bool, true, false, ◌&&◌, List, length, slice_index_or, Option, Some, None, if◌then◌else◌}
 use Rattle.std.specs.List.{list_any}
 use Rattle.std.specs.Option.{is_some}
-use Rattle.rtl_model.specs.simulation.Net.{Net, Source, Driver, Idle, Kind, Combinational, Clocked, Mixed, Edge, kind_reset, sources_of, IsCombinational, IsClockedBy}
+use Rattle.rtl_model.specs.simulation.Net.{Net, Source, Driver, Idle, Kind, Combinational}
+use Rattle.rtl_model.specs.simulation.Net.{Clocked, Mixed, Edge, kind_reset, sources_of, IsCombinational, IsClockedBy}
 use Rattle.rtl_model.specs.simulation.Accepted.{Feeds}
 
 -- a chain of this many combinational processes, each but the first fed by the one before, ends with q

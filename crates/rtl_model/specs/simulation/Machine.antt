@@ -12,11 +12,13 @@ IsDriven net n = (p : ℕ) × (place : ℕ) × HasPlace net p place × (target n
 pub record Solves (net : Net) (inputs registers : ℕ → ℕ) (v : List ℕ) : Type 0 where
   pub each_net : length v ≡ length net.start
   pub on_inputs : (n : ℕ) → IsInput net n → slice_index v n ≡ inputs n
-  pub on_registers : (p place clock : ℕ) (edge : Edge) → IsClockedBy net p clock edge → HasPlace net p place → slice_index v (target net p place) ≡ registers (target net p place)
+  pub on_registers : (p place clock : ℕ) (edge : Edge) → IsClockedBy net p clock edge → HasPlace net p place → slice_index v (target net p place)
+      ≡ registers (target net p place)
   -- a net that no process drives and that is no input has its starting value
   pub on_others : (n : ℕ) → n < length net.start → (IsInput net n → ⊥) → (IsDriven net n → ⊥) → slice_index v n ≡ slice_index net.start n
   -- what a combinational process drives has the value that the process's effect in v itself gives
-  pub on_combinational : (p place : ℕ) → IsCombinational net p → HasPlace net p place → slice_index_or ((process net p).effect v v) place None ≡ Some (slice_index v (target net p place))
+  pub on_combinational : (p place : ℕ) → IsCombinational net p → HasPlace net p place → slice_index_or ((process net p).effect v v) place None
+      ≡ Some (slice_index v (target net p place))
 
 abbrev pub entry_or : Option ℕ → (old : ℕ) → ℕ
 entry_or None old = old
@@ -24,7 +26,8 @@ entry_or (Some v) old = v
 
 -- What a register starts with: its starting value, or its reset's entry where the reset holds and there is one.
 abbrev pub register_first : Net → (p place : ℕ) → (inputs : ℕ → ℕ) → ℕ
-register_first net p place inputs = entry_or (clocked_entry (resets (reset_of net p) inputs) false (reset_entry (reset_of net p) place) None) (slice_index net.start (target net p place))
+register_first net p place inputs = entry_or (clocked_entry (resets (reset_of net p) inputs) false (reset_entry (reset_of net p) place) None)
+    (slice_index net.start (target net p place))
 
 -- What a register has next: its reset's entry where the reset holds in the new inputs, else its branch's entry in v where
 -- its edge holds from v's clock to the new one; without an entry v's value.
@@ -35,13 +38,15 @@ register_next net p place clock edge v inputs =
 -- the first valuation, for the first inputs
 pub record IsFirst (net : Net) (inputs : ℕ → ℕ) (v : List ℕ) : Type 0 where
   pub registers : ℕ → ℕ
-  pub next : (p place clock : ℕ) (edge : Edge) → IsClockedBy net p clock edge → HasPlace net p place → registers (target net p place) ≡ register_first net p place inputs
+  pub next : (p place clock : ℕ) (edge : Edge) → IsClockedBy net p clock edge → HasPlace net p place → registers (target net p place)
+      ≡ register_first net p place inputs
   pub solves : Solves net inputs registers v
 
 -- one step, from the valuation v with new inputs to w
 pub record IsStep (net : Net) (v : List ℕ) (inputs : ℕ → ℕ) (w : List ℕ) : Type 0 where
   pub registers : ℕ → ℕ
-  pub next : (p place clock : ℕ) (edge : Edge) → IsClockedBy net p clock edge → HasPlace net p place → registers (target net p place) ≡ register_next net p place clock edge v inputs
+  pub next : (p place clock : ℕ) (edge : Edge) → IsClockedBy net p clock edge → HasPlace net p place → registers (target net p place)
+      ≡ register_next net p place clock edge v inputs
   pub solves : Solves net inputs registers w
 
 -- the machine's run: v m is its valuation at the moment m

@@ -52,7 +52,8 @@ pub record IsUnsettled (net : Net) (s : State) (limit : ℕ) (t : State) : Type 
 abbrev pub Begun : Net → (stimulus : ℕ → ℕ → ℕ) → (m : ℕ) → State → Type 0
 Begun net stimulus zero s = HasRun net (started net (stimulus 0)) s
 Begun net stimulus (suc m) s =
-    (earlier : State) × (k : ℕ) × (quiet : State) × Begun net stimulus m earlier × SettlesTo net earlier k quiet × HasRun net (given net (stimulus (suc m)) quiet) s
+    (earlier : State) × (k : ℕ) × (quiet : State) × Begun net stimulus m earlier × SettlesTo net earlier k quiet
+    × HasRun net (given net (stimulus (suc m)) quiet) s
 
 -- the moment m settles, by some orders, after k delta cycles in t
 abbrev pub HasSettled : Net → (stimulus : ℕ → ℕ → ℕ) → (m k : ℕ) → State → Type 0

@@ -34,7 +34,8 @@ pub record StateInRange (net : Net) (s : State) : Type 0 where
   pub now : IsValuation net s.now
   pub each_driver : (p : ℕ) → length (slice_index_or s.drivers p []) ≡ length (process net p).drives
   pub drivers : (p place : ℕ) → HasPlace net p place → slice_index (slice_index_or s.drivers p []) place < limit net (target net p place)
-  pub transactions : (p place x : ℕ) → HasPlace net p place → slice_index_or (slice_index_or s.pending p []) place None ≡ Some x → x < limit net (target net p place)
+  pub transactions : (p place x : ℕ) → HasPlace net p place → slice_index_or (slice_index_or s.pending p []) place None ≡ Some x
+      → x < limit net (target net p place)
 
 -- inputs with values of the in ports' types
 abbrev pub AreInputs : Net → (inputs : ℕ → ℕ) → Type 0
@@ -42,4 +43,5 @@ AreInputs net inputs = (n : ℕ) → IsInput net n → inputs n < limit net n
 
 -- registers with values of their nets' types
 abbrev pub AreRegisters : Net → (registers : ℕ → ℕ) → Type 0
-AreRegisters net registers = (p place clock : ℕ) (edge : Edge) → IsClockedBy net p clock edge → HasPlace net p place → registers (target net p place) < limit net (target net p place)
+AreRegisters net registers = (p place clock : ℕ) (edge : Edge) → IsClockedBy net p clock edge → HasPlace net p place
+    → registers (target net p place) < limit net (target net p place)

@@ -2,7 +2,7 @@
 use Rattle.std.specs.Prelude.{◌≡◌, [], ◌∷◌, Some, None, codes}
 use Rattle.vhdl_values.specs.declared.scalar.Nine.TheVariants.{Zero, One}
 use Rattle.vhdl_values.specs.declared.kinds.Logic.TheVariants.{And}
-use Rattle.vhdl_values.specs.declared.kinds.Cmp.TheVariants.{Gt}
+use Rattle.vhdl_values.specs.declared.kinds.Cmp.TheVariants.{Lt}
 use Rattle.vhdl_values.specs.declared.kinds.Edge.TheVariants.{Rising}
 use Rattle.vhdl_tree.specs.declared.operator.Operator.TheVariants as o
 use Rattle.vhdl_tree.specs.Tree as t
@@ -56,10 +56,10 @@ pub record OperatorsHaveTypes : Type 0 where
       ≡ Some (s.single (u.elements (u.Vector.binary (op.Arithmetic by.Add) literal_01 (u.Vector.literal (One ∷ [])))))
   pub vector_sum : given sight (Elements LogicVector) (t.single sum) ≡ None
   pub unseen_sum : typed (sight_of logic_alone region) sum ≡ None
-  -- v = n, v < v, and 3 < n, which is n > 3
+  -- v = n, v < v, and 3 < n
   pub unlike_kinds : typed sight (binary o.Equal named_v named_n) ≡ None
   pub ordered_vectors : typed sight (binary o.Less named_v named_v) ≡ None
-  pub ordered_numbers : typed sight (binary o.Less (number (codes "3")) named_n) ≡ Some (truth (u.compared_to Gt n (u.number 3)))
+  pub ordered_numbers : typed sight (binary o.Less (number (codes "3")) named_n) ≡ Some (truth (u.compared_with Lt (u.number 3) n))
   -- q = red
   pub enumerations : typed sight (binary o.Equal (name (codes "q")) (name (codes "red")))
       ≡ Some (truth (u.alike (u.state_of (u.Signal.signal 0)) (u.position 0)))
@@ -89,12 +89,12 @@ pub record EdgesAskForSignals : Type 0 where
   pub enclosed_name : typed sight (with_one (codes "rising_edge") (enclosed named_a)) ≡ None
   pub of_constant : typed sight (with_one (codes "rising_edge") (name (codes "one"))) ≡ None
   pub in_loop : typed sight_in_loop (with_one (codes "rising_edge") (with_one (codes "v") named_a)) ≡ None
-  -- a'event and a = '1' keeps the character literal, and with ('1') or (a) in its place it doesn't
+  -- a = '1' keeps the character literal for an edge test; with ('1') or (a) in it, it doesn't
   pub level : typed sight (binary o.Equal named_a (character 49)) ≡ Some (truth (u.alike (u.elements a) (u.elements (u.character One))))
   pub enclosed_level : typed sight (binary o.Equal named_a (enclosed (character 49)))
-      ≡ Some (truth (u.alike (u.elements a) (u.elements (u.Vector.literal (One ∷ [])))))
+      ≡ Some (truth (u.alike (u.elements a) (u.elements (u.enclosed_character One))))
   pub enclosed_signal : typed sight (binary o.Equal (enclosed named_a) (character 49))
-      ≡ Some (truth (u.alike (u.elements a) (u.elements (u.Vector.literal (One ∷ [])))))
+      ≡ Some (truth (u.alike (u.elements a) (u.elements (u.enclosed_character One))))
   pub event_of_vector : typed sight (event (codes "v")) ≡ None
 
 pub record LiteralsHaveValues : Type 0 where

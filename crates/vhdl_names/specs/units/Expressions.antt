@@ -59,9 +59,12 @@ pub data Vector : Type 0 where
   of_signal : Place → Vector
   of_variable : ℕ → Part → Vector
   of_constant : ℕ → Part → Vector
-  -- a character literal without parentheses round it, which an edge test asks for
+  -- A character literal with no parentheses round it, nor round the operand on its left: an edge test is `event p` with
+  -- `alike (elements (of_signal p)) (elements (character v))`, v being '0' or '1'.
   character : Nine → Vector
-  -- any other literal
+  -- any other character literal
+  enclosed_character : Nine → Vector
+  -- a string or bit string
   literal : List Nine → Vector
   inverse : Vector → Vector
   binary : VectorOperator → Vector → Vector → Vector
@@ -92,9 +95,10 @@ pub data Test : Type 0 where
   -- equality of the values, and its negation
   alike : Value → Value → Test
   unlike : Value → Value → Test
-  -- of two numbers, and of a number and a static integer
+  -- of two numbers; of a number and a static integer, and of a static integer and a number
   compared : Cmp → Vector → Vector → Test
   compared_to : Cmp → Vector → Static → Test
+  compared_with : Cmp → Static → Vector → Test
   -- rising_edge and falling_edge
   edge : Edge → Place → Test
   event : Place → Test

@@ -39,6 +39,7 @@ abbrev mutual
   test_view (t.Unlike at x y) = u.unlike (value_view x) (value_view y)
   test_view (t.Compared op at x y) = u.Test.compared op (vector_view x) (vector_view y)
   test_view (t.ComparedTo op at x s) = u.compared_to op (vector_view x) (static_view s)
+  test_view (t.ComparedWith op at s x) = u.compared_with op (static_view s) (vector_view x)
   test_view (t.Edge e p) = u.edge e (place_view p)
   test_view (t.Event p) = u.event (place_view p)
   test_view (t.Not' b x) = u.Test.negated (test_view x)

@@ -33,6 +33,7 @@ abbrev mutual
   vector_view (v.Variable at k x) = u.of_variable k (part_view x)
   vector_view (v.Constant at k x) = u.of_constant k (part_view x)
   vector_view (v.Character at x) = u.Vector.character x
+  vector_view (v.EnclosedCharacter at x) = u.Vector.enclosed_character x
   vector_view (v.Literal at xs) = u.Vector.literal xs.items
   vector_view (v.Not' at b x) = u.Vector.inverse (vector_view x)
   vector_view (v.Chain' b first shape rest) = links_view (vector_view first) rest

@@ -1,50 +1,16 @@
--- How the parser reads context clauses, entities, architectures and files.
+-- How the parser reads entities, architectures and files.
 use Rattle.std.specs.Prelude.{ℕ, List, [], Bool, true, false, Option, Some}
 use Rattle.vhdl_lexer.specs.declared.token.Kind.{Kind}
 use Rattle.vhdl_lexer.specs.declared.token.Kind.TheVariants as k
-use Rattle.vhdl_tree.specs.Tree.{Entity, Architecture, Selected, ContextItem, library, uses, LibraryUnit, entity, architecture, DesignUnit, File}
+use Rattle.vhdl_tree.specs.Tree.{Entity, Architecture, LibraryUnit, entity, architecture, DesignUnit, File}
 use Rattle.vhdl_tree.specs.Levels.{most_open}
 use Rattle.vhdl_expressions.specs.reader.Input.{Parser, ◌>>=◌, ◌>>◌, ◌<$>◌, pure, refuse, is_kind, is_more, choose, test, expect, eat, identifier, optional, many, separated}
 use Rattle.vhdl_parser.specs.reader.Concurrent.{concurrents}
-use Rattle.vhdl_statements.specs.reader.Subtypes.{idents}
-use Rattle.vhdl_parser.specs.reader.Declarations.{optional_generics, optional_ports, declarations}
+use Rattle.vhdl_declarations.specs.reader.Context.{context}
+use Rattle.vhdl_declarations.specs.reader.Declarations.{optional_generics, optional_ports, declarations}
 
 abbrev pub max_open : ℕ
 max_open = most_open
-
-unfoldable pub selected : Parser Selected
-selected = do
-  place ← identifier
-  expect k.Dot
-  name ← identifier
-  expect k.Dot
-  expect k.All
-  pure (record { library = place; name = name })
-
-abbrev pub selecteds : Parser (List Selected)
-selecteds = separated k.Comma selected
-
-unfoldable pub library_clause : Parser ContextItem
-library_clause = do
-  expect k.Library
-  names ← idents
-  expect k.Semicolon
-  pure (library names)
-
-unfoldable pub use_clause : Parser ContextItem
-use_clause = do
-  expect k.Use
-  all ← selecteds
-  expect k.Semicolon
-  pure (uses all)
-
-unfoldable pub context_item : Parser ContextItem
-context_item = test (is_kind k.Library) library_clause use_clause
-
-abbrev pub begins_context : Option Kind → Bool
-begins_context (Some k.Library) = true
-begins_context (Some k.Use) = true
-begins_context _ = false
 
 unfoldable pub entity_unit : Parser Entity
 entity_unit = do
@@ -82,9 +48,6 @@ library_unit_by _ = refuse
 
 unfoldable pub library_unit : Parser LibraryUnit
 library_unit = choose library_unit_by
-
-unfoldable pub context : Parser (List ContextItem)
-context = many begins_context context_item []
 
 unfoldable pub unit : Parser DesignUnit
 unit = do

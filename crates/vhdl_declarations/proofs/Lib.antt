@@ -1,0 +1,5 @@
+pub mod Ports
+pub mod Declared
+pub mod Contexts
+pub mod WalkInstance
+pub mod GiveInstance
