@@ -2,14 +2,14 @@
 use Rattle.std.proofs.Common.{◌≡◌, ℕ, zero, suc, ◌+◌, ◌-◌, ◌*◌, ◌/◌, ◌%◌, ◌^◌, ◌<◌, ◌≤◌, Bool, true, false, List, [], ◌∷◌, ◌++◌, length, map, get_or, take, replicate, refl, sym, ap, ◌∙◌, arith, length-append}
 use Rattle.std.specs.Prelude.{◌&&◌, ◌==◌, bit_and}
 use Rattle.std.specs.List.{All}
-use Rattle.std.specs.Int.{bit_at, w64, from_be_bytes, to_be_bytes}
+use Rattle.std.specs.Int.{bit_at, w64, from_be_bytes, from_le_bytes, to_le_bytes}
 use Rattle.std.proofs.lemmas.List.{length-map, length-replicate, length-take, take_more}
 use Rattle.std.proofs.lemmas.Bool.Decides.{Decides-eqb}
 use Rattle.std.proofs.Math.Nat.{pow-le-pow_right}
-use Rattle.std.proofs.lemmas.Nat.{pow-add, and_block, shl-shr, shl_whole, be_bytes_8, mul-le, pow_below}
+use Rattle.std.proofs.lemmas.Nat.{pow-add, and_block, shl-shr, shl_whole, le_bytes_8, mul-le, pow_below}
 use Rattle.std.proofs.lemmas.Nat.Bits.{and_pow, bit_at-lt, bit_at-zero}
 use Rattle.vhdl_values.specs.Planes.{bit, bit-test, marks, code_has}
-use Rattle.vhdl_values.specs.Packed.{packed}
+use Rattle.vhdl_values.specs.Packed.{packed, packed_low}
 use Rattle.vhdl_values.proofs.Marks.{marks-map}
 
 -- ---- tables over eight marks
@@ -46,18 +46,18 @@ gathered-bits bs long = (Decides-eqb _ (marks (λ b. b) bs)).0 (every-eight gath
 
 -- the bits of a byte, spread over eight
 abbrev pub spread_of : ℕ → ℕ
-spread_of n = bit_and (bit_and n 127 * 4432676798593) 72340172838076673 + n / 2 ^ 7 * 2 ^ 56 % 2 ^ 64
+spread_of n = bit_and (n * 72198606942111748) 72340172838076672 + n / 2 ^ 7
 
 spreads : List Bool → Bool
-spreads bs = spread_of (marks (λ b. b) bs) == packed (map bit bs)
+spreads bs = spread_of (marks (λ b. b) bs) == packed_low (map bit bs)
 
 all-spread : every 8 spreads ≡ true
-unfolding every spreads packed marks
+unfolding every spreads packed_low marks
 all-spread = refl
 
-pub spread-bits : (bs : List Bool) → length bs ≡ 8 → spread_of (marks (λ b. b) bs) ≡ packed (map bit bs)
+pub spread-bits : (bs : List Bool) → length bs ≡ 8 → spread_of (marks (λ b. b) bs) ≡ packed_low (map bit bs)
 unfolding spreads
-spread-bits bs long = (Decides-eqb _ (packed (map bit bs))).0 (every-eight spreads bs all-spread long)
+spread-bits bs long = (Decides-eqb _ (packed_low (map bit bs))).0 (every-eight spreads bs all-spread long)
 
 -- ---- bytes of a word
 
@@ -178,17 +178,12 @@ gathered j cs word lt le all e =
 
 -- ---- eight codes from planes
 
-sums : (a b c d p k l m n : ℕ) → a * p + k + 2 * (b * p + l) + 4 * (c * p + m + 2 * (d * p + n)) ≡ (a + 2 * b + 4 * (c + 2 * d)) * p + (k + 2 * l + 4 * (m + 2 * n))
-sums a b c d p k l m n = grind arith
-
 pub packed-sum : {A : Type 0} (f g h i : A → ℕ) (xs : List A) →
-    packed (map f xs) + 2 * packed (map g xs) + 4 * (packed (map h xs) + 2 * packed (map i xs)) ≡ packed (map (λ x. f x + 2 * g x + 4 * (h x + 2 * i x)) xs)
-unfolding packed
+    packed_low (map f xs) + 2 * packed_low (map g xs) + 4 * (packed_low (map h xs) + 2 * packed_low (map i xs))
+    ≡ packed_low (map (λ x. f x + 2 * g x + 4 * (h x + 2 * i x)) xs)
+unfolding packed_low
 packed-sum f g h i [] = refl
-packed-sum f g h i (x ∷ xs) =
-    let rest = packed-sum f g h i xs in
-    rw (length-map xs f, length-map xs g, length-map xs h, length-map xs i, length-map xs (λ y. f y + 2 * g y + 4 * (h y + 2 * i y)), ← rest)
-    (sums (f x) (g x) (h x) (i x) (2 ^ (8 * length xs)) (packed (map f xs)) (packed (map g xs)) (packed (map h xs)) (packed (map i xs)))
+packed-sum f g h i (x ∷ xs) = omega (arith, packed-sum f g h i xs)
 
 -- ---- words and their bytes
 
@@ -217,9 +212,15 @@ each_below [] all i = omega arith
 each_below (c ∷ cs) all zero = all 0 0 (omega arith)
 each_below (c ∷ cs) all (suc i) = each_below cs (λ k d lt. all (suc k) d (omega arith)) i
 
-pub to_be_bytes-packed : (cs : List ℕ) (word : ℕ) → length cs ≡ 8 → All (λ c. c < 256) cs → word ≡ packed cs → to_be_bytes w64 word ≡ cs
-to_be_bytes-packed cs word long all e =
-    be_bytes_8 cs word long (each_below cs all) (e ∙ sym (ap (from_be_bytes w64) (eight cs long) ∙ from_be_bytes-packed cs long))
+from-low-bytes : (a b c d e f g h : ℕ) → from_le_bytes w64 (a ∷ b ∷ c ∷ d ∷ e ∷ f ∷ g ∷ h ∷ []) ≡ packed_low (a ∷ b ∷ c ∷ d ∷ e ∷ f ∷ g ∷ h ∷ [])
+unfolding packed_low
+from-low-bytes a b c d e f g h = omega arith
+
+from_le_bytes-packed : (cs : List ℕ) → length cs ≡ 8 → from_le_bytes w64 cs ≡ packed_low cs
+from_le_bytes-packed cs long = ap (from_le_bytes w64) (eight cs long) ∙ from-low-bytes _ _ _ _ _ _ _ _ ∙ ap packed_low (sym (eight cs long))
+
+pub to_le_bytes-packed : (cs : List ℕ) (word : ℕ) → length cs ≡ 8 → All (λ c. c < 256) cs → word ≡ packed_low cs → to_le_bytes w64 word ≡ cs
+to_le_bytes-packed cs word long all e = le_bytes_8 cs word long (each_below cs all) (e ∙ sym (from_le_bytes-packed cs long))
 
 eight-at-most : (n : ℕ) → n < 8 → 8 * n ≤ 56
 eight-at-most n lt = omega arith

@@ -2,7 +2,7 @@
 
 ghost use Rattle.std.specs.Prelude.{ℕ, ◌≡◌, ◌<◌, ◌≤◌, ◌^◌, Bool, List, length, map};
 ghost use Rattle.std.specs.List.{All};
-ghost use Rattle.vhdl_values.specs.Packed.{packed};
+ghost use Rattle.vhdl_values.specs.Packed.{packed, packed_low};
 ghost use Rattle.vhdl_values.specs.Planes.{bit, code_has, marks};
 
 use crate::words::beside;
@@ -13,8 +13,11 @@ const LOWEST: u64 = 0x0101_0101_0101_0101;
 /// Times this, bit 0 of each byte comes into the highest byte, that of the highest byte first.
 const GATHER: u64 = 0x0102_0408_1020_4080;
 
-/// Times this, bit i of the lowest byte comes to bit 0 of byte i, for the lowest seven.
-const SPREAD: u64 = 0x0000_0408_1020_4081;
+/// Times this, bit 7 - i of a byte comes to bit 0 of byte i, for i from 1 to 7.
+const SPREAD: u64 = 0x0100_8040_2010_0804;
+
+/// Bit 0 of each byte but the lowest.
+const ABOVE: u64 = 0x0101_0101_0101_0100;
 
 /// Up to eight codes as the bytes of a word, the last one lowest.
 pub(crate) fn packed(codes: &[u8]) -> u64
@@ -42,12 +45,11 @@ pub(crate) fn gathered(word: u64, plane: usize) -> u64
     bits.wrapping_mul(GATHER) >> 56
 }
 
-/// The bits of a plane as the lowest bits of eight bytes.
+/// The bits of a plane as the lowest bits of eight bytes, the leftmost bit in the lowest byte.
 pub(crate) fn spread(plane: u8) -> u64
     ensures room { result < 2 ^ 58 }
-    ensures bits { (marked : List Bool) → length marked ≡ 8 → plane ≡ marks (λ mark. mark) marked → result ≡ packed (map bit marked) }
+    ensures bits { (marked : List Bool) → length marked ≡ 8 → plane ≡ marks (λ mark. mark) marked → result ≡ packed_low (map bit marked) }
 {
-    let low = u64::from(plane & 0x7F) * SPREAD;
-    let high = u64::from(plane >> 7) << 56;
-    (low & LOWEST) + high
+    let above = u64::from(plane) * SPREAD;
+    (above & ABOVE) + u64::from(plane >> 7)
 }

@@ -63,6 +63,6 @@ impl Vec9 {
         let right = self.len() - at - len;
         let low = spread(byte(self.first, right, len)) + 2 * spread(byte(self.second, right, len));
         let high = spread(byte(self.third, right, len)) + 2 * spread(byte(self.fourth, right, len));
-        (low + 4 * high).to_be_bytes()
+        (low + 4 * high).to_le_bytes()
     }
 }

@@ -17,4 +17,4 @@ returns c =
     (part (has_bit 1) _ _ c.args.at c.args.len _ _ h.second c.requires.within right c.byte-2.ensures)
     (part (has_bit 2) _ _ c.args.at c.args.len _ _ h.third c.requires.within right c.byte-3.ensures)
     (part (has_bit 3) _ _ c.args.at c.args.len _ _ h.fourth c.requires.within right c.byte-4.ensures)
-    c.spread.ensures.bits c.spread-2.ensures.bits c.spread-3.ensures.bits c.spread-4.ensures.bits refl c.to_be_bytes.ensures
+    c.spread.ensures.bits c.spread-2.ensures.bits c.spread-3.ensures.bits c.spread-4.ensures.bits refl c.to_le_bytes.ensures
