@@ -1,5 +1,5 @@
 -- Choices of case statements and selected assignments (IEEE 1076-2008, 10.9 and 11.6).
-use Rattle.std.specs.Prelude.{◌==◌, Bool, true, false, not, ◌&&◌, ◌||◌, List, [], ◌∷◌, length, flat_map, Option, Some, None, option_map}
+use Rattle.std.specs.Prelude.{◌==◌, Bool, true, false, not, ◌&&◌, ◌||◌, List, [], ◌∷◌, flat_map, Option, Some, None, option_map}
 use Rattle.std.specs.List.{list_all, list_any, range_with_len}
 use Rattle.vhdl_values.specs.Scalar.{are_same}
 use Rattle.vhdl_tree.specs.Tree as t

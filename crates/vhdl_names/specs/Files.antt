@@ -1,5 +1,5 @@
 -- The well-typed file and its units (IEEE 1076-2008, 3.2, 3.3 and clause 13).
-use Rattle.std.specs.Prelude.{◌≡◌, ℕ, take, Bool, true, ◌&&◌, List, [], ◌∷◌, ◌++◌, map, find, filter_map, Option, Some, None, option_map, bytes_eq}
+use Rattle.std.specs.Prelude.{◌≡◌, ℕ, take, Bool, List, [], ◌∷◌, ◌++◌, map, find, filter_map, Option, Some, None, option_map, bytes_eq}
 use Rattle.std.specs.List.{list_all, enumerate_from}
 use Rattle.vhdl_tree.specs.Tree as t
 use Rattle.vhdl_tree.specs.Tree.{File, DesignUnit, LibraryUnit, ContextItem}

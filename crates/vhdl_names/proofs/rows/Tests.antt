@@ -1,5 +1,5 @@
 -- The links of a truth in a `Vec`, as contracts see them.
-use Rattle.std.proofs.Common.{◌≡◌, List, [], ◌∷◌, ◌++◌, Vec, Box, Global, refl, ap, ◌∙◌}
+use Rattle.std.proofs.Common.{◌≡◌, Vec, Box, Global, refl, ap, ◌∙◌}
 use mathlib.Core.Former.{Count}
 use Rattle.vhdl_names.specs.declared.test.StaticTest.{StaticTest}
 use Rattle.vhdl_names.specs.declared.test.StaticTest.TheVariants as s

@@ -1,6 +1,6 @@
 -- What elaboration may take for granted of expressions: numbers are in range, parameters stand inside their generates and loops, and
 -- one element stands where one is asked for.
-use Rattle.std.specs.Prelude.{ℕ, suc, ◌==◌, nat_lt, Bool, true, false, ◌&&◌, List, [], ◌∷◌, ◌++◌, map, length, slice_get, Option, Some, None, option_map, is_some}
+use Rattle.std.specs.Prelude.{ℕ, ◌==◌, nat_lt, Bool, true, false, ◌&&◌, List, map, slice_get, Option, Some, None, option_map}
 use Rattle.vhdl_names.specs.declared.operator.VectorOperator.{VectorOperator}
 use Rattle.vhdl_names.specs.declared.operator.VectorOperator.TheVariants as v
 use Rattle.vhdl_names.specs.units.Expressions as e

@@ -1,5 +1,5 @@
 -- What elaboration may take for granted of sequential statements.
-use Rattle.std.specs.Prelude.{ℕ, suc, ◌==◌, nat_lt, Bool, true, false, ◌&&◌, List, [], ◌∷◌, ◌++◌, map, length, slice_get, Option, Some, None, option_map, is_some}
+use Rattle.std.specs.Prelude.{suc, nat_lt, Bool, true, false, ◌&&◌, [], ◌∷◌, slice_get, Option, Some, None}
 use Rattle.std.specs.List.{list_all}
 use Rattle.vhdl_tree.specs.declared.declaration.Mode.{Mode}
 use Rattle.vhdl_tree.specs.declared.declaration.Mode.TheVariants.{In, Out}
@@ -8,8 +8,8 @@ use Rattle.vhdl_names.specs.units.Expressions.{Static, Range, StaticTest, Signal
 use Rattle.vhdl_names.specs.units.Statements as s
 use Rattle.vhdl_names.specs.units.Units as u
 use Rattle.vhdl_names.specs.units.Units.{Form, Fixed, Units}
-use Rattle.vhdl_names.specs.Rules.{◌>>=◌, given_that}
-use Rattle.vhdl_names.specs.sound.Expressions.{Inside, Shape, one, vector, state, static_fits, range_fits, static_test_fits, shape_of, part_shape, port_form, signal_form, place_shape, same_shape, is_one, is_vector, is_elements, operated_shape, with_static, vector_shape, value_shape, position_fits, fits_shape, value_fits, value_fits_beside, values_fit, edge_fits, test_fits}
+use Rattle.vhdl_names.specs.Rules.{◌>>=◌}
+use Rattle.vhdl_names.specs.sound.Expressions.{Inside, Shape, one, vector, state, range_fits, part_shape, place_shape, is_vector, vector_shape, value_shape, fits_shape, value_fits, test_fits}
 
 -- ---- sequential statements
 

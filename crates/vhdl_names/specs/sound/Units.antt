@@ -1,16 +1,13 @@
 -- What elaboration may take for granted of units: lists are as long as those that they are for, and no in port is assigned.
-use Rattle.std.specs.Prelude.{ℕ, suc, ◌==◌, nat_lt, Bool, true, false, ◌&&◌, List, [], ◌∷◌, ◌++◌, map, length, slice_get, Option, Some, None, option_map, is_some}
+use Rattle.std.specs.Prelude.{suc, ◌==◌, nat_lt, Bool, true, false, ◌&&◌, List, [], ◌∷◌, ◌++◌, map, length, slice_get, Option, Some, None, option_map, is_some}
 use Rattle.std.specs.List.{list_all}
 use Rattle.vhdl_tree.specs.declared.declaration.Mode.{Mode}
 use Rattle.vhdl_tree.specs.declared.declaration.Mode.TheVariants.{In, Out}
-use Rattle.vhdl_names.specs.units.Expressions as e
-use Rattle.vhdl_names.specs.units.Expressions.{Static, Range, StaticTest, Signal, Part, Place, Vector, Value, Test}
-use Rattle.vhdl_names.specs.units.Statements as s
+use Rattle.vhdl_names.specs.units.Expressions.{Static, Signal, Place}
 use Rattle.vhdl_names.specs.units.Units as u
 use Rattle.vhdl_names.specs.units.Units.{Form, Fixed, Units}
-use Rattle.vhdl_names.specs.Rules.{◌>>=◌, given_that}
-use Rattle.vhdl_names.specs.sound.Expressions.{Inside, Shape, one, vector, state, static_fits, range_fits, static_test_fits, shape_of, part_shape, port_form, signal_form, place_shape, same_shape, is_one, is_vector, is_elements, operated_shape, with_static, vector_shape, value_shape, position_fits, fits_shape, value_fits, value_fits_beside, values_fit, edge_fits, test_fits}
-use Rattle.vhdl_names.specs.sound.Statements.{given_fits, given_fits_target, is_out, is_driven, within_loop, choice_fits, statement_fits, statements_fit, branches_fit, alternatives_fit}
+use Rattle.vhdl_names.specs.sound.Expressions.{Inside, Shape, one, vector, static_fits, range_fits, static_test_fits, shape_of, place_shape, position_fits, fits_shape}
+use Rattle.vhdl_names.specs.sound.Statements.{is_driven, statements_fit}
 
 -- ---- declarations
 

@@ -1,4 +1,4 @@
-use Rattle.std.proofs.Common.{◌≡◌, ap, sym, ◌∙◌}
+use Rattle.std.proofs.Common.{ap, sym, ◌∙◌}
 use Rattle.vhdl_names.specs.units.Expressions as units
 use Rattle.vhdl_names.specs.views.Integers.{static_view}
 use Rattle.vhdl_names.proofs.rows.Integers.{view_chain, chained-after, chained-first}

@@ -1,4 +1,4 @@
-use Rattle.std.proofs.Common.{◌≡◌, ap, sym, ◌∙◌}
+use Rattle.std.proofs.Common.{ap, sym, ◌∙◌}
 use Rattle.vhdl_names.specs.views.Vectors.{vector_view, linked}
 use Rattle.vhdl_names.proofs.rows.Vectors.{view_chain, chained-after, chained-first}
 use Rattle.vhdl_names.proofs.vector.Vector.with_link.Goals as goal
