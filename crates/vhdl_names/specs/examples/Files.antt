@@ -12,9 +12,13 @@ use Rattle.vhdl_names.specs.examples.Words.{word, words, name, enclosed, charact
 
 -- ---- words to write files with
 
+-- ieee . package
+abbrev pub of_ieee : List ℕ → t.Selected
+of_ieee n = record { library = word (codes "ieee"); name = word n }
+
 -- library ieee; use ieee.std_logic_1164.all;
 abbrev pub with_logic : List ContextItem
-with_logic = t.library (words (codes "ieee" ∷ [])) ∷ t.uses (record { library = word (codes "ieee"); name = word (codes "std_logic_1164") } ∷ []) ∷ []
+with_logic = t.library (words (codes "ieee" ∷ [])) ∷ t.uses (of_ieee (codes "std_logic_1164") ∷ []) ∷ []
 
 abbrev pub port_of : Mode → List ℕ → t.Port
 port_of mode n = record { signal_word = false; names = words (n ∷ []); mode = Some mode; subtype = plain_type (codes "std_logic"); default = None }
@@ -141,8 +145,8 @@ with_items items = file (record (entity e) { context = items } ∷ [])
 pub record ContextsBringNames : Type 0 where
   pub nothing : is_accepted (with_items []) ≡ false
   -- use ieee.std_logic_1164.all without library ieee
-  pub no_library : is_accepted (with_items (t.uses (record { library = word (codes "ieee"); name = word (codes "std_logic_1164") } ∷ []) ∷ []))
+  pub no_library : is_accepted (with_items (t.uses (of_ieee (codes "std_logic_1164") ∷ []) ∷ []))
       ≡ false
   -- a library and a package that aren't offered
   pub other_library : is_accepted (with_items (t.library (words (codes "other" ∷ [])) ∷ with_logic)) ≡ false
-  pub other_package : is_accepted (with_items (with_logic ++ t.uses (record { library = word (codes "ieee"); name = word (codes "std_logic_arith") } ∷ []) ∷ [])) ≡ false
+  pub other_package : is_accepted (with_items (with_logic ++ t.uses (of_ieee (codes "std_logic_arith") ∷ []) ∷ [])) ≡ false
