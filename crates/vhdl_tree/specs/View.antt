@@ -167,13 +167,16 @@ abbrev mutual
   statement_view (st.For f) = for_view f
 
   pub if_view : If → tree.Statement
-  if_view (If' at shape branches otherwise end_label) = tree.conditional at (conditionals_row branches) (otherwise_row otherwise) (option_map ident_view end_label)
+  if_view (If' at shape branches otherwise end_label) =
+      tree.conditional at (conditionals_row branches) (otherwise_row otherwise) (option_map ident_view end_label)
 
   pub case_view : Case → tree.Statement
-  case_view (Case' at selector shape alternatives end_label) = tree.selection at (view selector) (alternatives_row alternatives) (option_map ident_view end_label)
+  case_view (Case' at selector shape alternatives end_label) =
+      tree.selection at (view selector) (alternatives_row alternatives) (option_map ident_view end_label)
 
   pub for_view : For → tree.Statement
-  for_view (For' at parameter range shape statements end_label) = tree.loop at (ident_view parameter) (range_view range) (statements_row statements) (option_map ident_view end_label)
+  for_view (For' at parameter range shape statements end_label) =
+      tree.loop at (ident_view parameter) (range_view range) (statements_row statements) (option_map ident_view end_label)
 
   pub statements_row : {m : _} → Row_of-Sequential m → tree.Statements
   statements_row end_of-Sequential = tree.no_statements
@@ -271,7 +274,12 @@ abbrev pub branches_view : Vec Branch Global → List tree.Branch
 branches_view v = map branch_view v.items
 
 abbrev pub assignment_view : Assignment → tree.Assignment
-assignment_view a = record { label = option_map ident_view a.label; target = name_view a.target; branches = branches_view a.branches; otherwise = option_map value_view a.otherwise }
+assignment_view a = record {
+  label = option_map ident_view a.label;
+  target = name_view a.target;
+  branches = branches_view a.branches;
+  otherwise = option_map value_view a.otherwise;
+}
 
 abbrev pub scheme_view : Scheme → tree.Scheme
 scheme_view (sc.For parameter range) = tree.for_each (ident_view parameter) (range_view range)
@@ -283,7 +291,8 @@ abbrev mutual
   concurrent_view (c.Selected label s) = tree.selected (option_map ident_view label) (selected_assignment_view s)
   concurrent_view (c.Process label p) = tree.process (option_map ident_view label) (process_view p)
   concurrent_view (c.Instance label i) = tree.instance (ident_view label) (instance_view i)
-  concurrent_view (c.Generate' label at scheme begin_word shape statements end_label) = tree.generated (ident_view label) at (scheme_view scheme) begin_word (concurrents_row statements) (option_map ident_view end_label)
+  concurrent_view (c.Generate' label at scheme begin_word shape statements end_label) =
+      tree.generated (ident_view label) at (scheme_view scheme) begin_word (concurrents_row statements) (option_map ident_view end_label)
 
   pub concurrents_row : {m : _} → Row_of-Concurrent m → tree.Concurrents
   concurrents_row end_of-Concurrent = tree.no_concurrents
@@ -295,13 +304,25 @@ concurrents_view v = map concurrent_view v.items
 -- ---- declarations
 
 abbrev pub generic_view : Generic → tree.Generic
-generic_view g = record { constant_word = g.constant_word; names = idents_view g.names; in_word = g.in_word; mark = ident_view g.mark; default = option_map view g.default }
+generic_view g = record {
+  constant_word = g.constant_word;
+  names = idents_view g.names;
+  in_word = g.in_word;
+  mark = ident_view g.mark;
+  default = option_map view g.default;
+}
 
 abbrev pub generics_view : Vec Generic Global → List tree.Generic
 generics_view v = map generic_view v.items
 
 abbrev pub port_view : Port → tree.Port
-port_view p = record { signal_word = p.signal_word; names = idents_view p.names; mode = p.mode; subtype = subtype_view p.subtype; default = option_map value_view p.default }
+port_view p = record {
+  signal_word = p.signal_word;
+  names = idents_view p.names;
+  mode = p.mode;
+  subtype = subtype_view p.subtype;
+  default = option_map value_view p.default;
+}
 
 abbrev pub ports_view : Vec Port Global → List tree.Port
 ports_view v = map port_view v.items
@@ -316,7 +337,13 @@ abbrev pub enumeration_view : Enumeration → tree.Enumeration
 enumeration_view d = record { name = ident_view d.name; literals = idents_view d.literals }
 
 abbrev pub component_view : Component → tree.Component
-component_view d = record { name = ident_view d.name; is_word = d.is_word; generics = option_map generics_view d.generics; ports = option_map ports_view d.ports; end_name = option_map ident_view d.end_name }
+component_view d = record {
+  name = ident_view d.name;
+  is_word = d.is_word;
+  generics = option_map generics_view d.generics;
+  ports = option_map ports_view d.ports;
+  end_name = option_map ident_view d.end_name;
+}
 
 abbrev pub declaration_view : Declaration → tree.Declaration
 declaration_view (d.Signals x) = tree.signals (signals_view x)
@@ -336,10 +363,25 @@ option_ports_view = option_map ports_view
 -- ---- units
 
 abbrev pub entity_view : Entity → tree.Entity
-entity_view n = record { at = n.at; name = ident_view n.name; generics = option_map generics_view n.generics; ports = option_map ports_view n.ports; end_word = n.end_word; end_name = option_map ident_view n.end_name }
+entity_view n = record {
+  at = n.at;
+  name = ident_view n.name;
+  generics = option_map generics_view n.generics;
+  ports = option_map ports_view n.ports;
+  end_word = n.end_word;
+  end_name = option_map ident_view n.end_name;
+}
 
 abbrev pub architecture_view : Architecture → tree.Architecture
-architecture_view a = record { at = a.at; name = ident_view a.name; entity = ident_view a.entity; declarations = declarations_view a.declarations; statements = concurrents_view a.statements; end_word = a.end_word; end_name = option_map ident_view a.end_name }
+architecture_view a = record {
+  at = a.at;
+  name = ident_view a.name;
+  entity = ident_view a.entity;
+  declarations = declarations_view a.declarations;
+  statements = concurrents_view a.statements;
+  end_word = a.end_word;
+  end_name = option_map ident_view a.end_name;
+}
 
 abbrev pub selected_view : Selected → tree.Selected
 selected_view s = record { library = ident_view s.library; name = ident_view s.name }

@@ -41,7 +41,9 @@ go_on go found v (Some c) = go (found ++ record { value = v; condition = c } ∷
 -- { else value when expr } [ else value ], after the branches found. The number bounds the turns, and each turn takes a token.
 unfoldable pub more_branches_from : ℕ → ℕ → List Branch → Parser Waveforms
 more_branches_from n zero found = pure (record { branches = found; otherwise = None })
-more_branches_from n (suc turns) found = test (is_kind k.Else) (do p ← else_part n; go_on (more_branches_from n turns) found p.value p.condition) (pure (record { branches = found; otherwise = None }))
+more_branches_from n (suc turns) found =
+    test (is_kind k.Else) (do p ← else_part n; go_on (more_branches_from n turns) found p.value p.condition)
+    (pure (record { branches = found; otherwise = None }))
 
 unfoldable pub more_branches : ℕ → List Branch → Parser Waveforms
 more_branches n found = λ ts. more_branches_from n (length ts) found ts

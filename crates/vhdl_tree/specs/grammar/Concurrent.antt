@@ -26,7 +26,8 @@ spell_waveforms (b ∷ more) otherwise = spell_branch b ++ spell_otherwise more 
 
 -- [ id : ] name <= value [ when .. ] ;
 abbrev pub spell_assignment : Assignment → List Piece
-spell_assignment a = spell_option spell_label a.label ++ (spell_name a.target ++ (some k.LessEqual ∷ (spell_waveforms a.branches a.otherwise ++ some k.Semicolon ∷ [])))
+spell_assignment a =
+    spell_option spell_label a.label ++ (spell_name a.target ++ (some k.LessEqual ∷ (spell_waveforms a.branches a.otherwise ++ some k.Semicolon ∷ [])))
 
 -- for id in range | if expr
 abbrev pub spell_scheme : ℕ → Scheme → List Piece
@@ -41,7 +42,9 @@ abbrev mutual
   spell_concurrent (process label p) = spell_option spell_label label ++ spell_process p
   spell_concurrent (instance label i) = spell_label label ++ spell_instance i
   -- generate = ( for id in range | if expr ) generate [ begin ] { conc } end generate [ id ] ;
-  spell_concurrent (generated label at scheme word statements last) = spell_label label ++ (spell_scheme at scheme ++ (some k.Generate ∷ (spell_word k.Begin word ++ (spell_concurrents statements ++ spell_end k.Generate last))))
+  spell_concurrent (generated label at scheme word statements last) =
+      spell_label label ++ (spell_scheme at scheme ++ (some k.Generate ∷ (spell_word k.Begin word ++
+      (spell_concurrents statements ++ spell_end k.Generate last))))
 
   -- { conc }
   pub spell_concurrents : Concurrents → List Piece

@@ -19,7 +19,9 @@ spell_mode Out = some k.Out ∷ []
 
 -- gdecl = [ constant ] ids : [ in ] id [ := expr ]
 abbrev pub spell_generic : Generic → List Piece
-spell_generic g = spell_word k.Constant g.constant_word ++ (spell_idents g.names ++ (some k.Colon ∷ (spell_word k.In g.in_word ++ (spell_ident g.mark ++ spell_option spell_generic_default g.default))))
+spell_generic g =
+    spell_word k.Constant g.constant_word ++ (spell_idents g.names ++ (some k.Colon ∷ (spell_word k.In g.in_word ++
+    (spell_ident g.mark ++ spell_option spell_generic_default g.default))))
 
 -- generics = generic ( gdecl { ; gdecl } ) ;
 abbrev pub spell_generics : List Generic → List Piece
@@ -27,7 +29,9 @@ spell_generics gs = some k.Generic ∷ (some k.LeftParen ∷ (spell_list k.Semic
 
 -- pdecl = [ signal ] ids : [ in | out ] subtype [ := value ]
 abbrev pub spell_port : Port → List Piece
-spell_port p = spell_word k.Signal p.signal_word ++ (spell_idents p.names ++ (some k.Colon ∷ (spell_option spell_mode p.mode ++ (spell_subtype p.subtype ++ spell_option spell_default p.default))))
+spell_port p =
+    spell_word k.Signal p.signal_word ++ (spell_idents p.names ++ (some k.Colon ∷ (spell_option spell_mode p.mode ++
+    (spell_subtype p.subtype ++ spell_option spell_default p.default))))
 
 -- ports = port ( pdecl { ; pdecl } ) ;
 abbrev pub spell_ports : List Port → List Piece
@@ -35,19 +39,26 @@ spell_ports ps = some k.Port ∷ (some k.LeftParen ∷ (spell_list k.Semicolon s
 
 -- signal ids : subtype [ := value ] ;
 abbrev pub spell_signals : Signals → List Piece
-spell_signals d = some k.Signal ∷ (spell_idents d.names ++ (some k.Colon ∷ (spell_subtype d.subtype ++ (spell_option spell_default d.default ++ some k.Semicolon ∷ []))))
+spell_signals d =
+    some k.Signal ∷ (spell_idents d.names ++ (some k.Colon ∷ (spell_subtype d.subtype ++ (spell_option spell_default d.default ++ some k.Semicolon ∷ []))))
 
 -- constant ids : subtype := value ;
 abbrev pub spell_constants : Constants → List Piece
-spell_constants d = some k.Constant ∷ (spell_idents d.names ++ (some k.Colon ∷ (spell_subtype d.subtype ++ (some k.Assign ∷ (spell_value d.value ++ some k.Semicolon ∷ [])))))
+spell_constants d =
+    some k.Constant ∷ (spell_idents d.names ++ (some k.Colon ∷ (spell_subtype d.subtype ++ (some k.Assign ∷
+    (spell_value d.value ++ some k.Semicolon ∷ [])))))
 
 -- type id is ( ids ) ;
 abbrev pub spell_enumeration : Enumeration → List Piece
-spell_enumeration d = some k.Type ∷ (spell_ident d.name ++ (some k.Is ∷ (some k.LeftParen ∷ (spell_idents d.literals ++ (some k.RightParen ∷ (some k.Semicolon ∷ []))))))
+spell_enumeration d =
+    some k.Type ∷ (spell_ident d.name ++ (some k.Is ∷ (some k.LeftParen ∷ (spell_idents d.literals ++ (some k.RightParen ∷ (some k.Semicolon ∷ []))))))
 
 -- component id [ is ] [ generics ] [ ports ] end component [ id ] ;
 abbrev pub spell_component : Component → List Piece
-spell_component c = some k.Component ∷ (spell_ident c.name ++ (spell_word k.Is c.is_word ++ (spell_option spell_generics c.generics ++ (spell_option spell_ports c.ports ++ (some k.End ∷ (some k.Component ∷ (spell_option spell_ident c.end_name ++ some k.Semicolon ∷ [])))))))
+spell_component c =
+    some k.Component ∷ (spell_ident c.name ++ (spell_word k.Is c.is_word ++ (spell_option spell_generics c.generics ++
+    (spell_option spell_ports c.ports ++ (some k.End ∷ (some k.Component ∷
+    (spell_option spell_ident c.end_name ++ some k.Semicolon ∷ [])))))))
 
 abbrev pub spell_declaration : Declaration → List Piece
 spell_declaration (signals d) = spell_signals d

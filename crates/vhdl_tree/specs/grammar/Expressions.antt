@@ -152,7 +152,8 @@ binding (negation at operand) = 5
 binding (signed sign at operand) = 3
 binding (binary begins operator at left right) = rank operator
 
--- the logical operators of expr = rel { and rel } | rel { or rel } | rel { xor rel } | rel { xnor rel } | rel nand rel | rel nor rel that may stand more than once
+-- the logical operators of expr = rel { and rel } | rel { or rel } | rel { xor rel } | rel { xnor rel } | rel nand rel | rel nor rel that may stand
+-- more than once
 abbrev pub repeats : Operator → Bool
 repeats And = true
 repeats Or = true

@@ -12,7 +12,8 @@ spell_chosen i = some k.LeftParen ∷ (spell_ident i ++ some k.RightParen ∷ []
 
 -- entity id . id [ ( id ) ] | [ component ] id
 abbrev pub spell_instantiated : Instantiated → List Piece
-spell_instantiated (entity_unit library name chosen) = some k.Entity ∷ (spell_ident library ++ (some k.Dot ∷ (spell_ident name ++ spell_option spell_chosen chosen)))
+spell_instantiated (entity_unit library name chosen) =
+    some k.Entity ∷ (spell_ident library ++ (some k.Dot ∷ (spell_ident name ++ spell_option spell_chosen chosen)))
 spell_instantiated (component_unit word name) = spell_word k.Component word ++ spell_ident name
 
 -- generic map ( assoc { , assoc } ) | port map ( assoc { , assoc } )
@@ -21,7 +22,8 @@ spell_map word all = some word ∷ (some k.Map ∷ (some k.LeftParen ∷ (spell_
 
 -- instance = ( .. ) [ generic map ( .. ) ] [ port map ( .. ) ] ;
 abbrev pub spell_instance : Instance → List Piece
-spell_instance i = spell_instantiated i.unit ++ (spell_option (spell_map k.Generic) i.generics ++ (spell_option (spell_map k.Port) i.ports ++ some k.Semicolon ∷ []))
+spell_instance i =
+    spell_instantiated i.unit ++ (spell_option (spell_map k.Generic) i.generics ++ (spell_option (spell_map k.Port) i.ports ++ some k.Semicolon ∷ []))
 
 abbrev pub IsInstance : Instance → Type 0
 IsInstance i = IsOption AreAssociations i.generics × IsOption AreAssociations i.ports

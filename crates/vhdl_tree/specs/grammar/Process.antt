@@ -44,7 +44,9 @@ spell_waveform w = spell_value w.value ++ (some k.When ∷ spell_choices w.choic
 
 -- select = with expr select name <= value when choices { , value when choices } ;
 abbrev pub spell_selected : SelectedAssignment → List Piece
-spell_selected s = one_at k.With s.at ∷ (spell s.selector ++ (some k.Select ∷ (spell_name s.target ++ (some k.LessEqual ∷ (spell_list k.Comma spell_waveform s.waveforms ++ some k.Semicolon ∷ [])))))
+spell_selected s =
+    one_at k.With s.at ∷ (spell s.selector ++ (some k.Select ∷ (spell_name s.target ++ (some k.LessEqual ∷
+    (spell_list k.Comma spell_waveform s.waveforms ++ some k.Semicolon ∷ [])))))
 
 abbrev pub IsWaveform : Waveform → Type 0
 IsWaveform w = IsValue w.value × AreChoices w.choices

@@ -25,9 +25,12 @@ abbrev mutual
   -- if = if expr then { seq } { elsif expr then { seq } } [ else { seq } ] end if [ id ] ;
   spell_statement (conditional at branches otherwise label) = one_at k.If at ∷ (spell_conditionals branches ++ (spell_else otherwise ++ spell_end k.If label))
   -- case = case expr is alt { alt } end case [ id ] ;
-  spell_statement (selection at selector alternatives label) = one_at k.Case at ∷ (spell selector ++ (some k.Is ∷ (spell_alternatives alternatives ++ spell_end k.Case label)))
+  spell_statement (selection at selector alternatives label) =
+      one_at k.Case at ∷ (spell selector ++ (some k.Is ∷ (spell_alternatives alternatives ++ spell_end k.Case label)))
   -- for = for id in range loop { seq } end loop [ id ] ;
-  spell_statement (loop at parameter range statements label) = one_at k.For at ∷ (word_at parameter.at parameter.text ∷ (some k.In ∷ (spell_range range ++ (some k.Loop ∷ (spell_statements statements ++ spell_end k.Loop label)))))
+  spell_statement (loop at parameter range statements label) =
+      one_at k.For at ∷ (word_at parameter.at parameter.text ∷ (some k.In ∷ (spell_range range ++ (some k.Loop ∷
+      (spell_statements statements ++ spell_end k.Loop label)))))
 
   -- seq = [ id : ] ..
   pub spell_statements : Statements → List Piece
@@ -52,7 +55,8 @@ abbrev mutual
   -- { alt }, alt = when choices => { seq }
   pub spell_alternatives : Alternatives → List Piece
   spell_alternatives no_alternatives = []
-  spell_alternatives (alternative choices statements more) = (some k.When ∷ (spell_choices choices ++ (some k.Arrow ∷ spell_statements statements))) ++ spell_alternatives more
+  spell_alternatives (alternative choices statements more) =
+      (some k.When ∷ (spell_choices choices ++ (some k.Arrow ∷ spell_statements statements))) ++ spell_alternatives more
 
 abbrev pub spell_sequential : Sequential → List Piece
 spell_sequential s = spell_option spell_label s.label ++ spell_statement s.statement

@@ -22,11 +22,16 @@ spell_end word has_word name = some k.End ∷ (spell_word word has_word ++ (spel
 
 -- entity = entity id is [ generics ] [ ports ] end [ entity ] [ id ] ;
 abbrev pub spell_entity : Entity → List Piece
-spell_entity e = one_at k.Entity e.at ∷ (spell_ident e.name ++ (some k.Is ∷ (spell_option spell_generics e.generics ++ (spell_option spell_ports e.ports ++ spell_end k.Entity e.end_word e.end_name))))
+spell_entity e =
+    one_at k.Entity e.at ∷ (spell_ident e.name ++ (some k.Is ∷ (spell_option spell_generics e.generics ++
+    (spell_option spell_ports e.ports ++ spell_end k.Entity e.end_word e.end_name))))
 
 -- arch = architecture id of id is { decl } begin { conc } end [ architecture ] [ id ] ;
 abbrev pub spell_architecture : Architecture → List Piece
-spell_architecture a = one_at k.Architecture a.at ∷ (spell_ident a.name ++ (some k.Of ∷ (spell_ident a.entity ++ (some k.Is ∷ (spell_each spell_declaration a.declarations ++ (some k.Begin ∷ (spell_each spell_concurrent a.statements ++ spell_end k.Architecture a.end_word a.end_name)))))))
+spell_architecture a =
+    one_at k.Architecture a.at ∷ (spell_ident a.name ++ (some k.Of ∷ (spell_ident a.entity ++ (some k.Is ∷
+    (spell_each spell_declaration a.declarations ++ (some k.Begin ∷
+    (spell_each spell_concurrent a.statements ++ spell_end k.Architecture a.end_word a.end_name)))))))
 
 abbrev pub spell_library_unit : LibraryUnit → List Piece
 spell_library_unit (entity e) = spell_entity e
