@@ -6,6 +6,8 @@
 
 mod agenda;
 mod map_agenda;
+#[cfg(test)]
+mod tests;
 
 pub use agenda::{Agenda, Change, NoMemory};
 pub use map_agenda::MapAgenda;
