@@ -1,0 +1,2 @@
+pub mod Agenda
+pub mod MapState

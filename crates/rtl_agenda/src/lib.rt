@@ -1,0 +1,13 @@
+//! Pending changes of nets by their times: `Agenda`, which gives the least time first with its changes, and
+//! `MapAgenda`, an agenda over an ordered map.
+//!
+//! `specs/Agenda.antt` has the words in which contracts say what an agenda holds.
+#![tactic(auto)]
+
+mod agenda;
+mod map_agenda;
+#[cfg(test)]
+mod tests;
+
+pub use agenda::{Agenda, Change, NoMemory};
+pub use map_agenda::MapAgenda;

@@ -1,0 +1,36 @@
+//! An agenda from outside.
+
+ghost use Rattle.std.specs.Prelude.{◌≡◌, [], None};
+
+use crate::agenda::{Agenda, NoMemory};
+use crate::map_agenda::MapAgenda;
+use std::test::Fail;
+use vhdl_values::Nine;
+
+/// Pushes two changes for a time, and one each for times before and after it.
+fn push_some<A: Agenda>(agenda: &mut A) -> Result<(), NoMemory>
+    requires waiting { (A.state agenda.old).waiting ≡ [] }
+    requires last { (A.state agenda.old).last ≡ None }
+{
+    agenda.push(9, (2, Nine::One))?;
+    agenda.push(1, (7, Nine::Zero))?;
+    agenda.push(5, (3, Nine::H))?;
+    agenda.push(1_000_000_000_000_000, (2, Nine::U))?;
+    agenda.push(5, (2, Nine::Z))?;
+    Ok(())
+}
+
+#[test]
+fn the_least_time_comes_first_with_its_changes_in_order(rt: HostRuntime) -> Result<(), Fail> {
+    let mut agenda = MapAgenda::new(rt.alloc());
+    push_some(&mut agenda)?;
+    assert_eq!(rt; agenda.next(), Some(1));
+    assert_eq!(rt; agenda.next(), Some(5));
+    assert_eq!(rt; agenda.changes(), [(3, Nine::H), (2, Nine::Z)].as_slice());
+    assert_eq!(rt; agenda.next(), Some(9));
+    assert_eq!(rt; agenda.changes(), [(2, Nine::One)].as_slice());
+    assert_eq!(rt; agenda.next(), Some(1_000_000_000_000_000));
+    assert_eq!(rt; agenda.next(), None);
+    assert_eq!(rt; agenda.changes(), [(2, Nine::U)].as_slice());
+    Ok(())
+}
