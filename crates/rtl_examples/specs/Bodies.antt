@@ -201,7 +201,8 @@ pub record RunsOfBodies : Type 0 where
   pub fills_ones : value (filled 2 (text (One ∷ []))) ≡ One ∷ One ∷ []
   -- the first branch that holds is taken, later ones aren't, and the else only where none holds
   pub first_branch : runs
-      (step (if_of (branch (is_at 0 One) (assigned (text (Zero ∷ []))) (branch (is_at 2 One) (assigned (text (One ∷ []))) (branch (decided true) (assigned (text (X ∷ []))) no_else)))) done) 0 ≡ Some 3
+      (step (if_of (branch (is_at 0 One) (assigned (text (Zero ∷ []))) (branch (is_at 2 One) (assigned (text (One ∷ [])))
+      (branch (decided true) (assigned (text (X ∷ []))) no_else)))) done) 0 ≡ Some 3
   pub the_else : runs (step (if_of (branch (is_at 0 One) (assigned (text (Zero ∷ []))) (otherwise (assigned (text (X ∷ [])))))) done) 0 ≡ Some 1
   pub no_branch : runs (if_only (is_at 0 One) (assigned (text (Zero ∷ [])))) 0 ≡ None
   -- a case matches the values as they are: 'H' isn't '1'
@@ -209,10 +210,12 @@ pub record RunsOfBodies : Type 0 where
       (step (case_of (elements (one_signal 0)) (alternative ((3 ∷ []) ∷ []) (assigned (text (One ∷ []))) (others (assigned (text (X ∷ [])))))) done) 0
       ≡ Some 1
   pub case_choice : runs
-      (step (case_of (elements (pair 2 1)) (alternative ((2 ∷ 2 ∷ []) ∷ (3 ∷ 1 ∷ []) ∷ []) (assigned (text (One ∷ []))) (others (assigned (text (X ∷ [])))))) done) 0 ≡ Some 3
+      (step (case_of (elements (pair 2 1)) (alternative ((2 ∷ 2 ∷ []) ∷ (3 ∷ 1 ∷ []) ∷ []) (assigned (text (One ∷ [])))
+      (others (assigned (text (X ∷ [])))))) done) 0 ≡ Some 3
   -- a case that names every literal: the last alternative stands as others
   pub case_literal : runs
-      (step (case_of (position_of 3) (alternative ((0 ∷ []) ∷ []) (assigned (text (Zero ∷ []))) (alternative ((1 ∷ []) ∷ []) (assigned (text (X ∷ []))) (others (assigned (text (One ∷ []))))))) done) 0 ≡ Some 3
+      (step (case_of (position_of 3) (alternative ((0 ∷ []) ∷ []) (assigned (text (Zero ∷ [])))
+      (alternative ((1 ∷ []) ∷ []) (assigned (text (X ∷ []))) (others (assigned (text (One ∷ []))))))) done) 0 ≡ Some 3
   pub literal : runs (step (assign (0 ∷ []) (position 2)) done) 0 ≡ Some 2
   pub copied : runs (step (assign (0 ∷ []) (position_of 3)) done) 0 ≡ Some 2
 
@@ -266,7 +269,8 @@ pub record VariablesOfBodies : Type 0 where
   pub too_late : entry (7 ∷ []) (step (assign (0 ∷ []) (elements (one_variable 0))) (step (set_one 0 (one_signal 2)) done)) ≡ Some 7
   -- `v := v xor a;` twice reads the old value each time
   pub twice : entry (2 ∷ [])
-      (step (set_one 0 (binary (logical Xor) (one_variable 0) (one_signal 2))) (step (set_one 0 (binary (logical Xor) (one_variable 0) (one_signal 2))) (then_show 0))) ≡ Some 2
+      (step (set_one 0 (binary (logical Xor) (one_variable 0) (one_signal 2))) (step (set_one 0 (binary (logical Xor) (one_variable 0) (one_signal 2)))
+      (then_show 0))) ≡ Some 2
   -- `w := a & b;`: the left element gets the left value
   pub in_order : entry (0 ∷ 0 ∷ []) (step (set (0 ∷ 1 ∷ []) (elements (binary joined (one_signal 2) (one_signal 1)))) (then_show 0)) ≡ Some 3
   pub in_order' : entry (0 ∷ 0 ∷ []) (step (set (0 ∷ 1 ∷ []) (elements (binary joined (one_signal 2) (one_signal 1)))) (then_show 1)) ≡ Some 1

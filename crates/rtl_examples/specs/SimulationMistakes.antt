@@ -16,7 +16,7 @@ use Rattle.rtl_model.specs.simulation.Cycle.{State, IsToRun, driven_all, net_val
 use Rattle.rtl_model.specs.simulation.Moments.{Takes}
 use Rattle.rtl_model.specs.simulation.Levels.{AreLevels, ChainTo, bound}
 use Rattle.rtl_model.specs.simulation.Races.{IsRace, IsRaceAt}
-use Rattle.rtl_model.specs.simulation.Machine.{entry_or, register_next}
+use Rattle.rtl_model.specs.simulation.Machine.{entry_or, register_entry, register_next}
 use Rattle.rtl_examples.specs.Bodies.{one_signal, assigned, is_at, if_only, rising_clk}
 use Rattle.rtl_examples.specs.Circuits.{circuit, drives_one, SettlesAs}
 use Rattle.rtl_examples.specs.Toggling.{toggling, one_edge}
@@ -143,8 +143,7 @@ enable_drops (suc (suc (suc m))) n = if n == 1 then 2 else 3
 
 -- wrong: without an entry the starting value
 abbrev pub register_or_start : Net → (p place clock : ℕ) → Edge → (v : List ℕ) → (inputs : ℕ → ℕ) → ℕ
-register_or_start net p place clock tested v inputs =
-    entry_or (clocked_entry (resets (reset_of net p) inputs) (net.edge tested (slice_index v clock) (inputs clock)) (reset_entry (reset_of net p) place) (slice_index_or ((process net p).acting_effect v) place None)) (slice_index net.start (target net p place))
+register_or_start net p place clock tested v inputs = entry_or (register_entry net p place clock tested v inputs) (slice_index net.start (target net p place))
 
 -- the simulation keeps '1', and the machine would have '0'
 pub record RegisterWouldFallBack : Type 0 where
@@ -159,7 +158,8 @@ pub record RegisterWouldFallBack : Type 0 where
 -- wrong: the branch looks at the new valuation w
 abbrev pub register_from_after : Net → (p place clock : ℕ) → Edge → (v w : List ℕ) → (inputs : ℕ → ℕ) → ℕ
 register_from_after net p place clock tested v w inputs =
-    entry_or (clocked_entry (resets (reset_of net p) inputs) (net.edge tested (slice_index v clock) (inputs clock)) (reset_entry (reset_of net p) place) (slice_index_or ((process net p).acting_effect w) place None)) (slice_index v (target net p place))
+    entry_or (clocked_entry (resets (reset_of net p) inputs) (net.edge tested (slice_index v clock) (inputs clock))
+    (reset_entry (reset_of net p) place) (slice_index_or ((process net p).acting_effect w) place None)) (slice_index v (target net p place))
 
 -- at the edge q1 becomes '1' and q2 keeps '0'; the machine's q2 would be '1'
 pub record RegisterWouldRunAhead : Type 0 where
