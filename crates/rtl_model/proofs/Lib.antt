@@ -2,4 +2,3 @@ pub mod basics
 pub mod bodies
 pub mod simulation
 pub mod nets
-pub mod examples

@@ -3,8 +3,6 @@
 //! contract of a function that does nothing.
 #![tactic(auto)]
 
-pub mod body_examples;
 pub mod body_laws;
 pub mod net_laws;
-pub mod simulation_examples;
 pub mod simulation_laws;

@@ -166,7 +166,8 @@ LevelsExist = (net : Net) → HasNoLoop net → (levels : List (Option ℕ)) × 
 abbrev pub LevelsAreShown : Type 0
 LevelsAreShown =
     (net : Net) (levels from : List (Option ℕ)) → ShowLevels net levels from
-    → ((p level : ℕ) → IsCombinational net p → slice_index_or levels p None ≡ Some level → IsLevel net p level × ((number : ℕ → ℕ) → Rises net number → level ≤ number p))
+    → ((p level : ℕ) → IsCombinational net p → slice_index_or levels p None ≡ Some level
+    → IsLevel net p level × ((number : ℕ → ℕ) → Rises net number → level ≤ number p))
     × HasNoLoop net
 
 -- What is a report is shown by local facts, and what they show is a report.

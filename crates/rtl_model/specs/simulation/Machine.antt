@@ -29,11 +29,16 @@ abbrev pub register_first : Net → (p place : ℕ) → (inputs : ℕ → ℕ) �
 register_first net p place inputs = entry_or (clocked_entry (resets (reset_of net p) inputs) false (reset_entry (reset_of net p) place) None)
     (slice_index net.start (target net p place))
 
--- What a register has next: its reset's entry where the reset holds in the new inputs, else its branch's entry in v where
--- its edge holds from v's clock to the new one; without an entry v's value.
+-- A register's entry: its reset's where the reset holds in the new inputs, else its branch's in v where its edge holds from
+-- v's clock to the new one.
+abbrev pub register_entry : Net → (p place clock : ℕ) → Edge → (v : List ℕ) → (inputs : ℕ → ℕ) → Option ℕ
+register_entry net p place clock edge v inputs =
+    clocked_entry (resets (reset_of net p) inputs) (net.edge edge (slice_index v clock) (inputs clock))
+    (reset_entry (reset_of net p) place) (slice_index_or ((process net p).acting_effect v) place None)
+
+-- What a register has next: its entry, and without one v's value.
 abbrev pub register_next : Net → (p place clock : ℕ) → Edge → (v : List ℕ) → (inputs : ℕ → ℕ) → ℕ
-register_next net p place clock edge v inputs =
-    entry_or (clocked_entry (resets (reset_of net p) inputs) (net.edge edge (slice_index v clock) (inputs clock)) (reset_entry (reset_of net p) place) (slice_index_or ((process net p).acting_effect v) place None)) (slice_index v (target net p place))
+register_next net p place clock edge v inputs = entry_or (register_entry net p place clock edge v inputs) (slice_index v (target net p place))
 
 -- the first valuation, for the first inputs
 pub record IsFirst (net : Net) (inputs : ℕ → ℕ) (v : List ℕ) : Type 0 where
