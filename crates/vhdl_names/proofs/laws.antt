@@ -1,0 +1,3 @@
+-- Proofs of the laws.
+pub mod Rules
+pub mod Choices
