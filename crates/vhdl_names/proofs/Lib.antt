@@ -1,2 +1,3 @@
 pub mod examples
+pub mod laws
 pub mod rows

@@ -18,4 +18,5 @@ pub mod Instances
 pub mod Concurrent
 pub mod Files
 pub mod sound
+pub mod laws
 pub mod examples

@@ -8,6 +8,7 @@ mod kind;
 mod literal;
 mod operator;
 pub mod rule_examples;
+pub mod rule_laws;
 mod test;
 mod vector;
 

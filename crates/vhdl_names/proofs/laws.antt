@@ -1,0 +1,5 @@
+-- Proofs of the laws.
+pub mod Rules
+pub mod Once
+pub mod Choices
+pub mod Associations

@@ -1,0 +1,4 @@
+-- Laws in the words of a reader, which the rules keep.
+pub mod Once
+pub mod Choices
+pub mod Associations
