@@ -9,10 +9,10 @@ use Rattle.std.proofs.lemmas.Bool.{and_from, cases_lt, cases_Bool, cond-true, co
 use Rattle.rtl_model.proofs.basics.Lists.{Contains-none, any_at, any_true, Contains-first, none_contained, only_source}
 use Rattle.rtl_model.specs.basics.Valuations.{AgreeOn, clocked_entry, has_event}
 use Rattle.rtl_model.proofs.simulation.Faultless.{Faultless}
+use Rattle.rtl_model.proofs.simulation.Leveled.{Leveled}
 use Rattle.rtl_model.specs.simulation.Net.{Clocked, Combinational, Driver, Edge, HasPlace, Idle, IsClockedBy, IsCombinational, IsInput, Kind, kind_reset, Mixed, Net, no_process, process, Process, Reset, reset_entry, reset_of, resets, Source, sources_of, target}
 use Rattle.rtl_model.specs.simulation.Cycle.{is_quiet, net_value, resumed, source_value, State, updated}
-use Rattle.rtl_model.specs.simulation.Elaborated.{IsElaborated}
-use Rattle.rtl_model.specs.simulation.Levels.{AreLevels, has_late_reset, is_driver}
+use Rattle.rtl_model.specs.simulation.Levels.{has_late_reset, is_driver}
 use Rattle.rtl_model.specs.simulation.Machine.{entry_or, IsDriven}
 use Rattle.rtl_model.proofs.simulation.Order.{finished, waits, row_after, get_or-rows}
 use Rattle.rtl_model.proofs.simulation.Levels.{assigned, kinds, sole, driven_or_not, level_or, level_of, level_of_clocked, level_above_none, level_rises}
@@ -103,14 +103,14 @@ who_ran net u p place f s = (go (cases_lt p (length u.pending)), at (cases_Bool 
     at (inl w) = w
     at (inr w) = let e = ran_asleep net u p place f w in cc
 
-module _ (net : Net) (levels : List (Option ℕ)) (greatest : ℕ) (E : IsElaborated net) (A : Faultless net) (V : AreLevels net levels greatest) where
+module _ (net : Net) (L : Leveled net) where
   pub input_not_driven : (n : ℕ) → IsInput net n → IsDriven net n → ⊥
-  input_not_driven n is (p, place, h, t) = Contains-none (Driver p place) (subst (λ (xs : List Source). Contains xs (Driver p place)) (E.wiring.inputs_have_no_source n is) (subst (λ (m : ℕ). Contains (sources_of net m) (Driver p place)) t (E.wiring.drivers_are_sources p place h)))
+  input_not_driven n is (p, place, h, t) = Contains-none (Driver p place) (subst (λ (xs : List Source). Contains xs (Driver p place)) (L.elaborated.wiring.inputs_have_no_source n is) (subst (λ (m : ℕ). Contains (sources_of net m) (Driver p place)) t (L.elaborated.wiring.drivers_are_sources p place h)))
 
   -- what a clocked process has after its run
   pub clocked_awake : (u : State) (p place clock : ℕ) (edge : Edge) → IsFresh net u → IsClockedBy net p clock edge → p < length net.processes → waits u p ≡ true
       → transaction (finished net u) p place ≡ clocked_entry (resets (reset_of net p) (λ n. get_or u.now n 0)) (net.edge edge (get_or u.before clock 0) (get_or u.now clock 0)) (reset_entry (reset_of net p) place) (get_or ((process net p).acting_effect u.now) place None)
-  clocked_awake u p place clock edge f is l w = ran_awake net u p place f l w ∙ E.bodies.clocked_acts p clock place edge u.before u.now is
+  clocked_awake u p place clock edge f is l w = ran_awake net u p place f l w ∙ L.elaborated.bodies.clocked_acts p clock place edge u.before u.now is
 
   -- a clocked process whose clock has no event assigns nothing, unless its reset holds
   pub clocked_ran : (u : State) (p place clock : ℕ) (edge : Edge) → IsFresh net u → IsClockedBy net p clock edge → resets (reset_of net p) (λ n. get_or u.now n 0) ≡ false → net.edge edge (get_or u.before clock 0) (get_or u.now clock 0) ≡ false → transaction (finished net u) p place ≡ None
@@ -131,19 +131,19 @@ module _ (net : Net) (levels : List (Option ℕ)) (greatest : ℕ) (E : IsElabor
     where
       go : (o : Option Reset) → reset_of net p ≡ o → resets o v ≡ resets o w
       go None e = refl
-      go (Some r) e = ap (λ (x : ℕ). x == r.value) (h r.net (E.bodies.reset_is_input p r e))
+      go (Some r) e = ap (λ (x : ℕ). x == r.value) (h r.net (L.elaborated.bodies.reset_is_input p r e))
 
   pub no_edge_same : (before now : List ℕ) (clock : ℕ) (edge : Edge) → get_or before clock 0 ≡ get_or now clock 0 → net.edge edge (get_or before clock 0) (get_or now clock 0) ≡ false
-  no_edge_same before now clock edge e = rw e (E.values.edges_differ edge (get_or now clock 0))
+  no_edge_same before now clock edge e = rw e (L.elaborated.values.edges_differ edge (get_or now clock 0))
 
   pub combinational_awake : (u : State) (p place : ℕ) → IsFresh net u → IsCombinational net p → HasPlace net p place → waits u p ≡ true → get_or ((process net p).effect u.now u.now) place None ≡ Some (out (finished net u) p place)
   combinational_awake u p place f c h w =
-      let same = E.bodies.effect_reads p u.now u.now u.before u.now c (λ n r. refl) in
+      let same = L.elaborated.bodies.effect_reads p u.now u.now u.before u.now c (λ n r. refl) in
       ap (λ (r : List (Option ℕ)). get_or r place None) same
-      ∙ some_is (get_or ((process net p).effect u.before u.now) place None) (transaction (finished net u) p place) (value u p place) (assigned net levels greatest E A V p place u.before u.now c h) (ran_awake net u p place f c.0 w)
+      ∙ some_is (get_or ((process net p).effect u.before u.now) place None) (transaction (finished net u) p place) (value u p place) (assigned net L p place u.before u.now c h) (ran_awake net u p place f c.0 w)
 
   asleep_agrees : (before now : List ℕ) (p : ℕ) → IsCombinational net p → list_any (has_event before now) (process net p).wakes ≡ false → AgreeOn (process net p).reads before now
-  asleep_agrees before now p c e n r = no_event_same before now n (none_contained (has_event before now) (process net p).wakes n e (A.reads_wake p n c r))
+  asleep_agrees before now p c e n r = no_event_same before now n (none_contained (has_event before now) (process net p).wakes n e (L.faultless.reads_wake p n c r))
 
   -- a combinational process's output after the Runs is its effect now, if it was before
   pub combinational_ran : (u : State) (p place : ℕ) → IsFresh net u → u.waiting ≡ resumed net u.before u.now → IsCombinational net p → HasPlace net p place
@@ -158,7 +158,7 @@ module _ (net : Net) (levels : List (Option ℕ)) (greatest : ℕ) (E : IsElabor
       go (inl w) = combinational_awake u p place f c h w
       go (inr w) =
           let agree = asleep_agrees u.before u.now p c (sym resumes ∙ w) in
-          let same = E.bodies.effect_reads p u.now u.now u.before u.before c (λ n r. sym (agree n r)) in
+          let same = L.elaborated.bodies.effect_reads p u.now u.now u.before u.before c (λ n r. sym (agree n r)) in
           ap (λ (r : List (Option ℕ)). get_or r place None) same ∙ was
           ∙ ap (λ (o : Option ℕ). Some (entry_or o (value u p place))) (sym (ran_asleep net u p place f w))
 
@@ -173,9 +173,9 @@ module _ (net : Net) (levels : List (Option ℕ)) (greatest : ℕ) (E : IsElabor
 
     pub updated_driven : (p place : ℕ) → HasPlace net p place → get_or (updated net s).now (target net p place) 0 ≡ value (updated net s) p place
     updated_driven p place h =
-        get_or-table (length net.start) (λ n. net_value net (updated net s).drivers (sources_of net n) (get_or s.now n 0)) (target net p place) (E.wiring.targets_are_nets p place h)
-        ∙ ap (λ (xs : List Source). net_value net (updated net s).drivers xs (get_or s.now (target net p place) 0)) (sole net levels greatest E A V p place h)
-        ∙ E.values.one_resolves _
+        get_or-table (length net.start) (λ n. net_value net (updated net s).drivers (sources_of net n) (get_or s.now n 0)) (target net p place) (L.elaborated.wiring.targets_are_nets p place h)
+        ∙ ap (λ (xs : List Source). net_value net (updated net s).drivers xs (get_or s.now (target net p place) 0)) (sole net L p place h)
+        ∙ L.elaborated.values.one_resolves _
 
     pub updated_rest : (n : ℕ) → (IsDriven net n → ⊥) → get_or (updated net s).now n 0 ≡ get_or s.now n 0
     updated_rest n free = go (cases_lt n (length net.start)) (sources_of net n) refl
@@ -189,13 +189,13 @@ module _ (net : Net) (levels : List (Option ℕ)) (greatest : ℕ) (E : IsElabor
             ∙ ap (λ (xs : List Source). net_value net (updated net s).drivers xs (get_or s.now n 0)) e
         go (inl l) (Idle v ∷ more) e =
             let has = subst (λ (xs : List Source). Contains xs (Idle v)) (sym e) (Contains-first (Idle v) more) in
-            let one = only_source (sources_of net n) (Idle v) (A.one_source n) has in
-            let given : IsInput net n → ⊥ = λ is. Contains-none (Idle v) (subst (λ (xs : List Source). Contains xs (Idle v)) (E.wiring.inputs_have_no_source n is) has) in
+            let one = only_source (sources_of net n) (Idle v) (L.faultless.one_source n) has in
+            let given : IsInput net n → ⊥ = λ is. Contains-none (Idle v) (subst (λ (xs : List Source). Contains xs (Idle v)) (L.elaborated.wiring.inputs_have_no_source n is) has) in
             get_or-table (length net.start) (λ m. net_value net (updated net s).drivers (sources_of net m) (get_or s.now m 0)) n l
             ∙ ap (λ (xs : List Source). net_value net (updated net s).drivers xs (get_or s.now n 0)) one
-            ∙ sym (H.on_others n l given free ∙ E.wiring.nets_start n (Idle v) has ∙ ap (λ (xs : List Source). net.resolve (map (source_value starts) xs)) one)
+            ∙ sym (H.on_others n l given free ∙ L.elaborated.wiring.nets_start n (Idle v) has ∙ ap (λ (xs : List Source). net.resolve (map (source_value starts) xs)) one)
         go (inl l) (Driver p place ∷ more) e =
-            let f = E.wiring.sources_are_drivers n p place (subst (λ (xs : List Source). Contains xs (Driver p place)) (sym e) (Contains-first (Driver p place) more)) in
+            let f = L.elaborated.wiring.sources_are_drivers n p place (subst (λ (xs : List Source). Contains xs (Driver p place)) (sym e) (Contains-first (Driver p place) more)) in
             absurd (free (p, place, f.0, f.1))
         go (inr l) xs e =
             let k = H.now_length in
@@ -205,7 +205,7 @@ module _ (net : Net) (levels : List (Option ℕ)) (greatest : ℕ) (E : IsElabor
     reset_after p = reset_now p (λ n. get_or (updated net s).now n 0) inputs (λ n is. updated_rest n (input_not_driven n is) ∙ H.on_inputs n is)
 
     no_edge_then : (p clock : ℕ) (edge : Edge) → IsClockedBy net p clock edge → net.edge edge (get_or s.now clock 0) (get_or (updated net s).now clock 0) ≡ false
-    no_edge_then p clock edge is = no_edge_same s.now (updated net s).now clock edge (sym (updated_rest clock (input_not_driven clock (A.clock_is_input p clock edge is))))
+    no_edge_then p clock edge is = no_edge_same s.now (updated net s).now clock edge (sym (updated_rest clock (input_not_driven clock (L.faultless.clock_is_input p clock edge is))))
 
     -- who has a transaction then is in reset
     delta_resets : (p place clock : ℕ) (edge : Edge) → IsClockedBy net p clock edge → IsSome (transaction (after_delta net s) p place) → resets (reset_of net p) inputs ≡ true
@@ -242,52 +242,52 @@ module _ (net : Net) (levels : List (Option ℕ)) (greatest : ℕ) (E : IsElabor
     }
 
     -- one delta cycle more, and those with transactions are a level higher
-    module _ (d b : ℕ) (above : IsAbove net levels greatest d b s) where
+    module _ (d b : ℕ) (above : IsAbove net L.levels L.greatest d b s) where
       -- a net with an event then is driven by a process that is high enough
-      event_above : (n : ℕ) → (get_or s.now n 0 ≡ get_or (updated net s).now n 0 → ⊥) → (q : ℕ) × (place : ℕ) × HasPlace net q place × (target net q place ≡ n) × (d + 1 ≤ level_or levels q + b)
-      event_above n differs = go (driven_or_not net levels greatest E A V n)
+      event_above : (n : ℕ) → (get_or s.now n 0 ≡ get_or (updated net s).now n 0 → ⊥) → (q : ℕ) × (place : ℕ) × HasPlace net q place × (target net q place ≡ n) × (d + 1 ≤ level_or L.levels q + b)
+      event_above n differs = go (driven_or_not net L n)
         where
           same : (q place : ℕ) → HasPlace net q place → target net q place ≡ n → out s q place ≡ value s q place → get_or s.now n 0 ≡ get_or (updated net s).now n 0
           same q place h t e = subst (λ (m : ℕ). get_or s.now m 0 ≡ get_or (updated net s).now m 0) t
               (H.on_driven q place h ∙ sym (updated_driven q place h ∙ updated_value q place h ∙ e))
 
-          combinational : (q place : ℕ) → HasPlace net q place → target net q place ≡ n → IsCombinational net q → (transaction s q place ≡ None) ⊎ IsSome (transaction s q place) → d + 1 ≤ level_or levels q + b
+          combinational : (q place : ℕ) → HasPlace net q place → target net q place ≡ n → IsCombinational net q → (transaction s q place ≡ None) ⊎ IsSome (transaction s q place) → d + 1 ≤ level_or L.levels q + b
           combinational q place h t c (inl e) = absurd (differs (same q place h t (ap (λ (o : Option ℕ). entry_or o (value s q place)) e)))
           combinational q place h t c (inr some) = above.combinational q place c some
 
-          clocked : (q place : ℕ) → HasPlace net q place → target net q place ≡ n → (d + 1 ≤ b) ⊎ (out s q place ≡ value s q place) → d + 1 ≤ level_or levels q + b
+          clocked : (q place : ℕ) → HasPlace net q place → target net q place ≡ n → (d + 1 ≤ b) ⊎ (out s q place ≡ value s q place) → d + 1 ≤ level_or L.levels q + b
           clocked q place h t (inl l) = omega arith
           clocked q place h t (inr e) = absurd (differs (same q place h t e))
 
-          of_kind : (q place : ℕ) → HasPlace net q place → target net q place ≡ n → IsCombinational net q ⊎ ((clock : ℕ) × (edge : Edge) × IsClockedBy net q clock edge) → d + 1 ≤ level_or levels q + b
+          of_kind : (q place : ℕ) → HasPlace net q place → target net q place ≡ n → IsCombinational net q ⊎ ((clock : ℕ) × (edge : Edge) × IsClockedBy net q clock edge) → d + 1 ≤ level_or L.levels q + b
           of_kind q place h t (inl c) = combinational q place h t c (none_or_some (transaction s q place))
           of_kind q place h t (inr (clock, edge, is)) = clocked q place h t (above.clocked_event q place clock edge is h)
 
-          go : IsDriven net n ⊎ (IsDriven net n → ⊥) → (q : ℕ) × (place : ℕ) × HasPlace net q place × (target net q place ≡ n) × (d + 1 ≤ level_or levels q + b)
+          go : IsDriven net n ⊎ (IsDriven net n → ⊥) → (q : ℕ) × (place : ℕ) × HasPlace net q place × (target net q place ≡ n) × (d + 1 ≤ level_or L.levels q + b)
           go (inr free) = absurd (differs (sym (updated_rest n free)))
-          go (inl (q, place, h, t)) = (q, place, h, t, of_kind q place h t (kinds net levels greatest E A V q place h))
+          go (inl (q, place, h, t)) = (q, place, h, t, of_kind q place h t (kinds net L q place h))
 
-      woken_by : (p place : ℕ) → IsSome (transaction (after_delta net s) p place) → (n : ℕ) × Contains (process net p).wakes n × ((q : ℕ) × (place : ℕ) × HasPlace net q place × (target net q place ≡ n) × (d + 1 ≤ level_or levels q + b))
+      woken_by : (p place : ℕ) → IsSome (transaction (after_delta net s) p place) → (n : ℕ) × Contains (process net p).wakes n × ((q : ℕ) × (place : ℕ) × HasPlace net q place × (target net q place ≡ n) × (d + 1 ≤ level_or L.levels q + b))
       woken_by p place some =
           let (l, w) = who_ran net (updated net s) p place updated_fresh some in
           let (n, wakes, event) = any_at (has_event s.now (updated net s).now) (process net p).wakes (sym (resumed_at net s.now (updated net s).now p) ∙ w) in
           (n, wakes, event_above n (event_differs s.now (updated net s).now n event))
 
-      low : (q place : ℕ) → HasPlace net q place → level_or levels q ≤ greatest
-      low q place h = go (kinds net levels greatest E A V q place h)
+      low : (q place : ℕ) → HasPlace net q place → level_or L.levels q ≤ L.greatest
+      low q place h = go (kinds net L q place h)
         where
-          go : IsCombinational net q ⊎ ((clock : ℕ) × (edge : Edge) × IsClockedBy net q clock edge) → level_or levels q ≤ greatest
-          go (inl c) = (level_of net levels greatest E A V q c).1
-          go (inr (clock, edge, is)) = let none = level_of_clocked net levels greatest E A V q clock edge is in omega arith
+          go : IsCombinational net q ⊎ ((clock : ℕ) × (edge : Edge) × IsClockedBy net q clock edge) → level_or L.levels q ≤ L.greatest
+          go (inl c) = (level_of net L q c).1
+          go (inr (clock, edge, is)) = let none = level_of_clocked net L q clock edge is in omega arith
 
-      rises_from : (p q place n : ℕ) → IsCombinational net p → Contains (process net p).wakes n → HasPlace net q place → target net q place ≡ n → level_or levels q < level_or levels p
-      rises_from p q place n c w h t = go (kinds net levels greatest E A V q place h)
+      rises_from : (p q place n : ℕ) → IsCombinational net p → Contains (process net p).wakes n → HasPlace net q place → target net q place ≡ n → level_or L.levels q < level_or L.levels p
+      rises_from p q place n c w h t = go (kinds net L q place h)
         where
-          go : IsCombinational net q ⊎ ((clock : ℕ) × (edge : Edge) × IsClockedBy net q clock edge) → level_or levels q < level_or levels p
-          go (inl comb) = level_rises net levels greatest E A V q p (record { feeder = comb; fed = c; place = place; drives = h; wakes = subst (λ (m : ℕ). Contains (process net p).wakes m) (sym t) w })
+          go : IsCombinational net q ⊎ ((clock : ℕ) × (edge : Edge) × IsClockedBy net q clock edge) → level_or L.levels q < level_or L.levels p
+          go (inl comb) = level_rises net L q p (record { feeder = comb; fed = c; place = place; drives = h; wakes = subst (λ (m : ℕ). Contains (process net p).wakes m) (sym t) w })
           go (inr (clock, edge, is)) =
-              let none = level_of_clocked net levels greatest E A V q clock edge is in
-              let one = level_above_none net levels greatest E A V p c in
+              let none = level_of_clocked net L q clock edge is in
+              let one = level_above_none net L p c in
               omega arith
 
       may_wake : (p place clock : ℕ) (edge : Edge) → IsClockedBy net p clock edge → IsSome (transaction (after_delta net s) p place) → (n q qp : ℕ) → Contains (process net p).wakes n → HasPlace net q qp → target net q qp ≡ n → has_late_reset net ≡ true
@@ -309,9 +309,9 @@ module _ (net : Net) (levels : List (Option ℕ)) (greatest : ℕ) (E : IsElabor
 
           drives : list_any (λ m. list_any is_driver (sources_of net m)) (process net p).wakes ≡ true
           drives = any_true (λ m. list_any is_driver (sources_of net m)) (process net p).wakes n w
-              (any_true is_driver (sources_of net n) (Driver q qp) (subst (λ (m : ℕ). Contains (sources_of net m) (Driver q qp)) t (E.wiring.drivers_are_sources q qp h)) refl)
+              (any_true is_driver (sources_of net n) (Driver q qp) (subst (λ (m : ℕ). Contains (sources_of net m) (Driver q qp)) t (L.elaborated.wiring.drivers_are_sources q qp h)) refl)
 
-      pub delta_above : IsAbove net levels greatest (suc d) b (after_delta net s)
+      pub delta_above : IsAbove net L.levels L.greatest (suc d) b (after_delta net s)
       delta_above = record {
         combinational = λ p place c some.
             let (n, w, (q, qp, h, t, k)) = woken_by p place some in
@@ -329,26 +329,26 @@ module _ (net : Net) (levels : List (Option ℕ)) (greatest : ℕ) (E : IsElabor
     after_holds zero s H = H
     after_holds (suc k) s H = after_holds k (after_delta net s) (delta_holds inputs r s H)
 
-    after_above : (k d b : ℕ) (s : State) → Holds net inputs r s → IsAbove net levels greatest d b s → IsAbove net levels greatest (d + k) b (after net k s)
-    after_above zero d b s H above = let e : d ≡ d + 0 = omega arith in subst (λ (i : ℕ). IsAbove net levels greatest i b s) e above
+    after_above : (k d b : ℕ) (s : State) → Holds net inputs r s → IsAbove net L.levels L.greatest d b s → IsAbove net L.levels L.greatest (d + k) b (after net k s)
+    after_above zero d b s H above = let e : d ≡ d + 0 = omega arith in subst (λ (i : ℕ). IsAbove net L.levels L.greatest i b s) e above
     after_above (suc k) d b s H above =
         let more = after_above k (suc d) b (after_delta net s) (delta_holds inputs r s H) (delta_above inputs r s H d b above) in
         let e : suc d + k ≡ d + suc k = omega arith in
-        subst (λ (i : ℕ). IsAbove net levels greatest i b (after net k (after_delta net s))) e more
+        subst (λ (i : ℕ). IsAbove net L.levels L.greatest i b (after net k (after_delta net s))) e more
 
-    pub quiet_after : (b x : ℕ) (s : State) → (has_late_reset net ≡ true → 1 ≤ x) → Holds net inputs r s → IsAbove net levels greatest 0 b s → is_quiet (after net (greatest + b + x) s) ≡ true
-    quiet_after b x s hx H above = quiet_from (after net (greatest + b + x) s) (λ p place l some. go p place some (kinds_below net A p (in_range p l)))
+    pub quiet_after : (b x : ℕ) (s : State) → (has_late_reset net ≡ true → 1 ≤ x) → Holds net inputs r s → IsAbove net L.levels L.greatest 0 b s → is_quiet (after net (L.greatest + b + x) s) ≡ true
+    quiet_after b x s hx H above = quiet_from (after net (L.greatest + b + x) s) (λ p place l some. go p place some (kinds_below net L.faultless p (in_range p l)))
       where
-        last : IsAbove net levels greatest (0 + (greatest + b + x)) b (after net (greatest + b + x) s)
-        last = after_above (greatest + b + x) 0 b s H above
+        last : IsAbove net L.levels L.greatest (0 + (L.greatest + b + x)) b (after net (L.greatest + b + x) s)
+        last = after_above (L.greatest + b + x) 0 b s H above
 
-        in_range : (p : ℕ) → p < length (after net (greatest + b + x) s).pending → p < length net.processes
-        in_range p l = let k = (after_holds (greatest + b + x) s H).pend_length in omega arith
+        in_range : (p : ℕ) → p < length (after net (L.greatest + b + x) s).pending → p < length net.processes
+        in_range p l = let k = (after_holds (L.greatest + b + x) s H).pend_length in omega arith
 
-        late_one : (0 + (greatest + b + x) + 1 ≤ b) ⊎ ((has_late_reset net ≡ true) × (0 + (greatest + b + x) ≤ greatest + b)) → ⊥
+        late_one : (0 + (L.greatest + b + x) + 1 ≤ b) ⊎ ((has_late_reset net ≡ true) × (0 + (L.greatest + b + x) ≤ L.greatest + b)) → ⊥
         late_one (inl l) = omega arith
         late_one (inr (t, l)) = let k = hx t in omega arith
 
-        go : (p place : ℕ) → IsSome (transaction (after net (greatest + b + x) s) p place) → IsCombinational net p ⊎ ((clock : ℕ) × (edge : Edge) × IsClockedBy net p clock edge) → ⊥
-        go p place some (inl c) = let k = last.combinational p place c some in let l = (level_of net levels greatest E A V p c).1 in omega arith
+        go : (p place : ℕ) → IsSome (transaction (after net (L.greatest + b + x) s) p place) → IsCombinational net p ⊎ ((clock : ℕ) × (edge : Edge) × IsClockedBy net p clock edge) → ⊥
+        go p place some (inl c) = let k = last.combinational p place c some in let l = (level_of net L p c).1 in omega arith
         go p place some (inr (clock, edge, is)) = late_one (last.clocked_woken p place clock edge is some)

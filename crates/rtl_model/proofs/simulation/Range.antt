@@ -5,14 +5,12 @@ use Rattle.std.proofs.lemmas.Bool.{cases_Bool, cond-true, cond-false}
 use Rattle.rtl_model.proofs.basics.Lists.{Contains-first}
 use Rattle.rtl_model.specs.basics.Valuations.{clocked_entry}
 use Rattle.rtl_model.specs.simulation.Net.{Clocked, Combinational, Driver, HasPlace, Idle, Kind, Mixed, Net, process, Source, sources_of, target}
-use Rattle.rtl_model.specs.simulation.Elaborated.{IsElaborated}
-use Rattle.rtl_model.specs.simulation.Levels.{AreLevels}
 use Rattle.rtl_model.specs.simulation.Machine.{entry_or, IsMachineRun, Solves}
 use Rattle.rtl_model.specs.simulation.Range.{AreInputs, AreRegisters, IsValuation, KeepsRange, limit}
 use Rattle.rtl_model.specs.simulation.Laws.{RunsInRange, SolutionsInRange}
-use Rattle.rtl_model.proofs.simulation.Faultless.{Faultless, faultless}
+use Rattle.rtl_model.proofs.simulation.Faultless.{faultless}
 use Rattle.rtl_model.proofs.simulation.Levels.{assigned, place_in_range}
-use Rattle.rtl_model.proofs.simulation.Loops.{levels_exist}
+use Rattle.rtl_model.proofs.simulation.Leveled.{Leveled, leveled}
 use Rattle.rtl_model.proofs.simulation.Solution.{length-table, by_kind, evaluated, evaluations, evaluate_at, solution_is, solution_solves, one_solves}
 
 -- every entry is below a limit
@@ -35,7 +33,7 @@ some_below : (most : ℕ) (o : Option ℕ) → EntryBelow most o → IsSome o �
 some_below most None e h = cc
 some_below most (Some x) e h = e x refl
 
-module _ (net : Net) (levels : List (Option ℕ)) (greatest : ℕ) (E : IsElaborated net) (A : Faultless net) (V : AreLevels net levels greatest) (K : KeepsRange net) where
+module _ (net : Net) (L : Leveled net) (K : KeepsRange net) where
   module _ (inputs registers : ℕ → ℕ) (I : AreInputs net inputs) (R : AreRegisters net registers) where
     value_in_range : (v : List ℕ) → IsValuation net v → (n : ℕ) → n < length net.start → (xs : List Source) → sources_of net n ≡ xs → evaluated net inputs registers v n xs < limit net n
     value_in_range v is n l [] e = go (cases_Bool (list_any (λ m. m == n) net.inputs))
@@ -45,15 +43,15 @@ module _ (net : Net) (levels : List (Option ℕ)) (greatest : ℕ) (E : IsElabor
         go (inr f) = rw (cond-false _ (inputs n) (get_or net.start n 0) f) (K.starts_in_range.in_range n l)
     value_in_range v is n l (Idle value ∷ more) e = K.starts_in_range.in_range n l
     value_in_range v is n l (Driver p place ∷ more) e =
-        let (h, t) = E.wiring.sources_are_drivers n p place (subst (λ (xs : List Source). Contains xs (Driver p place)) (sym e) (Contains-first (Driver p place) more)) in
+        let (h, t) = L.elaborated.wiring.sources_are_drivers n p place (subst (λ (xs : List Source). Contains xs (Driver p place)) (sym e) (Contains-first (Driver p place) more)) in
         go h t (process net p).kind refl
       where
         go : HasPlace net p place → target net p place ≡ n → (k : Kind) → (process net p).kind ≡ k → by_kind k (entry_or (get_or ((process net p).effect v v) place None) 0) (registers n) < limit net n
         go h t Combinational k =
             subst (λ (m : ℕ). entry_or (get_or ((process net p).effect v v) place None) 0 < limit net m) t
-            (some_below (limit net (target net p place)) (get_or ((process net p).effect v v) place None) (λ x e. K.effect_in_range p place x v v is is h e) (assigned net levels greatest E A V p place v v (place_in_range net p place h, k) h))
+            (some_below (limit net (target net p place)) (get_or ((process net p).effect v v) place None) (λ x e. K.effect_in_range p place x v v is is h e) (assigned net L p place v v (place_in_range net p place h, k) h))
         go h t (Clocked clock edge reset) k = subst (λ (m : ℕ). registers m < limit net m) t (R p place clock edge (reset, k) h)
-        go h t Mixed k = absurd (A.not_mixed p k)
+        go h t Mixed k = absurd (L.faultless.not_mixed p k)
 
     evaluations_in_range : (d : ℕ) → IsValuation net (evaluations net inputs registers d)
     evaluations_in_range zero = K.starts_in_range
@@ -62,38 +60,34 @@ module _ (net : Net) (levels : List (Option ℕ)) (greatest : ℕ) (E : IsElabor
         let v = evaluations net inputs registers d in
         record {
           each_net = length-table (length net.start) _;
-          in_range = λ n l. rw (evaluate_at net levels greatest E A V inputs registers v n l) (value_in_range v below n l (sources_of net n) refl);
+          in_range = λ n l. rw (evaluate_at net L inputs registers v n l) (value_in_range v below n l (sources_of net n) refl);
         }
 
     pub solves_in_range : (v : List ℕ) → Solves net inputs registers v → IsValuation net v
     solves_in_range v s =
         subst (λ (w : List ℕ). IsValuation net w)
-        (one_solves net levels greatest E A V inputs registers _ v (solution_solves net levels greatest E A V inputs registers) s)
-        (rw (solution_is net levels greatest E A V inputs registers) (evaluations_in_range (suc greatest)))
+        (one_solves net L inputs registers _ v (solution_solves net L inputs registers) s)
+        (rw (solution_is net L inputs registers) (evaluations_in_range (suc L.greatest)))
 
   module _ (stimulus : ℕ → ℕ → ℕ) (I : (m : ℕ) → AreInputs net (stimulus m)) (v : ℕ → List ℕ) (run : IsMachineRun net stimulus v) where
     run_in_range : (m : ℕ) → IsValuation net (v m)
     run_in_range zero =
         solves_in_range (stimulus 0) run.first.registers (I 0)
         (λ p place clock edge is h. rw (run.first.next p place clock edge is h)
-        (entry_or_below _ _ _ (clocked_below _ _ _ _ _ (λ x e. K.reset_in_range p place x h e) (none_below _)) (K.starts_in_range.in_range _ (E.wiring.targets_are_nets p place h))))
+        (entry_or_below _ _ _ (clocked_below _ _ _ _ _ (λ x e. K.reset_in_range p place x h e) (none_below _)) (K.starts_in_range.in_range _ (L.elaborated.wiring.targets_are_nets p place h))))
         (v 0) run.first.solves
     run_in_range (suc m) =
         let before = run_in_range m in
         let step = run.step m in
         solves_in_range (stimulus (suc m)) step.registers (I (suc m))
         (λ p place clock edge is h. rw (step.next p place clock edge is h)
-        (entry_or_below _ _ _ (clocked_below _ _ _ _ _ (λ x e. K.reset_in_range p place x h e) (λ x e. K.branch_in_range p place clock x edge (v m) is before h e)) (before.in_range _ (E.wiring.targets_are_nets p place h))))
+        (entry_or_below _ _ _ (clocked_below _ _ _ _ _ (λ x e. K.reset_in_range p place x h e) (λ x e. K.branch_in_range p place clock x edge (v m) is before h e)) (before.in_range _ (L.elaborated.wiring.targets_are_nets p place h))))
         (v (suc m)) step.solves
 
 pub solutions_in_range : SolutionsInRange
 solutions_in_range net E A' K inputs registers I R v s =
-    let A = faultless net A' in
-    let (levels, greatest, V) = levels_exist net A.no_loop in
-    solves_in_range net levels greatest E A V K inputs registers I R v s
+    solves_in_range net (leveled net E (faultless net A')) K inputs registers I R v s
 
 pub runs_in_range : RunsInRange
 runs_in_range net E A' K stimulus I v run m =
-    let A = faultless net A' in
-    let (levels, greatest, V) = levels_exist net A.no_loop in
-    run_in_range net levels greatest E A V K stimulus I v run m
+    run_in_range net (leveled net E (faultless net A')) K stimulus I v run m

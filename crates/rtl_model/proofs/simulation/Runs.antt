@@ -6,7 +6,7 @@ use Rattle.rtl_model.specs.simulation.Net.{Clocked, Combinational, Driver, Edge,
 use Rattle.rtl_model.specs.simulation.Elaborated.{IsElaborated}
 use Rattle.rtl_model.specs.simulation.Machine.{entry_or, IsFirst, IsMachineRun, IsStep, Solves}
 use Rattle.rtl_model.specs.simulation.Laws.{OneMachineRun}
-use Rattle.rtl_model.proofs.simulation.Loops.{levels_exist}
+use Rattle.rtl_model.proofs.simulation.Leveled.{leveled}
 use Rattle.rtl_model.proofs.simulation.Levels.{sole}
 use Rattle.rtl_model.proofs.simulation.Solution.{one_solves, solution_exists}
 
@@ -22,7 +22,7 @@ solves_like net inputs r r' v s same = record { each_net = s.each_net; on_inputs
 
 module _ (net : Net) (E : IsElaborated net) (A : Faultless net) where
   unique : (inputs r : ℕ → ℕ) (v w : List ℕ) → Solves net inputs r v → Solves net inputs r w → v ≡ w
-  unique inputs r v w s t = let (levels, greatest, V) = levels_exist net A.no_loop in one_solves net levels greatest E A V inputs r v w s t
+  unique inputs r v w s t = one_solves net (leveled net E A) inputs r v w s t
 
   step_once : (v w w' : List ℕ) (inputs : ℕ → ℕ) → IsStep net v inputs w → IsStep net v inputs w' → w ≡ w'
   step_once v w w' inputs a b =
@@ -65,7 +65,7 @@ module _ (net : Net) (E : IsElaborated net) (A : Faultless net) where
     first_from inputs n (Driver p place ∷ more) = entry_or (clocked_entry (resets (reset_of net p) inputs) false (reset_entry (reset_of net p) place) None) (get_or net.start n 0)
 
     at_sole : (f : List Source → ℕ) (p place : ℕ) → HasPlace net p place → f (sources_of net (target net p place)) ≡ f (Driver p place ∷ [])
-    at_sole f p place h = let (levels, greatest, V) = levels_exist net A.no_loop in ap f (sole net levels greatest E A V p place h)
+    at_sole f p place h = ap f (sole net (leveled net E A) p place h)
 
     steps : (v : List ℕ) (inputs : ℕ → ℕ) → (w : List ℕ) × IsStep net v inputs w
     unfolding next_from

@@ -4,14 +4,13 @@ use Rattle.std.specs.List.{list_any}
 use Rattle.std.specs.Option.{is_some}
 use Rattle.std.proofs.lemmas.Bool.{cases_eq, cases_Bool, cond-true, and_parts}
 use Rattle.rtl_model.proofs.basics.Lists.{any_at, none_at}
-use Rattle.rtl_model.proofs.simulation.Faultless.{Faultless, faultless}
+use Rattle.rtl_model.proofs.simulation.Faultless.{faultless}
 use Rattle.rtl_model.proofs.simulation.Orders.{one_number}
 use Rattle.rtl_model.specs.simulation.Net.{Edge, HasPlace, IsClockedBy, IsInput, kind_reset, Net, no_process, process, Process, Reset, sources_of, target}
 use Rattle.rtl_model.specs.simulation.Cycle.{given, is_quiet, started, State}
 use Rattle.rtl_model.specs.simulation.Moments.{Begun, HasNoneToRun, HasSettled, SettlesIn, SettlesTo}
-use Rattle.rtl_model.specs.simulation.Elaborated.{IsElaborated}
 use Rattle.rtl_model.specs.simulation.Accepted.{IsClock}
-use Rattle.rtl_model.specs.simulation.Levels.{AreLevels, bound, has_clocked, has_late_reset, is_clocked, is_driver}
+use Rattle.rtl_model.specs.simulation.Levels.{bound, has_clocked, has_late_reset, is_clocked, is_driver}
 use Rattle.rtl_model.specs.simulation.Races.{HasNoRace}
 use Rattle.rtl_model.specs.simulation.Machine.{entry_or, Solves}
 use Rattle.rtl_model.specs.simulation.Laws.{EachMomentComes, HasNoReset, IsTheMachine, SettlesInBound}
@@ -19,7 +18,7 @@ use Rattle.rtl_model.proofs.simulation.Order.{finished, HasRun-finished, HasRun-
 use Rattle.rtl_model.proofs.simulation.Levels.{level_above_none}
 use Rattle.rtl_model.proofs.simulation.Rows.{value, out, quiet_at}
 use Rattle.rtl_model.proofs.simulation.Deltas.{HasDeltas-after, settles_within, runs_exist}
-use Rattle.rtl_model.proofs.simulation.Loops.{levels_exist}
+use Rattle.rtl_model.proofs.simulation.Leveled.{Leveled, leveled}
 use Rattle.rtl_model.proofs.simulation.Runs.{Machine, Machine-run}
 use Rattle.rtl_model.proofs.simulation.Held.{Holds, IsAbove, after_holds, quiet_after}
 use Rattle.rtl_model.proofs.simulation.Starting.{first, start_holds, start_register, start_asleep}
@@ -63,19 +62,19 @@ no_late_reset net none t =
     go p x e None r t = cc
     go p x e (Some reset) r t = none p reset (ap (λ (q : Process). kind_reset q.kind) e ∙ r)
 
-module _ (net : Net) (levels : List (Option ℕ)) (greatest : ℕ) (E : IsElaborated net) (A : Faultless net) (V : AreLevels net levels greatest) where
-  above_start : (s : State) → IsAbove net levels greatest 0 (late net) s
+module _ (net : Net) (L : Leveled net) where
+  above_start : (s : State) → IsAbove net L.levels L.greatest 0 (late net) s
   above_start s = record {
-    combinational = λ p place c some. let k = level_above_none net levels greatest E A V p c in omega arith;
+    combinational = λ p place c some. let k = level_above_none net L p c in omega arith;
     clocked_event = λ p place clock edge is h. inl (late_clocked net p clock edge is);
     clocked_woken = λ p place clock edge is some. inl (late_clocked net p clock edge is);
   }
 
-  above_first : (inputs : ℕ → ℕ) → HasNoReset net → IsAbove net levels greatest 0 0 (finished net (first net levels greatest E A V inputs))
+  above_first : (inputs : ℕ → ℕ) → HasNoReset net → IsAbove net L.levels L.greatest 0 0 (finished net (first net L inputs))
   above_first inputs none = record {
-    combinational = λ p place c some. let k = level_above_none net levels greatest E A V p c in omega arith;
-    clocked_event = λ p place clock edge is h. inr (ap (λ (o : Option ℕ). entry_or o (value (first net levels greatest E A V inputs) p place)) (start_asleep net levels greatest E A V inputs none p place clock edge is));
-    clocked_woken = λ p place clock edge is some. let e = start_asleep net levels greatest E A V inputs none p place clock edge is in cc;
+    combinational = λ p place c some. let k = level_above_none net L p c in omega arith;
+    clocked_event = λ p place clock edge is h. inr (ap (λ (o : Option ℕ). entry_or o (value (first net L inputs) p place)) (start_asleep net L inputs none p place clock edge is));
+    clocked_woken = λ p place clock edge is some. let e = start_asleep net L inputs none p place clock edge is in cc;
   }
 
   -- what is quiet solves
@@ -97,21 +96,21 @@ module _ (net : Net) (levels : List (Option ℕ)) (greatest : ℕ) (E : IsElabor
     record AtMoment (m : ℕ) (s : State) : Type 0 where
       r : ℕ → ℕ → ℕ
       holds : Holds net (stimulus m) r s
-      above : IsAbove net levels greatest 0 (late net) s
+      above : IsAbove net L.levels L.greatest 0 (late net) s
 
     -- what has settled
     settled_quiet : (s t : State) (k : ℕ) → SettlesTo net s k t → is_quiet t ≡ true
     settled_quiet s t k (set, deltas) = set.settled t deltas
 
     settled_holds : (m : ℕ) (s t : State) (k : ℕ) (a : AtMoment m s) → SettlesTo net s k t → Holds net (stimulus m) a.r t
-    settled_holds m s t k a to = subst (λ (u : State). Holds net (stimulus m) a.r u) (sym (HasDeltas-after net k s t to.1)) (after_holds net levels greatest E A V (stimulus m) a.r k s a.holds)
+    settled_holds m s t k a to = subst (λ (u : State). Holds net (stimulus m) a.r u) (sym (HasDeltas-after net k s t to.1)) (after_holds net L (stimulus m) a.r k s a.holds)
 
     at_moment : (m : ℕ) (s : State) → Begun net stimulus m s → AtMoment m s
     at_moment zero s run =
         let e = HasRun-finished net (started net (stimulus 0)) s run in
         record {
           r = λ p place. out (finished net (started net (stimulus 0))) p place;
-          holds = subst (λ (u : State). Holds net (stimulus 0) (λ p place. out (finished net (started net (stimulus 0))) p place) u) (sym e) (start_holds net levels greatest E A V (stimulus 0));
+          holds = subst (λ (u : State). Holds net (stimulus 0) (λ p place. out (finished net (started net (stimulus 0))) p place) u) (sym e) (start_holds net L (stimulus 0));
           above = above_start s;
         }
     at_moment (suc m) s (earlier, k, quiet, begun, to, run) =
@@ -122,7 +121,7 @@ module _ (net : Net) (levels : List (Option ℕ)) (greatest : ℕ) (E : IsElabor
         let r = λ (p : ℕ) (place : ℕ). out (finished net (given net (stimulus (suc m)) quiet)) p place in
         record {
           r = r;
-          holds = subst (λ (u : State). Holds net (stimulus (suc m)) r u) (sym e) (next_holds net levels greatest E A V (stimulus m) (stimulus (suc m)) a.r quiet H Q);
+          holds = subst (λ (u : State). Holds net (stimulus (suc m)) r u) (sym e) (next_holds net L (stimulus m) (stimulus (suc m)) a.r quiet H Q);
           above = above_start s;
         }
 
@@ -133,20 +132,20 @@ module _ (net : Net) (levels : List (Option ℕ)) (greatest : ℕ) (E : IsElabor
     extra_one : has_late_reset net ≡ true → 1 ≤ extra net
     extra_one t = let one : extra net ≡ 1 = cond-true _ _ _ t in omega arith
 
-    settles : (m : ℕ) (s : State) → Begun net stimulus m s → (k : ℕ) × SettlesIn net s k × (k ≤ bound net greatest)
+    settles : (m : ℕ) (s : State) → Begun net stimulus m s → (k : ℕ) × SettlesIn net s k × (k ≤ bound net L.greatest)
     settles m s begun =
         let a = at_moment m s begun in
-        settles_within net s (greatest + late net + extra net) (begun_done m s begun) (quiet_after net levels greatest E A V (stimulus m) a.r (late net) (extra net) s extra_one a.holds a.above)
+        settles_within net s (L.greatest + late net + extra net) (begun_done m s begun) (quiet_after net L (stimulus m) a.r (late net) (extra net) s extra_one a.holds a.above)
 
-    settles_first : HasNoReset net → (s : State) → Begun net stimulus 0 s → (k : ℕ) × SettlesIn net s k × (k ≤ greatest + 0 + 0)
+    settles_first : HasNoReset net → (s : State) → Begun net stimulus 0 s → (k : ℕ) × SettlesIn net s k × (k ≤ L.greatest + 0 + 0)
     unfolding at_moment
     settles_first none s run =
         let a = at_moment 0 s run in
         let e = HasRun-finished net (started net (stimulus 0)) s run in
-        let above = subst (λ (u : State). IsAbove net levels greatest 0 0 u) (sym e) (above_first (stimulus 0) none) in
-        settles_within net s (greatest + 0 + 0) (HasRun-done net _ s run) (quiet_after net levels greatest E A V (stimulus 0) a.r 0 0 s (λ t. absurd (no_late_reset net none t)) a.holds above)
+        let above = subst (λ (u : State). IsAbove net L.levels L.greatest 0 0 u) (sym e) (above_first (stimulus 0) none) in
+        settles_within net s (L.greatest + 0 + 0) (HasRun-done net _ s run) (quiet_after net L (stimulus 0) a.r 0 0 s (λ t. absurd (no_late_reset net none t)) a.holds above)
 
-    settles_both : (m : ℕ) (s : State) → Begun net stimulus m s → (k : ℕ) × SettlesIn net s k × (k ≤ bound net greatest) × (m ≡ 0 → HasNoReset net → k ≤ greatest)
+    settles_both : (m : ℕ) (s : State) → Begun net stimulus m s → (k : ℕ) × SettlesIn net s k × (k ≤ bound net L.greatest) × (m ≡ 0 → HasNoReset net → k ≤ L.greatest)
     settles_both zero s run =
         let (k, set, l) = settles 0 s run in
         (k, set, l, λ e none. let (j, first, l') = settles_first none s run in let same = one_number net s k j set first in omega arith)
@@ -161,7 +160,7 @@ module _ (net : Net) (levels : List (Option ℕ)) (greatest : ℕ) (E : IsElabor
         let same = λ (p : ℕ) (place : ℕ) (clock : ℕ) (edge : Edge) (is : IsClockedBy net p clock edge) (h : HasPlace net p place). sym (now_out (stimulus 0) a.r t G P p place h ∙ G.on_clocked p place clock edge is h) in
         record {
           registers = λ n. get_or t.now n 0;
-          next = λ p place clock edge is h. sym (same p place clock edge is h) ∙ start_register net levels greatest E A V (stimulus 0) p place clock edge is h;
+          next = λ p place clock edge is h. sym (same p place clock edge is h) ∙ start_register net L (stimulus 0) p place clock edge is h;
           solves = quiet_solves (stimulus 0) a.r t G P (λ n. get_or t.now n 0) same;
         }
     machine (suc m) none s t k (earlier, j, quiet, begun, before, run) to =
@@ -176,7 +175,7 @@ module _ (net : Net) (levels : List (Option ℕ)) (greatest : ℕ) (E : IsElabor
           machine m (λ i l. none i (omega arith)) earlier quiet j begun before,
           record {
             registers = λ n. get_or t.now n 0;
-            next = λ p place clock edge is h. sym (same p place clock edge is h) ∙ next_register net levels greatest E A V (stimulus m) (stimulus (suc m)) a.r quiet H Q no_race p place clock edge is h;
+            next = λ p place clock edge is h. sym (same p place clock edge is h) ∙ next_register net L (stimulus m) (stimulus (suc m)) a.r quiet H Q no_race p place clock edge is h;
             solves = quiet_solves (stimulus (suc m)) b.r t G P (λ n. get_or t.now n 0) same;
           },
         )
@@ -204,16 +203,14 @@ module _ (net : Net) (levels : List (Option ℕ)) (greatest : ℕ) (E : IsElabor
         (k, t, (s, begun, (set, deltas)))
 
 pub settles_in_bound : SettlesInBound
-settles_in_bound net levels greatest E A V stimulus m s begun = settles_both net levels greatest E (faultless net A) V stimulus m s begun
+settles_in_bound net levels greatest E A V =
+    settles_both net (record { elaborated = E; faultless = faultless net A; levels = levels; greatest = greatest; are_levels = V })
 
 pub is_the_machine : IsTheMachine
 is_the_machine net E A' stimulus m none k t (s, begun, to) v run =
     let A = faultless net A' in
-    let (levels, greatest, V) = levels_exist net A.no_loop in
-    Machine-run net E A stimulus v run m t.now (machine net levels greatest E A V stimulus m none s t k begun to)
+    Machine-run net E A stimulus v run m t.now (machine net (leveled net E A) stimulus m none s t k begun to)
 
 pub each_moment_comes : EachMomentComes
 each_moment_comes net E A' stimulus m =
-    let A = faultless net A' in
-    let (levels, greatest, V) = levels_exist net A.no_loop in
-    has_settled net levels greatest E A V stimulus m
+    has_settled net (leveled net E (faultless net A')) stimulus m

@@ -10,10 +10,9 @@ use Rattle.rtl_model.proofs.simulation.Faultless.{Faultless, faultless}
 use Rattle.rtl_model.specs.simulation.Net.{Clocked, Combinational, Driver, Edge, HasPlace, Idle, IsClockedBy, IsCombinational, IsInput, Kind, Mixed, Net, process, Source, sources_of, table, target}
 use Rattle.rtl_model.specs.simulation.Cycle.{given}
 use Rattle.rtl_model.specs.simulation.Elaborated.{IsElaborated}
-use Rattle.rtl_model.specs.simulation.Levels.{AreLevels}
 use Rattle.rtl_model.specs.simulation.Machine.{entry_or, IsDriven, Solves}
 use Rattle.rtl_model.specs.simulation.Laws.{OneSolution}
-use Rattle.rtl_model.proofs.simulation.Loops.{levels_exist}
+use Rattle.rtl_model.proofs.simulation.Leveled.{Leveled, leveled}
 use Rattle.rtl_model.proofs.simulation.Levels.{assigned, kinds, sole, driven_or_not, level_or, level_of, level_of_clocked, level_above_none, level_rises}
 
 pub get_or-table : (n : ℕ) (f : ℕ → ℕ) (k : ℕ) → k < n → get_or (table n f) k 0 ≡ f k
@@ -50,36 +49,36 @@ abbrev pub evaluations : Net → (ℕ → ℕ) → (ℕ → ℕ) → ℕ → Lis
 evaluations net inputs registers zero = net.start
 evaluations net inputs registers (suc d) = evaluate net inputs registers (evaluations net inputs registers d)
 
-module _ (net : Net) (levels : List (Option ℕ)) (greatest : ℕ) (E : IsElaborated net) (A : Faultless net) (V : AreLevels net levels greatest) where
-  pub reads_agree : (d p : ℕ) (v w : List ℕ) → AgreeTo net levels d v w → IsCombinational net p → level_or levels p ≤ suc d → AgreeOn (process net p).reads v w
-  reads_agree d p v w a c l n r = go (driven_or_not net levels greatest E A V n)
+module _ (net : Net) (L : Leveled net) where
+  pub reads_agree : (d p : ℕ) (v w : List ℕ) → AgreeTo net L.levels d v w → IsCombinational net p → level_or L.levels p ≤ suc d → AgreeOn (process net p).reads v w
+  reads_agree d p v w a c l n r = go (driven_or_not net L n)
     where
-      below : (q place : ℕ) → HasPlace net q place → target net q place ≡ n → level_or levels q ≤ d → get_or v n 0 ≡ get_or w n 0
+      below : (q place : ℕ) → HasPlace net q place → target net q place ≡ n → level_or L.levels q ≤ d → get_or v n 0 ≡ get_or w n 0
       below q place h t k = subst (λ (m : ℕ). get_or v m 0 ≡ get_or w m 0) t (a.on_driven q place h k)
 
       driver : (q place : ℕ) → HasPlace net q place → target net q place ≡ n → IsCombinational net q ⊎ ((clock : ℕ) × (edge : Edge) × IsClockedBy net q clock edge) → get_or v n 0 ≡ get_or w n 0
       driver q place h t (inl comb) =
-          let wakes = subst (λ (m : ℕ). Contains (process net p).wakes m) (sym t) (A.reads_wake p n c r) in
-          let rises = level_rises net levels greatest E A V q p (record { feeder = comb; fed = c; place = place; drives = h; wakes = wakes }) in
+          let wakes = subst (λ (m : ℕ). Contains (process net p).wakes m) (sym t) (L.faultless.reads_wake p n c r) in
+          let rises = level_rises net L q p (record { feeder = comb; fed = c; place = place; drives = h; wakes = wakes }) in
           below q place h t (omega arith)
-      driver q place h t (inr (clock, edge, is)) = let none = level_of_clocked net levels greatest E A V q clock edge is in below q place h t (omega arith)
+      driver q place h t (inr (clock, edge, is)) = let none = level_of_clocked net L q clock edge is in below q place h t (omega arith)
 
       go : IsDriven net n ⊎ (IsDriven net n → ⊥) → get_or v n 0 ≡ get_or w n 0
-      go (inl (q, place, h, t)) = driver q place h t (kinds net levels greatest E A V q place h)
+      go (inl (q, place, h, t)) = driver q place h t (kinds net L q place h)
       go (inr free) = a.on_rest n free
 
-  pub effects_agree : (d p : ℕ) (v w : List ℕ) → AgreeTo net levels d v w → IsCombinational net p → level_or levels p ≤ suc d → (process net p).effect v v ≡ (process net p).effect w w
-  effects_agree d p v w a c l = E.bodies.effect_reads p v v w w c (reads_agree d p v w a c l)
+  pub effects_agree : (d p : ℕ) (v w : List ℕ) → AgreeTo net L.levels d v w → IsCombinational net p → level_or L.levels p ≤ suc d → (process net p).effect v v ≡ (process net p).effect w w
+  effects_agree d p v w a c l = L.elaborated.bodies.effect_reads p v v w w c (reads_agree d p v w a c l)
 
-  pub same_values : (v w : List ℕ) → length v ≡ length w → AgreeTo net levels greatest v w → v ≡ w
-  same_values v w e a = ext_get_or 0 v w e (λ n l. go n (driven_or_not net levels greatest E A V n))
+  pub same_values : (v w : List ℕ) → length v ≡ length w → AgreeTo net L.levels L.greatest v w → v ≡ w
+  same_values v w e a = ext_get_or 0 v w e (λ n l. go n (driven_or_not net L n))
     where
       driver : (n q place : ℕ) → HasPlace net q place → target net q place ≡ n → IsCombinational net q ⊎ ((clock : ℕ) × (edge : Edge) × IsClockedBy net q clock edge) → get_or v n 0 ≡ get_or w n 0
-      driver n q place h t (inl comb) = subst (λ (m : ℕ). get_or v m 0 ≡ get_or w m 0) t (a.on_driven q place h (level_of net levels greatest E A V q comb).1)
-      driver n q place h t (inr (clock, edge, is)) = let none = level_of_clocked net levels greatest E A V q clock edge is in subst (λ (m : ℕ). get_or v m 0 ≡ get_or w m 0) t (a.on_driven q place h (omega arith))
+      driver n q place h t (inl comb) = subst (λ (m : ℕ). get_or v m 0 ≡ get_or w m 0) t (a.on_driven q place h (level_of net L q comb).1)
+      driver n q place h t (inr (clock, edge, is)) = let none = level_of_clocked net L q clock edge is in subst (λ (m : ℕ). get_or v m 0 ≡ get_or w m 0) t (a.on_driven q place h (omega arith))
 
       go : (n : ℕ) → IsDriven net n ⊎ (IsDriven net n → ⊥) → get_or v n 0 ≡ get_or w n 0
-      go n (inl (q, place, h, t)) = driver n q place h t (kinds net levels greatest E A V q place h)
+      go n (inl (q, place, h, t)) = driver n q place h t (kinds net L q place h)
       go n (inr free) = a.on_rest n free
 
   module _ (inputs registers : ℕ → ℕ) where
@@ -95,15 +94,15 @@ module _ (net : Net) (levels : List (Option ℕ)) (greatest : ℕ) (E : IsElabor
             get_or_past v n 0 (omega arith) ∙ sym (get_or_past w n 0 (omega arith))
 
     -- two solutions agree, level by level
-    solutions_agree : (d : ℕ) (v w : List ℕ) → Solves net inputs registers v → Solves net inputs registers w → AgreeTo net levels d v w
-    solutions_agree zero v w s t = record { on_driven = λ p place h l. go p place h l (kinds net levels greatest E A V p place h); on_rest = rest_agrees v w s t }
+    solutions_agree : (d : ℕ) (v w : List ℕ) → Solves net inputs registers v → Solves net inputs registers w → AgreeTo net L.levels d v w
+    solutions_agree zero v w s t = record { on_driven = λ p place h l. go p place h l (kinds net L p place h); on_rest = rest_agrees v w s t }
       where
-        go : (p place : ℕ) → HasPlace net p place → level_or levels p ≤ 0 → IsCombinational net p ⊎ ((clock : ℕ) × (edge : Edge) × IsClockedBy net p clock edge) → get_or v (target net p place) 0 ≡ get_or w (target net p place) 0
-        go p place h l (inl c) = let k = level_above_none net levels greatest E A V p c in absurd (omega arith)
+        go : (p place : ℕ) → HasPlace net p place → level_or L.levels p ≤ 0 → IsCombinational net p ⊎ ((clock : ℕ) × (edge : Edge) × IsClockedBy net p clock edge) → get_or v (target net p place) 0 ≡ get_or w (target net p place) 0
+        go p place h l (inl c) = let k = level_above_none net L p c in absurd (omega arith)
         go p place h l (inr (clock, edge, is)) = s.on_registers p place clock edge is h ∙ sym (t.on_registers p place clock edge is h)
-    solutions_agree (suc d) v w s t = let below = solutions_agree d v w s t in record { on_driven = λ p place h l. go below p place h l (kinds net levels greatest E A V p place h); on_rest = rest_agrees v w s t }
+    solutions_agree (suc d) v w s t = let below = solutions_agree d v w s t in record { on_driven = λ p place h l. go below p place h l (kinds net L p place h); on_rest = rest_agrees v w s t }
       where
-        go : AgreeTo net levels d v w → (p place : ℕ) → HasPlace net p place → level_or levels p ≤ suc d → IsCombinational net p ⊎ ((clock : ℕ) × (edge : Edge) × IsClockedBy net p clock edge) → get_or v (target net p place) 0 ≡ get_or w (target net p place) 0
+        go : AgreeTo net L.levels d v w → (p place : ℕ) → HasPlace net p place → level_or L.levels p ≤ suc d → IsCombinational net p ⊎ ((clock : ℕ) × (edge : Edge) × IsClockedBy net p clock edge) → get_or v (target net p place) 0 ≡ get_or w (target net p place) 0
         go below p place h l (inl c) =
             let a = s.on_combinational p place c h in
             let b = t.on_combinational p place c h in
@@ -115,7 +114,7 @@ module _ (net : Net) (levels : List (Option ℕ)) (greatest : ℕ) (E : IsElabor
     evaluate_at v n l = get_or-table (length net.start) (λ m. evaluated net inputs registers v m (sources_of net m)) n l
 
     evaluate_target : (v : List ℕ) (p place : ℕ) → HasPlace net p place → get_or (evaluate net inputs registers v) (target net p place) 0 ≡ by_kind (process net p).kind (entry_or (get_or ((process net p).effect v v) place None) 0) (registers (target net p place))
-    evaluate_target v p place h = evaluate_at v (target net p place) (E.wiring.targets_are_nets p place h) ∙ ap (λ (xs : List Source). evaluated net inputs registers v (target net p place) xs) (sole net levels greatest E A V p place h)
+    evaluate_target v p place h = evaluate_at v (target net p place) (L.elaborated.wiring.targets_are_nets p place h) ∙ ap (λ (xs : List Source). evaluated net inputs registers v (target net p place) xs) (sole net L p place h)
 
     evaluate_register : (v : List ℕ) (p place clock : ℕ) (edge : Edge) → HasPlace net p place → IsClockedBy net p clock edge → get_or (evaluate net inputs registers v) (target net p place) 0 ≡ registers (target net p place)
     evaluate_register v p place clock edge h is = evaluate_target v p place h ∙ ap (λ (k : Kind). by_kind k (entry_or (get_or ((process net p).effect v v) place None) 0) (registers (target net p place))) is.1
@@ -131,20 +130,20 @@ module _ (net : Net) (levels : List (Option ℕ)) (greatest : ℕ) (E : IsElabor
         go (inl l) [] e = rw (evaluate_at v n l, evaluate_at w n l, e) refl
         go (inl l) (Idle value ∷ more) e = rw (evaluate_at v n l, evaluate_at w n l, e) refl
         go (inl l) (Driver p place ∷ more) e =
-            let f = E.wiring.sources_are_drivers n p place (subst (λ (xs : List Source). Contains xs (Driver p place)) (sym e) (Contains-first (Driver p place) more)) in
+            let f = L.elaborated.wiring.sources_are_drivers n p place (subst (λ (xs : List Source). Contains xs (Driver p place)) (sym e) (Contains-first (Driver p place) more)) in
             absurd (free (p, place, f.0, f.1))
         go (inr l) xs e = get_or_past (evaluate net inputs registers v) n 0 (rw length-table l) ∙ sym (get_or_past (evaluate net inputs registers w) n 0 (rw length-table l))
 
     -- an evaluation more changes nothing up to its level
-    evaluations_agree : (d : ℕ) → AgreeTo net levels d (evaluations net inputs registers (suc d)) (evaluations net inputs registers (suc (suc d)))
-    evaluations_agree zero = record { on_driven = λ p place h l. go p place h l (kinds net levels greatest E A V p place h); on_rest = evaluate_rest _ _ }
+    evaluations_agree : (d : ℕ) → AgreeTo net L.levels d (evaluations net inputs registers (suc d)) (evaluations net inputs registers (suc (suc d)))
+    evaluations_agree zero = record { on_driven = λ p place h l. go p place h l (kinds net L p place h); on_rest = evaluate_rest _ _ }
       where
-        go : (p place : ℕ) → HasPlace net p place → level_or levels p ≤ 0 → IsCombinational net p ⊎ ((clock : ℕ) × (edge : Edge) × IsClockedBy net p clock edge) → get_or (evaluations net inputs registers 1) (target net p place) 0 ≡ get_or (evaluations net inputs registers 2) (target net p place) 0
-        go p place h l (inl c) = let k = level_above_none net levels greatest E A V p c in absurd (omega arith)
+        go : (p place : ℕ) → HasPlace net p place → level_or L.levels p ≤ 0 → IsCombinational net p ⊎ ((clock : ℕ) × (edge : Edge) × IsClockedBy net p clock edge) → get_or (evaluations net inputs registers 1) (target net p place) 0 ≡ get_or (evaluations net inputs registers 2) (target net p place) 0
+        go p place h l (inl c) = let k = level_above_none net L p c in absurd (omega arith)
         go p place h l (inr (clock, edge, is)) = evaluate_register _ p place clock edge h is ∙ sym (evaluate_register _ p place clock edge h is)
-    evaluations_agree (suc d) = let below = evaluations_agree d in record { on_driven = λ p place h l. go below p place h l (kinds net levels greatest E A V p place h); on_rest = evaluate_rest _ _ }
+    evaluations_agree (suc d) = let below = evaluations_agree d in record { on_driven = λ p place h l. go below p place h l (kinds net L p place h); on_rest = evaluate_rest _ _ }
       where
-        go : AgreeTo net levels d (evaluations net inputs registers (suc d)) (evaluations net inputs registers (suc (suc d))) → (p place : ℕ) → HasPlace net p place → level_or levels p ≤ suc d → IsCombinational net p ⊎ ((clock : ℕ) × (edge : Edge) × IsClockedBy net p clock edge) → get_or (evaluations net inputs registers (suc (suc d))) (target net p place) 0 ≡ get_or (evaluations net inputs registers (suc (suc (suc d)))) (target net p place) 0
+        go : AgreeTo net L.levels d (evaluations net inputs registers (suc d)) (evaluations net inputs registers (suc (suc d))) → (p place : ℕ) → HasPlace net p place → level_or L.levels p ≤ suc d → IsCombinational net p ⊎ ((clock : ℕ) × (edge : Edge) × IsClockedBy net p clock edge) → get_or (evaluations net inputs registers (suc (suc d))) (target net p place) 0 ≡ get_or (evaluations net inputs registers (suc (suc (suc d)))) (target net p place) 0
         go below p place h l (inl c) =
             let e = effects_agree d p _ _ below c l in
             evaluate_combinational _ p place h c ∙ ap (λ (f : List (Option ℕ)). entry_or (get_or f place None) 0) e ∙ sym (evaluate_combinational _ p place h c)
@@ -153,10 +152,10 @@ module _ (net : Net) (levels : List (Option ℕ)) (greatest : ℕ) (E : IsElabor
     fixed_solves : (v : List ℕ) → v ≡ evaluate net inputs registers v → Solves net inputs registers v
     fixed_solves v e = record {
       each_net = ap length e ∙ length-table _ _;
-      on_inputs = λ n is. at n ∙ evaluate_at v n (E.wiring.inputs_are_nets n is) ∙ ap (λ (xs : List Source). evaluated net inputs registers v n xs) (E.wiring.inputs_have_no_source n is) ∙ cond-true _ _ _ is;
+      on_inputs = λ n is. at n ∙ evaluate_at v n (L.elaborated.wiring.inputs_are_nets n is) ∙ ap (λ (xs : List Source). evaluated net inputs registers v n xs) (L.elaborated.wiring.inputs_have_no_source n is) ∙ cond-true _ _ _ is;
       on_registers = λ p place clock edge is h. at (target net p place) ∙ evaluate_register v p place clock edge h is;
       on_others = λ n l given free. at n ∙ evaluate_at v n l ∙ other n given free (sources_of net n) refl;
-      on_combinational = λ p place c h. some_entry _ (assigned net levels greatest E A V p place v v c h) ∙ ap (λ (x : ℕ). Some x) (sym (at (target net p place) ∙ evaluate_combinational v p place h c));
+      on_combinational = λ p place c h. some_entry _ (assigned net L p place v v c h) ∙ ap (λ (x : ℕ). Some x) (sym (at (target net p place) ∙ evaluate_combinational v p place h c));
     }
       where
         at : (n : ℕ) → get_or v n 0 ≡ get_or (evaluate net inputs registers v) n 0
@@ -166,29 +165,29 @@ module _ (net : Net) (levels : List (Option ℕ)) (greatest : ℕ) (E : IsElabor
         other n given free [] k = ap (λ (xs : List Source). evaluated net inputs registers v n xs) k ∙ cond-false _ _ _ (false_from_ne_true _ given)
         other n given free (Idle value ∷ more) k = ap (λ (xs : List Source). evaluated net inputs registers v n xs) k
         other n given free (Driver p place ∷ more) k =
-            let f = E.wiring.sources_are_drivers n p place (subst (λ (xs : List Source). Contains xs (Driver p place)) (sym k) (Contains-first (Driver p place) more)) in
+            let f = L.elaborated.wiring.sources_are_drivers n p place (subst (λ (xs : List Source). Contains xs (Driver p place)) (sym k) (Contains-first (Driver p place) more)) in
             absurd (free (p, place, f.0, f.1))
 
     -- the evaluation after the greatest level
     pub solution : List ℕ
-    solution = evaluations net inputs registers (suc greatest)
+    solution = evaluations net inputs registers (suc L.greatest)
 
-    pub solution_is : solution ≡ evaluations net inputs registers (suc greatest)
+    pub solution_is : solution ≡ evaluations net inputs registers (suc L.greatest)
     unfolding solution
     solution_is = refl
 
     pub solution_solves : Solves net inputs registers solution
     unfolding solution
-    solution_solves = fixed_solves solution (same_values solution _ (length-table _ _ ∙ sym (length-table _ _)) (evaluations_agree greatest))
+    solution_solves = fixed_solves solution (same_values solution _ (length-table _ _ ∙ sym (length-table _ _)) (evaluations_agree L.greatest))
 
     pub one_solves : (v w : List ℕ) → Solves net inputs registers v → Solves net inputs registers w → v ≡ w
-    one_solves v w s t = same_values v w (s.each_net ∙ sym t.each_net) (solutions_agree greatest v w s t)
+    one_solves v w s t = same_values v w (s.each_net ∙ sym t.each_net) (solutions_agree L.greatest v w s t)
 
 -- the solution for given inputs and registers
 pub solution_exists : (net : Net) → IsElaborated net → Faultless net → (inputs registers : ℕ → ℕ) → (v : List ℕ) × Solves net inputs registers v × ((w : List ℕ) → Solves net inputs registers w → w ≡ v)
 solution_exists net E A inputs registers =
-    let (levels, greatest, V) = levels_exist net A.no_loop in
-    (solution net levels greatest E A V inputs registers, solution_solves net levels greatest E A V inputs registers, λ w t. one_solves net levels greatest E A V inputs registers _ _ t (solution_solves net levels greatest E A V inputs registers))
+    let L = leveled net E A in
+    (solution net L inputs registers, solution_solves net L inputs registers, λ w t. one_solves net L inputs registers _ _ t (solution_solves net L inputs registers))
 
 pub one_solution : OneSolution
 one_solution net E A = solution_exists net E (faultless net A)

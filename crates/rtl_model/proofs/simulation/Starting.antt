@@ -6,11 +6,10 @@ use Rattle.std.proofs.lemmas.List.FromFn.{length-map-range_with_len}
 use Rattle.std.proofs.lemmas.Bool.{cases_lt, cases_Bool, false_from_ne_true, cond-true, cond-false}
 use Rattle.rtl_model.proofs.basics.Lists.{get_or-map_within}
 use Rattle.rtl_model.specs.basics.Valuations.{clocked_entry}
-use Rattle.rtl_model.proofs.simulation.Faultless.{Faultless}
+use Rattle.rtl_model.proofs.simulation.Leveled.{Leveled}
 use Rattle.rtl_model.specs.simulation.Net.{Driver, Edge, HasPlace, IsClockedBy, IsInput, Net, no_process, process, Process, Reset, reset_entry, reset_of, resets, Source, target}
 use Rattle.rtl_model.specs.simulation.Cycle.{given, source_value, started, State, with_inputs}
 use Rattle.rtl_model.specs.simulation.Elaborated.{IsElaborated}
-use Rattle.rtl_model.specs.simulation.Levels.{AreLevels}
 use Rattle.rtl_model.specs.simulation.Machine.{entry_or}
 use Rattle.rtl_model.specs.simulation.Laws.{HasNoReset}
 use Rattle.rtl_model.proofs.simulation.Order.{finished, waits, row_after}
@@ -34,9 +33,9 @@ others_at net inputs old n e given = go (cases_lt n (length net.start))
     go (inl l) = get_or-table (length net.start) (λ m. if list_any (λ k. k == m) net.inputs then inputs m else get_or old m 0) n l ∙ cond-false _ _ _ (false_from_ne_true _ given)
     go (inr l) = get_or_past (with_inputs net inputs old) n 0 (rw length-table l) ∙ sym (get_or_past old n 0 (omega arith))
 
-module _ (net : Net) (levels : List (Option ℕ)) (greatest : ℕ) (E : IsElaborated net) (A : Faultless net) (V : AreLevels net levels greatest) where
+module _ (net : Net) (L : Leveled net) where
   pub target_no_input : (p place : ℕ) → HasPlace net p place → IsInput net (target net p place) → ⊥
-  target_no_input p place h is = input_not_driven net levels greatest E A V (target net p place) is (p, place, h, refl)
+  target_no_input p place h is = input_not_driven net L (target net p place) is (p, place, h, refl)
 
   -- the start
   module _ (inputs : ℕ → ℕ) where
@@ -57,12 +56,12 @@ module _ (net : Net) (levels : List (Option ℕ)) (greatest : ℕ) (E : IsElabor
 
     start_value : (p place : ℕ) → HasPlace net p place → get_or net.start (target net p place) 0 ≡ value first p place
     start_value p place h =
-        E.wiring.nets_start (target net p place) (Driver p place) (E.wiring.drivers_are_sources p place h)
-        ∙ ap (λ (xs : List Source). net.resolve (map (source_value first.drivers) xs)) (sole net levels greatest E A V p place h)
-        ∙ E.values.one_resolves _
+        L.elaborated.wiring.nets_start (target net p place) (Driver p place) (L.elaborated.wiring.drivers_are_sources p place h)
+        ∙ ap (λ (xs : List Source). net.resolve (map (source_value first.drivers) xs)) (sole net L p place h)
+        ∙ L.elaborated.values.one_resolves _
 
     start_reset : (p : ℕ) → resets (reset_of net p) (λ n. get_or first.now n 0) ≡ resets (reset_of net p) inputs
-    start_reset p = reset_now net levels greatest E A V p (λ n. get_or first.now n 0) inputs (λ n is. inputs_at net E inputs net.start n is)
+    start_reset p = reset_now net L p (λ n. get_or first.now n 0) inputs (λ n is. inputs_at net L.elaborated inputs net.start n is)
 
     -- what a register is assigned then
     abbrev pub first_entry : (p place : ℕ) → Option ℕ
@@ -77,18 +76,18 @@ module _ (net : Net) (levels : List (Option ℕ)) (greatest : ℕ) (E : IsElabor
 
         whole : (resets (reset_of net p) inputs ≡ true) ⊎ (resets (reset_of net p) inputs ≡ false)
             → out (finished net first) p place ≡ entry_or (first_entry p place) (value first p place)
-        whole (inl t) = ap (λ (o : Option ℕ). entry_or o (value first p place)) (reset_ran net levels greatest E A V first p place clock edge start_fresh is l (start_waits p l) (start_reset p ∙ t) ∙ sym (entry_of_reset _ false (reset_entry (reset_of net p) place) None t))
-        whole (inr t) = ap (λ (o : Option ℕ). entry_or o (value first p place)) (clocked_ran net levels greatest E A V first p place clock edge start_fresh is (start_reset p ∙ t) (no_edge_same net levels greatest E A V first.before first.now clock edge refl) ∙ sym (entry_none _ false (reset_entry (reset_of net p) place) None t refl))
+        whole (inl t) = ap (λ (o : Option ℕ). entry_or o (value first p place)) (reset_ran net L first p place clock edge start_fresh is l (start_waits p l) (start_reset p ∙ t) ∙ sym (entry_of_reset _ false (reset_entry (reset_of net p) place) None t))
+        whole (inr t) = ap (λ (o : Option ℕ). entry_or o (value first p place)) (clocked_ran net L first p place clock edge start_fresh is (start_reset p ∙ t) (no_edge_same net L first.before first.now clock edge refl) ∙ sym (entry_none _ false (reset_entry (reset_of net p) place) None t refl))
 
     pub start_holds : Holds net inputs (λ p place. out (finished net first) p place) (finished net first)
     start_holds = record {
       now_length = length-table _ _;
       pend_length = length-map-range_with_len (row_after net first) 0 (length first.pending) ∙ start_fresh.rows;
-      row_lengths = λ p. ap length (start_row p) ∙ E.wiring.each_driver_starts p;
-      on_inputs = λ n is. inputs_at net E inputs net.start n is;
+      row_lengths = λ p. ap length (start_row p) ∙ L.elaborated.wiring.each_driver_starts p;
+      on_inputs = λ n is. inputs_at net L.elaborated inputs net.start n is;
       on_others = λ n l given free. others_at net inputs net.start n refl given;
       on_driven = λ p place h. others_at net inputs net.start (target net p place) refl (target_no_input p place h) ∙ start_value p place h;
-      on_combinational = λ p place c h. combinational_awake net levels greatest E A V first p place start_fresh c h (start_waits p c.0);
+      on_combinational = λ p place c h. combinational_awake net L first p place start_fresh c h (start_waits p c.0);
       on_clocked = λ p place clock edge is h. refl;
       reset_kept = λ p place clock edge is h t.
           let e = start_register p place clock edge is h ∙ ap (λ (o : Option ℕ). entry_or o (get_or net.start (target net p place) 0)) (entry_of_reset _ false (reset_entry (reset_of net p) place) None t) in
@@ -98,7 +97,7 @@ module _ (net : Net) (levels : List (Option ℕ)) (greatest : ℕ) (E : IsElabor
     -- without a reset clocked processes do nothing at the start
     pub start_asleep : HasNoReset net → (p place clock : ℕ) (edge : Edge) → IsClockedBy net p clock edge → transaction (finished net first) p place ≡ None
     start_asleep none p place clock edge is =
-        clocked_ran net levels greatest E A V first p place clock edge start_fresh is (go (reset_of net p) refl) (no_edge_same net levels greatest E A V first.before first.now clock edge refl)
+        clocked_ran net L first p place clock edge start_fresh is (go (reset_of net p) refl) (no_edge_same net L first.before first.now clock edge refl)
       where
         go : (o : Option Reset) → reset_of net p ≡ o → resets (reset_of net p) (λ n. get_or first.now n 0) ≡ false
         go None e = ap (λ (o : Option Reset). resets o (λ n. get_or first.now n 0)) e
