@@ -1,3 +1,4 @@
+pub mod Aligned
 pub mod Bits
 pub mod Coded
 pub mod Codes

@@ -1,14 +1,16 @@
--- Eight codes as the bytes of a word: a plane of them is gathered by a mask and a product, and spread likewise.
-use Rattle.std.proofs.Common.{◌≡◌, ℕ, zero, suc, ◌+◌, ◌-◌, ◌*◌, ◌/◌, ◌%◌, ◌^◌, ◌<◌, ◌≤◌, Bool, true, false, List, [], ◌∷◌, ◌++◌, length, map, get_or, take, replicate, refl, sym, ap, ◌∙◌, arith, length-append}
+-- Eight codes as the bytes of a word: a plane of them is gathered by a mask and a product, and spread by a table.
+use Rattle.std.proofs.Common.{◌≡◌, ℕ, zero, suc, ◌+◌, ◌-◌, ◌*◌, ◌/◌, ◌%◌, ◌^◌, ◌<◌, ◌≤◌, Bool, true, false, List, [], ◌∷◌, ◌++◌, length, map, get_or, take, replicate, nat_lt, refl, sym, ap, ◌∙◌, arith, length-append}
 use Rattle.std.specs.Prelude.{◌&&◌, ◌==◌, bit_and}
-use Rattle.std.specs.List.{All}
+use Rattle.std.specs.List.{All, list_all}
 use Rattle.std.specs.Int.{bit_at, w64, from_be_bytes, from_le_bytes, to_le_bytes}
 use Rattle.std.proofs.lemmas.List.{length-map, length-replicate, length-take, take_more}
+use Rattle.std.proofs.lemmas.Bool.{ltb-true}
 use Rattle.std.proofs.lemmas.Bool.Decides.{Decides-eqb}
 use Rattle.std.proofs.Math.Nat.{pow-le-pow_right}
 use Rattle.std.proofs.lemmas.Nat.{pow-add, and_block, shl-shr, shl_whole, le_bytes_8, mul-le, pow_below}
 use Rattle.std.proofs.lemmas.Nat.Bits.{and_pow, bit_at-lt, bit_at-zero}
 use Rattle.vhdl_values.specs.Planes.{bit, bit-test, marks, code_has}
+use Rattle.vhdl_values.specs.declared.spreads.TheConstants.{SPREADS}
 use Rattle.vhdl_values.specs.Packed.{packed, packed_low}
 use Rattle.vhdl_values.proofs.Marks.{marks-map}
 
@@ -44,20 +46,25 @@ gathered-bits : (bs : List Bool) → length bs ≡ 8 → packed (map bit bs) * 7
 unfolding gathers
 gathered-bits bs long = (Decides-eqb _ (marks (λ b. b) bs)).0 (every-eight gathers bs all-gathered long)
 
--- the bits of a byte, spread over eight
-abbrev pub spread_of : ℕ → ℕ
-spread_of n = bit_and (n * 72198606942111748) 72340172838076672 + n / 2 ^ 7
-
+-- the rows of the table are the bits of a byte, spread over eight
 spreads : List Bool → Bool
-spreads bs = spread_of (marks (λ b. b) bs) == packed_low (map bit bs)
+spreads bs = get_or SPREADS (marks (λ b. b) bs) 0 == packed_low (map bit bs)
 
 all-spread : every 8 spreads ≡ true
 unfolding every spreads packed_low marks
 all-spread = refl
 
-pub spread-bits : (bs : List Bool) → length bs ≡ 8 → spread_of (marks (λ b. b) bs) ≡ packed_low (map bit bs)
+pub spread-bits : (bs : List Bool) → length bs ≡ 8 → get_or SPREADS (marks (λ b. b) bs) 0 ≡ packed_low (map bit bs)
 unfolding spreads
 spread-bits bs long = (Decides-eqb _ (packed_low (map bit bs))).0 (every-eight spreads bs all-spread long)
+
+spreads_below : (ns : List ℕ) (n : ℕ) → list_all (λ m. nat_lt m (2 ^ 58)) ns ≡ true → n < length ns → get_or ns n 0 < 2 ^ 58
+spreads_below [] n e lt = absurd (omega arith)
+spreads_below (m ∷ ms) zero e lt = ltb-true m (2 ^ 58) (both-true (nat_lt m (2 ^ 58)) _ e).0
+spreads_below (m ∷ ms) (suc n) e lt = spreads_below ms n (both-true (nat_lt m (2 ^ 58)) _ e).1 (omega arith)
+
+pub spread_below : (n : ℕ) → n < 256 → get_or SPREADS n 0 < 2 ^ 58
+spread_below n lt = spreads_below SPREADS n refl lt
 
 -- ---- bytes of a word
 

@@ -35,6 +35,10 @@ plane_of j vs = marks (has_bit j) vs
 abbrev pub planes_of : List Nine → List ℕ
 planes_of vs = plane_of 0 vs ∷ plane_of 1 vs ∷ plane_of 2 vs ∷ plane_of 3 vs ∷ []
 
+-- these words are the planes of a part of a vector
+abbrev pub ArePlanes : List Nine → ℕ → ℕ → ℕ → ℕ → Type 0
+ArePlanes vs a b c d = (a ≡ plane_of 0 vs) × (b ≡ plane_of 1 vs) × (c ≡ plane_of 2 vs) × (d ≡ plane_of 3 vs)
+
 -- the code that four words have at a place from the right
 abbrev pub code_at : ℕ → ℕ → ℕ → ℕ → ℕ → ℕ
 code_at a b c d k = bit_at a k + 2 * bit_at b k + 4 * bit_at c k + 8 * bit_at d k

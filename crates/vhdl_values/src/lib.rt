@@ -11,6 +11,7 @@ mod kinds;
 mod planes;
 mod resolution;
 mod scalar;
+mod spreads;
 mod stripped;
 mod transposed;
 mod vector;

@@ -5,6 +5,7 @@ ghost use Rattle.std.specs.List.{All};
 ghost use Rattle.vhdl_values.specs.Packed.{packed, packed_low};
 ghost use Rattle.vhdl_values.specs.Planes.{bit, code_has, marks};
 
+use crate::spreads::SPREADS;
 use crate::words::beside;
 
 /// Bit 0 of each byte.
@@ -12,12 +13,6 @@ const LOWEST: u64 = 0x0101_0101_0101_0101;
 
 /// Times this, bit 0 of each byte comes into the highest byte, that of the highest byte first.
 const GATHER: u64 = 0x0102_0408_1020_4080;
-
-/// Times this, bit 7 - i of a byte comes to bit 0 of byte i, for i from 1 to 7.
-const SPREAD: u64 = 0x0100_8040_2010_0804;
-
-/// Bit 0 of each byte but the lowest.
-const ABOVE: u64 = 0x0101_0101_0101_0100;
 
 /// Up to eight codes as the bytes of a word, the last one lowest.
 pub(crate) fn packed(codes: &[u8]) -> u64
@@ -50,6 +45,5 @@ pub(crate) fn spread(plane: u8) -> u64
     ensures room { result < 2 ^ 58 }
     ensures bits { (marked : List Bool) → length marked ≡ 8 → plane ≡ marks (λ mark. mark) marked → result ≡ packed_low (map bit marked) }
 {
-    let above = u64::from(plane) * SPREAD;
-    (above & ABOVE) + u64::from(plane >> 7)
+    SPREADS[usize::from(plane)]
 }

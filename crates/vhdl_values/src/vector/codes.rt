@@ -1,8 +1,9 @@
 //! Codes and planes of a vector.
 
-ghost use Rattle.std.specs.Prelude.{◌≡◌, ◌+◌, ◌-◌, ◌<◌, ◌≤◌, All, drop, length, map, take};
+ghost use Rattle.std.specs.Prelude.{◌≡◌, ◌+◌, ◌-◌, ◌<◌, ◌≤◌, All, List, drop, length, map, take};
 ghost use Rattle.vhdl_values.specs.Scalar.{code_of, value_of_code};
-ghost use Rattle.vhdl_values.specs.Planes.{planes_of};
+ghost use Rattle.vhdl_values.specs.Planes.{ArePlanes, planes_of};
+ghost use Rattle.vhdl_values.specs.declared.scalar.Nine.{Nine as Value};
 
 use super::Vec9;
 use crate::planes::Planes;
@@ -34,9 +35,14 @@ impl Vec9 {
         ensures { out.new ≡ map code_of self.now }
     {
         let len = self.len();
+        let first = (self.first << (64 - len)).to_be_bytes();
+        let second = (self.second << (64 - len)).to_be_bytes();
+        let third = (self.third << (64 - len)).to_be_bytes();
+        let fourth = (self.fourth << (64 - len)).to_be_bytes();
         for group in 0..len / 8 {
             let at = 8 * group;
-            out[at..at + 8].copy_from_slice(&self.codes_at(at, 8));
+            let codes = codes_of_bytes(first[group], second[group], third[group], fourth[group]);
+            out[at..at + 8].copy_from_slice(&codes);
         }
         let rest = len % 8;
         if rest > 0 {
@@ -61,8 +67,20 @@ impl Vec9 {
         ensures { drop (8 - len) result ≡ map code_of (take len (drop at self.now)) }
     {
         let right = self.len() - at - len;
-        let low = spread(byte(self.first, right, len)) + 2 * spread(byte(self.second, right, len));
-        let high = spread(byte(self.third, right, len)) + 2 * spread(byte(self.fourth, right, len));
-        (low + 4 * high).to_le_bytes()
+        codes_of_bytes(
+            byte(self.first, right, len),
+            byte(self.second, right, len),
+            byte(self.third, right, len),
+            byte(self.fourth, right, len),
+        )
     }
+}
+
+/// The codes of up to eight values, in the last bytes, from a byte of each plane.
+fn codes_of_bytes(first: u8, second: u8, third: u8, fourth: u8) -> [u8; 8]
+    ensures { (values : List Value) → length values ≤ 8 → ArePlanes values first second third fourth → drop (8 - length values) result ≡ map code_of values }
+{
+    let low = spread(first) + 2 * spread(second);
+    let high = spread(third) + 2 * spread(fourth);
+    (low + 4 * high).to_le_bytes()
 }
