@@ -1,3 +1,4 @@
 pub mod Waiting
 pub mod Ordering
 pub mod Maps
+pub mod Pushing

@@ -1,2 +1,3 @@
 pub mod Agenda
 pub mod MapState
+pub mod Laws

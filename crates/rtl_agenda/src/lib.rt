@@ -1,13 +1,16 @@
 //! Pending changes of nets by their times: `Agenda`, which gives the least time first with its changes, and
 //! `MapAgenda`, an agenda over an ordered map.
 //!
-//! `specs/Agenda.antt` has the words in which contracts say what an agenda holds.
+//! `specs/Agenda.antt` has the words in which contracts say what an agenda holds, and
+//! `specs/Laws.antt` the law of `push`.
 #![tactic(auto)]
 
 mod agenda;
+mod laws;
 mod map_agenda;
 #[cfg(test)]
 mod tests;
 
 pub use agenda::{Agenda, Change, NoMemory};
+pub use laws::each_push_is_last;
 pub use map_agenda::MapAgenda;
