@@ -2,3 +2,4 @@
 pub mod Once
 pub mod Choices
 pub mod Associations
+pub mod Regions
