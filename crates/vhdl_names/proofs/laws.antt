@@ -5,3 +5,4 @@ pub mod Choices
 pub mod Associations
 pub mod Regions
 pub mod Meanings
+pub mod Files

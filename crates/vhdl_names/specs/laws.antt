@@ -3,3 +3,4 @@ pub mod Once
 pub mod Choices
 pub mod Associations
 pub mod Regions
+pub mod Files

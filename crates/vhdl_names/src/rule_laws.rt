@@ -2,6 +2,7 @@
 
 ghost use Rattle.vhdl_names.specs.laws.Choices.{ChoicesDiffer, OthersIsLast};
 ghost use Rattle.vhdl_names.specs.laws.Associations.{FormalsHaveActuals};
+ghost use Rattle.vhdl_names.specs.laws.Files.{EntitiesStandInOrder};
 ghost use Rattle.vhdl_names.specs.laws.Regions.{InterfaceNamesStandOnce, ArchitectureNamesStandOnce, ProcessNamesStandOnce, GenerateLabelsStandOnce, InnermostIsMeant, MeaningsAreDeclared};
 
 /// No two choices of all alternatives are the same, and `others` stands nowhere but alone in the last.
@@ -28,4 +29,10 @@ pub fn names_stand_once()
 pub fn innermost_is_meant()
     ensures innermost { InnermostIsMeant }
     ensures declared { MeaningsAreDeclared }
+{}
+
+/// The units of a file are its entities in order of the text, each of a name of its own, each with one architecture at most, which
+/// stands after it.
+pub fn entities_stand_in_order()
+    ensures { EntitiesStandInOrder }
 {}
