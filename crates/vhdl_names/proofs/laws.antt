@@ -3,3 +3,6 @@ pub mod Rules
 pub mod Once
 pub mod Choices
 pub mod Associations
+pub mod Regions
+pub mod Meanings
+pub mod Files

@@ -2,3 +2,5 @@
 pub mod Once
 pub mod Choices
 pub mod Associations
+pub mod Regions
+pub mod Files

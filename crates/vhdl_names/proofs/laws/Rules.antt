@@ -1,5 +1,5 @@
 -- What follows where rules are kept.
-use Rattle.std.proofs.Common.{◌≡◌, ℕ, zero, suc, Bool, true, false, not, ◌&&◌, ◌||◌, List, [], ◌∷◌, Option, Some, None, refl, ap, sym, ◌∙◌}
+use Rattle.std.proofs.Common.{◌≡◌, ℕ, zero, suc, Bool, true, false, not, ◌&&◌, ◌||◌, map, List, [], ◌∷◌, Option, Some, None, refl, ap, sym, ◌∙◌}
 use Rattle.std.specs.List.{slice_get, list_any, list_all}
 use Rattle.vhdl_names.specs.Rules.{◌>>=◌, ◌>>◌, rule, each}
 
@@ -63,3 +63,22 @@ made {A} {B} f (a ∷ xs) ys k x e at =
     here y zs is g more (suc k) at =
         let m = more k at in
         record { value = m.value; is = m.is; at = ap (λ ys. slice_get ys (suc k)) (sym g) ∙ m.at }
+
+-- a fact that follows whatever a rule gives
+pub through : {A B C : Type 0} (o : Option A) (f : A → Option B) (y : B) → (o >>= f) ≡ Some y → ((x : A) → f x ≡ Some y → C) → C
+through None f y e more = absurd (cc)
+through (Some x) f y e more = more x e
+
+pub some_is : {A : Type 0} (x y : A) → Some x ≡ Some y → x ≡ y
+some_is x y e = cc
+
+-- what each gives keeps what of each is kept
+pub each_keeps : {A B C : Type 0} (f : A → Option B) (g : A → C) (h : B → C) → ((x : A) (y : B) → f x ≡ Some y → h y ≡ g x)
+    → (xs : List A) (ys : List B) → each f xs ≡ Some ys → map h ys ≡ map g xs
+each_keeps f g h one [] ys e = ap (map h) (sym (some_is _ ys e))
+each_keeps f g h one (x ∷ xs) ys e =
+    let c = comes (f x) (λ y. each f xs >>= λ ys. Some (y ∷ ys)) ys e in
+    let d = comes (each f xs) (λ ys. Some (c.value ∷ ys)) ys c.rest in
+    ap (map h) (sym (some_is _ ys d.rest))
+    ∙ ap (λ y. y ∷ map h d.value) (one x c.value c.is)
+    ∙ ap (λ ys. g x ∷ ys) (each_keeps f g h one xs d.value d.is)
