@@ -274,9 +274,8 @@ abbrev pub branches_view : Vec Branch Global → List tree.Branch
 branches_view v = map branch_view v.items
 
 abbrev pub assignment_view : Assignment → tree.Assignment
-assignment_view a = record {
-  label = option_map ident_view a.label; target = name_view a.target; branches = branches_view a.branches; otherwise = option_map value_view a.otherwise;
-}
+assignment_view a =
+    record { label = option_map ident_view a.label; target = name_view a.target; branches = branches_view a.branches; otherwise = option_map value_view a.otherwise }
 
 abbrev pub scheme_view : Scheme → tree.Scheme
 scheme_view (sc.For parameter range) = tree.for_each (ident_view parameter) (range_view range)
@@ -301,17 +300,15 @@ concurrents_view v = map concurrent_view v.items
 -- ---- declarations
 
 abbrev pub generic_view : Generic → tree.Generic
-generic_view g = record {
-  constant_word = g.constant_word; names = idents_view g.names; in_word = g.in_word; mark = ident_view g.mark; default = option_map view g.default;
-}
+generic_view g =
+    record { constant_word = g.constant_word; names = idents_view g.names; in_word = g.in_word; mark = ident_view g.mark; default = option_map view g.default }
 
 abbrev pub generics_view : Vec Generic Global → List tree.Generic
 generics_view v = map generic_view v.items
 
 abbrev pub port_view : Port → tree.Port
-port_view p = record {
-  signal_word = p.signal_word; names = idents_view p.names; mode = p.mode; subtype = subtype_view p.subtype; default = option_map value_view p.default;
-}
+port_view p =
+    record { signal_word = p.signal_word; names = idents_view p.names; mode = p.mode; subtype = subtype_view p.subtype; default = option_map value_view p.default }
 
 abbrev pub ports_view : Vec Port Global → List tree.Port
 ports_view v = map port_view v.items
@@ -327,8 +324,11 @@ enumeration_view d = record { name = ident_view d.name; literals = idents_view d
 
 abbrev pub component_view : Component → tree.Component
 component_view d = record {
-  name = ident_view d.name; is_word = d.is_word; generics = option_map generics_view d.generics;
-  ports = option_map ports_view d.ports; end_name = option_map ident_view d.end_name;
+  name = ident_view d.name;
+  is_word = d.is_word;
+  generics = option_map generics_view d.generics;
+  ports = option_map ports_view d.ports;
+  end_name = option_map ident_view d.end_name;
 }
 
 abbrev pub declaration_view : Declaration → tree.Declaration
@@ -350,8 +350,12 @@ option_ports_view = option_map ports_view
 
 abbrev pub entity_view : Entity → tree.Entity
 entity_view n = record {
-  at = n.at; name = ident_view n.name; generics = option_map generics_view n.generics;
-  ports = option_map ports_view n.ports; end_word = n.end_word; end_name = option_map ident_view n.end_name;
+  at = n.at;
+  name = ident_view n.name;
+  generics = option_map generics_view n.generics;
+  ports = option_map ports_view n.ports;
+  end_word = n.end_word;
+  end_name = option_map ident_view n.end_name;
 }
 
 abbrev pub architecture_view : Architecture → tree.Architecture
