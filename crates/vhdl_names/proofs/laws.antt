@@ -6,3 +6,5 @@ pub mod Associations
 pub mod Regions
 pub mod Meanings
 pub mod Files
+pub mod Targets
+pub mod Instances

@@ -4,3 +4,4 @@ pub mod Choices
 pub mod Associations
 pub mod Regions
 pub mod Files
+pub mod Sound
