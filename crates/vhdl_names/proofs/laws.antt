@@ -8,3 +8,4 @@ pub mod Meanings
 pub mod Files
 pub mod Targets
 pub mod Instances
+pub mod Parameters

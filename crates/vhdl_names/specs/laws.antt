@@ -5,3 +5,4 @@ pub mod Associations
 pub mod Regions
 pub mod Files
 pub mod Sound
+pub mod Parameters
