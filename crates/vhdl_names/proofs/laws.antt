@@ -6,3 +6,6 @@ pub mod Associations
 pub mod Regions
 pub mod Meanings
 pub mod Files
+pub mod Targets
+pub mod Instances
+pub mod Parameters

@@ -4,3 +4,5 @@ pub mod Choices
 pub mod Associations
 pub mod Regions
 pub mod Files
+pub mod Sound
+pub mod Parameters

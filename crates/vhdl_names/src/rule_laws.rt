@@ -2,7 +2,9 @@
 
 ghost use Rattle.vhdl_names.specs.laws.Choices.{ChoicesDiffer, OthersIsLast};
 ghost use Rattle.vhdl_names.specs.laws.Associations.{FormalsHaveActuals};
+ghost use Rattle.vhdl_names.specs.laws.Sound.{TargetsAreDriven, ActualsAreDriven, InstancesFitUnits};
 ghost use Rattle.vhdl_names.specs.laws.Files.{EntitiesStandInOrder};
+ghost use Rattle.vhdl_names.specs.laws.Parameters.{LoopsNumberParameters, GeneratesNumberParameters};
 ghost use Rattle.vhdl_names.specs.laws.Regions.{InterfaceNamesStandOnce, ArchitectureNamesStandOnce, ProcessNamesStandOnce, GenerateLabelsStandOnce, InnermostIsMeant, MeaningsAreDeclared};
 
 /// No two choices of all alternatives are the same, and `others` stands nowhere but alone in the last.
@@ -35,4 +37,21 @@ pub fn innermost_is_meant()
 /// stands after it.
 pub fn entities_stand_in_order()
     ensures { EntitiesStandInOrder }
+{}
+
+/// No target, and no actual of an out port, is an in port.
+pub fn no_in_port_is_driven()
+    ensures targets { TargetsAreDriven }
+    ensures actuals { ActualsAreDriven }
+{}
+
+/// An instance is of a unit of the file, and has an entry for each of that unit's generics and ports.
+pub fn instances_fit_units()
+    ensures { InstancesFitUnits }
+{}
+
+/// The parameters of the loops, and of the generates, round a place are numbered from the outermost on.
+pub fn parameters_are_numbered()
+    ensures loops { LoopsNumberParameters }
+    ensures generates { GeneratesNumberParameters }
 {}
