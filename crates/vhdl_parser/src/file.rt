@@ -1,8 +1,9 @@
 //! Files.
 
-ghost use Rattle.std.specs.Prelude.{◌≡◌, ◌≢◌, ◌≤◌, [], length, IfOk, IfErr, IfSome, OnOk};
+ghost use Rattle.std.specs.Prelude.{◌≡◌, ◌≢◌, ◌≤◌, ◌+◌, ◌*◌, [], length, IfOk, IfErr, IfSome, OnOk};
 ghost use Rattle.vhdl_lexer.specs.Cut.{AreWithin};
 ghost use Rattle.vhdl_parser.specs.Fault.{IsRefusal, IsTooDeep, fault_byte};
+ghost use Rattle.vhdl_tree.specs.Height.{file_height};
 ghost use Rattle.vhdl_tree.specs.Levels.{IsShallow, IsDeep, most_open};
 ghost use Rattle.vhdl_tree.specs.Lexeme.{lexemes};
 ghost use Rattle.vhdl_tree.specs.Pieces.{Spells};
@@ -22,7 +23,8 @@ use vhdl_tree::File;
 ///
 /// `tokens` are places in `source`, in order, as `vhdl_lexer::lex` finds them. The tree takes memory
 /// in proportion to the tokens, and the call's stack is bounded by the levels, of which 64 may be
-/// open at once.
+/// open at once. So is the tree's height, and with it the stack of whoever walks the tree: no more than
+/// 524 expressions, statements, declarations and units stand one in another.
 ///
 /// # Errors
 ///
@@ -45,6 +47,9 @@ pub fn parse(alloc: Global, source: &[u8], tokens: &[Token]) -> Result<File, Syn
         (λ f. (other : tree.File) → IsFile other
         → Spells (spell_file other) (lexemes source.now tokens.now) [] → other ≡ file_view f) }
     ensures shallow { OnOk result (IsShallow most_open (lexemes source.now tokens.now)) }
+
+    // The tree is no higher than this, however long the file is.
+    ensures low { IfOk result (λ f. file_height f ≤ 8 * most_open + 12) }
 
     // What is refused, and neither for its depth nor for memory, is the spelling of no tree.
     ensures refused { IfErr result

@@ -9,7 +9,8 @@ use Rattle.vhdl_tree.specs.declared.expression.Suffix.TheVariants as s
 use Rattle.vhdl_tree.specs.declared.operator.Operator.{Operator}
 use Rattle.vhdl_tree.specs.Tree as tree
 use Rattle.vhdl_tree.specs.View.{view, chain_view, links_view, suffix_view, row_view}
-use Rattle.vhdl_tree.specs.Height.{height, chain_height, links_height, suffix_height, row_height, nesting, suffix_nesting, exprs_nesting}
+use Rattle.vhdl_tree.specs.Height.{height, chain_height, links_height, suffix_height, row_height}
+use Rattle.vhdl_tree.specs.Nesting.{nesting, suffix_nesting, exprs_nesting}
 use Rattle.vhdl_tree.specs.grammar.Expressions.{rank, binding, Leads, IsSigned, IsExpr, IsSuffix, AreArguments, AreExprs}
 
 -- how tightly a tree holds together, where a sign before a term holds it more tightly than the operators of a sum
@@ -105,7 +106,7 @@ mutual
         low = omega (arith, g.deep, g.low, r, flat operand g.formed.3, tighter (rank next) (view operand) g.formed.1);
       }
 
-  flat_suffix : (x : Suffix) → IsSuffix (suffix_view x) → suffix_height x ≤ 8 * suffix_nesting (suffix_view x)
+  pub flat_suffix : (x : Suffix) → IsSuffix (suffix_view x) → suffix_height x ≤ 8 * suffix_nesting (suffix_view x)
   flat_suffix s.Plain f = omega arith
   flat_suffix (s.Arguments' shape all) f = omega (arith, flat_row all (arguments_are (row_view all) f))
   flat_suffix (s.Range' p left direction right) f = omega (arith, flat left f.0, flat right f.1)

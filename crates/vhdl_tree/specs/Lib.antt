@@ -4,4 +4,5 @@ pub mod View
 pub mod Pieces
 pub mod Levels
 pub mod grammar
+pub mod Nesting
 pub mod Height

@@ -21,7 +21,7 @@ pub use expression::{
     Actual, Association, Chain, Choice, Expr, Identifier, Link, Literal, Name, Range, Suffix, Value,
 };
 pub use instance::{Instance, Instantiated};
-pub use laws::height_is_bounded;
+pub use laws::{file_height_is_bounded, height_is_bounded};
 pub use levels::MAX_OPEN;
 pub use operator::{Direction, Operator, Sign};
 pub use process::{Process, SelectedAssignment, Sensitivity, Waveform};

@@ -1,10 +1,10 @@
 -- How the parser reads entities, architectures and files.
-use Rattle.std.specs.Prelude.{ℕ, List, [], Bool, true, false, Option, Some}
+use Rattle.std.specs.Prelude.{ℕ, List, [], Option, Some}
 use Rattle.vhdl_lexer.specs.declared.token.Kind.{Kind}
 use Rattle.vhdl_lexer.specs.declared.token.Kind.TheVariants as k
 use Rattle.vhdl_tree.specs.Tree.{Entity, Architecture, LibraryUnit, entity, architecture, DesignUnit, File}
 use Rattle.vhdl_tree.specs.Levels.{most_open}
-use Rattle.vhdl_expressions.specs.reader.Input.{Parser, ◌>>=◌, ◌>>◌, ◌<$>◌, pure, refuse, is_kind, is_more, choose, test, expect, eat, identifier, optional, many, separated}
+use Rattle.vhdl_expressions.specs.reader.Input.{Parser, ◌>>=◌, ◌>>◌, ◌<$>◌, pure, refuse, is_kind, is_more, choose, test, expect, eat, identifier, optional, many}
 use Rattle.vhdl_parser.specs.reader.Concurrent.{concurrents}
 use Rattle.vhdl_declarations.specs.reader.Context.{context}
 use Rattle.vhdl_declarations.specs.reader.Declarations.{optional_generics, optional_ports, declarations}

@@ -6,6 +6,7 @@ use Rattle.vhdl_tree.specs.Pieces.{Spells}
 use Rattle.vhdl_tree.specs.View.{file_view}
 use Rattle.vhdl_tree.specs.grammar.Units.{spell_file}
 use Rattle.vhdl_parser.proofs.Files.{file_made, file_only, file_refused, file_deep}
+use Rattle.vhdl_tree.proofs.HeightsFiles.{file_height_bounded}
 use Rattle.vhdl_parser.proofs.file.parse.Goals as goal
 
 not_memory : ◌≡◌ {A = Stop} TooDeep NoMemory → ⊥
@@ -22,6 +23,11 @@ returns-in-Ok-clause-only c other good s = file_only _ _ _ c.in-Ok.ensures other
 
 pub returns-in-Ok-clause-shallow : goal.returns-in-Ok-clause-shallow
 returns-in-Ok-clause-shallow c = subst (IsShallow 64) c.new-parser.ensures (file_made _ _ _ c.in-Ok.ensures).shallow
+
+pub returns-in-Ok-clause-low : goal.returns-in-Ok-clause-low
+returns-in-Ok-clause-low c =
+    let made = file_made _ _ _ c.in-Ok.ensures in
+    file_height_bounded c.in-Ok.file 64 _ made.formed made.spelled made.shallow
 
 pub returns-in-Err-clause-refused : goal.returns-in-Err-clause-refused
 returns-in-Err-clause-refused c r other good s =
