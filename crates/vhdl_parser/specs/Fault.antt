@@ -1,5 +1,6 @@
 -- What a fault says.
-use Rattle.std.specs.Prelude.{ℕ, Option, Some, None}
+use Rattle.std.specs.Prelude.{◌≡◌, ℕ, ◌⊎◌, Option, Some, None, List, length, map, Contains}
+use Rattle.vhdl_lexer.specs.declared.token.Token.{Token}
 use Rattle.vhdl_parser.specs.declared.fault.SyntaxFault.{SyntaxFault}
 use Rattle.vhdl_parser.specs.declared.fault.SyntaxFault.TheVariants.{Unexpected, EndOfFile, TooDeep, NoMemory}
 
@@ -28,3 +29,14 @@ fault_byte (Unexpected at) = Some at
 fault_byte (EndOfFile at) = Some at
 fault_byte (TooDeep at) = Some at
 fault_byte NoMemory = None
+
+-- a token starts at this byte
+abbrev pub IsStart : List Token → ℕ → Type 0
+IsStart tokens at = Contains (map (λ t. t.start) tokens) at
+
+-- Unexpected is said of a token, and EndOfFile of the source's end.
+abbrev pub IsPlaced : List ℕ → List Token → SyntaxFault → Type 0
+IsPlaced source tokens (Unexpected at) = IsStart tokens at
+IsPlaced source tokens (EndOfFile at) = at ≡ length source
+IsPlaced source tokens (TooDeep at) = IsStart tokens at ⊎ (at ≡ length source)
+IsPlaced source tokens NoMemory = Unit {0}

@@ -1,8 +1,8 @@
 //! Files.
 
-ghost use Rattle.std.specs.Prelude.{◌≡◌, ◌≢◌, ◌≤◌, ◌+◌, ◌*◌, [], length, IfOk, IfErr, IfSome, OnOk};
+ghost use Rattle.std.specs.Prelude.{◌≡◌, ◌≢◌, ◌≤◌, ◌⊎◌, ◌+◌, ◌*◌, [], length, IfOk, IfErr, IfSome, OnOk};
 ghost use Rattle.vhdl_lexer.specs.Cut.{AreWithin};
-ghost use Rattle.vhdl_parser.specs.Fault.{IsRefusal, IsTooDeep, fault_byte};
+ghost use Rattle.vhdl_parser.specs.Fault.{IsRefusal, IsTooDeep, IsStart, IsPlaced, fault_byte};
 ghost use Rattle.vhdl_tree.specs.Height.{file_height};
 ghost use Rattle.vhdl_tree.specs.Levels.{IsShallow, IsDeep, most_open};
 ghost use Rattle.vhdl_tree.specs.Lexeme.{lexemes};
@@ -33,7 +33,8 @@ use vhdl_tree::File;
 /// - `NoMemory` where a part of the tree could not grow.
 ///
 /// Of several faults the first one that the parser meets is given, with the byte of the token at which
-/// it stopped. The contract says of that byte that it is not above the source's length.
+/// it stopped. The contract says of that byte that a token starts there (`Unexpected`), that it is the
+/// source's length (`EndOfFile`), or that it is one of these (`TooDeep`).
 pub fn parse(alloc: Global, source: &[u8], tokens: &[Token]) -> Result<File, SyntaxFault>
     requires { AreWithin source.now tokens.now }
 
@@ -58,22 +59,26 @@ pub fn parse(alloc: Global, source: &[u8], tokens: &[Token]) -> Result<File, Syn
     ensures deep { IfErr result
         (λ e. IsTooDeep e → IsDeep most_open (lexemes source.now tokens.now)) }
     ensures placed { IfErr result (λ e. IfSome (fault_byte e) (λ at. at ≤ length source.now)) }
+
+    // Unexpected is said of a token, and EndOfFile of the source's end.
+    ensures met { IfErr result (IsPlaced source.now tokens.now) }
 {
     let mut parser = Parser::new(alloc, source, tokens);
     match file(&mut parser) {
         Ok(file) => Ok(file),
         Err(stop) => {
             let met = tokens.len().saturating_sub(parser.left());
-            Err(fault_at(stop, byte_of(source, tokens, met)))
+            Err(fault_at(stop, source, tokens, met))
         }
     }
 }
 
 /// Where a token starts, or the source's length behind the last one.
-#[tactic(auto, using(crate::proofs::Within::start_within))]
+#[tactic(auto, using(crate::proofs::Within::start_within, crate::proofs::Within::start_is))]
 fn byte_of(source: &[u8], tokens: &[Token], index: usize) -> usize
     requires { AreWithin source.now tokens.now }
-    ensures { result ≤ length source.now }
+    ensures placed { IsStart tokens.now result ⊎ (result ≡ length source.now) }
+    ensures within { result ≤ length source.now }
 {
     if index < tokens.len() {
         tokens[index].start as usize
@@ -82,15 +87,28 @@ fn byte_of(source: &[u8], tokens: &[Token], index: usize) -> usize
     }
 }
 
-fn fault_at(stop: Stop, at: usize) -> SyntaxFault
+/// The fault of a parser that stopped with so many tokens behind it.
+#[tactic(auto, using(crate::proofs::Within::start_within, crate::proofs::Within::start_is))]
+fn fault_at(stop: Stop, source: &[u8], tokens: &[Token], met: usize) -> SyntaxFault
+    requires { AreWithin source.now tokens.now }
     ensures refusal { IsRefusal result → (stop ≢ s.NoMemory) × (stop ≢ s.TooDeep) }
     ensures deep { IsTooDeep result → stop ≡ s.TooDeep }
-    ensures placed { IfSome (fault_byte result) (λ byte. byte ≡ at) }
+    ensures placed { IfSome (fault_byte result) (λ at. at ≤ length source.now) }
+    ensures met { IsPlaced source.now tokens.now result }
 {
     match stop {
-        Stop::Unexpected => SyntaxFault::Unexpected { at },
-        Stop::EndOfFile => SyntaxFault::EndOfFile { at },
-        Stop::TooDeep => SyntaxFault::TooDeep { at },
         Stop::NoMemory => SyntaxFault::NoMemory,
+        Stop::TooDeep => SyntaxFault::TooDeep {
+            at: byte_of(source, tokens, met),
+        },
+        Stop::Unexpected | Stop::EndOfFile => {
+            if met < tokens.len() {
+                SyntaxFault::Unexpected {
+                    at: tokens[met].start as usize,
+                }
+            } else {
+                SyntaxFault::EndOfFile { at: source.len() }
+            }
+        }
     }
 }
