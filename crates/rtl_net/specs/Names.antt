@@ -44,8 +44,8 @@ path_within zero scopes k = label_at scopes k
 path_within (suc steps) scopes k = behind_parent (path_within steps scopes) (parent_of scopes k) ++ label_at scopes k
 
 -- A parent's number is less than its scope's: as many steps as that lead to the top.
-abbrev pub path : NetView → (scope : ℕ) → List ℕ
-path net scope = path_within scope net.scopes scope
+abbrev pub path : List ScopeView → (scope : ℕ) → List ℕ
+path scopes k = path_within k scopes k
 
 -- the index of a vector's element by its place from the left: up from the left bound, or down where the right one is less
 abbrev pub index_at : (left right place : ℕ) → ℕ
@@ -57,13 +57,16 @@ index_suffix g.One place = []
 index_suffix (g.Vector left right) place = codes "(" ++ decimal (index_at left right place) ++ codes ")"
 index_suffix (g.Enumeration count) place = []
 
-abbrev pub signal_element_name : NetView → (place : ℕ) → Option SignalView → List ℕ
-signal_element_name net place None = []
-signal_element_name net place (Some s) = path net s.scope ++ codes "." ++ s.name ++ index_suffix s.kind place
+abbrev pub name_of_element : List ScopeView → SignalView → (place : ℕ) → List ℕ
+name_of_element scopes s place = path scopes s.scope ++ codes "." ++ s.name ++ index_suffix s.kind place
+
+abbrev pub signal_name : List ScopeView → (place : ℕ) → Option SignalView → List ℕ
+signal_name scopes place None = []
+signal_name scopes place (Some s) = name_of_element scopes s place
 
 abbrev pub element_name : NetView → Option Element → List ℕ
 element_name net None = []
-element_name net (Some e) = signal_element_name net e.place (slice_get net.signals e.signal)
+element_name net (Some e) = signal_name net.scopes e.place (slice_get net.signals e.signal)
 
 -- `path.name`, or `path.name(i)`
 abbrev pub net_name : NetView → (n : ℕ) → List ℕ
@@ -79,11 +82,14 @@ abbrev pub label_or_number : (p : ℕ) → Option (List ℕ) → List ℕ
 label_or_number p None = codes "#" ++ decimal p
 label_or_number p (Some label) = label
 
-abbrev pub name_of_process : NetView → (p : ℕ) → Option Process → List ℕ
-name_of_process net p None = []
-name_of_process net p (Some process) =
-    path net process.scope ++ codes "." ++ generates_prefix process.generates.items ++ label_or_number p (option_map (λ l. l.items) process.label)
+abbrev pub name_of_process : List ScopeView → Process → (p : ℕ) → List ℕ
+name_of_process scopes process p =
+    path scopes process.scope ++ codes "." ++ generates_prefix process.generates.items ++ label_or_number p (option_map (λ l. l.items) process.label)
 
 -- `path.label`, or `path.#K`, the labels of generates between
 abbrev pub process_name : NetView → (p : ℕ) → List ℕ
-process_name net p = name_of_process net p (slice_get net.processes p)
+process_name net p = named (slice_get net.processes p)
+  where
+    named : Option Process → List ℕ
+    named None = []
+    named (Some process) = name_of_process net.scopes process p

@@ -7,6 +7,7 @@
 
 mod body;
 mod indices;
+mod names;
 mod net;
 mod process;
 mod signal;
@@ -15,6 +16,6 @@ pub use body::{
     Alternative, Branch, Choice, Expr, Link, Operator, Statement, Test, TestLink, Value,
 };
 pub use indices::Indices;
-pub use net::{Net, NetKind, Source};
+pub use net::{Net, NetKind, NoMemory, Source};
 pub use process::{Driver, Process, Variable};
 pub use signal::{Scope, Signal, SignalKind};

@@ -8,7 +8,11 @@ ghost use Rattle.rtl_net.specs.Elaborated.{IsNet};
 use crate::process::Process;
 use crate::signal::{Scope, Signal};
 use smallvec::SmallVec;
+use std::alloc::AllocError;
 use std::marker::Model;
+
+/// A growth was refused.
+pub type NoMemory = AllocError;
 
 /// The type of a net.
 #[derive(Clone, Copy, PartialEq, Eq, Debug)]
