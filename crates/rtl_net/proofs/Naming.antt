@@ -25,7 +25,7 @@ or_else : {X : Type 0} → X → Option X → X
 or_else x (Some y) = y
 or_else x None = x
 
-some-same : {X : Type 0} (x y : X) → Some x ≡ Some y → x ≡ y
+pub some-same : {X : Type 0} (x y : X) → Some x ≡ Some y → x ≡ y
 unfolding or_else
 some-same x y e = ap (or_else x) e
 

@@ -4,3 +4,6 @@ pub mod Nets
 pub mod Names
 pub mod Elaborated
 pub mod NetOf
+pub mod Parts
+pub mod steps
+pub mod Laws

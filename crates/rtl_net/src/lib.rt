@@ -6,7 +6,9 @@
 #![tactic(auto)]
 
 mod body;
+mod building;
 mod indices;
+mod laws;
 mod names;
 mod net;
 mod process;
@@ -15,7 +17,9 @@ mod signal;
 pub use body::{
     Alternative, Branch, Choice, Expr, Link, Operator, Statement, Test, TestLink, Value,
 };
+pub use building::{IdlePort, Parts};
 pub use indices::Indices;
+pub use laws::nets_meet_the_laws;
 pub use net::{Net, NetKind, NoMemory, Source};
 pub use process::{Driver, Process, Variable};
 pub use signal::{Scope, Signal, SignalKind};

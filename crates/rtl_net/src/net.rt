@@ -32,6 +32,13 @@ pub enum Source {
     Idle { start: u8 },
 }
 
+/// What stands at the unused places of a short list.
+impl Default for Source {
+    fn default() -> Source {
+        Source::Idle { start: 0 }
+    }
+}
+
 /// The element of a signal that a net was declared as: the signal's number, and the element's place from the left.
 #[derive(Clone, Copy, PartialEq, Eq, Debug)]
 pub(crate) struct Owner {
