@@ -1,10 +1,8 @@
 -- The net of given parts keeps its tables.
-use Rattle.std.proofs.Common.{◌≡◌, ℕ, ◌<◌, List, [], ◌++◌, length, map, slice_index_or, Vec, Global, Some, refl, sym, ap, ◌∙◌, arith, subst}
-use Rattle.std.specs.List.{range_with_len}
+use Rattle.std.proofs.Common.{◌≡◌, ℕ, ◌<◌, List, [], ◌++◌, length, map, slice_index_or, Vec, Global, Some, sym, ap, ◌∙◌, arith, subst}
 use Rattle.std.proofs.lemmas.List.{length-map, get_or-map, ext_get_or}
 use Rattle.std.proofs.lemmas.List.FromFn.{length-map-range_with_len, get_or-map-range_with_len}
 use Rattle.smallvec.specs.SmallVec.{SmallVec}
-use Rattle.rtl_model.specs.simulation.Net as core
 use Rattle.rtl_model.specs.simulation.Net.{Idle}
 use Rattle.std.proofs.lemmas.Option.{slice_get_within}
 use Rattle.rtl_model.specs.nets.FlatNet.{ProcessInRange, DriverInRange, all_drivers_of, flat_sources}

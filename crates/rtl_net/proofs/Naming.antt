@@ -14,7 +14,7 @@ use Rattle.rtl_net.specs.NetOf.{net_of, owner_view, IsKept}
 use Rattle.rtl_net.proofs.Tables.{tabled-at}
 use Rattle.rtl_net.specs.Nets.{NetView, signal_view}
 use Rattle.rtl_net.specs.Names.{element_of}
-use Rattle.rtl_net.specs.Elaborated.{AreScopes, FollowsInText, IsNet, SignalInRange, width_of}
+use Rattle.rtl_net.specs.Elaborated.{AreScopes, IsNet, SignalInRange, width_of}
 
 -- ---- scopes
 

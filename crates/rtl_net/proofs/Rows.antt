@@ -1,14 +1,12 @@
 -- The lists in a node of a body, as contracts see them: what a `match` on a node knows, in the words of the views.
-use Rattle.std.proofs.Common.{◌≡◌, Bool, List, [], ◌∷◌, map, Vec, Option, Some, None, Global, refl, ap, sym, ◌∙◌}
+use Rattle.std.proofs.Common.{◌≡◌, map, Vec, Option, Some, None, Global, refl, ap, sym, ◌∙◌}
 use Rattle.std.specs.Prelude.{option_map}
 use mathlib.Core.Former.{Count}
 use Rattle.rtl_model.specs.bodies.Body as m
-use Rattle.rtl_net.specs.declared.body.Expr.{Expr}
 use Rattle.rtl_net.specs.declared.body.Expr.TheVariants as e
 use Rattle.rtl_net.specs.declared.body.Expr.TheBlock.{Row_of-Link, end_of-Link, more_of-Link, items-the_row-Link, hidden-the_row-Link-0, items_hidden-the_row-Link-0}
 use Rattle.rtl_net.specs.declared.body.Link.{Link}
 use Rattle.rtl_net.specs.declared.body.Value.{Value}
-use Rattle.rtl_net.specs.declared.body.Test.{Test}
 use Rattle.rtl_net.specs.declared.body.Test.TheVariants as t
 use Rattle.rtl_net.specs.declared.body.Test.TheBlock.{Row_of-TestLink, end_of-TestLink, more_of-TestLink, items-the_row-TestLink, hidden-the_row-TestLink-0, items_hidden-the_row-TestLink-0}
 use Rattle.rtl_net.specs.declared.body.TestLink.{TestLink}
@@ -19,7 +17,7 @@ use Rattle.rtl_net.specs.declared.body.Statement.TheBlock.{Row_of-Branch, end_of
 use Rattle.rtl_net.specs.declared.body.Statement.TheBlock.{Row_of-Alternative, end_of-Alternative, more_of-Alternative, items-the_row-Alternative, hidden-the_row-Alternative-2, items_hidden-the_row-Alternative-2}
 use Rattle.rtl_net.specs.declared.body.Branch.{Branch}
 use Rattle.rtl_net.specs.declared.body.Alternative.{Alternative}
-use Rattle.rtl_net.specs.Bodies.{operator_view, expr_view, links_view, links_of, value_view, test_view, test_links_view, test_links_of, choice_view, statement_view, statements_row, branches_row, otherwise_row, alternatives_row, statements_of, branches_of, otherwise_of, alternatives_of}
+use Rattle.rtl_net.specs.Bodies.{operator_view, expr_view, links_view, links_of, value_view, test_view, test_links_view, test_links_of, choice_view, statement_view, statements_row, branches_row, alternatives_row, statements_of, branches_of, otherwise_of, alternatives_of}
 
 -- ---- expressions
 

@@ -1,5 +1,5 @@
 -- The turns of the loops that fill the tables.
-use Rattle.std.proofs.Common.{◌≡◌, ℕ, suc, ◌+◌, ◌-◌, ◌<◌, ◌≤◌, List, [], ◌∷◌, ◌++◌, length, map, set, take, drop, slice_index_or, Some, refl, sym, ap, ◌∙◌, arith, subst, drop-cons}
+use Rattle.std.proofs.Common.{◌≡◌, ℕ, suc, ◌+◌, ◌<◌, ◌≤◌, List, [], ◌∷◌, ◌++◌, length, map, set, take, drop, slice_index_or, Some, refl, sym, ap, ◌∙◌, arith, subst, drop-cons}
 use Rattle.std.proofs.lemmas.List.{map-append, length-map, get_or-map, take_more, length-take-le}
 use Rattle.smallvec.specs.SmallVec.{SmallVec}
 use Rattle.rtl_model.specs.simulation.Net.{Driver, Idle}
@@ -12,7 +12,6 @@ use Rattle.rtl_net.specs.declared.process.Process.{Process}
 use Rattle.rtl_net.specs.declared.signal.Signal.{Signal}
 use Rattle.rtl_net.specs.declared.building.IdlePort.{IdlePort}
 use Rattle.rtl_net.specs.Nets.{source_view, driver_view, process_view, signal_view}
-use Rattle.rtl_net.specs.NetOf.{owner_view}
 use Rattle.rtl_net.specs.Names.{Element, place_in, element_from}
 use Rattle.rtl_net.specs.Parts.{idle_at}
 use Rattle.rtl_net.specs.steps.Tables.{nets_of, shown, sources_at, Adds, owner_at, Owns, element_at}

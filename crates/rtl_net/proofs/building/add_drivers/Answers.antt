@@ -1,4 +1,4 @@
-use Rattle.std.proofs.Common.{◌≡◌, ◌<◌, length, arith}
+use Rattle.std.proofs.Common.{◌<◌, length, arith}
 use Rattle.rtl_net.specs.declared.process.Driver.{Driver}
 use Rattle.rtl_net.proofs.Turns.{add-driver}
 use Rattle.rtl_net.proofs.building.add_drivers.Goals as goal

@@ -1,4 +1,4 @@
-use Rattle.std.proofs.Common.{◌≡◌, ◌<◌, length, arith}
+use Rattle.std.proofs.Common.{◌<◌, length, arith}
 use Rattle.rtl_net.specs.declared.building.IdlePort.{IdlePort}
 use Rattle.rtl_net.proofs.Turns.{add-idle}
 use Rattle.rtl_net.proofs.building.add_idle.Goals as goal

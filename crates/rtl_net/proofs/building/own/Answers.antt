@@ -1,4 +1,4 @@
-use Rattle.std.proofs.Common.{◌≡◌, ◌<◌, ◌-◌, suc, length, arith}
+use Rattle.std.proofs.Common.{◌≡◌, ◌-◌, suc, arith}
 use Rattle.rtl_net.proofs.Turns.{own-one}
 use Rattle.rtl_net.proofs.building.own.Goals as goal
 

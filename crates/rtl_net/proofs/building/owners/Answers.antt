@@ -1,4 +1,4 @@
-use Rattle.std.proofs.Common.{◌≡◌, ◌<◌, ◌-◌, suc, length, arith, ap, ◌∙◌, subst, sym}
+use Rattle.std.proofs.Common.{◌≡◌, ◌-◌, suc, arith, ap, ◌∙◌, subst, sym}
 use Rattle.rtl_net.specs.Names.{place_in}
 use Rattle.rtl_net.specs.steps.Tables.{Owns, element_at}
 use Rattle.rtl_net.proofs.Turns.{own-signal}

@@ -1,6 +1,6 @@
-use Rattle.std.proofs.Common.{◌≡◌, ◌<◌, ◌++◌, length, map, Some, None, ℕ, List, [], ◌∷◌, sym, ap, ◌∙◌, refl, arith, codes}
+use Rattle.std.proofs.Common.{◌≡◌, ◌<◌, ◌++◌, length, map, Some, sym, ap, ◌∙◌, arith, codes}
 use Rattle.std.proofs.lemmas.List.{length-map}
-use Rattle.rtl_net.specs.Nets.{ScopeView, scope_view, parent_of, label_at}
+use Rattle.rtl_net.specs.Nets.{scope_view, parent_of, label_at}
 use Rattle.rtl_net.specs.declared.signal.Scope.{Scope}
 use Rattle.rtl_net.specs.Names as spec
 use Rattle.rtl_net.proofs.Naming.{parent-at, label-at, parent-before, path-of_top, path-in_parent, appended}

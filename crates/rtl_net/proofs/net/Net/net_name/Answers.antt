@@ -1,6 +1,6 @@
-use Rattle.std.proofs.Common.{◌≡◌, ◌<◌, ◌++◌, length, map, Some, ℕ, List, sym, ap, ◌∙◌, refl, arith}
+use Rattle.std.proofs.Common.{◌<◌, ◌++◌, length, map, sym, ap, ◌∙◌, arith}
 use Rattle.std.proofs.lemmas.List.{length-map}
-use Rattle.rtl_net.specs.Nets.{NetView, scope_view, signal_view}
+use Rattle.rtl_net.specs.Nets.{scope_view, signal_view}
 use Rattle.rtl_net.specs.NetOf.{net_of}
 use Rattle.rtl_net.specs.Names as spec
 use Rattle.rtl_net.proofs.Naming.{kept-element, kept-owner, kept-signal}

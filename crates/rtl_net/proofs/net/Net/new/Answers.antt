@@ -1,11 +1,10 @@
-use Rattle.std.proofs.Common.{◌≡◌, ℕ, ◌<◌, ◌++◌, length, map, ap, ◌∙◌, sym, subst, arith, Some}
+use Rattle.std.proofs.Common.{◌≡◌, ◌++◌, length, map, ap, ◌∙◌, arith}
 use Rattle.rtl_model.specs.simulation.Net.{Idle}
 use Rattle.rtl_model.specs.nets.FlatNet.{all_drivers_of}
 use Rattle.std.proofs.lemmas.List.{length-map}
 use Rattle.rtl_net.specs.Nets.{type_of, process_view, signal_view}
-use Rattle.rtl_net.specs.Names.{Element, element_of, element_from}
+use Rattle.rtl_net.specs.Names.{element_from}
 use Rattle.rtl_net.specs.Parts.{idle_at, assembled}
-use Rattle.rtl_net.specs.steps.Tables.{owner_at}
 use Rattle.rtl_net.proofs.Assembly.{drivers-there, signals-there, HasSources, made-view, made-kept}
 use Rattle.rtl_net.proofs.net.Net.new.Goals as goal
 
