@@ -1,0 +1,2 @@
+pub mod worklists
+pub mod values

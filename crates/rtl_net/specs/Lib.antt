@@ -1,0 +1,9 @@
+pub mod Indices
+pub mod Bodies
+pub mod Nets
+pub mod Names
+pub mod Elaborated
+pub mod NetOf
+pub mod Parts
+pub mod steps
+pub mod Laws

@@ -1,0 +1,159 @@
+//! Elaborated bodies: sequences of sequential statements (IEEE 1076-2008, clause 10) over expressions (clause 9). Loops are
+//! unrolled, and every length, index and static value is computed.
+
+use crate::indices::Indices;
+use vhdl_values::{Cmp, Logic, Nine, Vec9};
+
+/// An operator on two vectors (9.2; numeric_std for the arithmetic ones).
+#[derive(Clone, Copy, PartialEq, Eq, Debug)]
+pub enum Operator {
+    Logical(Logic),
+    /// `&`.
+    Concatenate,
+    Add,
+    Subtract,
+    Multiply,
+}
+
+/// An expression of one element or of a vector of the nine values. A natural number beside a vector stands here as a
+/// constant of that vector's length.
+#[cycle(expression)]
+#[derive(Drop)]
+pub enum Expr {
+    /// The elements of a signal's name, slice or index, by their nets.
+    Signal(Indices),
+    /// The elements of a variable's name, slice or index, by their numbers among the process's variable elements.
+    Variable(Indices),
+    Constant(Vec9),
+    /// `not`.
+    Inverse(Box<Expr>),
+    /// `(others => e)`: one element, so many times.
+    Filled { len: u32, element: Box<Expr> },
+    /// Operators, grouped from the left: the first operand, and each further one behind its operator.
+    Chain { first: Box<Expr>, rest: Vec<Link> },
+    /// `resize(e, len)`.
+    Resized { len: u32, operand: Box<Expr> },
+    /// `shift_left(e, count)`.
+    ShiftedLeft { count: u32, operand: Box<Expr> },
+    /// `shift_right(e, count)`.
+    ShiftedRight { count: u32, operand: Box<Expr> },
+}
+
+/// An operator and its right operand.
+#[cycle(expression)]
+#[derive(Drop)]
+pub struct Link {
+    pub operator: Operator,
+    pub operand: Expr,
+}
+
+/// What is assigned, and compared for equality: elements of the nine values, or one value of an enumeration.
+#[derive(Drop)]
+pub enum Value {
+    Elements(Expr),
+    /// A literal of an enumeration, by its position (5.2.2).
+    Position(u8),
+    /// A signal of an enumeration, by its net.
+    PositionOf(u32),
+    /// A variable of an enumeration, by the number of its element.
+    PositionIn(u32),
+}
+
+/// A condition.
+#[cycle(test)]
+#[derive(Drop)]
+pub enum Test {
+    /// A condition of one element (9.2.9).
+    Condition(Expr),
+    /// A test of static integers, which elaboration has decided.
+    Decided(bool),
+    /// `=` of values (9.2.3).
+    Equal(Value, Value),
+    /// `/=` of values (9.2.3).
+    Unequal(Value, Value),
+    /// `=` of a scalar signal, or of an element by its index, and a character literal. It is plain where it stands as
+    /// `s = '1'`, with no side in parentheses.
+    Level {
+        plain: bool,
+        net: u32,
+        value: Nine,
+    },
+    /// A relation of the numbers of two vectors (numeric_std).
+    Compared(Cmp, Expr, Expr),
+    /// A relation of a vector's number and a natural number (numeric_std).
+    ComparedTo(Cmp, Expr, u32),
+    /// `rising_edge(s)`.
+    Rising(u32),
+    /// `falling_edge(s)`.
+    Falling(u32),
+    /// `s'event` (16.2.4).
+    Event(u32),
+    /// `not`.
+    Negated(Box<Test>),
+    /// Logical operators, grouped from the left: the first operand, and each further one behind its operator.
+    Combined {
+        first: Box<Test>,
+        rest: Vec<TestLink>,
+    },
+}
+
+/// A logical operator and its right operand.
+#[cycle(test)]
+#[derive(Drop)]
+pub struct TestLink {
+    pub operator: Logic,
+    pub operand: Test,
+}
+
+/// A sequential statement. Drivers are told by their places in the process's `drives`, and elements of variables by their
+/// numbers, in order of declaration and from the left.
+#[cycle(statement)]
+#[derive(Drop)]
+pub enum Statement {
+    /// `null` (10.14).
+    Null,
+    /// A signal assignment (10.5): the value's elements, from the left, to these drivers.
+    Assign {
+        places: Indices,
+        value: Value,
+    },
+    /// A variable assignment (10.6): the same, to these elements.
+    Set {
+        elements: Indices,
+        value: Value,
+    },
+    /// `if` (10.8): the first branch that holds is taken, else `otherwise`. `else null;` is `Some` of one `Null`.
+    If {
+        branches: Vec<Branch>,
+        otherwise: Option<Vec<Statement>>,
+    },
+    /// `case` (10.9). Of a case that names every value and has no `others`, the last alternative stands as `others`.
+    Case {
+        selector: Value,
+        alternatives: Vec<Alternative>,
+        others: Vec<Statement>,
+    },
+}
+
+/// A condition, and the statements that it guards.
+#[cycle(statement)]
+#[derive(Drop)]
+pub struct Branch {
+    pub test: Test,
+    pub statements: Vec<Statement>,
+}
+
+/// Choices, and the statements that they guard.
+#[cycle(statement)]
+#[derive(Drop)]
+pub struct Alternative {
+    pub choices: Vec<Choice>,
+    pub statements: Vec<Statement>,
+}
+
+/// A choice of a case: the elements of a value, or the position of an enumeration's literal.
+#[derive(Drop)]
+pub enum Choice {
+    Elements(Vec9),
+    Position(u8),
+}

@@ -1,0 +1,37 @@
+//! Scopes and signals: the design as it is named.
+
+use smallvec::SmallVec;
+
+/// An instance, or the top: its label and the scope in which it stands. The top's label is its entity's name, an
+/// instance's has the labels of the generates round it before its own, joined by dots.
+#[derive(Drop)]
+pub struct Scope {
+    pub label: Vec<u8>,
+    /// The number of the scope round it; `None` for the top.
+    pub parent: Option<usize>,
+}
+
+/// The type of a signal or variable, and of a vector its bounds as declared.
+#[derive(Clone, Copy, PartialEq, Eq, Debug)]
+pub enum SignalKind {
+    /// One element of the nine values.
+    One,
+    Vector { left: u32, right: u32 },
+    /// One value of an enumeration with so many literals.
+    Enumeration { count: u32 },
+}
+
+/// A signal, or a port as its scope names it.
+#[derive(Drop)]
+pub struct Signal {
+    /// The number of the scope in which it is declared.
+    pub scope: usize,
+    pub name: Vec<u8>,
+    /// Whether it is a port.
+    pub port: bool,
+    pub kind: SignalKind,
+    /// Its elements' nets, from the left; a port's are those of its actual.
+    pub nets: SmallVec<usize, 1>,
+    /// The byte of the source at which it is declared.
+    pub at: u32,
+}
