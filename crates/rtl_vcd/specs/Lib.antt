@@ -1,0 +1,5 @@
+-- The trace of a simulation as text. In order of reading:
+pub mod Values
+pub mod Header
+pub mod Trace
+pub mod Shown

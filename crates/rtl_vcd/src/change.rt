@@ -1,0 +1,65 @@
+//! What a name prints.
+
+ghost use Rattle.std.specs.Prelude.{◌≡◌, ◌<◌, not, All, length, map, slice_index, true};
+ghost use Rattle.std.specs.Str.{bytes_eq};
+ghost use Rattle.rtl_net.specs.Nets.{signal_view};
+ghost use Rattle.rtl_vcd.specs.Trace.{printed};
+ghost use Rattle.rtl_vcd.specs.Shown.{IsShown};
+
+use crate::line::{Line, binary_digits, push_binary, push_code, push_elements};
+use rtl_net::{Signal, SignalKind};
+
+/// The line that the name with this number prints where the nets have these values.
+pub fn change_line(number: usize, signal: &Signal, values: &[u8]) -> Line
+    requires shown { IsShown (length values.now) (signal_view signal.now) }
+    ensures { result.items ≡ printed number (signal_view signal.now) values.now }
+{
+    let mut line = Line::new();
+    match signal.kind {
+        SignalKind::One => push_elements(&mut line, &signal.nets, values),
+        SignalKind::Vector { .. } => {
+            line.push(b'b');
+            push_elements(&mut line, &signal.nets, values);
+            line.push(b' ');
+        }
+        SignalKind::Enumeration { count } => {
+            line.push(b'b');
+            let position = values[signal.nets[0]];
+            push_binary(
+                &mut line,
+                binary_digits(count.saturating_sub(1)),
+                position as u32,
+            );
+            line.push(b' ');
+        }
+    }
+    push_code(&mut line, number);
+    line.push(b'\n');
+    line
+}
+
+/// Whether the name with this number prints otherwise where the nets have the values `new` than where they have `old`.
+pub fn prints_otherwise(number: usize, signal: &Signal, old: &[u8], new: &[u8]) -> bool
+    requires before { IsShown (length old.now) (signal_view signal.now) }
+    requires after { IsShown (length new.now) (signal_view signal.now) }
+    ensures { result ≡ not (bytes_eq (printed number (signal_view signal.now) old.now) (printed number (signal_view signal.now) new.now)) }
+{
+    if are_alike(&signal.nets, old, new) {
+        return false;
+    }
+    change_line(number, signal, old).as_slice() != change_line(number, signal, new).as_slice()
+}
+
+/// Whether the nets have the same values in both.
+fn are_alike(nets: &[usize], old: &[u8], new: &[u8]) -> bool
+    requires before { All (λ n. n < length old.now) nets.now }
+    requires after { All (λ n. n < length new.now) nets.now }
+    ensures { result ≡ true → map (slice_index old.now) nets.now ≡ map (slice_index new.now) nets.now }
+{
+    for net in nets {
+        if old[*net] != new[*net] {
+            return false;
+        }
+    }
+    true
+}

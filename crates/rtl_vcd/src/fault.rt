@@ -1,0 +1,11 @@
+//! Why a trace was not written whole.
+
+use thiserror::Error;
+
+/// Why a trace was not written whole.
+#[derive(Clone, Copy, PartialEq, Eq, Debug, Error)]
+pub enum VcdFault {
+    /// The sink took less than the whole text.
+    #[error("the output failed")]
+    Write,
+}

@@ -1,0 +1,16 @@
+//! The trace of a simulation as a four-state value change dump (IEEE 1364-2005, clause 18): the header, the values at 0, the
+//! changes at each later time, and the end.
+//!
+//! `specs/Header.antt` and `specs/Trace.antt` define the text of each part, and `trace_text` the whole.
+#![tactic(auto)]
+
+mod change;
+mod fault;
+mod heading;
+mod line;
+mod trace;
+
+pub use fault::VcdFault;
+pub use heading::header;
+pub use rtl_sink::{Out, Sink, WriteFailed};
+pub use trace::{end, first, moment};

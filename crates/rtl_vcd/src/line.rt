@@ -1,0 +1,72 @@
+//! Codes and values, in a line of fixed room.
+
+ghost use Rattle.std.specs.Prelude.{◌≡◌, ℕ, ◌+◌, ◌≤◌, ◌<◌, ◌++◌, All, length, map, slice_index};
+ghost use Rattle.arrayvec.specs.ArrayVec.{array_vec_len};
+ghost use Rattle.rtl_vcd.specs.Values as spec;
+
+use arrayvec::ArrayVec;
+
+/// Room for the longest change: `b`, 64 digits, a space, a code of ten characters, and the line's end.
+pub type Line = ArrayVec<u8, 77>;
+
+/// What one of the nine values, by its code, prints as.
+fn character(value: u8) -> u8
+    ensures { result ≡ spec.character value }
+{
+    match value {
+        2 | 6 => b'0',
+        3 | 7 => b'1',
+        4 => b'z',
+        _ => b'x',
+    }
+}
+
+/// Appends the code of the name with this number, at most ten characters.
+pub fn push_code(line: &mut Line, number: usize)
+    requires room { array_vec_len line.old ≤ 67 }
+    ensures code { line.new.items ≡ line.old.items ++ spec.code number }
+    ensures short { array_vec_len line.new ≤ array_vec_len line.old + 10 }
+{
+    line.push(b'!' + (number % 94) as u8);
+    let mut rest = number / 94;
+    while rest > 0 {
+        line.push(b'!' + (rest % 94) as u8);
+        rest /= 94;
+    }
+}
+
+/// How many binary digits hold the number, at least one.
+pub fn binary_digits(number: u32) -> u32
+    ensures digits { result ≡ spec.binary_digits number }
+    ensures most { result ≤ 32 }
+{
+    if number < 2 {
+        return 1;
+    }
+    1 + binary_digits(number / 2)
+}
+
+/// Appends so many binary digits of the number, the lowest last.
+pub fn push_binary(line: &mut Line, digits: u32, number: u32)
+    requires room { array_vec_len line.old + digits ≤ 77 }
+    ensures digits { line.new.items ≡ line.old.items ++ spec.binary digits number }
+    ensures len { array_vec_len line.new ≡ array_vec_len line.old + digits }
+{
+    if digits == 0 {
+        return;
+    }
+    push_binary(line, digits - 1, number / 2);
+    line.push(b'0' + (number % 2) as u8);
+}
+
+/// Appends what the values of these nets print as.
+pub fn push_elements(line: &mut Line, nets: &[usize], values: &[u8])
+    requires there { All (λ n. n < length values.now) nets.now }
+    requires room { array_vec_len line.old + length nets.now ≤ 77 }
+    ensures characters { line.new.items ≡ line.old.items ++ map spec.character (map (slice_index values.now) nets.now) }
+    ensures len { array_vec_len line.new ≡ array_vec_len line.old + length nets.now }
+{
+    for net in nets {
+        line.push(character(values[*net]));
+    }
+}
