@@ -1,7 +1,9 @@
 -- The course of an input: the times at which it is set, each with the values from then on, or a clock.
-use Rattle.std.specs.Prelude.{ℕ, zero, suc, ◌==◌, ◌-◌, ◌/◌, ◌%◌, ◌&&◌, nat_le, nat_lt, Bool, List, [], ◌∷◌, Option, Some, None, filter, slice_index_or, length}
-use Rattle.std.specs.Prelude.{unwrap_or, if◌then◌else◌}
-use Rattle.std.specs.List.{list_any}
+use Rattle.std.specs.Prelude.{ℕ, ◌==◌, ◌-◌, ◌/◌, ◌%◌, ◌&&◌, nat_le, nat_lt, Bool, List, [], ◌∷◌, Option, Some, None, filter, slice_index_or, if◌then◌else◌}
+use Rattle.std.specs.Option.{is_some}
+use Rattle.std.specs.Ordering.{nat_cmp}
+use Rattle.std.specs.Map.{lookup}
+use Rattle.std.specs.BTreeMap.{is_at}
 use Rattle.vhdl_values.specs.declared.scalar.Nine.{Nine}
 use Rattle.vhdl_values.specs.declared.scalar.Nine.TheVariants.{Zero, One}
 
@@ -42,7 +44,11 @@ course_value (Ticks first half) place start t = clock_value first half t
 abbrev pub toggles : (first half t : ℕ) → Bool
 toggles first half t = nat_le first t && (t - first) % half == 0
 
+-- the input is set at the time
+abbrev pub is_set_at : List (ℕ × List Nine) → (t : ℕ) → Bool
+is_set_at sets t = is_some (lookup (is_at (nat_cmp t)) sets)
+
 -- a set stands at the time, or the clock toggles there
 abbrev pub is_busy : Course → (t : ℕ) → Bool
-is_busy (Sets sets) t = list_any (λ s. s.0 == t) sets
+is_busy (Sets sets) t = is_set_at sets t
 is_busy (Ticks first half) t = toggles first half t

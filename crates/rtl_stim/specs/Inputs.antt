@@ -40,6 +40,6 @@ abbrev pub values_named : Word → Option (List Nine)
 values_named [] = Some []
 values_named (letter ∷ letters) = before_values (value_of_letter letter) (values_named letters)
 
--- the values of a text that has one letter for each element, from the left
-abbrev pub values_for : Input → Word → Option (List Nine)
-values_for input text = if length text == length input.elements then values_named text else None
+-- the values of a text that has one letter for each of these elements, from the left
+abbrev pub values_for : List Element → Word → Option (List Nine)
+values_for elements text = if length text == length elements then values_named text else None

@@ -1,6 +1,5 @@
 -- From the lines of a stimulus to the course of each input and the stop, or the first bad line.
-use Rattle.std.specs.Prelude.{ℕ, suc, ◌==◌, nat_le, not, ◌||◌, Bool, List, [], ◌∷◌, map, set, slice_index_or, Option, Some, None, is_some, Result, Ok, Err, if◌then◌else◌}
-use Rattle.std.specs.List.{list_any}
+use Rattle.std.specs.Prelude.{ℕ, suc, nat_le, not, ◌||◌, Bool, List, [], ◌∷◌, length, replicate, set, slice_index_or, Option, Some, None, is_some, Result, Ok, Err, if◌then◌else◌}
 use Rattle.std.specs.Ordering.{nat_cmp}
 use Rattle.std.specs.BTreeMap.{insert_entry}
 use Rattle.vhdl_values.specs.declared.scalar.Nine.{Nine}
@@ -11,7 +10,7 @@ use Rattle.rtl_stim.specs.declared.faults.StimFault.TheVariants.{InLine, NoStop}
 use Rattle.rtl_stim.specs.Lines.{Word, lines_of, words_of, says_nothing}
 use Rattle.rtl_stim.specs.Forms.{Form, At, Clock, Stop, form_of}
 use Rattle.rtl_stim.specs.Inputs.{Input, input_at, input_named, values_for}
-use Rattle.rtl_stim.specs.Courses.{Course, Sets, Ticks}
+use Rattle.rtl_stim.specs.Courses.{Course, Sets, Ticks, is_set_at}
 
 -- what lines have said: the course of each input, none of them set at first, and the stop
 pub record Said : Type 0 where
@@ -19,7 +18,7 @@ pub record Said : Type 0 where
   pub stop : Option ℕ
 
 abbrev pub nothing_said : List Input → Said
-nothing_said inputs = record { courses = map (λ input. Sets []) inputs; stop = None }
+nothing_said inputs = record { courses = replicate (length inputs) (Sets []); stop = None }
 
 abbrev pub latest_time : ℕ
 latest_time = 1_000_000_000_000_000
@@ -27,35 +26,43 @@ latest_time = 1_000_000_000_000_000
 abbrev pub is_too_large : ℕ → Bool
 is_too_large time = not (nat_le time latest_time)
 
--- ---- `at`
+-- ---- courses
 
 -- An input is set once at a time, and no clock is set.
-abbrev pub with_set : Said → (input : ℕ) → (time : ℕ) → (values : List Nine) → Course → Result Said StimProblem
-with_set said input time values (Ticks first half) = Err ClockAndSet
-with_set said input time values (Sets sets) =
-    if list_any (λ s. s.0 == time) sets then Err SetTwice
-    else Ok (record said { courses = set said.courses input (Sets (insert_entry nat_cmp sets time values)) })
+abbrev pub after_set : (time : ℕ) → (values : List Nine) → Course → Result Course StimProblem
+after_set time values (Ticks first half) = Err ClockAndSet
+after_set time values (Sets sets) = if is_set_at sets time then Err SetTwice else Ok (Sets (insert_entry nat_cmp sets time values))
+
+-- A clock has one line, and is never set.
+abbrev pub after_clock : (first half : ℕ) → Course → Result Course StimProblem
+after_clock first half (Ticks first_before half_before) = Err SetTwice
+after_clock first half (Sets (s ∷ sets)) = Err ClockAndSet
+after_clock first half (Sets []) = Ok (Ticks first half)
+
+abbrev pub course_at : Said → (input : ℕ) → Course
+course_at said input = slice_index_or said.courses input (Sets [])
+
+abbrev pub with_course : Said → (input : ℕ) → Result Course StimProblem → Result Said StimProblem
+with_course said input (Err problem) = Err problem
+with_course said input (Ok course) = Ok (record said { courses = set said.courses input course })
+
+-- ---- `at`
 
 abbrev pub set_values : Said → (input : ℕ) → (time : ℕ) → Option (List Nine) → Result Said StimProblem
 set_values said input time None = Err BadValue
-set_values said input time (Some values) = with_set said input time values (slice_index_or said.courses input (Sets []))
+set_values said input time (Some values) = with_course said input (after_set time values (course_at said input))
 
 abbrev pub set_input : List Input → Said → Option ℕ → (time : ℕ) → (text : Word) → Result Said StimProblem
 set_input inputs said None time text = Err NotAnInput
-set_input inputs said (Some input) time text = set_values said input time (values_for (input_at inputs input) text)
+set_input inputs said (Some input) time text = set_values said input time (values_for (input_at inputs input).elements text)
 
 -- ---- `clock`
 
--- A clock is a scalar, has one line, and is never set.
-abbrev pub with_clock : Said → (input : ℕ) → (first half : ℕ) → Course → Result Said StimProblem
-with_clock said input first half (Ticks first_before half_before) = Err SetTwice
-with_clock said input first half (Sets (s ∷ sets)) = Err ClockAndSet
-with_clock said input first half (Sets []) = Ok (record said { courses = set said.courses input (Ticks first half) })
-
+-- a clock is a scalar
 abbrev pub set_clock : List Input → Said → Option ℕ → (first half : ℕ) → Result Said StimProblem
 set_clock inputs said None first half = Err NotAnInput
 set_clock inputs said (Some input) first half =
-    if (input_at inputs input).is_scalar then with_clock said input first half (slice_index_or said.courses input (Sets [])) else Err BadValue
+    if (input_at inputs input).is_scalar then with_course said input (after_clock first half (course_at said input)) else Err BadValue
 
 -- ---- `stop`
 
@@ -79,8 +86,8 @@ abbrev pub after_line : List Input → Said → (line : List ℕ) → Result Sai
 after_line inputs said line = if says_nothing (words_of line) then Ok said else after_form inputs said (form_of (words_of line))
 
 -- the fault of a problem in the line of this number
-abbrev pub in_line : ℕ → Result Said StimProblem → Result Said StimFault
-in_line number (Ok said) = Ok said
+abbrev pub in_line : {A : Type 0} → ℕ → Result A StimProblem → Result A StimFault
+in_line number (Ok a) = Ok a
 in_line number (Err problem) = Err (InLine problem number)
 
 -- What is said once this line is said too, unless a line before it was bad.

@@ -5,8 +5,18 @@
 //! what waits in an agenda.
 #![tactic(auto)]
 
+mod courses;
 mod faults;
+mod forms;
 mod inputs;
+mod numbers;
+mod reading;
+mod schedule;
+mod values;
+mod words;
 
+pub use courses::Course;
 pub use faults::{StimFault, StimProblem};
 pub use inputs::{Element, Input, Inputs};
+pub use reading::read_schedule;
+pub use schedule::Schedule;
