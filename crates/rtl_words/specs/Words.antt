@@ -1,7 +1,6 @@
 -- Which words of the command line say which request: the command, and then its operands in their order, with its options anywhere
 -- between them.
-use Rattle.std.specs.Prelude.{◌≡◌, ℕ, Bool, true, false, not, ◌==◌, ◌&&◌, List, [], ◌∷◌, Option, Some, None, unwrap_or, ◌⊎◌, bytes_eq, codes, map}
-use Rattle.std.specs.List.{list_any}
+use Rattle.std.specs.Prelude.{◌≡◌, ℕ, Bool, true, false, ◌==◌, List, [], ◌∷◌, Option, Some, None, unwrap_or, ◌⊎◌, codes, map}
 use Rattle.rtl_words.specs.declared.request.Order.{Order}
 use Rattle.rtl_words.specs.declared.request.Order.TheVariants.{Forward, Reverse}
 use Rattle.rtl_words.specs.declared.request.Refused.{Refused}
@@ -60,13 +59,9 @@ pub record Says (words : List Word) (request : Request) : Type 0 where
   pub begun : words ≡ command ∷ others
   pub mixed : Mixes event order operands others
 
--- eval FILE TOP { NAME=VALUE }, with no option
-abbrev pub is_eval : List Word → Bool
-is_eval (command ∷ file ∷ top ∷ sets) = bytes_eq command (codes "eval")
-is_eval _ = false
-
-abbrev pub is_command : List Word → Bool
-is_command words = is_eval words && not (list_any is_option words)
+-- the words say no request
+abbrev pub SayNothing : List Word → Type 0
+SayNothing words = (request : Request) → Says words request → ⊥
 
 -- the words are refused as such, and not for want of memory
 abbrev pub IsOfWords : Refused → Type 0

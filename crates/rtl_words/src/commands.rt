@@ -1,4 +1,4 @@
-//! The commands, as clap reads them.
+//! The commands, as clap tells of them: the texts of help and of what is wrong with words.
 
 use clap::{Arg, ArgAction, Command};
 use std::alloc::{AllocError, Global};

@@ -1,11 +1,11 @@
 //! The words of the command line: which request they say.
 //!
-//! `specs/Words.antt` has the words of each request. They are read by clap, which also writes the texts for
-//! words that say none.
+//! `specs/Words.antt` has the words of each request. For words that say none clap writes the text, which is the
+//! help where that is asked for.
 #![tactic(auto)]
 
+mod arguments;
 mod commands;
-mod mixing;
 mod reading;
 mod request;
 

@@ -6,7 +6,7 @@ use Rattle.rtlsim.specs.Faults.{status_of}
 use Rattle.rtl_sink.specs.Read.{ReaderState}
 use Rattle.rtlsim.specs.Inputs.{GivesWhole, GivesStandardAlone, held}
 use Rattle.rtlsim.specs.Lines.{memory_line, input_line}
-use Rattle.rtl_words.specs.Words.{Says, is_command}
+use Rattle.rtl_words.specs.Words.{Says, SayNothing}
 use Rattle.rtlsim.specs.Opens.{Evaluates, Tells}
 use Rattle.rtlsim.specs.Places.{IsTold}
 use Rattle.rtlsim.specs.declared.faults.Fault.{Fault}
@@ -89,10 +89,10 @@ pub record RefusesWords (Reason : Type 0) (outcome : Status) (o : Outputs) : Typ
   pub status : (Reason × (outcome ≡ ended status.Words o.out_after o.err_after))
       ⊎ ((outcome ≡ ended status.Memory o.out_after o.err_after) × (text ≡ memory_line))
 
--- what the program does: it serves a request that its words say, or refuses words that are no command
+-- what the program does: it serves a request that its words say, or refuses words that say none
 abbrev pub Serves : List (List ℕ) → (List ℕ → Option (List ℕ) → Type 0) → Status → Outputs → Type 0
 Serves words Gives outcome o =
-    ((request : Request) × Says words request × Performs request Gives outcome o) ⊎ RefusesWords (is_command words ≡ false) outcome o
+    ((request : Request) × Says words request × Performs request Gives outcome o) ⊎ RefusesWords (SayNothing words) outcome o
 
 -- ---- words in the first line of the input
 

@@ -1,0 +1,31 @@
+-- What waits in an agenda while a stimulus is simulated: not every change that is to come, but enough of them that the least time
+-- is always the next moment.
+use Rattle.std.specs.Prelude.{◌≡◌, ◌≢◌, ℕ, ◌<◌, ◌≤◌, List, Contains, Some, IfSome, IsTrue, AllPairs, slice_get}
+use Rattle.rtl_agenda.specs.Agenda.{Change, changes_at}
+use Rattle.rtl_stim.specs.Inputs.{Input}
+use Rattle.rtl_stim.specs.Courses.{Course, Sets, Ticks, toggles, is_busy}
+use Rattle.rtl_stim.specs.Reading.{Schedule}
+use Rattle.rtl_stim.specs.Times.{nets_of, all_nets, value_at}
+
+-- no two inputs, and no two elements of one, have the same net
+abbrev pub HaveOwnNets : List Input → Type 0
+HaveOwnNets inputs = AllPairs (λ n m. n ≢ m) (all_nets inputs)
+
+-- the net is of an input with this course
+abbrev pub IsOn : List Input → List Course → Course → (net : ℕ) → Type 0
+IsOn inputs courses course net =
+    (place : ℕ) × (slice_get courses place ≡ Some course) × IfSome (slice_get inputs place) (λ input. Contains (nets_of input) net)
+
+-- at this time an input with this course, which has the net, is set, or toggles for the first time after now
+abbrev pub IsNext : Course → (now t : ℕ) → Type 0
+IsNext (Sets sets) now t = IsTrue (is_busy (Sets sets) t)
+IsNext (Ticks first half) now t = IsTrue (toggles first half t) × ((between : ℕ) → now < between → between < t → IsTrue (toggles first half between) → ⊥)
+
+-- What waits after the time now: every set that is to come, and the next toggle of each clock, each with the value that the net
+-- has from then on; and nothing else.
+pub record Waits (inputs : List Input) (schedule : Schedule) (now : ℕ) (waiting : List (ℕ × List Change)) : Type 0 where
+  pub due : (course : Course) (net t : ℕ) → IsOn inputs schedule.courses course net → now < t → t ≤ schedule.stop → IsNext course now t
+      → Contains (changes_at waiting t) (net, value_at inputs schedule net t)
+  pub only : (t : ℕ) (change : Change) → Contains (changes_at waiting t) change
+      → (course : Course) × IsOn inputs schedule.courses course change.0 × (now < t) × (t ≤ schedule.stop) × IsNext course now t
+      × (change.1 ≡ value_at inputs schedule change.0 t)
