@@ -1,6 +1,7 @@
 -- Expansion: from the units of a file and the name of a top to the tree of its instances (IEEE 1076-2008, 14.2 to 14.5,
 -- clause 11). Numbers of nets and processes are no matter of it.
-use Rattle.std.specs.Prelude.{ℕ, zero, suc, ◌+◌, Bool, if◌then◌else◌, List, [], ◌∷◌, ◌++◌, length, map, sum, find, slice_get, decimal, Option, Some, None, ℤ, pos, negsuc, Ok, Err, bytes_eq, codes}
+use Rattle.std.specs.Prelude.{ℕ, zero, suc, ◌+◌, Bool, if◌then◌else◌, List, [], ◌∷◌, ◌++◌, length, map, sum, find, slice_get, Option, Some, None, ℤ, Ok, Err, bytes_eq, codes}
+use Rattle.std.specs.Fmt.{signed_decimal}
 use Rattle.std.specs.Char.{to_ascii_lowercase}
 use Rattle.vhdl_names.specs.units.Units as u
 use Rattle.vhdl_names.specs.units.Units.{Units, Entity, Architecture}
@@ -25,15 +26,11 @@ pub record Spot : Type 0 where
 abbrev pub dotted : List ℕ → List ℕ
 dotted label = label ++ codes "."
 
-abbrev pub integer_text : ℤ → List ℕ
-integer_text (pos n) = decimal n
-integer_text (negsuc n) = codes "-" ++ decimal (suc n)
-
 -- in a turn of a for generate, which is `label(i)`, and in an if generate
 abbrev pub in_turn : Spot → (label : List ℕ) → ℤ → Spot
 in_turn at label i = record {
   site = in_generate at.site i;
-  prefix = at.prefix ++ dotted (label ++ (codes "(" ++ (integer_text i ++ codes ")")));
+  prefix = at.prefix ++ dotted (label ++ (codes "(" ++ (signed_decimal i ++ codes ")")));
 }
 
 abbrev pub in_branch : Spot → (label : List ℕ) → Spot

@@ -1,0 +1,2 @@
+pub mod Designs
+pub mod Refusals

@@ -1,0 +1,4 @@
+-- Small designs on which the definitions are tried.
+pub mod Words
+pub mod Designs
+pub mod Refusals
