@@ -10,9 +10,9 @@ use Rattle.vhdl_names.specs.units.Expressions.{Static, Place}
 use Rattle.vhdl_names.specs.units.Units as u
 use Rattle.vhdl_names.specs.units.Units.{Fixed, Generic, Port, Declaration, Entity}
 use Rattle.vhdl_expand.specs.declared.fault.ElabProblem.TheVariants.{NoGeneric, Length, Index, Unassociated}
-use Rattle.vhdl_expand.specs.Elab.{Elab, ◌>>=◌, ◌>>◌, unless, found, each}
+use Rattle.vhdl_expand.specs.Elab.{Elab, ◌>>=◌, ◌>>◌, unless, found}
 use Rattle.vhdl_expand.specs.Integers.{Integers, integer_of, natural}
-use Rattle.vhdl_expand.specs.Kinds.{Kind, size, kind_of, size_of}
+use Rattle.vhdl_expand.specs.Kinds.{Kind, enumeration, size, kind_of, size_of}
 use Rattle.vhdl_expand.specs.Site.{Site, no_integers, no_site, Constant, place_elements}
 use Rattle.vhdl_expand.specs.Tree.{Role, input, output, internal, Object, Variable}
 
@@ -60,13 +60,17 @@ fixed at len (u.filled v) = Ok (replicate len v)
 -- an enumeration's literal is no vector, in units that names have passed
 fixed at len (u.Fixed.position n) = Err Length
 
+-- of an enumeration, by its position, or of elements
+abbrev pub given_starts : Site → Kind → Fixed → Elab (List ℕ)
+given_starts at (enumeration count) (u.Fixed.position n) = Ok (n ∷ [])
+given_starts at kind f = do
+  vs ← fixed at (size kind) f
+  Ok (map code_of vs)
+
 -- what the elements of this kind start with: U, or the first literal, without a default (6.4.2.3)
 unfoldable pub starts : Site → Kind → Option Fixed → Elab (List ℕ)
 starts at kind None = Ok (replicate (size kind) 0)
-starts at kind (Some (u.Fixed.position n)) = Ok (n ∷ [])
-starts at kind (Some f) = do
-  vs ← fixed at (size kind) f
-  Ok (map code_of vs)
+starts at kind (Some f) = given_starts at kind f
 
 -- ---- ports, signals and variables
 

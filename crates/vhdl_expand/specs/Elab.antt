@@ -1,5 +1,5 @@
 -- What elaboration computes, or why it refuses.
-use Rattle.std.specs.Prelude.{ℕ, Bool, if◌then◌else◌, List, [], ◌∷◌, slice_get, Option, Some, None, Result, Ok, Err}
+use Rattle.std.specs.Prelude.{Bool, if◌then◌else◌, List, [], ◌∷◌, Option, Some, None, Result, Ok, Err}
 use Rattle.vhdl_expand.specs.declared.fault.ElabProblem.{ElabProblem}
 
 abbrev pub Elab : Type 0 → Type 0

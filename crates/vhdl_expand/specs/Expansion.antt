@@ -1,13 +1,13 @@
 -- Expansion: from the units of a file and the name of a top to the tree of its instances (IEEE 1076-2008, 14.2 to 14.5,
 -- clause 11). Numbers of nets and processes are no matter of it.
-use Rattle.std.specs.Prelude.{ℕ, zero, suc, ◌+◌, Bool, if◌then◌else◌, List, [], ◌∷◌, ◌++◌, length, map, sum, find, slice_get, Option, Some, None, ℤ, Ok, Err, bytes_eq, codes}
+use Rattle.std.specs.Prelude.{ℕ, zero, suc, ◌+◌, if◌then◌else◌, List, [], ◌∷◌, ◌++◌, length, map, sum, find, slice_get, Option, ℤ, Ok, Err, bytes_eq, codes}
 use Rattle.std.specs.Fmt.{signed_decimal}
 use Rattle.std.specs.Char.{to_ascii_lowercase}
 use Rattle.vhdl_names.specs.units.Units as u
 use Rattle.vhdl_names.specs.units.Units.{Units, Entity, Architecture}
 use Rattle.vhdl_names.specs.units.Statements as s
 use Rattle.vhdl_expand.specs.declared.fault.ElabProblem.TheVariants.{NoTop, TooDeep}
-use Rattle.vhdl_expand.specs.Elab.{Elab, ◌>>=◌, ◌>>◌, found, each}
+use Rattle.vhdl_expand.specs.Elab.{Elab, ◌>>=◌, found, each}
 use Rattle.vhdl_expand.specs.Integers.{decision, turns}
 use Rattle.vhdl_expand.specs.Site.{Site, no_integers, in_generate, elements_count}
 use Rattle.vhdl_expand.specs.Tree.{Sensitivity, listed, every, as_read, Variable, Process, Instance, Parts, no_parts, inner, followed_by}

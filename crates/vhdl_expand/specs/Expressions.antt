@@ -1,6 +1,6 @@
 -- Expanded expressions: names are elements, lengths are computed, and a number beside a vector is a constant
 -- (IEEE 1076-2008, clause 9; numeric_std).
-use Rattle.std.specs.Prelude.{ℕ, ◌+◌, Bool, true, false, ◌==◌, nat_le, List, [], ◌∷◌, length, Ok, Err}
+use Rattle.std.specs.Prelude.{ℕ, ◌+◌, Bool, true, false, ◌==◌, nat_le, List, [], ◌∷◌, length, Ok}
 use Rattle.vhdl_values.specs.declared.scalar.Nine.{Nine}
 use Rattle.vhdl_values.specs.declared.scalar.Nine.TheVariants.{One, Zero}
 use Rattle.vhdl_values.specs.declared.kinds.Cmp.{Cmp}
@@ -17,9 +17,9 @@ use Rattle.vhdl_names.specs.units.Expressions as u
 use Rattle.vhdl_names.specs.units.Expressions.{Static, Place, Vector, Value, Test}
 use Rattle.rtl_model.specs.bodies.Body as b
 use Rattle.rtl_model.specs.bodies.Fits.{width}
-use Rattle.vhdl_expand.specs.declared.fault.ElabProblem.TheVariants.{Length, Index, TooWide}
+use Rattle.vhdl_expand.specs.declared.fault.ElabProblem.TheVariants.{Length, TooWide}
 use Rattle.vhdl_expand.specs.Elab.{Elab, ◌>>=◌, ◌>>◌, unless}
-use Rattle.vhdl_expand.specs.Integers.{integer, natural, decision}
+use Rattle.vhdl_expand.specs.Integers.{natural, decision}
 use Rattle.vhdl_expand.specs.Kinds.{as_size, size_of}
 use Rattle.vhdl_expand.specs.Site.{Site, place_elements, signal_elements, variable_elements, constant_values, the_element}
 

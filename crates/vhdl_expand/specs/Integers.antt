@@ -1,6 +1,6 @@
 -- Static integers, truths over them, and the turns of loops and generates (IEEE 1076-2008, 9.4, 9.2.3 to 9.2.8, 5.2.3,
 -- 10.10, 11.9).
-use Rattle.std.specs.Prelude.{ℕ, zero, suc, ◌+◌, Bool, true, not, ◌==◌, nat_le, if◌then◌else◌, List, [], ◌∷◌, slice_get, ℤ, pos, negsuc, ◌+ℤ◌, ◌-ℤ◌, ◌*ℤ◌, neg_ℤ, int_div, int_rem, int_lt, int_le, nat_abs, Ok, Err}
+use Rattle.std.specs.Prelude.{ℕ, zero, suc, ◌+◌, Bool, true, not, ◌&&◌, ◌||◌, ◌==◌, nat_le, if◌then◌else◌, List, [], ◌∷◌, slice_get, ℤ, pos, negsuc, ◌+ℤ◌, ◌-ℤ◌, ◌*ℤ◌, neg_ℤ, int_div, int_rem, int_lt, int_le, nat_abs, Ok, Err}
 use Rattle.vhdl_values.specs.declared.kinds.Cmp.{Cmp}
 use Rattle.vhdl_values.specs.declared.kinds.Cmp.TheVariants.{Eq, Ne, Lt, Le, Gt, Ge}
 use Rattle.vhdl_tree.specs.declared.operator.Direction.{Direction}
@@ -95,8 +95,8 @@ integer_of type at s = do
 -- ---- truths
 
 abbrev pub compares_integers : Cmp → ℤ → ℤ → Bool
-compares_integers Eq x y = nat_abs (x -ℤ y) == 0
-compares_integers Ne x y = not (nat_abs (x -ℤ y) == 0)
+compares_integers Eq x y = int_le x y && int_le y x
+compares_integers Ne x y = int_lt x y || int_lt y x
 compares_integers Lt x y = int_lt x y
 compares_integers Le x y = int_le x y
 compares_integers Gt x y = int_lt y x

@@ -1,6 +1,6 @@
 -- What is declared: one element, a vector within its bounds, or a value of an enumeration; and the parts of it that
 -- indexed names and slices mean (IEEE 1076-2008, 5.3.2, 8.4, 8.5).
-use Rattle.std.specs.Prelude.{ℕ, ◌+◌, Bool, true, false, not, ◌&&◌, nat_le, if◌then◌else◌, List, [], ◌∷◌, ℤ, pos, ◌-ℤ◌, int_le, nat_abs, Ok, Err}
+use Rattle.std.specs.Prelude.{ℕ, Bool, true, false, not, ◌&&◌, nat_le, if◌then◌else◌, List, [], ◌∷◌, ℤ, pos, ◌-ℤ◌, int_le, nat_abs, Ok, Err}
 use Rattle.std.specs.List.{range_with_len}
 use Rattle.vhdl_tree.specs.declared.operator.Direction.{Direction}
 use Rattle.vhdl_tree.specs.declared.operator.Direction.TheVariants.{To, Downto}
@@ -10,7 +10,7 @@ use Rattle.vhdl_names.specs.units.Units.{Form}
 use Rattle.vhdl_names.specs.units.Units as units
 use Rattle.rtl_model.specs.bodies.Types.{ElementType}
 use Rattle.rtl_model.specs.bodies.Types as types
-use Rattle.vhdl_expand.specs.declared.fault.ElabProblem.TheVariants.{StaticError, Index, TooWide}
+use Rattle.vhdl_expand.specs.declared.fault.ElabProblem.TheVariants.{Index, TooWide}
 use Rattle.vhdl_expand.specs.Elab.{Elab, ◌>>=◌, ◌>>◌, unless}
 use Rattle.vhdl_expand.specs.Integers.{Integers, integer, natural, as_natural, is_null, extent}
 

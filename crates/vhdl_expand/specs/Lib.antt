@@ -8,3 +8,5 @@ pub mod Statements
 pub mod Prefixes
 pub mod Declarations
 pub mod Expansion
+pub mod views
+pub mod laws

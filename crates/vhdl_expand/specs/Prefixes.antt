@@ -1,12 +1,12 @@
 -- The longest static prefixes of the names in a text, before its loops are unrolled: a process has a driver for each
 -- element of those of its targets, and `process (all)` is sensitive to those of the names that it reads (IEEE 1076-2008,
 -- 8.1, 14.7.2, 11.3).
-use Rattle.std.specs.Prelude.{ℕ, Bool, true, false, ◌&&◌, ◌==◌, if◌then◌else◌, List, [], ◌∷◌, ◌++◌, filter, Ok, Err}
+use Rattle.std.specs.Prelude.{ℕ, Bool, true, false, ◌&&◌, ◌==◌, if◌then◌else◌, List, [], ◌∷◌, ◌++◌, filter, Ok}
 use Rattle.std.specs.List.{list_any, range_with_len}
 use Rattle.vhdl_names.specs.units.Expressions as u
 use Rattle.vhdl_names.specs.units.Expressions.{Static, Part, Place, Vector, Value, Test}
 use Rattle.vhdl_names.specs.units.Statements as s
-use Rattle.vhdl_expand.specs.Elab.{Elab, ◌>>=◌, ◌>>◌, each}
+use Rattle.vhdl_expand.specs.Elab.{Elab, ◌>>=◌, each}
 use Rattle.vhdl_expand.specs.Site.{Site, place_elements}
 
 -- ---- prefixes: a loop's parameter is not static

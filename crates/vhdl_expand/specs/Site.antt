@@ -1,13 +1,13 @@
 -- What is known where an expression stands, and the elements that its names mean. The elements of a unit's ports and
 -- signals are numbered from 0 in order of declaration, ports before signals, and from the left; those of a process's
 -- variables in the same way (IEEE 1076-2008, 8.1 to 8.5).
-use Rattle.std.specs.Prelude.{ℕ, zero, suc, ◌+◌, List, [], ◌∷◌, ◌++◌, map, take, sum, slice_get, slice_index_or, ℤ, Ok}
+use Rattle.std.specs.Prelude.{ℕ, ◌+◌, List, [], ◌∷◌, ◌++◌, map, take, sum, slice_get, slice_index_or, ℤ, Ok}
 use Rattle.vhdl_values.specs.declared.scalar.Nine.{Nine}
 use Rattle.vhdl_values.specs.declared.scalar.Nine.TheVariants.{X}
 use Rattle.vhdl_names.specs.units.Expressions as u
 use Rattle.vhdl_names.specs.units.Expressions.{Signal, Part, Place}
 use Rattle.vhdl_expand.specs.declared.fault.ElabProblem.TheVariants.{Index}
-use Rattle.vhdl_expand.specs.Elab.{Elab, ◌>>=◌, ◌>>◌, found}
+use Rattle.vhdl_expand.specs.Elab.{Elab, ◌>>=◌, found}
 use Rattle.vhdl_expand.specs.Integers.{Integers}
 use Rattle.vhdl_expand.specs.Kinds.{Kind, size, places}
 

@@ -2,7 +2,7 @@
 -- are unrolled. Nothing in it speaks of nets: names stand for the elements of the declarations of the instance that they
 -- stand in, numbered from 0 in order of declaration, ports before signals, and from the left (IEEE 1076-2008, 14.2 to
 -- 14.5).
-use Rattle.std.specs.Prelude.{ℕ, Bool, List, [], ◌∷◌, ◌++◌, Option}
+use Rattle.std.specs.Prelude.{ℕ, Bool, List, Option}
 use Rattle.rtl_model.specs.bodies.Body.{Stmts}
 use Rattle.vhdl_expand.specs.Kinds.{Kind}
 

@@ -3,6 +3,11 @@
 //! in `specs`.
 #![tactic(auto)]
 
+mod decision;
+pub mod expansion_laws;
 mod fault;
+mod integer;
 
+pub use decision::Turns;
 pub use fault::{ElabFault, ElabProblem};
+pub use integer::Integers;

@@ -1,0 +1,3 @@
+-- What contracts see of the code's types.
+pub mod Integers
+pub mod Decisions
