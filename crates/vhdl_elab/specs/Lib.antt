@@ -5,3 +5,4 @@ pub mod Limits
 pub mod Names
 pub mod Elaboration
 pub mod examples
+pub mod laws

@@ -3,3 +3,4 @@
 #![tactic(auto)]
 
 pub mod design_examples;
+pub mod elaboration_laws;
