@@ -51,7 +51,7 @@ fn compares(relation: Cmp, left: i32, right: i32) -> bool
 }
 
 /// Whether a range has no number in it.
-fn is_null(direction: Direction, left: i32, right: i32) -> bool
+pub fn is_null(direction: Direction, left: i32, right: i32) -> bool
     ensures { result ≡ definition.is_null direction left right }
 {
     match direction {
@@ -61,7 +61,7 @@ fn is_null(direction: Direction, left: i32, right: i32) -> bool
 }
 
 /// How many numbers are in a range.
-fn extent(direction: Direction, left: i32, right: i32) -> u64
+pub fn extent(direction: Direction, left: i32, right: i32) -> u64
     ensures { result ≡ definition.extent direction left right }
 {
     if is_null(direction, left, right) {

@@ -49,6 +49,16 @@ fn literal(n: u32, at: usize) -> Result<i32, ElabFault>
     }
 }
 
+/// An integer where a natural number is needed.
+pub fn as_natural(x: i32, at: usize) -> Result<u32, ElabFault>
+    ensures { Computes (definition.as_natural x) result }
+{
+    match u32::try_from(x) {
+        Ok(n) => Ok(n),
+        Err(_) => Err(ElabProblem::StaticError.at(at)),
+    }
+}
+
 /// The integer of this number.
 fn known(xs: &[i32], number: usize, at: usize) -> Result<i32, ElabFault>
     ensures { Computes (definition.known xs.now number) result }
@@ -131,10 +141,7 @@ impl Integers<'_> {
         ensures { Computes (definition.natural (integers_view self.now) (static_view value.now)) result }
     {
         let x = self.integer(value, at)?;
-        match u32::try_from(x) {
-            Ok(n) => Ok(n),
-            Err(_) => Err(ElabProblem::StaticError.at(at)),
-        }
+        as_natural(x, at)
     }
 
     /// The value of a generic or constant of a type of integers; a fault is StaticError or GenericRange.

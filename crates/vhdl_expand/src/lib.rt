@@ -7,7 +7,9 @@ mod decision;
 pub mod expansion_laws;
 mod fault;
 mod integer;
+mod kind;
 
 pub use decision::Turns;
 pub use fault::{ElabFault, ElabProblem};
 pub use integer::Integers;
+pub use kind::{Bounds, Kind, Run};
