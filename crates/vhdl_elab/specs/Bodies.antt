@@ -1,6 +1,6 @@
 -- The body of a process in the flat net: where the expanded body has an element, a net stands, and where it assigns an
 -- element, the place of that element's driver (IEEE 1076-2008, 14.7.2).
-use Rattle.std.specs.Prelude.{ℕ, zero, suc, ◌==◌, if◌then◌else◌, List, [], ◌∷◌, map, slice_index}
+use Rattle.std.specs.Prelude.{ℕ, suc, ◌==◌, if◌then◌else◌, List, [], ◌∷◌, map, slice_index}
 use Rattle.rtl_model.specs.bodies.Body.{Expr, signal, variable, constant, inverse, filled, binary, resized, shifted_left}
 use Rattle.rtl_model.specs.bodies.Body.{shifted_right, Value, elements, position, position_of, position_in}
 use Rattle.rtl_model.specs.bodies.Body.{Test, condition, decided, equal, unequal, level, compared, compared_to}

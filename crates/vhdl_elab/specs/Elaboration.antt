@@ -1,7 +1,7 @@
 -- Elaboration of a design (IEEE 1076-2008, clause 14): its units and the name of its top are expanded, the instances, nets
 -- and processes are numbered, and the net is wired. It is refused where an expansion is, and where the design as a whole
 -- breaks a rule.
-use Rattle.std.specs.Prelude.{ℕ, not, List, map, flat_map, Ok, Err}
+use Rattle.std.specs.Prelude.{ℕ, not, List, map, flat_map, Ok}
 use Rattle.std.specs.List.{enumerate_from}
 use Rattle.rtl_model.specs.nets.FlatNet.{FlatNet}
 use Rattle.vhdl_names.specs.units.Units.{Units}

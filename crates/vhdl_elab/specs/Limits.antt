@@ -1,6 +1,6 @@
 -- What is refused of a design as a whole: two sources of an unresolved element, an out port with several sources that is
 -- read, and more parts than the limits (IEEE 1076-2008, 6.4.2.3, 4.6, 6.5.6.3).
-use Rattle.std.specs.Prelude.{ℕ, ◌+◌, Bool, not, ◌&&◌, nat_le, List, [], ◌∷◌, length, map, sum, flat_map}
+use Rattle.std.specs.Prelude.{ℕ, ◌+◌, Bool, not, ◌&&◌, nat_le, List, length, map, sum, flat_map}
 use Rattle.std.specs.List.{list_any}
 use Rattle.rtl_model.specs.bodies.Body.{Stmt, nothing, assign, set, if_of, case_of, Stmts, done, step}
 use Rattle.rtl_model.specs.bodies.Body.{Branches, no_else, otherwise, branch, Alternatives, others, alternative}

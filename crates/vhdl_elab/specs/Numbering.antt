@@ -1,11 +1,11 @@
 -- Instances, nets and processes in order of the text, and the net of each element (IEEE 1076-2008, 14.2, 6.5.6.3). An
 -- associated port is no net of its own: its elements are the actual's elements. Nets are numbered from 0: the ports and
 -- signals of the top, then each instance's in the same way; processes too, an instance's in its place.
-use Rattle.std.specs.Prelude.{ℕ, ◌+◌, ◌==◌, List, [], ◌∷◌, ◌++◌, length, map, slice_index, codes, Option, Some, None}
+use Rattle.std.specs.Prelude.{ℕ, ◌+◌, List, [], ◌∷◌, ◌++◌, length, map, slice_index, codes, Option, Some, None}
 use Rattle.std.specs.List.{range_with_len}
 use Rattle.rtl_model.specs.bodies.Reads.{reads}
 use Rattle.vhdl_expand.specs.Kinds.{size}
-use Rattle.vhdl_expand.specs.Tree.{Role, input, output, internal, Object, Sensitivity, listed, every, as_read, Process, Instance, instance, Parts, no_parts, process, inner, objects_of}
+use Rattle.vhdl_expand.specs.Tree.{Role, input, output, Object, Sensitivity, listed, every, as_read, Process, Instance, instance, Parts, no_parts, process, inner, objects_of}
 use Rattle.vhdl_expand.specs.Expansion.{Design}
 
 -- ---- nets of elements

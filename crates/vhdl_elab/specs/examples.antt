@@ -2,3 +2,4 @@
 pub mod Words
 pub mod Designs
 pub mod Refusals
+pub mod Bodies

@@ -1,6 +1,6 @@
 -- Nets are as said: by induction over the tree, in order of the text.
-use Rattle.std.proofs.Common.{◌≡◌, ℕ, zero, suc, ◌+◌, ◌<◌, ◌≤◌, Bool, true, false, cond, List, [], ◌∷◌, ◌++◌, length, map, take, Option, Some, None, Ok, All, refl, sym, ap, ◌∙◌, subst, arith, append_assoc, append-nil, ◌⊎◌, inl, inr}
-use Rattle.std.specs.Prelude.{slice_get, slice_index, slice_range, filter, flat_map, is_none, sum}
+use Rattle.std.proofs.Common.{◌≡◌, ℕ, zero, suc, ◌+◌, ◌<◌, ◌≤◌, Bool, true, false, cond, List, [], ◌∷◌, ◌++◌, length, map, take, Option, Some, None, All, refl, sym, ap, ◌∙◌, subst, arith, append_assoc, append-nil, ◌⊎◌, inl, inr}
+use Rattle.std.specs.Prelude.{slice_get, slice_index, slice_range, filter, flat_map, is_none}
 use Rattle.std.specs.List.{range_with_len}
 use Rattle.std.proofs.lemmas.List.{length-append, length-map, map-append}
 use Rattle.std.proofs.lemmas.List.FromFn.{length-range_with_len}
@@ -9,15 +9,13 @@ use Rattle.std.proofs.lemmas.List.Sums.{sum_by-cons}
 use Rattle.std.proofs.lemmas.Grind.{flat_map-append}
 use Rattle.std.proofs.lemmas.Bool.{cases_lt}
 use Rattle.std.proofs.lemmas.Option.{slice_get_within}
-use Rattle.vhdl_names.specs.units.Units.{Units}
 use Rattle.vhdl_expand.specs.Kinds.{size}
-use Rattle.vhdl_expand.specs.Tree.{Object, Process, Instance, instance, Parts, no_parts, process, inner}
-use Rattle.vhdl_expand.specs.Expansion.{Design, expanded}
+use Rattle.vhdl_expand.specs.Tree.{Object, Instance, instance, Parts, no_parts, process, inner}
 use Rattle.vhdl_expand.specs.laws.Lengths.{ObjectFits, InstanceFits, PartsFit}
 use Rattle.vhdl_expand.proofs.laws.Lengths.{design-fits}
 use Rattle.vhdl_elab.specs.Numbering.{object_nets, own_size, element_nets, own_sizes, Placed, Numbered, nothing_numbered, Above, above_top, above_parts, placed, with_process, with_placed, with_instance, with_parts, numbered}
-use Rattle.vhdl_elab.specs.Wiring.{Element, element_of, elements_from, elements_of, own_elements}
-use Rattle.vhdl_elab.specs.laws.Nets.{objects_count, IsInstance, nets_of_name, NetsAreAsSaid, EachNetIsAsSaid}
+use Rattle.vhdl_elab.specs.Wiring.{Element, element_of, elements_from, elements_of}
+use Rattle.vhdl_elab.specs.laws.Nets.{objects_count, nets_of_name, NetsAreAsSaid, EachNetIsAsSaid}
 use Rattle.vhdl_elab.proofs.Segments.{run-append, segment, reads-all, get-left, get-last}
 
 -- ---- the nets of an object, with an actual and without

@@ -1,17 +1,15 @@
 -- Each driver is listed once among the sources of its net.
-use Rattle.std.proofs.Common.{◌≡◌, ℕ, zero, suc, ◌+◌, ◌<◌, Bool, true, false, cond, ◌&&◌, ◌==◌, List, [], ◌∷◌, ◌++◌, length, map, Option, Some, None, Contains, refl, sym, ap, ◌∙◌, subst, arith}
-use Rattle.std.specs.Prelude.{slice_get, slice_index, slice_index_or, count_by, filter}
-use Rattle.std.specs.List.{range_with_len}
+use Rattle.std.proofs.Common.{◌≡◌, ℕ, zero, suc, ◌+◌, ◌<◌, Bool, true, false, cond, ◌&&◌, ◌==◌, List, [], ◌∷◌, ◌++◌, map, Some, refl, sym, ap, ◌∙◌, arith}
+use Rattle.std.specs.Prelude.{slice_get, slice_index_or, count_by}
 use Rattle.std.proofs.lemmas.List.Sums.{sum_by-append, sum_by-cons}
 use Rattle.std.proofs.lemmas.List.FromFn.{get_or-map-range_with_len}
-use Rattle.std.proofs.lemmas.Bool.{eqb-true, eq-eqb, ne_eqb}
+use Rattle.std.proofs.lemmas.Bool.{eq-eqb, ne_eqb}
 use Rattle.std.proofs.lemmas.Option.{slice_get-get_or}
-use Rattle.rtl_model.specs.nets.FlatNet.{FlatNet, FlatProcess, no_flat_process, process_at, targets, drivers_of, all_drivers_of, flat_sources}
+use Rattle.rtl_model.specs.nets.FlatNet.{FlatProcess, no_flat_process, process_at, targets, drivers_of, all_drivers_of}
 use Rattle.rtl_model.specs.simulation.Net.{Source, Driver, Idle}
 use Rattle.rtl_model.proofs.nets.Sources.{source_is_driver}
-use Rattle.vhdl_elab.specs.Numbering.{Numbered}
-use Rattle.vhdl_elab.specs.Wiring.{Element, idle_values, flat_net}
-use Rattle.vhdl_elab.specs.laws.Sources.{Drives, is_driver, SourcesAreListed, EachSourceIsListed, EachIdlePortIsListed}
+use Rattle.vhdl_elab.specs.Wiring.{idle_values, flat_net}
+use Rattle.vhdl_elab.specs.laws.Sources.{is_driver, EachSourceIsListed, EachIdlePortIsListed}
 
 abbrev one : Bool → ℕ
 one b = cond b 1 0

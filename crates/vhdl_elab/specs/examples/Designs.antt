@@ -1,5 +1,5 @@
 -- Small designs and their nets.
-use Rattle.std.specs.Prelude.{◌≡◌, ℕ, true, false, List, [], ◌∷◌, map, Option, Some, None, Ok, Err, codes}
+use Rattle.std.specs.Prelude.{◌≡◌, [], ◌∷◌, map, Some, Ok, codes}
 use Rattle.vhdl_values.specs.declared.scalar.Nine.TheVariants.{Zero, One}
 use Rattle.vhdl_values.specs.declared.kinds.Edge.TheVariants.{Rising}
 use Rattle.vhdl_tree.specs.declared.declaration.Mode.TheVariants.{Out}
@@ -9,11 +9,10 @@ use Rattle.vhdl_names.specs.units.Statements as s
 use Rattle.vhdl_names.specs.units.Units as u
 use Rattle.vhdl_names.specs.units.Units.{Entity}
 use Rattle.rtl_model.specs.bodies.Body as b
-use Rattle.rtl_model.specs.nets.FlatNet.{FlatProcess, flat_sources}
-use Rattle.rtl_model.specs.simulation.Net.{Source, Driver, Idle}
-use Rattle.vhdl_expand.specs.Elab.{Elab}
-use Rattle.vhdl_elab.specs.Elaboration.{Elaborated, elaborated}
-use Rattle.vhdl_elab.specs.examples.Words.{number, downto, to, port, signal, at, read, assigned, process, assignment, object, input, output, declared, entity, Shown, shown, Of}
+use Rattle.rtl_model.specs.nets.FlatNet.{flat_sources}
+use Rattle.rtl_model.specs.simulation.Net.{Driver}
+use Rattle.vhdl_elab.specs.Elaboration.{elaborated}
+use Rattle.vhdl_elab.specs.examples.Words.{number, downto, to, port, signal, at, read, assigned, process, assignment, object, input, output, declared, entity, shown, Of}
 
 -- ---- a counter
 

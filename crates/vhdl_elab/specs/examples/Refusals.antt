@@ -1,12 +1,12 @@
 -- Small designs that are refused, and what is wrong with each; and some beside them that are elaborated.
-use Rattle.std.specs.Prelude.{◌≡◌, ℕ, true, false, List, [], ◌∷◌, ◌++◌, replicate, Option, Some, None, Ok, Err, codes, ℤ, pos, negsuc}
-use Rattle.vhdl_values.specs.declared.scalar.Nine.TheVariants.{U, Zero, One}
+use Rattle.std.specs.Prelude.{◌≡◌, ℕ, false, List, [], ◌∷◌, replicate, Option, Some, None, Ok, Err, codes, pos, negsuc}
+use Rattle.vhdl_values.specs.declared.scalar.Nine.TheVariants.{Zero, One}
 use Rattle.vhdl_values.specs.declared.kinds.Cmp.TheVariants.{Eq}
 use Rattle.vhdl_tree.specs.declared.declaration.Mode.TheVariants.{Out}
-use Rattle.vhdl_tree.specs.declared.operator.Direction.TheVariants.{To, Downto}
+use Rattle.vhdl_tree.specs.declared.operator.Direction.TheVariants.{Downto}
 use Rattle.vhdl_names.specs.declared.operator.Arithmetic.{Arithmetic}
 use Rattle.vhdl_names.specs.declared.operator.Arithmetic.TheVariants.{Add, Divide, Modulo, Remainder}
-use Rattle.vhdl_names.specs.declared.operator.IntegerType.TheVariants.{Integer, Positive}
+use Rattle.vhdl_names.specs.declared.operator.IntegerType.TheVariants.{Positive}
 use Rattle.vhdl_names.specs.units.Expressions as e
 use Rattle.vhdl_names.specs.units.Expressions.{Static, Range, Part}
 use Rattle.vhdl_names.specs.units.Statements as s
@@ -14,12 +14,10 @@ use Rattle.vhdl_names.specs.units.Units as u
 use Rattle.vhdl_names.specs.units.Units.{Entity, Concurrent}
 use Rattle.rtl_model.specs.bodies.Body as b
 use Rattle.rtl_model.specs.bodies.Types.{nine_valued}
-use Rattle.vhdl_expand.specs.declared.fault.ElabProblem.{ElabProblem}
 use Rattle.vhdl_expand.specs.declared.fault.ElabProblem.TheVariants.{NoTop, NoGeneric, GenericRange, StaticError, Length, Index, TooWide, Unassociated, TwoUnresolved, ReadOfShared, TooDeep, TooMany}
-use Rattle.vhdl_expand.specs.Elab.{Elab}
 use Rattle.vhdl_expand.specs.Integers.{integer}
 use Rattle.vhdl_expand.specs.Site.{no_integers}
-use Rattle.vhdl_elab.specs.Elaboration.{Elaborated, elaborated}
+use Rattle.vhdl_elab.specs.Elaboration.{elaborated}
 use Rattle.vhdl_elab.specs.examples.Words.{number, downto, to, port, signal, at, read, assigned, process, assignment, object, input, output, declared, entity, Of}
 use Rattle.vhdl_elab.specs.examples.Designs.{inverter, no_statement}
 

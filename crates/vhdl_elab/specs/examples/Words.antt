@@ -1,20 +1,14 @@
 -- Words for small designs: units as names and types leave them.
-use Rattle.std.specs.Prelude.{ℕ, true, List, [], ◌∷◌, map, Option, Some, None, Ok, Err, codes}
-use Rattle.vhdl_values.specs.declared.scalar.Nine.{Nine}
-use Rattle.vhdl_tree.specs.declared.declaration.Mode.{Mode}
+use Rattle.std.specs.Prelude.{ℕ, true, List, [], ◌∷◌, Option, Some, None, Ok, Err}
 use Rattle.vhdl_tree.specs.declared.declaration.Mode.TheVariants.{In, Out}
-use Rattle.vhdl_tree.specs.declared.operator.Direction.{Direction}
 use Rattle.vhdl_tree.specs.declared.operator.Direction.TheVariants.{To, Downto}
 use Rattle.vhdl_names.specs.units.Expressions as e
 use Rattle.vhdl_names.specs.units.Expressions.{Static, Range, Part, Place, Vector, Value}
 use Rattle.vhdl_names.specs.units.Statements as s
 use Rattle.vhdl_names.specs.units.Units as u
 use Rattle.vhdl_names.specs.units.Units.{Form, Fixed, Entity, Concurrent, Concurrents, Units}
-use Rattle.vhdl_expand.specs.declared.fault.ElabProblem.{ElabProblem}
-use Rattle.vhdl_expand.specs.Elab.{Elab, ◌>>=◌, ◌>>◌}
-use Rattle.vhdl_elab.specs.Elaboration.{Elaborated, elaborated}
-use Rattle.rtl_model.specs.nets.FlatNet.{FlatNet, flat_sources}
-use Rattle.rtl_model.specs.simulation.Net.{Source}
+use Rattle.vhdl_expand.specs.Elab.{Elab, ◌>>=◌}
+use Rattle.vhdl_elab.specs.Elaboration.{Elaborated}
 
 -- ---- names and ranges
 

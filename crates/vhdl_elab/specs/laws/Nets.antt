@@ -1,6 +1,6 @@
 -- Nets and instances in the words of a designer: what a port is, whose a net is, and in which order they stand
 -- (IEEE 1076-2008, 14.2, 6.5.6.3).
-use Rattle.std.specs.Prelude.{◌≡◌, ℕ, ◌+◌, ◌<◌, List, length, map, take, slice_get, slice_index, slice_range, Option, Some, None, Ok}
+use Rattle.std.specs.Prelude.{◌≡◌, ℕ, ◌+◌, ◌<◌, List, map, take, slice_get, slice_index, slice_range, Some, None, Ok}
 use Rattle.std.specs.List.{range_with_len}
 use Rattle.vhdl_names.specs.units.Units.{Units}
 use Rattle.vhdl_expand.specs.Kinds.{size}

@@ -1,6 +1,6 @@
 -- The sources of a net (IEEE 1076-2008, 14.7.2, 14.7.3.2): its drivers are those that drive it, each listed once; its idle
 -- ports are those out ports without a source whose net it is.
-use Rattle.std.specs.Prelude.{◌≡◌, ℕ, ◌<◌, ◌==◌, Bool, false, ◌&&◌, List, [], map, filter, count_by, slice_get, slice_index_or, Some, Contains}
+use Rattle.std.specs.Prelude.{◌≡◌, ℕ, ◌<◌, ◌==◌, Bool, false, ◌&&◌, [], map, filter, count_by, slice_get, slice_index_or, Some, Contains}
 use Rattle.rtl_model.specs.nets.FlatNet.{FlatNet, process_at, targets, flat_sources}
 use Rattle.rtl_model.specs.simulation.Net.{Source, Driver, Idle}
 use Rattle.vhdl_elab.specs.Numbering.{Numbered}
