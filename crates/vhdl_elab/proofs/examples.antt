@@ -1,0 +1,3 @@
+pub mod Designs
+pub mod Refusals
+pub mod Bodies

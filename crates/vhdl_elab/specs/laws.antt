@@ -1,0 +1,3 @@
+-- Laws of elaboration.
+pub mod Nets
+pub mod Sources

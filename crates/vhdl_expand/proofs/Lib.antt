@@ -1,0 +1,4 @@
+pub mod Steps
+pub mod Chains
+pub mod Decided
+pub mod laws

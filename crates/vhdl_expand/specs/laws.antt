@@ -1,0 +1,2 @@
+-- Laws of expansion.
+pub mod Lengths

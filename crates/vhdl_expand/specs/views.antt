@@ -1,0 +1,4 @@
+-- What contracts see of the code's types.
+pub mod Integers
+pub mod Decisions
+pub mod Kinds
