@@ -19,5 +19,5 @@ codes_differ j k same =
     let reversed : reverse (digits_of 94 (j / 94)) ≡ reverse (digits_of 94 (k / 94)) =
     sym (raised_back (reverse (digits_of 94 (j / 94)))) ∙ high ∙ raised_back (reverse (digits_of 94 (k / 94))) in
     let rest : j / 94 ≡ k / 94 = same_from_digits_of 94 (j / 94) (k / 94) (omega arith)
-        (sym (reverse-reverse (digits_of 94 (j / 94))) ∙ ap reverse reversed ∙ reverse-reverse (digits_of 94 (k / 94))) in
+    (sym (reverse-reverse (digits_of 94 (j / 94))) ∙ ap reverse reversed ∙ reverse-reverse (digits_of 94 (k / 94))) in
     omega (arith, low, rest)
