@@ -3,3 +3,4 @@ pub mod Values
 pub mod Header
 pub mod Trace
 pub mod Shown
+pub mod Laws

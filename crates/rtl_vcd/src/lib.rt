@@ -7,10 +7,12 @@
 mod change;
 mod fault;
 mod heading;
+mod laws;
 mod line;
 mod trace;
 
 pub use fault::VcdFault;
 pub use heading::header;
+pub use laws::{codes_differ, print_as_said};
 pub use rtl_sink::{Out, Sink, WriteFailed};
 pub use trace::{end, first, moment};
