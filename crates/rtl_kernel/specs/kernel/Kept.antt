@@ -46,7 +46,8 @@ pub record IsSound (net : FlatNet) (s : State) : Type 0 where
   pub fresh : (p : ℕ) → IsToRun s p → IsActive s.pending p → ⊥
 
 -- what a kernel keeps is of its net, and fits together
-pub record IsKernel {E : Type 0} (process : E → FlatProcess) (types : E → List ElementType) (most : E → ℕ) (net : NetView) (bodies : List E) (index : List (List ℕ)) (values : TwoValues) (drivers : Transactions) (resumed : ToRun) (touched : Numbers) : Type 0 where
+pub record IsKernel {E : Type 0} (process : E → FlatProcess) (types : E → List ElementType) (most : E → ℕ)
+    (net : NetView) (bodies : List E) (index : List (List ℕ)) (values : TwoValues) (drivers : Transactions) (resumed : ToRun) (touched : Numbers) : Type 0 where
   pub in_range : IsInRange (flat net)
   pub connected : IsConnected (flat net)
   pub run_bodies : RunBodies process types (flat net) bodies

@@ -39,5 +39,6 @@ pub record IsIndexed (process : ℕ) (nets : List ℕ) (old new : List (List ℕ
 
 -- the same of these nets alone
 pub record AreWokenBy (nets : List ℕ) (index : List (List ℕ)) (before current : List ℕ) (waiting : List Bool) : Type 0 where
-  pub all_wait : (n p : ℕ) → Contains nets n → IsTrue (has_event before current n) → Contains (slice_index_or index n []) p → IsTrue (slice_index_or waiting p false)
+  pub all_wait : (n p : ℕ) → Contains nets n → IsTrue (has_event before current n) → Contains (slice_index_or index n []) p
+      → IsTrue (slice_index_or waiting p false)
   pub no_other : (p : ℕ) → IsTrue (slice_index_or waiting p false) → (n : ℕ) × IsTrue (has_event before current n) × Contains (slice_index_or index n []) p
