@@ -43,9 +43,11 @@ module _ {X : Type 0} (passes : X → Bool) (none : X) (xs : List X) (places : L
         there : (k : ℕ) → (k < length places) ⊎ (length places ≤ k) → k < length places + 1 → get_or (places ++ place ∷ []) k 0 < length xs
         there k (inl h) l = rw (get_or_append_left places (place ∷ []) 0 k h) (A.there k h)
         there k (inr h) l = let e : k ≡ length places = omega arith in rw (e, get_or-append_seam places place [] 0) within
+
         pass : (k : ℕ) → (k < length places) ⊎ (length places ≤ k) → k < length places + 1 → passes (get_or with_value (get_or (places ++ place ∷ []) k 0) none) ≡ true
         pass k (inl h) l = rw (get_or_append_left places (place ∷ []) 0 k h) (stays (get_or places k 0) (A.pass k h))
         pass k (inr h) l = let e : k ≡ length places = omega arith in rw (e, get_or-append_seam places place [] 0, get_or-set_same xs place value none within) holds
+
         all : (q : ℕ) → passes (get_or with_value q none) ≡ true → (q ≡ place) ⊎ (q ≡ place → ⊥) → Contains (places ++ place ∷ []) q
         all q h (inl e) = rw e (Contains-push places place)
         all q h (inr n) = Contains-append_left places (place ∷ []) q (A.are_all q (was q n h))

@@ -1,6 +1,6 @@
 //! What runs a body.
 
-ghost use Rattle.std.specs.Prelude.{◌≡◌, ℕ, ◌≤◌, List};
+ghost use Rattle.std.specs.Prelude.{◌≡◌, ℕ, ◌≤◌, List, length};
 ghost use Rattle.rtl_model.specs.bodies.Types.{ElementType, KeepsTypes};
 ghost use Rattle.rtl_model.specs.nets.FlatNet.{FlatProcess};
 ghost use Rattle.rtl_model.specs.nets.CoreNet.{part_effect};
@@ -26,6 +26,8 @@ pub trait Exec {
     /// `old`: codes, by the nets' numbers. What `out` held is replaced by the body's effect, and by nothing else. It takes
     /// no memory.
     fn run(&self, cur: &[u8], old: &[u8], out: &mut Drives)
+        requires now_all { length cur.now ≡ length (types self.now) }
+        requires before_all { length old.now ≡ length (types self.now) }
         requires now { KeepsTypes (types self.now) cur.now }
         requires before { KeepsTypes (types self.now) old.now }
         requires own { IsOf (process self.now) out.old }

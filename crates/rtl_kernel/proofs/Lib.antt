@@ -1,2 +1,17 @@
 pub mod Marks
 pub mod Events
+pub mod Cycles
+pub mod Resolving
+pub mod Waking
+pub mod Ordering
+pub mod Updating
+pub mod Active
+pub mod Indexing
+pub mod Steps
+pub mod Resolved
+pub mod Changing
+pub mod Running
+pub mod Wiring
+pub mod Inputs
+pub mod Settling
+pub mod Kept

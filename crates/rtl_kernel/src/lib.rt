@@ -1,5 +1,15 @@
 //! The simulation cycle (IEEE 1076-2008, 14.7.5).
 #![tactic(auto)]
 
+mod drivers;
+mod kernel;
+mod pick;
+mod resolution;
+mod resumed;
+mod update;
 mod values;
+mod wakes;
 mod worklist;
+
+pub use kernel::{Kernel, NoSettling};
+pub use pick::{Forward, Pick, Reverse};

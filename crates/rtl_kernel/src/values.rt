@@ -1,11 +1,13 @@
 //! The values of the nets.
 
-ghost use Rattle.std.specs.Prelude.{◌≡◌, ◌<◌, length, slice_set, IfOk};
-ghost use Rattle.rtl_kernel.specs.values.TwoValues.{CoverEvents};
+ghost use Rattle.std.specs.Prelude.{◌≡◌, ◌<◌, length, slice_set, All, IfOk};
+ghost use Rattle.rtl_kernel.specs.kernel.Simulation.{changes_of};
+ghost use Rattle.rtl_kernel.specs.values.TwoValues.{AreChanged, CoverEvents};
 
 use crate::worklist::Worklist;
 use std::alloc::{AllocError, Global};
 use std::marker::Model;
+use vhdl_values::Nine;
 
 /// The nets' values before the last update and now, as codes, with the nets that may differ in the two: so what a cycle
 /// costs here goes by the nets that it changes. All memory is taken by `new`.
@@ -68,6 +70,17 @@ impl Values {
     {
         bring_up(&mut self.before, &self.current, self.changed.members());
         self.changed.clear();
+    }
+
+    /// Gives nets values now, one after the other.
+    pub fn set_all(&mut self, changes: &[(usize, Nine)])
+        requires { All (λ c. c.0 < length self.old.current) changes.now }
+        ensures before { self.new.before ≡ self.old.before }
+        ensures current { AreChanged (changes_of changes.now) self.old.current self.new.current }
+    {
+        for (net, value) in changes {
+            self.set(*net, value.code());
+        }
     }
 
     /// Gives a net a value now.

@@ -1,0 +1,158 @@
+-- What a kernel's parts ask, and that its steps keep what holds of every kernel.
+use Rattle.std.proofs.Common.{◌≡◌, ℕ, zero, suc, ◌+◌, ◌<◌, ◌≤◌, Bool, true, false, List, [], ◌∷◌, length, get_or, set, map, refl, sym, ap, subst, ◌∙◌, arith, IsSome, Contains, All, IsTrue}
+use Rattle.std.proofs.lemmas.List.{length-map, length-set}
+use Rattle.rtl_model.specs.bodies.Types.{ElementType, KeepsTypes}
+use Rattle.rtl_model.specs.nets.FlatNet.{FlatNet, FlatProcess, process_at, flat_sources}
+use Rattle.rtl_model.specs.nets.CoreNet.{core_net, part_effect}
+use Rattle.rtl_model.specs.simulation.Net.{Source, target}
+use Rattle.rtl_model.specs.simulation.Cycle.{State, changed, driven_all, given, is_quiet, ran, resumed, updated}
+use Rattle.rtl_model.specs.simulation.Moments.{HasNoneToRun}
+use Rattle.rtl_model.proofs.simulation.Order.{waits_in}
+use Rattle.rtl_model.proofs.simulation.Rows.{transaction}
+use Rattle.vhdl_values.specs.declared.scalar.Nine.{Nine}
+use Rattle.rtl_eval.specs.Runs.{Outcome, IsOf}
+use Rattle.rtl_net.specs.Nets.{NetView, flat}
+use Rattle.rtl_kernel.specs.drivers.Resolved.{AreResolved}
+use Rattle.rtl_kernel.specs.drivers.Rows.{IsThere}
+use Rattle.rtl_kernel.specs.drivers.Transactions.{Transactions, IsActive, HasRunOf, TouchesAll, pending_of, without_entries, no_outcome}
+use Rattle.rtl_kernel.specs.kernel.Kept.{IsKernel, IsSound, state_of}
+use Rattle.rtl_kernel.specs.kernel.Simulation.{changes_of}
+use Rattle.rtl_kernel.specs.values.TwoValues.{TwoValues, AreChanged}
+use Rattle.rtl_kernel.specs.wakes.ToRun.{ToRun}
+use Rattle.rtl_kernel.specs.wakes.Woken.{AreWoken}
+use Rattle.rtl_kernel.specs.worklists.Numbers.{Numbers}
+use Rattle.rtl_kernel.proofs.Changing.{given_values}
+use Rattle.rtl_kernel.proofs.Cycles.{woken_are_resumed, resolved_are_updated}
+use Rattle.rtl_kernel.proofs.Inputs.{are_inputs, named}
+use Rattle.rtl_kernel.proofs.Running.{effect_length, room_ran, room_taken, state_given, state_ran, state_updated}
+use Rattle.rtl_kernel.proofs.Steps.{keeps_types, sound_given, sound_ran, sound_updated, sources_there, wired}
+use Rattle.rtl_kernel.proofs.Wiring.{targets_are, wakes_are}
+
+module _ {E : Type 0} (process : E → FlatProcess) (types : E → List ElementType) (most : E → ℕ) (net : NetView) (bodies : List E) (index : List (List ℕ))
+    (v : TwoValues) (t : Transactions) (r : ToRun) (touched : Numbers) (K : IsKernel process types most net bodies index v t r touched) where
+  abbrev pub before_step : State
+  before_step = state_of v t r
+
+  pub all_now : length v.current ≡ length net.types
+  all_now = K.sound.in_range.now.each_net ∙ K.in_range.each_starts
+
+  pub all_before : length v.before ≡ length net.types
+  all_before = K.sound.in_range.before.each_net ∙ K.in_range.each_starts
+
+  pub now_typed : KeepsTypes net.types v.current
+  now_typed = keeps_types (flat net) K.in_range K.connected v.current K.sound.in_range.now
+
+  pub before_typed : KeepsTypes net.types v.before
+  before_typed = keeps_types (flat net) K.in_range K.connected v.before K.sound.in_range.before
+
+  -- ---- a process that is to run
+
+  module _ (p : ℕ) (waits : get_or r.waiting p false ≡ true) where
+    pub in_processes : p < length (flat net).processes
+    in_processes = rw (← K.sound.each_process) (waits_in r.waiting p waits)
+
+    pub in_bodies : p < length bodies
+    in_bodies = rw (K.run_bodies.as_many) in_processes
+
+    pub in_outcomes : p < length t.outcomes
+    in_outcomes = rw (K.room.as_many) in_processes
+
+    pub fresh : IsActive (pending_of t.outcomes) p → ⊥
+    fresh = K.sound.fresh p waits
+
+    module _ (e : E) (is : e ≡ get_or bodies p e) where
+      pub types_are : types e ≡ net.types
+      types_are = ap types is ∙ K.run_bodies.among p e in_bodies
+
+      pub process_is : process e ≡ process_at (flat net) p
+      process_is = ap process is ∙ K.run_bodies.each p e in_bodies
+
+      pub own : IsOf (process e) (get_or t.outcomes p no_outcome)
+      own = rw process_is (K.room.own p in_outcomes)
+
+      pub room : most e ≤ (get_or t.outcomes p no_outcome).room
+      room = rw is (K.room.room p e in_bodies)
+
+      module _ (t' : Transactions) (r' : ToRun) (drivers : t'.drivers ≡ t.drivers) (R : HasRunOf (part_effect (process e) (process e).body v.before v.current) p t.outcomes t'.outcomes)
+          (waiting : r'.waiting ≡ set r.waiting p false) where
+        pub is_ran : state_of v t' r' ≡ ran (core_net (flat net)) p before_step
+        is_ran = state_ran (flat net) v t r t' r' p (process e) process_is in_outcomes own fresh drivers R waiting
+
+        pub kept_ran : IsKernel process types most net bodies index v t' r' touched
+        kept_ran = record {
+          in_range = K.in_range;
+          connected = K.connected;
+          run_bodies = K.run_bodies;
+          room = room_ran most (flat net) bodies p _ t.outcomes t'.outcomes
+              (effect_length (flat net) v t r (process e) ∙ ap (λ (q : FlatProcess). length q.drivers) process_is) in_outcomes R K.room;
+          sound = subst (IsSound (flat net)) (sym is_ran) (sound_ran (flat net) K.in_range K.connected before_step p K.sound);
+          is_index = K.is_index;
+          each_net = K.each_net;
+          idle = K.idle;
+        }
+
+  -- ---- an update
+
+  wakes_same : (before now : List ℕ) (waiting : List Bool) → length waiting ≡ length r.waiting → AreWoken index before now waiting → waiting ≡ resumed (core_net (flat net)) before now
+  wakes_same before now waiting as_many W =
+      woken_are_resumed (core_net (flat net)) before now index waiting (as_many ∙ K.sound.each_process ∙ sym (length-map (flat net).processes _))
+      (rw (← wakes_are net) K.is_index) W
+
+  rows_match : length (pending_of t.outcomes) ≡ length t.drivers
+  rows_match = length-map t.outcomes _ ∙ K.room.as_many ∙ sym K.sound.each_row
+
+  pub sound_update : IsSound (flat net) (updated (core_net (flat net)) before_step)
+  sound_update = sound_updated (flat net) K.in_range K.connected before_step rows_match K.sound
+
+  -- the sources stand in the drivers once these are updated
+  pub sources_stand : (drivers : List (List ℕ)) → drivers ≡ driven_all (pending_of t.outcomes) t.drivers
+      → (n : ℕ) (source : Source) → Contains (flat_sources (flat net) n) source → IsThere drivers source
+  sources_stand drivers is n source h =
+      subst (λ (rows : List (List ℕ)). IsThere rows source) (sym is) (sources_there (flat net) K.in_range K.connected (updated (core_net (flat net)) before_step) sound_update n source h)
+
+  module _ (v' : TwoValues) (t' : Transactions) (r' : ToRun) (nets : Numbers) (before : v'.before ≡ v.current) (drivers : t'.drivers ≡ driven_all (pending_of t.outcomes) t.drivers)
+      (outcomes : t'.outcomes ≡ map without_entries t.outcomes) (T : TouchesAll net.processes (pending_of t.outcomes) touched nets)
+      (R : AreResolved (core_net (flat net)) t'.drivers nets.members v.current v'.current)
+      (as_many : length r'.waiting ≡ length r.waiting) (W : AreWoken index v'.before v'.current r'.waiting) where
+    pub is_updated : state_of v' t' r' ≡ updated (core_net (flat net)) before_step
+    is_updated =
+        state_updated (flat net) v t r v' t' r' before
+        (resolved_are_updated (core_net (flat net)) before_step nets.members v'.current (wired (flat net) K.in_range K.connected) K.sound.consistent K.sound.in_range.now.each_net
+        (λ p place some. subst (λ (ns : List ℕ). Contains nets.members (get_or ns place 0)) (targets_are net p) (T.added p place some))
+        (subst (λ (rows : List (List ℕ)). AreResolved (core_net (flat net)) rows nets.members v.current v'.current) drivers R))
+        drivers outcomes (wakes_same v'.before v'.current r'.waiting as_many W)
+
+    pub kept_updated : (touched' : Numbers) → touched' ≡ record { bound = length net.types; members = [] } → IsKernel process types most net bodies index v' t' r' touched'
+    kept_updated touched' idle = record {
+      in_range = K.in_range;
+      connected = K.connected;
+      run_bodies = K.run_bodies;
+      room = room_taken most (flat net) bodies t.outcomes t'.outcomes outcomes K.room;
+      sound = subst (IsSound (flat net)) (sym is_updated) sound_update;
+      is_index = K.is_index;
+      each_net = K.each_net;
+      idle = idle;
+    }
+
+  -- ---- new values of in ports
+
+  module _ (cs : List (ℕ × Nine)) (inputs : All (λ (c : ℕ × Nine). Contains net.inputs c.0) cs) (v' : TwoValues) (r' : ToRun) (before : v'.before ≡ v.current)
+      (C : AreChanged (changes_of cs) v.current v'.current) (as_many : length r'.waiting ≡ length r.waiting) (W : AreWoken index v'.before v'.current r'.waiting) where
+    pub is_given : state_of v' t r' ≡ given (core_net (flat net)) (changed (changes_of cs) v.current) before_step
+    is_given =
+        state_given (flat net) v t r v' r' (changed (changes_of cs) v.current) before
+        (given_values (core_net (flat net)) (changes_of cs) v.current v'.current K.sound.in_range.now.each_net C (named (flat net) K.in_range cs inputs))
+        (wakes_same v'.before v'.current r'.waiting as_many W)
+
+    pub kept_given : is_quiet before_step ≡ true → IsKernel process types most net bodies index v' t r' touched
+    kept_given quiet = record {
+      in_range = K.in_range;
+      connected = K.connected;
+      run_bodies = K.run_bodies;
+      room = K.room;
+      sound = subst (IsSound (flat net)) (sym is_given)
+          (sound_given (flat net) K.in_range K.connected (changed (changes_of cs) v.current) before_step (are_inputs (flat net) K.in_range cs v.current K.sound.in_range.now) quiet K.sound);
+      is_index = K.is_index;
+      each_net = K.each_net;
+      idle = K.idle;
+    }

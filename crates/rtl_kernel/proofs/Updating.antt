@@ -1,0 +1,283 @@
+-- Transactions that are taken over, process by process.
+use Rattle.std.proofs.Common.{◌≡◌, ℕ, zero, suc, ◌+◌, ◌<◌, ◌≤◌, true, List, [], ◌∷◌, length, get_or, set, map, replicate, Option, Some, None, refl, sym, ap, subst, ◌∙◌, arith, ◌⊎◌, inl, inr, IsSome, Contains, Vec}
+use Rattle.std.specs.Global.{Global}
+use Rattle.std.proofs.lemmas.Bool.{cases_eq, cases_lt}
+use Rattle.std.proofs.lemmas.List.{ext_get_or, get_or-set_same, get_or-set_other, get_or_default, get_or_past, length-set, length-map, length-replicate, map-set}
+use Rattle.std.proofs.Math.Seq.{map-set_same}
+use Rattle.rtl_eval.specs.Runs.{Outcome}
+use Rattle.rtl_eval.proofs.Assigned.{no_entry, none_left}
+use Rattle.rtl_model.specs.simulation.Cycle.{driven, driven_all, none_pending}
+use Rattle.rtl_model.specs.simulation.Machine.{entry_or}
+use Rattle.rtl_model.proofs.basics.Lists.{get_or-map_within}
+use Rattle.rtl_model.proofs.simulation.Rows.{driven_all_at, driven_at, length-driven}
+use Rattle.rtl_kernel.specs.drivers.Rows.{rows}
+use Rattle.std.specs.Option.{is_some}
+use Rattle.rtl_eval.specs.Tracked.{AreAssigned}
+use Rattle.rtl_net.specs.declared.process.Driver as net
+use Rattle.rtl_net.specs.declared.process.Process.{Process}
+use Rattle.rtl_kernel.specs.worklists.Numbers.{Numbers, IsWith}
+use Rattle.rtl_kernel.specs.drivers.Transactions.{IsActive, Touches, TouchesAll, nets_of, targets_of, transaction_at, pending_of, without_entries}
+use Rattle.rtl_kernel.specs.drivers.Updates.{IsTaking, IsUpdating}
+
+-- ---- one row
+
+-- no transaction changes nothing
+pub driven_none : (a : List (Option ℕ)) (xs : List ℕ) → length a ≡ length xs → ((place : ℕ) → IsSome (get_or a place None) → ⊥) → driven a xs ≡ xs
+driven_none [] xs l h = refl
+driven_none (o ∷ a) [] l h = absurd (omega arith)
+driven_none (None ∷ a) (x ∷ xs) l h = ap (λ ys. x ∷ ys) (driven_none a xs (omega arith) (λ place. h (suc place)))
+driven_none (Some v ∷ a) (x ∷ xs) l h = absurd (h 0 refl)
+
+pub none_in_replicate : (n place : ℕ) → IsSome (get_or (replicate {A = Option ℕ} n None) place None) → ⊥
+none_in_replicate zero place h = absurd cc
+none_in_replicate (suc n) zero h = absurd cc
+none_in_replicate (suc n) (suc place) h = none_in_replicate n place h
+
+pub driven_cleared : (n : ℕ) (xs : List ℕ) → n ≡ length xs → driven (replicate {A = Option ℕ} n None) xs ≡ xs
+driven_cleared zero xs l = refl
+driven_cleared (suc n) [] l = absurd (omega arith)
+driven_cleared (suc n) (x ∷ xs) l = ap (λ ys. x ∷ ys) (driven_cleared n xs (omega arith))
+
+-- each driver has its transaction's value, and where there is none its own
+pub driven_from : (entries : List (Option ℕ)) (old new : List ℕ) → length new ≡ length old
+    → ((q : ℕ) → get_or entries q None ≡ None → get_or new q 0 ≡ get_or old q 0)
+    → ((q v : ℕ) → get_or entries q None ≡ Some v → get_or new q 0 ≡ v) → new ≡ driven entries old
+driven_from entries old new as_many unassigned assigned =
+    ext_get_or 0 new (driven entries old) (as_many ∙ sym (length-driven entries old))
+    (λ q l. by q (get_or entries q None) refl ∙ sym (driven_at entries old q (omega arith)))
+  where
+    by : (q : ℕ) → (o : Option ℕ) → get_or entries q None ≡ o → get_or new q 0 ≡ entry_or (get_or entries q None) (get_or old q 0)
+    by q None e = rw e (unassigned q e)
+    by q (Some v) e = rw e (assigned q v e)
+
+-- ---- all rows
+
+-- without an active driver the rows are those that they drive
+pub all_driven : (pending : List (List (Option ℕ))) (drivers new : List (List ℕ)) → length new ≡ length drivers → length pending ≡ length drivers
+    → ((p : ℕ) → get_or new p [] ≡ driven (get_or pending p []) (get_or drivers p [])) → new ≡ driven_all pending drivers
+all_driven pending drivers new as_many rows_too each =
+    ext_get_or [] new (driven_all pending drivers) (as_many ∙ sym (length-driven_all pending drivers rows_too))
+    (λ p l. each p ∙ sym (driven_all_at pending drivers p))
+  where
+    length-driven_all : (ps : List (List (Option ℕ))) (xs : List (List ℕ)) → length ps ≡ length xs → length (driven_all ps xs) ≡ length xs
+    length-driven_all [] xs l = refl
+    length-driven_all (p ∷ ps) [] l = absurd (omega arith)
+    length-driven_all (p ∷ ps) (x ∷ xs) l = ap suc (length-driven_all ps xs (omega arith))
+
+-- an outcome without an entry is the same without entries
+pub none_to_take : (outcomes : List Outcome) → ((p : ℕ) → IsActive (pending_of outcomes) p → ⊥) → map without_entries outcomes ≡ outcomes
+none_to_take [] h = refl
+none_to_take (o ∷ outcomes) h =
+    let first : o.entries ≡ replicate (length o.entries) None = no_entry o.entries (λ place some. h 0 (place, some)) in
+    let rest = none_to_take outcomes (λ p. h (suc p)) in
+    λ i. record { entries = sym first i; starts = o.starts; variables = o.variables; room = o.room } ∷ rest i
+
+-- what is pending without entries
+pub pending_without : (outcomes : List Outcome) → pending_of (map without_entries outcomes) ≡ none_pending (pending_of outcomes)
+pending_without [] = refl
+pending_without (o ∷ outcomes) = let rest = pending_without outcomes in λ i. nones o.entries i ∷ rest i
+  where
+    nones : (es : List (Option ℕ)) → replicate {A = Option ℕ} (length es) None ≡ map {B = Option ℕ} (λ e. None) es
+    nones [] = refl
+    nones (e ∷ es) = ap (λ ns. None ∷ ns) (nones es)
+
+-- ---- the drivers of one process
+
+pub net_at : (ds : List net.Driver) (k : ℕ) (d : net.Driver) → k < length ds → get_or (nets_of ds) k 0 ≡ (get_or ds k d).net
+net_at ds k d within = get_or-map_within (λ (d : net.Driver). d.net) ds k d 0 within
+
+module _ (targets : List ℕ) (entries : List (Option ℕ)) (places : List ℕ) where
+  pub taking_none_yet : (old : List ℕ) (touched : Numbers) → IsTaking targets entries places 0 old touched old touched
+  taking_none_yet old touched = record {
+    as_many = refl;
+    bound_stays = refl;
+    kept = λ n h. h;
+    unassigned = λ q e. refl;
+    taken = λ k v l. absurd (omega arith);
+    added = λ k l. absurd (omega arith);
+  }
+
+  module _ (i : ℕ) (old : List ℕ) (old_touched : Numbers) (new : List ℕ) (new_touched : Numbers) where
+    pub taking_some : IsTaking targets entries places i old old_touched new new_touched → (place v n : ℕ) → {touched : Numbers} → get_or places i 0 ≡ place
+        → get_or entries place None ≡ Some v → place < length new → n ≡ get_or targets place 0 → IsWith n new_touched touched
+        → IsTaking targets entries places (i + 1) old old_touched (set new place v) touched
+    taking_some I place v n {touched} is entry within net_is W = record {
+      as_many = length-set new place v ∙ I.as_many;
+      bound_stays = W.bound_stays ∙ I.bound_stays;
+      kept = λ m h. W.kept m (I.kept m h);
+      unassigned = λ q e. unassigned q e (cases_eq q place);
+      taken = λ k w l e. taken k w l e (cases_eq (get_or places k 0) place);
+      added = λ k l some. added k l some (cases_eq k i);
+    }
+      where
+        unassigned : (q : ℕ) → get_or entries q None ≡ None → (q ≡ place) ⊎ (q ≡ place → ⊥) → get_or (set new place v) q 0 ≡ get_or old q 0
+        unassigned q e (inl same) = let f = rw same at e in absurd cc
+        unassigned q e (inr other) = get_or-set_other new place q v 0 other ∙ I.unassigned q e
+
+        taken : (k w : ℕ) → k < i + 1 → get_or entries (get_or places k 0) None ≡ Some w → (get_or places k 0 ≡ place) ⊎ (get_or places k 0 ≡ place → ⊥)
+            → get_or (set new place v) (get_or places k 0) 0 ≡ w
+        taken k w l e (inl same) = let f = rw same at e in rw same (get_or-set_same new place v 0 within ∙ (let g : v ≡ w = cc in g))
+        taken k w l e (inr other) = get_or-set_other new place (get_or places k 0) v 0 other ∙ I.taken k w (earlier k l other) e
+          where
+            earlier : (k : ℕ) → k < i + 1 → (get_or places k 0 ≡ place → ⊥) → k < i
+            earlier k l other = by (cases_lt k i)
+              where
+                by : (k < i) ⊎ (i ≤ k) → k < i
+                by (inl h) = h
+                by (inr h) = let e : k ≡ i = omega arith in absurd (other (ap (λ (m : ℕ). get_or places m 0) e ∙ is))
+
+        added : (k : ℕ) → k < i + 1 → IsSome (get_or entries (get_or places k 0) None) → (k ≡ i) ⊎ (k ≡ i → ⊥) → Contains touched.members (get_or targets (get_or places k 0) 0)
+        added k l some (inl same) = rw (same, is, ← net_is) W.added
+        added k l some (inr other) = W.kept _ (I.added k (omega (arith, l, other)) some)
+
+    pub taking_none : IsTaking targets entries places i old old_touched new new_touched → get_or entries (get_or places i 0) None ≡ None
+        → IsTaking targets entries places (i + 1) old old_touched new new_touched
+    taking_none I none = record {
+      as_many = I.as_many;
+      bound_stays = I.bound_stays;
+      kept = I.kept;
+      unassigned = I.unassigned;
+      taken = λ k v l e. taken k v l e (cases_eq k i);
+      added = λ k l some. added k l some (cases_eq k i);
+    }
+      where
+        taken : (k v : ℕ) → k < i + 1 → get_or entries (get_or places k 0) None ≡ Some v → (k ≡ i) ⊎ (k ≡ i → ⊥) → get_or new (get_or places k 0) 0 ≡ v
+        taken k v l e (inl same) = let f = rw same at e in absurd cc
+        taken k v l e (inr other) = I.taken k v (omega (arith, l, other)) e
+
+        added : (k : ℕ) → k < i + 1 → IsSome (get_or entries (get_or places k 0) None) → (k ≡ i) ⊎ (k ≡ i → ⊥) → Contains new_touched.members (get_or targets (get_or places k 0) 0)
+        added k l some (inl same) = let f = rw same at some in let g = ap is_some none in absurd cc
+        added k l some (inr other) = I.added k (omega (arith, l, other)) some
+
+    module _ (A : AreAssigned entries places) (done : length places ≤ i) (I : IsTaking targets entries places i old old_touched new new_touched) where
+      pub taken_values : new ≡ driven entries old
+      taken_values = driven_from entries old new I.as_many I.unassigned assigned
+        where
+          assigned : (q v : ℕ) → get_or entries q None ≡ Some v → get_or new q 0 ≡ v
+          assigned q v e =
+              let (k, l, is) = A.are_all q (ap is_some e) in
+              let at = get_or_default places k 0 q l ∙ is in
+              sym (ap (λ (m : ℕ). get_or new m 0) at) ∙ I.taken k v (omega (arith, l, done)) (ap (λ (m : ℕ). get_or entries m None) at ∙ e)
+
+      pub taken_nets : Touches targets entries old_touched new_touched
+      taken_nets = record {
+        bound_stays = I.bound_stays;
+        kept = I.kept;
+        added = λ q some.
+            let (k, l, is) = A.are_all q some in
+            let at = get_or_default places k 0 q l ∙ is in
+            subst (λ (m : ℕ). Contains new_touched.members (get_or targets m 0)) at (I.added k (omega (arith, l, done)) (rw at some));
+      }
+
+-- ---- the drivers of all processes
+
+length-cleared : (o : Outcome) → without_entries (without_entries o) ≡ without_entries o
+length-cleared o = ap (λ (n : ℕ). record { entries = replicate {A = Option ℕ} n None; starts = o.starts; variables = o.variables; room = o.room }) (length-replicate (length o.entries) None)
+
+module _ (active : List ℕ) (processes : List Process) (outcomes : List Outcome) (drivers : List (List ℕ)) (touched : Numbers) where
+  pub updating_none_yet : ((p : ℕ) → IsActive (pending_of outcomes) p → Contains active p)
+      → IsUpdating active 0 processes outcomes drivers touched outcomes drivers touched
+  updating_none_yet all_active = record {
+    each_outcome = refl;
+    each_row = refl;
+    outcomes_stay = refl;
+    each_entry = λ p. refl;
+    each_value = λ p. refl;
+    driven_stay = λ p. refl;
+    left = λ p a. let (k, l, is) = all_active p a in (k, omega arith, l, get_or_default active k 0 p l ∙ is);
+    bound_stays = refl;
+    kept = λ n h. h;
+    added = λ p place some. inl some;
+  }
+
+  module _ (i : ℕ) (outcomes' : List Outcome) (drivers' : List (List ℕ)) (touched' : Numbers) (I : IsUpdating active i processes outcomes drivers touched outcomes' drivers' touched') where
+    module _ (p : ℕ) (o cleared : Outcome) (row : List ℕ) (touched'' : Numbers) (is : get_or active i 0 ≡ p) (there : p < length outcomes') (there_too : p < length drivers')
+        (o_is : get_or outcomes' p o ≡ o) (cleared_is : cleared ≡ without_entries o) (row_is : row ≡ driven o.entries (get_or drivers' p []))
+        (as_many : length (get_or drivers' p []) ≡ length o.entries) (T : Touches (targets_of processes p) o.entries touched' touched'') where
+      abbrev nones : List (Option ℕ)
+      nones = replicate (length o.entries) None
+
+      entries_at : get_or (pending_of outcomes') p [] ≡ o.entries
+      entries_at = get_or-map_within (λ (x : Outcome). x.entries) outcomes' p o [] there ∙ ap (λ (x : Outcome). x.entries) o_is
+
+      pending_is : pending_of (set outcomes' p cleared) ≡ set (pending_of outcomes') p nones
+      pending_is = map-set (λ (x : Outcome). x.entries) outcomes' p cleared ∙ ap (λ (x : Outcome). set (pending_of outcomes') p x.entries) cleared_is
+
+      at_p : get_or (pending_of (set outcomes' p cleared)) p [] ≡ nones
+      at_p = ap (λ (r : List (List (Option ℕ))). get_or r p []) pending_is ∙ get_or-set_same (pending_of outcomes') p nones [] (rw length-map there)
+
+      at_other : (q : ℕ) → (q ≡ p → ⊥) → get_or (pending_of (set outcomes' p cleared)) q [] ≡ get_or (pending_of outcomes') q []
+      at_other q n = ap (λ (r : List (List (Option ℕ))). get_or r q []) pending_is ∙ get_or-set_other (pending_of outcomes') p q nones [] n
+
+      row_at_p : get_or (set drivers' p row) p [] ≡ row
+      row_at_p = get_or-set_same drivers' p row [] there_too
+
+      row_length : length row ≡ length o.entries
+      row_length = ap length row_is ∙ length-driven o.entries (get_or drivers' p []) ∙ as_many
+
+      pub updating_one : IsUpdating active (i + 1) processes outcomes drivers touched (set outcomes' p cleared) (set drivers' p row) touched''
+      updating_one = record {
+        each_outcome = length-set outcomes' p cleared ∙ I.each_outcome;
+        each_row = length-set drivers' p row ∙ I.each_row;
+        outcomes_stay = map-set_same without_entries outcomes' p cleared o (ap without_entries cleared_is ∙ length-cleared o ∙ ap without_entries (sym o_is)) ∙ I.outcomes_stay;
+        each_entry = λ q. entry q (cases_eq q p);
+        each_value = λ q. value q (cases_eq q p);
+        driven_stay = λ q. driven_too q (cases_eq q p);
+        left = λ q a. left q a (cases_eq q p);
+        bound_stays = T.bound_stays ∙ I.bound_stays;
+        kept = λ n h. T.kept n (I.kept n h);
+        added = λ q place some. added q place (I.added q place some) (cases_eq q p);
+      }
+        where
+          entry : (q : ℕ) → (q ≡ p) ⊎ (q ≡ p → ⊥) → length (get_or (pending_of (set outcomes' p cleared)) q []) ≡ length (get_or (pending_of outcomes) q [])
+          entry q (inl e) = rw e (ap length at_p ∙ length-replicate (length o.entries) None ∙ sym (ap length entries_at) ∙ I.each_entry p)
+          entry q (inr n) = ap length (at_other q n) ∙ I.each_entry q
+
+          value : (q : ℕ) → (q ≡ p) ⊎ (q ≡ p → ⊥) → length (get_or (set drivers' p row) q []) ≡ length (get_or drivers q [])
+          value q (inl e) = rw e (ap length row_at_p ∙ row_length ∙ sym as_many ∙ I.each_value p)
+          value q (inr n) = ap length (get_or-set_other drivers' p q row [] n) ∙ I.each_value q
+
+          driven_too : (q : ℕ) → (q ≡ p) ⊎ (q ≡ p → ⊥) → driven (get_or (pending_of (set outcomes' p cleared)) q []) (get_or (set drivers' p row) q [])
+              ≡ driven (get_or (pending_of outcomes) q []) (get_or drivers q [])
+          driven_too q (inl e) =
+              rw e (ap (λ (a : List (Option ℕ)). driven a (get_or (set drivers' p row) p [])) at_p ∙ ap (driven nones) row_at_p
+              ∙ driven_cleared (length o.entries) row (sym row_length) ∙ row_is ∙ ap (λ (a : List (Option ℕ)). driven a (get_or drivers' p [])) (sym entries_at) ∙ I.driven_stay p)
+          driven_too q (inr n) =
+              ap (λ (a : List (Option ℕ)). driven a (get_or (set drivers' p row) q [])) (at_other q n)
+              ∙ ap (driven (get_or (pending_of outcomes') q [])) (get_or-set_other drivers' p q row [] n) ∙ I.driven_stay q
+
+          left : (q : ℕ) → IsActive (pending_of (set outcomes' p cleared)) q → (q ≡ p) ⊎ (q ≡ p → ⊥) → (k : ℕ) × (i + 1 ≤ k) × (k < length active) × (get_or active k 0 ≡ q)
+          left q (place, some) (inl e) = absurd (none_in_replicate (length o.entries) place
+              (sym (ap (λ (m : ℕ). is_some (get_or (get_or (pending_of (set outcomes' p cleared)) m []) place None)) e ∙ ap (λ (r : List (Option ℕ)). is_some (get_or r place None)) at_p) ∙ some))
+          left q (place, some) (inr n) =
+              let (k, from, within, at) = I.left q (place, sym (ap (λ (r : List (Option ℕ)). is_some (get_or r place None)) (at_other q n)) ∙ some) in
+              let differ : k ≡ i → ⊥ = λ e. n (sym at ∙ ap (λ (m : ℕ). get_or active m 0) e ∙ is) in
+              (k, omega (arith, from, differ), within, at)
+
+          added : (q place : ℕ) → IsSome (transaction_at (pending_of outcomes') q place) ⊎ Contains touched'.members (get_or (targets_of processes q) place 0) → (q ≡ p) ⊎ (q ≡ p → ⊥)
+              → IsSome (transaction_at (pending_of (set outcomes' p cleared)) q place) ⊎ Contains touched''.members (get_or (targets_of processes q) place 0)
+          added q place (inr h) _ = inr (T.kept _ h)
+          added q place (inl some) (inl e) = inr (rw e (T.added place (sym (ap (λ (r : List (Option ℕ)). is_some (get_or r place None)) entries_at) ∙ rw e at some)))
+          added q place (inl some) (inr n) = inl (ap (λ (r : List (Option ℕ)). is_some (get_or r place None)) (at_other q n) ∙ some)
+
+    module _ (done : length active ≤ i) where
+      none_left_active : (p : ℕ) → IsActive (pending_of outcomes') p → ⊥
+      none_left_active p a = let (k, from, within, at) = I.left p a in omega (arith, from, within, done)
+
+      pub updated_outcomes : outcomes' ≡ map without_entries outcomes
+      updated_outcomes = sym (none_to_take outcomes' none_left_active) ∙ I.outcomes_stay
+
+      pub updated_drivers : length drivers ≡ length outcomes → ((p : ℕ) → length (get_or drivers p []) ≡ length (get_or (pending_of outcomes) p []))
+          → drivers' ≡ driven_all (pending_of outcomes) drivers
+      updated_drivers as_many each =
+          all_driven (pending_of outcomes) drivers drivers' I.each_row (length-map outcomes _ ∙ sym as_many)
+          (λ p. sym (driven_none (get_or (pending_of outcomes') p []) (get_or drivers' p []) (I.each_entry p ∙ sym (each p) ∙ sym (I.each_value p))
+          (λ place some. none_left_active p (place, some))) ∙ I.driven_stay p)
+
+      pub updated_nets : TouchesAll processes (pending_of outcomes) touched touched'
+      updated_nets = record { bound_stays = I.bound_stays; kept = I.kept; added = λ p place some. by p place (I.added p place some) }
+        where
+          by : (p place : ℕ) → IsSome (transaction_at (pending_of outcomes') p place) ⊎ Contains touched'.members (get_or (targets_of processes p) place 0)
+              → Contains touched'.members (get_or (targets_of processes p) place 0)
+          by p place (inl some) = absurd (none_left_active p (place, some))
+          by p place (inr h) = h

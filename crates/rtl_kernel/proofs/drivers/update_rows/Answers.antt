@@ -1,0 +1,82 @@
+use Rattle.std.proofs.Common.{◌≡◌, ◌<◌, ℕ, List, Option, Vec, arith, refl, sym, ap, subst, ◌∙◌, get_or, length, map, []}
+use Rattle.std.specs.Global.{Global}
+use Rattle.std.proofs.lemmas.List.{length-map, map-set}
+use Rattle.rtl_model.proofs.basics.Lists.{get_or-map_within}
+use Rattle.rtl_model.specs.simulation.Cycle.{driven}
+use Rattle.rtl_eval.specs.Runs.{Outcome}
+use Rattle.rtl_net.specs.declared.process.Process.{Process}
+use Rattle.rtl_kernel.specs.drivers.Rows.{rows}
+use Rattle.rtl_kernel.specs.drivers.Transactions.{Touches, nets_of}
+use Rattle.rtl_kernel.proofs.Updating.{updating_none_yet, updating_one, updated_drivers, updated_outcomes, updated_nets}
+use Rattle.rtl_kernel.proofs.drivers.update_rows.Goals as goal
+
+abbrev items_of : Vec ℕ Global → List ℕ
+items_of v = v.items
+
+abbrev entries_of : Outcome → List (Option ℕ)
+entries_of o = o.entries
+
+abbrev targets : Process → List ℕ
+targets q = nets_of q.drives.items
+
+pub loop-process-init : goal.loop-process-init
+loop-process-init c = updating_none_yet c.args.active.now c.args.processes.now c.args.outcomes.now.items (rows c.args.drivers.now.items) c.args.touched.now c.requires.all_active
+
+pub update_row-requires-clause-as_many : goal.update_row-requires-clause-as_many
+update_row-requires-clause-as_many c =
+    let p = get_or c.args.active.now c.loop-process.process-index 0 in
+    let I = c.loop-process.invariant in
+    let there = c.requires.active c.loop-process.process-index 0 c.loop-process-test.true in
+    let in_rows : p < length c.loop-process.drivers.items = omega (arith, there, c.requires.rows, I.each_row, length-map c.loop-process.drivers.items items_of, length-map c.args.drivers.now.items items_of) in
+    ap (λ (v : Vec ℕ Global). length v.items) c.index_mut.ensures.value
+    ∙ sym (ap length (get_or-map_within items_of c.loop-process.drivers.items p c.index_mut.result.now [] in_rows))
+    ∙ I.each_value p ∙ c.requires.each_value p ∙ sym (I.each_entry p)
+    ∙ ap length (get_or-map_within entries_of c.loop-process.outcomes.items p c.index_mut-outcome.result.now [] (rw (I.each_outcome) there))
+    ∙ ap (λ (o : Outcome). length o.entries) (sym c.index_mut-outcome.ensures.value)
+
+pub update_row-requires-clause-each_driver : goal.update_row-requires-clause-each_driver
+update_row-requires-clause-each_driver c =
+    let p = get_or c.args.active.now c.loop-process.process-index 0 in
+    let I = c.loop-process.invariant in
+    let there = c.requires.active c.loop-process.process-index 0 c.loop-process-test.true in
+    ap length c.deref.ensures.value
+    ∙ sym (ap length (get_or-map_within targets c.args.processes.now p c.index-processes-process.result [] (rw (c.requires.as_many) there)) ∙ length-map _ _)
+    ∙ c.requires.each_driver p ∙ sym (I.each_entry p)
+    ∙ ap length (get_or-map_within entries_of c.loop-process.outcomes.items p c.index_mut-outcome.result.now [] (rw (I.each_outcome) there))
+    ∙ ap (λ (o : Outcome). length o.entries) (sym c.index_mut-outcome.ensures.value)
+
+pub loop-process-preserved : goal.loop-process-preserved
+loop-process-preserved c =
+    let p = get_or c.args.active.now c.loop-process.process-index 0 in
+    let I = c.loop-process.invariant in
+    let drivers = c.loop-process.drivers.items in
+    let o = c.index_mut-outcome.result.now in
+    let there = c.requires.active c.loop-process.process-index 0 c.loop-process-test.true in
+    let in_outcomes : p < length c.loop-process.outcomes.items = rw (I.each_outcome) there in
+    let in_rows : p < length drivers = omega (arith, there, c.requires.rows, I.each_row, length-map drivers items_of, length-map c.args.drivers.now.items items_of) in
+    let row = get_or-map_within items_of drivers p c.index_mut.result.now [] in_rows ∙ ap items_of (sym c.index_mut.ensures.value) in
+    let as_many = I.each_value p ∙ c.requires.each_value p ∙ sym (I.each_entry p)
+    ∙ ap length (get_or-map_within entries_of c.loop-process.outcomes.items p o [] in_outcomes) ∙ ap (λ (x : Outcome). length x.entries) (sym c.index_mut-outcome.ensures.value) in
+    let targets_are = ap nets_of c.deref.ensures.value
+    ∙ sym (get_or-map_within targets c.args.processes.now p c.index-processes-process.result [] (rw (c.requires.as_many) there)) in
+    rw (map-set items_of drivers p c.update_row.new.values)
+    (updating_one c.args.active.now c.args.processes.now c.args.outcomes.now.items (rows c.args.drivers.now.items) c.args.touched.now c.loop-process.process-index
+    c.loop-process.outcomes.items (rows drivers) c.loop-process.touched I p o c.clear.new.self c.update_row.new.values.items c.update_row.new.touched refl in_outcomes (rw length-map in_rows)
+    (sym c.index_mut-outcome.ensures.value) c.clear.ensures (c.update_row.ensures.values ∙ ap (driven o.entries) (sym row)) as_many
+    (subst (λ (ns : List ℕ). Touches ns o.entries c.loop-process.touched c.update_row.new.touched) targets_are c.update_row.ensures.touched))
+
+pub returns-clause-drivers : goal.returns-clause-drivers
+returns-clause-drivers c =
+    updated_drivers c.args.active.now c.args.processes.now c.args.outcomes.now.items (rows c.args.drivers.now.items) c.args.touched.now c.loop-process.process-index
+    c.loop-process.outcomes.items (rows c.loop-process.drivers.items) c.loop-process.touched c.loop-process.invariant (omega (arith, c.loop-process-test.false))
+    (length-map c.args.drivers.now.items _ ∙ c.requires.rows) c.requires.each_value
+
+pub returns-clause-outcomes : goal.returns-clause-outcomes
+returns-clause-outcomes c =
+    updated_outcomes c.args.active.now c.args.processes.now c.args.outcomes.now.items (rows c.args.drivers.now.items) c.args.touched.now c.loop-process.process-index
+    c.loop-process.outcomes.items (rows c.loop-process.drivers.items) c.loop-process.touched c.loop-process.invariant (omega (arith, c.loop-process-test.false))
+
+pub returns-clause-touched : goal.returns-clause-touched
+returns-clause-touched c =
+    updated_nets c.args.active.now c.args.processes.now c.args.outcomes.now.items (rows c.args.drivers.now.items) c.args.touched.now c.loop-process.process-index
+    c.loop-process.outcomes.items (rows c.loop-process.drivers.items) c.loop-process.touched c.loop-process.invariant (omega (arith, c.loop-process-test.false))

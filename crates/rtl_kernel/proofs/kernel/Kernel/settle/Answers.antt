@@ -1,0 +1,64 @@
+use Rattle.std.proofs.Common.{◌≡◌, ℕ, List, sym, ap, subst, ◌∙◌, arith, refl}
+use Rattle.rtl_net.specs.Nets.{NetView, flat}
+use Rattle.rtl_model.specs.nets.CoreNet.{core_net}
+use Rattle.rtl_model.specs.simulation.Moments.{Delta, IsUnsettled, SettlesTo}
+use Rattle.rtl_kernel.proofs.Settling.{no_delta, none_before, more_deltas, busy_still, settled_here, unsettled_here}
+use Rattle.rtl_kernel.proofs.kernel.Kernel.settle.Goals as goal
+
+pub loop-deltas-init : goal.loop-deltas-init
+loop-deltas-init g c =
+    let net = core_net (flat c.args.self.now.net) in
+    record { net = refl; ready = c.requires.ready; deltas = no_delta net c.args.self.now.state; busy = none_before net c.args.self.now.state }
+
+pub loop-deltas-preserved : goal.loop-deltas-preserved
+loop-deltas-preserved g c =
+    let net = core_net (flat c.args.self.now.net) in
+    let s = c.args.self.now.state in
+    let k = c.loop-deltas.deltas in
+    let t = c.loop-deltas.self.state in
+    let I = c.loop-deltas.invariant in
+    let delta = subst (λ (n : NetView). (order : List ℕ) × Delta (core_net (flat n)) order t c.cycle.new.self.state) I.net c.cycle.ensures.delta in
+    record {
+      net = c.cycle.ensures.net ∙ I.net;
+      ready = c.cycle.ensures.ready;
+      deltas = more_deltas net s k t I.deltas I.busy c.cycle.new.self.state delta;
+      busy = busy_still net s k t I.deltas I.busy (sym c.is_quiet.ensures ∙ c.if-is_quiet.false);
+    }
+
+pub returns-then-is_quiet : goal.returns-then-is_quiet
+returns-then-is_quiet g c =
+    let net = core_net (flat c.args.self.now.net) in
+    let I = c.loop-deltas.invariant in
+    record {
+      net = I.net;
+      ready = I.ready;
+      settled = (settled_here net c.args.self.now.state c.loop-deltas.deltas c.loop-deltas.self.state I.deltas I.busy c.requires.ready (sym c.is_quiet.ensures ∙ c.if-is_quiet.true), omega arith);
+    }
+
+pub returns-then-is_quiet-2 : goal.returns-then-is_quiet-2
+returns-then-is_quiet-2 g c =
+    let net = core_net (flat c.args.self.now.net) in
+    let s = c.args.self.now.state in
+    let t = c.loop-deltas.self.state in
+    let I = c.loop-deltas.invariant in
+    let all : c.loop-deltas.deltas ≡ c.args.limit = omega (arith, c.loop-deltas-test.false, c.loop-deltas.auto.deltas-end) in
+    let quiet = sym c.is_quiet-2.ensures ∙ c.if-is_quiet-2.true in
+    record {
+      net = I.net;
+      ready = I.ready;
+      settled = (subst (λ (k : ℕ). SettlesTo net s k t) all (settled_here net s c.loop-deltas.deltas t I.deltas I.busy c.requires.ready quiet), omega arith);
+    }
+
+pub returns-else-is_quiet-2 : goal.returns-else-is_quiet-2
+returns-else-is_quiet-2 g c =
+    let net = core_net (flat c.args.self.now.net) in
+    let s = c.args.self.now.state in
+    let t = c.loop-deltas.self.state in
+    let I = c.loop-deltas.invariant in
+    let all : c.loop-deltas.deltas ≡ c.args.limit = omega (arith, c.loop-deltas-test.false, c.loop-deltas.auto.deltas-end) in
+    let busy = sym c.is_quiet-2.ensures ∙ c.if-is_quiet-2.false in
+    record {
+      net = I.net;
+      ready = I.ready;
+      settled = subst (λ (k : ℕ). IsUnsettled net s k t) all (unsettled_here net s c.loop-deltas.deltas t I.deltas I.busy c.requires.ready busy);
+    }

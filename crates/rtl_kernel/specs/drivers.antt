@@ -1,0 +1,5 @@
+pub mod Rows
+pub mod Resolved
+pub mod Transactions
+pub mod Tracked
+pub mod Updates

@@ -1,0 +1,55 @@
+-- The drivers of all processes, and their transactions (IEEE 1076-2008, 14.7.2).
+use Rattle.std.specs.Prelude.{◌≡◌, ℕ, ◌<◌, All, List, [], length, map, replicate, slice_index_or, slice_set, Option, None, IsSome, Contains, Vec}
+use Rattle.std.specs.Global.{Global}
+use Rattle.rtl_eval.specs.Runs.{Outcome, Leaves}
+use Rattle.rtl_net.specs.declared.process.Driver as net
+use Rattle.rtl_net.specs.declared.process.Process.{Process}
+use Rattle.rtl_kernel.specs.worklists.Numbers.{Numbers}
+
+-- of each process the values of its drivers, and what its last run left
+pub record Transactions : Type 0 where
+  pub drivers : List (List ℕ)
+  pub outcomes : List Outcome
+
+-- of each process, at each driver's place, its transaction if it has one
+abbrev pub pending_of : List Outcome → List (List (Option ℕ))
+pending_of outcomes = map (λ (o : Outcome). o.entries) outcomes
+
+abbrev pub transaction_at : List (List (Option ℕ)) → (process place : ℕ) → Option ℕ
+transaction_at pending p place = slice_index_or (slice_index_or pending p []) place None
+
+-- a driver of this process is active
+abbrev pub IsActive : List (List (Option ℕ)) → (process : ℕ) → Type 0
+IsActive pending p = (place : ℕ) × IsSome (transaction_at pending p place)
+
+-- the same without a transaction
+abbrev pub without_entries : Outcome → Outcome
+without_entries o = record o { entries = replicate (length o.entries) None }
+
+-- the nets of the drivers of each process
+abbrev pub nets_of : List net.Driver → List ℕ
+nets_of ds = map (λ (d : net.Driver). d.net) ds
+
+abbrev pub targets_of : List Process → (process : ℕ) → List ℕ
+targets_of ps p = slice_index_or (map (λ (q : Process). nets_of q.drives.items) ps) p []
+
+-- nets, among which are those of all active drivers
+pub record Touches (targets : List ℕ) (entries : List (Option ℕ)) (old new : Numbers) : Type 0 where
+  pub bound_stays : new.bound ≡ old.bound
+  pub kept : (n : ℕ) → Contains old.members n → Contains new.members n
+  pub added : (place : ℕ) → IsSome (slice_index_or entries place None) → Contains new.members (slice_index_or targets place 0)
+
+pub record TouchesAll (processes : List Process) (pending : List (List (Option ℕ))) (old new : Numbers) : Type 0 where
+  pub bound_stays : new.bound ≡ old.bound
+  pub kept : (n : ℕ) → Contains old.members n → Contains new.members n
+  pub added : (p place : ℕ) → IsSome (transaction_at pending p place) → Contains new.members (slice_index_or (targets_of processes p) place 0)
+
+-- what stands at a number that no process has
+abbrev pub no_outcome : Outcome
+no_outcome = record { entries = []; starts = []; variables = []; room = 0 }
+
+-- a run of this process has left these entries
+pub record HasRunOf (entries : List (Option ℕ)) (process : ℕ) (old new : List Outcome) : Type 0 where
+  pub outcome : Outcome
+  pub leaves : Leaves entries (slice_index_or old process no_outcome) outcome
+  pub is : new ≡ slice_set old process outcome

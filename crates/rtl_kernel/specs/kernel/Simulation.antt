@@ -1,0 +1,28 @@
+-- What callers see of a kernel: the net that it simulates, and the state of the simulation (IEEE 1076-2008, 14.7.5).
+use Rattle.std.specs.Prelude.{ℕ, List, [], ◌∷◌, map}
+use Rattle.vhdl_values.specs.declared.scalar.Nine.{Nine}
+use Rattle.vhdl_values.specs.Scalar.{code_of}
+use Rattle.rtl_model.specs.nets.FlatNet.{FlatNet}
+use Rattle.rtl_model.specs.simulation.Cycle.{State, changed}
+use Rattle.rtl_net.specs.Nets.{NetView}
+
+pub record Simulation : Type 0 where
+  pub net : NetView
+  pub state : State
+
+-- a change of a net, by its code
+abbrev pub change_of : ℕ × Nine → ℕ × ℕ
+change_of c = (c.0, code_of c.1)
+
+abbrev pub changes_of : List (ℕ × Nine) → List (ℕ × ℕ)
+changes_of cs = map {B = ℕ × ℕ} change_of cs
+
+-- one change for each of these nets, and each of these values
+abbrev pub each_given : (nets : List ℕ) → List Nine → List (ℕ × ℕ)
+each_given [] values = []
+each_given (n ∷ nets) [] = []
+each_given (n ∷ nets) (v ∷ values) = (n, code_of v) ∷ each_given nets values
+
+-- the inputs' values at the start: these, in the order of the inputs
+abbrev pub initial_inputs : FlatNet → List Nine → (net : ℕ) → ℕ
+initial_inputs net values = changed (each_given net.inputs values) net.start

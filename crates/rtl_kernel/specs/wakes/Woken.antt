@@ -1,0 +1,44 @@
+-- Which processes are resumed (IEEE 1076-2008, 14.7.5.3): those that are sensitive to a net with an event.
+use Rattle.std.specs.Prelude.{◌≡◌, ℕ, ◌<◌, ◌≤◌, ◌⊎◌, false, Bool, List, [], length, slice_index, slice_index_or, IsTrue, Contains, Vec}
+use Rattle.std.specs.Global.{Global}
+use Rattle.std.specs.Vec.{vec_capacity}
+use Rattle.rtl_model.specs.basics.Valuations.{has_event}
+use Rattle.rtl_kernel.specs.worklists.Marked.{AreMarked}
+
+-- index has for each net the processes that wake on it, wakes for each process the nets that it wakes on
+pub record IsIndex (wakes index : List (List ℕ)) : Type 0 where
+  pub all_are_in : (p n : ℕ) → Contains (slice_index_or wakes p []) n → Contains (slice_index_or index n []) p
+  pub no_other : (n p : ℕ) → Contains (slice_index_or index n []) p → Contains (slice_index_or wakes p []) n
+
+-- each process that wakes on a net with an event waits, and no other
+pub record AreWoken (index : List (List ℕ)) (before current : List ℕ) (waiting : List Bool) : Type 0 where
+  pub all_wait : (n p : ℕ) → IsTrue (has_event before current n) → Contains (slice_index_or index n []) p → IsTrue (slice_index_or waiting p false)
+  pub no_other : (p : ℕ) → IsTrue (slice_index_or waiting p false) → (n : ℕ) × IsTrue (has_event before current n) × Contains (slice_index_or index n []) p
+
+-- new has the marks of old, and these
+pub record Adds (places : List ℕ) (old new : List Bool) : Type 0 where
+  pub kept : (p : ℕ) → IsTrue (slice_index_or old p false) → IsTrue (slice_index_or new p false)
+  pub added : (p : ℕ) → Contains places p → IsTrue (slice_index_or new p false)
+  pub no_other : (p : ℕ) → IsTrue (slice_index_or new p false) → IsTrue (slice_index_or old p false) ⊎ Contains places p
+
+-- no number stands twice
+abbrev pub AreDifferent : List ℕ → Type 0
+AreDifferent xs = (j k : ℕ) → j < length xs → k < length xs → slice_index xs j ≡ slice_index xs k → j ≡ k
+
+-- the list is that of the marked, each once, with room for all
+pub record IsListing (marks : Vec Bool Global) (places : Vec ℕ Global) : Type 0 where
+  pub marked : AreMarked marks.items places.items
+  pub differ : AreDifferent places.items
+  pub reserved : length marks.items ≤ vec_capacity places
+
+-- new has what old has, and this process in the rows of these nets
+pub record IsIndexed (process : ℕ) (nets : List ℕ) (old new : List (List ℕ)) : Type 0 where
+  pub kept : (n p : ℕ) → Contains (slice_index_or old n []) p → Contains (slice_index_or new n []) p
+  pub added : (n : ℕ) → Contains nets n → Contains (slice_index_or new n []) process
+  pub no_other : (n p : ℕ) → Contains (slice_index_or new n []) p → Contains (slice_index_or old n []) p ⊎ ((p ≡ process) × Contains nets n)
+
+-- the same of these nets alone
+pub record AreWokenBy (nets : List ℕ) (index : List (List ℕ)) (before current : List ℕ) (waiting : List Bool) : Type 0 where
+  pub all_wait : (n p : ℕ) → Contains nets n → IsTrue (has_event before current n) → Contains (slice_index_or index n []) p
+      → IsTrue (slice_index_or waiting p false)
+  pub no_other : (p : ℕ) → IsTrue (slice_index_or waiting p false) → (n : ℕ) × IsTrue (has_event before current n) × Contains (slice_index_or index n []) p

@@ -1,0 +1,141 @@
+//! Drivers and their transactions.
+
+ghost use Rattle.std.specs.Prelude.{◌≡◌, ◌<◌, ◌≤◌, ℕ, [], All, length, map, not, slice_index_or, slice_set, Contains};
+ghost use Rattle.std.specs.List.{list_any};
+ghost use Rattle.std.specs.Option.{is_some};
+ghost use Rattle.rtl_model.specs.bodies.Types.{KeepsTypes};
+ghost use Rattle.rtl_model.specs.nets.CoreNet.{part_effect};
+ghost use Rattle.rtl_model.specs.simulation.Cycle.{driven, driven_all};
+ghost use Rattle.rtl_eval.specs.Runs.{Outcome, IsOf, Leaves};
+ghost use Rattle.rtl_net.specs.declared.process.Driver as net;
+ghost use Rattle.rtl_net.specs.declared.process.Process.{Process};
+ghost use Rattle.rtl_kernel.specs.drivers.Rows.{rows};
+ghost use Rattle.rtl_kernel.specs.drivers.Transactions.{IsActive, Touches, TouchesAll, HasRunOf, nets_of, targets_of, pending_of, without_entries, no_outcome};
+
+use crate::worklist::Worklist;
+use rtl_eval::{Drives, Exec};
+use rtl_net::{Driver, Process};
+use std::alloc::{AllocError, Global};
+use std::marker::Model;
+
+/// The drivers' values and transactions: a row for each process, with the processes that have an active driver, so that
+/// an update looks at the drivers that are active and at no others. All memory is taken by `new`.
+#[derive(Drop)]
+pub struct Drivers {
+    drivers: Vec<Vec<u8>>,
+    outcomes: Vec<Drives>,
+    active: Worklist,
+}
+
+impl Model for Drivers {
+    ghost use Rattle.rtl_kernel.specs.drivers.Transactions.{Transactions};
+
+    ghost Value = { Transactions };
+
+    ghost use Rattle.rtl_kernel.specs.drivers.Tracked.{transactions_of, IsTracked};
+
+    ghost view = { transactions_of };
+
+    ghost invariant = { IsTracked };
+}
+
+impl Drivers {
+    /// The drivers' values.
+    pub fn values(&self) -> &[Vec<u8>]
+        ensures { rows result.now ≡ self.now.drivers }
+    {
+        self.drivers.as_slice()
+    }
+
+    /// Whether no driver is active.
+    pub fn is_quiet(&self) -> bool
+        ensures { result ≡ not (list_any (list_any is_some) (pending_of self.now.outcomes)) }
+    {
+        self.active.members().is_empty()
+    }
+
+    /// Every transaction becomes its driver's value, and the nets of the active drivers come to those in `touched`.
+    pub fn update(&mut self, processes: &[Process], touched: &mut Worklist)
+        requires as_many { length processes.now ≡ length self.old.outcomes }
+        requires each_driver { (p : ℕ) → length (targets_of processes.now p) ≡ length (slice_index_or (pending_of self.old.outcomes) p []) }
+        requires nets { All (λ (p : Process). All (λ n. n < touched.old.bound) (nets_of p.drives.items)) processes.now }
+        ensures drivers { self.new.drivers ≡ driven_all (pending_of self.old.outcomes) self.old.drivers }
+        ensures outcomes { self.new.outcomes ≡ map without_entries self.old.outcomes }
+        ensures touched { TouchesAll processes.now (pending_of self.old.outcomes) touched.old touched.new }
+    {
+        update_rows(
+            self.active.members(),
+            processes,
+            &mut self.outcomes,
+            &mut self.drivers,
+            touched,
+        );
+        self.active.clear();
+    }
+
+    /// Runs the body of a process that has no active driver; what it assigns becomes its transactions.
+    pub fn run<E: Exec>(&mut self, process: usize, body: &E, current: &[u8], before: &[u8])
+        requires there { process < length self.old.outcomes }
+        requires quiet { IsActive (pending_of self.old.outcomes) process → ⊥ }
+        requires now_all { length current.now ≡ length (E.types body.now) }
+        requires before_all { length before.now ≡ length (E.types body.now) }
+        requires now { KeepsTypes (E.types body.now) current.now }
+        requires before { KeepsTypes (E.types body.now) before.now }
+        requires own { IsOf (E.process body.now) (slice_index_or self.old.outcomes process no_outcome) }
+        requires room { E.most body.now ≤ (slice_index_or self.old.outcomes process no_outcome).room }
+        ensures drivers { self.new.drivers ≡ self.old.drivers }
+        ensures ran { HasRunOf (part_effect (E.process body.now) (E.process body.now).body before.now current.now) process self.old.outcomes self.new.outcomes }
+    {
+        body.run(current, before, &mut self.outcomes[process]);
+        if !self.outcomes[process].assigned().is_empty() {
+            self.active.insert(process);
+        }
+    }
+}
+
+/// Takes over the transactions of these processes.
+fn update_rows(
+    active: &[usize],
+    processes: &[Process],
+    outcomes: &mut Vec<Drives>,
+    drivers: &mut Vec<Vec<u8>>,
+    touched: &mut Worklist,
+)
+    requires as_many { length processes.now ≡ length outcomes.old.items }
+    requires rows { length drivers.old.items ≡ length outcomes.old.items }
+    requires active { All (λ p. p < length outcomes.old.items) active.now }
+    requires all_active { (p : ℕ) → IsActive (pending_of outcomes.old.items) p → Contains active.now p }
+    requires each_driver { (p : ℕ) → length (targets_of processes.now p) ≡ length (slice_index_or (pending_of outcomes.old.items) p []) }
+    requires each_value { (p : ℕ) → length (slice_index_or (rows drivers.old.items) p []) ≡ length (slice_index_or (pending_of outcomes.old.items) p []) }
+    requires nets { All (λ (p : Process). All (λ n. n < touched.old.bound) (nets_of p.drives.items)) processes.now }
+    ensures drivers { rows drivers.new.items ≡ driven_all (pending_of outcomes.old.items) (rows drivers.old.items) }
+    ensures outcomes { outcomes.new.items ≡ map without_entries outcomes.old.items }
+    ensures touched { TouchesAll processes.now (pending_of outcomes.old.items) touched.old touched.new }
+{
+    for process in active {
+        let outcome = &mut outcomes[*process];
+        update_row(
+            &processes[*process].drives,
+            outcome,
+            &mut drivers[*process],
+            touched,
+        );
+        outcome.clear();
+    }
+}
+
+/// Takes over the transactions of one process.
+fn update_row(drives: &[Driver], outcome: &Drives, values: &mut Vec<u8>, touched: &mut Worklist)
+    requires as_many { length values.old.items ≡ length outcome.now.entries }
+    requires each_driver { length drives.now ≡ length outcome.now.entries }
+    requires nets { All (λ n. n < touched.old.bound) (nets_of drives.now) }
+    ensures values { values.new.items ≡ driven outcome.now.entries values.old.items }
+    ensures touched { Touches (nets_of drives.now) outcome.now.entries touched.old touched.new }
+{
+    for place in outcome.assigned() {
+        if let Some(value) = outcome.get(*place) {
+            values[*place] = value;
+            touched.insert(drives[*place].net);
+        }
+    }
+}

@@ -1,0 +1,204 @@
+//! The kernel.
+
+ghost use Rattle.std.specs.Prelude.{◌≡◌, ◌<◌, ◌≤◌, ℕ, List, All, length, slice_index, Contains, MatchResult, IsTrue};
+ghost use Rattle.std.specs.List.{count_by};
+ghost use Rattle.rtl_model.specs.nets.CoreNet.{core_net};
+ghost use Rattle.rtl_model.specs.simulation.Cycle.{given, updated, ran, changed, is_quiet, IsToRun};
+ghost use Rattle.rtl_model.specs.simulation.Moments.{HasNoneToRun, HasRun, Delta, SettlesTo, IsUnsettled};
+ghost use Rattle.rtl_net.specs.Nets.{flat};
+ghost use Rattle.rtl_kernel.specs.kernel.Simulation.{changes_of};
+
+use crate::drivers::Drivers;
+use crate::pick::Pick;
+use crate::resumed::Resumed;
+use crate::update::resolve_nets;
+use crate::values::Values;
+use crate::worklist::Worklist;
+use rtl_eval::Exec;
+use rtl_net::Net;
+use std::marker::Model;
+use vhdl_values::Nine;
+
+/// A simulation of a net. What a cycle costs goes by the drivers, nets and processes that it touches; `new` takes all
+/// memory, and no other call takes any.
+#[derive(Drop)]
+pub struct Kernel<'a, E: Exec> {
+    net: &'a Net,
+    bodies: &'a [E],
+    index: Vec<Vec<usize>>,
+    values: Values,
+    drivers: Drivers,
+    resumed: Resumed,
+    touched: Worklist,
+}
+
+/// No number of delta cycles up to the limit leaves no driver active.
+#[derive(Clone, Copy, PartialEq, Eq, Debug)]
+pub struct NoSettling;
+
+impl<'a, E: Exec> Model for Kernel<'a, E> {
+    ghost use Rattle.rtl_kernel.specs.kernel.Simulation.{Simulation};
+    ghost use Rattle.rtl_net.specs.contracts.process.Process as process_contract;
+    ghost use Rattle.std.specs.Coded.{codes};
+
+    ghost Value = { Simulation };
+
+    ghost coded = { Prim.hlevel (codes, process_contract.the_row.coded) };
+
+    ghost use Rattle.rtl_kernel.specs.drivers.Rows.{rows};
+    ghost use Rattle.rtl_kernel.specs.kernel.Kept.{IsKernel, state_of};
+
+    ghost view = { λ k. record { net = k.net.now; state = state_of k.values k.drivers k.resumed } };
+
+    ghost invariant = { λ k. IsKernel E.process E.types E.most k.net.now k.bodies.now (rows k.index.items) k.values k.drivers k.resumed k.touched };
+}
+
+impl<'a, E: Exec> Kernel<'a, E> {
+    /// The value of a net now: the code of one of the nine values, or the position of a literal.
+    pub fn value(&self, net: usize) -> u8
+        requires { net < length self.now.net.types }
+        ensures { result ≡ slice_index self.entry.now.state.now net }
+    {
+        self.values.now()[net]
+    }
+
+    /// Whether no driver is active.
+    pub fn is_quiet(&self) -> bool
+        ensures { result ≡ is_quiet self.entry.now.state }
+    {
+        self.drivers.is_quiet()
+    }
+
+    /// Initialization: runs each process once (IEEE 1076-2008, 14.7.5.2).
+    pub fn start<P: Pick>(&mut self, pick: &mut P)
+        ensures net { self.new.net ≡ self.old.net }
+        ensures ran { HasRun (core_net (flat self.old.net)) self.old.state self.new.state }
+    {
+        self.run_all(pick);
+    }
+
+    /// A cycle in which in ports of the top get new values (14.7.5.3), where no driver is active and no process is to run.
+    pub fn apply<P: Pick>(&mut self, changes: &[(usize, Nine)], pick: &mut P)
+        requires inputs { All (λ c. Contains self.old.net.inputs c.0) changes.now }
+        requires ready { HasNoneToRun self.old.state }
+        requires quiet { IsTrue (is_quiet self.old.state) }
+        ensures net { self.new.net ≡ self.old.net }
+        ensures ran { HasRun (core_net (flat self.old.net)) (given (core_net (flat self.old.net)) (changed (changes_of changes.now) self.old.state.now) self.old.state) self.new.state }
+    {
+        self.change(changes);
+        self.run_all(pick);
+    }
+
+    /// A delta cycle (14.7.5.3).
+    pub fn cycle<P: Pick>(&mut self, pick: &mut P)
+        requires ready { HasNoneToRun self.old.state }
+        ensures net { self.new.net ≡ self.old.net }
+        ensures delta { (order : List ℕ) × Delta (core_net (flat self.old.net)) order self.old.state self.new.state }
+        ensures ready { HasNoneToRun self.new.state }
+    {
+        self.update();
+        self.run_all(pick);
+    }
+
+    /// Delta cycles until no driver is active, at most so many, where no process is to run. The answer is the number of
+    /// delta cycles; where that is above the limit, the state is the one after as many as the limit.
+    pub fn settle<P: Pick>(&mut self, limit: u32, pick: &mut P) -> Result<u32, NoSettling>
+        requires ready { HasNoneToRun self.old.state }
+        ensures net { self.new.net ≡ self.old.net }
+        ensures ready { HasNoneToRun self.new.state }
+        ensures settled { MatchResult result
+            (λ deltas. SettlesTo (core_net (flat self.old.net)) self.old.state deltas self.new.state × (deltas ≤ limit))
+            (λ _. IsUnsettled (core_net (flat self.old.net)) self.old.state limit self.new.state) }
+    {
+        for deltas in 0..limit {
+            if self.is_quiet() {
+                return Ok(deltas);
+            }
+            self.cycle(pick);
+        }
+        if self.is_quiet() {
+            Ok(limit)
+        } else {
+            Err(NoSettling)
+        }
+    }
+
+    /// How many processes are to run.
+    fn to_run(&self) -> usize
+        ensures count { result ≡ count_by (λ b. b) self.entry.now.state.waiting }
+        ensures none { result ≡ 0 → HasNoneToRun self.entry.now.state }
+    {
+        self.resumed.len()
+    }
+
+    /// Runs the process at a place among those that are to run, in order of number.
+    fn run_one(&mut self, place: usize)
+        requires { place < count_by (λ b. b) self.old.state.waiting }
+        ensures net { self.new.net ≡ self.old.net }
+        ensures ran { (process : ℕ) × IsToRun self.old.state process × (self.new.state ≡ ran (core_net (flat self.old.net)) process self.old.state) }
+    {
+        let process = self.resumed.take(place);
+        let bodies = self.bodies;
+        self.drivers.run(
+            process,
+            &bodies[process],
+            self.values.now(),
+            self.values.before(),
+        );
+    }
+
+    /// Runs all processes that are to run.
+    fn run_all<P: Pick>(&mut self, pick: &mut P)
+        ensures net { self.new.net ≡ self.old.net }
+        ensures ran { HasRun (core_net (flat self.old.net)) self.old.state self.new.state }
+    {
+        let mut left = self.to_run();
+        while left > 0 {
+            let place = pick.pick(left);
+            self.run_one(place);
+            left = self.to_run();
+        }
+    }
+
+    /// Gives all active drivers and their nets their new values, and resumes the processes that wake.
+    fn update(&mut self)
+        requires ready { HasNoneToRun self.old.state }
+        ensures net { self.new.net ≡ self.old.net }
+        ensures state { self.new.state ≡ updated (core_net (flat self.old.net)) self.old.state }
+    {
+        let net = self.net;
+        self.values.begin();
+        self.drivers.update(net.processes(), &mut self.touched);
+        resolve_nets(
+            self.touched.members(),
+            net,
+            self.drivers.values(),
+            &mut self.values,
+        );
+        self.touched.clear();
+        self.resumed.resume(
+            self.values.changed(),
+            self.values.before(),
+            self.values.now(),
+            &self.index,
+        );
+    }
+
+    /// Gives in ports new values, and resumes the processes that wake.
+    fn change(&mut self, changes: &[(usize, Nine)])
+        requires inputs { All (λ c. Contains self.old.net.inputs c.0) changes.now }
+        requires ready { HasNoneToRun self.old.state }
+        requires quiet { IsTrue (is_quiet self.old.state) }
+        ensures net { self.new.net ≡ self.old.net }
+        ensures state { self.new.state ≡ given (core_net (flat self.old.net)) (changed (changes_of changes.now) self.old.state.now) self.old.state }
+    {
+        self.values.begin();
+        self.values.set_all(changes);
+        self.resumed.resume(
+            self.values.changed(),
+            self.values.before(),
+            self.values.now(),
+            &self.index,
+        );
+    }
+}
