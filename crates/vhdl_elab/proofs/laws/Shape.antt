@@ -1,5 +1,5 @@
 -- The lists of an elaborated net are as long as it has nets.
-use Rattle.std.proofs.Common.{◌≡◌, ℕ, zero, suc, ◌+◌, ◌<◌, ◌≤◌, List, [], ◌∷◌, length, map, All, refl, sym, ap, ◌∙◌, subst, arith}
+use Rattle.std.proofs.Common.{◌≡◌, ℕ, ◌+◌, ◌<◌, List, length, map, All, sym, ap, ◌∙◌, arith}
 use Rattle.std.specs.Prelude.{slice_index, slice_index_or}
 use Rattle.std.specs.List.{range_with_len}
 use Rattle.std.specs.List.Sorted.{IsStrictlyIncreasing}
@@ -7,9 +7,8 @@ use Rattle.std.proofs.lemmas.List.{length-map}
 use Rattle.std.proofs.lemmas.List.FromFn.{length-range_with_len, length-map-range_with_len, get_or-range_with_len}
 use Rattle.std.proofs.lemmas.List.Elements.{All-map, All-filter}
 use Rattle.std.proofs.lemmas.List.Kept.{IsStrictlyIncreasing-filter}
-use Rattle.rtl_model.specs.nets.FlatNet.{FlatProcess}
 use Rattle.vhdl_expand.specs.Prefixes.{is_among, in_order}
-use Rattle.vhdl_elab.specs.Numbering.{Located, Numbered, numbered}
+use Rattle.vhdl_elab.specs.Numbering.{Numbered, numbered}
 use Rattle.vhdl_elab.specs.Wiring.{Element, own_elements, idle_values, sensitive_to, flat_process, with_defaults, start_of, flat_net}
 use Rattle.vhdl_elab.specs.laws.Nets.{NetsAreAsSaid}
 use Rattle.vhdl_elab.specs.laws.Shape.{WakesRise, HasShape, EachHasShape}
