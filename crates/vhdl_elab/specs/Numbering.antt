@@ -5,7 +5,8 @@ use Rattle.std.specs.Prelude.{ℕ, ◌+◌, List, [], ◌∷◌, ◌++◌, lengt
 use Rattle.std.specs.List.{range_with_len}
 use Rattle.rtl_model.specs.bodies.Reads.{reads}
 use Rattle.vhdl_expand.specs.Kinds.{size}
-use Rattle.vhdl_expand.specs.Tree.{Role, input, output, Object, Sensitivity, listed, every, as_read, Process, Instance, instance, Parts, no_parts, process, inner, objects_of}
+use Rattle.vhdl_expand.specs.Tree.{Role, input, output, Object, Sensitivity, listed, every, as_read, Process, Instance, instance, Parts, no_parts}
+use Rattle.vhdl_expand.specs.Tree.{process, inner, objects_of}
 use Rattle.vhdl_expand.specs.Expansion.{Design}
 
 -- ---- nets of elements

@@ -1,3 +1,4 @@
 -- Laws of elaboration.
 pub mod Nets
 pub mod Sources
+pub mod Shape

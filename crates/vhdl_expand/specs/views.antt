@@ -2,3 +2,4 @@
 pub mod Integers
 pub mod Decisions
 pub mod Kinds
+pub mod Prefixes

@@ -8,8 +8,10 @@ pub mod expansion_laws;
 mod fault;
 mod integer;
 mod kind;
+mod prefix;
 
 pub use decision::Turns;
 pub use fault::{ElabFault, ElabProblem};
 pub use integer::Integers;
 pub use kind::{Bounds, Kind, Run};
+pub use prefix::{is_static, is_static_part};

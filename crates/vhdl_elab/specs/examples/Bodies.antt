@@ -50,7 +50,8 @@ pub record ConditionsBecomeTests : Type 0 where
   -- w(1 downto 1) = "1", x = '1', a /= '1'
   pub slice : test site (e.alike (e.elements (e.of_signal (port 1 (e.slice (downto 1 1))))) (e.elements (e.Vector.literal (One ∷ []))))
       ≡ Ok (b.equal (b.elements (b.signal (1 ∷ []))) (b.elements (b.constant (One ∷ []))))
-  pub of_variable : test site (e.alike (e.elements (e.of_variable 0 e.whole)) is_one) ≡ Ok (b.equal (b.elements (b.variable (0 ∷ []))) (b.elements (b.constant (One ∷ []))))
+  pub of_variable : test site (e.alike (e.elements (e.of_variable 0 e.whole)) is_one)
+      ≡ Ok (b.equal (b.elements (b.variable (0 ∷ []))) (b.elements (b.constant (One ∷ []))))
   pub unlike : test site (e.unlike a is_one) ≡ Ok (b.unequal (b.elements (b.signal (0 ∷ []))) (b.elements (b.constant (One ∷ []))))
   -- a'event and a = '1'
   pub edge : test site (e.Test.both And (e.event (port 0 e.whole)) (e.alike a is_one)) ≡ Ok (b.combined And (b.event 0) (b.level true 0 One))
@@ -75,17 +76,26 @@ pub record NumbersBecomeConstants : Type 0 where
 
 -- ---- generics, and conditional generates
 
+-- y : out (m downto 0)
+abbrev pub wide_output : u.Port
+wide_output = record {
+  mode = Out;
+  object = object (codes "y") (u.vector (record { left = e.generic 1; direction = Downto; right = number 0 })) None;
+}
+
 -- n : natural := 2; m : natural := n + 1; y : out (m downto 0)
 abbrev pub later_default : Entity
-later_default = record (entity (codes "g") (record { mode = Out; object = object (codes "y") (u.vector (record { left = e.generic 1; direction = Downto; right = number 0 })) None } ∷ []) [] []) {
-  generics = record { type = Natural; default = Some (number 2) } ∷ record { type = Natural; default = Some (of arithmetic.Add (e.generic 0) (number 1)) } ∷ [];
+later_default = record (entity (codes "g") (wide_output ∷ []) [] []) {
+  generics = record { type = Natural; default = Some (number 2) }
+      ∷ record { type = Natural; default = Some (of arithmetic.Add (e.generic 0) (number 1)) } ∷ [];
 }
 
 -- if 0 = 1 generate, round a generate over 0 to 1 / 0
 abbrev pub nothing_computed : Entity
 nothing_computed = entity (codes "f") [] []
     (u.generate_if (codes "g") (e.StaticTest.compared Eq (number 0) (number 1))
-    (u.concurrent (u.generate_for (codes "h") (record { left = number 0; direction = Downto; right = of arithmetic.Divide (number 1) (number 0) }) u.no_concurrents) u.no_concurrents) ∷ [])
+    (u.concurrent (u.generate_for (codes "h") (record { left = number 0; direction = Downto; right = of arithmetic.Divide (number 1) (number 0) })
+    u.no_concurrents) u.no_concurrents) ∷ [])
 
 -- y : out := '1', which is the actual of k's out port (whose default is '0'), and of a process
 abbrev pub two_sources : Entity

@@ -12,7 +12,8 @@ use Rattle.rtl_model.specs.bodies.Body as b
 use Rattle.rtl_model.specs.nets.FlatNet.{flat_sources}
 use Rattle.rtl_model.specs.simulation.Net.{Driver}
 use Rattle.vhdl_elab.specs.Elaboration.{elaborated}
-use Rattle.vhdl_elab.specs.examples.Words.{number, downto, to, port, signal, at, read, assigned, process, assignment, object, input, output, declared, entity, shown, Of}
+use Rattle.vhdl_elab.specs.examples.Words.{number, downto, to, port, signal, at, read, assigned, process, assignment, object, input, output, declared}
+use Rattle.vhdl_elab.specs.examples.Words.{entity, shown, Of}
 
 -- ---- a counter
 

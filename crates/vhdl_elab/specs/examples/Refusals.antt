@@ -14,11 +14,13 @@ use Rattle.vhdl_names.specs.units.Units as u
 use Rattle.vhdl_names.specs.units.Units.{Entity, Concurrent}
 use Rattle.rtl_model.specs.bodies.Body as b
 use Rattle.rtl_model.specs.bodies.Types.{nine_valued}
-use Rattle.vhdl_expand.specs.declared.fault.ElabProblem.TheVariants.{NoTop, NoGeneric, GenericRange, StaticError, Length, Index, TooWide, Unassociated, TwoUnresolved, ReadOfShared, TooDeep, TooMany}
+use Rattle.vhdl_expand.specs.declared.fault.ElabProblem.TheVariants.{NoTop, NoGeneric, GenericRange, StaticError, Length, Index, TooWide}
+use Rattle.vhdl_expand.specs.declared.fault.ElabProblem.TheVariants.{Unassociated, TwoUnresolved, ReadOfShared, TooDeep, TooMany}
 use Rattle.vhdl_expand.specs.Integers.{integer}
 use Rattle.vhdl_expand.specs.Site.{no_integers}
 use Rattle.vhdl_elab.specs.Elaboration.{elaborated}
-use Rattle.vhdl_elab.specs.examples.Words.{number, downto, to, port, signal, at, read, assigned, process, assignment, object, input, output, declared, entity, Of}
+use Rattle.vhdl_elab.specs.examples.Words.{number, downto, to, port, signal, at, read, assigned, process, assignment, object, input, output, declared}
+use Rattle.vhdl_elab.specs.examples.Words.{entity, Of}
 use Rattle.vhdl_elab.specs.examples.Designs.{inverter, no_statement}
 
 -- ---- static integers
@@ -105,25 +107,39 @@ to_a = Some (port 0 e.whole)
 abbrev pub to_y : Option e.Place
 to_y = Some (port 1 e.whole)
 
+-- y <= a;
+abbrev pub y_from_a : Concurrent
+y_from_a = assignment (port 1 e.whole) (read (port 0 e.whole))
+
+-- s <= y;
+abbrev pub s_from_y : Concurrent
+s_from_y = assignment (signal 0 e.whole) (read (port 1 e.whole))
+
 -- the same with y of std_ulogic
 abbrev pub unresolved : Entity → Entity
-unresolved x = record x { ports = input (codes "a") u.element ∷ record { mode = Out; object = record (object (codes "y") u.element None) { is_resolved = false } } ∷ [] }
+unresolved x = record x {
+  ports = input (codes "a") u.element
+      ∷ record { mode = Out; object = record (object (codes "y") u.element None) { is_resolved = false } } ∷ [];
+}
 
 pub record SourcesAreCounted : Type 0 where
   pub unassociated : elaborated (no_statement ∷ around (None ∷ to_y ∷ []) [] ∷ []) (codes "t") ≡ Err Unassociated
   -- y has a driver and an instance's out port
-  pub two_unresolved : elaborated (inverter ∷ unresolved (around (to_a ∷ to_y ∷ []) (assignment (port 1 e.whole) (read (port 0 e.whole)) ∷ [])) ∷ []) (codes "t") ≡ Err TwoUnresolved
+  pub two_unresolved : elaborated (inverter ∷ unresolved (around (to_a ∷ to_y ∷ []) (y_from_a ∷ [])) ∷ []) (codes "t") ≡ Err TwoUnresolved
   -- two drivers
-  pub two_drivers : elaborated (unresolved (entity (codes "t") [] [] (assignment (port 1 e.whole) (read (port 0 e.whole)) ∷ assignment (port 1 e.whole) (read (port 0 e.whole)) ∷ [])) ∷ []) (codes "t") ≡ Err TwoUnresolved
+  pub two_drivers : elaborated (unresolved (entity (codes "t") [] [] (y_from_a ∷ y_from_a ∷ [])) ∷ []) (codes "t") ≡ Err TwoUnresolved
   -- y has two sources, and s takes its value
-  pub read_of_shared : elaborated (inverter ∷ around (to_a ∷ to_y ∷ []) (assignment (port 1 e.whole) (read (port 0 e.whole)) ∷ assignment (signal 0 e.whole) (read (port 1 e.whole)) ∷ []) ∷ []) (codes "t") ≡ Err ReadOfShared
+  pub read_of_shared : elaborated (inverter ∷ around (to_a ∷ to_y ∷ []) (y_from_a ∷ s_from_y ∷ []) ∷ []) (codes "t") ≡ Err ReadOfShared
   -- y has two sources and stands in a list, or is the actual of an in port
-  pub in_list : elaborated (inverter ∷ around (to_a ∷ to_y ∷ []) (assignment (port 1 e.whole) (read (port 0 e.whole)) ∷ process (u.listed (port 1 e.whole ∷ [])) [] ∷ []) ∷ []) (codes "t") ≡ Err ReadOfShared
-  pub by_in_port : elaborated (inverter ∷ around (to_y ∷ to_y ∷ []) (assignment (port 1 e.whole) (read (port 0 e.whole)) ∷ []) ∷ []) (codes "t") ≡ Err ReadOfShared
+  pub in_list : elaborated (inverter ∷ around (to_a ∷ to_y ∷ []) (y_from_a ∷ process (u.listed (port 1 e.whole ∷ [])) [] ∷ []) ∷ []) (codes "t")
+      ≡ Err ReadOfShared
+  pub by_in_port : elaborated (inverter ∷ around (to_y ∷ to_y ∷ []) (y_from_a ∷ []) ∷ []) (codes "t")
+      ≡ Err ReadOfShared
   -- y has one source, and is read
-  pub once : Of (elaborated (inverter ∷ around (to_a ∷ to_y ∷ []) (assignment (signal 0 e.whole) (read (port 1 e.whole)) ∷ []) ∷ []) (codes "t")) (λ x. x.flat.start ≡ 0 ∷ 0 ∷ 0 ∷ [])
+  pub once : Of (elaborated (inverter ∷ around (to_a ∷ to_y ∷ []) (s_from_y ∷ []) ∷ []) (codes "t")) (λ x. x.flat.start ≡ 0 ∷ 0 ∷ 0 ∷ [])
   -- an entity that has an instance of itself
-  pub too_deep : elaborated (entity (codes "e") [] [] (u.instance (record { label = codes "u"; unit = 0; generics = []; ports = [] }) ∷ []) ∷ []) (codes "e") ≡ Err TooDeep
+  pub too_deep : elaborated (entity (codes "e") [] [] (u.instance (record { label = codes "u"; unit = 0; generics = []; ports = [] }) ∷ []) ∷ []) (codes "e")
+      ≡ Err TooDeep
 
 -- ---- variables
 
