@@ -1,5 +1,5 @@
 -- Edge tests and `'event` in nodes of bodies, by their parts in lists.
-use Rattle.std.proofs.Common.{◌≡◌, ℕ, Bool, true, false, ◌||◌, List, [], ◌∷◌, ◌++◌, refl, sym, ap, ◌∙◌, Vec, Option, Some, None, Global}
+use Rattle.std.proofs.Common.{◌≡◌, ℕ, Bool, ◌||◌, List, [], ◌∷◌, ◌++◌, refl, sym, ap, ◌∙◌, Vec, Some, None, Global}
 use Rattle.std.specs.List.{list_any}
 use Rattle.rtl_net.specs.declared.body.Test.{Test}
 use Rattle.rtl_net.specs.declared.body.Test.TheVariants as vt

@@ -1,5 +1,5 @@
 -- What nodes of bodies look at, assign and store, by their parts in lists.
-use Rattle.std.proofs.Common.{◌≡◌, ℕ, ◌+◌, ◌<◌, ◌≤◌, Bool, true, false, ◌&&◌, ◌||◌, not, List, [], ◌∷◌, length, get_or, drop, refl, sym, ap, ◌∙◌, Vec, Option, Some, None, Global}
+use Rattle.std.proofs.Common.{◌≡◌, ℕ, ◌+◌, ◌<◌, ◌≤◌, Bool, true, false, ◌&&◌, ◌||◌, not, List, [], ◌∷◌, length, get_or, drop, refl, sym, ap, ◌∙◌, Vec, Some, None, Global}
 use Rattle.std.specs.List.{list_any, list_all}
 use Rattle.std.proofs.lemmas.List.{at_drop_more, at_drop_all}
 use Rattle.rtl_net.specs.declared.body.Expr.{Expr}

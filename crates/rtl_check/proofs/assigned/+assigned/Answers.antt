@@ -1,5 +1,5 @@
-use Rattle.std.proofs.Common.{◌≡◌, Bool, List, Option, Some, None, Vec, Global, ap, sym, ◌∙◌}
-use Rattle.std.specs.List.{list_any, list_all}
+use Rattle.std.proofs.Common.{◌≡◌, List, Option, Some, None, Vec, Global, ap, sym, ◌∙◌}
+use Rattle.std.specs.List.{list_all}
 use Rattle.rtl_net.specs.declared.body.Statement.{Statement}
 use Rattle.rtl_net.specs.declared.body.Statement.TheVariants as vs
 use Rattle.rtl_net.specs.Bodies.{statements_of}
