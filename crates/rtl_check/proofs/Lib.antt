@@ -1,0 +1,3 @@
+pub mod Anys
+pub mod Parts
+pub mod Occurrences
