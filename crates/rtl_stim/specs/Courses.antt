@@ -1,5 +1,5 @@
 -- The course of an input: the times at which it is set, each with the values from then on, or a clock.
-use Rattle.std.specs.Prelude.{ℕ, ◌==◌, ◌-◌, ◌/◌, ◌%◌, ◌&&◌, nat_le, nat_lt, Bool, List, [], ◌∷◌, Option, Some, None, filter, slice_index_or, if◌then◌else◌}
+use Rattle.std.specs.Prelude.{◌≡◌, ℕ, ◌<◌, false, IsTrue, ◌==◌, ◌-◌, ◌/◌, ◌%◌, ◌&&◌, nat_le, nat_lt, Bool, List, [], ◌∷◌, Option, Some, None, filter, slice_index_or, if◌then◌else◌}
 use Rattle.std.specs.Option.{is_some}
 use Rattle.std.specs.Ordering.{nat_cmp}
 use Rattle.std.specs.Map.{lookup}
@@ -52,3 +52,9 @@ is_set_at sets t = is_some (lookup (is_at (nat_cmp t)) sets)
 abbrev pub is_busy : Course → (t : ℕ) → Bool
 is_busy (Sets sets) t = is_set_at sets t
 is_busy (Ticks first half) t = toggles first half t
+
+-- the first time after now at which the clock toggles
+pub record IsNextToggle (first half now t : ℕ) : Type 0 where
+  pub later : now < t
+  pub toggling : IsTrue (toggles first half t)
+  pub none_between : (between : ℕ) → now < between → between < t → toggles first half between ≡ false

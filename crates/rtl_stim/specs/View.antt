@@ -1,5 +1,5 @@
 -- What contracts see of the reader's values.
-use Rattle.std.specs.Prelude.{◌≡◌, ◌≢◌, ◌≤◌, ℕ, List, All, map, length, Option, Some, None, Result, Ok, Err, Vec}
+use Rattle.std.specs.Prelude.{◌≡◌, ◌≢◌, ◌≤◌, ℕ, List, [], slice_index_or, All, map, length, Option, Some, None, Result, Ok, Err, Vec}
 use Rattle.std.specs.Global.{Global}
 use Rattle.indexmap.specs.IndexMap.{IndexMap}
 use Rattle.rtl_stim.specs.declared.inputs.Input.{Input as KeptInput}
@@ -8,6 +8,7 @@ use Rattle.rtl_stim.specs.declared.courses.Course.{Course as KeptCourse}
 use Rattle.rtl_stim.specs.declared.courses.Course.TheVariants as kept
 use Rattle.rtl_stim.specs.declared.faults.StimFault.{StimFault}
 use Rattle.rtl_stim.specs.declared.faults.StimFault.TheVariants.{NoMemory}
+use Rattle.vhdl_values.specs.declared.scalar.Nine.{Nine}
 use Rattle.rtl_stim.specs.Inputs.{Input, Element}
 use Rattle.rtl_stim.specs.Courses.{Course, Sets, Ticks}
 use Rattle.rtl_stim.specs.Reading.{Said, Schedule}
@@ -60,3 +61,12 @@ schedule_view s = record { courses = courses_view s.courses; stop = s.stop }
 abbrev pub IsGiven : Result Schedule StimFault → Result KeptSchedule StimFault → Type 0
 IsGiven expected (Ok schedule) = expected ≡ Ok (schedule_view schedule)
 IsGiven expected (Err fault) = fault ≢ NoMemory → expected ≡ Err fault
+
+-- the value at a place, of values that may not be there
+abbrev pub value_in : Option (List Nine) → (place : ℕ) → (start : Nine) → Nine
+value_in None place start = start
+value_in (Some values) place start = slice_index_or values place start
+
+-- the course of the input at a place
+abbrev pub course_in : Schedule → (input : ℕ) → Course
+course_in schedule input = slice_index_or schedule.courses input (Sets [])

@@ -289,7 +289,8 @@ one_given words e o ws e' o' ws' m m' =
 -- where no request asks for what the words behind the command are, the words say none
 pub says_nothing : (words : List Word) (command : Word) (others : List Word) (e : Bool) (o : Option Order) (ws : List Word) → words ≡ command ∷ others → Mixes e o ws others
     → ((request : Request) → Asks request command e o ws → ⊥) → SayNothing words
-says_nothing words command others e o ws begun m none request says =
+unfolding SayNothing
+says_nothing words command others e o ws begun m none = λ request says.
     let same : command ∷ others ≡ says.command ∷ says.others = sym begun ∙ says.begun in
     let same_command : says.command ≡ command = cc in
     let same_others : says.others ≡ others = cc in

@@ -60,7 +60,7 @@ pub record Says (words : List Word) (request : Request) : Type 0 where
   pub mixed : Mixes event order operands others
 
 -- the words say no request
-abbrev pub SayNothing : List Word → Type 0
+unfoldable pub SayNothing : List Word → Type 0
 SayNothing words = (request : Request) → Says words request → ⊥
 
 -- the words are refused as such, and not for want of memory

@@ -30,6 +30,7 @@ pub fn parse_words<'a>(alloc: Global, words: &'a [&'a str]) -> Result<Request<'a
 }
 
 /// The request that the words say.
+#[tactic(auto, unfolding(crate::specs::Words::SayNothing))]
 fn request_of<'a>(alloc: Global, words: &[&'a str]) -> Result<Option<Request<'a>>, AllocError>
     ensures said { IfOk result (λ asked. IfSome asked (λ request. Says (map (λ word. word.now) words.now) request)) }
     ensures none { IfOk result (λ asked. IfNone asked (SayNothing (map (λ word. word.now) words.now))) }
