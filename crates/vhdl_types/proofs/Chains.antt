@@ -1,5 +1,5 @@
 -- The types of chains, names and arguments, each as the code comes to it.
-use Rattle.std.proofs.Common.{◌≡◌, ℕ, suc, ◌+◌, ◌<◌, ◌≤◌, Bool, true, false, List, [], ◌∷◌, ◌++◌, map, length, get_or, drop, drop-cons, Option, Some, None, Vec, Global, Result, Ok, Err, append_assoc, append-nil, refl, sym, ap, ◌∙◌, arith}
+use Rattle.std.proofs.Common.{◌≡◌, ℕ, suc, ◌+◌, ◌<◌, ◌≤◌, Bool, true, false, List, [], ◌∷◌, ◌++◌, map, length, get_or, drop, drop-cons, Option, Some, None, Vec, Box, Global, Result, Ok, Err, append_assoc, append-nil, refl, sym, ap, ◌∙◌, arith}
 use Rattle.std.specs.Prelude.{option_map}
 use Rattle.std.proofs.lemmas.List.{drop_all, map-append}
 use Rattle.vhdl_tree.specs.Tree as t
@@ -9,6 +9,7 @@ use Rattle.vhdl_tree.specs.declared.expression.Suffix as f
 use Rattle.vhdl_tree.specs.declared.expression.Suffix.TheVariants as s
 use Rattle.vhdl_tree.specs.declared.operator.Direction.{Direction}
 use Rattle.vhdl_tree.specs.declared.expression.Expr.{Expr}
+use Rattle.vhdl_tree.specs.declared.expression.Expr.TheVariants as x
 use Rattle.vhdl_tree.specs.declared.expression.Chain.{Chain, out-Chain}
 use Rattle.vhdl_tree.specs.declared.expression.Link.{Link}
 use Rattle.vhdl_tree.proofs.Rows.{chain_is, view_arguments}
@@ -21,7 +22,7 @@ use Rattle.vhdl_names.specs.Names.{Suffix, range, denoted, attributed}
 use Rattle.vhdl_names.specs.units.Expressions as u
 use Rattle.vhdl_names.specs.Operators.{Typed, operated}
 use Rattle.vhdl_names.specs.Expressions.{typed, typed_suffix, typed_each, beside, static, static_range, as_integer}
-use Rattle.vhdl_types.specs.Chosen.{arguments_of}
+use Rattle.vhdl_types.specs.Chosen.{arguments_of, started, links_of}
 use Rattle.vhdl_types.specs.declared.types.Typed as c
 use Rattle.vhdl_types.specs.Steps.{is_parens, enclosed_if, linked, all_linked}
 
@@ -176,3 +177,18 @@ sliced_is sight d way e = go (typed sight d)
         ≡ option_map range ((o >>= as_integer) >>= λ l. ((typed sight e >>= as_integer) >>= λ r. Some (made l r)))
     go None = refl
     go (Some x) = next (as_integer x)
+
+-- ---- a chain by its beginning and what follows
+
+pub started_is : (sight : Sight) (k : Chain) →
+    started sight k ≡ linked sight (is_parens (view (out-Chain k).first)) (typed sight (view (out-Chain k).first)) (out-Chain k).second
+unfolding started
+started_is sight k = refl
+
+pub chain_begun : (sight : Sight) (e : Expr) (box : Box Chain Global) (k1 k2 : Chain) → e ≡ x.Chain box → k1 ≡ box.value → k2 ≡ box.value →
+    typed sight (view e) ≡ all_linked sight (started sight k1) (links_of k2)
+chain_begun sight e box k1 k2 is e1 e2 =
+    ap (λ v. typed sight (view v)) is ∙ typed-chain sight box.value
+    ∙ ap (λ o. all_linked sight o (links_of box.value)) (sym (started_is sight box.value))
+    ∙ ap (λ k. all_linked sight (started sight k) (links_of box.value)) (sym e1)
+    ∙ ap (λ k. all_linked sight (started sight k1) (links_of k)) (sym e2)

@@ -8,7 +8,12 @@ use Rattle.vhdl_names.specs.declared.kind.Kind.TheVariants.{Element}
 use Rattle.vhdl_names.specs.Literals.{nine_of}
 use Rattle.vhdl_names.specs.Names.{Suffix, arguments}
 use Rattle.vhdl_names.specs.Visibility.{Sight}
-use Rattle.vhdl_names.specs.Expressions.{typed_each, is_one_name}
+use Rattle.vhdl_names.specs.Expressions.{typed, typed_each, is_one_name}
+use Rattle.vhdl_names.specs.Operators.{Typed}
+use Rattle.vhdl_tree.specs.View.{view}
+use Rattle.vhdl_tree.specs.declared.expression.Chain.{Chain, out-Chain}
+use Rattle.vhdl_tree.specs.declared.expression.Link.{Link}
+use Rattle.vhdl_types.specs.Steps.{is_parens, linked}
 
 -- a name with no attribute
 abbrev pub is_name : Expr → Bool
@@ -28,3 +33,11 @@ character_values _ c = None
 -- arguments with their types, and whether they are one name alone
 abbrev pub arguments_of : Sight → Exprs → Option Suffix
 arguments_of sight es = option_map (arguments (is_one_name es)) (typed_each sight es)
+
+-- a chain's first operand, and the first operator with its right operand
+unfoldable pub started : Sight → Chain → Option Typed
+started sight k = linked sight (is_parens (view (out-Chain k).first)) (typed sight (view (out-Chain k).first)) (out-Chain k).second
+
+-- its further operators
+abbrev pub links_of : Chain → List Link
+links_of k = (out-Chain k).rest.items

@@ -1,3 +1,4 @@
+pub mod Asked
 pub mod Chosen
 pub mod Sights
 pub mod Steps

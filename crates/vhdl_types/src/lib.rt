@@ -3,6 +3,7 @@
 #![tactic(auto)]
 
 mod answers;
+mod expressions;
 mod literals;
 mod meaning;
 mod names;
@@ -11,6 +12,9 @@ mod sight;
 mod types;
 
 pub use answers::{Choice, Fixed, Form, Given, SignalName, Subtype, VariableName};
+pub use expressions::{
+    as_integer, start, static_integer, static_range, typed, typed_each, typed_suffix,
+};
 pub use meaning::{Declared, Meaning};
 pub use sight::{Region, Sight, meaning_of};
-pub use types::Typed;
+pub use types::{Typed, TypedSuffix};
