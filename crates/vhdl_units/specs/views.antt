@@ -1,0 +1,4 @@
+pub mod Sequential
+pub mod Declarations
+pub mod Concurrent
+pub mod Units
