@@ -45,7 +45,11 @@ pub trait Expressions {
         ensures { Gives signal_name_view (statements.target (sight_view sight.now) (tree.name_view name.now)) result };
 
     /// The target of a variable assignment (10.6).
-    fn variable(alloc: Global, sight: &Sight, name: &syntax::Name) -> Result<VariableName, NameFault>
+    fn variable(
+        alloc: Global,
+        sight: &Sight,
+        name: &syntax::Name,
+    ) -> Result<VariableName, NameFault>
         ensures { Gives variable_name_view (statements.variable (sight_view sight.now) (tree.name_view name.now)) result };
 
     /// What a case is on: its type and value (10.9).
