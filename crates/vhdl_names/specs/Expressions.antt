@@ -1,7 +1,6 @@
 -- The types of expressions (IEEE 1076-2008, clause 9): what an expression is, given the declarations in sight; None where a rule
 -- is broken. No rule comes before another.
 use Rattle.std.specs.Prelude.{◌==◌, Bool, true, false, List, [], ◌∷◌, Option, Some, None, option_map}
-use Rattle.vhdl_lexer.specs.Literals.{integer_of}
 use Rattle.vhdl_tree.specs.declared.operator.Sign.{Sign}
 use Rattle.vhdl_tree.specs.declared.operator.Sign.TheVariants.{Plus, Minus}
 use Rattle.vhdl_tree.specs.Tree as t
@@ -15,7 +14,7 @@ use Rattle.vhdl_names.specs.units.Expressions.{Static, Place, Test}
 use Rattle.vhdl_names.specs.units.Statements.{Given, single, filled}
 use Rattle.vhdl_names.specs.Rules.{◌>>=◌, given_that}
 use Rattle.vhdl_names.specs.Visibility.{Sight, meaning}
-use Rattle.vhdl_names.specs.Literals.{nine_of, values_of_string, values_of_bits}
+use Rattle.vhdl_names.specs.Literals.{number_of, nine_of, values_of_string, values_of_bits}
 use Rattle.vhdl_names.specs.Operators.{Typed, integer, elements, enumerated, truth, inverse, operated}
 use Rattle.vhdl_names.specs.Names.{Suffix, plain, arguments, range, denoted, attributed}
 
@@ -45,7 +44,7 @@ is_one_name _ = false
 unfoldable mutual
   pub typed : Sight → Expr → Option Typed
   -- literals (9.3.2)
-  typed sight (t.integer at text) = Some (integer (u.number (integer_of text)))
+  typed sight (t.integer at text) = option_map (λ n. integer (u.number n)) (number_of text)
   typed sight (t.character at c) = option_map (λ v. elements Element (u.character v)) (nine_of c)
   typed sight (t.string at text) = option_map (λ vs. elements OpenVector (u.Vector.literal vs)) (values_of_string text)
   typed sight (t.bits at text) = option_map (λ vs. elements OpenVector (u.Vector.literal vs)) (values_of_bits text)

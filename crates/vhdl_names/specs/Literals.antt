@@ -1,5 +1,5 @@
 -- What literals stand for (IEEE 1076-2008, 9.3.2 and 15.5 to 15.8).
-use Rattle.std.specs.Prelude.{ℕ, ◌==◌, ◌-◌, ◌/◌, ◌%◌, if◌then◌else◌, not, List, [], ◌∷◌, flat_map, filter, find, Option, Some, None}
+use Rattle.std.specs.Prelude.{ℕ, ◌==◌, nat_le, ◌-◌, ◌/◌, ◌%◌, if◌then◌else◌, not, List, [], ◌∷◌, flat_map, filter, find, Option, Some, None}
 use Rattle.std.specs.Char.{to_ascii_uppercase, is_ascii_digit}
 use Rattle.std.specs.List.{after_first}
 use Rattle.vhdl_values.specs.declared.scalar.Nine.{Nine}
@@ -8,8 +8,13 @@ use Rattle.vhdl_values.specs.Scalar.{nines, letter_of}
 use Rattle.vhdl_lexer.specs.declared.byte.Class.{Class}
 use Rattle.vhdl_lexer.specs.declared.byte.Class.TheVariants as c
 use Rattle.vhdl_lexer.specs.Bytes.{quote, underscore}
+use Rattle.vhdl_lexer.specs.Literals.{integer_of, greatest_integer}
 use Rattle.vhdl_lexer.specs.Words.{base_class}
-use Rattle.vhdl_names.specs.Rules.{◌>>=◌, each}
+use Rattle.vhdl_names.specs.Rules.{◌>>=◌, each, given_that}
+
+-- the number that an integer writes, which the type's range has (5.2.3.2)
+abbrev pub number_of : List ℕ → Option ℕ
+number_of text = given_that (nat_le (integer_of text) greatest_integer) (integer_of text)
 
 -- the value of a character: one of the nine, letters in capitals (16.7)
 abbrev pub nine_of : ℕ → Option Nine

@@ -2,7 +2,7 @@
 
 ghost use Rattle.std.specs.Prelude.{◌≡◌, IfOk};
 ghost use Rattle.vhdl_names.specs.units.Expressions as units;
-ghost use Rattle.vhdl_names.specs.views.Integers.{static_view, static_chained};
+ghost use Rattle.vhdl_names.specs.views.Integers.{static_view, start_view, static_chained};
 
 use crate::operator::Arithmetic;
 use std::alloc::{AllocError, Global};
@@ -21,8 +21,8 @@ pub enum Static {
     LoopParameter(usize),
     /// A minus sign, and the byte at which it starts.
     Negated(usize, Box<Static>),
-    /// Operators, grouped from the left after the first operand.
-    Chain(Box<Static>, Vec<StaticLink>),
+    /// Operators, grouped from the left: the first one, and those after it.
+    Chain(Box<StaticStart>, Vec<StaticLink>),
 }
 
 /// An operator on static integers, the byte at which it starts, and its right operand.
@@ -34,6 +34,14 @@ pub struct StaticLink {
     pub operand: Static,
 }
 
+/// A first operand and the first operator after it, with its right operand.
+#[cycle(integer)]
+#[derive(Drop)]
+pub struct StaticStart {
+    pub first: Static,
+    pub link: StaticLink,
+}
+
 /// A range and its direction.
 #[derive(Drop)]
 pub struct StaticRange {
@@ -42,12 +50,12 @@ pub struct StaticRange {
     pub right: Static,
 }
 
-/// A first operand, and operators with their right operands.
+/// A first operand with its operator, and further operators with their right operands.
 #[tactic(auto, using(crate::proofs::rows::Integers::view_chain))]
-fn chain(first: Box<Static>, links: Vec<StaticLink>) -> Static
-    ensures { static_view result ≡ static_chained (static_view first.value) links.items }
+fn chain(start: Box<StaticStart>, links: Vec<StaticLink>) -> Static
+    ensures { static_view result ≡ static_chained (start_view start.value) links.items }
 {
-    Static::Chain(first, links)
+    Static::Chain(start, links)
 }
 
 impl Static {
@@ -75,14 +83,13 @@ impl Static {
             operand,
         };
         match self {
-            Static::Chain(first, mut links) => {
+            Static::Chain(start, mut links) => {
                 links.push(link)?;
-                Ok(chain(first, links))
+                Ok(chain(start, links))
             }
             first => {
-                let mut links = Vec::new(alloc);
-                links.push(link)?;
-                Ok(chain(Box::new(alloc, first)?, links))
+                let start = Box::new(alloc, StaticStart { first, link })?;
+                Ok(chain(start, Vec::new(alloc)))
             }
         }
     }

@@ -13,9 +13,9 @@ mod test;
 mod vector;
 
 pub use fault::{NameFault, NameProblem};
-pub use integer::{Static, StaticLink, StaticRange};
+pub use integer::{Static, StaticLink, StaticRange, StaticStart};
 pub use kind::{Function, Kind, ObjectType};
 pub use literal::nine_of;
 pub use operator::{Arithmetic, IntegerType, Numeric, VectorOperator};
-pub use test::{StaticTest, StaticTestLink, Test, TestLink};
-pub use vector::{Part, Place, Signal, Value, Vector, VectorLink};
+pub use test::{StaticTest, StaticTestLink, StaticTestStart, Test, TestLink, TestStart};
+pub use vector::{Part, Place, Signal, Value, Vector, VectorLink, VectorStart};

@@ -1,8 +1,9 @@
 //! Truths as they are analysed.
 
-ghost use Rattle.std.specs.Prelude.{◌≡◌, IfOk};
+ghost use Rattle.std.specs.Prelude.{◌≡◌, false, IfOk, IfErr};
+ghost use Rattle.vhdl_names.specs.Operators as table;
 ghost use Rattle.vhdl_names.specs.units.Expressions as units;
-ghost use Rattle.vhdl_names.specs.views.Tests.{static_test_view, static_test_chained, test_view, test_chained};
+ghost use Rattle.vhdl_names.specs.views.Tests.{static_test_view, static_start_view, static_test_chained, test_view, start_view, test_chained, is_fixed};
 
 use crate::integer::Static;
 use crate::vector::{Place, Value, Vector};
@@ -15,8 +16,8 @@ use vhdl_values::{Cmp, Edge, Logic};
 pub enum StaticTest {
     Compared(Cmp, usize, Static, Static),
     Not(Box<StaticTest>),
-    /// Logical operators, grouped from the left after the first operand.
-    Chain(Box<StaticTest>, Vec<StaticTestLink>),
+    /// Logical operators, grouped from the left: the first one, and those after it.
+    Chain(Box<StaticTestStart>, Vec<StaticTestLink>),
 }
 
 /// A logical operator and its right operand.
@@ -25,6 +26,14 @@ pub enum StaticTest {
 pub struct StaticTestLink {
     pub operator: Logic,
     pub operand: StaticTest,
+}
+
+/// A first operand and the first operator after it, with its right operand.
+#[cycle(static_test)]
+#[derive(Drop)]
+pub struct StaticTestStart {
+    pub first: StaticTest,
+    pub link: StaticTestLink,
 }
 
 /// A truth. Offsets are the bytes at which an operator or a call starts.
@@ -45,8 +54,8 @@ pub enum Test {
     Edge(Edge, Place),
     Event(Place),
     Not(Box<Test>),
-    /// Logical operators, grouped from the left after the first operand.
-    Chain(Box<Test>, Vec<TestLink>),
+    /// Logical operators, grouped from the left: the first one, and those after it.
+    Chain(Box<TestStart>, Vec<TestLink>),
 }
 
 /// A logical operator and its right operand.
@@ -57,18 +66,115 @@ pub struct TestLink {
     pub operand: Test,
 }
 
-/// A first operand, and operators with their right operands.
-#[tactic(auto, using(crate::proofs::rows::Tests::view_static_chain))]
-fn static_chain(first: Box<StaticTest>, links: Vec<StaticTestLink>) -> StaticTest
-    ensures { static_test_view result ≡ static_test_chained (static_test_view first.value) links.items }
-{
-    StaticTest::Chain(first, links)
+/// A first operand and the first operator after it, with its right operand.
+#[cycle(truth)]
+#[derive(Drop)]
+pub struct TestStart {
+    pub first: Test,
+    pub link: TestLink,
 }
 
-/// A first operand, and operators with their right operands.
-#[tactic(auto, using(crate::proofs::rows::Tests::view_chain))]
-fn chain(first: Box<Test>, links: Vec<TestLink>) -> Test
-    ensures { test_view result ≡ test_chained (test_view first.value) links.items }
+/// A first operand with its operator, and further operators with their right operands.
+#[tactic(auto, using(crate::proofs::rows::Tests::view_static_chain))]
+fn static_chain(start: Box<StaticTestStart>, links: Vec<StaticTestLink>) -> StaticTest
+    ensures { static_test_view result ≡ static_test_chained (static_start_view start.value) links.items }
 {
-    Test::Chain(first, links)
+    StaticTest::Chain(start, links)
+}
+
+/// A first operand with its operator, and further operators with their right operands.
+#[tactic(auto, using(crate::proofs::rows::Tests::view_chain))]
+fn chain(start: Box<TestStart>, links: Vec<TestLink>) -> Test
+    ensures { test_view result ≡ test_chained (start_view start.value) links.items }
+{
+    Test::Chain(start, links)
+}
+
+impl StaticTest {
+    /// `not` this. It takes the memory of a box.
+    pub fn negated(self, alloc: Global) -> Result<StaticTest, AllocError>
+        ensures { IfOk result (λ t. static_test_view t ≡ units.StaticTest.negated (static_test_view self)) }
+    {
+        Ok(StaticTest::Not(Box::new(alloc, self)?))
+    }
+
+    /// A logical operator with its right operand after this one. A chain goes on, so that its
+    /// height doesn't grow. It takes the memory of a list.
+    pub fn both(
+        self,
+        alloc: Global,
+        operator: Logic,
+        operand: StaticTest,
+    ) -> Result<StaticTest, AllocError>
+        ensures { IfOk result (λ t. static_test_view t ≡ units.StaticTest.both operator (static_test_view self) (static_test_view operand)) }
+    {
+        let link = StaticTestLink { operator, operand };
+        match self {
+            StaticTest::Chain(start, mut links) => {
+                links.push(link)?;
+                Ok(static_chain(start, links))
+            }
+            first => {
+                let start = Box::new(alloc, StaticTestStart { first, link })?;
+                Ok(static_chain(start, Vec::new(alloc)))
+            }
+        }
+    }
+}
+
+impl Test {
+    /// A logical operator with its right operand after this one, over signals.
+    fn linked(self, alloc: Global, operator: Logic, operand: Test) -> Result<Test, AllocError>
+        ensures { IfOk result (λ t. test_view t ≡ units.Test.both operator (test_view self) (test_view operand)) }
+    {
+        let link = TestLink { operator, operand };
+        match self {
+            Test::Chain(start, mut links) => {
+                links.push(link)?;
+                Ok(chain(start, links))
+            }
+            first => {
+                let start = Box::new(alloc, TestStart { first, link })?;
+                Ok(chain(start, Vec::new(alloc)))
+            }
+        }
+    }
+
+    /// The truth over static integers alone that this is, or else this.
+    pub fn as_fixed(self) -> Result<StaticTest, Test>
+        ensures fixed { IfOk result (λ t. test_view self ≡ units.Test.fixed (static_test_view t)) }
+        ensures same { IfErr result (λ t. t ≡ self) }
+        ensures other { IfErr result (λ t. is_fixed (test_view t) ≡ false) }
+    {
+        match self {
+            Test::Fixed(test) => Ok(test),
+            test => Err(test),
+        }
+    }
+
+    /// `not` this; over static integers alone it stays so. It takes the memory of a box.
+    #[tactic(auto, using(crate::proofs::rows::Tests::negated_other))]
+    pub fn negated(self, alloc: Global) -> Result<Test, AllocError>
+        ensures { IfOk result (λ t. test_view t ≡ table.negated (test_view self)) }
+    {
+        match self.as_fixed() {
+            Ok(test) => Ok(Test::Fixed(test.negated(alloc)?)),
+            Err(test) => Ok(Test::Not(Box::new(alloc, test)?)),
+        }
+    }
+
+    /// A logical operator with its right operand after this one; over static integers alone it
+    /// stays so. A chain goes on, so that its height doesn't grow. It takes the memory of a list.
+    #[tactic(auto, using(crate::proofs::rows::Tests::both_left, crate::proofs::rows::Tests::both_right))]
+    pub fn both(self, alloc: Global, operator: Logic, operand: Test) -> Result<Test, AllocError>
+        ensures { IfOk result (λ t. test_view t ≡ table.both operator (test_view self) (test_view operand)) }
+    {
+        match self.as_fixed() {
+            Err(left) => left.linked(alloc, operator, operand),
+            Ok(left) => match operand.as_fixed() {
+                Ok(right) => Ok(Test::Fixed(left.both(alloc, operator, right)?)),
+                Err(right) => Test::Fixed(left).linked(alloc, operator, right),
+            },
+        }
+    }
 }

@@ -3,7 +3,7 @@
 ghost use Rattle.std.specs.Prelude.{◌≡◌, IfOk};
 ghost use Rattle.vhdl_names.specs.units.Expressions as units;
 ghost use Rattle.vhdl_names.specs.views.Integers.{static_view};
-ghost use Rattle.vhdl_names.specs.views.Vectors.{vector_view, vector_chained};
+ghost use Rattle.vhdl_names.specs.views.Vectors.{vector_view, start_view, linked, vector_chained};
 
 use crate::integer::{Static, StaticRange};
 use crate::operator::{Numeric, VectorOperator};
@@ -50,8 +50,8 @@ pub enum Vector {
     /// A string or bit string.
     Literal(usize, Vec<Nine>),
     Not(usize, Box<Vector>),
-    /// Operators, grouped from the left after the first operand.
-    Chain(Box<Vector>, Vec<VectorLink>),
+    /// Operators, grouped from the left: the first one, and those after it.
+    Chain(Box<VectorStart>, Vec<VectorLink>),
     /// A static integer, an operator, and a number.
     IntegerWith(Numeric, usize, Static, Box<Vector>),
     /// `to_unsigned`, of a number and a size.
@@ -69,6 +69,14 @@ pub enum VectorLink {
     Integer(Numeric, usize, Static),
 }
 
+/// A first operand and the first operator after it, with its right operand.
+#[cycle(vector)]
+#[derive(Drop)]
+pub struct VectorStart {
+    pub first: Vector,
+    pub link: VectorLink,
+}
+
 /// What is assigned, compared or selected by.
 #[derive(Drop)]
 pub enum Value {
@@ -80,31 +88,28 @@ pub enum Value {
     StateOfVariable(usize),
 }
 
-/// A first operand, and operators with their right operands.
+/// A first operand with its operator, and further operators with their right operands.
 #[tactic(auto, using(crate::proofs::rows::Vectors::view_chain))]
-fn chain(first: Box<Vector>, links: Vec<VectorLink>) -> Vector
-    ensures { vector_view result ≡ vector_chained (vector_view first.value) links.items }
+fn chain(start: Box<VectorStart>, links: Vec<VectorLink>) -> Vector
+    ensures { vector_view result ≡ vector_chained (start_view start.value) links.items }
 {
-    Vector::Chain(first, links)
+    Vector::Chain(start, links)
 }
 
 impl Vector {
-    ghost use Rattle.vhdl_names.specs.views.Vectors.{linked};
-
     /// This operand with one more operator and its right operand. A chain goes on, so that its
     /// height doesn't grow. It takes the memory of a list.
     pub fn with_link(self, alloc: Global, link: VectorLink) -> Result<Vector, AllocError>
         ensures { IfOk result (λ v. vector_view v ≡ linked (vector_view self) link) }
     {
         match self {
-            Vector::Chain(first, mut links) => {
+            Vector::Chain(start, mut links) => {
                 links.push(link)?;
-                Ok(chain(first, links))
+                Ok(chain(start, links))
             }
             first => {
-                let mut links = Vec::new(alloc);
-                links.push(link)?;
-                Ok(chain(Box::new(alloc, first)?, links))
+                let start = Box::new(alloc, VectorStart { first, link })?;
+                Ok(chain(start, Vec::new(alloc)))
             }
         }
     }

@@ -121,11 +121,7 @@ fn conditional<E: Expressions>(
 {
     let branches = waveforms::<E>(alloc, sight, target, list)?;
     let otherwise = otherwise::<E>(alloc, sight, target, value)?;
-    Ok(Statement::conditional(
-        target.identifier.at,
-        branches,
-        otherwise,
-    ))
+    Ok(Statement::conditional(target.identifier.at, branches, otherwise))
 }
 
 /// What an assignment does.

@@ -8,7 +8,7 @@ ghost use Rattle.vhdl_names.specs.Statements as statements;
 ghost use Rattle.vhdl_names.specs.views.Integers.{range_view};
 ghost use Rattle.vhdl_names.specs.views.Tests.{test_view};
 ghost use Rattle.vhdl_tree.specs.View as tree;
-ghost use Rattle.vhdl_types.specs.Asked as asked;
+ghost use Rattle.vhdl_units.specs.Asked as asked;
 ghost use Rattle.vhdl_types.specs.Views.{sight_view, given_view, choices_view, signal_name_view, variable_name_view, selector_view};
 
 use std::alloc::Global;
@@ -45,7 +45,11 @@ pub trait Expressions {
         ensures { Gives signal_name_view (statements.target (sight_view sight.now) (tree.name_view name.now)) result };
 
     /// The target of a variable assignment (10.6).
-    fn variable(alloc: Global, sight: &Sight, name: &syntax::Name) -> Result<VariableName, NameFault>
+    fn variable(
+        alloc: Global,
+        sight: &Sight,
+        name: &syntax::Name,
+    ) -> Result<VariableName, NameFault>
         ensures { Gives variable_name_view (statements.variable (sight_view sight.now) (tree.name_view name.now)) result };
 
     /// What a case is on: its type and value (10.9).

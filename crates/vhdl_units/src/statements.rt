@@ -128,8 +128,15 @@ fn statement<E: Expressions>(
         syntax::Statement::SignalAssignment { target, value } => {
             assigned::<E>(alloc, sight, target, value)
         }
-        syntax::Statement::VariableAssignment { target, value } => set::<E>(alloc, sight, target, value),
-        syntax::Statement::If(conditional) => if_statement::<E>(alloc, sight, &item.label, conditional),
+        syntax::Statement::VariableAssignment { target, value } => set::<E>(
+            alloc, sight, target, value,
+        ),
+        syntax::Statement::If(conditional) => if_statement::<E>(
+            alloc,
+            sight,
+            &item.label,
+            conditional,
+        ),
         syntax::Statement::Case(case) => case_statement::<E>(alloc, sight, &item.label, case),
         syntax::Statement::For(repeated) => for_loop::<E>(alloc, sight, &item.label, repeated),
     }
@@ -175,7 +182,11 @@ fn branches<E: Expressions>(
 
 /// A condition, and the statements that it guards.
 #[cycle(statements)]
-fn branch<E: Expressions>(alloc: Global, sight: &mut Sight, item: &syntax::Conditional) -> Result<Branch, NameFault>
+fn branch<E: Expressions>(
+    alloc: Global,
+    sight: &mut Sight,
+    item: &syntax::Conditional,
+) -> Result<Branch, NameFault>
     ensures given { Gives views.branch_view (steps.guarded (sight_view sight.old) (tree.conditional_view item.now)) result }
     ensures kept { sight_view sight.new ≡ sight_view sight.old }
 {

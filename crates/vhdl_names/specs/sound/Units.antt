@@ -1,12 +1,12 @@
 -- What elaboration may take for granted of units: lists are as long as those that they are for, and no in port is assigned.
-use Rattle.std.specs.Prelude.{suc, ◌==◌, nat_lt, Bool, true, false, ◌&&◌, List, [], ◌∷◌, ◌++◌, map, length, slice_get, Option, Some, None, option_map, is_some}
+use Rattle.std.specs.Prelude.{suc, ◌==◌, nat_lt, nat_le, Bool, true, false, ◌&&◌, List, [], ◌∷◌, ◌++◌, map, length, slice_get, Option, Some, None, option_map, is_some}
 use Rattle.std.specs.List.{list_all}
 use Rattle.vhdl_tree.specs.declared.declaration.Mode.{Mode}
 use Rattle.vhdl_tree.specs.declared.declaration.Mode.TheVariants.{In, Out}
 use Rattle.vhdl_names.specs.units.Expressions.{Static, Signal, Place}
 use Rattle.vhdl_names.specs.units.Units as u
 use Rattle.vhdl_names.specs.units.Units.{Form, Fixed, Units}
-use Rattle.vhdl_names.specs.sound.Expressions.{Inside, Shape, one, vector, static_fits, range_fits, static_test_fits, shape_of, place_shape, position_fits, fits_shape}
+use Rattle.vhdl_names.specs.sound.Expressions.{Inside, Shape, one, vector, static_fits, range_fits, static_test_fits, shape_of, place_shape, is_elements, position_fits, fits_shape}
 use Rattle.vhdl_names.specs.sound.Statements.{is_driven, statements_fit}
 
 -- ---- declarations
@@ -14,7 +14,7 @@ use Rattle.vhdl_names.specs.sound.Statements.{is_driven, statements_fit}
 abbrev pub form_fits : Inside → Form → Bool
 form_fits i u.element = true
 form_fits i (u.vector r) = range_fits i r
-form_fits i (u.enumeration count) = nat_lt 0 count
+form_fits i (u.enumeration count) = nat_lt 0 count && nat_le count 256
 
 abbrev pub fixed_fits : Inside → Shape → Fixed → Bool
 fixed_fits i one (u.Fixed.literal (x ∷ [])) = true
@@ -29,8 +29,17 @@ abbrev pub default_fits : Inside → Shape → Option Fixed → Bool
 default_fits i x None = true
 default_fits i x (Some f) = fixed_fits i x f
 
+-- an enumeration is not resolved
+abbrev pub may_be_resolved : Form → Bool → Bool
+may_be_resolved (u.enumeration count) true = false
+may_be_resolved _ _ = true
+
 abbrev pub object_fits : Inside → u.Object → Bool
-object_fits i o = form_fits i o.form && default_fits i (shape_of o.form) o.default
+object_fits i o = form_fits i o.form && may_be_resolved o.form o.is_resolved && default_fits i (shape_of o.form) o.default
+
+-- a port is of the nine values
+abbrev pub port_fits : u.Port → Bool
+port_fits p = is_elements (shape_of p.object.form)
 
 abbrev pub objects_fit : Inside → List u.Object → Bool
 objects_fit i os = list_all (object_fits i) os
@@ -124,6 +133,7 @@ entity_fits units x = fits (record nothing_inside { generics = length x.generics
     fits : Inside → Bool
     fits i =
         generics_fit nothing_inside x.generics && objects_fit i (map (λ (p : u.Port). p.object) x.ports)
+        && list_all port_fits x.ports
         && architecture_fits units (record i { ports = x.ports }) x.architecture
 
 unfoldable pub are_sound : Units → Bool

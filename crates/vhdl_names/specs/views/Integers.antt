@@ -4,6 +4,7 @@ use Rattle.vhdl_names.specs.declared.integer.Static.{Static}
 use Rattle.vhdl_names.specs.declared.integer.Static.TheVariants as s
 use Rattle.vhdl_names.specs.declared.integer.Static.TheBlock.{Row_of-StaticLink, end_of-StaticLink, more_of-StaticLink}
 use Rattle.vhdl_names.specs.declared.integer.StaticLink.{StaticLink}
+use Rattle.vhdl_names.specs.declared.integer.StaticStart.{StaticStart}
 use Rattle.vhdl_names.specs.declared.integer.StaticRange.{StaticRange}
 use Rattle.vhdl_names.specs.units.Expressions as u
 
@@ -15,11 +16,15 @@ abbrev mutual
   static_view (s.GenerateParameter k) = u.generate_parameter k
   static_view (s.LoopParameter k) = u.loop_parameter k
   static_view (s.Negated' at p x) = u.Static.negated (static_view x)
-  static_view (s.Chain' p first shape rest) = links_view (static_view first) rest
+  static_view (s.Chain' p first operator at operand shape rest) =
+      links_view (u.Static.binary operator (static_view first) (static_view operand)) rest
 
   pub links_view : {m : _} → u.Static → Row_of-StaticLink m → u.Static
   links_view left end_of-StaticLink = left
   links_view left (more_of-StaticLink operator at operand rest) = links_view (u.Static.binary operator left (static_view operand)) rest
+
+abbrev pub start_view : StaticStart → u.Static
+start_view s = u.Static.binary s.link.operator (static_view s.first) (static_view s.link.operand)
 
 abbrev pub static_chained : u.Static → List StaticLink → u.Static
 static_chained left [] = left

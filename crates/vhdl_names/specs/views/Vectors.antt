@@ -10,6 +10,7 @@ use Rattle.vhdl_names.specs.declared.vector.Vector.TheVariants as v
 use Rattle.vhdl_names.specs.declared.vector.Vector.TheBlock.{Row_of-VectorLink, end_of-VectorLink, more_of-VectorLink}
 use Rattle.vhdl_names.specs.declared.vector.VectorLink.{VectorLink}
 use Rattle.vhdl_names.specs.declared.vector.VectorLink.TheVariants as l
+use Rattle.vhdl_names.specs.declared.vector.VectorStart.{VectorStart}
 use Rattle.vhdl_names.specs.declared.vector.Value.{Value}
 use Rattle.vhdl_names.specs.declared.vector.Value.TheVariants as e
 use Rattle.vhdl_names.specs.units.Expressions as u
@@ -36,7 +37,7 @@ abbrev mutual
   vector_view (v.EnclosedCharacter at x) = u.Vector.enclosed_character x
   vector_view (v.Literal at xs) = u.Vector.literal xs.items
   vector_view (v.Not' at b x) = u.Vector.inverse (vector_view x)
-  vector_view (v.Chain' b first shape rest) = links_view (vector_view first) rest
+  vector_view (v.Chain' b first x shape rest) = links_view (linked (vector_view first) x) rest
   vector_view (v.IntegerWith' op at s b x) = u.integer_with op (static_view s) (vector_view x)
   vector_view (v.Encoded at s t) = u.Vector.encoded (static_view s) (static_view t)
   vector_view (v.Resized' at b x s) = u.Vector.resized (vector_view x) (static_view s)
@@ -51,6 +52,9 @@ abbrev mutual
   pub linked : u.Vector → VectorLink → u.Vector
   linked left (l.Vector op at x) = u.Vector.binary op left (vector_view x)
   linked left (l.Integer op at s) = u.with_integer op left (static_view s)
+
+abbrev pub start_view : VectorStart → u.Vector
+start_view s = linked (vector_view s.first) s.link
 
 abbrev pub vector_chained : u.Vector → List VectorLink → u.Vector
 vector_chained left [] = left

@@ -14,7 +14,7 @@ use Rattle.vhdl_names.specs.Choices.{choices, covered, selector, arranged}
 use Rattle.vhdl_names.specs.Statements.{SignalName, target}
 use Rattle.vhdl_names.specs.Concurrent as rules
 use Rattle.vhdl_names.specs.Concurrent.{assigning}
-use Rattle.vhdl_types.specs.Asked.{selected_by}
+use Rattle.vhdl_units.specs.Asked.{selected_by}
 use Rattle.vhdl_units.specs.views.Sequential.{Guarded, guarded_by, Chosen, chosen_by, statements_of, branches_of, last_of}
 use Rattle.vhdl_units.specs.steps.Cases.{Divided, all_choices, cover, but_last}
 use Rattle.vhdl_units.specs.steps.Sequential.{assigned}
@@ -89,7 +89,7 @@ module _ (sight : Sight) (n : t.Name) (x : SignalName) (found : target sight n �
       let m = option_map rules.alone (rules.assigned sight x w.value) in
       let P : Option Chosen → Type 0 = λ o. Pairs (c >>= λ y. f >>= λ ys. Some (y ∷ ys)) (m >>= λ y. g >>= λ ys. Some (y ∷ ys)) (o >>= λ y. h >>= λ ys. Some (y ∷ ys)) in
       subst P (sym (swapped l c (λ xs cs. chosen_by cs xs)))
-          (one_pair c l m (ap (option_map rules.alone) (assigned_by w.value) ∙ go (assigned sight n w.value)) f g h (pairs type ws))
+      (one_pair c l m (ap (option_map rules.alone) (assigned_by w.value) ∙ go (assigned sight n w.value)) f g h (pairs type ws))
     where
       go : (o : Option s.Statement) → option_map rules.alone o ≡ option_map statements_of (o >>= λ y. Some (y ∷ []))
       go None = refl
@@ -146,13 +146,13 @@ selected_gives sight label a =
 
     go : (by : ObjectType × Value) (o : Option SignalName) → target sight a.target ≡ o
         → (o >>= λ x. covered sight by.0 (steps.choice_lists a.waveforms)
-            >>= λ cs. each (λ (w : t.Waveform). option_map rules.alone (rules.assigned sight x w.value)) a.waveforms
-            >>= λ bodies. arranged cs bodies >>= λ all. Some (assigning label (s.select by.1 all)))
+        >>= λ cs. each (λ (w : t.Waveform). option_map rules.alone (rules.assigned sight x w.value)) a.waveforms
+        >>= λ bodies. arranged cs bodies >>= λ all. Some (assigning label (s.select by.1 all)))
         ≡ (o >>= λ _. each (steps.chosen sight by.0 a.target) a.waveforms
-            >>= λ all. cover by.0 (steps.choice_lists a.waveforms) (all_choices all) >>= λ _. but_last all >>= λ d. Some (assigning label (s.select by.1 (put_together d))))
+        >>= λ all. cover by.0 (steps.choice_lists a.waveforms) (all_choices all) >>= λ _. but_last all >>= λ d. Some (assigning label (s.select by.1 (put_together d))))
     go by None e = refl
     go by (Some x) e =
         outer_rules (covered sight by.0 (steps.choice_lists a.waveforms)) (each (λ (w : t.Waveform). option_map rules.alone (rules.assigned sight x w.value)) a.waveforms) by.1
         ∙ ap (option_map (assigning label))
-            (same sight by.0 by.1 true (steps.choice_lists a.waveforms) _ _ _ (pairs sight a.target x e by.0 a.waveforms))
+        (same sight by.0 by.1 true (steps.choice_lists a.waveforms) _ _ _ (pairs sight a.target x e by.0 a.waveforms))
         ∙ outer_steps (each (steps.chosen sight by.0 a.target) a.waveforms) by

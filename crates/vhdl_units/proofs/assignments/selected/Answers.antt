@@ -8,5 +8,5 @@ use Rattle.vhdl_units.proofs.assignments.selected.Goals as goal
 pub returns : goal.returns
 returns g c =
     gives_along one_process _ _ _
-        (selected_gives (sight_view c.args.sight.now) (tree.option_ident_view c.args.label.now) (tree.selected_assignment_view c.args.assignment.now))
-        c.selected_in_turn.ensures
+    (selected_gives (sight_view c.args.sight.now) (tree.option_ident_view c.args.label.now) (tree.selected_assignment_view c.args.assignment.now))
+    c.selected_in_turn.ensures

@@ -9,4 +9,4 @@ use Rattle.vhdl_units.proofs.statements.analysed.Goals as goal
 pub returns-clause-given : goal.returns-clause-given
 returns-clause-given g c =
     gives_more statements_view statements_of _ _ _
-        (statements_each (sight_view c.args.sight.now) (map tree.sequential_view c.args.list.now)) c.statements.ensures.given
+    (statements_each (sight_view c.args.sight.now) (map tree.sequential_view c.args.list.now)) c.statements.ensures.given

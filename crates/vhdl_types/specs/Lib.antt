@@ -1,0 +1,4 @@
+pub mod Chosen
+pub mod Sights
+pub mod Steps
+pub mod Views

@@ -1,0 +1,133 @@
+-- What contracts see of declarations, types and answers.
+use Rattle.std.specs.Prelude.{ℕ, List, ◌++◌, map, reverse, Option, option_map, Vec}
+use Rattle.std.specs.Global.{Global}
+use Rattle.indexmap.specs.IndexMap.{IndexMap}
+use Rattle.vhdl_names.specs.Visibility as v
+use Rattle.vhdl_names.specs.Visibility.{declare}
+use Rattle.vhdl_names.specs.Operators as o
+use Rattle.vhdl_names.specs.Names as n
+use Rattle.vhdl_names.specs.views.Integers.{static_view, range_view}
+use Rattle.vhdl_names.specs.views.Vectors.{vector_view, value_view, place_view, part_view}
+use Rattle.vhdl_names.specs.views.Tests.{test_view}
+use Rattle.std.specs.Borrow.{Bor}
+use Rattle.vhdl_names.specs.declared.kind.ObjectType.{ObjectType}
+use Rattle.vhdl_names.specs.declared.vector.Value.{Value}
+use Rattle.vhdl_names.specs.units.Expressions as e
+use Rattle.vhdl_names.specs.units.Statements as st
+use Rattle.vhdl_names.specs.units.Units as u
+use Rattle.vhdl_names.specs.Statements as q
+use Rattle.vhdl_names.specs.Subtypes as p
+use Rattle.vhdl_types.specs.declared.answers.Given.{Given}
+use Rattle.vhdl_types.specs.declared.answers.Given.TheVariants as g
+use Rattle.vhdl_types.specs.declared.answers.Choice.{Choice}
+use Rattle.vhdl_types.specs.declared.answers.Choice.TheVariants as c
+use Rattle.vhdl_types.specs.declared.answers.SignalName.{SignalName}
+use Rattle.vhdl_types.specs.declared.answers.VariableName.{VariableName}
+use Rattle.vhdl_types.specs.declared.answers.Form.{Form}
+use Rattle.vhdl_types.specs.declared.answers.Form.TheVariants as f
+use Rattle.vhdl_types.specs.declared.answers.Fixed.{Fixed}
+use Rattle.vhdl_types.specs.declared.answers.Fixed.TheVariants as x
+use Rattle.vhdl_types.specs.declared.answers.Subtype.{Subtype}
+use Rattle.vhdl_types.specs.declared.meaning.Meaning.{Meaning}
+use Rattle.vhdl_types.specs.declared.meaning.Meaning.TheVariants as m
+use Rattle.vhdl_types.specs.declared.meaning.Declared.{Declared}
+use Rattle.vhdl_types.specs.declared.sight.Sight.{Sight}
+use Rattle.vhdl_types.specs.declared.types.Typed.{Typed}
+use Rattle.vhdl_types.specs.declared.types.Typed.TheVariants as t
+use Rattle.vhdl_types.specs.declared.types.TypedSuffix.{TypedSuffix}
+use Rattle.vhdl_types.specs.declared.types.TypedSuffix.TheVariants as s
+
+-- ---- declarations
+
+abbrev pub meaning_view : Meaning → v.Meaning
+meaning_view (m.Generic k) = v.generic k
+meaning_view (m.IntegerConstant k) = v.integer_constant k
+meaning_view (m.GenerateParameter k) = v.generate_parameter k
+meaning_view (m.LoopParameter k) = v.loop_parameter k
+meaning_view (m.Port k mode kind) = v.port k mode kind
+meaning_view (m.Signal k type) = v.signal k type
+meaning_view (m.Variable k type) = v.variable k type
+meaning_view (m.Constant k kind values) = v.constant k kind (option_map (λ vs. vs.items) values)
+meaning_view (m.Literal number count position) = v.literal number count position
+meaning_view (m.IntegerType w) = v.integer_type w
+meaning_view (m.ElementType r) = v.element_type r
+meaning_view (m.VectorType kind r) = v.vector_type kind r
+meaning_view (m.EnumerationType number count) = v.enumeration_type number count
+meaning_view (m.Function f) = v.function f
+meaning_view (m.Component k) = v.component k
+meaning_view m.Label = v.label
+meaning_view m.Unfinished = v.unfinished
+
+abbrev pub declared_view : Declared → v.Declared
+declared_view d = declare d.name.items (meaning_view d.meaning)
+
+abbrev pub entry_view : Vec ℕ Global × Meaning → v.Declared
+entry_view e = declare e.0.items (meaning_view e.1)
+
+abbrev pub region_view : {S : Type 0} → IndexMap (Vec ℕ Global) Meaning S → List v.Declared
+region_view r = map entry_view r.entries
+
+abbrev pub sight_view : Sight → v.Sight
+sight_view s = record {
+  loops = reverse (map declared_view s.loops.items);
+  variables = region_view s.variables;
+  generates = reverse (map declared_view s.generates.items);
+  region = region_view s.region;
+  outside = region_view s.enclosing ++ region_view s.packages;
+  numbers = s.has_numbers;
+}
+
+-- ---- expressions
+
+abbrev pub typed_view : Typed → o.Typed
+typed_view (t.Integer s) = o.integer (static_view s)
+typed_view (t.Elements kind x) = o.elements kind (vector_view x)
+typed_view (t.Enumerated number count x) = o.enumerated number count (value_view x)
+typed_view (t.Truth x) = o.truth (test_view x)
+
+abbrev pub typed_suffix_view : TypedSuffix → n.Suffix
+typed_suffix_view s.Plain = n.plain
+typed_suffix_view (s.Arguments b xs) = n.arguments b (map typed_view xs.items)
+typed_suffix_view (s.Range r) = n.range (range_view r)
+
+-- what is lent of a declaration
+abbrev pub seen_view : Bor Meaning → v.Meaning
+seen_view m = meaning_view m.now
+
+-- ---- names, values, choices and subtype indications
+
+abbrev pub given_view : Given → st.Given
+given_view (g.Single x) = st.single (value_view x)
+given_view (g.Filled x) = st.filled (vector_view x)
+
+abbrev pub choice_view : Choice → st.Choice
+choice_view (c.Values vs) = st.values vs.items
+choice_view (c.Position p) = st.Choice.position p
+
+abbrev pub choices_view : Vec Choice Global → List st.Choice
+choices_view v = map choice_view v.items
+
+abbrev pub signal_name_view : SignalName → q.SignalName
+signal_name_view x = record { place = place_view x.place; mode = x.mode; type = x.object_type }
+
+abbrev pub variable_name_view : VariableName → q.VariableName
+variable_name_view x = record { number = x.number; part = part_view x.part; type = x.object_type }
+
+abbrev pub form_view : Form → u.Form
+form_view f.Element = u.element
+form_view (f.Vector r) = u.vector (range_view r)
+form_view (f.Enumeration k) = u.enumeration k
+
+abbrev pub fixed_view : Fixed → u.Fixed
+fixed_view (x.Literal vs) = u.Fixed.literal vs.items
+fixed_view (x.Position p) = u.Fixed.position p
+fixed_view (x.Constant k) = u.Fixed.constant k
+fixed_view (x.Encoded n size) = u.Fixed.encoded (static_view n) (static_view size)
+fixed_view (x.Filled y) = u.Fixed.filled y
+
+abbrev pub subtype_view : Subtype → p.Subtype
+subtype_view x = record { type = x.object_type; form = form_view x.form; is_resolved = x.is_resolved }
+
+-- the type and value of a selector
+abbrev pub selector_view : ObjectType × Value → ObjectType × e.Value
+selector_view x = (x.0, value_view x.1)

@@ -1,0 +1,281 @@
+//! Operators on typed operands (IEEE 1076-2008, 9.2; numeric_std for unsigned, 16.8). Each takes the
+//! memory of a list or a box.
+
+ghost use Rattle.std.specs.Prelude.{◌≡◌, ◌&&◌, true, false, IfOk, OnErr};
+ghost use Rattle.vhdl_names.specs.Gives.{Gives};
+ghost use Rattle.vhdl_names.specs.Operators as table;
+ghost use Rattle.vhdl_names.specs.views.Integers.{static_view};
+ghost use Rattle.vhdl_names.specs.views.Vectors.{value_view};
+ghost use Rattle.vhdl_types.specs.Steps.{same_by};
+ghost use Rattle.vhdl_types.specs.Views.{typed_view};
+
+use crate::types::Typed;
+use std::alloc::Global;
+use vhdl_names::{
+    Arithmetic, Kind, NameFault, NameProblem, Numeric, Static, StaticTest, Test, Value, Vector,
+    VectorLink, VectorOperator,
+};
+use vhdl_tree::Operator;
+use vhdl_values::{Cmp, Logic};
+
+/// and or nand nor xor xnor, at byte `at`.
+fn logical(
+    alloc: Global,
+    at: usize,
+    operator: Logic,
+    left: Typed,
+    right: Typed,
+) -> Result<Typed, NameFault>
+    ensures { Gives typed_view (table.logical operator (typed_view left) (typed_view right)) result }
+{
+    match (left, right) {
+        (Typed::Elements(j, x), Typed::Elements(k, y)) => match j.common(k) {
+            None => Err(NameProblem::TypeMismatch.at(at)),
+            Some(kind) => {
+                let link = VectorLink::Vector(VectorOperator::Logical(operator), at, y);
+                Ok(Typed::Elements(kind, x.with_link(alloc, link)?))
+            }
+        },
+        (Typed::Truth(x), Typed::Truth(y)) => Ok(Typed::Truth(x.both(alloc, operator, y)?)),
+        _ => Err(NameProblem::TypeMismatch.at(at)),
+    }
+}
+
+/// not, at byte `at`.
+pub fn inverse(alloc: Global, at: usize, operand: Typed) -> Result<Typed, NameFault>
+    ensures { Gives typed_view (table.inverse (typed_view operand)) result }
+{
+    match operand {
+        Typed::Elements(kind, x) => Ok(Typed::Elements(kind, Vector::inverse(alloc, at, x)?)),
+        Typed::Truth(x) => Ok(Typed::Truth(x.negated(alloc)?)),
+        Typed::Integer(_) => Err(NameProblem::TypeMismatch.at(at)),
+        Typed::Enumerated { .. } => Err(NameProblem::TypeMismatch.at(at)),
+    }
+}
+
+/// &, at byte `at`.
+fn concatenated(alloc: Global, at: usize, left: Typed, right: Typed) -> Result<Typed, NameFault>
+    ensures { Gives typed_view (table.concatenated (typed_view left) (typed_view right)) result }
+{
+    match (left, right) {
+        (Typed::Elements(j, x), Typed::Elements(k, y)) => match j.joined(k) {
+            None => Err(NameProblem::TypeMismatch.at(at)),
+            Some(kind) => {
+                let link = VectorLink::Vector(VectorOperator::Concatenate, at, y);
+                Ok(Typed::Elements(kind, x.with_link(alloc, link)?))
+            }
+        },
+        _ => Err(NameProblem::TypeMismatch.at(at)),
+    }
+}
+
+/// / mod rem, at byte `at`.
+fn integral(
+    alloc: Global,
+    at: usize,
+    operator: Arithmetic,
+    left: Typed,
+    right: Typed,
+) -> Result<Typed, NameFault>
+    ensures { Gives typed_view (table.integral operator (typed_view left) (typed_view right)) result }
+{
+    match (left, right) {
+        (Typed::Integer(x), Typed::Integer(y)) => {
+            Ok(Typed::Integer(x.binary(alloc, operator, at, y)?))
+        }
+        _ => Err(NameProblem::TypeMismatch.at(at)),
+    }
+}
+
+/// What an operator of numeric_std asks for: operands that it takes for numbers, else there is this
+/// problem, and its use clause.
+fn numeric(
+    numbers: bool,
+    are_numbers: bool,
+    problem: NameProblem,
+    at: usize,
+) -> Result<(), NameFault>
+    ensures visible { IfOk result (λ _. numbers ≡ true) }
+    ensures fitting { IfOk result (λ _. are_numbers ≡ true) }
+    ensures refused { OnErr result ((numbers && are_numbers) ≡ false) }
+{
+    if !are_numbers {
+        return Err(problem.at(at));
+    }
+    if !numbers {
+        return Err(NameProblem::NotVisible.at(at));
+    }
+    Ok(())
+}
+
+/// + - *, at byte `at`, on integers and on numbers.
+fn arithmetic(
+    alloc: Global,
+    numbers: bool,
+    at: usize,
+    operator: Arithmetic,
+    by: Numeric,
+    left: Typed,
+    right: Typed,
+) -> Result<Typed, NameFault>
+    ensures { Gives typed_view (table.arithmetic numbers operator by (typed_view left) (typed_view right)) result }
+{
+    let problem = NameProblem::TypeMismatch;
+    match (left, right) {
+        (Typed::Integer(s), Typed::Integer(t)) => {
+            Ok(Typed::Integer(s.binary(alloc, operator, at, t)?))
+        }
+        (Typed::Elements(j, x), Typed::Elements(k, y)) => {
+            numeric(numbers, j.is_number() && k.is_number(), problem, at)?;
+            let link = VectorLink::Vector(VectorOperator::Arithmetic(by), at, y);
+            Ok(Typed::Elements(Kind::Unsigned, x.with_link(alloc, link)?))
+        }
+        (Typed::Elements(j, x), Typed::Integer(t)) => {
+            numeric(numbers, j.is_number(), problem, at)?;
+            let link = VectorLink::Integer(by, at, t);
+            Ok(Typed::Elements(Kind::Unsigned, x.with_link(alloc, link)?))
+        }
+        (Typed::Integer(s), Typed::Elements(k, y)) => {
+            numeric(numbers, k.is_number(), problem, at)?;
+            Ok(Typed::Elements(Kind::Unsigned, Vector::integer_with(alloc, by, at, s, y)?))
+        }
+        _ => Err(problem.at(at)),
+    }
+}
+
+/// A relation of two static integers.
+fn integers_compared(comparison: Cmp, at: usize, left: Static, right: Static) -> Typed
+    ensures { typed_view result ≡ table.integers_compared comparison (static_view left) (static_view right) }
+{
+    Typed::Truth(Test::Fixed(StaticTest::Compared(comparison, at, left, right)))
+}
+
+/// = or /= of two values, by equality.
+fn same(comparison: Cmp, at: usize, left: Value, right: Value) -> Typed
+    ensures { typed_view result ≡ table.truth (same_by comparison (value_view left) (value_view right)) }
+{
+    match comparison {
+        Cmp::Ne => Typed::Truth(Test::Unlike(at, left, right)),
+        _ => Typed::Truth(Test::Alike(at, left, right)),
+    }
+}
+
+/// = and /=, at byte `at`.
+fn equality(at: usize, comparison: Cmp, left: Typed, right: Typed) -> Result<Typed, NameFault>
+    ensures { Gives typed_view (table.equality comparison (same_by comparison) (typed_view left) (typed_view right)) result }
+{
+    match (left, right) {
+        (Typed::Integer(s), Typed::Integer(t)) => Ok(integers_compared(comparison, at, s, t)),
+        (Typed::Elements(j, x), Typed::Elements(k, y)) => match j.common(k) {
+            None => Err(NameProblem::TypeMismatch.at(at)),
+            Some(Kind::Unsigned) => Ok(Typed::Truth(Test::Compared(comparison, at, x, y))),
+            Some(_) => Ok(same(comparison, at, Value::Elements(x), Value::Elements(y))),
+        },
+        (Typed::Elements(Kind::Unsigned, x), Typed::Integer(t)) => {
+            Ok(Typed::Truth(Test::ComparedTo(comparison, at, x, t)))
+        }
+        (Typed::Integer(s), Typed::Elements(Kind::Unsigned, y)) => {
+            Ok(Typed::Truth(Test::ComparedWith(comparison, at, s, y)))
+        }
+        (
+            Typed::Enumerated { number, value, .. },
+            Typed::Enumerated {
+                number: other,
+                value: beside,
+                ..
+            },
+        ) if number == other => Ok(same(comparison, at, value, beside)),
+        _ => Err(NameProblem::TypeMismatch.at(at)),
+    }
+}
+
+/// Whether ordering it is left out: an element, a std_logic_vector and an enumeration.
+fn is_left_out(operand: &Typed) -> bool {
+    match operand {
+        Typed::Elements(kind, _) => !kind.is_number(),
+        Typed::Enumerated { .. } => true,
+        _ => false,
+    }
+}
+
+/// < <= > >=, at byte `at`.
+fn ordering(
+    numbers: bool,
+    at: usize,
+    comparison: Cmp,
+    left: Typed,
+    right: Typed,
+) -> Result<Typed, NameFault>
+    ensures { Gives typed_view (table.ordering numbers comparison (typed_view left) (typed_view right)) result }
+{
+    let problem = if is_left_out(&left) || is_left_out(&right) {
+        NameProblem::LeftOut
+    } else {
+        NameProblem::TypeMismatch
+    };
+    match (left, right) {
+        (Typed::Integer(s), Typed::Integer(t)) => Ok(integers_compared(comparison, at, s, t)),
+        (Typed::Elements(j, x), Typed::Elements(k, y)) => {
+            numeric(numbers, j.is_number() && k.is_number(), problem, at)?;
+            Ok(Typed::Truth(Test::Compared(comparison, at, x, y)))
+        }
+        (Typed::Elements(j, x), Typed::Integer(t)) => {
+            numeric(numbers, j.is_number(), problem, at)?;
+            Ok(Typed::Truth(Test::ComparedTo(comparison, at, x, t)))
+        }
+        (Typed::Integer(s), Typed::Elements(k, y)) => {
+            numeric(numbers, k.is_number(), problem, at)?;
+            Ok(Typed::Truth(Test::ComparedWith(comparison, at, s, y)))
+        }
+        _ => Err(problem.at(at)),
+    }
+}
+
+/// A binary operator, at byte `at`, on typed operands; `numbers` says whether the operators of
+/// numeric_std are in sight.
+pub fn operated(
+    alloc: Global,
+    numbers: bool,
+    operator: Operator,
+    at: usize,
+    left: Typed,
+    right: Typed,
+) -> Result<Typed, NameFault>
+    ensures { Gives typed_view (table.operated numbers operator (typed_view left) (typed_view right)) result }
+{
+    match operator {
+        Operator::And => logical(alloc, at, Logic::And, left, right),
+        Operator::Or => logical(alloc, at, Logic::Or, left, right),
+        Operator::Xor => logical(alloc, at, Logic::Xor, left, right),
+        Operator::Xnor => logical(alloc, at, Logic::Xnor, left, right),
+        Operator::Nand => logical(alloc, at, Logic::Nand, left, right),
+        Operator::Nor => logical(alloc, at, Logic::Nor, left, right),
+        Operator::Equal => equality(at, Cmp::Eq, left, right),
+        Operator::NotEqual => equality(at, Cmp::Ne, left, right),
+        Operator::Less => ordering(numbers, at, Cmp::Lt, left, right),
+        Operator::LessEqual => ordering(numbers, at, Cmp::Le, left, right),
+        Operator::Greater => ordering(numbers, at, Cmp::Gt, left, right),
+        Operator::GreaterEqual => ordering(numbers, at, Cmp::Ge, left, right),
+        Operator::Add => arithmetic(
+            alloc,
+            numbers,
+            at,
+            Arithmetic::Add,
+            Numeric::Add,
+            left,
+            right,
+        ),
+        Operator::Subtract => {
+            let by = Numeric::Subtract;
+            arithmetic(alloc, numbers, at, Arithmetic::Subtract, by, left, right)
+        }
+        Operator::Concatenate => concatenated(alloc, at, left, right),
+        Operator::Multiply => {
+            let by = Numeric::Multiply;
+            arithmetic(alloc, numbers, at, Arithmetic::Multiply, by, left, right)
+        }
+        Operator::Divide => integral(alloc, at, Arithmetic::Divide, left, right),
+        Operator::Modulo => integral(alloc, at, Arithmetic::Modulo, left, right),
+        Operator::Remainder => integral(alloc, at, Arithmetic::Remainder, left, right),
+    }
+}
