@@ -18,7 +18,7 @@ use indexmap::IndexSet;
 use std::alloc::{AllocError, Global};
 use vhdl_names::{NameFault, NameProblem, ObjectType};
 use vhdl_tree as syntax;
-use vhdl_types::{Choice, start};
+use vhdl_types::Choice;
 
 /// What tells choices apart: the places of their values among the nine, or 9 and a position.
 type Keys = IndexSet<Vec<usize>>;
@@ -45,6 +45,21 @@ fn add_choice(alloc: Global, keys: &mut Keys, choice: &Choice, at: usize) -> Res
         Ok(())
     } else {
         Err(NameProblem::ChoiceTwice.at(at))
+    }
+}
+
+/// The byte at which an expression starts.
+fn start(e: &syntax::Expr) -> usize {
+    match e {
+        syntax::Expr::Integer(literal)
+        | syntax::Expr::StringLiteral(literal)
+        | syntax::Expr::BitString(literal) => literal.at,
+        syntax::Expr::Character { at, .. }
+        | syntax::Expr::Parens { at, .. }
+        | syntax::Expr::Not { at, .. }
+        | syntax::Expr::Signed { at, .. } => *at,
+        syntax::Expr::Name(name) => name.identifier.at,
+        syntax::Expr::Chain(chain) => start(&chain.first),
     }
 }
 

@@ -8,7 +8,7 @@ ghost use Rattle.vhdl_names.specs.Statements as statements;
 ghost use Rattle.vhdl_names.specs.views.Integers.{range_view};
 ghost use Rattle.vhdl_names.specs.views.Tests.{test_view};
 ghost use Rattle.vhdl_tree.specs.View as tree;
-ghost use Rattle.vhdl_types.specs.Asked as asked;
+ghost use Rattle.vhdl_units.specs.Asked as asked;
 ghost use Rattle.vhdl_types.specs.Views.{sight_view, given_view, choices_view, signal_name_view, variable_name_view, selector_view};
 
 use std::alloc::Global;

@@ -20,7 +20,7 @@ use Rattle.vhdl_names.specs.Operators.{Typed}
 use Rattle.vhdl_names.specs.Expressions.{typed}
 use Rattle.vhdl_names.specs.Choices.{choices, covered, selector, arranged, only_last_others, is_last_others, is_others, are_distinct_choices, names_all, same_choice}
 use Rattle.vhdl_names.specs.Statements.{statement, statements, alternatives, choice_lists}
-use Rattle.vhdl_types.specs.Asked.{selected_by}
+use Rattle.vhdl_units.specs.Asked.{selected_by}
 use Rattle.vhdl_units.specs.views.Sequential.{Chosen, chosen_by, statements_of, alternatives_of}
 use Rattle.vhdl_units.specs.steps.Lists.{in_turn}
 use Rattle.vhdl_units.specs.steps.Once.{one_name, key_of}

@@ -12,7 +12,7 @@ use Rattle.vhdl_names.specs.units.Statements as s
 use Rattle.vhdl_names.specs.Rules.{◌>>=◌, ◌>>◌, rule, each}
 use Rattle.vhdl_names.specs.Visibility.{Name, Sight, label_ends, is_among, are_distinct}
 use Rattle.vhdl_names.specs.Choices.{choices, only_last_others, is_last_others, names_all}
-use Rattle.vhdl_types.specs.Asked.{selected_by}
+use Rattle.vhdl_units.specs.Asked.{selected_by}
 use Rattle.vhdl_units.specs.views.Sequential.{Chosen, chosen_by, statements_of, alternatives_of}
 use Rattle.vhdl_units.specs.steps.Lists.{in_turn}
 use Rattle.vhdl_units.specs.steps.Once.{one_name, key_of}

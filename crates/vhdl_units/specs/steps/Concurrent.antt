@@ -11,7 +11,7 @@ use Rattle.vhdl_names.specs.Expressions.{condition}
 use Rattle.vhdl_names.specs.Choices.{choices}
 use Rattle.vhdl_names.specs.Statements.{target}
 use Rattle.vhdl_names.specs.Concurrent.{assigning}
-use Rattle.vhdl_types.specs.Asked.{selected_by}
+use Rattle.vhdl_units.specs.Asked.{selected_by}
 use Rattle.vhdl_units.specs.views.Sequential.{Guarded, guarded_by, Chosen, chosen_by, statements_of, branches_of, last_of, alternatives_of}
 use Rattle.vhdl_units.specs.steps.Cases.{all_choices, cover, but_last}
 use Rattle.vhdl_units.specs.steps.Sequential.{assigned}
