@@ -1,4 +1,5 @@
--- What elaboration computes, or why it refuses.
+-- What elaboration computes, or why it refuses. Where several rules are broken, no contract says which of their problems
+-- is told.
 use Rattle.std.specs.Prelude.{Bool, if◌then◌else◌, List, [], ◌∷◌, Option, Some, None, Result, Ok, Err}
 use Rattle.vhdl_expand.specs.declared.fault.ElabProblem.{ElabProblem}
 
