@@ -1,15 +1,15 @@
 -- The processes with an active driver.
-use Rattle.std.proofs.Common.{◌≡◌, ℕ, zero, suc, ◌<◌, ◌≤◌, Bool, true, false, not, ◌==◌, List, [], ◌∷◌, length, get_or, set, map, Option, Some, None, refl, sym, ap, subst, ◌∙◌, arith, ◌⊎◌, inl, inr, IsSome, Contains}
+use Rattle.std.proofs.Common.{◌≡◌, ℕ, suc, ◌<◌, ◌≤◌, false, not, ◌==◌, List, [], ◌∷◌, length, get_or, set, map, Option, Some, None, refl, sym, ap, ◌∙◌, arith, ◌⊎◌, inl, inr, IsSome, Contains}
 use Rattle.std.specs.List.{list_any}
 use Rattle.std.specs.Option.{is_some}
 use Rattle.std.proofs.lemmas.Bool.{cases_eq, cases_lt, ne_eqb}
-use Rattle.std.proofs.lemmas.List.{get_or-set_same, get_or-set_other, get_or_past, length-set, length-map, map-set}
+use Rattle.std.proofs.lemmas.List.{get_or-set_same, get_or-set_other, get_or_past, length-map, map-set}
 use Rattle.std.proofs.lemmas.List.Elements.{Contains-get_or}
 use Rattle.rtl_eval.specs.Runs.{Outcome}
 use Rattle.rtl_eval.specs.Tracked.{AreAssigned}
-use Rattle.rtl_model.proofs.basics.Lists.{all_none, any_true, Contains-none, get_or-map_within}
+use Rattle.rtl_model.proofs.basics.Lists.{all_none, any_true, Contains-none}
 use Rattle.rtl_kernel.specs.worklists.Numbers.{Numbers, IsWith}
-use Rattle.rtl_model.specs.simulation.Cycle.{driven_all, none_pending}
+use Rattle.rtl_model.specs.simulation.Cycle.{driven_all}
 use Rattle.rtl_model.proofs.simulation.Rows.{driven_all_at, get_or-map, length-driven, none_pending_at}
 use Rattle.rtl_kernel.specs.drivers.Transactions.{IsActive, pending_of, transaction_at, without_entries}
 use Rattle.rtl_kernel.proofs.Updating.{pending_without}

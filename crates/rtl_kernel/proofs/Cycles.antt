@@ -1,13 +1,13 @@
 -- The parts of a cycle, as they are computed, are those of rtl_model.
-use Rattle.std.proofs.Common.{◌≡◌, ℕ, ◌<◌, Bool, true, false, List, [], length, get_or, map, Option, Some, None, refl, sym, ap, ◌∙◌, arith, ◌⊎◌, inl, inr, IsSome, Contains}
+use Rattle.std.proofs.Common.{◌≡◌, ℕ, ◌<◌, Bool, true, false, List, [], length, get_or, map, sym, ◌∙◌, arith, ◌⊎◌, inl, inr, IsSome, Contains}
 use Rattle.std.specs.List.{list_any}
 use Rattle.std.proofs.lemmas.Bool.{cases_Bool}
 use Rattle.std.proofs.lemmas.List.{ext_get_or, length-map}
 use Rattle.std.proofs.lemmas.List.FromFn.{length-map-range_with_len}
 use Rattle.rtl_eval.proofs.Assigned.{none_left}
 use Rattle.rtl_model.specs.basics.Valuations.{has_event}
-use Rattle.rtl_model.specs.simulation.Net.{Net, Source, Driver, Process, no_process, process, sources_of, target}
-use Rattle.rtl_model.specs.simulation.Cycle.{State, driven_all, net_value, net_values, resumed, updated}
+use Rattle.rtl_model.specs.simulation.Net.{Net, Process, no_process, process, sources_of, target}
+use Rattle.rtl_model.specs.simulation.Cycle.{State, driven_all, net_value, resumed, updated}
 use Rattle.rtl_model.specs.simulation.Elaborated.{IsWired}
 use Rattle.rtl_model.specs.simulation.Laws.{IsConsistent}
 use Rattle.rtl_model.proofs.basics.Lists.{any_at, any_true}

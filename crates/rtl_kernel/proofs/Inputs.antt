@@ -1,10 +1,8 @@
 -- New values of in ports are in range.
-use Rattle.std.proofs.Common.{◌≡◌, ℕ, zero, suc, ◌+◌, ◌<◌, ◌≤◌, List, [], ◌∷◌, length, get_or, map, refl, sym, ap, subst, ◌∙◌, arith, Contains, All}
-use Rattle.std.proofs.lemmas.List.{length-map}
-use Rattle.std.proofs.lemmas.List.Elements.{All-contains, All-map, Contains-get_or}
+use Rattle.std.proofs.Common.{ℕ, ◌<◌, List, length, Contains, All}
+use Rattle.std.proofs.lemmas.List.Elements.{All-contains, All-map}
 use Rattle.std.proofs.lemmas.Option.{slice_get_within}
 use Rattle.vhdl_values.specs.declared.scalar.Nine.{Nine}
-use Rattle.vhdl_values.specs.Scalar.{code_of}
 use Rattle.vhdl_values.proofs.Codes.{code_of_below}
 use Rattle.rtl_model.specs.bodies.Types.{HasType, nine_valued}
 use Rattle.rtl_model.specs.nets.FlatNet.{FlatNet, IsInRange}
@@ -18,7 +16,7 @@ use Rattle.rtl_kernel.specs.kernel.Simulation.{change_of, changes_of}
 use Rattle.rtl_kernel.proofs.Changing.{changed_below}
 
 module _ (net : FlatNet) (R : IsInRange net) where
-  input_has : (n : ℕ) → Contains net.inputs n → HasType net.types nine_valued n
+  pub input_has : (n : ℕ) → Contains net.inputs n → HasType net.types nine_valued n
   input_has n h = All-contains (HasType net.types nine_valued) net.inputs n R.inputs h
 
   pub inputs_there : (cs : List (ℕ × Nine)) → All (λ (c : ℕ × Nine). Contains net.inputs c.0) cs → All (λ (c : ℕ × Nine). c.0 < length net.types) cs

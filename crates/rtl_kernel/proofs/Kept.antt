@@ -1,16 +1,14 @@
 -- What a kernel's parts ask, and that its steps keep what holds of every kernel.
-use Rattle.std.proofs.Common.{◌≡◌, ℕ, zero, suc, ◌+◌, ◌<◌, ◌≤◌, Bool, true, false, List, [], ◌∷◌, length, get_or, set, map, refl, sym, ap, subst, ◌∙◌, arith, IsSome, Contains, All, IsTrue}
-use Rattle.std.proofs.lemmas.List.{length-map, length-set}
+use Rattle.std.proofs.Common.{◌≡◌, ℕ, ◌<◌, ◌≤◌, Bool, true, false, List, [], length, get_or, set, map, sym, ap, subst, ◌∙◌, Contains, All}
+use Rattle.std.proofs.lemmas.List.{length-map}
 use Rattle.rtl_model.specs.bodies.Types.{ElementType, KeepsTypes}
-use Rattle.rtl_model.specs.nets.FlatNet.{FlatNet, FlatProcess, process_at, flat_sources}
+use Rattle.rtl_model.specs.nets.FlatNet.{FlatProcess, process_at, flat_sources}
 use Rattle.rtl_model.specs.nets.CoreNet.{core_net, part_effect}
-use Rattle.rtl_model.specs.simulation.Net.{Source, target}
+use Rattle.rtl_model.specs.simulation.Net.{Source}
 use Rattle.rtl_model.specs.simulation.Cycle.{State, changed, driven_all, given, is_quiet, ran, resumed, updated}
-use Rattle.rtl_model.specs.simulation.Moments.{HasNoneToRun}
 use Rattle.rtl_model.proofs.simulation.Order.{waits_in}
-use Rattle.rtl_model.proofs.simulation.Rows.{transaction}
 use Rattle.vhdl_values.specs.declared.scalar.Nine.{Nine}
-use Rattle.rtl_eval.specs.Runs.{Outcome, IsOf}
+use Rattle.rtl_eval.specs.Runs.{IsOf}
 use Rattle.rtl_net.specs.Nets.{NetView, flat}
 use Rattle.rtl_kernel.specs.drivers.Resolved.{AreResolved}
 use Rattle.rtl_kernel.specs.drivers.Rows.{IsThere}

@@ -15,3 +15,4 @@ pub mod Wiring
 pub mod Inputs
 pub mod Settling
 pub mod Kept
+pub mod Started

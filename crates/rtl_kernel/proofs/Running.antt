@@ -1,13 +1,12 @@
 -- The steps of a kernel are those of rtl_model.
-use Rattle.std.proofs.Common.{◌≡◌, ℕ, zero, suc, ◌+◌, ◌<◌, ◌≤◌, Bool, true, false, List, [], ◌∷◌, length, get_or, set, map, replicate, Option, Some, None, refl, sym, ap, subst, ◌∙◌, arith, ◌⊎◌, inl, inr, IsSome, Contains}
+use Rattle.std.proofs.Common.{◌≡◌, ℕ, zero, suc, ◌<◌, ◌≤◌, false, List, [], ◌∷◌, length, get_or, set, map, Option, None, refl, sym, ap, ◌∙◌, arith, ◌⊎◌, inl, inr}
 use Rattle.std.proofs.lemmas.Bool.{cases_eq}
 use Rattle.std.proofs.lemmas.List.{get_or-set_same, get_or-set_other, length-set, length-map, length-replicate, map-set}
 use Rattle.std.proofs.lemmas.List.FromFn.{length-map-range_with_len}
-use Rattle.rtl_model.specs.bodies.Types.{ElementType}
 use Rattle.rtl_model.specs.nets.FlatNet.{FlatNet, FlatProcess, process_at}
-use Rattle.rtl_model.specs.nets.CoreNet.{core_net, core_process, part_effect}
+use Rattle.rtl_model.specs.nets.CoreNet.{core_net, part_effect}
 use Rattle.rtl_model.specs.simulation.Net.{Process, process}
-use Rattle.rtl_model.specs.simulation.Cycle.{State, over, driven_all, none_pending, resumed, updated, given, with_inputs, ran}
+use Rattle.rtl_model.specs.simulation.Cycle.{State, over, driven_all, resumed, updated, given, with_inputs, ran}
 use Rattle.rtl_model.proofs.basics.Lists.{get_or-map_within}
 use Rattle.rtl_model.proofs.nets.Processes.{process-core_net}
 use Rattle.rtl_eval.specs.Runs.{Outcome, IsOf, Leaves}

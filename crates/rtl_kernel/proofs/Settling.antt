@@ -1,5 +1,5 @@
 -- Delta cycles, counted.
-use Rattle.std.proofs.Common.{add-one, ◌≡◌, ℕ, suc, ◌+◌, ◌≤◌, true, false, List, subst, IsTrue}
+use Rattle.std.proofs.Common.{add-one, ◌≡◌, ℕ, ◌+◌, true, false, List}
 use Rattle.rtl_model.specs.simulation.Net.{Net}
 use Rattle.rtl_model.specs.simulation.Cycle.{State, is_quiet}
 use Rattle.rtl_model.specs.simulation.Moments.{Delta, HasDeltas, HasNoneToRun, IsUnsettled, SettlesTo}

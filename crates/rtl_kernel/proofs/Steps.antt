@@ -1,16 +1,15 @@
 -- The steps of a simulation keep what a kernel relies on.
-use Rattle.std.proofs.Common.{◌≡◌, ℕ, zero, suc, ◌+◌, ◌<◌, ◌≤◌, Bool, true, false, List, [], ◌∷◌, length, get_or, set, map, Option, Some, None, refl, sym, ap, subst, ◌∙◌, arith, ◌⊎◌, inl, inr, IsSome, Contains, slice_index}
+use Rattle.std.proofs.Common.{◌≡◌, ℕ, zero, suc, ◌<◌, ◌≤◌, true, false, List, [], ◌∷◌, length, get_or, set, Option, Some, None, refl, sym, ap, subst, ◌∙◌, arith, ◌⊎◌, inl, inr, IsSome, Contains}
 use Rattle.std.specs.Option.{is_some}
 use Rattle.std.proofs.lemmas.Bool.{cases_eq, cases_lt}
 use Rattle.std.proofs.lemmas.List.{get_or-set_same, get_or-set_other, get_or_past, length-set, length-map}
-use Rattle.std.proofs.lemmas.List.FromFn.{length-map-range_with_len}
-use Rattle.std.proofs.lemmas.Option.{slice_get_within, get_or_from_slice_get}
-use Rattle.rtl_model.specs.bodies.Types.{KeepsTypes, HasType}
-use Rattle.rtl_model.specs.nets.FlatNet.{FlatNet, IsInRange, process_at, flat_sources}
+use Rattle.std.proofs.lemmas.Option.{slice_get_within}
+use Rattle.rtl_model.specs.bodies.Types.{KeepsTypes}
+use Rattle.rtl_model.specs.nets.FlatNet.{FlatNet, IsInRange, flat_sources}
 use Rattle.rtl_model.specs.nets.CoreNet.{core_net}
 use Rattle.rtl_model.specs.nets.Wiring.{IsConnected}
 use Rattle.rtl_model.specs.simulation.Net.{Source, Driver, Idle, process}
-use Rattle.rtl_model.specs.simulation.Cycle.{State, over, driven_all, none_pending, updated, given, ran, is_quiet, IsToRun}
+use Rattle.rtl_model.specs.simulation.Cycle.{State, over, driven_all, updated, given, ran, is_quiet}
 use Rattle.rtl_model.specs.simulation.Elaborated.{IsWired}
 use Rattle.rtl_model.specs.simulation.Laws.{StepsKeepRange, StaysConsistent}
 use Rattle.rtl_model.specs.simulation.Range.{IsValuation, AreInputs}
@@ -39,10 +38,10 @@ module _ (net : FlatNet) (in_range : IsInRange net) (connected : IsConnected net
   pub wired : IsWired (core_net net)
   wired = (connected_is_elaborated net in_range connected).wiring
 
-  keeps : StepsKeepRange (core_net net)
+  pub keeps : StepsKeepRange (core_net net)
   keeps = (states_in_range (core_net net) wired (keeps_range net in_range) (sources_keep_range net in_range connected)).0
 
-  stays : StaysConsistent (core_net net)
+  pub stays : StaysConsistent (core_net net)
   stays = each_stays_consistent (core_net net) wired
 
   -- what a body is given

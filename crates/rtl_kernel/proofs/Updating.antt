@@ -1,16 +1,14 @@
 -- Transactions that are taken over, process by process.
-use Rattle.std.proofs.Common.{◌≡◌, ℕ, zero, suc, ◌+◌, ◌<◌, ◌≤◌, true, List, [], ◌∷◌, length, get_or, set, map, replicate, Option, Some, None, refl, sym, ap, subst, ◌∙◌, arith, ◌⊎◌, inl, inr, IsSome, Contains, Vec}
-use Rattle.std.specs.Global.{Global}
+use Rattle.std.proofs.Common.{◌≡◌, ℕ, zero, suc, ◌+◌, ◌<◌, ◌≤◌, List, [], ◌∷◌, length, get_or, set, map, replicate, Option, Some, None, refl, sym, ap, subst, ◌∙◌, arith, ◌⊎◌, inl, inr, IsSome, Contains}
 use Rattle.std.proofs.lemmas.Bool.{cases_eq, cases_lt}
-use Rattle.std.proofs.lemmas.List.{ext_get_or, get_or-set_same, get_or-set_other, get_or_default, get_or_past, length-set, length-map, length-replicate, map-set}
+use Rattle.std.proofs.lemmas.List.{ext_get_or, get_or-set_same, get_or-set_other, get_or_default, length-set, length-map, length-replicate, map-set}
 use Rattle.std.proofs.Math.Seq.{map-set_same}
 use Rattle.rtl_eval.specs.Runs.{Outcome}
-use Rattle.rtl_eval.proofs.Assigned.{no_entry, none_left}
+use Rattle.rtl_eval.proofs.Assigned.{no_entry}
 use Rattle.rtl_model.specs.simulation.Cycle.{driven, driven_all, none_pending}
 use Rattle.rtl_model.specs.simulation.Machine.{entry_or}
 use Rattle.rtl_model.proofs.basics.Lists.{get_or-map_within}
 use Rattle.rtl_model.proofs.simulation.Rows.{driven_all_at, driven_at, length-driven}
-use Rattle.rtl_kernel.specs.drivers.Rows.{rows}
 use Rattle.std.specs.Option.{is_some}
 use Rattle.rtl_eval.specs.Tracked.{AreAssigned}
 use Rattle.rtl_net.specs.declared.process.Driver as net

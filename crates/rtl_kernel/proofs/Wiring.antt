@@ -1,16 +1,14 @@
 -- What a kernel takes from its net.
-use Rattle.std.proofs.Common.{◌≡◌, ℕ, zero, suc, ◌+◌, ◌<◌, ◌≤◌, List, [], ◌∷◌, length, get_or, map, refl, sym, ap, subst, ◌∙◌, arith, ◌⊎◌, inl, inr, Contains, All}
+use Rattle.std.proofs.Common.{◌≡◌, ℕ, zero, suc, ◌<◌, ◌≤◌, List, [], ◌∷◌, length, get_or, map, refl, sym, ap, subst, ◌∙◌, ◌⊎◌, inl, inr, Contains, All}
 use Rattle.std.proofs.lemmas.Bool.{cases_lt}
 use Rattle.std.proofs.lemmas.List.{get_or_past, length-map}
-use Rattle.std.proofs.lemmas.List.Elements.{All-get_or, All-map}
 use Rattle.std.proofs.lemmas.Option.{slice_get_within}
-use Rattle.rtl_model.specs.nets.FlatNet.{FlatNet, FlatProcess, FlatDriver, DriverInRange, IsInRange, process_at, no_flat_process, targets}
+use Rattle.rtl_model.specs.nets.FlatNet.{FlatProcess, FlatDriver, DriverInRange, IsInRange, process_at, no_flat_process, targets}
 use Rattle.rtl_model.specs.nets.CoreNet.{core_net, core_process}
-use Rattle.rtl_model.specs.simulation.Net.{Process, process, target}
+use Rattle.rtl_model.specs.simulation.Net.{Process, process}
 use Rattle.rtl_model.proofs.basics.Lists.{Contains-none, get_or-map_within}
 use Rattle.rtl_model.proofs.nets.InRange.{process_in_range}
 use Rattle.rtl_model.proofs.nets.Processes.{process-core_net}
-use Rattle.rtl_model.proofs.simulation.Rows.{get_or-map}
 use Rattle.rtl_eval.specs.Runs.{Outcome}
 use Rattle.rtl_net.specs.Nets.{NetView, flat, driver_view, process_view}
 use Rattle.rtl_net.specs.declared.process.Driver as r
@@ -57,6 +55,13 @@ module _ (net : NetView) where
       let here : j < length ds = rw length-map at within in
       let (t, has, lt) = rw (get_or-map_within driver_view ds j none (driver_view none) here) at (D j (driver_view none) (rw length-map here)) in
       rw (get_or-map_within (λ (x : r.Driver). x.net) ds j none e here) (slice_get_within net.types _ t has)
+
+  pub wakes_there : IsInRange (flat net) → All (λ (p : q.Process). All (λ n. n < length net.types) p.wakes.items) net.processes
+  wakes_there R k d l =
+      let there : k < length (flat net).processes = rw length-map l in
+      let P = process_in_range (flat net) R k there in
+      let is = get_or-map_within process_view net.processes k d no_flat_process l in
+      subst (λ (x : FlatProcess). All (λ n. n < length net.types) x.wakes) is P.wakes
 
   pub wakes_are : map (λ (p : q.Process). p.wakes.items) net.processes ≡ wakes_of (core_net (flat net))
   wakes_are = by net.processes

@@ -3,3 +3,4 @@ pub mod Resolved
 pub mod Transactions
 pub mod Tracked
 pub mod Updates
+pub mod Starts

@@ -1,6 +1,6 @@
 //! Drivers and their transactions.
 
-ghost use Rattle.std.specs.Prelude.{◌≡◌, ◌<◌, ◌≤◌, ℕ, [], All, length, map, not, slice_index_or, slice_set, Contains};
+ghost use Rattle.std.specs.Prelude.{◌≡◌, ◌<◌, ◌≤◌, ℕ, [], All, length, map, not, slice_index_or, slice_set, Contains, IfOk};
 ghost use Rattle.std.specs.List.{list_any};
 ghost use Rattle.std.specs.Option.{is_some};
 ghost use Rattle.rtl_model.specs.bodies.Types.{KeepsTypes};
@@ -10,8 +10,10 @@ ghost use Rattle.rtl_eval.specs.Runs.{Outcome, IsOf, Leaves};
 ghost use Rattle.rtl_net.specs.declared.process.Driver as net;
 ghost use Rattle.rtl_net.specs.declared.process.Process.{Process};
 ghost use Rattle.rtl_kernel.specs.drivers.Rows.{rows};
+ghost use Rattle.rtl_kernel.specs.drivers.Starts.{AreFresh, start_row};
 ghost use Rattle.rtl_kernel.specs.drivers.Transactions.{IsActive, Touches, TouchesAll, HasRunOf, nets_of, targets_of, pending_of, without_entries, no_outcome};
 
+use crate::starts::{start_values, variable_starts};
 use crate::worklist::Worklist;
 use rtl_eval::{Drives, Exec};
 use rtl_net::{Driver, Process};
@@ -40,6 +42,33 @@ impl Model for Drivers {
 }
 
 impl Drivers {
+    /// The drivers of these processes, each with the value that it starts with, and none active. Each process has the room
+    /// that the run of its body wants.
+    pub fn new<E: Exec>(
+        alloc: Global,
+        processes: &[Process],
+        bodies: &[E],
+    ) -> Result<Drivers, AllocError>
+        requires as_many { length bodies.now ≡ length processes.now }
+        ensures drivers { IfOk result (λ d. d.drivers ≡ map start_row processes.now) }
+        ensures outcomes { IfOk result (λ d. AreFresh E.most processes.now bodies.now d.outcomes) }
+    {
+        let mut drivers = Vec::with_capacity(alloc, processes.len())?;
+        let mut outcomes = Vec::with_capacity(alloc, processes.len())?;
+        for number in 0..processes.len() {
+            let process = &processes[number];
+            drivers.push(start_values(alloc, &process.drives)?)?;
+            let starts = variable_starts(alloc, &process.variables)?;
+            let room = bodies[number].room();
+            outcomes.push(Drives::new(alloc, process.drives.len(), &starts, room)?)?;
+        }
+        Ok(Drivers {
+            drivers,
+            outcomes,
+            active: Worklist::new(alloc, processes.len())?,
+        })
+    }
+
     /// The drivers' values.
     pub fn values(&self) -> &[Vec<u8>]
         ensures { rows result.now ≡ self.now.drivers }

@@ -1,21 +1,25 @@
 //! The kernel.
 
-ghost use Rattle.std.specs.Prelude.{◌≡◌, ◌<◌, ◌≤◌, ℕ, List, All, length, slice_index, Contains, MatchResult, IsTrue};
+ghost use Rattle.std.specs.Prelude.{◌≡◌, ◌<◌, ◌≤◌, ℕ, List, All, length, slice_index, Contains, IfOk, MatchResult, IsTrue};
 ghost use Rattle.std.specs.List.{count_by};
 ghost use Rattle.rtl_model.specs.nets.CoreNet.{core_net};
-ghost use Rattle.rtl_model.specs.simulation.Cycle.{given, updated, ran, changed, is_quiet, IsToRun};
+ghost use Rattle.rtl_model.specs.simulation.Cycle.{started, given, updated, ran, changed, is_quiet, IsToRun};
 ghost use Rattle.rtl_model.specs.simulation.Moments.{HasNoneToRun, HasRun, Delta, SettlesTo, IsUnsettled};
 ghost use Rattle.rtl_net.specs.Nets.{flat};
-ghost use Rattle.rtl_kernel.specs.kernel.Simulation.{changes_of};
+ghost use Rattle.rtl_kernel.specs.kernel.Simulation.{changes_of, initial_inputs};
+ghost use Rattle.rtl_kernel.specs.kernel.Kept.{RunBodies};
 
 use crate::drivers::Drivers;
 use crate::pick::Pick;
 use crate::resumed::Resumed;
+use crate::starts::starting_codes;
 use crate::update::resolve_nets;
 use crate::values::Values;
+use crate::wakes::wake_index;
 use crate::worklist::Worklist;
 use rtl_eval::Exec;
 use rtl_net::Net;
+use std::alloc::{AllocError, Global};
 use std::marker::Model;
 use vhdl_values::Nine;
 
@@ -54,6 +58,43 @@ impl<'a, E: Exec> Model for Kernel<'a, E> {
 }
 
 impl<'a, E: Exec> Kernel<'a, E> {
+    /// A simulation that is to be started: of this net, whose k-th process the k-th body runs, with a value for each of the
+    /// net's inputs, in their order.
+    ///
+    /// It takes the room of all later calls.
+    pub fn new(
+        alloc: Global,
+        net: &'a Net,
+        bodies: &'a [E],
+        initial: &[Nine],
+    ) -> Result<Kernel<'a, E>, AllocError>
+        requires bodies { RunBodies E.process E.types (flat net.now) bodies.now }
+        requires initial { length initial.now ≡ length net.now.inputs }
+        ensures { IfOk result (λ k. k ≡ record {
+          net = net.now;
+          state = started (core_net (flat net.now)) (initial_inputs (flat net.now) initial.now);
+        }) }
+    {
+        let nets = net.nets();
+        let processes = net.processes();
+        let mut values = Values::new(alloc, &starting_codes(alloc, net)?)?;
+        values.set_each(net.inputs(), initial);
+        values.begin();
+        let index = wake_index(alloc, nets, processes)?;
+        let drivers = Drivers::new(alloc, processes, bodies)?;
+        let resumed = Resumed::all(alloc, processes.len())?;
+        let touched = Worklist::new(alloc, nets)?;
+        Ok(Kernel {
+            net,
+            bodies,
+            index,
+            values,
+            drivers,
+            resumed,
+            touched,
+        })
+    }
+
     /// The value of a net now: the code of one of the nine values, or the position of a literal.
     pub fn value(&self, net: usize) -> u8
         requires { net < length self.now.net.types }

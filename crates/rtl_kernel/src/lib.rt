@@ -6,6 +6,7 @@ mod kernel;
 mod pick;
 mod resolution;
 mod resumed;
+mod starts;
 mod update;
 mod values;
 mod wakes;

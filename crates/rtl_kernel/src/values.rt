@@ -1,7 +1,7 @@
 //! The values of the nets.
 
 ghost use Rattle.std.specs.Prelude.{◌≡◌, ◌<◌, length, slice_set, All, IfOk};
-ghost use Rattle.rtl_kernel.specs.kernel.Simulation.{changes_of};
+ghost use Rattle.rtl_kernel.specs.kernel.Simulation.{changes_of, each_given};
 ghost use Rattle.rtl_kernel.specs.values.TwoValues.{AreChanged, CoverEvents};
 
 use crate::worklist::Worklist;
@@ -70,6 +70,18 @@ impl Values {
     {
         bring_up(&mut self.before, &self.current, self.changed.members());
         self.changed.clear();
+    }
+
+    /// Gives each of these nets the value of the same number.
+    pub fn set_each(&mut self, nets: &[usize], values: &[Nine])
+        requires as_many { length values.now ≡ length nets.now }
+        requires there { All (λ n. n < length self.old.current) nets.now }
+        ensures before { self.new.before ≡ self.old.before }
+        ensures current { AreChanged (each_given nets.now values.now) self.old.current self.new.current }
+    {
+        for number in 0..nets.len() {
+            self.set(nets[number], values[number].code());
+        }
     }
 
     /// Gives nets values now, one after the other.

@@ -1,5 +1,5 @@
 -- Drivers with the list of the processes that have active ones.
-use Rattle.std.specs.Prelude.{◌≡◌, ℕ, List, [], length, slice_index_or, Contains}
+use Rattle.std.specs.Prelude.{◌≡◌, ℕ, [], length, slice_index_or, Contains}
 use Rattle.rtl_kernel.specs.drivers.Rows.{rows}
 use Rattle.rtl_kernel.specs.drivers.Transactions.{Transactions, IsActive, pending_of}
 use Rattle.rtl_kernel.specs.declared.drivers.Drivers.TheInside.{Inside}

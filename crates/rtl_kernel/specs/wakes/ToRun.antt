@@ -1,5 +1,5 @@
 -- The processes that are still to run in a cycle.
-use Rattle.std.specs.Prelude.{◌≡◌, ◌≤◌, ℕ, Bool, List, [], length, drop}
+use Rattle.std.specs.Prelude.{◌≤◌, ℕ, Bool, List, length, drop}
 use Rattle.std.specs.List.Sorted.{IsStrictlyIncreasing}
 use Rattle.std.specs.Vec.{vec_capacity}
 use Rattle.rtl_kernel.specs.worklists.Marked.{AreMarked}

@@ -1,6 +1,5 @@
-use Rattle.std.proofs.Common.{◌≡◌, ◌<◌, ℕ, None, Some, arith, refl, sym, ap, ◌∙◌, get_or, length}
+use Rattle.std.proofs.Common.{◌<◌, arith, refl, sym, ◌∙◌, get_or, length}
 use Rattle.std.proofs.lemmas.List.{length-map}
-use Rattle.rtl_net.specs.declared.process.Driver as net
 use Rattle.rtl_kernel.specs.drivers.Transactions.{nets_of}
 use Rattle.rtl_kernel.proofs.Updating.{taking_none_yet, taking_some, taking_none, taken_values, taken_nets, net_at}
 use Rattle.rtl_kernel.proofs.drivers.update_row.Goals as goal

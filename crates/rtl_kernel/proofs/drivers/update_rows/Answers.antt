@@ -1,4 +1,4 @@
-use Rattle.std.proofs.Common.{◌≡◌, ◌<◌, ℕ, List, Option, Vec, arith, refl, sym, ap, subst, ◌∙◌, get_or, length, map, []}
+use Rattle.std.proofs.Common.{◌<◌, ℕ, List, Option, Vec, arith, refl, sym, ap, subst, ◌∙◌, get_or, length, []}
 use Rattle.std.specs.Global.{Global}
 use Rattle.std.proofs.lemmas.List.{length-map, map-set}
 use Rattle.rtl_model.proofs.basics.Lists.{get_or-map_within}

@@ -1,10 +1,10 @@
-use Rattle.std.proofs.Common.{◌≡◌, ◌<◌, ℕ, arith, refl, sym, ap, ◌∙◌, length, get_or, set, map, Contains}
+use Rattle.std.proofs.Common.{◌<◌, arith, refl, sym, ◌∙◌, length, get_or, set}
 use Rattle.std.proofs.lemmas.Bool.{eqb-true, eqb-false}
 use Rattle.std.proofs.lemmas.List.{length-set, get_or-set_same, get_or-set_other}
 use Rattle.rtl_model.specs.nets.CoreNet.{core_net}
 use Rattle.rtl_net.specs.Nets.{flat, source_view}
 use Rattle.rtl_kernel.specs.drivers.Rows.{rows}
-use Rattle.rtl_kernel.proofs.Resolved.{none_resolved, one_resolved, kept_value, resolution_is, no_sources, source_in}
+use Rattle.rtl_kernel.proofs.Resolved.{one_resolved, kept_value, resolution_is, no_sources, source_in}
 use Rattle.rtl_kernel.proofs.update.resolve_nets.Goals as goal
 use Rattle.rtl_kernel.proofs.update.resolve_nets.Goals.{then-not-is_empty, else-not-is_empty}
 

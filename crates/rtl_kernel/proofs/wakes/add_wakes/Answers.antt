@@ -1,8 +1,7 @@
-use Rattle.std.proofs.Common.{◌∙◌, sym, ap, arith, refl, get_or, set, [], ◌∷◌, ◌++◌, length, subst, List, ℕ, Vec}
+use Rattle.std.proofs.Common.{◌∙◌, sym, ap, refl, get_or, set, [], ◌∷◌, ◌++◌, List, ℕ, Vec}
 use Rattle.std.specs.Global.{Global}
 use Rattle.std.proofs.lemmas.List.{length-set, length-map, map-set}
 use Rattle.rtl_kernel.specs.drivers.Rows.{rows}
-use Rattle.rtl_kernel.specs.wakes.Woken.{IsIndexed}
 use Rattle.rtl_kernel.proofs.Waking.{row_is}
 use Rattle.rtl_kernel.proofs.Indexing.{indexed_more}
 use Rattle.rtl_kernel.proofs.wakes.add_wakes.Goals as goal

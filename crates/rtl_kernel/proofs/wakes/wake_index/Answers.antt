@@ -1,4 +1,4 @@
-use Rattle.std.proofs.Common.{◌≡◌, ◌<◌, ◌++◌, ◌∷◌, ℕ, List, [], refl, ap, subst, sym, ◌∙◌, arith, length, map, replicate, Vec, get_or, All}
+use Rattle.std.proofs.Common.{◌≡◌, ◌<◌, ◌++◌, ◌∷◌, ℕ, List, [], refl, ap, subst, sym, ◌∙◌, arith, length, map, replicate, Vec, All}
 use Rattle.std.specs.Global.{Global}
 use Rattle.std.proofs.lemmas.List.{length-map, length-replicate, take_all}
 use Rattle.rtl_model.proofs.basics.Lists.{get_or-map_within}

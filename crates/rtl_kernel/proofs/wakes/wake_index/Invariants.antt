@@ -1,4 +1,4 @@
-use Rattle.std.proofs.Common.{◌≡◌, ℕ, [], length, map, take, replicate}
+use Rattle.std.proofs.Common.{◌≡◌, [], length, map, take, replicate}
 use Rattle.rtl_net.specs.declared.process.Process.{Process}
 use Rattle.rtl_kernel.specs.drivers.Rows.{rows}
 use Rattle.rtl_kernel.specs.wakes.Woken.{IsIndex}

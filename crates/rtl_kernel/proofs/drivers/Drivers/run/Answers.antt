@@ -1,6 +1,6 @@
-use Rattle.std.proofs.Common.{◌≡◌, ◌<◌, ℕ, List, Option, arith, sym, ap, subst, ◌∙◌, length, refl, [], get_or, set}
+use Rattle.std.proofs.Common.{◌<◌, arith, sym, ap, subst, ◌∙◌, length, refl, []}
 use Rattle.std.proofs.lemmas.Bool.{eqb-true, eqb-false}
-use Rattle.std.proofs.lemmas.List.{length-set, length-map, get_or-set_same}
+use Rattle.std.proofs.lemmas.List.{length-set, get_or-set_same}
 use Rattle.std.proofs.lemmas.List.FromFn.{length-map-range_with_len}
 use Rattle.rtl_eval.specs.Runs.{Outcome}
 use Rattle.rtl_eval.specs.Tracked.{AreAssigned}

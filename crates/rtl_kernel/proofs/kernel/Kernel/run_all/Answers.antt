@@ -1,4 +1,4 @@
-use Rattle.std.proofs.Common.{◌≡◌, ◌∷◌, [], ◌∙◌, Bool, false, ap, subst, refl, arith, sym}
+use Rattle.std.proofs.Common.{◌∷◌, [], ◌∙◌, Bool, false, ap, subst, refl, arith}
 use Rattle.rtl_eval.proofs.Counting.{count_by-set_less}
 use Rattle.rtl_model.proofs.simulation.Order.{waits_in}
 use Rattle.rtl_model.specs.nets.CoreNet.{core_net}

@@ -1,4 +1,4 @@
-use Rattle.std.proofs.Common.{arith, length, sym, ap, ◌∙◌}
+use Rattle.std.proofs.Common.{length, sym, ap, ◌∙◌}
 use Rattle.rtl_kernel.specs.wakes.ToRun.{ToRun}
 use Rattle.rtl_kernel.proofs.Kept as kept
 use Rattle.rtl_kernel.proofs.kernel.Kernel.run_one.Goals as goal

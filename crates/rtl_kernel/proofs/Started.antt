@@ -1,0 +1,199 @@
+-- A kernel before its first run.
+use Rattle.std.proofs.Common.{◌≡◌, ℕ, zero, suc, ◌+◌, ◌<◌, ◌≤◌, Bool, true, List, [], ◌∷◌, ◌++◌, length, get_or, map, replicate, take, Option, None, refl, sym, ap, subst, ◌∙◌, arith, ◌⊎◌, inl, inr, IsSome, Contains, All, append_assoc, length-append, ◌-◌}
+use Rattle.std.proofs.lemmas.Bool.{cases_lt}
+use Rattle.std.proofs.lemmas.Option.{slice_get_within}
+use Rattle.std.proofs.lemmas.List.{append-nil, get_or_append_left, get_or-append_right, get_or_default, length-map, length-replicate, take_more}
+use Rattle.vhdl_values.specs.declared.scalar.Nine.{Nine}
+use Rattle.vhdl_values.specs.Scalar.{code_of}
+use Rattle.vhdl_values.proofs.Codes.{code_of_below}
+use Rattle.rtl_model.specs.bodies.Types.{ElementType, nine_valued}
+use Rattle.rtl_model.specs.nets.FlatNet.{FlatProcess, FlatVariable, FlatDriver, IsInRange, element_starts, no_flat_process}
+use Rattle.rtl_model.specs.nets.CoreNet.{core_net, core_process}
+use Rattle.rtl_model.specs.nets.Wiring.{IsConnected}
+use Rattle.rtl_model.specs.simulation.Net.{Process}
+use Rattle.rtl_model.specs.simulation.Cycle.{started, with_inputs}
+use Rattle.rtl_model.specs.simulation.Laws.{IsConsistent}
+use Rattle.rtl_model.specs.simulation.Range.{AreInputs, StateInRange}
+use Rattle.rtl_model.proofs.basics.Lists.{contains_in, in_contains, get_or-map_within}
+use Rattle.rtl_model.proofs.nets.InRange.{keeps_range, limit-at}
+use Rattle.rtl_eval.specs.Runs.{Outcome}
+use Rattle.rtl_net.specs.Nets.{NetView, flat, driver_view, process_view}
+use Rattle.rtl_net.specs.declared.process.Driver as r
+use Rattle.rtl_net.specs.declared.process.Process as q
+use Rattle.rtl_kernel.specs.drivers.Starts.{AreFresh, elements_of, no_entries, start_row, starts_of}
+use Rattle.rtl_kernel.specs.drivers.Transactions.{Transactions, no_outcome}
+use Rattle.rtl_kernel.specs.kernel.Kept.{HaveRoom, IsKernel, IsSound, RunBodies, state_of}
+use Rattle.rtl_kernel.specs.kernel.Simulation.{each_given, initial_inputs}
+use Rattle.rtl_kernel.specs.values.TwoValues.{TwoValues, AreChanged}
+use Rattle.rtl_kernel.specs.wakes.ToRun.{ToRun}
+use Rattle.rtl_kernel.specs.wakes.Woken.{IsIndex}
+use Rattle.rtl_kernel.specs.worklists.Numbers.{Numbers}
+use Rattle.rtl_kernel.proofs.Changing.{changed_below, given_values}
+use Rattle.rtl_kernel.proofs.Inputs.{input_has}
+use Rattle.rtl_kernel.proofs.Steps.{keeps, stays}
+use Rattle.rtl_kernel.proofs.Updating.{none_in_replicate}
+
+-- ---- the lists of the code, and those of rtl_model
+
+starts_are : (ds : List r.Driver) → starts_of ds ≡ map (λ (d : FlatDriver). d.start) (map driver_view ds)
+starts_are [] = refl
+starts_are (d ∷ ds) = ap (λ (xs : List ℕ). d.start ∷ xs) (starts_are ds)
+
+nones_are : (ds : List r.Driver) → replicate {A = Option ℕ} (length ds) None ≡ map {B = Option ℕ} (λ (n : ℕ). None) (map (λ (d : FlatDriver). d.net) (map driver_view ds))
+nones_are [] = refl
+nones_are (d ∷ ds) = ap (λ (xs : List (Option ℕ)). None ∷ xs) (nones_are ds)
+
+module _ (inputs : List ℕ) where
+  drivers_are : (ps : List q.Process) → map start_row ps ≡ map (λ (p : Process). p.starts) (map (core_process inputs) (map process_view ps))
+  drivers_are [] = refl
+  drivers_are (p ∷ ps) = let rest = drivers_are ps in λ i. starts_are p.drives.items i ∷ rest i
+
+  pending_are : (ps : List q.Process) → map no_entries ps ≡ map (λ (p : Process). map {B = Option ℕ} (λ (n : ℕ). None) p.drives) (map (core_process inputs) (map process_view ps))
+  pending_are [] = refl
+  pending_are (p ∷ ps) = let rest = pending_are ps in λ i. nones_are p.drives.items i ∷ rest i
+
+  waiting_are : (ps : List q.Process) → replicate (length ps) true ≡ map (λ (p : Process). true) (map (core_process inputs) (map process_view ps))
+  waiting_are [] = refl
+  waiting_are (p ∷ ps) = ap (λ (bs : List Bool). true ∷ bs) (waiting_are ps)
+
+-- ---- outcomes
+
+each_none : (ps : List q.Process) (p : ℕ) → length (get_or (map no_entries ps) p []) ≡ length (get_or (map process_view ps) p no_flat_process).drivers
+each_none [] p = refl
+each_none (x ∷ ps) zero = length-replicate (length x.drives.items) None ∙ sym (length-map x.drives.items driver_view)
+each_none (x ∷ ps) (suc p) = each_none ps p
+
+pub each_fresh : (ps : List q.Process) (p : ℕ) → length (get_or (map start_row ps) p []) ≡ length (get_or (map no_entries ps) p [])
+each_fresh [] p = refl
+each_fresh (x ∷ ps) zero = length-map x.drives.items _ ∙ sym (length-replicate (length x.drives.items) None)
+each_fresh (x ∷ ps) (suc p) = each_fresh ps p
+
+each_element : (ps : List q.Process) (p : ℕ) → get_or (map elements_of ps) p [] ≡ element_starts (get_or (map process_view ps) p no_flat_process).variables
+each_element [] p = refl
+each_element (x ∷ ps) zero = refl
+each_element (x ∷ ps) (suc p) = each_element ps p
+
+pub none_fresh : (ps : List q.Process) (p : ℕ) → (place : ℕ) × IsSome (get_or (get_or (map no_entries ps) p []) place None) → ⊥
+none_fresh [] p (place, some) = absurd cc
+none_fresh (x ∷ ps) zero (place, some) = none_in_replicate (length x.drives.items) place some
+none_fresh (x ∷ ps) (suc p) a = none_fresh ps p a
+
+-- ---- new values of all inputs
+
+given_named : (ns : List ℕ) (vs : List Nine) (n value : ℕ) → Contains (each_given ns vs) (n, value) → Contains ns n
+given_named [] vs n value (k, l, e) = absurd (omega arith)
+given_named (m ∷ ns) [] n value (k, l, e) = absurd (omega arith)
+given_named (m ∷ ns) (v ∷ vs) n value (zero, l, e) = (zero, omega arith, ap (λ (c : ℕ × ℕ). c.0) e)
+given_named (m ∷ ns) (v ∷ vs) n value (suc k, l, e) = let (j, within, is) = given_named ns vs n value (k, omega arith, e) in (suc j, omega arith, is)
+
+given_below : (ns : List ℕ) (vs : List Nine) → All (λ (c : ℕ × ℕ). c.1 < 9) (each_given ns vs)
+given_below [] vs k d l = absurd (omega arith)
+given_below (m ∷ ns) [] k d l = absurd (omega arith)
+given_below (m ∷ ns) (v ∷ vs) zero d l = code_of_below v
+given_below (m ∷ ns) (v ∷ vs) (suc k) d l = given_below ns vs k d (omega arith)
+
+pub given_at : (ns : List ℕ) (vs : List Nine) (k d code : ℕ) (e : Nine) → k < length ns → k < length vs → code ≡ code_of (get_or vs k e) → get_or (each_given ns vs) k (0, 0) ≡ (get_or ns k d, code)
+given_at [] vs k d code e l m is = absurd (omega arith)
+given_at (n ∷ ns) [] k d code e l m is = absurd (omega arith)
+given_at (n ∷ ns) (v ∷ vs) zero d code e l m is = λ i. (n, sym is i)
+given_at (n ∷ ns) (v ∷ vs) (suc k) d code e l m is = given_at ns vs k d code e (omega arith) (omega arith) is
+
+pub length-given : (ns : List ℕ) (vs : List Nine) → length vs ≡ length ns → length (each_given ns vs) ≡ length ns
+length-given [] vs e = refl
+length-given (n ∷ ns) [] e = absurd (omega arith)
+length-given (n ∷ ns) (v ∷ vs) e = ap suc (length-given ns vs (omega arith))
+
+-- ---- the kernel
+
+module _ {E : Type 0} (process : E → FlatProcess) (types : E → List ElementType) (most : E → ℕ) (net : NetView) (bodies : List E) (index : List (List ℕ))
+    (v : TwoValues) (t : Transactions) (r : ToRun) (touched : Numbers) (initial : List Nine) (R : IsInRange (flat net)) (C : IsConnected (flat net)) (B : RunBodies process types (flat net) bodies)
+    (before : v.before ≡ v.current) (A : AreChanged (each_given net.inputs initial) net.starts v.current) (drivers : t.drivers ≡ map start_row net.processes)
+    (F : AreFresh most net.processes bodies t.outcomes) (waiting : r.waiting ≡ replicate (length net.processes) true) where
+  abbrev inputs : ℕ → ℕ
+  inputs = initial_inputs (flat net) initial
+
+  current_is : v.current ≡ with_inputs (core_net (flat net)) inputs net.starts
+  current_is =
+      given_values (core_net (flat net)) (each_given net.inputs initial) net.starts v.current refl A
+      (λ n value h. contains_in net.inputs n (given_named net.inputs initial n value h))
+
+  pub is_started : state_of v t r ≡ started (core_net (flat net)) inputs
+  is_started =
+      let first = before ∙ current_is in
+      let rows = drivers ∙ drivers_are net.inputs net.processes in
+      let pending = F.entries ∙ pending_are net.inputs net.processes in
+      let waits = waiting ∙ waiting_are net.inputs net.processes in
+      λ i. record { before = first i; now = current_is i; drivers = rows i; pending = pending i; waiting = waits i }
+
+  are_inputs : AreInputs (core_net (flat net)) inputs
+  are_inputs n is_input =
+      let has = input_has (flat net) R n (in_contains net.inputs n is_input) in
+      let limit = limit-at net.types n nine_valued has in
+      let S = (keeps_range (flat net) R).starts_in_range in
+      let there : n < length net.starts = rw (R.each_starts) (slice_get_within net.types n nine_valued has) in
+      rw limit (changed_below (each_given net.inputs initial) net.starts n 9 (given_below net.inputs initial) (rw limit at (S.in_range n there)))
+
+  outcomes_many : length t.outcomes ≡ length net.processes
+  outcomes_many = sym (length-map t.outcomes (λ (o : Outcome). o.entries)) ∙ ap length F.entries ∙ length-map net.processes no_entries
+
+  have_room : HaveRoom most (flat net) bodies t.outcomes
+  have_room = record {
+    as_many = outcomes_many ∙ sym (length-map net.processes process_view);
+    own = λ p l. record {
+      each_driver = ap length (sym (get_or-map_within (λ (o : Outcome). o.entries) t.outcomes p no_outcome [] l)) ∙ ap (λ (rows : List (List (Option ℕ))). length (get_or rows p [])) F.entries
+          ∙ each_none net.processes p;
+      each_element = sym (get_or-map_within (λ (o : Outcome). o.starts) t.outcomes p no_outcome [] l) ∙ ap (λ (rows : List (List ℕ)). get_or rows p []) F.starts ∙ each_element net.processes p;
+    };
+    room = λ p e l. F.room p e (omega (arith, l, outcomes_many, B.as_many, length-map net.processes process_view)) l;
+  }
+
+  sound : IsSound (flat net) (state_of v t r)
+  sound = record {
+    each_process = ap length waiting ∙ length-replicate (length net.processes) true ∙ sym (length-map net.processes process_view);
+    each_row = ap length drivers ∙ length-map net.processes start_row ∙ sym (length-map net.processes process_view);
+    in_range = subst (StateInRange (core_net (flat net))) (sym is_started) ((keeps (flat net) R C).starts inputs are_inputs);
+    consistent = subst (IsConsistent (core_net (flat net))) (sym is_started) ((stays (flat net) R C).starts inputs);
+    fresh = λ p waits a. none_fresh net.processes p (subst (λ (rows : List (List (Option ℕ))). (place : ℕ) × IsSome (get_or (get_or rows p []) place None)) F.entries a);
+  }
+
+  pub kept_started : IsIndex (map (λ (p : q.Process). p.wakes.items) net.processes) index → length index ≡ length net.types → touched ≡ record { bound = length net.types; members = [] }
+      → IsKernel process types most net bodies index v t r touched
+  kept_started I each_net idle = record {
+    in_range = R;
+    connected = C;
+    run_bodies = B;
+    room = have_room;
+    sound = sound;
+    is_index = I;
+    each_net = each_net;
+    idle = idle;
+  }
+
+-- ---- one process more
+
+pub element_starts-push : (vs : List FlatVariable) (v : FlatVariable) → element_starts (vs ++ v ∷ []) ≡ element_starts vs ++ v.starts
+element_starts-push [] v = append-nil v.starts
+element_starts-push (w ∷ vs) v = ap (λ (xs : List ℕ). w.starts ++ xs) (element_starts-push vs v) ∙ sym (append_assoc w.starts (element_starts vs) v.starts)
+
+pub map_push : {X Y : Type 0} (f : X → Y) (xs : List X) (x : X) → map f (xs ++ x ∷ []) ≡ map f xs ++ f x ∷ []
+map_push f [] x = refl
+map_push {X} {Y} f (y ∷ xs) x = ap (λ (ys : List Y). f y ∷ ys) (map_push f xs x)
+
+pub map_more : {X Y : Type 0} (f : X → Y) (xs : List X) (k : ℕ) (d : X) → k < length xs → map f (take (k + 1) xs) ≡ map f (take k xs) ++ f (get_or xs k d) ∷ []
+map_more f xs k d l = ap (map f) (take_more xs k d l) ∙ map_push f (take k xs) (get_or xs k d)
+
+pub fresh_more : {E : Type 0} (most : E → ℕ) (ps : List q.Process) (bodies : List E) (os : List Outcome) (k : ℕ) (o : Outcome) (d : q.Process) (b : E) → k < length ps → length os ≡ k
+    → AreFresh most (take k ps) bodies os → o.entries ≡ no_entries (get_or ps k d) → o.starts ≡ elements_of (get_or ps k d) → k < length bodies → most (get_or bodies k b) ≤ o.room
+    → AreFresh most (take (k + 1) ps) bodies (os ++ o ∷ [])
+fresh_more {E} most ps bodies os k o d b l many F entries elements in_bodies room = record {
+  entries = map_push (λ (x : Outcome). x.entries) os o ∙ (λ i. F.entries i ++ entries i ∷ []) ∙ sym (map_more no_entries ps k d l);
+  starts = map_push (λ (x : Outcome). x.starts) os o ∙ (λ i. F.starts i ++ elements i ∷ []) ∙ sym (map_more elements_of ps k d l);
+  room = λ j e within here. roomy j e here (cases_lt j k) (omega (arith, within, length-append os (o ∷ []), many));
+}
+  where
+    roomy : (j : ℕ) (e : E) → j < length bodies → (j < k) ⊎ (k ≤ j) → j < k + 1 → most (get_or bodies j e) ≤ (get_or (os ++ o ∷ []) j no_outcome).room
+    roomy j e here (inl less) _ = rw (get_or_append_left os (o ∷ []) no_outcome j (rw many less)) (F.room j e (rw many less) here)
+    roomy j e here (inr le) lt =
+        let same : j ≡ k = omega arith in
+        let last : get_or (os ++ o ∷ []) k no_outcome ≡ o = get_or-append_right os (o ∷ []) k k no_outcome many (omega arith) ∙ (let z : k - k ≡ 0 = omega arith in ap (λ (m : ℕ). get_or (o ∷ []) m no_outcome) z) in
+        rw (same, last, get_or_default bodies k e b in_bodies) room
