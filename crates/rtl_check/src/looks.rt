@@ -71,7 +71,7 @@ pub fn value_looks_at(value: &Value, element: usize) -> bool
 }
 
 /// Whether a test does.
-#[cycle(test)]
+#[cycle(condition)]
 pub fn test_looks_at(test: &Test, element: usize) -> bool
     ensures { result ≡ m.test_looks_at element (test_view test.now) }
 {
@@ -94,7 +94,7 @@ pub fn test_looks_at(test: &Test, element: usize) -> bool
 }
 
 /// Whether a further operand of a chain does.
-#[cycle(test)]
+#[cycle(condition)]
 fn test_links_look_at(links: &[TestLink], element: usize) -> bool
     ensures { result ≡ list_any (test_link_looks element) links.now }
 {

@@ -60,7 +60,7 @@ pub enum Value {
 }
 
 /// A condition.
-#[cycle(test)]
+#[cycle(condition)]
 #[derive(Drop)]
 pub enum Test {
     /// A condition of one element (9.2.9).
@@ -98,7 +98,7 @@ pub enum Test {
 }
 
 /// A logical operator and its right operand.
-#[cycle(test)]
+#[cycle(condition)]
 #[derive(Drop)]
 pub struct TestLink {
     pub operator: Logic,
