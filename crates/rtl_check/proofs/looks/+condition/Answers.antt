@@ -6,7 +6,7 @@ use Rattle.rtl_model.specs.bodies.Stored.{test_looks_at}
 use Rattle.rtl_check.specs.Looks.{test_link_looks}
 use Rattle.rtl_check.proofs.Anys.{first_true, then_rest}
 use Rattle.rtl_check.proofs.Parts.{combined_looks}
-use Rattle.rtl_check.proofs.looks.+test.Goals as goal
+use Rattle.rtl_check.proofs.looks.+condition.Goals as goal
 
 pub test_looks_at-returns-then-test_looks_at : goal.test_looks_at-returns-then-test_looks_at
 test_looks_at-returns-then-test_looks_at t c =
