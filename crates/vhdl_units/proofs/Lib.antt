@@ -1,2 +1,0 @@
-pub mod rows
-pub mod steps

@@ -1,2 +1,0 @@
-pub mod Sequential
-pub mod Concurrent

@@ -1,4 +1,0 @@
-pub mod Sequential
-pub mod Declarations
-pub mod Concurrent
-pub mod Units
