@@ -1,2 +1,12 @@
-pub mod Looks
-pub mod Occurring
+pub mod Views
+pub mod Listing
+pub mod Rules
+pub mod Places
+pub mod Feeders
+pub mod Judging
+pub mod ClockEdges
+pub mod Bounds
+pub mod Verdicts
+pub mod Standing
+pub mod ListedClocks
+pub mod Reported

@@ -1,15 +1,32 @@
-//! What the checker asks of the bodies of processes: whether an edge test or `'event` stands in one, whether it assigns a
-//! variable element on every syntactic path, and whether it stores one.
+//! The checker: whether a net is accepted, with its report, or else which faults it has.
 //!
-//! The definitions are those of rtl_model (`bodies/Reads`, `Assigns`, `Stored`); `specs/Looks.antt` and
-//! `specs/Occurring.antt` have them of the parts of bodies that stand in lists.
+//! The definitions are those of rtl_model's `simulation/Accepted`, `Faults`, `Levels` and `Report`. `specs/Views.antt` says how
+//! the code's faults and reports are seen, and `specs/Listing.antt` how lists of faults grow.
 #![tactic(auto)]
 
-mod assigned;
-mod events;
-mod looks;
-mod stores;
+mod bound;
+mod breaking;
+mod checking;
+mod clock_edges;
+mod clocks;
+mod fault;
+mod faults;
+mod graph;
+mod judging;
+mod kinds;
+mod listed_clocks;
+mod listing;
+mod reported;
+mod reporting;
+mod rule;
+mod rules;
+mod standing;
+mod variables;
 
-pub use assigned::all_assign;
-pub use events::{body_has_event, test_has_event};
-pub use stores::body_stores;
+pub use checking::{Verdict, check};
+pub use fault::CheckFault;
+pub use listed_clocks::are_clocks;
+pub use reported::is_report;
+pub use reporting::Report;
+pub use standing::are_levels;
+pub use variables::stored;

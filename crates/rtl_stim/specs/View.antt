@@ -18,8 +18,11 @@ use Rattle.rtl_stim.specs.declared.schedule.Schedule.{Schedule as KeptSchedule}
 abbrev pub element_view : KeptElement → Element
 element_view e = record { net = e.net; start = e.start }
 
+abbrev pub named_input : (name : List ℕ) → KeptInput → Input
+named_input name input = record { name = name; is_scalar = input.is_scalar; elements = map element_view input.elements.items }
+
 abbrev pub input_view : Vec ℕ Global × KeptInput → Input
-input_view e = record { name = e.0.items; is_scalar = e.1.is_scalar; elements = map element_view e.1.elements.items }
+input_view e = named_input e.0.items e.1
 
 abbrev pub inputs_view : {S : Type 0} → IndexMap (Vec ℕ Global) KeptInput S → List Input
 inputs_view m = map input_view m.entries

@@ -2,7 +2,7 @@
 
 ghost use Rattle.std.specs.Prelude.{◌≡◌, ◌<◌, ◌+◌, ◌^◌, ◌/◌, IfSome, IfNone, option_map};
 ghost use Rattle.rtl_stim.specs.Courses as said;
-ghost use Rattle.rtl_stim.specs.Courses.{course_value, IsNextToggle};
+ghost use Rattle.rtl_stim.specs.Courses.{course_value, course_toggles, IsNextToggle};
 ghost use Rattle.rtl_stim.specs.Reading.{after_set, after_clock, in_line};
 ghost use Rattle.rtl_stim.specs.View.{course_view, value_in, Leads};
 
@@ -56,6 +56,18 @@ impl Course {
         match self {
             Course::Ticks { first, half } => clock_value(*first, *half, time),
             Course::Sets(sets) => set_value(set_by(sets, time), place, start),
+        }
+    }
+
+    /// Whether it is a clock that toggles at a time.
+    pub fn toggles(&self, time: u64) -> bool
+        ensures { result ≡ course_toggles (course_view self.now) time }
+    {
+        match self {
+            Course::Sets(_) => false,
+            Course::Ticks { first, half } => {
+                *first <= time && (time - first).checked_rem(*half).unwrap_or(time - first) == 0
+            }
         }
     }
 }

@@ -1,9 +1,9 @@
 //! The inputs that a stimulus speaks of.
 
-ghost use Rattle.std.specs.Prelude.{◌≡◌, ◌<◌, IfOk, IfSome, length, option_map};
+ghost use Rattle.std.specs.Prelude.{◌≡◌, ◌≢◌, ◌<◌, ◌++◌, ◌∷◌, [], All, IfOk, OnOk, IfSome, length, option_map};
 ghost use Rattle.rtl_stim.specs.Inputs as named;
 ghost use Rattle.rtl_stim.specs.Inputs.{small, input_at};
-ghost use Rattle.rtl_stim.specs.View.{inputs_view, IsElementsOf};
+ghost use Rattle.rtl_stim.specs.View.{inputs_view, named_input, IsElementsOf};
 
 use indexmap::IndexMap;
 use std::alloc::{AllocError, Global};
@@ -25,6 +25,21 @@ pub struct Input {
 
 /// The top's in ports by their names in small letters, in order of declaration.
 pub type Inputs = IndexMap<Vec<u8>, Input>;
+
+/// Puts an input behind the others under its name, which may have capitals, and which no other has.
+pub fn add_input(
+    alloc: Global,
+    inputs: &mut Inputs,
+    name: &[u8],
+    input: Input,
+) -> Result<(), AllocError>
+    requires { All (λ other. other.name ≢ small name.now) (inputs_view inputs.old) }
+    ensures { OnOk result (inputs_view inputs.new ≡ inputs_view inputs.old ++ named_input (small name.now) input ∷ []) }
+{
+    let name = small_letters(alloc, name)?;
+    inputs.insert(name, input)?;
+    Ok(())
+}
 
 /// The input of a name, which may have capitals, and its place.
 pub fn input_named<'i>(

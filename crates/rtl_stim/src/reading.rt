@@ -30,7 +30,8 @@ pub struct Said {
 /// Reads the lines of a stimulus of these inputs.
 pub fn read_schedule(alloc: Global, text: &[u8], inputs: &Inputs) -> Result<Schedule, StimFault>
     requires { AreVectors (inputs_view inputs.now) }
-    ensures { IsGiven (schedule_of (inputs_view inputs.now) text.now) result }
+    ensures given { IsGiven (schedule_of (inputs_view inputs.now) text.now) result }
+    ensures each { IfOk result (λ schedule. vec_len schedule.courses ≡ length (inputs_view inputs.now)) }
 {
     let mut said = Said::new(alloc, inputs)?;
     said.read_lines(alloc, inputs, text)?;
@@ -54,7 +55,8 @@ fn line_end(text: &[u8]) -> Option<usize>
 impl Said {
     /// Nothing is said of these inputs.
     fn new(alloc: Global, inputs: &Inputs) -> Result<Said, AllocError>
-        ensures { IfOk result (λ said. said_view said ≡ nothing_said (inputs_view inputs.now)) }
+        ensures said { IfOk result (λ said. said_view said ≡ nothing_said (inputs_view inputs.now)) }
+        ensures each { IfOk result (λ said. vec_len said.courses ≡ length (inputs_view inputs.now)) }
     {
         let mut courses = Vec::new(alloc);
         for place in 0..inputs.len() {
@@ -70,7 +72,8 @@ impl Said {
     fn read_lines(&mut self, alloc: Global, inputs: &Inputs, text: &[u8]) -> Result<(), StimFault>
         requires vectors { AreVectors (inputs_view inputs.now) }
         requires each { vec_len self.old.courses ≡ length (inputs_view inputs.now) }
-        ensures { Leads (after_lines (inputs_view inputs.now) 1 (lines_of text.now) (Ok (said_view self.old))) (said_view self.new) result }
+        ensures said { Leads (after_lines (inputs_view inputs.now) 1 (lines_of text.now) (Ok (said_view self.old))) (said_view self.new) result }
+        ensures each { vec_len self.new.courses ≡ vec_len self.old.courses }
     {
         let mut at = 0;
         let mut line = 1;

@@ -1,3 +1,17 @@
 pub mod Nets
 pub mod Sources
 pub mod Shape
+pub mod Bodies
+pub mod Typed
+pub mod Walk
+pub mod Processes
+pub mod Elements
+pub mod Inputs
+pub mod Rising
+pub mod Wiring
+pub mod States
+pub mod Shared
+pub mod Sound
+pub mod Scopes
+pub mod Signals
+pub mod Names

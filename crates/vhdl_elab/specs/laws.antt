@@ -2,3 +2,10 @@
 pub mod Nets
 pub mod Sources
 pub mod Shape
+pub mod Bodies
+pub mod Processes
+pub mod Wiring
+pub mod Sound
+pub mod Scopes
+pub mod Signals
+pub mod Names

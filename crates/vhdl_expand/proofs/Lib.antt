@@ -1,4 +1,5 @@
 pub mod Steps
+pub mod Options
 pub mod Chains
 pub mod Decided
 pub mod StaticChains

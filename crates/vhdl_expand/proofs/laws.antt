@@ -1,1 +1,14 @@
 pub mod Lengths
+pub mod Places
+pub mod Names
+pub mod Vectors
+pub mod Tests
+pub mod Kinds
+pub mod Statements
+pub mod Prefixes
+pub mod Targets
+pub mod Driven
+pub mod Declared
+pub mod Processes
+pub mod Trees
+pub mod Labels

@@ -1,5 +1,5 @@
-pub mod Chains
-pub mod Choosing
+pub mod Along
+pub mod Closing
 pub mod Meant
 pub mod Quotations
 pub mod Sights

@@ -1,5 +1,5 @@
 -- What names are, by the arguments that stand alone.
-use Rattle.std.proofs.Common.{◌≡◌, ℕ, Bool, true, false, true≢false, List, [], ◌∷◌, map, Option, Some, None, Vec, Box, Global, refl, ap, ◌∙◌}
+use Rattle.std.proofs.Common.{◌≡◌, Bool, true, false, true≢false, List, [], ◌∷◌, map, Option, None, Vec, Box, Global, refl, ap, ◌∙◌}
 use Rattle.std.specs.Prelude.{◌&&◌, option_map}
 use Rattle.std.specs.List.{list_all}
 use mathlib.Core.Former.{Count}
@@ -16,8 +16,6 @@ use Rattle.vhdl_names.specs.declared.vector.Vector.TheBlock.{Row_of-VectorLink, 
 use Rattle.vhdl_names.specs.declared.vector.VectorLink.{VectorLink}
 use Rattle.vhdl_names.specs.declared.vector.VectorLink.TheVariants as l
 use Rattle.vhdl_names.specs.declared.vector.Place.{Place}
-use Rattle.vhdl_values.specs.declared.scalar.Nine.{Nine}
-use Rattle.vhdl_names.specs.Expressions as expressions
 use Rattle.vhdl_names.specs.Names as rules
 use Rattle.vhdl_names.specs.Names.{arguments}
 use Rattle.vhdl_names.specs.Operators as o
@@ -27,7 +25,7 @@ use Rattle.vhdl_names.specs.views.Integers.{static_view, start_view, static_chai
 use Rattle.vhdl_names.proofs.rows.Integers.{view_chain}
 use Rattle.vhdl_names.specs.views.Vectors.{vector_view, links_view, linked}
 use Rattle.vhdl_types.specs.declared.types.Typed.{Typed}
-use Rattle.vhdl_types.specs.Steps.{sole, two, indexed, conversion, counting, encoded_by, edge_by, is_signal, closed}
+use Rattle.vhdl_types.specs.Steps.{sole, two, indexed, conversion, counting, encoded_by, edge_by, is_signal}
 use Rattle.vhdl_types.specs.Views.{typed_view}
 
 -- ---- one argument
@@ -95,7 +93,7 @@ edge_sole e xs = edge_alone e (map typed_view xs) ∙ ap (edge_by e) (sole_map t
 abbrev pub both_views : Typed × Typed → o.Typed × o.Typed
 both_views p = (typed_view p.0, typed_view p.1)
 
-two_map : (xs : List Typed) → two (map typed_view xs) ≡ option_map both_views (two xs)
+pub two_map : (xs : List Typed) → two (map typed_view xs) ≡ option_map both_views (two xs)
 two_map [] = refl
 two_map (x ∷ []) = refl
 two_map (x ∷ y ∷ []) = refl
@@ -279,41 +277,3 @@ pub is_static_chain : (x : Static) (start : Box StaticStart Global) (links : Vec
     rules.is_static (static_view x) ≡ (rules.is_static (start_view start.value) && list_all (λ l. rules.is_static (static_view l.operand)) links.items)
 is_static_chain x start links e =
     ap (λ y. rules.is_static (static_view y)) e ∙ ap rules.is_static (view_chain start links) ∙ is_static_chained (start_view start.value) links.items
-
--- ---- characters
-
-chain_kept : (left : u.Vector) (x : VectorLink) (n : Count) (row : Row_of-VectorLink n) → closed (links_view (linked left x) row) ≡ links_view (linked left x) row
-chain_kept left (l.Vector op at y) n end_of-VectorLink = refl
-chain_kept left (l.Integer op at s) n end_of-VectorLink = refl
-chain_kept left x n (more_of-VectorLink y rest) = chain_kept (linked left x) y _ rest
-
-pub no_character : (x : Vector) → ((at : ℕ) (c : Nine) → x ≡ v.Character at c → ⊥) → closed (vector_view x) ≡ vector_view x
-no_character (v.Signal p) other = refl
-no_character (v.Variable at k p) other = refl
-no_character (v.Constant at k p) other = refl
-no_character (v.Character at x) other = absurd (other at x refl)
-no_character (v.EnclosedCharacter at x) other = refl
-no_character (v.Literal at xs) other = refl
-no_character (v.Not' at b x) other = refl
-no_character (v.Chain' b first x shape rest) other = chain_kept (vector_view first) x _ rest
-no_character (v.IntegerWith' op at s b x) other = refl
-no_character (v.Encoded at s t) other = refl
-no_character (v.Resized' at b x s) other = refl
-no_character (v.ShiftedLeft' at b x s) other = refl
-no_character (v.ShiftedRight' at b x s) other = refl
-
-pub enclosed_element : (x : u.Vector) → expressions.enclosed (elements Element x) ≡ elements Element (closed x)
-enclosed_element (u.of_signal p) = refl
-enclosed_element (u.of_variable n p) = refl
-enclosed_element (u.of_constant n p) = refl
-enclosed_element (u.character c) = refl
-enclosed_element (u.enclosed_character c) = refl
-enclosed_element (u.Vector.literal cs) = refl
-enclosed_element (u.Vector.inverse y) = refl
-enclosed_element (u.Vector.binary op y z) = refl
-enclosed_element (u.with_integer op y s) = refl
-enclosed_element (u.integer_with op s y) = refl
-enclosed_element (u.Vector.encoded s t) = refl
-enclosed_element (u.Vector.resized y s) = refl
-enclosed_element (u.shifted_left y s) = refl
-enclosed_element (u.shifted_right y s) = refl

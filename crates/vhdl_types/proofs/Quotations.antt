@@ -1,10 +1,10 @@
 -- What stands between quotation marks, and the values of literals in turn.
-use Rattle.std.proofs.Common.{◌≡◌, ℕ, suc, ◌+◌, ◌-◌, ◌≤◌, ◌<◌, Bool, true, false, cond, List, [], ◌∷◌, ◌++◌, length, length-drop, take, drop, get_or, drop-cons, Option, Some, None, append_assoc, append-nil, refl, sym, ap, ◌∙◌, arith}
+use Rattle.std.proofs.Common.{◌≡◌, ℕ, suc, ◌+◌, ◌-◌, ◌≤◌, Bool, true, false, cond, List, [], ◌∷◌, ◌++◌, length, length-drop, take, drop, get_or, Option, Some, None, append-nil, refl, ap, ◌∙◌, arith}
 use Rattle.std.proofs.Math.Seq.{take-length}
 use Rattle.std.proofs.lemmas.Bool.Decides.{nat_tests}
 use Rattle.std.proofs.lemmas.List.{drop_all}
 use Rattle.std.specs.List.{position_or_len, after_first}
-use Rattle.std.specs.Prelude.{◌==◌, position, not, if◌then◌else◌, filter, flat_map}
+use Rattle.std.specs.Prelude.{◌==◌, position, not, filter}
 use Rattle.vhdl_values.specs.declared.scalar.Nine.{Nine}
 use Rattle.vhdl_lexer.specs.Bytes.{quote, underscore}
 use Rattle.vhdl_lexer.specs.Words.{base_class}

@@ -1,5 +1,4 @@
-pub mod Asked
-pub mod Chosen
+pub mod Missing
 pub mod Sights
 pub mod Steps
 pub mod Views

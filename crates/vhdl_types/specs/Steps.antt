@@ -4,21 +4,16 @@ use Rattle.vhdl_lexer.specs.declared.byte.Class.TheVariants.{Hexadecimal, Octal,
 use Rattle.vhdl_values.specs.declared.kinds.Cmp.{Cmp}
 use Rattle.vhdl_values.specs.declared.kinds.Cmp.TheVariants.{Ne}
 use Rattle.vhdl_names.specs.units.Expressions as u
+use Rattle.vhdl_tree.specs.declared.operator.Sign.{Sign}
+use Rattle.vhdl_names.specs.Rules.{◌>>=◌}
+use Rattle.vhdl_names.specs.Expressions.{as_integer, signed}
+use Rattle.vhdl_names.specs.Literals.{number_of}
 use Rattle.std.specs.Prelude.{ℕ, Bool, true, false, List, [], ◌∷◌, Option, Some, None, option_map}
 use Rattle.vhdl_values.specs.declared.kinds.Edge.{Edge}
 use Rattle.vhdl_names.specs.declared.kind.Kind.{Kind}
 use Rattle.vhdl_names.specs.declared.kind.Kind.TheVariants.{Element, LogicVector, Unsigned, OpenVector}
-use Rattle.vhdl_tree.specs.declared.expression.Link.{Link}
-use Rattle.vhdl_tree.specs.declared.operator.Sign.{Sign}
-use Rattle.vhdl_tree.specs.Tree as t
-use Rattle.vhdl_tree.specs.Tree.{Expr}
-use Rattle.vhdl_tree.specs.View.{view}
-use Rattle.vhdl_names.specs.Rules.{◌>>=◌}
-use Rattle.vhdl_names.specs.Visibility.{Sight}
-use Rattle.vhdl_names.specs.Expressions.{typed, enclosed, as_integer, signed}
-use Rattle.vhdl_names.specs.Literals.{number_of}
 use Rattle.vhdl_names.specs.Names.{edge_signal}
-use Rattle.vhdl_names.specs.Operators.{Typed, integer, elements, truth, operated}
+use Rattle.vhdl_names.specs.Operators.{Typed, integer, elements, truth}
 use Rattle.vhdl_names.specs.units.Expressions.{Static, Part, Vector, Value, Test}
 use Rattle.vhdl_types.specs.declared.literals.Base.{Base}
 use Rattle.vhdl_types.specs.declared.literals.Base.TheVariants as b
@@ -78,33 +73,17 @@ abbrev pub edge_by : Edge → Option Typed → Option Typed
 edge_by e (Some x) = option_map (λ p. truth (u.edge e p)) (edge_signal x)
 edge_by e None = None
 
--- ---- expressions
+-- ---- operands
 
 -- a character literal as it counts in parentheses
 abbrev pub closed : Vector → Vector
 closed (u.character c) = u.enclosed_character c
 closed x = x
 
-abbrev pub enclosed_if : Bool → Typed → Typed
-enclosed_if true x = enclosed x
-enclosed_if false x = x
-
+-- an integer literal
 abbrev pub integer_literal : List ℕ → Option Typed
 integer_literal text = option_map (λ n. integer (u.number n)) (number_of text)
 
 -- a sign before an operand
 abbrev pub signed_by : Sign → Typed → Option Typed
 signed_by sign x = as_integer x >>= λ s. Some (integer (signed sign s))
-
-abbrev pub is_parens : Expr → Bool
-is_parens (t.parens at e) = true
-is_parens _ = false
-
--- an operator's right operand, and then the operator, on what its left operand is, which may stand in parentheses
-abbrev pub linked : Sight → Bool → Option Typed → Link → Option Typed
-linked sight b None l = None
-linked sight b (Some x) l = typed sight (view l.operand) >>= λ y. operated sight.numbers l.operator x (enclosed_if b y)
-
-abbrev pub all_linked : Sight → Option Typed → List Link → Option Typed
-all_linked sight o [] = o
-all_linked sight o (l ∷ ls) = all_linked sight (linked sight false o l) ls

@@ -1,86 +1,27 @@
 //! What names in expressions are (IEEE 1076-2008, clause 8): objects with their indexed and slice
 //! names, conversions and calls of the packages' functions (9.3.4, 9.3.6), and 'event (16.2.4).
 
-ghost use Rattle.std.specs.Prelude.{◌≡◌, false, option_map, IfOk, IfErr};
-ghost use Rattle.std.specs.List.{list_all};
+ghost use Rattle.std.specs.Prelude.{◌≡◌, option_map};
 ghost use Rattle.vhdl_names.specs.Gives.{Gives};
 ghost use Rattle.vhdl_names.specs.Names as rules;
 ghost use Rattle.vhdl_names.specs.Operators as table;
 ghost use Rattle.vhdl_names.specs.Visibility as meanings;
 ghost use Rattle.vhdl_names.specs.units.Expressions as units;
-ghost use Rattle.vhdl_names.specs.views.Integers.{static_view, start_view};
-ghost use Rattle.vhdl_names.specs.views.Vectors.{part_view, place_view, signal_view, value_view, vector_view};
+ghost use Rattle.vhdl_names.specs.views.Integers.{static_view};
+ghost use Rattle.vhdl_names.specs.views.Vectors.{signal_view, value_view, vector_view};
 ghost use Rattle.vhdl_tree.specs.View.{ident_view};
-ghost use Rattle.vhdl_types.specs.Steps.{sole, two, indexed, conversion, counting, encoded_by, edge_by, is_signal};
+ghost use Rattle.vhdl_types.specs.Steps.{conversion, counting, encoded_by};
 ghost use Rattle.vhdl_types.specs.Views.{meaning_view, typed_view, typed_suffix_view};
 
+use crate::edges::{edge_of, edge_signal};
 use crate::meaning::Meaning;
+use crate::parts::{if_plain, part, sole_argument, two_arguments};
 use crate::types::{Typed, TypedSuffix};
 use std::alloc::Global;
 use vhdl_names::{
-    Function, Kind, NameFault, NameProblem, ObjectType, Part, Place, Signal, Static, StaticLink,
-    StaticStart, Test, Value, Vector,
+    Function, Kind, NameFault, NameProblem, ObjectType, Place, Signal, Static, Test, Value, Vector,
 };
 use vhdl_tree::Identifier;
-use vhdl_values::Edge;
-
-/// The argument that stands alone.
-fn sole_argument(mut arguments: Vec<Typed>) -> Option<Typed>
-    ensures { result ≡ sole arguments.items }
-{
-    let last = arguments.pop();
-    if arguments.is_empty() { last } else { None }
-}
-
-/// Two arguments that stand alone.
-fn two_arguments(mut arguments: Vec<Typed>) -> Option<(Typed, Typed)>
-    ensures { result ≡ two arguments.items }
-{
-    let second = arguments.pop()?;
-    let first = arguments.pop()?;
-    if arguments.is_empty() {
-        Some((first, second))
-    } else {
-        None
-    }
-}
-
-/// The element of a vector at an index.
-fn element(kind: Kind, index: Option<Typed>, at: usize) -> Result<(Part, Kind), NameFault>
-    ensures { Gives (λ p. (part_view p.0, p.1)) (indexed kind (option_map typed_view index)) result }
-{
-    match (kind, index) {
-        (Kind::LogicVector | Kind::Unsigned, Some(Typed::Integer(index))) => {
-            Ok((Part::Element(index), Kind::Element))
-        }
-        _ => Err(NameProblem::TypeMismatch.at(at)),
-    }
-}
-
-/// The part of an object of a kind that stands behind its name at byte `at`, and its kind.
-#[tactic(auto, using(crate::proofs::Meant::part_indexed))]
-fn part(kind: Kind, suffix: TypedSuffix, at: usize) -> Result<(Part, Kind), NameFault>
-    ensures { Gives (λ p. (part_view p.0, p.1)) (rules.part kind (typed_suffix_view suffix)) result }
-{
-    match suffix {
-        TypedSuffix::Plain => Ok((Part::Whole, kind)),
-        TypedSuffix::Arguments(_, arguments) => element(kind, sole_argument(arguments), at),
-        TypedSuffix::Range(range) => match kind {
-            Kind::LogicVector | Kind::Unsigned => Ok((Part::Slice(range), kind)),
-            _ => Err(NameProblem::TypeMismatch.at(at)),
-        },
-    }
-}
-
-/// A value whose name at byte `at` has nothing behind it.
-fn if_plain(suffix: TypedSuffix, value: Typed, at: usize) -> Result<Typed, NameFault>
-    ensures { Gives typed_view (rules.if_plain (typed_suffix_view suffix) (typed_view value)) result }
-{
-    match suffix {
-        TypedSuffix::Plain => Ok(value),
-        _ => Err(NameProblem::TypeMismatch.at(at)),
-    }
-}
 
 /// A port or signal of the nine values, or a part of it.
 fn read_signal(
@@ -140,116 +81,6 @@ fn converted(kind: Kind, suffix: TypedSuffix, at: usize) -> Result<Typed, NameFa
 {
     match suffix {
         TypedSuffix::Arguments(_, arguments) => conversion_of(kind, sole_argument(arguments), at),
-        _ => Err(NameProblem::TypeMismatch.at(at)),
-    }
-}
-
-/// The signal, or part of one, that a vector is, or else the vector.
-fn as_place(vector: Vector) -> Result<Place, Vector>
-    ensures place { IfOk result (λ p. vector_view vector ≡ units.of_signal (place_view p)) }
-    ensures other { IfErr result (λ v. is_signal (vector_view vector) ≡ false) }
-{
-    match vector {
-        Vector::Signal(place) => Ok(place),
-        vector => Err(vector),
-    }
-}
-
-/// Whether no loop's parameter stands in it.
-#[cycle(is_static)]
-#[tactic(auto, using(crate::proofs::Meant::is_static_chain))]
-fn is_static(integer: &Static) -> bool
-    ensures { result ≡ rules.is_static (static_view integer.now) }
-{
-    match integer {
-        Static::LoopParameter(_) => false,
-        Static::Negated(_, operand) => is_static(operand),
-        Static::Chain(start, links) => is_static_start(start) && are_static(links),
-        _ => true,
-    }
-}
-
-/// Whether no loop's parameter stands in either operand.
-#[cycle(is_static)]
-fn is_static_start(start: &StaticStart) -> bool
-    ensures { result ≡ rules.is_static (start_view start.now) }
-{
-    is_static(&start.first) && is_static(&start.link.operand)
-}
-
-/// Whether no loop's parameter stands in any right operand.
-#[cycle(is_static)]
-fn are_static(links: &[StaticLink]) -> bool
-    ensures { result ≡ list_all (λ l. rules.is_static (static_view l.operand)) links.now }
-{
-    for link in links {
-        if !is_static(&link.operand) {
-            return false;
-        }
-    }
-    true
-}
-
-/// Whether it is the whole, or an element at an index with no loop's parameter in it.
-fn is_static_part(part: &Part) -> bool
-    ensures { result ≡ rules.is_static_part (part_view part.now) }
-{
-    match part {
-        Part::Whole => true,
-        Part::Element(index) => is_static(index),
-        Part::Slice(_) => false,
-    }
-}
-
-/// What is wrong with an operand that is no signal.
-fn edge_problem(vector: &Vector) -> NameProblem {
-    match vector {
-        Vector::Variable(..) | Vector::Constant(..) => NameProblem::WrongKind,
-        _ => NameProblem::TypeMismatch,
-    }
-}
-
-/// The signal of one element that an edge call or 'event at byte `at` asks for.
-#[tactic(auto, using(crate::proofs::Meant::no_edge))]
-fn edge_signal(operand: Typed, at: usize) -> Result<Place, NameFault>
-    ensures { Gives place_view (rules.edge_signal (typed_view operand)) result }
-{
-    match operand {
-        Typed::Elements(Kind::Element, vector) => match as_place(vector) {
-            Ok(place) => {
-                if is_static_part(&place.part) {
-                    Ok(place)
-                } else {
-                    Err(NameProblem::TypeMismatch.at(at))
-                }
-            }
-            Err(vector) => Err(edge_problem(&vector).at(at)),
-        },
-        Typed::Integer(_) => Err(NameProblem::WrongKind.at(at)),
-        _ => Err(NameProblem::TypeMismatch.at(at)),
-    }
-}
-
-/// An edge of a signal, for a call at byte `at`.
-fn edge_call(edge: Edge, operand: Option<Typed>, at: usize) -> Result<Typed, NameFault>
-    ensures { Gives typed_view (edge_by edge (option_map typed_view operand)) result }
-{
-    match operand {
-        Some(operand) => {
-            let place = edge_signal(operand, at)?;
-            Ok(Typed::Truth(Test::Edge(edge, place)))
-        }
-        None => Err(NameProblem::TypeMismatch.at(at)),
-    }
-}
-
-/// rising_edge or falling_edge, whose name is at byte `at`, of a signal's name.
-#[tactic(auto, using(crate::proofs::Meant::edge_sole))]
-fn edge_of(edge: Edge, suffix: TypedSuffix, at: usize) -> Result<Typed, NameFault>
-    ensures { Gives typed_view (rules.edge_of edge (typed_suffix_view suffix)) result }
-{
-    match suffix {
-        TypedSuffix::Arguments(true, arguments) => edge_call(edge, sole_argument(arguments), at),
         _ => Err(NameProblem::TypeMismatch.at(at)),
     }
 }

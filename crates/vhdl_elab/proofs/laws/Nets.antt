@@ -20,20 +20,20 @@ use Rattle.vhdl_elab.proofs.Segments.{run-append, segment, reads-all, get-left, 
 
 -- ---- the nets of an object, with an actual and without
 
-own-nets : (above : List ℕ) (first : ℕ) (o : Object) → o.actual ≡ None → object_nets above first o ≡ range_with_len first (size o.kind)
+pub own-nets : (above : List ℕ) (first : ℕ) (o : Object) → o.actual ≡ None → object_nets above first o ≡ range_with_len first (size o.kind)
 own-nets above first o e = ap (λ (x : Option (List ℕ)). object_nets above first (record o { actual = x })) e
 
-actual-nets : (above : List ℕ) (first : ℕ) (o : Object) (es : List ℕ) → o.actual ≡ Some es → object_nets above first o ≡ map (slice_index above) es
+pub actual-nets : (above : List ℕ) (first : ℕ) (o : Object) (es : List ℕ) → o.actual ≡ Some es → object_nets above first o ≡ map (slice_index above) es
 actual-nets above first o es e = ap (λ (x : Option (List ℕ)). object_nets above first (record o { actual = x })) e
 
-own-is_size : (o : Object) → o.actual ≡ None → own_size o ≡ size o.kind
+pub own-is_size : (o : Object) → o.actual ≡ None → own_size o ≡ size o.kind
 own-is_size o e = ap (λ (x : Option (List ℕ)). own_size (record o { actual = x })) e
 
-actual-is_none : (o : Object) (es : List ℕ) → o.actual ≡ Some es → own_size o ≡ 0
+pub actual-is_none : (o : Object) (es : List ℕ) → o.actual ≡ Some es → own_size o ≡ 0
 actual-is_none o es e = ap (λ (x : Option (List ℕ)). own_size (record o { actual = x })) e
 
 -- an object has as many nets as elements
-nets-length : (above : List ℕ) (first : ℕ) (o : Object) → ObjectFits o → length (object_nets above first o) ≡ size o.kind
+pub nets-length : (above : List ℕ) (first : ℕ) (o : Object) → ObjectFits o → length (object_nets above first o) ≡ size o.kind
 nets-length above first o h = go o.actual refl
   where
     go : (a : Option (List ℕ)) → o.actual ≡ a → length (object_nets above first o) ≡ size o.kind

@@ -56,7 +56,7 @@ given-length at (enumeration count) (u.Fixed.constant k) vs h = codes-length at 
 given-length at (enumeration count) (u.Fixed.encoded s t) vs h = codes-length at 1 (u.Fixed.encoded s t) vs h
 given-length at (enumeration count) (u.filled v) vs h = codes-length at 1 (u.filled v) vs h
 
-starts-length : (at : Site) (kind : Kind) (d : Option Fixed) (vs : List ℕ) → starts at kind d ≡ Ok vs → length vs ≡ size kind
+pub starts-length : (at : Site) (kind : Kind) (d : Option Fixed) (vs : List ℕ) → starts at kind d ≡ Ok vs → length vs ≡ size kind
 unfolding starts
 starts-length at kind None vs h = subst (λ (ns : List ℕ). length ns ≡ size kind) (ok (replicate (size kind) 0) vs h) (length-replicate (size kind) 0)
 starts-length at kind (Some f) vs h = given-length at kind f vs h

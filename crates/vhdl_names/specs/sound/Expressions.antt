@@ -1,6 +1,6 @@
 -- What elaboration may take for granted of expressions: numbers are in range, parameters stand inside their generates and loops, and
 -- one element stands where one is asked for.
-use Rattle.std.specs.Prelude.{ℕ, ◌==◌, nat_lt, Bool, true, false, ◌&&◌, List, map, slice_get, Option, Some, None, option_map}
+use Rattle.std.specs.Prelude.{ℕ, ◌==◌, nat_lt, Bool, true, false, not, ◌&&◌, List, map, slice_get, Option, Some, None}
 use Rattle.vhdl_names.specs.declared.operator.VectorOperator.{VectorOperator}
 use Rattle.vhdl_names.specs.declared.operator.VectorOperator.TheVariants as v
 use Rattle.vhdl_names.specs.units.Expressions as e
@@ -114,7 +114,8 @@ vector_shape i (e.of_variable k p) = do
   given_that (is_elements x) x
 vector_shape i (e.of_constant k p) = do
   f ← slice_get i.constants k
-  part_shape i f p
+  x ← part_shape i f p
+  given_that (is_elements x) x
 vector_shape i (e.character x) = Some one
 vector_shape i (e.enclosed_character x) = Some one
 vector_shape i (e.Vector.literal xs) = Some vector
@@ -132,12 +133,16 @@ vector_shape i (e.Vector.shifted_right x n) = with_static i (vector_shape i x) n
 
 -- ---- values
 
+-- what is said to be of an enumeration is
+abbrev pub state_shape : Form → Option Shape
+state_shape f = given_that (not (is_elements (shape_of f))) (shape_of f)
+
 -- a literal of an enumeration has no shape of its own
 abbrev pub value_shape : Inside → Value → Option Shape
 value_shape i (e.Value.elements x) = vector_shape i x
 value_shape i (e.Value.position p) = None
-value_shape i (e.state_of x) = option_map shape_of (signal_form i x)
-value_shape i (e.state_of_variable k) = option_map shape_of (slice_get i.variables k)
+value_shape i (e.state_of x) = signal_form i x >>= state_shape
+value_shape i (e.state_of_variable k) = slice_get i.variables k >>= state_shape
 
 abbrev pub position_fits : Shape → ℕ → Bool
 position_fits (state count) p = nat_lt p count

@@ -1,5 +1,5 @@
 -- What elaboration may take for granted of sequential statements.
-use Rattle.std.specs.Prelude.{suc, nat_lt, Bool, true, false, ◌&&◌, [], ◌∷◌, slice_get, Option, Some, None}
+use Rattle.std.specs.Prelude.{suc, nat_lt, Bool, true, false, ◌&&◌, [], ◌∷◌, slice_get, Option, Some, None, is_some}
 use Rattle.std.specs.List.{list_all}
 use Rattle.vhdl_tree.specs.declared.declaration.Mode.{Mode}
 use Rattle.vhdl_tree.specs.declared.declaration.Mode.TheVariants.{In, Out}
@@ -44,13 +44,18 @@ choice_fits (Some one) (s.values (x ∷ [])) = true
 choice_fits (Some vector) (s.values (x ∷ xs)) = true
 choice_fits _ _ = false
 
+-- a case is on something of a shape, or on an enumeration's literal
+abbrev pub selector_fits : Inside → Value → Bool
+selector_fits i (e.Value.position p) = true
+selector_fits i x = is_some (value_shape i x)
+
 unfoldable mutual
   pub statement_fits : Inside → s.Statement → Bool
   statement_fits i s.nothing = true
   statement_fits i (s.assign p g) = is_driven i p.signal && given_fits_target i (place_shape i p) g
   statement_fits i (s.set k p g) = given_fits_target i (slice_get i.variables k >>= λ f. part_shape i f p) g
   statement_fits i (s.choose bs) = branches_fit i bs
-  statement_fits i (s.select x alts) = alternatives_fit i (value_shape i x) alts
+  statement_fits i (s.select x alts) = selector_fits i x && alternatives_fit i (value_shape i x) alts
   statement_fits i (s.loop r body) = range_fits i r && statements_fit (within_loop i) body
 
   pub statements_fit : Inside → s.Statements → Bool

@@ -20,7 +20,7 @@ abbrev pub fixed_fits : Inside → Shape → Fixed → Bool
 fixed_fits i one (u.Fixed.literal (x ∷ [])) = true
 fixed_fits i vector (u.Fixed.literal (x ∷ xs)) = true
 fixed_fits i x (u.Fixed.position p) = position_fits x p
-fixed_fits i x (u.Fixed.constant k) = fits_shape x (option_map shape_of (slice_get i.constants k))
+fixed_fits i x (u.Fixed.constant k) = is_elements x && fits_shape x (option_map shape_of (slice_get i.constants k))
 fixed_fits i vector (u.Fixed.encoded n size) = static_fits i n && static_fits i size
 fixed_fits i vector (u.Fixed.filled x) = true
 fixed_fits i _ _ = false

@@ -6,7 +6,7 @@ use Rattle.vhdl_lexer.specs.Words.{base_class}
 use Rattle.vhdl_names.specs.Rules.{◌>>=◌}
 use Rattle.vhdl_names.specs.Literals.{values_of_bits, values_by, at_least_one, bits_of, digit_value, quoted}
 use Rattle.vhdl_types.specs.Steps.{class_of}
-use Rattle.vhdl_types.proofs.Chains.{gives_along}
+use Rattle.vhdl_types.proofs.Along.{gives_along}
 use Rattle.vhdl_types.proofs.Quotations.{bits_of_base, rest_from}
 use Rattle.vhdl_types.proofs.literals.bit_string_values.Goals as goal
 

@@ -23,8 +23,8 @@ loop-end-preserved c =
       omega arith,
     )
 
-pub returns-in_err-read_line : goal.returns-in_err-read_line
-returns-in_err-read_line c =
+pub returns-in_err-read_line-clause-said : goal.returns-in_err-read_line-clause-said
+returns-in_err-read_line-clause-said c =
     let inputs = inputs_view c.args.inputs.now in
     let s = said_view c.loop-end.self in
     let new = said_view c.read_line.new.self in
@@ -37,8 +37,8 @@ returns-in_err-read_line c =
     (ap (λ line. in_line c.loop-end.line (after_line inputs s line)) (sym c.without_return.ensures) ∙ says))
     c.from_residual.ensures.1
 
-pub returns : goal.returns
-returns c =
+pub returns-clause-said : goal.returns-clause-said
+returns-clause-said c =
     let inputs = inputs_view c.args.inputs.now in
     let s = said_view c.loop-end.self in
     subst (λ said. Leads said (said_view c.read_line-2.new.self) c.read_line-2.result)

@@ -1,0 +1,19 @@
+use Rattle.std.proofs.Common.{◌≡◌, ◌<◌, length, sym, ap, ◌∙◌, subst, arith, All}
+use Rattle.std.proofs.lemmas.Result.{IfOk-weaker}
+use Rattle.rtl_net.specs.Nets.{NetView, flat}
+use Rattle.rtl_net.specs.Parts.{assembled}
+use Rattle.rtl_net.specs.declared.building.IdlePort.{IdlePort}
+use Rattle.kernel_rows.specs.Registers as spec
+use Rattle.kernel_rows.proofs.Shifted.{is_net}
+use Rattle.kernel_rows.proofs.registers.registers.Goals as goal
+
+pub new-requires-clause-elaborated : goal.new-requires-clause-elaborated
+new-requires-clause-elaborated c = is_net (assembled c.in_ok-parts.parts) c.in_ok-parts.ensures.registers
+
+pub new-requires-clause-idle : goal.new-requires-clause-idle
+new-requires-clause-idle c = subst (λ ps. All (λ (p : IdlePort). p.net < length c.in_ok-parts.parts.kinds.items) ps) (sym c.in_ok-parts.ensures.idle) (λ k d l. absurd (omega arith))
+
+pub returns : goal.returns
+returns c =
+    IfOk-weaker c.new.result (λ (net : NetView). net ≡ assembled c.in_ok-parts.parts) (λ (net : NetView). flat net ≡ spec.registers)
+    (λ net e. ap flat e ∙ c.in_ok-parts.ensures.registers.seen) c.new.ensures

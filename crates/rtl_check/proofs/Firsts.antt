@@ -1,0 +1,119 @@
+-- The faults of two drivers, and of mixed processes.
+use Rattle.std.proofs.Common.{◌≡◌, ℕ, ◌<◌, ◌≤◌, true, List, [], ◌∷◌, ◌++◌, length, get_or, map, refl, sym, ap, subst, ◌∙◌, arith, ◌⊎◌, inl, inr}
+use Rattle.std.specs.List.{range_with_len}
+use Rattle.std.proofs.lemmas.Bool.{cases_lt, eqb-true, eq-eqb}
+use Rattle.std.proofs.lemmas.List.{get_or_default}
+use Rattle.std.proofs.lemmas.List.FromFn.{get_or-map-range_with_len, length-map-range_with_len}
+use Rattle.std.proofs.Math.ListN.{get_or-eq_default}
+use Rattle.rtl_model.specs.nets.FlatNet.{flat_sources}
+use Rattle.rtl_model.specs.simulation.Net as m
+use Rattle.rtl_model.specs.simulation.Net.{Net, Kind, Mixed, process, sources_of}
+use Rattle.rtl_model.specs.simulation.Accepted as f
+use Rattle.rtl_model.specs.simulation.Accepted.{Fault, IsFault}
+use Rattle.rtl_model.specs.simulation.Faults.{fault_number}
+use Rattle.rtl_net.specs.declared.net.Source.{Source}
+use Rattle.rtl_net.specs.Nets.{NetView, flat, source_view}
+use Rattle.rtl_check.specs.declared.fault.CheckFault.{CheckFault}
+use Rattle.rtl_check.specs.declared.fault.CheckFault.TheVariants as c
+use Rattle.rtl_check.specs.Views.{core}
+use Rattle.rtl_check.specs.Listing.{first_named, one_place, Adds}
+use Rattle.rtl_check.proofs.Joined.{adds_nothing, adds_one}
+
+-- ---- mixed processes
+
+at_mixed : (p : ℕ) (x : Fault) → one_place 2 p x ≡ true → x ≡ f.MixedProcess p
+at_mixed p (f.MixedProcess q) e = ap f.MixedProcess (eqb-true q p e)
+at_mixed p (f.TwoDrivers n s t) e = absurd cc
+at_mixed p (f.ClockNotInput q n) e = absurd cc
+at_mixed p (f.EdgeNotSensitive q n) e = absurd cc
+at_mixed p (f.ClockAsData q n) e = absurd cc
+at_mixed p (f.MissingSensitivity q n) e = absurd cc
+at_mixed p (f.Latch q n) e = absurd cc
+at_mixed p (f.Loop ps) e = absurd cc
+at_mixed p (f.StoredVariable q v t) e = absurd cc
+
+pub not_mixed : (net : Net) (p : ℕ) (old : List CheckFault) → ((process net p).kind ≡ Mixed → ⊥) → Adds net (one_place 2 p) old old
+not_mixed net p old odd = adds_nothing net (one_place 2 p) old (λ x is e. odd (subst (IsFault net) (at_mixed p x e) is))
+
+pub is_mixed : (net : Net) (p : ℕ) (old new : List CheckFault) → new ≡ old ++ c.Mixed p ∷ [] → (process net p).kind ≡ Mixed → Adds net (one_place 2 p) old new
+is_mixed net p old new e is = adds_one net (one_place 2 p) old new (c.Mixed p) e is (eq-eqb p p refl) (λ y h t. at_mixed p y t)
+
+-- ---- two drivers
+
+module _ (net : NetView) where
+  pub sources_there : (n : ℕ) → n < length net.types → sources_of (core net) n ≡ flat_sources (flat net) n
+  sources_there n l = get_or-map-range_with_len (flat_sources (flat net)) 0 (length net.types) n n [] l (omega arith)
+
+  sources_beyond : (n : ℕ) → length net.types ≤ n → sources_of (core net) n ≡ []
+  sources_beyond n l = get_or-eq_default (map (flat_sources (flat net)) (range_with_len 0 (length net.types))) [] (rw (length-map-range_with_len (flat_sources (flat net)) 0 (length net.types)) l)
+
+  pub net_there : (x : Fault) → IsFault (core net) x → fault_number x ≡ 1 → first_named x < length net.types
+  net_there (f.TwoDrivers n s t) (more, is) one = go (cases_lt n (length net.types))
+    where
+      go : (n < length net.types) ⊎ (length net.types ≤ n) → n < length net.types
+      go (inl l) = l
+      go (inr l) = let h : [] ≡ s ∷ t ∷ more = sym (sources_beyond n l) ∙ is in absurd cc
+  net_there (f.MixedProcess q) is e = absurd (omega arith)
+  net_there (f.ClockNotInput q n) is e = absurd (omega arith)
+  net_there (f.EdgeNotSensitive q n) is e = absurd (omega arith)
+  net_there (f.ClockAsData q n) is e = absurd (omega arith)
+  net_there (f.MissingSensitivity q n) is e = absurd (omega arith)
+  net_there (f.Latch q n) is e = absurd (omega arith)
+  net_there (f.Loop ps) is e = absurd (omega arith)
+  net_there (f.StoredVariable q v t) is e = absurd (omega arith)
+
+  at_driven : (n : ℕ) (x : Fault) → one_place 1 n x ≡ true → (s t : m.Source) × (x ≡ f.TwoDrivers n s t)
+  at_driven n (f.TwoDrivers q s t) e = (s, t, ap (λ (i : ℕ). f.TwoDrivers i s t) (eqb-true q n e))
+  at_driven p (f.MixedProcess q) e = absurd cc
+  at_driven p (f.ClockNotInput q n) e = absurd cc
+  at_driven p (f.EdgeNotSensitive q n) e = absurd cc
+  at_driven p (f.ClockAsData q n) e = absurd cc
+  at_driven p (f.MissingSensitivity q n) e = absurd cc
+  at_driven p (f.Latch q n) e = absurd cc
+  at_driven p (f.Loop ps) e = absurd cc
+  at_driven p (f.StoredVariable q v t) e = absurd cc
+
+  listed : (n : ℕ) (sources : List Source) → n < length net.types → map source_view sources ≡ flat_sources (flat net) n → sources_of (core net) n ≡ map source_view sources
+  listed n sources l e = sources_there n l ∙ sym e
+
+  few : (n : ℕ) (sources : List Source) → length sources < 2 → sources_of (core net) n ≡ map source_view sources → (s t : m.Source)
+      → IsFault (core net) (f.TwoDrivers n s t) → ⊥
+  few n [] l e s t (more, is) = let h : [] ≡ s ∷ t ∷ more = sym e ∙ is in cc
+  few n (a ∷ []) l e s t (more, is) = let h : source_view a ∷ [] ≡ s ∷ t ∷ more = sym e ∙ is in cc
+  few n (a ∷ b ∷ rest) l e s t is = absurd (omega arith)
+
+  pub not_driven : (n : ℕ) (sources : List Source) (old : List CheckFault) → n < length net.types → map source_view sources ≡ flat_sources (flat net) n → length sources < 2
+      → Adds (core net) (one_place 1 n) old old
+  not_driven n sources old l e short = adds_nothing (core net) (one_place 1 n) old none
+    where
+      none : (x : Fault) → IsFault (core net) x → one_place 1 n x ≡ true → ⊥
+      none x is t = let (r, s, same) = at_driven n x t in few n sources short (listed n sources l e) r s (subst (IsFault (core net)) same is)
+
+  pub is_driven : (n : ℕ) (sources : List Source) (first second : Source) (old new : List CheckFault) → n < length net.types → map source_view sources ≡ flat_sources (flat net) n
+      → 2 ≤ length sources → first ≡ get_or sources 0 first → second ≡ get_or sources 1 second → new ≡ old ++ c.TwoDrivers n first second ∷ [] → Adds (core net) (one_place 1 n) old new
+  is_driven n [] first second old new l e long a b grown = absurd (omega arith)
+  is_driven n (x ∷ []) first second old new l e long a b grown = absurd (omega arith)
+  is_driven n (x ∷ y ∷ rest) first second old new l e long a b grown = adds_one (core net) (one_place 1 n) old new (c.TwoDrivers n first second) grown there (eq-eqb n n refl) only
+    where
+      spelled : sources_of (core net) n ≡ source_view first ∷ source_view second ∷ map source_view rest
+      spelled = listed n (x ∷ y ∷ rest) l e ∙ (ap (λ (s : Source). source_view s ∷ source_view y ∷ map source_view rest) (sym a)
+          ∙ ap (λ (s : Source). source_view first ∷ source_view s ∷ map source_view rest) (sym b))
+
+      there : IsFault (core net) (f.TwoDrivers n (source_view first) (source_view second))
+      there = (map source_view rest, spelled)
+
+      only : (y : Fault) → IsFault (core net) y → one_place 1 n y ≡ true → y ≡ f.TwoDrivers n (source_view first) (source_view second)
+      only z is t = let (r, s, same) = at_driven n z t in same ∙ go r s (subst (IsFault (core net)) same is)
+        where
+          go : (r s : m.Source) → IsFault (core net) (f.TwoDrivers n r s) → f.TwoDrivers n r s ≡ f.TwoDrivers n (source_view first) (source_view second)
+          go r s (more, at) =
+              let h : r ∷ s ∷ more ≡ source_view first ∷ source_view second ∷ map source_view rest = sym at ∙ spelled in
+              let i : r ≡ source_view first = cc in
+              let j : s ≡ source_view second = cc in
+              ap (λ (u : m.Source). f.TwoDrivers n u s) i ∙ ap (f.TwoDrivers n (source_view first)) j
+
+  pub driven_pushed : (n : ℕ) (sources : List Source) (d e : Source) (old new : List CheckFault) → n < length net.types → map source_view sources ≡ flat_sources (flat net) n
+      → 2 ≤ length sources → new ≡ old ++ c.TwoDrivers n (get_or sources 0 d) (get_or sources 1 e) ∷ [] → Adds (core net) (one_place 1 n) old new
+  driven_pushed n sources d e old new l is long grown =
+      is_driven n sources (get_or sources 0 d) (get_or sources 1 e) old new l is long
+      (get_or_default sources 0 d (get_or sources 0 d) (omega arith)) (get_or_default sources 1 e (get_or sources 1 e) (omega arith)) grown

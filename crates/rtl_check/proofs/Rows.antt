@@ -1,0 +1,170 @@
+-- The table of a net, by rows.
+use Rattle.std.proofs.Common.{◌≡◌, ℕ, zero, suc, ◌+◌, ◌<◌, ◌≤◌, Bool, true, false, ◌||◌, ◌==◌, List, [], ◌∷◌, ◌++◌, length, get_or, map, refl, sym, ap, subst, ◌∙◌, arith, ◌⊎◌, inl, inr, Option, Some, None, Contains}
+use Rattle.std.specs.Prelude.{IsSome}
+use Rattle.std.specs.Global.{Vec}
+use Rattle.std.specs.List.{list_any}
+use Rattle.std.proofs.lemmas.Bool.{and_parts, and_from, cases_lt, eqb-true, eq-eqb}
+use Rattle.std.proofs.lemmas.List.{get_or_default, get_or_past, length-map}
+use Rattle.rtl_model.specs.nets.FlatNet.{flat_sources, ProcessInRange}
+use Rattle.rtl_model.specs.simulation.Net as m
+use Rattle.rtl_model.specs.simulation.Net.{Net, Source, Driver, Idle, IsCombinational, process, target, sources_of}
+use Rattle.rtl_model.specs.simulation.Accepted as f
+use Rattle.rtl_model.specs.simulation.Elaborated.{IsWired}
+use Rattle.rtl_model.proofs.basics.Lists.{in_contains, contains_in, any_at, any_true, get_or-map_within}
+use Rattle.rtl_net.specs.declared.process.Process.{Process}
+use Rattle.rtl_net.specs.Nets.{NetView, flat, process_view}
+use Rattle.rtl_net.specs.Elaborated.{IsNet}
+use Rattle.rtl_levels.specs.Feeding as t
+use Rattle.rtl_levels.specs.OfNets.{IsTableOf}
+use Rattle.rtl_facts.specs.declared.kinds.Kind.{Kind}
+use Rattle.rtl_facts.specs.declared.kinds.Kind.TheVariants as k
+use Rattle.rtl_facts.specs.Reading.{is_in}
+use Rattle.rtl_check.specs.Views.{core, IsKind, AreKinds}
+use Rattle.rtl_check.specs.Feeders.{combinational_kind, combinational_at, feeds_by, IsRow}
+use Rattle.rtl_check.proofs.Processes.{process_is}
+use Rattle.rtl_check.proofs.Firsts.{sources_there}
+
+pub any_map : {X Y : Type 0} (g : Y → Bool) (h : X → Y) (xs : List X) → list_any g (map h xs) ≡ list_any (λ x. g (h x)) xs
+any_map g h [] = refl
+any_map g h (x ∷ xs) = ap (λ (b : Bool). g (h x) || b) (any_map g h xs)
+
+pub kind_there : (kinds : List Kind) (p : ℕ) (d kind : Kind) → p < length kinds → get_or kinds p d ≡ kind → combinational_kind kind ≡ combinational_at kinds p
+kind_there kinds p d kind l e = ap combinational_kind (sym e ∙ get_or_default kinds p d k.Mixed l)
+
+pub kind_past : (kinds : List Kind) (p : ℕ) → length kinds ≤ p → false ≡ combinational_at kinds p
+kind_past kinds p l = sym (ap combinational_kind (get_or_past kinds p k.Mixed l))
+
+module _ (net : Net) (kinds : List Kind) (ks : AreKinds net kinds) where
+  by_kind : (p : ℕ) (kind : Kind) → IsKind (process net p) kind → combinational_kind kind ≡ true → (process net p).kind ≡ m.Combinational
+  by_kind p k.Combinational d t = d
+  by_kind p (k.Clocked c) d t = absurd cc
+  by_kind p k.Mixed d t = absurd cc
+
+  has_kind : (p : ℕ) (kind : Kind) → IsKind (process net p) kind → (process net p).kind ≡ m.Combinational → combinational_kind kind ≡ true
+  has_kind p k.Combinational d e = refl
+  has_kind p (k.Clocked c) d e = let h : m.Clocked c.clock c.edge d.reset ≡ m.Combinational = sym d.kind ∙ e in absurd cc
+  has_kind p k.Mixed d e = let h : m.Mixed ≡ m.Combinational = sym d ∙ e in absurd cc
+
+  pub combinational_to : (p : ℕ) → combinational_at kinds p ≡ true → IsCombinational net p
+  combinational_to p t = go (cases_lt p (length kinds))
+    where
+      go : (p < length kinds) ⊎ (length kinds ≤ p) → IsCombinational net p
+      go (inl l) = let there : p < length net.processes = rw (← ks.each_process) l in (there, by_kind p (get_or kinds p k.Mixed) (ks.each p there) t)
+      go (inr l) = let h : false ≡ true = kind_past kinds p l ∙ t in absurd cc
+
+  pub combinational_from : (p : ℕ) → IsCombinational net p → combinational_at kinds p ≡ true
+  combinational_from p (l, e) = has_kind p (get_or kinds p k.Mixed) (ks.each p l) e
+
+  feeder_of : (p : ℕ) (s : Source) → feeds_by kinds p s ≡ true → (place : ℕ) × (s ≡ Driver p place) × IsCombinational net p
+  feeder_of p (Driver q place) t =
+      let (a, b) = and_parts (combinational_at kinds q) (q == p) t in
+      let e = eqb-true q p b in
+      (place, ap (λ (i : ℕ). Driver i place) e, subst (IsCombinational net) e (combinational_to q a))
+  feeder_of p (Idle v) t = absurd cc
+
+  pub feeds_to : (wired : IsWired net) (p q : ℕ) (sources : ℕ → List Source) → ((n : ℕ) → Contains (process net q).wakes n → sources n ≡ sources_of net n) → IsCombinational net q
+      → list_any (λ n. list_any (feeds_by kinds p) (sources n)) (process net q).wakes ≡ true → f.Feeds net p q
+  feeds_to wired p q sources same c t =
+      let (n, w, h) = any_at (λ n. list_any (feeds_by kinds p) (sources n)) (process net q).wakes t in
+      let (s, there, g) = any_at (feeds_by kinds p) (sources n) h in
+      let (place, is, cp) = feeder_of p s g in
+      let (has, at) = wired.sources_are_drivers n p place (subst (λ (x : Source). Contains (sources_of net n) x) is (subst (λ (ss : List Source). Contains ss s) (same n w) there)) in
+      record { feeder = cp; fed = c; place = place; drives = has; wakes = subst (Contains (process net q).wakes) (sym at) w }
+
+  pub feeds_from : (wired : IsWired net) (p q : ℕ) (sources : ℕ → List Source) → ((n : ℕ) → Contains (process net q).wakes n → sources n ≡ sources_of net n) → f.Feeds net p q
+      → list_any (λ n. list_any (feeds_by kinds p) (sources n)) (process net q).wakes ≡ true
+  feeds_from wired p q sources same h =
+      let n = target net p h.place in
+      let there = subst (λ (ss : List Source). Contains ss (Driver p h.place)) (sym (same n h.wakes)) (wired.drivers_are_sources p h.place h.drives) in
+      any_true (λ n. list_any (feeds_by kinds p) (sources n)) (process net q).wakes n h.wakes
+      (any_true (feeds_by kinds p) (sources n) (Driver p h.place) there (and_from (combinational_at kinds p) (p == p) (combinational_from p h.feeder) (eq-eqb p p refl)))
+
+-- ---- a row
+
+pub row_none : (net : Net) (kinds : List Kind) → AreKinds net kinds → (q : ℕ) → combinational_at kinds q ≡ false → IsRow net q None
+row_none net kinds ks q t c = let h : true ≡ false = sym (combinational_from net kinds ks q c) ∙ t in cc
+
+pub row_some : (net : NetView) (kinds : List Kind) → AreKinds (core net) kinds → IsWired (core net) → (q : ℕ) (x : Process) → q < length net.processes → x ≡ get_or net.processes q x
+    → ((n : ℕ) → Contains x.wakes.items n → n < length net.types) → combinational_at kinds q ≡ true → (feeders : Vec ℕ)
+    → ((p : ℕ) → is_in p feeders.items ≡ list_any (λ n. list_any (feeds_by kinds p) (flat_sources (flat net) n)) x.wakes.items) → IsRow (core net) q (Some feeders)
+row_some net kinds ks wired q x there at nets t feeders are = (c, λ p. (to p, from p))
+  where
+    c : IsCombinational (core net) q
+    c = combinational_to (core net) kinds ks q t
+
+    wakes : (process (core net) q).wakes ≡ x.wakes.items
+    wakes = ap (λ (r : m.Process). r.wakes) (process_is net q x there at)
+
+    same : (n : ℕ) → Contains (process (core net) q).wakes n → flat_sources (flat net) n ≡ sources_of (core net) n
+    same n w = sym (sources_there net n (nets n (subst (λ (ns : List ℕ). Contains ns n) wakes w)))
+
+    to : (p : ℕ) → Contains feeders.items p → f.Feeds (core net) p q
+    to p h =
+        feeds_to (core net) kinds ks wired p q (flat_sources (flat net)) same c
+        (ap (list_any (λ n. list_any (feeds_by kinds p) (flat_sources (flat net) n))) wakes ∙ (sym (are p) ∙ contains_in feeders.items p h))
+
+    from : (p : ℕ) → f.Feeds (core net) p q → Contains feeders.items p
+    from p h =
+        in_contains feeders.items p (are p ∙ (ap (list_any (λ n. list_any (feeds_by kinds p) (flat_sources (flat net) n))) (sym wakes)
+        ∙ feeds_from (core net) kinds ks wired p q (flat_sources (flat net)) same h))
+
+-- ---- the table
+
+get_or-push : {X : Type 0} (xs : List X) (x d : X) → get_or (xs ++ x ∷ []) (length xs) d ≡ x
+get_or-push [] x d = refl
+get_or-push (y ∷ ys) x d = get_or-push ys x d
+
+get_or-push_below : {X : Type 0} (xs : List X) (x : X) (p : ℕ) (d : X) → p < length xs → get_or (xs ++ x ∷ []) p d ≡ get_or xs p d
+get_or-push_below [] x p d l = absurd (omega arith)
+get_or-push_below (y ∷ ys) x zero d l = refl
+get_or-push_below (y ∷ ys) x (suc p) d l = get_or-push_below ys x p d (omega arith)
+
+pub rows_more : (net : Net) (table new : t.Table) (i : ℕ) (row : Option (Vec ℕ)) → length table ≡ i → ((q : ℕ) → q < i → IsRow net q (get_or table q None))
+    → new ≡ table ++ row ∷ [] → IsRow net i row → (q : ℕ) → q < i + 1 → IsRow net q (get_or new q None)
+rows_more net table new i row many so_far is now q l = subst (λ (rs : t.Table). IsRow net q (get_or rs q None)) (sym is) (go (cases_lt q i))
+  where
+    go : (q < i) ⊎ (i ≤ q) → IsRow net q (get_or (table ++ row ∷ []) q None)
+    go (inl h) = subst (IsRow net q) (sym (get_or-push_below table row q None (rw many h))) (so_far q h)
+    go (inr h) =
+        let e : q ≡ length table = omega (arith, many) in
+        let g : i ≡ q = omega arith in
+        subst (λ (j : ℕ). IsRow net q (get_or (table ++ row ∷ []) j None)) (sym e)
+        (subst (IsRow net q) (sym (get_or-push table row None)) (subst (λ (j : ℕ). IsRow net j row) g now))
+
+row_in : (net : Net) (q : ℕ) (o : Option (Vec ℕ)) → IsRow net q o → IsSome o → IsCombinational net q
+row_in net q None h s = absurd cc
+row_in net q (Some v) h s = h.0
+
+in_row : (net : Net) (q : ℕ) (o : Option (Vec ℕ)) → IsRow net q o → IsCombinational net q → IsSome o
+in_row net q None h c = absurd (h c)
+in_row net q (Some v) h c = refl
+
+row_feeds : (net : Net) (p q : ℕ) (o : Option (Vec ℕ)) → IsRow net q o → Contains (t.listed o) p → f.Feeds net p q
+row_feeds net p q None h (j, l, e) = absurd (omega arith)
+row_feeds net p q (Some v) h c = (h.1 p).0 c
+
+feeds_row : (net : Net) (p q : ℕ) (o : Option (Vec ℕ)) → IsRow net q o → f.Feeds net p q → Contains (t.listed o) p
+feeds_row net p q None h c = absurd (h c.fed)
+feeds_row net p q (Some v) h c = (h.1 p).1 c
+
+pub table_is : (net : Net) (table : t.Table) → length table ≡ length net.processes → ((q : ℕ) → q < length net.processes → IsRow net q (get_or table q None)) → IsTableOf net table
+table_is net table many rows = record {
+  each_process = many;
+  combinational = λ q. (λ s. row_in net q (get_or table q None) (row q) s, λ c. in_row net q (get_or table q None) (row q) c);
+  feeds = λ p q. (λ h. row_feeds net p q (get_or table q None) (row q) h, λ h. feeds_row net p q (get_or table q None) (row q) h);
+}
+  where
+    row : (q : ℕ) → IsRow net q (get_or table q None)
+    row q = go (cases_lt q (length net.processes))
+      where
+        go : (q < length net.processes) ⊎ (length net.processes ≤ q) → IsRow net q (get_or table q None)
+        go (inl l) = rows q l
+        go (inr l) = subst (IsRow net q) (sym (get_or_past table q None (rw many l))) (λ c. let h = c.0 in omega arith)
+
+-- what a process is sensitive to is there
+pub nets_of_wakes : (net : NetView) → IsNet net → (p : ℕ) (x : Process) → p < length net.processes → x ≡ get_or net.processes p x
+    → (k d : ℕ) → k < length x.wakes.items → get_or x.wakes.items k d < length net.types
+nets_of_wakes net elaborated p x there at k d l =
+    let same : get_or (map process_view net.processes) p (process_view x) ≡ process_view x = get_or-map_within process_view net.processes p x (process_view x) there ∙ ap process_view (sym at) in
+    let in_range : ProcessInRange net.types (get_or (map process_view net.processes) p (process_view x)) = elaborated.in_range.processes p (process_view x) (rw (length-map net.processes process_view) there) in
+    (subst (ProcessInRange net.types) same in_range).wakes k d l

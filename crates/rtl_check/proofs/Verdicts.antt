@@ -1,0 +1,46 @@
+-- A net's faults, or its loop.
+use Rattle.std.proofs.Common.{◌≡◌, ◌==◌, ℕ, true, false, List, [], ◌∷◌, ◌++◌, length, map, refl, sym, ap, subst, ◌∙◌, arith, inl, inr, Vec, Global, vec_len}
+use Rattle.std.specs.Prelude.{IsTrue, ◌↔◌}
+use Rattle.std.proofs.lemmas.Bool.{eqb-true}
+use Rattle.rtl_model.specs.simulation.Net.{Net}
+use Rattle.rtl_model.specs.simulation.Accepted as f
+use Rattle.rtl_model.specs.simulation.Faults.{AreFaults, AreFaultsButLoops}
+use Rattle.rtl_model.specs.simulation.Laws.{FaultsAreListed}
+use Rattle.rtl_levels.specs.Feeding as t
+use Rattle.rtl_levels.specs.OfNets.{IsTableOf}
+use Rattle.rtl_check.specs.declared.fault.CheckFault.{CheckFault}
+use Rattle.rtl_check.specs.declared.fault.CheckFault.TheVariants as c
+use Rattle.rtl_check.specs.Views.{fault_view}
+
+some_faults : (xs : List CheckFault) → (length xs == 0) ≡ false → map fault_view xs ≡ [] → ⊥
+some_faults [] e h = cc
+some_faults (x ∷ xs) e h = cc
+
+pub faulty : (net : Net) (xs : Vec CheckFault Global) → (vec_len xs == 0) ≡ false → AreFaultsButLoops net (map fault_view xs.items) → AreFaults net (map fault_view xs.items)
+faulty net xs e h = inl (h, λ none. some_faults xs.items (sym (ap (λ (n : ℕ). n == 0) xs.ok.0) ∙ e) none)
+
+no_items : (xs : List CheckFault) → (length xs == 0) ≡ true → xs ≡ []
+no_items [] e = refl
+no_items (x ∷ xs) e = let h = eqb-true (length (x ∷ xs)) 0 e in absurd (omega arith)
+
+pub none_of : (xs : Vec CheckFault Global) → (vec_len xs == 0) ≡ true → xs.items ≡ []
+none_of xs e = no_items xs.items (sym (ap (λ (n : ℕ). n == 0) xs.ok.0) ∙ e)
+
+pub looped : (net : Net) (old new : List CheckFault) (round : Vec ℕ Global) → old ≡ [] → AreFaultsButLoops net (map fault_view old) → new ≡ old ++ c.Loop round ∷ [] → f.IsLoop net round.items
+    → AreFaults net (map fault_view new)
+looped net old new round none h e loop = inr (record {
+  processes = round.items;
+  is = ap (map fault_view) (e ∙ ap (λ (xs : List CheckFault). xs ++ c.Loop round ∷ []) none);
+  loop = loop;
+  no_other = subst (λ (xs : List CheckFault). AreFaultsButLoops net (map fault_view xs)) none h;
+})
+
+pub closed : (net : Net) (table : t.Table) → IsTableOf net table → t.IsClosed table
+closed net table h p q feeds = (h.combinational p).1 ((h.feeds p q).0 feeds).feeder
+
+-- a net with faults isn't accepted
+pub refused : (net : Net) (faults : List f.Fault) → FaultsAreListed net → AreFaults net faults → IsTrue false ↔ f.IsAccepted net
+refused net faults laws h = (to, λ a. absurd (laws.none_if_accepted faults h a))
+  where
+    to : false ≡ true → f.IsAccepted net
+    to e = absurd cc

@@ -1,0 +1,8 @@
+use Rattle.std.proofs.Common.{◌≡◌, ◌<◌, ℕ, false}
+use Rattle.rtl_model.specs.simulation.Net as m
+use Rattle.rtl_check.specs.Views.{core}
+use Rattle.rtl_check.specs.Bounds.{is_late}
+use Rattle.rtl_check.proofs.bound.has_late_reset.Given as goal
+
+abbrev pub invariant-loop-process : goal.invariant-loop-process
+invariant-loop-process l = (p : ℕ) → p < l.process → is_late (core l.net) (m.process (core l.net) p) ≡ false

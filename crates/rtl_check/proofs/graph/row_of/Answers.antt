@@ -1,0 +1,38 @@
+use Rattle.std.proofs.Common.{◌≡◌, ◌<◌, ℕ, List, length, get_or, sym, ap, subst, ◌∙◌, arith}
+use Rattle.std.specs.List.{list_any}
+use Rattle.std.proofs.lemmas.List.{take_all}
+use Rattle.rtl_model.specs.nets.FlatNet.{flat_sources}
+use Rattle.rtl_net.specs.declared.process.Process.{Process}
+use Rattle.rtl_net.specs.Nets.{flat}
+use Rattle.rtl_check.specs.Feeders.{feeds_by}
+use Rattle.rtl_check.proofs.Processes.{many_processes}
+use Rattle.rtl_check.proofs.Rows.{row_some, nets_of_wakes}
+use Rattle.rtl_check.proofs.graph.row_of.Goals as goal
+
+within : {a k m n : ℕ} → a < k → k ≡ m → m ≡ n → a < n
+within l e f = omega arith
+
+pub push_feeders-requires : goal.push_feeders-requires
+push_feeders-requires c =
+    let net = c.args.net.now in
+    let x = c.index-processes-process.result in
+    let there = within c.requires.there c.requires.kinds.each_process (many_processes net) in
+    let at = c.index-processes-process.is ∙ ap (λ (ps : List Process). get_or ps c.args.process x) c.processes-processes.ensures in
+    let i = c.loop-wake.wake-index in
+    let are = c.as_slice-wakes.ensures ∙ sym (ap (λ (q : Process). q.wakes.items) c.index-processes-process.is) in
+    let l : i < length x.wakes.items = subst (λ (ns : List ℕ). i < length ns) are c.loop-wake-test.true in
+    subst (λ (ns : List ℕ). get_or ns i 0 < length net.types) (sym are) (nets_of_wakes net c.nets-nets.ensures.elaborated c.args.process x there at i 0 l)
+
+pub returns : goal.returns
+returns c =
+    let net = c.args.net.now in
+    let x = c.index-processes-process.result in
+    let ks = c.args.kinds.now in
+    let there = within c.requires.there c.requires.kinds.each_process (many_processes net) in
+    let at = c.index-processes-process.is ∙ ap (λ (ps : List Process). get_or ps c.args.process x) c.processes-processes.ensures in
+    let N = c.nets-nets.ensures.elaborated in
+    let all = take_all c.loop-wake.wake-index c.as_slice-wakes.result.now c.loop-wake-test.false ∙ (c.as_slice-wakes.ensures ∙ sym (ap (λ (q : Process). q.wakes.items) c.index-processes-process.is)) in
+    row_some net ks c.requires.kinds (c.nets_meet_the_laws.ensures net N).elaborated.wiring c.args.process x there at
+    (λ n (k, l, e). subst (λ (j : ℕ). j < length net.types) e (nets_of_wakes net N c.args.process x there at k n l))
+    (sym c.is_combinational.ensures ∙ c.if-not-is_combinational.false) c.loop-wake.feeders
+    (λ p. c.loop-wake.invariant p ∙ ap (list_any (λ n. list_any (feeds_by ks p) (flat_sources (flat net) n))) all)

@@ -1,0 +1,29 @@
+use Rattle.std.proofs.Common.{◌≡◌, ◌<◌, ◌≤◌, ℕ, length, sym, ap, subst, ◌∙◌, arith}
+use Rattle.rtl_levels.specs.Feeding as t
+use Rattle.rtl_levels.specs.declared.order.Order.{Order}
+use Rattle.rtl_levels.specs.Orders.{IsOrder}
+use Rattle.rtl_levels.specs.Rounds.{IsRound}
+use Rattle.rtl_check.specs.Views.{core}
+use Rattle.rtl_check.proofs.Processes.{many_processes}
+use Rattle.rtl_check.proofs.Verdicts.{looped, none_of, closed}
+use Rattle.rtl_check.proofs.judging.judge.Goals as goal
+
+small : {a b m n : ℕ} → a ≡ b → b ≡ m → m ≡ n → n ≤ 65536 → a < 4294967296
+small e f g l = omega arith
+
+pub order_of-requires : goal.order_of-requires
+order_of-requires c =
+    let table = c.in_ok-table.table.items in
+    let is = c.deref.ensures.value in
+    record {
+      closed = subst t.IsClosed (sym is) (closed (core c.args.net.now) table c.in_ok-table.ensures);
+      few = small (ap (λ (xs : t.Table). length xs) is) c.in_ok-table.ensures.each_process (many_processes c.args.net.now) c.nets-nets.ensures.elaborated.processes_limit;
+    }
+
+pub returns-in_ok-push-in-Looped : goal.returns-in_ok-push-in-Looped
+returns-in_ok-push-in-Looped c =
+    let n = core c.args.net.now in
+    let faults = c.in_ok-faults.faults in
+    looped n faults.items c.push.new.self.items c.in-Looped.processes (none_of faults (sym c.is_empty.ensures ∙ c.if-not-is_empty.false)) c.in_ok-faults.ensures (c.in_ok-push-in-Looped).ensures.items
+    (c.tables_are_of_nets.ensures.loops n c.in_ok-table.table.items c.in-Looped.processes.items c.in_ok-table.ensures
+    (subst (λ (xs : t.Table). IsRound xs c.in-Looped.processes.items) c.deref.ensures.value (subst (λ (o : Order). IsOrder c.deref.result.now o) c.in-Looped.is c.in_ok-levels.ensures)))

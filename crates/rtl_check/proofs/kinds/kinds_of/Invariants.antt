@@ -1,0 +1,11 @@
+use Rattle.std.proofs.Common.{◌≡◌, ◌<◌, ℕ, length, get_or}
+use Rattle.rtl_model.specs.simulation.Net.{process}
+use Rattle.rtl_facts.specs.declared.kinds.Kind.TheVariants as k
+use Rattle.rtl_check.specs.Views.{core, IsKind}
+use Rattle.rtl_check.proofs.kinds.kinds_of.Given as goal
+
+abbrev pub invariant-loop-process : goal.invariant-loop-process
+invariant-loop-process l = record {
+  so_many : length l.kinds.items ≡ l.process-index;
+  so_far : (p : ℕ) → p < l.process-index → IsKind (process (core l.net) p) (get_or l.kinds.items p k.Mixed);
+}

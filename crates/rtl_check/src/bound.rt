@@ -1,0 +1,104 @@
+//! The bound on delta cycles.
+
+ghost use Rattle.std.specs.Prelude.{◌≡◌, ◌<◌, ◌+◌, ◌^◌, length};
+ghost use Rattle.rtl_model.specs.simulation.Net as m;
+ghost use Rattle.rtl_model.specs.simulation.Levels as l;
+ghost use Rattle.rtl_net.specs.Nets.{source_view};
+ghost use Rattle.rtl_check.specs.Views.{core, AreKinds};
+ghost use Rattle.rtl_check.specs.Rules.{AreClockNets};
+ghost use Rattle.rtl_check.specs.Bounds as b;
+
+use rtl_facts::Kind;
+use rtl_net::{Net, Source};
+
+/// Whether a source is a driver.
+fn is_driver(source: Source) -> bool
+    ensures { result ≡ l.is_driver (source_view source) }
+{
+    match source {
+        Source::Driven { .. } => true,
+        Source::Idle { .. } => false,
+    }
+}
+
+/// Whether a process drives a net.
+fn is_driven(net: &Net, number: usize) -> bool
+    requires { number < length net.now.types }
+    ensures { result ≡ b.is_driven (core net.now) number }
+{
+    let sources = net.sources(number);
+    for source in sources {
+        if is_driver(*source) {
+            return true;
+        }
+    }
+    false
+}
+
+/// Whether a process is sensitive to a net that a process drives.
+pub fn follows_driver(net: &Net, process: usize) -> bool
+    requires { process < length net.now.processes }
+    ensures { result ≡ b.follows_driver (core net.now) (m.process (core net.now) process) }
+{
+    let _nets = net.nets();
+    let processes = net.processes();
+    let wakes = processes[process].wakes.as_slice();
+    for wake in wakes {
+        if is_driven(net, *wake) {
+            return true;
+        }
+    }
+    false
+}
+
+/// Whether a process of this kind has a reset.
+pub fn resets(kind: Kind) -> bool
+    ensures { result ≡ b.resets kind }
+{
+    match kind {
+        Kind::Combinational => false,
+        Kind::Clocked(clocking) => clocking.reset.is_some(),
+        Kind::Mixed => false,
+    }
+}
+
+/// Whether a process has a reset and is sensitive to a net that a process drives.
+fn is_late(net: &Net, kinds: &[Kind], process: usize) -> bool
+    requires kinds { AreKinds (core net.now) kinds.now }
+    requires there { process < length kinds.now }
+    ensures { result ≡ b.is_late (core net.now) (m.process (core net.now) process) }
+{
+    resets(kinds[process]) && follows_driver(net, process)
+}
+
+/// Whether there is such a process.
+fn has_late_reset(net: &Net, kinds: &[Kind]) -> bool
+    requires { AreKinds (core net.now) kinds.now }
+    ensures { result ≡ l.has_late_reset (core net.now) }
+{
+    for process in 0..kinds.len() {
+        if is_late(net, kinds, process) {
+            return true;
+        }
+    }
+    false
+}
+
+/// 1 where it is so, else 0.
+pub fn one_if(so: bool) -> u32
+    ensures { result ≡ b.one_if so }
+{
+    if so { 1 } else { 0 }
+}
+
+/// The bound on delta cycles of a net with this greatest level.
+pub fn bound_of(net: &Net, kinds: &[Kind], clocks: &[usize], greatest: u32) -> u32
+    requires kinds { AreKinds (core net.now) kinds.now }
+    requires clocks { AreClockNets (core net.now) clocks.now }
+    requires few { greatest + 2 < 2 ^ 32 }
+    ensures { result ≡ l.bound (core net.now) greatest }
+{
+    let registers = one_if(!clocks.is_empty());
+    let resets = one_if(has_late_reset(net, kinds));
+    greatest + registers + resets
+}

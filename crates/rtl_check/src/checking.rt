@@ -1,0 +1,43 @@
+//! Whether a net is accepted.
+
+ghost use Rattle.std.specs.Prelude.{◌↔◌, IfOk, IsTrue};
+ghost use Rattle.rtl_model.specs.simulation.Accepted.{IsAccepted};
+ghost use Rattle.rtl_check.specs.Views.{core};
+ghost use Rattle.rtl_check.specs.Verdicts.{IsVerdict, is_yes};
+
+use crate::clocks::clock_nets;
+use crate::fault::CheckFault;
+use crate::judging::{Judged, judge};
+use crate::kinds::kinds_of;
+use crate::reporting::{Report, report_of};
+use rtl_model::simulation_laws;
+use rtl_net::{Net, NoMemory};
+use std::alloc::Global;
+
+/// What the checker says of a net.
+#[derive(Drop)]
+pub enum Verdict {
+    /// It is accepted, and this is the report on it.
+    Yes(Report),
+    /// It has these faults: all but loops, in order, each once; or one loop, where it has no other.
+    No(Vec<CheckFault>),
+}
+
+/// Whether a net is accepted: yes, with the report on it, just where it has no fault; else no, with its faults. A loop is
+/// looked for only where there is no other fault. It takes time in proportion to the net, but for the logarithms of sorted
+/// lists, and memory for the kinds of processes, for what feeds what, and for the answer.
+pub fn check(alloc: Global, net: &Net) -> Result<Verdict, NoMemory>
+    ensures verdict { IfOk result (IsVerdict (core net.now)) }
+    ensures yes { IfOk result (λ v. IsTrue (is_yes v) ↔ IsAccepted (core net.now)) }
+{
+    simulation_laws::faults_are_listed();
+    let kinds = kinds_of(alloc, net)?;
+    let clocks = clock_nets(alloc, net, &kinds)?;
+    match judge(alloc, net, &kinds, &clocks)? {
+        Judged::Faulty(faults) => Ok(Verdict::No(faults)),
+        Judged::Leveled(levels) => {
+            let report = report_of(alloc, net, &kinds, &clocks, levels)?;
+            Ok(Verdict::Yes(report))
+        }
+    }
+}

@@ -1,0 +1,37 @@
+//! The clocks of a net.
+
+ghost use Rattle.std.specs.Prelude.{◌≡◌, ◌||◌, ℕ, IfOk, OnOk};
+ghost use Rattle.rtl_facts.specs.Reading.{is_in};
+ghost use Rattle.rtl_check.specs.Views.{core, AreKinds};
+ghost use Rattle.rtl_check.specs.Rules.{AreClockNets, has_clock};
+
+use rtl_facts::{Kind, sort_once};
+use rtl_net::{Net, NoMemory};
+use std::alloc::Global;
+
+/// Appends the clock of a process of this kind, if it has one.
+fn push_clock(kind: Kind, clocks: &mut Vec<usize>) -> Result<(), NoMemory>
+    ensures { OnOk result ((n : ℕ) → is_in n clocks.new.items ≡ (is_in n clocks.old.items || has_clock n kind)) }
+{
+    match kind {
+        Kind::Combinational => Ok(()),
+        Kind::Clocked(clocking) => {
+            clocks.push(clocking.clock)?;
+            Ok(())
+        }
+        Kind::Mixed => Ok(()),
+    }
+}
+
+/// The nets that clock some process, rising.
+pub fn clock_nets(alloc: Global, net: &Net, kinds: &[Kind]) -> Result<Vec<usize>, NoMemory>
+    requires { AreKinds (core net.now) kinds.now }
+    ensures { IfOk result (λ v. AreClockNets (core net.now) v.items) }
+{
+    let mut clocks = Vec::new(alloc);
+    for kind in kinds {
+        push_clock(*kind, &mut clocks)?;
+    }
+    sort_once(&mut clocks);
+    Ok(clocks)
+}

@@ -1,0 +1,52 @@
+//! All faults of a net but loops.
+
+ghost use Rattle.std.specs.Prelude.{map, IfOk};
+ghost use Rattle.rtl_model.specs.simulation.Faults.{AreFaultsButLoops};
+ghost use Rattle.rtl_check.specs.Views.{core, fault_view, AreKinds};
+ghost use Rattle.rtl_check.specs.Rules.{AreClockNets};
+
+use crate::fault::CheckFault;
+use crate::listing::{mixed, two_drivers};
+use crate::rule::Rule;
+use crate::rules::by_rule;
+use crate::variables::stored_variables;
+use rtl_facts::Kind;
+use rtl_net::{Net, NoMemory};
+use std::alloc::Global;
+
+/// All faults of a net but loops, in order.
+pub fn faults_of(
+    alloc: Global,
+    net: &Net,
+    kinds: &[Kind],
+    clocks: &[usize],
+) -> Result<Vec<CheckFault>, NoMemory>
+    requires kinds { AreKinds (core net.now) kinds.now }
+    requires clocks { AreClockNets (core net.now) clocks.now }
+    ensures { IfOk result (λ faults. AreFaultsButLoops (core net.now) (map fault_view faults.items)) }
+{
+    let mut faults = Vec::new(alloc);
+    two_drivers(net, &mut faults)?;
+    mixed(net, kinds, &mut faults)?;
+    by_rule(alloc, net, kinds, clocks, Rule::ClockNotInput, &mut faults)?;
+    by_rule(
+        alloc,
+        net,
+        kinds,
+        clocks,
+        Rule::EdgeNotSensitive,
+        &mut faults,
+    )?;
+    by_rule(alloc, net, kinds, clocks, Rule::ClockAsData, &mut faults)?;
+    by_rule(
+        alloc,
+        net,
+        kinds,
+        clocks,
+        Rule::MissingSensitivity,
+        &mut faults,
+    )?;
+    by_rule(alloc, net, kinds, clocks, Rule::Latch, &mut faults)?;
+    stored_variables(alloc, net, &mut faults)?;
+    Ok(faults)
+}

@@ -1,0 +1,46 @@
+//! The faults of a net, or the levels of its combinational processes where none is found.
+
+ghost use Rattle.std.specs.Prelude.{IfOk};
+ghost use Rattle.rtl_check.specs.Views.{core, AreKinds};
+ghost use Rattle.rtl_check.specs.Rules.{AreClockNets};
+ghost use Rattle.rtl_check.specs.Judging.{IsJudged};
+
+use crate::fault::CheckFault;
+use crate::faults::faults_of;
+use crate::graph::table_of;
+use rtl_facts::Kind;
+use rtl_levels::{Levels, Order, order_of, tables_are_of_nets};
+use rtl_net::{Net, NoMemory};
+use std::alloc::Global;
+
+/// What the rules find of a net.
+#[derive(Drop)]
+pub enum Judged {
+    /// All its faults but loops, in order, or else one loop.
+    Faulty(Vec<CheckFault>),
+    /// The levels of its combinational processes, where no fault is found.
+    Leveled(Levels),
+}
+
+/// Judges a net: all its faults but loops, in order; or else a loop; or else levels. A loop is looked for only where there
+/// is no other fault. It takes memory for its faults, and for what feeds what.
+pub fn judge(alloc: Global, net: &Net, kinds: &[Kind], clocks: &[usize]) -> Result<Judged, NoMemory>
+    requires kinds { AreKinds (core net.now) kinds.now }
+    requires clocks { AreClockNets (core net.now) clocks.now }
+    ensures { IfOk result (IsJudged (core net.now)) }
+{
+    tables_are_of_nets();
+    let _nets = net.nets();
+    let mut faults = faults_of(alloc, net, kinds, clocks)?;
+    if !faults.is_empty() {
+        return Ok(Judged::Faulty(faults));
+    }
+    let table = table_of(alloc, net, kinds)?;
+    match order_of(alloc, &table)? {
+        Order::Leveled(levels) => Ok(Judged::Leveled(levels)),
+        Order::Looped(processes) => {
+            faults.push(CheckFault::Loop { processes })?;
+            Ok(Judged::Faulty(faults))
+        }
+    }
+}

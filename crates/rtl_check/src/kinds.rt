@@ -1,0 +1,34 @@
+//! The kinds of all processes of a net.
+
+ghost use Rattle.std.specs.Prelude.{◌<◌, length, IfOk};
+ghost use Rattle.rtl_model.specs.simulation.Net as m;
+ghost use Rattle.rtl_check.specs.Views.{core, AreKinds, IsKind};
+
+use rtl_facts::{Kind, kind_of};
+use rtl_net::{Net, NoMemory};
+use std::alloc::Global;
+
+/// The kind of each process.
+pub fn kinds_of(alloc: Global, net: &Net) -> Result<Vec<Kind>, NoMemory>
+    ensures { IfOk result (λ kinds. AreKinds (core net.now) kinds.items) }
+{
+    let _nets = net.nets();
+    let inputs = net.inputs();
+    let mut kinds = Vec::new(alloc);
+    let processes = net.processes();
+    for process in processes {
+        kinds.push(kind_of(inputs, &process.body))?;
+    }
+    Ok(kinds)
+}
+
+/// The kind of one process.
+pub fn kind_at(net: &Net, process: usize) -> Kind
+    requires { process < length net.now.processes }
+    ensures { IsKind (m.process (core net.now) process) result }
+{
+    let _nets = net.nets();
+    let inputs = net.inputs();
+    let processes = net.processes();
+    kind_of(inputs, &processes[process].body)
+}

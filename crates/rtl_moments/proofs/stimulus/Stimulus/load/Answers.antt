@@ -1,0 +1,63 @@
+use Rattle.std.proofs.Common.{◌≡◌, ◌<◌, ◌++◌, ◌∷◌, [], ◌+◌, List, length, ⊎_elim, ap, sym, subst, ◌∙◌, arith, rules, append-nil}
+use Rattle.std.specs.Prelude.{Contains}
+use Rattle.std.specs.List.{range_with_len}
+use Rattle.std.proofs.lemmas.List.{length-map}
+use Rattle.rtl_agenda.specs.Agenda.{changes_at}
+use Rattle.rtl_stim.specs.Filling.{Waits}
+use Rattle.rtl_stim.specs.View.{course_view}
+use Rattle.rtl_moments.specs.Stimuli.{StimulusView}
+use Rattle.rtl_moments.specs.Kept.{stimulus_view}
+use Rattle.rtl_moments.specs.Pushes.{Push, AddsTo, gathered, place_pushes}
+use Rattle.rtl_moments.proofs.Adding.{keeps_on, adds_more, gathered-append, gathered_from}
+use Rattle.rtl_moments.proofs.Places.{nets_apart, push_of_place}
+use Rattle.rtl_moments.proofs.Awaiting.{range_more, range_below, loaded}
+use Rattle.rtl_moments.proofs.stimulus.Stimulus.load.Goals as goal
+
+pub push_due-requires-clause-free : goal.push_due-requires-clause-free
+push_due-requires-clause-free g c =
+    let s = stimulus_view c.self.inside in
+    let view : c.args.self.now ≡ s = search rules in
+    let i = c.loop-place.place in
+    let f = place_pushes s.inputs s.schedule 0 in
+    let first = (g.A.Agenda.state c.args.agenda.now).waiting in
+    let old = (g.A.Agenda.state c.loop-place.agenda).waiting in
+    let adds = subst (λ (v : StimulusView). AddsTo first old (gathered (place_pushes v.inputs v.schedule 0) (range_with_len 0 i))) view c.loop-place.invariant.1 in
+    let within : i < length s.inputs = omega (arith, c.self.invariant.stimulus.each_course, length-map c.self.inside.schedule.courses.items course_view, c.self.inside.schedule.courses.ok.0, c.len-place-end.ensures, c.loop-place-test.true) in
+    λ t x there has.
+    ⊎_elim (λ before. let none = subst (λ w. Contains (changes_at w t) x) c.requires.waiting before in omega (arith, none.1))
+    (λ pushed.
+    let from = gathered_from f (range_with_len 0 i) (t, x) pushed in
+    nets_apart s.inputs from.0 i x.0 c.self.invariant.stimulus.own_nets (range_below i from.0 from.1) within (push_of_place s.inputs s.schedule 0 from.0 t x from.2) has)
+    ((adds t x).0 there)
+
+pub loop-place-preserved : goal.loop-place-preserved
+loop-place-preserved g c =
+    let s = stimulus_view c.self.inside in
+    let view : c.args.self.now ≡ s = search rules in
+    let i = c.loop-place.place in
+    let f = place_pushes s.inputs s.schedule 0 in
+    let first = g.A.Agenda.state c.args.agenda.now in
+    let old = g.A.Agenda.state c.loop-place.agenda in
+    let new = g.A.Agenda.state c.push_due.new.agenda in
+    let adds = subst (λ (v : StimulusView). AddsTo first.waiting old.waiting (gathered (place_pushes v.inputs v.schedule 0) (range_with_len 0 i))) view c.loop-place.invariant.1 in
+    let all = adds_more first.waiting old.waiting new.waiting (gathered f (range_with_len 0 i)) (f i) adds c.in_ok-push_due.ensures.pushed in
+    let more : gathered f (range_with_len 0 i) ++ f i ≡ gathered f (range_with_len 0 (i + 1)) =
+    ap (λ (ps : List Push). gathered f (range_with_len 0 i) ++ ps) (sym (append-nil (f i))) ∙ sym (ap (gathered f) (range_more i) ∙ gathered-append f (range_with_len 0 i) (i ∷ [])) in (
+      keeps_on first old new c.loop-place.invariant.0 c.push_due.ensures.kept,
+      subst (λ (v : StimulusView). AddsTo first.waiting new.waiting (gathered (place_pushes v.inputs v.schedule 0) (range_with_len 0 (i + 1)))) (sym view)
+          (subst (AddsTo first.waiting new.waiting) more all),
+    )
+
+pub returns-clause-waits : goal.returns-clause-waits
+returns-clause-waits g c =
+    let s = stimulus_view c.self.inside in
+    let view : c.args.self.now ≡ s = search rules in
+    let i = c.loop-place.place in
+    let first = (g.A.Agenda.state c.args.agenda.now).waiting in
+    let new = (g.A.Agenda.state c.loop-place.agenda).waiting in
+    let adds = subst (λ (v : StimulusView). AddsTo first new (gathered (place_pushes v.inputs v.schedule 0) (range_with_len 0 i))) view c.loop-place.invariant.1 in
+    let many : i ≡ length s.inputs = omega (arith, c.self.invariant.stimulus.each_course, length-map c.self.inside.schedule.courses.items course_view, c.self.inside.schedule.courses.ok.0, c.len-place-end.ensures, c.loop-place-test.false, c.loop-place.auto.place-end) in
+    subst (λ (v : StimulusView). Waits v.inputs v.schedule 0 new) (sym view)
+    (loaded s.inputs s.schedule c.self.invariant.stimulus.own_nets c.self.invariant.stimulus.each_course new
+    (subst (λ n. AddsTo [] new (gathered (place_pushes s.inputs s.schedule 0) (range_with_len 0 n))) many
+    (subst (λ w. AddsTo w new (gathered (place_pushes s.inputs s.schedule 0) (range_with_len 0 i))) c.requires.waiting adds)))

@@ -1,0 +1,27 @@
+-- How a stimulus is kept.
+use Rattle.std.specs.Prelude.{◌≡◌, ◌↔◌, ◌<◌, ℕ, List, slice_get, Some, Contains, AllPairs}
+use Rattle.vhdl_values.specs.declared.scalar.Nine.{Nine}
+use Rattle.rtl_stim.specs.Inputs.{Element}
+use Rattle.rtl_stim.specs.Courses.{Course, Ticks, course_value}
+use Rattle.rtl_stim.specs.View.{inputs_view, schedule_view}
+use Rattle.rtl_moments.specs.declared.stimulus.Stimulus.TheInside.{Inside}
+use Rattle.rtl_moments.specs.Numbered.{numbered}
+use Rattle.rtl_moments.specs.Stimuli.{StimulusView, initial_values}
+use Rattle.rtl_moments.specs.Moments.{IsStimulus}
+
+abbrev pub stimulus_view : Inside → StimulusView
+stimulus_view s = record { inputs = inputs_view s.inputs; schedule = schedule_view s.schedule }
+
+-- the values at a time of these elements of an input with this course, from the left
+abbrev pub element_values : Course → (t : ℕ) → List Element → List Nine
+element_values course t elements = numbered (λ place element. course_value course place element.start t) 0 elements
+
+-- these are the places of the courses that are clocks
+pub record AreClocks (courses : List Course) (places : List ℕ) : Type 0 where
+  pub rise : AllPairs (λ p q. p < q) places
+  pub all : (place : ℕ) → Contains places place ↔ ((first : ℕ) × (half : ℕ) × (slice_get courses place ≡ Some (Ticks first half)))
+
+pub record IsKept (s : Inside) : Type 0 where
+  pub stimulus : IsStimulus (stimulus_view s)
+  pub initial : s.initial.items ≡ initial_values (stimulus_view s)
+  pub clocks : AreClocks (schedule_view s.schedule).courses s.clocks.items

@@ -1,0 +1,148 @@
+//! What an agenda is filled with.
+
+ghost use Rattle.std.specs.Prelude.{◌≡◌, ◌≢◌, ℕ, ◌<◌, ◌≤◌, ◌∷◌, [], AllPairs, Some, None, map, length, vec_len, OnOk, IfSome};
+ghost use Rattle.rtl_agenda.specs.Agenda.{IsAfter};
+ghost use Rattle.rtl_stim.specs.Inputs.{input_at};
+ghost use Rattle.rtl_stim.specs.Times.{nets_of};
+ghost use Rattle.rtl_stim.specs.Filling.{Waits, HaveOwnNets};
+ghost use Rattle.rtl_stim.specs.View.{inputs_view, schedule_view, course_view, course_in, element_view};
+ghost use Rattle.rtl_moments.specs.Pushes as spec;
+ghost use Rattle.rtl_moments.specs.Pushes.{AddsTo, KeepsTaken, IsFreeAt, IsFree, element_pushes, gathered, due_pushes, place_pushes};
+
+use crate::ports::elements_at;
+use crate::stimulus::Stimulus;
+use rtl_agenda::{Agenda, NoMemory};
+use rtl_stim::{Course, Element, Inputs, Schedule};
+use std::collections::BTreeMap;
+use vhdl_values::Vec9;
+
+impl Stimulus {
+    /// Fills a new agenda with what comes after 0: each value that is set, and the next toggle of each clock.
+    ///
+    /// It takes the agenda's memory for these. Where that is refused, some may wait already.
+    pub fn load<A: Agenda>(&self, agenda: &mut A) -> Result<(), NoMemory>
+        requires waiting { (A.state agenda.old).waiting ≡ [] }
+        requires last { (A.state agenda.old).last ≡ None }
+        ensures kept { KeepsTaken (A.state agenda.old) (A.state agenda.new) }
+        ensures waits { OnOk result (Waits self.now.inputs self.now.schedule 0 (A.state agenda.new).waiting) }
+    {
+        for place in 0..self.schedule.courses.len() {
+            push_due(agenda, &self.inputs, &self.schedule, place, 0)?;
+        }
+        Ok(())
+    }
+
+    /// Brings the next toggle of each clock that toggles at the time that was taken from the agenda last.
+    ///
+    /// It takes the agenda's memory for these. Where that is refused, some may wait already.
+    pub fn refill<A: Agenda>(&self, time: u64, agenda: &mut A) -> Result<(), NoMemory>
+        requires last { (A.state agenda.old).last ≡ Some time }
+        requires waited { (now : ℕ) × (now < time)
+            × Waits self.now.inputs self.now.schedule now ((time, (A.state agenda.old).taken) ∷ (A.state agenda.old).waiting) }
+        ensures kept { KeepsTaken (A.state agenda.old) (A.state agenda.new) }
+        ensures waits { OnOk result (Waits self.now.inputs self.now.schedule time (A.state agenda.new).waiting) }
+    {
+        for place in &self.clocks {
+            if self.schedule.courses[*place].toggles(time) {
+                push_due(agenda, &self.inputs, &self.schedule, *place, time)?;
+            }
+        }
+        Ok(())
+    }
+}
+
+/// Pushes what is due of the input at a place after now.
+fn push_due<A: Agenda>(
+    agenda: &mut A,
+    inputs: &Inputs,
+    schedule: &Schedule,
+    place: usize,
+    now: u64,
+) -> Result<(), NoMemory>
+    requires there { place < vec_len schedule.now.courses }
+    requires input { place < length (inputs_view inputs.now) }
+    requires own { HaveOwnNets (inputs_view inputs.now) }
+    requires later { (t : ℕ) → now < t → IsAfter (A.state agenda.old).last t }
+    requires free { IsFree (A.state agenda.old).waiting (nets_of (input_at (inputs_view inputs.now) place)) }
+    ensures kept { KeepsTaken (A.state agenda.old) (A.state agenda.new) }
+    ensures pushed { OnOk result (AddsTo (A.state agenda.old).waiting (A.state agenda.new).waiting
+        (place_pushes (inputs_view inputs.now) (schedule_view schedule.now) now place)) }
+{
+    let elements = elements_at(inputs, place);
+    match &schedule.courses[place] {
+        Course::Sets(sets) => push_sets(agenda, schedule, place, elements, sets, now),
+        Course::Ticks { first, half } => match next_toggle(*first, *half, now, schedule.stop) {
+            None => Ok(()),
+            Some(time) => push_elements(agenda, schedule, place, elements, time),
+        },
+    }
+}
+
+/// Pushes the values of elements at each time after now at which they are set.
+fn push_sets<A: Agenda>(
+    agenda: &mut A,
+    schedule: &Schedule,
+    place: usize,
+    elements: &[Element],
+    sets: &BTreeMap<u64, Vec9>,
+    now: u64,
+) -> Result<(), NoMemory>
+    requires there { place < vec_len schedule.now.courses }
+    requires own { AllPairs (λ n m. n ≢ m) (map (λ e. e.net) elements.now) }
+    requires later { (t : ℕ) → now < t → IsAfter (A.state agenda.old).last t }
+    requires free { IsFree (A.state agenda.old).waiting (map (λ e. e.net) elements.now) }
+    ensures kept { KeepsTaken (A.state agenda.old) (A.state agenda.new) }
+    ensures pushed { OnOk result (AddsTo (A.state agenda.old).waiting (A.state agenda.new).waiting
+        (gathered (element_pushes (course_in (schedule_view schedule.now) place) (map element_view elements.now))
+        (spec.due (course_view (Course.Sets sets.now)) now schedule.now.stop))) }
+{
+    for time in sets.keys() {
+        if now < *time && *time <= schedule.stop {
+            push_elements(agenda, schedule, place, elements, *time)?;
+        }
+    }
+    Ok(())
+}
+
+/// Pushes the value of each element at a time.
+fn push_elements<A: Agenda>(
+    agenda: &mut A,
+    schedule: &Schedule,
+    place: usize,
+    elements: &[Element],
+    time: u64,
+) -> Result<(), NoMemory>
+    requires there { place < vec_len schedule.now.courses }
+    requires own { AllPairs (λ n m. n ≢ m) (map (λ e. e.net) elements.now) }
+    requires later { IsAfter (A.state agenda.old).last time }
+    requires free { IsFreeAt (A.state agenda.old).waiting time (map (λ e. e.net) elements.now) }
+    ensures kept { KeepsTaken (A.state agenda.old) (A.state agenda.new) }
+    ensures pushed { OnOk result (AddsTo (A.state agenda.old).waiting (A.state agenda.new).waiting
+        (element_pushes (course_in (schedule_view schedule.now) place) (map element_view elements.now) time)) }
+{
+    for (from_left, element) in elements.iter().enumerate() {
+        let value = schedule.value(place, from_left, element.start, time);
+        agenda.push(time, (element.net, value))?;
+    }
+    Ok(())
+}
+
+/// The first time after now, up to the stop, at which a clock toggles.
+pub fn next_toggle(first: u64, half: u64, now: u64, stop: u64) -> Option<u64>
+    ensures next { spec.up_to stop result ≡ spec.up_to stop (spec.next_time first half now) }
+    ensures within { IfSome result (λ t. t ≤ stop) }
+    ensures later { IfSome result (λ t. now < t) }
+{
+    if now < first {
+        return if first <= stop { Some(first) } else { None };
+    }
+    if half == 0 || stop < now {
+        return None;
+    }
+    let wait = half - (now - first) % half;
+    if wait <= stop - now {
+        Some(now + wait)
+    } else {
+        None
+    }
+}

@@ -1,0 +1,17 @@
+//! Stimuli of nets: `Stimulus`, which a text says of the in ports of a net's top, and what an agenda is filled with.
+//!
+//! `specs/Ports.antt` says which inputs a net has, and `specs/Stimuli.antt` what a stimulus is.
+#![tactic(auto)]
+
+mod filling;
+mod laws;
+mod ports;
+mod races;
+mod reading;
+mod stimulus;
+
+pub use laws::{agenda_gives_moments, times_show_races};
+pub use races::{Race, first_race};
+pub use rtl_agenda::{Agenda, Change, MapAgenda, NoMemory};
+pub use rtl_stim::{StimFault, StimProblem};
+pub use stimulus::Stimulus;

@@ -1,0 +1,90 @@
+//! From a text to the stimulus of a net.
+
+ghost use Rattle.std.specs.Prelude.{◌≡◌, ◌<◌, ◌++◌, length, map, vec_len, IfOk, OnOk};
+ghost use Rattle.rtl_stim.specs.Filling.{HaveOwnNets};
+ghost use Rattle.rtl_stim.specs.View.{inputs_view, schedule_view, course_view, course_in, element_view};
+ghost use Rattle.rtl_stim.specs.Times.{all_nets, value_at};
+ghost use Rattle.rtl_moments.specs.Ports.{HasOwnPorts};
+ghost use Rattle.rtl_moments.specs.Stimuli.{IsRead};
+ghost use Rattle.rtl_moments.specs.Kept.{AreClocks, element_values};
+
+use crate::ports::{elements_at, inputs_of};
+use crate::stimulus::Stimulus;
+use rtl_net::Net;
+use rtl_stim::{Course, Element, Inputs, Schedule, StimFault, read_schedule};
+use std::alloc::{AllocError, Global};
+use vhdl_values::Nine;
+
+impl Stimulus {
+    /// Reads the text of a stimulus for a net. It takes memory for each in port of the top and for each line, and none
+    /// for the edges of a clock.
+    ///
+    /// # Errors
+    ///
+    /// The first bad line's fault, by the line's number from 1; `NoStop` where all lines are good and none says when to
+    /// stop; `NoMemory` where a growth was refused. Never `Race`.
+    pub fn read(alloc: Global, net: &Net, text: &[u8]) -> Result<Stimulus, StimFault>
+        requires { HasOwnPorts net.now }
+        ensures { IsRead net.now text.now result }
+    {
+        let _count = net.nets();
+        let inputs = inputs_of(alloc, net)?;
+        let schedule = read_schedule(alloc, text, &inputs)?;
+        let initial = initial_values(alloc, &inputs, &schedule)?;
+        let clocks = clocks(alloc, &schedule.courses)?;
+        Ok(Stimulus {
+            inputs,
+            schedule,
+            initial,
+            clocks,
+        })
+    }
+}
+
+/// The value of each input's element at 0.
+fn initial_values(
+    alloc: Global,
+    inputs: &Inputs,
+    schedule: &Schedule,
+) -> Result<Vec<Nine>, AllocError>
+    requires own { HaveOwnNets (inputs_view inputs.now) }
+    requires each { vec_len schedule.now.courses ≡ length (inputs_view inputs.now) }
+    ensures { IfOk result (λ values. values.items
+        ≡ map (λ n. value_at (inputs_view inputs.now) (schedule_view schedule.now) n 0) (all_nets (inputs_view inputs.now))) }
+{
+    let mut values = Vec::new(alloc);
+    for place in 0..inputs.len() {
+        push_values(&mut values, schedule, place, elements_at(inputs, place))?;
+    }
+    Ok(values)
+}
+
+/// Appends the value at 0 of each element of the input at a place.
+fn push_values(
+    values: &mut Vec<Nine>,
+    schedule: &Schedule,
+    place: usize,
+    elements: &[Element],
+) -> Result<(), AllocError>
+    requires { place < vec_len schedule.now.courses }
+    ensures { OnOk result (values.new.items ≡ values.old.items
+        ++ element_values (course_in (schedule_view schedule.now) place) 0 (map element_view elements.now)) }
+{
+    for (from_left, element) in elements.iter().enumerate() {
+        values.push(schedule.value(place, from_left, element.start, 0))?;
+    }
+    Ok(())
+}
+
+/// The places of the courses that are clocks.
+fn clocks(alloc: Global, courses: &[Course]) -> Result<Vec<usize>, AllocError>
+    ensures { IfOk result (λ places. AreClocks (map course_view courses.now) places.items) }
+{
+    let mut places = Vec::new(alloc);
+    for (place, course) in courses.iter().enumerate() {
+        if let Course::Ticks { .. } = course {
+            places.push(place)?;
+        }
+    }
+    Ok(places)
+}

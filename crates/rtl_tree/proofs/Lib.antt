@@ -1,0 +1,12 @@
+pub mod Reading
+pub mod Chains
+pub mod Values
+pub mod Weights
+pub mod OneByOne
+pub mod Codes
+pub mod Doing
+pub mod StatementWeights
+pub mod Taking
+pub mod Ready
+pub mod Found
+pub mod Starting

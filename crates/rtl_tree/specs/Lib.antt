@@ -1,0 +1,5 @@
+pub mod Evaluations
+pub mod Running
+pub mod Seeing
+pub mod Kept
+pub mod Trees

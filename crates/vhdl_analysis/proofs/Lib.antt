@@ -1,0 +1,4 @@
+pub mod Generating
+pub mod Labelling
+pub mod Resuming
+pub mod Running

@@ -1,0 +1,3 @@
+pub mod Concurrents
+pub mod Labels
+pub mod Processes

@@ -1,0 +1,5 @@
+pub mod Cases
+pub mod Concurrent
+pub mod Lists
+pub mod Once
+pub mod Sequential

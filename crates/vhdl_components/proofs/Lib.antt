@@ -1,0 +1,4 @@
+pub mod Alike
+pub mod Chained
+pub mod Forms
+pub mod Standing

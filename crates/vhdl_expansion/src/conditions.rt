@@ -1,0 +1,327 @@
+//! Conditions, expanded (IEEE 1076-2008, 9.2.2, 9.2.3, 9.2.9, 16.2.4; numeric_std).
+
+ghost use Rattle.std.specs.Prelude.{◌≡◌, true, option_map, IfOk};
+ghost use Rattle.vhdl_values.specs.declared.kinds.Logic.TheVariants.{And};
+ghost use Rattle.rtl_model.specs.bodies.Body as body;
+ghost use Rattle.rtl_net.specs.Bodies.{test_view, test_links_of};
+ghost use Rattle.vhdl_names.specs.views.Tests as analysed;
+ghost use Rattle.vhdl_names.specs.views.Vectors.{place_view, value_view, vector_view};
+ghost use Rattle.vhdl_expand.specs.Expressions as definition;
+ghost use Rattle.vhdl_expansion.specs.Results.{Expands};
+ghost use Rattle.vhdl_expansion.specs.Sites.{IsSite, site_view};
+ghost use Rattle.vhdl_expansion.specs.Characters.{named_view, character_view, chain_view};
+ghost use Rattle.vhdl_expansion.specs.steps.Tests as steps;
+
+use crate::site::Site;
+use rtl_net::{Expr, Test, TestLink};
+use std::alloc::{AllocError, Global};
+use vhdl_expand::ElabFault;
+use vhdl_names as analysed;
+use vhdl_names::{Place, TestStart, Value, Vector};
+use vhdl_values::{Cmp, Edge, Logic, Nine, Vec9};
+
+/// A character literal, and whether it stands with no parentheses.
+#[derive(Clone, Copy)]
+pub(crate) struct Character {
+    pub is_plain: bool,
+    pub literal: Nine,
+}
+
+/// A first operand, and the logical operators after it so far.
+#[derive(Drop)]
+pub(crate) struct TestChain {
+    pub first: Test,
+    pub rest: Vec<TestLink>,
+}
+
+/// The signal's name that a vector is.
+#[tactic(auto, using(crate::proofs::TestChains::chain_is_no_name))]
+fn name_in(vector: &Vector) -> Option<&Place>
+    ensures { option_map named_view result ≡ steps.name_in (vector_view vector.now) }
+{
+    match vector {
+        Vector::Signal(place) => Some(place),
+        Vector::Variable(_, _, _)
+        | Vector::Constant(_, _, _)
+        | Vector::Character(_, _)
+        | Vector::EnclosedCharacter(_, _)
+        | Vector::Literal(_, _)
+        | Vector::Not(_, _)
+        | Vector::Chain(_, _)
+        | Vector::IntegerWith(_, _, _, _)
+        | Vector::Encoded(_, _, _)
+        | Vector::Resized(_, _, _)
+        | Vector::ShiftedLeft(_, _, _)
+        | Vector::ShiftedRight(_, _, _) => None,
+    }
+}
+
+/// The signal's name that a value is.
+fn name_of(value: &Value) -> Option<&Place>
+    ensures { option_map named_view result ≡ steps.name_of (value_view value.now) }
+{
+    match value {
+        Value::Elements(vector) => name_in(vector),
+        Value::Position(_) | Value::StateOf(_) | Value::StateOfVariable(_) => None,
+    }
+}
+
+/// The character literal that a vector is.
+#[tactic(auto, using(crate::proofs::TestChains::chain_is_no_character))]
+fn character_in(vector: &Vector) -> Option<Character>
+    ensures { option_map character_view result ≡ steps.character_in (vector_view vector.now) }
+{
+    match vector {
+        Vector::Character(_, literal) => Some(Character {
+            is_plain: true,
+            literal: *literal,
+        }),
+        Vector::EnclosedCharacter(_, literal) => Some(Character {
+            is_plain: false,
+            literal: *literal,
+        }),
+        Vector::Signal(_)
+        | Vector::Variable(_, _, _)
+        | Vector::Constant(_, _, _)
+        | Vector::Literal(_, _)
+        | Vector::Not(_, _)
+        | Vector::Chain(_, _)
+        | Vector::IntegerWith(_, _, _, _)
+        | Vector::Encoded(_, _, _)
+        | Vector::Resized(_, _, _)
+        | Vector::ShiftedLeft(_, _, _)
+        | Vector::ShiftedRight(_, _, _) => None,
+    }
+}
+
+/// The character literal that a value is.
+fn character_of(value: &Value) -> Option<Character>
+    ensures { option_map character_view result ≡ steps.character_of (value_view value.now) }
+{
+    match value {
+        Value::Elements(vector) => character_in(vector),
+        Value::Position(_) | Value::StateOf(_) | Value::StateOfVariable(_) => None,
+    }
+}
+
+/// `n relation x` as a relation of `x` and `n`.
+fn turned(relation: Cmp) -> Cmp
+    ensures { result ≡ definition.turned relation }
+{
+    match relation {
+        Cmp::Eq => Cmp::Eq,
+        Cmp::Ne => Cmp::Ne,
+        Cmp::Lt => Cmp::Gt,
+        Cmp::Le => Cmp::Ge,
+        Cmp::Gt => Cmp::Lt,
+        Cmp::Ge => Cmp::Le,
+    }
+}
+
+/// An event of a net, which has this value.
+#[tactic(auto, using(rtl_net::proofs::Rows::view_combined))]
+fn event_to(alloc: Global, net: u32, value: Nine) -> Result<Test, AllocError>
+    ensures { IfOk result (λ t. test_view t ≡ body.combined And (body.event net) (body.level true net value)) }
+{
+    let mut rest = Vec::new(alloc);
+    rest.push(TestLink {
+        operator: Logic::And,
+        operand: Test::Level {
+            plain: true,
+            net,
+            value,
+        },
+    })?;
+    combined(alloc, Test::Event(net), rest)
+}
+
+/// A test for an edge of a net. It takes the memory of a list and a box.
+fn edge_test(alloc: Global, edge: Edge, net: u32) -> Result<Test, AllocError>
+    ensures { IfOk result (λ t. test_view t ≡ definition.edge_test edge net) }
+{
+    match edge {
+        Edge::Rising => Ok(Test::Rising(net)),
+        Edge::Falling => Ok(Test::Falling(net)),
+        Edge::To1 => event_to(alloc, net, Nine::One),
+        Edge::To0 => event_to(alloc, net, Nine::Zero),
+    }
+}
+
+/// A first operand, and the logical operators after it.
+#[tactic(auto, using(rtl_net::proofs::Rows::view_combined))]
+fn combined(alloc: Global, first: Test, rest: Vec<TestLink>) -> Result<Test, AllocError>
+    ensures { IfOk result (λ t. test_view t ≡ test_links_of (test_view first) rest.items) }
+{
+    Ok(Test::Combined {
+        first: Box::new(alloc, first)?,
+        rest,
+    })
+}
+
+impl Site<'_> {
+    /// A condition, expanded, each element of a signal's name being its net; a fault is StaticError, Length, Index or TooWide.
+    #[cycle(condition)]
+    #[tactic(auto, unfolding(crate::specs::steps::Tests::condition))]
+    pub(crate) fn expanded_test(
+        &self,
+        alloc: Global,
+        test: &analysed::Test,
+        at: usize,
+    ) -> Result<Test, ElabFault>
+        requires { IsSite self.now }
+        ensures { Expands test_view (steps.condition self.now.nets.now (site_view self.now) (analysed.test_view test.now)) result }
+    {
+        match test {
+            analysed::Test::Holds(vector) => {
+                let operand = self.expanded(alloc, vector)?;
+                Ok(Test::Condition(operand.expr))
+            }
+            analysed::Test::Fixed(decided) => {
+                let holds = self.integers.decision(decided, at)?;
+                Ok(Test::Decided(holds))
+            }
+            analysed::Test::Alike(at, left, right) => self.alike(alloc, left, right, *at),
+            analysed::Test::Unlike(at, left, right) => {
+                let left = self.expanded_value(alloc, left, *at)?;
+                let right = self.expanded_value(alloc, right, *at)?;
+                Ok(Test::Unequal(left.value, right.value))
+            }
+            analysed::Test::Compared(relation, _, left, right) => {
+                let left = self.expanded(alloc, left)?;
+                let right = self.expanded(alloc, right)?;
+                Ok(Test::Compared(*relation, left.expr, right.expr))
+            }
+            analysed::Test::ComparedTo(relation, at, vector, integer) => {
+                let operand = self.expanded(alloc, vector)?;
+                let number = self.integers.natural(integer, *at)?;
+                Ok(Test::ComparedTo(*relation, operand.expr, number))
+            }
+            analysed::Test::ComparedWith(relation, at, integer, vector) => {
+                let number = self.integers.natural(integer, *at)?;
+                let operand = self.expanded(alloc, vector)?;
+                Ok(Test::ComparedTo(turned(*relation), operand.expr, number))
+            }
+            analysed::Test::Edge(edge, place) => {
+                let net = self.the_net(place.signal, &place.part, place.at)?;
+                Ok(edge_test(alloc, *edge, net)?)
+            }
+            analysed::Test::Event(place) => {
+                let net = self.the_net(place.signal, &place.part, place.at)?;
+                Ok(Test::Event(net))
+            }
+            analysed::Test::Not(operand) => {
+                let operand = self.expanded_test(alloc, operand, at)?;
+                Ok(Test::Negated(Box::new(alloc, operand)?))
+            }
+            analysed::Test::Chain(start, links) => {
+                let chain = self.started_test(alloc, start, at)?;
+                self.continued_test(alloc, chain, links, at)
+            }
+        }
+    }
+
+    /// Equality of two values: of one element of a signal and a character literal, the level of its net.
+    fn alike(
+        &self,
+        alloc: Global,
+        left: &Value,
+        right: &Value,
+        at: usize,
+    ) -> Result<Test, ElabFault>
+        requires { IsSite self.now }
+        ensures { Expands test_view (steps.alike self.now.nets.now (site_view self.now) (value_view left.now) (value_view right.now)) result }
+    {
+        if let Some(place) = name_of(left) {
+            if let Some(character) = character_of(right) {
+                return self.level(alloc, character.is_plain, place, character.literal);
+            }
+        } else if let Some(character) = character_of(left) {
+            if let Some(place) = name_of(right) {
+                return self.level(alloc, false, place, character.literal);
+            }
+        }
+        self.equal(alloc, left, right, at)
+    }
+
+    /// Equality of two values, element by element.
+    fn equal(
+        &self,
+        alloc: Global,
+        left: &Value,
+        right: &Value,
+        at: usize,
+    ) -> Result<Test, ElabFault>
+        requires { IsSite self.now }
+        ensures { Expands test_view (steps.equal self.now.nets.now (site_view self.now) (value_view left.now) (value_view right.now)) result }
+    {
+        let left = self.expanded_value(alloc, left, at)?;
+        let right = self.expanded_value(alloc, right, at)?;
+        Ok(Test::Equal(left.value, right.value))
+    }
+
+    /// Equality of a signal's name and a character literal.
+    fn level(
+        &self,
+        alloc: Global,
+        plain: bool,
+        place: &Place,
+        value: Nine,
+    ) -> Result<Test, ElabFault>
+        requires { IsSite self.now }
+        ensures { Expands test_view (steps.level self.now.nets.now (site_view self.now) plain (place_view place.now) value) result }
+    {
+        let run = self.signal_elements(place.signal, &place.part, place.at)?;
+        if run.len == 1 {
+            return Ok(Test::Level {
+                plain,
+                net: self.net(run.first),
+                value,
+            });
+        }
+        let nets = self.nets(alloc, run)?;
+        Ok(Test::Equal(
+            rtl_net::Value::Elements(Expr::Signal(nets)),
+            rtl_net::Value::Elements(Expr::Constant(Vec9::fill(value, 1))),
+        ))
+    }
+
+    /// The first operator of a chain.
+    #[cycle(condition)]
+    fn started_test(
+        &self,
+        alloc: Global,
+        start: &TestStart,
+        at: usize,
+    ) -> Result<TestChain, ElabFault>
+        requires { IsSite self.now }
+        ensures { Expands chain_view (steps.started self.now.nets.now (site_view self.now) start.now) result }
+    {
+        let first = self.expanded_test(alloc, &start.first, at)?;
+        let operand = self.expanded_test(alloc, &start.link.operand, at)?;
+        let operator = start.link.operator;
+        let mut rest = Vec::new(alloc);
+        rest.push(TestLink { operator, operand })?;
+        Ok(TestChain { first, rest })
+    }
+
+    /// A chain with its further operators.
+    #[cycle(condition)]
+    fn continued_test(
+        &self,
+        alloc: Global,
+        chain: TestChain,
+        links: &[analysed::TestLink],
+        at: usize,
+    ) -> Result<Test, ElabFault>
+        requires { IsSite self.now }
+        ensures { Expands test_view (steps.all_linked self.now.nets.now (site_view self.now) (chain_view chain) links.now) result }
+    {
+        let TestChain { first, mut rest } = chain;
+        for link in links {
+            let operand = self.expanded_test(alloc, &link.operand, at)?;
+            let operator = link.operator;
+            rest.push(TestLink { operator, operand })?;
+        }
+        Ok(combined(alloc, first, rest)?)
+    }
+}

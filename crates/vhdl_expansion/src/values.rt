@@ -1,0 +1,93 @@
+//! Values, expanded (IEEE 1076-2008, clause 9).
+
+ghost use Rattle.std.specs.Prelude.{Ok};
+ghost use Rattle.rtl_model.specs.bodies.Body as body;
+ghost use Rattle.vhdl_names.specs.views.Vectors as analysed;
+ghost use Rattle.vhdl_names.specs.views.Vectors.{part_view, signal_view};
+ghost use Rattle.vhdl_expansion.specs.Results.{Expands};
+ghost use Rattle.vhdl_expansion.specs.Selecteds.{selected_view};
+ghost use Rattle.vhdl_expansion.specs.Sites.{IsSite, site_view};
+ghost use Rattle.vhdl_expansion.specs.steps.Values as steps;
+
+use crate::operand::Width;
+use crate::selected::Selected;
+use crate::site::Site;
+use std::alloc::Global;
+use vhdl_expand::ElabFault;
+use vhdl_names::{Part, Signal, Value};
+
+/// A value that an enumeration's literal is, by its position. Memory would be refused for a position beyond a byte: an
+/// enumeration has at most 256 literals.
+fn position(number: usize) -> Result<Selected, ElabFault>
+    ensures { Expands selected_view (Ok (body.position number)) result }
+{
+    match u8::try_from(number) {
+        Ok(position) => Ok(Selected {
+            value: rtl_net::Value::Position(position),
+            width: Width { len: 1 },
+        }),
+        Err(_) => Err(ElabFault::NoMemory),
+    }
+}
+
+impl Site<'_> {
+    /// The net of a signal or port, or part of one, that is one element; a fault is StaticError or Index.
+    #[tactic(auto, using(crate::proofs::Places::one_element))]
+    pub(crate) fn the_net(&self, signal: Signal, part: &Part, at: usize) -> Result<u32, ElabFault>
+        requires { IsSite self.now }
+        ensures { Expands (λ n. n) (steps.net self.now.nets.now (site_view self.now) (signal_view signal) (part_view part.now)) result }
+    {
+        let run = self.signal_elements(signal, part, at)?;
+        Ok(self.net(run.first))
+    }
+
+    /// The number of a variable, or part of one, that is one element; a fault is StaticError or Index.
+    #[tactic(auto, using(crate::proofs::Places::one_element))]
+    fn the_element(&self, number: usize, part: &Part, at: usize) -> Result<u32, ElabFault>
+        requires { IsSite self.now }
+        ensures { Expands (λ n. n) (steps.element (site_view self.now) number (part_view part.now)) result }
+    {
+        let run = self.variable_elements(number, part, at)?;
+        match u32::try_from(run.first) {
+            Ok(element) => Ok(element),
+            Err(_) => Err(ElabFault::NoMemory),
+        }
+    }
+
+    /// A value, expanded, each element of a signal's name being its net; a fault is StaticError, Length, Index or TooWide.
+    #[tactic(auto, unfolding(crate::specs::steps::Values::value))]
+    pub(crate) fn expanded_value(
+        &self,
+        alloc: Global,
+        value: &Value,
+        at: usize,
+    ) -> Result<Selected, ElabFault>
+        requires { IsSite self.now }
+        ensures { Expands selected_view (steps.value self.now.nets.now (site_view self.now) (analysed.value_view value.now)) result }
+    {
+        match value {
+            Value::Elements(vector) => {
+                let operand = self.expanded(alloc, vector)?;
+                Ok(Selected {
+                    width: operand.width,
+                    value: rtl_net::Value::Elements(operand.expr),
+                })
+            }
+            Value::Position(number) => position(*number),
+            Value::StateOf(signal) => {
+                let net = self.the_net(*signal, &Part::Whole, at)?;
+                Ok(Selected {
+                    value: rtl_net::Value::PositionOf(net),
+                    width: Width { len: 1 },
+                })
+            }
+            Value::StateOfVariable(number) => {
+                let element = self.the_element(*number, &Part::Whole, at)?;
+                Ok(Selected {
+                    value: rtl_net::Value::PositionIn(element),
+                    width: Width { len: 1 },
+                })
+            }
+        }
+    }
+}

@@ -1,0 +1,220 @@
+//! Elements and vectors of the nine values, expanded (IEEE 1076-2008, clause 9; numeric_std).
+
+ghost use Rattle.std.specs.Prelude.{◌≡◌, length};
+ghost use Rattle.rtl_model.specs.bodies.Body as body;
+ghost use Rattle.rtl_model.specs.bodies.Fits as fits;
+ghost use Rattle.rtl_model.specs.bodies.Fits.{operated_width};
+ghost use Rattle.rtl_net.specs.Bodies.{expr_view, operator_view};
+ghost use Rattle.std.specs.Prelude.{IfOk};
+ghost use Rattle.vhdl_names.specs.units.Expressions as units;
+ghost use Rattle.vhdl_names.specs.views.Integers.{static_view};
+ghost use Rattle.vhdl_names.specs.views.Vectors.{part_view, place_view, vector_view};
+ghost use Rattle.vhdl_expansion.specs.Results.{Expands};
+ghost use Rattle.vhdl_expansion.specs.Sites.{IsSite, site_view};
+ghost use Rattle.vhdl_expansion.specs.steps.Vectors as steps;
+ghost use Rattle.vhdl_expansion.specs.Operands.{operand_view, linked_view, chain_view};
+
+use crate::operand::{Chain, Linked, Operand, Width, applied, chained, numeric, operator};
+use crate::site::{Site, elements};
+use rtl_net::Expr;
+use std::alloc::Global;
+use vhdl_expand::{ElabFault, ElabProblem};
+use vhdl_names::{Numeric, Part, Place, Static, Vector, VectorLink, VectorStart};
+use vhdl_values::{Nine, Vec9};
+
+/// A string or bit string; a fault is Index or TooWide.
+fn literal(values: &[Nine], at: usize) -> Result<Operand, ElabFault>
+    ensures { Expands operand_view (steps.literal values.now) result }
+{
+    if values.is_empty() {
+        return Err(ElabProblem::Index.at(at));
+    }
+    if values.len() > 64 {
+        return Err(ElabProblem::TooWide.at(at));
+    }
+    Ok(Operand::constant(Vec9::of(values)))
+}
+
+impl Site<'_> {
+    /// A vector, expanded, each element of a signal's name being its net; a fault is StaticError, Length, Index or TooWide.
+    #[cycle(vector)]
+    #[tactic(auto, unfolding(crate::specs::steps::Vectors::vector))]
+    pub(crate) fn expanded(&self, alloc: Global, vector: &Vector) -> Result<Operand, ElabFault>
+        requires { IsSite self.now }
+        ensures { Expands operand_view (steps.vector self.now.nets.now (site_view self.now) (vector_view vector.now)) result }
+    {
+        match vector {
+            Vector::Signal(place) => self.signal(alloc, place),
+            Vector::Variable(at, number, part) => self.variable(*number, part, *at),
+            Vector::Constant(at, number, part) => self.constant(*number, part, *at),
+            Vector::Character(_, value) | Vector::EnclosedCharacter(_, value) => {
+                Ok(Operand::constant(Vec9::fill(*value, 1)))
+            }
+            Vector::Literal(at, values) => literal(values, *at),
+            Vector::Not(_, operand) => {
+                let operand = self.expanded(alloc, operand)?;
+                Ok(operand.inverse(alloc)?)
+            }
+            Vector::Chain(start, links) => {
+                let chain = self.started(alloc, start)?;
+                self.continued(alloc, chain, links)
+            }
+            Vector::IntegerWith(operator, at, integer, operand) => {
+                self.integer_with(alloc, *operator, operand, integer, *at)
+            }
+            Vector::Encoded(at, number, size) => self.encoded(number, size, *at),
+            Vector::Resized(at, operand, size) => self.resized(alloc, operand, size, *at),
+            Vector::ShiftedLeft(at, operand, count) => {
+                let operand = self.expanded(alloc, operand)?;
+                let count = self.integers.natural(count, *at)?;
+                Ok(operand.shifted_left(alloc, count)?)
+            }
+            Vector::ShiftedRight(at, operand, count) => {
+                let operand = self.expanded(alloc, operand)?;
+                let count = self.integers.natural(count, *at)?;
+                Ok(operand.shifted_right(alloc, count)?)
+            }
+        }
+    }
+
+    /// A signal, port or part of one, by its nets.
+    fn signal(&self, alloc: Global, place: &Place) -> Result<Operand, ElabFault>
+        requires { IsSite self.now }
+        ensures { Expands operand_view (steps.signal self.now.nets.now (site_view self.now) (place_view place.now)) result }
+    {
+        let run = self.signal_elements(place.signal, &place.part, place.at)?;
+        let nets = self.nets(alloc, run)?;
+        Ok(Operand {
+            expr: Expr::Signal(nets),
+            width: Width { len: run.len },
+        })
+    }
+
+    /// A variable or part of one, by its elements.
+    fn variable(&self, number: usize, part: &Part, at: usize) -> Result<Operand, ElabFault>
+        requires { IsSite self.now }
+        ensures { Expands operand_view (steps.variable (site_view self.now) number (part_view part.now)) result }
+    {
+        let run = self.variable_elements(number, part, at)?;
+        let elements = elements(run)?;
+        Ok(Operand {
+            expr: Expr::Variable(elements),
+            width: Width { len: run.len },
+        })
+    }
+
+    /// A constant or part of one.
+    fn constant(&self, number: usize, part: &Part, at: usize) -> Result<Operand, ElabFault>
+        ensures { Expands operand_view (steps.constant (site_view self.now) number (part_view part.now)) result }
+    {
+        let values = self.constant_values(number, part, at)?;
+        Ok(Operand::constant(values))
+    }
+
+    /// `to_unsigned`.
+    #[tactic(auto, using(crate::proofs::Places::size_fits))]
+    fn encoded(&self, number: &Static, size: &Static, at: usize) -> Result<Operand, ElabFault>
+        ensures { Expands operand_view (steps.encoded (site_view self.now) (static_view number.now) (static_view size.now)) result }
+    {
+        let number = self.integers.natural(number, at)?;
+        let len = self.integers.size_of(size, at)?;
+        Ok(Operand::constant(Vec9::of_nat(u64::from(number), len as usize)))
+    }
+
+    /// `resize`.
+    #[cycle(vector)]
+    #[tactic(auto, using(crate::proofs::Places::size_fits))]
+    fn resized(
+        &self,
+        alloc: Global,
+        operand: &Vector,
+        size: &Static,
+        at: usize,
+    ) -> Result<Operand, ElabFault>
+        requires { IsSite self.now }
+        ensures { Expands operand_view
+            (steps.resized_to self.now.nets.now (site_view self.now) (vector_view operand.now) (static_view size.now)) result }
+    {
+        let operand = self.expanded(alloc, operand)?;
+        let len = self.integers.size_of(size, at)?;
+        Ok(operand.resized(alloc, len)?)
+    }
+
+    /// A static integer, an operator and a vector: the integer stands for its last digits, as many as the vector has.
+    #[cycle(vector)]
+    fn integer_with(
+        &self,
+        alloc: Global,
+        operator: Numeric,
+        operand: &Vector,
+        integer: &Static,
+        at: usize,
+    ) -> Result<Operand, ElabFault>
+        requires { IsSite self.now }
+        ensures { Expands operand_view
+            (steps.integer_with self.now.nets.now (site_view self.now) operator (static_view integer.now) (vector_view operand.now)) result }
+    {
+        let number = self.integers.natural(integer, at)?;
+        let operand = self.expanded(alloc, operand)?;
+        let digits = Operand::constant(Vec9::of_nat(u64::from(number), operand.width.len));
+        digits.with(alloc, numeric(operator), operand, at)
+    }
+
+    /// The first operator of a chain.
+    #[cycle(vector)]
+    fn started(&self, alloc: Global, start: &VectorStart) -> Result<Chain, ElabFault>
+        requires { IsSite self.now }
+        ensures { Expands chain_view (steps.started self.now.nets.now (site_view self.now) start.now) result }
+    {
+        let first = self.expanded(alloc, &start.first)?;
+        let next = self.link(alloc, first.width, &start.link)?;
+        Ok(first.begin(alloc, next)?)
+    }
+
+    /// A chain with its further operators.
+    #[cycle(vector)]
+    fn continued(
+        &self,
+        alloc: Global,
+        chain: Chain,
+        links: &[VectorLink],
+    ) -> Result<Operand, ElabFault>
+        requires { IsSite self.now }
+        ensures { Expands operand_view (steps.all_linked self.now.nets.now (site_view self.now) (chain_view chain) links.now) result }
+    {
+        let Chain {
+            first,
+            mut rest,
+            mut width,
+        } = chain;
+        for link in links {
+            let next = self.link(alloc, width, link)?;
+            rest.push(next.link)?;
+            width = next.width;
+        }
+        let expr = chained(alloc, first, rest)?;
+        Ok(Operand { expr, width })
+    }
+
+    /// An operator with its right operand, after so many elements.
+    #[cycle(vector)]
+    fn link(&self, alloc: Global, left: Width, link: &VectorLink) -> Result<Linked, ElabFault>
+        requires { IsSite self.now }
+        ensures given { (d : body.Expr) → fits.width d ≡ left.len
+            → Expands (linked_view d) (steps.linked self.now.nets.now (site_view self.now) d link.now) result }
+        ensures width { IfOk result
+            (λ x. x.width.len ≡ operated_width (operator_view x.link.operator) left.len (fits.width (expr_view x.link.operand))) }
+    {
+        match link {
+            VectorLink::Vector(kind, at, operand) => {
+                let operand = self.expanded(alloc, operand)?;
+                applied(left, operator(*kind), operand, *at)
+            }
+            VectorLink::Integer(kind, at, integer) => {
+                let number = self.integers.natural(integer, *at)?;
+                let digits = Operand::constant(Vec9::of_nat(u64::from(number), left.len));
+                applied(left, numeric(*kind), digits, *at)
+            }
+        }
+    }
+}

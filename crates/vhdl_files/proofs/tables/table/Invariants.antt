@@ -1,0 +1,10 @@
+use Rattle.std.proofs.Common.{◌≡◌, drop}
+use Rattle.vhdl_bodies.specs.steps.Lists.{in_turn}
+use Rattle.vhdl_interfaces.specs.Views.{entities_view}
+use Rattle.vhdl_files.specs.steps.Tables.{table_view, with_seen, no_table}
+use Rattle.vhdl_files.proofs.tables.table.Given as goal
+
+-- what is left, on the table so far, gives the whole
+abbrev pub invariant-loop-place : goal.invariant-loop-place
+invariant-loop-place l =
+    in_turn with_seen no_table (entities_view l.entities) ≡ in_turn with_seen (table_view l.table) (drop l.place (entities_view l.entities))

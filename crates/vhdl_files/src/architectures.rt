@@ -1,0 +1,109 @@
+//! The architectures of a file (IEEE 1076-2008, 3.3).
+
+ghost use Rattle.std.specs.Prelude.{◌≡◌, [], List, map, option_map};
+ghost use Rattle.vhdl_files.specs.Views.{architectures_view, described_view};
+ghost use Rattle.vhdl_files.specs.steps.Architectures as steps;
+ghost use Rattle.vhdl_instances.specs.Table.{AreEntities};
+ghost use Rattle.vhdl_interfaces.specs.Views.{entities_view, entity_view, named_view};
+ghost use Rattle.vhdl_names.specs.Files as rules;
+ghost use Rattle.vhdl_names.specs.Gives.{Gives};
+ghost use Rattle.vhdl_names.specs.Interfaces.{EntityView};
+ghost use Rattle.vhdl_names.specs.Rules.{each};
+ghost use Rattle.vhdl_tree.specs.View as view;
+ghost use Rattle.vhdl_types.specs.Views.{sight_view};
+ghost use Rattle.vhdl_units.specs.views.Declarations.{declarations_view};
+ghost use Rattle.vhdl_units.specs.views.Units.{architecture_view};
+
+use crate::outline::{Described, Outline, architecture_of};
+use std::alloc::Global;
+use vhdl_analysis::concurrents;
+use vhdl_bodies::copied;
+use vhdl_components::declarations;
+use vhdl_declared::{declare_labels, ends};
+use vhdl_instances;
+use vhdl_interfaces::{Entities, EntityInterface, architecture_sight};
+use vhdl_names::NameFault;
+use vhdl_tree as syntax;
+use vhdl_types::Sight;
+use vhdl_units::{Architecture, Declaration};
+
+/// The labels and statements of an architecture behind these declarations.
+fn body(
+    alloc: Global,
+    formals: &vhdl_instances::Entities,
+    sight: &mut Sight,
+    declarations: Vec<Declaration>,
+    tree: &syntax::Architecture,
+) -> Result<Architecture, NameFault>
+    requires outside { (sight_view sight.old).variables ≡ [] }
+    ensures { (all : List EntityView) → AreEntities formals.now all
+        → Gives architecture_view (steps.body all (sight_view sight.old) (declarations_view declarations) (view.architecture_view tree.now)) result }
+{
+    declare_labels(alloc, &mut sight.region, &tree.statements)?;
+    let statements = concurrents(alloc, formals, sight, &tree.statements)?;
+    ends(&tree.name, &tree.end_name)?;
+    let name = copied(alloc, &tree.name)?;
+    Ok(Architecture {
+        name,
+        declarations,
+        statements,
+    })
+}
+
+/// An architecture of an entity, behind its context items; `formals` is the table of the entities.
+fn architecture(
+    alloc: Global,
+    entities: &Entities<'_>,
+    formals: &vhdl_instances::Entities,
+    entity: &EntityInterface<'_>,
+    described: &Described<'_>,
+) -> Result<Architecture, NameFault>
+    requires table { AreEntities formals.now (entities_view entities.now) }
+    ensures { Gives architecture_view (rules.architecture (entities_view entities.now) (entity_view entity.now)
+        (described_view described.now).0 (described_view described.now).1) result }
+{
+    let tree = described.tree;
+    let mut sight = architecture_sight(alloc, entity, described.items)?;
+    let declarations = declarations(alloc, entities, &mut sight, &tree.declarations)?;
+    body(alloc, formals, &mut sight, declarations, tree)
+}
+
+/// The architecture of the entity of a name, if the file has one.
+fn own_architecture(
+    alloc: Global,
+    entities: &Entities<'_>,
+    formals: &vhdl_instances::Entities,
+    outline: &Outline<'_>,
+    name: &[u8],
+    entity: &EntityInterface<'_>,
+) -> Result<Option<Architecture>, NameFault>
+    requires table { AreEntities formals.now (entities_view entities.now) }
+    ensures { Gives (option_map architecture_view)
+        (steps.own (entities_view entities.now) (architectures_view outline.now.architectures) (named_view name.now entity.now)) result }
+{
+    match architecture_of(outline, name) {
+        None => Ok(None),
+        Some(described) => Ok(Some(architecture(alloc, entities, formals, entity, described)?)),
+    }
+}
+
+/// The architecture of each entity, if the file has one; `formals` is the table of the entities. It
+/// takes memory for what is declared in each and analysed of it.
+pub fn architectures_of(
+    alloc: Global,
+    entities: &Entities<'_>,
+    formals: &vhdl_instances::Entities,
+    outline: &Outline<'_>,
+) -> Result<Vec<Option<Architecture>>, NameFault>
+    requires table { AreEntities formals.now (entities_view entities.now) }
+    ensures { Gives steps.options_view
+        (each (steps.own (entities_view entities.now) (architectures_view outline.now.architectures)) (entities_view entities.now)) result }
+{
+    let mut all = Vec::new(alloc);
+    for place in 0..entities.len() {
+        let (name, entity) = entities.get_index(place).unwrap();
+        let own = own_architecture(alloc, entities, formals, outline, name.as_slice(), entity)?;
+        all.push(own)?;
+    }
+    Ok(all)
+}

@@ -1,0 +1,4 @@
+pub mod Actual
+pub mod Associating
+pub mod Instancing
+pub mod Tabling

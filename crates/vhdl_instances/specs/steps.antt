@@ -1,0 +1,4 @@
+pub mod Actuals
+pub mod Associations
+pub mod Instances
+pub mod Tables

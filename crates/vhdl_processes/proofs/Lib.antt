@@ -1,0 +1,9 @@
+pub mod Walks
+pub mod Assigning
+pub mod Reading
+pub mod Rising
+pub mod Prefixed
+pub mod NetReads
+pub mod Waking
+pub mod Connecting
+pub mod Codes

@@ -1,0 +1,40 @@
+-- What a walk over a list puts behind what stands there.
+use Rattle.std.proofs.Common.{◌≡◌, ℕ, zero, suc, ◌+◌, ◌<◌, ◌≤◌, List, [], ◌∷◌, ◌++◌, length, get_or, drop, drop-cons, add-one, Result, refl, sym, subst, ap, ◌∙◌, arith}
+use Rattle.std.specs.Prelude.{flat_map, OnOk}
+use Rattle.std.specs.List.{range_with_len}
+use Rattle.std.proofs.lemmas.List.{append_assoc, append-nil}
+use Rattle.vhdl_expansion.proofs.Places.{range-more}
+
+pub next-left : {X : Type 0} (xs : List X) (i : ℕ) (x : X) → i < length xs → x ≡ get_or xs i x → drop i xs ≡ x ∷ drop (i + 1) xs
+next-left xs i x h e = drop-cons xs i x h ∙ ap (λ y. y ∷ drop (suc i) xs) (sym e) ∙ ap (λ j. x ∷ drop j xs) (sym (add-one i))
+
+pub none_left : {X : Type 0} (xs : List X) (i : ℕ) → length xs ≤ i → drop i xs ≡ []
+none_left [] zero h = refl
+none_left [] (suc i) h = refl
+none_left (x ∷ xs) zero h = absurd (omega arith)
+none_left (x ∷ xs) (suc i) h = none_left xs i (omega arith)
+
+module _ {X B : Type 0} (f : X → List B) where
+  pub walk_goes : (total now new : List B) (xs : List X) (i : ℕ) (x : X) → i < length xs → x ≡ get_or xs i x
+      → total ≡ now ++ flat_map f (drop i xs) → new ≡ now ++ f x → total ≡ new ++ flat_map f (drop (i + 1) xs)
+  walk_goes total now new xs i x below is so_far h =
+      so_far ∙ ap (λ ys. now ++ flat_map f ys) (next-left xs i x below is)
+      ∙ sym (append_assoc now (f x) (flat_map f (drop (i + 1) xs))) ∙ ap (λ m. m ++ flat_map f (drop (i + 1) xs)) (sym h)
+
+  pub walk_ends : (total now : List B) (xs : List X) (i : ℕ) → length xs ≤ i → total ≡ now ++ flat_map f (drop i xs) → now ≡ total
+  walk_ends total now xs i h so_far = sym (so_far ∙ ap (λ ys. now ++ flat_map f ys) (none_left xs i h) ∙ append-nil now)
+
+-- the same by another name
+pub adds_along : {A E B : Type 0} (r : Result A E) (new old xs ys : List B) → ys ≡ xs → OnOk r (new ≡ old ++ xs) → OnOk r (new ≡ old ++ ys)
+adds_along r new old xs ys e h = subst (λ zs. OnOk r (new ≡ old ++ zs)) (sym e) h
+
+-- two things behind what stands there
+pub adds_both : {A E B : Type 0} (r : Result A E) (old mid new xs ys zs : List B) → zs ≡ xs ++ ys → mid ≡ old ++ xs → OnOk r (new ≡ mid ++ ys) → OnOk r (new ≡ old ++ zs)
+adds_both r old mid new xs ys zs e h k =
+    adds_along r new old (xs ++ ys) zs e
+    (subst (λ ms. OnOk r (new ≡ ms)) (ap (λ ms. ms ++ ys) h ∙ append_assoc old xs ys) k)
+
+-- one more of a run
+pub more_run : (old now : List ℕ) (first k : ℕ) → now ≡ old ++ range_with_len first k → now ++ (first + k) ∷ [] ≡ old ++ range_with_len first (k + 1)
+more_run old now first k h =
+    ap (λ xs. xs ++ (first + k) ∷ []) h ∙ append_assoc old (range_with_len first k) ((first + k) ∷ []) ∙ ap (λ xs. old ++ xs) (sym (range-more first k))

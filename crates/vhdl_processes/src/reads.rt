@@ -1,0 +1,238 @@
+//! The nets that an elaborated body reads (IEEE 1076-2008, 11.3): those whose values or events it looks at.
+
+ghost use Rattle.std.specs.Prelude.{◌≡◌, ℕ, ◌++◌, ◌↔◌, [], ◌∷◌, Contains, flat_map, IfOk, OnOk};
+ghost use Rattle.std.specs.List.{range_with_len};
+ghost use Rattle.std.specs.List.Sorted.{IsStrictlyIncreasing};
+ghost use Rattle.rtl_model.specs.bodies.Reads as definition;
+ghost use Rattle.rtl_net.specs.Bodies.{expr_view, value_view, test_view, statements_of};
+ghost use Rattle.rtl_net.specs.Indices.{numbers};
+ghost use Rattle.vhdl_processes.specs.ReadNets.{link_reads, test_link_reads, statement_reads, branch_reads, alternative_reads};
+
+use rtl_facts::sort_once;
+use rtl_net::{Alternative, Branch, Expr, Indices, Link, Statement, Test, TestLink, Value};
+use std::alloc::{AllocError, Global};
+
+/// The nets that a body reads, rising. It takes the memory of a list of all the body's names of nets, and time to sort it.
+pub fn nets_read(alloc: Global, body: &[Statement]) -> Result<Vec<usize>, AllocError>
+    ensures rise { IfOk result (λ v. IsStrictlyIncreasing v.items) }
+    ensures all { IfOk result (λ v. (n : ℕ) → Contains v.items n ↔ Contains (definition.reads (statements_of body.now)) n) }
+{
+    let mut found = Vec::new(alloc);
+    of_body(body, &mut found)?;
+    sort_once(&mut found);
+    Ok(found)
+}
+
+/// Puts nets behind others.
+fn of_nets(nets: &Indices, found: &mut Vec<usize>) -> Result<(), AllocError>
+    ensures { OnOk result (found.new.items ≡ found.old.items ++ numbers nets.now) }
+{
+    match nets {
+        Indices::Run { first, len } => of_run(*first, *len, found),
+        Indices::List(listed) => of_list(listed.as_slice(), found),
+    }
+}
+
+/// Puts nets that stand one after another behind others.
+fn of_run(first: u32, len: u32, found: &mut Vec<usize>) -> Result<(), AllocError>
+    ensures { OnOk result (found.new.items ≡ found.old.items ++ range_with_len first len) }
+{
+    for k in 0..len {
+        found.push(first as usize + k as usize)?;
+    }
+    Ok(())
+}
+
+/// Puts listed nets behind others.
+fn of_list(listed: &[u32], found: &mut Vec<usize>) -> Result<(), AllocError>
+    ensures { OnOk result (found.new.items ≡ found.old.items ++ listed.now) }
+{
+    for net in listed {
+        found.push(*net as usize)?;
+    }
+    Ok(())
+}
+
+/// Puts a net behind others.
+fn of_net(net: u32, found: &mut Vec<usize>) -> Result<(), AllocError>
+    ensures { OnOk result (found.new.items ≡ found.old.items ++ net ∷ []) }
+{
+    found.push(net as usize)?;
+    Ok(())
+}
+
+/// Puts the nets that an expression reads behind others.
+#[cycle(expression)]
+fn of_expr(expr: &Expr, found: &mut Vec<usize>) -> Result<(), AllocError>
+    ensures { OnOk result (found.new.items ≡ found.old.items ++ definition.expr_reads (expr_view expr.now)) }
+{
+    match expr {
+        Expr::Signal(nets) => of_nets(nets, found),
+        Expr::Variable(_) => Ok(()),
+        Expr::Constant(_) => Ok(()),
+        Expr::Inverse(operand) => of_expr(operand, found),
+        Expr::Filled {
+            element: operand,
+            ..
+        } => of_expr(operand, found),
+        Expr::Chain { first, rest } => {
+            of_expr(first, found)?;
+            of_links(rest, found)
+        }
+        Expr::Resized { operand, .. } => of_expr(operand, found),
+        Expr::ShiftedLeft { operand, .. } => of_expr(operand, found),
+        Expr::ShiftedRight { operand, .. } => of_expr(operand, found),
+    }
+}
+
+/// Puts the nets that further operands of a chain read behind others.
+#[cycle(expression)]
+fn of_links(list: &[Link], found: &mut Vec<usize>) -> Result<(), AllocError>
+    ensures { OnOk result (found.new.items ≡ found.old.items ++ flat_map link_reads list.now) }
+{
+    for item in list {
+        of_expr(&item.operand, found)?;
+    }
+    Ok(())
+}
+
+/// Puts the nets that a value reads behind others.
+fn of_value(value: &Value, found: &mut Vec<usize>) -> Result<(), AllocError>
+    ensures { OnOk result (found.new.items ≡ found.old.items ++ definition.value_reads (value_view value.now)) }
+{
+    match value {
+        Value::Elements(expr) => of_expr(expr, found),
+        Value::Position(_) => Ok(()),
+        Value::PositionOf(net) => of_net(*net, found),
+        Value::PositionIn(_) => Ok(()),
+    }
+}
+
+/// Puts the nets that two values read behind others.
+#[tactic(auto, using(std::proofs::lemmas::List::append_assoc))]
+fn of_values(left: &Value, right: &Value, found: &mut Vec<usize>) -> Result<(), AllocError>
+    ensures { OnOk result (found.new.items
+        ≡ found.old.items ++ (definition.value_reads (value_view left.now) ++ definition.value_reads (value_view right.now))) }
+{
+    of_value(left, found)?;
+    of_value(right, found)
+}
+
+/// Puts the nets that two expressions read behind others.
+#[tactic(auto, using(std::proofs::lemmas::List::append_assoc))]
+fn of_exprs(left: &Expr, right: &Expr, found: &mut Vec<usize>) -> Result<(), AllocError>
+    ensures { OnOk result (found.new.items
+        ≡ found.old.items ++ (definition.expr_reads (expr_view left.now) ++ definition.expr_reads (expr_view right.now))) }
+{
+    of_expr(left, found)?;
+    of_expr(right, found)
+}
+
+/// Puts the nets that a condition reads behind others.
+#[cycle(conditions)]
+fn of_condition(test: &Test, found: &mut Vec<usize>) -> Result<(), AllocError>
+    ensures { OnOk result (found.new.items ≡ found.old.items ++ definition.test_reads (test_view test.now)) }
+{
+    match test {
+        Test::Condition(expr) => of_expr(expr, found),
+        Test::Decided(_) => Ok(()),
+        Test::Equal(left, right) => of_values(left, right, found),
+        Test::Unequal(left, right) => of_values(left, right, found),
+        Test::Level { net, .. } => of_net(*net, found),
+        Test::Compared(_, left, right) => of_exprs(left, right, found),
+        Test::ComparedTo(_, expr, _) => of_expr(expr, found),
+        Test::Rising(net) => of_net(*net, found),
+        Test::Falling(net) => of_net(*net, found),
+        Test::Event(net) => of_net(*net, found),
+        Test::Negated(operand) => of_condition(operand, found),
+        Test::Combined { first, rest } => {
+            of_condition(first, found)?;
+            of_conditions(rest, found)
+        }
+    }
+}
+
+/// Puts the nets that further conditions of a chain read behind others.
+#[cycle(conditions)]
+fn of_conditions(list: &[TestLink], found: &mut Vec<usize>) -> Result<(), AllocError>
+    ensures { OnOk result (found.new.items ≡ found.old.items ++ flat_map test_link_reads list.now) }
+{
+    for item in list {
+        of_condition(&item.operand, found)?;
+    }
+    Ok(())
+}
+
+/// Puts the nets that a body reads behind others.
+#[cycle(reading)]
+fn of_body(list: &[Statement], found: &mut Vec<usize>) -> Result<(), AllocError>
+    ensures { OnOk result (found.new.items ≡ found.old.items ++ flat_map statement_reads list.now) }
+{
+    for item in list {
+        of_statement(item, found)?;
+    }
+    Ok(())
+}
+
+/// Puts the nets that a statement reads behind others.
+#[cycle(reading)]
+fn of_statement(statement: &Statement, found: &mut Vec<usize>) -> Result<(), AllocError>
+    ensures { OnOk result (found.new.items ≡ found.old.items ++ statement_reads statement.now) }
+{
+    match statement {
+        Statement::Null => Ok(()),
+        Statement::Assign { value, .. } => of_value(value, found),
+        Statement::Set { value, .. } => of_value(value, found),
+        Statement::If {
+            branches,
+            otherwise,
+        } => {
+            of_branches(branches, found)?;
+            match otherwise {
+                None => Ok(()),
+                Some(last) => of_body(last, found),
+            }
+        }
+        Statement::Case {
+            selector,
+            alternatives,
+            others,
+        } => {
+            of_value(selector, found)?;
+            of_alternatives(alternatives, found)?;
+            of_body(others, found)
+        }
+    }
+}
+
+/// Puts the nets that branches of an if read behind others.
+#[cycle(reading)]
+fn of_branches(list: &[Branch], found: &mut Vec<usize>) -> Result<(), AllocError>
+    ensures { OnOk result (found.new.items ≡ found.old.items ++ flat_map branch_reads list.now) }
+{
+    for item in list {
+        of_branch(item, found)?;
+    }
+    Ok(())
+}
+
+/// Puts the nets that a branch reads behind others.
+#[cycle(reading)]
+#[tactic(auto, using(std::proofs::lemmas::List::append_assoc))]
+fn of_branch(branch: &Branch, found: &mut Vec<usize>) -> Result<(), AllocError>
+    ensures { OnOk result (found.new.items ≡ found.old.items ++ branch_reads branch.now) }
+{
+    of_condition(&branch.test, found)?;
+    of_body(&branch.statements, found)
+}
+
+/// Puts the nets that alternatives of a case read behind others.
+#[cycle(reading)]
+fn of_alternatives(list: &[Alternative], found: &mut Vec<usize>) -> Result<(), AllocError>
+    ensures { OnOk result (found.new.items ≡ found.old.items ++ flat_map alternative_reads list.now) }
+{
+    for item in list {
+        of_body(&item.statements, found)?;
+    }
+    Ok(())
+}

@@ -1,0 +1,5 @@
+pub mod Asked
+pub mod Chosen
+pub mod Fixing
+pub mod Marking
+pub mod Steps

@@ -1,0 +1,2 @@
+pub mod Sequential
+pub mod Concurrent
