@@ -1,10 +1,6 @@
 pub mod Places
-pub mod Wired
 pub mod Links
 pub mod TestChains
-pub mod WiredTests
-pub mod Drivers
 pub mod Assigned
 pub mod Sequences
 pub mod Parts
-pub mod WiredStatements

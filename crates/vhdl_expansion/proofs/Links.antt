@@ -17,6 +17,7 @@ use Rattle.vhdl_names.proofs.rows.Vectors.{view_chain}
 use Rattle.vhdl_expand.specs.declared.fault.ElabFault.{ElabFault}
 use Rattle.vhdl_expand.specs.Elab.{Elab, ◌>>=◌}
 use Rattle.vhdl_expand.specs.Site.{Site}
+use Rattle.vhdl_expand.specs.Expressions.{vector}
 use Rattle.vhdl_expand.proofs.Chains.{bind-assoc, err_first}
 use Rattle.vhdl_expansion.specs.Results.{Expands}
 use Rattle.vhdl_expansion.specs.declared.operand.Linked.{Linked}
@@ -30,44 +31,44 @@ links-push : (left : b.Expr) (xs : List Link) (y : Link) → links_of left (xs +
 links-push left [] y = refl
 links-push left (x ∷ xs) y = links-push (b.Expr.binary (operator_view x.operator) left (expr_view x.operand)) xs y
 
-module _ (nets : List ℕ) (at : Site) where
+module _ (at : Site) where
   -- the operators so far, on a first operand, and those that are left, give what all give on the expression at the beginning
   pub record SoFar (begun first : b.Expr) (all left : List VectorLink) (rest : List Link) (w : ℕ) : Type 0 where
     pub counted : width (links_of first rest) ≡ w
-    pub goes_on : steps.all_linked nets at begun all ≡ steps.all_linked nets at (links_of first rest) left
+    pub goes_on : steps.all_linked at begun all ≡ steps.all_linked at (links_of first rest) left
 
   -- one more
   one_more : (begun first : b.Expr) (all left : List VectorLink) (rest more : List Link) (w : ℕ) (k : VectorLink) (x : Linked) → SoFar begun first all (k ∷ left) rest w
-      → steps.linked nets at (links_of first rest) k ≡ Ok (linked_view (links_of first rest) x) → x.width.len ≡ operated_width (operator_view x.link.operator) w (width (expr_view x.link.operand))
+      → steps.linked at (links_of first rest) k ≡ Ok (linked_view (links_of first rest) x) → x.width.len ≡ operated_width (operator_view x.link.operator) w (width (expr_view x.link.operand))
       → more ≡ rest ++ x.link ∷ [] → SoFar begun first all left more x.width.len
   one_more begun first all left rest more w k x so_far h wide pushed =
       let e : links_of first more ≡ linked_view (links_of first rest) x = ap (links_of first) pushed ∙ links-push first rest x.link in
       record {
         counted = ap width e ∙ ap (λ m. operated_width (operator_view x.link.operator) m (width (expr_view x.link.operand))) so_far.counted ∙ sym wide;
-        goes_on = so_far.goes_on ∙ ap (λ r. r >>= λ d. steps.all_linked nets at d left) h ∙ ap (λ d. steps.all_linked nets at d left) (sym e);
+        goes_on = so_far.goes_on ∙ ap (λ r. r >>= λ d. steps.all_linked at d left) h ∙ ap (λ d. steps.all_linked at d left) (sym e);
       }
 
   next-left : (xs : List VectorLink) (i : ℕ) (x : VectorLink) → i < length xs → x ≡ get_or xs i x → drop i xs ≡ x ∷ drop (i + 1) xs
   next-left xs i x h e = drop-cons xs i x h ∙ ap (λ y. y ∷ drop (suc i) xs) (sym e) ∙ ap (λ j. x ∷ drop j xs) (sym (add-one i))
 
   pub next_link : (begun first : b.Expr) (all ls : List VectorLink) (rest more : List Link) (w i : ℕ) (k : VectorLink) (x : Linked) → i < length ls → k ≡ get_or ls i k
-      → SoFar begun first all (drop i ls) rest w → steps.linked nets at (links_of first rest) k ≡ Ok (linked_view (links_of first rest) x)
+      → SoFar begun first all (drop i ls) rest w → steps.linked at (links_of first rest) k ≡ Ok (linked_view (links_of first rest) x)
       → x.width.len ≡ operated_width (operator_view x.link.operator) w (width (expr_view x.link.operand)) → more ≡ rest ++ x.link ∷ [] → SoFar begun first all (drop (i + 1) ls) more x.width.len
   next_link begun first all ls rest more w i k x below is so_far h wide pushed =
       one_more begun first all (drop (i + 1) ls) rest more w k x (subst (λ left. SoFar begun first all left rest w) (next-left ls i k below is) so_far) h wide pushed
 
   -- one that is refused
   pub next_stops : (begun first : b.Expr) (all ls : List VectorLink) (rest : List Link) (w i : ℕ) (k : VectorLink) → i < length ls → k ≡ get_or ls i k
-      → SoFar begun first all (drop i ls) rest w → IsErr (steps.linked nets at (links_of first rest) k) → IsErr (steps.all_linked nets at begun all)
+      → SoFar begun first all (drop i ls) rest w → IsErr (steps.linked at (links_of first rest) k) → IsErr (steps.all_linked at begun all)
   next_stops begun first all ls rest w i k below is so_far h =
       subst (λ (r : Elab b.Expr). IsErr r)
-      (sym (so_far.goes_on ∙ ap (λ left. steps.all_linked nets at (links_of first rest) left) (next-left ls i k below is)))
-      (err_first (steps.linked nets at (links_of first rest) k) _ h)
+      (sym (so_far.goes_on ∙ ap (λ left. steps.all_linked at (links_of first rest) left) (next-left ls i k below is)))
+      (err_first (steps.linked at (links_of first rest) k) _ h)
 
   -- ---- a chain grouped from the left
 
-  linked-step : (t : u.Vector) (k : VectorLink) → steps.vector nets at (views.linked t k) ≡ (steps.vector nets at t >>= λ d. steps.linked nets at d k)
-  unfolding steps.vector
+  linked-step : (t : u.Vector) (k : VectorLink) → vector at (views.linked t k) ≡ (vector at t >>= λ d. steps.linked at d k)
+  unfolding vector
   linked-step t (l.Vector op pos x) = refl
   linked-step t (l.Integer op pos s) = refl
 
@@ -75,27 +76,27 @@ module _ (nets : List ℕ) (at : Site) where
   last-ok (Ok x) = refl
   last-ok (Err p) = refl
 
-  chained : (t : u.Vector) (ls : List VectorLink) → steps.vector nets at (vector_chained t ls) ≡ (steps.vector nets at t >>= λ d. steps.all_linked nets at d ls)
-  chained t [] = last-ok (steps.vector nets at t)
-  chained t (k ∷ ls) = chained (views.linked t k) ls ∙ ap (λ r. r >>= λ d. steps.all_linked nets at d ls) (linked-step t k)
-      ∙ bind-assoc (steps.vector nets at t) (λ d. steps.linked nets at d k) (λ d. steps.all_linked nets at d ls)
+  chained : (t : u.Vector) (ls : List VectorLink) → vector at (vector_chained t ls) ≡ (vector at t >>= λ d. steps.all_linked at d ls)
+  chained t [] = last-ok (vector at t)
+  chained t (k ∷ ls) = chained (views.linked t k) ls ∙ ap (λ r. r >>= λ d. steps.all_linked at d ls) (linked-step t k)
+      ∙ bind-assoc (vector at t) (λ d. steps.linked at d k) (λ d. steps.all_linked at d ls)
 
   chain-is : (e : Vector) (start : Box VectorStart Global) (links : Vec VectorLink Global) (st : VectorStart) (ls : List VectorLink)
       → e ≡ v.Chain start links → st ≡ start.value → ls ≡ links.items
-      → steps.vector nets at (vector_view e) ≡ (steps.started nets at st >>= λ d. steps.all_linked nets at d ls)
+      → vector at (vector_view e) ≡ (steps.started at st >>= λ d. steps.all_linked at d ls)
   chain-is e start links st ls h j k =
-      ap (λ (a : Vector). steps.vector nets at (vector_view a)) h ∙ ap (λ a. steps.vector nets at a) (view_chain start links)
-      ∙ ap (λ (a : VectorStart). steps.vector nets at (vector_chained (start_view a) links.items)) (sym j)
-      ∙ ap (λ xs. steps.vector nets at (vector_chained (start_view st) xs)) (sym k)
+      ap (λ (a : Vector). vector at (vector_view a)) h ∙ ap (λ a. vector at a) (view_chain start links)
+      ∙ ap (λ (a : VectorStart). vector at (vector_chained (start_view a) links.items)) (sym j)
+      ∙ ap (λ xs. vector at (vector_chained (start_view st) xs)) (sym k)
       ∙ chained (start_view st) ls
-      ∙ ap (λ r. r >>= λ d. steps.all_linked nets at d ls) (linked-step (vector_view st.first) st.link)
+      ∙ ap (λ r. r >>= λ d. steps.all_linked at d ls) (linked-step (vector_view st.first) st.link)
 
   pub chain-goes : (e : Vector) (start : Box VectorStart Global) (links : Vec VectorLink Global) (st : VectorStart) (ls : List VectorLink) (d : b.Expr)
-      → e ≡ v.Chain start links → st ≡ start.value → ls ≡ links.items → steps.started nets at st ≡ Ok d
-      → steps.vector nets at (vector_view e) ≡ steps.all_linked nets at d ls
-  chain-goes e start links st ls d h j k given = chain-is e start links st ls h j k ∙ ap (λ r. r >>= λ d. steps.all_linked nets at d ls) given
+      → e ≡ v.Chain start links → st ≡ start.value → ls ≡ links.items → steps.started at st ≡ Ok d
+      → vector at (vector_view e) ≡ steps.all_linked at d ls
+  chain-goes e start links st ls d h j k given = chain-is e start links st ls h j k ∙ ap (λ r. r >>= λ d. steps.all_linked at d ls) given
 
   pub chain-stops : (e : Vector) (start : Box VectorStart Global) (links : Vec VectorLink Global) (st : VectorStart)
-      → e ≡ v.Chain start links → st ≡ start.value → IsErr (steps.started nets at st) → IsErr (steps.vector nets at (vector_view e))
+      → e ≡ v.Chain start links → st ≡ start.value → IsErr (steps.started at st) → IsErr (vector at (vector_view e))
   chain-stops e start links st h j given =
-      subst (λ (r : Elab b.Expr). IsErr r) (sym (chain-is e start links st links.items h j refl)) (err_first (steps.started nets at st) _ given)
+      subst (λ (r : Elab b.Expr). IsErr r) (sym (chain-is e start links st links.items h j refl)) (err_first (steps.started at st) _ given)

@@ -1,8 +1,7 @@
 -- Statements by their parts, in the order in which the code comes to them.
-use Rattle.std.proofs.Common.{◌≡◌, ℕ, zero, suc, ◌≤◌, List, [], ◌∷◌, length, map, drop, Option, Some, None, Vec, Global, Result, Ok, Err, refl, sym, ap, ◌∙◌, subst, arith}
-use Rattle.std.specs.Prelude.{◌≢◌, ℤ, IsErr, OnOk, IfErr, option_map}
+use Rattle.std.proofs.Common.{◌≡◌, ℕ, zero, suc, ◌≤◌, List, [], ◌∷◌, length, map, drop, Option, Vec, Global, Result, Ok, Err, refl, sym, ap, ◌∙◌, subst, arith}
+use Rattle.std.specs.Prelude.{ℤ, IsErr, OnOk, IfErr}
 use Rattle.vhdl_names.specs.units.Expressions.{Part, Place, Range}
-use Rattle.vhdl_names.specs.units.Expressions as e
 use Rattle.vhdl_names.specs.units.Statements as u
 use Rattle.vhdl_names.specs.units.Statements.{Given}
 use Rattle.vhdl_names.specs.views.Integers.{range_view}
@@ -18,8 +17,8 @@ use Rattle.rtl_net.specs.Bodies as net
 use Rattle.rtl_net.proofs.Rows.{view_if, view_case}
 use Rattle.vhdl_units.specs.declared.sequential.Statement as analysed_statement
 use Rattle.vhdl_units.specs.declared.sequential.Statement.TheVariants as t
-use Rattle.vhdl_units.specs.declared.sequential.If.{If, out-If, roll-If, roll-out-If}
-use Rattle.vhdl_units.specs.declared.sequential.Case.{Case, out-Case, roll-Case, roll-out-Case}
+use Rattle.vhdl_units.specs.declared.sequential.If.{If, out-If, roll-out-If}
+use Rattle.vhdl_units.specs.declared.sequential.Case.{Case, out-Case, roll-out-Case}
 use Rattle.vhdl_units.specs.declared.sequential.Loop.{Loop}
 use Rattle.vhdl_units.specs.views.Sequential as units
 use Rattle.vhdl_units.specs.views.Sequential.{Guarded, Chosen}
@@ -28,14 +27,14 @@ use Rattle.vhdl_expand.specs.declared.fault.ElabFault.{ElabFault}
 use Rattle.vhdl_expand.specs.declared.fault.ElabFault.TheVariants.{NoMemory}
 use Rattle.vhdl_expand.specs.Elab.{Elab, ◌>>=◌, each}
 use Rattle.vhdl_expand.specs.Integers.{turns}
-use Rattle.vhdl_expand.specs.Site.{Site, in_loop}
+use Rattle.vhdl_expand.specs.Site.{Site, in_loop, place_elements, variable_elements}
+use Rattle.vhdl_expand.specs.Expressions.{value, test}
+use Rattle.vhdl_expand.specs.Statements as definition
 use Rattle.vhdl_expand.specs.Statements.{choice, one}
 use Rattle.vhdl_expand.proofs.Steps.{given}
-use Rattle.vhdl_expand.proofs.Chains.{bind-assoc, err_first}
+use Rattle.vhdl_expand.proofs.Chains.{err_first}
 use Rattle.vhdl_expansion.specs.Results.{Expands}
 use Rattle.vhdl_expansion.specs.Statements.{branch_view, branches_view, alternative_view, alternatives_view, otherwise_view}
-use Rattle.vhdl_expansion.specs.steps.Values.{value}
-use Rattle.vhdl_expansion.specs.steps.Tests.{condition}
 use Rattle.vhdl_expansion.specs.steps.Assignments.{assign, set}
 use Rattle.vhdl_expansion.specs.steps.Statements as steps
 use Rattle.vhdl_expansion.specs.steps.Statements.{after}
@@ -67,42 +66,55 @@ case_of_each w (Ok bs) (Ok y) = refl
 case_of_each w (Ok bs) (Err p) = refl
 case_of_each w (Err p) l = refl
 
-module _ (nets drives : List ℕ) (at : Site) where
+-- an assignment is one statement
+as_one : {A B : Type 0} (r : Elab A) (f : A → Elab B) (g : A → B → b.Stmt) → (r >>= λ x. f x >>= λ y. given (one (g x y))) ≡ ((r >>= λ x. f x >>= λ y. given (g x y)) >>= λ s. given (one s))
+as_one (Err p) f g = refl
+as_one (Ok x) f g = inner (f x) (g x)
+  where
+    inner : {B : Type 0} (q : Elab B) (k : B → b.Stmt) → (q >>= λ y. given (one (k y))) ≡ ((q >>= λ y. given (k y)) >>= λ s. given (one s))
+    inner (Ok y) k = refl
+    inner (Err p) k = refl
+
+module _ (at : Site) where
   -- ---- one statement each
 
-  pub null_one : steps.statement nets drives at u.nothing ≡ Ok (one b.nothing)
-  unfolding steps.statement
+  pub null_one : definition.statement at u.nothing ≡ Ok (one b.nothing)
+  unfolding definition.statement
   null_one = refl
 
-  pub assign_one : (p : Place) (g : Given) (x : b.Stmt) → assign nets drives at p g ≡ Ok x → steps.statement nets drives at (u.assign p g) ≡ Ok (one x)
-  unfolding steps.statement
-  assign_one p g x h = ap (λ r. r >>= λ y. given (one y)) h
+  assign-by : (p : Place) (g : Given) → definition.statement at (u.assign p g) ≡ (assign at p g >>= λ s. given (one s))
+  unfolding definition.statement
+  assign-by p g = as_one (place_elements at p) (λ es. definition.given at (length es) g) b.assign
 
-  pub assign_none : (p : Place) (g : Given) → IsErr (assign nets drives at p g) → IsErr (steps.statement nets drives at (u.assign p g))
-  unfolding steps.statement
-  assign_none p g h = err_first (assign nets drives at p g) _ h
+  pub assign_one : (p : Place) (g : Given) (x : b.Stmt) → assign at p g ≡ Ok x → definition.statement at (u.assign p g) ≡ Ok (one x)
+  assign_one p g x h = assign-by p g ∙ ap (λ r. r >>= λ y. given (one y)) h
 
-  pub set_one : (k : ℕ) (part : Part) (g : Given) (x : b.Stmt) → set nets drives at k part g ≡ Ok x → steps.statement nets drives at (u.set k part g) ≡ Ok (one x)
-  unfolding steps.statement
-  set_one k part g x h = ap (λ r. r >>= λ y. given (one y)) h
+  pub assign_none : (p : Place) (g : Given) → IsErr (assign at p g) → IsErr (definition.statement at (u.assign p g))
+  assign_none p g h = subst (λ (r : Elab b.Stmts). IsErr r) (sym (assign-by p g)) (err_first (assign at p g) _ h)
 
-  pub set_none : (k : ℕ) (part : Part) (g : Given) → IsErr (set nets drives at k part g) → IsErr (steps.statement nets drives at (u.set k part g))
-  unfolding steps.statement
-  set_none k part g h = err_first (set nets drives at k part g) _ h
+  set-by : (k : ℕ) (part : Part) (g : Given) → definition.statement at (u.set k part g) ≡ (set at k part g >>= λ s. given (one s))
+  unfolding definition.statement
+  set-by k part g = as_one (variable_elements at k part) (λ es. definition.given at (length es) g) b.set
+
+  pub set_one : (k : ℕ) (part : Part) (g : Given) (x : b.Stmt) → set at k part g ≡ Ok x → definition.statement at (u.set k part g) ≡ Ok (one x)
+  set_one k part g x h = set-by k part g ∙ ap (λ r. r >>= λ y. given (one y)) h
+
+  pub set_none : (k : ℕ) (part : Part) (g : Given) → IsErr (set at k part g) → IsErr (definition.statement at (u.set k part g))
+  set_none k part g h = subst (λ (r : Elab b.Stmts). IsErr r) (sym (set-by k part g)) (err_first (set at k part g) _ h)
 
   -- ---- if
 
   branches-each : (gs : List Guarded) (last : u.Branches)
-      → steps.branches nets drives at (units.branches_of gs last) ≡ (each (steps.branch nets drives at) gs >>= λ bs. steps.branches nets drives at last >>= λ y. given (steps.branches_before y bs))
-  unfolding steps.branches
-  branches-each [] last = go (steps.branches nets drives at last)
+      → definition.branches at (units.branches_of gs last) ≡ (each (steps.branch at) gs >>= λ bs. definition.branches at last >>= λ y. given (steps.branches_before y bs))
+  unfolding definition.branches
+  branches-each [] last = go (definition.branches at last)
     where
       go : (r : Elab b.Branches) → r ≡ (r >>= λ y. given y)
       go (Ok y) = refl
       go (Err p) = refl
   branches-each (g ∷ gs) last =
-      go (condition nets at g.condition) (steps.statements nets drives at (units.statements_of g.statements)) (steps.branches nets drives at (units.branches_of gs last))
-      (each (steps.branch nets drives at) gs) (steps.branches nets drives at last) (branches-each gs last)
+      go (test at g.condition) (definition.statements at (units.statements_of g.statements)) (definition.branches at (units.branches_of gs last))
+      (each (steps.branch at) gs) (definition.branches at last) (branches-each gs last)
     where
       go : (c : Elab b.Test) (x : Elab b.Stmts) (q : Elab b.Branches) (m : Elab (List steps.Branch)) (l : Elab b.Branches) → q ≡ (m >>= λ bs. l >>= λ y. given (steps.branches_before y bs))
           → (c >>= λ c. x >>= λ x. q >>= λ y. given (b.branch c x y))
@@ -116,15 +128,15 @@ module _ (nets drives : List ℕ) (at : Site) where
   if-is : (x : If) → units.statement_view (t.If x) ≡ u.choose (units.branches_of (units.branches_view (out-If x).branches) (units.last_of (units.option_statements_view (out-If x).otherwise)))
   if-is x = ap (λ y. units.statement_view (t.If y)) (sym (roll-out-If x)) ∙ rows.view_if (out-If x).at (out-If x).branches (out-If x).otherwise
 
-  if-by : (x : If) → steps.statement nets drives at (units.statement_view (t.If x))
-      ≡ (steps.conditional nets drives at (units.branches_view (out-If x).branches) (units.last_of (units.option_statements_view (out-If x).otherwise)) >>= λ y. given (one y))
-  unfolding steps.statement
+  if-by : (x : If) → definition.statement at (units.statement_view (t.If x))
+      ≡ (steps.conditional at (units.branches_view (out-If x).branches) (units.last_of (units.option_statements_view (out-If x).otherwise)) >>= λ y. given (one y))
+  unfolding definition.statement
   if-by x =
       let gs = units.branches_view (out-If x).branches in
       let last = units.last_of (units.option_statements_view (out-If x).otherwise) in
-      ap (steps.statement nets drives at) (if-is x)
+      ap (definition.statement at) (if-is x)
       ∙ ap (λ r. r >>= λ cs. given (one (b.if_of cs))) (branches-each gs last)
-      ∙ go (each (steps.branch nets drives at) gs) (steps.branches nets drives at last)
+      ∙ go (each (steps.branch at) gs) (definition.branches at last)
     where
       go : (m : Elab (List steps.Branch)) (l : Elab b.Branches)
           → ((m >>= λ bs. l >>= λ y. given (steps.branches_before y bs)) >>= λ cs. given (one (b.if_of cs))) ≡ ((m >>= λ bs. l >>= λ y. given (b.if_of (steps.branches_before y bs))) >>= λ y. given (one y))
@@ -132,23 +144,23 @@ module _ (nets drives : List ℕ) (at : Site) where
       go (Ok bs) (Err p) = refl
       go (Err p) l = refl
 
-  pub if_one : (x : If) (y : b.Stmt) → steps.conditional nets drives at (units.branches_view (out-If x).branches) (units.last_of (units.option_statements_view (out-If x).otherwise)) ≡ Ok y
-      → steps.statement nets drives at (units.statement_view (t.If x)) ≡ Ok (one y)
+  pub if_one : (x : If) (y : b.Stmt) → steps.conditional at (units.branches_view (out-If x).branches) (units.last_of (units.option_statements_view (out-If x).otherwise)) ≡ Ok y
+      → definition.statement at (units.statement_view (t.If x)) ≡ Ok (one y)
   if_one x y h = if-by x ∙ ap (λ r. r >>= λ y. given (one y)) h
 
-  pub if_none : (x : If) → IsErr (steps.conditional nets drives at (units.branches_view (out-If x).branches) (units.last_of (units.option_statements_view (out-If x).otherwise)))
-      → IsErr (steps.statement nets drives at (units.statement_view (t.If x)))
-  if_none x h = subst (λ (r : Elab b.Stmts). IsErr r) (sym (if-by x)) (err_first (steps.conditional nets drives at _ _) _ h)
+  pub if_none : (x : If) → IsErr (steps.conditional at (units.branches_view (out-If x).branches) (units.last_of (units.option_statements_view (out-If x).otherwise)))
+      → IsErr (definition.statement at (units.statement_view (t.If x)))
+  if_none x h = subst (λ (r : Elab b.Stmts). IsErr r) (sym (if-by x)) (err_first (steps.conditional at _ _) _ h)
 
   -- ---- case
 
   alternatives-each : (len : ℕ) (gs : List Chosen) (last : u.Statements)
-      → steps.alternatives nets drives at len (units.alternatives_of gs last) ≡ (each (steps.alternative nets drives at len) gs >>= λ bs. steps.statements nets drives at last >>= λ y. given (steps.alternatives_before y bs))
-  unfolding steps.alternatives
+      → definition.alternatives at len (units.alternatives_of gs last) ≡ (each (steps.alternative at len) gs >>= λ bs. definition.statements at last >>= λ y. given (steps.alternatives_before y bs))
+  unfolding definition.alternatives
   alternatives-each len [] last = refl
   alternatives-each len (g ∷ gs) last =
-      go (each (choice len) g.choices) (steps.statements nets drives at (units.statements_of g.statements)) (steps.alternatives nets drives at len (units.alternatives_of gs last))
-      (each (steps.alternative nets drives at len) gs) (steps.statements nets drives at last) (alternatives-each len gs last)
+      go (each (choice len) g.choices) (definition.statements at (units.statements_of g.statements)) (definition.alternatives at len (units.alternatives_of gs last))
+      (each (steps.alternative at len) gs) (definition.statements at last) (alternatives-each len gs last)
     where
       go : (c : Elab (List (List ℕ))) (x : Elab b.Stmts) (q : Elab b.Alternatives) (m : Elab (List steps.Alternative)) (l : Elab b.Stmts) → q ≡ (m >>= λ bs. l >>= λ y. given (steps.alternatives_before y bs))
           → (c >>= λ c. x >>= λ x. q >>= λ y. given (b.alternative c x y))
@@ -164,16 +176,16 @@ module _ (nets drives : List ℕ) (at : Site) where
   case-is x = ap (λ y. units.statement_view (t.Case y)) (sym (roll-out-Case x)) ∙ rows.view_case (out-Case x).at (out-Case x).selector (out-Case x).alternatives (out-Case x).others
 
   abbrev selected : Case → Elab b.Stmt
-  selected x = steps.selection nets drives at (analysed.value_view (out-Case x).selector) (units.alternatives_view (out-Case x).alternatives) (units.statements_of (units.statements_view (out-Case x).others))
+  selected x = steps.selection at (analysed.value_view (out-Case x).selector) (units.alternatives_view (out-Case x).alternatives) (units.statements_of (units.statements_view (out-Case x).others))
 
-  case-by : (x : Case) → steps.statement nets drives at (units.statement_view (t.Case x)) ≡ (selected x >>= λ y. given (one y))
-  unfolding steps.statement
+  case-by : (x : Case) → definition.statement at (units.statement_view (t.Case x)) ≡ (selected x >>= λ y. given (one y))
+  unfolding definition.statement
   case-by x =
       let gs = units.alternatives_view (out-Case x).alternatives in
       let last = units.statements_of (units.statements_view (out-Case x).others) in
-      ap (steps.statement nets drives at) (case-is x)
-      ∙ go (value nets at (analysed.value_view (out-Case x).selector)) (λ len. steps.alternatives nets drives at len (units.alternatives_of gs last)) (λ len. each (steps.alternative nets drives at len) gs)
-      (steps.statements nets drives at last) (λ len. alternatives-each len gs last)
+      ap (definition.statement at) (case-is x)
+      ∙ go (value at (analysed.value_view (out-Case x).selector)) (λ len. definition.alternatives at len (units.alternatives_of gs last)) (λ len. each (steps.alternative at len) gs)
+      (definition.statements at last) (λ len. alternatives-each len gs last)
     where
       go : (v : Elab b.Value) (q : ℕ → Elab b.Alternatives) (m : ℕ → Elab (List steps.Alternative)) (l : Elab b.Stmts) → ((len : ℕ) → q len ≡ (m len >>= λ bs. l >>= λ y. given (steps.alternatives_before y bs)))
           → (v >>= λ w. q (value_width w) >>= λ cs. given (one (b.case_of w cs)))
@@ -181,17 +193,17 @@ module _ (nets drives : List ℕ) (at : Site) where
       go (Err p) q m l h = refl
       go (Ok w) q m l h = ap (λ r. r >>= λ cs. given (one (b.case_of w cs))) (h (value_width w)) ∙ case_of_each w (m (value_width w)) l
 
-  pub case_one : (x : Case) (y : b.Stmt) → selected x ≡ Ok y → steps.statement nets drives at (units.statement_view (t.Case x)) ≡ Ok (one y)
+  pub case_one : (x : Case) (y : b.Stmt) → selected x ≡ Ok y → definition.statement at (units.statement_view (t.Case x)) ≡ Ok (one y)
   case_one x y h = case-by x ∙ ap (λ r. r >>= λ y. given (one y)) h
 
-  pub case_none : (x : Case) → IsErr (selected x) → IsErr (steps.statement nets drives at (units.statement_view (t.Case x)))
+  pub case_none : (x : Case) → IsErr (selected x) → IsErr (definition.statement at (units.statement_view (t.Case x)))
   case_none x h = subst (λ (r : Elab b.Stmts). IsErr r) (sym (case-by x)) (err_first (selected x) _ h)
 
   -- ---- loop
 
-  pub loop_is : (x : Loop) → steps.statement nets drives at (units.statement_view (t.Loop x)) ≡ steps.turned nets drives at (range_view x.range) (units.statements_of (units.statements_view x.statements))
-  unfolding steps.statement
-  loop_is x = ap (steps.statement nets drives at) (rows.view_loop x.at x.range x.statements)
+  pub loop_is : (x : Loop) → definition.statement at (units.statement_view (t.Loop x)) ≡ steps.turned at (range_view x.range) (units.statements_of (units.statements_view x.statements))
+  unfolding definition.statement
+  loop_is x = ap (definition.statement at) (rows.view_loop x.at x.range x.statements)
 
 -- ---- what is made of the parts
 
@@ -210,15 +222,15 @@ pub case_made : (v : Value) (alternatives : Vec Alternative Global) (others : Ve
     → net.statement_view (s.Case v alternatives others) ≡ b.case_of (net.value_view v) (steps.alternatives_before (net.statements_of others.items) (alternatives_view alternatives))
 case_made v alternatives others = view_case v alternatives others ∙ ap (b.case_of (net.value_view v)) (alternatives-made (net.statements_of others.items) alternatives.items)
 
-module _ (nets drives : List ℕ) (at : Site) where
+module _ (at : Site) where
   -- a turn of the same value, with the same statements
   pub same_turn : (now : b.Stmts) (i j : ℤ) (xs ys : List analysed_statement.Statement) → i ≡ j → xs ≡ ys
-      → after now (steps.statements nets drives (in_loop at j) (units.statements_of (map units.statement_view ys)))
-      ≡ after now (steps.statements nets drives (in_loop at i) (units.statements_of (map units.statement_view xs)))
+      → after now (definition.statements (in_loop at j) (units.statements_of (map units.statement_view ys)))
+      ≡ after now (definition.statements (in_loop at i) (units.statements_of (map units.statement_view xs)))
   same_turn now i j xs ys h k =
-      ap (λ m. after now (steps.statements nets drives (in_loop at m) (units.statements_of (map units.statement_view ys)))) (sym h)
-      ∙ ap (λ zs. after now (steps.statements nets drives (in_loop at i) (units.statements_of (map units.statement_view zs)))) (sym k)
+      ap (λ m. after now (definition.statements (in_loop at m) (units.statements_of (map units.statement_view ys)))) (sym h)
+      ∙ ap (λ zs. after now (definition.statements (in_loop at i) (units.statements_of (map units.statement_view zs)))) (sym k)
 
   pub turned_goes : (r : Range) (body : u.Statements) (is : List ℤ) (now : b.Stmts) → turns at.integers r ≡ Ok is
-      → after now (steps.turned nets drives at r body) ≡ after now (steps.repeated nets drives at body is)
-  turned_goes r body is now h = ap (λ q. after now (q >>= λ is. steps.repeated nets drives at body is)) h
+      → after now (steps.turned at r body) ≡ after now (steps.repeated at body is)
+  turned_goes r body is now h = ap (λ q. after now (q >>= λ is. steps.repeated at body is)) h

@@ -1,11 +1,11 @@
 -- The places of a part lie within what it is a part of.
-use Rattle.std.proofs.Common.{◌≡◌, ℕ, zero, suc, ◌+◌, ◌-◌, ◌<◌, ◌≤◌, Bool, true, false, not, cond, List, [], ◌∷◌, ◌++◌, length, get_or, map, take, drop, drop-cons, add-one, Ok, Err, refl, sym, ap, ◌∙◌, arith}
-use Rattle.std.specs.Prelude.{◌&&◌, ℤ, pos, negsuc, ◌-ℤ◌, int_le, int_lt, nat_abs, nat_le, slice_get, slice_index, slice_index_or, Some, option_map}
+use Rattle.std.proofs.Common.{◌≡◌, ℕ, zero, suc, ◌+◌, ◌-◌, ◌<◌, ◌≤◌, Bool, true, false, not, cond, List, [], ◌∷◌, length, get_or, map, take, drop, drop-cons, add-one, Ok, Err, refl, sym, ap, ◌∙◌, arith}
+use Rattle.std.specs.Prelude.{◌&&◌, ℤ, pos, negsuc, ◌-ℤ◌, int_le, int_lt, nat_abs, nat_le, slice_get, slice_index_or, Some, option_map}
 use Rattle.std.specs.List.{range_with_len}
 use Rattle.std.proofs.lemmas.Int.{ints}
 use Rattle.std.proofs.lemmas.Bool.{leb-true}
 use Rattle.std.proofs.lemmas.Bool.Decides.{nat_tests}
-use Rattle.std.proofs.lemmas.List.FromFn.{length-range_with_len, length-map-range_with_len, map-range_with_len_more}
+use Rattle.std.proofs.lemmas.List.FromFn.{length-range_with_len}
 use Rattle.std.proofs.lemmas.Option.{slice_get-map, slice_get-get_or}
 use Rattle.vhdl_values.specs.declared.scalar.Nine.{Nine}
 use Rattle.vhdl_values.specs.declared.scalar.Nine.TheVariants.{X}
@@ -15,7 +15,7 @@ use Rattle.vhdl_tree.specs.declared.operator.Direction.TheVariants.{To, Downto}
 use Rattle.vhdl_names.specs.units.Expressions as u
 use Rattle.vhdl_names.specs.units.Expressions.{Static, Part}
 use Rattle.vhdl_expand.specs.declared.fault.ElabProblem.TheVariants.{Index, TooWide}
-use Rattle.vhdl_expand.specs.Elab.{Elab, ◌>>=◌, unless}
+use Rattle.vhdl_expand.specs.Elab.{◌>>=◌, unless}
 use Rattle.vhdl_expand.specs.Integers.{Integers, integer, natural, is_null, extent}
 use Rattle.vhdl_expand.specs.Kinds.{Kind, one, vector, enumeration, Bounds, bounds_size, size, is_within, place_of, slice_places, is_same_direction, places, size_of}
 use Rattle.vhdl_expand.specs.Elab.{found as found_kind}
@@ -229,25 +229,6 @@ constant-given at k part c f len there h e =
     ∙ ap (λ r. r >>= λ ps. given (map (λ p. slice_index_or c.values p X) ps)) e
     ∙ ap given (values-there c.values f len h)
 
--- ---- nets in a row
-
-pub range-more : (a n : ℕ) → range_with_len a (n + 1) ≡ range_with_len a n ++ (a + n) ∷ []
-range-more a n = sym (map-id a (n + 1)) ∙ map-range_with_len_more (λ x. x) a n (a + n) refl ∙ ap (λ xs. xs ++ (a + n) ∷ []) (map-id a n)
-  where
-    map-id : (b m : ℕ) → map (λ x. x) (range_with_len b m) ≡ range_with_len b m
-    map-id b zero = refl
-    map-id b (suc m) = ap (λ xs. b ∷ xs) (map-id (b + 1) m)
-
-pub neighbour-more : (nets : List ℕ) (a first k : ℕ) → map (slice_index nets) (range_with_len a k) ≡ range_with_len first k → slice_index nets (a + k) ≡ first + k
-    → map (slice_index nets) (range_with_len a (k + 1)) ≡ range_with_len first (k + 1)
-neighbour-more nets a first k so_far h =
-    map-range_with_len_more (slice_index nets) a k (a + k) refl ∙ ap (λ xs. xs ++ slice_index nets (a + k) ∷ []) so_far
-    ∙ ap (λ n. range_with_len first k ++ n ∷ []) h ∙ sym (range-more first k)
-
-pub net-more : (nets items : List ℕ) (a k : ℕ) → items ≡ map (slice_index nets) (range_with_len a k)
-    → items ++ slice_index nets (a + k) ∷ [] ≡ map (slice_index nets) (range_with_len a (k + 1))
-net-more nets items a k so_far = ap (λ xs. xs ++ slice_index nets (a + k) ∷ []) so_far ∙ sym (map-range_with_len_more (slice_index nets) a k (a + k) refl)
-
 -- ---- sizes
 
 pub size_fits : (at : Integers) (s : Static) (n : ℕ) → size_of at s ≡ Ok n → IsWidth n
@@ -261,9 +242,6 @@ size_fits at s n h =
     let high : m.x ≤ 64 = leb-true m.x 64 (kept TooWide (nat_le m.x 64) room.x room.gave) in
     (omega arith, omega arith)
 
-pub nets-length : (nets : List ℕ) (f len : ℕ) (ns : List ℕ) → given (map (slice_index nets) (range_with_len f len)) ≡ Ok ns → length ns ≡ len
-nets-length nets f len ns h = ap length (sym (ok (map (slice_index nets) (range_with_len f len)) ns h)) ∙ length-map-range_with_len (slice_index nets) f len
-
 pub elements-length : (f len : ℕ) (ns : List ℕ) → given (range_with_len f len) ≡ Ok ns → length ns ≡ len
 elements-length f len ns h = ap length (sym (ok (range_with_len f len) ns h)) ∙ length-range_with_len f len
 
@@ -273,6 +251,6 @@ there xs k x h e = slice_get-get_or xs k x h ∙ ap Some (sym e)
 
 -- ---- one element
 
-pub one_element : (elements : Elab (List ℕ)) (f len : ℕ) → elements ≡ given (range_with_len f len) → 1 ≤ len → the_element elements ≡ Ok f
-one_element elements f zero h some = absurd (omega arith)
-one_element elements f (suc len) h some = ap the_element h
+pub one_element : (f len : ℕ) → 1 ≤ len → the_element (given (range_with_len f len)) ≡ Ok f
+one_element f zero some = absurd (omega arith)
+one_element f (suc len) some = refl

@@ -1,20 +1,19 @@
 -- Statements behind one another, and lists whose elements come one after another.
-use Rattle.std.proofs.Common.{◌≡◌, ℕ, zero, suc, ◌+◌, ◌<◌, ◌≤◌, List, [], ◌∷◌, ◌++◌, length, map, get_or, drop, drop-cons, add-one, Vec, Global, Ok, Err, refl, sym, ap, ◌∙◌, subst, arith}
+use Rattle.std.proofs.Common.{◌≡◌, ℕ, zero, suc, ◌+◌, ◌<◌, ◌≤◌, List, [], ◌∷◌, ◌++◌, length, map, get_or, drop, drop-cons, add-one, Ok, Err, refl, sym, ap, ◌∙◌, subst, arith}
 use Rattle.std.specs.Prelude.{ℤ, IsErr}
 use Rattle.std.proofs.lemmas.Int.{ints}
 use Rattle.std.proofs.lemmas.List.{append-nil, append_assoc}
 use Rattle.vhdl_tree.specs.declared.operator.Direction.{Direction}
 use Rattle.vhdl_tree.specs.declared.operator.Direction.TheVariants.{To, Downto}
-use Rattle.vhdl_names.specs.units.Expressions.{Range}
 use Rattle.vhdl_names.specs.units.Statements as u
 use Rattle.rtl_model.specs.bodies.Body as b
 use Rattle.rtl_net.specs.declared.body.Statement.{Statement}
 use Rattle.rtl_net.specs.Bodies as net
 use Rattle.vhdl_units.specs.views.Sequential as units
 use Rattle.vhdl_expand.specs.Elab.{Elab, ◌>>=◌, each}
-use Rattle.vhdl_expand.specs.Integers.{turns, counted, next}
+use Rattle.vhdl_expand.specs.Integers.{counted, next}
 use Rattle.vhdl_expand.specs.Site.{Site, in_loop}
-use Rattle.vhdl_expand.specs.Statements.{joined, one}
+use Rattle.vhdl_expand.specs.Statements.{joined, one, statement, statements}
 use Rattle.vhdl_expand.proofs.Steps.{given, ok}
 use Rattle.vhdl_expand.proofs.Chains.{err_first}
 use Rattle.vhdl_expansion.specs.steps.Statements as steps
@@ -76,33 +75,33 @@ no-turn direction x zero (suc k) h = refl
 no-turn direction x (suc count) zero h = absurd (omega arith)
 no-turn direction x (suc count) (suc k) h = no-turn direction (next direction x) count k (omega arith)
 
-module _ (nets drives : List ℕ) (at : Site) where
+module _ (at : Site) where
   pub list_goes : {X : Type 0} (v : X → u.Statement) (total : Elab b.Stmts) (now new : b.Stmts) (xs : List X) (i : ℕ) (x : X) → i < length xs → x ≡ get_or xs i x
-      → total ≡ after now (steps.statements nets drives at (units.statements_of (map v (drop i xs)))) → after now (steps.statement nets drives at (v x)) ≡ Ok new
-      → total ≡ after new (steps.statements nets drives at (units.statements_of (map v (drop (i + 1) xs))))
-  unfolding steps.statements
+      → total ≡ after now (statements at (units.statements_of (map v (drop i xs)))) → after now (statement at (v x)) ≡ Ok new
+      → total ≡ after new (statements at (units.statements_of (map v (drop (i + 1) xs))))
+  unfolding statements
   list_goes v total now new xs i x below is so_far h =
-      so_far ∙ ap (λ ys. after now (steps.statements nets drives at (units.statements_of (map v ys)))) (next-left xs i x below is)
-      ∙ after_goes now new (steps.statement nets drives at (v x)) (steps.statements nets drives at (units.statements_of (map v (drop (i + 1) xs)))) h
+      so_far ∙ ap (λ ys. after now (statements at (units.statements_of (map v ys)))) (next-left xs i x below is)
+      ∙ after_goes now new (statement at (v x)) (statements at (units.statements_of (map v (drop (i + 1) xs)))) h
 
   pub list_stops : {X : Type 0} (v : X → u.Statement) (total : Elab b.Stmts) (now : b.Stmts) (xs : List X) (i : ℕ) (x : X) → i < length xs → x ≡ get_or xs i x
-      → total ≡ after now (steps.statements nets drives at (units.statements_of (map v (drop i xs)))) → IsErr (after now (steps.statement nets drives at (v x))) → IsErr total
-  unfolding steps.statements
+      → total ≡ after now (statements at (units.statements_of (map v (drop i xs)))) → IsErr (after now (statement at (v x))) → IsErr total
+  unfolding statements
   list_stops v total now xs i x below is so_far h =
       subst (λ (r : Elab b.Stmts). IsErr r)
-      (sym (so_far ∙ ap (λ ys. after now (steps.statements nets drives at (units.statements_of (map v ys)))) (next-left xs i x below is)))
-      (after_stops now (steps.statement nets drives at (v x)) (steps.statements nets drives at (units.statements_of (map v (drop (i + 1) xs)))) h)
+      (sym (so_far ∙ ap (λ ys. after now (statements at (units.statements_of (map v ys)))) (next-left xs i x below is)))
+      (after_stops now (statement at (v x)) (statements at (units.statements_of (map v (drop (i + 1) xs)))) h)
 
   pub list_ends : {X : Type 0} (v : X → u.Statement) (total : Elab b.Stmts) (now : b.Stmts) (xs left : List X) → left ≡ []
-      → total ≡ after now (steps.statements nets drives at (units.statements_of (map v left))) → total ≡ Ok now
-  unfolding steps.statements
-  list_ends v total now xs left h so_far = so_far ∙ ap (λ ys. after now (steps.statements nets drives at (units.statements_of (map v ys)))) h ∙ ap given (followed_done now)
+      → total ≡ after now (statements at (units.statements_of (map v left))) → total ≡ Ok now
+  unfolding statements
+  list_ends v total now xs left h so_far = so_far ∙ ap (λ ys. after now (statements at (units.statements_of (map v ys)))) h ∙ ap given (followed_done now)
 
   -- ---- turns of a loop
 
-  turn-goes : (body : u.Statements) (now new : b.Stmts) (i : ℤ) (is : List ℤ) → after now (steps.statements nets drives (in_loop at i) body) ≡ Ok new
-      → after now (steps.repeated nets drives at body (i ∷ is)) ≡ after new (steps.repeated nets drives at body is)
-  turn-goes body now new i is h = go (steps.statements nets drives (in_loop at i) body) (each (λ j. steps.statements nets drives (in_loop at j) body) is) h
+  turn-goes : (body : u.Statements) (now new : b.Stmts) (i : ℤ) (is : List ℤ) → after now (statements (in_loop at i) body) ≡ Ok new
+      → after now (steps.repeated at body (i ∷ is)) ≡ after new (steps.repeated at body is)
+  turn-goes body now new i is h = go (statements (in_loop at i) body) (each (λ j. statements (in_loop at j) body) is) h
     where
       go : (r : Elab b.Stmts) (q : Elab (List b.Stmts)) → after now r ≡ Ok new
           → after now ((r >>= λ y. q >>= λ ys. given (y ∷ ys)) >>= λ ss. given (joined ss)) ≡ after new (q >>= λ ss. given (joined ss))
@@ -110,34 +109,34 @@ module _ (nets drives : List ℕ) (at : Site) where
       go (Ok x) (Err p) k = refl
       go (Err p) q k = absurd cc
 
-  turn-stops : (body : u.Statements) (now : b.Stmts) (i : ℤ) (is : List ℤ) → IsErr (after now (steps.statements nets drives (in_loop at i) body))
-      → IsErr (after now (steps.repeated nets drives at body (i ∷ is)))
-  turn-stops body now i is h = go (steps.statements nets drives (in_loop at i) body) (each (λ j. steps.statements nets drives (in_loop at j) body) is) h
+  turn-stops : (body : u.Statements) (now : b.Stmts) (i : ℤ) (is : List ℤ) → IsErr (after now (statements (in_loop at i) body))
+      → IsErr (after now (steps.repeated at body (i ∷ is)))
+  turn-stops body now i is h = go (statements (in_loop at i) body) (each (λ j. statements (in_loop at j) body) is) h
     where
       go : (r : Elab b.Stmts) (q : Elab (List b.Stmts)) → IsErr (after now r) → IsErr (after now ((r >>= λ y. q >>= λ ys. given (y ∷ ys)) >>= λ ss. given (joined ss)))
       go (Ok x) q k = absurd cc
       go (Err p) q k = refl
 
   pub turns_go : (body : u.Statements) (total : Elab b.Stmts) (now new : b.Stmts) (direction : Direction) (x i : ℤ) (count k : ℕ) → k < count
-      → total ≡ after now (steps.repeated nets drives at body (drop k (counted direction x count))) → i ≡ steps.parameter direction x k
-      → after now (steps.statements nets drives (in_loop at i) body) ≡ Ok new
-      → total ≡ after new (steps.repeated nets drives at body (drop (k + 1) (counted direction x count)))
+      → total ≡ after now (steps.repeated at body (drop k (counted direction x count))) → i ≡ steps.parameter direction x k
+      → after now (statements (in_loop at i) body) ≡ Ok new
+      → total ≡ after new (steps.repeated at body (drop (k + 1) (counted direction x count)))
   turns_go body total now new direction x i count k below so_far is h =
-      so_far ∙ ap (λ js. after now (steps.repeated nets drives at body js)) (next-turn direction x count k below ∙ ap (λ j. j ∷ drop (k + 1) (counted direction x count)) (sym is))
+      so_far ∙ ap (λ js. after now (steps.repeated at body js)) (next-turn direction x count k below ∙ ap (λ j. j ∷ drop (k + 1) (counted direction x count)) (sym is))
       ∙ turn-goes body now new i (drop (k + 1) (counted direction x count)) h
 
   pub turns_stop : (body : u.Statements) (total : Elab b.Stmts) (now : b.Stmts) (direction : Direction) (x i : ℤ) (count k : ℕ) → k < count
-      → total ≡ after now (steps.repeated nets drives at body (drop k (counted direction x count))) → i ≡ steps.parameter direction x k
-      → IsErr (after now (steps.statements nets drives (in_loop at i) body)) → IsErr total
+      → total ≡ after now (steps.repeated at body (drop k (counted direction x count))) → i ≡ steps.parameter direction x k
+      → IsErr (after now (statements (in_loop at i) body)) → IsErr total
   turns_stop body total now direction x i count k below so_far is h =
       subst (λ (r : Elab b.Stmts). IsErr r)
-      (sym (so_far ∙ ap (λ js. after now (steps.repeated nets drives at body js)) (next-turn direction x count k below ∙ ap (λ j. j ∷ drop (k + 1) (counted direction x count)) (sym is))))
+      (sym (so_far ∙ ap (λ js. after now (steps.repeated at body js)) (next-turn direction x count k below ∙ ap (λ j. j ∷ drop (k + 1) (counted direction x count)) (sym is))))
       (turn-stops body now i (drop (k + 1) (counted direction x count)) h)
 
   pub turns_end : (body : u.Statements) (total : Elab b.Stmts) (now : b.Stmts) (direction : Direction) (x : ℤ) (count k : ℕ) → count ≤ k
-      → total ≡ after now (steps.repeated nets drives at body (drop k (counted direction x count))) → total ≡ Ok now
+      → total ≡ after now (steps.repeated at body (drop k (counted direction x count))) → total ≡ Ok now
   turns_end body total now direction x count k h so_far =
-      so_far ∙ ap (λ js. after now (steps.repeated nets drives at body js)) (no-turn direction x count k h) ∙ ap given (followed_done now)
+      so_far ∙ ap (λ js. after now (steps.repeated at body js)) (no-turn direction x count k h) ∙ ap given (followed_done now)
 
 -- ---- each of several things
 

@@ -1,6 +1,6 @@
 -- Conditions: what a chain of operators is not, levels, and chains of logical operators.
-use Rattle.std.proofs.Common.{◌≡◌, ℕ, zero, suc, ◌≤◌, ◌<◌, ◌+◌, Bool, List, [], ◌∷◌, ◌++◌, length, map, get_or, replicate, drop, drop-cons, add-one, None, Box, Vec, Global, Ok, Err, refl, sym, ap, ◌∙◌, subst, arith}
-use Rattle.std.specs.Prelude.{IsErr, slice_index}
+use Rattle.std.proofs.Common.{◌≡◌, ℕ, zero, suc, ◌≤◌, ◌<◌, ◌+◌, Bool, List, [], ◌∷◌, ◌++◌, length, get_or, replicate, drop, drop-cons, add-one, None, Box, Vec, Global, Ok, Err, refl, sym, ap, ◌∙◌, subst, arith}
+use Rattle.std.specs.Prelude.{IsErr}
 use Rattle.std.specs.List.{range_with_len}
 use Rattle.vhdl_values.specs.declared.scalar.Nine.{Nine}
 use Rattle.rtl_model.specs.bodies.Body as b
@@ -22,8 +22,8 @@ use Rattle.vhdl_names.specs.units.Expressions as u
 use Rattle.vhdl_names.proofs.rows.Vectors as rows
 use Rattle.vhdl_names.proofs.rows.Tests.{view_chain}
 use Rattle.vhdl_expand.specs.Elab.{Elab, ◌>>=◌}
-use Rattle.vhdl_expand.specs.Site.{Site, signal_elements}
-use Rattle.vhdl_expand.specs.Expressions.{levelled}
+use Rattle.vhdl_expand.specs.Site.{Site, signal_elements, the_element}
+use Rattle.vhdl_expand.specs.Expressions.{levelled, test}
 use Rattle.vhdl_expand.proofs.Chains.{bind-assoc, err_first}
 use Rattle.vhdl_expand.proofs.Steps.{given, ok}
 use Rattle.vhdl_expansion.specs.steps.Tests as steps
@@ -57,14 +57,11 @@ chain_is_no_character start links = ap character_in (rows.view_chain start links
 
 -- ---- levels
 
-pub level_one : (plain : Bool) (nets : List ℕ) (f : ℕ) (x : Nine) → levelled plain (map (slice_index nets) (range_with_len f 1)) x ≡ b.level plain (slice_index nets f) x
-level_one plain nets f x = refl
-
-pub level_more : (plain : Bool) (nets : List ℕ) (f len : ℕ) (x : Nine) → 2 ≤ len
-    → levelled plain (map (slice_index nets) (range_with_len f len)) x ≡ b.equal (b.elements (b.signal (map (slice_index nets) (range_with_len f len)))) (b.elements (b.constant (x ∷ [])))
-level_more plain nets f zero x h = absurd (omega arith)
-level_more plain nets f (suc zero) x h = absurd (omega arith)
-level_more plain nets f (suc (suc len)) x h = refl
+level-more : (plain : Bool) (f len : ℕ) (x : Nine) → 2 ≤ len
+    → levelled plain (range_with_len f len) x ≡ b.equal (b.elements (b.signal (range_with_len f len))) (b.elements (b.constant (x ∷ [])))
+level-more plain f zero x h = absurd (omega arith)
+level-more plain f (suc zero) x h = absurd (omega arith)
+level-more plain f (suc (suc len)) x h = refl
 
 -- ---- chains
 
@@ -75,66 +72,70 @@ links-push left (x ∷ xs) y = links-push (b.combined x.operator left (net.test_
 abbrev one_more : b.Test → Elab b.Test
 one_more t = Ok t
 
-pub level_given : (nets : List ℕ) (at : Site) (plain : Bool) (p : u.Place) (x : Nine) (f len : ℕ) (ns : List ℕ) (vs : List Nine)
-    → signal_elements at p.signal p.part ≡ Ok (range_with_len f len) → 1 ≤ len → (len ≡ 1 → ⊥) → given (map (slice_index nets) (range_with_len f len)) ≡ Ok ns → vs ≡ replicate 1 x
-    → steps.level nets at plain p x ≡ Ok (b.equal (b.elements (b.signal ns)) (b.elements (b.constant vs)))
-level_given nets at plain p x f len ns vs there some several same value =
-    ap (λ r. r >>= λ es. one_more (levelled plain (map (slice_index nets) es) x)) there
-    ∙ ap one_more (level_more plain nets f len x (omega arith))
-    ∙ ap (λ ms. one_more (b.equal (b.elements (b.signal ms)) (b.elements (b.constant (x ∷ []))))) (ok (map (slice_index nets) (range_with_len f len)) ns same)
-    ∙ ap (λ ws. one_more (b.equal (b.elements (b.signal ns)) (b.elements (b.constant ws)))) (sym value)
+pub level_one : (at : Site) (plain : Bool) (p : u.Place) (x : Nine) (f e : ℕ)
+    → signal_elements at p.signal p.part ≡ Ok (range_with_len f 1) → the_element (given (range_with_len f 1)) ≡ Ok e → steps.level at plain p x ≡ Ok (b.level plain e x)
+level_one at plain p x f e there same = ap (λ r. r >>= λ es. one_more (levelled plain es x)) there ∙ ap (λ n. one_more (b.level plain n x)) (ok f e same)
 
-module _ (nets : List ℕ) (at : Site) where
+pub level_given : (at : Site) (plain : Bool) (p : u.Place) (x : Nine) (f len : ℕ) (es : List ℕ) (vs : List Nine)
+    → signal_elements at p.signal p.part ≡ Ok (range_with_len f len) → 1 ≤ len → (len ≡ 1 → ⊥) → given (range_with_len f len) ≡ Ok es → vs ≡ replicate 1 x
+    → steps.level at plain p x ≡ Ok (b.equal (b.elements (b.signal es)) (b.elements (b.constant vs)))
+level_given at plain p x f len es vs there some several same value =
+    ap (λ r. r >>= λ es. one_more (levelled plain es x)) there
+    ∙ ap one_more (level-more plain f len x (omega arith))
+    ∙ ap (λ ms. one_more (b.equal (b.elements (b.signal ms)) (b.elements (b.constant (x ∷ []))))) (ok (range_with_len f len) es same)
+    ∙ ap (λ ws. one_more (b.equal (b.elements (b.signal es)) (b.elements (b.constant ws)))) (sym value)
+
+module _ (at : Site) where
   next-left : (xs : List TestLink) (i : ℕ) (x : TestLink) → i < length xs → x ≡ get_or xs i x → drop i xs ≡ x ∷ drop (i + 1) xs
   next-left xs i x h e = drop-cons xs i x h ∙ ap (λ y. y ∷ drop (suc i) xs) (sym e) ∙ ap (λ j. x ∷ drop j xs) (sym (add-one i))
 
   pub next_link : (begun first : b.Test) (ls : List TestLink) (rest more : List m.TestLink) (i : ℕ) (k : TestLink) (x : m.TestLink) → i < length ls → k ≡ get_or ls i k
-      → steps.all_linked nets at begun ls ≡ steps.all_linked nets at (test_links_of first rest) (drop i ls)
-      → steps.condition nets at (test_view k.operand) ≡ Ok (net.test_view x.operand) → x.operator ≡ k.operator → more ≡ rest ++ x ∷ []
-      → steps.all_linked nets at begun ls ≡ steps.all_linked nets at (test_links_of first more) (drop (i + 1) ls)
+      → steps.all_linked at begun ls ≡ steps.all_linked at (test_links_of first rest) (drop i ls)
+      → test at (test_view k.operand) ≡ Ok (net.test_view x.operand) → x.operator ≡ k.operator → more ≡ rest ++ x ∷ []
+      → steps.all_linked at begun ls ≡ steps.all_linked at (test_links_of first more) (drop (i + 1) ls)
   next_link begun first ls rest more i k x below is so_far h same pushed =
-      so_far ∙ ap (λ left. steps.all_linked nets at (test_links_of first rest) left) (next-left ls i k below is)
-      ∙ ap (λ r. (r >>= λ d. one_more (b.combined k.operator (test_links_of first rest) d)) >>= λ d. steps.all_linked nets at d (drop (i + 1) ls)) h
-      ∙ ap (λ op. steps.all_linked nets at (b.combined op (test_links_of first rest) (net.test_view x.operand)) (drop (i + 1) ls)) (sym same)
-      ∙ ap (λ d. steps.all_linked nets at d (drop (i + 1) ls)) (sym (ap (test_links_of first) pushed ∙ links-push first rest x))
+      so_far ∙ ap (λ left. steps.all_linked at (test_links_of first rest) left) (next-left ls i k below is)
+      ∙ ap (λ r. (r >>= λ d. one_more (b.combined k.operator (test_links_of first rest) d)) >>= λ d. steps.all_linked at d (drop (i + 1) ls)) h
+      ∙ ap (λ op. steps.all_linked at (b.combined op (test_links_of first rest) (net.test_view x.operand)) (drop (i + 1) ls)) (sym same)
+      ∙ ap (λ d. steps.all_linked at d (drop (i + 1) ls)) (sym (ap (test_links_of first) pushed ∙ links-push first rest x))
 
   pub next_stops : (begun first : b.Test) (ls : List TestLink) (rest : List m.TestLink) (i : ℕ) (k : TestLink) → i < length ls → k ≡ get_or ls i k
-      → steps.all_linked nets at begun ls ≡ steps.all_linked nets at (test_links_of first rest) (drop i ls)
-      → IsErr (steps.condition nets at (test_view k.operand)) → IsErr (steps.all_linked nets at begun ls)
+      → steps.all_linked at begun ls ≡ steps.all_linked at (test_links_of first rest) (drop i ls)
+      → IsErr (test at (test_view k.operand)) → IsErr (steps.all_linked at begun ls)
   next_stops begun first ls rest i k below is so_far h =
       subst (λ (r : Elab b.Test). IsErr r)
-      (sym (so_far ∙ ap (λ left. steps.all_linked nets at (test_links_of first rest) left) (next-left ls i k below is)))
-      (err_first (steps.linked nets at (test_links_of first rest) k) _ (err_first (steps.condition nets at (test_view k.operand)) _ h))
+      (sym (so_far ∙ ap (λ left. steps.all_linked at (test_links_of first rest) left) (next-left ls i k below is)))
+      (err_first (steps.linked at (test_links_of first rest) k) _ (err_first (test at (test_view k.operand)) _ h))
 
-  linked-step : (c : u.Test) (k : TestLink) → steps.condition nets at (u.Test.both k.operator c (test_view k.operand)) ≡ (steps.condition nets at c >>= λ d. steps.linked nets at d k)
-  unfolding steps.condition
+  linked-step : (c : u.Test) (k : TestLink) → test at (u.Test.both k.operator c (test_view k.operand)) ≡ (test at c >>= λ d. steps.linked at d k)
+  unfolding test
   linked-step c k = refl
 
   last-ok : (r : Elab b.Test) → r ≡ (r >>= λ d. Ok d)
   last-ok (Ok x) = refl
   last-ok (Err p) = refl
 
-  chained : (c : u.Test) (ls : List TestLink) → steps.condition nets at (test_chained c ls) ≡ (steps.condition nets at c >>= λ d. steps.all_linked nets at d ls)
-  chained c [] = last-ok (steps.condition nets at c)
-  chained c (k ∷ ls) = chained (u.Test.both k.operator c (test_view k.operand)) ls ∙ ap (λ r. r >>= λ d. steps.all_linked nets at d ls) (linked-step c k)
-      ∙ bind-assoc (steps.condition nets at c) (λ d. steps.linked nets at d k) (λ d. steps.all_linked nets at d ls)
+  chained : (c : u.Test) (ls : List TestLink) → test at (test_chained c ls) ≡ (test at c >>= λ d. steps.all_linked at d ls)
+  chained c [] = last-ok (test at c)
+  chained c (k ∷ ls) = chained (u.Test.both k.operator c (test_view k.operand)) ls ∙ ap (λ r. r >>= λ d. steps.all_linked at d ls) (linked-step c k)
+      ∙ bind-assoc (test at c) (λ d. steps.linked at d k) (λ d. steps.all_linked at d ls)
 
   chain-is : (e : Test) (start : Box TestStart Global) (links : Vec TestLink Global) (st : TestStart) (ls : List TestLink)
       → e ≡ t.Chain start links → st ≡ start.value → ls ≡ links.items
-      → steps.condition nets at (test_view e) ≡ (steps.started nets at st >>= λ d. steps.all_linked nets at d ls)
+      → test at (test_view e) ≡ (steps.started at st >>= λ d. steps.all_linked at d ls)
   chain-is e start links st ls h j k =
-      ap (λ (a : Test). steps.condition nets at (test_view a)) h ∙ ap (λ a. steps.condition nets at a) (view_chain start links)
-      ∙ ap (λ (a : TestStart). steps.condition nets at (test_chained (start_view a) links.items)) (sym j)
-      ∙ ap (λ xs. steps.condition nets at (test_chained (start_view st) xs)) (sym k)
+      ap (λ (a : Test). test at (test_view a)) h ∙ ap (λ a. test at a) (view_chain start links)
+      ∙ ap (λ (a : TestStart). test at (test_chained (start_view a) links.items)) (sym j)
+      ∙ ap (λ xs. test at (test_chained (start_view st) xs)) (sym k)
       ∙ chained (start_view st) ls
-      ∙ ap (λ r. r >>= λ d. steps.all_linked nets at d ls) (linked-step (test_view st.first) st.link)
+      ∙ ap (λ r. r >>= λ d. steps.all_linked at d ls) (linked-step (test_view st.first) st.link)
 
   pub chain-goes : (e : Test) (start : Box TestStart Global) (links : Vec TestLink Global) (st : TestStart) (ls : List TestLink) (d : b.Test)
-      → e ≡ t.Chain start links → st ≡ start.value → ls ≡ links.items → steps.started nets at st ≡ Ok d
-      → steps.condition nets at (test_view e) ≡ steps.all_linked nets at d ls
-  chain-goes e start links st ls d h j k given = chain-is e start links st ls h j k ∙ ap (λ r. r >>= λ d. steps.all_linked nets at d ls) given
+      → e ≡ t.Chain start links → st ≡ start.value → ls ≡ links.items → steps.started at st ≡ Ok d
+      → test at (test_view e) ≡ steps.all_linked at d ls
+  chain-goes e start links st ls d h j k given = chain-is e start links st ls h j k ∙ ap (λ r. r >>= λ d. steps.all_linked at d ls) given
 
   pub chain-stops : (e : Test) (start : Box TestStart Global) (links : Vec TestLink Global) (st : TestStart)
-      → e ≡ t.Chain start links → st ≡ start.value → IsErr (steps.started nets at st) → IsErr (steps.condition nets at (test_view e))
+      → e ≡ t.Chain start links → st ≡ start.value → IsErr (steps.started at st) → IsErr (test at (test_view e))
   chain-stops e start links st h j given =
-      subst (λ (r : Elab b.Test). IsErr r) (sym (chain-is e start links st links.items h j refl)) (err_first (steps.started nets at st) _ given)
+      subst (λ (r : Elab b.Test). IsErr r) (sym (chain-is e start links st links.items h j refl)) (err_first (steps.started at st) _ given)

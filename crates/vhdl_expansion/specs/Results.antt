@@ -1,14 +1,10 @@
--- What a call that expands answers, and what its elements are made into.
+-- What a call that expands answers.
 use Rattle.std.specs.Prelude.{◌≡◌, ◌≢◌, Result, Ok, Err, IsErr}
 use Rattle.vhdl_expand.specs.declared.fault.ElabFault.{ElabFault}
 use Rattle.vhdl_expand.specs.declared.fault.ElabFault.TheVariants.{NoMemory}
-use Rattle.vhdl_expand.specs.Elab.{Elab, ◌>>=◌}
+use Rattle.vhdl_expand.specs.Elab.{Elab}
 
 -- What is returned, as contracts see it, is what is given; and but for want of memory it is refused only where that is refused.
 abbrev pub Expands : {X Y : Type 0} → (X → Y) → Elab Y → Result X ElabFault → Type 0
 Expands view given (Ok x) = given ≡ Ok (view x)
 Expands view given (Err fault) = fault ≢ NoMemory → IsErr given
-
--- what is given, with nets and places in place of elements
-abbrev pub wired : {A B : Type 0} → (A → B) → Elab A → Elab B
-wired connected given = given >>= λ x. Ok (connected x)

@@ -1,5 +1,5 @@
 -- What contracts see of the place in which a body stands.
-use Rattle.std.specs.Prelude.{◌≡◌, ℕ, ℤ, ◌+◌, ◌-◌, ◌<◌, ◌≤◌, List, length, map, take, slice_get, slice_index, Some}
+use Rattle.std.specs.Prelude.{◌≡◌, ℕ, ℤ, ◌<◌, List, map, take, slice_get, Some}
 use Rattle.rtl_model.specs.bodies.Fits.{IsWidth}
 use Rattle.vhdl_expand.specs.declared.kind.Run.{Run}
 use Rattle.vhdl_expand.specs.Kinds as kinds
@@ -35,16 +35,11 @@ pub record IsPlaced (before : List kinds.Kind) (p : Placed) : Type 0 where
 abbrev pub ArePlaced : List Placed → Type 0
 ArePlaced ps = (k : ℕ) (p : Placed) → slice_get ps k ≡ Some p → IsPlaced (take k (map placed_kind ps)) p
 
--- each number is above the one before it
-abbrev pub IsRising : List ℕ → Type 0
-IsRising ns = (i j : ℕ) → i ≤ j → j < length ns → slice_index ns i + (j - i) ≤ slice_index ns j
-
 pub record IsSite (s : Site) : Type 0 where
   pub ports : ArePlaced s.ports.now
   pub port_elements : s.port_elements ≡ elements_count (map placed_kind s.ports.now)
   pub signals : ArePlaced s.signals.now
   pub variables : ArePlaced s.variables.now
-  pub drives : IsRising s.drives.now
 
 -- a run of 1 to 64 elements, whose numbers fit a word
 abbrev pub IsShort : Run → Type 0

@@ -1,6 +1,5 @@
 -- What the code makes step by step.
 pub mod Vectors
-pub mod Values
 pub mod Tests
 pub mod Assignments
 pub mod Statements

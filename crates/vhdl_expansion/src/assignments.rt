@@ -41,7 +41,7 @@ pub(crate) fn choice(len: Width, choice: &analysed::Choice, at: usize) -> Result
 
 impl Site<'_> {
     /// What is assigned to so many elements; a fault is StaticError, Length, Index or TooWide.
-    #[tactic(auto, unfolding(crate::specs::steps::Assignments::assigned))]
+    #[tactic(auto, unfolding(vhdl_expand::specs::Statements::given))]
     fn assigned(
         &self,
         alloc: Global,
@@ -50,7 +50,7 @@ impl Site<'_> {
         at: usize,
     ) -> Result<Value, ElabFault>
         requires { IsSite self.now }
-        ensures { Expands value_view (steps.assigned self.now.nets.now self.now.drives.now (site_view self.now) len (analysed.given_view given.now)) result }
+        ensures { Expands value_view (definition.given (site_view self.now) len (analysed.given_view given.now)) result }
     {
         match given {
             Given::Single(value) => {
@@ -71,7 +71,7 @@ impl Site<'_> {
         }
     }
 
-    /// An assignment to a signal; a fault is StaticError, Length, Index or TooWide.
+    /// An assignment to a signal, by its elements; a fault is StaticError, Length, Index or TooWide.
     pub(crate) fn assign(
         &self,
         alloc: Global,
@@ -80,11 +80,11 @@ impl Site<'_> {
     ) -> Result<Statement, ElabFault>
         requires { IsSite self.now }
         ensures { Expands statement_view
-            (steps.assign self.now.nets.now self.now.drives.now (site_view self.now) (place_view target.now) (analysed.given_view value.now)) result }
+            (steps.assign (site_view self.now) (place_view target.now) (analysed.given_view value.now)) result }
     {
         let run = self.signal_elements(target.signal, &target.part, target.at)?;
         let value = self.assigned(alloc, run.len as u32, value, target.at)?;
-        let places = self.places(alloc, run)?;
+        let places = elements(run)?;
         Ok(Statement::Assign { places, value })
     }
 
@@ -99,7 +99,7 @@ impl Site<'_> {
     ) -> Result<Statement, ElabFault>
         requires { IsSite self.now }
         ensures { Expands statement_view
-            (steps.set self.now.nets.now self.now.drives.now (site_view self.now) variable (part_view part.now) (analysed.given_view value.now)) result }
+            (steps.set (site_view self.now) variable (part_view part.now) (analysed.given_view value.now)) result }
     {
         let run = self.variable_elements(variable, part, at)?;
         let value = self.assigned(alloc, run.len as u32, value, at)?;

@@ -1,4 +1,5 @@
 //! Conditions, expanded (IEEE 1076-2008, 9.2.2, 9.2.3, 9.2.9, 16.2.4; numeric_std).
+#![tactic(auto, unfolding(vhdl_expand::specs::Expressions::test))]
 
 ghost use Rattle.std.specs.Prelude.{◌≡◌, true, option_map, IfOk};
 ghost use Rattle.vhdl_values.specs.declared.kinds.Logic.TheVariants.{And};
@@ -12,7 +13,7 @@ ghost use Rattle.vhdl_expansion.specs.Sites.{IsSite, site_view};
 ghost use Rattle.vhdl_expansion.specs.Characters.{named_view, character_view, chain_view};
 ghost use Rattle.vhdl_expansion.specs.steps.Tests as steps;
 
-use crate::site::Site;
+use crate::site::{Site, element, elements};
 use rtl_net::{Expr, Test, TestLink};
 use std::alloc::{AllocError, Global};
 use vhdl_expand::ElabFault;
@@ -118,32 +119,32 @@ fn turned(relation: Cmp) -> Cmp
     }
 }
 
-/// An event of a net, which has this value.
+/// An event of an element, which has this value.
 #[tactic(auto, using(rtl_net::proofs::Rows::view_combined))]
-fn event_to(alloc: Global, net: u32, value: Nine) -> Result<Test, AllocError>
-    ensures { IfOk result (λ t. test_view t ≡ body.combined And (body.event net) (body.level true net value)) }
+fn event_to(alloc: Global, element: u32, value: Nine) -> Result<Test, AllocError>
+    ensures { IfOk result (λ t. test_view t ≡ body.combined And (body.event element) (body.level true element value)) }
 {
     let mut rest = Vec::new(alloc);
     rest.push(TestLink {
         operator: Logic::And,
         operand: Test::Level {
             plain: true,
-            net,
+            net: element,
             value,
         },
     })?;
-    combined(alloc, Test::Event(net), rest)
+    combined(alloc, Test::Event(element), rest)
 }
 
-/// A test for an edge of a net. It takes the memory of a list and a box.
-fn edge_test(alloc: Global, edge: Edge, net: u32) -> Result<Test, AllocError>
-    ensures { IfOk result (λ t. test_view t ≡ definition.edge_test edge net) }
+/// A test for an edge of an element. It takes the memory of a list and a box.
+fn edge_test(alloc: Global, edge: Edge, element: u32) -> Result<Test, AllocError>
+    ensures { IfOk result (λ t. test_view t ≡ definition.edge_test edge element) }
 {
     match edge {
-        Edge::Rising => Ok(Test::Rising(net)),
-        Edge::Falling => Ok(Test::Falling(net)),
-        Edge::To1 => event_to(alloc, net, Nine::One),
-        Edge::To0 => event_to(alloc, net, Nine::Zero),
+        Edge::Rising => Ok(Test::Rising(element)),
+        Edge::Falling => Ok(Test::Falling(element)),
+        Edge::To1 => event_to(alloc, element, Nine::One),
+        Edge::To0 => event_to(alloc, element, Nine::Zero),
     }
 }
 
@@ -159,9 +160,8 @@ fn combined(alloc: Global, first: Test, rest: Vec<TestLink>) -> Result<Test, All
 }
 
 impl Site<'_> {
-    /// A condition, expanded, each element of a signal's name being its net; a fault is StaticError, Length, Index or TooWide.
+    /// A condition, expanded; a fault is StaticError, Length, Index or TooWide.
     #[cycle(condition)]
-    #[tactic(auto, unfolding(crate::specs::steps::Tests::condition))]
     pub(crate) fn expanded_test(
         &self,
         alloc: Global,
@@ -169,7 +169,7 @@ impl Site<'_> {
         at: usize,
     ) -> Result<Test, ElabFault>
         requires { IsSite self.now }
-        ensures { Expands test_view (steps.condition self.now.nets.now (site_view self.now) (analysed.test_view test.now)) result }
+        ensures { Expands test_view (definition.test (site_view self.now) (analysed.test_view test.now)) result }
     {
         match test {
             analysed::Test::Holds(vector) => {
@@ -202,12 +202,12 @@ impl Site<'_> {
                 Ok(Test::ComparedTo(turned(*relation), operand.expr, number))
             }
             analysed::Test::Edge(edge, place) => {
-                let net = self.the_net(place.signal, &place.part, place.at)?;
-                Ok(edge_test(alloc, *edge, net)?)
+                let element = self.signal_element(place.signal, &place.part, place.at)?;
+                Ok(edge_test(alloc, *edge, element)?)
             }
             analysed::Test::Event(place) => {
-                let net = self.the_net(place.signal, &place.part, place.at)?;
-                Ok(Test::Event(net))
+                let element = self.signal_element(place.signal, &place.part, place.at)?;
+                Ok(Test::Event(element))
             }
             analysed::Test::Not(operand) => {
                 let operand = self.expanded_test(alloc, operand, at)?;
@@ -220,7 +220,7 @@ impl Site<'_> {
         }
     }
 
-    /// Equality of two values: of one element of a signal and a character literal, the level of its net.
+    /// Equality of two values: of one element of a signal and a character literal, the level of the element.
     fn alike(
         &self,
         alloc: Global,
@@ -229,15 +229,15 @@ impl Site<'_> {
         at: usize,
     ) -> Result<Test, ElabFault>
         requires { IsSite self.now }
-        ensures { Expands test_view (steps.alike self.now.nets.now (site_view self.now) (value_view left.now) (value_view right.now)) result }
+        ensures { Expands test_view (steps.alike (site_view self.now) (value_view left.now) (value_view right.now)) result }
     {
         if let Some(place) = name_of(left) {
             if let Some(character) = character_of(right) {
-                return self.level(alloc, character.is_plain, place, character.literal);
+                return self.level(character.is_plain, place, character.literal);
             }
         } else if let Some(character) = character_of(left) {
             if let Some(place) = name_of(right) {
-                return self.level(alloc, false, place, character.literal);
+                return self.level(false, place, character.literal);
             }
         }
         self.equal(alloc, left, right, at)
@@ -252,7 +252,7 @@ impl Site<'_> {
         at: usize,
     ) -> Result<Test, ElabFault>
         requires { IsSite self.now }
-        ensures { Expands test_view (steps.equal self.now.nets.now (site_view self.now) (value_view left.now) (value_view right.now)) result }
+        ensures { Expands test_view (steps.equal (site_view self.now) (value_view left.now) (value_view right.now)) result }
     {
         let left = self.expanded_value(alloc, left, at)?;
         let right = self.expanded_value(alloc, right, at)?;
@@ -260,27 +260,18 @@ impl Site<'_> {
     }
 
     /// Equality of a signal's name and a character literal.
-    fn level(
-        &self,
-        alloc: Global,
-        plain: bool,
-        place: &Place,
-        value: Nine,
-    ) -> Result<Test, ElabFault>
+    fn level(&self, plain: bool, place: &Place, value: Nine) -> Result<Test, ElabFault>
         requires { IsSite self.now }
-        ensures { Expands test_view (steps.level self.now.nets.now (site_view self.now) plain (place_view place.now) value) result }
+        ensures { Expands test_view (steps.level (site_view self.now) plain (place_view place.now) value) result }
     {
         let run = self.signal_elements(place.signal, &place.part, place.at)?;
         if run.len == 1 {
-            return Ok(Test::Level {
-                plain,
-                net: self.net(run.first),
-                value,
-            });
+            let net = element(run)?;
+            return Ok(Test::Level { plain, net, value });
         }
-        let nets = self.nets(alloc, run)?;
+        let elements = elements(run)?;
         Ok(Test::Equal(
-            rtl_net::Value::Elements(Expr::Signal(nets)),
+            rtl_net::Value::Elements(Expr::Signal(elements)),
             rtl_net::Value::Elements(Expr::Constant(Vec9::fill(value, 1))),
         ))
     }
@@ -294,7 +285,7 @@ impl Site<'_> {
         at: usize,
     ) -> Result<TestChain, ElabFault>
         requires { IsSite self.now }
-        ensures { Expands chain_view (steps.started self.now.nets.now (site_view self.now) start.now) result }
+        ensures { Expands chain_view (steps.started (site_view self.now) start.now) result }
     {
         let first = self.expanded_test(alloc, &start.first, at)?;
         let operand = self.expanded_test(alloc, &start.link.operand, at)?;
@@ -314,7 +305,7 @@ impl Site<'_> {
         at: usize,
     ) -> Result<Test, ElabFault>
         requires { IsSite self.now }
-        ensures { Expands test_view (steps.all_linked self.now.nets.now (site_view self.now) (chain_view chain) links.now) result }
+        ensures { Expands test_view (steps.all_linked (site_view self.now) (chain_view chain) links.now) result }
     {
         let TestChain { first, mut rest } = chain;
         for link in links {

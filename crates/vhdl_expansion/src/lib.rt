@@ -1,10 +1,7 @@
-//! Expansion of bodies: what the statements and expressions of an analysed process become in the flat net (IEEE 1076-2008,
-//! clause 14).
+//! Expansion of bodies: what the statements and expressions of an analysed process become (IEEE 1076-2008, clauses 9 and 10).
 //!
-//! A body is walked once. The nets of an instance's declarations, and the elements that a process drives, are known before its
-//! body is expanded, so each name becomes the nets of its elements at once, and each target the places of its drivers. The
-//! definitions take two steps, first the elements of names and then their nets; contracts say that the one walk gives what both
-//! steps give: `wired (connected .. nets drives) (.. site ..)`.
+//! Names are elements of the ports and signals of their instance, or of the process's variables, also where the flat net has nets
+//! and places of drivers: these are put in their stead when the instances are connected.
 #![tactic(auto)]
 
 mod assignments;
@@ -14,7 +11,6 @@ mod operand;
 mod selected;
 mod site;
 mod statements;
-mod targets;
 mod values;
 mod vectors;
 

@@ -1,11 +1,10 @@
-//! What is known where a body stands, and the nets that its names mean (IEEE 1076-2008, 8.1 to 8.5).
+//! What is known where a body stands, and the elements that its names mean (IEEE 1076-2008, 8.1 to 8.5).
 
-ghost use Rattle.std.specs.Prelude.{◌≡◌, ◌+◌, ◌<◌, length, map, slice_index, take, IfOk, IsTrue, Ok};
-ghost use Rattle.std.specs.List.{range_with_len};
-ghost use Rattle.rtl_model.specs.bodies.Fits.{IsWidth};
+ghost use Rattle.std.specs.Prelude.{◌≡◌, ◌+◌, map, IfOk, Ok};
 ghost use Rattle.rtl_net.specs.Indices.{numbers};
 ghost use Rattle.vhdl_names.specs.views.Vectors.{part_view, signal_view};
 ghost use Rattle.vhdl_expand.specs.Site as definition;
+ghost use Rattle.vhdl_expand.specs.Site.{the_element};
 ghost use Rattle.vhdl_expand.specs.views.Integers.{integers_view};
 ghost use Rattle.vhdl_expand.specs.views.Kinds.{run_view};
 ghost use Rattle.vhdl_expansion.specs.Results.{Expands};
@@ -13,8 +12,6 @@ ghost use Rattle.vhdl_expansion.specs.Sites.{ArePlaced, IsSite, IsShort, placed_
 
 use crate::constant::Constant;
 use rtl_net::Indices;
-use smallvec::SmallVec;
-use std::alloc::Global;
 use vhdl_expand::{ElabFault, ElabProblem, Integers, Kind, Run};
 use vhdl_names::{Part, Signal};
 use vhdl_values::Vec9;
@@ -36,13 +33,9 @@ pub struct Site<'a> {
     pub signals: &'a [Placed],
     /// Of the process.
     pub variables: &'a [Placed],
-    /// The net of each element of the ports and signals, ports before signals.
-    pub nets: &'a [u32],
-    /// The elements that the process has drivers for, in order.
-    pub drives: &'a [usize],
 }
 
-/// Neighbouring elements of variables, as bodies number them. Memory would be refused for numbers beyond a word.
+/// Neighbouring elements, as bodies number them. Memory would be refused for numbers beyond a word.
 pub(crate) fn elements(run: Run) -> Result<Indices, ElabFault>
     requires { IsShort run }
     ensures { Expands numbers (Ok (run_view run)) result }
@@ -52,6 +45,18 @@ pub(crate) fn elements(run: Run) -> Result<Indices, ElabFault>
             first,
             len: run.len as u32,
         }),
+        Err(_) => Err(ElabFault::NoMemory),
+    }
+}
+
+/// The only one of so many elements. Memory would be refused for a number beyond a word.
+#[tactic(auto, using(crate::proofs::Places::one_element))]
+pub(crate) fn element(run: Run) -> Result<u32, ElabFault>
+    requires { IsShort run }
+    ensures { Expands (λ n. n) (the_element (Ok (run_view run))) result }
+{
+    match u32::try_from(run.first) {
+        Ok(element) => Ok(element),
         Err(_) => Err(ElabFault::NoMemory),
     }
 }
@@ -133,8 +138,6 @@ impl Site<'_> {
     pub(crate) fn within<'b>(&'b self, loops: &'b [i32]) -> Site<'b>
         requires { IsSite self.now }
         ensures site { IsSite result }
-        ensures nets { result.nets.now ≡ self.now.nets.now }
-        ensures drives { result.drives.now ≡ self.now.drives.now }
         ensures loops { site_view result ≡ with_loops (site_view self.now) loops.now }
     {
         Site {
@@ -149,13 +152,11 @@ impl Site<'_> {
             port_elements: self.port_elements,
             signals: self.signals,
             variables: self.variables,
-            nets: self.nets,
-            drives: self.drives,
         }
     }
 
     /// Lets it go.
-    pub(crate) fn end(self) {
+    pub fn end(self) {
         let Site {
             integers,
             constants: _,
@@ -163,8 +164,6 @@ impl Site<'_> {
             port_elements: _,
             signals: _,
             variables: _,
-            nets: _,
-            drives: _,
         } = self;
         let Integers {
             generics: _,
@@ -172,47 +171,5 @@ impl Site<'_> {
             generates: _,
             loops: _,
         } = integers;
-    }
-
-    /// The net of an element.
-    pub(crate) fn net(&self, element: usize) -> u32
-        ensures { result ≡ slice_index self.now.nets.now element }
-    {
-        match self.nets.get(element) {
-            Some(net) => *net,
-            None => 0,
-        }
-    }
-
-    /// Whether the nets of neighbouring elements stand one after another, this being the first.
-    fn are_neighbours(&self, first: u32, run: Run) -> bool
-        requires { IsShort run }
-        ensures { IsTrue result → map (slice_index self.now.nets.now) (run_view run) ≡ range_with_len first run.len }
-    {
-        for k in 0..run.len {
-            if self.net(run.first + k) as usize != first as usize + k {
-                return false;
-            }
-        }
-        true
-    }
-
-    /// The nets of neighbouring elements. It takes the memory of a list of them, where they don't stand one after another.
-    pub(crate) fn nets(&self, alloc: Global, run: Run) -> Result<Indices, ElabFault>
-        requires { IsShort run }
-        ensures { Expands numbers (Ok (map (slice_index self.now.nets.now) (run_view run))) result }
-    {
-        let first = self.net(run.first);
-        if self.are_neighbours(first, run) {
-            return Ok(Indices::Run {
-                first,
-                len: run.len as u32,
-            });
-        }
-        let mut nets = SmallVec::new(alloc);
-        for k in 0..run.len {
-            nets.push(self.net(run.first + k))?;
-        }
-        Ok(Indices::List(nets))
     }
 }

@@ -4,12 +4,11 @@ ghost use Rattle.std.specs.Prelude.{◌≡◌, ◌≢◌, map, option_map, IfErr
 ghost use Rattle.rtl_model.specs.bodies.Body as model;
 ghost use Rattle.rtl_net.specs.Bodies.{statement_view, statements_of, choice_view};
 ghost use Rattle.vhdl_names.specs.units.Statements as units;
-ghost use Rattle.vhdl_elab.specs.Bodies.{connected};
 ghost use Rattle.vhdl_expand.specs.declared.fault.ElabFault.TheVariants.{NoMemory};
 ghost use Rattle.vhdl_expand.specs.Elab.{each};
 ghost use Rattle.vhdl_expand.specs.Site.{in_loop};
 ghost use Rattle.vhdl_expand.specs.Statements as definition;
-ghost use Rattle.vhdl_expansion.specs.Results.{Expands, wired};
+ghost use Rattle.vhdl_expansion.specs.Results.{Expands};
 ghost use Rattle.vhdl_expansion.specs.Sites.{IsSite, site_view};
 ghost use Rattle.vhdl_expansion.specs.Statements.{branch_view, branches_view, alternative_view, alternatives_view, otherwise_view};
 ghost use Rattle.vhdl_expansion.specs.steps.Statements as steps;
@@ -73,8 +72,8 @@ fn parameter(turns: Turns, turn: u32) -> Result<i32, ElabFault>
 }
 
 impl Site<'_> {
-    /// A body, expanded: its statements in order, in which each element of a signal's name is its net, and each element of a target
-    /// its driver's place; a fault is StaticError, Length, Index, TooWide or TooMany. It takes the memory of the body.
+    /// A body, expanded: its statements in order, in which names and targets are elements; a fault is StaticError, Length, Index,
+    /// TooWide or TooMany. It takes the memory of the body.
     pub fn body(
         &self,
         alloc: Global,
@@ -82,8 +81,7 @@ impl Site<'_> {
     ) -> Result<Vec<Statement>, ElabFault>
         requires { IsSite self.now }
         ensures { Expands (λ v. statements_of v.items)
-            (wired (connected self.now.nets.now self.now.drives.now)
-            (definition.statements (site_view self.now) (analysed.statements_of (map analysed.statement_view statements.now)))) result }
+            (definition.statements (site_view self.now) (analysed.statements_of (map analysed.statement_view statements.now))) result }
     {
         self.sequence(alloc, statements)
     }
@@ -97,7 +95,7 @@ impl Site<'_> {
     ) -> Result<Vec<Statement>, ElabFault>
         requires { IsSite self.now }
         ensures { Expands (λ v. statements_of v.items)
-            (steps.statements self.now.nets.now self.now.drives.now (site_view self.now) (analysed.statements_of (map analysed.statement_view list.now))) result }
+            (definition.statements (site_view self.now) (analysed.statements_of (map analysed.statement_view list.now))) result }
     {
         let mut body = Vec::new(alloc);
         self.add_statements(alloc, list, &mut body)?;
@@ -115,7 +113,7 @@ impl Site<'_> {
         requires { IsSite self.now }
         ensures { Expands (λ _. statements_of body.new.items)
             (steps.after (statements_of body.old.items)
-            (steps.statements self.now.nets.now self.now.drives.now (site_view self.now) (analysed.statements_of (map analysed.statement_view list.now)))) result }
+            (definition.statements (site_view self.now) (analysed.statements_of (map analysed.statement_view list.now)))) result }
     {
         for statement in list {
             self.add_statement(alloc, statement, body)?;
@@ -134,7 +132,7 @@ impl Site<'_> {
         requires { IsSite self.now }
         ensures { Expands (λ _. statements_of body.new.items)
             (steps.after (statements_of body.old.items)
-            (steps.statement self.now.nets.now self.now.drives.now (site_view self.now) (analysed.statement_view statement.now))) result }
+            (definition.statement (site_view self.now) (analysed.statement_view statement.now))) result }
     {
         match statement {
             analysed::Statement::Null => add(body, Statement::Null),
@@ -169,7 +167,7 @@ impl Site<'_> {
     fn conditional(&self, alloc: Global, conditional: &If) -> Result<Statement, ElabFault>
         requires { IsSite self.now }
         ensures { Expands statement_view
-            (steps.conditional self.now.nets.now self.now.drives.now (site_view self.now) (analysed.branches_view (out-If conditional.now).branches)
+            (steps.conditional (site_view self.now) (analysed.branches_view (out-If conditional.now).branches)
             (analysed.last_of (analysed.option_statements_view (out-If conditional.now).otherwise))) result }
     {
         let branches = self.branches(alloc, &conditional.branches, conditional.at)?;
@@ -190,7 +188,7 @@ impl Site<'_> {
     ) -> Result<Vec<Branch>, ElabFault>
         requires { IsSite self.now }
         ensures { Expands branches_view
-            (each (steps.branch self.now.nets.now self.now.drives.now (site_view self.now)) (map analysed.branch_view list.now)) result }
+            (each (steps.branch (site_view self.now)) (map analysed.branch_view list.now)) result }
     {
         let mut branches = Vec::new(alloc);
         for item in list {
@@ -210,7 +208,7 @@ impl Site<'_> {
     ) -> Result<Branch, ElabFault>
         requires { IsSite self.now }
         ensures { Expands branch_view
-            (steps.branch self.now.nets.now self.now.drives.now (site_view self.now) (analysed.branch_view branch.now)) result }
+            (steps.branch (site_view self.now) (analysed.branch_view branch.now)) result }
     {
         let test = self.expanded_test(alloc, &branch.condition, at)?;
         let statements = self.sequence(alloc, &branch.statements)?;
@@ -219,7 +217,7 @@ impl Site<'_> {
 
     /// What an if statement does else.
     #[cycle(statement)]
-    #[tactic(auto, unfolding(crate::specs::steps::Statements::branches))]
+    #[tactic(auto, unfolding(vhdl_expand::specs::Statements::branches))]
     fn otherwise(
         &self,
         alloc: Global,
@@ -227,7 +225,7 @@ impl Site<'_> {
     ) -> Result<Option<Vec<Statement>>, ElabFault>
         requires { IsSite self.now }
         ensures { Expands otherwise_view
-            (steps.branches self.now.nets.now self.now.drives.now (site_view self.now)
+            (definition.branches (site_view self.now)
             (analysed.last_of (analysed.option_statements_view (out-If conditional.now).otherwise))) result }
     {
         match &conditional.otherwise {
@@ -245,7 +243,7 @@ impl Site<'_> {
     fn selection(&self, alloc: Global, selection: &Case) -> Result<Statement, ElabFault>
         requires { IsSite self.now }
         ensures { Expands statement_view
-            (steps.selection self.now.nets.now self.now.drives.now (site_view self.now) (value_view (out-Case selection.now).selector)
+            (steps.selection (site_view self.now) (value_view (out-Case selection.now).selector)
             (analysed.alternatives_view (out-Case selection.now).alternatives) (analysed.statements_of (analysed.statements_view (out-Case selection.now).others))) result }
     {
         let at = selection.at;
@@ -271,7 +269,7 @@ impl Site<'_> {
     ) -> Result<Vec<Alternative>, ElabFault>
         requires { IsSite self.now }
         ensures { Expands alternatives_view
-            (each (steps.alternative self.now.nets.now self.now.drives.now (site_view self.now) width.len) (map analysed.alternative_view list.now)) result }
+            (each (steps.alternative (site_view self.now) width.len) (map analysed.alternative_view list.now)) result }
     {
         let mut alternatives = Vec::new(alloc);
         for item in list {
@@ -292,7 +290,7 @@ impl Site<'_> {
     ) -> Result<Alternative, ElabFault>
         requires { IsSite self.now }
         ensures { Expands alternative_view
-            (steps.alternative self.now.nets.now self.now.drives.now (site_view self.now) width.len (analysed.alternative_view alternative.now)) result }
+            (steps.alternative (site_view self.now) width.len (analysed.alternative_view alternative.now)) result }
     {
         let choices = choices(alloc, width, &alternative.choices, at)?;
         let statements = self.sequence(alloc, &alternative.statements)?;
@@ -313,7 +311,7 @@ impl Site<'_> {
         requires { IsSite self.now }
         ensures { Expands (λ _. statements_of body.new.items)
             (steps.after (statements_of body.old.items)
-            (steps.turned self.now.nets.now self.now.drives.now (site_view self.now) (range_view repeated.now.range)
+            (steps.turned (site_view self.now) (range_view repeated.now.range)
             (analysed.statements_of (analysed.statements_view repeated.now.statements)))) result }
     {
         let turns = self.integers.turns(&repeated.range, repeated.at)?;
@@ -336,7 +334,7 @@ impl Site<'_> {
         requires { IsSite self.now }
         ensures { Expands (λ _. statements_of body.new.items)
             (steps.after (statements_of body.old.items)
-            (steps.statements self.now.nets.now self.now.drives.now (in_loop (site_view self.now) parameter) (analysed.statements_of (map analysed.statement_view list.now)))) result }
+            (definition.statements (in_loop (site_view self.now) parameter) (analysed.statements_of (map analysed.statement_view list.now)))) result }
     {
         let mut loops = self.integers.loops.to_vec(alloc)?;
         loops.push(parameter)?;

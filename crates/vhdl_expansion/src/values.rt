@@ -4,14 +4,15 @@ ghost use Rattle.std.specs.Prelude.{Ok};
 ghost use Rattle.rtl_model.specs.bodies.Body as body;
 ghost use Rattle.vhdl_names.specs.views.Vectors as analysed;
 ghost use Rattle.vhdl_names.specs.views.Vectors.{part_view, signal_view};
+ghost use Rattle.vhdl_expand.specs.Expressions as definition;
+ghost use Rattle.vhdl_expand.specs.Site.{signal_elements, variable_elements, the_element};
 ghost use Rattle.vhdl_expansion.specs.Results.{Expands};
 ghost use Rattle.vhdl_expansion.specs.Selecteds.{selected_view};
 ghost use Rattle.vhdl_expansion.specs.Sites.{IsSite, site_view};
-ghost use Rattle.vhdl_expansion.specs.steps.Values as steps;
 
 use crate::operand::Width;
 use crate::selected::Selected;
-use crate::site::Site;
+use crate::site::{Site, element};
 use std::alloc::Global;
 use vhdl_expand::ElabFault;
 use vhdl_names::{Part, Signal, Value};
@@ -31,31 +32,31 @@ fn position(number: usize) -> Result<Selected, ElabFault>
 }
 
 impl Site<'_> {
-    /// The net of a signal or port, or part of one, that is one element; a fault is StaticError or Index.
-    #[tactic(auto, using(crate::proofs::Places::one_element))]
-    pub(crate) fn the_net(&self, signal: Signal, part: &Part, at: usize) -> Result<u32, ElabFault>
+    /// The element that a signal or port, or part of one, is; a fault is StaticError or Index.
+    pub(crate) fn signal_element(
+        &self,
+        signal: Signal,
+        part: &Part,
+        at: usize,
+    ) -> Result<u32, ElabFault>
         requires { IsSite self.now }
-        ensures { Expands (λ n. n) (steps.net self.now.nets.now (site_view self.now) (signal_view signal) (part_view part.now)) result }
+        ensures { Expands (λ n. n) (the_element (signal_elements (site_view self.now) (signal_view signal) (part_view part.now))) result }
     {
         let run = self.signal_elements(signal, part, at)?;
-        Ok(self.net(run.first))
+        element(run)
     }
 
-    /// The number of a variable, or part of one, that is one element; a fault is StaticError or Index.
-    #[tactic(auto, using(crate::proofs::Places::one_element))]
-    fn the_element(&self, number: usize, part: &Part, at: usize) -> Result<u32, ElabFault>
+    /// The element that a variable, or part of one, is; a fault is StaticError or Index.
+    fn variable_element(&self, number: usize, part: &Part, at: usize) -> Result<u32, ElabFault>
         requires { IsSite self.now }
-        ensures { Expands (λ n. n) (steps.element (site_view self.now) number (part_view part.now)) result }
+        ensures { Expands (λ n. n) (the_element (variable_elements (site_view self.now) number (part_view part.now))) result }
     {
         let run = self.variable_elements(number, part, at)?;
-        match u32::try_from(run.first) {
-            Ok(element) => Ok(element),
-            Err(_) => Err(ElabFault::NoMemory),
-        }
+        element(run)
     }
 
-    /// A value, expanded, each element of a signal's name being its net; a fault is StaticError, Length, Index or TooWide.
-    #[tactic(auto, unfolding(crate::specs::steps::Values::value))]
+    /// A value, expanded; a fault is StaticError, Length, Index or TooWide.
+    #[tactic(auto, unfolding(vhdl_expand::specs::Expressions::value))]
     pub(crate) fn expanded_value(
         &self,
         alloc: Global,
@@ -63,7 +64,7 @@ impl Site<'_> {
         at: usize,
     ) -> Result<Selected, ElabFault>
         requires { IsSite self.now }
-        ensures { Expands selected_view (steps.value self.now.nets.now (site_view self.now) (analysed.value_view value.now)) result }
+        ensures { Expands selected_view (definition.value (site_view self.now) (analysed.value_view value.now)) result }
     {
         match value {
             Value::Elements(vector) => {
@@ -75,14 +76,14 @@ impl Site<'_> {
             }
             Value::Position(number) => position(*number),
             Value::StateOf(signal) => {
-                let net = self.the_net(*signal, &Part::Whole, at)?;
+                let element = self.signal_element(*signal, &Part::Whole, at)?;
                 Ok(Selected {
-                    value: rtl_net::Value::PositionOf(net),
+                    value: rtl_net::Value::PositionOf(element),
                     width: Width { len: 1 },
                 })
             }
             Value::StateOfVariable(number) => {
-                let element = self.the_element(*number, &Part::Whole, at)?;
+                let element = self.variable_element(*number, &Part::Whole, at)?;
                 Ok(Selected {
                     value: rtl_net::Value::PositionIn(element),
                     width: Width { len: 1 },

@@ -9,6 +9,7 @@ ghost use Rattle.std.specs.Prelude.{IfOk};
 ghost use Rattle.vhdl_names.specs.units.Expressions as units;
 ghost use Rattle.vhdl_names.specs.views.Integers.{static_view};
 ghost use Rattle.vhdl_names.specs.views.Vectors.{part_view, place_view, vector_view};
+ghost use Rattle.vhdl_expand.specs.Expressions as definition;
 ghost use Rattle.vhdl_expansion.specs.Results.{Expands};
 ghost use Rattle.vhdl_expansion.specs.Sites.{IsSite, site_view};
 ghost use Rattle.vhdl_expansion.specs.steps.Vectors as steps;
@@ -36,15 +37,15 @@ fn literal(values: &[Nine], at: usize) -> Result<Operand, ElabFault>
 }
 
 impl Site<'_> {
-    /// A vector, expanded, each element of a signal's name being its net; a fault is StaticError, Length, Index or TooWide.
+    /// A vector, expanded; a fault is StaticError, Length, Index or TooWide.
     #[cycle(vector)]
-    #[tactic(auto, unfolding(crate::specs::steps::Vectors::vector))]
+    #[tactic(auto, unfolding(vhdl_expand::specs::Expressions::vector))]
     pub(crate) fn expanded(&self, alloc: Global, vector: &Vector) -> Result<Operand, ElabFault>
         requires { IsSite self.now }
-        ensures { Expands operand_view (steps.vector self.now.nets.now (site_view self.now) (vector_view vector.now)) result }
+        ensures { Expands operand_view (definition.vector (site_view self.now) (vector_view vector.now)) result }
     {
         match vector {
-            Vector::Signal(place) => self.signal(alloc, place),
+            Vector::Signal(place) => self.signal(place),
             Vector::Variable(at, number, part) => self.variable(*number, part, *at),
             Vector::Constant(at, number, part) => self.constant(*number, part, *at),
             Vector::Character(_, value) | Vector::EnclosedCharacter(_, value) => {
@@ -77,15 +78,15 @@ impl Site<'_> {
         }
     }
 
-    /// A signal, port or part of one, by its nets.
-    fn signal(&self, alloc: Global, place: &Place) -> Result<Operand, ElabFault>
+    /// A signal, port or part of one, by its elements.
+    fn signal(&self, place: &Place) -> Result<Operand, ElabFault>
         requires { IsSite self.now }
-        ensures { Expands operand_view (steps.signal self.now.nets.now (site_view self.now) (place_view place.now)) result }
+        ensures { Expands operand_view (steps.signal (site_view self.now) (place_view place.now)) result }
     {
         let run = self.signal_elements(place.signal, &place.part, place.at)?;
-        let nets = self.nets(alloc, run)?;
+        let elements = elements(run)?;
         Ok(Operand {
-            expr: Expr::Signal(nets),
+            expr: Expr::Signal(elements),
             width: Width { len: run.len },
         })
     }
@@ -133,7 +134,7 @@ impl Site<'_> {
     ) -> Result<Operand, ElabFault>
         requires { IsSite self.now }
         ensures { Expands operand_view
-            (steps.resized_to self.now.nets.now (site_view self.now) (vector_view operand.now) (static_view size.now)) result }
+            (steps.resized (site_view self.now) (vector_view operand.now) (static_view size.now)) result }
     {
         let operand = self.expanded(alloc, operand)?;
         let len = self.integers.size_of(size, at)?;
@@ -152,7 +153,7 @@ impl Site<'_> {
     ) -> Result<Operand, ElabFault>
         requires { IsSite self.now }
         ensures { Expands operand_view
-            (steps.integer_with self.now.nets.now (site_view self.now) operator (static_view integer.now) (vector_view operand.now)) result }
+            (steps.integer_with (site_view self.now) operator (static_view integer.now) (vector_view operand.now)) result }
     {
         let number = self.integers.natural(integer, at)?;
         let operand = self.expanded(alloc, operand)?;
@@ -164,7 +165,7 @@ impl Site<'_> {
     #[cycle(vector)]
     fn started(&self, alloc: Global, start: &VectorStart) -> Result<Chain, ElabFault>
         requires { IsSite self.now }
-        ensures { Expands chain_view (steps.started self.now.nets.now (site_view self.now) start.now) result }
+        ensures { Expands chain_view (steps.started (site_view self.now) start.now) result }
     {
         let first = self.expanded(alloc, &start.first)?;
         let next = self.link(alloc, first.width, &start.link)?;
@@ -180,7 +181,7 @@ impl Site<'_> {
         links: &[VectorLink],
     ) -> Result<Operand, ElabFault>
         requires { IsSite self.now }
-        ensures { Expands operand_view (steps.all_linked self.now.nets.now (site_view self.now) (chain_view chain) links.now) result }
+        ensures { Expands operand_view (steps.all_linked (site_view self.now) (chain_view chain) links.now) result }
     {
         let Chain {
             first,
@@ -201,7 +202,7 @@ impl Site<'_> {
     fn link(&self, alloc: Global, left: Width, link: &VectorLink) -> Result<Linked, ElabFault>
         requires { IsSite self.now }
         ensures given { (d : body.Expr) → fits.width d ≡ left.len
-            → Expands (linked_view d) (steps.linked self.now.nets.now (site_view self.now) d link.now) result }
+            → Expands (linked_view d) (steps.linked (site_view self.now) d link.now) result }
         ensures width { IfOk result
             (λ x. x.width.len ≡ operated_width (operator_view x.link.operator) left.len (fits.width (expr_view x.link.operand))) }
     {

@@ -3,7 +3,5 @@ pub mod Assigning
 pub mod Reading
 pub mod Rising
 pub mod Prefixed
-pub mod NetReads
-pub mod Waking
-pub mod Connecting
+pub mod BodyReads
 pub mod Codes

@@ -12,7 +12,7 @@ use Rattle.rtl_facts.proofs.Members.{same_members}
 use Rattle.vhdl_expand.specs.Prefixes.{is_among, in_order}
 use Rattle.vhdl_expand.proofs.laws.Targets.{in_order_has, in_order_all}
 use Rattle.vhdl_elab.proofs.laws.Rising.{Rises, rises-run, rises-strictly}
-use Rattle.vhdl_expansion.specs.Sites.{IsRising}
+use Rattle.vhdl_processes.specs.Driven.{IsRising}
 
 abbrev Low : ℕ → List ℕ → Type 0
 Low a [] = ⊤

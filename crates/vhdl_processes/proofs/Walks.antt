@@ -1,9 +1,9 @@
 -- What a walk over a list puts behind what stands there.
-use Rattle.std.proofs.Common.{◌≡◌, ℕ, zero, suc, ◌+◌, ◌<◌, ◌≤◌, List, [], ◌∷◌, ◌++◌, length, get_or, drop, drop-cons, add-one, Result, refl, sym, subst, ap, ◌∙◌, arith}
+use Rattle.std.proofs.Common.{◌≡◌, ℕ, zero, suc, ◌+◌, ◌<◌, ◌≤◌, List, [], ◌∷◌, ◌++◌, length, get_or, map, drop, drop-cons, add-one, Result, refl, sym, subst, ap, ◌∙◌, arith}
 use Rattle.std.specs.Prelude.{flat_map, OnOk}
 use Rattle.std.specs.List.{range_with_len}
 use Rattle.std.proofs.lemmas.List.{append_assoc, append-nil}
-use Rattle.vhdl_expansion.proofs.Places.{range-more}
+use Rattle.std.proofs.lemmas.List.FromFn.{map-range_with_len_more}
 
 pub next-left : {X : Type 0} (xs : List X) (i : ℕ) (x : X) → i < length xs → x ≡ get_or xs i x → drop i xs ≡ x ∷ drop (i + 1) xs
 next-left xs i x h e = drop-cons xs i x h ∙ ap (λ y. y ∷ drop (suc i) xs) (sym e) ∙ ap (λ j. x ∷ drop j xs) (sym (add-one i))
@@ -35,6 +35,13 @@ adds_both r old mid new xs ys zs e h k =
     (subst (λ ms. OnOk r (new ≡ ms)) (ap (λ ms. ms ++ ys) h ∙ append_assoc old xs ys) k)
 
 -- one more of a run
+range-more : (a n : ℕ) → range_with_len a (n + 1) ≡ range_with_len a n ++ (a + n) ∷ []
+range-more a n = sym (map-id a (n + 1)) ∙ map-range_with_len_more (λ x. x) a n (a + n) refl ∙ ap (λ xs. xs ++ (a + n) ∷ []) (map-id a n)
+  where
+    map-id : (b m : ℕ) → map (λ x. x) (range_with_len b m) ≡ range_with_len b m
+    map-id b zero = refl
+    map-id b (suc m) = ap (λ xs. b ∷ xs) (map-id (b + 1) m)
+
 pub more_run : (old now : List ℕ) (first k : ℕ) → now ≡ old ++ range_with_len first k → now ++ (first + k) ∷ [] ≡ old ++ range_with_len first (k + 1)
 more_run old now first k h =
     ap (λ xs. xs ++ (first + k) ∷ []) h ∙ append_assoc old (range_with_len first k) ((first + k) ∷ []) ∙ ap (λ xs. old ++ xs) (sym (range-more first k))

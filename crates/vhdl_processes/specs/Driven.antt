@@ -1,5 +1,5 @@
 -- What a body drives and reads by the longest static prefixes of its names, before its loops are unrolled.
-use Rattle.std.specs.Prelude.{ℕ, ◌+◌, List, Ok}
+use Rattle.std.specs.Prelude.{ℕ, ◌+◌, ◌-◌, ◌<◌, ◌≤◌, List, length, slice_index, Ok}
 use Rattle.vhdl_names.specs.units.Statements.{Statements}
 use Rattle.vhdl_expand.specs.Elab.{Elab, ◌>>=◌}
 use Rattle.vhdl_expand.specs.Site.{Site, elements_count}
@@ -14,3 +14,7 @@ drives_of at body = do
 -- the elements that `process (all)` is sensitive to, in order of the names
 abbrev pub read_by : Site → Statements → Elab (List ℕ)
 read_by at body = prefixes_elements at (names body)
+
+-- each number is above the one before it
+abbrev pub IsRising : List ℕ → Type 0
+IsRising ns = (i j : ℕ) → i ≤ j → j < length ns → slice_index ns i + (j - i) ≤ slice_index ns j

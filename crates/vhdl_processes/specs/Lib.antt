@@ -2,7 +2,5 @@ pub mod Named
 pub mod Targets
 pub mod Names
 pub mod Driven
-pub mod ReadNets
-pub mod Woken
-pub mod Laws
+pub mod Reads
 pub mod Starting

@@ -7,9 +7,9 @@ ghost use Rattle.vhdl_expand.specs.Prefixes as definition;
 ghost use Rattle.vhdl_expand.specs.Site.{place_elements};
 ghost use Rattle.vhdl_expand.specs.views.Kinds.{run_view};
 ghost use Rattle.vhdl_expansion.specs.Results.{Expands};
-ghost use Rattle.vhdl_expansion.specs.Sites.{IsRising, IsShort, IsSite, site_view};
+ghost use Rattle.vhdl_expansion.specs.Sites.{IsShort, IsSite, site_view};
 ghost use Rattle.vhdl_units.specs.views.Sequential.{statement_view, statements_of};
-ghost use Rattle.vhdl_processes.specs.Driven.{drives_of, read_by};
+ghost use Rattle.vhdl_processes.specs.Driven.{IsRising, drives_of, read_by};
 ghost use Rattle.vhdl_processes.specs.Named.{name_view};
 
 use crate::name::Name;

@@ -1,4 +1,5 @@
-//! The nets that an elaborated body reads (IEEE 1076-2008, 11.3): those whose values or events it looks at.
+//! What a body reads (IEEE 1076-2008, 11.3): the nets whose values or events it looks at, or the elements, where it has these in
+//! place of nets.
 
 ghost use Rattle.std.specs.Prelude.{◌≡◌, ℕ, ◌++◌, ◌↔◌, [], ◌∷◌, Contains, flat_map, IfOk, OnOk};
 ghost use Rattle.std.specs.List.{range_with_len};
@@ -6,14 +7,14 @@ ghost use Rattle.std.specs.List.Sorted.{IsStrictlyIncreasing};
 ghost use Rattle.rtl_model.specs.bodies.Reads as definition;
 ghost use Rattle.rtl_net.specs.Bodies.{expr_view, value_view, test_view, statements_of};
 ghost use Rattle.rtl_net.specs.Indices.{numbers};
-ghost use Rattle.vhdl_processes.specs.ReadNets.{link_reads, test_link_reads, statement_reads, branch_reads, alternative_reads};
+ghost use Rattle.vhdl_processes.specs.Reads.{link_reads, test_link_reads, statement_reads, branch_reads, alternative_reads};
 
 use rtl_facts::sort_once;
 use rtl_net::{Alternative, Branch, Expr, Indices, Link, Statement, Test, TestLink, Value};
 use std::alloc::{AllocError, Global};
 
-/// The nets that a body reads, rising. It takes the memory of a list of all the body's names of nets, and time to sort it.
-pub fn nets_read(alloc: Global, body: &[Statement]) -> Result<Vec<usize>, AllocError>
+/// What a body reads, rising. It takes the memory of a list of all nets or elements that the body's names have, and time to sort it.
+pub fn read_of(alloc: Global, body: &[Statement]) -> Result<Vec<usize>, AllocError>
     ensures rise { IfOk result (λ v. IsStrictlyIncreasing v.items) }
     ensures all { IfOk result (λ v. (n : ℕ) → Contains v.items n ↔ Contains (definition.reads (statements_of body.now)) n) }
 {
@@ -23,17 +24,17 @@ pub fn nets_read(alloc: Global, body: &[Statement]) -> Result<Vec<usize>, AllocE
     Ok(found)
 }
 
-/// Puts nets behind others.
-fn of_nets(nets: &Indices, found: &mut Vec<usize>) -> Result<(), AllocError>
-    ensures { OnOk result (found.new.items ≡ found.old.items ++ numbers nets.now) }
+/// Puts what a name has behind others.
+fn of_indices(indices: &Indices, found: &mut Vec<usize>) -> Result<(), AllocError>
+    ensures { OnOk result (found.new.items ≡ found.old.items ++ numbers indices.now) }
 {
-    match nets {
+    match indices {
         Indices::Run { first, len } => of_run(*first, *len, found),
         Indices::List(listed) => of_list(listed.as_slice(), found),
     }
 }
 
-/// Puts nets that stand one after another behind others.
+/// Puts neighbours behind others.
 fn of_run(first: u32, len: u32, found: &mut Vec<usize>) -> Result<(), AllocError>
     ensures { OnOk result (found.new.items ≡ found.old.items ++ range_with_len first len) }
 {
@@ -43,31 +44,31 @@ fn of_run(first: u32, len: u32, found: &mut Vec<usize>) -> Result<(), AllocError
     Ok(())
 }
 
-/// Puts listed nets behind others.
+/// Puts what is listed behind others.
 fn of_list(listed: &[u32], found: &mut Vec<usize>) -> Result<(), AllocError>
     ensures { OnOk result (found.new.items ≡ found.old.items ++ listed.now) }
 {
-    for net in listed {
-        found.push(*net as usize)?;
+    for index in listed {
+        found.push(*index as usize)?;
     }
     Ok(())
 }
 
-/// Puts a net behind others.
-fn of_net(net: u32, found: &mut Vec<usize>) -> Result<(), AllocError>
-    ensures { OnOk result (found.new.items ≡ found.old.items ++ net ∷ []) }
+/// Puts one net or element behind others.
+fn of_index(index: u32, found: &mut Vec<usize>) -> Result<(), AllocError>
+    ensures { OnOk result (found.new.items ≡ found.old.items ++ index ∷ []) }
 {
-    found.push(net as usize)?;
+    found.push(index as usize)?;
     Ok(())
 }
 
-/// Puts the nets that an expression reads behind others.
+/// Puts what an expression reads behind others.
 #[cycle(expression)]
 fn of_expr(expr: &Expr, found: &mut Vec<usize>) -> Result<(), AllocError>
     ensures { OnOk result (found.new.items ≡ found.old.items ++ definition.expr_reads (expr_view expr.now)) }
 {
     match expr {
-        Expr::Signal(nets) => of_nets(nets, found),
+        Expr::Signal(indices) => of_indices(indices, found),
         Expr::Variable(_) => Ok(()),
         Expr::Constant(_) => Ok(()),
         Expr::Inverse(operand) => of_expr(operand, found),
@@ -85,7 +86,7 @@ fn of_expr(expr: &Expr, found: &mut Vec<usize>) -> Result<(), AllocError>
     }
 }
 
-/// Puts the nets that further operands of a chain read behind others.
+/// Puts what further operands of a chain read behind others.
 #[cycle(expression)]
 fn of_links(list: &[Link], found: &mut Vec<usize>) -> Result<(), AllocError>
     ensures { OnOk result (found.new.items ≡ found.old.items ++ flat_map link_reads list.now) }
@@ -96,19 +97,19 @@ fn of_links(list: &[Link], found: &mut Vec<usize>) -> Result<(), AllocError>
     Ok(())
 }
 
-/// Puts the nets that a value reads behind others.
+/// Puts what a value reads behind others.
 fn of_value(value: &Value, found: &mut Vec<usize>) -> Result<(), AllocError>
     ensures { OnOk result (found.new.items ≡ found.old.items ++ definition.value_reads (value_view value.now)) }
 {
     match value {
         Value::Elements(expr) => of_expr(expr, found),
         Value::Position(_) => Ok(()),
-        Value::PositionOf(net) => of_net(*net, found),
+        Value::PositionOf(index) => of_index(*index, found),
         Value::PositionIn(_) => Ok(()),
     }
 }
 
-/// Puts the nets that two values read behind others.
+/// Puts what two values read behind others.
 #[tactic(auto, using(std::proofs::lemmas::List::append_assoc))]
 fn of_values(left: &Value, right: &Value, found: &mut Vec<usize>) -> Result<(), AllocError>
     ensures { OnOk result (found.new.items
@@ -118,7 +119,7 @@ fn of_values(left: &Value, right: &Value, found: &mut Vec<usize>) -> Result<(), 
     of_value(right, found)
 }
 
-/// Puts the nets that two expressions read behind others.
+/// Puts what two expressions read behind others.
 #[tactic(auto, using(std::proofs::lemmas::List::append_assoc))]
 fn of_exprs(left: &Expr, right: &Expr, found: &mut Vec<usize>) -> Result<(), AllocError>
     ensures { OnOk result (found.new.items
@@ -128,7 +129,7 @@ fn of_exprs(left: &Expr, right: &Expr, found: &mut Vec<usize>) -> Result<(), All
     of_expr(right, found)
 }
 
-/// Puts the nets that a condition reads behind others.
+/// Puts what a condition reads behind others.
 #[cycle(conditions)]
 fn of_condition(test: &Test, found: &mut Vec<usize>) -> Result<(), AllocError>
     ensures { OnOk result (found.new.items ≡ found.old.items ++ definition.test_reads (test_view test.now)) }
@@ -138,12 +139,12 @@ fn of_condition(test: &Test, found: &mut Vec<usize>) -> Result<(), AllocError>
         Test::Decided(_) => Ok(()),
         Test::Equal(left, right) => of_values(left, right, found),
         Test::Unequal(left, right) => of_values(left, right, found),
-        Test::Level { net, .. } => of_net(*net, found),
+        Test::Level { net: index, .. } => of_index(*index, found),
         Test::Compared(_, left, right) => of_exprs(left, right, found),
         Test::ComparedTo(_, expr, _) => of_expr(expr, found),
-        Test::Rising(net) => of_net(*net, found),
-        Test::Falling(net) => of_net(*net, found),
-        Test::Event(net) => of_net(*net, found),
+        Test::Rising(index) => of_index(*index, found),
+        Test::Falling(index) => of_index(*index, found),
+        Test::Event(index) => of_index(*index, found),
         Test::Negated(operand) => of_condition(operand, found),
         Test::Combined { first, rest } => {
             of_condition(first, found)?;
@@ -152,7 +153,7 @@ fn of_condition(test: &Test, found: &mut Vec<usize>) -> Result<(), AllocError>
     }
 }
 
-/// Puts the nets that further conditions of a chain read behind others.
+/// Puts what further conditions of a chain read behind others.
 #[cycle(conditions)]
 fn of_conditions(list: &[TestLink], found: &mut Vec<usize>) -> Result<(), AllocError>
     ensures { OnOk result (found.new.items ≡ found.old.items ++ flat_map test_link_reads list.now) }
@@ -163,7 +164,7 @@ fn of_conditions(list: &[TestLink], found: &mut Vec<usize>) -> Result<(), AllocE
     Ok(())
 }
 
-/// Puts the nets that a body reads behind others.
+/// Puts what a body reads behind others.
 #[cycle(reading)]
 fn of_body(list: &[Statement], found: &mut Vec<usize>) -> Result<(), AllocError>
     ensures { OnOk result (found.new.items ≡ found.old.items ++ flat_map statement_reads list.now) }
@@ -174,7 +175,7 @@ fn of_body(list: &[Statement], found: &mut Vec<usize>) -> Result<(), AllocError>
     Ok(())
 }
 
-/// Puts the nets that a statement reads behind others.
+/// Puts what a statement reads behind others.
 #[cycle(reading)]
 fn of_statement(statement: &Statement, found: &mut Vec<usize>) -> Result<(), AllocError>
     ensures { OnOk result (found.new.items ≡ found.old.items ++ statement_reads statement.now) }
@@ -205,7 +206,7 @@ fn of_statement(statement: &Statement, found: &mut Vec<usize>) -> Result<(), All
     }
 }
 
-/// Puts the nets that branches of an if read behind others.
+/// Puts what branches of an if read behind others.
 #[cycle(reading)]
 fn of_branches(list: &[Branch], found: &mut Vec<usize>) -> Result<(), AllocError>
     ensures { OnOk result (found.new.items ≡ found.old.items ++ flat_map branch_reads list.now) }
@@ -216,7 +217,7 @@ fn of_branches(list: &[Branch], found: &mut Vec<usize>) -> Result<(), AllocError
     Ok(())
 }
 
-/// Puts the nets that a branch reads behind others.
+/// Puts what a branch reads behind others.
 #[cycle(reading)]
 #[tactic(auto, using(std::proofs::lemmas::List::append_assoc))]
 fn of_branch(branch: &Branch, found: &mut Vec<usize>) -> Result<(), AllocError>
@@ -226,7 +227,7 @@ fn of_branch(branch: &Branch, found: &mut Vec<usize>) -> Result<(), AllocError>
     of_body(&branch.statements, found)
 }
 
-/// Puts the nets that alternatives of a case read behind others.
+/// Puts what alternatives of a case read behind others.
 #[cycle(reading)]
 fn of_alternatives(list: &[Alternative], found: &mut Vec<usize>) -> Result<(), AllocError>
     ensures { OnOk result (found.new.items ≡ found.old.items ++ flat_map alternative_reads list.now) }

@@ -1,6 +1,6 @@
 //! The variables of a process, and what their elements start with (IEEE 1076-2008, 6.4.2.4).
 
-ghost use Rattle.std.specs.Prelude.{◌≡◌, map, option_map, replicate, IfOk};
+ghost use Rattle.std.specs.Prelude.{◌≡◌, [], ◌∷◌, map, option_map, replicate, IfOk, Ok};
 ghost use Rattle.vhdl_values.specs.Scalar.{code_of};
 ghost use Rattle.vhdl_expand.specs.Declarations as definition;
 ghost use Rattle.vhdl_expand.specs.Kinds as kinds;
@@ -10,7 +10,7 @@ ghost use Rattle.vhdl_expansion.specs.Results.{Expands};
 ghost use Rattle.vhdl_expansion.specs.Sites.{site_view};
 ghost use Rattle.vhdl_names.specs.views.Integers.{static_view};
 ghost use Rattle.vhdl_units.specs.views.Answers.{fixed_view, form_view};
-ghost use Rattle.vhdl_processes.specs.Starting.{HasSmall, IsSmall, codes_of, encoded_as};
+ghost use Rattle.vhdl_processes.specs.Starting.{codes_of, encoded_as};
 
 use smallvec::SmallVec;
 use std::alloc::{AllocError, Global};
@@ -142,6 +142,17 @@ fn fixed(
     }
 }
 
+/// What an enumeration that starts with its literal of this position starts with. Memory would be refused for a position beyond a
+/// byte: an enumeration has at most 256 literals.
+fn literal_start(alloc: Global, position: usize) -> Result<SmallVec<u8, 8>, ElabFault>
+    ensures { Expands (λ v. v.items) (Ok (position ∷ [])) result }
+{
+    match u8::try_from(position) {
+        Ok(code) => Ok(filled(alloc, 1, code)?),
+        Err(_) => Err(ElabFault::NoMemory),
+    }
+}
+
 /// The codes of a default of this kind; a fault is StaticError, Length, Index or TooWide.
 fn given(
     alloc: Global,
@@ -150,13 +161,12 @@ fn given(
     value: &Fixed,
     at: usize,
 ) -> Result<SmallVec<u8, 8>, ElabFault>
-    requires { IsSmall (fixed_view value.now) }
     ensures { Expands (λ v. v.items) (definition.given_starts (site_view site.now) (kind_view kind) (fixed_view value.now)) result }
 {
     match kind {
         Kind::One | Kind::Vector(_) => fixed(alloc, site, kind.size(), value, at),
         Kind::Enumeration(_) => match value {
-            Fixed::Position(position) => Ok(filled(alloc, 1, *position as u8)?),
+            Fixed::Position(position) => literal_start(alloc, *position),
             Fixed::Literal(_) | Fixed::Constant(_) | Fixed::Encoded(_, _) | Fixed::Filled(_) =>
                 fixed(alloc, site, 1, value, at),
         },
@@ -164,7 +174,7 @@ fn given(
 }
 
 /// What the elements of a variable, port or signal of this kind start with: U or an enumeration's first literal without a
-/// default; a fault is StaticError, Length, Index or TooWide. The position of a literal has to be one of 256.
+/// default; a fault is StaticError, Length, Index or TooWide.
 #[tactic(auto, unfolding(vhdl_expand::specs::Declarations::starts))]
 pub fn starts(
     alloc: Global,
@@ -173,7 +183,6 @@ pub fn starts(
     default: &Option<Fixed>,
     at: usize,
 ) -> Result<SmallVec<u8, 8>, ElabFault>
-    requires { HasSmall (option_map fixed_view default.now) }
     ensures { Expands (λ v. v.items) (definition.starts (site_view site.now) (kind_view kind) (option_map fixed_view default.now)) result }
 {
     match default {

@@ -1,21 +1,17 @@
--- Statements, in which nets stand from the first, and places for the elements that are driven: in the order in which the code
--- comes to their parts.
+-- Statements whose parts stand in lists, as the code comes to them.
 use Rattle.std.specs.Prelude.{ℕ, ℤ, pos, ◌+ℤ◌, ◌-ℤ◌, List, [], ◌∷◌, Ok}
 use Rattle.vhdl_tree.specs.declared.operator.Direction.{Direction}
 use Rattle.vhdl_tree.specs.declared.operator.Direction.TheVariants.{To, Downto}
 use Rattle.vhdl_names.specs.units.Expressions.{Range, Value}
 use Rattle.vhdl_names.specs.units.Statements as u
-use Rattle.vhdl_names.specs.units.Statements.{Choice}
 use Rattle.rtl_model.specs.bodies.Body as b
 use Rattle.rtl_model.specs.bodies.Fits.{value_width}
 use Rattle.vhdl_units.specs.views.Sequential.{Guarded, Chosen, statements_of}
 use Rattle.vhdl_expand.specs.Elab.{Elab, ◌>>=◌, each}
 use Rattle.vhdl_expand.specs.Integers.{turns}
 use Rattle.vhdl_expand.specs.Site.{Site, in_loop}
-use Rattle.vhdl_expand.specs.Statements.{choice, joined, one}
-use Rattle.vhdl_expansion.specs.steps.Values.{value}
-use Rattle.vhdl_expansion.specs.steps.Tests.{condition}
-use Rattle.vhdl_expansion.specs.steps.Assignments.{assign, set}
+use Rattle.vhdl_expand.specs.Expressions.{value, test}
+use Rattle.vhdl_expand.specs.Statements.{choice, joined, statements, branches}
 
 -- what stands behind statements that are made already
 abbrev pub after : b.Stmts → Elab b.Stmts → Elab b.Stmts
@@ -45,90 +41,38 @@ abbrev pub parameter : Direction → (first : ℤ) → (turn : ℕ) → ℤ
 parameter To x k = x +ℤ pos k
 parameter Downto x k = x -ℤ pos k
 
-module _ (nets drives : List ℕ) where
-  unfoldable mutual
-    pub statement : Site → u.Statement → Elab b.Stmts
-    statement at u.nothing = Ok (one b.nothing)
-    statement at (u.assign p g) = do
-      s ← assign nets drives at p g
-      Ok (one s)
-    statement at (u.set k part g) = do
-      s ← set nets drives at k part g
-      Ok (one s)
-    statement at (u.choose bs) = do
-      cs ← branches at bs
-      Ok (one (b.if_of cs))
-    statement at (u.select v alts) = do
-      e ← value nets at v
-      cs ← alternatives at (value_width e) alts
-      Ok (one (b.case_of e cs))
-    statement at (u.loop r body) = do
-      is ← turns at.integers r
-      ss ← each (λ i. statements (in_loop at i) body) is
-      Ok (joined ss)
+abbrev pub branch : Site → Guarded → Elab Branch
+branch at g = do
+  c ← test at g.condition
+  x ← statements at (statements_of g.statements)
+  Ok (record { test = c; statements = x })
 
-    pub statements : Site → u.Statements → Elab b.Stmts
-    statements at u.done = Ok b.done
-    statements at (u.step s rest) = do
-      x ← statement at s
-      y ← statements at rest
-      Ok (b.followed_by x y)
+abbrev pub conditional : Site → List Guarded → u.Branches → Elab b.Stmt
+conditional at gs last = do
+  bs ← each (branch at) gs
+  y ← branches at last
+  Ok (b.if_of (branches_before y bs))
 
-    pub branches : Site → u.Branches → Elab b.Branches
-    branches at u.no_else = Ok b.no_else
-    branches at (u.otherwise s) = do
-      x ← statements at s
-      Ok (b.otherwise x)
-    branches at (u.branch t s bs) = do
-      c ← condition nets at t
-      x ← statements at s
-      y ← branches at bs
-      Ok (b.branch c x y)
+abbrev pub alternative : Site → (len : ℕ) → Chosen → Elab Alternative
+alternative at len g = do
+  cs ← each (choice len) g.choices
+  x ← statements at (statements_of g.statements)
+  Ok (record { choices = cs; statements = x })
 
-    pub alternatives : Site → (len : ℕ) → u.Alternatives → Elab b.Alternatives
-    alternatives at len (u.others s) = do
-      x ← statements at s
-      Ok (b.others x)
-    alternatives at len (u.alternative choices s alts) = do
-      cs ← each (choice len) choices
-      x ← statements at s
-      y ← alternatives at len alts
-      Ok (b.alternative cs x y)
+abbrev pub selection : Site → Value → List Chosen → u.Statements → Elab b.Stmt
+selection at v gs last = do
+  e ← value at v
+  bs ← each (alternative at (value_width e)) gs
+  y ← statements at last
+  Ok (b.case_of e (alternatives_before y bs))
 
-  -- ---- the same of lists
+-- the turns of a loop whose parameter has these values
+abbrev pub repeated : Site → u.Statements → List ℤ → Elab b.Stmts
+repeated at body is = do
+  ss ← each (λ i. statements (in_loop at i) body) is
+  Ok (joined ss)
 
-  abbrev pub branch : Site → Guarded → Elab Branch
-  branch at g = do
-    c ← condition nets at g.condition
-    x ← statements at (statements_of g.statements)
-    Ok (record { test = c; statements = x })
-
-  abbrev pub conditional : Site → List Guarded → u.Branches → Elab b.Stmt
-  conditional at gs last = do
-    bs ← each (branch at) gs
-    y ← branches at last
-    Ok (b.if_of (branches_before y bs))
-
-  abbrev pub alternative : Site → (len : ℕ) → Chosen → Elab Alternative
-  alternative at len g = do
-    cs ← each (choice len) g.choices
-    x ← statements at (statements_of g.statements)
-    Ok (record { choices = cs; statements = x })
-
-  abbrev pub selection : Site → Value → List Chosen → u.Statements → Elab b.Stmt
-  selection at v gs last = do
-    e ← value nets at v
-    bs ← each (alternative at (value_width e)) gs
-    y ← statements at last
-    Ok (b.case_of e (alternatives_before y bs))
-
-  -- the turns of a loop whose parameter has these values
-  abbrev pub repeated : Site → u.Statements → List ℤ → Elab b.Stmts
-  repeated at body is = do
-    ss ← each (λ i. statements (in_loop at i) body) is
-    Ok (joined ss)
-
-  abbrev pub turned : Site → Range → u.Statements → Elab b.Stmts
-  turned at r body = do
-    is ← turns at.integers r
-    repeated at body is
+abbrev pub turned : Site → Range → u.Statements → Elab b.Stmts
+turned at r body = do
+  is ← turns at.integers r
+  repeated at body is

@@ -1,18 +1,15 @@
--- Tests, in which nets stand from the first.
-use Rattle.std.specs.Prelude.{ℕ, Bool, true, false, List, [], ◌∷◌, Option, Some, None, Ok}
+-- Parts of conditions, as the code comes to them.
+use Rattle.std.specs.Prelude.{Bool, true, false, List, [], ◌∷◌, Option, Some, None, Ok}
 use Rattle.vhdl_values.specs.declared.scalar.Nine.{Nine}
 use Rattle.vhdl_names.specs.declared.test.TestLink.{TestLink}
 use Rattle.vhdl_names.specs.declared.test.TestStart.{TestStart}
 use Rattle.vhdl_names.specs.views.Tests.{test_view}
 use Rattle.vhdl_names.specs.units.Expressions as u
-use Rattle.vhdl_names.specs.units.Expressions.{Place, Vector, Value, Test}
+use Rattle.vhdl_names.specs.units.Expressions.{Place, Vector, Value}
 use Rattle.rtl_model.specs.bodies.Body as b
 use Rattle.vhdl_expand.specs.Elab.{Elab, ◌>>=◌}
-use Rattle.vhdl_expand.specs.Integers.{natural, decision}
 use Rattle.vhdl_expand.specs.Site.{Site, place_elements}
-use Rattle.vhdl_expand.specs.Expressions.{levelled, turned, edge_test}
-use Rattle.vhdl_expansion.specs.steps.Vectors.{vector, nets_of}
-use Rattle.vhdl_expansion.specs.steps.Values.{value, net}
+use Rattle.vhdl_expand.specs.Expressions.{levelled, value, test}
 
 -- a character literal, and whether it stands with no parentheses
 pub record Character : Type 0 where
@@ -37,16 +34,16 @@ abbrev pub character_of : Value → Option Character
 character_of (u.Value.elements x) = character_in x
 character_of _ = None
 
-module _ (nets : List ℕ) (at : Site) where
+module _ (at : Site) where
   abbrev pub level : (plain : Bool) → Place → Nine → Elab b.Test
   level plain p x = do
     es ← place_elements at p
-    Ok (levelled plain (nets_of nets at es) x)
+    Ok (levelled plain es x)
 
   abbrev pub equal : Value → Value → Elab b.Test
   equal v w = do
-    d ← value nets at v
-    e ← value nets at w
+    d ← value at v
+    e ← value at w
     Ok (b.equal d e)
 
   -- a name and a character literal, in either order, or any other values
@@ -60,51 +57,10 @@ module _ (nets : List ℕ) (at : Site) where
       by None _ (Some c) None = equal v w
       by None _ None _ = equal v w
 
-  abbrev pub unlike : Value → Value → Elab b.Test
-  unlike v w = do
-    d ← value nets at v
-    e ← value nets at w
-    Ok (b.unequal d e)
-
-  unfoldable pub condition : Test → Elab b.Test
-  condition (u.holds x) = do
-    e ← vector nets at x
-    Ok (b.condition e)
-  condition (u.Test.fixed t) = do
-    c ← decision at.integers t
-    Ok (b.decided c)
-  condition (u.alike v w) = alike v w
-  condition (u.unlike v w) = unlike v w
-  condition (u.Test.compared op x y) = do
-    d ← vector nets at x
-    e ← vector nets at y
-    Ok (b.compared op d e)
-  condition (u.compared_to op x s) = do
-    e ← vector nets at x
-    n ← natural at.integers s
-    Ok (b.compared_to op e n)
-  condition (u.compared_with op s x) = do
-    n ← natural at.integers s
-    e ← vector nets at x
-    Ok (b.compared_to (turned op) e n)
-  condition (u.edge kind p) = do
-    e ← net nets at p.signal p.part
-    Ok (edge_test kind e)
-  condition (u.event p) = do
-    e ← net nets at p.signal p.part
-    Ok (b.event e)
-  condition (u.Test.negated t) = do
-    c ← condition t
-    Ok (b.negated c)
-  condition (u.Test.both op t r) = do
-    c ← condition t
-    d ← condition r
-    Ok (b.combined op c d)
-
   -- a logical operator with its right operand, after a condition
   abbrev pub linked : b.Test → TestLink → Elab b.Test
   linked c l = do
-    d ← condition (test_view l.operand)
+    d ← test at (test_view l.operand)
     Ok (b.combined l.operator c d)
 
   abbrev pub all_linked : b.Test → List TestLink → Elab b.Test
@@ -115,5 +71,5 @@ module _ (nets : List ℕ) (at : Site) where
 
   abbrev pub started : TestStart → Elab b.Test
   started s = do
-    c ← condition (test_view s.first)
+    c ← test at (test_view s.first)
     linked c s.link

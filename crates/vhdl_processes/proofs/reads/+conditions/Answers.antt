@@ -1,4 +1,4 @@
-use Rattle.vhdl_processes.proofs.NetReads.{combined_adds}
+use Rattle.vhdl_processes.proofs.BodyReads.{combined_adds}
 use Rattle.vhdl_processes.proofs.reads.+conditions.Goals as goal
 
 pub of_condition-returns-in_ok-of_condition-in-Combined : goal.of_condition-returns-in_ok-of_condition-in-Combined

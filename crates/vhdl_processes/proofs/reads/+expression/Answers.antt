@@ -1,4 +1,4 @@
-use Rattle.vhdl_processes.proofs.NetReads.{chain_adds}
+use Rattle.vhdl_processes.proofs.BodyReads.{chain_adds}
 use Rattle.vhdl_processes.proofs.reads.+expression.Goals as goal
 
 pub of_expr-returns-in_ok-of_expr-in-Chain : goal.of_expr-returns-in_ok-of_expr-in-Chain

@@ -1,4 +1,4 @@
-use Rattle.vhdl_processes.proofs.NetReads.{if_adds, if_alone, case_adds}
+use Rattle.vhdl_processes.proofs.BodyReads.{if_adds, if_alone, case_adds}
 use Rattle.vhdl_processes.proofs.reads.+reading.Goals as goal
 
 pub of_statement-returns-in_ok-of_alternatives-in-Case : goal.of_statement-returns-in_ok-of_alternatives-in-Case

@@ -1,9 +1,9 @@
 use Rattle.std.proofs.Common.{◌≡◌, ◌++◌, drop}
 use Rattle.std.specs.Prelude.{flat_map}
-use Rattle.vhdl_processes.specs.ReadNets.{statement_reads, branch_reads, alternative_reads}
+use Rattle.vhdl_processes.specs.Reads.{statement_reads, branch_reads, alternative_reads}
 use Rattle.vhdl_processes.proofs.reads.+reading.Given as goal
 
--- the nets so far, and those that are left
+-- those so far, and those that are left
 abbrev pub invariant-of_body-loop-item : goal.invariant-of_body-loop-item
 invariant-of_body-loop-item l =
     l.fn.found.items ++ flat_map statement_reads l.list ≡ l.found.items ++ flat_map statement_reads (drop l.item-index l.list)

@@ -8,5 +8,5 @@ use Rattle.vhdl_expansion.proofs.site.Site.+condition.Given as goal
 -- the operators that are left, on the condition so far, give the whole
 abbrev pub invariant-continued_test-loop-link : goal.invariant-continued_test-loop-link
 invariant-continued_test-loop-link l =
-    steps.all_linked l.self.nets.now (site_view l.self) (chain_view l.fn.chain) l.links
-    ≡ steps.all_linked l.self.nets.now (site_view l.self) (test_links_of (test_view l.first) l.rest.items) (drop l.link-index l.links)
+    steps.all_linked (site_view l.self) (chain_view l.fn.chain) l.links
+    ≡ steps.all_linked (site_view l.self) (test_links_of (test_view l.first) l.rest.items) (drop l.link-index l.links)

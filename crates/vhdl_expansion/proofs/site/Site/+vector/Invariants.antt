@@ -8,4 +8,4 @@ use Rattle.vhdl_expansion.proofs.site.Site.+vector.Given as goal
 -- the operators that are left, on the expression so far, give the whole
 abbrev pub invariant-continued-loop-link : goal.invariant-continued-loop-link
 invariant-continued-loop-link l =
-    SoFar l.self.nets.now (site_view l.self) (chain_view l.fn.chain) (expr_view l.first) l.links (drop l.link-index l.links) l.rest.items l.width.len
+    SoFar (site_view l.self) (chain_view l.fn.chain) (expr_view l.first) l.links (drop l.link-index l.links) l.rest.items l.width.len

@@ -13,12 +13,12 @@ use Rattle.vhdl_expansion.proofs.site.Site.assign.Goals as goal
 
 pub returns : goal.returns
 returns c =
-    assign_gives c.args.self.now.nets.now c.args.self.now.drives.now (site_view c.args.self.now) (place_view c.args.target.now) (given_view c.args.value.now)
+    assign_gives (site_view c.args.self.now) (place_view c.args.target.now) (given_view c.args.value.now)
     c.in_ok-run.run'.first c.in_ok-run.run'.len (value_view c.in_ok-value.value) (numbers c.in_ok-places.places) c.in_ok-run.ensures.given c.in_ok-value.ensures c.in_ok-places.ensures
 
 pub returns-in_err-value : goal.returns-in_err-value
 returns-in_err-value c =
-    let stopped : c.in_err-value.field-0.0 ≢ NoMemory → IsErr (steps.assign c.args.self.now.nets.now c.args.self.now.drives.now (site_view c.args.self.now) (place_view c.args.target.now) (given_view c.args.value.now)) =
-    λ n. assign_stops c.args.self.now.nets.now c.args.self.now.drives.now (site_view c.args.self.now) (place_view c.args.target.now) (given_view c.args.value.now)
+    let stopped : c.in_err-value.field-0.0 ≢ NoMemory → IsErr (steps.assign (site_view c.args.self.now) (place_view c.args.target.now) (given_view c.args.value.now)) =
+    λ n. assign_stops (site_view c.args.self.now) (place_view c.args.target.now) (given_view c.args.value.now)
     c.in_ok-run.run'.first c.in_ok-run.run'.len c.in_ok-run.ensures.given (c.in_err-value.ensures n) in
     first_of (search rules, grind (arith, common_steps))

@@ -6,5 +6,5 @@ use Rattle.vhdl_expansion.proofs.site.Site.level.Goals as goal
 
 pub returns : goal.returns
 returns c =
-    level_given c.args.self.now.nets.now (site_view c.args.self.now) c.args.plain (place_view c.args.place.now) c.args.value c.in_ok-run.run'.first c.in_ok-run.run'.len
-    (numbers c.in_ok-nets.nets) c.fill.result c.in_ok-run.ensures.given c.in_ok-run.ensures.short.0.0 c.if-run-eq1.false c.in_ok-nets.ensures c.fill.ensures.list
+    level_given (site_view c.args.self.now) c.args.plain (place_view c.args.place.now) c.args.value c.in_ok-run.run'.first c.in_ok-run.run'.len
+    (numbers c.in_ok-elements.elements) c.fill.result c.in_ok-run.ensures.given c.in_ok-run.ensures.short.0.0 c.if-run-eq1.false c.in_ok-elements.ensures c.fill.ensures.list

@@ -1,4 +1,4 @@
--- The nets that a body reads are those of its parts, one after another.
+-- What a body reads is what its parts read, one after another.
 use Rattle.std.proofs.Common.{◌≡◌, ℕ, List, [], ◌∷◌, ◌++◌, Option, Some, None, Vec, Box, Global, Result, Contains, refl, sym, ap, ◌∙◌}
 use Rattle.std.specs.Prelude.{◌↔◌, flat_map, option_map, OnOk}
 use Rattle.std.proofs.lemmas.List.{append_assoc, append-nil}
@@ -19,7 +19,7 @@ use Rattle.rtl_net.specs.declared.body.Branch.{Branch}
 use Rattle.rtl_net.specs.declared.body.Alternative.{Alternative}
 use Rattle.rtl_net.specs.Bodies.{operator_view, expr_view, links_of, value_view, test_view, test_links_of, statements_of, branches_of, otherwise_of, alternatives_of}
 use Rattle.rtl_net.proofs.Rows.{view_chain, view_combined, view_if, view_case}
-use Rattle.vhdl_processes.specs.ReadNets.{link_reads, test_link_reads, statement_reads, branch_reads, last_reads, alternative_reads}
+use Rattle.vhdl_processes.specs.Reads.{link_reads, test_link_reads, statement_reads, branch_reads, last_reads, alternative_reads}
 use Rattle.vhdl_processes.proofs.Walks.{adds_both}
 
 abbrev option_items : Option (Vec Statement Global) → Option (List Statement)

@@ -1,9 +1,9 @@
 use Rattle.std.proofs.Common.{ap, sym, ◌∙◌, ◌++◌}
 use Rattle.std.specs.Prelude.{flat_map}
-use Rattle.vhdl_processes.specs.ReadNets.{statement_reads}
+use Rattle.vhdl_processes.specs.Reads.{statement_reads}
 use Rattle.rtl_facts.specs.Reading.{is_in}
-use Rattle.vhdl_processes.proofs.NetReads.{each_read, same_contained}
-use Rattle.vhdl_processes.proofs.reads.nets_read.Goals as goal
+use Rattle.vhdl_processes.proofs.BodyReads.{each_read, same_contained}
+use Rattle.vhdl_processes.proofs.reads.read_of.Goals as goal
 
 pub returns-clause-all : goal.returns-clause-all
 returns-clause-all c =

@@ -1,4 +1,4 @@
--- The nets that parts of bodies read, where the parts stand in lists.
+-- What parts of bodies read, by nets or by elements, where the parts stand in lists.
 use Rattle.std.specs.Prelude.{ℕ, List, [], ◌++◌, flat_map, Option, Some, None, Vec}
 use Rattle.std.specs.Global.{Global}
 use Rattle.rtl_model.specs.bodies.Reads as definition
