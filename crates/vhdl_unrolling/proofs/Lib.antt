@@ -1,0 +1,7 @@
+pub mod Paying
+pub mod Sums
+pub mod Placing
+pub mod Widths
+pub mod Declaring
+pub mod Measured
+pub mod Made

@@ -1,0 +1,4 @@
+pub mod Unrolled
+pub mod Processes
+pub mod Variables
+pub mod Laws
