@@ -1,0 +1,11 @@
+pub mod Placing
+pub mod Walks
+pub mod Names
+pub mod Given
+pub mod Widths
+pub mod Stepping
+pub mod Growing
+pub mod ObjectSteps
+pub mod ConstantSteps
+pub mod Associating
+pub mod OwnNets
