@@ -1,0 +1,6 @@
+pub mod Making
+pub mod Statements
+pub mod Generates
+pub mod Nested
+pub mod Weights
+pub mod Heavier

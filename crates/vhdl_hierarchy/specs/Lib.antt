@@ -1,0 +1,5 @@
+pub mod Limits
+pub mod Making
+pub mod Spots
+pub mod Walks
+pub mod Turns
