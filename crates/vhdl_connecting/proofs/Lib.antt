@@ -1,0 +1,5 @@
+pub mod Runs
+mod Lists
+mod Searched
+mod Parts
+pub mod Reading

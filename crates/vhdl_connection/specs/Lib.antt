@@ -1,0 +1,5 @@
+pub mod Uses
+pub mod Woken
+pub mod Located
+pub mod Held
+pub mod Laws
