@@ -1,0 +1,4 @@
+pub mod Shown
+pub mod Nets
+pub mod Names
+pub mod Prefixes
