@@ -103,6 +103,14 @@ impl<'a, E: Exec> Kernel<'a, E> {
         self.values.now()[net]
     }
 
+    /// The values of all nets now, as codes, by the nets' numbers.
+    pub fn values(&self) -> &[u8]
+        ensures value { result.now ≡ self.now.state.now }
+        ensures as_many { length result.now ≡ length self.now.net.types }
+    {
+        self.values.now()
+    }
+
     /// Whether no driver is active.
     pub fn is_quiet(&self) -> bool
         ensures { result ≡ is_quiet self.entry.now.state }

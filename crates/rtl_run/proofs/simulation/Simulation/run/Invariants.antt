@@ -1,0 +1,28 @@
+use Rattle.std.proofs.Common.{◌≡◌, ℕ, suc, ◌<◌, ◌-◌, length, IsTrue}
+use Rattle.std.specs.Prelude.{slice_index}
+use Rattle.rtl_model.specs.simulation.Cycle.{is_quiet}
+use Rattle.rtl_model.specs.simulation.Moments.{HasNoneToRun}
+use Rattle.rtl_stim.specs.Filling.{Waits}
+use Rattle.rtl_moments.specs.Stimuli.{moments}
+use Rattle.rtl_run.specs.Running.{HasCome, HasSettledIn}
+use Rattle.rtl_run.proofs.simulation.Simulation.run.Given as goal
+
+-- the last moment so far, m, has settled, and what comes after it waits
+abbrev pub invariant-loop-time : goal.invariant-loop-time
+invariant-loop-time g l = record {
+  net : l.kernel.net ≡ l.self.net.now;
+  ready : HasNoneToRun l.kernel.state;
+  quiet : IsTrue (is_quiet l.kernel.state);
+  as_many : length l.progress.values.items ≡ length l.self.net.now.types;
+  values : l.progress.values.items ≡ l.kernel.state.now;
+  come : HasCome l.self.net.now l.self.stimulus.now l.self.limit (g.W.Sink.state l.fn.out) (g.W.Sink.state l.out) l.progress;
+  m : ℕ;
+  is_last : suc m ≡ l.progress.summary.moments;
+  there : m < length (moments l.self.stimulus.now);
+  at : slice_index (moments l.self.stimulus.now) m ≡ l.progress.now;
+  settled : HasSettledIn l.self.net.now l.self.stimulus.now l.self.limit m l.kernel.state;
+  waits : Waits l.self.stimulus.now.inputs l.self.stimulus.now.schedule l.progress.now (g.A.Agenda.state l.agenda).waiting;
+}
+
+abbrev pub decreases-loop-time : goal.decreases-loop-time
+decreases-loop-time g l = l.self.stimulus.now.schedule.stop - l.progress.now

@@ -1,0 +1,4 @@
+pub mod Simulated
+pub mod Traced
+pub mod Answered
+pub mod Running

@@ -1,0 +1,152 @@
+//! Simulations.
+
+ghost use Rattle.std.specs.Prelude.{◌≡◌, ℕ, ◌+◌, ◌<◌, ◌≤◌, [], length, slice_index, Contains, None, MatchResult, IfOk, OnOk};
+ghost use Rattle.rtl_model.specs.simulation.Cycle.{is_quiet};
+ghost use Rattle.rtl_model.specs.simulation.Moments.{Begun, HasNoneToRun, HasRun, IsUnsettled, SettlesTo};
+ghost use Rattle.rtl_net.specs.Nets.{flat};
+ghost use Rattle.rtl_sink.specs.Written.{SinkState, IsIntact};
+ghost use Rattle.rtl_vcd.specs.Header.{header_text};
+ghost use Rattle.rtl_kernel.specs.kernel.Kept.{RunBodies};
+ghost use Rattle.rtl_moments.specs.Ports.{HasOwnPorts, inputs_of};
+ghost use Rattle.rtl_moments.specs.Stimuli.{inputs_at, moments};
+ghost use Rattle.rtl_run.specs.declared.summary.RunFault.TheVariants.{NoSettling};
+ghost use Rattle.rtl_run.specs.Answered.{Answers};
+ghost use Rattle.rtl_run.specs.Running.{HasBegun, Begins, HasCome, IsNext, GoesOn};
+ghost use Rattle.rtl_run.specs.Simulated.{core};
+
+use crate::progress::Progress;
+use crate::summary::{RunFault, Summary};
+use rtl_eval::Exec;
+use rtl_kernel::{Kernel, Pick};
+use rtl_moments::{Agenda, Stimulus};
+use rtl_net::Net;
+use rtl_sink::Sink;
+use rtl_vcd::{end, first, header, moment};
+use std::alloc::Global;
+
+/// What is simulated: a net, whose k-th process the k-th body runs, under a stimulus, with so many delta cycles at most in each
+/// moment.
+pub struct Simulation<'a, E: Exec> {
+    pub net: &'a Net,
+    pub bodies: &'a [E],
+    pub stimulus: &'a Stimulus,
+    pub limit: u32,
+}
+
+impl<E: Exec> Simulation<'_, E> {
+    /// Simulates from 0 to the stimulus's stop, and writes the trace. The agenda is new: nothing waits in it.
+    ///
+    /// It takes the kernel's memory, the agenda's, and a byte for each net.
+    ///
+    /// # Errors
+    ///
+    /// `NoSettling` with the first moment that doesn't settle within the limit: the trace of those before it went out. `Memory`
+    /// and `Output` leave a beginning of the trace.
+    pub fn run<A: Agenda, P: Pick, W: Sink>(
+        &self,
+        alloc: Global,
+        agenda: &mut A,
+        pick: &mut P,
+        out: &mut W,
+    ) -> Result<Summary, RunFault>
+        requires bodies { RunBodies E.process E.types (flat self.now.net.now) self.now.bodies.now }
+        requires ports { HasOwnPorts self.now.net.now }
+        requires inputs { self.now.stimulus.now.inputs ≡ inputs_of self.now.net.now }
+        requires stop { self.now.stimulus.now.schedule.stop < 18446744073709551615 }
+        requires waiting { (A.state agenda.old).waiting ≡ [] }
+        requires last { (A.state agenda.old).last ≡ None }
+        requires intact { IsIntact (W.state out.old) }
+        ensures { Answers self.now.net.now self.now.stimulus.now self.now.limit (W.state out.old) (W.state out.new) result }
+    {
+        let _count = self.net.nets();
+        let stop = self.stimulus.stop();
+        let mut kernel = Kernel::new(alloc, self.net, self.bodies, self.stimulus.initial())?;
+        self.stimulus.load(agenda)?;
+        header(self.net, out)?;
+        kernel.start(pick);
+        let mut progress = self.begin(alloc, &mut kernel, pick, out)?;
+        while let Some(time) = agenda.next() {
+            kernel.apply(agenda.changes(), pick);
+            self.stimulus.refill(time, agenda)?;
+            self.go_on(time, &mut kernel, &mut progress, pick, out)?;
+        }
+        end(progress.printed, stop, out)?;
+        Ok(progress.summary)
+    }
+
+    /// Lets the first moment settle, and writes the values at 0.
+    fn begin<P: Pick, W: Sink>(
+        &self,
+        alloc: Global,
+        kernel: &mut Kernel<'_, E>,
+        pick: &mut P,
+        out: &mut W,
+    ) -> Result<Progress, RunFault>
+        requires net { kernel.old.net ≡ self.now.net.now }
+        requires ready { HasNoneToRun kernel.old.state }
+        requires intact { IsIntact (W.state out.old) }
+        ensures net { kernel.new.net ≡ kernel.old.net }
+        ensures ready { HasNoneToRun kernel.new.state }
+        ensures begins { (start : SinkState) → HasBegun self.now.net.now self.now.stimulus.now self.now.limit start (W.state out.old) kernel.old.state
+            → Begins self.now.net.now self.now.stimulus.now self.now.limit start (W.state out.new) kernel.new.state result }
+    {
+        let deltas = settle(kernel, self.limit, 0, pick)?;
+        first(self.net, kernel.values(), out)?;
+        Ok(Progress {
+            now: 0,
+            values: Vec::from_slice(alloc, kernel.values())?,
+            printed: 0,
+            summary: Summary {
+                moments: 1,
+                most_deltas: deltas,
+            },
+        })
+    }
+
+    /// Lets the moment at this time settle, and writes what changes.
+    fn go_on<P: Pick, W: Sink>(
+        &self,
+        time: u64,
+        kernel: &mut Kernel<'_, E>,
+        progress: &mut Progress,
+        pick: &mut P,
+        out: &mut W,
+    ) -> Result<(), RunFault>
+        requires net { kernel.old.net ≡ self.now.net.now }
+        requires ready { HasNoneToRun kernel.old.state }
+        requires intact { IsIntact (W.state out.old) }
+        requires as_many { length progress.old.values.items ≡ length self.now.net.now.types }
+        requires room { progress.old.summary.moments < 18446744073709551615 }
+        ensures net { kernel.new.net ≡ kernel.old.net }
+        ensures ready { HasNoneToRun kernel.new.state }
+        ensures as_many { length progress.new.values.items ≡ length self.now.net.now.types }
+        ensures goes_on { (start : SinkState) → HasCome self.now.net.now self.now.stimulus.now self.now.limit start (W.state out.old) progress.old
+            → IsNext self.now.net.now self.now.stimulus.now self.now.limit progress.old time kernel.old.state
+            → GoesOn self.now.net.now self.now.stimulus.now self.now.limit start (W.state out.new) progress.old time progress.new kernel.new.state result }
+    {
+        let deltas = settle(kernel, self.limit, time, pick)?;
+        let is_printed = moment(self.net, time, &progress.values, kernel.values(), out)?;
+        progress.add(time, kernel.values(), deltas, is_printed);
+        Ok(())
+    }
+}
+
+/// Delta cycles until no driver is active, at most so many; it is the moment at this time.
+fn settle<E: Exec, P: Pick>(
+    kernel: &mut Kernel<'_, E>,
+    limit: u32,
+    time: u64,
+    pick: &mut P,
+) -> Result<u32, RunFault>
+    requires ready { HasNoneToRun kernel.old.state }
+    ensures net { kernel.new.net ≡ kernel.old.net }
+    ensures ready { HasNoneToRun kernel.new.state }
+    ensures settled { MatchResult result
+        (λ deltas. SettlesTo (core kernel.old.net) kernel.old.state deltas kernel.new.state × (deltas ≤ limit))
+        (λ fault. (fault ≡ NoSettling time) × IsUnsettled (core kernel.old.net) kernel.old.state limit kernel.new.state) }
+{
+    match kernel.settle(limit, pick) {
+        Ok(deltas) => Ok(deltas),
+        Err(_) => Err(RunFault::NoSettling { time }),
+    }
+}

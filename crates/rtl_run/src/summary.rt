@@ -1,0 +1,47 @@
+//! What a simulation answers.
+
+ghost use Rattle.std.specs.Prelude.{◌≡◌};
+ghost use Rattle.rtl_run.specs.declared.summary.RunFault.TheVariants.{Memory, Output};
+
+use rtl_vcd::VcdFault;
+use std::alloc::AllocError;
+use thiserror::Error;
+
+/// What a simulation came to.
+#[derive(Clone, Copy, PartialEq, Eq, Debug)]
+pub struct Summary {
+    /// How many moments there were.
+    pub moments: u64,
+    /// The greatest number of delta cycles that a moment took.
+    pub most_deltas: u32,
+}
+
+/// Why a simulation did not come to its end.
+#[derive(Clone, Copy, PartialEq, Eq, Debug, Error)]
+pub enum RunFault {
+    /// A driver is still active after as many delta cycles as are allowed, at this time in ns.
+    #[error("no settling at {time} ns")]
+    NoSettling { time: u64 },
+    /// Memory was refused.
+    #[error("out of memory")]
+    Memory,
+    /// The output took less than the whole text.
+    #[error("the output failed")]
+    Output,
+}
+
+impl From<AllocError> for RunFault {
+    ghost from_gives = { λ _ fault. fault ≡ Memory };
+
+    fn from(_refused: AllocError) -> RunFault {
+        RunFault::Memory
+    }
+}
+
+impl From<VcdFault> for RunFault {
+    ghost from_gives = { λ _ fault. fault ≡ Output };
+
+    fn from(_failed: VcdFault) -> RunFault {
+        RunFault::Output
+    }
+}
