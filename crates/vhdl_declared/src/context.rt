@@ -113,9 +113,6 @@ fn libraries(before: Context, names: &[Identifier]) -> Result<Context, NameFault
 fn use_fault(before: Context, selected: &Selected) -> NameFault
     ensures { result ≢ NoMemory }
 {
-    if !is_library(&selected.library) {
-        return NameProblem::Undeclared.at(selected.library.at);
-    }
     if !is_ieee(&selected.library) {
         return NameProblem::LeftOut.at(selected.library.at);
     }
@@ -126,7 +123,7 @@ fn use_fault(before: Context, selected: &Selected) -> NameFault
 }
 
 /// The packages of a use clause: of library ieee, which a clause names before it, the two that are
-/// offered. Another library that no clause names is Undeclared, another package is left out.
+/// offered. Without that clause ieee is Undeclared; any other package is left out.
 fn uses(before: Context, all: &[Selected]) -> Result<Context, NameFault>
     ensures { Gives context_view (packages_used (context_view before) (map selected_view all.now)) result }
 {

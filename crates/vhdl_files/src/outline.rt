@@ -32,7 +32,7 @@ pub struct Outline<'a> {
     pub architectures: Architectures<'a>,
 }
 
-/// One more architecture, of an entity that none before it is of; else it is Twice.
+/// One more architecture, of an entity that none before it is of; else it is a SecondArchitecture.
 fn add_described<'a>(
     alloc: Global,
     architectures: &mut Architectures<'a>,
@@ -42,7 +42,7 @@ fn add_described<'a>(
 {
     let entity = &described.tree.entity;
     if architectures.contains_key(entity.text.as_slice()) {
-        return Err(NameProblem::Twice.at(entity.at));
+        return Err(NameProblem::SecondArchitecture.at(entity.at));
     }
     let key = Vec::from_slice(alloc, &entity.text)?;
     architectures.insert(key, described)?;

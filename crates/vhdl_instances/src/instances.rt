@@ -76,6 +76,14 @@ fn formals_at(entities: &Entities, number: usize) -> Option<&Formals>
     entities.formals.get(number)
 }
 
+/// The byte at which an architecture is named, or else the one at which its entity is.
+fn architecture_place(architecture: &Option<Identifier>, at: usize) -> usize {
+    match architecture {
+        Some(architecture) => architecture.at,
+        None => at,
+    }
+}
+
 /// The entity of a number, whose architecture may be named. The entity is named at byte `at`.
 #[tactic(auto, using(crate::proofs::Instancing::seen_at))]
 fn with_architecture(
@@ -92,7 +100,7 @@ fn with_architecture(
             if is_architecture(architecture, &formals.architecture) {
                 Ok(number)
             } else {
-                Err(NameProblem::WrongKind.at(at))
+                Err(NameProblem::WrongKind.at(architecture_place(architecture, at)))
             }
         }
     }

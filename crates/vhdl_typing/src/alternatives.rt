@@ -12,7 +12,7 @@ ghost use Rattle.vhdl_typing.specs.Chosen.{is_bare};
 ghost use Rattle.vhdl_units.specs.views.Answers.{choice_view, choices_view};
 
 use crate::expressions::start;
-use crate::literals::{literal_values, name_of};
+use crate::literals::{literal_problem, literal_values, name_of};
 use std::alloc::Global;
 use vhdl_names::{Kind, NameFault, NameProblem, ObjectType};
 use vhdl_tree::{Choice as TreeChoice, Expr, Name, Suffix};
@@ -109,7 +109,7 @@ fn literal_choice(alloc: Global, object_type: ObjectType, e: &Expr) -> Result<Ch
             let values = literal_values(alloc, kind, e)?;
             Ok(Choice::Values(values))
         }
-        ObjectType::Enumeration { .. } => Err(NameProblem::TypeMismatch.at(start(e))),
+        ObjectType::Enumeration { .. } => Err(literal_problem(e).at(start(e))),
     }
 }
 

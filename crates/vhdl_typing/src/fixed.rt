@@ -12,7 +12,7 @@ ghost use Rattle.vhdl_typing.specs.Fixing.{encoded_fixed, filled_with, suffixed_
 ghost use Rattle.vhdl_units.specs.views.Answers.{fixed_view};
 
 use crate::expressions::{start, typed_suffix};
-use crate::literals::{literal_values, name_of};
+use crate::literals::{literal_problem, literal_values, name_of};
 use std::alloc::Global;
 use vhdl_names::{Function, Kind, NameFault, NameProblem, ObjectType, nine_of};
 use vhdl_tree::{Expr, Name, Value as TreeValue};
@@ -144,7 +144,7 @@ fn literal_value(alloc: Global, object_type: ObjectType, e: &Expr) -> Result<Fix
             let values = literal_values(alloc, kind, e)?;
             Ok(Fixed::Literal(values))
         }
-        ObjectType::Enumeration { .. } => Err(NameProblem::TypeMismatch.at(start(e))),
+        ObjectType::Enumeration { .. } => Err(literal_problem(e).at(start(e))),
     }
 }
 

@@ -46,6 +46,17 @@ fn character_values(alloc: Global, kind: Kind, code: u8, at: usize) -> Result<Ve
     }
 }
 
+/// What is wrong with an expression, which is no name, as a value of an enumeration: a literal is of
+/// another type, and any other form is left out.
+pub(crate) fn literal_problem(e: &Expr) -> NameProblem {
+    match e {
+        Expr::Character { .. } | Expr::StringLiteral(_) | Expr::BitString(_) => {
+            NameProblem::TypeMismatch
+        }
+        _ => NameProblem::LeftOut,
+    }
+}
+
 /// The values of a literal as it stands: a character for one element, a string or a bit string for a
 /// vector. It takes the memory of a list.
 #[tactic(auto, using(crate::proofs::Choosing::literal_character, crate::proofs::Choosing::literal_string, crate::proofs::Choosing::literal_bits, crate::proofs::Choosing::no_literal, crate::proofs::Choosing::chain_is_no_literal))]
