@@ -62,7 +62,7 @@ fn tested_nets(alloc: Global, clocking: Clocking) -> Result<Vec<usize>, NoMemory
 }
 
 /// Whether a net that a clocked process reads is read by the branch under its edge, or is its reset.
-fn is_used(clocking: Clocking, net: usize) -> bool
+pub fn is_used(clocking: Clocking, net: usize) -> bool
     ensures { result ≡ is_data clocking net }
 {
     if net != clocking.clock {

@@ -23,8 +23,10 @@ mod rules;
 mod standing;
 mod variables;
 
+pub use breaking::is_used;
 pub use checking::{Verdict, check};
 pub use fault::CheckFault;
+pub use kinds::kind_at;
 pub use listed_clocks::are_clocks;
 pub use reported::is_report;
 pub use reporting::Report;

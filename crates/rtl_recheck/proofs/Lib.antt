@@ -1,0 +1,5 @@
+pub mod Listed
+pub mod OneSource
+pub mod Stored
+pub mod Clocks
+pub mod Keeping

@@ -1,0 +1,16 @@
+//! Whether a report stands: that a net is accepted, and that this is the report on it, without memory.
+//!
+//! The definitions are those of rtl_model's `simulation/Accepted` and `Report`; `specs/Kept.antt` says what is asked of each
+//! process.
+#![tactic(auto)]
+
+mod clocked;
+mod laws;
+mod paths;
+mod rechecking;
+mod rules;
+mod sources;
+mod variables;
+
+pub use laws::checked_reports_stand;
+pub use rechecking::recheck;

@@ -1,0 +1,34 @@
+//! Whether a report stands.
+
+ghost use Rattle.std.specs.Prelude.{◌↔◌, IsTrue};
+ghost use Rattle.rtl_model.specs.simulation.Accepted.{IsAccepted};
+ghost use Rattle.rtl_check.specs.Views.{core};
+ghost use Rattle.rtl_check.specs.Verdicts.{IsReportOf};
+
+use crate::rules::{all_keep, has_no_mixed};
+use crate::sources::have_one_source;
+use rtl_check::{Report, is_report};
+use rtl_model::simulation_laws;
+use rtl_net::Net;
+
+/// Whether a net is accepted and this is the report on it, in its levels, its froms, its clocks and its bound. It searches for
+/// no loop: levels and froms that agree process by process show that there is none.
+///
+/// It takes no memory. Its time is in proportion to the net, but for the product of clocks and processes, and in each process
+/// for the product of its body and the elements that it drives or declares as variables.
+pub fn recheck(net: &Net, report: &Report) -> bool
+    ensures { IsTrue result ↔ (IsAccepted (core net.now) × IsReportOf (core net.now) report.now) }
+{
+    simulation_laws::reports_are_shown();
+    simulation_laws::levels_are_shown();
+    if !has_no_mixed(net) {
+        return false;
+    }
+    if !is_report(net, report) {
+        return false;
+    }
+    if !have_one_source(net) {
+        return false;
+    }
+    all_keep(net, &report.clocks)
+}
