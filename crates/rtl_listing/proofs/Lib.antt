@@ -1,0 +1,3 @@
+pub mod Absent
+pub mod Greatest
+pub mod Printing

@@ -1,0 +1,4 @@
+-- The lines of a net and of a verdict. In order of reading:
+pub mod NetText
+pub mod CheckText
+pub mod Printing

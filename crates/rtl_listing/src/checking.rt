@@ -1,0 +1,49 @@
+//! The lines of a verdict.
+
+ghost use Rattle.rtl_sink.specs.Written.{IsIntact};
+ghost use Rattle.rtl_listing.specs.CheckText.{check_text};
+ghost use Rattle.rtl_listing.specs.Printing.{Prints, IsListed};
+
+use crate::fault::ListingFault;
+use crate::levels::push_report;
+use crate::rejection::push_rejection;
+use rtl_check::Verdict;
+use rtl_net::{Net, NoMemory};
+use rtl_sink::{Sink, finish};
+use std::alloc::Global;
+
+/// Writes the checker's verdict on a net: `yes` with the greatest level, the bound and the level of each combinational process,
+/// or `no` with a line for each fault. It takes the memory of a few names at a time. Where a verdict names what the net
+/// doesn't have, as one on another net may, nothing stands for the name.
+///
+/// # Errors
+///
+/// `Memory` where a name's memory was refused, and `Write` where the sink failed: what went out is a beginning of the text.
+pub fn show_check<W: Sink>(
+    alloc: Global,
+    net: &Net,
+    verdict: &Verdict,
+    out: &mut W,
+) -> Result<(), ListingFault>
+    requires intact { IsIntact (W.state out.old) }
+    ensures { IsListed result (W.state out.old) (W.state out.new) (check_text net.now verdict.now) }
+{
+    push_verdict(alloc, net, verdict, out)?;
+    finish(out)?;
+    Ok(())
+}
+
+/// The whole text.
+fn push_verdict<W: Sink>(
+    alloc: Global,
+    net: &Net,
+    verdict: &Verdict,
+    out: &mut W,
+) -> Result<(), NoMemory>
+    ensures { Prints result (W.state out.old) (W.state out.new) (check_text net.now verdict.now) }
+{
+    match verdict {
+        Verdict::Yes(report) => push_report(alloc, net, report, out),
+        Verdict::No(faults) => push_rejection(alloc, net, faults, out),
+    }
+}

@@ -1,0 +1,18 @@
+//! What is printed of a net and of the checker's verdict on it, in lines.
+//!
+//! `specs/NetText.antt` and `specs/CheckText.antt` define the lines, and `specs/Printing.antt` says what goes out of them where
+//! the sink fails or memory is refused.
+#![tactic(auto)]
+
+mod checking;
+mod fault;
+mod levels;
+mod names;
+mod nets;
+mod rejection;
+mod sources;
+
+pub use checking::show_check;
+pub use fault::ListingFault;
+pub use nets::show_net;
+pub use rtl_sink::{Out, Sink, WriteFailed};
