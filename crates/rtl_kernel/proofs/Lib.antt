@@ -4,6 +4,8 @@ pub mod Cycles
 pub mod Resolving
 pub mod Waking
 pub mod Ordering
+pub mod Places
+pub mod Picking
 pub mod Updating
 pub mod Active
 pub mod Indexing

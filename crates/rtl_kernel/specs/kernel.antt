@@ -1,2 +1,3 @@
 pub mod Simulation
+pub mod Picked
 pub mod Kept

@@ -3,11 +3,12 @@
 ghost use Rattle.std.specs.Prelude.{◌≡◌, ◌<◌, ◌≤◌, ℕ, List, All, length, slice_index, Contains, IfOk, MatchResult, IsTrue};
 ghost use Rattle.std.specs.List.{count_by};
 ghost use Rattle.rtl_model.specs.nets.CoreNet.{core_net};
-ghost use Rattle.rtl_model.specs.simulation.Cycle.{started, given, updated, ran, changed, is_quiet, IsToRun};
+ghost use Rattle.rtl_model.specs.simulation.Cycle.{started, given, updated, ran, changed, is_quiet};
 ghost use Rattle.rtl_model.specs.simulation.Moments.{HasNoneToRun, HasRun, Delta, SettlesTo, IsUnsettled};
 ghost use Rattle.rtl_net.specs.Nets.{flat};
 ghost use Rattle.rtl_kernel.specs.kernel.Simulation.{changes_of, initial_inputs};
 ghost use Rattle.rtl_kernel.specs.kernel.Kept.{RunBodies};
+ghost use Rattle.rtl_kernel.specs.kernel.Picked.{IsAt, HasRunAsPicked, HasDeltasAsPicked};
 
 use crate::drivers::Drivers;
 use crate::pick::Pick;
@@ -118,10 +119,11 @@ impl<'a, E: Exec> Kernel<'a, E> {
         self.drivers.is_quiet()
     }
 
-    /// Initialization: runs each process once (IEEE 1076-2008, 14.7.5.2).
+    /// Initialization: runs each process once (IEEE 1076-2008, 14.7.5.2), in the order that the picker answers.
     pub fn start<P: Pick>(&mut self, pick: &mut P)
         ensures net { self.new.net ≡ self.old.net }
         ensures ran { HasRun (core_net (flat self.old.net)) self.old.state self.new.state }
+        ensures picked { HasRunAsPicked P.picks (core_net (flat self.old.net)) pick.old pick.new self.old.state self.new.state }
     {
         self.run_all(pick);
     }
@@ -133,6 +135,7 @@ impl<'a, E: Exec> Kernel<'a, E> {
         requires quiet { IsTrue (is_quiet self.old.state) }
         ensures net { self.new.net ≡ self.old.net }
         ensures ran { HasRun (core_net (flat self.old.net)) (given (core_net (flat self.old.net)) (changed (changes_of changes.now) self.old.state.now) self.old.state) self.new.state }
+        ensures picked { HasRunAsPicked P.picks (core_net (flat self.old.net)) pick.old pick.new (given (core_net (flat self.old.net)) (changed (changes_of changes.now) self.old.state.now) self.old.state) self.new.state }
     {
         self.change(changes);
         self.run_all(pick);
@@ -144,6 +147,7 @@ impl<'a, E: Exec> Kernel<'a, E> {
         ensures net { self.new.net ≡ self.old.net }
         ensures delta { (order : List ℕ) × Delta (core_net (flat self.old.net)) order self.old.state self.new.state }
         ensures ready { HasNoneToRun self.new.state }
+        ensures picked { HasRunAsPicked P.picks (core_net (flat self.old.net)) pick.old pick.new (updated (core_net (flat self.old.net)) self.old.state) self.new.state }
     {
         self.update();
         self.run_all(pick);
@@ -158,6 +162,9 @@ impl<'a, E: Exec> Kernel<'a, E> {
         ensures settled { MatchResult result
             (λ deltas. SettlesTo (core_net (flat self.old.net)) self.old.state deltas self.new.state × (deltas ≤ limit))
             (λ _. IsUnsettled (core_net (flat self.old.net)) self.old.state limit self.new.state) }
+        ensures picked { MatchResult result
+            (λ deltas. HasDeltasAsPicked P.picks (core_net (flat self.old.net)) deltas pick.old pick.new self.old.state self.new.state)
+            (λ _. HasDeltasAsPicked P.picks (core_net (flat self.old.net)) limit pick.old pick.new self.old.state self.new.state) }
     {
         for deltas in 0..limit {
             if self.is_quiet() {
@@ -184,7 +191,7 @@ impl<'a, E: Exec> Kernel<'a, E> {
     fn run_one(&mut self, place: usize)
         requires { place < count_by (λ b. b) self.old.state.waiting }
         ensures net { self.new.net ≡ self.old.net }
-        ensures ran { (process : ℕ) × IsToRun self.old.state process × (self.new.state ≡ ran (core_net (flat self.old.net)) process self.old.state) }
+        ensures ran { (process : ℕ) × IsAt self.old.state.waiting place process × (self.new.state ≡ ran (core_net (flat self.old.net)) process self.old.state) }
     {
         let process = self.resumed.take(place);
         let bodies = self.bodies;
@@ -200,6 +207,7 @@ impl<'a, E: Exec> Kernel<'a, E> {
     fn run_all<P: Pick>(&mut self, pick: &mut P)
         ensures net { self.new.net ≡ self.old.net }
         ensures ran { HasRun (core_net (flat self.old.net)) self.old.state self.new.state }
+        ensures picked { HasRunAsPicked P.picks (core_net (flat self.old.net)) pick.old pick.new self.old.state self.new.state }
     {
         let mut left = self.to_run();
         while left > 0 {

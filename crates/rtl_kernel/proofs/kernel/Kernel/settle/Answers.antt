@@ -1,14 +1,17 @@
 use Rattle.std.proofs.Common.{◌≡◌, ℕ, List, sym, subst, ◌∙◌, arith, refl}
 use Rattle.rtl_net.specs.Nets.{NetView, flat}
 use Rattle.rtl_model.specs.nets.CoreNet.{core_net}
+use Rattle.rtl_model.specs.simulation.Cycle.{updated}
 use Rattle.rtl_model.specs.simulation.Moments.{Delta, IsUnsettled, SettlesTo}
+use Rattle.rtl_kernel.specs.kernel.Picked.{HasRunAsPicked, HasDeltasAsPicked}
+use Rattle.rtl_kernel.proofs.Picking as picking
 use Rattle.rtl_kernel.proofs.Settling.{no_delta, none_before, more_deltas, busy_still, settled_here, unsettled_here}
 use Rattle.rtl_kernel.proofs.kernel.Kernel.settle.Goals as goal
 
 pub loop-deltas-init : goal.loop-deltas-init
 loop-deltas-init g c =
     let net = core_net (flat c.args.self.now.net) in
-    record { net = refl; ready = c.requires.ready; deltas = no_delta net c.args.self.now.state; busy = none_before net c.args.self.now.state }
+    record { net = refl; ready = c.requires.ready; deltas = no_delta net c.args.self.now.state; picked = picking.no_delta g.P.Pick.picks net c.args.pick.now c.args.self.now.state; busy = none_before net c.args.self.now.state }
 
 pub loop-deltas-preserved : goal.loop-deltas-preserved
 loop-deltas-preserved g c =
@@ -22,6 +25,7 @@ loop-deltas-preserved g c =
       net = c.cycle.ensures.net ∙ I.net;
       ready = c.cycle.ensures.ready;
       deltas = more_deltas net s k t I.deltas I.busy c.cycle.new.self.state delta;
+      picked = picking.more_deltas g.P.Pick.picks net k c.args.pick.now c.loop-deltas.pick c.cycle.new.pick s t c.cycle.new.self.state I.picked (subst (λ (n : NetView). HasRunAsPicked g.P.Pick.picks (core_net (flat n)) c.loop-deltas.pick c.cycle.new.pick (updated (core_net (flat n)) t) c.cycle.new.self.state) I.net c.cycle.ensures.picked);
       busy = busy_still net s k t I.deltas I.busy (sym c.is_quiet.ensures ∙ c.if-is_quiet.false);
     }
 
@@ -33,6 +37,7 @@ returns-then-is_quiet g c =
       net = I.net;
       ready = I.ready;
       settled = (settled_here net c.args.self.now.state c.loop-deltas.deltas c.loop-deltas.self.state I.deltas I.busy c.requires.ready (sym c.is_quiet.ensures ∙ c.if-is_quiet.true), omega arith);
+      picked = I.picked;
     }
 
 pub returns-then-is_quiet-2 : goal.returns-then-is_quiet-2
@@ -47,6 +52,7 @@ returns-then-is_quiet-2 g c =
       net = I.net;
       ready = I.ready;
       settled = (subst (λ (k : ℕ). SettlesTo net s k t) all (settled_here net s c.loop-deltas.deltas t I.deltas I.busy c.requires.ready quiet), omega arith);
+      picked = subst (λ (k : ℕ). HasDeltasAsPicked g.P.Pick.picks net k c.args.pick.now c.loop-deltas.pick s t) all I.picked;
     }
 
 pub returns-else-is_quiet-2 : goal.returns-else-is_quiet-2
@@ -61,4 +67,5 @@ returns-else-is_quiet-2 g c =
       net = I.net;
       ready = I.ready;
       settled = subst (λ (k : ℕ). IsUnsettled net s k t) all (unsettled_here net s c.loop-deltas.deltas t I.deltas I.busy c.requires.ready busy);
+      picked = subst (λ (k : ℕ). HasDeltasAsPicked g.P.Pick.picks net k c.args.pick.now c.loop-deltas.pick s t) all I.picked;
     }

@@ -1,0 +1,4 @@
+pub mod Premises
+pub mod Views
+pub mod Signals
+pub mod Calls
