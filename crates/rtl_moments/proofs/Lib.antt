@@ -1,5 +1,6 @@
 pub mod Values
 pub mod Inputs
+pub mod Stops
 pub mod Numbering
 pub mod Courses
 pub mod PortLemmas

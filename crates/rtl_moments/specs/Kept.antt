@@ -1,8 +1,9 @@
 -- How a stimulus is kept.
-use Rattle.std.specs.Prelude.{◌≡◌, ◌↔◌, ◌<◌, ℕ, List, slice_get, Some, Contains, AllPairs}
+use Rattle.std.specs.Prelude.{◌≡◌, ◌↔◌, ◌<◌, ◌≤◌, ℕ, List, slice_get, Some, Contains, AllPairs}
 use Rattle.vhdl_values.specs.declared.scalar.Nine.{Nine}
 use Rattle.rtl_stim.specs.Inputs.{Element}
 use Rattle.rtl_stim.specs.Courses.{Course, Ticks, course_value}
+use Rattle.rtl_stim.specs.Reading.{latest_time}
 use Rattle.rtl_stim.specs.View.{inputs_view, schedule_view}
 use Rattle.rtl_moments.specs.declared.stimulus.Stimulus.TheInside.{Inside}
 use Rattle.rtl_moments.specs.Numbered.{numbered}
@@ -25,3 +26,4 @@ pub record IsKept (s : Inside) : Type 0 where
   pub stimulus : IsStimulus (stimulus_view s)
   pub initial : s.initial.items ≡ initial_values (stimulus_view s)
   pub clocks : AreClocks (schedule_view s.schedule).courses s.clocks.items
+  pub in_time : s.schedule.stop ≤ latest_time

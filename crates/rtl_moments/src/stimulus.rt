@@ -1,6 +1,7 @@
 //! Stimuli.
 
-ghost use Rattle.std.specs.Prelude.{◌≡◌, ◌<◌, map, vec_len};
+ghost use Rattle.std.specs.Prelude.{◌≡◌, ◌<◌, ◌≤◌, map, vec_len};
+ghost use Rattle.rtl_stim.specs.Reading.{latest_time};
 ghost use Rattle.rtl_stim.specs.Times.{element_value, value_at};
 ghost use Rattle.rtl_stim.specs.View.{course_in, element_view, schedule_view};
 ghost use Rattle.rtl_moments.specs.Stimuli.{initial_values};
@@ -33,9 +34,10 @@ impl Model for Stimulus {
 }
 
 impl Stimulus {
-    /// The last time, in ns. A caller in another crate also learns here what holds of every stimulus.
+    /// The last time, in ns, which is at most 10^15. A caller in another crate also learns here what holds of every stimulus.
     pub fn stop(&self) -> u64
         ensures stop { result ≡ self.now.schedule.stop }
+        ensures in_time { self.now.schedule.stop ≤ latest_time }
         ensures holds { IsStimulus self.now }
     {
         self.schedule.stop

@@ -26,6 +26,7 @@ use std::alloc::Global;
 
 /// What is simulated: a net, whose k-th process the k-th body runs, under a stimulus, with so many delta cycles at most in each
 /// moment.
+#[derive_where(Clone, Copy)]
 pub struct Simulation<'a, E: Exec> {
     pub net: &'a Net,
     pub bodies: &'a [E],
@@ -52,7 +53,6 @@ impl<E: Exec> Simulation<'_, E> {
         requires bodies { RunBodies E.process E.types (flat self.now.net.now) self.now.bodies.now }
         requires ports { HasOwnPorts self.now.net.now }
         requires inputs { self.now.stimulus.now.inputs ≡ inputs_of self.now.net.now }
-        requires stop { self.now.stimulus.now.schedule.stop < 18446744073709551615 }
         requires waiting { (A.state agenda.old).waiting ≡ [] }
         requires last { (A.state agenda.old).last ≡ None }
         requires intact { IsIntact (W.state out.old) }

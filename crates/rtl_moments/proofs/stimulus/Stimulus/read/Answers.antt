@@ -1,6 +1,6 @@
 use Rattle.std.proofs.Common.{map, sym, subst, arith}
 use Rattle.std.proofs.lemmas.List.{length-map}
-use Rattle.rtl_stim.specs.View.{course_view, AreVectors}
+use Rattle.rtl_stim.specs.View.{course_view, inputs_view, schedule_view, AreVectors}
 use Rattle.std.proofs.Common.{List, ◌≤◌, length}
 use Rattle.std.specs.Prelude.{All}
 use Rattle.std.proofs.lemmas.List.Elements.{All-weaker}
@@ -10,6 +10,7 @@ use Rattle.rtl_moments.specs.Ports.{inputs_of}
 use Rattle.rtl_stim.specs.Filling.{HaveOwnNets}
 use Rattle.rtl_moments.specs.Kept.{AreClocks}
 use Rattle.rtl_moments.proofs.PortLemmas.{are_vectors, have_own_nets}
+use Rattle.rtl_moments.proofs.Stops.{stops_in_time}
 use Rattle.rtl_moments.proofs.stimulus.Stimulus.read.Goals as goal
 
 pub read_schedule-requires : goal.read_schedule-requires
@@ -28,4 +29,5 @@ invariant_of-result c = record {
   };
   initial = c.in_ok-initial.ensures;
   clocks = subst (λ courses. AreClocks (map course_view courses) c.in_ok-clocks.clocks.items) c.deref.ensures.value c.in_ok-clocks.ensures;
+  in_time = stops_in_time (inputs_view c.in_ok-inputs.inputs) c.args.text.now (schedule_view c.in_ok-schedule.schedule) c.in_ok-schedule.ensures.given;
 }

@@ -128,7 +128,7 @@ go_on-requires-clause-room g c =
     let next = next_moment s c.stop-stop.ensures.holds I.m I.there before (g.met.A.Agenda.orderly c.loop-time.agenda) waits c.in-Some.time behind.taken behind.waiting c.in-Some.ensures.least in
     let most = few s in
     let more = next.there in
-    omega (arith, most, more, I.is_last, c.requires.stop)
+    omega (arith, most, more, I.is_last, c.stop-stop.ensures.in_time)
 
 pub loop-time-smaller : goal.loop-time-smaller
 loop-time-smaller g c =
