@@ -1,3 +1,4 @@
 pub mod Absent
 pub mod Greatest
 pub mod Printing
+pub mod Rows

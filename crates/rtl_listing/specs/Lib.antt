@@ -2,3 +2,4 @@
 pub mod NetText
 pub mod CheckText
 pub mod Printing
+pub mod Rows

@@ -1,13 +1,13 @@
 //! The lines of a verdict.
 
 ghost use Rattle.rtl_sink.specs.Written.{IsIntact};
-ghost use Rattle.rtl_listing.specs.CheckText.{check_text};
+ghost use Rattle.rtl_listing.specs.CheckText.{check_text, rejection_text};
 ghost use Rattle.rtl_listing.specs.Printing.{Prints, IsListed};
 
 use crate::fault::ListingFault;
 use crate::levels::push_report;
 use crate::rejection::push_rejection;
-use rtl_check::Verdict;
+use rtl_check::{CheckFault, Verdict};
 use rtl_net::{Net, NoMemory};
 use rtl_sink::{Sink, finish};
 use std::alloc::Global;
@@ -29,6 +29,25 @@ pub fn show_check<W: Sink>(
     ensures { IsListed result (W.state out.old) (W.state out.new) (check_text net.now verdict.now) }
 {
     push_verdict(alloc, net, verdict, out)?;
+    finish(out)?;
+    Ok(())
+}
+
+/// Writes the checker's no: `no`, and a line for each of these faults of a net, as `show_check` does.
+///
+/// # Errors
+///
+/// As `show_check`.
+pub fn show_faults<W: Sink>(
+    alloc: Global,
+    net: &Net,
+    faults: &[CheckFault],
+    out: &mut W,
+) -> Result<(), ListingFault>
+    requires intact { IsIntact (W.state out.old) }
+    ensures { IsListed result (W.state out.old) (W.state out.new) (rejection_text net.now faults.now) }
+{
+    push_rejection(alloc, net, faults, out)?;
     finish(out)?;
     Ok(())
 }

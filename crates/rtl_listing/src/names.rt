@@ -8,7 +8,7 @@ ghost use Rattle.rtl_listing.specs.CheckText as text;
 use rtl_net::{Net, NoMemory, Source};
 use std::alloc::Global;
 
-/// The name of a net, empty where there is no net of this number.
+/// The name of a net, empty where there is no net of this number. It takes the memory of the name.
 pub fn net_name(alloc: Global, net: &Net, number: usize) -> Result<Vec<u8>, NoMemory>
     ensures { IfOk result (λ name. name.items ≡ spec.net_name net.now number) }
 {
