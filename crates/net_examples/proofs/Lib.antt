@@ -1,0 +1,5 @@
+pub mod Premises
+pub mod Counted
+pub mod Shifted
+pub mod Inverted
+pub mod Nested
