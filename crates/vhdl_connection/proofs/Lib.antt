@@ -3,5 +3,5 @@ mod Waking
 mod Taking
 mod Numbered
 mod Holding
-mod Sourced
+pub mod Sourced
 mod Resolving

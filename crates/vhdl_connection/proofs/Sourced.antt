@@ -83,14 +83,17 @@ start-held : (net : FlatNet) (default : ℕ) (ss : List Source) → start_by net
 start-held net default [] = refl
 start-held net default (s ∷ ss) = refl
 
-pub nets_start : (types : List ElementType) (inputs defaults : List ℕ) (idle : List IdlePort) (processes : List Process) (n : ℕ) → n < length defaults
-    → start_of (with_defaults types inputs defaults idle processes) n ≡ start_with (slice_index defaults n) (processes_hold processes n ++ idle_hold idle n)
-nets_start types inputs defaults idle processes n l =
-    let net = with_defaults types inputs defaults idle processes in
-    let all = map starts (map process_view processes) in
-    let vs = slice_index_or net.idle n [] in
-    start-held net (slice_index defaults n) (flat_sources net n)
-    ∙ ap (start_with (slice_index defaults n))
-    (map-append (source_value all) (all_drivers_of n 0 (map process_view processes)) (map Idle vs)
-    ∙ (λ i. processes-held all [] n processes refl i ++ idle-values all vs i)
-    ∙ ap (λ us. processes_hold processes n ++ us) (get_or-map-range_with_len (idle_at idle) 0 (length defaults) n n [] l (omega arith) ∙ idle-held idle n))
+module _ (types : List ElementType) (inputs defaults : List ℕ) (idle : List IdlePort) (processes : List Process) (n : ℕ) (l : n < length defaults) where
+  -- what the sources of a net hold before a simulation begins
+  pub sources_hold : map (source_value (map starts (map process_view processes))) (flat_sources (with_defaults types inputs defaults idle processes) n) ≡ processes_hold processes n ++ idle_hold idle n
+  sources_hold =
+      let all = map starts (map process_view processes) in
+      let vs = slice_index_or (with_defaults types inputs defaults idle processes).idle n [] in
+      map-append (source_value all) (all_drivers_of n 0 (map process_view processes)) (map Idle vs)
+      ∙ (λ i. processes-held all [] n processes refl i ++ idle-values all vs i)
+      ∙ ap (λ us. processes_hold processes n ++ us) (get_or-map-range_with_len (idle_at idle) 0 (length defaults) n n [] l (omega arith) ∙ idle-held idle n)
+
+  pub nets_start : start_of (with_defaults types inputs defaults idle processes) n ≡ start_with (slice_index defaults n) (processes_hold processes n ++ idle_hold idle n)
+  nets_start =
+      let net = with_defaults types inputs defaults idle processes in
+      start-held net (slice_index defaults n) (flat_sources net n) ∙ ap (start_with (slice_index defaults n)) sources_hold

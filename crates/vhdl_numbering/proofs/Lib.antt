@@ -1,0 +1,3 @@
+mod Placing
+mod Walking
+pub mod Ready
