@@ -1,0 +1,5 @@
+mod Zipped
+mod Seen
+mod Settling
+mod Shown
+mod Made

@@ -1,0 +1,4 @@
+pub mod Tables
+pub mod Wires
+pub mod Settled
+pub mod Wired

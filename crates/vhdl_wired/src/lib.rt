@@ -1,0 +1,11 @@
+//! The parts of the flat net of a design (IEEE 1076-2008, 6.4.2.3, 14.7.2, 14.7.3).
+#![tactic(auto)]
+
+mod connection;
+mod settled;
+mod tables;
+mod wires;
+mod wiring;
+
+pub use connection::connect;
+pub use wiring::wire;
