@@ -1,0 +1,124 @@
+-- From the tree of a source to its net.
+use Rattle.std.proofs.Common.{◌≡◌, ◌≢◌, ℕ, ◌+◌, ◌≤◌, List, length, None, Some, Result, Ok, Err, refl, sym, arith}
+use Rattle.std.specs.Prelude.{IsTrue, IsErr, IsErrAnd, IfOk, IfErr, min}
+use Rattle.vhdl_lexer.proofs.Reached.{cut_within}
+use Rattle.vhdl_tree.specs.Tree.{File}
+use Rattle.vhdl_names.specs.Files.{units_of}
+use Rattle.vhdl_names.specs.declared.fault.NameFault.{NameFault}
+use Rattle.vhdl_names.specs.declared.fault.NameFault.TheVariants as names
+use Rattle.vhdl_names.specs.sound.Named.{are_named}
+use Rattle.vhdl_names.specs.sound.Units.{are_sound}
+use Rattle.vhdl_names.specs.units.Units as u
+use Rattle.vhdl_sound.specs.Words.{HasWords}
+use Rattle.vhdl_sound.proofs.Units.{units_are_sound}
+use Rattle.vhdl_sound.proofs.Named.{units_are_named, small_ports_distinct}
+use Rattle.vhdl_sound.proofs.Spelled.{spelled_files_have_words}
+use Rattle.vhdl_expand.specs.Elab.{Elab as Expanded}
+use Rattle.vhdl_expand.specs.declared.fault.ElabFault.{ElabFault}
+use Rattle.vhdl_expand.specs.declared.fault.ElabFault.TheVariants as elab
+use Rattle.vhdl_elab.specs.Elaboration.{Elaborated, elaborated}
+use Rattle.vhdl_nets.specs.Shown.{Shows, as_shown, net_shown}
+use Rattle.vhdl_nets.proofs.Nets.{each-has-its-names}
+use Rattle.vhdl_ports.proofs.Ports.{each-has-own-ports}
+use Rattle.rtl_net.specs.Nets.{NetView}
+use Rattle.rtl_moments.specs.Ports.{HasOwnPorts}
+use Rattle.vhdl_source.specs.Sources.{IsFileOf}
+use Rattle.vhdl_source.specs.Designs.{IsNetOf}
+use Rattle.vhdl_source.specs.Refusals.{Refuses}
+use Rattle.vhdl_source.specs.Faults.{of_name, of_elab, LiesIn}
+use Rattle.vhdl_source.specs.Steps.{HasNameFault, HasElabFault, ShowsTop, GivesNet, name_within, elab_within}
+use Rattle.vhdl_source.specs.declared.fault.SourceFault.{SourceFault}
+use Rattle.vhdl_source.specs.declared.fault.SourceFault.TheVariants.{Lex, Syntax, Name, Elab, NoMemory}
+
+-- ---- the units of a source's file
+
+words : (source : List ℕ) (file : File) → IsFileOf source file → HasWords file
+words source file read = spelled_files_have_words source read.tokens file read.cut (cut_within source None 0 source read.tokens (omega arith) read.cut) read.spelled
+
+pub file_sound : (source : List ℕ) (file : File) (units : u.Units) → IsFileOf source file → units_of file ≡ Some units → IsTrue (are_sound units)
+file_sound source file units read typed = units_are_sound file units read.well_formed typed
+
+pub file_named : (source : List ℕ) (file : File) (units : u.Units) → IsFileOf source file → units_of file ≡ Some units → IsTrue (are_named units)
+file_named source file units read typed = units_are_named file units (words source file read) typed
+
+-- ---- its net
+
+pub opened : (source top : List ℕ) (file : File) (units : u.Units) (net : NetView) → IsFileOf source file → units_of file ≡ Some units → ShowsTop units top net → IsNetOf source top net
+opened source top file units net read typed shown = record {
+  design = shown.design;
+  has = record { units = units; analysed = record { file = file; read = read; well_typed = typed }; is = shown.is };
+  shows = shown.shows;
+  named = each-has-its-names units top shown.design net (file_sound source file units read typed) shown.is shown.shows;
+}
+
+pub own_ports : (source top : List ℕ) (net : NetView) → IsNetOf source top net → HasOwnPorts net
+own_ports source top net h =
+    let analysed = h.has.analysed in
+    each-has-own-ports h.has.units top h.design net (file_sound source analysed.file h.has.units analysed.read analysed.well_typed)
+    (small_ports_distinct analysed.file h.has.units (words source analysed.file analysed.read) analysed.well_typed) h.has.is h.shows
+
+-- ---- what the layers' answers are
+
+pub shows_top : (units : u.Units) (top : List ℕ) (net : NetView) → as_shown (elaborated units top) ≡ Ok (net_shown net) → ShowsTop units top net
+shows_top units top net = by (elaborated units top) refl
+  where
+    by : (given : Expanded Elaborated) → elaborated units top ≡ given → as_shown given ≡ Ok (net_shown net) → ShowsTop units top net
+    by (Ok x) is e = record { design = x; is = is; shows = cc }
+    by (Err problem) is e = absurd (cc)
+
+is_err : (given : Expanded Elaborated) → IsErr (as_shown given) → IsErr given
+is_err (Ok x) h = h
+is_err (Err problem) h = h
+
+pub elab_fault : (units : u.Units) (top : List ℕ) (size : ℕ) (fault : ElabFault) → (fault ≢ elab.NoMemory → IsErr (as_shown (elaborated units top))) → HasElabFault units top (of_elab (elab_within size fault))
+elab_fault units top size (elab.At problem at) h = is_err (elaborated units top) (h (λ e. cc))
+elab_fault units top size elab.NoMemory h = tt
+
+pub name_fault : (file : File) (size : ℕ) (fault : NameFault) → (fault ≢ names.NoMemory → units_of file ≡ None) → HasNameFault file (of_name (name_within size fault))
+name_fault file size (names.At problem at) h = h (λ e. cc)
+name_fault file size names.NoMemory h = tt
+
+min_within : (at size : ℕ) → min at size ≤ size
+min_within at size = omega arith
+
+pub elab_lies : (size : ℕ) (fault : ElabFault) → LiesIn size (of_elab (elab_within size fault))
+elab_lies size (elab.At problem at) = min_within at size
+elab_lies size elab.NoMemory = tt
+
+pub name_lies : (size : ℕ) (fault : NameFault) → LiesIn size (of_name (name_within size fault))
+name_lies size (names.At problem at) = min_within at size
+name_lies size names.NoMemory = tt
+
+-- ---- why the source is refused
+
+pub name_refuses : (source top : List ℕ) (file : File) (fault : SourceFault) → IsFileOf source file → HasNameFault file fault → Refuses source top fault
+name_refuses source top file (Lex x) read h = absurd h
+name_refuses source top file (Syntax x) read h = absurd h
+name_refuses source top file (Name (names.At problem at)) read h = record { file = file; read = read; ill_typed = h }
+name_refuses source top file (Name names.NoMemory) read h = absurd h
+name_refuses source top file (Elab x) read h = absurd h
+name_refuses source top file NoMemory read h = tt
+
+pub elab_refuses : (source top : List ℕ) (file : File) (units : u.Units) (fault : SourceFault) → IsFileOf source file → units_of file ≡ Some units → HasElabFault units top fault → Refuses source top fault
+elab_refuses source top file units (Lex x) read typed h = absurd h
+elab_refuses source top file units (Syntax x) read typed h = absurd h
+elab_refuses source top file units (Name x) read typed h = absurd h
+elab_refuses source top file units (Elab (elab.At problem at)) read typed h =
+    record { units = units; analysed = record { file = file; read = read; well_typed = typed }; refused = h }
+elab_refuses source top file units (Elab elab.NoMemory) read typed h = absurd h
+elab_refuses source top file units NoMemory read typed h = tt
+
+-- ---- the whole
+
+module _ (source top : List ℕ) (file : File) (units : u.Units) (read : IsFileOf source file) (typed : units_of file ≡ Some units) where
+  pub gives_opened : (answer : Result NetView SourceFault) → GivesNet units top answer → IfOk answer (λ net. IsNetOf source top net)
+  gives_opened (Ok net) h = opened source top file units net read typed h
+  gives_opened (Err fault) h = tt
+
+  pub gives_ports : (answer : Result NetView SourceFault) → GivesNet units top answer → IfOk answer (λ net. HasOwnPorts net)
+  gives_ports (Ok net) h = own_ports source top net (opened source top file units net read typed h)
+  gives_ports (Err fault) h = tt
+
+pub refuses_along : (source top : List ℕ) (answer : Result NetView SourceFault) (fault : SourceFault) → IsErrAnd answer (λ f. f ≡ fault) → Refuses source top fault → IfErr answer (Refuses source top)
+refuses_along source top (Ok net) fault is h = tt
+refuses_along source top (Err f) fault is h = rw is h

@@ -1,0 +1,81 @@
+-- A source has one tree, and so one of each that follows from it.
+use Rattle.std.proofs.Common.{◌≡◌, ℕ, ◌+◌, ◌<◌, ◌≤◌, List, None, Some, Ok, Err, true≢false, sym, ap, ◌∙◌, subst, arith}
+use Rattle.std.specs.Prelude.{IsErr}
+use Rattle.vhdl_lexer.specs.declared.token.Token.{Token}
+use Rattle.vhdl_parser.specs.Fault.{IsRefusal, IsTooDeep}
+use Rattle.vhdl_parser.specs.declared.fault.SyntaxFault.{SyntaxFault}
+use Rattle.vhdl_parser.specs.declared.fault.SyntaxFault.TheVariants as syntax
+use Rattle.vhdl_tree.specs.Levels.{IsShallow, IsDeep, most_open}
+use Rattle.vhdl_tree.specs.Lexeme.{Lexeme, lexemes}
+use Rattle.vhdl_tree.specs.Tree.{File}
+use Rattle.vhdl_names.specs.Files.{units_of}
+use Rattle.vhdl_names.specs.declared.fault.NameFault.TheVariants as names
+use Rattle.vhdl_names.specs.units.Units.{Units}
+use Rattle.vhdl_expand.specs.Elab.{Elab as Expanded}
+use Rattle.vhdl_expand.specs.declared.fault.ElabFault.TheVariants as elab
+use Rattle.vhdl_elab.specs.Elaboration.{Elaborated, elaborated}
+use Rattle.vhdl_nets.specs.Shown.{shown}
+use Rattle.vhdl_source.specs.Sources.{SpellsTokens, IsFileOf, HasSyntaxFault}
+use Rattle.vhdl_source.specs.Designs.{HasUnits, HasDesign}
+use Rattle.vhdl_source.specs.Refusals.{HasNoUnits, HasNoDesign}
+use Rattle.vhdl_source.specs.Laws.{EachSourceHasOneDesign, EachSourceHasOneNet, EachRefusedHasNone}
+use Rattle.vhdl_source.specs.declared.fault.SourceFault.{SourceFault}
+use Rattle.vhdl_source.specs.declared.fault.SourceFault.TheVariants.{Lex, Syntax, Name, Elab, NoMemory}
+
+one_file : (source : List ℕ) (a b : File) → IsFileOf source a → IsFileOf source b → a ≡ b
+one_file source a b p q =
+    sym (p.only_file b q.well_formed (subst (λ (ts : List Token). SpellsTokens source ts b) (p.only_tokens q.tokens q.cut) q.spelled))
+
+in_some : {A : Type 0} (a b : A) → Some a ≡ Some b → a ≡ b
+in_some a b e = cc
+
+one_units : (source : List ℕ) (a b : Units) → HasUnits source a → HasUnits source b → a ≡ b
+one_units source a b p q = in_some a b (sym p.well_typed ∙ ap units_of (one_file source p.file q.file p.read q.read) ∙ q.well_typed)
+
+pub one_design : EachSourceHasOneDesign
+one_design source top one other p q =
+    let e : elaborated p.units top ≡ elaborated q.units top = ap (λ (x : Units). elaborated x top) (one_units source p.units q.units p.analysed q.analysed) in
+    let both = sym p.is ∙ e ∙ q.is in cc
+
+pub one_net : EachSourceHasOneNet
+one_net source top one other p q = p.shows ∙ ap shown (one_design source top p.design q.design p.has q.has) ∙ sym q.shows
+
+-- ---- refusals
+
+not_both : (n : ℕ) (ts : List Lexeme) → IsDeep n ts → IsShallow n ts → ⊥
+not_both n ts (j, deep) shallow = let low = shallow j in omega (arith, deep, low)
+
+along : (source : List ℕ) (ts : List Token) (file : File) (h : IsFileOf source file) → h.tokens ≡ ts → SpellsTokens source ts file
+along source ts file h e = subst (λ (xs : List Token). SpellsTokens source xs file) e h.spelled
+
+unspelled : (fault : SyntaxFault) (source : List ℕ) (file : File) → IsRefusal fault → HasSyntaxFault fault source → IsFileOf source file → ⊥
+unspelled fault source file is r h = r.refused is file h.well_formed (along source r.tokens file h (r.only_tokens h.tokens h.cut))
+
+too_deep : (fault : SyntaxFault) (source : List ℕ) (file : File) → IsTooDeep fault → HasSyntaxFault fault source → IsFileOf source file → ⊥
+too_deep fault source file is r h =
+    not_both most_open (lexemes source r.tokens) (r.deep is) (subst (λ (ts : List Token). IsShallow most_open (lexemes source ts)) (r.only_tokens h.tokens h.cut) h.shallow)
+
+untyped : (source : List ℕ) (units : Units) → HasNoUnits source → HasUnits source units → ⊥
+untyped source units r h =
+    let both = sym r.ill_typed ∙ ap units_of (one_file source r.file h.file r.read h.read) ∙ h.well_typed in absurd (cc)
+
+undesigned : (given : Expanded Elaborated) (design : Elaborated) → IsErr given → given ≡ Ok design → ⊥
+undesigned (Ok x) design h e = true≢false (sym h)
+undesigned (Err problem) design h e = absurd (cc)
+
+no_design : (source top : List ℕ) (design : Elaborated) → HasNoDesign source top → HasDesign source top design → ⊥
+no_design source top design r h =
+    undesigned (elaborated r.units top) design r.refused
+    (ap (λ (x : Units). elaborated x top) (one_units source r.units h.units r.analysed h.analysed) ∙ h.is)
+
+pub refused : EachRefusedHasNone
+refused source top (Lex x) design behind r h = behind
+refused source top (Syntax (syntax.Unexpected at)) design behind r h = unspelled (syntax.Unexpected at) source h.analysed.file tt r h.analysed.read
+refused source top (Syntax (syntax.EndOfFile at)) design behind r h = unspelled (syntax.EndOfFile at) source h.analysed.file tt r h.analysed.read
+refused source top (Syntax (syntax.TooDeep at)) design behind r h = too_deep (syntax.TooDeep at) source h.analysed.file tt r h.analysed.read
+refused source top (Syntax syntax.NoMemory) design behind r h = r
+refused source top (Name (names.At problem at)) design behind r h = untyped source h.units r h.analysed
+refused source top (Name names.NoMemory) design behind r h = r
+refused source top (Elab (elab.At problem at)) design behind r h = no_design source top design r h
+refused source top (Elab elab.NoMemory) design behind r h = r
+refused source top NoMemory design behind r h = behind

@@ -1,0 +1,17 @@
+use Rattle.vhdl_source.proofs.Layers.{file_sound, file_named, gives_opened, gives_ports, refuses_along}
+use Rattle.vhdl_source.proofs.opening.open.Goals as goal
+
+pub returns-in_err-file-clause-refused : goal.returns-in_err-file-clause-refused
+returns-in_err-file-clause-refused c = refuses_along c.args.source.now c.args.top.now _ _ c.from_residual.ensures.1 (c.in_err-file.ensures.refused c.args.top.now)
+
+pub net_of-requires-clause-sound : goal.net_of-requires-clause-sound
+net_of-requires-clause-sound c = file_sound c.args.source.now _ _ c.in_ok-file.ensures.file c.in_ok-units.ensures.given
+
+pub net_of-requires-clause-named : goal.net_of-requires-clause-named
+net_of-requires-clause-named c = file_named c.args.source.now _ _ c.in_ok-file.ensures.file c.in_ok-units.ensures.given
+
+pub returns-clause-net : goal.returns-clause-net
+returns-clause-net c = gives_opened c.args.source.now c.args.top.now _ _ c.in_ok-file.ensures.file c.in_ok-units.ensures.given _ c.net_of.ensures.given
+
+pub returns-clause-ports : goal.returns-clause-ports
+returns-clause-ports c = gives_ports c.args.source.now c.args.top.now _ _ c.in_ok-file.ensures.file c.in_ok-units.ensures.given _ c.net_of.ensures.given

@@ -1,0 +1,31 @@
+-- A source has one design at most under a top, and is refused only where it has none.
+use Rattle.std.specs.Prelude.{◌≡◌, ℕ, List}
+use Rattle.rtl_moments.specs.Ports.{HasOwnPorts}
+use Rattle.rtl_net.specs.Nets.{NetView}
+use Rattle.vhdl_elab.specs.Elaboration.{Elaborated}
+use Rattle.vhdl_nets.specs.Shown.{net_shown}
+use Rattle.vhdl_source.specs.Designs.{HasDesign, IsNetOf}
+use Rattle.vhdl_source.specs.Refusals.{Refuses}
+use Rattle.vhdl_source.specs.declared.fault.SourceFault.{SourceFault}
+use Rattle.vhdl_source.specs.declared.fault.SourceFault.TheVariants.{Lex, NoMemory}
+
+abbrev pub EachSourceHasOneDesign : Type 0
+EachSourceHasOneDesign = (source top : List ℕ) (one other : Elaborated) → HasDesign source top one → HasDesign source top other → one ≡ other
+
+-- so nets of it show the same
+abbrev pub EachSourceHasOneNet : Type 0
+EachSourceHasOneNet = (source top : List ℕ) (one other : NetView) → IsNetOf source top one → IsNetOf source top other → net_shown one ≡ net_shown other
+
+-- the layers behind the lexer
+abbrev pub IsBehindLexer : SourceFault → Type 0
+IsBehindLexer (Lex fault) = ⊥
+IsBehindLexer NoMemory = ⊥
+IsBehindLexer _ = Unit {0}
+
+abbrev pub EachRefusedHasNone : Type 0
+EachRefusedHasNone =
+    (source top : List ℕ) (fault : SourceFault) (design : Elaborated) → IsBehindLexer fault → Refuses source top fault → HasDesign source top design → ⊥
+
+-- A stimulus can speak of the net's ports.
+abbrev pub EachNetHasOwnPorts : Type 0
+EachNetHasOwnPorts = (source top : List ℕ) (net : NetView) → IsNetOf source top net → HasOwnPorts net

@@ -1,0 +1,33 @@
+-- The tree of a source, and why there is none (IEEE 1076-2008, clause 15 and the grammar of clauses 3 to 11).
+use Rattle.std.specs.Prelude.{◌≡◌, ℕ, List, [], None}
+use Rattle.vhdl_lexer.specs.Cut.{Cuts}
+use Rattle.vhdl_lexer.specs.declared.token.Token.{Token}
+use Rattle.vhdl_parser.specs.Fault.{IsRefusal, IsTooDeep}
+use Rattle.vhdl_parser.specs.declared.fault.SyntaxFault.{SyntaxFault}
+use Rattle.vhdl_tree.specs.Levels.{IsShallow, IsDeep, most_open}
+use Rattle.vhdl_tree.specs.Lexeme.{lexemes}
+use Rattle.vhdl_tree.specs.Pieces.{Spells}
+use Rattle.vhdl_tree.specs.Tree.{File}
+use Rattle.vhdl_tree.specs.grammar.Units.{spell_file, IsFile}
+
+-- the tree spells the tokens of a source
+abbrev pub SpellsTokens : (source : List ℕ) → List Token → File → Type 0
+SpellsTokens source tokens file = Spells (spell_file file) (lexemes source tokens) []
+
+-- the source's one list of tokens spells this one well-formed tree, which opens no more levels than the limit
+pub record IsFileOf (source : List ℕ) (file : File) : Type 0 where
+  pub tokens : List Token
+  pub cut : Cuts None 0 source tokens
+  pub only_tokens : (other : List Token) → Cuts None 0 source other → other ≡ tokens
+  pub spelled : SpellsTokens source tokens file
+  pub well_formed : IsFile file
+  pub only_file : (other : File) → IsFile other → SpellsTokens source tokens other → other ≡ file
+  pub shallow : IsShallow most_open (lexemes source tokens)
+
+-- no well-formed tree spells the source's one list of tokens, or the tokens open more levels than the limit
+pub record HasSyntaxFault (fault : SyntaxFault) (source : List ℕ) : Type 0 where
+  pub tokens : List Token
+  pub cut : Cuts None 0 source tokens
+  pub only_tokens : (other : List Token) → Cuts None 0 source other → other ≡ tokens
+  pub refused : IsRefusal fault → (other : File) → IsFile other → SpellsTokens source tokens other → ⊥
+  pub deep : IsTooDeep fault → IsDeep most_open (lexemes source tokens)

@@ -1,0 +1,53 @@
+-- What the code's own calls say.
+use Rattle.std.specs.Prelude.{◌≡◌, ℕ, min, List, None, Some, Result, Ok, Err, IsErr}
+use Rattle.rtl_net.specs.Nets.{NetView}
+use Rattle.vhdl_elab.specs.Elaboration.{Elaborated, elaborated}
+use Rattle.vhdl_expand.specs.declared.fault.ElabFault.{ElabFault}
+use Rattle.vhdl_expand.specs.declared.fault.ElabFault.TheVariants as elab
+use Rattle.vhdl_names.specs.Files as rules
+use Rattle.vhdl_names.specs.declared.fault.NameFault.{NameFault}
+use Rattle.vhdl_names.specs.declared.fault.NameFault.TheVariants as names
+use Rattle.vhdl_names.specs.units.Units as u
+use Rattle.vhdl_nets.specs.Shown.{Shows}
+use Rattle.vhdl_tree.specs.Tree.{File}
+use Rattle.vhdl_units.specs.declared.unit.Units.{Units}
+use Rattle.vhdl_units.specs.views.Units.{units_view}
+use Rattle.vhdl_source.specs.declared.fault.SourceFault.{SourceFault}
+use Rattle.vhdl_source.specs.declared.fault.SourceFault.TheVariants.{Lex, Syntax, Name, Elab, NoMemory}
+
+-- the same fault, told at a byte that is not behind the given one
+abbrev pub name_within : (most : ℕ) → NameFault → NameFault
+name_within most (names.At problem at) = names.At problem (min at most)
+name_within most names.NoMemory = names.NoMemory
+
+abbrev pub elab_within : (most : ℕ) → ElabFault → ElabFault
+elab_within most (elab.At problem at) = elab.At problem (min at most)
+elab_within most elab.NoMemory = elab.NoMemory
+
+-- only a fault of names, and only where the file has no units
+abbrev pub HasNameFault : File → SourceFault → Type 0
+HasNameFault file (Name names.NoMemory) = ⊥
+HasNameFault file (Name fault) = rules.units_of file ≡ None
+HasNameFault file NoMemory = Unit {0}
+HasNameFault file _ = ⊥
+
+abbrev pub GivesUnits : File → Result Units SourceFault → Type 0
+GivesUnits file (Ok units) = rules.units_of file ≡ Some (units_view units)
+GivesUnits file (Err fault) = HasNameFault file fault
+
+-- the units have this net
+pub record ShowsTop (units : u.Units) (top : List ℕ) (net : NetView) : Type 0 where
+  pub design : Elaborated
+  pub is : elaborated units top ≡ Ok design
+  pub shows : Shows design net
+
+-- only a fault of elaboration, and only where the units have no design
+abbrev pub HasElabFault : u.Units → (top : List ℕ) → SourceFault → Type 0
+HasElabFault units top (Elab elab.NoMemory) = ⊥
+HasElabFault units top (Elab fault) = IsErr (elaborated units top)
+HasElabFault units top NoMemory = Unit {0}
+HasElabFault units top _ = ⊥
+
+abbrev pub GivesNet : u.Units → (top : List ℕ) → Result NetView SourceFault → Type 0
+GivesNet units top (Ok net) = ShowsTop units top net
+GivesNet units top (Err fault) = HasElabFault units top fault

@@ -1,0 +1,19 @@
+//! Laws of sources (`specs/Laws`), each the contract of a function that does nothing.
+
+ghost use Rattle.vhdl_source.specs.Laws.{EachSourceHasOneDesign, EachSourceHasOneNet, EachRefusedHasNone, EachNetHasOwnPorts};
+
+/// A source has one design at most under a top, and its nets show the same.
+pub fn a_source_has_one_design()
+    ensures design { EachSourceHasOneDesign }
+    ensures net { EachSourceHasOneNet }
+{}
+
+/// A source that the parser, the rules of names or elaboration refuse has no design.
+pub fn refused_sources_have_no_design()
+    ensures { EachRefusedHasNone }
+{}
+
+/// In the net of a source the ports of the top have names of their own, and the elements of its in ports are the inputs.
+pub fn nets_of_sources_have_own_ports()
+    ensures { EachNetHasOwnPorts }
+{}

@@ -1,0 +1,98 @@
+//! From a source to its net.
+
+ghost use Rattle.std.specs.Prelude.{◌≡◌, IsTrue, IfOk, IfErr, List, ℕ, length};
+ghost use Rattle.rtl_moments.specs.Ports.{HasOwnPorts};
+ghost use Rattle.vhdl_names.specs.sound.Named.{are_named};
+ghost use Rattle.vhdl_names.specs.sound.Units.{are_sound};
+ghost use Rattle.vhdl_source.specs.Designs.{IsNetOf};
+ghost use Rattle.vhdl_source.specs.Faults.{LiesIn};
+ghost use Rattle.vhdl_source.specs.Refusals.{Refuses};
+ghost use Rattle.vhdl_source.specs.Sources.{IsFileOf};
+ghost use Rattle.vhdl_source.specs.Steps.{GivesUnits, GivesNet, name_within, elab_within};
+ghost use Rattle.vhdl_tree.specs.View.{file_view};
+ghost use Rattle.vhdl_units.specs.views.Units.{units_view};
+
+use crate::fault::SourceFault;
+use rtl_net::Net;
+use std::alloc::Global;
+use vhdl_elaboration::elaborate;
+use vhdl_expand::ElabFault;
+use vhdl_files::analyse;
+use vhdl_lexer::lex;
+use vhdl_names::NameFault;
+use vhdl_parser::parse;
+use vhdl_tree::File;
+use vhdl_units::Units;
+
+/// The net of a source: `source` has the bytes of one file, `top` the name of an entity in it, in letters of either case. The
+/// file is read, its names and types are analysed, and its top is elaborated (IEEE 1076-2008, clauses 15, 12 and 14). It takes
+/// memory in proportion to the source and to the net, within the limits of elaboration.
+///
+/// # Errors
+///
+/// The first layer that refuses the source, with its fault: `Lex`, `Syntax`, `Name` or `Elab`, told at a byte of the source or at
+/// its end. `NoMemory` where memory was refused.
+pub fn open(alloc: Global, source: &[u8], top: &[u8]) -> Result<Net, SourceFault>
+    ensures net { IfOk result (λ net. IsNetOf source.now top.now net) }
+    ensures ports { IfOk result (λ net. HasOwnPorts net) }
+    ensures refused { IfErr result (Refuses source.now top.now) }
+    ensures told { IfErr result (LiesIn (length source.now)) }
+{
+    let file = read(alloc, source)?;
+    let units = units_of(alloc, &file, source.len())?;
+    net_of(alloc, &units, top, source.len())
+}
+
+/// The tree of a source.
+fn read(alloc: Global, source: &[u8]) -> Result<File, SourceFault>
+    ensures file { IfOk result (λ file. IsFileOf source.now (file_view file)) }
+    ensures refused { IfErr result (λ fault. (top : List ℕ) → Refuses source.now top fault) }
+    ensures told { IfErr result (LiesIn (length source.now)) }
+{
+    let tokens = lex(alloc, source)?;
+    Ok(parse(alloc, source, &tokens)?)
+}
+
+/// The units of a file, whose source has `size` bytes.
+fn units_of(alloc: Global, file: &File, size: usize) -> Result<Units, SourceFault>
+    ensures given { GivesUnits (file_view file.now) result }
+    ensures told { IfErr result (LiesIn size) }
+{
+    match analyse(alloc, file) {
+        Ok(units) => Ok(units),
+        Err(fault) => Err(SourceFault::from(name_fault_within(fault, size))),
+    }
+}
+
+/// The net of a top of some units, whose source has `size` bytes.
+fn net_of(alloc: Global, units: &Units, top: &[u8], size: usize) -> Result<Net, SourceFault>
+    requires sound { IsTrue (are_sound (units_view units.now)) }
+    requires named { IsTrue (are_named (units_view units.now)) }
+    ensures given { GivesNet (units_view units.now) top.now result }
+    ensures told { IfErr result (LiesIn size) }
+{
+    match elaborate(alloc, units, top) {
+        Ok(net) => Ok(net),
+        Err(fault) => Err(SourceFault::from(elab_fault_within(fault, size))),
+    }
+}
+
+/// The same fault, told at byte `most` where its byte lies behind that one.
+fn name_fault_within(fault: NameFault, most: usize) -> NameFault
+    ensures { result ≡ name_within most fault }
+{
+    match fault {
+        NameFault::At { problem, at } => problem.at(at.min(most)),
+        NameFault::NoMemory => NameFault::NoMemory,
+    }
+}
+
+/// The same fault, told at byte `most` where its byte lies behind that one.
+fn elab_fault_within(fault: ElabFault, most: usize) -> ElabFault
+    ensures { result ≡ elab_within most fault }
+{
+    match fault {
+        ElabFault::At { problem, at } => problem.at(at.min(most)),
+        ElabFault::NoMemory => ElabFault::NoMemory,
+    }
+}
