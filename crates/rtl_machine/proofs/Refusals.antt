@@ -1,0 +1,37 @@
+-- Why a net or a stimulus is not admitted.
+use Rattle.std.proofs.Common.{◌≡◌, ℕ, List, Result, Ok, Err, refl, sym, ap, subst}
+use Rattle.std.specs.Prelude.{IsErrAnd}
+use Rattle.rtl_model.specs.simulation.Accepted.{IsAccepted}
+use Rattle.rtl_net.specs.Nets.{NetView}
+use Rattle.rtl_check.specs.Views.{core}
+use Rattle.rtl_stim.specs.declared.faults.StimFault.{StimFault}
+use Rattle.rtl_stim.specs.declared.faults.StimFault.TheVariants.{InLine, NoStop, Race, NoMemory}
+use Rattle.rtl_moments.specs.Ports.{inputs_of}
+use Rattle.rtl_moments.specs.Stimuli.{IsRead}
+use Rattle.rtl_machine.specs.declared.fault.MachineFault.{MachineFault}
+use Rattle.rtl_machine.specs.Faults.{of_stim}
+use Rattle.rtl_sink.specs.Written.{SinkState}
+use Rattle.rtl_machine.specs.Admitted.{Refuses}
+use Rattle.rtl_machine.specs.Answered.{IsRefused}
+use Rattle.rtl_machine.proofs.BadLines.{never_race}
+
+-- an answer that is this fault
+pub err_with : {X : Type 0} (P : Result X MachineFault → Type 0) (answer : Result X MachineFault) (fault : MachineFault) → IsErrAnd answer (λ f. f ≡ fault) → P (Err fault) → P answer
+err_with P (Ok x) fault is p = absurd is
+err_with P (Err f) fault is p = subst (λ (g : MachineFault). P (Err g)) (sym is) p
+
+-- the text is refused
+pub refused_text : (net : NetView) (text : List ℕ) (fault : StimFault) → IsAccepted (core net) → IsRead net text (Err fault) → Refuses net text (of_stim fault)
+refused_text net text NoMemory accepted read = tt
+refused_text net text (InLine problem line) accepted read = (accepted, read (λ e. cc))
+refused_text net text NoStop accepted read = (accepted, read (λ e. cc))
+refused_text net text (Race time input clock) accepted read = absurd (never_race (inputs_of net) text time input clock (read (λ e. cc)))
+
+pub err_is : {A : Type 0} (answer : Result A MachineFault) (fault : MachineFault) → IsErrAnd answer (λ f. f ≡ fault) → answer ≡ Err fault
+err_is (Ok x) fault is = absurd is
+err_is (Err f) fault is = ap (λ (g : MachineFault). Err g) is
+
+-- nothing is written, and the answer is this fault
+pub refused : {A : Type 0} (net : NetView) (text : List ℕ) (sink : SinkState) (answer : Result A MachineFault) (fault : MachineFault)
+    → IsErrAnd answer (λ f. f ≡ fault) → Refuses net text fault → IsRefused net text sink sink answer
+refused net text sink answer fault is why = record { fault = fault; is = err_is answer fault is; why = why; nothing = refl }

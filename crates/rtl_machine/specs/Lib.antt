@@ -1,0 +1,7 @@
+pub mod Synchronous
+pub mod Traced
+pub mod Faults
+pub mod Admitted
+pub mod Answered
+pub mod Words
+pub mod Evaluated

@@ -1,0 +1,60 @@
+//! Which nets and stimuli are simulated as a machine.
+
+ghost use Rattle.std.specs.Prelude.{IfOk, IfErr, ℕ, List};
+ghost use Rattle.rtl_model.specs.simulation.Accepted.{IsAccepted};
+ghost use Rattle.rtl_check.specs.Verdicts.{IsReportOf};
+ghost use Rattle.rtl_moments.specs.Ports.{HasOwnPorts};
+ghost use Rattle.rtl_check.specs.Views.{core};
+ghost use Rattle.rtl_machine.specs.Admitted.{IsAdmitted, Refuses};
+
+use crate::fault::MachineFault;
+use rtl_check::{Report, Verdict, check};
+use rtl_moments::{StimFault, Stimulus, first_race};
+use rtl_net::Net;
+use std::alloc::Global;
+
+/// A stimulus without a race, of an accepted net, whose moments settle within the bound.
+#[derive(Drop)]
+pub struct Admitted {
+    pub stimulus: Stimulus,
+    pub bound: u32,
+}
+
+/// Checks a net, reads the text of a stimulus for it, and looks for a race. It takes the checker's memory and the
+/// stimulus's.
+///
+/// # Errors
+///
+/// `Rejected` with what the checker found; then `Stim` with the first bad line of the text; then `Stim` with the earliest
+/// race. `Memory` where a growth was refused.
+pub fn admit(alloc: Global, net: &Net, text: &[u8]) -> Result<Admitted, MachineFault>
+    requires { HasOwnPorts net.now }
+    ensures admitted { IfOk result (λ a. IsAdmitted net.now text.now a.bound a.stimulus) }
+    ensures refused { IfErr result (Refuses net.now text.now) }
+{
+    let report = accept(alloc, net)?;
+    let stimulus = Stimulus::read(alloc, net, text)?;
+    if let Some(race) = first_race(net, &report.clocks, &stimulus) {
+        return Err(MachineFault::Stim(StimFault::Race {
+            time: race.time,
+            input: race.input,
+            clock: race.clock,
+        }));
+    }
+    Ok(Admitted {
+        stimulus,
+        bound: report.bound,
+    })
+}
+
+/// The checker's report on a net.
+fn accept(alloc: Global, net: &Net) -> Result<Report, MachineFault>
+    ensures accepted { IfOk result (λ report. IsAccepted (core net.now)) }
+    ensures report { IfOk result (IsReportOf (core net.now)) }
+    ensures refused { (text : List ℕ) → IfErr result (Refuses net.now text) }
+{
+    match check(alloc, net)? {
+        Verdict::Yes(report) => Ok(report),
+        Verdict::No(faults) => Err(MachineFault::Rejected(faults)),
+    }
+}

@@ -1,0 +1,27 @@
+//! The settling theorem, over `specs/Synchronous.antt`, and what the text of words says, over `specs/Words.antt`.
+
+ghost use Rattle.rtl_machine.specs.Synchronous.{EachAcceptedIsSynchronous};
+ghost use Rattle.rtl_machine.specs.Words.{EachWordSets};
+
+use rtl_model::simulation_laws;
+use rtl_net::nets_meet_the_laws;
+
+/// Where the checker says yes with a bound, then for every stimulus without a race and every order of processes each moment
+/// settles within that many delta cycles, no net has two drivers, and what the moments settle in is the run of the
+/// synchronous machine.
+pub fn accepted_nets_are_synchronous()
+    ensures { EachAcceptedIsSynchronous }
+{
+    nets_meet_the_laws();
+    simulation_laws::each_moment_comes();
+    simulation_laws::settles_in_bound();
+    simulation_laws::one_machine_run();
+    simulation_laws::is_the_machine();
+    simulation_laws::one_solution();
+}
+
+/// The stimulus that NAME=VALUE words say sets each input that a word names at 0, and stops there; the first bad word is the
+/// bad line of its place.
+pub fn each_word_sets()
+    ensures { EachWordSets }
+{}

@@ -1,0 +1,94 @@
+//! The simulation of a net as a machine, with its trace.
+
+ghost use Rattle.std.specs.Prelude.{◌≡◌, [], None};
+ghost use Rattle.rtl_kernel.specs.kernel.Kept.{RunBodies};
+ghost use Rattle.rtl_moments.specs.Ports.{HasOwnPorts, inputs_of};
+ghost use Rattle.rtl_moments.specs.Stimuli.{inputs_at};
+ghost use Rattle.rtl_net.specs.Nets.{flat};
+ghost use Rattle.rtl_check.specs.Views.{core};
+ghost use Rattle.rtl_sink.specs.Written.{IsIntact};
+ghost use Rattle.rtl_machine.specs.Synchronous.{SaysYes, IsRaceless};
+ghost use Rattle.rtl_machine.specs.Traced.{Traces};
+ghost use Rattle.rtl_machine.specs.Answered.{Runs};
+
+use crate::admission::admit;
+use crate::fault::MachineFault;
+use crate::laws::accepted_nets_are_synchronous;
+use rtl_eval::Exec;
+use rtl_kernel::Pick;
+use rtl_model::simulation_laws;
+use rtl_moments::{Agenda, MapAgenda};
+use rtl_net::Net;
+use rtl_run::{RunFault, Simulation, Summary};
+use rtl_sink::Sink;
+use rtl_tree::trees;
+use std::alloc::Global;
+
+/// Simulates a net under the stimulus that a text says, and writes the trace: that of the synchronous machine's run, whatever
+/// order of processes `pick` picks. Each moment settles within the bound of the checker's report. Nothing is written before
+/// the checker, the stimulus and the search for a race have passed.
+///
+/// It takes the checker's memory, the stimulus's and the simulation's.
+///
+/// # Errors
+///
+/// `Rejected` with what the checker found; then `Stim` with the first bad line of the text, or with the earliest race. Nothing
+/// is written till here. `Memory` and `Output` leave a beginning of the trace.
+pub fn run<P: Pick, W: Sink>(
+    alloc: Global,
+    net: &Net,
+    text: &[u8],
+    pick: &mut P,
+    out: &mut W,
+) -> Result<Summary, MachineFault>
+    requires ports { HasOwnPorts net.now }
+    requires intact { IsIntact (W.state out.old) }
+    ensures { Runs net.now text.now (W.state out.old) (W.state out.new) result }
+{
+    let _count = net.nets();
+    let admitted = admit(alloc, net, text)?;
+    let bodies = trees(alloc, net)?;
+    let simulation = Simulation {
+        net,
+        bodies: &bodies,
+        stimulus: &admitted.stimulus,
+        limit: admitted.bound,
+    };
+    trace(alloc, &simulation, &mut MapAgenda::new(alloc), pick, out)
+}
+
+/// Simulates an accepted net under a stimulus without a race, with the bound of its report as the limit, and writes the trace.
+/// The agenda is new: nothing waits in it.
+///
+/// It takes the simulation's memory.
+///
+/// # Errors
+///
+/// `Memory` and `Output`, which leave a beginning of the trace.
+pub fn trace<E: Exec, A: Agenda, P: Pick, W: Sink>(
+    alloc: Global,
+    simulation: &Simulation<'_, E>,
+    agenda: &mut A,
+    pick: &mut P,
+    out: &mut W,
+) -> Result<Summary, MachineFault>
+    requires accepted { SaysYes (core simulation.now.net.now) simulation.now.limit }
+    requires raceless { IsRaceless (core simulation.now.net.now) (inputs_at simulation.now.stimulus.now) }
+    requires bodies { RunBodies E.process E.types (flat simulation.now.net.now) simulation.now.bodies.now }
+    requires ports { HasOwnPorts simulation.now.net.now }
+    requires inputs { simulation.now.stimulus.now.inputs ≡ inputs_of simulation.now.net.now }
+    requires waiting { (A.state agenda.old).waiting ≡ [] }
+    requires last { (A.state agenda.old).last ≡ None }
+    requires intact { IsIntact (W.state out.old) }
+    ensures { Traces simulation.now.net.now simulation.now.stimulus.now simulation.now.limit (W.state out.old) (W.state out.new) result }
+{
+    accepted_nets_are_synchronous();
+    simulation_laws::one_greatest_count();
+    let _count = simulation.net.nets();
+    match simulation.run(alloc, agenda, pick, out) {
+        Ok(summary) => Ok(summary),
+        Err(RunFault::NoSettling { .. }) => unreachable!(),
+        Err(RunFault::Memory) => Err(MachineFault::Memory),
+        Err(RunFault::Output) => Err(MachineFault::Output),
+    }
+}
