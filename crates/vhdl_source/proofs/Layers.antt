@@ -22,13 +22,13 @@ use Rattle.vhdl_nets.proofs.Nets.{each-has-its-names}
 use Rattle.vhdl_ports.proofs.Ports.{each-has-own-ports}
 use Rattle.rtl_net.specs.Nets.{NetView}
 use Rattle.rtl_moments.specs.Ports.{HasOwnPorts}
-use Rattle.vhdl_source.specs.Sources.{IsFileOf}
-use Rattle.vhdl_source.specs.Designs.{IsNetOf}
-use Rattle.vhdl_source.specs.Refusals.{Refuses}
-use Rattle.vhdl_source.specs.Faults.{of_name, of_elab, LiesIn}
+use Rattle.vhdl_designs.specs.Sources.{IsFileOf}
+use Rattle.vhdl_designs.specs.Designs.{IsNetOf}
+use Rattle.vhdl_designs.specs.Refusals.{Refuses}
+use Rattle.vhdl_designs.specs.Faults.{of_name, of_elab, LiesIn}
 use Rattle.vhdl_source.specs.Steps.{HasNameFault, HasElabFault, ShowsTop, GivesNet, name_within, elab_within}
-use Rattle.vhdl_source.specs.declared.fault.SourceFault.{SourceFault}
-use Rattle.vhdl_source.specs.declared.fault.SourceFault.TheVariants.{Lex, Syntax, Name, Elab, NoMemory}
+use Rattle.vhdl_designs.specs.declared.fault.SourceFault.{SourceFault}
+use Rattle.vhdl_designs.specs.declared.fault.SourceFault.TheVariants.{Lex, Syntax, Name, Elab, NoMemory}
 
 -- ---- the units of a source's file
 

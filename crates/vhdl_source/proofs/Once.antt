@@ -15,12 +15,12 @@ use Rattle.vhdl_expand.specs.Elab.{Elab as Expanded}
 use Rattle.vhdl_expand.specs.declared.fault.ElabFault.TheVariants as elab
 use Rattle.vhdl_elab.specs.Elaboration.{Elaborated, elaborated}
 use Rattle.vhdl_nets.specs.Shown.{shown}
-use Rattle.vhdl_source.specs.Sources.{SpellsTokens, IsFileOf, HasSyntaxFault}
-use Rattle.vhdl_source.specs.Designs.{HasUnits, HasDesign}
-use Rattle.vhdl_source.specs.Refusals.{HasNoUnits, HasNoDesign}
+use Rattle.vhdl_designs.specs.Sources.{SpellsTokens, IsFileOf, HasSyntaxFault}
+use Rattle.vhdl_designs.specs.Designs.{HasUnits, HasDesign}
+use Rattle.vhdl_designs.specs.Refusals.{HasNoUnits, HasNoDesign}
 use Rattle.vhdl_source.specs.Laws.{EachSourceHasOneDesign, EachSourceHasOneNet, EachRefusedHasNone}
-use Rattle.vhdl_source.specs.declared.fault.SourceFault.{SourceFault}
-use Rattle.vhdl_source.specs.declared.fault.SourceFault.TheVariants.{Lex, Syntax, Name, Elab, NoMemory}
+use Rattle.vhdl_designs.specs.declared.fault.SourceFault.{SourceFault}
+use Rattle.vhdl_designs.specs.declared.fault.SourceFault.TheVariants.{Lex, Syntax, Name, Elab, NoMemory}
 
 one_file : (source : List ℕ) (a b : File) → IsFileOf source a → IsFileOf source b → a ≡ b
 one_file source a b p q =

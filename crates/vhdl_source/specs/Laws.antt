@@ -4,10 +4,10 @@ use Rattle.rtl_moments.specs.Ports.{HasOwnPorts}
 use Rattle.rtl_net.specs.Nets.{NetView}
 use Rattle.vhdl_elab.specs.Elaboration.{Elaborated}
 use Rattle.vhdl_nets.specs.Shown.{net_shown}
-use Rattle.vhdl_source.specs.Designs.{HasDesign, IsNetOf}
-use Rattle.vhdl_source.specs.Refusals.{Refuses}
-use Rattle.vhdl_source.specs.declared.fault.SourceFault.{SourceFault}
-use Rattle.vhdl_source.specs.declared.fault.SourceFault.TheVariants.{Lex, NoMemory}
+use Rattle.vhdl_designs.specs.Designs.{HasDesign, IsNetOf}
+use Rattle.vhdl_designs.specs.Refusals.{Refuses}
+use Rattle.vhdl_designs.specs.declared.fault.SourceFault.{SourceFault}
+use Rattle.vhdl_designs.specs.declared.fault.SourceFault.TheVariants.{Lex, NoMemory}
 
 abbrev pub EachSourceHasOneDesign : Type 0
 EachSourceHasOneDesign = (source top : List ℕ) (one other : Elaborated) → HasDesign source top one → HasDesign source top other → one ≡ other

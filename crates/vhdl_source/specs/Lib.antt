@@ -1,8 +1,4 @@
--- In order of reading:
-pub mod Sources
-pub mod Designs
-pub mod Refusals
+-- In order of reading, after those of vhdl_designs:
 pub mod Laws
-pub mod Faults
 -- for the code's own clauses
 pub mod Steps

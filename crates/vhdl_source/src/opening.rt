@@ -2,19 +2,19 @@
 
 ghost use Rattle.std.specs.Prelude.{◌≡◌, IsTrue, IfOk, IfErr, List, ℕ, length};
 ghost use Rattle.rtl_moments.specs.Ports.{HasOwnPorts};
+ghost use Rattle.vhdl_designs.specs.Designs.{IsNetOf};
+ghost use Rattle.vhdl_designs.specs.Faults.{LiesIn};
+ghost use Rattle.vhdl_designs.specs.Refusals.{Refuses};
+ghost use Rattle.vhdl_designs.specs.Sources.{IsFileOf};
 ghost use Rattle.vhdl_names.specs.sound.Named.{are_named};
 ghost use Rattle.vhdl_names.specs.sound.Units.{are_sound};
-ghost use Rattle.vhdl_source.specs.Designs.{IsNetOf};
-ghost use Rattle.vhdl_source.specs.Faults.{LiesIn};
-ghost use Rattle.vhdl_source.specs.Refusals.{Refuses};
-ghost use Rattle.vhdl_source.specs.Sources.{IsFileOf};
 ghost use Rattle.vhdl_source.specs.Steps.{GivesUnits, GivesNet, name_within, elab_within};
 ghost use Rattle.vhdl_tree.specs.View.{file_view};
 ghost use Rattle.vhdl_units.specs.views.Units.{units_view};
 
-use crate::fault::SourceFault;
 use rtl_net::Net;
 use std::alloc::Global;
+use vhdl_designs::{Front, SourceFault};
 use vhdl_elaboration::elaborate;
 use vhdl_expand::ElabFault;
 use vhdl_files::analyse;
@@ -41,6 +41,15 @@ pub fn open(alloc: Global, source: &[u8], top: &[u8]) -> Result<Net, SourceFault
     let file = read(alloc, source)?;
     let units = units_of(alloc, &file, source.len())?;
     net_of(alloc, &units, top, source.len())
+}
+
+/// Sources in VHDL.
+pub struct Vhdl;
+
+impl Front for Vhdl {
+    fn open(alloc: Global, source: &[u8], top: &[u8]) -> Result<Net, SourceFault> {
+        open(alloc, source, top)
+    }
 }
 
 /// The tree of a source.

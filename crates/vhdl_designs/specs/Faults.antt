@@ -1,5 +1,5 @@
 -- What a layer's fault is to the caller of the whole, and the byte at which it is told.
-use Rattle.std.specs.Prelude.{ℕ, ◌≤◌, min, Option, Some, None, IfSome}
+use Rattle.std.specs.Prelude.{ℕ, ◌≤◌, Option, Some, None, IfSome}
 use Rattle.vhdl_expand.specs.declared.fault.ElabFault.{ElabFault}
 use Rattle.vhdl_expand.specs.declared.fault.ElabFault.TheVariants as elab
 use Rattle.vhdl_lexer.specs.Fault as lexer
@@ -10,8 +10,8 @@ use Rattle.vhdl_names.specs.declared.fault.NameFault.TheVariants as names
 use Rattle.vhdl_parser.specs.Fault as parser
 use Rattle.vhdl_parser.specs.declared.fault.SyntaxFault.{SyntaxFault}
 use Rattle.vhdl_parser.specs.declared.fault.SyntaxFault.TheVariants as syntax
-use Rattle.vhdl_source.specs.declared.fault.SourceFault.{SourceFault}
-use Rattle.vhdl_source.specs.declared.fault.SourceFault.TheVariants.{Lex, Syntax, Name, Elab, NoMemory}
+use Rattle.vhdl_designs.specs.declared.fault.SourceFault.{SourceFault}
+use Rattle.vhdl_designs.specs.declared.fault.SourceFault.TheVariants.{Lex, Syntax, Name, Elab, NoMemory}
 
 abbrev pub of_lex : LexFault → SourceFault
 of_lex lex.NoMemory = NoMemory

@@ -1,7 +1,7 @@
 //! Why a source has no net.
 
 ghost use Rattle.std.specs.Prelude.{◌≡◌};
-ghost use Rattle.vhdl_source.specs.Faults.{of_lex, of_syntax, of_name, of_elab};
+ghost use Rattle.vhdl_designs.specs.Faults.{of_lex, of_syntax, of_name, of_elab};
 
 use thiserror::Error;
 use vhdl_expand::ElabFault;

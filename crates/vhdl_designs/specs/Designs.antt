@@ -7,7 +7,7 @@ use Rattle.vhdl_names.specs.units.Units.{Units}
 use Rattle.vhdl_nets.specs.Names.{IsNamedAlike}
 use Rattle.vhdl_nets.specs.Shown.{Shows}
 use Rattle.vhdl_tree.specs.Tree.{File}
-use Rattle.vhdl_source.specs.Sources.{IsFileOf}
+use Rattle.vhdl_designs.specs.Sources.{IsFileOf}
 
 -- the source's one tree is a well-typed file with these units
 pub record HasUnits (source : List ℕ) (units : Units) : Type 0 where

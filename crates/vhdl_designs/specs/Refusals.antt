@@ -1,6 +1,5 @@
 -- Why a source has no net under a top: the first layer that refuses, each where its own definition does.
-use Rattle.std.specs.Prelude.{◌≡◌, ℕ, List, None, Result, Ok, Err, IsErr}
-use Rattle.rtl_net.specs.Nets.{NetView}
+use Rattle.std.specs.Prelude.{◌≡◌, ℕ, List, None, IsErr}
 use Rattle.vhdl_elab.specs.Elaboration.{elaborated}
 use Rattle.vhdl_expand.specs.declared.fault.ElabFault.TheVariants as elab
 use Rattle.vhdl_lexer.specs.Fault.{HasFault}
@@ -10,10 +9,10 @@ use Rattle.vhdl_names.specs.declared.fault.NameFault.TheVariants as names
 use Rattle.vhdl_names.specs.units.Units.{Units}
 use Rattle.vhdl_parser.specs.declared.fault.SyntaxFault.TheVariants as syntax
 use Rattle.vhdl_tree.specs.Tree.{File}
-use Rattle.vhdl_source.specs.Designs.{HasUnits}
-use Rattle.vhdl_source.specs.Sources.{IsFileOf, HasSyntaxFault}
-use Rattle.vhdl_source.specs.declared.fault.SourceFault.{SourceFault}
-use Rattle.vhdl_source.specs.declared.fault.SourceFault.TheVariants.{Lex, Syntax, Name, Elab, NoMemory}
+use Rattle.vhdl_designs.specs.Designs.{HasUnits}
+use Rattle.vhdl_designs.specs.Sources.{IsFileOf, HasSyntaxFault}
+use Rattle.vhdl_designs.specs.declared.fault.SourceFault.{SourceFault}
+use Rattle.vhdl_designs.specs.declared.fault.SourceFault.TheVariants.{Lex, Syntax, Name, Elab, NoMemory}
 
 -- the source's one tree is a file that isn't well typed
 pub record HasNoUnits (source : List ℕ) : Type 0 where

@@ -1,0 +1,5 @@
+-- In order of reading:
+pub mod Sources
+pub mod Designs
+pub mod Refusals
+pub mod Faults
