@@ -1,3 +1,2 @@
 pub mod Refusing
 pub mod Reading
-pub mod Telling

@@ -5,13 +5,14 @@ ghost use Rattle.std.specs.List.{before_first, after_first, slice_split};
 ghost use Rattle.rtl_sink.specs.Written.{IsIntact};
 ghost use Rattle.rtl_words.specs.Words.{IsOfWords};
 ghost use Rattle.rtlsim.specs.Inputs.{GivesStandard, GivesStandardAlone};
-ghost use Rattle.rtlsim.specs.Tools as tools;
-ghost use Rattle.rtlsim.specs.Tools.{ServesFirstLine, ServesLine, ends_line, first_line_of, words_in};
-ghost use Rattle.rtlsim.specs.declared.status.Status.{Status};
+ghost use Rattle.rtlsim.specs.Lines as lines;
+ghost use Rattle.rtlsim.specs.Lines.{ends_line, first_line_of};
+ghost use Rattle.rtlsim.specs.Tools.{ServesFirstLine, ServesLine, words_in};
 
 use crate::inputs::{Inputs, Named, Standard, read_input};
-use crate::program::{refuse_input, refuse_words, tool_with};
-use crate::status::Status;
+use crate::program::tool_with;
+use crate::refusals::{refuse_input, refuse_words};
+use rtl_commands::{Front, Status};
 use rtl_sink::{Reader, Sink};
 use rtl_words::Refused;
 use std::alloc::{AllocError, Global};
@@ -20,9 +21,9 @@ use std::rt::Files;
 /// The program without words: does what the words of the first line of the input ask for, cut at runs of
 /// spaces, as `tool_with` does; `@` is what stands after that line. Where the input can't be read, or the
 /// line isn't UTF-8, it tells so.
-pub fn tool_first_line<F: Files, R: Reader, O: Sink, E: Sink>(
+pub fn tool_first_line<F: Front, T: Files, R: Reader, O: Sink, E: Sink>(
     alloc: Global,
-    files: &F,
+    files: &T,
     reader: &mut R,
     out: &mut O,
     err: &mut E,
@@ -39,14 +40,14 @@ pub fn tool_first_line<F: Files, R: Reader, O: Sink, E: Sink>(
                 files,
                 reader: rest,
             };
-            serve_line(alloc, line, &mut inputs, out, err)
+            serve_line::<F, _, _, _>(alloc, line, &mut inputs, out, err)
         }
         Err(fault) => refuse_input(fault, out, err),
     }
 }
 
 /// The same, where `@` is the only file.
-pub(crate) fn serve_reader_line<R: Reader, O: Sink, E: Sink>(
+pub(crate) fn serve_reader_line<F: Front, R: Reader, O: Sink, E: Sink>(
     alloc: Global,
     reader: &mut R,
     out: &mut O,
@@ -61,14 +62,14 @@ pub(crate) fn serve_reader_line<R: Reader, O: Sink, E: Sink>(
         Ok(all) => {
             let (line, rest) = first_line(&all);
             let mut inputs = Standard { reader: rest };
-            serve_line(alloc, line, &mut inputs, out, err)
+            serve_line::<F, _, _, _>(alloc, line, &mut inputs, out, err)
         }
         Err(fault) => refuse_input(fault, out, err),
     }
 }
 
 /// Does what the words of a line ask for.
-fn serve_line<I: Inputs, O: Sink, E: Sink>(
+fn serve_line<F: Front, I: Inputs, O: Sink, E: Sink>(
     alloc: Global,
     line: &[u8],
     inputs: &mut I,
@@ -77,11 +78,11 @@ fn serve_line<I: Inputs, O: Sink, E: Sink>(
 ) -> Status
     requires out { IsIntact (O.state out.old) }
     requires err { IsIntact (E.state err.old) }
-    ensures { ServesLine line.now (λ file given. I.gives inputs.old file given inputs.new) result
+    ensures { ServesLine I.gives line.now (I.state inputs.old) (I.state inputs.new) result
         (record { out = O.state out.old; out_after = O.state out.new; err = E.state err.old; err_after = E.state err.new }) }
 {
     match read_words(alloc, line) {
-        Ok(words) => tool_with(alloc, &words, inputs, out, err),
+        Ok(words) => tool_with::<F, _, _, _>(alloc, &words, inputs, out, err),
         Err(refused) => refuse_words(&refused, out, err),
     }
 }
@@ -131,7 +132,7 @@ pub(crate) fn first_line(all: &[u8]) -> (&[u8], &[u8])
 
 /// A line without the carriage return at its end.
 fn without_return(line: &[u8]) -> &[u8]
-    ensures { result.now ≡ tools.without_return line.now }
+    ensures { result.now ≡ lines.without_return line.now }
 {
     match line {
         [front @ .., b'\r'] => front,

@@ -1,6 +1,7 @@
 //! The files that the words of the command line name.
 
 ghost use Rattle.std.specs.Prelude.{◌≡◌, ◌≤◌, ℕ, List, Option, Some, None, IfOk, IfErr, length};
+ghost use Rattle.rtl_sink.specs.Read.{ReaderState};
 ghost use Rattle.rtlsim.specs.Inputs.{GivesWhole, GivesStandard, GivesStandardAlone, greatest_input};
 ghost use Rattle.rtlsim.specs.declared.inputs.InputFault.TheVariants.{Failed, NoMemory};
 
@@ -38,15 +39,17 @@ impl From<AllocError> for InputFault {
 
 /// Gives the bytes of a file; `@` names the standard input.
 pub trait Inputs {
-    // What a read of the file of this name may give, between these states: its bytes, or none where it fails.
-    ghost gives: { Self → List ℕ → Option (List ℕ) → Self → Type 0 };
+    // The standard input.
+    ghost state: { Self → ReaderState };
+    // What a read of the file of a name may give, between two states of the standard input: its bytes, or none where it fails.
+    ghost gives: { ReaderState → ReaderState → List ℕ → Option (List ℕ) → Type 0 };
 
     /// The whole file of this name, at most `MAX_INPUT` bytes: `Failed` where it isn't there, can't be read
     /// or is longer, and `NoMemory` where memory was refused.
     fn read(&mut self, alloc: Global, name: &str) -> Result<Vec<u8>, InputFault>
-        ensures whole { IfOk result (λ all. gives self.old name.now (Some all.items) self.new) }
+        ensures whole { IfOk result (λ all. gives (state self.old) (state self.new) name.now (Some all.items)) }
         ensures short { IfOk result (λ all. length all.items ≤ greatest_input) }
-        ensures failed { IfErr result (λ fault. fault ≡ Failed → gives self.old name.now None self.new) };
+        ensures failed { IfErr result (λ fault. fault ≡ Failed → gives (state self.old) (state self.new) name.now None) };
 }
 
 /// The standard input alone.
@@ -56,7 +59,9 @@ pub struct Standard<R: Reader> {
 }
 
 impl<R: Reader> Inputs for Standard<R> {
-    ghost gives = { λ s name given t. GivesStandardAlone (R.state s.reader) (R.state t.reader) name given };
+    ghost state = { λ s. R.state s.reader };
+
+    ghost gives = { GivesStandardAlone };
 
     fn read(&mut self, alloc: Global, name: &str) -> Result<Vec<u8>, InputFault> {
         if name != "@" {
@@ -74,7 +79,9 @@ pub struct Named<'a, F: Files, R: Reader> {
 }
 
 impl<F: Files, R: Reader> Inputs for Named<'_, F, R> {
-    ghost gives = { λ s name given t. GivesStandard (R.state s.reader) (R.state t.reader) name given };
+    ghost state = { λ s. R.state s.reader };
+
+    ghost gives = { GivesStandard };
 
     fn read(&mut self, alloc: Global, name: &str) -> Result<Vec<u8>, InputFault> {
         if name == "@" {

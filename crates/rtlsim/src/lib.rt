@@ -1,24 +1,24 @@
 //! The simulator as one library: from the bytes of a source to the bytes of the answer.
+//!
+//! The commands are those of rtl_commands, and so is `Front`, by whose contract each call that has it for its first type parameter
+//! opens sources. `specs/Tools.antt` says what the program does for its words, and `specs/Inputs.antt` what
+//! the files are that it reads.
 #![tactic(auto)]
 
-mod faults;
+mod files;
 mod first_line;
 mod halves;
 mod inputs;
-mod lines;
-mod pipeline;
 mod program;
-mod status;
+mod refusals;
+mod simulating;
 
-pub use faults::{Fault, Notice, Place};
 pub use first_line::tool_first_line;
 pub use halves::halves_at_line;
 pub use inputs::{InputFault, Inputs, MAX_INPUT, Named, Standard, read_input};
-pub use pipeline::eval;
 pub use program::{perform, tool, tool_with};
-pub use rtl_plain::{
-    CheckFault, ElabFault, ElabProblem, NameFault, NameProblem, SourceId, StimFault, StimProblem,
-    exactly_one_valuation_solves,
+pub use rtl_commands::{
+    CheckFault, ElabFault, ElabProblem, Fault, Forward, Front, NameFault, NameProblem, Net, Pick,
+    Reverse, Sink, Status, StimFault, Summary, eval, run, run_event, show_check, show_net,
 };
 pub use rtl_words::{Order, Refused, Request, parse_words};
-pub use status::Status;

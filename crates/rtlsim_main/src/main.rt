@@ -10,6 +10,7 @@ use std::env;
 use std::io::{BufWriter, ErrorKind, Read, Write};
 use std::process::ExitCode;
 use std::rt::{Env, Files};
+use vhdl_source::Vhdl;
 
 fn main(rt: HostRuntime) -> ExitCode {
     ExitCode::from(run(&rt, rt.reader(), rt.stdout(), rt.stderr()).code())
@@ -87,13 +88,13 @@ fn run_words<T: Files + AllocGlobal, R: Read + Drop, O: Sink, E: Sink>(
 {
     let mut reader = In::new(reader);
     if args.is_empty() {
-        return tool_first_line(rt.alloc(), rt, &mut reader, out, err);
+        return tool_first_line::<Vhdl, _, _, _, _>(rt.alloc(), rt, &mut reader, out, err);
     }
     let Ok(words) = texts_of(rt.alloc(), args) else {
         return refuse(Status::Memory, b"rtlsim: memory\n", err);
     };
     let mut inputs = Named { files: rt, reader };
-    tool_with(rt.alloc(), &words, &mut inputs, out, err)
+    tool_with::<Vhdl, _, _, _>(rt.alloc(), &words, &mut inputs, out, err)
 }
 
 /// The words as texts.

@@ -1,14 +1,21 @@
 //! The calls by which a row is made.
 
+ghost use Rattle.rtl_sink.specs.Written.{IsIntact};
+
 use crate::answer::{Answer, text_of};
 use crate::faulty::{FailingReader, FailingWriter, Failure};
 use crate::row::Row;
 use rtl_sink::{In, Out, Reader};
-use rtlsim::{Named, Standard, eval, tool, tool_first_line, tool_with};
+use rtlsim::{
+    Fault, Forward, Named, Order, Pick, Request, Reverse, Sink, Standard, Status, eval,
+    halves_at_line, parse_words, run, run_event, show_check, show_net, tool, tool_first_line,
+    tool_with,
+};
 use std::alloc::{AllocError, Global};
 use std::io;
 use std::io::ErrorKind;
 use std::rt::Files;
+use vhdl_source::Vhdl;
 
 /// What the call of this name gives, where it isn't what the row says.
 ///
@@ -25,7 +32,7 @@ pub fn wrong_answer<R: Files + AllocGlobal>(
         b"files" => by_files(rt, row),
         b"line" => by_line(rt, row, b"\n")?,
         b"crlf" => by_line(rt, row, b"\r\n")?,
-        b"eval" => by_eval(rt.alloc(), row)?,
+        b"library" => by_library(rt.alloc(), row)?,
         b"reads" => return wrong_by_reads(rt.alloc(), row),
         b"writes" => return wrong_by_writes(rt.alloc(), row),
         _ => return Err(io::Error::from(ErrorKind::InvalidData)),
@@ -61,7 +68,7 @@ fn by_tool<R: Reader + Drop>(alloc: Global, row: &Row<'_>, reader: R) -> Answer 
     let mut input = Standard { reader };
     let mut out = Out::new(Vec::new(alloc));
     let mut err = Out::new(Vec::new(alloc));
-    let status = tool(alloc, &row.words, &mut input, &mut out, &mut err);
+    let status = tool::<Vhdl, _, _, _>(alloc, &row.words, &mut input, &mut out, &mut err);
     Answer {
         status,
         out: out.into_inner(),
@@ -77,7 +84,13 @@ fn by_files<R: Files + AllocGlobal>(rt: &R, row: &Row<'_>) -> Answer {
         files: rt,
         reader: row.input.as_slice(),
     };
-    let status = tool_with(rt.alloc(), &row.words, &mut inputs, &mut out, &mut err);
+    let status = tool_with::<Vhdl, _, _, _>(
+        rt.alloc(),
+        &row.words,
+        &mut inputs,
+        &mut out,
+        &mut err,
+    );
     Answer {
         status: status.code(),
         out: out.into_inner(),
@@ -101,7 +114,13 @@ fn by_line<R: Files + AllocGlobal>(
     let mut out = Out::new(Vec::new(rt.alloc()));
     let mut err = Out::new(Vec::new(rt.alloc()));
     let mut reader = all.as_slice();
-    let status = tool_first_line(rt.alloc(), rt, &mut reader, &mut out, &mut err);
+    let status = tool_first_line::<Vhdl, _, _, _, _>(
+        rt.alloc(),
+        rt,
+        &mut reader,
+        &mut out,
+        &mut err,
+    );
     Ok(Answer {
         status: status.code(),
         out: out.into_inner(),
@@ -109,23 +128,81 @@ fn by_line<R: Files + AllocGlobal>(
     })
 }
 
-/// `eval` over the input. It tells a fault by its answer, and so the error output is the row's.
-fn by_eval(alloc: Global, row: &Row<'_>) -> Result<Answer, AllocError> {
+/// The library's call over the input. It tells a fault by its answer, and so the error output is the row's.
+fn by_library(alloc: Global, row: &Row<'_>) -> Result<Answer, AllocError> {
     let mut answer = Answer::new(alloc);
-    let [_command, _file, top, sets @ ..] = row.words.as_slice() else {
+    let Ok(request) = parse_words(alloc, &row.words) else {
         return Ok(answer);
     };
-    let mut texts = Vec::new(alloc);
-    for set in sets {
-        texts.push(set.as_bytes())?;
-    }
     let mut out = Out::new(Vec::new(alloc));
-    if let Err(fault) = eval(alloc, &row.input, top.as_bytes(), &texts, &mut out) {
-        answer.status = fault.status().code();
-    }
+    answer.status = match call(alloc, &request, &row.input, &mut out) {
+        Ok(status) => status.code(),
+        Err(fault) => fault.status().code(),
+    };
     answer.out = out.into_inner();
     answer.err = row.answer.err.as_slice().to_vec(alloc)?;
     Ok(answer)
+}
+
+/// Makes the call of a request, and gives the status where it succeeds.
+fn call<S: Sink>(
+    alloc: Global,
+    request: &Request<'_>,
+    input: &[u8],
+    out: &mut S,
+) -> Result<Status, Fault>
+    requires { IsIntact (S.state out.old) }
+{
+    match request {
+        Request::Eval { top, sets, .. } => {
+            eval::<Vhdl, _>(alloc, input, top.as_bytes(), &bytes_of(alloc, sets)?, out)?;
+        }
+        Request::Net { top, .. } => show_net::<Vhdl, _>(alloc, input, top.as_bytes(), out)?,
+        Request::Check { top, .. } => {
+            if !show_check::<Vhdl, _>(alloc, input, top.as_bytes(), out)? {
+                return Ok(Status::Rejected);
+            }
+        }
+        Request::Run {
+            is_event,
+            order: Order::Forward,
+            top,
+            ..
+        } => simulate(alloc, *is_event, input, top, &mut Forward, out)?,
+        Request::Run { is_event, top, .. } => {
+            simulate(alloc, *is_event, input, top, &mut Reverse, out)?
+        }
+    }
+    Ok(Status::Done)
+}
+
+/// The bytes of each text.
+fn bytes_of<'a>(alloc: Global, texts: &'a [&'a str]) -> Result<Vec<&'a [u8]>, AllocError> {
+    let mut all = Vec::with_capacity(alloc, texts.len())?;
+    for text in texts {
+        all.push(text.as_bytes())?;
+    }
+    Ok(all)
+}
+
+/// Simulates the source that stands in an input, before its stimulus.
+fn simulate<P: Pick, S: Sink>(
+    alloc: Global,
+    is_event: bool,
+    input: &[u8],
+    top: &str,
+    pick: &mut P,
+    out: &mut S,
+) -> Result<(), Fault>
+    requires { IsIntact (S.state out.old) }
+{
+    let (source, stimulus) = halves_at_line(input);
+    let _summary = if is_event {
+        run_event::<Vhdl, _, _>(alloc, source, top.as_bytes(), stimulus, pick, out)?
+    } else {
+        run::<Vhdl, _, _>(alloc, source, top.as_bytes(), stimulus, pick, out)?
+    };
+    Ok(())
 }
 
 /// `tool`, where each read in turn fails: it tells so, and nothing else. Where none does, it is the row's.
@@ -179,7 +256,7 @@ fn by_writers(
     };
     let mut out = Out::new(FailingWriter::new(alloc, out_fails.0, out_fails.1));
     let mut err = Out::new(FailingWriter::new(alloc, err_fails.0, err_fails.1));
-    let status = tool(alloc, &row.words, &mut input, &mut out, &mut err);
+    let status = tool::<Vhdl, _, _, _>(alloc, &row.words, &mut input, &mut out, &mut err);
     Answer {
         status,
         out: out.into_inner().taken,

@@ -1,7 +1,7 @@
 //! Whole calls of the program, row by row. Each row is made by every call that can serve it, and each answer
 //! is compared with the row's: the status, and what goes to both outputs.
 //!
-//! The tables lie in `data/` with the sources that they name; `data/plain.txt` tells how a row is written.
+//! The tables lie in `data/` with the sources that they name; `data/values.txt` tells how a row is written.
 //! Where a call answers otherwise, what it gave is printed, and so the output isn't that of `stdout`.
 #![tactic(auto)]
 
@@ -17,7 +17,22 @@ use std::rt::Files;
 use std::{fs, io};
 
 /// The tables, in the folder in which the program runs.
-const TABLES: [&str; 4] = ["plain.txt", "refused.txt", "inputs.txt", "words.txt"];
+const TABLES: [&str; 14] = [
+    "values.txt",
+    "refused.txt",
+    "inputs.txt",
+    "words.txt",
+    "net.txt",
+    "check.txt",
+    "check_faults.txt",
+    "check_loops.txt",
+    "check_registers.txt",
+    "check_resets.txt",
+    "check_variables.txt",
+    "event.txt",
+    "run.txt",
+    "examples.txt",
+];
 
 fn main(rt: HostRuntime) -> io::Result<()> {
     for table in TABLES {

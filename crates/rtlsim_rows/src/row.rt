@@ -127,7 +127,10 @@ impl<'a> Row<'a> {
         if self.answer.status == 8 {
             return "tool files line writes";
         }
-        "tool files line eval reads writes"
+        if self.line.starts_with("eval ") {
+            return "tool files line library reads writes";
+        }
+        "tool files line library"
     }
 }
 

@@ -1,0 +1,33 @@
+-- What `net` and `check` write of a net.
+use Rattle.std.specs.Prelude.{◌≡◌, ◌⊎◌, ℕ, Bool, List, Result, Ok, Err}
+use Rattle.rtl_check.specs.Verdicts.{IsVerdict, is_yes}
+use Rattle.rtl_check.specs.Views.{core}
+use Rattle.rtl_check.specs.declared.checking.Verdict.{Verdict}
+use Rattle.rtl_commands.specs.declared.faults.Fault.{Fault}
+use Rattle.rtl_commands.specs.declared.faults.Fault.TheVariants.{Memory, Output}
+use Rattle.rtl_listing.specs.CheckText.{check_text}
+use Rattle.rtl_listing.specs.NetText.{net_text}
+use Rattle.rtl_net.specs.Nets.{NetView}
+use Rattle.rtl_sink.specs.Written.{SinkState, IsIntact, HasFailed, TakesAll, TakesBeginning}
+
+-- The text went out; or a beginning of it, since the sink has failed, or since memory was refused.
+abbrev pub Writes : {A : Type 0} → (text : List ℕ) → Result A Fault → (old new : SinkState) → Type 0
+Writes text (Ok x) old new = IsIntact new × TakesAll old new text
+Writes text (Err Output) old new = HasFailed new × TakesBeginning old new text
+Writes text (Err Memory) old new = TakesBeginning old new text
+Writes text (Err _) old new = ⊥
+
+-- the lines of the net
+abbrev pub ListsNet : NetView → Result (Unit {0}) Fault → (old new : SinkState) → Type 0
+ListsNet net answer old new = Writes (net_text net) answer old new
+
+-- the lines of the checker's one verdict on the net
+pub record WritesVerdict (net : NetView) (answer : Result Bool Fault) (old new : SinkState) : Type 0 where
+  pub verdict : Verdict
+  pub is : IsVerdict (core net) verdict
+  pub written : Writes (check_text net verdict) answer old new
+
+-- it answers whether the verdict is yes; memory may also be refused before there is one
+abbrev pub ChecksNet : NetView → Result Bool Fault → (old new : SinkState) → Type 0
+ChecksNet net (Ok passed) old new = (w : WritesVerdict net (Ok passed) old new) × (is_yes w.verdict ≡ passed)
+ChecksNet net (Err fault) old new = WritesVerdict net (Err fault) old new ⊎ ((fault ≡ Memory) × (new ≡ old))

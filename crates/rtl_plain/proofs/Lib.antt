@@ -1,9 +1,0 @@
-pub mod Found
-pub mod Plain
-pub mod Answering
-pub mod Solving
-pub mod Evaluating
-pub mod Driving
-pub mod Tables
-pub mod Giving
-pub mod Rows

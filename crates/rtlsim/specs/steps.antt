@@ -1,2 +1,0 @@
--- What the code's own calls say.
-pub mod Designed
