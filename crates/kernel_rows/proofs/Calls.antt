@@ -4,7 +4,7 @@ use Rattle.vhdl_values.specs.declared.scalar.Nine.{Nine}
 use Rattle.rtl_model.specs.simulation.Net.{Net}
 use Rattle.rtl_model.specs.simulation.Cycle.{State, ran}
 use Rattle.rtl_model.specs.simulation.Moments.{HasNoneToRun, Runs, HasRun}
-use Rattle.kernel_rows.proofs.Counted.{all_one}
+use Rattle.net_examples.proofs.Premises.{all_one}
 
 ends : (net : Net) (order : List ℕ) (s t : State) → Runs net order s t → HasNoneToRun t
 ends net [] s t h = subst (λ (u : State). HasNoneToRun u) (sym h.1) h.0

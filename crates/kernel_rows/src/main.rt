@@ -2,12 +2,10 @@
 //! the processes run in several orders. What is printed are codes of the nine values, 2 for '0' and 3 for '1'.
 #![tactic(auto)]
 
-mod counter;
-mod registers;
 mod rows;
 
-use counter::counter;
-use registers::registers;
+use net_examples::counter::counter;
+use net_examples::registers::registers;
 use rows::{Recording, tell_counter, tell_registers};
 use rtl_kernel::{Forward, Reverse};
 use std::io;

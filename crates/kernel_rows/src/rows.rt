@@ -5,7 +5,7 @@ ghost use Rattle.rtl_model.specs.simulation.Cycle.{is_quiet};
 ghost use Rattle.rtl_model.specs.simulation.Moments.{HasNoneToRun};
 ghost use Rattle.rtl_net.specs.Nets.{flat};
 ghost use Rattle.rtl_examples.specs.Counter as example;
-ghost use Rattle.kernel_rows.specs.Registers as spec;
+ghost use Rattle.net_examples.specs.Registers as spec;
 
 use rtl_kernel::{Kernel, Pick};
 use rtl_net::Net;

@@ -5,13 +5,10 @@
 #![tactic(auto)]
 
 mod outcome;
-mod text;
 
-use outcome::told;
-use std::alloc::Global;
-use std::rt::Files;
-use std::{fs, io};
-use text::Frame;
+use outcome::Names;
+use row_text::tell_table;
+use std::io;
 
 fn main(rt: HostRuntime) -> io::Result<()> {
     for file in [
@@ -26,37 +23,7 @@ fn main(rt: HostRuntime) -> io::Result<()> {
         "left_out.rows",
         "order.rows",
     ] {
-        tell_table(&rt, file)?;
+        tell_table(&rt, file, &Names)?;
     }
     Ok(())
-}
-
-/// Prints the rows of a file. A line that begins with `#` is a comment, and one that begins with `in ` the frame of the
-/// rows below it.
-fn tell_table(rt: &(impl Files + Print + AllocGlobal), file: &str) -> io::Result<()> {
-    let rows = fs::read_to_string(rt, file)?;
-    println!(rt; "{file}")?;
-    let mut frame = Frame::WHOLE;
-    for row in rows.as_str().lines() {
-        if let Some(form) = row.strip_prefix("in ") {
-            frame = Frame::of(form);
-        }
-        if !row.starts_with('#') {
-            println!(rt; "{}", told_row(rt.alloc(), frame, row)?)?;
-        }
-    }
-    Ok(())
-}
-
-/// A row with what the analysis finds.
-fn told_row(alloc: Global, frame: Frame<'_>, row: &str) -> io::Result<String> {
-    let Some((written, expected)) = row.split_once(" → ") else {
-        return Ok(String::from_str(alloc, row)?);
-    };
-    let found = told(alloc, frame, written)?;
-    if found.as_str() == expected {
-        Ok(String::from_str(alloc, row)?)
-    } else {
-        Ok(format!(in alloc; "{written} → {found}   (expected: {expected})")?)
-    }
 }

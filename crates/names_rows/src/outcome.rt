@@ -1,39 +1,37 @@
 //! What the analysis of a text finds, in words.
 
-use crate::text::Frame;
+use row_text::{Frame, Teller};
 use std::alloc::{AllocError, Global};
-use vhdl_files::analyse;
-use vhdl_lexer::lex;
+use vhdl_expand::{ElabFault, ElabProblem};
 use vhdl_names::{NameFault, NameProblem};
-use vhdl_parser::{SyntaxFault, parse};
+use vhdl_parser::SyntaxFault;
+use vhdl_source::{SourceFault, open};
 
-/// Why a source has no units.
+/// What the analysis is asked of a row's text: `analysed`, or the fault's name where it stands at the text's mark.
 #[derive(Clone, Copy)]
-enum Refusal {
-    /// The lexer's fault of this number.
-    Lex(u8),
-    /// The parser's fault.
-    Syntax(SyntaxFault),
-    /// A fault of names or types.
-    Name(NameFault),
-}
+pub struct Names;
 
-/// Whether a source has units; how many.
-fn analysed(alloc: Global, source: &[u8]) -> Result<usize, Refusal> {
-    let tokens = lex(alloc, source).map_err(|fault| Refusal::Lex(fault.number()))?;
-    let file = parse(alloc, source, &tokens).map_err(Refusal::Syntax)?;
-    let units = analyse(alloc, &file).map_err(Refusal::Name)?;
-    Ok(units.entities.len())
-}
+/// The name of a top that no source has: where names and types are right, elaboration finds that there is none.
+const NO_ENTITY: &[u8] = b"";
 
-/// What becomes of a text in a frame: `analysed`, or the fault's name where it stands at the text's mark.
-pub fn told(alloc: Global, frame: Frame<'_>, written: &str) -> Result<String, AllocError> {
-    let (source, place) = frame.source_of(alloc, written)?;
-    match analysed(alloc, source.as_str().as_bytes()) {
-        Ok(_) => String::from_str(alloc, "analysed"),
-        Err(Refusal::Lex(number)) => format!(in alloc; "lexer's fault {number}"),
-        Err(Refusal::Syntax(fault)) => told_syntax(alloc, fault, place),
-        Err(Refusal::Name(fault)) => told_name(alloc, fault, place),
+impl Teller for Names {
+    fn told(&self, alloc: Global, frame: Frame<'_>, written: &str) -> Result<String, AllocError> {
+        let (source, place) = frame.source_of(alloc, written)?;
+        match open(alloc, source.as_str().as_bytes(), NO_ENTITY) {
+            Ok(_) => String::from_str(alloc, "a net without a top"),
+            Err(
+                SourceFault::Elab(
+                    ElabFault::At {
+                        problem: ElabProblem::NoTop,
+                        ..
+                    },
+                ),
+            ) => String::from_str(alloc, "analysed"),
+            Err(SourceFault::Lex(fault)) => format!(in alloc; "lexer's fault {}", fault.number()),
+            Err(SourceFault::Syntax(fault)) => told_syntax(alloc, fault, place),
+            Err(SourceFault::Name(fault)) => told_name(alloc, fault, place),
+            Err(fault) => format!(in alloc; "{fault}"),
+        }
     }
 }
 

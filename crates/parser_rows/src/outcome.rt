@@ -1,11 +1,29 @@
 //! What the parser makes of a text, in words.
 
-use crate::text::Frame;
+use row_text::{Frame, Teller};
 use std::alloc::{AllocError, Global};
 use tree_text::push_file;
 use vhdl_lexer::lex;
 use vhdl_parser::{SyntaxFault, parse};
 use vhdl_tree::File;
+
+/// What the rows of a table are.
+#[derive(Clone, Copy)]
+pub enum Table {
+    /// Texts that are read or refused, each in the frame above it.
+    Texts,
+    /// Whole sources, with their tree or fault.
+    Sources,
+}
+
+impl Teller for Table {
+    fn told(&self, alloc: Global, frame: Frame<'_>, written: &str) -> Result<String, AllocError> {
+        match self {
+            Table::Texts => told_text(alloc, frame, written),
+            Table::Sources => told_source(alloc, written),
+        }
+    }
+}
 
 /// Why a source has no tree.
 #[derive(Clone, Copy)]
@@ -25,7 +43,7 @@ pub fn file_of(alloc: Global, source: &[u8]) -> Result<File, Refusal> {
 }
 
 /// What becomes of a text in a frame: `read`, or the fault's name where it stands at the text's mark.
-pub fn told_text(alloc: Global, frame: Frame<'_>, written: &str) -> Result<String, AllocError> {
+fn told_text(alloc: Global, frame: Frame<'_>, written: &str) -> Result<String, AllocError> {
     let (source, place) = frame.source_of(alloc, written)?;
     match file_of(alloc, source.as_str().as_bytes()) {
         Ok(_) => String::from_str(alloc, "read"),
@@ -48,7 +66,7 @@ fn name_of(fault: SyntaxFault) -> &'static str {
 }
 
 /// The tree of a source, or its fault.
-pub fn told_source(alloc: Global, written: &str) -> Result<String, AllocError> {
+fn told_source(alloc: Global, written: &str) -> Result<String, AllocError> {
     let (source, _) = Frame::WHOLE.source_of(alloc, written)?;
     match file_of(alloc, source.as_str().as_bytes()) {
         Ok(file) => told_file(alloc, &file),
