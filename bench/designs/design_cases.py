@@ -1,0 +1,193 @@
+#!/usr/bin/env python3
+"""Random designs of the subset beside GHDL.
+
+    design_cases.py make N SEED FILE          N designs with stimulus, GHDL's settled values and faulty twins, one JSON a line
+    design_cases.py run FILE PROGRAM [ARG..]  PROGRAM run [ARG..] on each, and what differs from GHDL; designs that the checker
+                                              is to refuse are run with --event alone
+    design_cases.py check FILE PROGRAM        yes on each design without a fault, else no with its fault; no on each faulty twin
+
+A design has registers on one or two clocks, with and without resets, combinational processes with variables and loops,
+concurrent assignments, enumerations, generates, and instances that share nets. By construction it has no loop, and a value
+for each target on each path. A third of the designs break a rule of the checker on purpose: several drivers of a net,
+a clock made by logic, a latch, an edge beside other conditions, a sensitivity that is left out. They are run with --event.
+"""
+import collections, json, random, re, subprocess, sys, tempfile
+
+from designs import HEAD, Design, Signal, beside
+
+NINE = "01010101010101LHXUZW-"
+BATCH = 50
+
+# stimulus and testbench
+
+def stimulus(r, d):
+    """lines, changes (time, input, value) and the stop; data inputs are left alone at active edges"""
+    stop, changes, toggles = r.randint(60, 200), [], {}
+    clocks = {"clk": (5, 5), "ck2": (r.randint(1, 12), r.randint(2, 9))}
+    idle = [clocks.pop(n) and n for n in ("clk", "ck2") if not {(n, True), (n, False)} & d.edges]
+    busy = set()
+    for name, (first, half) in clocks.items():
+        for k, t in enumerate(range(first, stop + 1, half)):
+            toggles.setdefault(t, []).append((name, "10"[k % 2]))
+            if (name, k % 2 == 0) in d.edges: busy.add(t)
+    for s in [Signal("rst", "s", 1)] + d.in_ports:
+        t = 0
+        while t <= stop:
+            if t not in busy and (t or r.random() < 0.95):
+                changes.append((t, s, "".join(r.choice("01" if s.name == "rst" and r.random() < 0.9 else NINE) for _ in range(s.width))))
+            t += r.randint(1, 60 if s.name == "rst" else 30)
+    lines = ["at %d %s %s" % (t, s.name, v) for t, s, v in changes] + ["clock %s %d %d" % (n, f, h) for n, (f, h) in clocks.items()] + ["at 0 %s 0" % n for n in idle]
+    r.shuffle(lines)
+    return "\n".join(lines + ["stop %d" % stop]) + "\n", changes, toggles, stop
+
+def testbench(d, changes, toggles):
+    quoted = lambda s, v: "'%s'" % v if s.kind == "s" else '"%s"' % v
+    inputs, events = [Signal("rst", "s", 1)] + d.in_ports, collections.defaultdict(list)
+    text = "%sentity tb_%s is end;\narchitecture t of tb_%s is\nsignal clk, ck2 : std_logic := '0';\n" % (HEAD, d.top, d.top)
+    for s in inputs:
+        first = [v for t, x, v in changes if x.name == s.name and t == 0]
+        text += "signal %s : %s%s;\n" % (s.name, s.type(), " := " + quoted(s, first[0]) if first else "")
+    text += "begin\ndut: entity work.%s port map (%s);\nprocess begin\n" % (d.top, ", ".join("%s => %s" % (n, n) for n in ["clk", "ck2"] + [s.name for s in inputs]))
+    for t, s, v in changes:
+        if t: events[t].append("%s <= %s;" % (s.name, quoted(s, v)))
+    for t, pairs in toggles.items(): events[t] += ["%s <= '%s';" % p for p in pairs]
+    last = 0
+    for t in sorted(events): text += "wait for %d ns; %s\n" % (t - last, " ".join(events[t])); last = t
+    return text + "wait; end process;\nend;\n"
+
+# traces
+
+def trace(lines, stops, place):
+    """{design: [(time, {name: digits})]}, what changes and up to its stop; place(scopes) is the design and the path in it"""
+    codes, scopes, now, last, time, unit = {}, [], {}, {}, None, 1
+    out, digit = {k: [] for k in stops}, {"0": "0", "l": "0", "1": "1", "h": "1", "z": "z"}
+    def flush():
+        for k, names in now.items():
+            new = {n: v for n, v in names.items() if last.get((k, n)) != v}
+            last.update(((k, n), v) for n, v in new.items())
+            if new and time <= stops[k]: out[k].append((time, new))
+        now.clear()
+    for line in lines:
+        w = line.split()
+        if not w: continue
+        if w[:2] == ["1", "fs"]: unit = 1000000
+        elif w[0] == "$scope": scopes.append(w[2])
+        elif w[0] == "$upscope": scopes.pop()
+        elif w[0] == "$var":
+            k, path = place(scopes)
+            name = re.sub(r"\[.*", "", w[4])
+            if k in stops: codes.setdefault(w[3], []).append((k, ".".join(path + [name[3:] if name.startswith("zz_") else name])))
+        elif w[0][0] == "#": flush(); time = int(w[0][1:]) // unit
+        elif w[0][0] in "bB" or (len(w) == 1 and w[0][0] in "01xXzZuUwWlLhH-"):
+            code, value = (w[1], w[0][1:]) if w[0][0] in "bB" else (w[0][1:], w[0][0])
+            for k, n in codes.get(code, []): now.setdefault(k, {})[n] = "".join(digit.get(c, "x") for c in value.lower())
+    flush()
+    return out
+
+def ghdl(folder, *words):
+    return subprocess.run(("ghdl",) + words, cwd=folder, capture_output=True, text=True)
+
+def accepted(text):
+    with tempfile.TemporaryDirectory() as folder:
+        open(folder + "/t.vhd", "w").write(text)
+        p = ghdl(folder, "-s", "--std=08", "t.vhd")
+        return p.stderr if p.returncode else ""
+
+def simulated(cases):
+    """[(top, text, stop)]: GHDL's values of each; halves are tried where GHDL fails"""
+    with tempfile.TemporaryDirectory() as folder:
+        rows = "".join("u_%s: entity work.tb_%s;\n" % (k, k) for k, _, _ in cases)
+        open(folder + "/t.vhd", "w").write("".join(t for _, t, _ in cases) + "entity tb is end;\narchitecture t of tb is\nbegin\n%send;\n" % rows)
+        stop = "--stop-time=%dns" % max(s for _, _, s in cases)
+        for words in (["-a", "-O0", "--std=08", "t.vhd"], ["-e", "--std=08", "tb"], ["-r", "--std=08", "tb", "--ieee-asserts=disable", stop, "--vcd=o.vcd"]):
+            p = ghdl(folder, *words)
+            if p.returncode == 0: continue
+            if len(cases) == 1: print(cases[0][0], "GHDL:", (p.stdout + p.stderr)[:300], flush=True); return {}
+            half = len(cases) // 2
+            return {**simulated(cases[:half]), **simulated(cases[half:])}
+        place = lambda s: (s[1][2:], s[3:]) if len(s) > 2 and s[0] == "tb" and s[2] == "dut" else (None, [])
+        with open(folder + "/o.vcd") as f: return trace(f, {k: s for k, _, s in cases}, place)
+
+# faulty twins
+
+def twins(r, text):
+    """texts with one edit, each with the fault that it brings"""
+    out = []
+    def edit(kind, pattern, change):
+        found = list(re.finditer(pattern, text, re.M))
+        if found:
+            m = r.choice(found); out.append((kind, text[:m.start()] + change(m) + text[m.end():]))
+    edge = r"process \((clk|ck2)\) begin if ((?:rising|falling)_edge\(\1\)|[^;]*?'event[^;]*?) then "
+    edit("MissingSensitivity", r"^(  (?:p\d+: )?process )\(((?:[ienyr]\w+, )+)[eny]\w+\) ", lambda m: "%s(%s) " % (m.group(1), m.group(2).rstrip(", ")))
+    edit("EdgeNotSensitive", edge, lambda m: m.group().replace("process (%s)" % m.group(1), "process (i0)"))
+    edit("EdgeNotSensitive", r"process \((clk|ck2), rst\)", lambda m: "process (%s)" % m.group(1))
+    edit("Mixed", edge, lambda m: m.group().replace(" begin ", " begin null; "))
+    edit("ClockAsData", edge, lambda m: m.group() + "if %s = '1' then null; end if; " % m.group(1))
+    edit("StoredVariable", r"^(  (?:p\d+: )?process \([^)]*\) (?:(?!begin ).)*begin )(v\d+) := ", lambda m: "%s%s := %s; %s := " % (m.group(1), m.group(2), m.group(2), m.group(2)))
+    edit("TwoDrivers", r"^  (?:p\d+: )?(n\d+ <= [^;]*;)$", lambda m: m.group() + "\n  " + m.group(1))
+    edit("Loop", r"^(  (?:p\d+: )?(n\d+) <= )((?:(?! when )[^;])*);$", lambda m: "%s(%s) xor %s;" % (m.group(1), m.group(3), m.group(2)))
+    edit("Latch", r"^(  (?:p\d+: )?\w+ <= (?:(?! when )[^;])* when (?:(?! else )[^;])*) else [^;]*;$", lambda m: m.group(1) + ";")
+    return out
+
+# the three commands
+
+def make(n, seed, path):
+    r, done, tried, refused = random.Random(seed), 0, 0, collections.Counter()
+    with open(path, "w") as f:
+        while done < n:
+            batch = []
+            while len(batch) < min(BATCH, n - done):
+                d = Design(r, "d%d" % (done + len(batch))); tried += 1
+                unit = d.make(wild=r.random() < 0.33)
+                lines, changes, toggles, stop = stimulus(r, d)
+                units = d.units + [unit]
+                text, full = "".join(t for t, _ in units), "".join(beside(u) for u in units) + testbench(d, changes, toggles)
+                told = accepted(full)
+                if told: refused[re.sub(r"^[^ ]* ", "", told.split("\n")[0])[:60]] += 1; continue
+                batch.append({"top": d.top, "source": text, "stimulus": lines, "stop": stop, "fault": sorted(d.faults), "full": full, "faulty": [] if d.faults else twins(r, text)})
+            values = simulated([(c["top"], c.pop("full"), c["stop"]) for c in batch])
+            for c in batch:
+                if c["top"] in values: f.write(json.dumps({**c, "values": values[c["top"]]}) + "\n")
+            f.flush(); done += len(batch)
+    print("made %d of %d tried" % (done, tried), dict(refused))
+
+def call(program, words, files):
+    with tempfile.TemporaryDirectory() as folder:
+        for name, text in files.items(): open("%s/%s" % (folder, name), "w").write(text)
+        p = subprocess.run([program] + words, cwd=folder, capture_output=True, text=True)
+    return p.returncode, p.stdout, p.stderr.strip()[:200]
+
+def run(path, program, words):
+    bad = total = names = 0
+    for c in map(json.loads, open(path)):
+        if c["fault"] and "--event" not in words: continue
+        total += 1
+        status, out, told = call(program, ["run"] + words + ["s.vhd", c["top"], "t.stim"], {"s.vhd": c["source"], "t.stim": c["stimulus"]})
+        if status: bad += 1; print(c["top"], "status", status, told); continue
+        mine = trace(out.split("\n"), {c["top"]: c["stop"]}, lambda s: (s[0], s[1:]))[c["top"]]
+        theirs, a, b, diff = {t: v for t, v in c["values"]}, {}, {}, []
+        mine = dict(mine)
+        for t in sorted(set(mine) | set(theirs)):
+            a.update(mine.get(t, {})); b.update(theirs.get(t, {}))
+            names += len(a.keys() & b.keys())
+            diff += [(t, n, a[n], b[n]) for n in a.keys() & b.keys() if a[n] != b[n]]
+            if a.keys() != b.keys(): diff.append((t, "names", sorted(a.keys() ^ b.keys())[:3]))
+        if diff: bad += 1; print(c["top"], "differs:", diff[:3])
+    print("%d designs, %d bad, %d values compared" % (total, bad, names))
+    return 1 if bad else 0
+
+def check(path, program):
+    bad, told = 0, collections.Counter()
+    for c in map(json.loads, open(path)):
+        for kind, text in [(" ".join(c["fault"]) or "yes", c["source"])] + c["faulty"]:
+            status, out, error = call(program, ["check", "s.vhd", c["top"]], {"s.vhd": text})
+            good = out.startswith("yes\n") and status == 0 if kind == "yes" else status == 4 and all(" %s " % k in out for k in kind.split())
+            told[kind, good] += 1
+            if not good: bad += 1; print(c["top"], kind, "not told:", status, out[:100].replace("\n", "; "), error)
+    print("%d verdicts, %d bad" % (sum(told.values()), bad), sorted(told.items()))
+    return 1 if bad else 0
+
+if __name__ == "__main__":
+    if sys.argv[1] == "make": make(int(sys.argv[2]), int(sys.argv[3]), sys.argv[4])
+    elif sys.argv[1] == "run": sys.exit(run(sys.argv[2], sys.argv[3], sys.argv[4:]))
+    else: sys.exit(check(sys.argv[2], sys.argv[3]))

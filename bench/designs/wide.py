@@ -1,0 +1,38 @@
+#!/usr/bin/env python3
+"""wide.py FORM N: prints a design, wide, of N vectors of 64 elements, N a power of two up to 16,384 (a million nets).
+
+tree        each vector the negation of the one at half its number; input x, N - 2 negations in log2 N levels
+registers   half of the vectors are registers on clk, each fed by the negation of the next
+quiet       the tree, and one element that toggles on clk
+chain       N inverters of one element, one behind the other (N up to 65,535)
+generate    the vectors in instances of a generate, four in each
+"""
+import sys
+form, n = sys.argv[1], int(sys.argv[2])
+HEAD = "library ieee; use ieee.std_logic_1164.all;\n"
+V = "std_logic_vector(63 downto 0)"
+if form == "tree":
+    print(HEAD + "entity wide is port (x : in %s); end;\narchitecture r of wide is" % V)
+    print("signal " + ", ".join("s%d" % k for k in range(1, n)) + " : " + V + ";\nbegin\ns1 <= x;")
+    for k in range(2, n): print("s%d <= not s%d;" % (k, k // 2))
+elif form == "registers":
+    h = n // 2
+    print(HEAD + "entity wide is port (clk : in std_logic; x : in std_logic_vector(62 downto 0)); end;\narchitecture r of wide is")
+    print("signal " + ", ".join("q%d" % k for k in range(h)) + " : " + V + " := (others => '0');\nsignal " + ", ".join("n%d" % k for k in range(1, h)) + " : " + V + ";\nbegin")
+    for k in range(1, h): print("n%d <= not q%d;\nprocess (clk) begin if rising_edge(clk) then q%d <= n%d; end if; end process;" % (k, k, k - 1, k))
+    print("process (clk) begin if rising_edge(clk) then q%d <= not q%d; end if; end process;" % (h - 1, h - 1))
+elif form == "quiet":
+    print(HEAD + "entity wide is port (clk : in std_logic; x : in %s); end;\narchitecture r of wide is" % V)
+    print("signal f : std_logic := '0';\nsignal " + ", ".join("s%d" % k for k in range(1, n - 1)) + " : " + V + ";\nbegin\ns1 <= x;")
+    print("process (clk) begin if rising_edge(clk) then f <= not f; end if; end process;")
+    for k in range(2, n - 1): print("s%d <= not s%d;" % (k, k // 2))
+elif form == "chain":
+    print("library ieee; use ieee.std_logic_1164.all;\nentity wide is port (x : in std_logic); end;\narchitecture r of wide is")
+    print("signal " + ", ".join("s%d" % k for k in range(n)) + " : std_logic;\nbegin\ns0 <= x;")
+    for k in range(1, n): print("s%d <= not s%d;" % (k, k - 1))
+else:
+    i = n // 4
+    print(HEAD + "entity part is port (a : in std_logic); end;\narchitecture r of part is\nsignal p, q, t, u : %s;\nbegin\np <= (others => a);\nq <= not p;\nt <= not q;\nu <= not t;\nend;" % V)
+    print(HEAD + "entity wide is end;\narchitecture r of wide is\nsignal x : std_logic := '0';\nbegin")
+    print("g: for i in 0 to %d generate u: entity work.part port map (x); end generate;" % (min(i, 4096) - 1 - (i == 4096)))
+print("end;")
