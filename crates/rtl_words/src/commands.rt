@@ -6,13 +6,27 @@ use std::alloc::{AllocError, Global};
 /// The orders of a run.
 static ORDERS: [&str; 2] = ["forward", "reverse"];
 
+/// What stands below the help of all commands.
+static EXAMPLES: &str = "FILE or STIM may be @, the standard input.
+
+Examples:
+  rtlsim eval and2.vhd and2 a=L b=H
+  rtlsim net counter.vhd counter
+  rtlsim check counter.vhd counter
+  rtlsim run counter.vhd counter counter.stim
+  rtlsim run --event --order reverse counter.vhd counter counter.stim";
+
 /// The commands.
 pub fn command<'a>(alloc: Global) -> Result<Command<'a>, AllocError> {
-    let net = design_command(alloc, "net", "Prints the nets and what drives each")?;
-    let check = design_command(alloc, "check", "Says whether the design settles")?;
+    let net = design_command(alloc, "net", "Prints the nets and what drives each")?
+        .override_usage("rtlsim net <FILE> <TOP>")
+        .after_help("Example: rtlsim net counter.vhd counter");
+    let check = design_command(alloc, "check", "Says whether the design settles")?
+        .override_usage("rtlsim check <FILE> <TOP>")
+        .after_help("Example: rtlsim check counter.vhd counter");
     Command::new(alloc, "rtlsim")
         .about("Simulates the register-transfer subset of VHDL")
-        .after_help("FILE or STIM may be @, the standard input.")
+        .after_help(EXAMPLES)
         .no_binary_name(true)
         .subcommand_required(true)
         .subcommand(eval_command(alloc)?)?
@@ -49,6 +63,7 @@ fn eval_command<'a>(alloc: Global) -> Result<Command<'a>, AllocError> {
         .action(ArgAction::Append);
     design_command(alloc, "eval", "Prints the outputs under these inputs")?
         .override_usage("rtlsim eval <FILE> <TOP> [NAME=VALUE]...")
+        .after_help("Example: rtlsim eval and2.vhd and2 a=L b=H")
         .arg(sets)
 }
 
@@ -63,6 +78,8 @@ fn run_command<'a>(alloc: Global) -> Result<Command<'a>, AllocError> {
         .help("The order in which resumed processes run")
         .value_parser(ORDERS.as_slice());
     design_command(alloc, "run", "Prints the trace under a stimulus")?
+        .override_usage("rtlsim run [--event] [--order <ORDER>] <FILE> <TOP> <STIM>")
+        .after_help("Example: rtlsim run counter.vhd counter counter.stim")
         .arg(operand(alloc, "STIM", "The stimulus, or @ for the standard input"))?
         .arg(event)?
         .arg(order)
