@@ -7,7 +7,7 @@ use Rattle.rtl_check.specs.declared.fault.CheckFault.{CheckFault}
 use Rattle.rtl_model.specs.simulation.Faults.{AreStored}
 use Rattle.rtl_check.specs.declared.checking.Verdict.{Verdict}
 use Rattle.rtl_commands.specs.Faults.{of_listing, of_run, of_stim}
-use Rattle.rtl_commands.specs.Listed.{Writes, WritesVerdict, ListsNet, ChecksNet}
+use Rattle.rtl_commands.specs.Listed.{Writes, ChecksNet}
 use Rattle.rtl_commands.specs.Simulated.{HasNoneStored, IsStimulusOf, Simulates, RunsEvents, most_deltas}
 use Rattle.rtl_commands.specs.declared.faults.Fault.{Fault}
 use Rattle.rtl_commands.specs.declared.faults.Fault.TheVariants.{Memory}
@@ -16,7 +16,7 @@ use Rattle.rtl_listing.specs.Printing.{IsListed}
 use Rattle.rtl_listing.specs.declared.fault.ListingFault.{ListingFault}
 use Rattle.rtl_listing.specs.declared.fault.ListingFault.TheVariants as listing
 use Rattle.rtl_moments.specs.Ports.{inputs_of}
-use Rattle.rtl_moments.specs.Stimuli.{StimulusView, IsRead}
+use Rattle.rtl_moments.specs.Stimuli.{StimulusView}
 use Rattle.rtl_net.specs.Nets.{NetView}
 use Rattle.rtl_run.specs.Answered.{Answers}
 use Rattle.rtl_run.specs.declared.summary.RunFault.{RunFault}

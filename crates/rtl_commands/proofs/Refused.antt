@@ -1,5 +1,5 @@
 -- What a source that is refused answers, and where faults are told.
-use Rattle.std.proofs.Common.{◌≡◌, ℕ, ◌≤◌, Bool, true, false, List, Result, Ok, Err, inl, inr, refl, ap}
+use Rattle.std.proofs.Common.{◌≡◌, ℕ, Bool, false, List, Result, Ok, Err, inl, inr, refl, ap}
 use Rattle.std.specs.Prelude.{IfErr, IsErrAnd}
 use Rattle.rtl_commands.specs.Faults.{of_source, has_names}
 use Rattle.rtl_commands.specs.Listed.{Writes, ListsNet, ChecksNet}

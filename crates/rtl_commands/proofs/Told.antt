@@ -1,10 +1,9 @@
 -- What is told of a fault.
-use Rattle.std.proofs.Common.{◌≡◌, ℕ, Bool, true, false, List, [], length, take, Result, Ok, Err, inl, inr, refl, sym, ◌∙◌, subst, true≢false}
+use Rattle.std.proofs.Common.{◌≡◌, ℕ, List, [], length, Result, Ok, Err, inl, inr, refl, sym, ◌∙◌, subst, true≢false}
 use Rattle.std.specs.Prelude.{IsErrAnd}
 use Rattle.std.proofs.Math.Seq.{take-length}
-use Rattle.rtl_commands.specs.Faults.{of_source, has_names, status_of}
-use Rattle.rtl_commands.specs.Lines.{fault_lines, memory_line}
-use Rattle.rtl_commands.specs.Opened.{Opens}
+use Rattle.rtl_commands.specs.Faults.{of_source, status_of}
+use Rattle.rtl_commands.specs.Lines.{fault_lines}
 use Rattle.rtl_commands.specs.Places.{IsTold}
 use Rattle.rtl_commands.specs.Served.{Outputs, Serves, ended}
 use Rattle.rtl_commands.specs.Told.{TellsFault, TellsText, Done}

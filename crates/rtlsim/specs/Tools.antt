@@ -1,6 +1,6 @@
 -- What the program does for its words.
 use Rattle.std.specs.List.{after_first, slice_split}
-use Rattle.std.specs.Prelude.{◌≡◌, ◌==◌, ◌⊎◌, not, filter, length, codes, [], ◌∷◌, Option, Some, None, ℕ, List, Bool, true, false, map, IsUtf8}
+use Rattle.std.specs.Prelude.{◌≡◌, ◌==◌, ◌⊎◌, not, filter, length, [], ◌∷◌, Option, Some, None, ℕ, List, Bool, true, false, map, IsUtf8}
 use Rattle.rtl_commands.specs.Lines.{memory_line, input_line}
 use Rattle.rtl_commands.specs.Listed.{ListsNet, ChecksNet}
 use Rattle.rtl_commands.specs.Machine.{RunsMachine, EvaluatesMachine}
@@ -14,7 +14,7 @@ use Rattle.rtl_sink.specs.Written.{Goes}
 use Rattle.rtl_words.specs.Words.{Says, SayNothing}
 use Rattle.rtl_words.specs.declared.request.Request.{Request}
 use Rattle.rtl_words.specs.declared.request.Request.TheVariants.{Eval, Net, Check, Run}
-use Rattle.rtlsim.specs.Inputs.{Reading, GivesWhole, GivesBoth, GivesStandard, GivesStandardAlone, held}
+use Rattle.rtlsim.specs.Inputs.{Reading, GivesWhole, GivesBoth, GivesStandardAlone, held}
 use Rattle.rtlsim.specs.Lines.{ends_line, first_line_of}
 use Rattle.rtlsim.specs.declared.inputs.InputFault.{InputFault}
 use Rattle.rtlsim.specs.declared.inputs.InputFault.TheVariants.{Failed, NoMemory}

@@ -1,5 +1,5 @@
 -- From the tree of a source to its net.
-use Rattle.std.proofs.Common.{◌≡◌, ◌≢◌, ℕ, ◌+◌, ◌≤◌, List, length, None, Some, Result, Ok, Err, refl, sym, arith}
+use Rattle.std.proofs.Common.{◌≡◌, ◌≢◌, ℕ, ◌≤◌, List, None, Some, Result, Ok, Err, refl, arith}
 use Rattle.std.specs.Prelude.{IsTrue, IsErr, IsErrAnd, IfOk, IfErr, min}
 use Rattle.vhdl_lexer.proofs.Reached.{cut_within}
 use Rattle.vhdl_tree.specs.Tree.{File}
@@ -17,7 +17,7 @@ use Rattle.vhdl_expand.specs.Elab.{Elab as Expanded}
 use Rattle.vhdl_expand.specs.declared.fault.ElabFault.{ElabFault}
 use Rattle.vhdl_expand.specs.declared.fault.ElabFault.TheVariants as elab
 use Rattle.vhdl_elab.specs.Elaboration.{Elaborated, elaborated}
-use Rattle.vhdl_nets.specs.Shown.{Shows, as_shown, net_shown}
+use Rattle.vhdl_nets.specs.Shown.{as_shown, net_shown}
 use Rattle.vhdl_nets.proofs.Nets.{each-has-its-names}
 use Rattle.vhdl_ports.proofs.Ports.{each-has-own-ports}
 use Rattle.rtl_net.specs.Nets.{NetView}

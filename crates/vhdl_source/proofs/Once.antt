@@ -1,5 +1,5 @@
 -- A source has one tree, and so one of each that follows from it.
-use Rattle.std.proofs.Common.{◌≡◌, ℕ, ◌+◌, ◌<◌, ◌≤◌, List, None, Some, Ok, Err, true≢false, sym, ap, ◌∙◌, subst, arith}
+use Rattle.std.proofs.Common.{◌≡◌, ℕ, List, Some, Ok, Err, true≢false, sym, ap, ◌∙◌, subst, arith}
 use Rattle.std.specs.Prelude.{IsErr}
 use Rattle.vhdl_lexer.specs.declared.token.Token.{Token}
 use Rattle.vhdl_parser.specs.Fault.{IsRefusal, IsTooDeep}
@@ -19,7 +19,6 @@ use Rattle.vhdl_designs.specs.Sources.{SpellsTokens, IsFileOf, HasSyntaxFault}
 use Rattle.vhdl_designs.specs.Designs.{HasUnits, HasDesign}
 use Rattle.vhdl_designs.specs.Refusals.{HasNoUnits, HasNoDesign}
 use Rattle.vhdl_source.specs.Laws.{EachSourceHasOneDesign, EachSourceHasOneNet, EachRefusedHasNone}
-use Rattle.vhdl_designs.specs.declared.fault.SourceFault.{SourceFault}
 use Rattle.vhdl_designs.specs.declared.fault.SourceFault.TheVariants.{Lex, Syntax, Name, Elab, NoMemory}
 
 one_file : (source : List ℕ) (a b : File) → IsFileOf source a → IsFileOf source b → a ≡ b

@@ -13,7 +13,7 @@ use Rattle.vhdl_tree.specs.Tree.{File}
 use Rattle.vhdl_units.specs.declared.unit.Units.{Units}
 use Rattle.vhdl_units.specs.views.Units.{units_view}
 use Rattle.vhdl_designs.specs.declared.fault.SourceFault.{SourceFault}
-use Rattle.vhdl_designs.specs.declared.fault.SourceFault.TheVariants.{Lex, Syntax, Name, Elab, NoMemory}
+use Rattle.vhdl_designs.specs.declared.fault.SourceFault.TheVariants.{Name, Elab, NoMemory}
 
 -- the same fault, told at a byte that is not behind the given one
 abbrev pub name_within : (most : ℕ) → NameFault → NameFault

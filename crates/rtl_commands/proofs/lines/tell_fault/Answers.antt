@@ -1,5 +1,5 @@
-use Rattle.std.proofs.Common.{inl, inr, refl}
-use Rattle.rtl_commands.proofs.Told.{goes_whole, goes_failed}
+use Rattle.std.proofs.Common.{inl}
+use Rattle.rtl_commands.proofs.Told.{goes_whole}
 use Rattle.rtl_commands.proofs.lines.tell_fault.Goals as goal
 
 pub returns-in-Ok : goal.returns-in-Ok
