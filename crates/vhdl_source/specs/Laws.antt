@@ -10,11 +10,14 @@ use Rattle.vhdl_designs.specs.declared.fault.SourceFault.{SourceFault}
 use Rattle.vhdl_designs.specs.declared.fault.SourceFault.TheVariants.{Lex, NoMemory}
 
 abbrev pub EachSourceHasOneDesign : Type 0
-EachSourceHasOneDesign = (source top : List ℕ) (one other : Elaborated) → HasDesign source top one → HasDesign source top other → one ≡ other
+EachSourceHasOneDesign =
+    (source top : List ℕ) (one other : Elaborated) → HasDesign source top one → HasDesign source top other → one ≡ other
 
 -- so nets of it show the same
 abbrev pub EachSourceHasOneNet : Type 0
-EachSourceHasOneNet = (source top : List ℕ) (one other : NetView) → IsNetOf source top one → IsNetOf source top other → net_shown one ≡ net_shown other
+EachSourceHasOneNet =
+    (source top : List ℕ) (one other : NetView) → IsNetOf source top one → IsNetOf source top other
+    → net_shown one ≡ net_shown other
 
 -- the layers behind the lexer
 abbrev pub IsBehindLexer : SourceFault → Type 0
@@ -24,7 +27,8 @@ IsBehindLexer _ = Unit {0}
 
 abbrev pub EachRefusedHasNone : Type 0
 EachRefusedHasNone =
-    (source top : List ℕ) (fault : SourceFault) (design : Elaborated) → IsBehindLexer fault → Refuses source top fault → HasDesign source top design → ⊥
+    (source top : List ℕ) (fault : SourceFault) (design : Elaborated)
+    → IsBehindLexer fault → Refuses source top fault → HasDesign source top design → ⊥
 
 -- A stimulus can speak of the net's ports.
 abbrev pub EachNetHasOwnPorts : Type 0
