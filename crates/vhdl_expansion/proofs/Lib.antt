@@ -4,3 +4,4 @@ pub mod TestChains
 pub mod Assigned
 pub mod Sequences
 pub mod Parts
+pub mod Placing

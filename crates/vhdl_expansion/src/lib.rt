@@ -7,6 +7,7 @@
 mod assignments;
 mod conditions;
 mod constant;
+mod layout;
 mod operand;
 mod selected;
 mod site;
@@ -15,6 +16,7 @@ mod values;
 mod vectors;
 
 pub use constant::Constant;
+pub use layout::Layout;
 pub use operand::{Operand, Width};
 pub use selected::Selected;
 pub use site::{Placed, Site};

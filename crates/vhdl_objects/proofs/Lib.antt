@@ -1,4 +1,3 @@
-pub mod Placing
 pub mod Walks
 pub mod Names
 pub mod Given

@@ -16,13 +16,12 @@ ghost use Rattle.vhdl_objects.specs.Constants.{constant_of};
 ghost use Rattle.vhdl_objects.specs.Objects.{of_generics, shape_of, with_object};
 ghost use Rattle.vhdl_objects.specs.Views.{declared_view, within_generates};
 
-use crate::layout::Layout;
 use crate::shape::Shape;
 use crate::values::constant;
 use std::alloc::{AllocError, Global};
 use vhdl_design::{Object, Role};
 use vhdl_expand::{ElabFault, Integers};
-use vhdl_expansion::{Constant, Site};
+use vhdl_expansion::{Constant, Layout, Site};
 use vhdl_names::{IntegerType, Static};
 use vhdl_units::{Fixed, Form, Objects};
 

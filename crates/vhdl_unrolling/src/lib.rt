@@ -4,7 +4,6 @@
 
 mod costs;
 mod laws;
-mod layout;
 mod processes;
 mod variables;
 

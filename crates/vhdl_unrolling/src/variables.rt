@@ -19,12 +19,11 @@ ghost use Rattle.vhdl_design.specs.Views.{budget_view, variable_view};
 ghost use Rattle.vhdl_unrolling.specs.Processes.{named_object};
 ghost use Rattle.vhdl_unrolling.specs.Variables.{variable_kind, HasWidth};
 
-use crate::layout::Layout;
 use rtl_net::Statement;
 use std::alloc::{AllocError, Global};
 use vhdl_design::{Budget, Variable};
 use vhdl_expand::{ElabFault, Integers};
-use vhdl_expansion::Site;
+use vhdl_expansion::{Layout, Site};
 use vhdl_processes::{kind, starts};
 use vhdl_tree::Identifier;
 use vhdl_units as analysed;

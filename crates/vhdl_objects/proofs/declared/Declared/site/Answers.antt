@@ -2,7 +2,7 @@ use Rattle.std.proofs.Common.{◌≡◌, List, map, sym, subst}
 use Rattle.vhdl_expand.specs.Site.{elements_count}
 use Rattle.vhdl_expansion.specs.declared.site.Placed.{Placed}
 use Rattle.vhdl_expansion.specs.Sites.{ArePlaced, placed_kind}
-use Rattle.vhdl_objects.proofs.Placing.{nothing_placed}
+use Rattle.vhdl_expansion.proofs.Placing.{nothing_placed}
 use Rattle.vhdl_objects.proofs.declared.Declared.site.Goals as goal
 
 pub returns-clause-placed : goal.returns-clause-placed

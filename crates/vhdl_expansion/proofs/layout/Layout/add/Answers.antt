@@ -2,8 +2,8 @@ use Rattle.std.proofs.Common.{◌≡◌, List, map, subst, sym, arith}
 use Rattle.vhdl_expand.specs.Site.{elements_count}
 use Rattle.vhdl_expansion.specs.declared.site.Placed.{Placed}
 use Rattle.vhdl_expansion.specs.Sites.{ArePlaced, placed_kind}
-use Rattle.vhdl_unrolling.proofs.Placing.{placed_more, counted_more}
-use Rattle.vhdl_unrolling.proofs.layout.Layout.add.Goals as goal
+use Rattle.vhdl_expansion.proofs.Placing.{placed_more, counted_more}
+use Rattle.vhdl_expansion.proofs.layout.Layout.add.Goals as goal
 
 pub invariant_of-self : goal.invariant_of-self
 invariant_of-self c =

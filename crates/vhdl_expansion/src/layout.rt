@@ -7,9 +7,9 @@ ghost use Rattle.vhdl_expand.specs.Site.{elements_count};
 ghost use Rattle.vhdl_expand.specs.views.Kinds.{kind_view};
 ghost use Rattle.vhdl_expansion.specs.Sites.{ArePlaced, placed_kind};
 
+use crate::site::Placed;
 use std::alloc::{AllocError, Global};
 use vhdl_expand::Kind;
-use vhdl_expansion::Placed;
 
 /// Things whose elements are numbered from 0 on, each behind those before it, and how many elements they have together.
 #[derive(Drop)]
