@@ -1,6 +1,6 @@
 -- What waits once an agenda is filled.
-use Rattle.std.proofs.Common.{◌≡◌, ◌≢◌, ℕ, suc, zero, ◌+◌, ◌<◌, ◌≤◌, Bool, true, false, cond, List, [], ◌∷◌, ◌++◌, length, map, Option, Some, None, ⊎_elim, inl, inr, refl, sym, ap, subst, ◌∙◌, arith}
-use Rattle.std.specs.Prelude.{Contains, All, IfSome, slice_get, unwrap_or}
+use Rattle.std.proofs.Common.{◌≡◌, ◌≢◌, ℕ, suc, zero, ◌+◌, ◌<◌, ◌≤◌, Bool, true, false, cond, List, [], ◌∷◌, ◌++◌, length, map, Option, Some, None, ⊎_elim, inl, inr, refl, sym, ap, subst, ◌∙◌, arith, append-nil}
+use Rattle.std.specs.Prelude.{◌⊎◌, Contains, All, IfSome, slice_get, unwrap_or}
 use Rattle.std.specs.Option.{is_some}
 use Rattle.std.specs.Ordering.{nat_cmp}
 use Rattle.std.specs.List.{range_with_len}
@@ -12,29 +12,35 @@ use Rattle.std.proofs.lemmas.List.FromFn.{length-range_with_len, get_or-range_wi
 use Rattle.std.proofs.lemmas.Option.{slice_get-get_or, slice_get_within, get_or_from_slice_get}
 use Rattle.std.proofs.Math.Nat.{eq-or-lt_of_le}
 use Rattle.vhdl_values.specs.declared.scalar.Nine.{Nine}
-use Rattle.rtl_agenda.specs.Agenda.{Change, changes_at}
+use Rattle.rtl_agenda.specs.Agenda.{Change, changes_at, IsOneEach}
 use Rattle.rtl_stim.specs.Inputs.{Input, Element, input_at}
 use Rattle.rtl_stim.specs.Courses.{Course, Sets, Ticks, course_value, toggles, course_toggles}
 use Rattle.rtl_stim.specs.Reading.{Schedule}
 use Rattle.rtl_stim.specs.Times.{nets_of, value_at}
-use Rattle.rtl_stim.specs.Filling.{HaveOwnNets, IsOn, IsNext, Waits}
+use Rattle.rtl_stim.specs.Filling.{HaveOwnNets, IsOn, IsNext, IsDue, Waits}
 use Rattle.rtl_stim.specs.View.{course_in}
 use Rattle.rtl_moments.specs.Kept.{AreClocks}
+use Rattle.rtl_moments.specs.Left.{WaitsPartly}
 use Rattle.rtl_moments.specs.Numbered.{numbered}
-use Rattle.rtl_moments.specs.Pushes.{Push, AddsTo, IsFree, gathered, element_pushes, due, place_pushes, toggle_pushes}
+use Rattle.rtl_moments.specs.Pushes.{Push, AddsTo, AddsSome, IsFree, gathered, element_pushes, due, place_pushes, toggle_pushes}
 use Rattle.rtl_moments.proofs.Values.{first_or_later, value_there, net_there}
-use Rattle.rtl_moments.proofs.Adding.{gathered_from, gathered_has, pushed_from}
+use Rattle.rtl_moments.proofs.Adding.{gathered-append, gathered_from, gathered_has, pushed_from}
 use Rattle.rtl_moments.proofs.Places.{input_there, nets_apart}
 use Rattle.rtl_moments.proofs.Due.{due_later, due_has, found_key, is_at_key, next_is, next_exists}
 
 -- ---- places and elements
 
-pub range_more : (n : ℕ) → range_with_len 0 (n + 1) ≡ range_with_len 0 n ++ n ∷ []
+range_more : (n : ℕ) → range_with_len 0 (n + 1) ≡ range_with_len 0 n ++ n ∷ []
 range_more n = sym (map_same (range_with_len 0 (n + 1))) ∙ map-range_with_len_more (λ k. k) 0 n n (omega arith) ∙ ap (λ ks. ks ++ n ∷ []) (map_same (range_with_len 0 n))
   where
     map_same : (xs : List ℕ) → map (λ k. k) xs ≡ xs
     map_same [] = refl
     map_same (x ∷ xs) = ap (λ ys. x ∷ ys) (map_same xs)
+
+-- what the first places give, and one more
+pub place_more : {Y : Type 0} (f : ℕ → List Y) (i : ℕ) → gathered f (range_with_len 0 i) ++ f i ≡ gathered f (range_with_len 0 (i + 1))
+place_more f i =
+    ap (λ ys. gathered f (range_with_len 0 i) ++ ys) (sym (append-nil (f i))) ∙ sym (ap (gathered f) (range_more i) ∙ gathered-append f (range_with_len 0 i) (i ∷ []))
 
 pub in_range : (n k : ℕ) → k < n → Contains (range_with_len 0 n) k
 in_range n k less = (k, omega (arith, length-range_with_len 0 n, less), get_or-range_with_len 0 n k k less ∙ (let e : 0 + k ≡ k = omega arith in e))
@@ -109,6 +115,15 @@ module _ (inputs : List Input) (schedule : Schedule) (own : HaveOwnNets inputs) 
 
   -- ---- a new agenda
 
+  only_pushed : (now t : ℕ) (x : Change) (places : List ℕ) → ((place : ℕ) → Contains places place → place < length inputs) → Contains (gathered (place_pushes inputs schedule now) places) (t, x)
+      → IsDue inputs schedule now t x
+  only_pushed now t x places there pushed =
+      let from = gathered_from (place_pushes inputs schedule now) places (t, x) pushed in
+      let within = there from.0 from.1 in
+      let is = pushed_is now from.0 t x within from.2 in
+      let when = due_later (course_in schedule from.0) now schedule.stop t is.0 in
+      (course_in schedule from.0, is_on from.0 x.0 within is.1, when.0, when.1, when.2, is.2)
+
   pub loaded : (new : List (ℕ × List Change)) → AddsTo [] new (gathered (place_pushes inputs schedule 0) (range_with_len 0 (length inputs))) → Waits inputs schedule 0 new
   loaded new adds = record {
     due = λ course net t on later within next.
@@ -121,15 +136,18 @@ module _ (inputs : List Input) (schedule : Schedule) (own : HaveOwnNets inputs) 
         (λ pushed. only_pushed 0 t x (range_with_len 0 (length inputs)) (λ place among. range_below (length inputs) place among) pushed)
         ((adds t x).0 there);
   }
-    where
-      only_pushed : (now t : ℕ) (x : Change) (places : List ℕ) → ((place : ℕ) → Contains places place → place < length inputs) → Contains (gathered (place_pushes inputs schedule now) places) (t, x)
-          → (course : Course) × IsOn inputs schedule.courses course x.0 × (now < t) × (t ≤ schedule.stop) × IsNext course now t × (x.1 ≡ value_at inputs schedule x.0 t)
-      only_pushed now t x places there pushed =
-          let from = gathered_from (place_pushes inputs schedule now) places (t, x) pushed in
-          let within = there from.0 from.1 in
-          let is = pushed_is now from.0 t x within from.2 in
-          let when = due_later (course_in schedule from.0) now schedule.stop t is.0 in
-          (course_in schedule from.0, is_on from.0 x.0 within is.1, when.0, when.1, when.2, is.2)
+
+  -- where memory is refused at one of the first places
+  pub loaded_partly : (new : List (ℕ × List Change)) (places : ℕ) → places ≤ length inputs → AddsSome [] new (gathered (place_pushes inputs schedule 0) (range_with_len 0 places))
+      → ((t : ℕ) → IsOneEach (changes_at new t)) → WaitsPartly inputs schedule 0 [] new
+  loaded_partly new places within some once = record {
+    kept = some.kept;
+    due = λ t x there.
+        ⊎_elim (λ none. absurd (omega (arith, none.1)))
+        (λ pushed. only_pushed 0 t x (range_with_len 0 places) (λ place among. let below = range_below places place among in omega (arith, below, within)) pushed)
+        (some.pushed t x there);
+    once = once;
+  }
 
   -- ---- after a time is taken
 
@@ -183,6 +201,41 @@ module _ (inputs : List Input) (schedule : Schedule) (own : HaveOwnNets inputs) 
         let next = subst (λ k. IsNext k now t) course was.4 in
         next.1 time later after toggling
 
+    pushed_only : (clocks : List ℕ) → AreClocks schedule.courses clocks → (t : ℕ) (x : Change) → Contains (gathered (toggle_pushes inputs schedule time) clocks) (t, x)
+        → IsDue inputs schedule time t x
+    pushed_only clocks are t x pushed =
+        let from = gathered_from (toggle_pushes inputs schedule time) clocks (t, x) pushed in
+        by from.0 from.1 (course_toggles (course_in schedule from.0) time) from.2
+      where
+        by : (place : ℕ) → Contains clocks place → (b : Bool) → Contains (cond b (place_pushes inputs schedule time place) []) (t, x) → IsDue inputs schedule time t x
+        by place among true h =
+            let clock = (are.all place).0 among in
+            let within : place < length inputs = omega (arith, each, slice_get_within schedule.courses place (Ticks clock.0 clock.1) clock.2) in
+            let is = pushed_is time place t x within h in
+            let when = due_later (course_in schedule place) time schedule.stop t is.0 in
+            (course_in schedule place, is_on place x.0 within is.1, when.0, when.1, when.2, is.2)
+        by place among false h = absurd (omega (arith, h.1))
+
+    -- what waited, or is pushed of clocks, is due after the time
+    only_from : (clocks : List ℕ) → AreClocks schedule.courses clocks → (t : ℕ) (x : Change)
+        → Contains (changes_at old t) x ⊎ Contains (gathered (toggle_pushes inputs schedule time) clocks) (t, x) → IsDue inputs schedule time t x
+    only_from clocks are t x from =
+        ⊎_elim (λ stayed.
+        let after = later_only t x stayed in
+        let differ : t ≢ time = λ e. omega (arith, e, after) in
+        let was = waits.only t x (subst (λ cs. Contains cs x) (sym (past_first t differ)) stayed) in
+        (was.0, was.1, after, was.3, still_next was.0 t was.4, was.5))
+        (λ pushed. pushed_only clocks are t x pushed) from
+
+    -- where memory is refused
+    pub refilled_partly : (new : List (ℕ × List Change)) (clocks : List ℕ) → AreClocks schedule.courses clocks → AddsSome old new (gathered (toggle_pushes inputs schedule time) clocks)
+        → ((t : ℕ) → IsOneEach (changes_at new t)) → WaitsPartly inputs schedule time old new
+    refilled_partly new clocks are some once = record {
+      kept = some.kept;
+      due = λ t x there. only_from clocks are t x (some.pushed t x there);
+      once = once;
+    }
+
     module _ (new : List (ℕ × List Change)) (clocks : List ℕ) (are : AreClocks schedule.courses clocks)
         (adds : AddsTo old new (gathered (toggle_pushes inputs schedule time) clocks)) where
       stays : (course : Course) (net t : ℕ) → IsOn inputs schedule.courses course net → time < t → t ≤ schedule.stop → IsNext course now t → Contains (changes_at new t) (net, value_at inputs schedule net t)
@@ -214,28 +267,4 @@ module _ (inputs : List Input) (schedule : Schedule) (own : HaveOwnNets inputs) 
               )
 
       pub refilled : Waits inputs schedule time new
-      refilled = record {
-        due = comes;
-        only = λ t x there. ⊎_elim (λ stayed.
-            let after = later_only t x stayed in
-            let differ : t ≢ time = λ e. omega (arith, e, after) in
-            let was = waits.only t x (subst (λ cs. Contains cs x) (sym (past_first t differ)) stayed) in
-            (was.0, was.1, after, was.3, still_next was.0 t was.4, was.5))
-            (λ pushed. pushed_only t x pushed) ((adds t x).0 there);
-      }
-        where
-          pushed_only : (t : ℕ) (x : Change) → Contains (gathered (toggle_pushes inputs schedule time) clocks) (t, x)
-              → (course : Course) × IsOn inputs schedule.courses course x.0 × (time < t) × (t ≤ schedule.stop) × IsNext course time t × (x.1 ≡ value_at inputs schedule x.0 t)
-          pushed_only t x pushed =
-              let from = gathered_from (toggle_pushes inputs schedule time) clocks (t, x) pushed in
-              by from.0 from.1 (course_toggles (course_in schedule from.0) time) from.2
-            where
-              by : (place : ℕ) → Contains clocks place → (b : Bool) → Contains (cond b (place_pushes inputs schedule time place) []) (t, x)
-                  → (course : Course) × IsOn inputs schedule.courses course x.0 × (time < t) × (t ≤ schedule.stop) × IsNext course time t × (x.1 ≡ value_at inputs schedule x.0 t)
-              by place among true h =
-                  let clock = (are.all place).0 among in
-                  let within : place < length inputs = omega (arith, each, slice_get_within schedule.courses place (Ticks clock.0 clock.1) clock.2) in
-                  let is = pushed_is time place t x within h in
-                  let when = due_later (course_in schedule place) time schedule.stop t is.0 in
-                  (course_in schedule place, is_on place x.0 within is.1, when.0, when.1, when.2, is.2)
-              by place among false h = absurd (omega (arith, h.1))
+      refilled = record { due = comes; only = λ t x there. only_from clocks are t x ((adds t x).0 there) }

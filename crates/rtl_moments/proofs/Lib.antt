@@ -8,6 +8,7 @@ pub mod Adding
 pub mod Elements
 pub mod Times
 pub mod Places
+pub mod Partly
 pub mod Due
 pub mod Awaiting
 pub mod Clocking

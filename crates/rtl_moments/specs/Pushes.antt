@@ -1,5 +1,5 @@
 -- What filling an agenda pushes.
-use Rattle.std.specs.Prelude.{◌≡◌, ◌↔◌, ◌⊎◌, ℕ, ◌==◌, ◌+◌, ◌-◌, ◌%◌, ◌&&◌, nat_lt, nat_le, List, [], ◌∷◌, ◌++◌, Contains, Option, Some, None, filter, if◌then◌else◌}
+use Rattle.std.specs.Prelude.{◌≡◌, ◌↔◌, ◌⊎◌, ℕ, ◌==◌, ◌+◌, ◌-◌, ◌%◌, ◌&&◌, nat_lt, nat_le, List, [], ◌∷◌, ◌++◌, Contains, Option, Some, None, Result, Ok, Err, filter, if◌then◌else◌}
 use Rattle.std.specs.Map.{keys_of}
 use Rattle.rtl_agenda.specs.Agenda.{AgendaState, Change, changes_at}
 use Rattle.rtl_stim.specs.Inputs.{Input, Element, input_at}
@@ -15,6 +15,16 @@ Push = ℕ × Change
 -- What waits afterwards is what did before, and what was pushed.
 abbrev pub AddsTo : (old new : List (ℕ × List Change)) → List Push → Type 0
 AddsTo old new pushes = (t : ℕ) (c : Change) → Contains (changes_at new t) c ↔ (Contains (changes_at old t) c ⊎ Contains pushes (t, c))
+
+-- Where memory is refused: what waited waits still, and what else waits is some of what was to be pushed.
+pub record AddsSome (old new : List (ℕ × List Change)) (pushes : List Push) : Type 0 where
+  pub kept : (t : ℕ) (c : Change) → Contains (changes_at old t) c → Contains (changes_at new t) c
+  pub pushed : (t : ℕ) (c : Change) → Contains (changes_at new t) c → Contains (changes_at old t) c ⊎ Contains pushes (t, c)
+
+-- all of these were pushed, or where memory was refused some
+abbrev pub HasPushed : {T E : Type 0} → (old new : List (ℕ × List Change)) → List Push → Result T E → Type 0
+HasPushed old new pushes (Ok _) = AddsTo old new pushes
+HasPushed old new pushes (Err _) = AddsSome old new pushes
 
 -- the time taken last and its changes stay
 pub record KeepsTaken (old new : AgendaState) : Type 0 where

@@ -1,13 +1,14 @@
 //! What an agenda is filled with.
 
-ghost use Rattle.std.specs.Prelude.{◌≡◌, ◌≢◌, ℕ, ◌<◌, ◌≤◌, ◌∷◌, [], AllPairs, Some, None, map, length, vec_len, OnOk, IfSome};
+ghost use Rattle.std.specs.Prelude.{◌≡◌, ◌≢◌, ℕ, ◌<◌, ◌≤◌, ◌∷◌, [], AllPairs, Some, None, map, length, vec_len, OnOk, OnErr, IfSome};
 ghost use Rattle.rtl_agenda.specs.Agenda.{IsAfter};
 ghost use Rattle.rtl_stim.specs.Inputs.{input_at};
 ghost use Rattle.rtl_stim.specs.Times.{nets_of};
 ghost use Rattle.rtl_stim.specs.Filling.{Waits, HaveOwnNets};
 ghost use Rattle.rtl_stim.specs.View.{inputs_view, schedule_view, course_view, course_in, element_view};
 ghost use Rattle.rtl_moments.specs.Pushes as spec;
-ghost use Rattle.rtl_moments.specs.Pushes.{AddsTo, KeepsTaken, IsFreeAt, IsFree, element_pushes, gathered, due_pushes, place_pushes};
+ghost use Rattle.rtl_moments.specs.Left.{WaitsPartly};
+ghost use Rattle.rtl_moments.specs.Pushes.{HasPushed, KeepsTaken, IsFreeAt, IsFree, element_pushes, gathered, due_pushes, place_pushes};
 
 use crate::ports::elements_at;
 use crate::stimulus::Stimulus;
@@ -19,12 +20,13 @@ use vhdl_values::Vec9;
 impl Stimulus {
     /// Fills a new agenda with what comes after 0: each value that is set, and the next toggle of each clock.
     ///
-    /// It takes the agenda's memory for these. Where that is refused, some may wait already.
+    /// It takes the agenda's memory for these. Where that is refused, some of these wait, and nothing else.
     pub fn load<A: Agenda>(&self, agenda: &mut A) -> Result<(), NoMemory>
         requires waiting { (A.state agenda.old).waiting ≡ [] }
         requires last { (A.state agenda.old).last ≡ None }
         ensures kept { KeepsTaken (A.state agenda.old) (A.state agenda.new) }
         ensures waits { OnOk result (Waits self.now.inputs self.now.schedule 0 (A.state agenda.new).waiting) }
+        ensures left { OnErr result (WaitsPartly self.now.inputs self.now.schedule 0 [] (A.state agenda.new).waiting) }
     {
         for place in 0..self.schedule.courses.len() {
             push_due(agenda, &self.inputs, &self.schedule, place, 0)?;
@@ -34,13 +36,14 @@ impl Stimulus {
 
     /// Brings the next toggle of each clock that toggles at the time that was taken from the agenda last.
     ///
-    /// It takes the agenda's memory for these. Where that is refused, some may wait already.
+    /// It takes the agenda's memory for these. Where that is refused, what waited waits still, with some of these.
     pub fn refill<A: Agenda>(&self, time: u64, agenda: &mut A) -> Result<(), NoMemory>
         requires last { (A.state agenda.old).last ≡ Some time }
         requires waited { (now : ℕ) × (now < time)
             × Waits self.now.inputs self.now.schedule now ((time, (A.state agenda.old).taken) ∷ (A.state agenda.old).waiting) }
         ensures kept { KeepsTaken (A.state agenda.old) (A.state agenda.new) }
         ensures waits { OnOk result (Waits self.now.inputs self.now.schedule time (A.state agenda.new).waiting) }
+        ensures left { OnErr result (WaitsPartly self.now.inputs self.now.schedule time (A.state agenda.old).waiting (A.state agenda.new).waiting) }
     {
         for place in &self.clocks {
             if self.schedule.courses[*place].toggles(time) {
@@ -65,8 +68,8 @@ fn push_due<A: Agenda>(
     requires later { (t : ℕ) → now < t → IsAfter (A.state agenda.old).last t }
     requires free { IsFree (A.state agenda.old).waiting (nets_of (input_at (inputs_view inputs.now) place)) }
     ensures kept { KeepsTaken (A.state agenda.old) (A.state agenda.new) }
-    ensures pushed { OnOk result (AddsTo (A.state agenda.old).waiting (A.state agenda.new).waiting
-        (place_pushes (inputs_view inputs.now) (schedule_view schedule.now) now place)) }
+    ensures pushed { HasPushed (A.state agenda.old).waiting (A.state agenda.new).waiting
+        (place_pushes (inputs_view inputs.now) (schedule_view schedule.now) now place) result }
 {
     let elements = elements_at(inputs, place);
     match &schedule.courses[place] {
@@ -92,9 +95,9 @@ fn push_sets<A: Agenda>(
     requires later { (t : ℕ) → now < t → IsAfter (A.state agenda.old).last t }
     requires free { IsFree (A.state agenda.old).waiting (map (λ e. e.net) elements.now) }
     ensures kept { KeepsTaken (A.state agenda.old) (A.state agenda.new) }
-    ensures pushed { OnOk result (AddsTo (A.state agenda.old).waiting (A.state agenda.new).waiting
+    ensures pushed { HasPushed (A.state agenda.old).waiting (A.state agenda.new).waiting
         (gathered (element_pushes (course_in (schedule_view schedule.now) place) (map element_view elements.now))
-        (spec.due (course_view (Course.Sets sets.now)) now schedule.now.stop))) }
+        (spec.due (course_view (Course.Sets sets.now)) now schedule.now.stop)) result }
 {
     for time in sets.keys() {
         if now < *time && *time <= schedule.stop {
@@ -117,8 +120,8 @@ fn push_elements<A: Agenda>(
     requires later { IsAfter (A.state agenda.old).last time }
     requires free { IsFreeAt (A.state agenda.old).waiting time (map (λ e. e.net) elements.now) }
     ensures kept { KeepsTaken (A.state agenda.old) (A.state agenda.new) }
-    ensures pushed { OnOk result (AddsTo (A.state agenda.old).waiting (A.state agenda.new).waiting
-        (element_pushes (course_in (schedule_view schedule.now) place) (map element_view elements.now) time)) }
+    ensures pushed { HasPushed (A.state agenda.old).waiting (A.state agenda.new).waiting
+        (element_pushes (course_in (schedule_view schedule.now) place) (map element_view elements.now) time) result }
 {
     for (from_left, element) in elements.iter().enumerate() {
         let value = schedule.value(place, from_left, element.start, time);

@@ -21,11 +21,16 @@ abbrev pub IsNext : Course → (now t : ℕ) → Type 0
 IsNext (Sets sets) now t = IsTrue (is_busy (Sets sets) t)
 IsNext (Ticks first half) now t = IsTrue (toggles first half t) × ((between : ℕ) → now < between → between < t → IsTrue (toggles first half between) → ⊥)
 
+-- A change that is to come after the time now: at this time, up to the stop, its net's input is set, or toggles for the first time,
+-- and the value is the one that the net has from then on.
+abbrev pub IsDue : List Input → Schedule → (now t : ℕ) → Change → Type 0
+IsDue inputs schedule now t change =
+    (course : Course) × IsOn inputs schedule.courses course change.0 × (now < t) × (t ≤ schedule.stop) × IsNext course now t
+    × (change.1 ≡ value_at inputs schedule change.0 t)
+
 -- What waits after the time now: every set that is to come, and the next toggle of each clock, each with the value that the net
 -- has from then on; and nothing else.
 pub record Waits (inputs : List Input) (schedule : Schedule) (now : ℕ) (waiting : List (ℕ × List Change)) : Type 0 where
   pub due : (course : Course) (net t : ℕ) → IsOn inputs schedule.courses course net → now < t → t ≤ schedule.stop → IsNext course now t
       → Contains (changes_at waiting t) (net, value_at inputs schedule net t)
-  pub only : (t : ℕ) (change : Change) → Contains (changes_at waiting t) change
-      → (course : Course) × IsOn inputs schedule.courses course change.0 × (now < t) × (t ≤ schedule.stop) × IsNext course now t
-      × (change.1 ≡ value_at inputs schedule change.0 t)
+  pub only : (t : ℕ) (change : Change) → Contains (changes_at waiting t) change → IsDue inputs schedule now t change

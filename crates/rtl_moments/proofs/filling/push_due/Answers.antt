@@ -1,9 +1,9 @@
 use Rattle.std.proofs.Common.{◌≡◌, ◌≢◌, ◌∷◌, [], true, cond, map, ap, sym, subst, ◌∙◌, arith, append-nil}
-use Rattle.std.specs.Prelude.{AllPairs, OnOk, nat_le}
+use Rattle.std.specs.Prelude.{AllPairs, nat_le}
 use Rattle.std.proofs.lemmas.Bool.Decides.{nat_tests}
 use Rattle.rtl_stim.specs.declared.courses.Course.TheVariants as kept
 use Rattle.rtl_stim.specs.View.{inputs_view, schedule_view, course_view, course_in, element_view}
-use Rattle.rtl_moments.specs.Pushes.{AddsTo, IsFree, gathered, element_pushes, due, due_pushes}
+use Rattle.rtl_moments.specs.Pushes.{HasPushed, IsFree, gathered, element_pushes, due, due_pushes}
 use Rattle.rtl_stim.proofs.Saying.{course_there}
 use Rattle.rtl_moments.proofs.Places.{elements_seen, nets_seen, pairs_at}
 use Rattle.rtl_moments.proofs.filling.push_due.Goals as goal
@@ -43,7 +43,7 @@ returns-in-Sets-clause-pushed g c =
     let new = (g.A.Agenda.state c.push_sets.new.agenda).waiting in
     let is : course_in schedule c.args.place ≡ course_view (kept.Sets c.in-Sets.sets) =
     course_there c.args.schedule.now.courses.items c.args.place c.index.result.now (omega (arith, c.requires.there, c.args.schedule.now.courses.ok.0)) ∙ ap course_view (sym c.index.ensures ∙ c.in-Sets.is) in
-    subst (λ pushes. OnOk c.push_sets.result (AddsTo old new pushes))
+    subst (λ pushes. HasPushed old new pushes c.push_sets.result)
     (ap (λ course. gathered (element_pushes (course_in schedule c.args.place) es) (due course c.args.now schedule.stop)) (sym is)
     ∙ ap (λ elements. due_pushes (course_in schedule c.args.place) elements c.args.now schedule.stop) (sym seen)) c.push_sets.ensures.pushed
 
@@ -61,7 +61,7 @@ returns-in-Some-clause-pushed g c =
     course_there c.args.schedule.now.courses.items c.args.place c.index.result.now (omega (arith, c.requires.there, c.args.schedule.now.courses.ok.0)) ∙ ap course_view (sym c.index.ensures ∙ c.in-Ticks.is) in
     let when : t ∷ [] ≡ due (course_in schedule c.args.place) c.args.now schedule.stop =
     ap (λ b. cond b (t ∷ []) []) (sym within) ∙ c.in-Some.ensures.next ∙ ap (λ course. due course c.args.now schedule.stop) (sym is) in
-    subst (λ pushes. OnOk c.push_elements.result (AddsTo old new pushes))
+    subst (λ pushes. HasPushed old new pushes c.push_elements.result)
     (sym (append-nil (element_pushes (course_in schedule c.args.place) es t))
     ∙ ap (gathered (element_pushes (course_in schedule c.args.place) es)) when
     ∙ ap (λ elements. due_pushes (course_in schedule c.args.place) elements c.args.now schedule.stop) (sym seen)) c.push_elements.ensures.pushed

@@ -2,6 +2,7 @@ use Rattle.std.proofs.Common.{◌≡◌, ◌++◌, ◌∷◌, [], ℕ, ◌+◌, 
 use Rattle.std.specs.Prelude.{Contains}
 use Rattle.std.proofs.lemmas.List.{take_all, length-map, get_or-map}
 use Rattle.std.proofs.lemmas.List.Elements.{Contains-get_or}
+use Rattle.std.proofs.lemmas.Result.{err_from_is_err_and}
 use Rattle.vhdl_values.specs.declared.scalar.Nine.{Nine}
 use Rattle.vhdl_values.specs.declared.scalar.Nine.TheVariants.{U}
 use Rattle.rtl_agenda.specs.Agenda.{AgendaState, Change, changes_at}
@@ -9,10 +10,11 @@ use Rattle.rtl_stim.specs.declared.inputs.Element.{Element as KeptElement}
 use Rattle.rtl_stim.specs.Inputs.{Element}
 use Rattle.rtl_stim.specs.Courses.{course_value}
 use Rattle.rtl_stim.specs.View.{schedule_view, course_in, element_view}
-use Rattle.rtl_moments.specs.Pushes.{Push, AddsTo, KeepsTaken, element_pushes}
+use Rattle.rtl_moments.specs.Pushes.{Push, AddsTo, AddsSome, KeepsTaken, element_pushes}
 use Rattle.rtl_moments.proofs.Numbering.{numbered_viewed}
 use Rattle.rtl_moments.proofs.Adding.{keeps_on, adds_more, adds_push, leaves_alone}
 use Rattle.rtl_moments.proofs.Elements.{net_is_new}
+use Rattle.rtl_moments.proofs.Partly.{some_elements}
 use Rattle.rtl_moments.proofs.filling.push_elements.Goals as goal
 
 pub push-requires-clause-once : goal.push-requires-clause-once
@@ -59,3 +61,14 @@ returns-clause-pushed g c =
     let course = course_in (schedule_view c.args.schedule.now) c.args.place in
     subst (λ (front : List KeptElement). AddsTo (g.A.Agenda.state c.args.agenda.now).waiting (g.A.Agenda.state c.loop-from_left.agenda).waiting (element_pushes course (map element_view front) c.args.time))
     (take_all i es (omega (arith, c.loop-from_left-test.false))) c.loop-from_left.invariant.1
+
+pub returns-in_err-push-clause-pushed : goal.returns-in_err-push-clause-pushed
+returns-in_err-push-clause-pushed g c =
+    let course = course_in (schedule_view c.args.schedule.now) c.args.place in
+    let first = (g.A.Agenda.state c.args.agenda.now).waiting in
+    let old = (g.A.Agenda.state c.loop-from_left.agenda).waiting in
+    let es = c.args.elements.now in
+    let told = err_from_is_err_and c.from_residual.result c.from_residual.ensures.1 in
+    rw told.1
+    (subst (λ (s : AgendaState). AddsSome first s.waiting (element_pushes course (map element_view es) c.args.time)) (sym c.in_err-push.ensures.refused)
+    (some_elements first old course c.args.time c.loop-from_left.from_left es c.loop-from_left.invariant.1))

@@ -4,10 +4,12 @@ use Rattle.std.specs.Map.{keys_of}
 use Rattle.std.specs.Map.Iter.{deref}
 use Rattle.std.proofs.lemmas.List.{take_all}
 use Rattle.std.proofs.lemmas.Map.Iter.{iter_turn, iter_end}
+use Rattle.std.proofs.lemmas.Result.{err_from_is_err_and}
 use Rattle.rtl_stim.specs.View.{schedule_view, course_in, element_view}
-use Rattle.rtl_moments.specs.Pushes.{Push, AddsTo, gathered, element_pushes}
+use Rattle.rtl_moments.specs.Pushes.{Push, AddsTo, AddsSome, gathered, element_pushes}
 use Rattle.rtl_moments.proofs.Adding.{keeps_on, adds_more}
 use Rattle.rtl_moments.proofs.Elements.{time_is_new}
+use Rattle.rtl_moments.proofs.Partly.{some_more, some_among, filtered_take}
 use Rattle.rtl_moments.proofs.Times.{time_more, time_less, in_time, too_late, too_early}
 use Rattle.rtl_moments.proofs.filling.push_sets.Goals as goal
 use Rattle.rtl_moments.proofs.filling.push_sets.Goals.{else-now-time-via-then-now-time+else-time-schedule, else-now-time-via-else-now-time}
@@ -87,3 +89,20 @@ returns-clause-pushed g c =
     let whole = iter_end deref ks c.loop-time.yielded c.into_iter-time-iterator.result c.loop-time.time-iterator c.next.new.self c.next.result start c.loop-time.yielded_by c.in-None.is c.next.ensures.steps in
     subst (λ (ts : List ℕ). AddsTo (g.A.Agenda.state c.args.agenda.now).waiting (g.A.Agenda.state c.loop-time.agenda).waiting (gathered (element_pushes course es) (filter p ts)))
     (take_all j ks (omega (arith, whole.1))) c.loop-time.invariant.3
+
+pub returns-in_err-push_elements-clause-pushed : goal.returns-in_err-push_elements-clause-pushed
+returns-in_err-push_elements-clause-pushed g c =
+    let ks = keys_of c.args.sets.now.entries in
+    let j = length c.loop-time.yielded in
+    let p : ℕ → Bool = λ t. nat_lt c.args.now t && nat_le t c.args.schedule.now.stop in
+    let f : ℕ → List Push = element_pushes (course_in (schedule_view c.args.schedule.now) c.args.place) (map element_view c.args.elements.now) in
+    let start : c.into_iter-time-iterator.result ≡ ks = search rules in
+    let turn = iter_turn deref ks c.loop-time.yielded c.into_iter-time-iterator.result c.loop-time.time-iterator c.next.new.self c.next.result start c.loop-time.yielded_by c.in-Some.time c.in-Some.is c.next.ensures.steps in
+    let t = c.in-Some.time.now in
+    let first = (g.A.Agenda.state c.args.agenda.now).waiting in
+    let old = (g.A.Agenda.state c.loop-time.agenda).waiting in
+    let new = (g.A.Agenda.state c.push_elements.new.agenda).waiting in
+    let some = some_more first old new (gathered f (filter p (take j ks))) (f t) c.loop-time.invariant.3 c.in_err-push_elements.ensures.pushed in
+    let more = time_more p ks j t turn.1 f (in_time c.args.now t c.args.schedule.now.stop c.if-now-time.true c.if-time-schedule.true) in
+    let told = err_from_is_err_and c.from_residual.result c.from_residual.ensures.1 in
+    rw told.1 (some_among first new (gathered f (filter p (take (j + 1) ks))) (gathered f (filter p ks)) (subst (AddsSome first new) more some) (filtered_take f p (j + 1) ks))

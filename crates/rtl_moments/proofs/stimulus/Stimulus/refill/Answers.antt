@@ -1,7 +1,9 @@
 use Rattle.std.proofs.Common.{◌≡◌, ◌<◌, ◌++◌, ◌∷◌, ◌+◌, true, List, length, take, get_or, ⊎_elim, ap, sym, subst, ◌∙◌, arith, rules, append-nil}
+use Rattle.std.specs.Prelude.{Contains}
 use Rattle.std.specs.Map.{keys_of}
 use Rattle.std.proofs.lemmas.List.{length-map, take_all}
 use Rattle.std.proofs.lemmas.List.Elements.{All-weaker}
+use Rattle.std.proofs.lemmas.Result.{err_from_is_err_and}
 use Rattle.rtl_agenda.specs.Agenda.{AgendaState, IsAfter}
 use Rattle.rtl_stim.specs.Courses.{course_toggles}
 use Rattle.rtl_stim.specs.Filling.{Waits}
@@ -9,9 +11,11 @@ use Rattle.rtl_stim.specs.View.{course_view, course_in}
 use Rattle.rtl_stim.proofs.Saying.{course_there}
 use Rattle.rtl_moments.specs.Stimuli.{StimulusView}
 use Rattle.rtl_moments.specs.Kept.{stimulus_view}
-use Rattle.rtl_moments.specs.Pushes.{Push, AddsTo, KeepsTaken, gathered, toggle_pushes}
+use Rattle.rtl_moments.specs.Left.{WaitsPartly}
+use Rattle.rtl_moments.specs.Pushes.{Push, AddsTo, AddsSome, KeepsTaken, gathered, toggle_pushes}
 use Rattle.rtl_moments.proofs.Adding.{keeps_on, adds_more}
-use Rattle.rtl_moments.proofs.Awaiting.{clock_free, refilled}
+use Rattle.rtl_moments.proofs.Awaiting.{clock_free, refilled, refilled_partly}
+use Rattle.rtl_moments.proofs.Partly.{some_more, some_among, gathered_take, one_each_at}
 use Rattle.rtl_moments.proofs.Clocking.{clock_at, later_apart, clock_pushed, clock_passed, more_clocks}
 use Rattle.rtl_moments.proofs.stimulus.Stimulus.refill.Goals as goal
 use Rattle.rtl_moments.proofs.stimulus.Stimulus.refill.Goals.{then-toggles+in_ok-push_due, else-toggles}
@@ -109,3 +113,30 @@ returns-clause-waits g c =
     (refilled s.inputs s.schedule c.self.invariant.stimulus.own_nets c.self.invariant.stimulus.each_course c.requires.waited.0 c.args.time first.taken first.waiting c.requires.waited.1 waits rising
     new c.self.inside.clocks.items c.self.invariant.clocks
     (subst (λ ks. AddsTo first.waiting new (gathered (toggle_pushes s.inputs s.schedule c.args.time) ks)) all adds))
+
+pub returns-in_err-push_due-clause-left : goal.returns-in_err-push_due-clause-left
+returns-in_err-push_due-clause-left g c =
+    let s = stimulus_view c.self.inside in
+    let view : c.args.self.now ≡ s = search rules in
+    let places = c.deref-place-items.result.now in
+    let clocks = c.self.inside.clocks.items in
+    let i = c.loop-place.place-index in
+    let place = get_or places i 0 in
+    let at = clock_at s.schedule.courses clocks places c.self.invariant.clocks c.deref-place-items.ensures.value i c.loop-place-test.true in
+    let f = toggle_pushes s.inputs s.schedule c.args.time in
+    let first = g.A.Agenda.state c.args.agenda.now in
+    let old = g.A.Agenda.state c.loop-place.agenda in
+    let new = g.A.Agenda.state c.push_due.new.agenda in
+    let adds = subst (λ (v : StimulusView). AddsTo first.waiting old.waiting (gathered (toggle_pushes v.inputs v.schedule c.args.time) (take i places))) view c.loop-place.invariant.1 in
+    let is = course_there c.self.inside.schedule.courses.items place c.index.result.now (omega (arith, at.within, length-map c.self.inside.schedule.courses.items course_view)) ∙ ap course_view (sym c.index.ensures) in
+    let active : course_toggles (course_in s.schedule place) c.args.time ≡ true = ap (λ k. course_toggles k c.args.time) is ∙ sym c.toggles.ensures ∙ c.if-toggles.true in
+    let pushed = subst (AddsSome old.waiting new.waiting) (sym (clock_pushed s.inputs s.schedule c.args.time place active)) c.in_err-push_due.ensures.pushed in
+    let some = subst (AddsSome first.waiting new.waiting) (sym (more_clocks f places i c.loop-place-test.true)) (some_more first.waiting old.waiting new.waiting (gathered f (take i places)) (f place) adds pushed) in
+    let of_clocks = some_among first.waiting new.waiting (gathered f (take (i + 1) places)) (gathered f clocks) some (λ p there. subst (λ ks. Contains (gathered f ks) p) c.deref-place-items.ensures.value (gathered_take f (i + 1) places p there)) in
+    let waits = subst (λ (v : StimulusView). Waits v.inputs v.schedule c.requires.waited.0 ((c.args.time, first.taken) ∷ first.waiting)) view c.requires.waited.2 in
+    let rising = All-weaker (IsAfter first.last) (λ k. c.args.time < k) (λ k h. h c.args.time c.requires.last) (keys_of first.waiting) (g.met.A.Agenda.orderly c.args.agenda.now).later in
+    let told = err_from_is_err_and c.from_residual.result c.from_residual.ensures.1 in
+    rw told.1
+    (subst (λ (v : StimulusView). WaitsPartly v.inputs v.schedule c.args.time first.waiting new.waiting) (sym view)
+    (refilled_partly s.inputs s.schedule c.self.invariant.stimulus.own_nets c.self.invariant.stimulus.each_course c.requires.waited.0 c.args.time first.taken first.waiting c.requires.waited.1 waits rising
+    new.waiting clocks c.self.invariant.clocks of_clocks (one_each_at new (g.met.A.Agenda.orderly c.push_due.new.agenda))))
