@@ -1,3 +1,4 @@
 pub mod Listed
 pub mod Runs
+pub mod Spans
 pub mod Tracked

@@ -1,20 +1,22 @@
 //! What a run assigns.
 
-ghost use Rattle.std.specs.Prelude.{◌≡◌, ℕ, ◌<◌, length, map, replicate, slice_index, slice_index_or, slice_set, All, Contains, IfOk, Option, Some, None, IsSome};
+ghost use Rattle.std.specs.Prelude.{◌≡◌, ℕ, ◌+◌, ◌<◌, ◌≤◌, length, map, replicate, slice_index, slice_index_or, slice_set, All, Contains, IfOk, Option, Some, None, IsSome};
+ghost use Rattle.rtl_eval.specs.Spans.{places_of, written};
 ghost use Rattle.rtl_eval.specs.Tracked.{entry, AreAssigned};
 
+use crate::spans::{Span, are_free, take_off, write};
 use std::alloc::{AllocError, Global};
 use std::marker::Model;
 
 /// What a run of one process leaves: an entry for each of its drivers, which is the value that the run assigns, if it
-/// assigns one. The places that have an entry are kept in a list, so that whoever takes the entries need not look at
-/// all places. The process's variables stand here too: one store, which is set back at each run.
+/// assigns one. The places that have an entry are kept in a list of spans, so that whoever takes the entries need not look
+/// at all places, and goes over those of a vector one after another. The process's variables stand here too: one store, which is set back at each run.
 ///
 /// All memory is taken by `new`.
 #[derive(Drop)]
 pub struct Drives {
     entries: Vec<Option<u8>>,
-    assigned: Vec<usize>,
+    assigned: Vec<Span>,
     starts: Vec<u8>,
     variables: Vec<u8>,
     room: usize,
@@ -79,9 +81,17 @@ impl Drives {
         self.entries[place]
     }
 
+    /// The entries of all drivers.
+    pub fn entries(&self) -> &[Option<u8>]
+        ensures { result.now ≡ self.now.entries }
+    {
+        self.entries.as_slice()
+    }
+
     /// The places that have an entry, each once, in the order in which they were first assigned.
-    pub fn assigned(&self) -> &[usize]
-        ensures { AreAssigned self.now.entries result.now }
+    pub fn assigned(&self) -> &[Span]
+        ensures places { AreAssigned self.now.entries (places_of result.now) }
+        ensures few { length result.now ≤ length (places_of result.now) }
     {
         self.assigned.as_slice()
     }
@@ -92,9 +102,50 @@ impl Drives {
         ensures { self.new ≡ record (self.old) { entries = slice_set self.old.entries place (Some value) } }
     {
         if self.entries[place].is_none() {
-            self.assigned.push_reserved(place);
+            self.assigned.push_reserved(Span {
+                first: place,
+                len: 1,
+            });
         }
         self.entries[place] = Some(value);
+    }
+
+    /// Gives the drivers at the places from `first` on these entries, in place of those that they have.
+    pub fn set_span(&mut self, first: usize, values: &[u8])
+        requires there { (k : ℕ) → k < length values.now → first + k < length self.old.entries }
+        ensures { self.new ≡ record (self.old) { entries = written first values.now self.old.entries } }
+    {
+        if are_free(&self.entries, first, values.len()) {
+            self.set_free(first, values);
+        } else {
+            self.set_each(first, values);
+        }
+    }
+
+    /// Gives the drivers at the places from `first` on, none of which has an entry, these.
+    fn set_free(&mut self, first: usize, values: &[u8])
+        requires there { (k : ℕ) → k < length values.now → first + k < length self.old.entries }
+        requires free { (k : ℕ) → k < length values.now → entry self.old.entries (first + k) ≡ None }
+        ensures { self.new ≡ record (self.old) { entries = written first values.now self.old.entries } }
+    {
+        if !values.is_empty() {
+            write(&mut self.entries, first, values);
+            self.assigned.push_reserved(Span {
+                first,
+                len: values.len(),
+            });
+        }
+    }
+
+    /// Gives the drivers at the places from `first` on these entries, one by one.
+    fn set_each(&mut self, first: usize, values: &[u8])
+        requires there { (k : ℕ) → k < length values.now → first + k < length self.old.entries }
+        ensures { self.new ≡ record (self.old) { entries = written first values.now self.old.entries } }
+    {
+        let _drivers = self.drivers();
+        for at in 0..values.len() {
+            self.set(first + at, values[at]);
+        }
     }
 
     /// Takes all entries off. It looks at those that are there and at no others.
@@ -129,15 +180,5 @@ impl Drives {
         ensures { self.new ≡ record (self.old) { variables = slice_set self.old.variables element value } }
     {
         self.variables[element] = value;
-    }
-}
-
-/// Takes off the entries at these places, which are all that there are.
-fn take_off(entries: &mut [Option<u8>], places: &[usize])
-    requires { AreAssigned entries.old places.now }
-    ensures { entries.new ≡ replicate (length entries.old) None }
-{
-    for place in places {
-        entries[*place] = None;
     }
 }

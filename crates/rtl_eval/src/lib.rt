@@ -3,6 +3,8 @@
 
 mod drives;
 mod exec;
+mod spans;
 
 pub use drives::Drives;
 pub use exec::Exec;
+pub use spans::Span;

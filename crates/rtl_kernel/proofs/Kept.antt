@@ -12,7 +12,7 @@ use Rattle.rtl_eval.specs.Runs.{IsOf}
 use Rattle.rtl_net.specs.Nets.{NetView, flat}
 use Rattle.rtl_kernel.specs.drivers.Resolved.{AreResolved}
 use Rattle.rtl_kernel.specs.drivers.Rows.{IsThere}
-use Rattle.rtl_kernel.specs.drivers.Transactions.{Transactions, IsActive, HasRunOf, TouchesAll, pending_of, without_entries, no_outcome}
+use Rattle.rtl_kernel.specs.drivers.Transactions.{Transactions, IsActive, HasRunOf, TouchesAll, driver_at, pending_of, without_entries, no_outcome}
 use Rattle.rtl_kernel.specs.kernel.Kept.{IsKernel, IsSound, state_of}
 use Rattle.rtl_kernel.specs.kernel.Simulation.{changes_of}
 use Rattle.rtl_kernel.specs.values.TwoValues.{TwoValues, AreChanged}
@@ -109,14 +109,15 @@ module _ {E : Type 0} (process : E → FlatProcess) (types : E → List ElementT
       subst (λ (rows : List (List ℕ)). IsThere rows source) (sym is) (sources_there (flat net) K.in_range K.connected (updated (core_net (flat net)) before_step) sound_update n source h)
 
   module _ (v' : TwoValues) (t' : Transactions) (r' : ToRun) (nets : Numbers) (before : v'.before ≡ v.current) (drivers : t'.drivers ≡ driven_all (pending_of t.outcomes) t.drivers)
-      (outcomes : t'.outcomes ≡ map without_entries t.outcomes) (T : TouchesAll net.processes (pending_of t.outcomes) touched nets)
+      (outcomes : t'.outcomes ≡ map without_entries t.outcomes) (T : TouchesAll net.processes t.drivers t'.drivers touched nets)
       (R : AreResolved (core_net (flat net)) t'.drivers nets.members v.current v'.current)
       (as_many : length r'.waiting ≡ length r.waiting) (W : AreWoken index v'.before v'.current r'.waiting) where
     pub is_updated : state_of v' t' r' ≡ updated (core_net (flat net)) before_step
     is_updated =
         state_updated (flat net) v t r v' t' r' before
         (resolved_are_updated (core_net (flat net)) before_step nets.members v'.current (wired (flat net) K.in_range K.connected) K.sound.consistent K.sound.in_range.now.each_net
-        (λ p place some. subst (λ (ns : List ℕ). Contains nets.members (get_or ns place 0)) (targets_are net p) (T.added p place some))
+        (λ p place differ. subst (λ (ns : List ℕ). Contains nets.members (get_or ns place 0)) (targets_are net p)
+        (T.added p place (λ e. differ (ap (λ (rows : List (List ℕ)). driver_at rows p place) (sym drivers) ∙ e))))
         (subst (λ (rows : List (List ℕ)). AreResolved (core_net (flat net)) rows nets.members v.current v'.current) drivers R))
         drivers outcomes (wakes_same v'.before v'.current r'.waiting as_many W)
 

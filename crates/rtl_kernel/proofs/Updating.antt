@@ -1,21 +1,24 @@
 -- Transactions that are taken over, process by process.
-use Rattle.std.proofs.Common.{◌≡◌, ℕ, zero, suc, ◌+◌, ◌<◌, ◌≤◌, List, [], ◌∷◌, length, get_or, set, map, replicate, Option, Some, None, refl, sym, ap, subst, ◌∙◌, arith, ◌⊎◌, inl, inr, IsSome, Contains}
-use Rattle.std.proofs.lemmas.Bool.{cases_eq, cases_lt}
+use Rattle.std.proofs.Common.{◌≡◌, ℕ, zero, suc, ◌+◌, ◌<◌, ◌≤◌, List, [], ◌∷◌, length, get_or, set, drop, map, replicate, Option, Some, None, refl, sym, ap, subst, ◌∙◌, arith, ◌⊎◌, inl, inr, IsSome, Contains}
+use Rattle.std.proofs.lemmas.Bool.{cases_eq}
 use Rattle.std.proofs.lemmas.List.{ext_get_or, get_or-set_same, get_or-set_other, get_or_default, length-set, length-map, length-replicate, map-set}
 use Rattle.std.proofs.Math.Seq.{map-set_same}
 use Rattle.rtl_eval.specs.Runs.{Outcome}
+use Rattle.rtl_eval.specs.declared.spans.Span.{Span}
+use Rattle.rtl_eval.specs.Spans.{places_of}
+use Rattle.rtl_eval.specs.Tracked.{AreAssigned}
 use Rattle.rtl_eval.proofs.Assigned.{no_entry}
+use Rattle.rtl_eval.proofs.Places.{left_of, none_behind}
 use Rattle.rtl_model.specs.simulation.Cycle.{driven, driven_all, none_pending}
 use Rattle.rtl_model.specs.simulation.Machine.{entry_or}
 use Rattle.rtl_model.proofs.basics.Lists.{get_or-map_within}
 use Rattle.rtl_model.proofs.simulation.Rows.{driven_all_at, driven_at, length-driven}
 use Rattle.std.specs.Option.{is_some}
-use Rattle.rtl_eval.specs.Tracked.{AreAssigned}
 use Rattle.rtl_net.specs.declared.process.Driver as net
 use Rattle.rtl_net.specs.declared.process.Process.{Process}
 use Rattle.rtl_kernel.specs.worklists.Numbers.{Numbers, IsWith}
-use Rattle.rtl_kernel.specs.drivers.Transactions.{IsActive, Touches, TouchesAll, nets_of, targets_of, transaction_at, pending_of, without_entries}
-use Rattle.rtl_kernel.specs.drivers.Updates.{IsTaking, IsUpdating}
+use Rattle.rtl_kernel.specs.drivers.Transactions.{IsActive, Touches, TouchesAll, driver_at, nets_of, targets_of, pending_of, without_entries}
+use Rattle.rtl_kernel.specs.drivers.Updates.{Takes, IsTaken, IsUpdating}
 
 -- ---- one row
 
@@ -84,88 +87,106 @@ pending_without (o ∷ outcomes) = let rest = pending_without outcomes in λ i. 
 pub net_at : (ds : List net.Driver) (k : ℕ) (d : net.Driver) → k < length ds → get_or (nets_of ds) k 0 ≡ (get_or ds k d).net
 net_at ds k d within = get_or-map_within (λ (d : net.Driver). d.net) ds k d 0 within
 
-module _ (targets : List ℕ) (entries : List (Option ℕ)) (places : List ℕ) where
-  pub taking_none_yet : (old : List ℕ) (touched : Numbers) → IsTaking targets entries places 0 old touched old touched
-  taking_none_yet old touched = record {
+module _ (targets : List ℕ) (entries : List (Option ℕ)) where
+  pub takes_none : (old : List ℕ) (touched : Numbers) → Takes targets entries old touched old touched
+  takes_none old touched = record {
     as_many = refl;
-    bound_stays = refl;
-    kept = λ n h. h;
     unassigned = λ q e. refl;
-    taken = λ k v l. absurd (omega arith);
-    added = λ k l. absurd (omega arith);
+    stay = λ q h. h;
+    touches = record { bound_stays = refl; kept = λ n h. h; added = λ q differ. absurd (differ refl) };
   }
 
-  module _ (i : ℕ) (old : List ℕ) (old_touched : Numbers) (new : List ℕ) (new_touched : Numbers) where
-    pub taking_some : IsTaking targets entries places i old old_touched new new_touched → (place v n : ℕ) → {touched : Numbers} → get_or places i 0 ≡ place
-        → get_or entries place None ≡ Some v → place < length new → n ≡ get_or targets place 0 → IsWith n new_touched touched
-        → IsTaking targets entries places (i + 1) old old_touched (set new place v) touched
-    taking_some I place v n {touched} is entry within net_is W = record {
-      as_many = length-set new place v ∙ I.as_many;
-      bound_stays = W.bound_stays ∙ I.bound_stays;
-      kept = λ m h. W.kept m (I.kept m h);
-      unassigned = λ q e. unassigned q e (cases_eq q place);
-      taken = λ k w l e. taken k w l e (cases_eq (get_or places k 0) place);
-      added = λ k l some. added k l some (cases_eq k i);
-    }
-      where
-        unassigned : (q : ℕ) → get_or entries q None ≡ None → (q ≡ place) ⊎ (q ≡ place → ⊥) → get_or (set new place v) q 0 ≡ get_or old q 0
-        unassigned q e (inl same) = let f = rw same at e in absurd cc
-        unassigned q e (inr other) = get_or-set_other new place q v 0 other ∙ I.unassigned q e
+  pub takes_one : (old : List ℕ) (touched : Numbers) (place v n : ℕ) → {touched' : Numbers} → get_or entries place None ≡ Some v → place < length old
+      → n ≡ get_or targets place 0 → IsWith n touched touched' → Takes targets entries old touched (set old place v) touched'
+  takes_one old touched place v n {touched'} entry within net_is W = record {
+    as_many = length-set old place v;
+    unassigned = λ q e. unassigned q e (cases_eq q place);
+    stay = λ q h w e. stay q h w e (cases_eq q place);
+    touches = record { bound_stays = W.bound_stays; kept = W.kept; added = λ q differ. added q differ (cases_eq q place) };
+  }
+    where
+      unassigned : (q : ℕ) → get_or entries q None ≡ None → (q ≡ place) ⊎ (q ≡ place → ⊥) → get_or (set old place v) q 0 ≡ get_or old q 0
+      unassigned q e (inl same) = let f = rw same at e in absurd cc
+      unassigned q e (inr other) = get_or-set_other old place q v 0 other
 
-        taken : (k w : ℕ) → k < i + 1 → get_or entries (get_or places k 0) None ≡ Some w → (get_or places k 0 ≡ place) ⊎ (get_or places k 0 ≡ place → ⊥)
-            → get_or (set new place v) (get_or places k 0) 0 ≡ w
-        taken k w l e (inl same) = let f = rw same at e in rw same (get_or-set_same new place v 0 within ∙ (let g : v ≡ w = cc in g))
-        taken k w l e (inr other) = get_or-set_other new place (get_or places k 0) v 0 other ∙ I.taken k w (earlier k l other) e
-          where
-            earlier : (k : ℕ) → k < i + 1 → (get_or places k 0 ≡ place → ⊥) → k < i
-            earlier k l other = by (cases_lt k i)
-              where
-                by : (k < i) ⊎ (i ≤ k) → k < i
-                by (inl h) = h
-                by (inr h) = let e : k ≡ i = omega arith in absurd (other (ap (λ (m : ℕ). get_or places m 0) e ∙ is))
+      stay : (q : ℕ) → IsTaken entries old q → (w : ℕ) → get_or entries q None ≡ Some w → (q ≡ place) ⊎ (q ≡ place → ⊥) → get_or (set old place v) q 0 ≡ w
+      stay q h w e (inl same) = let f = rw same at e in rw same (get_or-set_same old place v 0 within ∙ (let g : v ≡ w = cc in g))
+      stay q h w e (inr other) = get_or-set_other old place q v 0 other ∙ h w e
 
-        added : (k : ℕ) → k < i + 1 → IsSome (get_or entries (get_or places k 0) None) → (k ≡ i) ⊎ (k ≡ i → ⊥) → Contains touched.members (get_or targets (get_or places k 0) 0)
-        added k l some (inl same) = rw (same, is, ← net_is) W.added
-        added k l some (inr other) = W.kept _ (I.added k (omega (arith, l, other)) some)
+      added : (q : ℕ) → (get_or (set old place v) q 0 ≡ get_or old q 0 → ⊥) → (q ≡ place) ⊎ (q ≡ place → ⊥) → Contains touched'.members (get_or targets q 0)
+      added q differ (inl same) = rw (same, ← net_is) W.added
+      added q differ (inr other) = absurd (differ (get_or-set_other old place q v 0 other))
 
-    pub taking_none : IsTaking targets entries places i old old_touched new new_touched → get_or entries (get_or places i 0) None ≡ None
-        → IsTaking targets entries places (i + 1) old old_touched new new_touched
-    taking_none I none = record {
-      as_many = I.as_many;
-      bound_stays = I.bound_stays;
-      kept = I.kept;
-      unassigned = I.unassigned;
-      taken = λ k v l e. taken k v l e (cases_eq k i);
-      added = λ k l some. added k l some (cases_eq k i);
-    }
-      where
-        taken : (k v : ℕ) → k < i + 1 → get_or entries (get_or places k 0) None ≡ Some v → (k ≡ i) ⊎ (k ≡ i → ⊥) → get_or new (get_or places k 0) 0 ≡ v
-        taken k v l e (inl same) = let f = rw same at e in absurd cc
-        taken k v l e (inr other) = I.taken k v (omega (arith, l, other)) e
+  pub takes_then : (old mid new : List ℕ) (touched touched' touched'' : Numbers) → Takes targets entries old touched mid touched' → Takes targets entries mid touched' new touched''
+      → Takes targets entries old touched new touched''
+  takes_then old mid new touched touched' touched'' A B = record {
+    as_many = B.as_many ∙ A.as_many;
+    unassigned = λ q e. B.unassigned q e ∙ A.unassigned q e;
+    stay = λ q h. B.stay q (A.stay q h);
+    touches = record {
+      bound_stays = B.touches.bound_stays ∙ A.touches.bound_stays;
+      kept = λ n h. B.touches.kept n (A.touches.kept n h);
+      added = λ q differ. added q differ (cases_eq (get_or new q 0) (get_or mid q 0));
+    };
+  }
+    where
+      added : (q : ℕ) → (get_or new q 0 ≡ get_or old q 0 → ⊥) → (get_or new q 0 ≡ get_or mid q 0) ⊎ (get_or new q 0 ≡ get_or mid q 0 → ⊥)
+          → Contains touched''.members (get_or targets q 0)
+      added q differ (inl same) = B.touches.kept _ (A.touches.added q (λ e. differ (same ∙ e)))
+      added q differ (inr differ') = B.touches.added q differ'
 
-        added : (k : ℕ) → k < i + 1 → IsSome (get_or entries (get_or places k 0) None) → (k ≡ i) ⊎ (k ≡ i → ⊥) → Contains new_touched.members (get_or targets (get_or places k 0) 0)
-        added k l some (inl same) = let f = rw same at some in let g = ap is_some none in absurd cc
-        added k l some (inr other) = I.added k (omega (arith, l, other)) some
+  -- where all are taken, they have what they are driven to
+  pub taken_values : (old : List ℕ) (touched : Numbers) (new : List ℕ) (touched' : Numbers) → Takes targets entries old touched new touched'
+      → ((q : ℕ) → IsTaken entries new q) → new ≡ driven entries old
+  taken_values old touched new touched' T taken = driven_from entries old new T.as_many T.unassigned taken
 
-    module _ (A : AreAssigned entries places) (done : length places ≤ i) (I : IsTaking targets entries places i old old_touched new new_touched) where
-      pub taken_values : new ≡ driven entries old
-      taken_values = driven_from entries old new I.as_many I.unassigned assigned
-        where
-          assigned : (q v : ℕ) → get_or entries q None ≡ Some v → get_or new q 0 ≡ v
-          assigned q v e =
-              let (k, l, is) = A.are_all q (ap is_some e) in
-              let at = get_or_default places k 0 q l ∙ is in
-              sym (ap (λ (m : ℕ). get_or new m 0) at) ∙ I.taken k v (omega (arith, l, done)) (ap (λ (m : ℕ). get_or entries m None) at ∙ e)
+module _ (entries : List (Option ℕ)) where
+  pub taken_here : (values : List ℕ) (place v : ℕ) → get_or entries place None ≡ Some v → get_or values place 0 ≡ v → IsTaken entries values place
+  taken_here values place v entry has w e = has ∙ (let g : v ≡ w = cc in g)
 
-      pub taken_nets : Touches targets entries old_touched new_touched
-      taken_nets = record {
-        bound_stays = I.bound_stays;
-        kept = I.kept;
-        added = λ q some.
-            let (k, l, is) = A.are_all q some in
-            let at = get_or_default places k 0 q l ∙ is in
-            subst (λ (m : ℕ). Contains new_touched.members (get_or targets m 0)) at (I.added k (omega (arith, l, done)) (rw at some));
-      }
+  pub none_here : (values : List ℕ) (place : ℕ) → get_or entries place None ≡ None → IsTaken entries values place
+  none_here values place none w e = absurd cc
+
+  -- before the first span, what is not taken is in one of them
+  pub left_all : (values : List ℕ) (spans : List Span) → AreAssigned entries (places_of spans) → (q : ℕ) → IsTaken entries values q ⊎ Contains (places_of spans) q
+  left_all values spans A q = by (get_or entries q None) refl
+    where
+      by : (o : Option ℕ) → get_or entries q None ≡ o → IsTaken entries values q ⊎ Contains (places_of spans) q
+      by None e = inl (λ v f. absurd cc)
+      by (Some v) e = inr (A.are_all q (ap is_some e))
+
+  -- a span less
+  pub left_one : (values values' : List ℕ) (spans : List Span) (i : ℕ) (d : Span) → i < length spans
+      → ((q : ℕ) → IsTaken entries values q → IsTaken entries values' q)
+      → ((k : ℕ) → k < (get_or spans i d).len → IsTaken entries values' ((get_or spans i d).first + k))
+      → ((q : ℕ) → IsTaken entries values q ⊎ Contains (places_of (drop i spans)) q) → (q : ℕ) → IsTaken entries values' q ⊎ Contains (places_of (drop (i + 1) spans)) q
+  left_one values values' spans i d l stay taken left q = by (left q)
+    where
+      there : ((k : ℕ) × (k < (get_or spans i d).len) × ((get_or spans i d).first + k ≡ q)) ⊎ Contains (places_of (drop (i + 1) spans)) q
+          → IsTaken entries values' q ⊎ Contains (places_of (drop (i + 1) spans)) q
+      there (inl (k, m, is)) = inl (subst (λ (p : ℕ). IsTaken entries values' p) is (taken k m))
+      there (inr rest) = inr rest
+
+      by : IsTaken entries values q ⊎ Contains (places_of (drop i spans)) q → IsTaken entries values' q ⊎ Contains (places_of (drop (i + 1) spans)) q
+      by (inl h) = inl (stay q h)
+      by (inr later) = there (left_of spans i d q l later)
+
+  -- behind the last span all are taken
+  pub none_left : (values : List ℕ) (spans : List Span) (i : ℕ) → length spans ≤ i → ((q : ℕ) → IsTaken entries values q ⊎ Contains (places_of (drop i spans)) q)
+      → (q : ℕ) → IsTaken entries values q
+  none_left values spans i done left q = by (left q)
+    where
+      by : IsTaken entries values q ⊎ Contains (places_of (drop i spans)) q → IsTaken entries values q
+      by (inl h) = h
+      by (inr there) = absurd (none_behind spans i done q there)
+
+-- what holds below a number and at it holds up to it
+pub and_at : (P : ℕ → Type 0) (at : ℕ) → ((k : ℕ) → k < at → P k) → P at → (k : ℕ) → k < at + 1 → P k
+and_at P at below here k l = by (cases_eq k at)
+  where
+    by : (k ≡ at) ⊎ (k ≡ at → ⊥) → P k
+    by (inl same) = subst P (sym same) here
+    by (inr other) = below k (omega (arith, l, other))
 
 -- ---- the drivers of all processes
 
@@ -185,13 +206,13 @@ module _ (active : List ℕ) (processes : List Process) (outcomes : List Outcome
     left = λ p a. let (k, l, is) = all_active p a in (k, omega arith, l, get_or_default active k 0 p l ∙ is);
     bound_stays = refl;
     kept = λ n h. h;
-    added = λ p place some. inl some;
+    added = λ p place differ. absurd (differ refl);
   }
 
   module _ (i : ℕ) (outcomes' : List Outcome) (drivers' : List (List ℕ)) (touched' : Numbers) (I : IsUpdating active i processes outcomes drivers touched outcomes' drivers' touched') where
     module _ (p : ℕ) (o cleared : Outcome) (row : List ℕ) (touched'' : Numbers) (is : get_or active i 0 ≡ p) (there : p < length outcomes') (there_too : p < length drivers')
         (o_is : get_or outcomes' p o ≡ o) (cleared_is : cleared ≡ without_entries o) (row_is : row ≡ driven o.entries (get_or drivers' p []))
-        (as_many : length (get_or drivers' p []) ≡ length o.entries) (T : Touches (targets_of processes p) o.entries touched' touched'') where
+        (as_many : length (get_or drivers' p []) ≡ length o.entries) (T : Touches (targets_of processes p) (get_or drivers' p []) row touched' touched'') where
       abbrev nones : List (Option ℕ)
       nones = replicate (length o.entries) None
 
@@ -224,7 +245,7 @@ module _ (active : List ℕ) (processes : List Process) (outcomes : List Outcome
         left = λ q a. left q a (cases_eq q p);
         bound_stays = T.bound_stays ∙ I.bound_stays;
         kept = λ n h. T.kept n (I.kept n h);
-        added = λ q place some. added q place (I.added q place some) (cases_eq q p);
+        added = λ q place differ. added q place differ (cases_eq q p);
       }
         where
           entry : (q : ℕ) → (q ≡ p) ⊎ (q ≡ p → ⊥) → length (get_or (pending_of (set outcomes' p cleared)) q []) ≡ length (get_or (pending_of outcomes) q [])
@@ -252,11 +273,18 @@ module _ (active : List ℕ) (processes : List Process) (outcomes : List Outcome
               let differ : k ≡ i → ⊥ = λ e. n (sym at ∙ ap (λ (m : ℕ). get_or active m 0) e ∙ is) in
               (k, omega (arith, from, differ), within, at)
 
-          added : (q place : ℕ) → IsSome (transaction_at (pending_of outcomes') q place) ⊎ Contains touched'.members (get_or (targets_of processes q) place 0) → (q ≡ p) ⊎ (q ≡ p → ⊥)
-              → IsSome (transaction_at (pending_of (set outcomes' p cleared)) q place) ⊎ Contains touched''.members (get_or (targets_of processes q) place 0)
-          added q place (inr h) _ = inr (T.kept _ h)
-          added q place (inl some) (inl e) = inr (rw e (T.added place (sym (ap (λ (r : List (Option ℕ)). is_some (get_or r place None)) entries_at) ∙ rw e at some)))
-          added q place (inl some) (inr n) = inl (ap (λ (r : List (Option ℕ)). is_some (get_or r place None)) (at_other q n) ∙ some)
+          own : (place : ℕ) → (driver_at (set drivers' p row) p place ≡ driver_at drivers p place → ⊥)
+              → (get_or row place 0 ≡ driver_at drivers' p place) ⊎ (get_or row place 0 ≡ driver_at drivers' p place → ⊥) → Contains touched''.members (get_or (targets_of processes p) place 0)
+          own place differ (inl same) = T.kept _ (I.added p place (λ e. differ (ap (λ (r : List ℕ). get_or r place 0) row_at_p ∙ same ∙ e)))
+          own place differ (inr new) = T.added place new
+
+          added : (q place : ℕ) → (driver_at (set drivers' p row) q place ≡ driver_at drivers q place → ⊥) → (q ≡ p) ⊎ (q ≡ p → ⊥)
+              → Contains touched''.members (get_or (targets_of processes q) place 0)
+          added q place differ (inl e) = rw e (own place (rw e at differ) (cases_eq (get_or row place 0) (driver_at drivers' p place)))
+          added q place differ (inr n) = T.kept _ (I.added q place (λ e. differ (ap (λ (r : List ℕ). get_or r place 0) (get_or-set_other drivers' p q row [] n) ∙ e)))
+
+    pub updated_nets : TouchesAll processes drivers drivers' touched touched'
+    updated_nets = record { bound_stays = I.bound_stays; kept = I.kept; added = I.added }
 
     module _ (done : length active ≤ i) where
       none_left_active : (p : ℕ) → IsActive (pending_of outcomes') p → ⊥
@@ -271,11 +299,3 @@ module _ (active : List ℕ) (processes : List Process) (outcomes : List Outcome
           all_driven (pending_of outcomes) drivers drivers' I.each_row (length-map outcomes _ ∙ sym as_many)
           (λ p. sym (driven_none (get_or (pending_of outcomes') p []) (get_or drivers' p []) (I.each_entry p ∙ sym (each p) ∙ sym (I.each_value p))
           (λ place some. none_left_active p (place, some))) ∙ I.driven_stay p)
-
-      pub updated_nets : TouchesAll processes (pending_of outcomes) touched touched'
-      updated_nets = record { bound_stays = I.bound_stays; kept = I.kept; added = λ p place some. by p place (I.added p place some) }
-        where
-          by : (p place : ℕ) → IsSome (transaction_at (pending_of outcomes') p place) ⊎ Contains touched'.members (get_or (targets_of processes p) place 0)
-              → Contains touched'.members (get_or (targets_of processes p) place 0)
-          by p place (inl some) = absurd (none_left_active p (place, some))
-          by p place (inr h) = h

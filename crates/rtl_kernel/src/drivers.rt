@@ -1,6 +1,6 @@
 //! Drivers and their transactions.
 
-ghost use Rattle.std.specs.Prelude.{◌≡◌, ◌<◌, ◌≤◌, ℕ, [], All, length, map, not, slice_index_or, slice_set, Contains, IfOk};
+ghost use Rattle.std.specs.Prelude.{◌≡◌, ◌+◌, ◌<◌, ◌≤◌, ℕ, [], All, length, map, not, slice_index_or, slice_set, Contains, IfOk};
 ghost use Rattle.std.specs.List.{list_any};
 ghost use Rattle.std.specs.Option.{is_some};
 ghost use Rattle.rtl_model.specs.bodies.Types.{KeepsTypes};
@@ -12,10 +12,11 @@ ghost use Rattle.rtl_net.specs.declared.process.Process.{Process};
 ghost use Rattle.rtl_kernel.specs.drivers.Rows.{rows};
 ghost use Rattle.rtl_kernel.specs.drivers.Starts.{AreFresh, start_row};
 ghost use Rattle.rtl_kernel.specs.drivers.Transactions.{IsActive, Touches, TouchesAll, HasRunOf, nets_of, targets_of, pending_of, without_entries, no_outcome};
+ghost use Rattle.rtl_kernel.specs.drivers.Updates.{Takes, IsTaken};
 
 use crate::starts::{start_values, variable_starts};
 use crate::worklist::Worklist;
-use rtl_eval::{Drives, Exec};
+use rtl_eval::{Drives, Exec, Span};
 use rtl_net::{Driver, Process};
 use std::alloc::{AllocError, Global};
 use std::marker::Model;
@@ -83,14 +84,15 @@ impl Drivers {
         self.active.members().is_empty()
     }
 
-    /// Every transaction becomes its driver's value, and the nets of the active drivers come to those in `touched`.
+    /// Every transaction becomes its driver's value, and the nets of the drivers whose values change come to those in
+    /// `touched`.
     pub fn update(&mut self, processes: &[Process], touched: &mut Worklist)
         requires as_many { length processes.now ≡ length self.old.outcomes }
         requires each_driver { (p : ℕ) → length (targets_of processes.now p) ≡ length (slice_index_or (pending_of self.old.outcomes) p []) }
         requires nets { All (λ (p : Process). All (λ n. n < touched.old.bound) (nets_of p.drives.items)) processes.now }
         ensures drivers { self.new.drivers ≡ driven_all (pending_of self.old.outcomes) self.old.drivers }
         ensures outcomes { self.new.outcomes ≡ map without_entries self.old.outcomes }
-        ensures touched { TouchesAll processes.now (pending_of self.old.outcomes) touched.old touched.new }
+        ensures touched { TouchesAll processes.now self.old.drivers self.new.drivers touched.old touched.new }
     {
         update_rows(
             self.active.members(),
@@ -139,7 +141,7 @@ fn update_rows(
     requires nets { All (λ (p : Process). All (λ n. n < touched.old.bound) (nets_of p.drives.items)) processes.now }
     ensures drivers { rows drivers.new.items ≡ driven_all (pending_of outcomes.old.items) (rows drivers.old.items) }
     ensures outcomes { outcomes.new.items ≡ map without_entries outcomes.old.items }
-    ensures touched { TouchesAll processes.now (pending_of outcomes.old.items) touched.old touched.new }
+    ensures touched { TouchesAll processes.now (rows drivers.old.items) (rows drivers.new.items) touched.old touched.new }
 {
     for process in active {
         let outcome = &mut outcomes[*process];
@@ -159,12 +161,35 @@ fn update_row(drives: &[Driver], outcome: &Drives, values: &mut Vec<u8>, touched
     requires each_driver { length drives.now ≡ length outcome.now.entries }
     requires nets { All (λ n. n < touched.old.bound) (nets_of drives.now) }
     ensures values { values.new.items ≡ driven outcome.now.entries values.old.items }
-    ensures touched { Touches (nets_of drives.now) outcome.now.entries touched.old touched.new }
+    ensures touched { Touches (nets_of drives.now) values.old.items values.new.items touched.old touched.new }
 {
-    for place in outcome.assigned() {
-        if let Some(value) = outcome.get(*place) {
-            values[*place] = value;
-            touched.insert(drives[*place].net);
+    for span in outcome.assigned() {
+        update_span(drives, outcome.entries(), *span, values, touched);
+    }
+}
+
+/// Takes over the transactions of one process at the places of a span.
+fn update_span(
+    drives: &[Driver],
+    entries: &[Option<u8>],
+    span: Span,
+    values: &mut [u8],
+    touched: &mut Worklist,
+)
+    requires as_many { length values.old ≡ length entries.now }
+    requires each_driver { length drives.now ≡ length entries.now }
+    requires there { (k : ℕ) → k < span.len → span.first + k < length entries.now }
+    requires nets { All (λ n. n < touched.old.bound) (nets_of drives.now) }
+    ensures takes { Takes (nets_of drives.now) entries.now values.old touched.old values.new touched.new }
+    ensures taken { (k : ℕ) → k < span.len → IsTaken entries.now values.new (span.first + k) }
+{
+    for at in 0..span.len {
+        let place = span.first + at;
+        if let Some(value) = entries[place] {
+            if values[place] != value {
+                values[place] = value;
+                touched.insert(drives[place].net);
+            }
         }
     }
 }

@@ -50,8 +50,23 @@ fn assign_codes(places: &Indices, codes: &[u8], out: &mut Drives)
     requires there { All (λ place. place < length out.old.entries) (numbers places.now) }
     ensures { out.new ≡ record (out.old) { entries = assigned (numbers places.now) codes.now out.old.entries } }
 {
+    match places {
+        Indices::Run { first, len } => {
+            let _len = *len;
+            out.set_span(*first as usize, codes);
+        }
+        Indices::List(listed) => assign_each(listed.as_slice(), codes, out),
+    }
+}
+
+/// These codes, from the left, to the drivers at these places, which need not stand one after another.
+fn assign_each(places: &[u32], codes: &[u8], out: &mut Drives)
+    requires as_many { length places.now ≡ length codes.now }
+    requires there { All (λ place. place < length out.old.entries) places.now }
+    ensures { out.new ≡ record (out.old) { entries = assigned places.now codes.now out.old.entries } }
+{
     for at in 0..codes.len() {
-        out.set(number_at(places, at), codes[at]);
+        out.set(places[at] as usize, codes[at]);
     }
 }
 

@@ -1,21 +1,21 @@
 -- In the middle of an update: what is left to do gives what the whole gives.
-use Rattle.std.specs.Prelude.{◌≡◌, ◌⊎◌, ℕ, ◌≤◌, ◌<◌, List, [], length, map, slice_index, slice_index_or, Option, Some, None, IsSome, Contains}
+use Rattle.std.specs.Prelude.{◌≡◌, ℕ, ◌≤◌, ◌<◌, List, [], length, map, slice_index, slice_index_or, Option, Some, None, Contains}
 use Rattle.rtl_model.specs.simulation.Cycle.{driven}
 use Rattle.rtl_eval.specs.Runs.{Outcome}
 use Rattle.rtl_net.specs.declared.process.Process.{Process}
 use Rattle.rtl_kernel.specs.worklists.Numbers.{Numbers}
-use Rattle.rtl_kernel.specs.drivers.Transactions.{IsActive, pending_of, transaction_at, targets_of, without_entries}
+use Rattle.rtl_kernel.specs.drivers.Transactions.{IsActive, Touches, driver_at, pending_of, targets_of, without_entries}
 
--- of one process: the drivers at these places, before the index, have their transactions' values
-pub record IsTaking (targets : List ℕ) (entries : List (Option ℕ)) (places : List ℕ) (index : ℕ)
-    (old : List ℕ) (old_touched : Numbers) (new : List ℕ) (new_touched : Numbers) : Type 0 where
+-- the driver at this place has its transaction's value, if it has a transaction
+abbrev pub IsTaken : (entries : List (Option ℕ)) → (values : List ℕ) → (place : ℕ) → Type 0
+IsTaken entries values place = (v : ℕ) → slice_index_or entries place None ≡ Some v → slice_index values place ≡ v
+
+-- some drivers of one process have taken their transactions' values, all others are as they were
+pub record Takes (targets : List ℕ) (entries : List (Option ℕ)) (old : List ℕ) (old_touched : Numbers) (new : List ℕ) (new_touched : Numbers) : Type 0 where
   pub as_many : length new ≡ length old
-  pub bound_stays : new_touched.bound ≡ old_touched.bound
-  pub kept : (n : ℕ) → Contains old_touched.members n → Contains new_touched.members n
   pub unassigned : (q : ℕ) → slice_index_or entries q None ≡ None → slice_index new q ≡ slice_index old q
-  pub taken : (k v : ℕ) → k < index → slice_index_or entries (slice_index places k) None ≡ Some v → slice_index new (slice_index places k) ≡ v
-  pub added : (k : ℕ) → k < index → IsSome (slice_index_or entries (slice_index places k) None)
-      → Contains new_touched.members (slice_index targets (slice_index places k))
+  pub stay : (q : ℕ) → IsTaken entries old q → IsTaken entries new q
+  pub touches : Touches targets old new old_touched new_touched
 
 -- of the processes of this list, those before the index are done
 pub record IsUpdating (active : List ℕ) (index : ℕ) (processes : List Process)
@@ -31,5 +31,5 @@ pub record IsUpdating (active : List ℕ) (index : ℕ) (processes : List Proces
   pub left : (p : ℕ) → IsActive (pending_of outcomes') p → (k : ℕ) × (index ≤ k) × (k < length active) × (slice_index active k ≡ p)
   pub bound_stays : touched'.bound ≡ touched.bound
   pub kept : (n : ℕ) → Contains touched.members n → Contains touched'.members n
-  pub added : (p place : ℕ) → IsSome (transaction_at (pending_of outcomes) p place)
-      → IsSome (transaction_at (pending_of outcomes') p place) ⊎ Contains touched'.members (slice_index_or (targets_of processes p) place 0)
+  pub added : (p place : ℕ) → (driver_at drivers' p place ≡ driver_at drivers p place → ⊥)
+      → Contains touched'.members (slice_index_or (targets_of processes p) place 0)

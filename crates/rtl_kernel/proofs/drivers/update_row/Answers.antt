@@ -1,50 +1,54 @@
-use Rattle.std.proofs.Common.{◌<◌, arith, refl, sym, ◌∙◌, get_or, length}
-use Rattle.std.proofs.lemmas.List.{length-map}
+use Rattle.std.proofs.Common.{◌≡◌, ℕ, ◌+◌, ◌<◌, List, Option, None, arith, length, get_or, ap, sym, subst, ◌∙◌}
+use Rattle.std.specs.Vec.{with_items}
+use Rattle.std.proofs.lemmas.List.{with_items_is}
+use Rattle.rtl_eval.specs.declared.spans.Span.{Span}
+use Rattle.rtl_eval.proofs.Places.{place_there}
 use Rattle.rtl_kernel.specs.drivers.Transactions.{nets_of}
-use Rattle.rtl_kernel.proofs.Updating.{taking_none_yet, taking_some, taking_none, taken_values, taken_nets, net_at}
+use Rattle.rtl_kernel.specs.drivers.Updates.{Takes, IsTaken}
+use Rattle.rtl_kernel.proofs.Updating.{takes_none, takes_then, taken_values, left_all, left_one, none_left}
 use Rattle.rtl_kernel.proofs.drivers.update_row.Goals as goal
-use Rattle.rtl_kernel.proofs.drivers.update_row.Goals.{in-Some, in_default}
 
-pub loop-place-init : goal.loop-place-init
-loop-place-init c = taking_none_yet _ _ _ _ _
+abbrev no_span : Span
+no_span = record { first = 0; len = 0 }
 
-pub insert-requires : goal.insert-requires
-insert-requires c =
-    let drives = c.args.drives.now in
-    let place = get_or c.assigned-place-items.result.now c.loop-place.place-index 0 in
-    let there = c.assigned-place-items.ensures.there c.loop-place.place-index c.loop-place-test.true in
-    let within = rw (← c.requires.each_driver) at there in
-    let is = net_at drives place (record { net = 0; start = 0 }) within in
-    rw (c.loop-place.invariant.bound_stays, ← is) (c.requires.nets place 0 (rw length-map within))
+pub loop-span-init : goal.loop-span-init
+loop-span-init c = record {
+  takes = takes_none _ _ _ _;
+  left = left_all c.args.outcome.now.entries c.args.values.now.items c.assigned-span-items.result.now c.assigned-span-items.ensures.places;
+}
 
-pub loop-place-preserved : goal.loop-place-preserved
-loop-place-preserved c =
+pub update_span-requires-clause-there : goal.update_span-requires-clause-there
+update_span-requires-clause-there c =
+    rw (c.entries.ensures) (λ k l. place_there _ _ c.assigned-span-items.ensures.places c.loop-span.span-index k no_span c.loop-span-test.true l)
+
+pub loop-span-preserved : goal.loop-span-preserved
+loop-span-preserved c =
     let drives = c.args.drives.now in
     let entries = c.args.outcome.now.entries in
-    let items = c.assigned-place-items.result.now in
-    let i = c.loop-place.place-index in
-    let place = get_or items i 0 in
-    let I = c.loop-place.invariant in
-    let there = c.assigned-place-items.ensures.there i c.loop-place-test.true in
-    let within = rw (← c.requires.each_driver) at there in
-    let valued : place < length c.loop-place.values.items = omega (arith, there, c.requires.as_many, I.as_many) in
-    elim c.match-get.branch [
-      | in-Some w ↦
-          let is = sym c.get.ensures ∙ w.in-Some.is in
-          let net_is = sym (net_at drives place (record { net = 0; start = 0 }) within) in
-          rw (w.values-is, w.touched-is) (taking_some (nets_of drives) entries items i c.args.values.now.items c.args.touched.now c.loop-place.values.items c.loop-place.touched
-          I place w.in-Some.value _ refl is valued net_is w.insert.ensures)
-      | in_default w ↦
-          rw (w.values-is, w.touched-is) (taking_none (nets_of drives) entries items i c.args.values.now.items c.args.touched.now c.loop-place.values.items c.loop-place.touched
-          I (sym c.get.ensures ∙ w.in_default.is))
-    ]
+    let spans = c.assigned-span-items.result.now in
+    let i = c.loop-span.span-index in
+    let span = get_or spans i no_span in
+    let old = c.loop-span.values in
+    let new = c.update_span.new.values in
+    let I = c.loop-span.invariant in
+    let done = rw (c.entries.ensures, c.deref_mut.ensures.value) at c.update_span.ensures.takes in
+    let many : length new ≡ old.len = omega (arith, done.as_many, old.ok.0) in
+    let kept = (with_items old new).items in
+    let same : kept ≡ new = with_items_is old new many in
+    let takes : Takes (nets_of drives) entries old.items c.loop-span.touched kept c.update_span.new.touched =
+    subst (λ (vs : List ℕ). Takes (nets_of drives) entries old.items c.loop-span.touched vs c.update_span.new.touched) (sym same) done in
+    let taken : (k : ℕ) → k < span.len → IsTaken entries kept (span.first + k) =
+    λ k l v e. ap (λ (vs : List ℕ). get_or vs (span.first + k) 0) same
+    ∙ c.update_span.ensures.taken k l v (ap (λ (es : List (Option ℕ)). get_or es (span.first + k) None) c.entries.ensures ∙ e) in
+    record {
+      takes = takes_then (nets_of drives) entries _ old.items kept _ c.loop-span.touched c.update_span.new.touched I.takes takes;
+      left = left_one entries old.items kept spans i no_span c.loop-span-test.true takes.stay taken I.left;
+    }
 
 pub returns-clause-values : goal.returns-clause-values
 returns-clause-values c =
-    taken_values (nets_of c.args.drives.now) c.args.outcome.now.entries c.assigned-place-items.result.now c.loop-place.place-index c.args.values.now.items c.args.touched.now
-    c.loop-place.values.items c.loop-place.touched c.assigned-place-items.ensures (omega (arith, c.loop-place-test.false)) c.loop-place.invariant
+    let I = c.loop-span.invariant in
+    taken_values _ _ _ _ _ _ I.takes (none_left _ _ _ c.loop-span.span-index (omega (arith, c.loop-span-test.false)) I.left)
 
 pub returns-clause-touched : goal.returns-clause-touched
-returns-clause-touched c =
-    taken_nets (nets_of c.args.drives.now) c.args.outcome.now.entries c.assigned-place-items.result.now c.loop-place.place-index c.args.values.now.items c.args.touched.now
-    c.loop-place.values.items c.loop-place.touched c.assigned-place-items.ensures (omega (arith, c.loop-place-test.false)) c.loop-place.invariant
+returns-clause-touched c = c.loop-span.invariant.takes.touches

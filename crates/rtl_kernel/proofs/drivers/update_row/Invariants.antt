@@ -1,6 +1,11 @@
+use Rattle.std.proofs.Common.{ℕ, ◌⊎◌, drop, Contains}
+use Rattle.rtl_eval.specs.Spans.{places_of}
 use Rattle.rtl_kernel.specs.drivers.Transactions.{nets_of}
-use Rattle.rtl_kernel.specs.drivers.Updates.{IsTaking}
+use Rattle.rtl_kernel.specs.drivers.Updates.{Takes, IsTaken}
 use Rattle.rtl_kernel.proofs.drivers.update_row.Given as goal
 
-abbrev pub invariant-loop-place : goal.invariant-loop-place
-invariant-loop-place l = IsTaking (nets_of l.drives) l.outcome.entries l.place-items l.place-index l.initial.values.items l.initial.touched l.values.items l.touched
+abbrev pub invariant-loop-span : goal.invariant-loop-span
+invariant-loop-span l = record {
+  takes : Takes (nets_of l.drives) l.outcome.entries l.initial.values.items l.initial.touched l.values.items l.touched;
+  left : (q : ℕ) → IsTaken l.outcome.entries l.values.items q ⊎ Contains (places_of (drop l.span-index l.span-items)) q;
+}

@@ -6,7 +6,7 @@ use Rattle.rtl_model.specs.simulation.Cycle.{driven}
 use Rattle.rtl_eval.specs.Runs.{Outcome}
 use Rattle.rtl_net.specs.declared.process.Process.{Process}
 use Rattle.rtl_kernel.specs.drivers.Rows.{rows}
-use Rattle.rtl_kernel.specs.drivers.Transactions.{Touches, nets_of}
+use Rattle.rtl_kernel.specs.drivers.Transactions.{Touches, nets_of, targets_of}
 use Rattle.rtl_kernel.proofs.Updating.{updating_none_yet, updating_one, updated_drivers, updated_outcomes, updated_nets}
 use Rattle.rtl_kernel.proofs.drivers.update_rows.Goals as goal
 
@@ -63,7 +63,8 @@ loop-process-preserved c =
     (updating_one c.args.active.now c.args.processes.now c.args.outcomes.now.items (rows c.args.drivers.now.items) c.args.touched.now c.loop-process.process-index
     c.loop-process.outcomes.items (rows drivers) c.loop-process.touched I p o c.clear.new.self c.update_row.new.values.items c.update_row.new.touched refl in_outcomes (rw length-map in_rows)
     (sym c.index_mut-outcome.ensures.value) c.clear.ensures (c.update_row.ensures.values ∙ ap (driven o.entries) (sym row)) as_many
-    (subst (λ (ns : List ℕ). Touches ns o.entries c.loop-process.touched c.update_row.new.touched) targets_are c.update_row.ensures.touched))
+    (subst (λ (xs : List ℕ). Touches (targets_of c.args.processes.now p) xs c.update_row.new.values.items c.loop-process.touched c.update_row.new.touched) (sym row)
+    (subst (λ (ns : List ℕ). Touches ns c.index_mut.result.now.items c.update_row.new.values.items c.loop-process.touched c.update_row.new.touched) targets_are c.update_row.ensures.touched)))
 
 pub returns-clause-drivers : goal.returns-clause-drivers
 returns-clause-drivers c =
@@ -79,4 +80,4 @@ returns-clause-outcomes c =
 pub returns-clause-touched : goal.returns-clause-touched
 returns-clause-touched c =
     updated_nets c.args.active.now c.args.processes.now c.args.outcomes.now.items (rows c.args.drivers.now.items) c.args.touched.now c.loop-process.process-index
-    c.loop-process.outcomes.items (rows c.loop-process.drivers.items) c.loop-process.touched c.loop-process.invariant (omega (arith, c.loop-process-test.false))
+    c.loop-process.outcomes.items (rows c.loop-process.drivers.items) c.loop-process.touched c.loop-process.invariant

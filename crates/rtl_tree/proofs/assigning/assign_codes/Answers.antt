@@ -1,26 +1,35 @@
-use Rattle.std.proofs.Common.{◌<◌, ◌+◌, drop, length, slice_index, slice_set, Some, ap, ◌∙◌, arith}
-use Rattle.std.proofs.lemmas.List.{length-set}
+use Rattle.std.proofs.Common.{◌≡◌, ℕ, ◌+◌, ◌<◌, List, Option, length, get_or, ap, sym, subst, ◌∙◌, arith}
+use Rattle.std.specs.List.{range_with_len}
+use Rattle.std.proofs.lemmas.List.FromFn.{length-range_with_len, get_or-range_with_len}
 use Rattle.rtl_net.specs.Indices.{numbers}
 use Rattle.rtl_eval.specs.Runs.{Outcome}
+use Rattle.rtl_eval.specs.Spans.{written}
 use Rattle.rtl_tree.specs.Running.{assigned}
-use Rattle.rtl_tree.proofs.OneByOne.{assigned_more}
+use Rattle.rtl_tree.proofs.OneByOne.{assigned_span}
 use Rattle.rtl_tree.proofs.assigning.assign_codes.Goals as goal
 
-pub loop-at-preserved : goal.loop-at-preserved
-loop-at-preserved c =
-    let ns = numbers c.args.places.now in
-    let vs = c.args.codes.now in
-    let i = c.loop-at.at in
-    let I = c.loop-at.invariant in
-    let m : i < length vs = omega (arith, c.loop-at-test.true) in
-    let l : i < length ns = omega (arith, m, c.requires.as_many) in
+pub set_span-requires : goal.set_span-requires
+set_span-requires c =
+    let first = c.in-Run.first in
+    let len = c.in-Run.len in
+    let is : numbers c.args.places.now ≡ range_with_len first len = ap numbers c.in-Run.is in
+    let many : length (numbers c.args.places.now) ≡ len = ap length is ∙ length-range_with_len first len in
     record {
-      each_driver = ap (λ (o : Outcome). length o.entries) c.set.ensures ∙ length-set c.loop-at.out.entries c.number_at.result (Some (slice_index vs i)) ∙ I.each_driver;
-      entries_are =
-          ap (λ (o : Outcome). assigned (drop (i + 1) ns) (drop (i + 1) vs) o.entries) c.set.ensures
-          ∙ ap (λ n. assigned (drop (i + 1) ns) (drop (i + 1) vs) (slice_set c.loop-at.out.entries n (Some (slice_index vs i)))) c.number_at.ensures
-          ∙ assigned_more ns vs i c.loop-at.out.entries l m ∙ I.entries_are;
-      variables_stay = ap (λ (o : Outcome). o.variables) c.set.ensures ∙ I.variables_stay;
-      starts_stay = ap (λ (o : Outcome). o.starts) c.set.ensures ∙ I.starts_stay;
-      room_stays = ap (λ (o : Outcome). o.room) c.set.ensures ∙ I.room_stays;
+      there = λ k l.
+          let m : k < len = omega (arith, l, c.requires.as_many, many) in
+          let at : get_or (numbers c.args.places.now) k 0 ≡ first + k = ap (λ (ns : List ℕ). get_or ns k 0) is ∙ get_or-range_with_len first len k 0 m in
+          subst (λ (n : ℕ). n < length c.args.out.now.entries) at (c.requires.there k 0 (omega (arith, m, many)));
     }
+
+pub returns-in-Run : goal.returns-in-Run
+returns-in-Run c =
+    let first = c.in-Run.first in
+    let len = c.in-Run.len in
+    let o = c.args.out.now in
+    let codes = c.args.codes.now in
+    let is : numbers c.args.places.now ≡ range_with_len first len = ap numbers c.in-Run.is in
+    let many : len ≡ length codes = sym (ap length is ∙ length-range_with_len first len) ∙ c.requires.as_many in
+    let whole : assigned (numbers c.args.places.now) codes o.entries ≡ written first codes o.entries =
+    ap (λ (ns : List ℕ). assigned ns codes o.entries) (is ∙ ap (range_with_len first) many) ∙ assigned_span first codes o.entries in
+    c.set_span.ensures
+    ∙ ap {B = Outcome} (λ (es : List (Option ℕ)). record { entries = es; starts = o.starts; variables = o.variables; room = o.room }) (sym whole)
