@@ -1,6 +1,6 @@
 -- A simulation begins, goes on, and stops.
-use Rattle.std.proofs.Common.{◌≡◌, ℕ, zero, suc, ◌+◌, ◌<◌, ◌≤◌, max, Bool, List, [], ◌∷◌, ◌++◌, length, get_or, Result, Ok, Err, refl, sym, ap, subst, ◌∙◌, append-nil, arith, cond}
-use Rattle.std.specs.Prelude.{if◌then◌else◌, IsErrAnd, IsTrue, ◌⊎◌}
+use Rattle.std.proofs.Common.{◌≡◌, ℕ, suc, ◌+◌, ◌<◌, ◌≤◌, max, Bool, List, [], ◌∷◌, ◌++◌, length, get_or, Result, Ok, Err, refl, sym, ap, subst, ◌∙◌, append-nil, arith}
+use Rattle.std.specs.Prelude.{if◌then◌else◌, IsErrAnd, IsTrue}
 use Rattle.std.proofs.Common.{inl, inr}
 use Rattle.std.proofs.KnownBytes.{Appends-nil}
 use Rattle.rtl_run.specs.declared.summary.Summary.{Summary}
@@ -8,7 +8,7 @@ use Rattle.rtl_run.specs.Running.{IsGreatest}
 use Rattle.rtl_model.specs.simulation.Cycle.{State, is_quiet}
 use Rattle.rtl_model.specs.simulation.Moments.{Begun, SettlesTo, IsUnsettled}
 use Rattle.rtl_net.specs.Nets.{NetView}
-use Rattle.rtl_sink.specs.Written.{SinkState, IsIntact, HasFailed, Goes}
+use Rattle.rtl_sink.specs.Written.{SinkState, IsIntact, Goes}
 use Rattle.rtl_sink.proofs.Writing.{Goes-append}
 use Rattle.rtl_vcd.specs.Header.{header_text}
 use Rattle.rtl_vcd.specs.Trace.{first_text, moment_text, end_text, are_some, changes}
@@ -16,8 +16,7 @@ use Rattle.rtl_moments.specs.Stimuli.{StimulusView, moments, inputs_at}
 use Rattle.rtl_moments.proofs.Next.{each_begins_at_zero}
 use Rattle.rtl_run.specs.declared.progress.Progress.{Progress}
 use Rattle.rtl_run.specs.declared.summary.RunFault.{RunFault}
-use Rattle.rtl_run.specs.declared.summary.RunFault.TheVariants.{NoSettling, Memory, Output}
-use Rattle.rtl_run.specs.Simulated.{Settled, core, SettlesAs, AreMoments}
+use Rattle.rtl_run.specs.Simulated.{Settled, core, AreMoments}
 use Rattle.rtl_run.specs.Traced.{text_so_far, whole_text}
 use Rattle.rtl_run.specs.Answered.{IsWhole, StopsAt, LeavesBeginning, Answers}
 use Rattle.rtl_run.specs.Running.{last_values, last_printed_of, HasBegun, HasCome, HasSettledIn, IsNext}

@@ -1,4 +1,5 @@
 pub mod Texts
 pub mod Steps
+pub mod Turns
 pub mod Moments
 pub mod Going

@@ -1,7 +1,7 @@
 -- From moment to moment: the kernel begins each moment with the stimulus's inputs.
-use Rattle.std.proofs.Common.{◌≡◌, ◌≢◌, ℕ, zero, suc, ◌<◌, ◌≤◌, List, [], ◌∷◌, length, map, get_or, ⊎_elim, inl, inr, sym, ap, subst, ◌∙◌, arith, IsTrue, Bool, true, false, cond, filter}
+use Rattle.std.proofs.Common.{◌≡◌, ◌≢◌, ℕ, suc, ◌<◌, ◌≤◌, List, [], ◌∷◌, length, map, get_or, ⊎_elim, inl, inr, sym, ap, subst, ◌∙◌, arith, Bool, true, false, cond, filter}
 use Rattle.std.specs.Prelude.{◌⊎◌, Contains, All, slice_index, slice_set, ◌==◌}
-use Rattle.std.specs.List.{list_any, range_with_len}
+use Rattle.std.specs.List.{range_with_len}
 use Rattle.std.proofs.lemmas.List.{get_or-set_same, get_or-set_other}
 use Rattle.std.proofs.Math.ListN.{length-set}
 use Rattle.std.proofs.lemmas.Bool.{cases_eq}

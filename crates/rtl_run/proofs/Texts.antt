@@ -1,9 +1,9 @@
 -- The trace of one more moment, and the end of the whole.
-use Rattle.std.proofs.Common.{◌≡◌, ℕ, suc, ◌+◌, ◌<◌, ◌≤◌, List, [], ◌∷◌, ◌++◌, length, get_or, refl, sym, ap, subst, ◌∙◌, append-nil, append_assoc, arith, cond}
+use Rattle.std.proofs.Common.{◌≡◌, ℕ, suc, ◌<◌, List, [], ◌∷◌, ◌++◌, length, get_or, refl, sym, ap, subst, ◌∙◌, append-nil, append_assoc, arith}
 use Rattle.std.specs.Prelude.{if◌then◌else◌}
 use Rattle.rtl_net.specs.Nets.{NetView, SignalView}
 use Rattle.rtl_vcd.specs.Header.{header_text}
-use Rattle.rtl_vcd.specs.Trace.{Moment, first_text, moment_text, moments_text, end_text, are_some, changes, trace_text}
+use Rattle.rtl_vcd.specs.Trace.{Moment, first_text, moment_text, moments_text, end_text, are_some, changes}
 use Rattle.rtl_moments.specs.Stimuli.{StimulusView, moments}
 use Rattle.rtl_run.specs.Simulated.{Settled}
 use Rattle.rtl_run.specs.Traced.{behind_first, at_times, changes_text, text_so_far, whole_text}

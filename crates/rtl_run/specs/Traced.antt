@@ -1,5 +1,5 @@
 -- The trace of the moments of a simulation (IEEE 1364-2005, clause 18).
-use Rattle.std.specs.Prelude.{ℕ, Bool, true, false, List, [], ◌∷◌, ◌++◌}
+use Rattle.std.specs.Prelude.{ℕ, List, [], ◌∷◌, ◌++◌}
 use Rattle.rtl_net.specs.Nets.{NetView, SignalView}
 use Rattle.rtl_vcd.specs.Header.{header_text}
 use Rattle.rtl_vcd.specs.Trace.{Moment, first_text, moment_text, trace_text}

@@ -21,7 +21,7 @@ use rtl_kernel::{Kernel, Pick};
 use rtl_moments::{Agenda, Stimulus};
 use rtl_net::Net;
 use rtl_sink::Sink;
-use rtl_vcd::{end, first, header, moment};
+use rtl_vcd::{Blocks, end, first, header};
 use std::alloc::Global;
 
 /// What is simulated: a net, whose k-th process the k-th body runs, under a stimulus, with so many delta cycles at most in each
@@ -37,7 +37,7 @@ pub struct Simulation<'a, E: Exec> {
 impl<E: Exec> Simulation<'_, E> {
     /// Simulates from 0 to the stimulus's stop, and writes the trace. The agenda is new: nothing waits in it.
     ///
-    /// It takes the kernel's memory, the agenda's, and a byte for each net.
+    /// It takes the kernel's memory, the agenda's, that of the names' blocks, and a byte for each net.
     ///
     /// # Errors
     ///
@@ -62,13 +62,14 @@ impl<E: Exec> Simulation<'_, E> {
         let stop = self.stimulus.stop();
         let mut kernel = Kernel::new(alloc, self.net, self.bodies, self.stimulus.initial())?;
         self.stimulus.load(agenda)?;
+        let blocks = Blocks::new(alloc, self.net)?;
         header(self.net, out)?;
         kernel.start(pick);
         let mut progress = self.begin(alloc, &mut kernel, pick, out)?;
         while let Some(time) = agenda.next() {
             kernel.apply(agenda.changes(), pick);
             self.stimulus.refill(time, agenda)?;
-            self.go_on(time, &mut kernel, &mut progress, pick, out)?;
+            self.go_on(time, &blocks, &mut kernel, &mut progress, pick, out)?;
         }
         end(progress.printed, stop, out)?;
         Ok(progress.summary)
@@ -107,11 +108,13 @@ impl<E: Exec> Simulation<'_, E> {
     fn go_on<P: Pick, W: Sink>(
         &self,
         time: u64,
+        blocks: &Blocks<'_>,
         kernel: &mut Kernel<'_, E>,
         progress: &mut Progress,
         pick: &mut P,
         out: &mut W,
     ) -> Result<(), RunFault>
+        requires blocks { blocks.now ≡ self.now.net.now }
         requires net { kernel.old.net ≡ self.now.net.now }
         requires ready { HasNoneToRun kernel.old.state }
         requires intact { IsIntact (W.state out.old) }
@@ -125,7 +128,7 @@ impl<E: Exec> Simulation<'_, E> {
             → GoesOn self.now.net.now self.now.stimulus.now self.now.limit start (W.state out.new) progress.old time progress.new kernel.new.state result }
     {
         let deltas = settle(kernel, self.limit, time, pick)?;
-        let is_printed = moment(self.net, time, &progress.values, kernel.values(), out)?;
+        let is_printed = blocks.moment(time, &progress.values, kernel.values(), out)?;
         progress.add(time, kernel.values(), deltas, is_printed);
         Ok(())
     }

@@ -1,10 +1,9 @@
 -- Codes differ.
-use Rattle.std.proofs.Common.{◌≡◌, ℕ, ◌+◌, ◌*◌, ◌/◌, ◌%◌, ◌-◌, List, [], ◌∷◌, map, refl, ap, sym, ◌∙◌, arith, get_or, drop}
+use Rattle.std.proofs.Common.{◌≡◌, ℕ, ◌+◌, ◌/◌, ◌%◌, ◌-◌, List, [], ◌∷◌, map, refl, ap, sym, ◌∙◌, arith, get_or, drop}
 use Rattle.std.specs.Prelude.{reverse}
 use Rattle.std.specs.Int.Digits.{digits_of}
 use Rattle.std.proofs.lemmas.List.{reverse-reverse}
 use Rattle.std.proofs.lemmas.Int.Digits.{same_from_digits_of}
-use Rattle.rtl_vcd.specs.Values.{code}
 use Rattle.rtl_vcd.specs.Laws.{CodesDiffer}
 
 -- what is raised and lowered again

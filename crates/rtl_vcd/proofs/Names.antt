@@ -1,9 +1,12 @@
 -- The texts of names one after another, and what every name of a net is shown to be.
-use Rattle.std.proofs.Common.{◌≡◌, ℕ, suc, ◌+◌, ◌<◌, List, [], ◌∷◌, ◌++◌, length, map, take, get_or, sym, ap, subst, ◌∙◌, arith, append_assoc, append-nil, All}
-use Rattle.std.proofs.lemmas.List.{take_more, map-append, length-map, length-take-le, get_or-map}
-use Rattle.std.proofs.lemmas.List.Elements.{All-get_or}
+use Rattle.std.proofs.Common.{◌≡◌, ℕ, suc, ◌+◌, ◌-◌, ◌<◌, ◌≤◌, List, [], ◌∷◌, ◌++◌, length, map, take, drop, get_or, sym, ap, subst, ◌∙◌, arith, append_assoc, append-nil, All}
+use Rattle.std.proofs.lemmas.List.{take_more, map-append, length-map, length-take-le, get_or-map, take-take, drop-take, take-append-drop, length-drop, get_or-drop, take-map, drop-map}
+use Rattle.std.proofs.lemmas.List.Elements.{All-get_or, All-weaker, All-take, All-drop}
+use Rattle.std.proofs.lemmas.Option.{slice_get_within}
 use Rattle.rtl_net.specs.declared.signal.Signal.{Signal}
-use Rattle.rtl_net.specs.Nets.{SignalView, signal_view}
+use Rattle.rtl_net.specs.Nets.{SignalView, NetView, signal_view, element_type}
+use Rattle.rtl_net.specs.Elaborated.{IsNet, SignalInRange}
+use Rattle.rtl_model.specs.bodies.Types.{HasType}
 use Rattle.rtl_vcd.specs.Values.{numbered}
 use Rattle.rtl_vcd.specs.Shown.{IsShown}
 
@@ -15,19 +18,38 @@ numbered-append f k (x ∷ xs) ys =
     ∙ sym (append_assoc (f k x) (numbered f (suc k) xs) (numbered f (k + suc (length xs)) ys))
 
 -- one name more
-pub numbered_more : (f : ℕ → SignalView → List ℕ) (signals : List Signal) (i : ℕ) (s : Signal) → i < length signals → s ≡ get_or signals i s
-    → numbered f 0 (map signal_view (take (i + 1) signals)) ≡ numbered f 0 (map signal_view (take i signals)) ++ f i (signal_view s)
-numbered_more f signals i s lt is =
+pub numbered_more_from : (f : ℕ → SignalView → List ℕ) (k : ℕ) (signals : List Signal) (i : ℕ) (s : Signal) → i < length signals → s ≡ get_or signals i s
+    → numbered f k (map signal_view (take (i + 1) signals)) ≡ numbered f k (map signal_view (take i signals)) ++ f (k + i) (signal_view s)
+numbered_more_from f k signals i s lt is =
     let before : List SignalView = map signal_view (take i signals) in
     let last : SignalView = signal_view (get_or signals i s) in
     let count : length before ≡ i = length-map (take i signals) signal_view ∙ length-take-le i signals (omega arith) in
-    let many : 0 + length before ≡ i = omega (arith, count) in
-    let one : f (0 + length before) last ++ [] ≡ f i (signal_view s) =
-    append-nil (f (0 + length before) last) ∙ ap (λ n. f n last) many ∙ ap (λ t. f i (signal_view t)) (sym is) in
-    ap (λ t. numbered f 0 (map signal_view t)) (take_more signals i s lt)
-    ∙ ap (numbered f 0) (map-append signal_view (take i signals) (get_or signals i s ∷ []))
-    ∙ numbered-append f 0 before (signal_view (get_or signals i s) ∷ [])
-    ∙ ap (λ t. numbered f 0 before ++ t) one
+    let one : f (k + length before) last ++ [] ≡ f (k + i) (signal_view s) =
+    append-nil (f (k + length before) last) ∙ ap (λ n. f (k + n) last) count ∙ ap (λ t. f (k + i) (signal_view t)) (sym is) in
+    ap (λ t. numbered f k (map signal_view t)) (take_more signals i s lt)
+    ∙ ap (numbered f k) (map-append signal_view (take i signals) (get_or signals i s ∷ []))
+    ∙ numbered-append f k before (signal_view (get_or signals i s) ∷ [])
+    ∙ ap (λ t. numbered f k before ++ t) one
+
+pub numbered_more : (f : ℕ → SignalView → List ℕ) (signals : List Signal) (i : ℕ) (s : Signal) → i < length signals → s ≡ get_or signals i s
+    → numbered f 0 (map signal_view (take (i + 1) signals)) ≡ numbered f 0 (map signal_view (take i signals)) ++ f i (signal_view s)
+numbered_more f signals i s lt is =
+    let e : 0 + i ≡ i = omega arith in
+    numbered_more_from f 0 signals i s lt is ∙ ap (λ n. numbered f 0 (map signal_view (take i signals)) ++ f n (signal_view s)) e
+
+pub take_further : {X : Type 0} (n m : ℕ) (xs : List X) → take (n + m) xs ≡ take n xs ++ take m (drop n xs)
+take_further n m xs =
+    let shorter : take n (take (n + m) xs) ≡ take n xs = take-take n (n + m) xs (omega arith) in
+    sym (take-append-drop n (take (n + m) xs)) ∙ ap (λ t. t ++ drop n (take (n + m) xs)) shorter ∙ ap (λ t. take n xs ++ t) (drop-take n m xs)
+
+-- the first names, and some behind them
+pub numbered_further : (f : ℕ → SignalView → List ℕ) (n m : ℕ) (names : List SignalView) → n ≤ length names
+    → numbered f 0 (take (n + m) names) ≡ numbered f 0 (take n names) ++ numbered f n (take m (drop n names))
+numbered_further f n m names le =
+    let count : 0 + length (take n names) ≡ n = omega (arith, length-take-le n names le) in
+    ap (numbered f 0) (take_further n m names)
+    ∙ numbered-append f 0 (take n names) (take m (drop n names))
+    ∙ ap (λ k. numbered f 0 (take n names) ++ numbered f k (take m (drop n names))) count
 
 -- each of these names is shown
 pub shown_at : (nets : ℕ) (signals : List Signal) (i : ℕ) (s : Signal) → i < length signals → s ≡ get_or signals i s
@@ -36,3 +58,40 @@ shown_at nets signals i s lt is all =
     let within : i < length (map signal_view signals) = omega (arith, length-map signals signal_view) in
     subst (IsShown nets) (get_or-map signal_view signals i s (signal_view s) lt ∙ ap signal_view (sym is))
     (All-get_or (IsShown nets) (map signal_view signals) i (signal_view s) within all)
+
+-- each name of a net is shown
+pub all_shown : (net : NetView) → IsNet net → All (IsShown (length net.types)) net.signals
+all_shown net is =
+    All-weaker (SignalInRange net.types (length net.scopes)) (IsShown (length net.types))
+    (λ s h. record { width = h.width; there = All-weaker (HasType net.types (element_type s.kind)) (λ n. n < length net.types) (λ n t. slice_get_within net.types n (element_type s.kind) t) s.nets h.nets })
+    net.signals is.signals
+
+pub shown_of_net : (net : NetView) → IsNet net → (signals : List Signal) → map signal_view signals ≡ net.signals → (i : ℕ) (s : Signal) → i < length signals
+    → s ≡ get_or signals i s → IsShown (length net.types) (signal_view s)
+shown_of_net net is signals e i s lt at = shown_at (length net.types) signals i s lt at (subst (All (IsShown (length net.types))) (sym e) (all_shown net is))
+
+-- the names from one on, and one name more
+pub take_next : (signals : List Signal) (first k i : ℕ) (s : Signal) → i < length signals → first + k ≡ i → s ≡ get_or signals i s
+    → take (k + 1) (drop first (map signal_view signals)) ≡ take k (drop first (map signal_view signals)) ++ signal_view s ∷ []
+take_next signals first k i s lt at is =
+    let names : List SignalView = map signal_view signals in
+    let within : k < length (drop first names) = omega (arith, lt, at, length-drop first names, length-map signals signal_view) in
+    let one : get_or (drop first names) k (signal_view s) ≡ signal_view s =
+    get_or-drop first names k (signal_view s) ∙ ap (λ n. get_or names n (signal_view s)) at
+    ∙ get_or-map signal_view signals i s (signal_view s) lt ∙ ap signal_view (sym is) in
+    take_more (drop first names) k (signal_view s) within ∙ ap (λ t. take k (drop first names) ++ t ∷ []) one
+
+-- so many names, behind the first ones
+pub part_of_names : (signals : List Signal) (first n : ℕ) → map signal_view (take (first + n - first) (drop first signals)) ≡ take n (drop first (map signal_view signals))
+part_of_names signals first n =
+    let e : first + n - first ≡ n = omega arith in
+    ap (λ k. map signal_view (take k (drop first signals))) e ∙ sym (take-map signal_view n (drop first signals)) ∙ ap (take n) (sym (drop-map signal_view first signals))
+
+-- they are shown too
+pub part_shown : (net : NetView) → IsNet net → (signals : List Signal) → map signal_view signals ≡ net.signals → (nets first n : ℕ) → nets ≡ length net.types
+    → All (IsShown nets) (map signal_view (take (first + n - first) (drop first signals)))
+part_shown net is signals e nets first n as_many =
+    subst (All (IsShown nets)) (sym (part_of_names signals first n))
+    (All-take (IsShown nets) n (drop first (map signal_view signals))
+    (All-drop (IsShown nets) first (map signal_view signals) (subst (λ k. All (IsShown k) (map signal_view signals)) (sym as_many)
+    (subst (All (IsShown (length net.types))) (sym e) (all_shown net is)))))

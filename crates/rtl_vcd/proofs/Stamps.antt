@@ -1,5 +1,5 @@
 -- Changes behind their time.
-use Rattle.std.proofs.Common.{◌≡◌, ℕ, ◌+◌, Bool, true, false, not, List, [], ◌∷◌, ◌++◌, map, refl, sym, ap, ◌∙◌, append_assoc, append-nil, slice_index, ◌<◌, length, take, get_or}
+use Rattle.std.proofs.Common.{◌≡◌, ℕ, ◌+◌, Bool, true, false, not, ◌||◌, List, [], ◌∷◌, ◌++◌, map, refl, sym, ap, ◌∙◌, append_assoc, append-nil, slice_index, ◌<◌, ◌≤◌, length, take, drop, get_or}
 use Rattle.std.specs.Prelude.{if◌then◌else◌, codes}
 use Rattle.std.specs.Str.{bytes_eq}
 use Rattle.std.proofs.lemmas.Bool.{false≢true}
@@ -8,8 +8,9 @@ use Rattle.rtl_net.specs.declared.signal.SignalKind.{SignalKind}
 use Rattle.rtl_net.specs.declared.signal.Signal.{Signal}
 use Rattle.rtl_net.specs.Nets.{SignalView, signal_view}
 use Rattle.rtl_vcd.specs.Values.{character, code, value_change}
-use Rattle.rtl_vcd.proofs.Names.{numbered_more}
-use Rattle.rtl_vcd.specs.Trace.{printed, change, changes, stamped, are_some, time_line}
+use Rattle.rtl_vcd.proofs.Names.{numbered_more_from, numbered_further}
+use Rattle.rtl_vcd.specs.Trace.{printed, change, are_some, time_line}
+use Rattle.rtl_vcd.specs.Blocks.{changes_from, continued}
 
 pub are_some_behind : (xs ys : List ℕ) → are_some ys ≡ true → are_some (xs ++ ys) ≡ true
 are_some_behind [] ys e = e
@@ -33,28 +34,60 @@ pub change_is : (k : ℕ) (s : SignalView) (before now : List ℕ) (otherwise : 
     → change k s before now ≡ (if otherwise then printed k s now else [])
 change_is k s before now otherwise e = by_test (bytes_eq (printed k s before) (printed k s now)) (printed k s now) otherwise e
 
--- a change more, behind the time if it is the first
-pub stamped_more : (time : ℕ) (xs p : List ℕ) (is_printed : Bool) → is_printed ≡ are_some xs → are_some p ≡ true
-    → stamped time (xs ++ p) ≡ stamped time xs ++ (if is_printed then p else (time_line time ++ p))
-stamped_more time [] [] is_printed e some = absurd (false≢true some)
-stamped_more time [] (y ∷ ys) is_printed e some = rw e refl
-stamped_more time (x ∷ xs) p is_printed e some = rw e (sym (append_assoc (time_line time) (x ∷ xs) p))
+pub are_some_append : (xs ys : List ℕ) → are_some (xs ++ ys) ≡ (are_some xs || are_some ys)
+are_some_append [] ys = refl
+are_some_append (x ∷ xs) ys = refl
 
-module _ (signals : List Signal) (i : ℕ) (s : Signal) (lt : i < length signals) (is : s ≡ get_or signals i s) (old new : List ℕ) (otherwise : Bool)
-    (tells : otherwise ≡ not (bytes_eq (printed i (signal_view s) old) (printed i (signal_view s) new))) where
-  changes_more : changes (map signal_view (take (i + 1) signals)) old new
-      ≡ changes (map signal_view (take i signals)) old new ++ (if otherwise then printed i (signal_view s) new else [])
+pub or_some : (b : Bool) (xs ys : List ℕ) → are_some ys ≡ true → (b || are_some (xs ++ ys)) ≡ true
+or_some true xs ys some = refl
+or_some false xs ys some = are_some_behind xs ys some
+
+pub or_some_append : (b : Bool) (xs ys : List ℕ) → ((b || are_some xs) || are_some ys) ≡ (b || are_some (xs ++ ys))
+or_some_append true xs ys = refl
+or_some_append false xs ys = sym (are_some_append xs ys)
+
+-- changes behind others
+pub continued_more : (is_printed : Bool) (time : ℕ) (xs ys : List ℕ)
+    → continued is_printed time (xs ++ ys) ≡ continued is_printed time xs ++ continued (is_printed || are_some xs) time ys
+continued_more true time xs ys = refl
+continued_more false time [] ys = refl
+continued_more false time (x ∷ xs) ys = sym (append_assoc (time_line time) (x ∷ xs) ys)
+
+-- a change, behind its time if it is the first
+pub continued_one : (is_printed : Bool) (time : ℕ) (p : List ℕ) → are_some p ≡ true
+    → (if is_printed then p else (time_line time ++ p)) ≡ continued is_printed time p
+continued_one true time p some = refl
+continued_one false time [] some = absurd (false≢true some)
+continued_one false time (x ∷ xs) some = refl
+
+module _ (first : ℕ) (names : List Signal) (i : ℕ) (s : Signal) (lt : i < length names) (is : s ≡ get_or names i s) (old new : List ℕ) (otherwise : Bool)
+    (tells : otherwise ≡ not (bytes_eq (printed (first + i) (signal_view s) old) (printed (first + i) (signal_view s) new))) where
+  changes_more : changes_from first (map signal_view (take (i + 1) names)) old new
+      ≡ changes_from first (map signal_view (take i names)) old new ++ (if otherwise then printed (first + i) (signal_view s) new else [])
   changes_more =
-      numbered_more (λ k (t : SignalView). change k t old new) signals i s lt is
-      ∙ ap (λ t. changes (map signal_view (take i signals)) old new ++ t) (change_is i (signal_view s) old new otherwise tells)
+      numbered_more_from (λ k (t : SignalView). change k t old new) first names i s lt is
+      ∙ ap (λ t. changes_from first (map signal_view (take i names)) old new ++ t) (change_is (first + i) (signal_view s) old new otherwise tells)
 
   -- a name that prints as before
-  pub changes_same : otherwise ≡ false → changes (map signal_view (take (i + 1) signals)) old new ≡ changes (map signal_view (take i signals)) old new
+  pub changes_same : otherwise ≡ false
+      → changes_from first (map signal_view (take (i + 1) names)) old new ≡ changes_from first (map signal_view (take i names)) old new
   changes_same e =
-      changes_more ∙ ap (λ b. changes (map signal_view (take i signals)) old new ++ (if b then printed i (signal_view s) new else [])) e
-      ∙ append-nil (changes (map signal_view (take i signals)) old new)
+      changes_more ∙ ap (λ b. changes_from first (map signal_view (take i names)) old new ++ (if b then printed (first + i) (signal_view s) new else [])) e
+      ∙ append-nil (changes_from first (map signal_view (take i names)) old new)
 
   -- one that prints otherwise
   pub changes_new : otherwise ≡ true
-      → changes (map signal_view (take (i + 1) signals)) old new ≡ changes (map signal_view (take i signals)) old new ++ printed i (signal_view s) new
-  changes_new e = changes_more ∙ ap (λ b. changes (map signal_view (take i signals)) old new ++ (if b then printed i (signal_view s) new else [])) e
+      → changes_from first (map signal_view (take (i + 1) names)) old new
+      ≡ changes_from first (map signal_view (take i names)) old new ++ printed (first + i) (signal_view s) new
+  changes_new e = changes_more ∙ ap (λ b. changes_from first (map signal_view (take i names)) old new ++ (if b then printed (first + i) (signal_view s) new else [])) e
+
+-- the changes of more names
+pub changes_further : (n m : ℕ) (names : List SignalView) (old new : List ℕ) → n ≤ length names
+    → changes_from 0 (take (n + m) names) old new ≡ changes_from 0 (take n names) old new ++ changes_from n (take m (drop n names)) old new
+changes_further n m names old new le = numbered_further (λ k s. change k s old new) n m names le
+
+-- where these are none
+pub none_further : (n m : ℕ) (names : List SignalView) (old new : List ℕ) → n ≤ length names → changes_from n (take m (drop n names)) old new ≡ []
+    → changes_from 0 (take (n + m) names) old new ≡ changes_from 0 (take n names) old new
+none_further n m names old new le none =
+    changes_further n m names old new le ∙ ap (λ t. changes_from 0 (take n names) old new ++ t) none ∙ append-nil (changes_from 0 (take n names) old new)

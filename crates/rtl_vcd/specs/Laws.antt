@@ -1,7 +1,7 @@
 -- What the codes and values of a trace amount to.
-use Rattle.std.specs.Prelude.{◌≡◌, ℕ, List, [], ◌∷◌, codes}
+use Rattle.std.specs.Prelude.{◌≡◌, ℕ, [], ◌∷◌, codes}
 use Rattle.rtl_net.specs.declared.signal.SignalKind.TheVariants.{One, Vector, Enumeration}
-use Rattle.rtl_vcd.specs.Values.{code, character, binary_digits, value_change}
+use Rattle.rtl_vcd.specs.Values.{code, binary_digits, value_change}
 
 -- every name has a code of its own
 abbrev pub CodesDiffer : Type 0

@@ -3,4 +3,5 @@ pub mod Values
 pub mod Header
 pub mod Trace
 pub mod Shown
+pub mod Blocks
 pub mod Laws

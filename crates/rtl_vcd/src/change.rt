@@ -1,12 +1,13 @@
 //! What a name prints.
 
-ghost use Rattle.std.specs.Prelude.{◌≡◌, ◌<◌, not, All, length, map, slice_index, true};
+ghost use Rattle.std.specs.Prelude.{◌≡◌, ◌<◌, ◌==◌, not, All, length, map, slice_index, true};
 ghost use Rattle.std.specs.Str.{bytes_eq};
 ghost use Rattle.rtl_net.specs.Nets.{signal_view};
 ghost use Rattle.rtl_vcd.specs.Trace.{printed};
 ghost use Rattle.rtl_vcd.specs.Shown.{IsShown};
+ghost use Rattle.rtl_vcd.specs.Values.{character};
 
-use crate::line::{Line, binary_digits, push_binary, push_code, push_elements};
+use crate::line::{self, Line, binary_digits, push_binary, push_code, push_elements};
 use rtl_net::{Signal, SignalKind};
 
 /// The line that the name with this number prints where the nets have these values.
@@ -44,6 +45,18 @@ pub fn prints_otherwise(number: usize, signal: &Signal, old: &[u8], new: &[u8]) 
     requires after { IsShown (length new.now) (signal_view signal.now) }
     ensures { result ≡ not (bytes_eq (printed number (signal_view signal.now) old.now) (printed number (signal_view signal.now) new.now)) }
 {
+    match signal.kind {
+        SignalKind::Enumeration { .. } => has_other_line(number, signal, old, new),
+        _ => has_other_characters(&signal.nets, old, new),
+    }
+}
+
+/// The same, found by its lines.
+fn has_other_line(number: usize, signal: &Signal, old: &[u8], new: &[u8]) -> bool
+    requires before { IsShown (length old.now) (signal_view signal.now) }
+    requires after { IsShown (length new.now) (signal_view signal.now) }
+    ensures { result ≡ not (bytes_eq (printed number (signal_view signal.now) old.now) (printed number (signal_view signal.now) new.now)) }
+{
     if are_alike(&signal.nets, old, new) {
         return false;
     }
@@ -62,4 +75,25 @@ fn are_alike(nets: &[usize], old: &[u8], new: &[u8]) -> bool
         }
     }
     true
+}
+
+/// Whether the values of these nets print otherwise.
+fn has_other_characters(nets: &[usize], old: &[u8], new: &[u8]) -> bool
+    requires before { All (λ n. n < length old.now) nets.now }
+    requires after { All (λ n. n < length new.now) nets.now }
+    ensures { result ≡ not (bytes_eq (map character (map (slice_index old.now) nets.now)) (map character (map (slice_index new.now) nets.now))) }
+{
+    for net in nets {
+        if is_other_character(old[*net], new[*net]) {
+            return true;
+        }
+    }
+    false
+}
+
+/// Whether one value prints otherwise than the other.
+fn is_other_character(before: u8, now: u8) -> bool
+    ensures { result ≡ not (character before == character now) }
+{
+    before != now && line::character(before) != line::character(now)
 }

@@ -4,15 +4,18 @@
 //! `specs/Header.antt` and `specs/Trace.antt` define the text of each part, and `trace_text` the whole.
 #![tactic(auto)]
 
+mod blocks;
 mod change;
 mod fault;
 mod heading;
 mod laws;
 mod line;
+mod moment;
 mod trace;
 
 pub use fault::VcdFault;
 pub use heading::header;
 pub use laws::{codes_differ, print_as_said};
+pub use moment::Blocks;
 pub use rtl_sink::{Out, Sink, WriteFailed};
-pub use trace::{end, first, moment};
+pub use trace::{end, first};

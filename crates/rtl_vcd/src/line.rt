@@ -10,7 +10,7 @@ use arrayvec::ArrayVec;
 pub type Line = ArrayVec<u8, 77>;
 
 /// What one of the nine values, by its code, prints as.
-fn character(value: u8) -> u8
+pub fn character(value: u8) -> u8
     ensures { result ≡ spec.character value }
 {
     match value {

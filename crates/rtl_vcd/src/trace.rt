@@ -7,7 +7,7 @@ ghost use Rattle.rtl_vcd.specs.Values.{numbered};
 ghost use Rattle.rtl_vcd.specs.Trace.{printed, changes, time_line, first_text, stamped, are_some, moment_text, end_text};
 ghost use Rattle.rtl_vcd.specs.Shown.{IsShown};
 
-use crate::change::{change_line, prints_otherwise};
+use crate::change::change_line;
 use crate::fault::VcdFault;
 use rtl_net::{Net, Signal};
 use rtl_sink::{Sink, finish, push_number, push_text};
@@ -30,33 +30,6 @@ pub fn first<W: Sink>(net: &Net, values: &[u8], out: &mut W) -> Result<(), VcdFa
     push_all(net.signals(), values, out);
     push_text(out, b"$end\n");
     written(out)
-}
-
-/// Writes what the names print at a time after 0, where the nets had the values `old` and have the values `new`, one for
-/// each net: those that print otherwise than before, behind the time. Answers whether there were such. Takes no memory.
-///
-/// # Errors
-///
-/// `Write` where the sink failed: what went out is a beginning of the text.
-pub fn moment<W: Sink>(
-    net: &Net,
-    time: u64,
-    old: &[u8],
-    new: &[u8],
-    out: &mut W,
-) -> Result<bool, VcdFault>
-    requires intact { IsIntact (W.state out.old) }
-    requires before { length old.now ≡ length net.now.types }
-    requires after { length new.now ≡ length net.now.types }
-    ensures text { Goes (W.state out.old) (W.state out.new) (moment_text net.now.signals time old.now new.now) }
-    ensures printed { IfOk result (λ is_printed. is_printed ≡ are_some (changes net.now.signals old.now new.now)) }
-    ensures ok { OnOk result (IsIntact (W.state out.new)) }
-    ensures err { OnErr result (HasFailed (W.state out.new)) }
-{
-    let _count = net.nets();
-    let is_printed = push_changes(net.signals(), time, old, new, out);
-    written(out)?;
-    Ok(is_printed)
 }
 
 /// Writes the time of the stop where the last time printed is before it. Takes no memory.
@@ -85,7 +58,7 @@ pub(crate) fn written<W: Sink>(out: &W) -> Result<(), VcdFault>
 }
 
 /// `#`, the time and a line feed.
-fn push_time<W: Sink>(out: &mut W, time: u64)
+pub(crate) fn push_time<W: Sink>(out: &mut W, time: u64)
     ensures { Goes (W.state out.old) (W.state out.new) (time_line time) }
 {
     push_text(out, b"#");
@@ -101,34 +74,4 @@ fn push_all<W: Sink>(signals: &[Signal], values: &[u8], out: &mut W)
     for (number, signal) in signals.iter().enumerate() {
         push_text(out, &change_line(number, signal, values));
     }
-}
-
-/// The changes of the names, behind their time. Answers whether there are any.
-fn push_changes<W: Sink>(signals: &[Signal], time: u64, old: &[u8], new: &[u8], out: &mut W) -> bool
-    requires before { All (IsShown (length old.now)) (map signal_view signals.now) }
-    requires after { All (IsShown (length new.now)) (map signal_view signals.now) }
-    ensures text { Goes (W.state out.old) (W.state out.new) (stamped time (changes (map signal_view signals.now) old.now new.now)) }
-    ensures some { result ≡ are_some (changes (map signal_view signals.now) old.now new.now) }
-{
-    let mut is_printed = false;
-    for (number, signal) in signals.iter().enumerate() {
-        if !prints_otherwise(number, signal, old, new) {
-            continue;
-        }
-        push_change(out, time, is_printed, &change_line(number, signal, new));
-        is_printed = true;
-    }
-    is_printed
-}
-
-/// A change, behind its time where that isn't printed yet.
-fn push_change<W: Sink>(out: &mut W, time: u64, is_printed: bool, line: &[u8])
-    ensures { Goes (W.state out.old) (W.state out.new) (if is_printed then line.now else (time_line time ++ line.now)) }
-{
-    if is_printed {
-        push_text(out, line);
-        return;
-    }
-    push_time(out, time);
-    push_text(out, line);
 }

@@ -1,4 +1,4 @@
-use Rattle.std.proofs.Common.{◌≡◌, ℕ, List, length, Err, sym, ap, subst, ◌∙◌, refl}
+use Rattle.std.proofs.Common.{ℕ, List, length, Err, sym, ap, subst, ◌∙◌, refl}
 use Rattle.rtl_net.specs.Nets.{NetView}
 use Rattle.rtl_model.specs.simulation.Moments.{SettlesTo, IsUnsettled}
 use Rattle.rtl_vcd.specs.Trace.{first_text}

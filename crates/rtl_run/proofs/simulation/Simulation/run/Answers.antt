@@ -1,25 +1,22 @@
-use Rattle.std.proofs.Common.{◌≡◌, ℕ, suc, ◌<◌, ◌≤◌, List, [], ◌∷◌, length, sym, ap, subst, ◌∙◌, refl, arith}
-use Rattle.std.specs.Prelude.{All, Contains, slice_index}
+use Rattle.std.proofs.Common.{ℕ, List, length, sym, ap, subst, ◌∙◌, arith}
 use Rattle.vhdl_values.specs.declared.scalar.Nine.{Nine}
 use Rattle.rtl_model.specs.nets.CoreNet.{core_net}
-use Rattle.rtl_model.specs.simulation.Cycle.{State, started, given, changed}
-use Rattle.rtl_model.specs.simulation.Moments.{HasRun, Begun}
+use Rattle.rtl_model.specs.simulation.Cycle.{started, given, changed}
+use Rattle.rtl_model.specs.simulation.Moments.{HasRun}
 use Rattle.rtl_model.proofs.simulation.Order.{HasRun-done}
-use Rattle.rtl_net.specs.Nets.{NetView, flat}
+use Rattle.rtl_net.specs.Nets.{flat}
 use Rattle.rtl_kernel.specs.kernel.Simulation.{Simulation, changes_of, initial_inputs}
 use Rattle.rtl_agenda.specs.Agenda.{Change}
 use Rattle.rtl_stim.specs.Filling.{Waits}
-use Rattle.rtl_moments.specs.Stimuli.{moments, inputs_at}
-use Rattle.rtl_moments.specs.Moments.{GivesNext}
 use Rattle.rtl_moments.proofs.Next.{each_begins_at_zero}
 use Rattle.rtl_sink.specs.Written.{Goes}
 use Rattle.rtl_vcd.specs.Trace.{end_text}
 use Rattle.rtl_run.specs.declared.summary.RunFault.TheVariants.{Memory, Output}
 use Rattle.rtl_run.specs.Simulated.{core}
 use Rattle.rtl_run.specs.Answered.{Answers}
-use Rattle.rtl_run.specs.Running.{HasBegun, IsNext}
-use Rattle.rtl_run.proofs.Steps.{first_begun, of_inputs, next_begun, next_moment, no_moment, later, within_stop, few}
-use Rattle.rtl_run.proofs.Going.{err_with, nothing_leaves, header_leaves, come_leaves, end_leaves, is_whole, at_last, settled_quiet}
+use Rattle.rtl_run.proofs.Steps.{first_begun, no_moment}
+use Rattle.rtl_run.proofs.Going.{err_with, nothing_leaves, header_leaves, end_leaves, is_whole, at_last, settled_quiet}
+use Rattle.rtl_run.proofs.Turns.{comes_next, changes_inputs, begins_next}
 use Rattle.rtl_run.proofs.simulation.Simulation.run.Goals as goal
 
 pub returns-in_err-kernel : goal.returns-in_err-kernel
@@ -32,6 +29,12 @@ pub returns-in_err-load : goal.returns-in_err-load
 returns-in_err-load g c =
     let out = g.W.Sink.state c.args.out.now in
     err_with (Answers c.args.self.now.net.now c.args.self.now.stimulus.now c.args.self.now.limit out out) c.from_residual-in_err-load.result Memory c.from_residual-in_err-load.ensures.1
+    (nothing_leaves c.args.self.now.net.now c.args.self.now.stimulus.now c.args.self.now.limit out, c.requires.intact)
+
+pub returns-in_err-blocks : goal.returns-in_err-blocks
+returns-in_err-blocks g c =
+    let out = g.W.Sink.state c.args.out.now in
+    err_with (Answers c.args.self.now.net.now c.args.self.now.stimulus.now c.args.self.now.limit out out) c.from_residual-in_err-blocks.result Memory c.from_residual-in_err-blocks.ensures.1
     (nothing_leaves c.args.self.now.net.now c.args.self.now.stimulus.now c.args.self.now.limit out, c.requires.intact)
 
 pub returns-in_err-header : goal.returns-in_err-header
@@ -91,25 +94,17 @@ apply-requires-clause-inputs g c =
     let net = c.args.self.now.net.now in
     let s = c.args.self.now.stimulus.now in
     let I = c.loop-time.invariant in
-    let before = g.A.Agenda.state c.loop-time.agenda in
     let behind = g.A.Agenda.state c.next.new.self in
-    let waits = subst (λ (now : ℕ). Waits s.inputs s.schedule now before.waiting) (sym I.at) I.waits in
-    let next = next_moment s c.stop-stop.ensures.holds I.m I.there before (g.met.A.Agenda.orderly c.loop-time.agenda) waits c.in-Some.time behind.taken behind.waiting c.in-Some.ensures.least in
-    let all = of_inputs net c.nets-count.ensures.elaborated s c.requires.ports c.requires.inputs I.m c.in-Some.time behind.taken next in
-    subst (λ (n : NetView). All (λ change. Contains n.inputs change.0) c.changes.result.now) (sym I.net)
-    (subst (λ (changes : List Change). All (λ change. Contains net.inputs change.0) changes) (sym c.changes.ensures) all)
+    let turn = comes_next s c.stop-stop.ensures.holds c.loop-time.progress I.m I.is_last I.there I.at (g.A.Agenda.state c.loop-time.agenda) (g.met.A.Agenda.orderly c.loop-time.agenda) I.waits c.in-Some.time behind c.in-Some.ensures.least in
+    changes_inputs s c.loop-time.progress I.m c.in-Some.time behind.taken turn net c.nets-count.ensures.elaborated c.requires.ports c.requires.inputs c.loop-time.kernel.net I.net c.changes.result.now c.changes.ensures
 
 pub refill-requires-clause-waited : goal.refill-requires-clause-waited
 refill-requires-clause-waited g c =
-    let net = c.args.self.now.net.now in
     let s = c.args.self.now.stimulus.now in
     let I = c.loop-time.invariant in
-    let before = g.A.Agenda.state c.loop-time.agenda in
     let behind = g.A.Agenda.state c.next.new.self in
-    let waits = subst (λ (now : ℕ). Waits s.inputs s.schedule now before.waiting) (sym I.at) I.waits in
-    let next = next_moment s c.stop-stop.ensures.holds I.m I.there before (g.met.A.Agenda.orderly c.loop-time.agenda) waits c.in-Some.time behind.taken behind.waiting c.in-Some.ensures.least in
-    let after = later s I.m c.in-Some.time behind.taken next in
-    (c.loop-time.progress.now, omega (arith, after, I.at), subst (λ (waiting : List (ℕ × List Change)). Waits s.inputs s.schedule c.loop-time.progress.now waiting) c.in-Some.ensures.least I.waits)
+    let turn = comes_next s c.stop-stop.ensures.holds c.loop-time.progress I.m I.is_last I.there I.at (g.A.Agenda.state c.loop-time.agenda) (g.met.A.Agenda.orderly c.loop-time.agenda) I.waits c.in-Some.time behind c.in-Some.ensures.least in
+    (c.loop-time.progress.now, turn.after, subst (λ (waiting : List (ℕ × List Change)). Waits s.inputs s.schedule c.loop-time.progress.now waiting) c.in-Some.ensures.least I.waits)
 
 pub go_on-requires-clause-ready : goal.go_on-requires-clause-ready
 go_on-requires-clause-ready g c =
@@ -119,62 +114,35 @@ go_on-requires-clause-ready g c =
 
 pub go_on-requires-clause-room : goal.go_on-requires-clause-room
 go_on-requires-clause-room g c =
-    let net = c.args.self.now.net.now in
     let s = c.args.self.now.stimulus.now in
     let I = c.loop-time.invariant in
-    let before = g.A.Agenda.state c.loop-time.agenda in
     let behind = g.A.Agenda.state c.next.new.self in
-    let waits = subst (λ (now : ℕ). Waits s.inputs s.schedule now before.waiting) (sym I.at) I.waits in
-    let next = next_moment s c.stop-stop.ensures.holds I.m I.there before (g.met.A.Agenda.orderly c.loop-time.agenda) waits c.in-Some.time behind.taken behind.waiting c.in-Some.ensures.least in
-    let most = few s in
-    let more = next.there in
-    omega (arith, most, more, I.is_last, c.stop-stop.ensures.in_time)
+    let turn = comes_next s c.stop-stop.ensures.holds c.loop-time.progress I.m I.is_last I.there I.at (g.A.Agenda.state c.loop-time.agenda) (g.met.A.Agenda.orderly c.loop-time.agenda) I.waits c.in-Some.time behind c.in-Some.ensures.least in
+    omega (arith, turn.few, c.stop-stop.ensures.in_time)
 
 pub loop-time-smaller : goal.loop-time-smaller
 loop-time-smaller g c =
     let net = c.args.self.now.net.now in
     let s = c.args.self.now.stimulus.now in
     let I = c.loop-time.invariant in
-    let before = g.A.Agenda.state c.loop-time.agenda in
     let behind = g.A.Agenda.state c.next.new.self in
-    let waits = subst (λ (now : ℕ). Waits s.inputs s.schedule now before.waiting) (sym I.at) I.waits in
-    let next = next_moment s c.stop-stop.ensures.holds I.m I.there before (g.met.A.Agenda.orderly c.loop-time.agenda) waits c.in-Some.time behind.taken behind.waiting c.in-Some.ensures.least in
+    let turn = comes_next s c.stop-stop.ensures.holds c.loop-time.progress I.m I.is_last I.there I.at (g.A.Agenda.state c.loop-time.agenda) (g.met.A.Agenda.orderly c.loop-time.agenda) I.waits c.in-Some.time behind c.in-Some.ensures.least in
     let limit = c.args.self.now.limit in
     let out = g.W.Sink.state c.args.out.now in
-    let state = c.loop-time.kernel.state in
-    let ran = subst (λ (changes : List Change). HasRun (core_net (flat c.loop-time.kernel.net)) (given (core_net (flat c.loop-time.kernel.net)) (changed (changes_of changes) state.now) state) c.apply.new.self.state) c.changes.ensures c.apply.ensures.ran in
-    let run = subst (λ (n : NetView). HasRun (core n) (given (core n) (changed (changes_of behind.taken) state.now) state) c.apply.new.self.state) I.net ran in
-    let begun = next_begun net c.nets-count.ensures.elaborated s c.requires.ports c.requires.inputs limit I.m c.in-Some.time behind.taken state c.apply.new.self.state (ap length (sym I.values) ∙ I.as_many) I.settled next run in
-    let is_next : IsNext net s limit c.loop-time.progress c.in-Some.time c.apply.new.self.state = record {
-      there = let more = next.there in omega (arith, more, I.is_last);
-      is = subst (λ (k : ℕ). slice_index (moments s) k ≡ c.in-Some.time) I.is_last next.is;
-      begun = subst (λ (k : ℕ). Begun (core net) (inputs_at s) k c.apply.new.self.state) I.is_last begun;
-    } in
+    let is_next = begins_next s c.loop-time.progress I.m c.in-Some.time behind.taken turn net c.nets-count.ensures.elaborated c.requires.ports c.requires.inputs c.loop-time.kernel.net I.net c.changes.result.now c.changes.ensures limit c.loop-time.kernel.state c.apply.new.self.state (ap length (sym I.values) ∙ I.as_many) I.settled c.apply.ensures.ran in
     let has = c.in_ok-go_on.ensures.goes_on out I.come is_next in
-    let after = later s I.m c.in-Some.time behind.taken next in
-    let within = within_stop s I.m c.in-Some.time behind.taken next in
-    omega (arith, after, within, I.at, has.2)
+    omega (arith, turn.after, turn.within, has.2)
 
 pub loop-time-preserved : goal.loop-time-preserved
 loop-time-preserved g c =
     let net = c.args.self.now.net.now in
     let s = c.args.self.now.stimulus.now in
     let I = c.loop-time.invariant in
-    let before = g.A.Agenda.state c.loop-time.agenda in
     let behind = g.A.Agenda.state c.next.new.self in
-    let waits = subst (λ (now : ℕ). Waits s.inputs s.schedule now before.waiting) (sym I.at) I.waits in
-    let next = next_moment s c.stop-stop.ensures.holds I.m I.there before (g.met.A.Agenda.orderly c.loop-time.agenda) waits c.in-Some.time behind.taken behind.waiting c.in-Some.ensures.least in
+    let turn = comes_next s c.stop-stop.ensures.holds c.loop-time.progress I.m I.is_last I.there I.at (g.A.Agenda.state c.loop-time.agenda) (g.met.A.Agenda.orderly c.loop-time.agenda) I.waits c.in-Some.time behind c.in-Some.ensures.least in
     let limit = c.args.self.now.limit in
     let out = g.W.Sink.state c.args.out.now in
-    let state = c.loop-time.kernel.state in
-    let ran = subst (λ (changes : List Change). HasRun (core_net (flat c.loop-time.kernel.net)) (given (core_net (flat c.loop-time.kernel.net)) (changed (changes_of changes) state.now) state) c.apply.new.self.state) c.changes.ensures c.apply.ensures.ran in
-    let run = subst (λ (n : NetView). HasRun (core n) (given (core n) (changed (changes_of behind.taken) state.now) state) c.apply.new.self.state) I.net ran in
-    let begun = next_begun net c.nets-count.ensures.elaborated s c.requires.ports c.requires.inputs limit I.m c.in-Some.time behind.taken state c.apply.new.self.state (ap length (sym I.values) ∙ I.as_many) I.settled next run in
-    let is_next : IsNext net s limit c.loop-time.progress c.in-Some.time c.apply.new.self.state = record {
-      there = let more = next.there in omega (arith, more, I.is_last);
-      is = subst (λ (k : ℕ). slice_index (moments s) k ≡ c.in-Some.time) I.is_last next.is;
-      begun = subst (λ (k : ℕ). Begun (core net) (inputs_at s) k c.apply.new.self.state) I.is_last begun;
-    } in
+    let is_next = begins_next s c.loop-time.progress I.m c.in-Some.time behind.taken turn net c.nets-count.ensures.elaborated c.requires.ports c.requires.inputs c.loop-time.kernel.net I.net c.changes.result.now c.changes.ensures limit c.loop-time.kernel.state c.apply.new.self.state (ap length (sym I.values) ∙ I.as_many) I.settled c.apply.ensures.ran in
     let has = c.in_ok-go_on.ensures.goes_on out I.come is_next in
     let last = at_last net s limit out (g.W.Sink.state c.go_on.new.out) c.go_on.new.progress has.0 c.loop-time.progress.summary.moments (sym has.1) in
     record {
@@ -197,21 +165,11 @@ returns-in_err-go_on g c =
     let net = c.args.self.now.net.now in
     let s = c.args.self.now.stimulus.now in
     let I = c.loop-time.invariant in
-    let before = g.A.Agenda.state c.loop-time.agenda in
     let behind = g.A.Agenda.state c.next.new.self in
-    let waits = subst (λ (now : ℕ). Waits s.inputs s.schedule now before.waiting) (sym I.at) I.waits in
-    let next = next_moment s c.stop-stop.ensures.holds I.m I.there before (g.met.A.Agenda.orderly c.loop-time.agenda) waits c.in-Some.time behind.taken behind.waiting c.in-Some.ensures.least in
+    let turn = comes_next s c.stop-stop.ensures.holds c.loop-time.progress I.m I.is_last I.there I.at (g.A.Agenda.state c.loop-time.agenda) (g.met.A.Agenda.orderly c.loop-time.agenda) I.waits c.in-Some.time behind c.in-Some.ensures.least in
     let limit = c.args.self.now.limit in
     let out = g.W.Sink.state c.args.out.now in
-    let state = c.loop-time.kernel.state in
-    let ran = subst (λ (changes : List Change). HasRun (core_net (flat c.loop-time.kernel.net)) (given (core_net (flat c.loop-time.kernel.net)) (changed (changes_of changes) state.now) state) c.apply.new.self.state) c.changes.ensures c.apply.ensures.ran in
-    let run = subst (λ (n : NetView). HasRun (core n) (given (core n) (changed (changes_of behind.taken) state.now) state) c.apply.new.self.state) I.net ran in
-    let begun = next_begun net c.nets-count.ensures.elaborated s c.requires.ports c.requires.inputs limit I.m c.in-Some.time behind.taken state c.apply.new.self.state (ap length (sym I.values) ∙ I.as_many) I.settled next run in
-    let is_next : IsNext net s limit c.loop-time.progress c.in-Some.time c.apply.new.self.state = record {
-      there = let more = next.there in omega (arith, more, I.is_last);
-      is = subst (λ (k : ℕ). slice_index (moments s) k ≡ c.in-Some.time) I.is_last next.is;
-      begun = subst (λ (k : ℕ). Begun (core net) (inputs_at s) k c.apply.new.self.state) I.is_last begun;
-    } in
+    let is_next = begins_next s c.loop-time.progress I.m c.in-Some.time behind.taken turn net c.nets-count.ensures.elaborated c.requires.ports c.requires.inputs c.loop-time.kernel.net I.net c.changes.result.now c.changes.ensures limit c.loop-time.kernel.state c.apply.new.self.state (ap length (sym I.values) ∙ I.as_many) I.settled c.apply.ensures.ran in
     err_with (Answers net s limit out (g.W.Sink.state c.go_on.new.out)) c.from_residual-in_err-go_on.result c.in_err-go_on.field-0.0 c.from_residual-in_err-go_on.ensures.1
     (c.in_err-go_on.ensures.goes_on out I.come is_next)
 

@@ -1,0 +1,27 @@
+-- The names of a net in blocks.
+use Rattle.std.specs.Prelude.{◌≡◌, ℕ, ◌<◌, ◌≤◌, Bool, true, false, List, [], ◌∷◌, All, take, drop, length}
+use Rattle.rtl_net.specs.Nets.{SignalView}
+use Rattle.rtl_vcd.specs.declared.blocks.Block.{Block}
+use Rattle.rtl_vcd.specs.Values.{numbered}
+use Rattle.rtl_vcd.specs.Trace.{change, stamped}
+
+-- The block of these names and no others: their nets, among so many, lie between its least and its greatest.
+pub record IsBlockOf (nets : ℕ) (b : Block) (names : List SignalView) : Type 0 where
+  pub count : b.names ≡ length names
+  pub order : b.least ≤ b.greatest
+  pub there : b.greatest < nets
+  pub between : All (λ (s : SignalView). All (λ n. (b.least ≤ n) × (n ≤ b.greatest)) s.nets) names
+
+-- Each block has the names behind those of the one before it, and together they have all of these.
+abbrev pub AreBlocks : (nets : ℕ) → List Block → (names : List SignalView) → Type 0
+AreBlocks nets [] names = names ≡ []
+AreBlocks nets (b ∷ bs) names = IsBlockOf nets b (take b.names names) × AreBlocks nets bs (drop b.names names)
+
+-- the changes of these names, the first of them being number k
+abbrev pub changes_from : (k : ℕ) → List SignalView → (before now : List ℕ) → List ℕ
+changes_from k names before now = numbered (λ k s. change k s before now) k names
+
+-- changes, behind their time where that isn't printed yet
+abbrev pub continued : (is_printed : Bool) → (time : ℕ) → (changes : List ℕ) → List ℕ
+continued true time changes = changes
+continued false time changes = stamped time changes

@@ -1,0 +1,125 @@
+//! Names in blocks.
+
+ghost use Rattle.std.specs.Prelude.{◌≡◌, ◌≤◌, ◌<◌, ◌+◌, ◌++◌, ◌∷◌, [], ℕ, List, All, Contains, length, take, drop, map, slice_index, true, IfOk};
+ghost use Rattle.rtl_net.specs.Nets.{SignalView, signal_view};
+ghost use Rattle.rtl_vcd.specs.Blocks.{IsBlockOf, AreBlocks};
+ghost use Rattle.rtl_vcd.specs.Shown.{IsShown};
+
+use rtl_net::{Net, Signal};
+use std::alloc::{AllocError, Global};
+
+/// The most names of a block.
+const NAMES: usize = 64;
+
+/// How many nets for each name of a block are compared at most.
+const REACH: usize = 128;
+
+/// Names one behind the other, and the least and the greatest of their nets.
+#[derive(Clone, Copy)]
+pub(crate) struct Block {
+    /// How many names.
+    pub(crate) names: usize,
+    pub(crate) least: usize,
+    pub(crate) greatest: usize,
+}
+
+impl Block {
+    /// The block of this name alone.
+    fn of(signal: &Signal) -> Block
+        requires some { 0 < length signal.now.nets.items }
+        ensures names { result.names ≡ 1 }
+        ensures block { (nets : ℕ) → IsShown nets (signal_view signal.now) → IsBlockOf nets result (signal_view signal.now ∷ []) }
+    {
+        let (least, greatest) = bounds(&signal.nets);
+        Block {
+            names: 1,
+            least,
+            greatest,
+        }
+    }
+
+    /// The block with this name behind its own.
+    fn with(&self, signal: &Signal) -> Block
+        requires some { 0 < length signal.now.nets.items }
+        requires room { self.now.names < 18446744073709551615 }
+        ensures names { result.names ≡ self.now.names + 1 }
+        ensures block { (nets : ℕ) (names : List SignalView) → IsShown nets (signal_view signal.now)
+            → IsBlockOf nets self.now names → IsBlockOf nets result (names ++ signal_view signal.now ∷ []) }
+    {
+        let (least, greatest) = bounds(&signal.nets);
+        Block {
+            names: self.names + 1,
+            least: self.least.min(least),
+            greatest: self.greatest.max(greatest),
+        }
+    }
+
+    /// Whether it has no more nets, from the least to the greatest, than are compared for so many names.
+    fn is_dense(&self) -> bool
+        requires order { self.now.least ≤ self.now.greatest }
+    {
+        (self.greatest - self.least) / REACH < self.names
+    }
+
+    /// Whether the nets from the least to the greatest are compared and have the same values in both.
+    pub(crate) fn is_quiet(&self, old: &[u8], new: &[u8]) -> bool
+        requires order { self.now.least ≤ self.now.greatest }
+        requires before { self.now.greatest < length old.now }
+        requires after { self.now.greatest < length new.now }
+        ensures { result ≡ true → (n : ℕ) → self.now.least ≤ n → n ≤ self.now.greatest → slice_index old.now n ≡ slice_index new.now n }
+    {
+        let beyond = self.greatest + 1;
+        self.is_dense() && old[self.least..beyond] == new[self.least..beyond]
+    }
+}
+
+/// The least and the greatest of these nets.
+fn bounds(nets: &[usize]) -> (usize, usize)
+    requires some { 0 < length nets.now }
+    ensures least { Contains nets.now result.0 }
+    ensures greatest { Contains nets.now result.1 }
+    ensures between { All (λ n. (result.0 ≤ n) × (n ≤ result.1)) nets.now }
+{
+    let mut least = nets[0];
+    let mut greatest = nets[0];
+    for net in nets {
+        least = least.min(*net);
+        greatest = greatest.max(*net);
+    }
+    (least, greatest)
+}
+
+/// The blocks of a net's names.
+pub(crate) fn blocks_of(alloc: Global, net: &Net) -> Result<Vec<Block>, AllocError>
+    ensures { IfOk result (λ bs. AreBlocks (length net.now.types) bs.items net.now.signals) }
+{
+    let _count = net.nets();
+    let signals = net.signals();
+    let mut blocks = Vec::new(alloc);
+    let mut next = 0;
+    while next < signals.len() {
+        let block = block_at(net, next);
+        blocks.push(block)?;
+        next += block.names;
+    }
+    Ok(blocks)
+}
+
+/// The block that begins with the name of this number. It ends where one name more would be too many, or too far off.
+fn block_at(net: &Net, first: usize) -> Block
+    requires there { first < length net.now.signals }
+    ensures some { 0 < result.names }
+    ensures block { IsBlockOf (length net.now.types) result (take result.names (drop first net.now.signals)) }
+{
+    let _count = net.nets();
+    let signals = net.signals();
+    let mut block = Block::of(&signals[first]);
+    for number in first + 1..signals.len() {
+        let more = block.with(&signals[number]);
+        if more.names > NAMES || !more.is_dense() {
+            return block;
+        }
+        block = more;
+    }
+    block
+}

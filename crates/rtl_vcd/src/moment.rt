@@ -1,0 +1,156 @@
+//! The changes at a time after 0.
+
+ghost use Rattle.std.specs.Prelude.{◌≡◌, ◌+◌, ◌<◌, ◌||◌, ◌++◌, if◌then◌else◌, All, length, map, OnOk, OnErr, IfOk};
+ghost use Rattle.rtl_sink.specs.Written.{IsIntact, HasFailed, Goes};
+ghost use Rattle.rtl_net.specs.Nets.{signal_view};
+ghost use Rattle.rtl_vcd.specs.Trace.{changes, time_line, are_some, moment_text};
+ghost use Rattle.rtl_vcd.specs.Blocks.{AreBlocks, changes_from, continued};
+ghost use Rattle.rtl_vcd.specs.Shown.{IsShown};
+
+use crate::blocks::{Block, blocks_of};
+use crate::change::{change_line, prints_otherwise};
+use crate::fault::VcdFault;
+use crate::trace::{push_time, written};
+use rtl_net::{Net, Signal};
+use rtl_sink::{Sink, push_text};
+use std::alloc::{AllocError, Global};
+use std::marker::Model;
+
+/// The names of a net in blocks, so that a moment passes over those whose nets keep their values. Contracts see the net.
+#[derive(Drop)]
+pub struct Blocks<'a> {
+    net: &'a Net,
+    blocks: Vec<Block>,
+}
+
+impl<'a> Model for Blocks<'a> {
+    ghost use Rattle.rtl_net.specs.Nets.{NetView};
+    ghost use Rattle.rtl_net.specs.contracts.process.Process as process_contract;
+    ghost use Rattle.std.specs.Coded.{codes};
+
+    ghost Value = { NetView };
+
+    ghost coded = { Prim.hlevel (codes, process_contract.the_row.coded) };
+
+    ghost use Rattle.std.specs.Prelude.{length};
+    ghost use Rattle.rtl_vcd.specs.Blocks.{AreBlocks};
+
+    ghost view = { λ b. b.net.now };
+
+    ghost invariant = { λ b. AreBlocks (length b.net.now.types) b.blocks.items b.net.now.signals };
+}
+
+impl<'a> Blocks<'a> {
+    /// The blocks of the net's names. They take three words for each block: for each 64 names, where the nets of these stand
+    /// close to one another, and else for fewer.
+    pub fn new(alloc: Global, net: &'a Net) -> Result<Blocks<'a>, AllocError>
+        ensures { IfOk result (λ b. b ≡ net.now) }
+    {
+        let blocks = blocks_of(alloc, net)?;
+        Ok(Blocks { net, blocks })
+    }
+
+    /// Writes what the names print at a time after 0, where the nets had the values `old` and have the values `new`, one for
+    /// each net: those that print otherwise than before, behind the time. Answers whether there were such. Takes no memory.
+    ///
+    /// A block in which no net has changed costs one comparison of two runs of bytes; in the others each name is looked at.
+    ///
+    /// # Errors
+    ///
+    /// `Write` where the sink failed: what went out is a beginning of the text.
+    pub fn moment<W: Sink>(
+        &self,
+        time: u64,
+        old: &[u8],
+        new: &[u8],
+        out: &mut W,
+    ) -> Result<bool, VcdFault>
+        requires intact { IsIntact (W.state out.old) }
+        requires before { length old.now ≡ length self.now.types }
+        requires after { length new.now ≡ length self.now.types }
+        ensures text { Goes (W.state out.old) (W.state out.new) (moment_text self.now.signals time old.now new.now) }
+        ensures printed { IfOk result (λ is_printed. is_printed ≡ are_some (changes self.now.signals old.now new.now)) }
+        ensures ok { OnOk result (IsIntact (W.state out.new)) }
+        ensures err { OnErr result (HasFailed (W.state out.new)) }
+    {
+        let step = Step { time, old, new };
+        let is_printed = push_moment(self.net, self.blocks.as_slice(), &step, out);
+        written(out)?;
+        Ok(is_printed)
+    }
+}
+
+/// A time, and the values of the nets before it and at it.
+#[derive(Clone, Copy)]
+struct Step<'a> {
+    time: u64,
+    old: &'a [u8],
+    new: &'a [u8],
+}
+
+/// The changes of the net's names, which stand in these blocks, behind their time. Answers whether there are any.
+fn push_moment<W: Sink>(net: &Net, blocks: &[Block], step: &Step, out: &mut W) -> bool
+    requires blocks { AreBlocks (length net.now.types) blocks.now net.now.signals }
+    requires before { length step.now.old.now ≡ length net.now.types }
+    requires after { length step.now.new.now ≡ length net.now.types }
+    ensures text { Goes (W.state out.old) (W.state out.new) (moment_text net.now.signals step.now.time step.now.old.now step.now.new.now) }
+    ensures printed { result ≡ are_some (changes net.now.signals step.now.old.now step.now.new.now) }
+{
+    let _count = net.nets();
+    let signals = net.signals();
+    let mut next = 0;
+    let mut is_printed = false;
+    for block in blocks {
+        let end = next + block.names;
+        if !block.is_quiet(step.old, step.new) {
+            is_printed = push_changes(&signals[next..end], next, step, is_printed, out);
+        }
+        next = end;
+    }
+    is_printed
+}
+
+/// The changes of these names, the first of them being number `first`, behind their time where that isn't printed yet. Answers
+/// whether it is printed then.
+fn push_changes<W: Sink>(
+    names: &[Signal],
+    first: usize,
+    step: &Step,
+    is_printed: bool,
+    out: &mut W,
+) -> bool
+    requires before { All (IsShown (length step.now.old.now)) (map signal_view names.now) }
+    requires after { All (IsShown (length step.now.new.now)) (map signal_view names.now) }
+    requires room { first + length names.now < 18446744073709551616 }
+    ensures text { Goes (W.state out.old) (W.state out.new)
+        (continued is_printed step.now.time (changes_from first (map signal_view names.now) step.now.old.now step.now.new.now)) }
+    ensures printed { result ≡ (is_printed || are_some (changes_from first (map signal_view names.now) step.now.old.now step.now.new.now)) }
+{
+    let mut printed = is_printed;
+    for (place, signal) in names.iter().enumerate() {
+        let number = first + place;
+        if !prints_otherwise(number, signal, step.old, step.new) {
+            continue;
+        }
+        push_change(
+            out,
+            step.time,
+            printed,
+            &change_line(number, signal, step.new),
+        );
+        printed = true;
+    }
+    printed
+}
+
+/// A change, behind its time where that isn't printed yet.
+fn push_change<W: Sink>(out: &mut W, time: u64, is_printed: bool, line: &[u8])
+    ensures { Goes (W.state out.old) (W.state out.new) (if is_printed then line.now else (time_line time ++ line.now)) }
+{
+    if is_printed {
+        push_text(out, line);
+        return;
+    }
+    push_time(out, time);
+    push_text(out, line);
+}
