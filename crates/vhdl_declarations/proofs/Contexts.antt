@@ -9,7 +9,8 @@ use Rattle.vhdl_tree.specs.grammar.Units.{spell_selected, spell_context, IsConte
 use Rattle.vhdl_expressions.specs.reader.Input.{is_kind}
 use Rattle.vhdl_declarations.specs.reader.Context.{selected, selecteds, library_clause, use_clause, context_item, begins_context, context}
 use Rattle.vhdl_expressions.proofs.Walks.{Rule, w_pure, w_then}
-use Rattle.vhdl_expressions.proofs.Rules.{w_some, w_ident, w_test, each_rule, separated_rule}
+use Rattle.vhdl_expressions.proofs.Rules.{w_some, w_ident, w_test}
+use Rattle.vhdl_expressions.proofs.Repeats.{each_rule, separated_rule}
 use Rattle.vhdl_expressions.proofs.Gives.{Gives, Whatever, front, g_pure, g_then, g_some, g_ident, g_yes, g_no, more_gives, separated_gives}
 use Rattle.vhdl_statements.proofs.Subtypes.{idents_rule, idents_gives}
 
@@ -26,9 +27,13 @@ context_item_rule n = w_test (is_kind k.Library)
     (w_some k.Library refl (λ _. w_then (idents_rule n) (λ names several _. w_some k.Semicolon refl (λ _. w_pure (omega arith) refl several))))
     (w_some k.Use refl (λ _. w_then (selecteds_rule n) (λ all several _. w_some k.Semicolon refl (λ _. w_pure (omega arith) refl several))))
 
+context_some : (c : ContextItem) → 1 ≤ length (spell_context c)
+context_some (library names) = omega arith
+context_some (uses all) = omega arith
+
 pub context_rule : (n : ℕ) → Rule n 0 context (spell_each spell_context) (IsEach IsContext)
 unfolding context
-context_rule n = each_rule begins_context context_item (omega arith) (context_item_rule n)
+context_rule n = each_rule begins_context context_item (omega arith) (context_item_rule n) refl context_some
 
 selected_gives : (s : Selected) → IsAny s → Gives selected s (spell_selected s) Whatever
 unfolding selected
@@ -54,10 +59,6 @@ context_item_gives (uses all) good = g_no library_clause (is_kind k.Library) (λ
 context_begins : (c : ContextItem) → IsContext c → (next : Option Kind) → begins_context (front (spell_context c) next) ≡ true
 context_begins (library names) good next = refl
 context_begins (uses all) good next = refl
-
-context_some : (c : ContextItem) → 1 ≤ length (spell_context c)
-context_some (library names) = omega arith
-context_some (uses all) = omega arith
 
 pub context_gives : (cs : List ContextItem) → IsEach IsContext cs → Gives context cs (spell_each spell_context cs) (λ next. (begins_context next ≡ false) × Whatever next)
 unfolding context

@@ -4,16 +4,19 @@ use Rattle.vhdl_lexer.specs.declared.token.Kind.{Kind}
 use Rattle.vhdl_lexer.specs.declared.token.Kind.TheVariants as k
 use Rattle.vhdl_tree.specs.Lexeme.{same_kind}
 use Rattle.vhdl_tree.specs.Tree.{Value, Generic, Port, Signals, Constants, Enumeration, Component, Declaration, signals, constants, enumeration, component}
-use Rattle.vhdl_tree.specs.Pieces.{Piece, some, spell_ident, spell_option, spell_each, IsEach}
+use Rattle.vhdl_tree.specs.Pieces.{Piece, some, word_at, spell_ident, spell_option, spell_each, IsEach}
 use Rattle.vhdl_tree.specs.grammar.Expressions.{spell_value, IsValue}
 use Rattle.vhdl_tree.specs.grammar.Declarations.{spell_generics, spell_ports, spell_signals, spell_constants, spell_enumeration, spell_component, spell_declaration, IsSignals, IsConstants, IsEnumeration, IsComponent, IsDeclaration}
 use Rattle.vhdl_expressions.specs.reader.Input.{is_kind}
 use Rattle.vhdl_declarations.specs.reader.Declarations.{signals_of, constant_value, constants_of, enumeration_of, component_of, declaration_by, declaration, begins_declaration, declarations}
-use Rattle.vhdl_expressions.proofs.Walks.{Rule, w_pure, w_then, w_last}
-use Rattle.vhdl_expressions.proofs.Rules.{w_some, w_end, w_ident, w_left, w_right, w_below, w_choose, w_refuse, w_option_ident, under, word_rule, each_rule}
+use Rattle.vhdl_expressions.proofs.Halts.{Example}
+use Rattle.vhdl_expressions.proofs.Walks.{Rule, afresh, w_pure, w_then, w_last}
+use Rattle.vhdl_expressions.proofs.Rules.{w_some, w_end, w_ident, w_left, w_right, w_below, below_met, w_choose, w_refuse, w_option_ident, under, word_rule}
+use Rattle.vhdl_expressions.proofs.Repeats.{each_rule}
 use Rattle.vhdl_expressions.proofs.Gives.{Gives, Whatever, front, g_pure, g_then, g_map, g_some, g_ident, g_choose, g_below, eat_gives, more_gives}
 use Rattle.vhdl_expressions.proofs.WalkValues.{value_rule}
 use Rattle.vhdl_expressions.proofs.GiveValues.{value_gives}
+use Rattle.vhdl_statements.proofs.Plain.{an_ident}
 use Rattle.vhdl_statements.proofs.Subtypes.{idents_rule, idents_gives, last_gives, subtype_rule, subtype_gives, objects_rule, objects_gives}
 use Rattle.vhdl_declarations.proofs.Ports.{optional_generics_rule, optional_generics_gives, optional_ports_rule, optional_ports_gives}
 
@@ -46,7 +49,7 @@ enumeration_rule n =
     w_some k.Type refl (λ _.
     w_ident (λ name.
     w_some k.Is refl (λ _.
-    w_left (λ _.
+    w_left (record { tree = record { name = name; literals = an_ident ∷ [] }; more = word_at 0 [] ∷ (some k.RightParen ∷ (some k.Semicolon ∷ [])); is = refl; formed = (tt, tt) }) (below_met _ n) (λ _.
     w_below n (λ m e.
     w_then (under e (idents_rule m)) (λ literals several le.
     w_right le (λ _.
@@ -67,6 +70,12 @@ component_rule n =
     w_some k.Semicolon refl (λ _.
     w_pure (omega arith) refl (fine, good))))))))))
 
+-- type id is ( id ) ;
+plain_declaration : Example afresh spell_declaration IsDeclaration
+plain_declaration =
+    let e : Enumeration = record { name = an_ident; literals = an_ident ∷ [] } in
+    record { tree = enumeration e; more = spell_enumeration e; is = refl; formed = (tt, tt) }
+
 declaration_rule : (n : ℕ) → Rule n 0 (declaration n) spell_declaration IsDeclaration
 unfolding declaration
 declaration_rule n = w_choose (λ next. by_next next)
@@ -76,11 +85,17 @@ declaration_rule n = w_choose (λ next. by_next next)
     by_next (Some k.Constant) = w_last constants (constants_rule n) (λ d good. (refl, good))
     by_next (Some k.Type) = w_last enumeration (enumeration_rule n) (λ d good. (refl, good))
     by_next (Some k.Component) = w_last component (component_rule n) (λ d good. (refl, good))
-    by_next _ = w_refuse
+    by_next _ = w_refuse plain_declaration
+
+declaration_some : (d : Declaration) → 1 ≤ length (spell_declaration d)
+declaration_some (signals d) = omega arith
+declaration_some (constants d) = omega arith
+declaration_some (enumeration d) = omega arith
+declaration_some (component d) = omega arith
 
 pub declarations_rule : (n : ℕ) → Rule n 0 (declarations n) (spell_each spell_declaration) (IsEach IsDeclaration)
 unfolding declarations
-declarations_rule n = each_rule begins_declaration (declaration n) (omega arith) (declaration_rule n)
+declarations_rule n = each_rule begins_declaration (declaration n) (omega arith) (declaration_rule n) refl declaration_some
 
 -- ---- what is spelled is read
 
@@ -140,12 +155,6 @@ declaration_begins (signals d) good next = refl
 declaration_begins (constants d) good next = refl
 declaration_begins (enumeration d) good next = refl
 declaration_begins (component d) good next = refl
-
-declaration_some : (d : Declaration) → 1 ≤ length (spell_declaration d)
-declaration_some (signals d) = omega arith
-declaration_some (constants d) = omega arith
-declaration_some (enumeration d) = omega arith
-declaration_some (component d) = omega arith
 
 -- no declaration follows
 pub declarations_gives : (n : ℕ) (ds : List Declaration) → IsEach IsDeclaration ds → Gives (declarations n) ds (spell_each spell_declaration ds) (λ next. (begins_declaration next ≡ false) × Whatever next)

@@ -3,3 +3,4 @@ pub mod Declared
 pub mod Contexts
 pub mod WalkInstance
 pub mod GiveInstance
+pub mod Alone

@@ -6,17 +6,20 @@ use Rattle.vhdl_tree.specs.declared.declaration.Mode.{Mode}
 use Rattle.vhdl_tree.specs.declared.declaration.Mode.TheVariants.{In, Out}
 use Rattle.vhdl_tree.specs.Lexeme.{same_kind}
 use Rattle.vhdl_tree.specs.Tree.{Ident, Expr, Value, Subtype, Generic, Port}
-use Rattle.vhdl_tree.specs.Pieces.{spell_option, spell_list, IsAny, IsList, IsOption}
+use Rattle.vhdl_tree.specs.Pieces.{some, word_at, spell_option, spell_list, IsAny, IsList, IsOption}
 use Rattle.vhdl_tree.specs.grammar.Expressions.{IsExpr, IsValue}
 use Rattle.vhdl_tree.specs.grammar.Subtypes.{IsSubtype}
 use Rattle.vhdl_tree.specs.grammar.Declarations.{spell_generic_default, spell_mode, spell_generic, spell_generics, spell_port, spell_ports, IsGeneric, AreGenerics, IsPort, ArePorts}
 use Rattle.vhdl_expressions.specs.reader.Input.{is_kind}
 use Rattle.vhdl_declarations.specs.reader.Declarations.{generic_default, optional_generic_default, generic, generic_list, generics, optional_generics, mode_by, mode, port, port_list, ports, optional_ports}
+use Rattle.vhdl_expressions.proofs.Halts.{Example}
 use Rattle.vhdl_expressions.proofs.Walks.{Rule, w_pure, w_then, w_last, w_rule}
-use Rattle.vhdl_expressions.proofs.Rules.{w_some, w_ident, w_left, w_right, w_below, w_choose, under, word_rule, option_rule, separated_rule}
+use Rattle.vhdl_expressions.proofs.Rules.{w_some, w_ident, w_left, w_right, w_below, below_met, w_choose, under, word_rule, option_rule}
+use Rattle.vhdl_expressions.proofs.Repeats.{separated_rule}
 use Rattle.vhdl_expressions.proofs.Gives.{Gives, Whatever, front, g_pure, g_then, g_map, g_some, g_ident, g_choose, g_below, eat_gives, option_gives, separated_gives}
 use Rattle.vhdl_expressions.proofs.WalkExpressions.{expr_rule}
 use Rattle.vhdl_expressions.proofs.GiveValues.{Ends, expr_gives}
+use Rattle.vhdl_statements.proofs.Plain.{an_ident}
 use Rattle.vhdl_statements.proofs.Subtypes.{idents_rule, idents_gives, subtype_rule, subtype_gives, optional_default_rule, optional_default_gives, EndsDefault, default_no_paren}
 
 -- ---- defaults of generics
@@ -56,11 +59,20 @@ generic_rule n =
 generic_list_rule : (n : ℕ) → Rule n 0 (generic_list n) (spell_list k.Semicolon spell_generic) AreGenerics
 generic_list_rule n = separated_rule k.Semicolon refl (omega arith) (generic_rule n)
 
+-- generic ( id : id ) ;
+plain_generics : Example (λ r. some k.Generic ∷ (some k.LeftParen ∷ r)) spell_generics AreGenerics
+plain_generics = record {
+  tree = record { constant_word = false; names = an_ident ∷ []; in_word = false; mark = an_ident; default = None } ∷ [];
+  more = word_at 0 [] ∷ (some k.Colon ∷ (word_at 0 [] ∷ (some k.RightParen ∷ (some k.Semicolon ∷ []))));
+  is = refl;
+  formed = (((tt, tt), tt), tt);
+}
+
 generics_rule : (n : ℕ) → Rule n 0 (generics n) spell_generics AreGenerics
 unfolding generics
 generics_rule n =
     w_some k.Generic refl (λ _.
-    w_left (λ _.
+    w_left plain_generics (below_met _ n) (λ _.
     w_below n (λ m e.
     w_then (under e (generic_list_rule m)) (λ all good le.
     w_right le (λ _.
@@ -128,11 +140,20 @@ port_rule n =
 port_list_rule : (n : ℕ) → Rule n 0 (port_list n) (spell_list k.Semicolon spell_port) ArePorts
 port_list_rule n = separated_rule k.Semicolon refl (omega arith) (port_rule n)
 
+-- port ( id : id ) ;
+plain_ports : Example (λ r. some k.Port ∷ (some k.LeftParen ∷ r)) spell_ports ArePorts
+plain_ports = record {
+  tree = record { signal_word = false; names = an_ident ∷ []; mode = None; subtype = record { mark = an_ident; range = None }; default = None } ∷ [];
+  more = word_at 0 [] ∷ (some k.Colon ∷ (word_at 0 [] ∷ (some k.RightParen ∷ (some k.Semicolon ∷ []))));
+  is = refl;
+  formed = (((tt, tt), tt, tt), tt);
+}
+
 ports_rule : (n : ℕ) → Rule n 0 (ports n) spell_ports ArePorts
 unfolding ports
 ports_rule n =
     w_some k.Port refl (λ _.
-    w_left (λ _.
+    w_left plain_ports (below_met _ n) (λ _.
     w_below n (λ m e.
     w_then (under e (port_list_rule m)) (λ all good le.
     w_right le (λ _.

@@ -21,7 +21,7 @@ use Rattle.vhdl_expressions.proofs.Complete.{Stops, Complete, closed, primary_co
 
 pub inside_reads : (e : Expr) → Complete e → IsExpr e → (n : ℕ) (ts rest : List Lexeme) → Spells (spell e) ts rest → Stops 1 rest → Yields (inside n ts) (Ok (e, rest))
 unfolding inside
-inside_reads e c f zero ts rest h s = inr refl
+inside_reads e c f zero ts rest h s = inr (ts, refl)
 inside_reads e c f (suc n) ts rest h s = closed Logical e (c.as_chain Logical (binding_least e) f) n ts rest h s
 
 stops_at : (kind : Kind) (ps : List Piece) (ts rest : List Lexeme) → grip (Some kind) ≡ 0 → Spells (some kind ∷ ps) ts rest → Stops 1 ts

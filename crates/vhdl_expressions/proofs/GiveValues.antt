@@ -9,14 +9,14 @@ use Rattle.vhdl_tree.specs.declared.operator.Direction.{Direction}
 use Rattle.vhdl_tree.specs.declared.operator.Direction.TheVariants.{To, Downto}
 use Rattle.vhdl_tree.specs.Lexeme.{Lexeme, same_kind}
 use Rattle.vhdl_tree.specs.Tree.{Ident, Expr, integer, character, string, bits, named, parens, negation, signed, binary, plain, arguments, sliced, Range, Name, Value, single, others, Choice, chosen, otherwise, Actual, actual, left_open, Association}
-use Rattle.vhdl_tree.specs.Pieces.{Piece, some, one_at, Spells, spell_each, spell_option, IsEach}
+use Rattle.vhdl_tree.specs.Pieces.{Piece, some, one_at, Spells, spell_option}
 use Rattle.vhdl_tree.specs.grammar.Expressions.{kind_of, sign_kind, direction_kind, spell, spell_name, spell_range, spell_value, spell_choice, spell_choices, spell_actual, spell_formal, spell_association, spell_associations, IsExpr, IsName, IsRange, IsValue, IsChoice, AreChoices, IsActual, IsAssociation, AreAssociations}
-use Rattle.vhdl_expressions.specs.reader.Input.{Parser, Outcome, and_then, next_kind, second_kind, is_kind, sees_both, test_both, many}
+use Rattle.vhdl_expressions.specs.reader.Input.{Parser, Outcome, and_then, next_kind, second_kind, is_kind, sees_both, test_both}
 use Rattle.vhdl_expressions.specs.reader.Expressions as read
 use Rattle.vhdl_expressions.specs.reader.Expressions.{direction_at, range_by, range, others_value, value, choice, choices, formal, optional_formal, actual_of, association, associations, inside, name}
 use Rattle.vhdl_expressions.proofs.Steps.{kind_same}
-use Rattle.vhdl_expressions.proofs.Operators.{grip, is_here}
-use Rattle.vhdl_expressions.proofs.Gives.{Reaches, Gives, front, front_is, g_pure, g_then, g_map, g_at, g_some, g_ident, g_choose, g_yes, g_no, more_gives, separated_gives}
+use Rattle.vhdl_expressions.proofs.Operators.{grip}
+use Rattle.vhdl_expressions.proofs.Gives.{Reaches, Gives, front, front_is, g_pure, g_then, g_map, g_at, g_some, g_ident, g_choose, g_yes, g_no, separated_gives}
 use Rattle.vhdl_expressions.proofs.CompleteNames.{complete_suffix, expr_reads, inside_reads, complete, name_reads}
 
 -- nothing goes on with an expression

@@ -1,5 +1,5 @@
 -- What is spelled is read, or refused for its depth: one lemma for each way in which readers are made.
-use Rattle.std.proofs.Common.{◌≡◌, ℕ, zero, suc, ◌≤◌, Bool, true, false, cond, List, [], ◌∷◌, ◌++◌, length, slice_index, Ok, Err, Option, Some, None, ◌⊎◌, inl, inr, ⊎_elim, refl, sym, ap, ◌∙◌, subst, append_assoc, append-nil, length-append, arith}
+use Rattle.std.proofs.Common.{◌≡◌, ℕ, zero, suc, ◌≤◌, Bool, true, false, cond, List, [], ◌∷◌, ◌++◌, length, slice_index, Ok, Err, Option, Some, None, inl, inr, refl, sym, ap, ◌∙◌, subst, append_assoc, append-nil, length-append, arith}
 use Rattle.vhdl_lexer.specs.declared.token.Kind.{Kind}
 use Rattle.vhdl_lexer.specs.declared.token.Kind.TheVariants as k
 use Rattle.vhdl_expressions.specs.declared.stop.Stop.TheVariants.{TooDeep}
@@ -8,10 +8,11 @@ use Rattle.vhdl_tree.specs.Tree.{Ident}
 use Rattle.vhdl_tree.specs.Pieces.{Piece, some, one_at, word_at, literal_at, text_at, Is, Spells, spell_word, spell_option, spell_each, spell_list, IsEach, IsList, IsOption}
 use Rattle.vhdl_expressions.specs.reader.Input.{Outcome, Parser, and_then, token, expect, identifier, literal, next_kind, is_kind, test, eat, optional, many_from, many, separated, below}
 use Rattle.vhdl_expressions.proofs.Steps.{spells_split, spells_length, kind_same, takes}
+use Rattle.vhdl_expressions.proofs.Yields.{Yields, yields_is, yields_bind}
 
 -- the outcome is this, or the depth refuses it
 abbrev pub Reaches : {A : Type 0} → Outcome A → A → List Lexeme → Type 0
-Reaches r a rest = (r ≡ Ok (a, rest)) ⊎ (r ≡ Err TooDeep)
+Reaches r a rest = Yields r (Ok (a, rest))
 
 -- the tree a, spelled by these pieces, is read where what follows meets F
 pub record Gives {A : Type 0} (p : Parser A) (a : A) (ps : List Piece) (F : Option Kind → Type 0) : Type 0 where
@@ -55,15 +56,12 @@ pub g_then : {A B : Type 0} {p : Parser A} {a : A} {b : B} {ps qs : List Piece} 
 g_then {A} {B} {p} {a} {b} {ps} {qs} {F} {G} f first next follows = record {
   reads = λ ts rest h g.
       let s = spells_split ps qs ts rest h in
-      ⊎_elim
-      (λ e. ⊎_elim (λ r. inl (ap (λ x. and_then x f) e ∙ r)) (λ r. inr (ap (λ x. and_then x f) e ∙ r)) (next.reads s.0 rest s.2 g))
-      (λ e. inr (ap (λ x. and_then x f) e))
-      (first.reads ts s.0 s.1 (subst F (sym (front_is qs s.0 rest s.2)) (follows (next_kind rest) g)));
+      yields_bind f (first.reads ts s.0 s.1 (subst F (sym (front_is qs s.0 rest s.2)) (follows (next_kind rest) g))) (next.reads s.0 rest s.2 g);
 }
 
 pub g_map : {A B : Type 0} {p : Parser A} {a : A} {ps : List Piece} {F : Option Kind → Type 0} (g : A → B) → Gives p a ps F → Gives (λ ts. and_then (p ts) (λ x us. Ok (g x, us))) (g a) ps F
 g_map {A} {B} {p} {a} {ps} {F} g first = record {
-  reads = λ ts rest h f. ⊎_elim (λ e. inl (ap (λ x. and_then x (λ y us. Ok (g y, us))) e)) (λ e. inr (ap (λ x. and_then x (λ y us. Ok (g y, us))) e)) (first.reads ts rest h f);
+  reads = λ ts rest h f. yields_bind (λ x us. Ok (g x, us)) (first.reads ts rest h f) (inl refl);
 }
 
 -- ---- tokens
@@ -76,7 +74,7 @@ g_take {A} {B} {b} {ps} {G} f of kind p is next = record { reads = go }
     go [] rest h g = absurd h
     go (t ∷ ts) rest h g =
         let e = takes kind of (t ∷ ts) t ts refl (is t h.0) in
-        ⊎_elim (λ r. inl (ap (λ x. and_then x f) e ∙ r)) (λ r. inr (ap (λ x. and_then x f) e ∙ r)) ((next t h.0).reads ts rest h.1 g)
+        yields_bind f (inl e) ((next t h.0).reads ts rest h.1 g)
 
 -- a token by itself
 pub g_token : {A : Type 0} {a : A} {G : Option Kind → Type 0} (of : Lexeme → A) (kind : Kind) (p : Piece) →
@@ -109,11 +107,11 @@ module _ {B : Type 0} {b : B} {ps : List Piece} {G : Option Kind → Type 0} whe
   -- where some depth refuses, nothing is owed
   pub g_below : (f : ℕ → Parser B) (n : ℕ) → ((m : ℕ) → n ≡ suc m → Gives (f m) b ps G) → Gives (λ ts. and_then (below n ts) f) b ps G
   unfolding below
-  g_below f zero next = record { reads = λ ts rest h g. inr refl }
+  g_below f zero next = record { reads = λ ts rest h g. inr (ts, refl) }
   g_below f (suc m) next = next m refl
 
-  pub g_none : Gives (λ ts. Err TooDeep) b ps G
-  g_none = record { reads = λ ts rest h g. inr refl }
+  pub g_none : Gives (λ ts. Err (TooDeep, ts)) b ps G
+  g_none = record { reads = λ ts rest h g. inr (ts, refl) }
 
 -- ---- choices
 
@@ -123,7 +121,7 @@ module _ {B : Type 0} {b : B} {ps : List Piece} {G : Option Kind → Type 0} whe
   g_choose by here is w = record {
     reads = λ ts rest h g.
         let e = front_is ps ts rest h ∙ is (next_kind rest) g in
-        ⊎_elim (λ r. inl (ap (λ x. by x ts) e ∙ r)) (λ r. inr (ap (λ x. by x ts) e ∙ r)) (w.reads ts rest h g);
+        yields_is (ap (λ x. by x ts) e) (w.reads ts rest h g);
   }
 
   pub g_yes : {p : Parser B} (q : Parser B) (begins : Option Kind → Bool) → ((next : Option Kind) → G next → begins (front ps next) ≡ true) → Gives p b ps G → Gives (test begins p q) b ps G

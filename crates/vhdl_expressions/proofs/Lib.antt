@@ -4,10 +4,16 @@ pub mod Lists
 pub mod Steps
 pub mod Operators
 pub mod Yields
+pub mod Steady
+pub mod Ahead
+pub mod Chained
+pub mod Alone
 pub mod Complete
 pub mod CompleteNames
+pub mod Halts
 pub mod Walks
 pub mod Rules
+pub mod Repeats
 pub mod Gives
 pub mod WalkExpressions
 pub mod WalkValues

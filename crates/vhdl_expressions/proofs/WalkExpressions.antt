@@ -10,48 +10,38 @@ use Rattle.vhdl_tree.specs.declared.operator.Sign.{Sign}
 use Rattle.vhdl_tree.specs.declared.operator.Sign.TheVariants.{Plus, Minus}
 use Rattle.vhdl_tree.specs.declared.operator.Direction.{Direction}
 use Rattle.vhdl_tree.specs.declared.operator.Direction.TheVariants.{To, Downto}
-use Rattle.vhdl_tree.specs.Tree.{Expr, binary, arguments, exprs_of, Pair, joined, begun}
-use Rattle.vhdl_tree.specs.Pieces.{Piece, some, one_at, word_at, text_at, Spells, spell_each, IsAny, IsEach}
+use Rattle.vhdl_tree.specs.Tree.{Expr, integer, parens, binary, arguments, expr, no_exprs, exprs_of, Pair, joined, begun}
+use Rattle.vhdl_tree.specs.Pieces.{Piece, some, one_at, word_at, text_at, spell_each, IsAny, IsEach}
 use Rattle.vhdl_tree.specs.grammar.Expressions.{kind_of, sign_kind, direction_kind, spell_attribute, spell, spell_suffix, spell_more, spell_name, rank, binding, Leads, IsExpr, IsSuffix, AreExprs, IsName}
 use Rattle.vhdl_expressions.specs.reader.Input.{Parser, and_then, expect, text, is_kind, optional, many}
 use Rattle.vhdl_expressions.specs.reader.Expressions as read
 use Rattle.vhdl_expressions.specs.reader.Expressions.{operator_at, next_operator, sign_at, direction_at, attribute, argument, range_from, arguments_from, suffix_by, suffix, optional_suffix, name, primary_by, primary, parenthesis, inverse, factor, pair, turn, more_from, more, begin_by, begin, leading_by, leading, chain, term, sum, relation, whole, operand_of, first_of, chain_of, inside}
 use Rattle.vhdl_expressions.proofs.Operators.{level_rank, first_is, next_is, Begins, begins_tight, Fits, fits_after}
-use Rattle.vhdl_expressions.proofs.Walks.{Walks, Rule, w_pure, w_then}
-use Rattle.vhdl_expressions.proofs.Rules.{is_neutral, neutral, w_take, w_at, w_some, w_left, w_left_at, w_right, w_ident, w_literal, w_refuse, w_choose, w_test, w_inner, under, under_none, many_made, many_deep}
+use Rattle.vhdl_expressions.proofs.Halts.{halt_map}
+use Rattle.vhdl_expressions.proofs.Steady.{steady_many}
+use Rattle.vhdl_expressions.proofs.Chained.{steady_more}
+use Rattle.vhdl_expressions.proofs.Walks.{Walks, Rule, w_pure, w_then, w_ends, w_weaken, w_before}
+use Rattle.vhdl_expressions.proofs.Rules.{Stops, is_neutral, neutral, w_take, w_at, w_some, w_left, w_left_at, w_right, w_ident, w_literal, w_refuse, w_choose, w_test, w_inner, deep_met, under, under_none}
+use Rattle.vhdl_expressions.proofs.Repeats.{many_made, many_deep, many_stuck, item_on}
 
--- ---- rules under other names
-
--- a rule that ends what is read
-pub w_ends : {B : Type 0} {n d : ℕ} {before : List Piece → List Piece} {p : Parser B} {part spell : B → List Piece} {Part Good : B → Type 0} →
-    ((b : B) → spell b ≡ before (part b)) → ((b : B) → Part b → Good b) → Rule n d p part Part → Walks n d false d before p spell Good
-w_ends {B} {n} {d} {before} {p} {part} {spell} {Part} {Good} is good w = record {
-  reads = λ ts b rest h.
-      let m = w.reads ts b rest h in
-      record { more = part b; is = is b; spelled = subst (λ ps. Spells ps ts rest) (sym m.is) m.spelled; formed = good b m.formed; walk = m.walk };
-  deep = w.deep;
-}
-
-pub w_weaken : {B : Type 0} {n d d2 : ℕ} {e : Bool} {before : List Piece → List Piece} {p : Parser B} {spell : B → List Piece} {Part Good : B → Type 0} →
-    ((b : B) → Part b → Good b) → Walks n d e d2 before p spell Part → Walks n d e d2 before p spell Good
-w_weaken {B} {n} {d} {d2} {e} {before} {p} {spell} {Part} {Good} good w = record {
-  reads = λ ts b rest h. let m = w.reads ts b rest h in record { more = m.more; is = m.is; spelled = m.spelled; formed = good b m.formed; walk = m.walk };
-  deep = w.deep;
-}
-
-pub w_before : {B : Type 0} {n d d2 : ℕ} {e : Bool} {before other : List Piece → List Piece} {p : Parser B} {spell : B → List Piece} {Good : B → Type 0} →
-    ((ps : List Piece) → other ps ≡ before ps) → Walks n d e d2 other p spell Good → Walks n d e d2 before p spell Good
-w_before {B} {n} {d} {d2} {e} {before} {other} {p} {spell} {Good} same w = record {
-  reads = λ ts b rest h. let m = w.reads ts b rest h in record { more = m.more; is = m.is ∙ same m.more; spelled = m.spelled; formed = m.formed; walk = m.walk };
-  deep = w.deep;
-}
+-- ---- literals
 
 w_text : {B : Type 0} {n d d2 : ℕ} {e : Bool} {before : List Piece → List Piece} {spell : B → List Piece} {Good : B → Type 0} {f : (ℕ × List ℕ) → Parser B} (kind : Kind) → is_neutral kind ≡ true →
     ((c : ℕ × List ℕ) → Walks n d false d2 (λ r. before (text_at kind c.0 c.1 ∷ r)) (f c) spell Good) → Walks n d e d2 before (λ ts. and_then (text kind ts) f) spell Good
 unfolding text
 w_text {B} {n} {d} {d2} {e} {before} {spell} {Good} {f} kind ok next =
     let u = neutral kind ok in
-    w_take (λ l. (l.at, l.text)) kind (λ c. text_at kind c.0 c.1) (λ le. le) (omega (arith, u.opens_none e, u.closes_none e)) u.no_end (λ l i. (i, refl, refl)) next
+    w_take (λ l. (l.at, l.text)) kind (λ c. text_at kind c.0 c.1) (λ le. le) (omega arith) (omega (arith, u.opens_none e, u.closes_none e)) u.no_end (λ l i. (i, refl, refl)) next
+
+-- the plainest expression
+abbrev pub number : Expr
+number = integer 0 []
+
+-- where no level may open, nothing but the depth is refused
+pub inside_met : {A B : Type 0} (f : A → Expr → Parser B) (n : ℕ) (a : A) → Stops (λ a us. and_then (inside n us) (f a)) a → 1 ≤ n
+unfolding inside
+inside_met f zero a x = deep_met x.0 x.1 x.2 x.3 x.4
+inside_met f (suc m) a x = omega arith
 
 -- ---- neutral tokens
 
@@ -112,7 +102,8 @@ spell_pair p = one_at (kind_of p.operator) p.at ∷ spell p.operand
 module _ (n : ℕ) (inner : Rule n 1 (inside n) spell IsExpr) where
   parenthesis_rule : Rule n 0 (parenthesis (inside n)) spell (Tight 6)
   unfolding parenthesis
-  parenthesis_rule = w_left_at (λ at. w_then inner (λ e good le. w_right le (λ _. w_pure (omega arith) refl (omega arith, good))))
+  parenthesis_rule = w_left_at (λ at. record { tree = parens at number; more = spell number ++ some k.RightParen ∷ []; is = refl; formed = (omega arith, tt) }) (inside_met _ n)
+      (λ at. w_then inner (λ e good le. w_right le (λ _. w_pure (omega arith) refl (omega arith, good))))
 
   -- ---- names
 
@@ -133,7 +124,13 @@ module _ (n : ℕ) (inner : Rule n 1 (inside n) spell IsExpr) where
     reads = λ ts all rest h.
         let m = many_made (is_kind k.Comma) (argument (inside n)) le argument_rule (length ts) (first ∷ []) ts all rest h in
         record { more = spell_each (λ e. some k.Comma ∷ spell e) m.more; is = ap spell_tail m.all_is ∙ spell_each-more m.more; spelled = m.spelled; formed = (m.more, m.all_is, each_is m.more m.formed); walk = m.walk };
-    deep = λ ts h. many_deep (is_kind k.Comma) (argument (inside n)) le argument_rule (length ts) (first ∷ []) ts h;
+    deep = λ ts at h. many_deep (is_kind k.Comma) (argument (inside n)) le argument_rule (length ts) (first ∷ []) ts at h;
+    example = λ _. record { tree = first ∷ []; more = []; is = refl; formed = ([], refl, tt) };
+    stuck = λ _ ts why at h met.
+        let s = many_stuck (is_kind k.Comma) (argument (inside n)) le argument_rule (length ts) (first ∷ []) ts why at h met in
+        let x = s.example in
+        halt_map s (record { tree = first ∷ x.tree; more = x.more; is = spell_each-more x.tree ∙ x.is; formed = (x.tree, refl, each_is x.tree x.formed) }) refl;
+    steady = steady_many (is_kind k.Comma) refl argument_rule.steady (item_on (is_kind k.Comma) (argument (inside n)) le argument_rule (λ e. omega arith)) (first ∷ []);
   }
 
   arguments_are : (first : Expr) (all : List Expr) → Arguments first all → spell_suffix (arguments (exprs_of all)) ≡ some k.LeftParen ∷ (spell first ++ (spell_tail all ++ some k.RightParen ∷ []))
@@ -149,7 +146,8 @@ module _ (n : ℕ) (inner : Rule n 1 (inside n) spell IsExpr) where
 
   suffix_rule : Rule n 0 (optional_suffix (inside n)) spell_suffix IsSuffix
   unfolding optional_suffix suffix
-  suffix_rule = w_test (is_kind k.LeftParen) (w_left (λ _. w_then inner (λ first good le. w_choose (λ next. suffix_next first good le (direction_at next))))) (w_pure (omega arith) refl tt)
+  suffix_rule = w_test (is_kind k.LeftParen)
+      (w_left (record { tree = arguments (expr number no_exprs); more = spell number ++ some k.RightParen ∷ []; is = refl; formed = (tt, tt) }) (inside_met _ n) (λ _. w_then inner (λ first good le. w_choose (λ next. suffix_next first good le (direction_at next))))) (w_pure (omega arith) refl tt)
 
   pub name_rule : Rule n 0 (name (inside n)) spell_name IsName
   unfolding name
@@ -164,7 +162,7 @@ module _ (n : ℕ) (inner : Rule n 1 (inside n) spell IsExpr) where
   primary_next (Some k.String) = w_text k.String refl (λ c. w_pure (omega arith) refl (omega arith, tt))
   primary_next (Some k.BitString) = w_text k.BitString refl (λ c. w_pure (omega arith) refl (omega arith, tt))
   primary_next (Some k.LeftParen) = parenthesis_rule
-  primary_next _ = w_refuse
+  primary_next _ = w_refuse (record { tree = number; more = spell number; is = refl; formed = (omega arith, tt) })
 
   primary_rule : Rule n 0 (primary (inside n)) spell (Tight 6)
   unfolding primary
@@ -218,7 +216,10 @@ module _ (n : ℕ) (inner : Rule n 1 (inside n) spell IsExpr) where
     unfolding more
     all_rule last left good fits = record {
       reads = λ ts b rest h. (more_rule (length ts) last left good fits).reads ts b rest h;
-      deep = λ ts h. (more_rule (length ts) last left good fits).deep ts h;
+      deep = λ ts at h. (more_rule (length ts) last left good fits).deep ts at h;
+      example = (stops left good).example;
+      stuck = λ le ts why at h met. (more_rule (length ts) last left good fits).stuck le ts why at h met;
+      steady = steady_more each.steady level last left;
     }
 
     begin_rule : (next : Option Kind) (first : Expr) → First level first → (o : Option Operator) → operator_at level next ≡ o → Goes (begin_by operand level first o) first

@@ -7,6 +7,8 @@ use Rattle.vhdl_tree.specs.Pieces.{Piece, Spells}
 use Rattle.vhdl_tree.specs.Levels.{is_end, opening, closing, opens, closes, IsDeep}
 use Rattle.vhdl_expressions.specs.reader.Input.{Parser, and_then}
 use Rattle.vhdl_expressions.proofs.Steps.{bind_ok, bind_err, at_pure, pure_err, spells_append}
+use Rattle.vhdl_expressions.proofs.Halts.{Example, Sticks, halt_first, halt_after, halt_map}
+use Rattle.vhdl_expressions.proofs.Steady.{Steady, steady_pure, steady_then}
 
 -- ---- counting levels
 
@@ -142,10 +144,14 @@ pub record Made {B : Type 0} (n d : ℕ) (e : Bool) (d2 : ℕ) (before : List Pi
   pub formed : Good b
   pub walk : Walk n d e d2 false ts rest
 
--- what a reader makes where d levels are open and `before` was read of the tree, and that what it refuses for its depth is too deep
+-- What a reader makes where d levels are open and `before` was read of the tree, and what it refuses: for its depth where
+-- it is too deep, and otherwise at a token up to which the tokens go on to a tree, and by nothing that follows this token.
 pub record Walks {B : Type 0} (n d : ℕ) (e : Bool) (d2 : ℕ) (before : List Piece → List Piece) (p : Parser B) (spell : B → List Piece) (Good : B → Type 0) : Type 0 where
   pub reads : (ts : List Lexeme) (b : B) (rest : List Lexeme) → p ts ≡ Ok (b, rest) → Made n d e d2 before spell Good ts b rest
-  pub deep : (ts : List Lexeme) → p ts ≡ Err TooDeep → Deep n d e ts
+  pub deep : (ts at : List Lexeme) → p ts ≡ Err (TooDeep, at) → Deep n d e ts
+  pub example : d ≤ n → Example before spell Good
+  pub stuck : d ≤ n → Sticks before p spell Good
+  pub steady : Steady p
 
 abbrev pub afresh : List Piece → List Piece
 afresh ps = ps
@@ -158,7 +164,10 @@ pub w_pure : {B : Type 0} {n d : ℕ} {before : List Piece → List Piece} {b : 
     d ≤ n → spell b ≡ before [] → Good b → Walks n d false d before (λ ts. Ok (b, ts)) spell Good
 w_pure {B} {n} {d} {before} {b} {spell} {Good} le is good = record {
   reads = λ ts x rest h. at_pure (λ y us. Made n d false d before spell Good ts y us) b x ts rest h (record { more = []; is = is; spelled = refl; formed = good; walk = walk_none n d false ts le });
-  deep = λ ts h. pure_err _ TooDeep h;
+  deep = λ ts at h. pure_err _ (TooDeep, at) h;
+  example = λ _. record { tree = b; more = []; is = is; formed = good };
+  stuck = λ _ ts why at h met. pure_err _ (why, at) h;
+  steady = steady_pure;
 }
 
 -- a rule, and what follows it
@@ -169,37 +178,81 @@ w_then {A} {B} {n} {d} {d2} {before} {p} {f} {part} {Part} {spell} {Good} first 
       let a = bind_ok (p ts) f (b, rest) h in
       let m = first.reads ts a.0.0 a.0.1 a.1 in
       let g = (next a.0.0 m.formed (walk_least m.walk)).reads a.0.1 b rest a.2 in
-      record {
-        more = part a.0.0 ++ g.more;
-        is = g.is;
-        spelled = spells_append (part a.0.0) g.more ts a.0.1 rest (subst (λ ps. Spells ps ts a.0.1) (sym m.is) m.spelled) g.spelled;
-        formed = g.formed;
-        walk = walk_append m.walk g.walk;
-      };
-  deep = λ ts h. ⊎_elim (first.deep ts)
-      (λ a. let m = first.reads ts a.0.0 a.0.1 a.1 in deep_after m.walk ((next a.0.0 m.formed (walk_least m.walk)).deep a.0.1 a.2))
-      (bind_err (p ts) f TooDeep h);
+      record { more = part a.0.0 ++ g.more; is = g.is; spelled = spells_append (part a.0.0) g.more ts a.0.1 rest (whole m) g.spelled; formed = g.formed; walk = walk_append m.walk g.walk };
+  deep = λ ts at h. ⊎_elim (first.deep ts at)
+      (λ a. let m = first.reads ts a.0.0 a.0.1 a.1 in deep_after m.walk ((next a.0.0 m.formed (walk_least m.walk)).deep a.0.1 at a.2))
+      (bind_err (p ts) f (TooDeep, at) h);
+  example = λ le.
+      let a = first.example le in
+      let x = (next a.tree a.formed le).example le in
+      record { tree = x.tree; more = part a.tree ++ x.more; is = x.is; formed = x.formed };
+  stuck = λ le ts why at h met. ⊎_elim
+      (λ e. let a = first.stuck le ts why at e met in halt_first a ((next a.example.tree a.example.formed le).example le))
+      (λ a. let m = first.reads ts a.0.0 a.0.1 a.1 in halt_after (part a.0.0) (whole m) ((next a.0.0 m.formed le).stuck le a.0.1 why at a.2 met))
+      (bind_err (p ts) f (why, at) h);
+  steady = steady_then first.steady (λ ts a rest h. let m = first.reads ts a rest h in (next a m.formed (walk_least m.walk)).steady);
+}
+  where
+    whole : {ts : List Lexeme} {a : A} {rest : List Lexeme} → Made n d false d afresh part Part ts a rest → Spells (part a) ts rest
+    whole {ts} {a} {rest} m = subst (λ ps. Spells ps ts rest) (sym m.is) m.spelled
+
+-- What a tree spells in place of another one, behind what was read of that.
+abbrev pub Shows : {A B : Type 0} → (List Piece → List Piece) → (List Piece → List Piece) → (A → List Piece) → (A → Type 0) → (B → List Piece) → (B → Type 0) → (A → B) → Type 0
+Shows {A} other before part Part spell Good g = (a : A) (more : List Piece) → Part a → part a ≡ other more → (spell (g a) ≡ before more) × Good (g a)
+
+abbrev shown : {A B : Type 0} {other before : List Piece → List Piece} {part : A → List Piece} {Part : A → Type 0} {spell : B → List Piece} {Good : B → Type 0} (g : A → B) →
+    Shows other before part Part spell Good g → Example other part Part → Example before spell Good
+shown g shows x = let i = shows x.tree x.more x.formed x.is in record { tree = g x.tree; more = x.more; is = i.0; formed = i.1 }
+
+-- a tree in place of what was read
+pub w_map : {A B : Type 0} {n d d2 : ℕ} {e : Bool} {before other : List Piece → List Piece} {p : Parser A} {part : A → List Piece} {Part : A → Type 0} {spell : B → List Piece} {Good : B → Type 0} (g : A → B) →
+    Shows other before part Part spell Good g → Walks n d e d2 other p part Part → Walks n d e d2 before (λ ts. and_then (p ts) (λ a us. Ok (g a, us))) spell Good
+w_map {A} {B} {n} {d} {d2} {e} {before} {other} {p} {part} {Part} {spell} {Good} g shows w = record {
+  reads = λ ts b rest h.
+      let a = bind_ok (p ts) (λ a us. Ok (g a, us)) (b, rest) h in
+      let m = w.reads ts a.0.0 a.0.1 a.1 in
+      let i = shows a.0.0 m.more m.formed m.is in
+      at_pure (λ y us. Made n d e d2 before spell Good ts y us) (g a.0.0) b a.0.1 rest a.2 (record { more = m.more; is = i.0; spelled = m.spelled; formed = i.1; walk = m.walk });
+  deep = λ ts at h. ⊎_elim (w.deep ts at) (λ a. pure_err _ (TooDeep, at) a.2) (bind_err (p ts) (λ a us. Ok (g a, us)) (TooDeep, at) h);
+  example = λ le. shown g shows (w.example le);
+  stuck = λ le ts why at h met. ⊎_elim (λ x. let s = w.stuck le ts why at x met in halt_map s (shown g shows s.example) refl) (λ a. pure_err _ (why, at) a.2)
+      (bind_err (p ts) (λ a us. Ok (g a, us)) (why, at) h);
+  steady = steady_then w.steady (λ ts a rest h. steady_pure);
+}
+
+-- the same tree, spelled and well formed in another way
+pub w_as : {B : Type 0} {n d d2 : ℕ} {e : Bool} {before other : List Piece → List Piece} {p : Parser B} {part spell : B → List Piece} {Part Good : B → Type 0} →
+    Shows other before part Part spell Good (λ b. b) → Walks n d e d2 other p part Part → Walks n d e d2 before p spell Good
+w_as {B} {n} {d} {d2} {e} {before} {other} {p} {part} {spell} {Part} {Good} shows w = record {
+  reads = λ ts b rest h.
+      let m = w.reads ts b rest h in
+      let i = shows b m.more m.formed m.is in
+      record { more = m.more; is = i.0; spelled = m.spelled; formed = i.1; walk = m.walk };
+  deep = w.deep;
+  example = λ le. shown (λ b. b) shows (w.example le);
+  stuck = λ le ts why at h met. let s = w.stuck le ts why at h met in halt_map s (shown (λ b. b) shows s.example) refl;
+  steady = w.steady;
 }
 
 -- a rule, and nothing more
 pub w_last : {A B : Type 0} {n d : ℕ} {before : List Piece → List Piece} {p : Parser A} {part : A → List Piece} {Part : A → Type 0} {spell : B → List Piece} {Good : B → Type 0} (g : A → B) →
     Walks n d false d afresh p part Part → ((a : A) → Part a → (spell (g a) ≡ before (part a)) × Good (g a)) → Walks n d false d before (λ ts. and_then (p ts) (λ a us. Ok (g a, us))) spell Good
-w_last {A} {B} {n} {d} {before} {p} {part} {Part} {spell} {Good} g first is = record {
-  reads = λ ts b rest h.
-      let a = bind_ok (p ts) (λ a us. Ok (g a, us)) (b, rest) h in
-      let m = first.reads ts a.0.0 a.0.1 a.1 in
-      let i = is a.0.0 m.formed in
-      at_pure (λ y us. Made n d false d before spell Good ts y us) (g a.0.0) b a.0.1 rest a.2
-      (record { more = part a.0.0; is = i.0; spelled = subst (λ ps. Spells ps ts a.0.1) (sym m.is) m.spelled; formed = i.1; walk = m.walk });
-  deep = λ ts h. ⊎_elim (first.deep ts) (λ a. pure_err _ TooDeep a.2) (bind_err (p ts) (λ a us. Ok (g a, us)) TooDeep h);
-}
+w_last {A} {B} {n} {d} {before} g first is = w_map g (λ a more good same. let i = is a good in (i.0 ∙ ap before same, i.1)) first
+
+-- a rule that ends what is read
+pub w_ends : {B : Type 0} {n d : ℕ} {before : List Piece → List Piece} {p : Parser B} {part spell : B → List Piece} {Part Good : B → Type 0} →
+    ((b : B) → spell b ≡ before (part b)) → ((b : B) → Part b → Good b) → Rule n d p part Part → Walks n d false d before p spell Good
+w_ends {B} {n} {d} {before} is good w = w_as (λ b more part same. (is b ∙ ap before same, good b part)) w
 
 -- a rule, behind what was read before
 pub w_rule : {B : Type 0} {n d : ℕ} {before : List Piece → List Piece} {p : Parser B} {part spell : B → List Piece} {Good : B → Type 0} →
-    ((b : B) → spell b ≡ before (part b)) → Walks n d false d afresh p part Good → Walks n d false d before p spell Good
-w_rule {B} {n} {d} {before} {p} {part} {spell} {Good} is w = record {
-  reads = λ ts b rest h.
-      let m = w.reads ts b rest h in
-      record { more = part b; is = is b; spelled = subst (λ ps. Spells ps ts rest) (sym m.is) m.spelled; formed = m.formed; walk = m.walk };
-  deep = w.deep;
-}
+    ((b : B) → spell b ≡ before (part b)) → Rule n d p part Good → Walks n d false d before p spell Good
+w_rule is w = w_ends is (λ b good. good) w
+
+pub w_weaken : {B : Type 0} {n d d2 : ℕ} {e : Bool} {before : List Piece → List Piece} {p : Parser B} {spell : B → List Piece} {Part Good : B → Type 0} →
+    ((b : B) → Part b → Good b) → Walks n d e d2 before p spell Part → Walks n d e d2 before p spell Good
+w_weaken good w = w_as (λ b more part same. (same, good b part)) w
+
+pub w_before : {B : Type 0} {n d d2 : ℕ} {e : Bool} {before other : List Piece → List Piece} {p : Parser B} {spell : B → List Piece} {Good : B → Type 0} →
+    ((ps : List Piece) → other ps ≡ before ps) → Walks n d e d2 other p spell Good → Walks n d e d2 before p spell Good
+w_before same w = w_as (λ b more good is. (is ∙ same more, good)) w

@@ -9,14 +9,25 @@ use Rattle.vhdl_tree.specs.Pieces.{Piece, some, one_at, word_at, literal_at, tex
 use Rattle.vhdl_expressions.specs.reader.Input.{Outcome, Parser, and_then, expect, identifier, literal, text, next_kind}
 use Rattle.vhdl_expressions.proofs.Steps.{spelled_one, takes}
 
+-- refused for its depth, wherever
+abbrev pub IsTooDeep : {A : Type 0} → Outcome A → Type 0
+IsTooDeep r = (at : List Lexeme) × (r ≡ Err (TooDeep, at))
+
+-- so is what would follow
+pub deep_then : {A B : Type 0} {r : Outcome A} (f : A → Parser B) → IsTooDeep r → IsTooDeep (and_then r f)
+deep_then f d = (d.0, ap (λ x. and_then x f) d.1)
+
+pub deep_is : {A : Type 0} {r s : Outcome A} → r ≡ s → IsTooDeep s → IsTooDeep r
+deep_is e d = (d.0, e ∙ d.1)
+
 -- an outcome is the other one, or refused for its depth
 abbrev pub Yields : {A : Type 0} → Outcome A → Outcome A → Type 0
-Yields {A} r s = (r ≡ s) ⊎ (r ≡ Err TooDeep)
+Yields r s = (r ≡ s) ⊎ IsTooDeep r
 
 pub yields_then : {A : Type 0} {r s t : Outcome A} → Yields r s → Yields s t → Yields r t
 yields_then (inl e) (inl f) = inl (e ∙ f)
-yields_then (inl e) (inr f) = inr (e ∙ f)
-yields_then (inr e) y = inr e
+yields_then (inl e) (inr d) = inr (deep_is e d)
+yields_then (inr d) y = inr d
 
 pub yields_is : {A : Type 0} {r s t : Outcome A} → r ≡ s → Yields s t → Yields r t
 yields_is e y = yields_then (inl e) y
@@ -24,7 +35,7 @@ yields_is e y = yields_then (inl e) y
 -- a rule that reads a, and what follows it
 pub yields_bind : {A B : Type 0} {r : Outcome A} {a : A} {us : List Lexeme} {t : Outcome B} (f : A → Parser B) → Yields r (Ok (a, us)) → Yields (f a us) t → Yields (and_then r f) t
 yields_bind f (inl e) y = yields_is (ap (λ x. and_then x f) e) y
-yields_bind f (inr e) y = inr (ap (λ x. and_then x f) e)
+yields_bind f (inr d) y = inr (deep_then f d)
 
 -- ---- tokens
 

@@ -219,7 +219,7 @@ fn begins(tokens: &[Token], kind: Kind) -> bool
 #[tactic(auto, unfolding(crate::specs::reader::Input::token, vhdl_tree::specs::Lexeme::lexeme, vhdl_tree::specs::Lexeme::same_kind))]
 fn next_token(tokens: &[Token], kind: Kind) -> Result<(Token, &[Token]), Stop>
     ensures ok { IfOk result (λ r. (tokens.now ≡ r.0 ∷ r.1.now) × (r.0.kind ≡ kind)) }
-    ensures reads { (source : List ℕ) → Takes source (read.token kind (lexemes source tokens.now)) result }
+    ensures reads { (source : List ℕ) → Takes source tokens.now (read.token kind) result }
 {
     match tokens.split_first() {
         None => Err(Stop::EndOfFile),

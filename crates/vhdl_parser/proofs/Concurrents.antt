@@ -1,26 +1,29 @@
 -- What the readers of concurrent statements make.
-use Rattle.std.proofs.Common.{◌≡◌, ℕ, zero, suc, ◌≤◌, Bool, false, Ok, ⊎_elim, List, [], ◌∷◌, ◌++◌, Option, Some, None, refl, sym, ap, ◌∙◌, append-nil, arith}
+use Rattle.std.proofs.Common.{◌≡◌, ℕ, zero, suc, ◌≤◌, Bool, false, List, [], ◌∷◌, ◌++◌, Option, Some, None, refl, sym, ap, append-nil, arith}
 use Rattle.vhdl_lexer.specs.declared.token.Kind.{Kind}
 use Rattle.vhdl_lexer.specs.declared.token.Kind.TheVariants as k
-use Rattle.vhdl_tree.specs.Lexeme.{same_kind}
+use Rattle.vhdl_tree.specs.Lexeme.{Lexeme, same_kind}
 use Rattle.vhdl_tree.specs.Tree.{Ident, Scheme, for_each, if_holds, Concurrent, assignment, selected, process, instance, generated, concurrents_of}
 use Rattle.vhdl_tree.specs.Pieces.{Piece, some, spell_option, spell_word, spell_each, IsEach}
 use Rattle.vhdl_tree.specs.grammar.Sequential.{spell_label, spell_end}
 use Rattle.vhdl_tree.specs.grammar.Concurrent.{spell_assignment, spell_scheme, spell_concurrent, spell_concurrents, IsAssignment, IsScheme, IsConcurrent, AreConcurrents}
-use Rattle.vhdl_expressions.specs.reader.Input.{Parser, and_then, expect, eat, identifier}
+use Rattle.vhdl_expressions.specs.reader.Input.{Parser, and_then, expect, eat, identifier, next_kind, second_kind}
 use Rattle.vhdl_expressions.specs.reader.Expressions.{range}
 use Rattle.vhdl_statements.specs.reader.Sequential.{end_of}
-use Rattle.vhdl_parser.specs.reader.Concurrent.{concurrent, assign, begins_concurrent, select_with, process_with, assign_with, instance_with, named_with, unlabelled_by, unlabelled, generate_body, generate_rest, for_scheme, for_generate, if_generate, labelled_by, labelled, by_label, concurrents_with, deeper_concurrents, concurrents}
-use Rattle.vhdl_expressions.specs.declared.stop.Stop.TheVariants.{TooDeep}
-use Rattle.vhdl_expressions.proofs.Steps.{bind_ok, bind_err, at_pure, pure_err}
-use Rattle.vhdl_expressions.proofs.Walks.{Walks, Rule, Made, w_pure, w_then, w_last}
-use Rattle.vhdl_expressions.proofs.Rules.{w_take, w_some, w_ident, w_refuse, w_choose, w_inner, w_below, under, under_none, word_rule, each_rule}
-use Rattle.vhdl_expressions.proofs.WalkExpressions.{w_ends, expr_rule, a_name_rule}
-use Rattle.vhdl_expressions.proofs.WalkValues.{w_by, range_rule}
+use Rattle.vhdl_parser.specs.reader.Concurrent.{concurrent, assign, begins_concurrent, select_with, process_with, assign_with, instance_with, sees_component, named_with, unlabelled_by, unlabelled, generate_body, generate_rest, for_scheme, for_generate, if_generate, labelled_by, labelled, by_label, concurrents_with, deeper_concurrents, concurrents}
+use Rattle.vhdl_expressions.proofs.Steady.{left_of}
+use Rattle.vhdl_expressions.proofs.Ahead.{eager, steady_by}
+use Rattle.vhdl_expressions.proofs.Walks.{Walks, Rule, w_pure, w_then, w_map, w_last, w_ends}
+use Rattle.vhdl_expressions.proofs.Rules.{w_take, w_some, w_ident, w_open, w_refuse, w_choose, w_inner, w_by, w_below, below_met, under, under_none, word_rule}
+use Rattle.vhdl_expressions.proofs.Repeats.{each_rule}
+use Rattle.vhdl_expressions.proofs.WalkExpressions.{expr_rule, a_name_rule}
+use Rattle.vhdl_expressions.proofs.WalkValues.{range_rule}
 use Rattle.vhdl_statements.proofs.Conditional.{conditional_rule}
-use Rattle.vhdl_statements.proofs.WalkSequential.{w_open, w_end_of, label_rule}
+use Rattle.vhdl_statements.proofs.WalkSequential.{w_end_of, w_labelled}
 use Rattle.vhdl_statements.proofs.WalkProcess.{process_rule, selected_rule}
 use Rattle.vhdl_declarations.proofs.WalkInstance.{instance_rule}
+use Rattle.vhdl_parser.proofs.Alone.{assign_with_alone, instance_with_alone, unlabelled_alone}
+use Rattle.vhdl_parser.proofs.Plain.{plain_concurrent, plain_for, plain_if, concurrent_long}
 
 -- behind its label
 abbrev Behind : ℕ → Option Ident → Parser Concurrent → Type 0
@@ -35,20 +38,8 @@ assign_rule n label =
     w_some k.Semicolon refl (λ _.
     w_pure (omega arith) refl (named, good)))))
 
--- what a rule behind the label makes, as a statement
-w_made : {A : Type 0} {n : ℕ} {before : List Piece → List Piece} {p : Parser A} {part : A → List Piece} {Part : A → Type 0} (g : A → Concurrent) →
-    Walks n 0 false 0 before p part Part → ((a : A) → spell_concurrent (g a) ≡ part a) → ((a : A) → Part a → IsConcurrent (g a)) → Walks n 0 false 0 before (λ ts. and_then (p ts) (λ a us. Ok (g a, us))) spell_concurrent IsConcurrent
-w_made {A} {n} {before} {p} {part} {Part} g w is good = record {
-  reads = λ ts b rest h.
-      let a = bind_ok (p ts) (λ a us. Ok (g a, us)) (b, rest) h in
-      let m = w.reads ts a.0.0 a.0.1 a.1 in
-      at_pure (λ y us. Made n 0 false 0 before spell_concurrent IsConcurrent ts y us) (g a.0.0) b a.0.1 rest a.2
-      (record { more = m.more; is = is a.0.0 ∙ m.is; spelled = m.spelled; formed = good a.0.0 m.formed; walk = m.walk });
-  deep = λ ts h. ⊎_elim (w.deep ts) (λ a. pure_err _ TooDeep a.2) (bind_err (p ts) (λ a us. Ok (g a, us)) TooDeep h);
-}
-
 assign_with_rule : (n : ℕ) (label : Option Ident) → Behind n label (assign_with n label)
-assign_with_rule n label = w_made assignment (assign_rule n label) (λ a. refl) (λ a good. good)
+assign_with_rule n label = w_map assignment (λ a more good same. (same, good)) (assign_rule n label)
 
 select_with_rule : (n : ℕ) (label : Option Ident) → Behind n label (select_with n label)
 select_with_rule n label = w_last (λ s. selected label s) (selected_rule n) (λ s good. (refl, good))
@@ -59,15 +50,26 @@ process_with_rule n label = w_last (λ p. process label p) (process_rule n) (λ 
 instance_with_rule : (n : ℕ) (label : Ident) → Behind n (Some label) (instance_with n label)
 instance_with_rule n label = w_last (λ i. instance label i) (instance_rule n) (λ i good. (refl, good))
 
+component_two : (l next : Lexeme) (us vs : List Lexeme) → sees_component (l ∷ next ∷ us) ≡ sees_component (l ∷ next ∷ vs)
+unfolding next_kind second_kind
+component_two l next us vs = refl
+
+component_one : (t : Lexeme) (r m : List Lexeme) → same_kind t.kind k.Identifier ≡ false → sees_component (t ∷ r) ≡ sees_component (t ∷ m)
+unfolding next_kind second_kind
+component_one t r m e = rw e refl
+
 named_rule : (n : ℕ) (label : Ident) → Behind n (Some label) (named_with n label)
 unfolding named_with
-named_rule n label = w_by _ (instance_with_rule n label) (assign_with_rule n (Some label))
+named_rule n label = w_by sees_component (instance_with_rule n label) (assign_with_rule n (Some label))
+    (steady_by sees_component k.Identifier component_two component_one (instance_with_rule n label).steady (assign_with_rule n (Some label)).steady
+    (eager k.Identifier (instance_with_rule n label).steady (λ at text. ap (λ o. left_of o) (instance_with_alone n label at text)))
+    (eager k.Identifier (assign_with_rule n (Some label)).steady (λ at text. ap (λ o. left_of o) (assign_with_alone n (Some label) at text))))
 
 unlabelled_next : (n : ℕ) (next : Option Kind) → Behind n None (unlabelled_by n next)
 unlabelled_next n (Some k.With) = select_with_rule n None
 unlabelled_next n (Some k.Process) = process_with_rule n None
 unlabelled_next n (Some k.Identifier) = assign_with_rule n None
-unlabelled_next n _ = w_refuse
+unlabelled_next n _ = w_refuse (plain_concurrent None)
 
 unlabelled_rule : (n : ℕ) → Behind n None (unlabelled n)
 unfolding unlabelled
@@ -79,7 +81,7 @@ module _ {B : Type 0} {n d d2 : ℕ} {before : List Piece → List Piece} {spell
   -- `generate` where it doesn't stand behind `end`
   w_generate : {f : ℕ → Parser B} → ((at : ℕ) → Walks n d false d2 (λ r. before (some k.Generate ∷ r)) (f at) spell Good) → Walks n d false d2 before (λ ts. and_then (expect k.Generate ts) f) spell Good
   unfolding expect same_kind
-  w_generate next = w_take (λ l. l.at) k.Generate (λ _. some k.Generate) (λ le. le) refl refl (λ l i. i) next
+  w_generate next = w_take (λ l. l.at) k.Generate (λ _. some k.Generate) (λ le. le) (omega arith) refl refl (λ l i. i) next
 
 abbrev pub spelled_all : List Concurrent → List Piece
 spelled_all cs = spell_concurrents (concurrents_of cs)
@@ -110,13 +112,13 @@ module _ (n : ℕ) (inner : Parser (List Concurrent)) (each : Rule n 1 inner spe
 
   for_rule : (label : Ident) → Behind n (Some label) (for_generate n inner label)
   unfolding for_generate for_scheme same_kind
-  for_rule label = w_open k.For refl refl refl (λ at. w_below n (λ m e.
+  for_rule label = w_open k.For refl refl refl (plain_for label) (below_met _ n) (λ at. w_below n (λ m e.
       w_inner identifier _ _ (w_ident (λ p. w_inner (expect k.In) _ _ (w_some k.In refl (λ _.
       w_inner (range m) _ _ (w_then (under e (range_rule m)) (λ r good le. generate_rest_rule label at (for_each p r) good le))))))))
 
   if_rule : (label : Ident) → Behind n (Some label) (if_generate n inner label)
   unfolding if_generate same_kind
-  if_rule label = w_open k.If refl refl refl (λ at. w_below n (λ m e. w_then (under e (expr_rule m)) (λ c good le. generate_rest_rule label at (if_holds c) good le)))
+  if_rule label = w_open k.If refl refl refl (plain_if label) (below_met _ n) (λ at. w_below n (λ m e. w_then (under e (expr_rule m)) (λ c good le. generate_rest_rule label at (if_holds c) good le)))
 
   labelled_next : (label : Ident) (next : Option Kind) → Behind n (Some label) (labelled_by n inner label next)
   labelled_next label (Some k.With) = select_with_rule n (Some label)
@@ -126,7 +128,7 @@ module _ (n : ℕ) (inner : Parser (List Concurrent)) (each : Rule n 1 inner spe
   labelled_next label (Some k.For) = for_rule label
   labelled_next label (Some k.If) = if_rule label
   labelled_next label (Some k.Identifier) = named_rule n label
-  labelled_next label _ = w_refuse
+  labelled_next label _ = w_refuse (plain_concurrent (Some label))
 
   label_next : (label : Option Ident) → Behind n label (by_label n inner label)
   unfolding labelled
@@ -135,11 +137,11 @@ module _ (n : ℕ) (inner : Parser (List Concurrent)) (each : Rule n 1 inner spe
 
   concurrent_rule : Rule n 0 (concurrent n inner) spell_concurrent IsConcurrent
   unfolding concurrent
-  concurrent_rule = w_then (label_rule n) (λ l _ _. label_next l)
+  concurrent_rule = w_labelled (by_label n inner) label_next (λ at text. ap (λ o. left_of o) (unlabelled_alone n at text))
 
   with_rule : Rule n 0 (concurrents_with n inner) spelled_all formed_all
   unfolding concurrents_with
-  with_rule = w_ends spelled_all-each formed_each (each_rule begins_concurrent (concurrent n inner) (omega arith) concurrent_rule)
+  with_rule = w_ends spelled_all-each formed_each (each_rule begins_concurrent (concurrent n inner) (omega arith) concurrent_rule refl concurrent_long)
 
 deeper_rule : (n : ℕ) → Rule n 1 (deeper_concurrents n) spelled_all formed_all
 unfolding deeper_concurrents
@@ -148,4 +150,4 @@ deeper_rule (suc m) = under refl (with_rule m (deeper_concurrents m) (deeper_rul
 
 pub concurrents_rule : (n : ℕ) → Rule n 0 (concurrents n) (spell_each spell_concurrent) (IsEach IsConcurrent)
 unfolding concurrents_with
-concurrents_rule n = each_rule begins_concurrent (concurrent n (deeper_concurrents n)) (omega arith) (concurrent_rule n (deeper_concurrents n) (deeper_rule n))
+concurrents_rule n = each_rule begins_concurrent (concurrent n (deeper_concurrents n)) (omega arith) (concurrent_rule n (deeper_concurrents n) (deeper_rule n)) refl concurrent_long

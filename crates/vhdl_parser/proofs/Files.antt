@@ -1,9 +1,9 @@
 -- Units and files: what is read is spelled so, and what is spelled is read.
-use Rattle.std.proofs.Common.{◌≡◌, ◌+◌, ◌≤◌, Bool, true, false, List, [], ◌∷◌, ◌++◌, length, take, Ok, Err, Option, Some, None, inl, inr, ⊎_elim, refl, sym, ap, ◌∙◌, subst, append-nil, arith}
+use Rattle.std.proofs.Common.{◌≡◌, ◌+◌, ◌≤◌, Bool, true, false, List, [], ◌∷◌, ◌++◌, length, take, Ok, Err, Option, Some, None, inl, ⊎_elim, refl, sym, ap, ◌∙◌, subst, append-nil, arith}
 use Rattle.vhdl_lexer.specs.declared.token.Kind.{Kind}
 use Rattle.vhdl_lexer.specs.declared.token.Kind.TheVariants as k
 use Rattle.vhdl_expressions.specs.declared.stop.Stop.{Stop}
-use Rattle.vhdl_expressions.specs.declared.stop.Stop.TheVariants.{TooDeep}
+use Rattle.vhdl_expressions.specs.declared.stop.Stop.TheVariants.{Unexpected, TooDeep}
 use Rattle.vhdl_tree.specs.Lexeme.{Lexeme, same_kind}
 use Rattle.vhdl_tree.specs.Tree.{Ident, Port, Entity, Architecture, ContextItem, library, uses, LibraryUnit, entity, architecture, DesignUnit, File}
 use Rattle.vhdl_tree.specs.Pieces.{some, Spells, spell_ident, spell_option, spell_each, IsEach}
@@ -13,10 +13,14 @@ use Rattle.vhdl_tree.specs.grammar.Units.{spell_context, spell_end, spell_entity
 use Rattle.vhdl_expressions.specs.reader.Input.{Outcome, and_then, expect, next_kind, is_kind, is_more, eat, identifier, optional, refusal}
 use Rattle.vhdl_declarations.specs.reader.Context.{begins_context}
 use Rattle.vhdl_parser.specs.reader.Units.{max_open, entity_unit, architecture_unit, library_unit_by, library_unit, unit, units, finish, file}
-use Rattle.vhdl_expressions.proofs.Steps.{bind_ok, bind_err, pure_ok, pure_err}
-use Rattle.vhdl_expressions.proofs.Walks.{Rule, Made, w_pure, w_then, w_last, low_at, deep_is}
-use Rattle.vhdl_expressions.proofs.Rules.{w_at, w_some, w_end, w_ident, w_word, w_option_ident, w_choose, w_refuse, each_rule}
+use Rattle.vhdl_expressions.proofs.Steps.{bind_ok, bind_err, pure_ok, pure_err, err_why, err_at}
+use Rattle.vhdl_expressions.proofs.Yields.{yields_bind}
+use Rattle.vhdl_expressions.proofs.Halts.{Example}
+use Rattle.vhdl_expressions.proofs.Walks.{Rule, afresh, Made, w_pure, w_then, w_last, low_at, deep_is}
+use Rattle.vhdl_expressions.proofs.Rules.{w_at, w_some, w_end, w_ident, w_word, w_option_ident, w_choose, w_refuse}
+use Rattle.vhdl_expressions.proofs.Repeats.{each_rule}
 use Rattle.vhdl_expressions.proofs.Gives.{Gives, Reaches, Whatever, front, g_pure, g_then, g_map, g_at, g_some, g_ident, g_choose, eat_gives, more_gives}
+use Rattle.vhdl_statements.proofs.Plain.{an_ident}
 use Rattle.vhdl_statements.proofs.Subtypes.{last_gives}
 use Rattle.vhdl_declarations.proofs.Contexts.{context_rule, context_gives}
 use Rattle.vhdl_declarations.proofs.Ports.{optional_generics_rule, optional_generics_gives, optional_ports_rule, optional_ports_gives}
@@ -57,6 +61,12 @@ architecture_rule =
     w_some k.Semicolon refl (λ _.
     w_pure (omega arith) refl (fine, good)))))))))))))
 
+-- entity id is end ;
+plain_entity : Example afresh spell_library_unit IsLibraryUnit
+plain_entity =
+    let e : Entity = record { at = 0; name = an_ident; generics = None; ports = None; end_word = false; end_name = None } in
+    record { tree = entity e; more = spell_entity e; is = refl; formed = (tt, tt) }
+
 library_unit_rule : Rule max_open 0 library_unit spell_library_unit IsLibraryUnit
 unfolding library_unit
 library_unit_rule = w_choose (λ next. by_next next)
@@ -64,15 +74,24 @@ library_unit_rule = w_choose (λ next. by_next next)
     by_next : (next : Option Kind) → Rule max_open 0 (library_unit_by next) spell_library_unit IsLibraryUnit
     by_next (Some k.Entity) = w_last entity entity_rule (λ e good. (refl, good))
     by_next (Some k.Architecture) = w_last architecture architecture_rule (λ a good. (refl, good))
-    by_next _ = w_refuse
+    by_next _ = w_refuse plain_entity
 
 unit_rule : Rule max_open 0 unit spell_unit IsUnit
 unfolding unit
 unit_rule = w_then (context_rule max_open) (λ before good _. w_last (λ u. record { context = before; unit = u }) library_unit_rule (λ u fine. (refl, (good, fine))))
 
-units_rule : Rule max_open 0 units (spell_each spell_unit) (IsEach IsUnit)
+unit_some : (u : DesignUnit) → 1 ≤ length (spell_unit u)
+unit_some u = by_parts u.context u.unit
+  where
+    by_parts : (cs : List ContextItem) (x : LibraryUnit) → 1 ≤ length (spell_each spell_context cs ++ spell_library_unit x)
+    by_parts [] (entity e) = omega arith
+    by_parts [] (architecture a) = omega arith
+    by_parts (library names ∷ more) x = omega arith
+    by_parts (uses all ∷ more) x = omega arith
+
+pub units_rule : Rule max_open 0 units (spell_each spell_unit) (IsEach IsUnit)
 unfolding units
-units_rule = each_rule is_more unit (omega arith) unit_rule
+units_rule = each_rule is_more unit (omega arith) unit_rule refl unit_some
 
 -- end [ word ] [ id ] ;
 end_gives : {B : Type 0} (f : Bool → Option Ident → B) (kind : Kind) (word : Bool) (last : Option Ident) → same_kind kind kind ≡ true → same_kind k.Identifier kind ≡ false → same_kind k.Semicolon kind ≡ false →
@@ -132,15 +151,6 @@ unit_begins u good next = by_parts u.context u.unit
     by_parts (library names ∷ more) x = refl
     by_parts (uses all ∷ more) x = refl
 
-unit_some : (u : DesignUnit) → 1 ≤ length (spell_unit u)
-unit_some u = by_parts u.context u.unit
-  where
-    by_parts : (cs : List ContextItem) (x : LibraryUnit) → 1 ≤ length (spell_each spell_context cs ++ spell_library_unit x)
-    by_parts [] (entity e) = omega arith
-    by_parts [] (architecture a) = omega arith
-    by_parts (library names ∷ more) x = omega arith
-    by_parts (uses all ∷ more) x = omega arith
-
 units_gives : (us : List DesignUnit) → IsEach IsUnit us → Gives units us (spell_each spell_unit us) (λ next. (is_more next ≡ false) × Whatever next)
 unfolding units
 units_gives us good = more_gives is_more unit_gives unit_begins unit_some (λ next e. tt) us good []
@@ -152,10 +162,15 @@ unfolding finish next_kind
 finish_ok [] p h = refl
 finish_ok (u ∷ us) p h = absurd (cc)
 
-finish_err : {X : Type 0} (us : List Lexeme) → finish us ≡ Err TooDeep → X
+finish_err : {X : Type 0} (us at : List Lexeme) → finish us ≡ Err (TooDeep, at) → X
 unfolding finish next_kind refusal
-finish_err [] h = absurd (cc)
-finish_err (u ∷ us) h = absurd (cc)
+finish_err [] at h = absurd (cc)
+finish_err (u ∷ us) at h = let e = err_why Unexpected TooDeep (u ∷ us) at h in absurd (cc)
+
+pub finish_here : (us : List Lexeme) (why : Stop) (at : List Lexeme) → finish us ≡ Err (why, at) → us ≡ at
+unfolding finish next_kind refusal
+finish_here [] why at h = absurd (cc)
+finish_here (u ∷ us) why at h = err_at Unexpected why (u ∷ us) at h
 
 -- what is known of a file that was read
 pub record FileMade (ts : List Lexeme) (f : File) : Type 0 where
@@ -180,29 +195,27 @@ file_made ts f rest h =
     let same = pure_ok (record { units = a.0.0 }) f b.0.1 rest b.2 in
     subst (λ g. FileMade ts g) same.0 (of_units ts a.0.1 a.0.0 (units_rule.reads ts a.0.0 a.0.1 a.1) (finish_ok a.0.1 b.0 b.1))
 
-pub file_deep : (ts : List Lexeme) → file ts ≡ Err TooDeep → IsDeep max_open ts
+pub file_deep : (ts at : List Lexeme) → file ts ≡ Err (TooDeep, at) → IsDeep max_open ts
 unfolding file
-file_deep ts h = ⊎_elim (λ e. deep_is max_open ts (units_rule.deep ts e))
-    (λ a. ⊎_elim (finish_err a.0.1) (λ b. pure_err _ TooDeep b.2) (bind_err (finish a.0.1) _ TooDeep a.2))
-    (bind_err (units ts) _ TooDeep h)
+file_deep ts at h = ⊎_elim (λ e. deep_is max_open ts (units_rule.deep ts at e))
+    (λ a. ⊎_elim (finish_err a.0.1 at) (λ b. pure_err _ (TooDeep, at) b.2) (bind_err (finish a.0.1) _ (TooDeep, at) a.2))
+    (bind_err (units ts) _ (TooDeep, at) h)
 
 file_gives : (f : File) → IsFile f → (ts : List Lexeme) → Spells (spell_file f) ts [] → Reaches (file ts) f []
 unfolding file finish next_kind
 file_gives f good ts h =
-    ⊎_elim (λ e. inl (ap (λ r. and_then r (λ all us. and_then (finish us) (λ _ vs. Ok (record { units = all }, vs)))) e))
-    (λ e. inr (ap (λ r. and_then r (λ all us. and_then (finish us) (λ _ vs. Ok (record { units = all }, vs)))) e))
-    ((units_gives f.units good).reads ts [] h (refl, tt))
+    yields_bind (λ all us. and_then (finish us) (λ _ vs. Ok (record { units = all }, vs))) ((units_gives f.units good).reads ts [] h (refl, tt)) (inl refl)
 
 -- no other file is spelled by what was read
 pub file_only : (ts : List Lexeme) (f : File) (rest : List Lexeme) → file ts ≡ Ok (f, rest) → (other : File) → IsFile other → Spells (spell_file other) ts [] → other ≡ f
 file_only ts f rest h other good s = ⊎_elim
     (λ e. (pure_ok other f [] rest (sym e ∙ h)).0)
-    (λ e. let never : ◌≡◌ {A = Outcome File} (Ok (f, rest)) (Err TooDeep) = sym h ∙ e in pure_err (f, rest) TooDeep never)
+    (λ d. let never : ◌≡◌ {A = Outcome File} (Ok (f, rest)) (Err (TooDeep, d.0)) = sym h ∙ d.1 in pure_err (f, rest) (TooDeep, d.0) never)
     (file_gives other good ts s)
 
 -- what is refused, and not for its depth, is the spelling of no file
-pub file_refused : (ts : List Lexeme) (why : Stop) → file ts ≡ Err why → (why ≡ TooDeep → ⊥) → (other : File) → IsFile other → Spells (spell_file other) ts [] → ⊥
-file_refused ts why h shallow other good s = ⊎_elim
-    (λ e. let never : ◌≡◌ {A = Outcome File} (Ok (other, [])) (Err why) = sym e ∙ h in pure_err (other, []) why never)
-    (λ e. let is : ◌≡◌ {A = Outcome File} (Err TooDeep) (Err why) = sym e ∙ h in shallow (cc))
+pub file_refused : (ts : List Lexeme) (why : Stop) (at : List Lexeme) → file ts ≡ Err (why, at) → (why ≡ TooDeep → ⊥) → (other : File) → IsFile other → Spells (spell_file other) ts [] → ⊥
+file_refused ts why at h shallow other good s = ⊎_elim
+    (λ e. let never : ◌≡◌ {A = Outcome File} (Ok (other, [])) (Err (why, at)) = sym e ∙ h in pure_err (other, []) (why, at) never)
+    (λ d. let is : ◌≡◌ {A = Outcome File} (Err (TooDeep, d.0)) (Err (why, at)) = sym d.1 ∙ h in shallow (sym (err_why TooDeep why d.0 at is)))
     (file_gives other good ts s)

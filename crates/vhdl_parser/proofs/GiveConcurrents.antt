@@ -1,5 +1,5 @@
 -- Concurrent statements that are spelled are read.
-use Rattle.std.proofs.Common.{◌≡◌, ℕ, suc, ◌≤◌, Bool, true, false, ◌||◌, cond, List, [], ◌∷◌, ◌++◌, length, Ok, Option, Some, None, refl, sym, ap, ◌∙◌, subst, length-append, append_assoc, arith}
+use Rattle.std.proofs.Common.{◌≡◌, ℕ, suc, ◌≤◌, Bool, true, false, ◌||◌, cond, List, [], ◌∷◌, ◌++◌, length, Ok, Option, Some, None, refl, sym, ap, ◌∙◌, subst, append_assoc, arith}
 use Rattle.vhdl_lexer.specs.declared.token.Kind.{Kind}
 use Rattle.vhdl_lexer.specs.declared.token.Kind.TheVariants as k
 use Rattle.vhdl_tree.specs.Lexeme.{Lexeme, same_kind}
@@ -20,6 +20,7 @@ use Rattle.vhdl_statements.proofs.Conditional.{conditional_gives}
 use Rattle.vhdl_statements.proofs.GiveSequential.{label_gives, end_gives}
 use Rattle.vhdl_statements.proofs.GiveProcess.{process_gives, selected_gives}
 use Rattle.vhdl_declarations.proofs.GiveInstance.{instance_gives}
+use Rattle.vhdl_parser.proofs.Plain.{concurrent_long}
 use Rattle.vhdl_parser.proofs.Concurrents.{spelled_all, spelled_all-each}
 
 -- ---- labels
@@ -139,13 +140,6 @@ concurrent_begins (process None p) next = refl
 concurrent_begins (process (Some i) p) next = refl
 concurrent_begins (instance i x) next = refl
 concurrent_begins (generated i at s w cs l) next = refl
-
-concurrent_long : (c : Concurrent) → 1 ≤ length (spell_concurrent c)
-concurrent_long (assignment a) = omega (arith, length-append (spell_option spell_label a.label) (spell_behind a.target a.branches a.otherwise))
-concurrent_long (selected l s) = omega (arith, length-append (spell_option spell_label l) (spell_selected s))
-concurrent_long (process l p) = omega (arith, length-append (spell_option spell_label l) (spell_process p))
-concurrent_long (instance i x) = omega arith
-concurrent_long (generated i at s w cs l) = omega arith
 
 abbrev pub EndsConcurrents : Option Kind → Type 0
 EndsConcurrents next = (begins_concurrent next ≡ false) × Whatever next

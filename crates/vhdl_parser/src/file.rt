@@ -3,6 +3,7 @@
 ghost use Rattle.std.specs.Prelude.{◌≡◌, ◌≢◌, ◌≤◌, ◌⊎◌, ◌+◌, ◌*◌, [], length, IfOk, IfErr, IfSome, OnOk};
 ghost use Rattle.vhdl_lexer.specs.Cut.{AreWithin};
 ghost use Rattle.vhdl_parser.specs.Fault.{IsRefusal, IsTooDeep, IsStart, IsPlaced, fault_byte};
+ghost use Rattle.vhdl_parser.specs.Stuck.{IsStuck, IsMetBehind};
 ghost use Rattle.vhdl_tree.specs.Height.{file_height};
 ghost use Rattle.vhdl_tree.specs.Levels.{IsShallow, IsDeep, most_open};
 ghost use Rattle.vhdl_tree.specs.Lexeme.{lexemes};
@@ -32,9 +33,10 @@ use vhdl_tree::File;
 /// - `TooDeep` where more than 64 levels are open somewhere.
 /// - `NoMemory` where a part of the tree could not grow.
 ///
-/// Of several faults the first one that the parser meets is given, with the byte of the token at which
-/// it stopped. The contract says of that byte that a token starts there (`Unexpected`), that it is the
-/// source's length (`EndOfFile`), or that it is one of these (`TooDeep`).
+/// `Unexpected` stands at the first token with which no file goes on: those before it begin a file,
+/// and with it they begin none. `EndOfFile` stands at the source's end, where all tokens begin a file
+/// and are none. `TooDeep` stands at a token or at the end. Of a source that is too deep and wrong too,
+/// the fault that the parser meets first is given.
 pub fn parse(alloc: Global, source: &[u8], tokens: &[Token]) -> Result<File, SyntaxFault>
     requires { AreWithin source.now tokens.now }
 
@@ -62,6 +64,10 @@ pub fn parse(alloc: Global, source: &[u8], tokens: &[Token]) -> Result<File, Syn
 
     // Unexpected is said of a token, and EndOfFile of the source's end.
     ensures met { IfErr result (IsPlaced source.now tokens.now) }
+
+    // Unexpected is said of the first token with which no file goes on, and EndOfFile where all
+    // tokens begin one.
+    ensures stuck { IfErr result (IsStuck source.now tokens.now) }
 {
     let mut parser = Parser::new(alloc, source, tokens);
     match file(&mut parser) {
@@ -88,13 +94,14 @@ fn byte_of(source: &[u8], tokens: &[Token], index: usize) -> usize
 }
 
 /// The fault of a parser that stopped with so many tokens behind it.
-#[tactic(auto, using(crate::proofs::Within::start_within, crate::proofs::Within::start_is))]
+#[tactic(auto, using(crate::proofs::Within::start_within, crate::proofs::Within::start_is, crate::proofs::Within::is_next))]
 fn fault_at(stop: Stop, source: &[u8], tokens: &[Token], met: usize) -> SyntaxFault
     requires { AreWithin source.now tokens.now }
     ensures refusal { IsRefusal result → (stop ≢ s.NoMemory) × (stop ≢ s.TooDeep) }
     ensures deep { IsTooDeep result → stop ≡ s.TooDeep }
     ensures placed { IfSome (fault_byte result) (λ at. at ≤ length source.now) }
     ensures met { IsPlaced source.now tokens.now result }
+    ensures behind { IsMetBehind tokens.now met result }
 {
     match stop {
         Stop::NoMemory => SyntaxFault::NoMemory,

@@ -10,11 +10,12 @@ use Rattle.vhdl_tree.specs.grammar.Concurrent.{spell_branch, spell_otherwise, sp
 use Rattle.vhdl_expressions.specs.reader.Input.{next_kind, is_kind}
 use Rattle.vhdl_statements.specs.reader.Waveforms.{Waveforms, condition, Part, part, else_part, go_on, more_branches_from, more_branches, conditional_waveforms}
 use Rattle.vhdl_expressions.proofs.Steps.{spells_length}
-use Rattle.vhdl_expressions.proofs.Walks.{Rule, Walks, w_pure, w_then, w_last, w_rule}
+use Rattle.vhdl_expressions.proofs.Walks.{Rule, Walks, w_pure, w_then, w_last, w_rule, w_before}
 use Rattle.vhdl_expressions.proofs.Rules.{w_some, w_test, option_rule}
 use Rattle.vhdl_expressions.proofs.Gives.{Gives, front, g_pure, g_then, g_map, g_some, g_yes, g_no, option_gives}
-use Rattle.vhdl_expressions.proofs.WalkExpressions.{w_before, expr_rule}
+use Rattle.vhdl_expressions.proofs.WalkExpressions.{expr_rule}
 use Rattle.vhdl_expressions.proofs.WalkValues.{value_rule}
+use Rattle.vhdl_statements.proofs.Branched.{steady_more_branches}
 use Rattle.vhdl_expressions.proofs.GiveValues.{Ends, expr_gives, value_gives}
 
 abbrev pub spell_whole : Waveforms → List Piece
@@ -106,9 +107,15 @@ module _ (n : ℕ) where
   more_branches_rule : (b : Branch) → IsBranch b → Walks n 0 false 0 (λ r. spell_branch b ++ r) (more_branches n (b ∷ [])) spell_whole IsWhole
   unfolding more_branches
   more_branches_rule b good = record {
-    reads = λ ts w rest h. (w_before (λ r. ap (λ ps. ps ++ r) (append-nil (spell_branch b))) (from_rule (length ts) b [] good tt)).reads ts w rest h;
-    deep = λ ts h. (from_rule (length ts) b [] good tt).deep ts h;
+    reads = λ ts w rest h. (alone (length ts)).reads ts w rest h;
+    deep = λ ts at h. (alone (length ts)).deep ts at h;
+    example = (alone zero).example;
+    stuck = λ le ts why at h met. (alone (length ts)).stuck le ts why at h met;
+    steady = steady_more_branches n (part_rule n).steady (b ∷ []);
   }
+    where
+      alone : (turns : ℕ) → Walks n 0 false 0 (λ r. spell_branch b ++ r) (more_branches_from n turns (b ∷ [])) spell_whole IsWhole
+      alone turns = w_before (λ r. ap (λ ps. ps ++ r) (append-nil (spell_branch b))) (from_rule turns b [] good tt)
 
   by_first : (v : Value) (c : Option Expr) → IsValue v → IsOption IsExpr c →
       Walks n 0 false 0 (λ r. (spell_value v ++ spell_option spell_when c) ++ r) (go_on (more_branches n) [] v c) spell_whole IsWhole

@@ -1,5 +1,5 @@
 -- Sequential statements that are spelled are read.
-use Rattle.std.proofs.Common.{◌≡◌, ℕ, suc, ◌≤◌, true, false, List, [], ◌∷◌, ◌++◌, length, Ok, Option, Some, None, refl, sym, ap, ◌∙◌, subst, length-append, arith}
+use Rattle.std.proofs.Common.{◌≡◌, ℕ, suc, true, false, List, [], ◌∷◌, ◌++◌, Ok, Option, Some, None, refl, sym, ap, ◌∙◌, subst, arith}
 use Rattle.vhdl_lexer.specs.declared.token.Kind.{Kind}
 use Rattle.vhdl_lexer.specs.declared.token.Kind.TheVariants as k
 use Rattle.vhdl_tree.specs.Lexeme.{same_kind}
@@ -12,6 +12,7 @@ use Rattle.vhdl_statements.specs.reader.Sequential.{label, optional_label, null_
 use Rattle.vhdl_expressions.proofs.Gives.{Gives, Whatever, front, g_pure, g_then, g_map, g_at, g_some, g_ident, g_below, g_choose, g_weaken, option_gives, more_gives, separated_gives}
 use Rattle.vhdl_expressions.proofs.GiveValues.{g_both, g_neither_then, expr_gives, name_gives, value_gives, range_gives, choices_gives, both}
 use Rattle.vhdl_statements.proofs.Subtypes.{last_gives}
+use Rattle.vhdl_statements.proofs.Plain.{statement_long, sequential_long}
 use Rattle.vhdl_statements.proofs.WalkSequential.{spelled, spell_condition, spell_alternative, spell_else_part, spelled-each, conditionals-list, alternatives-list, else-option}
 
 -- no statement begins
@@ -36,14 +37,6 @@ no_label (variable_assigned target value) next = name_first k.Assign refl target
 no_label (conditional _ _ _ _) next = refl
 no_label (selection _ _ _ _) next = refl
 no_label (loop _ _ _ _ _) next = refl
-
-statement_long : (s : Statement) → 1 ≤ length (spell_statement s)
-statement_long (nothing _) = omega arith
-statement_long (assigned _ _) = omega arith
-statement_long (variable_assigned _ _) = omega arith
-statement_long (conditional _ _ _ _) = omega arith
-statement_long (selection _ _ _ _) = omega arith
-statement_long (loop _ _ _ _ _) = omega arith
 
 statement_begins : (s : Statement) (next : Option Kind) → begins_sequential (front (spell_statement s) next) ≡ true
 statement_begins (nothing _) next = refl
@@ -80,9 +73,6 @@ sequential_begins s next = by s.label
     by : (l : Option Ident) → begins_sequential (front (spell_option spell_label l ++ spell_statement s.statement) next) ≡ true
     by None = statement_begins s.statement next
     by (Some i) = refl
-
-sequential_long : (s : Sequential) → 1 ≤ length (spell_sequential s)
-sequential_long s = omega (arith, statement_long s.statement, length-append (spell_option spell_label s.label) (spell_statement s.statement))
 
 statements_from : (ss : List Sequential) → IsEach Ready ss → (n : ℕ) → Gives (statements n) ss (spelled ss) EndsStatements
 unfolding statements_with

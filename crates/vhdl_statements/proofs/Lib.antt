@@ -1,7 +1,10 @@
 pub mod Subtypes
+pub mod Plain
 pub mod WalkSequential
 pub mod GiveSequential
 pub mod WalkProcess
 pub mod GiveProcess
 pub mod Conditional
 pub mod Deeper
+pub mod Alone
+pub mod Branched

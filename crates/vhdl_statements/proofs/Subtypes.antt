@@ -11,8 +11,10 @@ use Rattle.vhdl_expressions.specs.reader.Input.{identifier, is_kind, optional}
 use Rattle.vhdl_statements.specs.reader.Subtypes.{idents, constraint, optional_constraint, subtype, default_value, optional_default, Objects, objects}
 use Rattle.vhdl_expressions.proofs.Operators.{grip, is_here}
 use Rattle.vhdl_expressions.proofs.Walks.{Rule, w_pure, w_then, w_last, w_rule}
-use Rattle.vhdl_expressions.proofs.Rules.{is_neutral, w_token, w_some, w_ident, w_left, w_right, w_below, under, option_rule, separated_rule}
+use Rattle.vhdl_expressions.proofs.Rules.{is_neutral, w_token, w_some, w_ident, w_left, w_right, w_below, below_met, under, option_rule}
+use Rattle.vhdl_expressions.proofs.Repeats.{separated_rule}
 use Rattle.vhdl_expressions.proofs.Gives.{Gives, Whatever, front, g_pure, g_then, g_map, g_some, g_ident, g_token, g_below, option_gives, separated_gives}
+use Rattle.vhdl_statements.proofs.Plain.{a_range, a_number}
 use Rattle.vhdl_expressions.proofs.WalkValues.{range_rule, value_rule}
 use Rattle.vhdl_expressions.proofs.GiveValues.{Ends, range_gives, value_gives}
 
@@ -47,7 +49,8 @@ last_gives last = option_gives (is_kind k.Identifier) ident_gives (λ i good nex
 
 constraint_rule : (n : ℕ) → Rule n 0 (constraint n) spell_constraint IsRange
 unfolding constraint
-constraint_rule n = w_left (λ _. w_below n (λ m e. w_then (under e (range_rule m)) (λ r good le. w_right le (λ _. w_pure (omega arith) refl good))))
+constraint_rule n = w_left (record { tree = a_range; more = a_number ∷ (some k.To ∷ (a_number ∷ (some k.RightParen ∷ []))); is = refl; formed = (tt, tt) }) (below_met _ n)
+    (λ _. w_below n (λ m e. w_then (under e (range_rule m)) (λ r good le. w_right le (λ _. w_pure (omega arith) refl good))))
 
 pub subtype_rule : (n : ℕ) → Rule n 0 (subtype n) spell_subtype IsSubtype
 unfolding subtype optional_constraint

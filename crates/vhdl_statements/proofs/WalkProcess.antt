@@ -10,7 +10,8 @@ use Rattle.vhdl_expressions.specs.reader.Input.{is_kind}
 use Rattle.vhdl_statements.specs.reader.Process.{names, sensitivity_list, sensitivity, optional_sensitivity, variables, Body, body, process}
 use Rattle.vhdl_statements.specs.reader.Waveforms.{waveform, waveforms, selected}
 use Rattle.vhdl_expressions.proofs.Walks.{Rule, w_pure, w_then, w_last}
-use Rattle.vhdl_expressions.proofs.Rules.{w_at, w_some, w_left, w_right, word_rule, w_test, w_below, under, separated_rule, each_rule}
+use Rattle.vhdl_expressions.proofs.Rules.{w_at, w_some, w_left, w_right, word_rule, w_test, w_below, below_met, under}
+use Rattle.vhdl_expressions.proofs.Repeats.{separated_rule, each_rule}
 use Rattle.vhdl_expressions.proofs.WalkExpressions.{expr_rule, a_name_rule}
 use Rattle.vhdl_expressions.proofs.WalkValues.{value_rule, choices_rule}
 use Rattle.vhdl_statements.proofs.Subtypes.{objects_rule}
@@ -47,7 +48,7 @@ inner_formed (listed names) f = f
 sensitivity_rule : (n : ℕ) → Rule n 0 (optional_sensitivity n) spell_sensitivity IsSensitivity
 unfolding optional_sensitivity sensitivity
 sensitivity_rule n = w_test (is_kind k.LeftParen)
-    (w_left (λ _. w_below n (λ m e. w_then (under e (inner_rule m)) (λ s good le. w_right le (λ _. w_pure (omega arith) (inner_spelled s good) (inner_formed s good))))))
+    (w_left (record { tree = every; more = some k.All ∷ (some k.RightParen ∷ []); is = refl; formed = tt }) (below_met _ n) (λ _. w_below n (λ m e. w_then (under e (inner_rule m)) (λ s good le. w_right le (λ _. w_pure (omega arith) (inner_spelled s good) (inner_formed s good))))))
     (w_pure (omega arith) refl tt)
 
 variables_rule : (n : ℕ) → Rule n 0 (variables n) spell_variables IsVariables
@@ -65,7 +66,7 @@ body_rule n = w_some k.Begin refl (λ _. w_then (statements_rule n) (λ ss fine 
 pub process_rule : (n : ℕ) → Rule n 0 (process n) spell_process IsProcess
 unfolding process
 process_rule n = w_at k.Process refl (λ at. w_then (sensitivity_rule n) (λ s good _. w_then (word_rule k.Is refl (omega arith)) (λ w _ _.
-    w_then (each_rule (is_kind k.Variable) (variables n) (omega arith) (variables_rule n)) (λ vs known _.
+    w_then (each_rule (is_kind k.Variable) (variables n) (omega arith) (variables_rule n) refl (λ d. omega arith)) (λ vs known _.
     w_last (λ b. record { at = at; sensitivity = s; is_word = w; variables = vs; statements = b.statements; end_label = b.end_label }) (body_rule n) (λ b fine. (refl, (good, known, fine)))))))
 
 waveform_rule : (n : ℕ) → Rule n 0 (waveform n) spell_waveform IsWaveform

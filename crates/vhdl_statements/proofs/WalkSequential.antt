@@ -1,5 +1,5 @@
 -- What the readers of sequential statements make.
-use Rattle.std.proofs.Common.{◌≡◌, ℕ, zero, suc, ◌≤◌, true, false, List, [], ◌∷◌, ◌++◌, Option, Some, None, refl, sym, ap, ◌∙◌, append-nil, arith}
+use Rattle.std.proofs.Common.{◌≡◌, ℕ, zero, suc, ◌≤◌, true, false, List, [], ◌∷◌, ◌++◌, Ok, Option, Some, None, refl, sym, ap, ◌∙◌, append-nil, arith}
 use Rattle.vhdl_lexer.specs.declared.token.Kind.{Kind}
 use Rattle.vhdl_lexer.specs.declared.token.Kind.TheVariants as k
 use Rattle.vhdl_tree.specs.Lexeme.{same_kind}
@@ -10,10 +10,16 @@ use Rattle.vhdl_tree.specs.grammar.Expressions.{spell, spell_name, spell_value, 
 use Rattle.vhdl_tree.specs.grammar.Sequential.{spell_label, spell_end, spell_statement, spell_statements, spell_conditionals, spell_elsifs, spell_else, spell_alternatives, spell_sequential, IsStatement, AreStatements, AreBranches, AreElsifs, IsElse, AreCases, AreAlternatives}
 use Rattle.vhdl_expressions.specs.reader.Input.{Parser, and_then, expect, identifier, is_kind, optional}
 use Rattle.vhdl_statements.specs.reader.Sequential.{label, optional_label, null_statement, assigned_value, assign_by, assign, end_of, begins_sequential, condition, branches, else_part, if_rest, alternative_part, alternatives, case_rest, for_rest, if_statement, case_statement, for_statement, statement_by, statement_of, sequential, statements_with, deeper, statements}
-use Rattle.vhdl_expressions.proofs.Walks.{Walks, Rule, w_pure, w_then, w_last}
-use Rattle.vhdl_expressions.proofs.Rules.{is_neutral, w_take, w_at, w_some, w_end, w_ident, w_option_ident, w_refuse, w_choose, w_inner, w_below, under, under_none, option_rule, each_rule, separated_rule}
-use Rattle.vhdl_expressions.proofs.WalkExpressions.{w_ends, w_before, expr_rule, a_name_rule}
-use Rattle.vhdl_expressions.proofs.WalkValues.{w_by, range_rule, value_rule, choices_rule}
+use Rattle.vhdl_expressions.proofs.Steady.{left_of}
+use Rattle.vhdl_expressions.proofs.Ahead.{eager}
+use Rattle.vhdl_expressions.proofs.Alone.{word}
+use Rattle.vhdl_expressions.proofs.Walks.{Walks, Rule, w_pure, w_then, w_last, w_ends, w_before}
+use Rattle.vhdl_expressions.proofs.Rules.{is_neutral, w_take, w_at, w_some, w_end, w_ident, w_option_ident, w_open, w_refuse, w_choose, w_inner, w_both, w_below, below_met, under, under_none, option_rule}
+use Rattle.vhdl_expressions.proofs.Repeats.{each_rule, separated_rule}
+use Rattle.vhdl_expressions.proofs.WalkExpressions.{expr_rule, a_name_rule}
+use Rattle.vhdl_expressions.proofs.WalkValues.{range_rule, value_rule, choices_rule}
+use Rattle.vhdl_statements.proofs.Alone.{label_alone, statement_alone}
+use Rattle.vhdl_statements.proofs.Plain.{plain_statement, plain_assigned, plain_if, plain_case, plain_for, sequential_long}
 
 -- ---- words that open and close levels
 
@@ -22,22 +28,16 @@ end_spelled before word None r = refl
 end_spelled before word (Some i) r = refl
 
 module _ {B : Type 0} {n d d2 : ℕ} {before : List Piece → List Piece} {spell : B → List Piece} {Good : B → Type 0} where
-  -- one that opens a level
-  pub w_open : {f : ℕ → Parser B} (kind : Kind) → opening false kind ≡ 1 → closing false kind ≡ 0 → is_end kind ≡ false →
-      ((at : ℕ) → Walks n (suc d) false d2 (λ r. before (one_at kind at ∷ r)) (f at) spell Good) → Walks n d false d2 before (λ ts. and_then (expect kind ts) f) spell Good
-  unfolding expect
-  w_open kind o c last next = w_take (λ l. l.at) kind (one_at kind) (λ le. omega (arith, le)) (omega (arith, o, c)) last (λ l i. (i, refl)) next
-
   -- one that closes a level behind `end`
   w_close : {f : ℕ → Parser B} (kind : Kind) → opening true kind ≡ 0 → closing true kind ≡ 1 → is_end kind ≡ false → suc d ≤ n →
       ((at : ℕ) → Walks n d false d2 (λ r. before (some kind ∷ r)) (f at) spell Good) → Walks n (suc d) true d2 before (λ ts. and_then (expect kind ts) f) spell Good
   unfolding expect
-  w_close kind o c last le next = w_take (λ l. l.at) kind (λ _. some kind) (λ _. le) (omega (arith, o, c)) last (λ l i. i) next
+  w_close kind o c last le next = w_take (λ l. l.at) kind (λ _. some kind) (λ _. le) (omega arith) (omega (arith, o, c)) last (λ l i. i) next
 
   -- `loop` where it doesn't stand behind `end`
   w_loop : {f : ℕ → Parser B} → ((at : ℕ) → Walks n d false d2 (λ r. before (some k.Loop ∷ r)) (f at) spell Good) → Walks n d false d2 before (λ ts. and_then (expect k.Loop ts) f) spell Good
   unfolding expect same_kind
-  w_loop next = w_take (λ l. l.at) k.Loop (λ _. some k.Loop) (λ le. le) refl refl (λ l i. i) next
+  w_loop next = w_take (λ l. l.at) k.Loop (λ _. some k.Loop) (λ le. le) (omega arith) refl refl (λ l i. i) next
 
 module _ {B : Type 0} {n d d2 : ℕ} {before : List Piece → List Piece} {spell : B → List Piece} {Good : B → Type 0} where
   -- end word [ id ] ;
@@ -61,11 +61,17 @@ module _ {B : Type 0} {n d d2 : ℕ} {before : List Piece → List Piece} {spell
       w_inner (optional (is_kind k.Identifier) identifier) _ f (w_option_ident (λ l e2.
       w_inner (expect k.Semicolon) _ f (w_some k.Semicolon refl (λ _. w_before {before = λ r. before (some k.End ∷ (some word ∷ (spell_option spell_ident l ++ (some k.Semicolon ∷ r))))} {other = λ r. before (spell_end word l ++ r)} (end_spelled before word l) (next l)))))))))
 
-pub label_rule : (n : ℕ) → Rule n 0 optional_label (spell_option spell_label) IsAny
-unfolding optional_label label
-label_rule n = w_by _
-    (w_inner identifier _ _ (w_ident (λ i. w_inner (expect k.Colon) _ _ (w_some k.Colon refl (λ _. w_pure (omega arith) refl tt)))))
-    (w_pure (omega arith) refl tt)
+label_rule : (n : ℕ) → Rule n 0 (λ ts. and_then (label ts) (λ i us. Ok (Some i, us))) (spell_option spell_label) IsAny
+unfolding label
+label_rule n = w_inner identifier _ _ (w_ident (λ i. w_inner (expect k.Colon) _ _ (w_some k.Colon refl (λ _. w_pure (omega arith) refl tt))))
+
+-- what stands behind a label, or without one takes an identifier
+pub w_labelled : {B : Type 0} {n : ℕ} {spell : B → List Piece} {Good : B → Type 0} (f : Option Ident → Parser B) → ((l : Option Ident) → Walks n 0 false 0 (λ r. spell_option spell_label l ++ r) (f l) spell Good) →
+    ((at : ℕ) (text : List ℕ) → left_of (f None (word at text ∷ [])) ≡ []) → Rule n 0 (λ ts. and_then (optional_label ts) f) spell Good
+unfolding optional_label
+w_labelled {B} {n} f next alone = w_both k.Identifier k.Colon (λ ts. and_then (label ts) (λ i us. Ok (Some i, us))) (λ ts. Ok (None, ts)) f (label_rule n) (w_pure (omega arith) refl tt) (λ l _ _. next l)
+    (λ s. eager k.Identifier s (λ at text. ap (λ o. left_of (and_then (and_then o (λ i us. Ok (Some i, us))) f)) (label_alone at text)))
+    (λ s. eager k.Identifier s alone)
 
 value_rest : (n : ℕ) (sign : Kind) → is_neutral sign ≡ true → Rule n 0 (assigned_value n sign) (λ v. some sign ∷ (spell_value v ++ some k.Semicolon ∷ [])) IsValue
 unfolding assigned_value
@@ -74,7 +80,7 @@ value_rest n sign ok = w_some sign ok (λ _. w_then (value_rule n) (λ v fine _.
 assign_next : (n : ℕ) (t : Name) → IsName t → (next : Option Kind) → Walks n 0 false 0 (λ r. spell_name t ++ r) (assign_by n t next) spell_statement IsStatement
 assign_next n t good (Some k.LessEqual) = w_last (assigned t) (value_rest n k.LessEqual refl) (λ v fine. (refl, (good, fine)))
 assign_next n t good (Some k.Assign) = w_last (variable_assigned t) (value_rest n k.Assign refl) (λ v fine. (refl, (good, fine)))
-assign_next n t good _ = w_refuse
+assign_next n t good _ = w_refuse (plain_assigned t good)
 
 assign_rule : (n : ℕ) → Rule n 0 (assign n) spell_statement IsStatement
 unfolding assign
@@ -210,15 +216,15 @@ module _ (n m : ℕ) (less : n ≡ suc m) (inner : Parser (List Sequential)) (ea
 module _ (n : ℕ) (inner : Parser (List Sequential)) (each : Rule n 1 inner spelled formed) where
   if_rule : Rule n 0 (if_statement n inner) spell_statement IsStatement
   unfolding if_statement same_kind
-  if_rule = w_open k.If refl refl refl (λ at. w_below n (λ m e. if_rest_rule n m e inner each at))
+  if_rule = w_open k.If refl refl refl plain_if (below_met _ n) (λ at. w_below n (λ m e. if_rest_rule n m e inner each at))
 
   case_rule : Rule n 0 (case_statement n inner) spell_statement IsStatement
   unfolding case_statement same_kind
-  case_rule = w_open k.Case refl refl refl (λ at. w_below n (λ m e. case_rest_rule n m e inner each at))
+  case_rule = w_open k.Case refl refl refl plain_case (below_met _ n) (λ at. w_below n (λ m e. case_rest_rule n m e inner each at))
 
   for_rule : Rule n 0 (for_statement n inner) spell_statement IsStatement
   unfolding for_statement same_kind
-  for_rule = w_open k.For refl refl refl (λ at. w_below n (λ m e. for_rest_rule n m e inner each at))
+  for_rule = w_open k.For refl refl refl plain_for (below_met _ n) (λ at. w_below n (λ m e. for_rest_rule n m e inner each at))
 
   statement_next : (next : Option Kind) → Rule n 0 (statement_by n inner next) spell_statement IsStatement
   statement_next (Some k.Identifier) = assign_rule n
@@ -226,7 +232,7 @@ module _ (n : ℕ) (inner : Parser (List Sequential)) (each : Rule n 1 inner spe
   statement_next (Some k.If) = if_rule
   statement_next (Some k.Case) = case_rule
   statement_next (Some k.For) = for_rule
-  statement_next _ = w_refuse
+  statement_next _ = w_refuse plain_statement
 
   statement_rule : Rule n 0 (statement_of n inner) spell_statement IsStatement
   unfolding statement_of
@@ -234,11 +240,13 @@ module _ (n : ℕ) (inner : Parser (List Sequential)) (each : Rule n 1 inner spe
 
   sequential_rule : Rule n 0 (sequential n inner) spell_sequential (λ s. IsStatement s.statement)
   unfolding sequential
-  sequential_rule = w_then (label_rule n) (λ l _ _. w_last (λ s. record { label = l; statement = s }) statement_rule (λ s good. (refl, good)))
+  sequential_rule = w_labelled (λ l ts. and_then (statement_of n inner ts) (λ s us. Ok (record { label = l; statement = s }, us)))
+      (λ l. w_last (λ s. record { label = l; statement = s }) statement_rule (λ s good. (refl, good)))
+      (λ at text. ap (λ o. left_of {A = Sequential} (and_then o (λ s us. Ok (record { label = None; statement = s }, us)))) (statement_alone n inner at text))
 
   with_rule : Rule n 0 (statements_with n inner) spelled formed
   unfolding statements_with
-  with_rule = w_ends spelled-each formed_each (each_rule begins_sequential (sequential n inner) (omega arith) sequential_rule)
+  with_rule = w_ends spelled-each formed_each (each_rule begins_sequential (sequential n inner) (omega arith) sequential_rule refl sequential_long)
 
 pub deeper_rule : (n : ℕ) → Rule n 1 (deeper n) spelled formed
 unfolding deeper

@@ -9,8 +9,9 @@ use Rattle.vhdl_expressions.specs.declared.stop.Stop.TheVariants.{Unexpected, En
 use Rattle.vhdl_tree.specs.Lexeme.{Lexeme, same_kind, lexeme, lexemes}
 use Rattle.vhdl_tree.specs.Tree.{Ident}
 
+-- what was read and the tokens behind it, or why it stopped and the tokens where it stopped
 abbrev pub Outcome : Type 0 → Type 0
-Outcome A = Result (A × List Lexeme) Stop
+Outcome A = Result (A × List Lexeme) (Stop × List Lexeme)
 
 abbrev pub Parser : Type 0 → Type 0
 Parser A = List Lexeme → Outcome A
@@ -34,16 +35,23 @@ infixr 11 ◌<$>◌
 abbrev pub ◌<$>◌ : {A B : Type 0} → (A → B) → Parser A → Parser B
 f <$> p = p >>= (λ x. pure (f x))
 
+-- what stops a reader at a token with which no rule goes on, or at the end
+abbrev pub IsRefused : Stop → Type 0
+IsRefused Unexpected = Unit {0}
+IsRefused EndOfFile = Unit {0}
+IsRefused TooDeep = ⊥
+IsRefused NoMemory = ⊥
+
 -- why no rule goes on here
 unfoldable pub refusal : List Lexeme → Stop
 refusal [] = EndOfFile
 refusal (l ∷ ts) = Unexpected
 
 abbrev pub refuse : {A : Type 0} → Parser A
-refuse = λ ts. Err (refusal ts)
+refuse = λ ts. Err (refusal ts, ts)
 
 abbrev pub too_deep : {A : Type 0} → Parser A
-too_deep = λ ts. Err TooDeep
+too_deep = λ ts. Err (TooDeep, ts)
 
 unfoldable pub next_kind : List Lexeme → Option Kind
 next_kind [] = None
@@ -83,8 +91,8 @@ test begins p q = λ ts. if begins (next_kind ts) then p ts else q ts
 
 -- the next token, which is of this kind
 unfoldable pub token : Kind → Parser Lexeme
-token k [] = Err EndOfFile
-token k (l ∷ ts) = if same_kind l.kind k then Ok (l, ts) else Err Unexpected
+token k [] = Err (EndOfFile, [])
+token k (l ∷ ts) = if same_kind l.kind k then Ok (l, ts) else Err (Unexpected, l ∷ ts)
 
 -- where it starts
 unfoldable pub expect : Kind → Parser ℕ
@@ -101,15 +109,15 @@ literal = (λ l. (l.at, slice_index l.text 1)) <$> token k.Character
 unfoldable pub text : Kind → Parser (ℕ × List ℕ)
 text kind = (λ l. (l.at, l.text)) <$> token kind
 
--- what a function that parses ensures: the parser's outcome, seen by view, unless memory fails
+-- what a function that parses ensures: the outcome, seen by view, and the tokens that are left, unless memory fails
 abbrev pub Reads : {X A : Type 0} → (X → A) → Outcome A → Result X Stop → List Lexeme → Type 0
 Reads view outcome (Ok x) new = outcome ≡ Ok (view x, new)
-Reads view outcome (Err e) new = e ≢ NoMemory → outcome ≡ Err e
+Reads view outcome (Err e) new = e ≢ NoMemory → outcome ≡ Err (e, new)
 
--- what taking the next token gives, as lexemes of the source text
-abbrev pub Takes : List ℕ → Outcome Lexeme → Result (Token × Bor (List Token)) Stop → Type 0
-Takes source outcome (Ok r) = outcome ≡ Ok (lexeme source r.0, lexemes source r.1.now)
-Takes source outcome (Err e) = outcome ≡ Err e
+-- what taking the first of these tokens gives, as lexemes of the source text
+abbrev pub Takes : List ℕ → List Token → Parser Lexeme → Result (Token × Bor (List Token)) Stop → Type 0
+Takes source tokens p (Ok r) = p (lexemes source tokens) ≡ Ok (lexeme source r.0, lexemes source r.1.now)
+Takes source tokens p (Err e) = p (lexemes source tokens) ≡ Err (e, lexemes source tokens)
 
 -- takes a token of this kind, if it comes next
 unfoldable pub eat : Kind → Parser Bool

@@ -34,7 +34,7 @@ pub data Collects {T : Type 0} (begins : List Lexeme → Bool → Type 0) (item 
 pub data Follows {T : Type 0} (separator : Kind) (item : List Lexeme → Result T Stop → List Lexeme → Type 0) : List Lexeme → Result T Stop →
     List Lexeme → Type 0 where
   item_follows : {ts us rest : List Lexeme} {at : ℕ} {r : Result T Stop} → expect separator ts ≡ Ok (at, us) → item us r rest → Follows separator item ts r rest
-  none_follows : {ts rest : List Lexeme} {e : Stop} → (e ≢ NoMemory → expect separator ts ≡ Err e) → Follows separator item ts (Err e) rest
+  none_follows : {ts rest : List Lexeme} {e : Stop} → (e ≢ NoMemory → expect separator ts ≡ Err (e, rest)) → Follows separator item ts (Err e) rest
 
 -- Items with separators between them, one at least.
 pub data Separates {T : Type 0} (separator : Kind) (item : List Lexeme → Result T Stop → List Lexeme → Type 0) : List Lexeme →

@@ -35,7 +35,7 @@ returns-in_err-expect g c =
     let one : true ≡ sees c.args.separator c.loop-turn.parser = sym c.if-not-sees.false ∙ c.sees.ensures in
     let w = err_from_is_err_and c.from_residual-in_err-expect.result c.from_residual-in_err-expect.ensures.1 in
     let e : c.from_residual-in_err-expect.result ≡ Err c.in_err-expect.field-0.0 = first_of (search rules, grind (arith, common_steps)) in
-    c.loop-turn.invariant _ _ (rw (this_turn _ c.loop-turn._turn c.loop-turn-test.true, e) (one_refused one (none_follows {ts = c.loop-turn.parser} {e = c.in_err-expect.field-0.0} (search rules))))
+    c.loop-turn.invariant _ _ (rw (this_turn _ c.loop-turn._turn c.loop-turn-test.true, e) (one_refused one (none_follows {ts = c.loop-turn.parser} {rest = c.expect.new.self} {e = c.in_err-expect.field-0.0} (search rules))))
 
 pub returns-in_err-item-2 : goal.returns-in_err-item-2
 returns-in_err-item-2 g c =

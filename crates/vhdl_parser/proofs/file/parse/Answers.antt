@@ -1,10 +1,13 @@
-use Rattle.std.proofs.Common.{◌≡◌, ℕ, [], Err, sym, ap, ◌∙◌, subst, arith}
+use Rattle.std.proofs.Common.{◌≡◌, ℕ, [], Err, refl, sym, ap, ◌∙◌, subst, arith}
 use Rattle.vhdl_expressions.specs.declared.stop.Stop.{Stop}
-use Rattle.vhdl_expressions.specs.declared.stop.Stop.TheVariants.{TooDeep, NoMemory}
+use Rattle.vhdl_expressions.specs.declared.stop.Stop.TheVariants.{Unexpected, EndOfFile, TooDeep, NoMemory}
+use Rattle.vhdl_expressions.specs.reader.Input.{IsRefused}
 use Rattle.vhdl_tree.specs.Levels.{IsShallow, IsDeep}
 use Rattle.vhdl_tree.specs.Pieces.{Spells}
 use Rattle.vhdl_tree.specs.View.{file_view}
 use Rattle.vhdl_tree.specs.grammar.Units.{spell_file}
+use Rattle.vhdl_parser.specs.reader.Units.{file}
+use Rattle.vhdl_parser.proofs.Stuck.{is_stuck}
 use Rattle.vhdl_parser.proofs.Files.{file_made, file_only, file_refused, file_deep}
 use Rattle.vhdl_tree.proofs.HeightsFiles.{file_height_bounded}
 use Rattle.vhdl_parser.proofs.file.parse.Goals as goal
@@ -32,9 +35,20 @@ returns-in-Ok-clause-low c =
 pub returns-in-Err-clause-refused : goal.returns-in-Err-clause-refused
 returns-in-Err-clause-refused c r other good s =
     let why = c.fault_at.ensures.refusal r in
-    file_refused _ _ (c.in-Err.ensures why.0) why.1 other good (rw c.new-parser.ensures s)
+    file_refused _ _ _ (c.in-Err.ensures why.0) why.1 other good (rw c.new-parser.ensures s)
 
 pub returns-in-Err-clause-deep : goal.returns-in-Err-clause-deep
 returns-in-Err-clause-deep c d =
     let is = c.fault_at.ensures.deep d in
-    subst (IsDeep 64) c.new-parser.ensures (file_deep _ (c.in-Err.ensures (λ e. not_memory (sym is ∙ e)) ∙ ap (λ s. Err s) is))
+    subst (IsDeep 64) c.new-parser.ensures (file_deep _ _ (c.in-Err.ensures (λ e. not_memory (sym is ∙ e)) ∙ ap (λ s. Err (s, c.file.new.parser)) is))
+
+refused_is : (why : Stop) → (why ≡ NoMemory → ⊥) → (why ≡ TooDeep → ⊥) → IsRefused why
+refused_is Unexpected enough shallow = tt
+refused_is EndOfFile enough shallow = tt
+refused_is TooDeep enough shallow = absurd (shallow refl)
+refused_is NoMemory enough shallow = absurd (enough refl)
+
+pub returns-in-Err-clause-stuck : goal.returns-in-Err-clause-stuck
+returns-in-Err-clause-stuck c =
+    is_stuck _ _ _ _ _ _ c.fault_at.ensures.behind (omega (arith, c.saturating_sub-met.ensures, c.left.ensures))
+    (λ r. let why = c.fault_at.ensures.refusal r in (refused_is _ why.0 why.1, subst (λ ts. file ts ≡ Err (c.in-Err.stop, c.file.new.parser)) c.new-parser.ensures (c.in-Err.ensures why.0)))

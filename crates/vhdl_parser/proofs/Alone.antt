@@ -1,0 +1,22 @@
+-- What the readers of concurrent statements say of an identifier that stands alone: they take it.
+use Rattle.std.proofs.Common.{◌≡◌, ℕ, List, [], ◌∷◌, Err, Option, None, refl}
+use Rattle.vhdl_expressions.specs.declared.stop.Stop.TheVariants.{EndOfFile}
+use Rattle.vhdl_tree.specs.Tree.{Ident}
+use Rattle.vhdl_expressions.specs.reader.Input.{token, expect, next_kind}
+use Rattle.vhdl_expressions.proofs.Alone.{word, name_alone}
+use Rattle.vhdl_declarations.proofs.Alone.{instance_alone}
+use Rattle.vhdl_parser.specs.reader.Concurrent.{assign, assign_with, instance_with, unlabelled}
+
+assign_alone : (n : ℕ) (label : Option Ident) (at : ℕ) (text : List ℕ) → assign n label (word at text ∷ []) ≡ Err (EndOfFile, [])
+unfolding assign expect token
+assign_alone n label at text = rw (name_alone n at text) refl
+
+pub assign_with_alone : (n : ℕ) (label : Option Ident) (at : ℕ) (text : List ℕ) → assign_with n label (word at text ∷ []) ≡ Err (EndOfFile, [])
+assign_with_alone n label at text = rw (assign_alone n label at text) refl
+
+pub instance_with_alone : (n : ℕ) (label : Ident) (at : ℕ) (text : List ℕ) → instance_with n label (word at text ∷ []) ≡ Err (EndOfFile, [])
+instance_with_alone n label at text = rw (instance_alone n at text) refl
+
+pub unlabelled_alone : (n at : ℕ) (text : List ℕ) → unlabelled n (word at text ∷ []) ≡ Err (EndOfFile, [])
+unfolding unlabelled next_kind
+unlabelled_alone n at text = rw (assign_with_alone n None at text) refl

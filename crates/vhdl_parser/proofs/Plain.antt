@@ -1,0 +1,41 @@
+-- The plainest concurrent statements, and that each takes a token at least.
+use Rattle.std.proofs.Common.{◌≡◌, ℕ, ◌≤◌, false, List, [], ◌∷◌, ◌++◌, length, length-append, Option, Some, None, refl, arith}
+use Rattle.vhdl_lexer.specs.declared.token.Kind.TheVariants as k
+use Rattle.vhdl_tree.specs.Tree.{Ident, plain, single, Concurrent, for_each, if_holds, assignment, selected, process, instance, generated, no_concurrents}
+use Rattle.vhdl_tree.specs.Pieces.{some, one_at, word_at, spell_option}
+use Rattle.vhdl_tree.specs.grammar.Expressions.{spell_name}
+use Rattle.vhdl_tree.specs.grammar.Process.{spell_process, spell_selected}
+use Rattle.vhdl_tree.specs.grammar.Sequential.{spell_label, spell_end}
+use Rattle.vhdl_tree.specs.grammar.Concurrent.{spell_waveforms, spell_concurrent, IsConcurrent}
+use Rattle.vhdl_expressions.proofs.Halts.{Example}
+use Rattle.vhdl_expressions.proofs.WalkExpressions.{number}
+use Rattle.vhdl_statements.proofs.Plain.{an_ident, a_range, a_number}
+
+-- id <= 0 ;
+pub plain_concurrent : (label : Option Ident) → Example (λ r. spell_option spell_label label ++ r) spell_concurrent IsConcurrent
+plain_concurrent label = record {
+  tree = assignment (record { label = label; target = record { identifier = an_ident; suffix = plain; attribute = None }; branches = []; otherwise = Some (single number) });
+  more = word_at 0 [] ∷ (some k.LessEqual ∷ (a_number ∷ (some k.Semicolon ∷ [])));
+  is = refl;
+  formed = (tt, tt);
+}
+
+-- for id in 0 to 0 generate end generate ;
+pub plain_for : (label : Ident) (at : ℕ) → Example (λ r. spell_label label ++ (one_at k.For at ∷ r)) spell_concurrent IsConcurrent
+plain_for label at = record {
+  tree = generated label at (for_each an_ident a_range) false no_concurrents None;
+  more = word_at 0 [] ∷ (some k.In ∷ (a_number ∷ (some k.To ∷ (a_number ∷ (some k.Generate ∷ spell_end k.Generate None)))));
+  is = refl;
+  formed = ((tt, tt), tt);
+}
+
+-- if 0 generate end generate ;
+pub plain_if : (label : Ident) (at : ℕ) → Example (λ r. spell_label label ++ (one_at k.If at ∷ r)) spell_concurrent IsConcurrent
+plain_if label at = record { tree = generated label at (if_holds number) false no_concurrents None; more = a_number ∷ (some k.Generate ∷ spell_end k.Generate None); is = refl; formed = (tt, tt) }
+
+pub concurrent_long : (c : Concurrent) → 1 ≤ length (spell_concurrent c)
+concurrent_long (assignment a) = omega (arith, length-append (spell_option spell_label a.label) (spell_name a.target ++ (some k.LessEqual ∷ (spell_waveforms a.branches a.otherwise ++ some k.Semicolon ∷ []))))
+concurrent_long (selected l s) = omega (arith, length-append (spell_option spell_label l) (spell_selected s))
+concurrent_long (process l p) = omega (arith, length-append (spell_option spell_label l) (spell_process p))
+concurrent_long (instance i x) = omega arith
+concurrent_long (generated i at s w cs l) = omega arith
