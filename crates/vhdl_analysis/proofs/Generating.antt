@@ -1,15 +1,15 @@
 -- Concurrent statements, one after another.
-use Rattle.std.proofs.Common.{◌≡◌, Bool, true, false, List, [], ◌∷◌, Option, Some, None, Result, Ok, Err, refl, ap, sym, ◌∙◌}
+use Rattle.std.proofs.Common.{◌≡◌, Bool, true, false, List, [], ◌∷◌, Option, Some, None, refl, ap, ◌∙◌}
 use Rattle.std.specs.Prelude.{option_map}
 use Rattle.vhdl_tree.specs.Tree as t
 use Rattle.vhdl_tree.specs.Tree.{Ident}
 use Rattle.vhdl_tree.specs.View as tree
-use Rattle.vhdl_tree.specs.declared.concurrent.Generate.{Generate, out-Generate, roll-Generate, roll-out-Generate}
+use Rattle.vhdl_tree.specs.declared.concurrent.Generate.{Generate, out-Generate}
 use Rattle.vhdl_tree.specs.declared.concurrent.Concurrent.TheVariants as c
 use Rattle.vhdl_tree.proofs.RowsConcurrents.{view_generate}
 use Rattle.vhdl_names.specs.units.Units as u
-use Rattle.vhdl_names.specs.Rules.{◌>>=◌, ◌>>◌, rule, each}
-use Rattle.vhdl_names.specs.Visibility.{Sight, Declared, are_distinct, ends}
+use Rattle.vhdl_names.specs.Rules.{◌>>=◌, ◌>>◌, rule}
+use Rattle.vhdl_names.specs.Visibility.{Sight, are_distinct, ends}
 use Rattle.vhdl_names.specs.Interfaces.{EntityView}
 use Rattle.vhdl_names.specs.Instances.{instance}
 use Rattle.vhdl_names.specs.Concurrent as rules
@@ -49,7 +49,7 @@ module _ (f : Sight → Ident → t.Instance → Option u.Instance) where
     where
       go : (e d : Bool) (o : Option (List u.Concurrent))
           → (rule e >> (rule d >> (option_map concurrents_of o >>= λ b. generated sight label.text k b)))
-          ≡ (rule d >> (o >>= λ xs. rule e >> generated sight label.text k (concurrents_of xs)))
+          ≡ ((rule d >> o) >>= λ xs. rule e >> generated sight label.text k (concurrents_of xs))
       go true true None = refl
       go true true (Some xs) = refl
       go true false o = refl
@@ -76,7 +76,7 @@ module _ (f : Sight → Ident → t.Instance → Option u.Instance) where
       → ((b : u.Concurrents) → generated sight label.text k b ≡ None) → steps.generate f sight label k cs end ≡ None
   no_scheme sight label k cs end h = go (are_distinct (concurrent_labels (t.concurrents_of cs))) (ends label.text end) (steps.all f (sight_within sight k) cs)
     where
-      go : (d e : Bool) (o : Option (List u.Concurrent)) → (rule d >> (o >>= λ xs. rule e >> generated sight label.text k (concurrents_of xs))) ≡ None
+      go : (d e : Bool) (o : Option (List u.Concurrent)) → ((rule d >> o) >>= λ xs. rule e >> generated sight label.text k (concurrents_of xs)) ≡ None
       go true true None = refl
       go true true (Some xs) = h (concurrents_of xs)
       go true false None = refl

@@ -7,7 +7,7 @@ use Rattle.vhdl_tree.specs.View as tree
 use Rattle.vhdl_tree.specs.declared.sequential.If.{If, out-If}
 use Rattle.vhdl_tree.specs.declared.sequential.For.{For, out-For}
 use Rattle.vhdl_tree.specs.declared.sequential.Case.{Case, out-Case}
-use Rattle.vhdl_names.specs.Rules.{◌>>=◌, ◌>>◌, rule, given_that}
+use Rattle.vhdl_names.specs.Rules.{◌>>=◌, rule, given_that}
 use Rattle.vhdl_names.specs.Visibility.{Name, are_distinct}
 use Rattle.vhdl_names.specs.Statements.{label_names, inner_labels, statement_labels, conditional_labels, otherwise_labels, alternative_labels}
 use Rattle.vhdl_bodies.specs.steps.Lists.{in_turn}

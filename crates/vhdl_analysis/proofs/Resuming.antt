@@ -2,7 +2,6 @@
 use Rattle.std.proofs.Common.{◌≡◌, List, [], ◌∷◌, map, Option, Some, None, refl, ap, ◌∙◌}
 use Rattle.std.specs.Prelude.{option_map}
 use Rattle.vhdl_tree.specs.Tree as t
-use Rattle.vhdl_names.specs.units.Expressions.{Place}
 use Rattle.vhdl_names.specs.units.Units as u
 use Rattle.vhdl_names.specs.Rules.{◌>>=◌, each}
 use Rattle.vhdl_names.specs.Visibility.{Sight}

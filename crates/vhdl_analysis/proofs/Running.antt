@@ -1,5 +1,5 @@
 -- Processes, by their parts.
-use Rattle.std.proofs.Common.{◌≡◌, ◌≢◌, ◌⊎◌, inl, inr, Bool, true, false, List, [], ◌∷◌, ◌++◌, Option, Some, None, refl, ap, sym, ◌∙◌}
+use Rattle.std.proofs.Common.{◌≡◌, Bool, true, false, List, [], ◌++◌, Option, Some, None, refl, ap, sym, ◌∙◌}
 use Rattle.vhdl_tree.specs.Tree as t
 use Rattle.vhdl_tree.specs.Tree.{Ident}
 use Rattle.vhdl_names.specs.units.Statements as s
@@ -12,12 +12,6 @@ use Rattle.vhdl_names.specs.Statements.{statements, statement_labels}
 use Rattle.vhdl_names.specs.Concurrent.{sensitivity, process, label_of}
 use Rattle.vhdl_bodies.proofs.steps.Cases.{bound, inner}
 use Rattle.vhdl_analysis.specs.steps.Processes as steps
-
--- where one of two things isn't there, both aren't
-pub not_both : {A : Type 0} (l : Option (Unit {0})) (o : Option A) → (l ≡ None) ⊎ (o ≡ None) → (l >> o) ≡ None
-not_both l o (inl e) = ap (λ l. l >> o) e
-not_both None o (inr e) = refl
-not_both (Some x) o (inr e) = e
 
 module _ (sight : Sight) (label : Option Ident) (p : t.Process) (outside : sight.variables ≡ []) where
   abbrev made : u.Sensitivity → List u.Object → s.Statements → Option u.Process

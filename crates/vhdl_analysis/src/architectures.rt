@@ -18,7 +18,7 @@ ghost use Rattle.vhdl_units.specs.views.Concurrent as views;
 use crate::processes::process;
 use crate::schemes::scheme;
 use std::alloc::Global;
-use vhdl_bodies::{assignment, copied, ends, selected};
+use vhdl_bodies::{assignment, copied, earlier_in, ends, selected};
 use vhdl_declared::labels_are_distinct;
 use vhdl_instances::{Entities, instance_in_turn};
 use vhdl_names::NameFault;
@@ -126,6 +126,27 @@ fn statement(
     }
 }
 
+/// The statements directly in a generate, with labels of their own. Of a label that stands twice and
+/// another fault the earlier one is told.
+#[cycle(concurrent)]
+fn labelled(
+    alloc: Global,
+    entities: &Entities,
+    sight: &mut Sight,
+    list: &[syntax::Concurrent],
+) -> Result<Vec<Concurrent>, NameFault>
+    requires outside { (sight_view sight.old).variables ≡ [] }
+    ensures given { Gives views.concurrents_view (steps.labelled (instance_of (names_view entities.now.names) (seens_view entities.now.formals))
+        (sight_view sight.old) (map tree.concurrent_view list.now)) result }
+    ensures kept { OnOk result (sight_view sight.new ≡ sight_view sight.old) }
+{
+    let all = statements(alloc, entities, sight, list);
+    match labels_are_distinct(alloc, list) {
+        Ok(()) => all,
+        Err(fault) => Err(earlier_in(fault, all)),
+    }
+}
+
 /// A generate (11.9).
 #[cycle(concurrent)]
 fn generate(
@@ -141,9 +162,8 @@ fn generate(
     ensures kept { OnOk result (sight_view sight.new ≡ sight_view sight.old) }
 {
     let by = scheme(alloc, sight, &written.scheme)?;
-    labels_are_distinct(alloc, &written.statements)?;
     enter_generate(alloc, sight, &written.scheme)?;
-    let body = statements(alloc, entities, sight, &written.statements)?;
+    let body = labelled(alloc, entities, sight, &written.statements)?;
     leave_generate(sight, &written.scheme);
     ends(&written.label, &written.end_label)?;
     let label = copied(alloc, &written.label)?;

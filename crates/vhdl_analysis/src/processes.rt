@@ -1,6 +1,6 @@
 //! Processes (IEEE 1076-2008, 11.3).
 
-ghost use Rattle.std.specs.Prelude.{◌≡◌, ◌⊎◌, List, [], map, OnOk};
+ghost use Rattle.std.specs.Prelude.{◌≡◌, List, [], map, OnOk};
 ghost use Rattle.vhdl_analysis.specs.Views.{all_places_view};
 ghost use Rattle.vhdl_analysis.specs.steps.Processes as steps;
 ghost use Rattle.vhdl_names.specs.Concurrent as rules;
@@ -15,7 +15,7 @@ ghost use Rattle.vhdl_units.specs.views.Sequential.{body_view};
 use crate::labels::statement_labels_are_distinct;
 use indexmap::IndexMap;
 use std::alloc::Global;
-use vhdl_bodies::{analysed, copied_label, label_ends};
+use vhdl_bodies::{analysed, copied_label, earlier_in, label_ends};
 use vhdl_declared::objects::variables;
 use vhdl_names::{NameFault, NameProblem, Place};
 use vhdl_tree as syntax;
@@ -57,35 +57,6 @@ fn sensitivity(
     }
 }
 
-/// The earlier one of two faults; want of memory goes first.
-fn earlier(fault: NameFault, other: NameFault) -> NameFault
-    ensures { (result ≡ fault) ⊎ (result ≡ other) }
-{
-    match fault {
-        NameFault::NoMemory => fault,
-        NameFault::At { at, .. } => match other {
-            NameFault::NoMemory => other,
-            NameFault::At { at: place, .. } => { if place < at { other } else { fault } }
-        },
-    }
-}
-
-/// What statements do whose labels are distinct or not.
-fn labelled(
-    labels: Result<(), NameFault>,
-    statements: Result<Vec<Statement>, NameFault>,
-) -> Result<Vec<Statement>, NameFault>
-    ensures { steps.Joins labels statements result }
-{
-    match labels {
-        Ok(()) => statements,
-        Err(fault) => match statements {
-            Ok(_) => Err(fault),
-            Err(other) => Err(earlier(fault, other)),
-        },
-    }
-}
-
 /// What the statements of a process do. Of a label that stands twice and another fault the earlier
 /// one is told.
 fn body(
@@ -96,9 +67,11 @@ fn body(
     ensures given { Gives body_view (steps.body (sight_view sight.old) (map tree.sequential_view list.now)) result }
     ensures kept { sight_view sight.new ≡ sight_view sight.old }
 {
-    let labels = statement_labels_are_distinct(alloc, list);
     let statements = analysed(alloc, sight, list);
-    labelled(labels, statements)
+    match statement_labels_are_distinct(alloc, list) {
+        Ok(()) => statements,
+        Err(fault) => Err(earlier_in(fault, statements)),
+    }
 }
 
 /// Outside a process again, where no variables are in sight.

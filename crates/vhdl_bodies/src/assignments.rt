@@ -12,7 +12,7 @@ ghost use Rattle.vhdl_bodies.specs.steps.Sequential as sequential;
 ghost use Rattle.vhdl_units.specs.views.Concurrent.{one_process};
 ghost use Rattle.vhdl_units.specs.views.Sequential as views;
 
-use crate::choices::{but_last, cover};
+use crate::choices::{but_last, cover, first_fault};
 use crate::labels::copied_label;
 use crate::statements::assigned;
 use std::alloc::{AllocError, Global};
@@ -221,8 +221,11 @@ fn selected_in_turn(
 {
     let (by, value) = selector(alloc, sight, &assignment.selector)?;
     let _ = target(alloc, sight, &assignment.target)?;
-    let all = all_chosen(alloc, sight, by, &assignment.target, &assignment.waveforms)?;
     let lists = choice_lists(alloc, &assignment.waveforms)?;
+    let all = match all_chosen(alloc, sight, by, &assignment.target, &assignment.waveforms) {
+        Ok(all) => all,
+        Err(fault) => return Err(first_fault(alloc, sight, by, &lists, fault)),
+    };
     cover(alloc, by, assignment.at, &lists, &all)?;
     let (alternatives, others) = but_last(assignment.at, all)?;
     let statement = Statement::selection(assignment.at, value, alternatives, others);

@@ -1,11 +1,12 @@
 //! What the choices of a case cover (IEEE 1076-2008, 10.9).
 
-ghost use Rattle.std.specs.Prelude.{◌≡◌, ◌||◌, ◌∷◌, [], map, IfOk, Some};
+ghost use Rattle.std.specs.Prelude.{◌≡◌, ◌≢◌, ◌||◌, ◌∷◌, [], map, IfOk, Some};
 ghost use Rattle.std.specs.List.{list_all, list_any, range_with_len};
 ghost use Rattle.vhdl_names.specs.Choices as rules;
 ghost use Rattle.vhdl_names.specs.Rules.{rule};
 ghost use Rattle.vhdl_names.specs.Visibility.{is_among};
 ghost use Rattle.vhdl_names.specs.Gives.{Gives};
+ghost use Rattle.vhdl_names.specs.declared.fault.NameFault.TheVariants.{NoMemory};
 ghost use Rattle.vhdl_tree.specs.View as tree;
 ghost use Rattle.vhdl_units.specs.views.Answers.{choice_view};
 ghost use Rattle.vhdl_bodies.specs.steps.Cases as steps;
@@ -13,11 +14,13 @@ ghost use Rattle.vhdl_bodies.specs.steps.Lists.{in_turn};
 ghost use Rattle.vhdl_bodies.specs.steps.Once.{one_name, names_view, key_of};
 ghost use Rattle.vhdl_units.specs.views.Sequential as views;
 
+use crate::faults::{earlier, earlier_in};
 use indexmap::IndexSet;
 use std::alloc::{AllocError, Global};
 use vhdl_names::{NameFault, NameProblem, ObjectType};
 use vhdl_tree as syntax;
-use vhdl_typing::start;
+use vhdl_types::Sight;
+use vhdl_typing::{choices, start};
 use vhdl_units::{Alternative, Choice, Statement};
 
 /// What tells choices apart: the places of their values among the nine, or 9 and a position.
@@ -173,6 +176,44 @@ fn has_position(keys: &Keys, position: usize) -> bool
     keys.contains([9, position].as_slice())
 }
 
+/// Choices one after another, after those before them, up to the first that is refused or stands
+/// twice.
+fn add_written(
+    alloc: Global,
+    sight: &Sight,
+    selected: ObjectType,
+    keys: &mut Keys,
+    written: &[syntax::Choice],
+) -> Result<(), NameFault> {
+    for index in 0..written.len() {
+        let one = &written[index..index + 1];
+        let analysed = choices(alloc, sight, selected, one)?;
+        add_choices(alloc, keys, &analysed, one)?;
+    }
+    Ok(())
+}
+
+/// The first in order of the text of what is wrong with the alternatives of a case, where `fault`
+/// is told of one: this, `others` out of place, or a choice that stands twice.
+pub(crate) fn first_fault(
+    alloc: Global,
+    sight: &Sight,
+    selected: ObjectType,
+    lists: &[&[syntax::Choice]],
+    fault: NameFault,
+) -> NameFault
+    ensures { result ≢ NoMemory → fault ≢ NoMemory }
+{
+    let first = earlier_in(fault, others_last(lists));
+    let mut keys = IndexSet::new(alloc);
+    for list in lists {
+        if let Err(other) = add_written(alloc, sight, selected, &mut keys, list) {
+            return earlier(first, other);
+        }
+    }
+    first
+}
+
 /// What the choices of all alternatives are asked; the case starts at byte `at`.
 #[tactic(auto, using(crate::proofs::steps::Cases::covered_by))]
 pub(crate) fn cover(
@@ -184,8 +225,11 @@ pub(crate) fn cover(
 ) -> Result<(), NameFault>
     ensures { Gives (λ _. tt) (steps.cover selected (steps.all_lists lists.now) (steps.all_choices (map views.alternative_view alternatives.now))) result }
 {
+    let keys = match told_apart(alloc, alternatives, lists) {
+        Ok(keys) => keys,
+        Err(fault) => return Err(earlier_in(fault, others_last(lists))),
+    };
     others_last(lists)?;
-    let keys = told_apart(alloc, alternatives, lists)?;
     if ends_in_others(lists) || names_all(selected, &keys) {
         Ok(())
     } else {

@@ -15,7 +15,7 @@ ghost use Rattle.vhdl_units.specs.views.Sequential as views;
 ghost use Rattle.vhdl_bodies.specs.steps.Cases as cases;
 ghost use Rattle.vhdl_bodies.specs.steps.Sequential as steps;
 
-use crate::choices::{but_last, choice_lists, cover};
+use crate::choices::{but_last, choice_lists, cover, first_fault};
 use crate::labels::label_ends;
 use std::alloc::Global;
 use vhdl_names::{NameFault, ObjectType};
@@ -215,8 +215,11 @@ fn case_statement(
     ensures kept { sight_view sight.new ≡ sight_view sight.old }
 {
     let (selected, value) = selector(alloc, sight, &case.selector)?;
-    let all = alternatives(alloc, sight, selected, &case.alternatives)?;
     let lists = choice_lists(alloc, &case.alternatives)?;
+    let all = match alternatives(alloc, sight, selected, &case.alternatives) {
+        Ok(all) => all,
+        Err(fault) => return Err(first_fault(alloc, sight, selected, &lists, fault)),
+    };
     cover(alloc, selected, case.at, &lists, &all)?;
     label_ends(label, &case.end_label)?;
     let (alternatives, others) = but_last(case.at, all)?;

@@ -1,6 +1,6 @@
 //! The architectures of a file (IEEE 1076-2008, 3.3).
 
-ghost use Rattle.std.specs.Prelude.{◌≡◌, [], List, map, option_map};
+ghost use Rattle.std.specs.Prelude.{◌≡◌, ◌≢◌, [], List, map, option_map};
 ghost use Rattle.vhdl_files.specs.Views.{architectures_view, described_view};
 ghost use Rattle.vhdl_files.specs.steps.Architectures as steps;
 ghost use Rattle.vhdl_instances.specs.Table.{AreEntities};
@@ -9,6 +9,7 @@ ghost use Rattle.vhdl_names.specs.Files as rules;
 ghost use Rattle.vhdl_names.specs.Gives.{Gives};
 ghost use Rattle.vhdl_names.specs.Interfaces.{EntityView};
 ghost use Rattle.vhdl_names.specs.Rules.{each};
+ghost use Rattle.vhdl_names.specs.declared.fault.NameFault.TheVariants.{NoMemory};
 ghost use Rattle.vhdl_tree.specs.View as view;
 ghost use Rattle.vhdl_types.specs.Views.{sight_view};
 ghost use Rattle.vhdl_units.specs.views.Declarations.{declarations_view};
@@ -17,17 +18,50 @@ ghost use Rattle.vhdl_units.specs.views.Units.{architecture_view};
 use crate::outline::{Described, Outline, architecture_of};
 use std::alloc::Global;
 use vhdl_analysis::concurrents;
-use vhdl_bodies::copied;
+use vhdl_bodies::{copied, earlier_in};
 use vhdl_components::declarations;
 use vhdl_declared::{declare_labels, ends};
 use vhdl_instances;
 use vhdl_interfaces::{Entities, EntityInterface, architecture_sight};
 use vhdl_names::NameFault;
 use vhdl_tree as syntax;
-use vhdl_types::Sight;
+use vhdl_types::{Region, Sight};
 use vhdl_units::{Architecture, Declaration};
 
-/// The labels and statements of an architecture behind these declarations.
+/// Each label, also those behind one that stands twice. It fails for want of memory alone.
+fn declare_each(
+    alloc: Global,
+    region: &mut Region,
+    statements: &[syntax::Concurrent],
+) -> Result<(), NameFault> {
+    for statement in statements.chunks(1) {
+        match declare_labels(alloc, region, statement) {
+            Err(NameFault::NoMemory) => return Err(NameFault::NoMemory),
+            _ => {}
+        }
+    }
+    Ok(())
+}
+
+/// The earlier of the fault of a label that stands twice and that of the statements, if they have
+/// one.
+fn beside_label(
+    alloc: Global,
+    formals: &vhdl_instances::Entities,
+    sight: &mut Sight,
+    tree: &syntax::Architecture,
+    fault: NameFault,
+) -> NameFault
+    requires outside { (sight_view sight.old).variables ≡ [] }
+    ensures memory { result ≢ NoMemory → fault ≢ NoMemory }
+{
+    let declared = declare_each(alloc, &mut sight.region, &tree.statements);
+    let fault = earlier_in(fault, declared);
+    earlier_in(fault, concurrents(alloc, formals, sight, &tree.statements))
+}
+
+/// The labels and statements of an architecture behind these declarations. Of a label that stands
+/// twice and a fault of the statements the earlier one is told.
 fn body(
     alloc: Global,
     formals: &vhdl_instances::Entities,
@@ -39,7 +73,9 @@ fn body(
     ensures { (all : List EntityView) → AreEntities formals.now all
         → Gives architecture_view (steps.body all (sight_view sight.old) (declarations_view declarations) (view.architecture_view tree.now)) result }
 {
-    declare_labels(alloc, &mut sight.region, &tree.statements)?;
+    if let Err(fault) = declare_labels(alloc, &mut sight.region, &tree.statements) {
+        return Err(beside_label(alloc, formals, sight, tree, fault));
+    }
     let statements = concurrents(alloc, formals, sight, &tree.statements)?;
     ends(&tree.name, &tree.end_name)?;
     let name = copied(alloc, &tree.name)?;
@@ -51,7 +87,7 @@ fn body(
 }
 
 /// An architecture of an entity, behind its context items; `formals` is the table of the entities.
-fn architecture(
+pub fn architecture(
     alloc: Global,
     entities: &Entities<'_>,
     formals: &vhdl_instances::Entities,

@@ -44,7 +44,7 @@ fn add_viewed<'a>(
 }
 
 /// One more unit, which may be an entity.
-fn add_unit<'a>(
+pub fn add_unit<'a>(
     alloc: Global,
     entities: &mut Entities<'a>,
     outline: &Outline<'a>,

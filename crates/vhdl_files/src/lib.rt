@@ -4,7 +4,9 @@
 
 mod architectures;
 mod entities;
+mod mentions;
 mod outline;
+mod refusal;
 mod tables;
 mod units;
 

@@ -80,7 +80,7 @@ fn add_architecture<'a>(
 }
 
 /// One more unit.
-fn add_unit<'a>(
+pub fn add_unit<'a>(
     alloc: Global,
     outline: &mut Outline<'a>,
     unit: &'a DesignUnit,

@@ -14,6 +14,7 @@ ghost use Rattle.vhdl_units.specs.views.Units as views;
 use crate::architectures::architectures_of;
 use crate::entities::entities_of;
 use crate::outline::{Outline, outline_of};
+use crate::refusal::first_fault;
 use crate::tables::table;
 use std::alloc::{AllocError, Global};
 use std::vec;
@@ -82,18 +83,31 @@ fn units(
     Ok(joined(alloc, entities, architectures)?)
 }
 
-/// The units of a file: its entities in order of the text, each with its architecture if it has one.
-/// No two entities have one name, no entity has two architectures, and each architecture stands
-/// after its entity; instances may be of any entity of the file. It fails at the first byte where a
-/// rule is broken: of these rules first, then of the entities, and then of the architectures in
-/// order of their entities; or where memory is refused. It takes memory for what is declared in the
-/// file and analysed of it.
+/// The units of a file, by the names of its units, its entities, and then their architectures: the
+/// first rule that is broken in this order is told.
 #[tactic(auto, using(crate::proofs::Filing::in_order))]
-pub fn analyse(alloc: Global, file: &File) -> Result<Units, NameFault>
+fn units_in_turn(alloc: Global, file: &File) -> Result<Units, NameFault>
     ensures { Gives views.units_view (units_of (file_view file.now)) result }
 {
     let outline = outline_of(alloc, file)?;
     let entities = entities_of(alloc, file, &outline)?;
     let entities = units(alloc, entities, &outline)?;
     Ok(Units { entities })
+}
+
+/// The units of a file: its entities in order of the text, each with its architecture if it has one.
+/// No two entities have one name, no entity has two architectures, and each architecture stands
+/// after its entity; instances may be of any entity of the file. It fails at the first byte where a
+/// rule is broken, or where memory is refused; an entity that stands later than a component or an
+/// instance of it is read there, so that what is wrong behind it in that architecture isn't told
+/// where the entity is at fault. It takes memory for what is declared in the file and analysed of
+/// it; a file that is refused is read twice.
+pub fn analyse(alloc: Global, file: &File) -> Result<Units, NameFault>
+    ensures { Gives views.units_view (units_of (file_view file.now)) result }
+{
+    match units_in_turn(alloc, file) {
+        Ok(units) => Ok(units),
+        Err(NameFault::NoMemory) => Err(NameFault::NoMemory),
+        Err(fault) => Err(first_fault(alloc, file, fault)),
+    }
 }

@@ -6,10 +6,9 @@ use Rattle.std.proofs.lemmas.Option.{slice_get-map}
 use Rattle.std.proofs.lemmas.Iterator.Adapters.{position_from-zero}
 use Rattle.vhdl_tree.specs.Tree as t
 use Rattle.vhdl_tree.specs.Tree.{Ident, Expr, Association}
-use Rattle.vhdl_names.specs.units.Expressions.{Place}
 use Rattle.vhdl_names.specs.units.Units as u
 use Rattle.vhdl_names.specs.Rules.{◌>>=◌, ◌>>◌, rule, each, if_any, all_of}
-use Rattle.vhdl_names.specs.Visibility.{Name, Sight, meaning}
+use Rattle.vhdl_names.specs.Visibility.{Name, Sight}
 use Rattle.vhdl_names.specs.Expressions.{static}
 use Rattle.vhdl_names.specs.Instances as rules
 use Rattle.vhdl_names.specs.Instances.{Formal, associated, is_architecture, as_component, generic_name, port_formal, port_actual}
@@ -17,7 +16,6 @@ use Rattle.vhdl_names.specs.Interfaces.{EntityView, entity_named}
 use Rattle.vhdl_bodies.proofs.steps.Cases.{bound}
 use Rattle.vhdl_instances.specs.Table.{Seen, seen, seen_view, type_of, items, AreEntities}
 use Rattle.vhdl_instances.specs.declared.instances.Formals.{Formals}
-use Rattle.vhdl_instances.specs.declared.actuals.PortType.{PortType}
 use Rattle.vhdl_instances.specs.declared.instances.Entities.{Entities}
 use Rattle.vhdl_instances.specs.steps.Actuals as actuals
 use Rattle.vhdl_instances.specs.steps.Instances as steps

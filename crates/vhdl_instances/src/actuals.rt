@@ -112,7 +112,7 @@ fn entry_at<'a>(actuals: &[Option<&'a Expr>], index: usize) -> Option<Option<&'a
 }
 
 /// The type of the port at a place, if there are so many.
-fn port_at(ports: &[PortType], index: usize) -> Option<PortType>
+pub(crate) fn port_at(ports: &[PortType], index: usize) -> Option<PortType>
     ensures { result ≡ slice_get ports.now index }
 {
     match ports.get(index) {

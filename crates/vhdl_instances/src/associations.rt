@@ -1,6 +1,6 @@
 //! Which formal each association is for (IEEE 1076-2008, 6.5.7).
 
-ghost use Rattle.std.specs.Prelude.{◌≡◌, IfOk, map, option_map, Some};
+ghost use Rattle.std.specs.Prelude.{◌≡◌, IfOk, false, map, option_map, Some};
 ghost use Rattle.vhdl_instances.specs.steps.Associations as steps;
 ghost use Rattle.vhdl_instances.specs.Views.{actuals_view};
 ghost use Rattle.vhdl_bodies.specs.steps.Once.{names_view};
@@ -102,24 +102,22 @@ fn take(
     add_name(alloc, taken, name, place(association))
 }
 
-/// The names of the formals that associations are for, in the order of the associations.
-fn taken_by(alloc: Global, formals: &Names, list: &[Association]) -> Result<Names, NameFault>
-    ensures { Gives names_view (steps.all_taken (names_view formals.now) (map association_view list.now)) result }
+/// The names of the formals that associations are for, in the order of the associations: `taken`
+/// has none at first, and keeps those before an association that is refused.
+pub(crate) fn take_all(
+    alloc: Global,
+    formals: &Names,
+    taken: &mut Names,
+    list: &[Association],
+) -> Result<(), NameFault>
+    ensures { Gives (λ _. names_view taken.new) (steps.taking (names_view formals.now) 0 false (names_view taken.old) (map association_view list.now)) result }
 {
-    let mut taken = IndexSet::new(alloc);
     let mut is_behind_named = false;
     for (index, association) in list.iter().enumerate() {
-        take(
-            alloc,
-            formals,
-            &mut taken,
-            index,
-            is_behind_named,
-            association,
-        )?;
+        take(alloc, formals, taken, index, is_behind_named, association)?;
         is_behind_named = is_named(association);
     }
-    Ok(taken)
+    Ok(())
 }
 
 /// What an association at a place associates.
@@ -147,7 +145,7 @@ fn actual_of<'a>(taken: &Names, list: &'a [Association], name: &[u8]) -> Option<
 }
 
 /// What is associated with each formal.
-fn actuals<'a>(
+pub(crate) fn actuals<'a>(
     alloc: Global,
     formals: &Names,
     taken: &Names,
@@ -174,6 +172,7 @@ pub fn associated<'a>(
 ) -> Result<Vec<Option<&'a Expr>>, NameFault>
     ensures { Gives actuals_view (rules.associated (names_view formals.now) (map association_view list.now)) result }
 {
-    let taken = taken_by(alloc, formals, list)?;
+    let mut taken = IndexSet::new(alloc);
+    take_all(alloc, formals, &mut taken, list)?;
     Ok(actuals(alloc, formals, &taken, list)?)
 }

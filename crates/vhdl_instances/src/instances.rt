@@ -15,8 +15,9 @@ ghost use Rattle.vhdl_units.specs.views.Concurrent.{instance_view};
 
 use crate::actuals::{PortType, generic_actuals, port_actuals};
 use crate::associations::{Names, associated};
+use crate::maps::maps;
 use std::alloc::Global;
-use vhdl_bodies::{copied, is_text};
+use vhdl_bodies::{copied, earlier_in, is_text};
 use vhdl_names::{NameFault, NameProblem};
 use vhdl_tree as syntax;
 use vhdl_tree::{Association, Identifier, Instantiated};
@@ -41,7 +42,7 @@ pub struct Entities {
 }
 
 /// The associations of a map, none where it is absent.
-fn listed(list: &Option<Vec<Association>>) -> &[Association]
+pub(crate) fn listed(list: &Option<Vec<Association>>) -> &[Association]
     ensures { map tree.association_view result.now ≡ all_of (option_map tree.associations_view list.now) }
 {
     match list {
@@ -153,8 +154,8 @@ fn instantiated(entities: &Entities, sight: &Sight, unit: &Instantiated) -> Resu
     }
 }
 
-/// An instance of the entity of a number, which has these formals.
-fn with_formals(
+/// An instance of the entity of a number, whose actuals come in the order of its formals.
+fn by_formals(
     alloc: Global,
     sight: &Sight,
     label: &Identifier,
@@ -176,6 +177,25 @@ fn with_formals(
         generics,
         ports,
     })
+}
+
+/// An instance of the entity of a number, which has these formals. Of what is wrong with its maps the
+/// first in order of the text is told.
+fn with_formals(
+    alloc: Global,
+    sight: &Sight,
+    label: &Identifier,
+    unit: usize,
+    formals: &Formals,
+    instance: &syntax::Instance,
+) -> Result<Instance, NameFault>
+    ensures { Gives instance_view (steps.with_formals (sight_view sight.now) (tree.ident_view label.now) unit (seen_view formals.now)
+        (all_of (option_map tree.associations_view instance.now.generics)) (all_of (option_map tree.associations_view instance.now.ports))) result }
+{
+    match by_formals(alloc, sight, label, unit, formals, instance) {
+        Ok(instance) => Ok(instance),
+        Err(fault) => Err(earlier_in(fault, maps(alloc, sight, formals, instance))),
+    }
 }
 
 /// An instance behind its label, in the order of its parts.

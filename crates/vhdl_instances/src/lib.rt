@@ -5,6 +5,7 @@
 mod actuals;
 mod associations;
 mod instances;
+mod maps;
 mod tables;
 
 pub use actuals::PortType;

@@ -1,5 +1,5 @@
 -- Concurrent statements in the order in which the code comes to their parts.
-use Rattle.std.specs.Prelude.{List, [], ◌∷◌, Option, Some, option_map, Vec}
+use Rattle.std.specs.Prelude.{List, ◌∷◌, Option, Some, option_map, Vec}
 use Rattle.std.specs.Global.{Global}
 use Rattle.vhdl_tree.specs.Tree as t
 use Rattle.vhdl_tree.specs.Tree.{Ident}
@@ -41,9 +41,12 @@ module _ (instance : Sight → Ident → t.Instance → Option u.Instance) where
   abbrev pub all : Sight → List t.Concurrent → Option (List u.Concurrent)
   all sight cs = each (concurrent sight) cs
 
+  -- the statements directly in a generate
+  abbrev pub labelled : Sight → List t.Concurrent → Option (List u.Concurrent)
+  labelled sight cs = rule (are_distinct (concurrent_labels (t.concurrents_of cs))) >> all sight cs
+
   abbrev pub generate : Sight → Ident → t.Scheme → List t.Concurrent → Option Ident → Option u.Concurrent
   generate sight label scheme cs end = do
-    rule (are_distinct (concurrent_labels (t.concurrents_of cs)))
-    xs ← all (sight_within sight scheme) cs
+    xs ← labelled (sight_within sight scheme) cs
     rule (ends label.text end)
     generated sight label.text scheme (concurrents_of xs)

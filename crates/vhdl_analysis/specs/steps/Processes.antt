@@ -1,21 +1,16 @@
 -- Processes in the order in which the code comes to their parts.
-use Rattle.std.specs.Prelude.{List, Option, Some, Result, Vec}
-use Rattle.std.specs.Global.{Global}
+use Rattle.std.specs.Prelude.{List, Option, Some}
 use Rattle.vhdl_tree.specs.Tree as t
 use Rattle.vhdl_tree.specs.Tree.{Ident}
-use Rattle.vhdl_names.specs.declared.fault.NameFault.{NameFault}
 use Rattle.vhdl_names.specs.units.Expressions.{Place}
 use Rattle.vhdl_names.specs.units.Statements as s
 use Rattle.vhdl_names.specs.units.Units as u
-use Rattle.vhdl_names.specs.Gives.{Gives}
 use Rattle.vhdl_names.specs.Rules.{◌>>=◌, ◌>>◌, rule}
 use Rattle.vhdl_names.specs.Visibility.{Sight, are_distinct, label_ends, with_variables}
 use Rattle.vhdl_names.specs.Declarations.{in_order, variables}
 use Rattle.vhdl_names.specs.Statements.{signal, statements, statement_labels}
 use Rattle.vhdl_names.specs.Concurrent.{sensitivity, label_of}
 use Rattle.vhdl_declared.specs.Entered.{entering_variables}
-use Rattle.vhdl_units.specs.declared.sequential.Statement.{Statement}
-use Rattle.vhdl_units.specs.views.Sequential.{body_view}
 
 abbrev pub place_of : Sight → t.Name → Option Place
 place_of sight n = signal sight n >>= λ x. Some x.place
@@ -23,10 +18,6 @@ place_of sight n = signal sight n >>= λ x. Some x.place
 -- what is in sight behind the variables of a process, and these
 abbrev pub variables_in : Sight → List t.Variables → Option (Sight × List u.Object)
 variables_in = entering_variables (in_order with_variables variables)
-
--- two answers, of which the second is what both give
-abbrev pub Joins : Result (Unit {0}) NameFault → Result (Vec Statement Global) NameFault → Result (Vec Statement Global) NameFault → Type 0
-Joins labels statements result = (l : Option (Unit {0})) (o : Option s.Statements) → Gives (λ x. x) l labels → Gives body_view o statements → Gives body_view (l >> o) result
 
 abbrev pub body : Sight → List t.Sequential → Option s.Statements
 body sight qs = rule (are_distinct (statement_labels (t.statements_of qs))) >> statements sight (t.statements_of qs)

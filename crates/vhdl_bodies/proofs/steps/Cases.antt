@@ -8,7 +8,7 @@ use Rattle.vhdl_tree.specs.declared.expression.Choice.{Choice}
 use Rattle.vhdl_tree.specs.Tree as t
 use Rattle.vhdl_tree.specs.Tree.{Ident}
 use Rattle.vhdl_tree.specs.View as tree
-use Rattle.vhdl_tree.specs.declared.sequential.Case.{Case, out-Case, roll-Case, roll-out-Case}
+use Rattle.vhdl_tree.specs.declared.sequential.Case.{Case, out-Case, roll-out-Case}
 use Rattle.vhdl_tree.proofs.RowsStatements.{view_case}
 use Rattle.vhdl_names.specs.declared.kind.ObjectType.{ObjectType}
 use Rattle.vhdl_names.specs.declared.kind.ObjectType.TheVariants.{Elements, Enumeration}
@@ -16,7 +16,6 @@ use Rattle.vhdl_names.specs.units.Expressions.{Value}
 use Rattle.vhdl_names.specs.units.Statements as s
 use Rattle.vhdl_names.specs.Rules.{◌>>=◌, ◌>>◌, rule, each, given_that}
 use Rattle.vhdl_names.specs.Visibility.{Name, Sight, label_ends, are_distinct, is_among}
-use Rattle.vhdl_names.specs.Operators.{Typed}
 use Rattle.vhdl_names.specs.Expressions.{typed}
 use Rattle.vhdl_names.specs.Choices.{choices, covered, selector, arranged, only_last_others, is_last_others, is_others, are_distinct_choices, names_all, same_choice}
 use Rattle.vhdl_names.specs.Statements.{statement, statements, alternatives, choice_lists}

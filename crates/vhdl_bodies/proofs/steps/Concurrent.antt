@@ -1,5 +1,5 @@
 -- The rules of concurrent assignments, in the order in which the code comes to their parts.
-use Rattle.std.proofs.Common.{◌≡◌, Bool, true, false, List, [], ◌∷◌, map, Option, Some, None, refl, ap, sym, subst, ◌∙◌}
+use Rattle.std.proofs.Common.{◌≡◌, true, List, [], ◌∷◌, Option, Some, None, refl, ap, sym, subst, ◌∙◌}
 use Rattle.std.specs.Prelude.{option_map}
 use Rattle.vhdl_tree.specs.Tree as t
 use Rattle.vhdl_tree.specs.Tree.{Ident}
@@ -19,7 +19,7 @@ use Rattle.vhdl_units.specs.views.Sequential.{Guarded, guarded_by, Chosen, chose
 use Rattle.vhdl_bodies.specs.steps.Cases.{Divided, all_choices, cover, but_last}
 use Rattle.vhdl_bodies.specs.steps.Sequential.{assigned}
 use Rattle.vhdl_bodies.specs.steps.Concurrent as steps
-use Rattle.vhdl_bodies.proofs.steps.Cases.{Pairs, all_there, one_pair, bound, inner, put_together, by_rules, by_steps, same}
+use Rattle.vhdl_bodies.proofs.steps.Cases.{Pairs, all_there, one_pair, bound, inner, put_together, by_steps, same}
 
 module _ (sight : Sight) (n : t.Name) (x : SignalName) (found : target sight n ≡ Some x) where
   assigned_by : (v : t.Value) → rules.assigned sight x v ≡ assigned sight n v

@@ -4,8 +4,8 @@ use Rattle.std.specs.Prelude.{option_map}
 use Rattle.vhdl_tree.specs.Tree as t
 use Rattle.vhdl_tree.specs.Tree.{Ident}
 use Rattle.vhdl_tree.specs.View as tree
-use Rattle.vhdl_tree.specs.declared.sequential.If.{If, out-If, roll-If, roll-out-If}
-use Rattle.vhdl_tree.specs.declared.sequential.For.{For, out-For, roll-For, roll-out-For}
+use Rattle.vhdl_tree.specs.declared.sequential.If.{If, out-If, roll-out-If}
+use Rattle.vhdl_tree.specs.declared.sequential.For.{For, out-For, roll-out-For}
 use Rattle.vhdl_tree.proofs.RowsStatements.{view_if, view_for}
 use Rattle.vhdl_names.specs.units.Expressions.{Range, Test}
 use Rattle.vhdl_names.specs.units.Statements as s

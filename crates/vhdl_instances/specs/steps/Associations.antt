@@ -1,5 +1,5 @@
 -- Associations in the order in which the code comes to them.
-use Rattle.std.specs.Prelude.{ℕ, suc, Bool, true, false, not, ◌||◌, List, [], ◌∷◌, map, Option, Some, None, slice_get}
+use Rattle.std.specs.Prelude.{ℕ, suc, Bool, false, not, ◌||◌, List, [], ◌∷◌, map, Option, Some, None, slice_get}
 use Rattle.vhdl_tree.specs.Tree.{Ident, Expr, Association}
 use Rattle.vhdl_names.specs.Rules.{◌>>=◌, ◌>>◌, rule}
 use Rattle.vhdl_names.specs.Visibility.{Name}
