@@ -11,12 +11,15 @@ ghost use Rattle.rtl_commands.specs.Served.{Serves, ended};
 ghost use Rattle.rtl_commands.specs.Simulated.{RunsEvents};
 ghost use Rattle.rtl_commands.specs.Told as told;
 
+use crate::faults::Fault;
 use crate::lines::{tell_fault, tell_source_fault, tell_summary};
 use crate::listing::{check_net, list_net};
 use crate::machine::{eval_net, run_net};
 use crate::running::run_events;
 use crate::status::Status;
 use rtl_kernel::Pick;
+use rtl_net::Net;
+use rtl_run::Summary;
 use rtl_sink::Sink;
 use std::alloc::Global;
 use vhdl_designs::{Front, SourceFault};
@@ -40,10 +43,7 @@ pub fn serve_net<F: Front, O: Sink, E: Sink>(
     };
     match list_net(&net, out) {
         Ok(()) => ended_by_writes(Status::Done, out, err),
-        Err(fault) => {
-            let said = tell_fault(alloc, &net, &fault, err);
-            ended_by_writes(said, out, err)
-        }
+        Err(fault) => refuse_net(alloc, &net, &fault, out, err),
     }
 }
 
@@ -66,10 +66,7 @@ pub fn serve_check<F: Front, O: Sink, E: Sink>(
     };
     match check_net(alloc, &net, out) {
         Ok(yes) => ended_by_writes(verdict_status(yes), out, err),
-        Err(fault) => {
-            let said = tell_fault(alloc, &net, &fault, err);
-            ended_by_writes(said, out, err)
-        }
+        Err(fault) => refuse_net(alloc, &net, &fault, out, err),
     }
 }
 
@@ -94,14 +91,8 @@ pub fn serve_run_event<F: Front, P: Pick, O: Sink, E: Sink>(
         Err(fault) => return refuse_source(fault, out, err),
     };
     match run_events(alloc, &net, stimulus, pick, out) {
-        Ok(summary) => {
-            tell_summary(summary, err);
-            ended_by_writes(Status::Done, out, err)
-        }
-        Err(fault) => {
-            let said = tell_fault(alloc, &net, &fault, err);
-            ended_by_writes(said, out, err)
-        }
+        Ok(summary) => end_run(summary, out, err),
+        Err(fault) => refuse_net(alloc, &net, &fault, out, err),
     }
 }
 
@@ -126,14 +117,8 @@ pub fn serve_run<F: Front, P: Pick, O: Sink, E: Sink>(
         Err(fault) => return refuse_source(fault, out, err),
     };
     match run_net(alloc, &net, stimulus, pick, out) {
-        Ok(summary) => {
-            tell_summary(summary, err);
-            ended_by_writes(Status::Done, out, err)
-        }
-        Err(fault) => {
-            let said = tell_fault(alloc, &net, &fault, err);
-            ended_by_writes(said, out, err)
-        }
+        Ok(summary) => end_run(summary, out, err),
+        Err(fault) => refuse_net(alloc, &net, &fault, out, err),
     }
 }
 
@@ -158,10 +143,7 @@ pub fn serve_eval<F: Front, O: Sink, E: Sink>(
     };
     match eval_net(alloc, &net, sets, out) {
         Ok(()) => ended_by_writes(Status::Done, out, err),
-        Err(fault) => {
-            let said = tell_fault(alloc, &net, &fault, err);
-            ended_by_writes(said, out, err)
-        }
+        Err(fault) => refuse_net(alloc, &net, &fault, out, err),
     }
 }
 
@@ -172,6 +154,31 @@ fn refuse_source<O: Sink, E: Sink>(fault: SourceFault, out: &O, err: &mut E) -> 
 {
     let said = tell_source_fault(fault, err);
     ended_by_writes(said, out, err)
+}
+
+/// Tells a fault of a net with its names, and answers the status.
+fn refuse_net<O: Sink, E: Sink>(
+    alloc: Global,
+    net: &Net,
+    fault: &Fault,
+    out: &O,
+    err: &mut E,
+) -> Status
+    requires { IsIntact (E.state err.old) }
+    ensures { (said : Status) × told.TellsFault net.now fault.now (E.state err.old) (E.state err.new) said
+        × (result ≡ ended said (O.state out.now) (E.state err.new)) }
+{
+    let said = tell_fault(alloc, net, fault, err);
+    ended_by_writes(said, out, err)
+}
+
+/// Tells the numbers of a run that is done, and answers the status.
+fn end_run<O: Sink, E: Sink>(summary: Summary, out: &O, err: &mut E) -> Status
+    ensures told { Goes (E.state err.old) (E.state err.new) (told.summary_line summary) }
+    ensures status { result ≡ ended Status.Done (O.state out.now) (E.state err.new) }
+{
+    tell_summary(summary, err);
+    ended_by_writes(Status::Done, out, err)
 }
 
 /// The status of the checker's verdict.
