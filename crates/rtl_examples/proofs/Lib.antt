@@ -11,3 +11,4 @@ pub mod BodyMistakes
 pub mod SimulationMistakes
 pub mod Variables
 pub mod Nets
+pub mod Listing

@@ -1,4 +1,3 @@
 pub mod Absent
 pub mod Greatest
 pub mod Printing
-pub mod Rows

@@ -2,4 +2,3 @@
 pub mod NetText
 pub mod CheckText
 pub mod Printing
-pub mod Rows

@@ -6,7 +6,6 @@
 
 mod checking;
 mod fault;
-mod laws;
 mod levels;
 mod names;
 mod nets;
@@ -15,7 +14,6 @@ mod sources;
 
 pub use checking::{show_check, show_faults};
 pub use fault::ListingFault;
-pub use laws::{counter_is_listed, lines_are_as_said};
 pub use names::net_name;
 pub use nets::show_net;
 pub use rtl_sink::{Out, Sink, WriteFailed};

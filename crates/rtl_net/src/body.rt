@@ -5,7 +5,7 @@ use crate::indices::Indices;
 use vhdl_values::{Cmp, Logic, Nine, Vec9};
 
 /// An operator on two vectors (9.2; numeric_std for the arithmetic ones).
-#[derive(Clone, Copy, PartialEq, Eq, Debug)]
+#[derive(Clone, Copy)]
 pub enum Operator {
     Logical(Logic),
     /// `&`.

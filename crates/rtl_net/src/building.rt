@@ -18,7 +18,7 @@ use smallvec::SmallVec;
 use std::alloc::Global;
 
 /// An out port of an instance that nothing drives: its net, and the value that it holds for ever.
-#[derive(Clone, Copy, PartialEq, Eq, Debug)]
+#[derive(Clone, Copy)]
 pub struct IdlePort {
     pub net: usize,
     pub start: u8,

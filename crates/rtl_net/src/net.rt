@@ -15,7 +15,7 @@ use std::marker::Model;
 pub type NoMemory = AllocError;
 
 /// The type of a net.
-#[derive(Clone, Copy, PartialEq, Eq, Debug)]
+#[derive(Clone, Copy)]
 pub enum NetKind {
     /// One element of std_logic or std_ulogic.
     Nine,
@@ -24,7 +24,7 @@ pub enum NetKind {
 }
 
 /// A source of a net (IEEE 1076-2008, 14.7.2).
-#[derive(Clone, Copy, PartialEq, Eq, Debug)]
+#[derive(Clone, Copy)]
 pub enum Source {
     /// A driver, by its process and its place in that process's `drives`.
     Driven { process: usize, place: usize },
@@ -40,7 +40,7 @@ impl Default for Source {
 }
 
 /// The element of a signal that a net was declared as: the signal's number, and the element's place from the left.
-#[derive(Clone, Copy, PartialEq, Eq, Debug)]
+#[derive(Clone, Copy)]
 pub(crate) struct Owner {
     pub(crate) signal: usize,
     pub(crate) place: usize,

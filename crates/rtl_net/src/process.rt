@@ -5,7 +5,7 @@ use crate::signal::SignalKind;
 use smallvec::SmallVec;
 
 /// A driver of a process: its net, and the value that it starts with (IEEE 1076-2008, 14.7.2).
-#[derive(Clone, Copy, PartialEq, Eq, Debug)]
+#[derive(Clone, Copy)]
 pub struct Driver {
     pub net: usize,
     pub start: u8,

@@ -12,7 +12,7 @@ pub struct Scope {
 }
 
 /// The type of a signal or variable, and of a vector its bounds as declared.
-#[derive(Clone, Copy, PartialEq, Eq, Debug)]
+#[derive(Clone, Copy)]
 pub enum SignalKind {
     /// One element of the nine values.
     One,

@@ -12,7 +12,7 @@ use vhdl_design::{Object, Part, Process, Role, Sensitivity};
 use vhdl_processes::read_of;
 
 /// How many sources an element has of its own.
-#[derive(Clone, Copy, PartialEq, Eq, Debug)]
+#[derive(Clone, Copy)]
 pub enum Sources {
     Zero,
     One,
@@ -20,7 +20,7 @@ pub enum Sources {
 }
 
 /// What an instance does with an element.
-#[derive(Clone, Copy, PartialEq, Eq, Debug)]
+#[derive(Clone, Copy)]
 pub struct Use {
     /// Drivers in the instance, and out ports of instances in it.
     pub sources: Sources,

@@ -11,7 +11,7 @@ ghost use Rattle.vhdl_design.specs.Views.{budget_view};
 use vhdl_expand::{ElabFault, ElabProblem};
 
 /// How many parts of each sort may still be made.
-#[derive(Clone, Copy, Debug, PartialEq, Eq)]
+#[derive(Clone, Copy)]
 pub struct Budget {
     pub processes: u32,
     pub instances: u32,

@@ -7,7 +7,7 @@ use smallvec::SmallVec;
 use vhdl_expand::Kind;
 
 /// What an object is to its instance.
-#[derive(Clone, Copy, Debug, PartialEq, Eq)]
+#[derive(Clone, Copy)]
 pub enum Role {
     /// A port of mode in.
     Input,

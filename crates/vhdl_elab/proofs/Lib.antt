@@ -1,3 +1,2 @@
-pub mod examples
 pub mod Segments
 pub mod laws

@@ -4,5 +4,4 @@ pub mod Wiring
 pub mod Limits
 pub mod Names
 pub mod Elaboration
-pub mod examples
 pub mod laws

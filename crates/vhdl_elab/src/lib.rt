@@ -2,5 +2,4 @@
 //! The definitions stand in `specs`.
 #![tactic(auto)]
 
-pub mod design_examples;
 pub mod elaboration_laws;

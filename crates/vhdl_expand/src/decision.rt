@@ -15,7 +15,7 @@ use vhdl_tree::Direction;
 use vhdl_values::{Cmp, Logic};
 
 /// The turns of a loop or generate: the values of its parameter are `count` numbers from `first` on.
-#[derive(Clone, Copy, Debug, PartialEq, Eq)]
+#[derive(Clone, Copy)]
 pub struct Turns {
     pub first: i32,
     pub direction: Direction,

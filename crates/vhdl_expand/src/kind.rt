@@ -15,7 +15,7 @@ use vhdl_names::{Part, Static, StaticRange};
 use vhdl_tree::Direction;
 
 /// The bounds of a vector, as they are declared.
-#[derive(Clone, Copy, Debug, PartialEq, Eq)]
+#[derive(Clone, Copy)]
 pub struct Bounds {
     pub left: u32,
     pub direction: Direction,
@@ -23,7 +23,7 @@ pub struct Bounds {
 }
 
 /// One element, a vector, or a value of an enumeration of so many literals.
-#[derive(Clone, Copy, Debug, PartialEq, Eq)]
+#[derive(Clone, Copy)]
 pub enum Kind {
     One,
     Vector(Bounds),
@@ -31,7 +31,7 @@ pub enum Kind {
 }
 
 /// Neighbouring places: the first, counted from the left, and how many there are.
-#[derive(Clone, Copy, Debug, PartialEq, Eq)]
+#[derive(Clone, Copy)]
 pub struct Run {
     pub first: usize,
     pub len: usize,

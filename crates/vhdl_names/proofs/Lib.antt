@@ -1,3 +1,2 @@
-pub mod examples
 pub mod laws
 pub mod rows

@@ -19,4 +19,3 @@ pub mod Concurrent
 pub mod Files
 pub mod sound
 pub mod laws
-pub mod examples

@@ -3,7 +3,7 @@
 use vhdl_values::Edge;
 
 /// The kind of one element, or of a vector, of the nine values.
-#[derive(Clone, Copy, Debug, PartialEq, Eq)]
+#[derive(Clone, Copy)]
 pub enum Kind {
     Element,
     LogicVector,
@@ -14,14 +14,14 @@ pub enum Kind {
 
 /// The type of an object that is no integer: of the nine values, or the enumeration of this
 /// number, with so many literals.
-#[derive(Clone, Copy, Debug, PartialEq, Eq)]
+#[derive(Clone, Copy)]
 pub enum ObjectType {
     Elements(Kind),
     Enumeration { number: usize, count: usize },
 }
 
 /// A function of the packages.
-#[derive(Clone, Copy, Debug, PartialEq, Eq)]
+#[derive(Clone, Copy, PartialEq, Eq)]
 pub enum Function {
     EdgeCall(Edge),
     Resize,

@@ -1,5 +1,5 @@
 //! Names and types of a file (IEEE 1076-2008, clauses 6 and 8 to 13). The definitions stand in `specs`: what an analysed
-//! file is (`units`), which file is well typed, one rule a line, and small examples of both.
+//! file is (`units`), which file is well typed, one rule a line, and what follows of both.
 #![tactic(auto)]
 
 mod fault;
@@ -7,7 +7,6 @@ mod integer;
 mod kind;
 mod literal;
 mod operator;
-pub mod rule_examples;
 pub mod rule_laws;
 mod test;
 mod vector;

@@ -3,7 +3,7 @@
 use vhdl_values::Logic;
 
 /// An operator on static integers (IEEE 1076-2008, 9.2.5, 9.2.7).
-#[derive(Clone, Copy, Debug, PartialEq, Eq)]
+#[derive(Clone, Copy)]
 pub enum Arithmetic {
     Add,
     Subtract,
@@ -14,7 +14,7 @@ pub enum Arithmetic {
 }
 
 /// An arithmetic operator of numeric_std on unsigned.
-#[derive(Clone, Copy, Debug, PartialEq, Eq)]
+#[derive(Clone, Copy)]
 pub enum Numeric {
     Add,
     Subtract,
@@ -22,7 +22,7 @@ pub enum Numeric {
 }
 
 /// An operator on two vectors or elements (IEEE 1076-2008, 9.2).
-#[derive(Clone, Copy, Debug, PartialEq, Eq)]
+#[derive(Clone, Copy)]
 pub enum VectorOperator {
     Logical(Logic),
     Concatenate,
@@ -30,7 +30,7 @@ pub enum VectorOperator {
 }
 
 /// A type of integers: integer, or its subtype natural or positive (IEEE 1076-2008, 5.2.3.2).
-#[derive(Clone, Copy, Debug, PartialEq, Eq)]
+#[derive(Clone, Copy)]
 pub enum IntegerType {
     Integer,
     Natural,

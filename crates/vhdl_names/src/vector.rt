@@ -11,7 +11,7 @@ use std::alloc::{AllocError, Global};
 use vhdl_values::Nine;
 
 /// A port or signal of the unit, by its number.
-#[derive(Clone, Copy, Debug, PartialEq, Eq)]
+#[derive(Clone, Copy)]
 pub enum Signal {
     Port(usize),
     Signal(usize),

@@ -9,7 +9,7 @@ use vhdl_connection::Use;
 use vhdl_design::Role;
 
 /// An element of a port or signal of an instance (IEEE 1076-2008, 6.4.2.3).
-#[derive(Clone, Copy, Debug, PartialEq, Eq)]
+#[derive(Clone, Copy)]
 pub struct Element {
     pub role: Role,
     /// Whether several sources of it are resolved.

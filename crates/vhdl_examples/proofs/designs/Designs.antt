@@ -1,0 +1,32 @@
+-- The nets of specs/examples/Designs.antt compute.
+use Rattle.std.proofs.Common.{refl, arith}
+use Rattle.std.proofs.lemmas.Fmt.{decimal_digit}
+use Rattle.vhdl_values.specs.Numbers.{digits_of}
+use Rattle.vhdl_expand.specs.Integers.{integer, natural, integer_of, decision, turns}
+use Rattle.vhdl_expand.specs.Kinds.{declared_bounds, kind_of, size_of, places}
+use Rattle.vhdl_expand.specs.Site.{signal_elements, variable_elements, constant_values}
+use Rattle.vhdl_expand.specs.Expressions.{vector, value, test}
+use Rattle.vhdl_expand.specs.Statements.{given, choice, statement, statements, statement_turns, statements_turns}
+use Rattle.vhdl_expand.specs.Prefixes.{names_elements, prefixes_elements, in_order}
+use Rattle.vhdl_expand.specs.Declarations.{generics, fixed, starts, object, ports, declaration, declarations, variable, interface, association, associations}
+use Rattle.vhdl_expand.specs.Expansion.{sensitivity, process, instance, concurrent, concurrents, concurrent_turns, concurrents_turns, instance_of, expanded}
+use Rattle.vhdl_elab.specs.Numbering.{numbered}
+use Rattle.vhdl_elab.specs.Wiring.{flat_net}
+use Rattle.vhdl_elab.specs.Elaboration.{connected, elaborated}
+use Rattle.vhdl_examples.specs.designs.Designs.{CounterHasItsNet, InvertersAreJoined, IdlePortsHoldTheirDefaults, LoopsAreUnrolled}
+
+pub idle_ports : IdlePortsHoldTheirDefaults
+unfolding digits_of integer natural integer_of decision turns declared_bounds kind_of size_of places signal_elements variable_elements constant_values vector value test given choice statement statements statement_turns statements_turns names_elements prefixes_elements in_order generics fixed starts object ports declaration declarations variable interface association associations sensitivity process instance concurrent concurrents concurrent_turns concurrents_turns instance_of expanded numbered flat_net connected elaborated
+idle_ports = record { net = refl }
+
+pub counter : CounterHasItsNet
+unfolding digits_of integer natural integer_of decision turns declared_bounds kind_of size_of places signal_elements variable_elements constant_values vector value test given choice statement statements statement_turns statements_turns names_elements prefixes_elements in_order generics fixed starts object ports declaration declarations variable interface association associations sensitivity process instance concurrent concurrents concurrent_turns concurrents_turns instance_of expanded numbered flat_net connected elaborated
+counter = record { net = rw (decimal_digit 0 (omega arith), decimal_digit 1 (omega arith)) refl; processes = refl }
+
+pub inverters : InvertersAreJoined
+unfolding digits_of integer natural integer_of decision turns declared_bounds kind_of size_of places signal_elements variable_elements constant_values vector value test given choice statement statements statement_turns statements_turns names_elements prefixes_elements in_order generics fixed starts object ports declaration declarations variable interface association associations sensitivity process instance concurrent concurrents concurrent_turns concurrents_turns instance_of expanded numbered flat_net connected elaborated
+inverters = record { net = rw (decimal_digit 0 (omega arith), decimal_digit 1 (omega arith)) refl; sources = refl }
+
+pub loops : LoopsAreUnrolled
+unfolding digits_of integer natural integer_of decision turns declared_bounds kind_of size_of places signal_elements variable_elements constant_values vector value test given choice statement statements statement_turns statements_turns names_elements prefixes_elements in_order generics fixed starts object ports declaration declarations variable interface association associations sensitivity process instance concurrent concurrents concurrent_turns concurrents_turns instance_of expanded numbered flat_net connected elaborated
+loops = record { drives = refl; wakes = refl }

@@ -1,0 +1,39 @@
+-- The refusals of specs/examples/Refusals.antt compute.
+use Rattle.std.proofs.Common.{refl}
+use Rattle.vhdl_values.specs.Numbers.{digits_of}
+use Rattle.vhdl_expand.specs.Integers.{integer, natural, integer_of, decision, turns}
+use Rattle.vhdl_expand.specs.Kinds.{declared_bounds, kind_of, size_of, places}
+use Rattle.vhdl_expand.specs.Site.{signal_elements, variable_elements, constant_values}
+use Rattle.vhdl_expand.specs.Expressions.{vector, value, test}
+use Rattle.vhdl_expand.specs.Statements.{given, choice, statement, statements, statement_turns, statements_turns}
+use Rattle.vhdl_expand.specs.Prefixes.{names_elements, prefixes_elements, in_order}
+use Rattle.vhdl_expand.specs.Declarations.{generics, fixed, starts, object, ports, declaration, declarations, variable, interface, association, associations}
+use Rattle.vhdl_expand.specs.Expansion.{sensitivity, process, instance, concurrent, concurrents, concurrent_turns, concurrents_turns, instance_of, expanded}
+use Rattle.vhdl_elab.specs.Numbering.{numbered}
+use Rattle.vhdl_elab.specs.Wiring.{flat_net}
+use Rattle.vhdl_elab.specs.Elaboration.{connected, elaborated}
+use Rattle.vhdl_examples.specs.designs.Refusals.{IntegersHaveValues, TopsAreThere, LengthsAgree, TurnsAreWithin, SourcesAreCounted, VariablesAreNumbered}
+
+pub integers : IntegersHaveValues
+unfolding digits_of integer natural integer_of decision turns declared_bounds kind_of size_of places signal_elements variable_elements constant_values vector value test given choice statement statements statement_turns statements_turns names_elements prefixes_elements in_order generics fixed starts object ports declaration declarations variable interface association associations sensitivity process instance concurrent concurrents concurrent_turns concurrents_turns instance_of expanded numbered flat_net connected elaborated
+integers = record { divided = refl; remainder = refl; modulus = refl; modulus_below = refl; by_zero = refl; too_great = refl }
+
+pub tops : TopsAreThere
+unfolding digits_of integer natural integer_of decision turns declared_bounds kind_of size_of places signal_elements variable_elements constant_values vector value test given choice statement statements statement_turns statements_turns names_elements prefixes_elements in_order generics fixed starts object ports declaration declarations variable interface association associations sensitivity process instance concurrent concurrents concurrent_turns concurrents_turns instance_of expanded numbered flat_net connected elaborated
+tops = record { no_entity = refl; no_architecture = refl; no_generic = refl; generic_range = refl; generic_without_value = refl }
+
+pub lengths : LengthsAgree
+unfolding digits_of integer natural integer_of decision turns declared_bounds kind_of size_of places signal_elements variable_elements constant_values vector value test given choice statement statements statement_turns statements_turns names_elements prefixes_elements in_order generics fixed starts object ports declaration declarations variable interface association associations sensitivity process instance concurrent concurrents concurrent_turns concurrents_turns instance_of expanded numbered flat_net connected elaborated
+lengths = record { short = refl; short_under_false = refl; null_range = refl; negative_bound = refl; too_wide = refl; against_direction = refl; outside = refl; negative_index = refl }
+
+pub turns_within : TurnsAreWithin
+unfolding digits_of integer natural integer_of decision turns declared_bounds kind_of size_of places signal_elements variable_elements constant_values vector value test given choice statement statements statement_turns statements_turns names_elements prefixes_elements in_order generics fixed starts object ports declaration declarations variable interface association associations sensitivity process instance concurrent concurrents concurrent_turns concurrents_turns instance_of expanded numbered flat_net connected elaborated
+turns_within = record { outside = refl; too_many = refl; none = refl }
+
+pub sources : SourcesAreCounted
+unfolding digits_of integer natural integer_of decision turns declared_bounds kind_of size_of places signal_elements variable_elements constant_values vector value test given choice statement statements statement_turns statements_turns names_elements prefixes_elements in_order generics fixed starts object ports declaration declarations variable interface association associations sensitivity process instance concurrent concurrents concurrent_turns concurrents_turns instance_of expanded numbered flat_net connected elaborated
+sources = record { unassociated = refl; two_unresolved = refl; two_drivers = refl; read_of_shared = refl; in_list = refl; by_in_port = refl; once = refl; too_deep = refl }
+
+pub variables : VariablesAreNumbered
+unfolding digits_of integer natural integer_of decision turns declared_bounds kind_of size_of places signal_elements variable_elements constant_values vector value test given choice statement statements statement_turns statements_turns names_elements prefixes_elements in_order generics fixed starts object ports declaration declarations variable interface association associations sensitivity process instance concurrent concurrents concurrent_turns concurrents_turns instance_of expanded numbered flat_net connected elaborated
+variables = record { has = refl }

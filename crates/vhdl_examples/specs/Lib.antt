@@ -1,0 +1,3 @@
+-- Small trees and designs on which the definitions are tried. In order of reading:
+pub mod rules
+pub mod designs

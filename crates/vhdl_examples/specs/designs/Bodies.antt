@@ -1,0 +1,111 @@
+-- Expressions and conditions as they stand in bodies, generics, conditional generates, and what nets start with.
+use Rattle.std.specs.Prelude.{◌≡◌, true, false, [], ◌∷◌, replicate, Some, None, Ok, Err, codes}
+use Rattle.vhdl_values.specs.declared.scalar.Nine.TheVariants.{Zero, One}
+use Rattle.vhdl_values.specs.declared.kinds.Cmp.TheVariants.{Eq, Lt, Gt}
+use Rattle.vhdl_values.specs.declared.kinds.Logic.TheVariants.{And}
+use Rattle.vhdl_tree.specs.declared.declaration.Mode.TheVariants.{Out}
+use Rattle.vhdl_tree.specs.declared.operator.Direction.TheVariants.{Downto}
+use Rattle.vhdl_names.specs.declared.operator.Arithmetic.TheVariants as arithmetic
+use Rattle.vhdl_names.specs.declared.operator.IntegerType.TheVariants.{Natural}
+use Rattle.vhdl_names.specs.declared.operator.Numeric.TheVariants.{Add, Multiply}
+use Rattle.vhdl_names.specs.declared.operator.VectorOperator.TheVariants as v
+use Rattle.vhdl_names.specs.units.Expressions as e
+use Rattle.vhdl_names.specs.units.Expressions.{Vector, Value}
+use Rattle.vhdl_names.specs.units.Units as u
+use Rattle.vhdl_names.specs.units.Units.{Entity}
+use Rattle.rtl_model.specs.bodies.Body as b
+use Rattle.vhdl_expand.specs.declared.fault.ElabProblem.TheVariants.{StaticError, Length, Index, TooWide}
+use Rattle.vhdl_expand.specs.Kinds.{one}
+use Rattle.vhdl_expand.specs.Kinds as k
+use Rattle.vhdl_expand.specs.Site.{Site, no_site}
+use Rattle.vhdl_expand.specs.Expressions.{vector, test}
+use Rattle.vhdl_elab.specs.Elaboration.{elaborated}
+use Rattle.vhdl_examples.specs.designs.Words.{number, downto, port, at, assignment, object, input, entity, Of}
+use Rattle.vhdl_examples.specs.designs.Designs.{no_statement}
+use Rattle.vhdl_examples.specs.designs.Refusals.{minus, of}
+
+-- a : in, w : in (1 downto 0), with elements 0, 1 and 2; and a variable x of one element
+abbrev pub site : Site
+site = record no_site { ports = one ∷ k.vector (record { left = 1; direction = Downto; right = 0 }) ∷ []; variables = one ∷ [] }
+
+abbrev pub a : Value
+a = e.elements (e.of_signal (port 0 e.whole))
+
+abbrev pub w : Vector
+w = e.of_signal (port 1 e.whole)
+
+abbrev pub is_one : Value
+is_one = e.elements (e.character One)
+
+abbrev pub is_enclosed_one : Value
+is_enclosed_one = e.elements (e.enclosed_character One)
+
+pub record ConditionsBecomeTests : Type 0 where
+  -- a = '1', a = ('1'), '1' = a
+  pub plain : test site (e.alike a is_one) ≡ Ok (b.level true 0 One)
+  pub enclosed : test site (e.alike a is_enclosed_one) ≡ Ok (b.level false 0 One)
+  pub turned : test site (e.alike is_one a) ≡ Ok (b.level false 0 One)
+  -- w(0) = '1'
+  pub indexed : test site (e.alike (e.elements (e.of_signal (port 1 (at (number 0))))) is_one) ≡ Ok (b.level true 2 One)
+  -- w(1 downto 1) = "1", x = '1', a /= '1'
+  pub slice : test site (e.alike (e.elements (e.of_signal (port 1 (e.slice (downto 1 1))))) (e.elements (e.Vector.literal (One ∷ []))))
+      ≡ Ok (b.equal (b.elements (b.signal (1 ∷ []))) (b.elements (b.constant (One ∷ []))))
+  pub of_variable : test site (e.alike (e.elements (e.of_variable 0 e.whole)) is_one)
+      ≡ Ok (b.equal (b.elements (b.variable (0 ∷ []))) (b.elements (b.constant (One ∷ []))))
+  pub unlike : test site (e.unlike a is_one) ≡ Ok (b.unequal (b.elements (b.signal (0 ∷ []))) (b.elements (b.constant (One ∷ []))))
+  -- a'event and a = '1'
+  pub edge : test site (e.Test.both And (e.event (port 0 e.whole)) (e.alike a is_one)) ≡ Ok (b.combined And (b.event 0) (b.level true 0 One))
+  -- 1 < w, 1 = 2, w = "111" of other lengths
+  pub integer_first : test site (e.compared_with Lt (number 1) w) ≡ Ok (b.compared_to Gt (b.signal (1 ∷ 2 ∷ [])) 1)
+  pub decided : test site (e.Test.fixed (e.StaticTest.compared Eq (number 1) (number 2))) ≡ Ok (b.decided false)
+  pub lengths_differ : test site (e.alike (e.elements w) (e.elements (e.Vector.literal (One ∷ One ∷ One ∷ []))))
+      ≡ Ok (b.equal (b.elements (b.signal (1 ∷ 2 ∷ []))) (b.elements (b.constant (One ∷ One ∷ One ∷ []))))
+
+pub record NumbersBecomeConstants : Type 0 where
+  -- w + 5, which is w + "01", and 5 * w
+  pub sum : vector site (e.with_integer Add w (number 5)) ≡ Ok (b.binary b.plus (b.signal (1 ∷ 2 ∷ [])) (b.constant (Zero ∷ One ∷ [])))
+  pub product : vector site (e.integer_with Multiply (number 5) w) ≡ Ok (b.binary b.times (b.constant (Zero ∷ One ∷ [])) (b.signal (1 ∷ 2 ∷ [])))
+  pub negative : vector site (e.with_integer Add w (minus 1)) ≡ Err StaticError
+  -- to_unsigned(9, 3), to_unsigned(9, 0), resize(w, 65)
+  pub encoded : vector site (e.Vector.encoded (number 9) (number 3)) ≡ Ok (b.constant (Zero ∷ Zero ∷ One ∷ []))
+  pub no_element : vector site (e.Vector.encoded (number 9) (number 0)) ≡ Err Index
+  pub too_wide : vector site (e.Vector.resized w (number 65)) ≡ Err TooWide
+  -- w and "111", and 63 elements & w
+  pub lengths : vector site (e.Vector.binary (v.Logical And) w (e.Vector.literal (One ∷ One ∷ One ∷ []))) ≡ Err Length
+  pub joined_too_wide : vector site (e.Vector.binary v.Concatenate (e.Vector.literal (replicate 63 One)) w) ≡ Err TooWide
+
+-- ---- generics, and conditional generates
+
+-- y : out (m downto 0)
+abbrev pub wide_output : u.Port
+wide_output = record {
+  mode = Out;
+  object = object (codes "y") (u.vector (record { left = e.generic 1; direction = Downto; right = number 0 })) None;
+}
+
+-- n : natural := 2; m : natural := n + 1; y : out (m downto 0)
+abbrev pub later_default : Entity
+later_default = record (entity (codes "g") (wide_output ∷ []) [] []) {
+  generics = record { type = Natural; default = Some (number 2) }
+      ∷ record { type = Natural; default = Some (of arithmetic.Add (e.generic 0) (number 1)) } ∷ [];
+}
+
+-- if 0 = 1 generate, round a generate over 0 to 1 / 0
+abbrev pub nothing_computed : Entity
+nothing_computed = entity (codes "f") [] []
+    (u.generate_if (codes "g") (e.StaticTest.compared Eq (number 0) (number 1))
+    (u.concurrent (u.generate_for (codes "h") (record { left = number 0; direction = Downto; right = of arithmetic.Divide (number 1) (number 0) })
+    u.no_concurrents) u.no_concurrents) ∷ [])
+
+-- y : out := '1', which is the actual of k's out port (whose default is '0'), and of a process
+abbrev pub two_sources : Entity
+two_sources = entity (codes "t")
+    (input (codes "a") u.element ∷ record { mode = Out; object = object (codes "y") u.element (Some (u.Fixed.literal (One ∷ []))) } ∷ []) []
+    (u.instance (record { label = codes "u"; unit = 0; generics = []; ports = Some (port 0 e.whole) ∷ Some (port 1 e.whole) ∷ [] })
+    ∷ assignment (port 1 e.whole) a ∷ [])
+
+pub record DefaultsAreTaken : Type 0 where
+  pub generic : Of (elaborated (later_default ∷ []) (codes "g")) (λ x. x.flat.start ≡ 0 ∷ 0 ∷ 0 ∷ 0 ∷ [])
+  pub not_computed : Of (elaborated (nothing_computed ∷ []) (codes "f")) (λ x. x.flat.start ≡ [])
+  -- the driver starts with '1', the idle port with '0', and y with X
+  pub resolved : Of (elaborated (no_statement ∷ two_sources ∷ []) (codes "t")) (λ x. x.flat.start ≡ 0 ∷ 1 ∷ [])

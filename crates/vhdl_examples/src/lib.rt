@@ -1,0 +1,6 @@
+//! Small trees and designs on which the definitions of `vhdl_names` and `vhdl_elab` are tried: what is accepted, with its
+//! units or its net, and what is refused. Each example is the contract of a function that does nothing.
+#![tactic(auto)]
+
+pub mod design_examples;
+pub mod rule_examples;
