@@ -90,6 +90,64 @@ fn chain(start: Box<TestStart>, links: Vec<TestLink>) -> Test
     Test::Chain(start, links)
 }
 
+/// A chain with one more link.
+fn static_chain_with(
+    start: Box<StaticTestStart>,
+    mut links: Vec<StaticTestLink>,
+    link: StaticTestLink,
+) -> Result<StaticTest, AllocError>
+    ensures { IfOk result (λ t. static_test_view t
+        ≡ units.StaticTest.both link.operator (static_test_chained (static_start_view start.value) links.items) (static_test_view link.operand)) }
+{
+    links.push(link)?;
+    Ok(static_chain(start, links))
+}
+
+/// A chain of one link.
+fn static_chain_of(
+    alloc: Global,
+    first: StaticTest,
+    link: StaticTestLink,
+) -> Result<StaticTest, AllocError>
+    ensures { IfOk result (λ t. static_test_view t ≡ units.StaticTest.both link.operator (static_test_view first) (static_test_view link.operand)) }
+{
+    let start = Box::new(alloc, StaticTestStart { first, link })?;
+    Ok(static_chain(start, Vec::new(alloc)))
+}
+
+/// A chain with one more link, over signals.
+fn chain_with(
+    start: Box<TestStart>,
+    mut links: Vec<TestLink>,
+    link: TestLink,
+) -> Result<Test, AllocError>
+    ensures { IfOk result (λ t. test_view t
+        ≡ units.Test.both link.operator (test_chained (start_view start.value) links.items) (test_view link.operand)) }
+{
+    links.push(link)?;
+    Ok(chain(start, links))
+}
+
+/// A chain of one link, over signals.
+fn chain_of(alloc: Global, first: Test, link: TestLink) -> Result<Test, AllocError>
+    ensures { IfOk result (λ t. test_view t ≡ units.Test.both link.operator (test_view first) (test_view link.operand)) }
+{
+    let start = Box::new(alloc, TestStart { first, link })?;
+    Ok(chain(start, Vec::new(alloc)))
+}
+
+/// A logical operator between truths over static integers alone.
+fn fixed_both(
+    alloc: Global,
+    left: StaticTest,
+    operator: Logic,
+    right: StaticTest,
+) -> Result<Test, AllocError>
+    ensures { IfOk result (λ t. test_view t ≡ units.Test.fixed (units.StaticTest.both operator (static_test_view left) (static_test_view right))) }
+{
+    Ok(Test::Fixed(left.both(alloc, operator, right)?))
+}
+
 impl StaticTest {
     /// `not` this. It takes the memory of a box.
     pub fn negated(self, alloc: Global) -> Result<StaticTest, AllocError>
@@ -110,14 +168,8 @@ impl StaticTest {
     {
         let link = StaticTestLink { operator, operand };
         match self {
-            StaticTest::Chain(start, mut links) => {
-                links.push(link)?;
-                Ok(static_chain(start, links))
-            }
-            first => {
-                let start = Box::new(alloc, StaticTestStart { first, link })?;
-                Ok(static_chain(start, Vec::new(alloc)))
-            }
+            StaticTest::Chain(start, links) => static_chain_with(start, links, link),
+            first => static_chain_of(alloc, first, link),
         }
     }
 }
@@ -129,14 +181,8 @@ impl Test {
     {
         let link = TestLink { operator, operand };
         match self {
-            Test::Chain(start, mut links) => {
-                links.push(link)?;
-                Ok(chain(start, links))
-            }
-            first => {
-                let start = Box::new(alloc, TestStart { first, link })?;
-                Ok(chain(start, Vec::new(alloc)))
-            }
+            Test::Chain(start, links) => chain_with(start, links, link),
+            first => chain_of(alloc, first, link),
         }
     }
 
@@ -172,7 +218,7 @@ impl Test {
         match self.as_fixed() {
             Err(left) => left.linked(alloc, operator, operand),
             Ok(left) => match operand.as_fixed() {
-                Ok(right) => Ok(Test::Fixed(left.both(alloc, operator, right)?)),
+                Ok(right) => fixed_both(alloc, left, operator, right),
                 Err(right) => Test::Fixed(left).linked(alloc, operator, right),
             },
         }

@@ -1,12 +1,9 @@
-use Rattle.std.proofs.Common.{ap, sym, ◌∙◌}
-use Rattle.vhdl_names.specs.units.Expressions as units
-use Rattle.vhdl_names.specs.views.Tests.{test_view, start_view}
-use Rattle.vhdl_names.proofs.rows.Tests.{view_chain, chained-after}
+use Rattle.std.proofs.Common.{◌≡◌, ap, ◌∙◌}
+use Rattle.vhdl_names.specs.views.Tests.{test_view, start_view, test_chained}
+use Rattle.vhdl_names.proofs.rows.Tests.{view_chain}
 use Rattle.vhdl_names.proofs.test.Test.linked.Goals as goal
 
-pub returns-in_ok-push-in-Chain : goal.returns-in_ok-push-in-Chain
-returns-in_ok-push-in-Chain c =
-    let e = ap test_view c.in-Chain.is ∙ view_chain c.in-Chain.start c.in-Chain.links in
-    c.chain.ensures
-    ∙ chained-after (start_view c.in-Chain.start.value) c.in-Chain.links.items _ _ c.in_ok-push-in-Chain.ensures.items
-    ∙ ap (λ x. units.Test.both c.args.operator x (test_view c.args.operand)) (sym e)
+pub returns-in-Chain : goal.returns-in-Chain
+returns-in-Chain c =
+    let e : test_view c.args.self ≡ test_chained (start_view c.in-Chain.start.value) c.in-Chain.links.items = ap test_view c.in-Chain.is ∙ view_chain c.in-Chain.start c.in-Chain.links in
+    rw (e) c.chain_with.ensures
