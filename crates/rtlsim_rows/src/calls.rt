@@ -28,7 +28,7 @@ pub fn wrong_answer<R: Files + AllocGlobal>(
     call: &str,
 ) -> io::Result<Option<Answer>> {
     let answer = match call.as_bytes() {
-        b"tool" => by_tool(rt.alloc(), row, row.input.as_slice()),
+        b"tool" => by_tool(rt.alloc(), &row.words, row.input.as_slice()),
         b"files" => by_files(rt, row),
         b"line" => by_line(rt, row, b"\n")?,
         b"crlf" => by_line(rt, row, b"\r\n")?,
@@ -63,12 +63,12 @@ fn is_told(row: &Row<'_>, answer: &Answer) -> bool {
             .all(|part| text_of(&answer.err).find(*part).is_some())
 }
 
-/// `tool` over a reader.
-fn by_tool<R: Reader + Drop>(alloc: Global, row: &Row<'_>, reader: R) -> Answer {
+/// `tool` over words and a reader.
+pub fn by_tool<R: Reader + Drop>(alloc: Global, words: &[&str], reader: R) -> Answer {
     let mut input = Standard { reader };
     let mut out = Out::new(Vec::new(alloc));
     let mut err = Out::new(Vec::new(alloc));
-    let status = tool::<Vhdl, _, _, _>(alloc, &row.words, &mut input, &mut out, &mut err);
+    let status = tool::<Vhdl, _, _, _>(alloc, words, &mut input, &mut out, &mut err);
     Answer {
         status,
         out: out.into_inner(),
@@ -210,14 +210,14 @@ fn wrong_by_reads(alloc: Global, row: &Row<'_>) -> io::Result<Option<Answer>> {
     for (failure, last) in [(Failure::Once, usize::MAX), (Failure::Interrupted, 0)] {
         for reads in 0..=row.input.len().min(last) {
             let reader = FailingReader::new(&row.input, reads, failure);
-            let answer = by_tool(alloc, row, In::new(reader));
+            let answer = by_tool(alloc, &row.words, In::new(reader));
             if !answer.is(8, b"", b"rtlsim: input\n") {
                 return Ok(Some(answer));
             }
         }
     }
     let reader = FailingReader::new(&row.input, usize::MAX, Failure::Once);
-    Ok(unless_told(row, by_tool(alloc, row, In::new(reader))))
+    Ok(unless_told(row, by_tool(alloc, &row.words, In::new(reader))))
 }
 
 /// `tool`, where each write in turn fails: a beginning went out. Where none does, it is the row's.

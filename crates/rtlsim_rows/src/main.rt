@@ -3,20 +3,26 @@
 //!
 //! The tables lie in `data/` with the sources that they name; `data/values.txt` tells how a row is written.
 //! Where a call answers otherwise, what it gave is printed, and so the output isn't that of `stdout`.
+//!
+//! `data/names/` and `data/nets/` have tables of many small sources, as row_text reads them: a row is a call of `net`, of
+//! which it tells a few words. They are printed as they stand, comments aside.
 #![tactic(auto)]
 
 mod answer;
 mod calls;
 mod faulty;
 mod row;
+mod tables;
 
 use answer::text_of;
 use calls::wrong_answer;
 use row::Row;
+use row_text::tell_table;
 use std::rt::Files;
 use std::{fs, io};
+use tables::Told;
 
-/// The tables, in the folder in which the program runs.
+/// The tables of calls, in the folder in which the program runs.
 const TABLES: [&str; 14] = [
     "values.txt",
     "refused.txt",
@@ -34,13 +40,49 @@ const TABLES: [&str; 14] = [
     "examples.txt",
 ];
 
+/// The tables of small sources, with what their rows tell.
+const SOURCES: [(&str, Told); 18] = [
+    ("names/units.rows", Told::Names),
+    ("names/context.rows", Told::Names),
+    ("names/regions.rows", Told::Names),
+    ("names/declarations.rows", Told::Names),
+    ("names/types.rows", Told::Names),
+    ("names/names.rows", Told::Names),
+    ("names/statements.rows", Told::Names),
+    ("names/instances.rows", Told::Names),
+    ("names/left_out.rows", Told::Names),
+    ("names/order.rows", Told::Names),
+    ("nets/nets.rows", Told::Lines),
+    ("nets/instances.rows", Told::Lines),
+    ("nets/generates.rows", Told::Lines),
+    ("nets/integers.rows", Told::Lines),
+    ("nets/static.rows", Told::Counts),
+    ("nets/lengths.rows", Told::Counts),
+    ("nets/sources.rows", Told::Counts),
+    ("nets/limits.rows", Told::Counts),
+];
+
 fn main(rt: HostRuntime) -> io::Result<()> {
     for table in TABLES {
-        println!(rt; "{table}")?;
-        let text = fs::read_to_string(&rt, table)?;
-        for part in text.as_str().split("\n$").skip(1) {
-            tell_row(&rt, part)?;
-        }
+        tell_calls(&rt, table)?;
+    }
+    tell_sources(&rt)
+}
+
+/// Prints a table of calls.
+fn tell_calls<R: Files + Print + AllocGlobal>(rt: &R, table: &str) -> io::Result<()> {
+    println!(rt; "{table}")?;
+    let text = fs::read_to_string(rt, table)?;
+    for part in text.as_str().split("\n$").skip(1) {
+        tell_row(rt, part)?;
+    }
+    Ok(())
+}
+
+/// Prints the tables of small sources.
+fn tell_sources<R: Files + Print + AllocGlobal>(rt: &R) -> io::Result<()> {
+    for (table, told) in SOURCES {
+        tell_table(rt, table, &told)?;
     }
     Ok(())
 }

@@ -135,7 +135,7 @@ impl<'a> Row<'a> {
 }
 
 /// The words of a line, cut at runs of spaces.
-fn words_of(alloc: Global, line: &str) -> Result<Vec<&str>, AllocError> {
+pub fn words_of(alloc: Global, line: &str) -> Result<Vec<&str>, AllocError> {
     let mut words = Vec::new(alloc);
     for word in line.split(' ') {
         if !word.is_empty() {
