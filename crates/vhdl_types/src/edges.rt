@@ -99,7 +99,10 @@ pub(crate) fn edge_signal(operand: Typed, at: usize) -> Result<Place, NameFault>
             Err(vector) => Err(edge_problem(&vector).at(at)),
         },
         Typed::Integer(_) => Err(NameProblem::WrongKind.at(at)),
-        _ => Err(NameProblem::TypeMismatch.at(at)),
+        operand => {
+            drop(operand);
+            Err(NameProblem::TypeMismatch.at(at))
+        }
     }
 }
 

@@ -3,6 +3,7 @@
 #![tactic(auto)]
 
 mod edges;
+mod held;
 mod literals;
 mod meaning;
 mod names;

@@ -14,6 +14,7 @@ ghost use Rattle.vhdl_types.specs.Steps.{conversion, counting, encoded_by};
 ghost use Rattle.vhdl_types.specs.Views.{meaning_view, typed_view, typed_suffix_view};
 
 use crate::edges::{edge_of, edge_signal};
+use crate::held::refused;
 use crate::meaning::Meaning;
 use crate::parts::{if_plain, part, sole_argument, two_arguments};
 use crate::types::{Typed, TypedSuffix};
@@ -70,7 +71,10 @@ fn conversion_of(kind: Kind, operand: Option<Typed>, at: usize) -> Result<Typed,
         Some(Typed::Elements(Kind::LogicVector | Kind::Unsigned | Kind::OpenVector, vector)) => {
             Ok(Typed::Elements(kind, vector))
         }
-        _ => Err(NameProblem::TypeMismatch.at(at)),
+        operand => {
+            drop(operand);
+            Err(NameProblem::TypeMismatch.at(at))
+        }
     }
 }
 
@@ -95,9 +99,13 @@ fn number_and_count(
     let Some((first, second)) = arguments else {
         return Err(NameProblem::TypeMismatch.at(at));
     };
-    match (first, second) {
-        (Typed::Elements(Kind::Unsigned, number), Typed::Integer(count)) => Ok((number, count)),
-        _ => Err(NameProblem::TypeMismatch.at(at)),
+    let problem = NameProblem::TypeMismatch;
+    match first {
+        Typed::Elements(Kind::Unsigned, number) => match second {
+            Typed::Integer(count) => Ok((number, count)),
+            second => Err(refused(problem, at, number, second)),
+        },
+        first => Err(refused(problem, at, first, second)),
     }
 }
 
@@ -108,11 +116,15 @@ fn encoded(arguments: Option<(Typed, Typed)>, at: usize) -> Result<Typed, NameFa
     let Some((first, second)) = arguments else {
         return Err(NameProblem::TypeMismatch.at(at));
     };
-    match (first, second) {
-        (Typed::Integer(number), Typed::Integer(size)) => {
-            Ok(Typed::Elements(Kind::Unsigned, Vector::Encoded(at, number, size)))
-        }
-        _ => Err(NameProblem::TypeMismatch.at(at)),
+    let problem = NameProblem::TypeMismatch;
+    match first {
+        Typed::Integer(number) => match second {
+            Typed::Integer(size) => {
+                Ok(Typed::Elements(Kind::Unsigned, Vector::Encoded(at, number, size)))
+            }
+            second => Err(refused(problem, at, number, second)),
+        },
+        first => Err(refused(problem, at, first, second)),
     }
 }
 
@@ -250,6 +262,7 @@ pub fn attributed(
         None => Ok(operand),
         Some(name) => {
             if name.text.as_slice() != b"event".as_slice() {
+                drop(operand);
                 return Err(NameProblem::LeftOut.at(name.at));
             }
             let place = edge_signal(operand, at)?;

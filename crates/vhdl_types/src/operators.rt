@@ -9,6 +9,7 @@ ghost use Rattle.vhdl_names.specs.views.Vectors.{value_view};
 ghost use Rattle.vhdl_types.specs.Steps.{same_by};
 ghost use Rattle.vhdl_types.specs.Views.{typed_view};
 
+use crate::held::{both, refused};
 use crate::types::Typed;
 use std::alloc::Global;
 use vhdl_names::{
@@ -28,16 +29,23 @@ fn logical(
 ) -> Result<Typed, NameFault>
     ensures { Gives typed_view (table.logical operator (typed_view left) (typed_view right)) result }
 {
-    match (left, right) {
-        (Typed::Elements(j, x), Typed::Elements(k, y)) => match j.common(k) {
-            None => Err(NameProblem::TypeMismatch.at(at)),
-            Some(kind) => {
-                let link = VectorLink::Vector(VectorOperator::Logical(operator), at, y);
-                Ok(Typed::Elements(kind, x.with_link(alloc, link)?))
-            }
+    let problem = NameProblem::TypeMismatch;
+    match left {
+        Typed::Elements(j, x) => match right {
+            Typed::Elements(k, y) => match j.common(k) {
+                None => Err(refused(problem, at, x, y)),
+                Some(kind) => {
+                    let link = VectorLink::Vector(VectorOperator::Logical(operator), at, y);
+                    Ok(Typed::Elements(kind, x.with_link(alloc, link)?))
+                }
+            },
+            right => Err(refused(problem, at, x, right)),
         },
-        (Typed::Truth(x), Typed::Truth(y)) => Ok(Typed::Truth(x.both(alloc, operator, y)?)),
-        _ => Err(NameProblem::TypeMismatch.at(at)),
+        Typed::Truth(x) => match right {
+            Typed::Truth(y) => Ok(Typed::Truth(x.both(alloc, operator, y)?)),
+            right => Err(refused(problem, at, x, right)),
+        },
+        left => Err(refused(problem, at, left, right)),
     }
 }
 
@@ -48,8 +56,10 @@ pub fn inverse(alloc: Global, at: usize, operand: Typed) -> Result<Typed, NameFa
     match operand {
         Typed::Elements(kind, x) => Ok(Typed::Elements(kind, Vector::inverse(alloc, at, x)?)),
         Typed::Truth(x) => Ok(Typed::Truth(x.negated(alloc)?)),
-        Typed::Integer(_) => Err(NameProblem::TypeMismatch.at(at)),
-        Typed::Enumerated { .. } => Err(NameProblem::TypeMismatch.at(at)),
+        operand => {
+            drop(operand);
+            Err(NameProblem::TypeMismatch.at(at))
+        }
     }
 }
 
@@ -57,15 +67,19 @@ pub fn inverse(alloc: Global, at: usize, operand: Typed) -> Result<Typed, NameFa
 fn concatenated(alloc: Global, at: usize, left: Typed, right: Typed) -> Result<Typed, NameFault>
     ensures { Gives typed_view (table.concatenated (typed_view left) (typed_view right)) result }
 {
-    match (left, right) {
-        (Typed::Elements(j, x), Typed::Elements(k, y)) => match j.joined(k) {
-            None => Err(NameProblem::TypeMismatch.at(at)),
-            Some(kind) => {
-                let link = VectorLink::Vector(VectorOperator::Concatenate, at, y);
-                Ok(Typed::Elements(kind, x.with_link(alloc, link)?))
-            }
+    let problem = NameProblem::TypeMismatch;
+    match left {
+        Typed::Elements(j, x) => match right {
+            Typed::Elements(k, y) => match j.joined(k) {
+                None => Err(refused(problem, at, x, y)),
+                Some(kind) => {
+                    let link = VectorLink::Vector(VectorOperator::Concatenate, at, y);
+                    Ok(Typed::Elements(kind, x.with_link(alloc, link)?))
+                }
+            },
+            right => Err(refused(problem, at, x, right)),
         },
-        _ => Err(NameProblem::TypeMismatch.at(at)),
+        left => Err(refused(problem, at, left, right)),
     }
 }
 
@@ -79,11 +93,13 @@ fn integral(
 ) -> Result<Typed, NameFault>
     ensures { Gives typed_view (table.integral operator (typed_view left) (typed_view right)) result }
 {
-    match (left, right) {
-        (Typed::Integer(x), Typed::Integer(y)) => {
-            Ok(Typed::Integer(x.binary(alloc, operator, at, y)?))
-        }
-        _ => Err(NameProblem::TypeMismatch.at(at)),
+    let problem = NameProblem::TypeMismatch;
+    match left {
+        Typed::Integer(x) => match right {
+            Typed::Integer(y) => Ok(Typed::Integer(x.binary(alloc, operator, at, y)?)),
+            right => Err(refused(problem, at, x, right)),
+        },
+        left => Err(refused(problem, at, left, right)),
     }
 }
 
@@ -121,25 +137,33 @@ fn arithmetic(
     ensures { Gives typed_view (table.arithmetic numbers operator by (typed_view left) (typed_view right)) result }
 {
     let problem = NameProblem::TypeMismatch;
-    match (left, right) {
-        (Typed::Integer(s), Typed::Integer(t)) => {
-            Ok(Typed::Integer(s.binary(alloc, operator, at, t)?))
-        }
-        (Typed::Elements(j, x), Typed::Elements(k, y)) => {
-            numeric(numbers, j.is_number() && k.is_number(), problem, at)?;
-            let link = VectorLink::Vector(VectorOperator::Arithmetic(by), at, y);
-            Ok(Typed::Elements(Kind::Unsigned, x.with_link(alloc, link)?))
-        }
-        (Typed::Elements(j, x), Typed::Integer(t)) => {
-            numeric(numbers, j.is_number(), problem, at)?;
-            let link = VectorLink::Integer(by, at, t);
-            Ok(Typed::Elements(Kind::Unsigned, x.with_link(alloc, link)?))
-        }
-        (Typed::Integer(s), Typed::Elements(k, y)) => {
-            numeric(numbers, k.is_number(), problem, at)?;
-            Ok(Typed::Elements(Kind::Unsigned, Vector::integer_with(alloc, by, at, s, y)?))
-        }
-        _ => Err(problem.at(at)),
+    match left {
+        Typed::Integer(s) => match right {
+            Typed::Integer(t) => Ok(Typed::Integer(s.binary(alloc, operator, at, t)?)),
+            Typed::Elements(k, y) => {
+                let fits = numeric(numbers, k.is_number(), problem, at);
+                let (s, (y, ())) = both(s, both(y, fits))?;
+                let made = Vector::integer_with(alloc, by, at, s, y)?;
+                Ok(Typed::Elements(Kind::Unsigned, made))
+            }
+            right => Err(refused(problem, at, s, right)),
+        },
+        Typed::Elements(j, x) => match right {
+            Typed::Elements(k, y) => {
+                let fits = numeric(numbers, j.is_number() && k.is_number(), problem, at);
+                let (x, (y, ())) = both(x, both(y, fits))?;
+                let link = VectorLink::Vector(VectorOperator::Arithmetic(by), at, y);
+                Ok(Typed::Elements(Kind::Unsigned, x.with_link(alloc, link)?))
+            }
+            Typed::Integer(t) => {
+                let fits = numeric(numbers, j.is_number(), problem, at);
+                let (x, (t, ())) = both(x, both(t, fits))?;
+                let link = VectorLink::Integer(by, at, t);
+                Ok(Typed::Elements(Kind::Unsigned, x.with_link(alloc, link)?))
+            }
+            right => Err(refused(problem, at, x, right)),
+        },
+        left => Err(refused(problem, at, left, right)),
     }
 }
 
@@ -164,28 +188,42 @@ fn same(comparison: Cmp, at: usize, left: Value, right: Value) -> Typed
 fn equality(at: usize, comparison: Cmp, left: Typed, right: Typed) -> Result<Typed, NameFault>
     ensures { Gives typed_view (table.equality comparison (same_by comparison) (typed_view left) (typed_view right)) result }
 {
-    match (left, right) {
-        (Typed::Integer(s), Typed::Integer(t)) => Ok(integers_compared(comparison, at, s, t)),
-        (Typed::Elements(j, x), Typed::Elements(k, y)) => match j.common(k) {
-            None => Err(NameProblem::TypeMismatch.at(at)),
-            Some(Kind::Unsigned) => Ok(Typed::Truth(Test::Compared(comparison, at, x, y))),
-            Some(_) => Ok(same(comparison, at, Value::Elements(x), Value::Elements(y))),
+    let problem = NameProblem::TypeMismatch;
+    match left {
+        Typed::Integer(s) => match right {
+            Typed::Integer(t) => Ok(integers_compared(comparison, at, s, t)),
+            Typed::Elements(Kind::Unsigned, y) => {
+                Ok(Typed::Truth(Test::ComparedWith(comparison, at, s, y)))
+            }
+            right => Err(refused(problem, at, s, right)),
         },
-        (Typed::Elements(Kind::Unsigned, x), Typed::Integer(t)) => {
-            Ok(Typed::Truth(Test::ComparedTo(comparison, at, x, t)))
-        }
-        (Typed::Integer(s), Typed::Elements(Kind::Unsigned, y)) => {
-            Ok(Typed::Truth(Test::ComparedWith(comparison, at, s, y)))
-        }
-        (
-            Typed::Enumerated { number, value, .. },
+        Typed::Elements(j, x) => match right {
+            Typed::Elements(k, y) => match j.common(k) {
+                None => Err(refused(problem, at, x, y)),
+                Some(Kind::Unsigned) => Ok(Typed::Truth(Test::Compared(comparison, at, x, y))),
+                Some(_) => Ok(same(comparison, at, Value::Elements(x), Value::Elements(y))),
+            },
+            Typed::Integer(t) => match j {
+                Kind::Unsigned => Ok(Typed::Truth(Test::ComparedTo(comparison, at, x, t))),
+                _ => Err(refused(problem, at, x, t)),
+            },
+            right => Err(refused(problem, at, x, right)),
+        },
+        Typed::Enumerated { number, value, .. } => match right {
             Typed::Enumerated {
                 number: other,
                 value: beside,
                 ..
-            },
-        ) if number == other => Ok(same(comparison, at, value, beside)),
-        _ => Err(NameProblem::TypeMismatch.at(at)),
+            } => {
+                if number == other {
+                    Ok(same(comparison, at, value, beside))
+                } else {
+                    Err(refused(problem, at, value, beside))
+                }
+            }
+            right => Err(refused(problem, at, value, right)),
+        },
+        left => Err(refused(problem, at, left, right)),
     }
 }
 

@@ -7,6 +7,7 @@ ghost use Rattle.vhdl_names.specs.views.Vectors.{part_view};
 ghost use Rattle.vhdl_types.specs.Steps.{sole, two, indexed};
 ghost use Rattle.vhdl_types.specs.Views.{typed_view, typed_suffix_view};
 
+use crate::held::{before, refused};
 use crate::types::{Typed, TypedSuffix};
 use vhdl_names::{Kind, NameFault, NameProblem, ObjectType, Part};
 
@@ -14,8 +15,11 @@ use vhdl_names::{Kind, NameFault, NameProblem, ObjectType, Part};
 pub(crate) fn sole_argument(mut arguments: Vec<Typed>) -> Option<Typed>
     ensures { result ≡ sole arguments.items }
 {
-    let last = arguments.pop();
-    if arguments.is_empty() { last } else { None }
+    if arguments.len() == 1 {
+        arguments.pop()
+    } else {
+        None
+    }
 }
 
 /// Two arguments that stand alone, in order; None where there are fewer or more.
@@ -23,12 +27,7 @@ pub fn two_arguments(mut arguments: Vec<Typed>) -> Option<(Typed, Typed)>
     ensures { result ≡ two arguments.items }
 {
     let second = arguments.pop()?;
-    let first = arguments.pop()?;
-    if arguments.is_empty() {
-        Some((first, second))
-    } else {
-        None
-    }
+    before(sole_argument(arguments), second)
 }
 
 /// The element of a vector at an index.
@@ -39,7 +38,10 @@ fn element(kind: Kind, index: Option<Typed>, at: usize) -> Result<(Part, Kind), 
         (Kind::LogicVector | Kind::Unsigned, Some(Typed::Integer(index))) => {
             Ok((Part::Element(index), Kind::Element))
         }
-        _ => Err(NameProblem::TypeMismatch.at(at)),
+        (_, index) => {
+            drop(index);
+            Err(NameProblem::TypeMismatch.at(at))
+        }
     }
 }
 
@@ -84,6 +86,6 @@ pub(crate) fn if_plain(suffix: TypedSuffix, value: Typed, at: usize) -> Result<T
 {
     match suffix {
         TypedSuffix::Plain => Ok(value),
-        _ => Err(NameProblem::TypeMismatch.at(at)),
+        suffix => Err(refused(NameProblem::TypeMismatch, at, suffix, value)),
     }
 }
