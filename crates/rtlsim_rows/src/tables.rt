@@ -60,7 +60,18 @@ impl Told {
         mark: Option<usize>,
     ) -> Result<String, AllocError> {
         let words = words_of(alloc, line)?;
-        let [_, layer, number, name, _, byte] = words.as_slice() else {
+        self.told_words(alloc, line, &words, mark)
+    }
+
+    /// What is told of a fault's line of these words.
+    fn told_words(
+        self,
+        alloc: Global,
+        line: &str,
+        words: &[&str],
+        mark: Option<usize>,
+    ) -> Result<String, AllocError> {
+        let [_, layer, number, name, _, byte] = words else {
             return String::from_str(alloc, line);
         };
         if mark.is_some() && byte.parse::<usize>().ok() != mark {
