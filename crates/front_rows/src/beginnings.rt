@@ -1,6 +1,6 @@
 //! Beginnings of files.
 
-use crate::outcome::{Refusal, file_of};
+use crate::trees::{Refusal, tree_of};
 use std::alloc::Global;
 use std::rt::Files;
 use std::{fs, io};
@@ -14,7 +14,7 @@ pub fn tell_beginnings(rt: &(impl Files + Print + AllocGlobal), file: &str) -> i
     let source = text.as_str().as_bytes();
     println!(rt; "{file}, of {} bytes", source.len())?;
     for end in 0..source.len() + 1 {
-        match file_of(rt.alloc(), &source[..end]) {
+        match tree_of(rt.alloc(), &source[..end]) {
             Ok(_) => println!(rt; "the first {end} bytes are a file")?,
             Err(refusal) => tell_wrong(rt, refusal, end)?,
         }
@@ -51,7 +51,7 @@ fn wrong_ends(alloc: Global, source: &[u8]) -> io::Result<u32> {
 
 /// Whether a beginning is a file, or is EndOfFile at its end.
 fn ends_there(alloc: Global, beginning: &[u8]) -> bool {
-    match file_of(alloc, beginning) {
+    match tree_of(alloc, beginning) {
         Ok(_) => true,
         Err(Refusal::Syntax(fault)) => {
             fault.number() == 2 && fault.byte() == Some(beginning.len())
