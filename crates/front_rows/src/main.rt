@@ -25,22 +25,22 @@ use vhdl_parser::SyntaxFault;
 
 fn main(rt: HostRuntime) -> io::Result<()> {
     for (file, table) in [
-        ("values/std_logic_1164.rows", Table::Values),
-        ("values/numeric_std.rows", Table::Values),
-        ("values/lengths.rows", Table::Values),
-        ("values/calls.rows", Table::Values),
-        ("lexer/tokens.rows", Table::Tokens),
-        ("lexer/faults.rows", Table::Tokens),
-        ("lexer/integers.rows", Table::Integers),
-        ("parser/units.rows", Table::Texts),
-        ("parser/concurrent.rows", Table::Texts),
-        ("parser/sequential.rows", Table::Texts),
-        ("parser/expressions.rows", Table::Texts),
-        ("parser/levels.rows", Table::Texts),
-        ("parser/trees.rows", Table::Trees),
-        ("parser/faults.rows", Table::Trees),
+        ("values/std_logic_1164.rows", &Table::Values),
+        ("values/numeric_std.rows", &Table::Values),
+        ("values/lengths.rows", &Table::Values),
+        ("values/calls.rows", &Table::Values),
+        ("lexer/tokens.rows", &Table::Tokens),
+        ("lexer/faults.rows", &Table::Tokens),
+        ("lexer/integers.rows", &Table::Integers),
+        ("parser/units.rows", &Table::Texts),
+        ("parser/concurrent.rows", &Table::Texts),
+        ("parser/sequential.rows", &Table::Texts),
+        ("parser/expressions.rows", &Table::Texts),
+        ("parser/levels.rows", &Table::Texts),
+        ("parser/trees.rows", &Table::Trees),
+        ("parser/faults.rows", &Table::Trees),
     ] {
-        tell_table(&rt, file, &table)?;
+        tell_table(&rt, file, table)?;
     }
     tell_memory(&rt)?;
     tell_files(&rt)

@@ -7,7 +7,6 @@ use row_text::{Frame, Teller};
 use std::alloc::{AllocError, Global};
 
 /// What the rows of a table are.
-#[derive(Clone, Copy)]
 pub enum Table {
     /// Calls of the values, with their answers.
     Values,
