@@ -42,17 +42,12 @@ fn main(rt: HostRuntime) -> io::Result<()> {
     ] {
         tell_table(&rt, file, table)?;
     }
-    tell_memory(&rt)?;
-    tell_files(&rt)
-}
-
-/// Prints what the lexer and the parser answer where memory was refused.
-fn tell_memory(rt: &(impl Print + AllocGlobal)) -> io::Result<()> {
     let (list, tree) = (LexFault::NoMemory, SyntaxFault::NoMemory);
-    let list = told_fault(rt.alloc(), list.number(), list.byte(), &list)?;
-    println!(rt; "\na list that cannot grow → {list}")?;
-    let tree = told_fault(rt.alloc(), tree.number(), tree.byte(), &tree)?;
-    println!(rt; "what cannot grow → {tree}")
+    let told = told_fault(rt.alloc(), list.number(), list.byte(), &list)?;
+    println!(rt; "\na list that cannot grow → {told}")?;
+    let told = told_fault(rt.alloc(), tree.number(), tree.byte(), &tree)?;
+    println!(rt; "what cannot grow → {told}")?;
+    tell_files(&rt)
 }
 
 /// Prints what is made of the beginnings of each file.

@@ -4,25 +4,26 @@ use crate::fault::told_fault;
 use row_text::Frame;
 use std::alloc::{AllocError, Global};
 use tree_text::push_file;
-use vhdl_lexer::{LexFault, Token, lex};
+use vhdl_lexer::{LexFault, lex};
 use vhdl_parser::{SyntaxFault, parse};
+use vhdl_tree::File;
 
 /// The tree of a source as a text, empty where the source has no unit, or else the parser's fault or the lexer's. A tree
 /// lives no longer than this call, so no other function holds one.
 pub fn tree_of(alloc: Global, source: &[u8]) -> Result<Result<String, SyntaxFault>, LexFault> {
     let tokens = lex(alloc, source)?;
-    Ok(parsed(alloc, source, &tokens))
+    match parse(alloc, source, &tokens) {
+        Ok(file) => Ok(text_of(alloc, &file)),
+        Err(fault) => Ok(Err(fault)),
+    }
 }
 
-/// The tree of a source that has these tokens, as a text.
-fn parsed(alloc: Global, source: &[u8], tokens: &[Token]) -> Result<String, SyntaxFault> {
-    let mut tree = String::new(alloc);
-    match parse(alloc, source, tokens) {
-        Ok(file) => match push_file(&mut tree, &file) {
-            Ok(()) => Ok(tree),
-            Err(_) => Err(SyntaxFault::NoMemory),
-        },
-        Err(fault) => Err(fault),
+/// A tree as a text.
+fn text_of(alloc: Global, file: &File) -> Result<String, SyntaxFault> {
+    let mut text = String::new(alloc);
+    match push_file(&mut text, file) {
+        Ok(()) => Ok(text),
+        Err(_) => Err(SyntaxFault::NoMemory),
     }
 }
 
