@@ -1,6 +1,6 @@
 //! Beginnings of files.
 
-use crate::outcome::{Refusal, file_of};
+use crate::trees::tree_of;
 use std::alloc::Global;
 use std::rt::Files;
 use std::{fs, io};
@@ -14,25 +14,18 @@ pub fn tell_beginnings(rt: &(impl Files + Print + AllocGlobal), file: &str) -> i
     let source = text.as_str().as_bytes();
     println!(rt; "{file}, of {} bytes", source.len())?;
     for end in 0..source.len() + 1 {
-        match file_of(rt.alloc(), &source[..end]) {
-            Ok(_) => println!(rt; "the first {end} bytes are a file")?,
-            Err(refusal) => tell_wrong(rt, refusal, end)?,
+        match tree_of(rt.alloc(), &source[..end]) {
+            Ok(Ok(_)) => println!(rt; "the first {end} bytes are a file")?,
+            Ok(Err(SyntaxFault::TooDeep { .. } | SyntaxFault::NoMemory)) => {
+                println!(rt; "the first {end} bytes are refused as too deep, or for memory")?
+            }
+            _ => (),
         }
     }
     let unlike = wrong_ends(rt.alloc(), source)?;
     println!(rt;
         "of the beginnings that end behind a token and are no file, {unlike} are not EndOfFile there"
     )
-}
-
-/// Prints a fault that no beginning of a file may have.
-fn tell_wrong(rt: &impl Print, refusal: Refusal, end: usize) -> io::Result<()> {
-    match refusal {
-        Refusal::Syntax(SyntaxFault::TooDeep { .. } | SyntaxFault::NoMemory) => {
-            println!(rt; "the first {end} bytes are refused as too deep, or for memory")
-        }
-        _ => Ok(()),
-    }
 }
 
 /// How many beginnings that end behind a token are neither a file nor EndOfFile there.
@@ -51,11 +44,9 @@ fn wrong_ends(alloc: Global, source: &[u8]) -> io::Result<u32> {
 
 /// Whether a beginning is a file, or is EndOfFile at its end.
 fn ends_there(alloc: Global, beginning: &[u8]) -> bool {
-    match file_of(alloc, beginning) {
-        Ok(_) => true,
-        Err(Refusal::Syntax(fault)) => {
-            fault.number() == 2 && fault.byte() == Some(beginning.len())
-        }
-        Err(Refusal::Lex(_)) => false,
+    match tree_of(alloc, beginning) {
+        Ok(Ok(_)) => true,
+        Ok(Err(fault)) => fault.number() == 2 && fault.byte() == Some(beginning.len()),
+        Err(_) => false,
     }
 }

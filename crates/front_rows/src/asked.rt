@@ -48,52 +48,41 @@ fn vector_of(operator: &str, left: &str, right: &str, third: &str) -> Option<Vec
     }
     match operator {
         "not" => inverted(&vector(left)?),
-        "x01" => Some(one(value(left)?.x01())),
-        "resolved" => resolved(left, right, third),
-        "&" => joined(&vector(left)?, &vector(right)?),
+        "x01" => Some(Vec9::fill(value(left)?.x01(), 1)),
+        "resolved" => Some(Vec9::fill(resolved(left, right, third)?, 1)),
+        "&" => {
+            let (left, right) = (vector(left)?, vector(right)?);
+            if left.len() + right.len() <= 64 {
+                Some(left.concat(&right))
+            } else {
+                None
+            }
+        }
         "+" | "-" | "*" => computed(operator, left, right),
         "slice" => part(left, right, third),
         "get" => part(left, right, "#1"),
         "set" => changed(left, right, value(third)?),
-        "fill" => filled(value(left)?, natural(right)? as usize),
+        "fill" => match natural(right)? as usize {
+            len @ 1..=64 => Some(Vec9::fill(value(left)?, len)),
+            _ => None,
+        },
         "of_codes" => coded(left),
-        "from_code" => Some(one(Nine::from_code(u8::try_from(natural(left)?).ok()?)?)),
+        "from_code" => {
+            let value = Nine::from_code(u8::try_from(natural(left)?).ok()?)?;
+            Some(Vec9::fill(value, 1))
+        }
         _ => moved(operator, left, right),
     }
 }
 
-/// The vector of one value.
-fn one(value: Nine) -> Vec9 {
-    Vec9::fill(value, 1)
-}
-
-/// The vector of this value at each place.
-fn filled(value: Nine, len: usize) -> Option<Vec9> {
-    if 1 <= len && len <= 64 {
-        Some(Vec9::fill(value, len))
-    } else {
-        None
-    }
-}
-
-/// One vector, and another to its right.
-fn joined(left: &Vec9, right: &Vec9) -> Option<Vec9> {
-    if left.len() + right.len() <= 64 {
-        Some(left.concat(right))
-    } else {
-        None
-    }
-}
-
 /// The value of a net that one, two or three values drive.
-fn resolved(first: &str, second: &str, third: &str) -> Option<Vec9> {
+fn resolved(first: &str, second: &str, third: &str) -> Option<Nine> {
     let first = value(first)?;
-    let net = match (value(second), value(third)) {
+    Some(match (value(second), value(third)) {
         (None, _) => resolve(&[first]),
         (Some(second), None) => resolve(&[first, second]),
         (Some(second), Some(third)) => resolve(&[first, second, third]),
-    };
-    Some(one(net))
+    })
 }
 
 /// The letters of a vector.

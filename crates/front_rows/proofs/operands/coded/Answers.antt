@@ -1,7 +1,7 @@
 use Rattle.std.proofs.Common.{ℕ, zero, suc, ◌<◌, List, [], ◌∷◌, take, arith, length}
 use Rattle.std.specs.List.{All}
 use Rattle.std.proofs.lemmas.List.Elements.{All-replicate, All-set}
-use Rattle.values_rows.proofs.operands.coded.Goals as goal
+use Rattle.front_rows.proofs.operands.coded.Goals as goal
 
 below_taken : (n : ℕ) (codes : List ℕ) → All (λ code. code < 9) codes → All (λ code. code < 9) (take n codes)
 below_taken zero codes all k d lt = absurd (omega arith)

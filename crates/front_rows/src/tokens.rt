@@ -1,20 +1,21 @@
 //! What the lexer makes of a text, in words.
 
+use crate::fault::told_fault;
 use crate::source::source_of;
 use std::alloc::{AllocError, Global};
-use vhdl_lexer::{LexFault, Token, integer_value, lex};
+use vhdl_lexer::{Token, integer_value, lex};
 
 /// The tokens of a source, or its fault.
-pub fn told_source(alloc: Global, written: &str) -> Result<String, AllocError> {
+pub fn told_tokens(alloc: Global, written: &str) -> Result<String, AllocError> {
     let source = source_of(alloc, written)?;
     match lex(alloc, &source) {
-        Ok(tokens) => told_tokens(alloc, &tokens),
-        Err(fault) => told_fault(alloc, &fault),
+        Ok(tokens) => listed(alloc, &tokens),
+        Err(fault) => told_fault(alloc, fault.number(), fault.byte(), &fault),
     }
 }
 
 /// Tokens by kind, first byte and the byte behind the last.
-fn told_tokens(alloc: Global, tokens: &[Token]) -> Result<String, AllocError> {
+fn listed(alloc: Global, tokens: &[Token]) -> Result<String, AllocError> {
     if tokens.is_empty() {
         return String::from_str(alloc, "no token");
     }
@@ -28,14 +29,6 @@ fn told_tokens(alloc: Global, tokens: &[Token]) -> Result<String, AllocError> {
         )?;
     }
     Ok(told)
-}
-
-/// A fault by number, byte and text.
-pub fn told_fault(alloc: Global, fault: &LexFault) -> Result<String, AllocError> {
-    match fault.byte() {
-        Some(at) => format!(in alloc; "fault {} at {at}: {fault}", fault.number()),
-        None => format!(in alloc; "fault {}: {fault}", fault.number()),
-    }
 }
 
 /// The number that the text of an integer writes.

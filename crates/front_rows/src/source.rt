@@ -25,16 +25,13 @@ fn push_escaped(source: &mut Vec<u8>, part: &str) -> Result<(), AllocError> {
     if let Some(repeated) = part.strip_prefix('*') {
         return push_repeated(source, repeated);
     }
-    match part.as_bytes() {
-        [b'n', rest @ ..] => push_both(source, b'\n', rest),
-        [b'r', rest @ ..] => push_both(source, b'\r', rest),
-        [b't', rest @ ..] => push_both(source, b'\t', rest),
-        [b'x', high, low, rest @ ..] => push_both(source, 16 * digit(*high) + digit(*low), rest),
-        other => source.extend_from_slice(other),
-    }
-}
-
-fn push_both(source: &mut Vec<u8>, byte: u8, rest: &[u8]) -> Result<(), AllocError> {
+    let (byte, rest) = match part.as_bytes() {
+        [b'n', rest @ ..] => (b'\n', rest),
+        [b'r', rest @ ..] => (b'\r', rest),
+        [b't', rest @ ..] => (b'\t', rest),
+        [b'x', high, low, rest @ ..] => (16 * digit(*high) + digit(*low), rest),
+        other => return source.extend_from_slice(other),
+    };
     source.push(byte)?;
     source.extend_from_slice(rest)
 }
