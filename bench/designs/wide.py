@@ -6,6 +6,7 @@ registers   half of the vectors are registers on clk, each fed by the negation o
 quiet       the tree, and one element that toggles on clk
 chain       N inverters of one element, one behind the other (N up to 65,535)
 generate    the vectors in instances of a generate, four in each
+pairs       N counters of 32 bits on clk, and N - 1 xors, each of two neighbours (any N)
 """
 import sys
 form, n = sys.argv[1], int(sys.argv[2])
@@ -30,6 +31,14 @@ elif form == "chain":
     print("library ieee; use ieee.std_logic_1164.all;\nentity wide is port (x : in std_logic); end;\narchitecture r of wide is")
     print("signal " + ", ".join("s%d" % k for k in range(n)) + " : std_logic;\nbegin\ns0 <= x;")
     for k in range(1, n): print("s%d <= not s%d;" % (k, k - 1))
+elif form == "pairs":
+    W = "std_logic_vector(31 downto 0)"
+    print(HEAD + "use ieee.numeric_std.all;\nentity wide is port (clk : in std_logic; y : out %s); end;\narchitecture r of wide is" % W)
+    print("signal " + ", ".join("q%d" % k for k in range(n)) + " : unsigned(31 downto 0) := (others => '0');")
+    print("signal " + ", ".join("x%d" % k for k in range(n - 1)) + " : " + W + ";\nbegin")
+    for k in range(n): print("process (clk) begin if rising_edge(clk) then q%d <= q%d + %d; end if; end process;" % (k, k, k + 1))
+    for k in range(n - 1): print("x%d <= std_logic_vector(q%d) xor std_logic_vector(q%d);" % (k, k, k + 1))
+    print("y <= x%d;" % (n - 2))
 else:
     i = n // 4
     print(HEAD + "entity part is port (a : in std_logic); end;\narchitecture r of part is\nsignal p, q, t, u : %s;\nbegin\np <= (others => a);\nq <= not p;\nt <= not q;\nu <= not t;\nend;" % V)

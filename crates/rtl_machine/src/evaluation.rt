@@ -1,6 +1,7 @@
 //! The values of a net's out ports at the first moment.
 
 ghost use Rattle.std.specs.Prelude.{◌≡◌, map, length, IfOk};
+ghost use Rattle.rtl_model.specs.simulation.Moments.{Begun, HasNoneToRun};
 ghost use Rattle.rtl_moments.specs.Ports.{HasOwnPorts, inputs_of};
 ghost use Rattle.rtl_moments.specs.Stimuli.{inputs_at};
 ghost use Rattle.rtl_check.specs.Views.{core};
@@ -16,7 +17,7 @@ use crate::words::words_text;
 use rtl_kernel::{Forward, Kernel};
 use rtl_net::Net;
 use rtl_sink::{Sink, finish};
-use rtl_tree::trees;
+use rtl_tree::{Tree, trees};
 use std::alloc::{AllocError, Global};
 
 /// Writes, for each out port of the top in order of declaration, the line `NAME=VALUE` with its value in the first valuation of
@@ -55,11 +56,30 @@ fn first_values(alloc: Global, net: &Net, admitted: &Admitted) -> Result<Vec<u8>
     ensures first { IfOk result (λ values. IsFirstOf net.now admitted.now.stimulus admitted.now.bound values.items) }
     ensures as_many { IfOk result (λ values. length values.items ≡ length net.now.types) }
 {
-    accepted_nets_are_synchronous();
     let _count = net.nets();
     let bodies = trees(alloc, net)?;
     let mut kernel = Kernel::new(alloc, net, &bodies, admitted.stimulus.initial())?;
     kernel.start(&mut Forward);
+    settled_values(alloc, net, admitted, &mut kernel)
+}
+
+/// The same, by a kernel that is to begin the moment.
+fn settled_values(
+    alloc: Global,
+    net: &Net,
+    admitted: &Admitted,
+    kernel: &mut Kernel<'_, Tree<'_>>,
+) -> Result<Vec<u8>, AllocError>
+    requires net { kernel.old.net ≡ net.now }
+    requires ready { HasNoneToRun kernel.old.state }
+    requires begun { Begun (core net.now) (inputs_at admitted.now.stimulus) 0 kernel.old.state }
+    requires accepted { SaysYes (core net.now) admitted.now.bound }
+    requires raceless { IsRaceless (core net.now) (inputs_at admitted.now.stimulus) }
+    ensures first { IfOk result (λ values. IsFirstOf net.now admitted.now.stimulus admitted.now.bound values.items) }
+    ensures as_many { IfOk result (λ values. length values.items ≡ length net.now.types) }
+{
+    accepted_nets_are_synchronous();
+    let _count = net.nets();
     match kernel.settle(admitted.bound, &mut Forward) {
         Ok(_) => Vec::from_slice(alloc, kernel.values()),
         Err(_) => unreachable!(),

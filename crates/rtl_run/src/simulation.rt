@@ -7,6 +7,7 @@ ghost use Rattle.rtl_net.specs.Nets.{flat};
 ghost use Rattle.rtl_sink.specs.Written.{SinkState, IsIntact};
 ghost use Rattle.rtl_vcd.specs.Header.{header_text};
 ghost use Rattle.rtl_kernel.specs.kernel.Kept.{RunBodies};
+ghost use Rattle.rtl_stim.specs.Filling.{Waits};
 ghost use Rattle.rtl_moments.specs.Ports.{HasOwnPorts, inputs_of};
 ghost use Rattle.rtl_moments.specs.Stimuli.{inputs_at, moments};
 ghost use Rattle.rtl_run.specs.declared.summary.RunFault.TheVariants.{NoSettling};
@@ -59,17 +60,42 @@ impl<E: Exec> Simulation<'_, E> {
         ensures { Answers self.now.net.now self.now.stimulus.now self.now.limit (W.state out.old) (W.state out.new) result }
     {
         let _count = self.net.nets();
-        let stop = self.stimulus.stop();
-        let mut kernel = Kernel::new(alloc, self.net, self.bodies, self.stimulus.initial())?;
         self.stimulus.load(agenda)?;
         let blocks = Blocks::new(alloc, self.net)?;
-        header(self.net, out)?;
+        let mut kernel = Kernel::new(alloc, self.net, self.bodies, self.stimulus.initial())?;
         kernel.start(pick);
-        let mut progress = self.begin(alloc, &mut kernel, pick, out)?;
+        self.run_moments(alloc, &blocks, &mut kernel, agenda, pick, out)
+    }
+
+    /// Lets each moment settle, with a kernel that is to begin the first, and writes the trace. What the stimulus gives behind 0
+    /// waits in the agenda.
+    fn run_moments<A: Agenda, P: Pick, W: Sink>(
+        &self,
+        alloc: Global,
+        blocks: &Blocks<'_>,
+        kernel: &mut Kernel<'_, E>,
+        agenda: &mut A,
+        pick: &mut P,
+        out: &mut W,
+    ) -> Result<Summary, RunFault>
+        requires blocks { blocks.now ≡ self.now.net.now }
+        requires net { kernel.old.net ≡ self.now.net.now }
+        requires ready { HasNoneToRun kernel.old.state }
+        requires begun { Begun (core self.now.net.now) (inputs_at self.now.stimulus.now) 0 kernel.old.state }
+        requires ports { HasOwnPorts self.now.net.now }
+        requires inputs { self.now.stimulus.now.inputs ≡ inputs_of self.now.net.now }
+        requires waits { Waits self.now.stimulus.now.inputs self.now.stimulus.now.schedule 0 (A.state agenda.old).waiting }
+        requires intact { IsIntact (W.state out.old) }
+        ensures { Answers self.now.net.now self.now.stimulus.now self.now.limit (W.state out.old) (W.state out.new) result }
+    {
+        let _count = self.net.nets();
+        let stop = self.stimulus.stop();
+        header(self.net, out)?;
+        let mut progress = self.begin(alloc, kernel, pick, out)?;
         while let Some(time) = agenda.next() {
             kernel.apply(agenda.changes(), pick);
             self.stimulus.refill(time, agenda)?;
-            self.go_on(time, &blocks, &mut kernel, &mut progress, pick, out)?;
+            self.go_on(time, blocks, kernel, &mut progress, pick, out)?;
         }
         end(progress.printed, stop, out)?;
         Ok(progress.summary)

@@ -25,6 +25,7 @@ pub fn command<'a>(alloc: Global) -> Result<Command<'a>, AllocError> {
         .override_usage("rtlsim check <FILE> <TOP>")
         .after_help("Example: rtlsim check counter.vhd counter");
     Command::new(alloc, "rtlsim")
+        .version("0.1.0")
         .about("Simulates the register-transfer subset of VHDL")
         .after_help(EXAMPLES)
         .no_binary_name(true)

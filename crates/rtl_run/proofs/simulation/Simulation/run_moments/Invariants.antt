@@ -5,7 +5,7 @@ use Rattle.rtl_model.specs.simulation.Moments.{HasNoneToRun}
 use Rattle.rtl_stim.specs.Filling.{Waits}
 use Rattle.rtl_moments.specs.Stimuli.{moments}
 use Rattle.rtl_run.specs.Running.{HasCome, HasSettledIn}
-use Rattle.rtl_run.proofs.simulation.Simulation.run.Given as goal
+use Rattle.rtl_run.proofs.simulation.Simulation.run_moments.Given as goal
 
 -- the last moment so far, m, has settled, and what comes after it waits
 abbrev pub invariant-loop-time : goal.invariant-loop-time

@@ -1,0 +1,171 @@
+use Rattle.std.proofs.Common.{ℕ, List, length, sym, ap, subst, ◌∙◌, arith}
+use Rattle.rtl_model.specs.nets.CoreNet.{core_net}
+use Rattle.rtl_model.specs.simulation.Cycle.{given, changed}
+use Rattle.rtl_model.proofs.simulation.Order.{HasRun-done}
+use Rattle.rtl_net.specs.Nets.{flat}
+use Rattle.rtl_kernel.specs.kernel.Simulation.{changes_of}
+use Rattle.rtl_agenda.specs.Agenda.{Change}
+use Rattle.rtl_stim.specs.Filling.{Waits}
+use Rattle.rtl_moments.proofs.Next.{each_begins_at_zero}
+use Rattle.rtl_sink.specs.Written.{Goes}
+use Rattle.rtl_vcd.specs.Trace.{end_text}
+use Rattle.rtl_run.specs.declared.summary.RunFault.TheVariants.{Output}
+use Rattle.rtl_run.specs.Answered.{Answers}
+use Rattle.rtl_run.proofs.Steps.{no_moment}
+use Rattle.rtl_run.proofs.Going.{err_with, header_leaves, end_leaves, is_whole, at_last, settled_quiet}
+use Rattle.rtl_run.proofs.Turns.{comes_next, changes_inputs, begins_next}
+use Rattle.rtl_run.proofs.simulation.Simulation.run_moments.Goals as goal
+
+pub returns-in_err-header : goal.returns-in_err-header
+returns-in_err-header g c =
+    let out = g.W.Sink.state c.args.out.now in
+    let new = g.W.Sink.state c.header.new.out in
+    err_with (Answers c.args.self.now.net.now c.args.self.now.stimulus.now c.args.self.now.limit out new) c.from_residual.result Output c.from_residual.ensures.1
+    (header_leaves c.args.self.now.net.now c.args.self.now.stimulus.now c.args.self.now.limit out new c.requires.intact c.header.ensures.text, c.in_err-header.ensures.err)
+
+pub returns-in_err-progress : goal.returns-in_err-progress
+returns-in_err-progress g c =
+    let net = c.args.self.now.net.now in
+    let s = c.args.self.now.stimulus.now in
+    let limit = c.args.self.now.limit in
+    let out = g.W.Sink.state c.args.out.now in
+    err_with (Answers net s limit out (g.W.Sink.state c.begin.new.out)) c.from_residual-in_err-progress.result c.in_err-progress.field-0.0 c.from_residual-in_err-progress.ensures.1
+    (c.in_err-progress.ensures.begins out (record { text = c.header.ensures.text; begun = c.requires.begun }))
+
+pub loop-time-init : goal.loop-time-init
+loop-time-init g c =
+    let net = c.args.self.now.net.now in
+    let s = c.args.self.now.stimulus.now in
+    let limit = c.args.self.now.limit in
+    let out = g.W.Sink.state c.args.out.now in
+    let has = c.in_ok-progress.ensures.begins out (record { text = c.header.ensures.text; begun = c.requires.begun }) in
+    let p = c.in_ok-progress.progress in
+    let last = at_last net s limit out (g.W.Sink.state c.begin.new.out) p has.0 0 (sym has.1) in
+    let zero = sym (each_begins_at_zero s).1 ∙ last.0 in
+    record {
+      net = c.begin.ensures.net ∙ c.requires.net;
+      ready = c.begin.ensures.ready;
+      quiet = settled_quiet net s limit 0 c.begin.new.kernel.state has.2;
+      as_many = has.3;
+      values = has.4;
+      come = has.0;
+      m = 0;
+      is_last = sym has.1;
+      there = last.1;
+      at = last.0;
+      settled = has.2;
+      waits = subst (λ (now : ℕ). Waits s.inputs s.schedule now (g.A.Agenda.state c.args.agenda.now).waiting) zero c.requires.waits;
+    }
+
+pub apply-requires-clause-inputs : goal.apply-requires-clause-inputs
+apply-requires-clause-inputs g c =
+    let net = c.args.self.now.net.now in
+    let s = c.args.self.now.stimulus.now in
+    let I = c.loop-time.invariant in
+    let behind = g.A.Agenda.state c.next.new.self in
+    let turn = comes_next s c.stop-stop.ensures.holds c.loop-time.progress I.m I.is_last I.there I.at (g.A.Agenda.state c.loop-time.agenda) (g.met.A.Agenda.orderly c.loop-time.agenda) I.waits c.in-Some.time behind c.in-Some.ensures.least in
+    changes_inputs s c.loop-time.progress I.m c.in-Some.time behind.taken turn net c.nets-count.ensures.elaborated c.requires.ports c.requires.inputs c.loop-time.kernel.net I.net c.changes.result.now c.changes.ensures
+
+pub refill-requires-clause-waited : goal.refill-requires-clause-waited
+refill-requires-clause-waited g c =
+    let s = c.args.self.now.stimulus.now in
+    let I = c.loop-time.invariant in
+    let behind = g.A.Agenda.state c.next.new.self in
+    let turn = comes_next s c.stop-stop.ensures.holds c.loop-time.progress I.m I.is_last I.there I.at (g.A.Agenda.state c.loop-time.agenda) (g.met.A.Agenda.orderly c.loop-time.agenda) I.waits c.in-Some.time behind c.in-Some.ensures.least in
+    (c.loop-time.progress.now, turn.after, subst (λ (waiting : List (ℕ × List Change)). Waits s.inputs s.schedule c.loop-time.progress.now waiting) c.in-Some.ensures.least I.waits)
+
+pub go_on-requires-clause-ready : goal.go_on-requires-clause-ready
+go_on-requires-clause-ready g c =
+    let net = core_net (flat c.loop-time.kernel.net) in
+    let state = c.loop-time.kernel.state in
+    HasRun-done net (given net (changed (changes_of c.changes.result.now) state.now) state) c.apply.new.self.state c.apply.ensures.ran
+
+pub go_on-requires-clause-room : goal.go_on-requires-clause-room
+go_on-requires-clause-room g c =
+    let s = c.args.self.now.stimulus.now in
+    let I = c.loop-time.invariant in
+    let behind = g.A.Agenda.state c.next.new.self in
+    let turn = comes_next s c.stop-stop.ensures.holds c.loop-time.progress I.m I.is_last I.there I.at (g.A.Agenda.state c.loop-time.agenda) (g.met.A.Agenda.orderly c.loop-time.agenda) I.waits c.in-Some.time behind c.in-Some.ensures.least in
+    omega (arith, turn.few, c.stop-stop.ensures.in_time)
+
+pub loop-time-smaller : goal.loop-time-smaller
+loop-time-smaller g c =
+    let net = c.args.self.now.net.now in
+    let s = c.args.self.now.stimulus.now in
+    let I = c.loop-time.invariant in
+    let behind = g.A.Agenda.state c.next.new.self in
+    let turn = comes_next s c.stop-stop.ensures.holds c.loop-time.progress I.m I.is_last I.there I.at (g.A.Agenda.state c.loop-time.agenda) (g.met.A.Agenda.orderly c.loop-time.agenda) I.waits c.in-Some.time behind c.in-Some.ensures.least in
+    let limit = c.args.self.now.limit in
+    let out = g.W.Sink.state c.args.out.now in
+    let is_next = begins_next s c.loop-time.progress I.m c.in-Some.time behind.taken turn net c.nets-count.ensures.elaborated c.requires.ports c.requires.inputs c.loop-time.kernel.net I.net c.changes.result.now c.changes.ensures limit c.loop-time.kernel.state c.apply.new.self.state (ap length (sym I.values) ∙ I.as_many) I.settled c.apply.ensures.ran in
+    let has = c.in_ok-go_on.ensures.goes_on out I.come is_next in
+    omega (arith, turn.after, turn.within, has.2)
+
+pub loop-time-preserved : goal.loop-time-preserved
+loop-time-preserved g c =
+    let net = c.args.self.now.net.now in
+    let s = c.args.self.now.stimulus.now in
+    let I = c.loop-time.invariant in
+    let behind = g.A.Agenda.state c.next.new.self in
+    let turn = comes_next s c.stop-stop.ensures.holds c.loop-time.progress I.m I.is_last I.there I.at (g.A.Agenda.state c.loop-time.agenda) (g.met.A.Agenda.orderly c.loop-time.agenda) I.waits c.in-Some.time behind c.in-Some.ensures.least in
+    let limit = c.args.self.now.limit in
+    let out = g.W.Sink.state c.args.out.now in
+    let is_next = begins_next s c.loop-time.progress I.m c.in-Some.time behind.taken turn net c.nets-count.ensures.elaborated c.requires.ports c.requires.inputs c.loop-time.kernel.net I.net c.changes.result.now c.changes.ensures limit c.loop-time.kernel.state c.apply.new.self.state (ap length (sym I.values) ∙ I.as_many) I.settled c.apply.ensures.ran in
+    let has = c.in_ok-go_on.ensures.goes_on out I.come is_next in
+    let last = at_last net s limit out (g.W.Sink.state c.go_on.new.out) c.go_on.new.progress has.0 c.loop-time.progress.summary.moments (sym has.1) in
+    record {
+      net = c.go_on.ensures.net ∙ c.apply.ensures.net ∙ I.net;
+      ready = c.go_on.ensures.ready;
+      quiet = settled_quiet net s limit c.loop-time.progress.summary.moments c.go_on.new.kernel.state has.3;
+      as_many = c.go_on.ensures.as_many;
+      values = has.4;
+      come = has.0;
+      m = c.loop-time.progress.summary.moments;
+      is_last = sym has.1;
+      there = last.1;
+      at = last.0;
+      settled = has.3;
+      waits = subst (λ (now : ℕ). Waits s.inputs s.schedule now (g.A.Agenda.state c.refill.new.agenda).waiting) (sym has.2) c.in_ok-refill.ensures.waits;
+    }
+
+pub returns-in_err-go_on : goal.returns-in_err-go_on
+returns-in_err-go_on g c =
+    let net = c.args.self.now.net.now in
+    let s = c.args.self.now.stimulus.now in
+    let I = c.loop-time.invariant in
+    let behind = g.A.Agenda.state c.next.new.self in
+    let turn = comes_next s c.stop-stop.ensures.holds c.loop-time.progress I.m I.is_last I.there I.at (g.A.Agenda.state c.loop-time.agenda) (g.met.A.Agenda.orderly c.loop-time.agenda) I.waits c.in-Some.time behind c.in-Some.ensures.least in
+    let limit = c.args.self.now.limit in
+    let out = g.W.Sink.state c.args.out.now in
+    let is_next = begins_next s c.loop-time.progress I.m c.in-Some.time behind.taken turn net c.nets-count.ensures.elaborated c.requires.ports c.requires.inputs c.loop-time.kernel.net I.net c.changes.result.now c.changes.ensures limit c.loop-time.kernel.state c.apply.new.self.state (ap length (sym I.values) ∙ I.as_many) I.settled c.apply.ensures.ran in
+    err_with (Answers net s limit out (g.W.Sink.state c.go_on.new.out)) c.from_residual-in_err-go_on.result c.in_err-go_on.field-0.0 c.from_residual-in_err-go_on.ensures.1
+    (c.in_err-go_on.ensures.goes_on out I.come is_next)
+
+pub returns-in_err-end : goal.returns-in_err-end
+returns-in_err-end g c =
+    let net = c.args.self.now.net.now in
+    let s = c.args.self.now.stimulus.now in
+    let limit = c.args.self.now.limit in
+    let out = g.W.Sink.state c.args.out.now in
+    let I = c.loop-time.invariant in
+    let before = g.A.Agenda.state c.loop-time.agenda in
+    let waits = subst (λ (now : ℕ). Waits s.inputs s.schedule now before.waiting) (sym I.at) I.waits in
+    let all = no_moment s c.stop-stop.ensures.holds I.m I.there before (g.met.A.Agenda.orderly c.loop-time.agenda) waits c.in_default.ensures.empty in
+    let text = subst (λ (stop : ℕ). Goes (g.W.Sink.state c.loop-time.out) (g.W.Sink.state c.end.new.out) (end_text c.loop-time.progress.printed stop)) c.stop-stop.ensures.stop c.end.ensures.text in
+    err_with (Answers net s limit out (g.W.Sink.state c.end.new.out)) c.from_residual-in_err-end.result Output c.from_residual-in_err-end.ensures.1 (
+      end_leaves net s limit out (g.W.Sink.state c.loop-time.out) (g.W.Sink.state c.end.new.out) c.loop-time.progress I.come (sym I.is_last ∙ all) text c.requires.intact,
+      c.in_err-end.ensures.err,
+    )
+
+pub returns : goal.returns
+returns g c =
+    let net = c.args.self.now.net.now in
+    let s = c.args.self.now.stimulus.now in
+    let limit = c.args.self.now.limit in
+    let out = g.W.Sink.state c.args.out.now in
+    let I = c.loop-time.invariant in
+    let before = g.A.Agenda.state c.loop-time.agenda in
+    let waits = subst (λ (now : ℕ). Waits s.inputs s.schedule now before.waiting) (sym I.at) I.waits in
+    let all = no_moment s c.stop-stop.ensures.holds I.m I.there before (g.met.A.Agenda.orderly c.loop-time.agenda) waits c.in_default.ensures.empty in
+    let text = subst (λ (stop : ℕ). Goes (g.W.Sink.state c.loop-time.out) (g.W.Sink.state c.end.new.out) (end_text c.loop-time.progress.printed stop)) c.stop-stop.ensures.stop c.end.ensures.text in
+    is_whole net s limit out (g.W.Sink.state c.loop-time.out) (g.W.Sink.state c.end.new.out) c.loop-time.progress I.come (sym I.is_last ∙ all) text c.in_ok-end.ensures.ok
