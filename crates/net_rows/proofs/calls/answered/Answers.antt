@@ -2,8 +2,8 @@ use Rattle.std.proofs.Common.{List, sym, subst, ◌∙◌}
 use Rattle.rtl_net.specs.Nets.{flat}
 use Rattle.rtl_kernel.specs.kernel.Kept.{RunBodies}
 use Rattle.rtl_tree.specs.Trees.{ProcessOf, process_of}
-use Rattle.run_rows.proofs.Trees.{trees_run}
-use Rattle.run_rows.proofs.calls.answered.Goals as goal
+use Rattle.net_rows.proofs.Trees.{trees_run}
+use Rattle.net_rows.proofs.calls.answered.Goals as goal
 
 pub run-requires-clause-bodies : goal.run-requires-clause-bodies
 run-requires-clause-bodies g c =
