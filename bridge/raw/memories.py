@@ -1,5 +1,5 @@
 """Memories: small ones become a register for each word, and those that are only read a choice among values."""
-from .tree import Aggregate, Assign, Binary, Call, If, Index, Literal, Name, Process, Qualified, Select, Shape
+from .tree import Aggregate, Assign, Binary, Call, If, Literal, Name, Process, Qualified, Select, Shape
 
 WORDS = 64
 

@@ -1,5 +1,5 @@
 """Sums, products, comparisons and shifts, with and without a sign, by those of unsigned numbers."""
-from .tree import Aggregate, Binary, Call, Index, Literal, Name, Qualified, Shape, Slice, Unary
+from .tree import Binary, Call, Index, Literal, Qualified, Shape, Slice, Unary
 
 WIDEST = 64
 SHIFTS = ("shift_left", "shift_right", "rotate_left", "rotate_right")

@@ -1,4 +1,6 @@
 """Reads GHDL's plain VHDL into a tree."""
+import re
+
 from .tree import (Aggregate, Assign, Binary, Call, Check, Declared, Entity, If, Index, Instance, Literal, Memory, Name, Process, Qualified, Refused, Select,
                    Shape, Slice, Unary)
 from .words import words
@@ -45,7 +47,11 @@ class Reader:
     def name(self):
         if self.words[self.at].kind not in ("name", "extended"):
             self.refuse(f"a name expected, not {self.text!r}")
-        return self.take()
+        found = self.take()
+        while self.takes("."):
+            found += f"_{self.take()}"
+        # an extended identifier, and a name of several, as a plain one
+        return re.sub(r"\W", "_", found.strip("\\"))
 
     def number(self):
         sign = -1 if self.takes("-") else 1

@@ -1,100 +1,15 @@
 """Writes GHDL's plain VHDL anew within the language."""
+from .loops import looped, parts_of
 from .memories import Memories
 from .numbers import Numbers
 from .tree import (Aggregate, Assign, Binary, Call, Check, Declared, Entity, If, Index, Instance, Literal, Name, Process, Qualified, Refused, Select, Shape,
                    Slice, Unary)
+from .wide import split
 
 WIDEST = 64
 RELATIONS = ("=", "/=", "<", "<=", ">", ">=")
 SUMS = ("+", "-", "*", "/", "mod", "rem")
-NUMERIC = ("unsigned", "signed")
 EDGES = {"rising_edge": "falling_edge", "falling_edge": "rising_edge"}
-
-
-def string(text):
-    return Literal(f'"{text}"')
-
-
-def joined(parts):
-    """The parts, the leftmost first, with & between them."""
-    found = parts[0]
-    for it in parts[1:]:
-        found = Binary("&", found, it)
-    return found
-
-
-def parts_of(it):
-    """What a concatenation joins, the leftmost first."""
-    return parts_of(it.left) + parts_of(it.right) if isinstance(it, Binary) and it.operator == "&" else [it]
-
-
-def names_in(it):
-    """The names that a value reads."""
-    match it:
-        case Name():
-            return {it.text}
-        case Index() | Slice():
-            return names_in(it.base)
-        case Call():
-            return set().union(*map(names_in, it.arguments))
-        case Qualified():
-            return names_in(it.value)
-        case Aggregate():
-            return set().union(*(names_in(value) for _, value in it.parts))
-        case Unary():
-            return names_in(it.operand)
-        case Binary():
-            return names_in(it.left) | names_in(it.right)
-    return set()
-
-
-def looped(body, entities):
-    """The signals that hang on themselves, each vector taken as a whole, through assignments and instances."""
-    reads = {}
-    for it in body:
-        match it:
-            case Assign():
-                own = set().union(*(names_in(part) for pair in it.parts for part in pair if part))
-                reads.setdefault(next(iter(names_in(it.target))), set()).update(own)
-            case Select():
-                own = names_in(it.selector).union(*(names_in(value) for value, _ in it.parts))
-                reads.setdefault(next(iter(names_in(it.target))), set()).update(own)
-            case Instance() if it.entity in entities:
-                modes = {port.name: port.kind for port in entities[it.entity].ports}
-                own = set().union(*(names_in(actual) for formal, actual in it.ports if actual and modes[formal] == "in"))
-                for formal, actual in it.ports:
-                    for name in names_in(actual) if actual and modes[formal] == "out" else ():
-                        reads.setdefault(name, set()).update(own)
-    return on_loops(reads)
-
-
-def on_loops(reads):
-    """The names from which a way along what they read leads back to them: those of the strongly connected parts (Tarjan)."""
-    numbers, lowest, stack, found = {}, {}, [], set()
-    for start in reads:
-        if start in numbers:
-            continue
-        ways = [(start, iter(reads[start]))]
-        numbers[start] = lowest[start] = len(numbers)
-        stack.append(start)
-        while ways:
-            name, others = ways[-1]
-            other = next((it for it in others if it in reads), None)
-            if other is None:
-                ways.pop()
-                if ways:
-                    lowest[ways[-1][0]] = min(lowest[ways[-1][0]], lowest[name])
-                if lowest[name] == numbers[name]:
-                    part = stack[stack.index(name) :]
-                    del stack[-len(part) :]
-                    found.update(part if len(part) > 1 or name in reads[name] else ())
-            elif other not in numbers:
-                numbers[other] = lowest[other] = len(numbers)
-                stack.append(other)
-                ways.append((other, iter(reads[other])))
-            elif other in stack:
-                lowest[name] = min(lowest[name], numbers[other])
-    return found
 
 
 class Scope(Numbers, Memories):
@@ -238,15 +153,15 @@ class Scope(Numbers, Memories):
             count = choice[0] - choice[1] + 1 if isinstance(choice, tuple) else 1
             parts += [self.value(value)] * count
         if all(isinstance(part, Literal) for part in parts):
-            return string("".join(part.text[1:-1] for part in parts))
+            return Literal('"' + "".join(part.text[1:-1] for part in parts) + '"')
         if len(parts) == 1:
             return self.of_one(parts[0])
-        return joined(parts)
+        return self.joined(*parts)
 
     def of_one(self, bit):
         """A vector of this one element."""
         if isinstance(bit, Literal):
-            return string(bit.text[1:-1])
+            return Literal(f'"{bit.text[1:-1]}"')
         found = self.fresh(Shape(0, 0))
         self.assign(Index(found, Literal("0")), (bit, None))
         return found
@@ -352,6 +267,8 @@ class Scope(Numbers, Memories):
     def assignment(self, it):
         if isinstance(it.target, Name) and not self.shape(it.target.text).width():
             return
+        if any(condition and self.has_edge(condition) for _, condition in it.parts):
+            self.notes.append((it.place, "an edge is a value here: GHDL made no register of what hangs on it"))
         parts = [(self.value(value), condition and self.condition(condition)) for value, condition in it.parts]
         if len(parts) == 1 and isinstance(it.target, Name) and it.target.text in self.looped:
             return self.by_parts(it.target, parts[0][0], it.place)
@@ -403,6 +320,9 @@ class Scope(Numbers, Memories):
         found = self.fresh(port.shape)
         self.assign(found, (value, None))
         return found
+
+    def ports_of(self, entity):
+        return self.entities[entity].ports if entity in self.entities else []
 
     def is_constant(self, it):
         return isinstance(it, Name) and any(isinstance(d, Declared) and d.kind == "constant" and d.name == it.text for d in self.entity.declared)
@@ -462,6 +382,8 @@ class Scope(Numbers, Memories):
 
 def rewritten(entities):
     """The entities anew, and what was left out: places and sentences."""
+    by_name = {it.name: it for it in entities}
+    entities = [split(it, Scope(it, by_name)) for it in entities]
     by_name = {it.name: it for it in entities}
     found, notes = [], []
     for it in entities:

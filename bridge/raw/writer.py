@@ -2,8 +2,6 @@
 from .tree import Aggregate, Assign, Binary, Call, If, Index, Instance, Literal, Name, Process, Select, Slice, Unary
 
 HEAD = "library ieee;\nuse ieee.std_logic_1164.all;\nuse ieee.numeric_std.all;\n"
-RELATIONS = ("=", "/=", "<", "<=", ">", ">=")
-
 
 def expression(it, is_inner=False):
     match it:
