@@ -52,8 +52,22 @@ def stimulus(ports, clocks, resets, seed):
     return sorted(changes, key=lambda it: it[0])
 
 
-def as_stimulus(changes, stop):
-    return "".join(f"at {time} {name} {bits}\n" for time, name, bits in changes) + f"stop {stop}\n"
+def as_stimulus(changes, stop, parts):
+    """The stimulus for rtlsim; a port in parts has its value in theirs, the rightmost first."""
+    lines = []
+    for time, name, bits in changes:
+        high = len(bits)
+        for part, width in parts.get(name, [(name, high)]):
+            lines.append(f"at {time} {part} {bits[high - width : high]}\n")
+            high -= width
+    return "".join(lines) + f"stop {stop}\n"
+
+
+def whole(values, parts):
+    """The values of a moment, with those of ports in parts joined."""
+    for name, them in parts.items():
+        values[name] = "".join(plain(values.get(part, "x"), width) for part, width in reversed(them))
+    return values
 
 
 def testbench(top, ports, types, changes):
@@ -116,37 +130,31 @@ def ghdl(text, bench, stop):
     with tempfile.TemporaryDirectory() as work:
         with open(f"{work}/t.vhd", "w") as file:
             file.write(text + "\n" + bench)
-        for words in (["-a", "t.vhd"], ["-r", "tb", "--ieee-asserts=disable", f"--stop-time={stop}ns", "--vcd=t.vcd"]):
-            done = subprocess.run(["ghdl", words[0], "--std=08", *words[1:]], cwd=work, capture_output=True, text=True, timeout=60)
-            if done.returncode:
-                return None, (done.stderr or done.stdout).strip().split("\n")[0]
+        words = ["ghdl", "-c", "--std=08", "t.vhd", "-r", "tb", "--ieee-asserts=disable", f"--stop-time={stop}ns", "--vcd=t.vcd"]
+        done = subprocess.run(words, cwd=work, capture_output=True, text=True, timeout=60)
+        if done.returncode:
+            return None, (done.stderr or done.stdout).strip().split("\n")[0]
         with open(f"{work}/t.vcd") as file:
             return trace(file.read(), "tb"), ""
 
 
-def own(program, command, text, top, changes, stop):
+def own(program, command, text, top, changes, stop, parts):
+    """rtlsim's trace of the top's ports, or what it says; `parts` are the ports that are in parts, with those and their widths."""
     with tempfile.TemporaryDirectory() as work:
-        for name, part in (("t.vhd", text), ("t.stim", as_stimulus(changes, stop))):
+        for name, part in (("t.vhd", text), ("t.stim", as_stimulus(changes, stop, parts))):
             with open(f"{work}/{name}", "w") as file:
                 file.write(part)
         done = subprocess.run([program, "run", *command, "t.vhd", top, "t.stim"], cwd=work, capture_output=True, text=True, timeout=120)
     if done.returncode:
         return None, done.stderr.strip().split("\n")[0]
-    return trace(done.stdout, top), ""
+    return {time: whole(values, parts) for time, values in trace(done.stdout, top).items()}, ""
 
 
-def at(values, time):
-    before = [it for it in values if it <= time]
-    return values[max(before)] if before else {}
-
-
-def differences(theirs, ours, outputs, stop):
+def differences(theirs, ours, outputs):
     """How many values of outputs there are, and those that differ where GHDL's is known: time, name, theirs, ours."""
-    count, found = 0, []
-    for time in range(1, stop, 1):
-        if time not in theirs and time not in ours:
-            continue
-        a, b = at(theirs, time), at(ours, time)
+    count, found, a, b = 0, [], theirs.get(0, {}), ours.get(0, {})
+    for time in sorted((theirs.keys() | ours.keys()) - {0}):
+        a, b = theirs.get(time, a), ours.get(time, b)
         for it in outputs:
             width = it.shape.width()
             left, right = plain(a.get(it.name, "x"), width), plain(b.get(it.name, "x"), width)

@@ -383,10 +383,13 @@ class Scope(Numbers, Memories):
 def rewritten(entities):
     """The entities anew, and what was left out: places and sentences."""
     by_name = {it.name: it for it in entities}
-    entities = [split(it, Scope(it, by_name)) for it in entities]
-    by_name = {it.name: it for it in entities}
-    found, notes = [], []
+    found, notes, narrow = [], [], []
     for it in entities:
+        entity, said = split(it, Scope(it, by_name))
+        narrow.append(entity)
+        notes += said
+    by_name = {it.name: it for it in narrow}
+    for it in narrow:
         scope = Scope(it, by_name)
         found.append(scope.write())
         notes += scope.notes

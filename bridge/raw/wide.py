@@ -4,6 +4,7 @@ from dataclasses import replace
 from .tree import Aggregate, Assign, Binary, Call, Declared, Entity, If, Index, Instance, Literal, Name, Process, Qualified, Refused, Select, Shape, Slice, Unary
 
 WIDEST = 64
+MOST = 4096
 BITWISE = ("and", "or", "xor", "nand", "nor", "xnor")
 
 
@@ -33,6 +34,10 @@ class Wide:
     def refuse(self, what):
         raise Refused(f"{what} of more than {WIDEST} elements", self.place)
 
+    def shape(self, name):
+        """A signal's shape; that of one element where it is none, but a memory of a process."""
+        return self.scope.shapes.get(name, Shape(is_bit=True))
+
     def declared(self, them):
         """Declarations, the wide ones in parts, the leftmost first."""
         found = []
@@ -40,6 +45,8 @@ class Wide:
             if not isinstance(it, Declared) or not is_wide(it.shape):
                 found.append(it)
                 continue
+            if it.shape.width() > MOST:
+                raise Refused(f"the {'signal' if it.kind == 'signal' else 'port'} {it.name} of {it.shape.width()} elements")
             for name, shape in reversed(chunks(it.name, it.shape)):
                 value = it.value and self.elements(it.value, shape.high - it.shape.low, shape.low - it.shape.low)
                 found.append(Declared(it.kind, name, shape, value))
@@ -58,7 +65,7 @@ class Wide:
             case Index():
                 return self.value(it)
             case Slice(base=Name() as base, low=Literal(text=text)):
-                first = int(text) - self.scope.shape(base.text).low
+                first = int(text) - self.shape(base.text).low
                 return self.of_name(base, first + high, first + low)
             case Qualified():
                 return self.elements(it.value, high, low)
@@ -73,7 +80,7 @@ class Wide:
         self.refuse("an operation on vectors")
 
     def of_name(self, it, high, low):
-        shape = self.scope.shape(it.text)
+        shape = self.shape(it.text)
         if shape.is_bit:
             return it
         if not is_wide(shape):
@@ -105,11 +112,13 @@ class Wide:
     def value(self, it):
         match it:
             case Index(base=Name() as base, at=Literal(text=text)):
-                place = int(text) - self.scope.shape(base.text).low
-                return self.of_name(base, place, place) if is_wide(self.scope.shape(base.text)) else it
+                place = int(text) - self.shape(base.text).low
+                return self.of_name(base, place, place) if is_wide(self.shape(base.text)) else it
             case Slice(base=Name() as base):
-                wide = is_wide(self.scope.shape(base.text))
+                wide = is_wide(self.shape(base.text))
                 return self.elements(it, self.scope.width(it) - 1, 0) if wide else it
+            case Index(base=Name()):
+                return Index(it.base, self.value(it.at))
             case Call():
                 return Call(it.function, tuple(self.value(part) for part in it.arguments))
             case Qualified():
@@ -122,12 +131,12 @@ class Wide:
                 return self.compared(it)
             case Binary():
                 return Binary(it.operator, self.value(it.left), self.value(it.right))
-            case Name() if is_wide(self.scope.shape(it.text)):
+            case Name() if is_wide(self.shape(it.text)):
                 self.refuse("an operation on vectors")
         return it
 
     def is_compared(self, it):
-        return any(isinstance(side, Name) and is_wide(self.scope.shape(side.text)) for side in (it.left, it.right))
+        return any(isinstance(side, Name) and is_wide(self.shape(side.text)) for side in (it.left, it.right))
 
     def compared(self, it):
         """Two wide vectors are equal where all their parts are."""
@@ -155,19 +164,38 @@ class Wide:
                 return [replace(it, selector=selector, target=target, parts=parts(high, low)) for target, high, low in self.targets(it.target)]
             case If():
                 return [If([(condition and self.value(condition), self.statements(body)) for condition, body in it.parts])]
+            case Process(types=[_, *_]):
+                return self.memory(it)
             case Process():
                 return [replace(it, body=self.statements(it.body))]
             case Instance():
                 return [replace(it, ports=[pair for formal, actual in it.ports for pair in self.connected(it, formal, actual)])]
         return [it]
 
+    def memory(self, it):
+        """A memory's process; what it reads into parts of a wide signal goes by a signal of its own."""
+        word, after = it.types[0].shape, []
+        if is_wide(word):
+            self.refuse("a memory with words")
+
+        def narrow(part):
+            if isinstance(part, If):
+                return If([(condition and self.value(condition), [narrow(inner) for inner in body]) for condition, body in part.parts])
+            target, values = part.target, [(self.value(value), condition) for value, condition in part.parts]
+            if self.targets(target)[0][1] is not None:
+                target = self.scope.fresh(word)
+                after.extend(self.statement(Assign(part.target, [(target, None)], it.place)))
+            return replace(part, target=target, parts=values)
+
+        return [replace(it, body=[narrow(part) for part in it.body]), *after]
+
     def targets(self, it):
         """What is assigned, in parts, with the places of the value that each gets; None where it is whole."""
         match it:
-            case Name() if is_wide(self.scope.shape(it.text)):
-                base = self.scope.shape(it.text).low
-                return [(self.target(name, shape), shape.high - base, shape.low - base) for name, shape in chunks(it.text, self.scope.shape(it.text))]
-            case Slice(base=Name() as base) | Index(base=Name() as base) if is_wide(self.scope.shape(base.text)):
+            case Name() if is_wide(self.shape(it.text)):
+                base = self.shape(it.text).low
+                return [(self.target(name, shape), shape.high - base, shape.low - base) for name, shape in chunks(it.text, self.shape(it.text))]
+            case Slice(base=Name() as base) | Index(base=Name() as base) if is_wide(self.shape(base.text)):
                 return self.partly(it, base)
         return [(it, None, None)]
 
@@ -177,7 +205,7 @@ class Wide:
     def partly(self, it, base):
         high, low = (int(it.high.text), int(it.low.text)) if isinstance(it, Slice) else (int(it.at.text),) * 2
         found = []
-        for name, shape in chunks(base.text, self.scope.shape(base.text)):
+        for name, shape in chunks(base.text, self.shape(base.text)):
             top, bottom = min(shape.high, high), max(shape.low, low)
             if top >= bottom:
                 found.append((self.within(Name(name), shape, top, bottom), top - low, bottom - low))
@@ -196,6 +224,8 @@ class Wide:
 
 
 def split(entity, scope):
-    """The entity without wide signals."""
+    """The entity without wide signals, and what is to be said of its ports."""
     it = Wide(scope)
-    return Entity(entity.name, it.declared(entity.ports), it.declared(entity.declared), it.statements(entity.body))
+    ports, declared, body = it.declared(entity.ports), it.declared(entity.declared), it.statements(entity.body)
+    notes = [("", f"the port {port.name} is in parts: {', '.join(name for name, _ in chunks(port.name, port.shape))}") for port in entity.ports if is_wide(port.shape)]
+    return Entity(entity.name, ports, declared + scope.declared, body), notes
