@@ -46,7 +46,6 @@ complete -c rtlsim -n __rtlsim_is_first -l version -d 'Prints the version'
 
 # The commands, and what stands behind each.
 # written by tools/pages
-set -g __rtlsim_commands eval net check run
 complete -c rtlsim -n __rtlsim_is_first -a eval -d 'Prints the outputs under these inputs'
 complete -c rtlsim -n '__rtlsim_is_at eval 1' -F -d 'The source, or @ for the standard input'
 complete -c rtlsim -n '__rtlsim_is_at eval 2' -a '(__rtlsim_tops)' -d 'The entity at the top'
