@@ -1,3 +1,4 @@
 pub mod Agenda
 pub mod MapState
 pub mod Laws
+pub mod Chains

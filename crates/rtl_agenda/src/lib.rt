@@ -6,6 +6,8 @@
 #![tactic(auto)]
 
 mod agenda;
+mod cell;
+mod chains;
 mod laws;
 mod map_agenda;
 #[cfg(test)]

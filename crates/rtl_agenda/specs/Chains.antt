@@ -1,0 +1,62 @@
+-- Changes in chains, one for each remainder of their times.
+use Rattle.std.specs.Prelude.{◌≡◌, ◌≢◌, ℕ, zero, suc, ◌<◌, ◌≤◌, ◌%◌, Bool, true, false, cond, List, [], ◌∷◌, ◌++◌, length, map, Option, Some, None, All, AllPairs, slice_index_or}
+use Rattle.std.specs.List.{sum_by, flat_map}
+use Rattle.std.proofs.Common.{leb}
+use Rattle.slab.specs.Slab.{Slab, get, slab_len}
+use Rattle.rtl_agenda.specs.Agenda.{Change, with_change}
+use Rattle.rtl_agenda.specs.declared.cell.Cell.{Cell}
+
+-- a change with its time
+abbrev pub Timed : Type 0
+Timed = ℕ × Change
+
+-- the chain from a cell on, of at most so many cells: the key of each, and what it holds
+unfoldable pub links : (ℕ → Option Cell) → ℕ → Option ℕ → List (ℕ × Timed)
+links at zero behind = []
+links at (suc n) None = []
+links at (suc n) (Some key) = elim (at key) [ None ↦ [] | Some cell ↦ (key, (cell.time, cell.change)) ∷ links at n cell.next ]
+
+-- the chain from a cell on has an end, after at most so many cells
+unfoldable pub is_ended : (ℕ → Option Cell) → ℕ → Option ℕ → Bool
+is_ended at n None = true
+is_ended at zero (Some key) = false
+is_ended at (suc n) (Some key) = elim (at key) [ None ↦ false | Some cell ↦ is_ended at n cell.next ]
+
+-- the changes from a cell on
+unfoldable pub held : Slab Cell → Option ℕ → List Timed
+held cells behind = map (λ e. e.1) (links (get cells) (slab_len cells) behind)
+
+-- the changes of a chain
+abbrev pub chain_at : Slab Cell → List (Option ℕ) → ℕ → List Timed
+chain_at cells firsts slot = held cells (slice_index_or firsts slot None)
+
+-- a chain with a change more, in front of the first that is later
+abbrev pub put_in : List Timed → Timed → List Timed
+put_in [] x = x ∷ []
+put_in (y ∷ ys) x = cond (leb y.0 x.0) (y ∷ put_in ys x) (x ∷ y ∷ ys)
+
+-- each chain ends, and has the changes whose times leave its number, by rising time; no cell stands outside of them
+pub record IsChained (cells : Slab Cell) (firsts : List (Option ℕ)) : Type 0 where
+  pub ended : (s : ℕ) → is_ended (get cells) (slab_len cells) (slice_index_or firsts s None) ≡ true
+  pub placed : (s : ℕ) → All (λ x. x.0 % length firsts ≡ s) (chain_at cells firsts s)
+  pub rising : (s : ℕ) → AllPairs (λ x y. x.0 ≤ y.0) (chain_at cells firsts s)
+  pub counted : sum_by (λ o. length (held cells o)) firsts ≡ slab_len cells
+
+-- one chain is this, and the others stay
+pub record IsRechained (cells : Slab Cell) (firsts : List (Option ℕ)) (new : Slab Cell) (new_firsts : List (Option ℕ)) (slot : ℕ) (chain : List Timed) : Type 0 where
+  pub at : chain_at new new_firsts slot ≡ chain
+  pub others : (s : ℕ) → s ≢ slot → chain_at new new_firsts s ≡ chain_at cells firsts s
+  pub chains : length new_firsts ≡ length firsts
+
+-- the first change, where there is one, has the time
+abbrev pub BeginsAt : List Timed → ℕ → Type 0
+BeginsAt chain time = (change : Change) × (rest : List Timed) × (chain ≡ (time, change) ∷ rest)
+
+-- what waits once the changes of a list have been pushed in order
+unfoldable pub pushed : List (ℕ × List Change) → List Timed → List (ℕ × List Change)
+pushed waiting [] = waiting
+pushed waiting (x ∷ xs) = pushed (with_change waiting x.0 x.1) xs
+
+-- what waits in the chains
+abbrev pub waiting_in : Slab Cell → List (Option ℕ) → List (ℕ × List Change)
+waiting_in cells firsts = pushed [] (flat_map (held cells) firsts)

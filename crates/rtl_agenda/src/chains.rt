@@ -1,0 +1,109 @@
+//! Changes that wait, chained by their times modulo the number of chains.
+
+ghost use Rattle.std.specs.Prelude.{◌≡◌, ◌≤◌, ◌<◌, ◌+◌, ◌%◌, ◌∷◌, [], ℕ, IfOk, IfSome, IfNone, OnOk, OnErr, length, List, OnSome};
+ghost use Rattle.slab.specs.Slab.{HasRoomFor, slab_len};
+ghost use Rattle.rtl_agenda.specs.Agenda.{Change};
+ghost use Rattle.rtl_agenda.specs.Chains.{BeginsAt, IsChained, IsRechained, Timed, chain_at, put_in};
+
+use crate::agenda::{Change, NoMemory};
+use crate::cell::Cell;
+use slab::Slab;
+use std::alloc::Global;
+
+/// Changes with their times, each in the chain of its time modulo the number of chains.
+#[derive(Drop)]
+pub struct Chains {
+    pub cells: Slab<Cell>,
+    pub firsts: Vec<Option<usize>>,
+    pub ghost chained: { IsChained cells firsts.items },
+}
+
+impl Chains {
+    /// So many chains, with no change.
+    pub fn new(alloc: Global, chains: usize) -> Result<Self, NoMemory>
+        ensures count { IfOk result (λ c. length c.firsts.items ≡ chains) }
+        ensures empty { IfOk result (λ c. (s : ℕ) → chain_at c.cells c.firsts.items s ≡ []) }
+    {
+        let firsts = vec![in alloc; None; chains]?;
+        Ok(Chains {
+            cells: Slab::new(alloc),
+            firsts,
+        })
+    }
+
+    /// Makes room for one change more. The answer is how many changes there are then.
+    pub fn reserve(&mut self) -> Result<usize, NoMemory>
+        ensures room { OnOk result (HasRoomFor self.new.cells 1) }
+        ensures more { IfOk result (λ n. n ≡ slab_len self.old.cells + 1) }
+        ensures cells { slab_len self.new.cells ≡ slab_len self.old.cells }
+        ensures firsts { self.new.firsts ≡ self.old.firsts }
+        ensures chains { (s : ℕ) → chain_at self.new.cells self.new.firsts.items s ≡ chain_at self.old.cells self.old.firsts.items s }
+    {
+        self.cells.reserve(1)?;
+        Ok(self.cells.len() + 1)
+    }
+
+    /// The time of a chain's first change.
+    pub fn first(&self, slot: usize) -> Option<u64>
+        requires { slot < length self.now.firsts.items }
+        ensures some { IfSome result (λ time. BeginsAt (chain_at self.now.cells self.now.firsts.items slot) time) }
+        ensures none { IfNone result (chain_at self.now.cells self.now.firsts.items slot ≡ []) }
+    {
+        let key = self.firsts[slot]?;
+        Some(self.cells[key].time)
+    }
+
+    // The last cell of a chain in front of the first whose time is later.
+    fn place_of(&self, slot: usize, time: u64) -> Option<usize>
+        requires { slot < length self.now.firsts.items }
+    {
+        let mut place = None;
+        let mut behind = self.firsts[slot];
+        while let Some(key) = behind {
+            let cell = self.cells[key];
+            if time < cell.time {
+                return place;
+            }
+            place = Some(key);
+            behind = cell.next;
+        }
+        place
+    }
+
+    /// Puts a change into the chain of its time, in front of the first that is later.
+    pub fn put(&mut self, time: u64, change: Change)
+        requires some { 0 < length self.old.firsts.items }
+        requires room { HasRoomFor self.old.cells 1 }
+        ensures put { let slot = time % length self.old.firsts.items in
+            IsRechained self.old.cells self.old.firsts.items self.new.cells self.new.firsts.items slot
+            (put_in (chain_at self.old.cells self.old.firsts.items slot) (time, change)) }
+        ensures more { slab_len self.new.cells ≡ slab_len self.old.cells + 1 }
+    {
+        let slot = (time % self.firsts.len() as u64) as usize;
+        if let Some(place) = self.place_of(slot, time) {
+            let next = self.cells[place].next;
+            let key = self.cells.insert_reserved(Cell { time, change, next });
+            self.cells[place].next = Some(key);
+        } else {
+            let next = self.firsts[slot];
+            let key = self.cells.insert_reserved(Cell { time, change, next });
+            self.firsts[slot] = Some(key);
+        }
+    }
+
+    /// Takes the first change off a chain.
+    pub fn take(&mut self, slot: usize) -> Option<Change>
+        requires { slot < length self.old.firsts.items }
+        ensures taken { IfSome result (λ change. (time : ℕ) × (rest : List Timed)
+            × (chain_at self.old.cells self.old.firsts.items slot ≡ (time, change) ∷ rest)
+            × IsRechained self.old.cells self.old.firsts.items self.new.cells self.new.firsts.items slot rest) }
+        ensures fewer { OnSome result (slab_len self.new.cells + 1 ≡ slab_len self.old.cells) }
+        ensures none { IfNone result (chain_at self.old.cells self.old.firsts.items slot ≡ []) }
+        ensures unchanged { IfNone result (self.new ≡ self.old) }
+    {
+        let key = self.firsts[slot]?;
+        let cell = self.cells.remove(key);
+        self.firsts[slot] = cell.next;
+        Some(cell.change)
+    }
+}
