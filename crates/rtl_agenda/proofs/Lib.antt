@@ -2,3 +2,9 @@ pub mod Waiting
 pub mod Ordering
 pub mod Maps
 pub mod Pushing
+pub mod Paths
+pub mod Places
+pub mod Heads
+pub mod Chained
+pub mod Taking
+pub mod Putting

@@ -1,6 +1,6 @@
 -- Changes in chains, one for each remainder of their times.
 use Rattle.std.specs.Prelude.{◌≡◌, ◌≢◌, ℕ, zero, suc, ◌<◌, ◌≤◌, ◌%◌, Bool, true, false, cond, List, [], ◌∷◌, ◌++◌, length, map, Option, Some, None, All, AllPairs, slice_index_or}
-use Rattle.std.specs.List.{sum_by, flat_map}
+use Rattle.std.specs.List.{sum_by, flat_map, AllByRecursion}
 use Rattle.std.proofs.Common.{leb}
 use Rattle.slab.specs.Slab.{Slab, get, slab_len}
 use Rattle.rtl_agenda.specs.Agenda.{Change, with_change}
@@ -10,21 +10,51 @@ use Rattle.rtl_agenda.specs.declared.cell.Cell.{Cell}
 abbrev pub Timed : Type 0
 Timed = ℕ × Change
 
+-- what a cell holds, and the chain behind it
+abbrev pub links_at : ℕ → (Option ℕ → List (ℕ × Timed)) → Option Cell → List (ℕ × Timed)
+links_at key behind None = []
+links_at key behind (Some cell) = (key, (cell.time, cell.change)) ∷ behind cell.next
+
 -- the chain from a cell on, of at most so many cells: the key of each, and what it holds
 unfoldable pub links : (ℕ → Option Cell) → ℕ → Option ℕ → List (ℕ × Timed)
-links at zero behind = []
+links at zero None = []
+links at zero (Some key) = []
 links at (suc n) None = []
-links at (suc n) (Some key) = elim (at key) [ None ↦ [] | Some cell ↦ (key, (cell.time, cell.change)) ∷ links at n cell.next ]
+links at (suc n) (Some key) = links_at key (λ next. links at n next) (at key)
+
+-- the cell is there, and the chain behind it has an end
+abbrev pub ends_at : (Option ℕ → Bool) → Option Cell → Bool
+ends_at behind None = false
+ends_at behind (Some cell) = behind cell.next
 
 -- the chain from a cell on has an end, after at most so many cells
 unfoldable pub is_ended : (ℕ → Option Cell) → ℕ → Option ℕ → Bool
-is_ended at n None = true
+is_ended at zero None = true
 is_ended at zero (Some key) = false
-is_ended at (suc n) (Some key) = elim (at key) [ None ↦ false | Some cell ↦ is_ended at n cell.next ]
+is_ended at (suc n) None = true
+is_ended at (suc n) (Some key) = ends_at (λ next. is_ended at n next) (at key)
+
+-- the cells of a chain up to a place and those behind it: none is up to the place, or the place's is the last, and none of them is later
+abbrev pub IsUpTo : List (ℕ × Timed) → ℕ → Option ℕ → List (ℕ × Timed) → Type 0
+IsUpTo chain time None behind = chain ≡ behind
+IsUpTo chain time (Some key) behind = (front : List (ℕ × Timed)) × (x : Timed) × (chain ≡ front ++ (key, x) ∷ behind) × AllByRecursion (λ e. e.1.0 ≤ time) front × (x.0 ≤ time)
+
+-- the first change, if there is one, is later
+abbrev pub IsLater : ℕ → List (ℕ × Timed) → Type 0
+IsLater time [] = Unit {0}
+IsLater time (e ∷ es) = time < e.1.0
+
+-- the place of a time in a chain: in front of the first change that is later
+abbrev pub IsPlace : List (ℕ × Timed) → ℕ → Option ℕ → Type 0
+IsPlace chain time place = (behind : List (ℕ × Timed)) × IsUpTo chain time place behind × IsLater time behind
+
+-- the cells of a chain
+abbrev pub links_of : Slab Cell → Option ℕ → List (ℕ × Timed)
+links_of cells behind = links (get cells) (slab_len cells) behind
 
 -- the changes from a cell on
 unfoldable pub held : Slab Cell → Option ℕ → List Timed
-held cells behind = map (λ e. e.1) (links (get cells) (slab_len cells) behind)
+held cells behind = map (λ e. e.1) (links_of cells behind)
 
 -- the changes of a chain
 abbrev pub chain_at : Slab Cell → List (Option ℕ) → ℕ → List Timed

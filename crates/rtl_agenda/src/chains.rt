@@ -1,9 +1,9 @@
 //! Changes that wait, chained by their times modulo the number of chains.
 
-ghost use Rattle.std.specs.Prelude.{◌≡◌, ◌≤◌, ◌<◌, ◌+◌, ◌%◌, ◌∷◌, [], ℕ, IfOk, IfSome, IfNone, OnOk, OnErr, length, List, OnSome};
+ghost use Rattle.std.specs.Prelude.{◌≡◌, ◌≤◌, ◌<◌, ◌+◌, ◌%◌, ◌∷◌, [], ℕ, IfOk, IfSome, IfNone, OnOk, OnErr, length, List, OnSome, None, slice_index_or};
 ghost use Rattle.slab.specs.Slab.{HasRoomFor, slab_len};
 ghost use Rattle.rtl_agenda.specs.Agenda.{Change};
-ghost use Rattle.rtl_agenda.specs.Chains.{BeginsAt, IsChained, IsRechained, Timed, chain_at, put_in};
+ghost use Rattle.rtl_agenda.specs.Chains.{BeginsAt, IsChained, IsPlace, IsRechained, Timed, chain_at, links_of, put_in};
 
 use crate::agenda::{Change, NoMemory};
 use crate::cell::Cell;
@@ -24,23 +24,24 @@ impl Chains {
         ensures count { IfOk result (λ c. length c.firsts.items ≡ chains) }
         ensures empty { IfOk result (λ c. (s : ℕ) → chain_at c.cells c.firsts.items s ≡ []) }
     {
-        let firsts = vec![in alloc; None; chains]?;
+        let mut firsts = Vec::new(alloc);
+        firsts.resize(chains, None)?;
         Ok(Chains {
             cells: Slab::new(alloc),
             firsts,
         })
     }
 
-    /// Makes room for one change more. The answer is how many changes there are then.
+    /// Makes room for one change more. The answer is how many changes there is room for.
     pub fn reserve(&mut self) -> Result<usize, NoMemory>
         ensures room { OnOk result (HasRoomFor self.new.cells 1) }
-        ensures more { IfOk result (λ n. n ≡ slab_len self.old.cells + 1) }
+        ensures more { IfOk result (λ n. slab_len self.new.cells + 1 ≤ n) }
         ensures cells { slab_len self.new.cells ≡ slab_len self.old.cells }
         ensures firsts { self.new.firsts ≡ self.old.firsts }
         ensures chains { (s : ℕ) → chain_at self.new.cells self.new.firsts.items s ≡ chain_at self.old.cells self.old.firsts.items s }
     {
         self.cells.reserve(1)?;
-        Ok(self.cells.len() + 1)
+        Ok(self.cells.capacity())
     }
 
     /// The time of a chain's first change.
@@ -56,6 +57,7 @@ impl Chains {
     // The last cell of a chain in front of the first whose time is later.
     fn place_of(&self, slot: usize, time: u64) -> Option<usize>
         requires { slot < length self.now.firsts.items }
+        ensures { IsPlace (links_of self.now.cells (slice_index_or self.now.firsts.items slot None)) time result }
     {
         let mut place = None;
         let mut behind = self.firsts[slot];

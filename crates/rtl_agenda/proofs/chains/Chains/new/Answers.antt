@@ -1,0 +1,17 @@
+use Rattle.std.proofs.Common.{◌≡◌, ◌<◌, ℕ, Option, None, length, get_or, refl, arith, rules}
+use Rattle.rtl_agenda.proofs.Heads.{held_none, chained_none, none_at}
+use Rattle.rtl_agenda.proofs.chains.Chains.new.Goals as goal
+
+pub invariant_of-result : goal.invariant_of-result
+invariant_of-result c =
+    let items = c.resize.new.self.items in
+    let long : length items ≡ c.args.chains = search rules in
+    let each : (k : ℕ) (d : Option ℕ) → k < c.args.chains → get_or items k d ≡ None = (λ k d less. c.in_ok-resize.ensures.by_index.1 k d refl (omega (arith, c.new-firsts.ensures.len)) less) in
+    record { chained = chained_none c.new.result items c.new.ensures.empty (none_at items c.args.chains long each); }
+
+pub returns-clause-empty : goal.returns-clause-empty
+returns-clause-empty c =
+    let items = c.resize.new.self.items in
+    let long : length items ≡ c.args.chains = search rules in
+    let each : (k : ℕ) (d : Option ℕ) → k < c.args.chains → get_or items k d ≡ None = (λ k d less. c.in_ok-resize.ensures.by_index.1 k d refl (omega (arith, c.new-firsts.ensures.len)) less) in
+    λ s. held_none c.new.result (get_or items s None) (none_at items c.args.chains long each s)
