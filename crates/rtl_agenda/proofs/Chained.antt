@@ -75,24 +75,24 @@ module _ (cells new : Slab Cell) (firsts new_firsts : List (Option ℕ)) (slot :
         let new_long : length (map f new_firsts) ≡ length new_firsts = length-map new_firsts f in
         let set_long : length (set (map g firsts) slot (length es)) ≡ length (map g firsts) = length-set (map g firsts) slot (length es) in
         let each : (k d : ℕ) → k < length (map f new_firsts) → get_or (map f new_firsts) k d ≡ get_or lengths k d =
-            (λ k d inside.
-              let k_new : k < length new_firsts = omega arith in
-              let k_old : k < length firsts = omega arith in
-              let left = get_or-map f new_firsts k None d k_new in
-              elim (cases_eq k slot) [
-                | inl is ↦
-                    let moved : f (get_or new_firsts k None) ≡ f (get_or new_firsts slot None) = ap (λ s. f (get_or new_firsts s None)) is in
-                    let long : f (get_or new_firsts slot None) ≡ length es =
-                        length-map (links_of new (get_or new_firsts slot None)) (λ e. e.1) ∙ ap (λ (xs : List (ℕ × Timed)). length xs) links_here in
-                    let right : get_or lengths slot d ≡ length es = get_or-set_same (map g firsts) slot (length es) d (omega arith) in
-                    let right_k : get_or lengths k d ≡ get_or lengths slot d = ap (λ s. get_or lengths s d) is in
-                    left ∙ moved ∙ long ∙ sym (right_k ∙ right)
-                | inr apart ↦
-                    let other : f (get_or new_firsts k None) ≡ g (get_or firsts k None) =
-                        ap (λ (xs : List (ℕ × Timed)). length (map (λ (e : ℕ × Timed). e.1) xs)) (links_there k apart) in
-                    let right : get_or lengths k d ≡ get_or (map g firsts) k d = get_or-set_other (map g firsts) slot k (length es) d apart in
-                    left ∙ other ∙ sym (right ∙ get_or-map g firsts k None d k_old)
-              ])
+        (λ k d inside.
+        let k_new : k < length new_firsts = omega arith in
+        let k_old : k < length firsts = omega arith in
+        let left = get_or-map f new_firsts k None d k_new in
+        elim (cases_eq k slot) [
+          | inl is ↦
+              let moved : f (get_or new_firsts k None) ≡ f (get_or new_firsts slot None) = ap (λ s. f (get_or new_firsts s None)) is in
+              let long : f (get_or new_firsts slot None) ≡ length es =
+              length-map (links_of new (get_or new_firsts slot None)) (λ e. e.1) ∙ ap (λ (xs : List (ℕ × Timed)). length xs) links_here in
+              let right : get_or lengths slot d ≡ length es = get_or-set_same (map g firsts) slot (length es) d (omega arith) in
+              let right_k : get_or lengths k d ≡ get_or lengths slot d = ap (λ s. get_or lengths s d) is in
+              left ∙ moved ∙ long ∙ sym (right_k ∙ right)
+          | inr apart ↦
+              let other : f (get_or new_firsts k None) ≡ g (get_or firsts k None) =
+              ap (λ (xs : List (ℕ × Timed)). length (map (λ (e : ℕ × Timed). e.1) xs)) (links_there k apart) in
+              let right : get_or lengths k d ≡ get_or (map g firsts) k d = get_or-set_other (map g firsts) slot k (length es) d apart in
+              left ∙ other ∙ sym (right ∙ get_or-map g firsts k None d k_old)
+        ])
         in
         sym (sum-map f new_firsts) ∙ ap (λ xs. sum xs) (same_lists (map f new_firsts) lengths (omega arith) each) ∙ total
 
@@ -115,11 +115,14 @@ module _ (cells new : Slab Cell) (firsts new_firsts : List (Option ℕ)) (slot :
       where
         placed_at : (s : ℕ) → s ≡ slot → All (λ (x : Timed). x.0 % length firsts ≡ slot) (map (λ e. e.1) es) → All (λ (x : Timed). x.0 % length new_firsts ≡ s) (chain_at new new_firsts s)
         placed_at s is h = rw (is, rechained.at, same) h
+
         placed_other : (s : ℕ) → chain_at new new_firsts s ≡ chain_at cells firsts s → All (λ (x : Timed). x.0 % length firsts ≡ s) (chain_at cells firsts s)
             → All (λ (x : Timed). x.0 % length new_firsts ≡ s) (chain_at new new_firsts s)
         placed_other s is h = rw (is, same) h
+
         rising_at : (s : ℕ) → s ≡ slot → AllPairs (λ (x y : Timed). x.0 ≤ y.0) (map (λ e. e.1) es) → AllPairs (λ (x y : Timed). x.0 ≤ y.0) (chain_at new new_firsts s)
         rising_at s is h = rw (is, rechained.at) h
+
         rising_other : (s : ℕ) → chain_at new new_firsts s ≡ chain_at cells firsts s → AllPairs (λ (x y : Timed). x.0 ≤ y.0) (chain_at cells firsts s)
             → AllPairs (λ (x y : Timed). x.0 ≤ y.0) (chain_at new new_firsts s)
         rising_other s is h = rw is h

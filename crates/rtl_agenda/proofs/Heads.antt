@@ -7,7 +7,7 @@ use Rattle.std.proofs.lemmas.List.{get_or_default, get_or_past}
 use Rattle.std.proofs.lemmas.List.Elements.{All-nil}
 use Rattle.std.proofs.lemmas.List.Sums.{sum_by-le}
 use Rattle.slab.specs.Slab.{Slab, get, slab_len}
-use Rattle.rtl_agenda.specs.Chains.{Timed, links, links_of, is_ended, held, chain_at, IsChained}
+use Rattle.rtl_agenda.specs.Chains.{Timed, links, links_of, is_ended, held, chain_at, waiting_in, IsChained}
 use Rattle.rtl_agenda.specs.declared.cell.Cell.{Cell}
 use Rattle.rtl_agenda.proofs.Paths.{ended-path, path_none}
 use Rattle.rtl_agenda.proofs.Places.{links_none, links_some}
@@ -42,9 +42,9 @@ unfolding held
 chained_none cells firsts empty none =
     let nothing = λ (s : ℕ). held_none cells (get_or firsts s None) (none s) in
     let sum = sum_by-le (λ (o : Option ℕ). length (held cells o)) 0 firsts
-        (λ k d within.
-          let e : held cells (get_or firsts k d) ≡ [] = held_none cells (get_or firsts k d) (get_or_default firsts k d None within ∙ none k) in
-          omega (arith, ap (λ (xs : List Timed). length xs) e)) in
+    (λ k d within.
+    let e : held cells (get_or firsts k d) ≡ [] = held_none cells (get_or firsts k d) (get_or_default firsts k d None within ∙ none k) in
+    omega (arith, ap (λ (xs : List Timed). length xs) e)) in
     let many : count_by is_some cells.slots ≡ 0 = ap (λ (ss : List (Option Cell)). count_by is_some ss) empty in
     record {
       ended = λ s. ended-path (get cells) (slab_len cells) (get_or firsts s None) [] (path_none (get cells) (get_or firsts s None) (none s)) (omega arith);
@@ -54,10 +54,10 @@ chained_none cells firsts empty none =
     }
 
 -- more room changes nothing
-pub held_room : (cells : Slab Cell) (k : ℕ) (o : Option ℕ) → held (record cells { capacity = k }) o ≡ held cells o
+pub waiting_room : (cells : Slab Cell) (k : ℕ) (firsts : List (Option ℕ)) → waiting_in (record cells { capacity = k }) firsts ≡ waiting_in cells firsts
 unfolding held
-held_room cells k o = refl
+waiting_room cells k firsts = refl
 
 pub chained_room : (cells : Slab Cell) (k : ℕ) (firsts : List (Option ℕ)) → IsChained cells firsts → IsChained (record cells { capacity = k }) firsts
 unfolding held
-chained_room cells k firsts chained = record { ended = chained.ended; placed = chained.placed; rising = chained.rising; counted = chained.counted; }
+chained_room cells k firsts chained = record { ended = chained.ended; placed = chained.placed; rising = chained.rising; counted = chained.counted }

@@ -169,8 +169,8 @@ path_lacks_placed at n s key cell o [] path placed there apart = tt
 path_lacks_placed at n s key cell o (e ∷ es) path placed there apart =
     let is_e : at e.0 ≡ Some (cell_of e.1 path.1) = path.2 in (
       (λ same.
-        let moved : at e.0 ≡ at key = ap at same in
-        let both : cell_of e.1 path.1 ≡ cell = cc in
-        apart (sym (ap (λ (c : Cell). c.time % n) both) ∙ placed.0)),
+          let moved : at e.0 ≡ at key = ap at same in
+          let both : cell_of e.1 path.1 ≡ cell = cc in
+          apart (sym (ap (λ (c : Cell). c.time % n) both) ∙ placed.0)),
       path_lacks_placed at n s key cell path.1 es path.3 placed.1 there apart,
     )

@@ -32,6 +32,7 @@ rising_put_in (y ∷ ys) x rising = by (leb y.0 x.0) refl (rising_put_in ys x (A
   where
     least : All (λ (z : Timed). y.0 ≤ z.0) ys
     least = λ k d within. rising 0 (suc k) d (omega arith) (omega arith)
+
     by : (b : Bool) → leb y.0 x.0 ≡ b → AllPairs (λ (x y : Timed). x.0 ≤ y.0) (put_in ys x) → AllPairs (λ (x y : Timed). x.0 ≤ y.0) (cond b (y ∷ put_in ys x) (x ∷ y ∷ ys))
     by true is later = AllPairs-cons (λ (x y : Timed). x.0 ≤ y.0) y (put_in ys x) (all_put_in (λ (z : Timed). y.0 ≤ z.0) ys x (leb-true y.0 x.0 is) least) later
     by false is later =
@@ -64,10 +65,13 @@ module _ (cells new : Slab Cell) (firsts : List (Option ℕ)) (slot place key : 
     (more : slab_len new ≡ slab_len cells + 1) where
   front : List (ℕ × Timed)
   front = placed.1.0
+
   last : ℕ × Timed
   last = (place, placed.1.1)
+
   behind : List (ℕ × Timed)
   behind = placed.0
+
   cells_now : List (ℕ × Timed)
   cells_now = front ++ last ∷ (key, x) ∷ behind
 

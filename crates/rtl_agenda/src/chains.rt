@@ -3,7 +3,7 @@
 ghost use Rattle.std.specs.Prelude.{◌≡◌, ◌≤◌, ◌<◌, ◌+◌, ◌%◌, ◌∷◌, [], ℕ, IfOk, IfSome, IfNone, OnOk, OnErr, length, List, OnSome, None, slice_index_or};
 ghost use Rattle.slab.specs.Slab.{HasRoomFor, slab_len};
 ghost use Rattle.rtl_agenda.specs.Agenda.{Change};
-ghost use Rattle.rtl_agenda.specs.Chains.{BeginsAt, IsChained, IsPlace, IsRechained, Timed, chain_at, links_of, put_in};
+ghost use Rattle.rtl_agenda.specs.Chains.{BeginsAt, IsChained, IsPlace, IsRechained, Timed, chain_at, links_of, put_in, waiting_in};
 
 use crate::agenda::{Change, NoMemory};
 use crate::cell::Cell;
@@ -38,7 +38,7 @@ impl Chains {
         ensures more { IfOk result (λ n. slab_len self.new.cells + 1 ≤ n) }
         ensures cells { slab_len self.new.cells ≡ slab_len self.old.cells }
         ensures firsts { self.new.firsts ≡ self.old.firsts }
-        ensures chains { (s : ℕ) → chain_at self.new.cells self.new.firsts.items s ≡ chain_at self.old.cells self.old.firsts.items s }
+        ensures waiting { waiting_in self.new.cells self.new.firsts.items ≡ waiting_in self.old.cells self.old.firsts.items }
     {
         self.cells.reserve(1)?;
         Ok(self.cells.capacity())

@@ -10,6 +10,7 @@ mod cell;
 mod chains;
 mod laws;
 mod map_agenda;
+mod occupied;
 #[cfg(test)]
 mod tests;
 

@@ -20,8 +20,7 @@ pub returns-clause-some : goal.returns-clause-some
 returns-clause-some c =
     let cells = c.args.self.now.cells in
     let cell = c.index-2.result.now in
-    let was : c.index.result.now ≡ Some c.in_ok-key.key = c.in_ok-key.was in
-    (
+    let was : c.index.result.now ≡ Some c.in_ok-key.key = c.in_ok-key.was in (
       cell.change,
       held cells cell.next,
       held_some cells _ c.in_ok-key.key cell (first_at c.args.self.now.firsts.items c.args.slot c.index.result.now (Some c.in_ok-key.key) c.requires c.index.ensures was) (c.args.self.now.chained.ended c.args.slot) c.index-2.ensures,

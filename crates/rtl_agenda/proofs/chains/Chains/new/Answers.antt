@@ -7,7 +7,7 @@ invariant_of-result c =
     let items = c.resize.new.self.items in
     let long : length items ≡ c.args.chains = search rules in
     let each : (k : ℕ) (d : Option ℕ) → k < c.args.chains → get_or items k d ≡ None = (λ k d less. c.in_ok-resize.ensures.by_index.1 k d refl (omega (arith, c.new-firsts.ensures.len)) less) in
-    record { chained = chained_none c.new.result items c.new.ensures.empty (none_at items c.args.chains long each); }
+    record { chained = chained_none c.new.result items c.new.ensures.empty (none_at items c.args.chains long each) }
 
 pub returns-clause-empty : goal.returns-clause-empty
 returns-clause-empty c =

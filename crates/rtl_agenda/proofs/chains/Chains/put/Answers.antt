@@ -47,7 +47,7 @@ returns-in_default-clause-put c =
     let within : c.args.time % c.len.result < length s.firsts.items = omega (arith, c.requires.some) in
     let is_slot : c.args.time % length s.firsts.items ≡ c.args.time % c.len.result = rw n refl in
     let P : ℕ → Type 0 = λ k. IsRechained s.cells s.firsts.items c.insert_reserved-key-in_default.new.self (set s.firsts.items (c.args.time % c.len.result) (Some c.insert_reserved-key-in_default.result)) k
-        (put_in (chain_at s.cells s.firsts.items k) (c.args.time, c.args.change)) in
+    (put_in (chain_at s.cells s.firsts.items k) (c.args.time, c.args.change)) in
     subst P (sym is_slot)
     (rechained_first s.cells c.insert_reserved-key-in_default.new.self s.firsts.items (c.args.time % c.len.result) c.insert_reserved-key-in_default.result c.index-next.result.now (c.args.time, c.args.change)
     s.chained within is_slot c.in_default.ensures (first_at s.firsts.items (c.args.time % c.len.result) c.index-next.result.now c.index-next.result.now within c.index-next.ensures refl) c.insert_reserved-key-in_default.ensures.was_vacant
