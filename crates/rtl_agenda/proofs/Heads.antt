@@ -58,6 +58,10 @@ pub waiting_room : (cells : Slab Cell) (k : ℕ) (firsts : List (Option ℕ)) �
 unfolding held
 waiting_room cells k firsts = refl
 
+pub chain_room : (cells : Slab Cell) (k : ℕ) (firsts : List (Option ℕ)) (s : ℕ) → chain_at (record cells { capacity = k }) firsts s ≡ chain_at cells firsts s
+unfolding held
+chain_room cells k firsts s = refl
+
 pub chained_room : (cells : Slab Cell) (k : ℕ) (firsts : List (Option ℕ)) → IsChained cells firsts → IsChained (record cells { capacity = k }) firsts
 unfolding held
 chained_room cells k firsts chained = record { ended = chained.ended; placed = chained.placed; rising = chained.rising; counted = chained.counted }

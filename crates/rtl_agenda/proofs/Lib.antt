@@ -8,3 +8,6 @@ pub mod Heads
 pub mod Chained
 pub mod Taking
 pub mod Putting
+pub mod Pushed
+pub mod Turning
+pub mod Holding

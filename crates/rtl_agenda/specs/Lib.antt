@@ -2,3 +2,4 @@ pub mod Agenda
 pub mod MapState
 pub mod Laws
 pub mod Chains
+pub mod Wheel

@@ -22,6 +22,7 @@ impl Chains {
     /// So many chains, with no change.
     pub fn new(alloc: Global, chains: usize) -> Result<Self, NoMemory>
         ensures count { IfOk result (λ c. length c.firsts.items ≡ chains) }
+        ensures none { IfOk result (λ c. slab_len c.cells ≡ 0) }
         ensures empty { IfOk result (λ c. (s : ℕ) → chain_at c.cells c.firsts.items s ≡ []) }
     {
         let mut firsts = Vec::new(alloc);
@@ -38,6 +39,7 @@ impl Chains {
         ensures more { IfOk result (λ n. slab_len self.new.cells + 1 ≤ n) }
         ensures cells { slab_len self.new.cells ≡ slab_len self.old.cells }
         ensures firsts { self.new.firsts ≡ self.old.firsts }
+        ensures chains { (s : ℕ) → chain_at self.new.cells self.new.firsts.items s ≡ chain_at self.old.cells self.old.firsts.items s }
         ensures waiting { waiting_in self.new.cells self.new.firsts.items ≡ waiting_in self.old.cells self.old.firsts.items }
     {
         self.cells.reserve(1)?;
