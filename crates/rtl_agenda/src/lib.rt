@@ -13,7 +13,9 @@ mod map_agenda;
 mod occupied;
 #[cfg(test)]
 mod tests;
+mod wheel;
 
 pub use agenda::{Agenda, Change, NoMemory};
 pub use laws::each_push_is_last;
 pub use map_agenda::MapAgenda;
+pub use wheel::Wheel;
