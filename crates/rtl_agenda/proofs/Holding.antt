@@ -1,15 +1,15 @@
 -- What a wheel holds stays orderly.
-use Rattle.std.proofs.Common.{◌≡◌, ◌≢◌, ◌⊎◌, ℕ, ◌+◌, ◌<◌, ◌≤◌, ◌%◌, Bool, true, false, cond, List, [], ◌∷◌, ◌++◌, length, get_or, set, replicate, Option, is_some, Some, None, refl, sym, ap, subst, ◌∙◌, arith, inl, inr}
+use Rattle.std.proofs.Common.{◌≡◌, ◌≢◌, ◌⊎◌, ℕ, ◌+◌, ◌*◌, ◌<◌, ◌≤◌, ◌%◌, Bool, true, false, cond, List, [], ◌∷◌, ◌++◌, length, Option, Some, None, refl, sym, ap, subst, ◌∙◌, arith, inl, inr}
 use Rattle.std.proofs.Math.Dec.{leb}
 use Rattle.std.specs.List.{flat_map}
 use Rattle.std.specs.List.Sorted.{IsStrictlySortedBy}
 use Rattle.std.specs.Map.{keys_of}
 use Rattle.std.specs.Ordering.{nat_cmp}
-use Rattle.std.proofs.lemmas.Bool.{cases_eq, cases_lt}
-use Rattle.std.proofs.lemmas.List.{get_or-set_same, get_or-set_other, length-set, length-replicate, get_or-replicate, get_or_past}
+use Rattle.std.proofs.lemmas.Bool.{cases_eq}
 use Rattle.slab.specs.Slab.{Slab, slab_len}
 use Rattle.rtl_agenda.specs.Agenda.{AgendaState, Change, IsAfter, IsOrderly, LeavesAlone, changes_at, with_change}
 use Rattle.rtl_agenda.specs.Chains.{Timed, held, chain_at, put_in, waiting_in, IsChained, IsRechained}
+use Rattle.rtl_agenda.specs.Occupied.{is_marked}
 use Rattle.rtl_agenda.specs.Wheel.{IsWheel, is_filled, turned_to}
 use Rattle.rtl_agenda.specs.declared.cell.Cell.{Cell}
 use Rattle.rtl_agenda.proofs.Ordering.{orderly_with_change}
@@ -43,7 +43,7 @@ orderly_same last taken more before after is items orderly =
     let Q : List Change → Type 0 = λ ts. IsOrderly (record { waiting = before; last = last; taken = ts }) in
     subst P (sym is) (subst Q (sym items) orderly)
 
-filled_put_in : (xs : List Timed) (x : Timed) → is_filled (put_in xs x) ≡ true
+pub filled_put_in : (xs : List Timed) (x : Timed) → is_filled (put_in xs x) ≡ true
 filled_put_in [] x = refl
 filled_put_in (y ∷ ys) x = by (leb y.0 x.0)
   where
@@ -51,9 +51,9 @@ filled_put_in (y ∷ ys) x = by (leb y.0 x.0)
     by true = refl
     by false = refl
 
-pub wheel_same : (cells mid : Slab Cell) (firsts mid_firsts : List (Option ℕ)) (bits : List Bool) (room more : ℕ) → IsWheel cells firsts bits room → length mid_firsts ≡ length firsts → ((s : ℕ) → chain_at mid mid_firsts s ≡ chain_at cells firsts s)
-    → slab_len mid ≡ slab_len cells → room ≤ more → IsWheel mid mid_firsts bits more
-wheel_same cells mid firsts mid_firsts bits room more wheel long same count le = record {
+pub wheel_same : (cells mid : Slab Cell) (firsts mid_firsts : List (Option ℕ)) (words : List ℕ) (room more : ℕ) → IsWheel cells firsts words room → length mid_firsts ≡ length firsts → ((s : ℕ) → chain_at mid mid_firsts s ≡ chain_at cells firsts s)
+    → slab_len mid ≡ slab_len cells → room ≤ more → IsWheel mid mid_firsts words more
+wheel_same cells mid firsts mid_firsts words room more wheel long same count le = record {
   some = omega (arith, wheel.some, long);
   bounded = omega (arith, wheel.bounded, long);
   all = omega (arith, wheel.all, long);
@@ -61,32 +61,29 @@ wheel_same cells mid firsts mid_firsts bits room more wheel long same count le =
   room = omega (arith, wheel.room, count, le);
 }
 
-pub wheel_put : (cells new : Slab Cell) (firsts new_firsts : List (Option ℕ)) (bits : List Bool) (room more slot : ℕ) (x : Timed) → IsWheel cells firsts bits room → slot < length firsts
-    → IsRechained cells firsts new new_firsts slot (put_in (chain_at cells firsts slot) x) → slab_len new ≡ slab_len cells + 1 → slab_len cells + 1 ≤ more → IsWheel new new_firsts (set bits slot true) more
-wheel_put cells new firsts new_firsts bits room more slot x wheel within put count le = record {
-  some = omega (arith, wheel.some, put.chains);
-  bounded = omega (arith, wheel.bounded, put.chains);
-  all = omega (arith, wheel.all, put.chains, length-set bits slot true);
+-- one chain changes, and its mark with it
+pub wheel_rechained : (cells new : Slab Cell) (firsts new_firsts : List (Option ℕ)) (words new_words : List ℕ) (room more slot : ℕ) (chain : List Timed) → IsWheel cells firsts words room → IsRechained cells firsts new new_firsts slot chain
+    → is_marked new_words slot ≡ is_filled chain → ((s : ℕ) → s ≢ slot → is_marked new_words s ≡ is_marked words s) → length new_words ≡ length words → slab_len new ≤ more → IsWheel new new_firsts new_words more
+wheel_rechained cells new firsts new_firsts words new_words room more slot chain wheel changed at others long le = record {
+  some = omega (arith, wheel.some, changed.chains);
+  bounded = omega (arith, wheel.bounded, changed.chains);
+  all = omega (arith, wheel.all, changed.chains, long);
   occupied = λ s. by s (cases_eq s slot);
-  room = omega (arith, count, le);
+  room = omega (arith, le);
 }
   where
-    by : (s : ℕ) → (s ≡ slot) ⊎ (s ≡ slot → ⊥) → get_or (set bits slot true) s false ≡ is_filled (chain_at new new_firsts s)
+    by : (s : ℕ) → (s ≡ slot) ⊎ (s ≡ slot → ⊥) → is_marked new_words s ≡ is_filled (chain_at new new_firsts s)
     by s (inl is) =
-        let P : ℕ → Type 0 = λ t. get_or (set bits slot true) t false ≡ is_filled (chain_at new new_firsts t) in
-        subst P (sym is) (get_or-set_same bits slot true false (omega (arith, wheel.all, within)) ∙ sym (ap is_filled put.at ∙ filled_put_in (chain_at cells firsts slot) x))
-    by s (inr apart) = get_or-set_other bits slot s true false apart ∙ wheel.occupied s ∙ ap is_filled (sym (put.others s apart))
+        let P : ℕ → Type 0 = λ t. is_marked new_words t ≡ is_filled (chain_at new new_firsts t) in
+        subst P (sym is) (at ∙ sym (ap is_filled changed.at))
+    by s (inr apart) = others s apart ∙ wheel.occupied s ∙ ap is_filled (sym (changed.others s apart))
 
-pub wheel_none : (cells : Slab Cell) (firsts : List (Option ℕ)) (bits : List Bool) (slots room : ℕ) → 0 < slots → slots ≤ 65536 → length firsts ≡ slots → bits ≡ replicate slots false
-    → ((s : ℕ) → chain_at cells firsts s ≡ []) → slab_len cells ≡ 0 → IsWheel cells firsts bits room
-wheel_none cells firsts bits slots room some bounded long free empty none = record {
+pub wheel_none : (cells : Slab Cell) (firsts : List (Option ℕ)) (words : List ℕ) (slots room : ℕ) → 0 < slots → slots ≤ 65536 → length firsts ≡ slots → slots ≤ length words * 64 → ((s : ℕ) → is_marked words s ≡ false)
+    → ((s : ℕ) → chain_at cells firsts s ≡ []) → slab_len cells ≡ 0 → IsWheel cells firsts words room
+wheel_none cells firsts words slots room some bounded long all free empty none = record {
   some = omega (arith, some, long);
   bounded = omega (arith, bounded, long);
-  all = omega (arith, long, ap (λ (bs : List Bool). length bs) free, length-replicate slots false);
-  occupied = λ s. ap (λ bs. get_or bs s false) free ∙ by s (cases_lt s slots) ∙ ap is_filled (sym (empty s));
+  all = omega (arith, long, all);
+  occupied = λ s. free s ∙ ap is_filled (sym (empty s));
   room = omega (arith, none);
 }
-  where
-    by : (s : ℕ) → (s < slots) ⊎ (slots ≤ s) → get_or (replicate slots false) s false ≡ false
-    by s (inl inside) = get_or-replicate slots s false false inside
-    by s (inr past) = get_or_past (replicate slots false) s false (omega (arith, length-replicate slots false))

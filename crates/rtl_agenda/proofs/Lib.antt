@@ -11,3 +11,6 @@ pub mod Putting
 pub mod Pushed
 pub mod Turning
 pub mod Holding
+pub mod Marks
+pub mod Earliest
+pub mod Taken

@@ -175,6 +175,10 @@ pub in_order_none : IsInOrder []
 unfolding IsInOrder
 in_order_none = tt
 
+pub in_order_cons : (e : ℕ × List Change) (es : List (ℕ × List Change)) → 0 < length e.1 → AllByRecursion (λ k. e.0 < k) (keys_of es) → IsInOrder es → IsInOrder (e ∷ es)
+unfolding IsInOrder
+in_order_cons e es filled above in_order = (filled, above, in_order)
+
 pub in_order_with : (waiting : List (ℕ × List Change)) (x : Timed) → IsInOrder waiting → IsInOrder (with_change waiting x.0 x.1)
 in_order_with waiting x in_order =
     in_order_insert waiting x.0 (changes_at waiting x.0 ++ x.1 ∷ []) in_order (omega (arith, length-append (changes_at waiting x.0) (x.1 ∷ [])))

@@ -4,7 +4,7 @@ use Rattle.std.specs.Prelude.{All, AllPairs}
 use Rattle.std.proofs.lemmas.List.{get_or-set_same, get_or-set_other, length-set}
 use Rattle.std.proofs.lemmas.List.Elements.{All-head, All-tail, recursion_from_All}
 use Rattle.slab.specs.Slab.{Slab, get, slab_len, Updates}
-use Rattle.rtl_agenda.specs.Chains.{Timed, links_of, held, chain_at, IsChained, IsRechained}
+use Rattle.rtl_agenda.specs.Chains.{Timed, links_of, held, chain_at, BeginsAt, IsChained, IsRechained}
 use Rattle.rtl_agenda.specs.declared.cell.Cell.{Cell}
 use Rattle.rtl_agenda.proofs.Paths.{IsPath, Lacks, path_from, path_kept, path_lacks_first, path_lacks_placed, cell_of}
 use Rattle.rtl_agenda.proofs.Places.{links_some}
@@ -13,6 +13,16 @@ use Rattle.rtl_agenda.proofs.Chained.{rechained, chained_new}
 
 pub AllPairs-tail : {X : Type 0} (R : X → X → Type 0) (x : X) (xs : List X) → AllPairs R (x ∷ xs) → AllPairs R xs
 AllPairs-tail R x xs h = λ i j d before within. h (suc i) (suc j) d (omega arith) (omega arith)
+
+-- no change comes first in an empty chain, and where one does, one time alone
+pub begins_nowhere : (chain : List Timed) (time : ℕ) → chain ≡ [] → (other : ℕ) → BeginsAt chain other → other ≢ time
+begins_nowhere chain time empty other begins = absurd (omega (arith, ap (λ (xs : List Timed). length xs) (sym empty ∙ begins.2)))
+
+pub begins_otherwise : (chain : List Timed) (time : ℕ) (x : Timed) (rest : List Timed) → chain ≡ x ∷ rest → x.0 ≢ time → (other : ℕ) → BeginsAt chain other → other ≢ time
+begins_otherwise chain time x rest is apart other begins =
+    let both : x ∷ rest ≡ (other, begins.0) ∷ begins.1 = sym is ∙ begins.2 in
+    let first : x.0 ≡ other = cc in
+    λ same. apart (first ∙ same)
 
 module _ (cells new : Slab Cell) (firsts : List (Option ℕ)) (slot key : ℕ) (cell : Cell) (chained : IsChained cells firsts) (within : slot < length firsts)
     (at : get_or firsts slot None ≡ Some key) (there : get cells key ≡ Some cell) (updates : Updates cells new key None) (fewer : slab_len new + 1 ≡ slab_len cells) where

@@ -47,7 +47,7 @@ at_time_above q [] above = refl
 at_time_above q (x ∷ xs) above =
     ap (λ b. cond b (x.1 ∷ at_time q xs) (at_time q xs)) (other_time q x.0 (let h = above.0 in omega arith)) ∙ at_time_above q xs above.1
 
-all_above : (q : ℕ) (y : Timed) (ys : List Timed) → q < y.0 → AllPairs (λ (x y : Timed). x.0 ≤ y.0) (y ∷ ys) → All (λ (x : Timed). q < x.0) (y ∷ ys)
+pub all_above : (q : ℕ) (y : Timed) (ys : List Timed) → q < y.0 → AllPairs (λ (x y : Timed). x.0 ≤ y.0) (y ∷ ys) → All (λ (x : Timed). q < x.0) (y ∷ ys)
 all_above q y ys less rising zero d within = less
 all_above q y ys less rising (suc k) d within = let least = rising 0 (suc k) d (omega arith) within in omega arith
 

@@ -78,9 +78,23 @@ pub record IsRechained (cells : Slab Cell) (firsts : List (Option ℕ)) (new : S
   pub others : (s : ℕ) → s ≢ slot → chain_at new new_firsts s ≡ chain_at cells firsts s
   pub chains : length new_firsts ≡ length firsts
 
+-- these are the changes of a time that came first in a chain; what came behind them is left, and the other chains stay
+pub record HasTaken (cells : Slab Cell) (firsts : List (Option ℕ)) (new : Slab Cell) (new_firsts : List (Option ℕ)) (slot time : ℕ) (changes : List Change) : Type 0 where
+  pub front : List Timed
+  pub was : chain_at cells firsts slot ≡ front ++ chain_at new new_firsts slot
+  pub same : AllByRecursion (λ x. x.0 ≡ time) front
+  pub these : changes ≡ map (λ x. x.1) front
+  pub others : (s : ℕ) → s ≢ slot → chain_at new new_firsts s ≡ chain_at cells firsts s
+  pub chains : length new_firsts ≡ length firsts
+
 -- the first change, where there is one, has the time
 abbrev pub BeginsAt : List Timed → ℕ → Type 0
 BeginsAt chain time = (change : Change) × (rest : List Timed) × (chain ≡ (time, change) ∷ rest)
+
+-- no change of a chain is earlier than a time; and where there is no time, it has none
+abbrev pub NoneIsEarlier : Option ℕ → List Timed → Type 0
+NoneIsEarlier None chain = chain ≡ []
+NoneIsEarlier (Some time) chain = All (λ x. time ≤ x.0) chain
 
 -- what waits once the changes of a list have been pushed in order
 unfoldable pub pushed : List (ℕ × List Change) → List Timed → List (ℕ × List Change)

@@ -1,9 +1,9 @@
 //! Changes that wait, chained by their times modulo the number of chains.
 
-ghost use Rattle.std.specs.Prelude.{◌≡◌, ◌≤◌, ◌<◌, ◌+◌, ◌%◌, ◌∷◌, [], ℕ, IfOk, IfSome, IfNone, OnOk, OnErr, length, List, OnSome, None, slice_index_or};
+ghost use Rattle.std.specs.Prelude.{◌≡◌, ◌≢◌, ◌≤◌, ◌<◌, ◌+◌, ◌%◌, ◌∷◌, [], ℕ, IfOk, IfSome, IfNone, OnOk, OnErr, length, List, OnSome, None, slice_index_or, vec_capacity};
 ghost use Rattle.slab.specs.Slab.{HasRoomFor, slab_len};
 ghost use Rattle.rtl_agenda.specs.Agenda.{Change};
-ghost use Rattle.rtl_agenda.specs.Chains.{BeginsAt, IsChained, IsPlace, IsRechained, Timed, chain_at, links_of, put_in, waiting_in};
+ghost use Rattle.rtl_agenda.specs.Chains.{BeginsAt, HasTaken, IsChained, IsPlace, IsRechained, Timed, chain_at, links_of, put_in, waiting_in};
 
 use crate::agenda::{Change, NoMemory};
 use crate::cell::Cell;
@@ -95,17 +95,34 @@ impl Chains {
         }
     }
 
-    /// Takes the first change off a chain.
-    pub fn take(&mut self, slot: usize) -> Option<Change>
+    /// Takes the changes of a time off the front of a chain, in order.
+    pub fn take_all(&mut self, slot: usize, time: u64, taken: &mut Vec<Change>)
+        requires within { slot < length self.old.firsts.items }
+        requires none { taken.old.items ≡ [] }
+        requires room { slab_len self.old.cells ≤ vec_capacity taken.old }
+        ensures taken { HasTaken self.old.cells self.old.firsts.items self.new.cells self.new.firsts.items slot time taken.new.items }
+        ensures rest { (other : ℕ) → BeginsAt (chain_at self.new.cells self.new.firsts.items slot) other → other ≢ time }
+        ensures room { slab_len self.new.cells ≤ vec_capacity taken.new }
+    {
+        while let Some(change) = self.take(slot, time) {
+            taken.push_reserved(change);
+        }
+    }
+
+    // Takes the first change off a chain, if it is of this time.
+    fn take(&mut self, slot: usize, time: u64) -> Option<Change>
         requires { slot < length self.old.firsts.items }
-        ensures taken { IfSome result (λ change. (time : ℕ) × (rest : List Timed)
+        ensures taken { IfSome result (λ change. (rest : List Timed)
             × (chain_at self.old.cells self.old.firsts.items slot ≡ (time, change) ∷ rest)
             × IsRechained self.old.cells self.old.firsts.items self.new.cells self.new.firsts.items slot rest) }
         ensures fewer { OnSome result (slab_len self.new.cells + 1 ≡ slab_len self.old.cells) }
-        ensures none { IfNone result (chain_at self.old.cells self.old.firsts.items slot ≡ []) }
+        ensures none { IfNone result ((other : ℕ) → BeginsAt (chain_at self.old.cells self.old.firsts.items slot) other → other ≢ time) }
         ensures unchanged { IfNone result (self.new ≡ self.old) }
     {
         let key = self.firsts[slot]?;
+        if self.cells[key].time != time {
+            return None;
+        }
         let cell = self.cells.remove(key);
         self.firsts[slot] = cell.next;
         Some(cell.change)

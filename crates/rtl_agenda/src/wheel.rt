@@ -1,7 +1,8 @@
 //! An agenda over chains by remainders of the times.
 
-ghost use Rattle.std.specs.Prelude.{◌≡◌, ◌%◌, length, ◌≤◌, ◌<◌, ℕ, [], None, IfOk, vec_capacity};
+ghost use Rattle.std.specs.Prelude.{◌≡◌, ◌⊎◌, ◌+◌, ◌-◌, ◌%◌, ◌≤◌, ◌<◌, ℕ, [], Some, None, All, IfOk, IfSome, IsTrue, List, length, vec_capacity};
 ghost use Rattle.rtl_agenda.specs.Agenda.{IsOrderly};
+ghost use Rattle.rtl_agenda.specs.Chains.{BeginsAt, NoneIsEarlier, Timed, chain_at};
 ghost use Rattle.rtl_agenda.specs.Wheel.{IsWheel, turned_to};
 
 use crate::agenda::{Agenda, Change, NoMemory};
@@ -16,7 +17,7 @@ pub struct Wheel {
     occupied: Occupied,
     last: Option<u64>,
     taken: Vec<Change>,
-    ghost wheel: { IsWheel chains.cells chains.firsts.items occupied.bits.items (vec_capacity taken) },
+    ghost wheel: { IsWheel chains.cells chains.firsts.items occupied.words.items (vec_capacity taken) },
     ghost orderly: { IsOrderly (turned_to chains.cells chains.firsts.items last taken.items) },
 }
 
@@ -42,38 +43,60 @@ impl Wheel {
         (time % self.chains.firsts.len() as u64) as usize
     }
 
-    // The least of a time and those of the slots from one to another, of which the first is so many slots after that of
-    // the time taken last. It looks no further than a time that none behind it can be below.
-    fn least_within(
-        &self,
-        from: usize,
-        to: usize,
-        passed: usize,
-        found: Option<u64>,
-    ) -> Option<u64> {
-        let base = self.last.unwrap_or(0);
+    // The least time of all, from the slot of the time taken last round.
+    fn least(&self) -> Option<u64>
+        ensures there { IfSome result (λ time. BeginsAt (chain_at self.now.chains.cells self.now.chains.firsts.items (time % length self.now.chains.firsts.items)) time) }
+        ensures least { (s : ℕ) → NoneIsEarlier result (chain_at self.now.chains.cells self.now.chains.firsts.items s) }
+    {
+        let slots = self.chains.firsts.len();
+        let last = self.last.unwrap_or(0);
+        let start = self.slot_of(last);
+        let found = self.least_within(start, slots, last, None);
+        let turned = last.saturating_add((slots - start) as u64);
+        self.least_within(0, start, turned, found)
+    }
+
+    // The least of a time and those of the slots from one to another, of which the first has none before the earliest
+    // time, the next none before one later, and so on. It looks no further than none can be less.
+    fn least_within(&self, from: usize, to: usize, earliest: u64, found: Option<u64>) -> Option<u64>
+        requires within { to ≤ length self.now.chains.firsts.items }
+        requires later { (s : ℕ) → from ≤ s → s < to
+            → All (λ x. earliest + (s - from) ≤ x.0) (chain_at self.now.chains.cells self.now.chains.firsts.items s) }
+        requires there { IfSome found (λ time. BeginsAt (chain_at self.now.chains.cells self.now.chains.firsts.items (time % length self.now.chains.firsts.items)) time) }
+        ensures there { IfSome result (λ time. BeginsAt (chain_at self.now.chains.cells self.now.chains.firsts.items (time % length self.now.chains.firsts.items)) time) }
+        ensures least { (s : ℕ) → from ≤ s → s < to → NoneIsEarlier result (chain_at self.now.chains.cells self.now.chains.firsts.items s) }
+        ensures kept { (chain : List Timed) → NoneIsEarlier found chain → NoneIsEarlier result chain }
+    {
         let mut least = found;
-        let mut slot = from;
-        while slot < to
-            && !least.is_some_and(|time| time - base <= (passed + (slot - from)) as u64)
-        {
-            slot = self.occupied.next_from(slot);
-            if slot < to {
-                if let Some(time) = self.chains.first(slot) {
-                    least = Some(least.map_or(time, |other| other.min(time)));
-                }
-                slot += 1;
+        let mut next = from;
+        while let Some(slot) = self.occupied.next_from(next) {
+            if to <= slot || is_within(least, earliest, slot - from) {
+                return least;
             }
+            least = lesser(least, self.chains.first(slot));
+            next = slot + 1;
         }
         least
     }
+}
 
-    // The least time of all. It looks at each slot once at most, from that of the time taken last round.
-    fn least(&self) -> Option<u64> {
-        let slots = self.chains.firsts.len();
-        let start = self.slot_of(self.last.unwrap_or(0));
-        let found = self.least_within(start, slots, 0, None);
-        self.least_within(0, start, slots - start, found)
+// A time is at most so much after another.
+fn is_within(time: Option<u64>, earliest: u64, distance: usize) -> bool
+    ensures { IsTrue result → (t : ℕ) × (time ≡ Some t) × (t ≤ earliest + distance) }
+{
+    time.is_some_and(|time| time.saturating_sub(earliest) <= distance as u64)
+}
+
+// The lesser of two times.
+fn lesser(left: Option<u64>, right: Option<u64>) -> Option<u64>
+    ensures either { (result ≡ left) ⊎ (result ≡ right) }
+    ensures left { (chain : List Timed) → NoneIsEarlier left chain → NoneIsEarlier result chain }
+    ensures right { (chain : List Timed) → NoneIsEarlier right chain → NoneIsEarlier result chain }
+{
+    match (left, right) {
+        (Some(l), Some(r)) if l <= r => left,
+        (Some(_), None) => left,
+        _ => right,
     }
 }
 
@@ -95,11 +118,7 @@ impl Agenda for Wheel {
         let time = self.least()?;
         let slot = self.slot_of(time);
         self.taken.clear();
-        while self.chains.first(slot) == Some(time) {
-            if let Some(change) = self.chains.take(slot) {
-                self.taken.push_reserved(change);
-            }
-        }
+        self.chains.take_all(slot, time, &mut self.taken);
         self.occupied.set(slot, self.chains.first(slot).is_some());
         self.last = Some(time);
         Some(time)

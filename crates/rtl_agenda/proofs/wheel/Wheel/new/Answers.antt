@@ -8,8 +8,8 @@ pub invariant_of-result : goal.invariant_of-result
 invariant_of-result c =
     let chains = c.in_ok-new.field-0 in
     record {
-      wheel = wheel_none chains.cells chains.firsts.items c.in_ok-new-2.field-0.bits.items c.args.slots (vec_capacity c.new-3.result) c.requires.some c.requires.bounded
-          c.in_ok-new.ensures.count c.in_ok-new-2.ensures c.in_ok-new.ensures.empty c.in_ok-new.ensures.none;
+      wheel = wheel_none chains.cells chains.firsts.items c.in_ok-new-2.field-0.words.items c.args.slots (vec_capacity c.new-3.result) c.requires.some c.requires.bounded
+          c.in_ok-new.ensures.count c.in_ok-new-2.ensures.all c.in_ok-new-2.ensures.none c.in_ok-new.ensures.empty c.in_ok-new.ensures.none;
       orderly = orderly_same None [] c.new-3.result.items [] _ (waiting_none chains.cells chains.firsts.items c.in_ok-new.ensures.empty) c.new-3.ensures.items (orderly_none None);
     }
 

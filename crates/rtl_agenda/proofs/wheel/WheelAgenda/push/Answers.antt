@@ -1,11 +1,11 @@
-use Rattle.std.proofs.Common.{◌≡◌, ◌<◌, ◌%◌, ◌+◌, ◌≤◌, ℕ, Bool, true, List, Option, length, set, subst, sym, ap, ◌∙◌, arith, vec_capacity, refl}
+use Rattle.std.proofs.Common.{◌≡◌, ◌≢◌, ◌<◌, ◌%◌, ◌+◌, ◌≤◌, ℕ, true, List, Option, length, subst, sym, ap, ◌∙◌, arith, vec_capacity, refl}
 use Rattle.std.specs.Global.{Vec}
 use Rattle.slab.specs.Slab.{slab_len}
 use Rattle.rtl_agenda.specs.Agenda.{AgendaState, Change, with_change}
-use Rattle.rtl_agenda.specs.Chains.{waiting_in}
-use Rattle.rtl_agenda.specs.Wheel.{IsWheel}
+use Rattle.rtl_agenda.specs.Chains.{chain_at, put_in, waiting_in}
+use Rattle.rtl_agenda.specs.Occupied.{is_marked}
 use Rattle.rtl_agenda.proofs.Turning.{waiting_put}
-use Rattle.rtl_agenda.proofs.Holding.{orderly_put, orderly_same, wheel_put, wheel_same}
+use Rattle.rtl_agenda.proofs.Holding.{filled_put_in, orderly_put, orderly_same, wheel_rechained, wheel_same}
 use Rattle.rtl_agenda.proofs.wheel.WheelAgenda.push.Goals as goal
 
 pub invariant_of-self : goal.invariant_of-self
@@ -13,7 +13,7 @@ invariant_of-self c =
     let s = c.args.self.now in
     let mid = c.reserve.new.self in
     record {
-      wheel = wheel_same s.chains.cells mid.cells s.chains.firsts.items mid.firsts.items s.occupied.bits.items (vec_capacity s.taken) (vec_capacity s.taken) s.wheel
+      wheel = wheel_same s.chains.cells mid.cells s.chains.firsts.items mid.firsts.items s.occupied.words.items (vec_capacity s.taken) (vec_capacity s.taken) s.wheel
           (ap (λ (v : Vec (Option ℕ)). length v.items) c.reserve.ensures.firsts) c.reserve.ensures.chains c.reserve.ensures.cells (omega arith);
       orderly = orderly_same s.last s.taken.items s.taken.items _ _ c.reserve.ensures.waiting refl s.orderly;
     }
@@ -25,13 +25,16 @@ invariant_of-self-3 c =
     let new = c.put.new.self in
     let taken = c.reserve-2.new.self in
     let room : slab_len mid.cells + 1 ≤ vec_capacity taken = omega (arith, c.in_ok-room.ensures.more, c.in_ok-reserve.ensures.ok, c.in_ok-reserve.ensures.len) in
-    let at_mid = wheel_same s.chains.cells mid.cells s.chains.firsts.items mid.firsts.items s.occupied.bits.items (vec_capacity s.taken) (vec_capacity s.taken) s.wheel
+    let at_mid = wheel_same s.chains.cells mid.cells s.chains.firsts.items mid.firsts.items s.occupied.words.items (vec_capacity s.taken) (vec_capacity s.taken) s.wheel
     (ap (λ (v : Vec (Option ℕ)). length v.items) c.reserve.ensures.firsts) c.reserve.ensures.chains c.reserve.ensures.cells (omega arith) in
-    let P : List Bool → Type 0 = λ bits. IsWheel new.cells new.firsts.items bits (vec_capacity taken) in
+    let slot : c.slot_of-slot.result ≡ c.args.time % length mid.firsts.items = c.slot_of-slot.ensures in
+    let At : ℕ → Type 0 = λ k. is_marked c.set.new.self.words.items k ≡ true in
+    let Others : ℕ → Type 0 = λ k. (t : ℕ) → t ≢ k → is_marked c.set.new.self.words.items t ≡ is_marked s.occupied.words.items t in
+    let chain = chain_at mid.cells mid.firsts.items (c.args.time % length mid.firsts.items) in
     record {
-      wheel = subst P (sym (c.set.ensures ∙ ap (λ k. set s.occupied.bits.items k true) c.slot_of-slot.ensures))
-          (wheel_put mid.cells new.cells mid.firsts.items new.firsts.items s.occupied.bits.items (vec_capacity s.taken) (vec_capacity taken) (c.args.time % length mid.firsts.items) (c.args.time, c.args.change) at_mid
-          (omega (arith, at_mid.some)) c.put.ensures.put c.put.ensures.more room);
+      wheel = wheel_rechained mid.cells new.cells mid.firsts.items new.firsts.items s.occupied.words.items c.set.new.self.words.items (vec_capacity s.taken) (vec_capacity taken) (c.args.time % length mid.firsts.items)
+          (put_in chain (c.args.time, c.args.change)) at_mid c.put.ensures.put (subst At slot c.set.ensures.at ∙ sym (filled_put_in chain (c.args.time, c.args.change))) (subst Others slot c.set.ensures.others) c.set.ensures.all
+          (omega (arith, c.put.ensures.more, room));
       orderly = orderly_put mid.cells new.cells mid.firsts.items new.firsts.items c.args.time c.args.change s.last taken.items _ mid.chained new.chained c.put.ensures.put c.reserve.ensures.waiting
           (orderly_same s.last s.taken.items taken.items _ _ refl c.in_ok-reserve.ensures.items s.orderly) c.requires.later c.requires.once;
     }
