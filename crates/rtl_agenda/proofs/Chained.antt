@@ -6,7 +6,7 @@ use Rattle.std.proofs.lemmas.Bool.{cases_eq, cases_lt}
 use Rattle.std.proofs.lemmas.List.{get_or-set_same, get_or-set_other, get_or_past, length-set, length-map, get_or-map, same_lists}
 use Rattle.std.proofs.lemmas.List.Sums.{sum_by-set, get_or-le-sum_by, sum-map}
 use Rattle.slab.specs.Slab.{Slab, get, slab_len}
-use Rattle.rtl_agenda.specs.Chains.{Timed, links, links_of, is_ended, held, chain_at, IsChained, IsRechained}
+use Rattle.rtl_agenda.specs.Chains.{Timed, links, links_of, is_ended, held, chain_at, last_of, IsChained, IsClosed, IsRechained}
 use Rattle.rtl_agenda.specs.declared.cell.Cell.{Cell}
 use Rattle.rtl_agenda.proofs.Paths.{IsPath, links-path, ended-path, path_from, length-links}
 use Rattle.rtl_agenda.proofs.Places.{links_none}
@@ -65,6 +65,22 @@ module _ (cells new : Slab Cell) (firsts new_firsts : List (Option ℕ)) (slot :
       others = λ s apart. ap (λ (xs : List (ℕ × Timed)). map (λ e. e.1) xs) (links_there s apart);
       chains = same;
     }
+
+    -- the last cells, where that of the chain is known
+    pub closed_new : (lasts new_lasts : List ℕ) → IsClosed cells firsts lasts → length new_lasts ≡ length lasts → ((s : ℕ) → s ≢ slot → get_or new_lasts s 0 ≡ get_or lasts s 0)
+        → last_of (get_or new_lasts slot 0) es ≡ get_or new_lasts slot 0 → IsClosed new new_firsts new_lasts
+    closed_new lasts new_lasts closed long others here_last = record {
+      all = omega (arith, closed.all, long, same);
+      last = λ s. by s (cases_eq s slot);
+    }
+      where
+        by : (s : ℕ) → (s ≡ slot) ⊎ (s ≡ slot → ⊥) → last_of (get_or new_lasts s 0) (links_of new (get_or new_firsts s None)) ≡ get_or new_lasts s 0
+        by s (inl is) =
+            let P : ℕ → Type 0 = λ t. last_of (get_or new_lasts t 0) (links_of new (get_or new_firsts t None)) ≡ get_or new_lasts t 0 in
+            subst P (sym is) (ap (λ (xs : List (ℕ × Timed)). last_of (get_or new_lasts slot 0) xs) links_here ∙ here_last)
+        by s (inr apart) =
+            ap (λ (xs : List (ℕ × Timed)). last_of (get_or new_lasts s 0) xs) (links_there s apart) ∙ ap (λ k. last_of k (links_of cells (get_or firsts s None))) (others s apart)
+            ∙ closed.last s ∙ sym (others s apart)
 
     counted_new : sum_by (λ o. length (held new o)) new_firsts ≡ slab_len new
     unfolding lengths held

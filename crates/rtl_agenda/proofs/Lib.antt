@@ -6,6 +6,7 @@ pub mod Paths
 pub mod Places
 pub mod Heads
 pub mod Chained
+pub mod Lasts
 pub mod Taking
 pub mod Putting
 pub mod Pushed

@@ -29,6 +29,22 @@ module _ (at : ℕ → Option Cell) where
   path_middle o [] e behind path = (path.1, path.2)
   path_middle o (x ∷ front) e behind path = path_middle path.1 front e behind path.3
 
+  pub path_behind : (o : Option ℕ) (front : List (ℕ × Timed)) (e : ℕ × Timed) (behind : List (ℕ × Timed)) → IsPath o (front ++ e ∷ behind) → (next : Option ℕ) × (at e.0 ≡ Some (cell_of e.1 next)) × IsPath next behind
+  unfolding IsPath
+  path_behind o [] e behind path = (path.1, path.2, path.3)
+  path_behind o (x ∷ front) e behind path = path_behind path.1 front e behind path.3
+
+  -- a path has a cell just where it begins with one
+  pub path_ends : (es : List (ℕ × Timed)) → IsPath None es → es ≡ []
+  unfolding IsPath
+  path_ends [] path = refl
+  path_ends (e ∷ es) path = let none = path.0 in cc
+
+  pub path_begins : (key : ℕ) (es : List (ℕ × Timed)) → IsPath (Some key) es → (e : ℕ × Timed) × (rest : List (ℕ × Timed)) × (es ≡ e ∷ rest)
+  unfolding IsPath
+  path_begins key [] path = absurd (let none = path in cc)
+  path_begins key (e ∷ es) path = (e, es, refl)
+
   -- a cell that is there, in front of a chain
   pub path_cons : (key : ℕ) (x : Timed) (next : Option ℕ) (es : List (ℕ × Timed)) → at key ≡ Some (cell_of x next) → IsPath next es → IsPath (Some key) ((key, x) ∷ es)
   unfolding IsPath

@@ -11,11 +11,12 @@ use Rattle.std.proofs.lemmas.List.Sums.{sum_by-set}
 use Rattle.slab.specs.Slab.{Slab, get, slab_len, Updates, ContainsKey, with_value}
 use Rattle.slab.proofs.SlabLemmas.{Updates-with_value, ContainsKey-within}
 use Rattle.rtl_agenda.specs.Agenda.{Change}
-use Rattle.rtl_agenda.specs.Chains.{Timed, links_of, held, chain_at, put_in, IsChained, IsRechained, IsLater, IsPlace, IsUpTo}
+use Rattle.rtl_agenda.specs.Chains.{Timed, links_of, held, chain_at, last_of, put_in, with_last, IsChained, IsClosed, IsRechained, IsLater, IsPlace, IsUpTo}
 use Rattle.rtl_agenda.specs.declared.cell.Cell.{Cell}
-use Rattle.rtl_agenda.proofs.Paths.{IsPath, Lacks, path_from, path_kept, path_lacks_none, path_lacks_placed, path_inserted, path_middle, path_cons, cell_of}
+use Rattle.rtl_agenda.proofs.Paths.{IsPath, Lacks, path_from, path_kept, path_lacks_none, path_lacks_placed, path_inserted, path_middle, path_behind, path_cons, cell_of}
 use Rattle.rtl_agenda.proofs.Places.{there_is}
-use Rattle.rtl_agenda.proofs.Chained.{rechained, chained_new}
+use Rattle.rtl_agenda.proofs.Chained.{rechained, chained_new, closed_new}
+use Rattle.rtl_agenda.proofs.Lasts.{last_behind, length-with_last, with_last_here, with_last_other}
 use Rattle.rtl_agenda.proofs.Taking.{AllPairs-tail}
 
 pub all_put_in : (P : Timed → Type 0) (xs : List Timed) (x : Timed) → P x → All P xs → All P (put_in xs x)
@@ -129,6 +130,20 @@ module _ (cells new : Slab Cell) (firsts : List (Option ℕ)) (slot place key : 
       (subst P chain_now (all_put_in (λ (x : Timed). x.0 % length firsts ≡ slot) (chain_at cells firsts slot) x is_slot (chained.placed slot)))
       (subst Q chain_now (rising_put_in (chain_at cells firsts slot) x (chained.rising slot)))
 
+  pub closed_behind : (lasts : List ℕ) → IsClosed cells firsts lasts → IsClosed new firsts (with_last lasts slot key cell.next)
+  unfolding front last behind cells_now
+  closed_behind lasts closed =
+      let path = path_behind (get cells) (get_or firsts slot None) placed.1.0 (place, placed.1.1) placed.0 path_was in
+      let there : get cells place ≡ Some (cell_of placed.1.1 path.0) = path.1 in
+      let both : cell_of placed.1.1 path.0 ≡ cell = cc in
+      let next : path.0 ≡ cell.next = ap (λ (c : Cell). c.next) both in
+      let P : Option ℕ → Type 0 = λ o. IsPath (get cells) o placed.0 in
+      let d = get_or lasts slot 0 in
+      closed_new cells new firsts firsts slot cells_now chained within refl here others fits lasts (with_last lasts slot key cell.next) closed (length-with_last lasts slot key cell.next) (with_last_other lasts slot key cell.next)
+      (last_behind _ placed.1.0 (place, placed.1.1) ((key, x) ∷ placed.0)
+      ∙ with_last_here (get cells) lasts slot key x cell.next placed.0 (links_of cells (get_or firsts slot None)) [] (omega (arith, closed.all, within)) (subst P next path.2) (closed.last slot)
+      (λ e rest is. ap (λ (es : List (ℕ × Timed)). last_of d es) placed.1.2 ∙ last_behind d placed.1.0 (place, placed.1.1) placed.0 ∙ ap (λ (es : List (ℕ × Timed)). last_of place es) is))
+
 -- the place of a time is a cell that is there
 pub place_there : (cells : Slab Cell) (firsts : List (Option ℕ)) (slot time place : ℕ) → IsChained cells firsts → IsPlace (links_of cells (get_or firsts slot None)) time (Some place) → ContainsKey cells place
 place_there cells firsts slot time place chained placed =
@@ -173,6 +188,9 @@ module _ (cells mid : Slab Cell) (firsts : List (Option ℕ)) (slot place key : 
   pub rechained_put : IsRechained cells firsts (with_value mid place (record now { next = Some key })) firsts slot (put_in (chain_at cells firsts slot) x)
   rechained_put = rechained_behind cells _ firsts slot place key cell x chained within is_slot placed was vacant turned put same long
 
+  pub closed_put : (lasts : List ℕ) → IsClosed cells firsts lasts → IsClosed (with_value mid place (record now { next = Some key })) firsts (with_last lasts slot key cell.next)
+  closed_put = closed_behind cells _ firsts slot place key cell x chained within is_slot placed was vacant turned put same long
+
   pub chained_put : IsChained (with_value mid place (record now { next = Some key })) firsts
   chained_put = chained_behind cells _ firsts slot place key cell x chained within is_slot placed was vacant turned put same long
 
@@ -211,6 +229,15 @@ module _ (cells new : Slab Cell) (firsts : List (Option ℕ)) (slot key : ℕ) (
   rechained_first =
       let P : List Timed → Type 0 = λ chain. IsRechained cells firsts new (set firsts slot (Some key)) slot chain in
       subst P (sym chain_first) (rechained cells new firsts (set firsts slot (Some key)) slot _ chained within (length-set firsts slot (Some key)) here_first others_first fits_first)
+
+  pub closed_first : (lasts : List ℕ) → IsClosed cells firsts lasts → IsClosed new (set firsts slot (Some key)) (with_last lasts slot key next)
+  closed_first lasts closed =
+      let P : Option ℕ → Type 0 = λ o. IsPath (get cells) o (links_of cells (get_or firsts slot None)) in
+      closed_new cells new firsts (set firsts slot (Some key)) slot ((key, x) ∷ links_of cells (get_or firsts slot None)) chained within (length-set firsts slot (Some key)) here_first others_first fits_first
+      lasts (with_last lasts slot key next) closed (length-with_last lasts slot key next) (with_last_other lasts slot key next)
+      (with_last_here (get cells) lasts slot key x next (links_of cells (get_or firsts slot None)) (links_of cells (get_or firsts slot None)) [] (omega (arith, closed.all, within))
+      (subst P next_is (path_from (get cells) (slab_len cells) (get_or firsts slot None) (chained.ended slot))) (closed.last slot)
+      (λ e rest is. ap (λ (es : List (ℕ × Timed)). last_of (get_or lasts slot 0) es) is))
 
   pub chained_first : IsChained new (set firsts slot (Some key))
   chained_first =

@@ -4,12 +4,12 @@ use Rattle.std.specs.Prelude.{All, AllPairs}
 use Rattle.std.proofs.lemmas.List.{get_or-set_same, get_or-set_other, length-set}
 use Rattle.std.proofs.lemmas.List.Elements.{All-head, All-tail, recursion_from_All}
 use Rattle.slab.specs.Slab.{Slab, get, slab_len, Updates}
-use Rattle.rtl_agenda.specs.Chains.{Timed, links_of, held, chain_at, BeginsAt, IsChained, IsRechained}
+use Rattle.rtl_agenda.specs.Chains.{Timed, links_of, held, chain_at, BeginsAt, last_of, IsChained, IsClosed, IsRechained}
 use Rattle.rtl_agenda.specs.declared.cell.Cell.{Cell}
 use Rattle.rtl_agenda.proofs.Paths.{IsPath, Lacks, path_from, path_kept, path_lacks_first, path_lacks_placed, cell_of}
 use Rattle.rtl_agenda.proofs.Places.{links_some}
 use Rattle.rtl_agenda.proofs.Heads.{held_some}
-use Rattle.rtl_agenda.proofs.Chained.{rechained, chained_new}
+use Rattle.rtl_agenda.proofs.Chained.{rechained, chained_new, closed_new}
 
 pub AllPairs-tail : {X : Type 0} (R : X → X → Type 0) (x : X) (xs : List X) → AllPairs R (x ∷ xs) → AllPairs R xs
 AllPairs-tail R x xs h = λ i j d before within. h (suc i) (suc j) d (omega arith) (omega arith)
@@ -70,3 +70,13 @@ module _ (cells new : Slab Cell) (firsts : List (Option ℕ)) (slot key : ℕ) (
   chained_taken = chained_new cells new firsts (set firsts slot cell.next) slot (links_of cells cell.next) chained within (length-set firsts slot cell.next) here others fits
       (All-tail (λ (x : Timed). x.0 % length firsts ≡ slot) (cell.time, cell.change) (held cells cell.next) placed_whole)
       (AllPairs-tail (λ (x y : Timed). x.0 ≤ y.0) (cell.time, cell.change) (held cells cell.next) rising_whole)
+
+  pub closed_taken : (lasts : List ℕ) → IsClosed cells firsts lasts → IsClosed new (set firsts slot cell.next) lasts
+  unfolding held
+  closed_taken lasts closed =
+      closed_new cells new firsts (set firsts slot cell.next) slot (links_of cells cell.next) chained within (length-set firsts slot cell.next) here others fits lasts lasts closed refl (λ s apart. refl)
+      (by (links_of cells cell.next) (links_some (get cells) (slab_len cells) (get_or firsts slot None) key cell at (chained.ended slot) there).0)
+    where
+      by : (rest : List (ℕ × Timed)) → links_of cells (get_or firsts slot None) ≡ (key, (cell.time, cell.change)) ∷ rest → last_of (get_or lasts slot 0) rest ≡ get_or lasts slot 0
+      by [] is = refl
+      by (e ∷ rest) is = sym (ap (λ (xs : List (ℕ × Timed)). last_of (get_or lasts slot 0) xs) is) ∙ closed.last slot

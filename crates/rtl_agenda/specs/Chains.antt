@@ -1,5 +1,5 @@
 -- Changes in chains, one for each remainder of their times.
-use Rattle.std.specs.Prelude.{◌≡◌, ◌≢◌, ℕ, zero, suc, ◌<◌, ◌≤◌, ◌%◌, Bool, true, false, cond, List, [], ◌∷◌, ◌++◌, length, map, Option, Some, None, All, AllPairs, slice_index_or}
+use Rattle.std.specs.Prelude.{◌≡◌, ◌≢◌, ℕ, zero, suc, ◌<◌, ◌≤◌, ◌%◌, Bool, true, false, cond, List, [], ◌∷◌, ◌++◌, length, map, Option, Some, None, All, AllPairs, slice_index, slice_index_or, slice_set}
 use Rattle.std.specs.List.{sum_by, flat_map, AllByRecursion}
 use Rattle.std.proofs.Common.{leb}
 use Rattle.slab.specs.Slab.{Slab, get, slab_len}
@@ -71,6 +71,21 @@ pub record IsChained (cells : Slab Cell) (firsts : List (Option ℕ)) : Type 0 w
   pub placed : (s : ℕ) → All (λ x. x.0 % length firsts ≡ s) (chain_at cells firsts s)
   pub rising : (s : ℕ) → AllPairs (λ x y. x.0 ≤ y.0) (chain_at cells firsts s)
   pub counted : sum_by (λ o. length (held cells o)) firsts ≡ slab_len cells
+
+-- the last cell of a list, or another where it has none
+abbrev pub last_of : ℕ → List (ℕ × Timed) → ℕ
+last_of other [] = other
+last_of other (e ∷ es) = last_of e.0 es
+
+-- of each chain that has a cell, the last is known
+pub record IsClosed (cells : Slab Cell) (firsts : List (Option ℕ)) (lasts : List ℕ) : Type 0 where
+  pub all : length lasts ≡ length firsts
+  pub last : (s : ℕ) → last_of (slice_index lasts s) (links_of cells (slice_index_or firsts s None)) ≡ slice_index lasts s
+
+-- the last cells once a chain has a cell more, which is the last where none comes behind it
+abbrev pub with_last : List ℕ → (slot key : ℕ) → (next : Option ℕ) → List ℕ
+with_last lasts slot key None = slice_set lasts slot key
+with_last lasts slot key (Some next) = lasts
 
 -- one chain is this, and the others stay
 pub record IsRechained (cells : Slab Cell) (firsts : List (Option ℕ)) (new : Slab Cell) (new_firsts : List (Option ℕ)) (slot : ℕ) (chain : List Timed) : Type 0 where

@@ -3,7 +3,7 @@
 ghost use Rattle.std.specs.Prelude.{◌≡◌, ◌≢◌, ◌≤◌, ◌<◌, ◌+◌, ◌%◌, ◌∷◌, [], ℕ, IfOk, IfSome, IfNone, OnOk, OnErr, length, List, OnSome, None, slice_index_or, vec_capacity};
 ghost use Rattle.slab.specs.Slab.{HasRoomFor, slab_len};
 ghost use Rattle.rtl_agenda.specs.Agenda.{Change};
-ghost use Rattle.rtl_agenda.specs.Chains.{BeginsAt, HasTaken, IsChained, IsPlace, IsRechained, Timed, chain_at, links_of, put_in, waiting_in};
+ghost use Rattle.rtl_agenda.specs.Chains.{BeginsAt, HasTaken, IsChained, IsClosed, IsPlace, IsRechained, Timed, chain_at, links_of, put_in, waiting_in, with_last};
 
 use crate::agenda::{Change, NoMemory};
 use crate::cell::Cell;
@@ -15,7 +15,9 @@ use std::alloc::Global;
 pub struct Chains {
     pub cells: Slab<Cell>,
     pub firsts: Vec<Option<usize>>,
+    pub lasts: Vec<usize>,
     pub ghost chained: { IsChained cells firsts.items },
+    pub ghost closed: { IsClosed cells firsts.items lasts.items },
 }
 
 impl Chains {
@@ -27,9 +29,12 @@ impl Chains {
     {
         let mut firsts = Vec::new(alloc);
         firsts.resize(chains, None)?;
+        let mut lasts = Vec::new(alloc);
+        lasts.resize(chains, 0)?;
         Ok(Chains {
             cells: Slab::new(alloc),
             firsts,
+            lasts,
         })
     }
 
@@ -61,6 +66,12 @@ impl Chains {
         requires { slot < length self.now.firsts.items }
         ensures { IsPlace (links_of self.now.cells (slice_index_or self.now.firsts.items slot None)) time result }
     {
+        if self.firsts[slot].is_some() {
+            let last = self.lasts[slot];
+            if self.cells[last].time <= time {
+                return Some(last);
+            }
+        }
         let mut place = None;
         let mut behind = self.firsts[slot];
         while let Some(key) = behind {
@@ -88,10 +99,12 @@ impl Chains {
             let next = self.cells[place].next;
             let key = self.cells.insert_reserved(Cell { time, change, next });
             self.cells[place].next = Some(key);
+            note_last(&mut self.lasts, slot, key, next);
         } else {
             let next = self.firsts[slot];
             let key = self.cells.insert_reserved(Cell { time, change, next });
             self.firsts[slot] = Some(key);
+            note_last(&mut self.lasts, slot, key, next);
         }
     }
 
@@ -126,5 +139,15 @@ impl Chains {
         let cell = self.cells.remove(key);
         self.firsts[slot] = cell.next;
         Some(cell.change)
+    }
+}
+
+// Notes the last cell of a chain that has a cell more, where none comes behind it.
+fn note_last(lasts: &mut Vec<usize>, slot: usize, key: usize, next: Option<usize>)
+    requires { slot < length lasts.old.items }
+    ensures { lasts.new.items ≡ with_last lasts.old.items slot key next }
+{
+    if next.is_none() {
+        lasts[slot] = key;
     }
 }

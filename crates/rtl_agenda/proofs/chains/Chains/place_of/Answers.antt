@@ -1,4 +1,5 @@
-use Rattle.std.proofs.Common.{refl}
+use Rattle.std.proofs.Common.{refl, sym, ◌∙◌}
+use Rattle.rtl_agenda.proofs.Lasts.{last_read}
 use Rattle.slab.specs.Slab.{get, slab_len}
 use Rattle.rtl_agenda.specs.Chains.{links_of}
 use Rattle.rtl_agenda.proofs.Places.{there_at, later_here, later_none, shorter, up_to_more, links_some}
@@ -34,3 +35,14 @@ pub returns : goal.returns
 returns c =
     let cells = c.args.self.now.cells in
     (links_of cells c.loop-behind.behind, c.loop-behind.invariant.up_to, later_none (get cells) (slab_len cells) c.args.time c.loop-behind.behind c.in_default.is)
+
+pub index-requires-then-is_some : goal.index-requires-then-is_some
+index-requires-then-is_some c =
+    let s = c.args.self.now in
+    (last_read s.cells s.firsts.items s.lasts.items c.args.slot c.index.result.now c.index-last.result.now s.chained s.closed c.requires c.index.ensures (sym c.is_some.ensures ∙ c.if-is_some.true) c.index-last.ensures).there
+
+pub returns-then-index-time : goal.returns-then-index-time
+returns-then-index-time c =
+    let s = c.args.self.now in
+    (last_read s.cells s.firsts.items s.lasts.items c.args.slot c.index.result.now c.index-last.result.now s.chained s.closed c.requires c.index.ensures (sym c.is_some.ensures ∙ c.if-is_some.true) c.index-last.ensures).place
+    c.index-then-is_some.result.now c.args.time c.index-then-is_some.ensures c.if-index-time.true

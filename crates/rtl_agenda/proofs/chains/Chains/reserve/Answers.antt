@@ -1,15 +1,20 @@
 use Rattle.std.proofs.Common.{◌≡◌, sym, ap, subst, ◌∙◌}
 use Rattle.slab.specs.Slab.{Slab}
-use Rattle.rtl_agenda.specs.Chains.{IsChained, chain_at, waiting_in}
+use Rattle.rtl_agenda.specs.Chains.{IsChained, IsClosed, chain_at, waiting_in}
 use Rattle.rtl_agenda.specs.declared.cell.Cell.{Cell}
 use Rattle.rtl_agenda.proofs.Heads.{chain_room, waiting_room, chained_room}
+use Rattle.rtl_agenda.proofs.Lasts.{closed_room}
 use Rattle.rtl_agenda.proofs.chains.Chains.reserve.Goals as goal
 
 pub invariant_of-self : goal.invariant_of-self
 invariant_of-self c =
     let s = c.args.self.now in
     let P : Slab Cell → Type 0 = λ cells. IsChained cells s.firsts.items in
-    record { chained = subst P (sym c.reserve.ensures.rest_kept) (chained_room s.cells c.reserve.new.self.capacity s.firsts.items s.chained) }
+    let Q : Slab Cell → Type 0 = λ cells. IsClosed cells s.firsts.items s.lasts.items in
+    record {
+      chained = subst P (sym c.reserve.ensures.rest_kept) (chained_room s.cells c.reserve.new.self.capacity s.firsts.items s.chained);
+      closed = subst Q (sym c.reserve.ensures.rest_kept) (closed_room s.cells c.reserve.new.self.capacity s.firsts.items s.lasts.items s.closed);
+    }
 
 pub returns-in_err-reserve-clause-waiting : goal.returns-in_err-reserve-clause-waiting
 returns-in_err-reserve-clause-waiting c =

@@ -4,7 +4,7 @@ use Rattle.rtl_agenda.specs.Chains.{Timed, held}
 use Rattle.rtl_agenda.specs.declared.cell.Cell.{Cell}
 use Rattle.rtl_agenda.proofs.Places.{there_at}
 use Rattle.rtl_agenda.proofs.Heads.{held_none, held_some, if_none, first_at}
-use Rattle.rtl_agenda.proofs.Taking.{held_whole, rechained_taken, chained_taken, begins_nowhere, begins_otherwise}
+use Rattle.rtl_agenda.proofs.Taking.{held_whole, rechained_taken, chained_taken, closed_taken, begins_nowhere, begins_otherwise}
 use Rattle.rtl_agenda.proofs.chains.Chains.take.Goals as goal
 
 pub returns-in_err-key-clause-none : goal.returns-in_err-key-clause-none
@@ -34,6 +34,8 @@ invariant_of-self c =
     record {
       chained = chained_taken s.cells c.remove-cell.new.self s.firsts.items c.args.slot c.in_ok-key.key c.remove-cell.result s.chained c.requires at
           c.remove-cell.ensures.value c.remove-cell.ensures.updates c.remove-cell.ensures.len;
+      closed = closed_taken s.cells c.remove-cell.new.self s.firsts.items c.args.slot c.in_ok-key.key c.remove-cell.result s.chained c.requires at
+          c.remove-cell.ensures.value c.remove-cell.ensures.updates c.remove-cell.ensures.len s.lasts.items s.closed;
     }
 
 pub returns-clause-taken : goal.returns-clause-taken
