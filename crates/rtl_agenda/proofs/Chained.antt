@@ -1,14 +1,14 @@
 -- Chains once one of them has changed.
-use Rattle.std.proofs.Common.{◌≡◌, ◌≢◌, ◌⊎◌, ℕ, zero, suc, ◌+◌, ◌<◌, ◌≤◌, ◌%◌, Bool, true, false, cond, List, [], ◌∷◌, ◌++◌, length, map, get_or, set, Option, Some, None, refl, sym, ap, subst, ◌∙◌, arith, inl, inr}
+use Rattle.std.proofs.Common.{◌≡◌, ◌≢◌, ◌⊎◌, ℕ, ◌+◌, ◌<◌, ◌≤◌, ◌%◌, List, length, map, get_or, set, Option, None, sym, ap, subst, ◌∙◌, arith, inl, inr}
 use Rattle.std.specs.Prelude.{All, AllPairs}
 use Rattle.std.specs.List.{sum_by, sum}
 use Rattle.std.proofs.lemmas.Bool.{cases_eq, cases_lt}
 use Rattle.std.proofs.lemmas.List.{get_or-set_same, get_or-set_other, get_or_past, length-set, length-map, get_or-map, same_lists}
 use Rattle.std.proofs.lemmas.List.Sums.{sum_by-set, get_or-le-sum_by, sum-map}
 use Rattle.slab.specs.Slab.{Slab, get, slab_len}
-use Rattle.rtl_agenda.specs.Chains.{Timed, links, links_of, is_ended, held, chain_at, last_of, IsChained, IsClosed, IsRechained}
+use Rattle.rtl_agenda.specs.Chains.{Timed, links_of, is_ended, held, chain_at, last_of, IsChained, IsClosed, IsRechained}
 use Rattle.rtl_agenda.specs.declared.cell.Cell.{Cell}
-use Rattle.rtl_agenda.proofs.Paths.{IsPath, links-path, ended-path, path_from, length-links}
+use Rattle.rtl_agenda.proofs.Paths.{IsPath, links-path, ended-path}
 use Rattle.rtl_agenda.proofs.Places.{links_none}
 
 module _ (cells new : Slab Cell) (firsts new_firsts : List (Option ℕ)) (slot : ℕ) (es : List (ℕ × Timed)) where

@@ -1,13 +1,12 @@
 -- The first change of a chain.
-use Rattle.std.proofs.Common.{◌≡◌, ◌≢◌, ◌⊎◌, ℕ, zero, suc, ◌+◌, ◌<◌, ◌≤◌, ◌%◌, Bool, true, false, List, [], ◌∷◌, ◌++◌, length, map, get_or, set, Option, Some, None, refl, sym, ap, subst, ◌∙◌, arith, count_by, is_some, inl, inr}
-use Rattle.std.specs.Prelude.{IfNone, All, AllPairs}
-use Rattle.std.specs.List.{sum_by}
+use Rattle.std.proofs.Common.{◌≡◌, ◌⊎◌, ℕ, ◌<◌, ◌≤◌, true, List, [], ◌∷◌, length, map, get_or, Option, Some, None, refl, sym, ap, ◌∙◌, arith, count_by, is_some, inl, inr}
+use Rattle.std.specs.Prelude.{IfNone}
 use Rattle.std.proofs.lemmas.Bool.{cases_lt}
 use Rattle.std.proofs.lemmas.List.{get_or_default, get_or_past}
 use Rattle.std.proofs.lemmas.List.Elements.{All-nil}
 use Rattle.std.proofs.lemmas.List.Sums.{sum_by-le}
 use Rattle.slab.specs.Slab.{Slab, get, slab_len}
-use Rattle.rtl_agenda.specs.Chains.{Timed, links, links_of, is_ended, held, chain_at, waiting_in, IsChained}
+use Rattle.rtl_agenda.specs.Chains.{Timed, is_ended, held, chain_at, waiting_in, IsChained}
 use Rattle.rtl_agenda.specs.declared.cell.Cell.{Cell}
 use Rattle.rtl_agenda.proofs.Paths.{ended-path, path_none}
 use Rattle.rtl_agenda.proofs.Places.{links_none, links_some}

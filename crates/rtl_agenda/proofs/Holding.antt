@@ -1,5 +1,5 @@
 -- What a wheel holds stays orderly.
-use Rattle.std.proofs.Common.{◌≡◌, ◌≢◌, ◌⊎◌, ℕ, ◌+◌, ◌*◌, ◌<◌, ◌≤◌, ◌%◌, Bool, true, false, cond, List, [], ◌∷◌, ◌++◌, length, Option, Some, None, refl, sym, ap, subst, ◌∙◌, arith, inl, inr}
+use Rattle.std.proofs.Common.{◌≡◌, ◌≢◌, ◌⊎◌, ℕ, ◌*◌, ◌<◌, ◌≤◌, ◌%◌, Bool, true, false, cond, List, [], ◌∷◌, length, Option, refl, sym, ap, subst, ◌∙◌, arith, inl, inr}
 use Rattle.std.proofs.Math.Dec.{leb}
 use Rattle.std.specs.List.{flat_map}
 use Rattle.std.specs.List.Sorted.{IsStrictlySortedBy}
@@ -7,7 +7,7 @@ use Rattle.std.specs.Map.{keys_of}
 use Rattle.std.specs.Ordering.{nat_cmp}
 use Rattle.std.proofs.lemmas.Bool.{cases_eq}
 use Rattle.slab.specs.Slab.{Slab, slab_len}
-use Rattle.rtl_agenda.specs.Agenda.{AgendaState, Change, IsAfter, IsOrderly, LeavesAlone, changes_at, with_change}
+use Rattle.rtl_agenda.specs.Agenda.{Change, IsAfter, IsOrderly, LeavesAlone, changes_at, with_change}
 use Rattle.rtl_agenda.specs.Chains.{Timed, held, chain_at, put_in, waiting_in, IsChained, IsRechained}
 use Rattle.rtl_agenda.specs.Occupied.{is_marked}
 use Rattle.rtl_agenda.specs.Wheel.{IsWheel, is_filled, turned_to}

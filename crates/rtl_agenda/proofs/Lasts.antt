@@ -1,10 +1,10 @@
 -- The last cells of chains.
-use Rattle.std.proofs.Common.{◌≡◌, ◌≢◌, ◌⊎◌, ℕ, zero, suc, ◌+◌, ◌<◌, ◌≤◌, ◌%◌, List, [], ◌∷◌, ◌++◌, length, map, get_or, set, true, Option, is_some, Some, None, refl, sym, ap, subst, ◌∙◌, arith, inl, inr}
+use Rattle.std.proofs.Common.{◌≡◌, ◌≢◌, ℕ, suc, ◌<◌, ◌≤◌, List, [], ◌∷◌, ◌++◌, length, map, get_or, true, Option, is_some, Some, None, refl, sym, ap, subst, ◌∙◌, arith}
 use Rattle.std.specs.Prelude.{AllPairs}
 use Rattle.std.specs.List.{AllByRecursion}
 use Rattle.std.proofs.lemmas.List.{get_or-set_same, get_or-set_other, get_or_default, length-set}
 use Rattle.slab.specs.Slab.{Slab, get, slab_len, ContainsKey}
-use Rattle.rtl_agenda.specs.Chains.{Timed, links_of, held, chain_at, last_of, with_last, IsChained, IsClosed, IsPlace}
+use Rattle.rtl_agenda.specs.Chains.{Timed, links_of, held, last_of, with_last, IsChained, IsClosed, IsPlace}
 use Rattle.rtl_agenda.specs.declared.cell.Cell.{Cell}
 use Rattle.rtl_agenda.proofs.Paths.{IsPath, cell_of, path_from, path_middle, path_ends, path_begins}
 use Rattle.rtl_agenda.proofs.Places.{there_is, links_none}

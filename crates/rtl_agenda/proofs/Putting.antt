@@ -1,5 +1,5 @@
 -- A chain with a change more.
-use Rattle.std.proofs.Common.{◌≡◌, ◌≢◌, ℕ, zero, suc, ◌+◌, ◌<◌, ◌≤◌, ◌%◌, Bool, true, false, cond, List, [], ◌∷◌, ◌++◌, length, map, get_or, set, Option, is_some, Some, None, refl, sym, ap, subst, ◌∙◌, arith}
+use Rattle.std.proofs.Common.{◌≡◌, ◌≢◌, ℕ, suc, ◌+◌, ◌<◌, ◌≤◌, ◌%◌, Bool, true, false, cond, List, [], ◌∷◌, ◌++◌, length, map, get_or, set, Option, is_some, Some, None, refl, sym, ap, subst, ◌∙◌, arith}
 use Rattle.std.proofs.Math.Dec.{leb}
 use Rattle.std.specs.Prelude.{All, AllPairs}
 use Rattle.std.specs.List.{AllByRecursion}
@@ -10,10 +10,9 @@ use Rattle.std.proofs.lemmas.List.Kept.{AllPairs-cons}
 use Rattle.std.proofs.lemmas.List.Sums.{sum_by-set}
 use Rattle.slab.specs.Slab.{Slab, get, slab_len, Updates, ContainsKey, with_value}
 use Rattle.slab.proofs.SlabLemmas.{Updates-with_value, ContainsKey-within}
-use Rattle.rtl_agenda.specs.Agenda.{Change}
-use Rattle.rtl_agenda.specs.Chains.{Timed, links_of, held, chain_at, last_of, put_in, with_last, IsChained, IsClosed, IsRechained, IsLater, IsPlace, IsUpTo}
+use Rattle.rtl_agenda.specs.Chains.{Timed, links_of, held, chain_at, last_of, put_in, with_last, IsChained, IsClosed, IsRechained, IsLater, IsPlace}
 use Rattle.rtl_agenda.specs.declared.cell.Cell.{Cell}
-use Rattle.rtl_agenda.proofs.Paths.{IsPath, Lacks, path_from, path_kept, path_lacks_none, path_lacks_placed, path_inserted, path_middle, path_behind, path_cons, cell_of}
+use Rattle.rtl_agenda.proofs.Paths.{IsPath, path_from, path_kept, path_lacks_none, path_lacks_placed, path_inserted, path_middle, path_behind, path_cons, cell_of}
 use Rattle.rtl_agenda.proofs.Places.{there_is}
 use Rattle.rtl_agenda.proofs.Chained.{rechained, chained_new, closed_new}
 use Rattle.rtl_agenda.proofs.Lasts.{last_behind, length-with_last, with_last_here, with_last_other}

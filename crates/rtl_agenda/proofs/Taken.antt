@@ -1,5 +1,5 @@
 -- What waits in chains once the changes of the least time are taken.
-use Rattle.std.proofs.Common.{◌≡◌, ◌≢◌, ◌⊎◌, ℕ, zero, suc, ◌+◌, ◌*◌, ◌<◌, ◌≤◌, ◌%◌, Bool, true, false, cond, List, [], ◌∷◌, ◌++◌, length, map, get_or, Option, Some, None, refl, sym, ap, subst, ◌∙◌, arith, inl, inr, append-nil, append_assoc}
+use Rattle.std.proofs.Common.{◌≡◌, ◌≢◌, ◌⊎◌, ℕ, suc, ◌<◌, ◌≤◌, ◌%◌, cond, List, [], ◌∷◌, ◌++◌, length, map, get_or, Option, None, refl, sym, ap, subst, ◌∙◌, arith, inl, inr, append-nil, append_assoc}
 use Rattle.std.specs.Prelude.{All, AllPairs}
 use Rattle.std.specs.List.{AllByRecursion, flat_map}
 use Rattle.std.specs.Map.{keys_of}
@@ -12,7 +12,6 @@ use Rattle.slab.specs.Slab.{Slab}
 use Rattle.rtl_agenda.specs.Agenda.{Change, changes_at}
 use Rattle.rtl_agenda.specs.Chains.{Timed, held, chain_at, waiting_in, BeginsAt, HasTaken, IsChained, IsRechained}
 use Rattle.rtl_agenda.specs.declared.cell.Cell.{Cell}
-use Rattle.rtl_agenda.proofs.Heads.{held_none}
 use Rattle.rtl_agenda.proofs.Pushed.{at_time, same_time, other_time, at_time-append, same_waiting, in_order_pushed, in_order_none, in_order_cons, above_pushed, at_head, past_head}
 use Rattle.rtl_agenda.proofs.Turning.{waiting_at, at_time_above, all_above}
 

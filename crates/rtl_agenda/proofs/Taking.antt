@@ -1,12 +1,12 @@
 -- A chain whose first change is taken.
-use Rattle.std.proofs.Common.{◌≡◌, ◌≢◌, ℕ, zero, suc, ◌+◌, ◌<◌, ◌≤◌, ◌%◌, List, [], ◌∷◌, ◌++◌, length, map, get_or, set, Option, Some, None, refl, sym, ap, subst, ◌∙◌, arith}
+use Rattle.std.proofs.Common.{◌≡◌, ◌≢◌, ℕ, suc, ◌+◌, ◌<◌, ◌≤◌, ◌%◌, List, [], ◌∷◌, length, map, get_or, set, Option, Some, None, refl, sym, ap, subst, ◌∙◌, arith}
 use Rattle.std.specs.Prelude.{All, AllPairs}
 use Rattle.std.proofs.lemmas.List.{get_or-set_same, get_or-set_other, length-set}
 use Rattle.std.proofs.lemmas.List.Elements.{All-head, All-tail, recursion_from_All}
 use Rattle.slab.specs.Slab.{Slab, get, slab_len, Updates}
 use Rattle.rtl_agenda.specs.Chains.{Timed, links_of, held, chain_at, BeginsAt, last_of, IsChained, IsClosed, IsRechained}
 use Rattle.rtl_agenda.specs.declared.cell.Cell.{Cell}
-use Rattle.rtl_agenda.proofs.Paths.{IsPath, Lacks, path_from, path_kept, path_lacks_first, path_lacks_placed, cell_of}
+use Rattle.rtl_agenda.proofs.Paths.{IsPath, path_from, path_kept, path_lacks_first, path_lacks_placed}
 use Rattle.rtl_agenda.proofs.Places.{links_some}
 use Rattle.rtl_agenda.proofs.Heads.{held_some}
 use Rattle.rtl_agenda.proofs.Chained.{rechained, chained_new, closed_new}

@@ -1,4 +1,4 @@
-use Rattle.std.proofs.Common.{refl, sym, ◌∙◌}
+use Rattle.std.proofs.Common.{sym, ◌∙◌}
 use Rattle.rtl_agenda.proofs.Lasts.{last_read}
 use Rattle.slab.specs.Slab.{get, slab_len}
 use Rattle.rtl_agenda.specs.Chains.{links_of}

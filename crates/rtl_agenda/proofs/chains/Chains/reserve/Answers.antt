@@ -1,4 +1,4 @@
-use Rattle.std.proofs.Common.{◌≡◌, sym, ap, subst, ◌∙◌}
+use Rattle.std.proofs.Common.{sym, ap, subst, ◌∙◌}
 use Rattle.slab.specs.Slab.{Slab}
 use Rattle.rtl_agenda.specs.Chains.{IsChained, IsClosed, chain_at, waiting_in}
 use Rattle.rtl_agenda.specs.declared.cell.Cell.{Cell}

@@ -1,4 +1,4 @@
-use Rattle.std.proofs.Common.{◌≡◌, ◌<◌, ◌≤◌, ℕ, Option, sym, subst, arith, ⊎_elim, length, ◌%◌}
+use Rattle.std.proofs.Common.{ℕ, Option, sym, subst, arith, ⊎_elim, length, ◌%◌}
 use Rattle.std.specs.Prelude.{IfSome}
 use Rattle.std.proofs.lemmas.Bool.{cases_lt, cases_eq}
 use Rattle.rtl_agenda.specs.Chains.{BeginsAt, NoneIsEarlier, chain_at}

@@ -1,4 +1,4 @@
-use Rattle.std.proofs.Common.{◌≡◌, ℕ, List, [], None, sym, ap, ◌∙◌, vec_capacity}
+use Rattle.std.proofs.Common.{ℕ, List, [], None, ap, ◌∙◌, vec_capacity}
 use Rattle.rtl_agenda.specs.Agenda.{AgendaState, Change}
 use Rattle.rtl_agenda.proofs.Turning.{waiting_none}
 use Rattle.rtl_agenda.proofs.Holding.{orderly_none, orderly_same, wheel_none}

@@ -1,4 +1,4 @@
-use Rattle.std.proofs.Common.{◌≡◌, ◌≢◌, ◌%◌, ℕ, Option, Some, None, length, refl, sym, subst, ◌∙◌, vec_capacity}
+use Rattle.std.proofs.Common.{◌≡◌, ◌≢◌, ◌%◌, ℕ, Option, None, length, refl, subst, ◌∙◌, vec_capacity}
 use Rattle.rtl_agenda.specs.Chains.{BeginsAt, HasTaken, NoneIsEarlier, chain_at}
 use Rattle.rtl_agenda.specs.Wheel.{turned_to}
 use Rattle.rtl_agenda.proofs.Earliest.{first_filled}

@@ -1,4 +1,4 @@
-use Rattle.std.proofs.Common.{◌≡◌, ◌≢◌, ◌<◌, ◌%◌, ◌+◌, ◌≤◌, ℕ, true, List, Option, length, subst, sym, ap, ◌∙◌, arith, vec_capacity, refl}
+use Rattle.std.proofs.Common.{◌≡◌, ◌≢◌, ◌%◌, ◌+◌, ◌≤◌, ℕ, true, List, Option, length, subst, sym, ap, ◌∙◌, arith, vec_capacity, refl}
 use Rattle.std.specs.Global.{Vec}
 use Rattle.slab.specs.Slab.{slab_len}
 use Rattle.rtl_agenda.specs.Agenda.{AgendaState, Change, with_change}
