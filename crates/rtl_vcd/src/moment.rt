@@ -45,8 +45,8 @@ impl<'a> Model for Blocks<'a> {
 
 impl<'a> Blocks<'a> {
     /// The blocks of the net's names, and the names that stand on nets one behind the other, ready to print. They take three words
-    /// for each block: for each 64 names, where the nets of these stand close to one another, and else for fewer. A name takes six
-    /// words.
+    /// for each block: for each 64 names, where the nets of these stand close to one another, and else for fewer. A name takes
+    /// seven words.
     pub fn new(alloc: Global, net: &'a Net) -> Result<Blocks<'a>, AllocError>
         ensures { IfOk result (λ b. b ≡ net.now) }
     {
