@@ -1,7 +1,7 @@
 -- The processes that wake on a net, by its group.
-use Rattle.std.proofs.Common.{◌≡◌, ℕ, ◌<◌, ◌≤◌, Bool, true, List, [], ◌∷◌, ◌++◌, length, get_or, map, take, refl, sym, ap, subst, ◌∙◌, ◌⊎◌, inl, inr, Contains, All}
+use Rattle.std.proofs.Common.{◌≡◌, ℕ, ◌<◌, ◌≤◌, List, [], length, get_or, subst, ◌⊎◌, inl, inr, Contains, All}
 use Rattle.std.proofs.lemmas.Bool.{cases_lt}
-use Rattle.std.proofs.lemmas.List.{get_or-map, get_or_past, length-map, map_more}
+use Rattle.std.proofs.lemmas.List.{get_or-map, get_or_past, length-map}
 use Rattle.std.proofs.lemmas.List.Elements.{All-contains}
 use Rattle.rtl_layout.specs.Groups.{Grouping, AreGroups}
 use Rattle.rtl_model.proofs.basics.Lists.{Contains-none}

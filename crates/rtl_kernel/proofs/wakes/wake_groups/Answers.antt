@@ -1,4 +1,4 @@
-use Rattle.std.proofs.Common.{◌≡◌, ◌<◌, ℕ, List, length, map, All, sym, ap, subst, ◌∙◌}
+use Rattle.std.proofs.Common.{◌<◌, length, map, All, ap, ◌∙◌}
 use Rattle.std.proofs.lemmas.List.{length-map}
 use Rattle.rtl_net.specs.declared.process.Process.{Process}
 use Rattle.rtl_kernel.proofs.Grouped.{groups_index}
