@@ -1,4 +1,4 @@
-use Rattle.std.proofs.Common.{◌++◌, arith, sym, ap, ap₂, ◌∙◌}
+use Rattle.std.proofs.Common.{◌++◌, arith, sym, ap₂, ◌∙◌}
 use Rattle.rtl_vcd.proofs.Runs.{same_from, others_from, characters_further, same_part}
 use Rattle.rtl_vcd.proofs.characters.alike_lanes.Goals as goal
 
