@@ -4,4 +4,6 @@ pub mod Header
 pub mod Trace
 pub mod Shown
 pub mod Blocks
+pub mod Ready
+pub mod Pages
 pub mod Laws

@@ -6,11 +6,14 @@
 
 mod blocks;
 mod change;
+mod characters;
+mod ending;
 mod fault;
 mod heading;
 mod laws;
 mod line;
 mod moment;
+mod ready;
 mod trace;
 
 pub use fault::VcdFault;

@@ -6,8 +6,17 @@ ghost use Rattle.rtl_vcd.specs.Values as spec;
 
 use arrayvec::ArrayVec;
 
-/// Room for the longest change: `b`, 64 digits, a space, a code of ten characters, and the line's end.
+/// How long the longest change is: `b`, 64 digits, a space, a code of ten characters, and the line's end.
+pub(crate) const LINE: usize = 77;
+
+/// Room for the longest change.
 pub type Line = ArrayVec<u8, 77>;
+
+/// How many bytes a page has room for.
+pub(crate) const PAGE: usize = 1024;
+
+/// What was printed and hasn't gone to the sink yet.
+pub(crate) type Page = ArrayVec<u8, 1024>;
 
 /// What one of the nine values, by its code, prints as.
 pub fn character(value: u8) -> u8
@@ -22,8 +31,8 @@ pub fn character(value: u8) -> u8
 }
 
 /// Appends the code of the name with this number, at most ten characters.
-pub fn push_code(line: &mut Line, number: usize)
-    requires room { array_vec_len line.old ≤ 67 }
+pub fn push_code<const ROOM: usize>(line: &mut ArrayVec<u8, ROOM>, number: usize)
+    requires room { array_vec_len line.old + 10 ≤ ROOM }
     ensures code { line.new.items ≡ line.old.items ++ spec.code number }
     ensures short { array_vec_len line.new ≤ array_vec_len line.old + 10 }
 {
