@@ -12,22 +12,26 @@ TYPES = {"std_logic": "std_logic", "std_ulogic": "std_logic", "bit": "bit", "std
 HEAD = "library ieee;\nuse ieee.std_logic_1164.all;\nuse ieee.numeric_std.all;\n"
 
 
-def kinds(text, top):
-    """The type of each port of an entity by its own words, or None where one isn't of the standard packages' elements and vectors."""
-    text = re.sub(r"--[^\n]*", "", text)
-    it = re.search(rf"(?is)\bentity\s+{top}\s+is\b(.*?)\bend\b", text)
+def ports_of(text, top):
+    """The names, modes and type marks of an entity's ports by its own words."""
+    it = re.search(rf"(?is)\bentity\s+{top}\s+is\b(.*?)\bend\b", re.sub(r"--[^\n]*", "", text))
     ports = it and re.search(r"(?is)\bport\s*\((.*)\)\s*;", it[1])
-    if not ports:
-        return {}
-    found = {}
-    for part in ports[1].split(";"):
+    for part in ports[1].split(";") if ports else ():
         names, _, rest = part.partition(":")
-        word = re.match(r"(?is)\s*(?:in|out|inout|buffer)?\s*(\w+)", rest)
-        if not word or word[1].lower() not in TYPES:
-            return None
+        word = re.match(r"(?is)\s*(in\b|out\b|inout\b|buffer\b)?\s*(\w*)", rest)
         for name in names.split(","):
-            found[name.split()[-1].lower() if name.split() else ""] = TYPES[word[1].lower()]
-    return found
+            if name.split():
+                yield name.split()[-1].lower(), (word[1] or "in").lower(), word[2].lower()
+
+
+def kinds(text, top):
+    """The type of each port of an entity, or None where one isn't of the standard packages' elements and vectors."""
+    found = {name: TYPES.get(word) for name, _, word in ports_of(text, top)}
+    return None if None in found.values() else found
+
+
+def modes(text, top):
+    return {name: mode for name, mode, _ in ports_of(text, top)}
 
 
 def stimulus(ports, clocks, resets, seed):
@@ -150,8 +154,8 @@ def own(program, command, text, top, changes, stop, parts):
     return {time: whole(values, parts) for time, values in trace(done.stdout, top).items()}, ""
 
 
-def differences(theirs, ours, outputs):
-    """How many values of outputs there are, and those that differ where GHDL's is known: time, name, theirs, ours."""
+def differences(theirs, ours, outputs, is_strict=False):
+    """How many values of outputs there are, and those that differ (strictly: also where GHDL's is unknown): time, name, theirs, ours."""
     count, found, a, b = 0, [], theirs.get(0, {}), ours.get(0, {})
     for time in sorted((theirs.keys() | ours.keys()) - {0}):
         a, b = theirs.get(time, a), ours.get(time, b)
@@ -159,6 +163,6 @@ def differences(theirs, ours, outputs):
             width = it.shape.width()
             left, right = plain(a.get(it.name, "x"), width), plain(b.get(it.name, "x"), width)
             count += 1
-            if any(x != y and x != "x" for x, y in zip(left, right)):
+            if any(x != y and (is_strict or x != "x") for x, y in zip(left, right)):
                 found.append((time, it.name, left, right))
     return count, found
