@@ -6,11 +6,16 @@
 #![tactic(auto)]
 
 mod agenda;
+mod cell;
+mod chains;
 mod laws;
 mod map_agenda;
+mod occupied;
 #[cfg(test)]
 mod tests;
+mod wheel;
 
 pub use agenda::{Agenda, Change, NoMemory};
 pub use laws::each_push_is_last;
 pub use map_agenda::MapAgenda;
+pub use wheel::Wheel;

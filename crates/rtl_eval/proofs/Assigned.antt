@@ -1,12 +1,42 @@
--- Entries by their marks and values.
-use Rattle.std.proofs.Common.{◌≡◌, ℕ, zero, suc, ◌+◌, ◌<◌, ◌≤◌, Bool, true, false, List, [], ◌∷◌, ◌++◌, length, take, drop, get_or, set, replicate, Option, Some, None, refl, sym, ap, ◌∙◌, arith, ◌⊎◌, inl, inr}
+-- Entries: lists without one, and entries by their marks and values.
+use Rattle.std.proofs.Common.{◌≡◌, ℕ, zero, suc, ◌+◌, ◌-◌, ◌<◌, ◌≤◌, Bool, true, false, List, [], ◌∷◌, ◌++◌, length, take, drop, get_or, set, replicate, Option, Some, None, refl, sym, ap, ◌∙◌, arith, ◌⊎◌, inl, inr}
+use Rattle.std.specs.Prelude.{IsSome}
+use Rattle.std.specs.List.{between, count_by}
 use Rattle.std.specs.Option.{is_some}
 use Rattle.std.proofs.lemmas.Bool.{cases_eq, cases_lt}
-use Rattle.std.proofs.lemmas.List.{get_or-drop, get_or-set_same, get_or-set_other, get_or_past, set_past, length-set, set-get_or, append_assoc, drop-drop}
-use Rattle.std.proofs.lemmas.List.Edits.{sets, sets-eq}
+use Rattle.std.proofs.lemmas.List.{get_or-drop, get_or-set_same, get_or-set_other, get_or_past, set_past, length-set, length-replicate, set-get_or, append_assoc, drop-drop}
+use Rattle.std.proofs.lemmas.List.Edits.{sets, sets-eq, length-between}
 use borrow.Rule.Slice.PartMut.{put_mid}
 use Rattle.rtl_eval.specs.Spans.{written}
-use Rattle.rtl_eval.specs.Tracked.{entry, entry_of, entries_of}
+use Rattle.rtl_eval.specs.Tracked.{entry, entry_of, entries_of, AreAssigned}
+
+none_left : (o : Option ℕ) → (IsSome o → ⊥) → o ≡ None
+none_left None h = refl
+none_left (Some x) h = absurd (h refl)
+
+-- a list without an entry
+pub no_entry : (entries : List (Option ℕ)) → ((place : ℕ) → IsSome (entry entries place) → ⊥) → entries ≡ replicate (length entries) None
+no_entry [] h = refl
+no_entry (o ∷ entries) h = rw (none_left o (h 0)) (ap (λ os. None ∷ os) (no_entry entries (λ place. h (suc place))))
+
+none_there : (many place : ℕ) → is_some (entry (replicate many None) place) ≡ true → ⊥
+none_there zero place h = absurd cc
+none_there (suc many) zero h = absurd cc
+none_there (suc many) (suc place) h = none_there many place h
+
+none_counted : (many : ℕ) → count_by {X = Option ℕ} is_some (replicate many None) ≡ 0
+none_counted zero = refl
+none_counted (suc many) = omega (arith, none_counted many)
+
+pub none_assigned : (many : ℕ) → AreAssigned (replicate many None) []
+none_assigned many = record {
+  there = λ k l. absurd (omega (arith, l));
+  pass = λ k l. absurd (omega (arith, l));
+  are_all = λ place h. absurd (none_there many place h);
+  each_once = sym (none_counted many);
+}
+
+-- ---- marks and values
 
 pub as_many_entries : (marks : List Bool) (values : List ℕ) → length (entries_of marks values) ≡ length marks
 as_many_entries [] values = refl
@@ -53,6 +83,28 @@ part_is_set {X = X} first len xs ys many within =
     sym (sets-eq ys xs first (omega (arith, many)) ∙ append_assoc (take first xs) ys (drop (first + length ys) xs)
     ∙ ap (λ (rest : List X). take first xs ++ (ys ++ rest)) (ap (λ (n : ℕ). drop (first + n) xs) many ∙ sym (drop-drop len first xs)))
 
+pub length_sets : {X : Type 0} (ys xs : List X) (first : ℕ) → length (sets xs first ys) ≡ length xs
+length_sets [] xs first = refl
+length_sets (y ∷ ys) xs first = length_sets ys (set xs first y) (suc first) ∙ length-set xs first y
+
+-- a part that is filled, and one that is copied
+pub part_filled : {X : Type 0} (first len : ℕ) (xs new : List X) (y : X) → first + len ≤ length xs → new ≡ replicate (length (between first (first + len) xs)) y
+    → put_mid first (first + len - first) xs new ≡ sets xs first (replicate len y)
+part_filled {X = X} first len xs new y within is =
+    let back : first + len - first ≡ len = omega arith in
+    let many : length (between first (first + len) xs) ≡ len = length-between xs first (first + len) within ∙ back in
+    ap (put_mid first (first + len - first) xs) (is ∙ ap (λ (n : ℕ). replicate n y) many)
+    ∙ ap (λ (n : ℕ). put_mid first n xs (replicate len y)) back
+    ∙ part_is_set first len xs (replicate len y) (length-replicate len y) within
+
+pub part_copied : {X : Type 0} (first : ℕ) (xs new ys : List X) → first + length ys ≤ length xs → new ≡ ys
+    → put_mid first (first + length ys - first) xs new ≡ sets xs first ys
+part_copied {X = X} first xs new ys within is =
+    let back : first + length ys - first ≡ length ys = omega arith in
+    ap (put_mid first (first + length ys - first) xs) is
+    ∙ ap (λ (n : ℕ). put_mid first n xs ys) back
+    ∙ part_is_set first (length ys) xs ys refl within
+
 -- the places from `first` on are marked, and have new values
 pub set_all : (first : ℕ) (marks : List Bool) (values new : List ℕ) → first + length new ≤ length values
     → entries_of (sets marks first (replicate (length new) true)) (sets values first new) ≡ written first new (entries_of marks values)
@@ -71,6 +123,11 @@ off marks place = by (cases_lt place (length marks))
     by : (place < length marks) ⊎ (length marks ≤ place) → get_or (set marks place false) place false ≡ false
     by (inl l) = get_or-set_same marks place false false l
     by (inr g) = ap (λ (ms : List Bool). get_or ms place false) (set_past marks place false g) ∙ get_or_past marks place false g
+
+pub unmarked : (marks : List Bool) → ((place : ℕ) → get_or marks place false ≡ true → ⊥) → marks ≡ replicate (length marks) false
+unmarked [] h = refl
+unmarked (false ∷ marks) h = ap (λ ms. false ∷ ms) (unmarked marks (λ place. h (suc place)))
+unmarked (true ∷ marks) h = absurd (h 0 refl)
 
 -- what is marked yet was marked, and isn't among those taken off
 pub still_marked : (len first : ℕ) (marks : List Bool) (place : ℕ) → get_or (sets marks first (replicate len false)) place false ≡ true

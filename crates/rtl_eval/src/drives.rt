@@ -144,6 +144,7 @@ impl Drives {
         if values.is_empty() {
             return;
         }
+        let _drivers = self.drivers();
         if are_free(&self.marks[first..first + values.len()]) {
             self.set_free(first, values);
         } else {
@@ -159,6 +160,7 @@ impl Drives {
         requires free { (k : ℕ) → k < length values.now → entry self.old.entries (first + k) ≡ None }
         ensures { self.new ≡ record (self.old) { entries = written first values.now self.old.entries } }
     {
+        let _drivers = self.drivers();
         let end = first + values.len();
         self.marks[first..end].fill(true);
         self.values[first..end].copy_from_slice(values);
