@@ -1,5 +1,6 @@
 pub mod Leading
 pub mod Places
+pub mod Lengths
 pub mod Expressions
 pub mod Tests
 pub mod Values
@@ -8,3 +9,4 @@ pub mod Statements
 pub mod Branches
 pub mod Alternatives
 pub mod Backwards
+pub mod Bodies
