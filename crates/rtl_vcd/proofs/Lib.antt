@@ -1,7 +1,10 @@
 pub mod Codes
 pub mod Digits
+pub mod Ends
 pub mod Hulls
+pub mod Lanes
 pub mod Names
 pub mod Printing
+pub mod Runs
 pub mod Scopes
 pub mod Stamps

@@ -9,7 +9,7 @@ use Rattle.rtl_net.specs.declared.signal.SignalKind.{SignalKind}
 use Rattle.rtl_net.specs.declared.signal.SignalKind.TheVariants.{One, Vector, Enumeration}
 use Rattle.rtl_vcd.specs.Values.{character, value_change}
 
-same_test : (a b c d : List ℕ) → (a ≡ b → c ≡ d) → (c ≡ d → a ≡ b) → bytes_eq a b ≡ bytes_eq c d
+pub same_test : (a b c d : List ℕ) → (a ≡ b → c ≡ d) → (c ≡ d → a ≡ b) → bytes_eq a b ≡ bytes_eq c d
 same_test a b c d to from =
     ⊎_elim (λ t. t ∙ sym ((bytes_eq-Decides c d).1 (to ((bytes_eq-Decides a b).0 t))))
     (λ f. f ∙ sym (false_from_ne_true (bytes_eq c d) (λ t. both_ways (bytes_eq a b) f ((bytes_eq-Decides a b).1 (from ((bytes_eq-Decides c d).0 t))))))

@@ -4,4 +4,5 @@ pub mod Header
 pub mod Trace
 pub mod Shown
 pub mod Blocks
+pub mod Ready
 pub mod Laws

@@ -6,11 +6,13 @@
 
 mod blocks;
 mod change;
+mod characters;
 mod fault;
 mod heading;
 mod laws;
 mod line;
 mod moment;
+mod ready;
 mod trace;
 
 pub use fault::VcdFault;

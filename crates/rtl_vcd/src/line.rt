@@ -22,8 +22,8 @@ pub fn character(value: u8) -> u8
 }
 
 /// Appends the code of the name with this number, at most ten characters.
-pub fn push_code(line: &mut Line, number: usize)
-    requires room { array_vec_len line.old ≤ 67 }
+pub fn push_code<const ROOM: usize>(line: &mut ArrayVec<u8, ROOM>, number: usize)
+    requires room { array_vec_len line.old + 10 ≤ ROOM }
     ensures code { line.new.items ≡ line.old.items ++ spec.code number }
     ensures short { array_vec_len line.new ≤ array_vec_len line.old + 10 }
 {

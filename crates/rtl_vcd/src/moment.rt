@@ -5,11 +5,12 @@ ghost use Rattle.rtl_sink.specs.Written.{IsIntact, HasFailed, Goes};
 ghost use Rattle.rtl_net.specs.Nets.{signal_view};
 ghost use Rattle.rtl_vcd.specs.Trace.{changes, time_line, are_some, moment_text};
 ghost use Rattle.rtl_vcd.specs.Blocks.{AreBlocks, changes_from, continued};
+ghost use Rattle.rtl_vcd.specs.Ready.{AreReady};
 ghost use Rattle.rtl_vcd.specs.Shown.{IsShown};
 
 use crate::blocks::{Block, blocks_of};
-use crate::change::{change_line, prints_otherwise};
 use crate::fault::VcdFault;
+use crate::ready::{Run, is_otherwise, ready_line, runs_of};
 use crate::trace::{push_time, written};
 use rtl_net::{Net, Signal};
 use rtl_sink::{Sink, push_text};
@@ -21,6 +22,7 @@ use std::marker::Model;
 pub struct Blocks<'a> {
     net: &'a Net,
     blocks: Vec<Block>,
+    runs: Vec<Option<Run>>,
 }
 
 impl<'a> Model for Blocks<'a> {
@@ -34,20 +36,23 @@ impl<'a> Model for Blocks<'a> {
 
     ghost use Rattle.std.specs.Prelude.{length};
     ghost use Rattle.rtl_vcd.specs.Blocks.{AreBlocks};
+    ghost use Rattle.rtl_vcd.specs.Ready.{AreReady};
 
     ghost view = { λ b. b.net.now };
 
-    ghost invariant = { λ b. AreBlocks (length b.net.now.types) b.blocks.items b.net.now.signals };
+    ghost invariant = { λ b. AreBlocks (length b.net.now.types) b.blocks.items b.net.now.signals × AreReady 0 b.net.now.signals b.runs.items };
 }
 
 impl<'a> Blocks<'a> {
-    /// The blocks of the net's names. They take three words for each block: for each 64 names, where the nets of these stand
-    /// close to one another, and else for fewer.
+    /// The blocks of the net's names, and the names that stand on nets one behind the other, ready to print. They take three words
+    /// for each block: for each 64 names, where the nets of these stand close to one another, and else for fewer. A name takes
+    /// seven words.
     pub fn new(alloc: Global, net: &'a Net) -> Result<Blocks<'a>, AllocError>
         ensures { IfOk result (λ b. b ≡ net.now) }
     {
         let blocks = blocks_of(alloc, net)?;
-        Ok(Blocks { net, blocks })
+        let runs = runs_of(alloc, net)?;
+        Ok(Blocks { net, blocks, runs })
     }
 
     /// Writes what the names print at a time after 0, where the nets had the values `old` and have the values `new`, one for
@@ -74,7 +79,13 @@ impl<'a> Blocks<'a> {
         ensures err { OnErr result (HasFailed (W.state out.new)) }
     {
         let step = Step { time, old, new };
-        let is_printed = push_moment(self.net, self.blocks.as_slice(), &step, out);
+        let is_printed = push_moment(
+            self.net,
+            self.blocks.as_slice(),
+            self.runs.as_slice(),
+            &step,
+            out,
+        );
         written(out)?;
         Ok(is_printed)
     }
@@ -89,8 +100,15 @@ struct Step<'a> {
 }
 
 /// The changes of the net's names, which stand in these blocks, behind their time. Answers whether there are any.
-fn push_moment<W: Sink>(net: &Net, blocks: &[Block], step: &Step, out: &mut W) -> bool
+fn push_moment<W: Sink>(
+    net: &Net,
+    blocks: &[Block],
+    runs: &[Option<Run>],
+    step: &Step,
+    out: &mut W,
+) -> bool
     requires blocks { AreBlocks (length net.now.types) blocks.now net.now.signals }
+    requires runs { AreReady 0 net.now.signals runs.now }
     requires before { length step.now.old.now ≡ length net.now.types }
     requires after { length step.now.new.now ≡ length net.now.types }
     ensures text { Goes (W.state out.old) (W.state out.new) (moment_text net.now.signals step.now.time step.now.old.now step.now.new.now) }
@@ -103,7 +121,14 @@ fn push_moment<W: Sink>(net: &Net, blocks: &[Block], step: &Step, out: &mut W) -
     for block in blocks {
         let end = next + block.names;
         if !block.is_quiet(step.old, step.new) {
-            is_printed = push_changes(&signals[next..end], next, step, is_printed, out);
+            is_printed = push_changes(
+                &signals[next..end],
+                &runs[next..end],
+                next,
+                step,
+                is_printed,
+                out,
+            );
         }
         next = end;
     }
@@ -114,6 +139,7 @@ fn push_moment<W: Sink>(net: &Net, blocks: &[Block], step: &Step, out: &mut W) -
 /// whether it is printed then.
 fn push_changes<W: Sink>(
     names: &[Signal],
+    runs: &[Option<Run>],
     first: usize,
     step: &Step,
     is_printed: bool,
@@ -121,6 +147,7 @@ fn push_changes<W: Sink>(
 ) -> bool
     requires before { All (IsShown (length step.now.old.now)) (map signal_view names.now) }
     requires after { All (IsShown (length step.now.new.now)) (map signal_view names.now) }
+    requires runs { AreReady first (map signal_view names.now) runs.now }
     requires room { first + length names.now < 18446744073709551616 }
     ensures text { Goes (W.state out.old) (W.state out.new)
         (continued is_printed step.now.time (changes_from first (map signal_view names.now) step.now.old.now step.now.new.now)) }
@@ -129,14 +156,15 @@ fn push_changes<W: Sink>(
     let mut printed = is_printed;
     for (place, signal) in names.iter().enumerate() {
         let number = first + place;
-        if !prints_otherwise(number, signal, step.old, step.new) {
+        let run = &runs[place];
+        if !is_otherwise(number, signal, run, step.old, step.new) {
             continue;
         }
         push_change(
             out,
             step.time,
             printed,
-            &change_line(number, signal, step.new),
+            &ready_line(number, signal, run, step.new),
         );
         printed = true;
     }

@@ -1,31 +1,45 @@
-use Rattle.std.proofs.Common.{◌≡◌, ◌+◌, ◌++◌, ◌||◌, length, map, take, ◌∙◌, subst, sym, ap}
+use Rattle.std.proofs.Common.{◌≡◌, ◌+◌, ◌++◌, ◌||◌, length, map, take, ◌∙◌, subst, sym, ap, arith}
 use Rattle.std.specs.Prelude.{if◌then◌else◌}
 use Rattle.rtl_sink.specs.Written.{Goes}
 use Rattle.rtl_sink.proofs.Writing.{Goes-append}
 use Rattle.rtl_net.specs.Nets.{signal_view}
 use Rattle.rtl_vcd.specs.Trace.{printed, are_some, time_line}
 use Rattle.rtl_vcd.specs.Blocks.{changes_from, continued}
+use Rattle.std.proofs.lemmas.List.{length-map}
 use Rattle.rtl_vcd.proofs.Names.{shown_at}
+use Rattle.rtl_vcd.proofs.Ends.{ready_at}
 use Rattle.rtl_vcd.proofs.Stamps.{changes_same, changes_new, continued_more, continued_one, printed_is_some, or_some}
 use Rattle.rtl_vcd.proofs.moment.push_changes.Goals as goal
 
-pub prints_otherwise-requires-clause-before : goal.prints_otherwise-requires-clause-before
-prints_otherwise-requires-clause-before g c =
+pub is_otherwise-requires-clause-before : goal.is_otherwise-requires-clause-before
+is_otherwise-requires-clause-before g c =
     shown_at (length c.args.step.now.old.now) c.args.names.now c.loop-place.place c.index-names-place.result c.loop-place-test.true c.index-names-place.is c.requires.before
 
-pub prints_otherwise-requires-clause-after : goal.prints_otherwise-requires-clause-after
-prints_otherwise-requires-clause-after g c =
+pub is_otherwise-requires-clause-after : goal.is_otherwise-requires-clause-after
+is_otherwise-requires-clause-after g c =
     shown_at (length c.args.step.now.new.now) c.args.names.now c.loop-place.place c.index-names-place.result c.loop-place-test.true c.index-names-place.is c.requires.after
 
-pub change_line-requires : goal.change_line-requires
-change_line-requires g c = record {
-  shown = shown_at (length c.args.step.now.new.now) c.args.names.now c.loop-place.place c.index-names-place.result c.loop-place-test.true c.index-names-place.is c.requires.after;
-}
+pub bounds-runs-place : goal.bounds-runs-place
+bounds-runs-place g c = omega (arith, c.requires.runs.as_many, length-map c.args.names.now signal_view, c.loop-place-test.true)
 
-pub loop-place-preserved-then-not-prints_otherwise : goal.loop-place-preserved-then-not-prints_otherwise
-loop-place-preserved-then-not-prints_otherwise g c =
+pub is_otherwise-requires-clause-ready : goal.is_otherwise-requires-clause-ready
+is_otherwise-requires-clause-ready g c =
+    ready_at c.args.first c.args.names.now c.args.runs.now c.loop-place.place c.index-names-place.result c.index-runs-place.result c.loop-place-test.true
+    c.index-names-place.is c.index-runs-place.is c.requires.runs
+
+pub ready_line-requires-clause-shown : goal.ready_line-requires-clause-shown
+ready_line-requires-clause-shown g c =
+    shown_at (length c.args.step.now.new.now) c.args.names.now c.loop-place.place c.index-names-place.result c.loop-place-test.true c.index-names-place.is c.requires.after
+
+pub ready_line-requires-clause-ready : goal.ready_line-requires-clause-ready
+ready_line-requires-clause-ready g c =
+    ready_at c.args.first c.args.names.now c.args.runs.now c.loop-place.place c.index-names-place.result c.index-runs-place.result c.loop-place-test.true
+    c.index-names-place.is c.index-runs-place.is c.requires.runs
+
+pub loop-place-preserved-then-not-is_otherwise : goal.loop-place-preserved-then-not-is_otherwise
+loop-place-preserved-then-not-is_otherwise g c =
     let same = changes_same c.args.first c.args.names.now c.loop-place.place c.index-names-place.result c.loop-place-test.true c.index-names-place.is
-    c.args.step.now.old.now c.args.step.now.new.now c.prints_otherwise.result c.prints_otherwise.ensures c.if-not-prints_otherwise.true in
+    c.args.step.now.old.now c.args.step.now.new.now c.is_otherwise.result c.is_otherwise.ensures c.if-not-is_otherwise.true in
     subst (λ xs. Goes (g.W.Sink.state c.args.out.now) (g.W.Sink.state c.loop-place.out) (continued c.args.is_printed c.args.step.now.time xs)
     × (c.loop-place.printed ≡ (c.args.is_printed || are_some xs)))
     (sym same) c.loop-place.invariant
@@ -43,9 +57,9 @@ loop-place-preserved g c =
     let line = printed (c.args.first + place) name c.args.step.now.new.now in
     let some = printed_is_some (c.args.first + place) name c.args.step.now.new.now in
     let more = changes_new c.args.first names place c.index-names-place.result c.loop-place-test.true c.index-names-place.is
-    c.args.step.now.old.now c.args.step.now.new.now c.prints_otherwise.result c.prints_otherwise.ensures c.if-not-prints_otherwise.false in
+    c.args.step.now.old.now c.args.step.now.new.now c.is_otherwise.result c.is_otherwise.ensures c.if-not-is_otherwise.false in
     let pushed = subst (λ text. Goes before after (if c.loop-place.printed then text else (time_line time ++ text)))
-    (c.deref.ensures.0 ∙ c.change_line.ensures) c.push_change.ensures in
+    (c.deref.ensures.0 ∙ c.ready_line.ensures) c.push_change.ensures in
     let change = subst (λ b. Goes before after (continued b time line)) c.loop-place.invariant.1
     (subst (Goes before after) (continued_one c.loop-place.printed time line some) pushed) in (
       subst (λ xs. Goes first after (continued c.args.is_printed time xs)) (sym more)

@@ -5,6 +5,7 @@ use Rattle.rtl_vcd.specs.declared.blocks.Block.{Block}
 use Rattle.rtl_vcd.specs.Trace.{stamped, are_some}
 use Rattle.rtl_vcd.specs.Blocks.{changes_from, continued}
 use Rattle.rtl_vcd.proofs.Names.{part_of_names, part_shown}
+use Rattle.rtl_vcd.proofs.Ends.{part_of_runs}
 use Rattle.rtl_vcd.proofs.Stamps.{changes_further, none_further, continued_more, are_some_append}
 use Rattle.rtl_vcd.proofs.Hulls.{this_block, all_taken, no_changes}
 use Rattle.rtl_vcd.proofs.moment.push_moment.Goals.{then-not-is_quiet, else-not-is_quiet}
@@ -23,6 +24,11 @@ pub push_changes-is_printed-requires-clause-after : goal.push_changes-is_printed
 push_changes-is_printed-requires-clause-after g c =
     part_shown c.args.net.now c.nets-count.ensures.elaborated c.signals-signals.result.now c.signals-signals.ensures (length c.args.step.now.new.now)
     c.loop-block.next (get_or c.args.blocks.now c.loop-block.block-index none).names c.requires.after
+
+pub push_changes-is_printed-requires-clause-runs : goal.push_changes-is_printed-requires-clause-runs
+push_changes-is_printed-requires-clause-runs g c =
+    part_of_runs c.signals-signals.result.now c.args.runs.now c.loop-block.next (get_or c.args.blocks.now c.loop-block.block-index none).names
+    c.args.net.now.signals c.signals-signals.ensures c.requires.runs
 
 pub loop-block-preserved : goal.loop-block-preserved
 loop-block-preserved g c =

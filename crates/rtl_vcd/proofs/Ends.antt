@@ -1,0 +1,154 @@
+-- Runs: their nets, values and lines.
+use Rattle.std.proofs.Common.{◌≡◌, ℕ, zero, suc, ◌+◌, ◌-◌, ◌<◌, ◌≤◌, true, false, List, [], ◌∷◌, ◌++◌, length, map, take, drop, get_or, slice_index, sym, ap, subst, ◌∙◌, arith, append_assoc, ⊎_elim}
+use Rattle.std.specs.Prelude.{Option, IfSome, codes, slice_index_or}
+use Rattle.std.specs.Str.{bytes_eq}
+use Rattle.std.specs.List.{range_with_len}
+use Rattle.std.proofs.lemmas.List.{append_cancel_left, append_cancel_right, get_or-take, get_or-drop, get_or-map, get_or_append_left, length-take, length-take-le, length-drop, length-map, length-append, take_more, map-append}
+use Rattle.std.proofs.lemmas.Bool.{cases_lt}
+use Rattle.std.proofs.Math.Seq.{get_or-append_seam}
+use Rattle.std.proofs.lemmas.List.FromFn.{length-range_with_len, get_or-range_with_len}
+use Rattle.std.proofs.lemmas.List.Elements.{All-get_or}
+use Rattle.std.proofs.lemmas.Simd.{pick_l-range_with_len}
+use Rattle.rtl_net.specs.declared.signal.Signal.{Signal}
+use Rattle.rtl_net.specs.declared.signal.SignalKind.TheVariants.{One, Vector}
+use Rattle.rtl_net.specs.Nets.{SignalView, signal_view}
+use Rattle.rtl_vcd.specs.declared.ready.Run.{Run}
+use Rattle.rtl_vcd.specs.Values.{code, character, value_change}
+use Rattle.rtl_vcd.specs.Trace.{printed}
+use Rattle.rtl_vcd.specs.Shown.{IsShown}
+use Rattle.rtl_vcd.specs.Ready.{IsRun, AreReady, beginning, behind}
+use Rattle.rtl_vcd.proofs.Names.{part_of_names}
+use Rattle.rtl_vcd.proofs.Printing.{same_test}
+
+step_more : (a n : ℕ) → range_with_len a (suc n) ≡ range_with_len a n ++ (a + n) ∷ []
+step_more a zero = let e : a ≡ a + 0 = omega arith in ap (λ x. x ∷ []) e
+step_more a (suc n) =
+    let e : a + 1 + n ≡ a + suc n = omega arith in
+    ap (λ xs. a ∷ xs) (step_more (a + 1) n ∙ ap (λ x. range_with_len (a + 1) n ++ x ∷ []) e)
+
+-- one more
+pub range_more : (a n : ℕ) → range_with_len a (n + 1) ≡ range_with_len a n ++ (a + n) ∷ []
+range_more a n = let e : n + 1 ≡ suc n = omega arith in ap (range_with_len a) e ∙ step_more a n
+
+-- where a name is shown, its run lies within the nets
+pub within : (nets k : ℕ) (s : SignalView) (r : Run) → IsShown nets s → IsRun k s r → (r.first + r.count ≤ nets) × (r.count ≤ 64)
+within nets k s r shown is =
+    let long : length s.nets ≡ r.count = ap length is.nets ∙ length-range_with_len r.first r.count in
+    let last : r.count - 1 < length s.nets = omega (arith, long, shown.width.0) in
+    let at = ap (λ ns. get_or ns (r.count - 1) 0) is.nets ∙ get_or-range_with_len r.first r.count (r.count - 1) 0 (omega (arith, long, last)) in
+    let below = All-get_or (λ n. n < nets) s.nets (r.count - 1) 0 last shown.there in
+    (omega (arith, at, below, long, shown.width.0), omega (arith, long, shown.width.1))
+
+-- what it prints
+pub run_prints : (k : ℕ) (s : SignalView) (r : Run) (values : List ℕ) → IsRun k s r → r.first + r.count ≤ length values
+    → printed k s values ≡ beginning r.is_vector ++ map character (take r.count (drop r.first values)) ++ r.end.items
+run_prints k s r values is there =
+    let elements = ap (map (slice_index values)) is.nets ∙ pick_l-range_with_len 0 values r.first r.count there in
+    ap (value_change s.kind (code k)) elements ∙ is.line (take r.count (drop r.first values))
+
+-- its characters tell whether it prints otherwise
+pub run_tells : (k : ℕ) (s : SignalView) (r : Run) (old new : List ℕ) → IsRun k s r → r.first + r.count ≤ length old → r.first + r.count ≤ length new
+    → bytes_eq (map character (take r.count (drop r.first old))) (map character (take r.count (drop r.first new))) ≡ bytes_eq (printed k s old) (printed k s new)
+run_tells k s r old new is before after =
+    let xs = map character (take r.count (drop r.first old)) in
+    let ys = map character (take r.count (drop r.first new)) in
+    let one = run_prints k s r old is before in
+    let other = run_prints k s r new is after in
+    same_test xs ys (printed k s old) (printed k s new)
+    (λ e. one ∙ ap (λ cs. beginning r.is_vector ++ cs ++ r.end.items) e ∙ sym other)
+    (λ e. append_cancel_left (beginning r.is_vector) xs ys (append_cancel_right (beginning r.is_vector ++ xs) (beginning r.is_vector ++ ys) r.end.items (sym one ∙ e ∙ other)))
+
+one_line : (values code : List ℕ) → map character values ++ code ++ codes "\n" ≡ beginning false ++ map character values ++ (behind false ++ code ++ codes "\n")
+one_line values code = append_assoc (map character values) code (codes "\n")
+
+vector_line : (values code : List ℕ)
+    → codes "b" ++ map character values ++ codes " " ++ code ++ codes "\n" ≡ beginning true ++ map character values ++ (behind true ++ code ++ codes "\n")
+vector_line values code =
+    let head = codes "b" ++ map character values in
+    append_assoc (head ++ codes " ") code (codes "\n") ∙ append_assoc head (codes " ") (code ++ codes "\n")
+    ∙ ap (λ xs. head ++ xs) (sym (append_assoc (codes " ") code (codes "\n")))
+
+module _ (k : ℕ) (s : SignalView) (r : Run) (nets : s.nets ≡ range_with_len (slice_index s.nets 0) (length s.nets)) (first : r.first ≡ slice_index s.nets 0)
+    (count : r.count ≡ length s.nets) where
+  placed : s.nets ≡ range_with_len r.first r.count
+  placed = nets ∙ ap (λ a. range_with_len a (length s.nets)) (sym first) ∙ ap (range_with_len r.first) (sym count)
+
+  -- a name of one element, and a vector
+  pub one_run : s.kind ≡ One → r.is_vector ≡ false → r.end.items ≡ behind false ++ code k ++ codes "\n" → IsRun k s r
+  one_run kind is end = record {
+    nets = placed;
+    line = λ values. ap (λ d. value_change d (code k) values) kind ∙ one_line values (code k)
+        ∙ ap (λ b. beginning b ++ map character values ++ (behind false ++ code k ++ codes "\n")) (sym is)
+        ∙ ap (λ e. beginning r.is_vector ++ map character values ++ e) (sym end);
+  }
+
+  pub vector_run : (left right : ℕ) → s.kind ≡ Vector left right → r.is_vector ≡ true → r.end.items ≡ behind true ++ code k ++ codes "\n" → IsRun k s r
+  vector_run left right kind is end = record {
+    nets = placed;
+    line = λ values. ap (λ d. value_change d (code k) values) kind ∙ vector_line values (code k)
+        ∙ ap (λ b. beginning b ++ map character values ++ (behind true ++ code k ++ codes "\n")) (sym is)
+        ∙ ap (λ e. beginning r.is_vector ++ map character values ++ e) (sym end);
+  }
+
+-- one name more
+ready_more : (names : List SignalView) (runs : List (Option Run)) (s : SignalView) (r : Option Run) → AreReady 0 names runs → IfSome r (IsRun (length names) s)
+    → AreReady 0 (names ++ s ∷ []) (runs ++ r ∷ [])
+ready_more names runs s r are this = record {
+  as_many = omega (arith, length-append names (s ∷ []), length-append runs (r ∷ []), are.as_many);
+  each = λ i t d lt.
+      ⊎_elim (λ below.
+      subst (λ x. IfSome x (IsRun (0 + i) (get_or (names ++ s ∷ []) i t))) (sym (get_or_append_left runs (r ∷ []) d i (omega (arith, below, are.as_many))))
+      (subst (λ n. IfSome (get_or runs i d) (IsRun (0 + i) n)) (sym (get_or_append_left names (s ∷ []) t i below)) (are.each i t d below)))
+      (λ past.
+      let last : i ≡ length names = omega (arith, past, lt, length-append names (s ∷ [])) in
+      let run : get_or (runs ++ r ∷ []) i d ≡ r = ap (λ n. get_or (runs ++ r ∷ []) n d) (last ∙ sym are.as_many) ∙ get_or-append_seam runs r [] d in
+      let name : get_or (names ++ s ∷ []) i t ≡ s = ap (λ n. get_or (names ++ s ∷ []) n t) last ∙ get_or-append_seam names s [] t in
+      let number : length names ≡ 0 + i = omega (arith, last) in
+      subst (λ x. IfSome x (IsRun (0 + i) (get_or (names ++ s ∷ []) i t))) (sym run)
+      (subst (λ n. IfSome r (IsRun (0 + i) n)) (sym name) (subst (λ m. IfSome r (IsRun m s)) number this)))
+      (cases_lt i (length names));
+}
+
+pub run_more : (signals : List Signal) (runs : List (Option Run)) (n : ℕ) (s : Signal) (r : Option Run) → n < length signals → s ≡ get_or signals n s
+    → AreReady 0 (map signal_view (take n signals)) runs → IfSome r (IsRun n (signal_view s)) → AreReady 0 (map signal_view (take (n + 1) signals)) (runs ++ r ∷ [])
+run_more signals runs n s r lt is are this =
+    let names = map signal_view (take n signals) in
+    let count : length names ≡ n = length-map (take n signals) signal_view ∙ length-take-le n signals (omega (arith, lt)) in
+    let listed : map signal_view (take (n + 1) signals) ≡ names ++ signal_view s ∷ [] =
+    ap (map signal_view) (take_more signals n s lt) ∙ map-append signal_view (take n signals) (get_or signals n s ∷ [])
+    ∙ ap (λ x. names ++ signal_view x ∷ []) (sym is) in
+    subst (λ ss. AreReady 0 ss (runs ++ r ∷ [])) (sym listed)
+    (ready_more names runs (signal_view s) r are (subst (λ m. IfSome r (IsRun m (signal_view s))) (sym count) this))
+
+-- those of a part of the names
+part_ready : (names : List SignalView) (runs : List (Option Run)) (next n : ℕ) → AreReady 0 names runs
+    → AreReady next (take n (drop next names)) (take n (drop next runs))
+part_ready names runs next n are = record {
+  as_many = omega (arith, length-take n (drop next names), length-take n (drop next runs), length-drop next names, length-drop next runs, are.as_many);
+  each = λ i s r lt.
+      let small : i < n = omega (arith, lt, length-take n (drop next names)) in
+      let here : next + i < length names = omega (arith, lt, length-take n (drop next names), length-drop next names) in
+      let run = get_or-take n (drop next runs) i r small ∙ get_or-drop next runs i r in
+      let name = get_or-take n (drop next names) i s small ∙ get_or-drop next names i s in
+      let number : 0 + (next + i) ≡ next + i = omega arith in
+      subst (λ x. IfSome x (IsRun (next + i) (slice_index_or (take n (drop next names)) i s))) (sym run)
+      (subst (λ t. IfSome (slice_index_or runs (next + i) r) (IsRun (next + i) t)) (sym name)
+      (subst (λ m. IfSome (slice_index_or runs (next + i) r) (IsRun m (slice_index_or names (next + i) s))) number (are.each (next + i) s r here)));
+}
+
+pub part_of_runs : (signals : List Signal) (runs : List (Option Run)) (next n : ℕ) (names : List SignalView) → map signal_view signals ≡ names → AreReady 0 names runs
+    → AreReady next (map signal_view (take (next + n - next) (drop next signals))) (take (next + n - next) (drop next runs))
+part_of_runs signals runs next n names e are =
+    let m : next + n - next ≡ n = omega arith in
+    let listed = part_of_names signals next n ∙ ap (λ ns. take n (drop next ns)) e in
+    subst (λ ss. AreReady next ss (take (next + n - next) (drop next runs))) (sym listed)
+    (subst (λ k. AreReady next (take n (drop next names)) (take k (drop next runs))) (sym m) (part_ready names runs next n are))
+
+-- the run at hand
+pub ready_at : (first : ℕ) (names : List Signal) (runs : List (Option Run)) (i : ℕ) (s : Signal) (r : Option Run) → i < length names → s ≡ get_or names i s
+    → r ≡ get_or runs i r → AreReady first (map signal_view names) runs → IfSome r (IsRun (first + i) (signal_view s))
+ready_at first names runs i s r lt is at are =
+    let there : i < length (map signal_view names) = omega (arith, lt, length-map names signal_view) in
+    let name = get_or-map signal_view names i s (signal_view s) lt ∙ ap signal_view (sym is) in
+    subst (λ x. IfSome x (IsRun (first + i) (signal_view s))) (sym at)
+    (subst (λ t. IfSome (slice_index_or runs i r) (IsRun (first + i) t)) name (are.each i (signal_view s) r there))
