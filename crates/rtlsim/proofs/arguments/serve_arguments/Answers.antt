@@ -1,4 +1,4 @@
-use Rattle.std.proofs.Common.{◌≡◌, ℕ, List, Option, Some, None, map, string_bytes, subst}
+use Rattle.std.proofs.Common.{Some, None, map, string_bytes}
 use Rattle.rtlsim.proofs.Refusing.{refuses_for}
 use Rattle.rtlsim.proofs.arguments.serve_arguments.Goals as goal
 

@@ -1,4 +1,4 @@
-use Rattle.std.proofs.Common.{◌≡◌, ℕ, List, Bor, false, inr, length, map, string_bytes, subst}
+use Rattle.std.proofs.Common.{ℕ, List, Bor, false, inr, map, string_bytes, subst}
 use Rattle.rtl_commands.specs.Served.{Outputs}
 use Rattle.rtl_sink.specs.Read.{ReaderState}
 use Rattle.rtl_words.specs.Words.{IsOfWords, SayNothing}

@@ -1,4 +1,4 @@
-use Rattle.std.proofs.Common.{◌≡◌, ℕ, List, Option, Bool, sym, subst}
+use Rattle.std.proofs.Common.{ℕ, List, Option, Bool, sym, subst}
 use Rattle.rtl_sink.specs.Written.{SinkState, Goes}
 use Rattle.rtl_commands.specs.Lines.{memory_line}
 use Rattle.rtlsim.proofs.streams.refuse_memory.Goals as goal
