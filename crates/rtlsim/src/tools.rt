@@ -4,7 +4,8 @@ ghost use Rattle.std.specs.Prelude.{◌≡◌, map};
 ghost use Rattle.rtl_commands.specs.Status.{code_of};
 ghost use Rattle.rtl_commands.specs.declared.status.Status.{Status};
 ghost use Rattle.rtl_sink.specs.Written.{IsIntact};
-ghost use Rattle.rtlsim.specs.Tools.{Performs, Serves, ServesReader};
+ghost use Rattle.rtlsim.specs.Inputs.{GivesStandardAlone};
+ghost use Rattle.rtlsim.specs.Tools.{Performs, Serves, ServesWords};
 
 use crate::files::{read_both, read_eval};
 use crate::first_line::serve_reader_line;
@@ -28,7 +29,7 @@ pub fn tool<F: Front, R: Reader, O: Sink, E: Sink>(
     requires out { IsIntact (O.state out.old) }
     requires err { IsIntact (E.state err.old) }
     ensures { (outcome : Status) × (result ≡ code_of outcome)
-        × ServesReader (map (λ word. word.now) words.now) (R.state input.old.reader) (R.state input.new.reader) outcome
+        × ServesWords GivesStandardAlone (map (λ word. word.now) words.now) (R.state input.old.reader) (R.state input.new.reader) outcome
         (record { out = O.state out.old; out_after = O.state out.new; err = E.state err.old; err_after = E.state err.new }) }
 {
     if words.is_empty() {
