@@ -2,6 +2,7 @@
 from .loops import looped, parts_of
 from .memories import Memories
 from .numbers import Numbers
+from .origins import Origins
 from .tree import (Aggregate, Assign, Binary, Call, Check, Declared, Entity, If, Index, Instance, Literal, Name, Process, Qualified, Refused, Select, Shape,
                    Slice, Unary)
 from .wide import split
@@ -9,10 +10,9 @@ from .wide import split
 WIDEST = 64
 RELATIONS = ("=", "/=", "<", "<=", ">", ">=")
 SUMS = ("+", "-", "*", "/", "mod", "rem")
-EDGES = {"rising_edge": "falling_edge", "falling_edge": "rising_edge"}
 
 
-class Scope(Numbers, Memories):
+class Scope(Numbers, Memories, Origins):
     """One entity: what it declares, and its statements as they are written anew."""
 
     def __init__(self, entity, entities):
@@ -182,41 +182,6 @@ class Scope(Numbers, Memories):
                 return self.edge(it)
         return self.value(it)
 
-    # where a signal's value comes from
-
-    def origin(self, name):
-        """The signal that this one copies, and whether it is turned round on the way."""
-        is_turned, seen = False, set()
-        while name not in seen:
-            seen.add(name)
-            match self.sources.get(name):
-                case Name(text=other):
-                    name = other
-                case Unary(operator="not", operand=Name(text=other)):
-                    name, is_turned = other, not is_turned
-                case _:
-                    break
-        return name, is_turned
-
-    def edge(self, it):
-        """An edge of the input that the clock comes from."""
-        clock = it.arguments[0]
-        if not isinstance(clock, Name):
-            return it
-        name, is_turned = self.origin(clock.text)
-        if self.ports.get(name) != "in":
-            return it
-        return Call(EDGES[it.function] if is_turned else it.function, (Name(name),))
-
-    def level(self, it):
-        """A reset's condition: the input that it comes from has this level."""
-        match it:
-            case Binary(operator="=", left=Name(text=name), right=Literal(text=text)) if text in ("'0'", "'1'"):
-                other, is_turned = self.origin(name)
-                if self.ports.get(other) == "in":
-                    return Binary("=", Name(other), Literal({"'0'": "'1'", "'1'": "'0'"}[text] if is_turned else text))
-        return self.condition(it)
-
     # statements
 
     def write(self):
@@ -377,7 +342,9 @@ class Scope(Numbers, Memories):
                 return None, body
             case Binary(operator="and", left=Call() as edge, right=enable) if self.has_edge(edge):
                 return self.edge(edge), [If([(self.condition(enable), body)])]
-        return (self.level(condition) if has_edge else self.condition(condition)), body
+        if has_edge and not self.has_edge(condition):
+            return self.level(condition), [self.fixed(it) for it in body]
+        return self.condition(condition), body
 
 
 def rewritten(entities):
