@@ -110,8 +110,21 @@ fn are_other_lanes<const LANES: usize>(old: &[u8], new: &[u8], at: usize) -> boo
     requires after { at + LANES ≤ length new.now }
     ensures { result ≡ not (bytes_eq (map character (take LANES (drop at old.now))) (map character (take LANES (drop at new.now)))) }
 {
-    let before = characters::<LANES>(old, at);
-    let after = characters::<LANES>(new, at);
+    let before = Simd::<u8, LANES>::from_slice(&old[at..]);
+    let after = Simd::<u8, LANES>::from_slice(&new[at..]);
+    if !are_different::<LANES>(before, after) {
+        return false;
+    }
+    are_different::<LANES>(characters::<LANES>(old, at), characters::<LANES>(new, at))
+}
+
+/// Whether a lane of one is another than that of the other.
+fn are_different<const LANES: usize>(before: Simd<u8, LANES>, after: Simd<u8, LANES>) -> bool
+    requires most { LANES ≤ 64 }
+    requires before { length before ≡ LANES }
+    requires after { length after ≡ LANES }
+    ensures { result ≡ not (bytes_eq before.entry after.entry) }
+{
     before.simd_ne(after).to_bitmask() != 0
 }
 
