@@ -1,3 +1,4 @@
+#!/usr/bin/env python3
 """examples.py PROGRAM FOLDER ROUNDS: run of each example from start to end of the process; ms of processor and of the clock, least and median"""
 import os, sys, time, glob, statistics
 prog, folder, R = sys.argv[1], sys.argv[2], int(sys.argv[3])

@@ -2,3 +2,16 @@ pub mod Waiting
 pub mod Ordering
 pub mod Maps
 pub mod Pushing
+pub mod Paths
+pub mod Places
+pub mod Heads
+pub mod Chained
+pub mod Lasts
+pub mod Taking
+pub mod Putting
+pub mod Pushed
+pub mod Turning
+pub mod Holding
+pub mod Marks
+pub mod Earliest
+pub mod Taken

@@ -1,16 +1,21 @@
-//! Pending changes of nets by their times: `Agenda`, which gives the least time first with its changes, and
-//! `MapAgenda`, an agenda over an ordered map.
+//! Pending changes of nets by their times: `Agenda`, which gives the least time first with its changes; `MapAgenda`, an
+//! agenda over an ordered map; and `Wheel`, one over a ring of slots.
 //!
 //! `specs/Agenda.antt` has the words in which contracts say what an agenda holds, and
 //! `specs/Laws.antt` the law of `push`.
 #![tactic(auto)]
 
 mod agenda;
+mod cell;
+mod chains;
 mod laws;
 mod map_agenda;
+mod occupied;
 #[cfg(test)]
 mod tests;
+mod wheel;
 
 pub use agenda::{Agenda, Change, NoMemory};
 pub use laws::each_push_is_last;
 pub use map_agenda::MapAgenda;
+pub use wheel::Wheel;

@@ -4,6 +4,7 @@ ghost use Rattle.std.specs.Prelude.{◌≡◌, [], None};
 
 use crate::agenda::{Agenda, NoMemory};
 use crate::map_agenda::MapAgenda;
+use crate::wheel::Wheel;
 use std::test::Fail;
 use vhdl_values::Nine;
 
@@ -22,15 +23,25 @@ fn push_some<A: Agenda>(agenda: &mut A) -> Result<(), NoMemory>
 
 #[test]
 fn the_least_time_comes_first_with_its_changes_in_order(rt: HostRuntime) -> Result<(), Fail> {
-    let mut agenda = MapAgenda::new(rt.alloc());
-    push_some(&mut agenda)?;
-    assert_eq!(rt; agenda.next(), Some(1));
-    assert_eq!(rt; agenda.next(), Some(5));
-    assert_eq!(rt; agenda.changes(), [(3, Nine::H), (2, Nine::Z)].as_slice());
-    assert_eq!(rt; agenda.next(), Some(9));
-    assert_eq!(rt; agenda.changes(), [(2, Nine::One)].as_slice());
-    assert_eq!(rt; agenda.next(), Some(1_000_000_000_000_000));
-    assert_eq!(rt; agenda.next(), None);
-    assert_eq!(rt; agenda.changes(), [(2, Nine::U)].as_slice());
+    let mut map = MapAgenda::new(rt.alloc());
+    let mut wheel = Wheel::new(rt.alloc(), 4)?;
+    push_some(&mut map)?;
+    push_some(&mut wheel)?;
+    assert_eq!(rt; map.next(), Some(1));
+    assert_eq!(rt; wheel.next(), Some(1));
+    assert_eq!(rt; map.next(), Some(5));
+    assert_eq!(rt; wheel.next(), Some(5));
+    assert_eq!(rt; map.changes(), [(3, Nine::H), (2, Nine::Z)].as_slice());
+    assert_eq!(rt; wheel.changes(), [(3, Nine::H), (2, Nine::Z)].as_slice());
+    assert_eq!(rt; map.next(), Some(9));
+    assert_eq!(rt; wheel.next(), Some(9));
+    assert_eq!(rt; map.changes(), [(2, Nine::One)].as_slice());
+    assert_eq!(rt; wheel.changes(), [(2, Nine::One)].as_slice());
+    assert_eq!(rt; map.next(), Some(1_000_000_000_000_000));
+    assert_eq!(rt; wheel.next(), Some(1_000_000_000_000_000));
+    assert_eq!(rt; map.next(), None);
+    assert_eq!(rt; wheel.next(), None);
+    assert_eq!(rt; map.changes(), [(2, Nine::U)].as_slice());
+    assert_eq!(rt; wheel.changes(), [(2, Nine::U)].as_slice());
     Ok(())
 }

@@ -10,7 +10,8 @@ ghost use Rattle.rtl_commands.specs.Simulated.{RunsEvents, most_deltas};
 use crate::faults::Fault;
 use rtl_check::stored;
 use rtl_kernel::Pick;
-use rtl_moments::{MapAgenda, Stimulus};
+use rtl_machine::SLOTS;
+use rtl_moments::{Stimulus, Wheel};
 use rtl_net::Net;
 use rtl_run::{Simulation, Summary};
 use rtl_sink::Sink;
@@ -78,6 +79,9 @@ pub fn run_events<P: Pick, S: Sink>(
         stimulus: &stimulus,
         limit: MAX_DELTAS,
     };
-    let summary = simulation.run(alloc, &mut MapAgenda::new(alloc), pick, out)?;
+    let Ok(mut agenda) = Wheel::new(alloc, SLOTS) else {
+        return Err(Fault::Memory);
+    };
+    let summary = simulation.run(alloc, &mut agenda, pick, out)?;
     Ok(summary)
 }

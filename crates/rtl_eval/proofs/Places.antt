@@ -39,12 +39,12 @@ place_of (s ∷ spans) zero k d l m = Contains-append_left (range_with_len s.fir
 place_of (s ∷ spans) (suc i) k d l m =
     Contains-append_right (range_with_len s.first s.len) (places_of spans) ((get_or spans i d).first + k) (place_of spans i k d (omega arith) m)
 
--- a listed place stands in the list of entries
-pub place_there : (entries : List (Option ℕ)) (spans : List Span) → AreAssigned entries (places_of spans) → (i k : ℕ) (d : Span) → i < length spans
-    → k < (get_or spans i d).len → (get_or spans i d).first + k < length entries
-place_there entries spans A i k d l m =
+-- a listed place has an entry
+pub place_assigned : (entries : List (Option ℕ)) (spans : List Span) → AreAssigned entries (places_of spans) → (i k : ℕ) (d : Span) → i < length spans
+    → k < (get_or spans i d).len → IsSome (entry entries ((get_or spans i d).first + k))
+place_assigned entries spans A i k d l m =
     let (at, within, is) = place_of spans i k d l m in
-    subst (λ (n : ℕ). n < length entries) (get_or_default (places_of spans) at 0 ((get_or spans i d).first + k) within ∙ is) (A.there at within)
+    subst (λ (n : ℕ). IsSome (entry entries n)) (get_or_default (places_of spans) at 0 ((get_or spans i d).first + k) within ∙ is) (A.pass at within)
 
 -- where spans are left, a place is in the first of them or behind it
 pub left_of : (spans : List Span) (i : ℕ) (d : Span) (place : ℕ) → i < length spans → Contains (places_of (drop i spans)) place
@@ -67,18 +67,14 @@ none_behind spans i done place h =
     let (k, l, is) = subst (λ (ss : List Span). Contains (places_of ss) place) (at_drop_all (λ (ss : List Span). ss) spans i done) h in
     omega (arith, l)
 
--- where a span's places have no entry, an entry is in one of those behind it
-pub taken_more : (entries : List (Option ℕ)) (spans : List Span) (i : ℕ) (d : Span) → i < length spans
-    → ((k : ℕ) → k < (get_or spans i d).len → entry entries ((get_or spans i d).first + k) ≡ None)
-    → (place : ℕ) → IsSome (entry entries place) → Contains (places_of (drop i spans)) place → Contains (places_of (drop (i + 1) spans)) place
-taken_more entries spans i d l none place some h = by (left_of spans i d place l h)
+-- a place that isn't in the first of them is behind it
+pub left_behind : (spans : List Span) (i : ℕ) (d : Span) (place : ℕ) → i < length spans → Contains (places_of (drop i spans)) place
+    → ((k : ℕ) → k < (get_or spans i d).len → (get_or spans i d).first + k ≡ place → ⊥) → Contains (places_of (drop (i + 1) spans)) place
+left_behind spans i d place l h other = by (left_of spans i d place l h)
   where
     by : ((k : ℕ) × (k < (get_or spans i d).len) × ((get_or spans i d).first + k ≡ place)) ⊎ Contains (places_of (drop (i + 1) spans)) place
         → Contains (places_of (drop (i + 1) spans)) place
-    by (inl (k, m, is)) =
-        let e = ap (λ (q : ℕ). is_some (entry entries q)) is ∙ some in
-        let f = ap is_some (none k m) in
-        absurd cc
+    by (inl (k, m, is)) = absurd (other k m is)
     by (inr later) = later
 
 -- ---- what is written

@@ -1,25 +1,32 @@
 //! What a run assigns.
 
-ghost use Rattle.std.specs.Prelude.{◌≡◌, ℕ, ◌+◌, ◌<◌, ◌≤◌, length, map, replicate, slice_index, slice_index_or, slice_set, All, Contains, IfOk, Option, Some, None, IsSome};
+ghost use Rattle.std.specs.Prelude.{◌≡◌, ℕ, ◌+◌, ◌<◌, ◌≤◌, [], length, replicate, slice_index, slice_set, IfOk, Some, None, IsSome};
 ghost use Rattle.rtl_eval.specs.Spans.{places_of, written};
-ghost use Rattle.rtl_eval.specs.Tracked.{entry, AreAssigned};
+ghost use Rattle.rtl_eval.specs.Tracked.{entry, AreAssigned, LieWithin};
 
-use crate::spans::{Span, are_free, take_off, write};
+mod stacks;
+
+use crate::spans::{Span, are_free, take_off};
 use std::alloc::{AllocError, Global};
 use std::marker::Model;
+use vhdl_values::Vec9;
 
 /// What a run of one process leaves: an entry for each of its drivers, which is the value that the run assigns, if it
 /// assigns one. The places that have an entry are kept in a list of spans, so that whoever takes the entries need not look
-/// at all places, and goes over those of a vector one after another. The process's variables stand here too: one store, which is set back at each run.
+/// at all places, and finds those of a vector one after another. The process's variables stand here too, one store, which
+/// is set back at each run; and what a run lays aside while it evaluates expressions.
 ///
 /// All memory is taken by `new`.
 #[derive(Drop)]
 pub struct Drives {
-    entries: Vec<Option<u8>>,
+    marks: Vec<bool>,
+    values: Vec<u8>,
     assigned: Vec<Span>,
     starts: Vec<u8>,
     variables: Vec<u8>,
     room: usize,
+    laid: Vec<Vec9>,
+    bits: Vec<u8>,
 }
 
 impl Model for Drives {
@@ -36,7 +43,7 @@ impl Model for Drives {
 
 impl Drives {
     /// No entry, for a process with so many drivers, the elements of whose variables start with these codes, and `room`
-    /// for so many values that a run may lay aside.
+    /// for so many vectors and so many single values that a run may lay aside.
     pub fn new(
         alloc: Global,
         drivers: usize,
@@ -48,25 +55,31 @@ impl Drives {
           starts = starts.now;
           variables = starts.now;
           room = room;
+          laid = [];
+          bits = [];
         }) }
     {
         Ok(Drives {
-            entries: vec![in alloc; None; drivers]?,
+            marks: vec![in alloc; false; drivers]?,
+            values: vec![in alloc; 0; drivers]?,
             assigned: Vec::with_capacity(alloc, drivers)?,
             starts: Vec::from_slice(alloc, starts)?,
             variables: Vec::from_slice(alloc, starts)?,
             room,
+            laid: Vec::with_capacity(alloc, room)?,
+            bits: Vec::with_capacity(alloc, room)?,
         })
     }
 
     /// How many drivers the process has.
+    #[tactic(auto, using(crate::proofs::Assigned::as_many_entries))]
     pub fn drivers(&self) -> usize
         ensures { result ≡ length self.now.entries }
     {
-        self.entries.len()
+        self.marks.len()
     }
 
-    /// How many values a run may lay aside.
+    /// How many vectors, and how many single values, a run may lay aside.
     pub fn room(&self) -> usize
         ensures { result ≡ self.now.room }
     {
@@ -74,48 +87,65 @@ impl Drives {
     }
 
     /// The entry of the driver at a place.
+    #[tactic(auto, using(crate::proofs::Assigned::as_many_entries))]
     pub fn get(&self, place: usize) -> Option<u8>
         requires { place < length self.now.entries }
         ensures { result ≡ entry self.now.entries place }
     {
-        self.entries[place]
+        if self.marks[place] {
+            Some(self.values[place])
+        } else {
+            None
+        }
     }
 
-    /// The entries of all drivers.
-    pub fn entries(&self) -> &[Option<u8>]
-        ensures { result.now ≡ self.now.entries }
+    /// The values at the places of a span: where a place has an entry, it is the value there.
+    #[tactic(auto, using(crate::proofs::Assigned::as_many_entries))]
+    pub fn values(&self, span: Span) -> &[u8]
+        requires { span.first + span.len ≤ length self.now.entries }
+        ensures as_many { length result.now ≡ span.len }
+        ensures entries { (k : ℕ) → k < span.len → IsSome (entry self.now.entries (span.first + k)) → entry self.now.entries (span.first + k) ≡ Some (slice_index result.now k) }
     {
-        self.entries.as_slice()
+        &self.values[span.first..span.first + span.len]
     }
 
     /// The places that have an entry, each once, in the order in which they were first assigned.
+    #[tactic(auto, using(crate::proofs::Assigned::as_many_entries))]
     pub fn assigned(&self) -> &[Span]
         ensures places { AreAssigned self.now.entries (places_of result.now) }
+        ensures within { LieWithin (length self.now.entries) result.now }
         ensures few { length result.now ≤ length (places_of result.now) }
     {
         self.assigned.as_slice()
     }
 
     /// Gives the driver at a place an entry, in place of the one that it has.
+    #[tactic(auto, using(crate::proofs::Assigned::as_many_entries))]
     pub fn set(&mut self, place: usize, value: u8)
         requires { place < length self.old.entries }
         ensures { self.new ≡ record (self.old) { entries = slice_set self.old.entries place (Some value) } }
     {
-        if self.entries[place].is_none() {
+        if !self.marks[place] {
+            self.marks[place] = true;
             self.assigned.push_reserved(Span {
                 first: place,
                 len: 1,
             });
         }
-        self.entries[place] = Some(value);
+        self.values[place] = value;
     }
 
     /// Gives the drivers at the places from `first` on these entries, in place of those that they have.
+    #[tactic(auto, using(crate::proofs::Assigned::as_many_entries))]
     pub fn set_span(&mut self, first: usize, values: &[u8])
         requires there { (k : ℕ) → k < length values.now → first + k < length self.old.entries }
         ensures { self.new ≡ record (self.old) { entries = written first values.now self.old.entries } }
     {
-        if are_free(&self.entries, first, values.len()) {
+        if values.is_empty() {
+            return;
+        }
+        let _drivers = self.drivers();
+        if are_free(&self.marks[first..first + values.len()]) {
             self.set_free(first, values);
         } else {
             self.set_each(first, values);
@@ -123,21 +153,25 @@ impl Drives {
     }
 
     /// Gives the drivers at the places from `first` on, none of which has an entry, these.
+    #[tactic(auto, using(crate::proofs::Assigned::as_many_entries))]
     fn set_free(&mut self, first: usize, values: &[u8])
+        requires some { 0 < length values.now }
         requires there { (k : ℕ) → k < length values.now → first + k < length self.old.entries }
         requires free { (k : ℕ) → k < length values.now → entry self.old.entries (first + k) ≡ None }
         ensures { self.new ≡ record (self.old) { entries = written first values.now self.old.entries } }
     {
-        if !values.is_empty() {
-            write(&mut self.entries, first, values);
-            self.assigned.push_reserved(Span {
-                first,
-                len: values.len(),
-            });
-        }
+        let _drivers = self.drivers();
+        let end = first + values.len();
+        self.marks[first..end].fill(true);
+        self.values[first..end].copy_from_slice(values);
+        self.assigned.push_reserved(Span {
+            first,
+            len: values.len(),
+        });
     }
 
     /// Gives the drivers at the places from `first` on these entries, one by one.
+    #[tactic(auto, using(crate::proofs::Assigned::as_many_entries))]
     fn set_each(&mut self, first: usize, values: &[u8])
         requires there { (k : ℕ) → k < length values.now → first + k < length self.old.entries }
         ensures { self.new ≡ record (self.old) { entries = written first values.now self.old.entries } }
@@ -152,19 +186,23 @@ impl Drives {
     pub fn clear(&mut self)
         ensures { self.new ≡ record (self.old) { entries = replicate (length self.old.entries) None } }
     {
-        take_off(&mut self.entries, &self.assigned);
+        take_off(&mut self.marks, &self.assigned);
         self.assigned.clear();
     }
 
-    /// Makes ready for a run: no entry is left, and the variables have their initial values.
+    /// Makes ready for a run: no entry is left, the variables have their initial values, and nothing is laid aside.
     pub fn reset(&mut self)
         ensures { self.new ≡ record (self.old) {
           entries = replicate (length self.old.entries) None;
           variables = self.old.starts;
+          laid = [];
+          bits = [];
         } }
     {
         self.clear();
         self.variables.copy_from_slice(&self.starts);
+        self.laid.clear();
+        self.bits.clear();
     }
 
     /// The codes that the elements of the process's variables have.

@@ -3,12 +3,12 @@ pub mod Events
 pub mod Cycles
 pub mod Resolving
 pub mod Waking
+pub mod Grouped
 pub mod Ordering
 pub mod Places
 pub mod Picking
 pub mod Updating
 pub mod Active
-pub mod Indexing
 pub mod Steps
 pub mod Resolved
 pub mod Changing

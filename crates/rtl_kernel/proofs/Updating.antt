@@ -71,7 +71,7 @@ none_to_take [] h = refl
 none_to_take (o ∷ outcomes) h =
     let first : o.entries ≡ replicate (length o.entries) None = no_entry o.entries (λ place some. h 0 (place, some)) in
     let rest = none_to_take outcomes (λ p. h (suc p)) in
-    λ i. record { entries = sym first i; starts = o.starts; variables = o.variables; room = o.room } ∷ rest i
+    λ i. record { entries = sym first i; starts = o.starts; variables = o.variables; room = o.room; laid = o.laid; bits = o.bits } ∷ rest i
 
 -- what is pending without entries
 pub pending_without : (outcomes : List Outcome) → pending_of (map without_entries outcomes) ≡ none_pending (pending_of outcomes)
@@ -144,9 +144,6 @@ module _ (entries : List (Option ℕ)) where
   pub taken_here : (values : List ℕ) (place v : ℕ) → get_or entries place None ≡ Some v → get_or values place 0 ≡ v → IsTaken entries values place
   taken_here values place v entry has w e = has ∙ (let g : v ≡ w = cc in g)
 
-  pub none_here : (values : List ℕ) (place : ℕ) → get_or entries place None ≡ None → IsTaken entries values place
-  none_here values place none w e = absurd cc
-
   -- before the first span, what is not taken is in one of them
   pub left_all : (values : List ℕ) (spans : List Span) → AreAssigned entries (places_of spans) → (q : ℕ) → IsTaken entries values q ⊎ Contains (places_of spans) q
   left_all values spans A q = by (get_or entries q None) refl
@@ -191,7 +188,7 @@ and_at P at below here k l = by (cases_eq k at)
 -- ---- the drivers of all processes
 
 length-cleared : (o : Outcome) → without_entries (without_entries o) ≡ without_entries o
-length-cleared o = ap (λ (n : ℕ). record { entries = replicate {A = Option ℕ} n None; starts = o.starts; variables = o.variables; room = o.room }) (length-replicate (length o.entries) None)
+length-cleared o = ap (λ (n : ℕ). record { entries = replicate {A = Option ℕ} n None; starts = o.starts; variables = o.variables; room = o.room; laid = o.laid; bits = o.bits }) (length-replicate (length o.entries) None)
 
 module _ (active : List ℕ) (processes : List Process) (outcomes : List Outcome) (drivers : List (List ℕ)) (touched : Numbers) where
   pub updating_none_yet : ((p : ℕ) → IsActive (pending_of outcomes) p → Contains active p)

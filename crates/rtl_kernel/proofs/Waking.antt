@@ -58,6 +58,10 @@ adds_again marks x marked = record { kept = λ p h. h; added = λ p (k, l, e). a
     added p zero l e = subst (λ (q : ℕ). get_or marks q false ≡ true) e marked
     added p (suc k) l e = absurd (omega arith)
 
+-- marks that are there already
+pub adds_held : (xs : List ℕ) (marks : List Bool) → ((p : ℕ) → Contains xs p → get_or marks p false ≡ true) → Adds xs marks marks
+adds_held xs marks held = record { kept = λ p h. h; added = held; no_other = λ p h. inl h }
+
 -- marks of a list, and of one more
 pub adds_more : (xs : List ℕ) (i : ℕ) (x : ℕ) (old mid new : List Bool) → i < length xs → get_or xs i 0 ≡ x → Adds (take i xs) old mid → Adds (x ∷ []) mid new
     → Adds (take (i + 1) xs) old new

@@ -2,6 +2,7 @@
 use Rattle.std.proofs.Common.{◌≡◌, ℕ, zero, suc, ◌<◌, ◌≤◌, List, [], ◌∷◌, length, get_or, map, refl, sym, ap, subst, ◌∙◌, ◌⊎◌, inl, inr, Contains, All}
 use Rattle.std.proofs.lemmas.Bool.{cases_lt}
 use Rattle.std.proofs.lemmas.List.{get_or_past, length-map}
+use Rattle.std.proofs.lemmas.List.Elements.{All-map}
 use Rattle.std.proofs.lemmas.Option.{slice_get_within}
 use Rattle.rtl_model.specs.nets.FlatNet.{FlatProcess, FlatDriver, DriverInRange, IsInRange, process_at, no_flat_process, targets}
 use Rattle.rtl_model.specs.nets.CoreNet.{core_net, core_process}
@@ -62,6 +63,10 @@ module _ (net : NetView) where
       let P = process_in_range (flat net) R k there in
       let is = get_or-map_within process_view net.processes k d no_flat_process l in
       subst (λ (x : FlatProcess). All (λ n. n < length net.types) x.wakes) is P.wakes
+
+  -- and as lists
+  pub lists_there : IsInRange (flat net) → All (λ (nets : List ℕ). All (λ n. n < length net.types) nets) (map (λ (p : q.Process). p.wakes.items) net.processes)
+  lists_there R = All-map (λ (nets : List ℕ). All (λ n. n < length net.types) nets) (λ (p : q.Process). p.wakes.items) net.processes (wakes_there R)
 
   pub wakes_are : map (λ (p : q.Process). p.wakes.items) net.processes ≡ wakes_of (core_net (flat net))
   wakes_are = by net.processes

@@ -1,6 +1,6 @@
 //! Drivers and their transactions.
 
-ghost use Rattle.std.specs.Prelude.{◌≡◌, ◌+◌, ◌<◌, ◌≤◌, ℕ, [], All, length, map, not, slice_index_or, slice_set, Contains, IfOk};
+ghost use Rattle.std.specs.Prelude.{◌≡◌, ◌+◌, ◌<◌, ◌≤◌, ℕ, [], All, length, map, not, slice_index_or, Contains, IfOk, IsSome, None};
 ghost use Rattle.std.specs.List.{list_any};
 ghost use Rattle.std.specs.Option.{is_some};
 ghost use Rattle.rtl_model.specs.bodies.Types.{KeepsTypes};
@@ -164,32 +164,32 @@ fn update_row(drives: &[Driver], outcome: &Drives, values: &mut Vec<u8>, touched
     ensures touched { Touches (nets_of drives.now) values.old.items values.new.items touched.old touched.new }
 {
     for span in outcome.assigned() {
-        update_span(drives, outcome.entries(), *span, values, touched);
+        update_span(drives, outcome, *span, values, touched);
     }
 }
 
-/// Takes over the transactions of one process at the places of a span.
+/// Takes over the transactions of one process at the places of a span, each of which has one.
 fn update_span(
     drives: &[Driver],
-    entries: &[Option<u8>],
+    outcome: &Drives,
     span: Span,
     values: &mut [u8],
     touched: &mut Worklist,
 )
-    requires as_many { length values.old ≡ length entries.now }
-    requires each_driver { length drives.now ≡ length entries.now }
-    requires there { (k : ℕ) → k < span.len → span.first + k < length entries.now }
+    requires as_many { length values.old ≡ length outcome.now.entries }
+    requires each_driver { length drives.now ≡ length outcome.now.entries }
+    requires within { span.first + span.len ≤ length outcome.now.entries }
+    requires all { (k : ℕ) → k < span.len → IsSome (slice_index_or outcome.now.entries (span.first + k) None) }
     requires nets { All (λ n. n < touched.old.bound) (nets_of drives.now) }
-    ensures takes { Takes (nets_of drives.now) entries.now values.old touched.old values.new touched.new }
-    ensures taken { (k : ℕ) → k < span.len → IsTaken entries.now values.new (span.first + k) }
+    ensures takes { Takes (nets_of drives.now) outcome.now.entries values.old touched.old values.new touched.new }
+    ensures taken { (k : ℕ) → k < span.len → IsTaken outcome.now.entries values.new (span.first + k) }
 {
-    for at in 0..span.len {
+    let assigned = outcome.values(span);
+    for at in 0..assigned.len() {
         let place = span.first + at;
-        if let Some(value) = entries[place] {
-            if values[place] != value {
-                values[place] = value;
-                touched.insert(drives[place].net);
-            }
+        if values[place] != assigned[at] {
+            values[place] = assigned[at];
+            touched.insert(drives[place].net);
         }
     }
 }

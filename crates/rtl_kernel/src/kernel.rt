@@ -16,9 +16,10 @@ use crate::resumed::Resumed;
 use crate::starts::starting_codes;
 use crate::update::resolve_nets;
 use crate::values::Values;
-use crate::wakes::wake_index;
+use crate::wakes::wake_groups;
 use crate::worklist::Worklist;
 use rtl_eval::Exec;
+use rtl_layout::Groups;
 use rtl_net::Net;
 use std::alloc::{AllocError, Global};
 use std::marker::Model;
@@ -30,7 +31,7 @@ use vhdl_values::Nine;
 pub struct Kernel<'a, E: Exec> {
     net: &'a Net,
     bodies: &'a [E],
-    index: Vec<Vec<usize>>,
+    groups: Groups,
     values: Values,
     drivers: Drivers,
     resumed: Resumed,
@@ -50,12 +51,12 @@ impl<'a, E: Exec> Model for Kernel<'a, E> {
 
     ghost coded = { Prim.hlevel (codes, process_contract.the_row.coded) };
 
-    ghost use Rattle.rtl_kernel.specs.drivers.Rows.{rows};
     ghost use Rattle.rtl_kernel.specs.kernel.Kept.{IsKernel, state_of};
+    ghost use Rattle.rtl_kernel.specs.wakes.Woken.{wakers_of};
 
     ghost view = { λ k. record { net = k.net.now; state = state_of k.values k.drivers k.resumed } };
 
-    ghost invariant = { λ k. IsKernel E.process E.types E.most k.net.now k.bodies.now (rows k.index.items) k.values k.drivers k.resumed k.touched };
+    ghost invariant = { λ k. IsKernel E.process E.types E.most k.net.now k.bodies.now (wakers_of k.groups) k.values k.drivers k.resumed k.touched };
 }
 
 impl<'a, E: Exec> Kernel<'a, E> {
@@ -81,14 +82,14 @@ impl<'a, E: Exec> Kernel<'a, E> {
         let mut values = Values::new(alloc, &starting_codes(alloc, net)?)?;
         values.set_each(net.inputs(), initial);
         values.begin();
-        let index = wake_index(alloc, nets, processes)?;
+        let groups = wake_groups(alloc, net)?;
         let drivers = Drivers::new(alloc, processes, bodies)?;
         let resumed = Resumed::all(alloc, processes.len())?;
         let touched = Worklist::new(alloc, nets)?;
         Ok(Kernel {
             net,
             bodies,
-            index,
+            groups,
             values,
             drivers,
             resumed,
@@ -237,7 +238,7 @@ impl<'a, E: Exec> Kernel<'a, E> {
             self.values.changed(),
             self.values.before(),
             self.values.now(),
-            &self.index,
+            &self.groups,
         );
     }
 
@@ -255,7 +256,7 @@ impl<'a, E: Exec> Kernel<'a, E> {
             self.values.changed(),
             self.values.before(),
             self.values.now(),
-            &self.index,
+            &self.groups,
         );
     }
 }

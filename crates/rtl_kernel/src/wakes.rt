@@ -1,41 +1,54 @@
 //! Which processes wake on each net.
 
-ghost use Rattle.std.specs.Prelude.{◌≡◌, ◌<◌, ℕ, All, length, map, IfOk};
-ghost use Rattle.rtl_kernel.specs.drivers.Rows.{rows};
-ghost use Rattle.rtl_kernel.specs.wakes.Woken.{IsIndex, IsIndexed};
+ghost use Rattle.std.specs.Prelude.{◌≡◌, length, map, IfOk};
+ghost use Rattle.rtl_kernel.specs.wakes.Woken.{IsIndex, wakers_of};
 ghost use Rattle.rtl_net.specs.declared.process.Process.{Process};
 
-use rtl_net::Process;
+use rtl_layout::{Groups, Lists};
+use rtl_net::{Net, Process, Signal};
 use std::alloc::{AllocError, Global};
 
-/// For each of so many nets the processes that wake on it.
-pub fn wake_index(
-    alloc: Global,
-    nets: usize,
-    processes: &[Process],
-) -> Result<Vec<Vec<usize>>, AllocError>
-    requires nets { All (λ (p : Process). All (λ n. n < nets) p.wakes.items) processes.now }
-    ensures as_many { IfOk result (λ index. length index.items ≡ nets) }
-    ensures index { IfOk result (λ index. IsIndex (map (λ (p : Process). p.wakes.items) processes.now) (rows index.items)) }
+/// A net's nets in groups that the same processes wake on.
+pub fn wake_groups(alloc: Global, net: &Net) -> Result<Groups, AllocError>
+    ensures as_many { IfOk result (λ groups. length (wakers_of groups) ≡ length net.now.types) }
+    ensures index { IfOk result (λ groups. IsIndex (map (λ (p : Process). p.wakes.items) net.now.processes) (wakers_of groups)) }
 {
-    let mut index = Vec::with_capacity(alloc, nets)?;
-    for _net in 0..nets {
-        index.push(Vec::new(alloc))?;
-    }
-    for (process, each) in processes.iter().enumerate() {
-        add_wakes(&mut index, process, each.wakes.as_slice())?;
-    }
-    Ok(index)
+    let declared = declarations(alloc, net.nets(), net.signals())?;
+    let wakes = wake_lists(alloc, net.processes())?;
+    let groups = Groups::new(alloc, &declared, &wakes)?;
+    Ok(groups)
 }
 
-/// Puts a process into the lists of the nets that it wakes on.
-fn add_wakes(index: &mut Vec<Vec<usize>>, process: usize, wakes: &[usize]) -> Result<(), AllocError>
-    requires nets { All (λ n. n < length index.old.items) wakes.now }
-    ensures as_many { length index.new.items ≡ length index.old.items }
-    ensures added { IfOk result (λ _. IsIndexed process wakes.now (rows index.old.items) (rows index.new.items)) }
+/// The nets that each process wakes on.
+fn wake_lists(alloc: Global, processes: &[Process]) -> Result<Lists<usize>, AllocError>
+    ensures { IfOk result (λ wakes. wakes ≡ map (λ (p : Process). p.wakes.items) processes.now) }
 {
-    for net in wakes {
-        index[*net].push(process)?;
+    let mut wakes = Lists::new(alloc)?;
+    for process in processes {
+        wakes.push(process.wakes.as_slice())?;
     }
-    Ok(())
+    Ok(wakes)
+}
+
+/// For each of so many nets the first of these signals that has it, which is the one that it was declared as.
+fn declarations(alloc: Global, nets: usize, signals: &[Signal]) -> Result<Vec<usize>, AllocError>
+    ensures { IfOk result (λ declared. length declared.items ≡ nets) }
+{
+    let mut declared = vec![in alloc; 0; nets]?;
+    for later in 0..signals.len() {
+        let number = signals.len() - 1 - later;
+        number_nets(&mut declared, &signals[number].nets, number);
+    }
+    Ok(declared)
+}
+
+/// Gives those of these nets that are there a number.
+fn number_nets(declared: &mut Vec<usize>, nets: &[usize], number: usize)
+    ensures { length declared.new.items ≡ length declared.old.items }
+{
+    for net in nets {
+        if *net < declared.len() {
+            declared[*net] = number;
+        }
+    }
 }

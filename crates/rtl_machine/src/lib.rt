@@ -17,4 +17,4 @@ pub use evaluation::eval;
 pub use fault::MachineFault;
 pub use laws::{accepted_nets_are_synchronous, each_word_sets};
 pub use rtl_run::Summary;
-pub use running::{run, trace};
+pub use running::{SLOTS, run, trace};

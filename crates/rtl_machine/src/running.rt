@@ -17,12 +17,15 @@ use crate::laws::accepted_nets_are_synchronous;
 use rtl_eval::Exec;
 use rtl_kernel::Pick;
 use rtl_model::simulation_laws;
-use rtl_moments::{Agenda, MapAgenda};
+use rtl_moments::{Agenda, Wheel};
 use rtl_net::Net;
 use rtl_run::{RunFault, Simulation, Summary};
 use rtl_sink::Sink;
 use rtl_tree::trees;
 use std::alloc::Global;
+
+/// How many slots the agenda of a simulation has.
+pub const SLOTS: usize = 256;
 
 /// Simulates a net under the stimulus that a text says, and writes the trace: that of the synchronous machine's run, whatever
 /// order of processes `pick` picks. Each moment settles within the bound of the checker's report. Nothing is written before
@@ -54,7 +57,10 @@ pub fn run<P: Pick, W: Sink>(
         stimulus: &admitted.stimulus,
         limit: admitted.bound,
     };
-    trace(alloc, &simulation, &mut MapAgenda::new(alloc), pick, out)
+    let Ok(mut agenda) = Wheel::new(alloc, SLOTS) else {
+        return Err(MachineFault::Memory);
+    };
+    trace(alloc, &simulation, &mut agenda, pick, out)
 }
 
 /// Simulates an accepted net under a stimulus without a race, with the bound of its report as the limit, and writes the trace.

@@ -14,19 +14,18 @@ use Rattle.std.proofs.Math.Nat.{eq-or-lt_of_le}
 use Rattle.vhdl_values.specs.declared.scalar.Nine.{Nine}
 use Rattle.rtl_agenda.specs.Agenda.{Change, changes_at, IsOneEach}
 use Rattle.rtl_stim.specs.Inputs.{Input, Element, input_at}
-use Rattle.rtl_stim.specs.Courses.{Course, Sets, Ticks, course_value, toggles, course_toggles}
+use Rattle.rtl_stim.specs.Courses.{Course, Sets, course_value, is_busy}
 use Rattle.rtl_stim.specs.Reading.{Schedule}
 use Rattle.rtl_stim.specs.Times.{nets_of, value_at}
 use Rattle.rtl_stim.specs.Filling.{HaveOwnNets, IsOn, IsNext, IsDue, Waits}
 use Rattle.rtl_stim.specs.View.{course_in}
-use Rattle.rtl_moments.specs.Kept.{AreClocks}
 use Rattle.rtl_moments.specs.Left.{WaitsPartly}
 use Rattle.rtl_moments.specs.Numbered.{numbered}
-use Rattle.rtl_moments.specs.Pushes.{Push, AddsTo, AddsSome, IsFree, gathered, element_pushes, due, place_pushes, toggle_pushes}
+use Rattle.rtl_moments.specs.Pushes.{Push, AddsTo, AddsSome, IsFree, gathered, element_pushes, due, place_pushes, busy_pushes}
 use Rattle.rtl_moments.proofs.Values.{first_or_later, value_there, net_there}
 use Rattle.rtl_moments.proofs.Adding.{gathered-append, gathered_from, gathered_has, pushed_from}
 use Rattle.rtl_moments.proofs.Places.{input_there, nets_apart}
-use Rattle.rtl_moments.proofs.Due.{due_later, due_has, found_key, is_at_key, next_is, next_exists}
+use Rattle.rtl_moments.proofs.Due.{due_later, due_has, first_busy, found_key, is_at_key}
 
 -- ---- places and elements
 
@@ -170,25 +169,22 @@ module _ (inputs : List Input) (schedule : Schedule) (own : HaveOwnNets inputs) 
         by None is h = absurd (omega (arith, h.1))
         by (Some cs) is h = All-contains (λ k. time < k) (keys_of old) t rising (found_key old t (ap is_some is))
 
-    -- no clock toggles in between
-    none_between : (course : Course) (net first half b : ℕ) → IsOn inputs schedule.courses (Ticks first half) net → now < b → b < time → b ≤ schedule.stop → toggles first half b ≡ true → ⊥
-    none_between course net first half b on after before within toggling =
-        let n = next_exists first half now b after toggling in
-        let one = next_is first half now n.0 n.1 in
+    -- nothing is busy in between
+    none_between : (course : Course) (net b : ℕ) → IsOn inputs schedule.courses course net → now < b → b < time → b ≤ schedule.stop → is_busy course b ≡ true → ⊥
+    none_between course net b on after before within busy =
+        let n = first_busy course now b after busy in
         let sooner : n.0 < time = omega (arith, n.2, before) in
         let differ : n.0 ≢ time = λ e. omega (arith, e, sooner) in
-        let there = waits.due (Ticks first half) net n.0 on one.later (omega (arith, n.2, within)) (one.toggling, λ between l s h. let none = one.none_between between l s in cc) in
+        let there = waits.due course net n.0 on n.1 (omega (arith, n.2, within)) n.3 in
         let late = later_only n.0 (net, value_at inputs schedule net n.0) (subst (λ cs. Contains cs (net, value_at inputs schedule net n.0)) (past_first n.0 differ) there) in
         omega (arith, late, sooner)
 
     still_next : (course : Course) (t : ℕ) → IsNext course now t → IsNext course time t
-    still_next (Sets sets) t next = next
-    still_next (Ticks first half) t next = (next.0, λ between l s toggling. next.1 between (omega (arith, later, l)) s toggling)
+    still_next course t next = (next.0, λ between l s busy. next.1 between (omega (arith, later, l)) s busy)
 
-    -- a clock that toggles at the time has no toggle waiting
-    pub clock_free : (place first half : ℕ) → place < length inputs → course_in schedule place ≡ Ticks first half → toggles first half time ≡ true
-        → IsFree old (nets_of (input_at inputs place))
-    clock_free place first half within is toggling t x there has =
+    -- an input that is busy at the time has nothing waiting
+    pub busy_free : (place : ℕ) → place < length inputs → is_busy (course_in schedule place) time ≡ true → IsFree old (nets_of (input_at inputs place))
+    busy_free place within busy t x there has =
         let after = later_only t x there in
         let differ : t ≢ time = λ e. omega (arith, e, after) in
         let was = waits.only t x (subst (λ cs. Contains cs x) (sym (past_first t differ)) there) in
@@ -197,47 +193,45 @@ module _ (inputs : List Input) (schedule : Schedule) (own : HaveOwnNets inputs) 
         ⊎_elim (λ before. absurd (nets_apart inputs at.0 place x.0 own before within at.3 has))
         (λ not_before. ⊎_elim (λ e. sym e) (λ behind. absurd (nets_apart inputs place at.0 x.0 own behind at.1 has at.3)) (eq-or-lt_of_le not_before))
         (cases_lt at.0 place) in
-        let course : was.0 ≡ Ticks first half = sym at.2 ∙ ap (course_in schedule) same ∙ is in
+        let course : was.0 ≡ course_in schedule place = sym at.2 ∙ ap (course_in schedule) same in
         let next = subst (λ k. IsNext k now t) course was.4 in
-        next.1 time later after toggling
+        next.1 time later after busy
 
-    pushed_only : (clocks : List ℕ) → AreClocks schedule.courses clocks → (t : ℕ) (x : Change) → Contains (gathered (toggle_pushes inputs schedule time) clocks) (t, x)
-        → IsDue inputs schedule time t x
-    pushed_only clocks are t x pushed =
-        let from = gathered_from (toggle_pushes inputs schedule time) clocks (t, x) pushed in
-        by from.0 from.1 (course_toggles (course_in schedule from.0) time) from.2
+    pushed_only : (places : ℕ) → places ≤ length inputs → (t : ℕ) (x : Change) → Contains (gathered (busy_pushes inputs schedule time) (range_with_len 0 places)) (t, x) → IsDue inputs schedule time t x
+    pushed_only places all t x pushed =
+        let from = gathered_from (busy_pushes inputs schedule time) (range_with_len 0 places) (t, x) pushed in
+        by from.0 from.1 (is_busy (course_in schedule from.0) time) from.2
       where
-        by : (place : ℕ) → Contains clocks place → (b : Bool) → Contains (cond b (place_pushes inputs schedule time place) []) (t, x) → IsDue inputs schedule time t x
+        by : (place : ℕ) → Contains (range_with_len 0 places) place → (b : Bool) → Contains (cond b (place_pushes inputs schedule time place) []) (t, x) → IsDue inputs schedule time t x
         by place among true h =
-            let clock = (are.all place).0 among in
-            let within : place < length inputs = omega (arith, each, slice_get_within schedule.courses place (Ticks clock.0 clock.1) clock.2) in
+            let below = range_below places place among in
+            let within : place < length inputs = omega (arith, below, all) in
             let is = pushed_is time place t x within h in
             let when = due_later (course_in schedule place) time schedule.stop t is.0 in
             (course_in schedule place, is_on place x.0 within is.1, when.0, when.1, when.2, is.2)
         by place among false h = absurd (omega (arith, h.1))
 
-    -- what waited, or is pushed of clocks, is due after the time
-    only_from : (clocks : List ℕ) → AreClocks schedule.courses clocks → (t : ℕ) (x : Change)
-        → Contains (changes_at old t) x ⊎ Contains (gathered (toggle_pushes inputs schedule time) clocks) (t, x) → IsDue inputs schedule time t x
-    only_from clocks are t x from =
+    -- what waited, or is pushed of busy inputs, is due after the time
+    only_from : (places : ℕ) → places ≤ length inputs → (t : ℕ) (x : Change) → Contains (changes_at old t) x ⊎ Contains (gathered (busy_pushes inputs schedule time) (range_with_len 0 places)) (t, x)
+        → IsDue inputs schedule time t x
+    only_from places all t x from =
         ⊎_elim (λ stayed.
         let after = later_only t x stayed in
         let differ : t ≢ time = λ e. omega (arith, e, after) in
         let was = waits.only t x (subst (λ cs. Contains cs x) (sym (past_first t differ)) stayed) in
         (was.0, was.1, after, was.3, still_next was.0 t was.4, was.5))
-        (λ pushed. pushed_only clocks are t x pushed) from
+        (λ pushed. pushed_only places all t x pushed) from
 
-    -- where memory is refused
-    pub refilled_partly : (new : List (ℕ × List Change)) (clocks : List ℕ) → AreClocks schedule.courses clocks → AddsSome old new (gathered (toggle_pushes inputs schedule time) clocks)
+    -- where memory is refused at one of the first places
+    pub refilled_partly : (new : List (ℕ × List Change)) (places : ℕ) → places ≤ length inputs → AddsSome old new (gathered (busy_pushes inputs schedule time) (range_with_len 0 places))
         → ((t : ℕ) → IsOneEach (changes_at new t)) → WaitsPartly inputs schedule time old new
-    refilled_partly new clocks are some once = record {
+    refilled_partly new places all some once = record {
       kept = some.kept;
-      due = λ t x there. only_from clocks are t x (some.pushed t x there);
+      due = λ t x there. only_from places all t x (some.pushed t x there);
       once = once;
     }
 
-    module _ (new : List (ℕ × List Change)) (clocks : List ℕ) (are : AreClocks schedule.courses clocks)
-        (adds : AddsTo old new (gathered (toggle_pushes inputs schedule time) clocks)) where
+    module _ (new : List (ℕ × List Change)) (adds : AddsTo old new (gathered (busy_pushes inputs schedule time) (range_with_len 0 (length inputs)))) where
       stays : (course : Course) (net t : ℕ) → IsOn inputs schedule.courses course net → time < t → t ≤ schedule.stop → IsNext course now t → Contains (changes_at new t) (net, value_at inputs schedule net t)
       stays course net t on after within next =
           let differ : t ≢ time = λ e. omega (arith, e, after) in
@@ -245,26 +239,25 @@ module _ (inputs : List Input) (schedule : Schedule) (own : HaveOwnNets inputs) 
           (waits.due course net t on (omega (arith, later, after)) within next)))
 
       comes : (course : Course) (net t : ℕ) → IsOn inputs schedule.courses course net → time < t → t ≤ schedule.stop → IsNext course time t → Contains (changes_at new t) (net, value_at inputs schedule net t)
-      comes (Sets sets) net t on after within next = stays (Sets sets) net t on after within next
-      comes (Ticks first half) net t on after within next = by (toggles first half time) refl
+      comes course net t on after within next = by (is_busy course time) refl
         where
-          by : (b : Bool) → toggles first half time ≡ b → Contains (changes_at new t) (net, value_at inputs schedule net t)
+          by : (b : Bool) → is_busy course time ≡ b → Contains (changes_at new t) (net, value_at inputs schedule net t)
           by true is =
-              let at = place_of (Ticks first half) net on in
+              let at = place_of course net on in
               let change : Change = (net, value_at inputs schedule net t) in
-              let pushed = pushed_has time at.0 net t at.1 at.3 (subst (λ k. Contains (due k time schedule.stop) t) (sym at.2) (due_has (Ticks first half) time schedule.stop t after within next)) in
-              let active : course_toggles (course_in schedule at.0) time ≡ true = ap (λ k. course_toggles k time) at.2 ∙ is in
-              let there : Contains (toggle_pushes inputs schedule time at.0) (t, change) =
+              let pushed = pushed_has time at.0 net t at.1 at.3 (subst (λ k. Contains (due k time schedule.stop) t) (sym at.2) (due_has course time schedule.stop t after within next)) in
+              let active : is_busy (course_in schedule at.0) time ≡ true = ap (λ k. is_busy k time) at.2 ∙ is in
+              let there : Contains (busy_pushes inputs schedule time at.0) (t, change) =
               subst (λ b. Contains (cond b (place_pushes inputs schedule time at.0) []) (t, change)) (sym active) pushed in
-              (adds t change).1 (inr (gathered_has (toggle_pushes inputs schedule time) clocks at.0 (t, change) ((are.all at.0).1 (first, half, at.4)) there))
+              (adds t change).1 (inr (gathered_has (busy_pushes inputs schedule time) (range_with_len 0 (length inputs)) at.0 (t, change) (in_range (length inputs) at.0 at.1) there))
           by false is =
-              stays (Ticks first half) net t on after within (
+              stays course net t on after within (
                 next.0,
-                λ between l s toggling.
-                    ⊎_elim (λ before. none_between (Ticks first half) net first half between on l before (omega (arith, s, within)) toggling)
-                    (λ not_before. ⊎_elim (λ e. let off = ap (toggles first half) e in cc) (λ behind. next.1 between behind s toggling) (eq-or-lt_of_le not_before))
+                λ between l s busy.
+                    ⊎_elim (λ before. none_between course net between on l before (omega (arith, s, within)) busy)
+                    (λ not_before. ⊎_elim (λ e. let off = ap (is_busy course) e in cc) (λ behind. next.1 between behind s busy) (eq-or-lt_of_le not_before))
                     (cases_lt between time),
               )
 
       pub refilled : Waits inputs schedule time new
-      refilled = record { due = comes; only = λ t x there. only_from clocks are t x ((adds t x).0 there) }
+      refilled = record { due = comes; only = λ t x there. only_from (length inputs) (omega arith) t x ((adds t x).0 there) }

@@ -1,68 +1,16 @@
 -- Courses and inputs, one more at a time.
-use Rattle.std.proofs.Common.{◌≡◌, ℕ, suc, zero, ◌+◌, ◌<◌, List, [], ◌∷◌, ◌++◌, length, map, take, get_or, Some, ⊎_elim, inl, inr, refl, sym, ap, subst, ◌∙◌, arith, append_assoc, append-nil}
-use Rattle.std.specs.Prelude.{slice_get, slice_index_or, option_map, Contains, ◌⊎◌}
+use Rattle.std.proofs.Common.{◌≡◌, ℕ, ◌+◌, ◌<◌, List, [], ◌∷◌, ◌++◌, length, map, take, get_or, Some, refl, sym, ap, ◌∙◌, arith, append_assoc, append-nil}
+use Rattle.std.specs.Prelude.{slice_get, slice_index_or, option_map}
 use Rattle.std.proofs.lemmas.List.{take_more, map-append}
-use Rattle.std.proofs.lemmas.List.Elements.{Contains-append_left, Contains-push, Contains-push_cases}
-use Rattle.std.proofs.lemmas.List.Quantifiers.{all_pairs_push}
-use Rattle.std.proofs.lemmas.Option.{slice_get-get_or, slice_get_within, get_or_from_slice_get}
+use Rattle.std.proofs.lemmas.Option.{slice_get-get_or}
 use Rattle.vhdl_values.specs.declared.scalar.Nine.{Nine}
 use Rattle.rtl_stim.specs.Inputs.{Input, Element, no_input}
-use Rattle.rtl_stim.specs.Courses.{Course, Sets, Ticks, course_value}
+use Rattle.rtl_stim.specs.Courses.{Course, Sets, course_value}
 use Rattle.rtl_stim.specs.Times.{nets_of, all_nets, value_of}
 use Rattle.rtl_stim.specs.Filling.{HaveOwnNets}
-use Rattle.rtl_moments.specs.Kept.{element_values, AreClocks}
+use Rattle.rtl_moments.specs.Kept.{element_values}
 use Rattle.rtl_moments.proofs.Values.{value_there}
 use Rattle.rtl_moments.proofs.Numbering.{numbered_same}
-
--- ---- one member more
-
-pub still_there : {X : Type 0} (xs ys : List X) (k : ℕ) (x : X) → slice_get xs k ≡ Some x → slice_get (xs ++ ys) k ≡ Some x
-still_there [] ys k x at = cc
-still_there (y ∷ xs) ys zero x at = at
-still_there (y ∷ xs) ys (suc k) x at = still_there xs ys k x at
-
-pub last_there : {X : Type 0} (xs : List X) (x : X) → slice_get (xs ++ x ∷ []) (length xs) ≡ Some x
-last_there [] x = refl
-last_there (y ∷ xs) x = last_there xs x
-
-pub there_or_last : {X : Type 0} (xs : List X) (x y : X) (k : ℕ) → slice_get (xs ++ x ∷ []) k ≡ Some y → (slice_get xs k ≡ Some y) ⊎ ((k ≡ length xs) × (x ≡ y))
-there_or_last [] x y zero at = let same : x ≡ y = cc in inr (refl, same)
-there_or_last [] x y (suc k) at = cc
-there_or_last (z ∷ xs) x y zero at = inl at
-there_or_last (z ∷ xs) x y (suc k) at = ⊎_elim (λ there. inl there) (λ last. inr (ap suc last.0, last.1)) (there_or_last xs x y k at)
-
--- ---- clocks
-
-pub clock_more : (cs : List Course) (places : List ℕ) (first half : ℕ) → AreClocks cs places → AreClocks (cs ++ Ticks first half ∷ []) (places ++ length cs ∷ [])
-clock_more cs places first half h = record {
-  rise = all_pairs_push (λ p q. p < q) places (length cs) h.rise (λ k d within. let there = (h.all (get_or places k d)).0 (k, within, get_or_here places k d within) in slice_get_within cs (get_or places k d) (Ticks there.0 there.1) there.2);
-  all = λ place. (
-    λ there. ⊎_elim (λ before. let was = (h.all place).0 before in (was.0, was.1, still_there cs (Ticks first half ∷ []) place (Ticks was.0 was.1) was.2))
-        (λ last. (first, half, subst (λ p. slice_get (cs ++ Ticks first half ∷ []) p ≡ Some (Ticks first half)) last (last_there cs (Ticks first half))))
-        (Contains-push_cases places (length cs) place there),
-    λ is. ⊎_elim (λ before. Contains-append_left places (length cs ∷ []) place ((h.all place).1 (is.0, is.1, before)))
-        (λ last. subst (Contains (places ++ length cs ∷ [])) (sym last.0) (Contains-push places (length cs)))
-        (there_or_last cs (Ticks first half) (Ticks is.0 is.1) place is.2),
-  );
-}
-  where
-    get_or_here : (xs : List ℕ) (k d : ℕ) → k < length xs → slice_index_or xs k (get_or xs k d) ≡ get_or xs k d
-    get_or_here xs k d within = get_or_from_slice_get xs k (get_or xs k d) (get_or xs k d) (slice_get-get_or xs k d within)
-
-pub set_more : (cs : List Course) (places : List ℕ) (sets : List (ℕ × List Nine)) → AreClocks cs places → AreClocks (cs ++ Sets sets ∷ []) places
-set_more cs places sets h = record {
-  rise = h.rise;
-  all = λ place. (
-    λ there. let was = (h.all place).0 there in (was.0, was.1, still_there cs (Sets sets ∷ []) place (Ticks was.0 was.1) was.2),
-    λ is. ⊎_elim (λ before. (h.all place).1 (is.0, is.1, before)) (λ last. let differ = last.1 in cc) (there_or_last cs (Sets sets) (Ticks is.0 is.1) place is.2),
-  );
-}
-
-pub no_clocks : AreClocks [] []
-no_clocks = record {
-  rise = λ i j d less within. absurd (omega (arith, within));
-  all = λ place. (λ there. absurd (omega (arith, there.1)), λ is. let none = is.2 in cc);
-}
 
 -- ---- values of inputs
 

@@ -1,11 +1,12 @@
 -- What is due of a course is what comes next.
-use Rattle.std.proofs.Common.{◌≡◌, ℕ, ◌+◌, ◌-◌, ◌%◌, ◌<◌, ◌≤◌, Bool, true, false, cond, List, [], ◌∷◌, filter, Option, Some, None, ⊎_elim, refl, sym, ap, subst, ◌∙◌, arith}
-use Rattle.std.specs.Prelude.{Contains, nat_lt, nat_le, ◌==◌, ◌&&◌}
+use Rattle.std.proofs.Common.{◌≡◌, ◌⊎◌, ℕ, zero, suc, ◌+◌, ◌-◌, ◌%◌, ◌<◌, ◌≤◌, Bool, true, false, cond, List, [], ◌∷◌, filter, take, Option, Some, None, ⊎_elim, inl, inr, refl, sym, ap, subst, ◌∙◌, arith}
+use Rattle.std.specs.Prelude.{Contains, nat_lt, nat_le, ◌==◌}
 use Rattle.std.specs.Option.{is_some}
 use Rattle.std.specs.Ordering.{nat_cmp, is_eq}
 use Rattle.std.specs.declared.cmp.Ordering.{Ordering}
 use Rattle.std.specs.declared.cmp.Ordering.TheVariants.{Less, Equal, Greater}
 use Rattle.std.specs.Cmp.{nat_cmp_is}
+use Rattle.std.specs.List.{range_with_len}
 use Rattle.std.specs.Map.{lookup, keys_of}
 use Rattle.std.specs.BTreeMap.{is_at}
 use Rattle.std.proofs.Math.Nat.{mod-zero, zero-mod, eq-or-lt_of_le}
@@ -13,13 +14,11 @@ use Rattle.std.proofs.lemmas.Bool.{cases_lt}
 use Rattle.std.proofs.lemmas.Bool.Decides.{nat_tests}
 use Rattle.std.proofs.lemmas.List.Elements.{Contains-append_right}
 use Rattle.std.proofs.lemmas.Map.Lookups.{exact_unsigned}
-use Rattle.vhdl_values.specs.declared.scalar.Nine.{Nine}
-use Rattle.rtl_stim.specs.Courses.{Course, Sets, Ticks, toggles, IsNextToggle}
+use Rattle.rtl_stim.specs.Courses.{Course, toggles, is_busy, IsNextToggle}
 use Rattle.rtl_stim.specs.Filling.{IsNext}
 use Rattle.rtl_stim.proofs.Clocks.{next_after}
-use Rattle.rtl_moments.specs.Pushes.{next_time, up_to, due}
+use Rattle.rtl_moments.specs.Pushes.{next_time, due}
 use Rattle.rtl_moments.proofs.Values.{first_or_later}
-use Rattle.rtl_moments.proofs.Times.{in_time}
 
 -- ---- keys
 
@@ -128,42 +127,92 @@ next_exists first half now b later toggling = by (next_time first half now) refl
     by None is = let never = never_next first half now is b later in cc
     by (Some t) is = (t, is, ⊎_elim (λ before. let none = (next_is first half now t is).none_between b later before in cc) (λ h. h) (cases_lt b t))
 
+-- ---- the first time of some at which a course is busy
+
+module _ (p : ℕ → Bool) where
+  none_from : (a n : ℕ) → ((b : ℕ) → a ≤ b → b < a + n → p b ≡ false) → filter p (range_with_len a n) ≡ []
+  none_from a zero none = refl
+  none_from a (suc n) none =
+      ap (λ b. cond b (a ∷ filter p (range_with_len (a + 1) n)) (filter p (range_with_len (a + 1) n))) (none a (omega arith) (omega arith))
+      ∙ none_from (a + 1) n (λ b from below. none b (omega arith) (omega arith))
+
+  first_from : (a n t : ℕ) → a ≤ t → t < a + n → p t ≡ true → ((b : ℕ) → a ≤ b → b < t → p b ≡ false) → take 1 (filter p (range_with_len a n)) ≡ t ∷ []
+  first_from a zero t from within is none = absurd (omega arith)
+  first_from a (suc n) t from within is none = by (eq-or-lt_of_le from) (λ later. first_from (a + 1) n t later (omega arith) is (λ b from below. none b (omega arith) below))
+    where
+      by : (a ≡ t) ⊎ (a < t) → (a + 1 ≤ t → take 1 (filter p (range_with_len (a + 1) n)) ≡ t ∷ []) → take 1 (filter p (range_with_len a (suc n))) ≡ t ∷ []
+      by (inl here) rest = ap (λ b. take 1 (cond b (a ∷ filter p (range_with_len (a + 1) n)) (filter p (range_with_len (a + 1) n)))) (ap p here ∙ is) ∙ ap (λ k. k ∷ []) here
+      by (inr later) rest = ap (λ b. take 1 (cond b (a ∷ filter p (range_with_len (a + 1) n)) (filter p (range_with_len (a + 1) n)))) (none a (omega arith) later) ∙ rest (omega arith)
+
+  is_first : (a n t : ℕ) → Contains (take 1 (filter p (range_with_len a n))) t → (t < a + n) × (a ≤ t) × (p t ≡ true) × ((b : ℕ) → a ≤ b → b < t → p b ≡ false)
+  is_first a zero t there = absurd (omega (arith, there.1))
+  is_first a (suc n) t there = by (p a) refl there (λ later. is_first (a + 1) n t later)
+    where
+      by : (b : Bool) → p a ≡ b → Contains (take 1 (cond b (a ∷ filter p (range_with_len (a + 1) n)) (filter p (range_with_len (a + 1) n)))) t
+          → (Contains (take 1 (filter p (range_with_len (a + 1) n))) t → (t < a + 1 + n) × (a + 1 ≤ t) × (p t ≡ true) × ((b : ℕ) → a + 1 ≤ b → b < t → p b ≡ false))
+          → (t < a + suc n) × (a ≤ t) × (p t ≡ true) × ((b : ℕ) → a ≤ b → b < t → p b ≡ false)
+      by true is h rest =
+          first_or_later a t [] h ((t < a + suc n) × (a ≤ t) × (p t ≡ true) × ((b : ℕ) → a ≤ b → b < t → p b ≡ false))
+          (λ e. (omega arith, omega arith, ap p (sym e) ∙ is, λ b from below. absurd (omega arith))) (λ none. absurd (omega (arith, none.1)))
+      by false is h rest =
+          let r = rest h in (
+            omega (arith, r.0),
+            omega (arith, r.1),
+            r.2,
+            λ b from below. ⊎_elim (λ here. ap p (sym here) ∙ is) (λ later. r.3 b (omega (arith, later)) below) (eq-or-lt_of_le from),
+          )
+
+  -- where one passes, some first one does
+  pub some_first : (a n : ℕ) → p (a + n) ≡ true → (t : ℕ) × (t ≤ a + n) × (a ≤ t) × (p t ≡ true) × ((b : ℕ) → a ≤ b → b < t → p b ≡ false)
+  some_first a zero is = let here : a + 0 ≡ a = omega arith in (a, omega arith, omega arith, ap p (sym here) ∙ is, λ b from below. absurd (omega arith))
+  some_first a (suc n) is =
+      let moved : a + suc n ≡ a + 1 + n = omega arith in
+      by (p a) refl (some_first (a + 1) n (ap p (sym moved) ∙ is))
+    where
+      by : (b : Bool) → p a ≡ b → ((t : ℕ) × (t ≤ a + 1 + n) × (a + 1 ≤ t) × (p t ≡ true) × ((b : ℕ) → a + 1 ≤ b → b < t → p b ≡ false))
+          → (t : ℕ) × (t ≤ a + suc n) × (a ≤ t) × (p t ≡ true) × ((b : ℕ) → a ≤ b → b < t → p b ≡ false)
+      by true here r = (a, omega arith, omega arith, here, λ b from below. absurd (omega arith))
+      by false here r = (
+        r.0,
+        omega (arith, r.1),
+        omega (arith, r.2),
+        r.3,
+        λ b from below. ⊎_elim (λ e. ap p (sym e) ∙ here) (λ later. r.4 b (omega (arith, later)) below) (eq-or-lt_of_le from),
+      )
+
+-- a course that is busy later is busy for the first time no later
+pub first_busy : (course : Course) (now b : ℕ) → now < b → is_busy course b ≡ true → (t : ℕ) × (now < t) × (t ≤ b) × IsNext course now t
+first_busy course now b later busy =
+    let at : now + 1 + (b - (now + 1)) ≡ b = omega arith in
+    let f = some_first (λ t. is_busy course t) (now + 1) (b - (now + 1)) (ap (is_busy course) at ∙ busy) in (
+      f.0,
+      omega (arith, f.2),
+      omega (arith, f.1),
+      (f.3, λ between after before active. let idle = f.4 between (omega arith) before in cc),
+    )
+
 -- ---- what is due
 
-due_later_sets : (sets : List (ℕ × List Nine)) (now stop t : ℕ) → Contains (due (Sets sets) now stop) t → (now < t) × (t ≤ stop) × IsNext (Sets sets) now t
-due_later_sets sets now stop t there =
-    let h = filtered (λ t. nat_lt now t && nat_le t stop) (keys_of sets) t there in
-    let parts = both (nat_lt now t) (nat_le t stop) h.1 in
-    let later : now < t = let e = parts.0 in grind (arith, nat_tests) in
-    let within : t ≤ stop = let e = parts.1 in grind (arith, nat_tests) in
-    (later, within, key_found sets t h.0)
-  where
-    both : (a b : Bool) → (a && b) ≡ true → (a ≡ true) × (b ≡ true)
-    both true b h = (refl, h)
-    both false b h = cc
-
-up_to_from : (stop t : ℕ) (o : Option ℕ) → Contains (up_to stop o) t → (o ≡ Some t) × (t ≤ stop)
-up_to_from stop t None there = absurd (omega (arith, there.1))
-up_to_from stop t (Some s) there = by (nat_le s stop) refl there
-  where
-    by : (b : Bool) → nat_le s stop ≡ b → Contains (cond b (s ∷ []) []) t → (Some s ≡ Some t) × (t ≤ stop)
-    by true is h =
-        first_or_later s t [] h ((Some s ≡ Some t) × (t ≤ stop)) (λ e. (ap (λ n. Some n) e, let le : s ≤ stop = grind (arith, nat_tests) in omega (arith, le, e)))
-        (λ none. absurd (omega (arith, none.1)))
-    by false is h = absurd (omega (arith, h.1))
-
 pub due_later : (course : Course) (now stop t : ℕ) → Contains (due course now stop) t → (now < t) × (t ≤ stop) × IsNext course now t
-due_later (Sets sets) now stop t there = due_later_sets sets now stop t there
-due_later (Ticks first half) now stop t there =
-    let h = up_to_from stop t (next_time first half now) there in
-    let n = next_is first half now t h.0 in
-    (n.later, h.1, (n.toggling, λ between later sooner toggling. let none = n.none_between between later sooner in cc))
+due_later course now stop t there =
+    let f = is_first (λ t. is_busy course t) (now + 1) (stop - now) t there in (
+      omega (arith, f.1),
+      omega (arith, f.0, f.1),
+      (f.2, λ between after before active. let idle = f.3 between (omega arith) before in cc),
+    )
 
 pub due_has : (course : Course) (now stop t : ℕ) → now < t → t ≤ stop → IsNext course now t → Contains (due course now stop) t
-due_has (Sets sets) now stop t later within next = kept_in (λ t. nat_lt now t && nat_le t stop) (keys_of sets) t (found_key sets t next) (in_time now t stop later within)
-due_has (Ticks first half) now stop t later within next =
-    let n = next_exists first half now t later next.0 in
-    let first_one = next_is first half now n.0 n.1 in
-    let same : n.0 ≡ t = ⊎_elim (λ e. e) (λ before. absurd (next.1 n.0 first_one.later before first_one.toggling)) (eq-or-lt_of_le n.2) in
-    let le : nat_le n.0 stop ≡ true = let s = same in grind (arith, nat_tests) in
-    subst (λ o. Contains (up_to stop o) t) (sym n.1) (subst (λ b. Contains (cond b (n.0 ∷ []) []) t) (sym le) (0, omega arith, same))
+due_has course now stop t later within next =
+    let is = first_from (λ t. is_busy course t) (now + 1) (stop - now) t (omega arith) (omega arith) next.0 (λ b from below. idle b (is_busy course b) refl (omega arith) below) in
+    subst (λ ts. Contains ts t) (sym is) (0, omega arith, refl)
+  where
+    idle : (b : ℕ) (r : Bool) → is_busy course b ≡ r → now < b → b < t → r ≡ false
+    idle b true is after before = absurd (next.1 b after before is)
+    idle b false is after before = refl
+
+-- what was found is due
+pub due_found : (course : Course) (now stop t : ℕ) → (now < t) × (t ≤ stop) → is_busy course t ≡ true → ((b : ℕ) → now < b → b < t → is_busy course b ≡ false) → due course now stop ≡ t ∷ []
+due_found course now stop t within busy idle = first_from (λ t. is_busy course t) (now + 1) (stop - now) t (omega (arith, within.0)) (omega (arith, within.0, within.1)) busy (λ b from below. idle b (omega arith) below)
+
+pub none_due : (course : Course) (now stop : ℕ) → ((b : ℕ) → now < b → b < suc stop → is_busy course b ≡ false) → due course now stop ≡ []
+none_due course now stop idle = ap (λ (ts : List ℕ). take 1 ts) (none_from (λ t. is_busy course t) (now + 1) (stop - now) (λ b from below. idle b (omega arith) (omega arith)))

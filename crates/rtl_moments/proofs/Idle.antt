@@ -30,3 +30,10 @@ idle_ticks first half now stop None same within b after before = by (toggles fir
         let le : nat_le n.0 stop ≡ true = let a = n.2 in let c = before in grind (arith, nat_tests) in
         let none : [] ≡ n.0 ∷ [] = same ∙ ap (up_to stop) n.1 ∙ ap (λ b. cond b (n.0 ∷ []) []) le in cc
     by false off = refl
+
+-- and the clock toggles there
+pub toggles_found : (first half now stop : ℕ) (found : Option ℕ) → up_to stop found ≡ up_to stop (next_time first half now) → IfSome found (λ t. t ≤ stop) → IfSome found (λ t. toggles first half t ≡ true)
+toggles_found first half now stop None same within = tt
+toggles_found first half now stop (Some t) same within =
+    let le : nat_le t stop ≡ true = let h = within in grind (arith, nat_tests) in
+    (next_is first half now t (only_some stop (next_time first half now) t (ap (λ b. cond b (t ∷ []) []) (sym le) ∙ same))).toggling

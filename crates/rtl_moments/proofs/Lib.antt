@@ -6,12 +6,11 @@ pub mod Courses
 pub mod PortLemmas
 pub mod Adding
 pub mod Elements
-pub mod Times
 pub mod Places
 pub mod Partly
 pub mod Due
 pub mod Awaiting
-pub mod Clocking
+pub mod Busy
 pub mod Unchanged
 pub mod MomentLists
 pub mod Next

@@ -22,7 +22,7 @@ use Rattle.vhdl_values.specs.Scalar.{code_of}
 use Rattle.rtl_model.specs.simulation.Cycle.{changed}
 use Rattle.rtl_agenda.specs.Agenda.{Change, changes_at}
 use Rattle.rtl_stim.specs.Inputs.{Input, Element, input_at, no_input}
-use Rattle.rtl_stim.specs.Courses.{Course, Sets, Ticks, is_busy}
+use Rattle.rtl_stim.specs.Courses.{Course, Sets, is_busy}
 use Rattle.rtl_stim.specs.Reading.{Schedule}
 use Rattle.rtl_stim.specs.Times.{nets_of, all_nets, value_at, is_moment}
 use Rattle.rtl_stim.specs.Filling.{HaveOwnNets, IsOn, IsNext, Waits}
@@ -31,7 +31,7 @@ use Rattle.rtl_moments.specs.Stimuli.{moments, code_at}
 use Rattle.rtl_moments.specs.Moments.{EachMomentFollows, EachBeginsAtZero, coded}
 use Rattle.rtl_moments.proofs.Values.{first_or_later, value_there}
 use Rattle.rtl_moments.proofs.Places.{input_there, among_all}
-use Rattle.rtl_moments.proofs.Due.{found_key, at_itself, next_is, next_exists}
+use Rattle.rtl_moments.proofs.Due.{found_key, at_itself, first_busy}
 use Rattle.rtl_moments.proofs.Awaiting.{place_of, is_on, course_there, element_of_net}
 use Rattle.rtl_moments.proofs.Unchanged.{same_value}
 use Rattle.rtl_moments.proofs.MomentLists.{next_at, last_at, first_at}
@@ -143,12 +143,10 @@ module _ (inputs : List Input) (schedule : Schedule) (own : HaveOwnNets inputs) 
       has = Contains-get_or (nets_of (input_at inputs place)) 0 0 some
 
       by : (course : Course) → IsOn inputs schedule.courses course net → is_busy course b ≡ true → (t : ℕ) × (now < t) × (t ≤ b) × Contains (keys_of waiting) t
-      by (Sets sets) on is = (b, after, omega arith, key_of_change waiting b (net, value_at inputs schedule net b) (waits.due (Sets sets) net b on after sooner is))
-      by (Ticks first half) on is =
-          let n = next_exists first half now b after is in
-          let one = next_is first half now n.0 n.1 in
-          let there = waits.due (Ticks first half) net n.0 on one.later (omega (arith, n.2, sooner)) (one.toggling, λ between l s h. let none = one.none_between between l s in cc) in
-          (n.0, one.later, n.2, key_of_change waiting n.0 (net, value_at inputs schedule net n.0) there)
+      by course on is =
+          let n = first_busy course now b after is in
+          let there = waits.due course net n.0 on n.1 (omega (arith, n.2, sooner)) n.3 in
+          (n.0, n.1, n.2, key_of_change waiting n.0 (net, value_at inputs schedule net n.0) there)
 
   moment_waits : (b : ℕ) → now < b → b ≤ schedule.stop → is_moment schedule b ≡ true → (t : ℕ) × (now < t) × (t ≤ b) × Contains (keys_of waiting) t
   moment_waits b after sooner is =
@@ -163,8 +161,7 @@ module _ (inputs : List Input) (schedule : Schedule) (own : HaveOwnNets inputs) 
       by false is = refl
 
   next_busy : (course : Course) (t : ℕ) → IsNext course now t → is_busy course t ≡ true
-  next_busy (Sets sets) t next = next
-  next_busy (Ticks first half) t next = next.0
+  next_busy course t next = next.0
 
   module _ (t : ℕ) (taken : List Change) (rest : List (ℕ × List Change)) (is : waiting ≡ (t, taken) ∷ rest) (rising : IsStrictlyIncreasing (keys_of waiting))
       (filled : All (λ changes. 0 < length changes) (values_of waiting)) where
@@ -250,8 +247,7 @@ module _ (inputs : List Input) (schedule : Schedule) (own : HaveOwnNets inputs) 
                 omega (arith, least, w.2, s)
 
             busy_next : (course : Course) (s : ℕ) → is_busy course s ≡ true → ((c : ℕ) → now < c → c < s → is_busy course c ≡ true → ⊥) → IsNext course now s
-            busy_next (Sets sets) s active none = active
-            busy_next (Ticks first half) s active none = (active, none)
+            busy_next course s active none = (active, none)
 
         idle_at : (course : Course) (place m : ℕ) → place < length inputs → course_in schedule place ≡ course → IsOn inputs schedule.courses course m
             → ((v : Nine) → Contains taken (m, v) → ⊥) → (b : ℕ) → now < b → b ≤ t → is_busy course b ≡ false

@@ -1,11 +1,11 @@
 -- What waits where memory was refused.
-use Rattle.std.proofs.Common.{ℕ, ◌+◌, Bool, List, [], ◌++◌, length, take, drop, map, filter, ⊎_elim, inl, inr, sym, ap, subst, ◌∙◌, arith}
+use Rattle.std.proofs.Common.{ℕ, ◌+◌, List, [], ◌++◌, length, take, drop, map, ⊎_elim, inl, inr, sym, ap, subst, ◌∙◌, arith}
 use Rattle.std.specs.Prelude.{Contains, Some, None, Option, IfSome, unwrap_or}
 use Rattle.std.specs.Ordering.{nat_cmp}
 use Rattle.std.specs.Map.{lookup}
 use Rattle.std.specs.BTreeMap.{is_at}
 use Rattle.std.proofs.lemmas.List.{take-append-drop, take-map}
-use Rattle.std.proofs.lemmas.List.Elements.{Contains-append_left, Contains-append_right, filter-append}
+use Rattle.std.proofs.lemmas.List.Elements.{Contains-append_left, Contains-append_right}
 use Rattle.std.proofs.lemmas.Map.Views.{IfSome-lookup_from_All}
 use Rattle.rtl_agenda.specs.Agenda.{AgendaState, Change, changes_at, IsOneEach, IsOrderly}
 use Rattle.rtl_stim.specs.declared.inputs.Element.{Element as KeptElement}
@@ -13,9 +13,8 @@ use Rattle.rtl_stim.specs.Inputs.{Element}
 use Rattle.rtl_stim.specs.Courses.{Course, course_value}
 use Rattle.rtl_stim.specs.View.{element_view}
 use Rattle.rtl_moments.specs.Numbered.{numbered}
-use Rattle.rtl_moments.specs.Pushes.{Push, AddsTo, AddsSome, gathered, element_pushes}
+use Rattle.rtl_moments.specs.Pushes.{Push, AddsTo, AddsSome, element_pushes}
 use Rattle.rtl_moments.proofs.Numbering.{numbered-append}
-use Rattle.rtl_moments.proofs.Adding.{gathered-append}
 
 pub some_of_all : (a b : List (ℕ × List Change)) (P : List Push) → AddsTo a b P → AddsSome a b P
 some_of_all a b P adds = record { kept = λ t c old. (adds t c).1 (inl old); pushed = λ t c there. (adds t c).0 there }
@@ -53,17 +52,6 @@ some_elements a b course t i es adds =
     let before = element_pushes course (map element_view (take i es)) t in
     some_among a b before (element_pushes course (map element_view es) t) (some_of_all a b before adds)
     (λ p there. numbered_take f 0 i (map element_view es) p (subst (λ front. Contains (numbered f 0 front) p) (sym (take-map element_view i es)) there))
-
-pub gathered_take : {X Y : Type 0} (f : X → List Y) (i : ℕ) (xs : List X) (y : Y) → Contains (gathered f (take i xs)) y → Contains (gathered f xs) y
-gathered_take f i xs y there =
-    subst (λ ys. Contains ys y) (sym (gathered-append f (take i xs) (drop i xs)) ∙ ap (gathered f) (take-append-drop i xs))
-    (Contains-append_left (gathered f (take i xs)) (gathered f (drop i xs)) y there)
-
-pub filtered_take : {X Y : Type 0} (f : X → List Y) (p : X → Bool) (i : ℕ) (xs : List X) (y : Y) → Contains (gathered f (filter p (take i xs))) y → Contains (gathered f (filter p xs)) y
-filtered_take f p i xs y there =
-    subst (λ ys. Contains ys y)
-    (sym (gathered-append f (filter p (take i xs)) (filter p (drop i xs))) ∙ ap (gathered f) (sym (filter-append p (take i xs) (drop i xs)) ∙ ap (filter p) (take-append-drop i xs)))
-    (Contains-append_left (gathered f (filter p (take i xs))) (gathered f (filter p (drop i xs))) y there)
 
 -- ---- of every agenda
 

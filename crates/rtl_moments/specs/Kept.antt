@@ -1,8 +1,8 @@
 -- How a stimulus is kept.
-use Rattle.std.specs.Prelude.{◌≡◌, ◌↔◌, ◌<◌, ◌≤◌, ℕ, List, slice_get, Some, Contains, AllPairs}
+use Rattle.std.specs.Prelude.{◌≡◌, ◌≤◌, ℕ, List}
 use Rattle.vhdl_values.specs.declared.scalar.Nine.{Nine}
 use Rattle.rtl_stim.specs.Inputs.{Element}
-use Rattle.rtl_stim.specs.Courses.{Course, Ticks, course_value}
+use Rattle.rtl_stim.specs.Courses.{Course, course_value}
 use Rattle.rtl_stim.specs.Reading.{latest_time}
 use Rattle.rtl_stim.specs.View.{inputs_view, schedule_view}
 use Rattle.rtl_moments.specs.declared.stimulus.Stimulus.TheInside.{Inside}
@@ -17,13 +17,7 @@ stimulus_view s = record { inputs = inputs_view s.inputs; schedule = schedule_vi
 abbrev pub element_values : Course → (t : ℕ) → List Element → List Nine
 element_values course t elements = numbered (λ place element. course_value course place element.start t) 0 elements
 
--- these are the places of the courses that are clocks
-pub record AreClocks (courses : List Course) (places : List ℕ) : Type 0 where
-  pub rise : AllPairs (λ p q. p < q) places
-  pub all : (place : ℕ) → Contains places place ↔ ((first : ℕ) × (half : ℕ) × (slice_get courses place ≡ Some (Ticks first half)))
-
 pub record IsKept (s : Inside) : Type 0 where
   pub stimulus : IsStimulus (stimulus_view s)
   pub initial : s.initial.items ≡ initial_values (stimulus_view s)
-  pub clocks : AreClocks (schedule_view s.schedule).courses s.clocks.items
   pub in_time : s.schedule.stop ≤ latest_time

@@ -1,9 +1,9 @@
 -- What filling an agenda pushes.
-use Rattle.std.specs.Prelude.{◌≡◌, ◌↔◌, ◌⊎◌, ℕ, ◌==◌, ◌+◌, ◌-◌, ◌%◌, ◌&&◌, nat_lt, nat_le, List, [], ◌∷◌, ◌++◌, Contains, Option, Some, None, Result, Ok, Err, filter, if◌then◌else◌}
-use Rattle.std.specs.Map.{keys_of}
+use Rattle.std.specs.Prelude.{◌≡◌, ◌↔◌, ◌⊎◌, ℕ, ◌==◌, ◌+◌, ◌-◌, ◌%◌, nat_lt, nat_le, List, [], ◌∷◌, ◌++◌, Contains, Option, Some, None, Result, Ok, Err, filter, take, if◌then◌else◌}
+use Rattle.std.specs.List.{range_with_len}
 use Rattle.rtl_agenda.specs.Agenda.{AgendaState, Change, changes_at}
 use Rattle.rtl_stim.specs.Inputs.{Input, Element, input_at}
-use Rattle.rtl_stim.specs.Courses.{Course, Sets, Ticks, course_value, course_toggles}
+use Rattle.rtl_stim.specs.Courses.{Course, course_value, is_busy}
 use Rattle.rtl_stim.specs.Reading.{Schedule}
 use Rattle.rtl_stim.specs.View.{course_in}
 use Rattle.rtl_moments.specs.Numbered.{numbered}
@@ -57,10 +57,9 @@ abbrev pub up_to : (stop : ℕ) → Option ℕ → List ℕ
 up_to stop None = []
 up_to stop (Some t) = if nat_le t stop then t ∷ [] else []
 
--- the times up to the stop that wait after now: of a clock the next one
+-- the first time after now, up to the stop, at which a course is busy, if there is one
 abbrev pub due : Course → (now stop : ℕ) → List ℕ
-due (Sets sets) now stop = filter (λ t. nat_lt now t && nat_le t stop) (keys_of sets)
-due (Ticks first half) now stop = up_to stop (next_time first half now)
+due course now stop = take 1 (filter (λ t. is_busy course t) (range_with_len (now + 1) (stop - now)))
 
 abbrev pub due_pushes : Course → List Element → (now stop : ℕ) → List Push
 due_pushes course elements now stop = gathered (element_pushes course elements) (due course now stop)
@@ -70,6 +69,6 @@ due_pushes course elements now stop = gathered (element_pushes course elements) 
 abbrev pub place_pushes : List Input → Schedule → (now place : ℕ) → List Push
 place_pushes inputs schedule now place = due_pushes (course_in schedule place) (input_at inputs place).elements now schedule.stop
 
--- of a clock that toggles now, the next toggle
-abbrev pub toggle_pushes : List Input → Schedule → (now place : ℕ) → List Push
-toggle_pushes inputs schedule now place = if course_toggles (course_in schedule place) now then place_pushes inputs schedule now place else []
+-- of an input that is busy now, what comes next
+abbrev pub busy_pushes : List Input → Schedule → (now place : ℕ) → List Push
+busy_pushes inputs schedule now place = if is_busy (course_in schedule place) now then place_pushes inputs schedule now place else []

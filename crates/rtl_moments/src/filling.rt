@@ -1,14 +1,16 @@
 //! What an agenda is filled with.
 
-ghost use Rattle.std.specs.Prelude.{◌≡◌, ◌≢◌, ℕ, ◌<◌, ◌≤◌, ◌∷◌, [], AllPairs, Some, None, map, length, vec_len, OnOk, OnErr, IfSome};
+ghost use Rattle.std.specs.Prelude.{◌≡◌, ◌≢◌, false, ℕ, ◌<◌, ◌≤◌, ◌∷◌, [], AllPairs, Some, None, map, length, vec_len, OnOk, OnErr, IfSome, IsTrue};
 ghost use Rattle.rtl_agenda.specs.Agenda.{IsAfter};
+ghost use Rattle.rtl_stim.specs.Courses.{is_busy};
 ghost use Rattle.rtl_stim.specs.Inputs.{input_at};
 ghost use Rattle.rtl_stim.specs.Times.{nets_of};
 ghost use Rattle.rtl_stim.specs.Filling.{Waits, HaveOwnNets};
-ghost use Rattle.rtl_stim.specs.View.{inputs_view, schedule_view, course_view, course_in, element_view};
+ghost use Rattle.rtl_stim.specs.View.{course_in, course_view, element_view, inputs_view, schedule_view};
 ghost use Rattle.rtl_moments.specs.Pushes as spec;
 ghost use Rattle.rtl_moments.specs.Left.{WaitsPartly};
-ghost use Rattle.rtl_moments.specs.Pushes.{HasPushed, KeepsTaken, IsFreeAt, IsFree, element_pushes, gathered, due_pushes, place_pushes};
+ghost use Rattle.rtl_moments.specs.Pushes.{HasPushed, KeepsTaken, IsFreeAt, IsFree, element_pushes, place_pushes};
+ghost use Rattle.rtl_moments.specs.Quiet.{IsWithin, found_or_past};
 
 use crate::ports::elements_at;
 use crate::stimulus::Stimulus;
@@ -18,7 +20,7 @@ use std::collections::BTreeMap;
 use vhdl_values::Vec9;
 
 impl Stimulus {
-    /// Fills a new agenda with what comes after 0: each value that is set, and the next toggle of each clock.
+    /// Fills a new agenda with what comes after 0: of each input the next values that are set, and of a clock the next toggle.
     ///
     /// It takes the agenda's memory for these. Where that is refused, some of these wait, and nothing else.
     pub fn load<A: Agenda>(&self, agenda: &mut A) -> Result<(), NoMemory>
@@ -34,7 +36,7 @@ impl Stimulus {
         Ok(())
     }
 
-    /// Brings the next toggle of each clock that toggles at the time that was taken from the agenda last.
+    /// Brings what comes next of each input that was set or toggled at the time that was taken from the agenda last.
     ///
     /// It takes the agenda's memory for these. Where that is refused, what waited waits still, with some of these.
     pub fn refill<A: Agenda>(&self, time: u64, agenda: &mut A) -> Result<(), NoMemory>
@@ -45,16 +47,16 @@ impl Stimulus {
         ensures waits { OnOk result (Waits self.now.inputs self.now.schedule time (A.state agenda.new).waiting) }
         ensures left { OnErr result (WaitsPartly self.now.inputs self.now.schedule time (A.state agenda.old).waiting (A.state agenda.new).waiting) }
     {
-        for place in &self.clocks {
-            if self.schedule.courses[*place].toggles(time) {
-                push_due(agenda, &self.inputs, &self.schedule, *place, time)?;
+        for place in 0..self.schedule.courses.len() {
+            if self.schedule.courses[place].is_busy(time) {
+                push_due(agenda, &self.inputs, &self.schedule, place, time)?;
             }
         }
         Ok(())
     }
 }
 
-/// Pushes what is due of the input at a place after now.
+/// Pushes what comes first of the input at a place after now.
 fn push_due<A: Agenda>(
     agenda: &mut A,
     inputs: &Inputs,
@@ -71,40 +73,10 @@ fn push_due<A: Agenda>(
     ensures pushed { HasPushed (A.state agenda.old).waiting (A.state agenda.new).waiting
         (place_pushes (inputs_view inputs.now) (schedule_view schedule.now) now place) result }
 {
-    let elements = elements_at(inputs, place);
-    match &schedule.courses[place] {
-        Course::Sets(sets) => push_sets(agenda, schedule, place, elements, sets, now),
-        Course::Ticks { first, half } => match next_toggle(*first, *half, now, schedule.stop) {
-            None => Ok(()),
-            Some(time) => push_elements(agenda, schedule, place, elements, time),
-        },
+    match next_busy(&schedule.courses[place], now, schedule.stop) {
+        None => Ok(()),
+        Some(time) => push_elements(agenda, schedule, place, elements_at(inputs, place), time),
     }
-}
-
-/// Pushes the values of elements at each time after now at which they are set.
-fn push_sets<A: Agenda>(
-    agenda: &mut A,
-    schedule: &Schedule,
-    place: usize,
-    elements: &[Element],
-    sets: &BTreeMap<u64, Vec9>,
-    now: u64,
-) -> Result<(), NoMemory>
-    requires there { place < vec_len schedule.now.courses }
-    requires own { AllPairs (λ n m. n ≢ m) (map (λ e. e.net) elements.now) }
-    requires later { (t : ℕ) → now < t → IsAfter (A.state agenda.old).last t }
-    requires free { IsFree (A.state agenda.old).waiting (map (λ e. e.net) elements.now) }
-    ensures kept { KeepsTaken (A.state agenda.old) (A.state agenda.new) }
-    ensures pushed { HasPushed (A.state agenda.old).waiting (A.state agenda.new).waiting
-        (gathered (element_pushes (course_in (schedule_view schedule.now) place) (map element_view elements.now))
-        (spec.due (course_view (Course.Sets sets.now)) now schedule.now.stop)) result }
-{
-    for time in sets.keys() {
-        if now < *time && *time <= schedule.stop {
-            push_elements(agenda, schedule, place, elements, *time)?;
-        }
-    }
-    Ok(())
 }
 
 /// Pushes the value of each element at a time.
@@ -130,8 +102,35 @@ fn push_elements<A: Agenda>(
     Ok(())
 }
 
+/// The first time after now, up to the stop, at which a course is busy.
+pub fn next_busy(course: &Course, now: u64, stop: u64) -> Option<u64>
+    ensures within { IsWithin now stop result }
+    ensures busy { IfSome result (λ t. IsTrue (is_busy (course_view course.now) t)) }
+    ensures idle { (b : ℕ) → now < b → b < found_or_past result stop → is_busy (course_view course.now) b ≡ false }
+{
+    match course {
+        Course::Ticks { first, half } => next_toggle(*first, *half, now, stop),
+        Course::Sets(sets) => next_set(sets, now, stop),
+    }
+}
+
+/// The first time after now, up to the stop, at which an input is set.
+fn next_set(sets: &BTreeMap<u64, Vec9>, now: u64, stop: u64) -> Option<u64>
+    ensures within { IsWithin now stop result }
+    ensures busy { IfSome result (λ t. IsTrue (is_busy (course_view (Course.Sets sets.now)) t)) }
+    ensures idle { (b : ℕ) → now < b → b < found_or_past result stop → is_busy (course_view (Course.Sets sets.now)) b ≡ false }
+{
+    if stop <= now {
+        return None;
+    }
+    match sets.range(now + 1..).next() {
+        Some((time, _)) if *time <= stop => Some(*time),
+        _ => None,
+    }
+}
+
 /// The first time after now, up to the stop, at which a clock toggles.
-pub fn next_toggle(first: u64, half: u64, now: u64, stop: u64) -> Option<u64>
+fn next_toggle(first: u64, half: u64, now: u64, stop: u64) -> Option<u64>
     ensures next { spec.up_to stop result ≡ spec.up_to stop (spec.next_time first half now) }
     ensures within { IfSome result (λ t. t ≤ stop) }
     ensures later { IfSome result (λ t. now < t) }

@@ -12,6 +12,6 @@ mod stimulus;
 
 pub use laws::{agenda_gives_moments, times_show_races};
 pub use races::{Race, first_race};
-pub use rtl_agenda::{Agenda, Change, MapAgenda, NoMemory};
+pub use rtl_agenda::{Agenda, Change, MapAgenda, NoMemory, Wheel};
 pub use rtl_stim::{StimFault, StimProblem};
 pub use stimulus::Stimulus;

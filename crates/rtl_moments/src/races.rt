@@ -6,19 +6,16 @@ ghost use Rattle.rtl_model.specs.simulation.Races.{HasNoRace, IsFirstRace};
 ghost use Rattle.rtl_model.specs.simulation.Report as report;
 ghost use Rattle.rtl_net.specs.Nets.{flat};
 ghost use Rattle.rtl_stim.specs.Inputs.{input_at};
-ghost use Rattle.rtl_stim.specs.Courses.{is_busy};
 ghost use Rattle.rtl_stim.specs.Times.{all_nets, nets_of, value_at};
-ghost use Rattle.rtl_stim.specs.View.{course_view};
 ghost use Rattle.rtl_moments.specs.Stimuli.{moments, inputs_at};
 ghost use Rattle.rtl_moments.specs.Quiet.{IsNoClock, IsQuietAt, IsWithin, IsActiveAt, IsChangedAt, IsRaceHere, HasNoneHere, clock_at, earlier_of, found_or_past};
 
-use crate::filling::next_toggle;
+use crate::filling::next_busy;
 use crate::ports::elements_at;
 use crate::stimulus::Stimulus;
 use rtl_net::Net;
-use rtl_stim::{Course, Element};
-use std::collections::BTreeMap;
-use vhdl_values::{Edge, Vec9, edge};
+use rtl_stim::Element;
+use vhdl_values::{Edge, edge};
 
 /// A data input that changes at an active edge of a clock, both by their nets, at a time in ns.
 #[derive(Clone, Copy, PartialEq, Eq, Debug)]
@@ -26,31 +23,6 @@ pub struct Race {
     pub time: u64,
     pub input: usize,
     pub clock: usize,
-}
-
-/// The first time after now, up to the stop, at which a course is busy.
-fn next_busy(course: &Course, now: u64, stop: u64) -> Option<u64>
-    ensures within { IsWithin now stop result }
-    ensures idle { (b : ℕ) → now < b → b < found_or_past result stop → is_busy (course_view course.now) b ≡ false }
-{
-    match course {
-        Course::Ticks { first, half } => next_toggle(*first, *half, now, stop),
-        Course::Sets(sets) => next_set(sets, now, stop),
-    }
-}
-
-/// The first time after now, up to the stop, at which an input is set.
-fn next_set(sets: &BTreeMap<u64, Vec9>, now: u64, stop: u64) -> Option<u64>
-    ensures within { IsWithin now stop result }
-    ensures idle { (b : ℕ) → now < b → b < found_or_past result stop → is_busy (course_view (Course.Sets sets.now)) b ≡ false }
-{
-    if stop <= now {
-        return None;
-    }
-    match sets.range(now + 1..).next() {
-        Some((time, _)) if *time <= stop => Some(*time),
-        _ => None,
-    }
 }
 
 /// Whether a net is one of the clocks.

@@ -2,16 +2,16 @@
 
 ghost use Rattle.std.specs.Prelude.{◌≡◌, ◌<◌, ◌++◌, length, map, vec_len, IfOk, OnOk};
 ghost use Rattle.rtl_stim.specs.Filling.{HaveOwnNets};
-ghost use Rattle.rtl_stim.specs.View.{inputs_view, schedule_view, course_view, course_in, element_view};
+ghost use Rattle.rtl_stim.specs.View.{inputs_view, schedule_view, course_in, element_view};
 ghost use Rattle.rtl_stim.specs.Times.{all_nets, value_at};
 ghost use Rattle.rtl_moments.specs.Ports.{HasOwnPorts};
 ghost use Rattle.rtl_moments.specs.Stimuli.{IsRead};
-ghost use Rattle.rtl_moments.specs.Kept.{AreClocks, element_values};
+ghost use Rattle.rtl_moments.specs.Kept.{element_values};
 
 use crate::ports::{elements_at, inputs_of};
 use crate::stimulus::Stimulus;
 use rtl_net::Net;
-use rtl_stim::{Course, Element, Inputs, Schedule, StimFault, read_schedule};
+use rtl_stim::{Element, Inputs, Schedule, StimFault, read_schedule};
 use std::alloc::{AllocError, Global};
 use vhdl_values::Nine;
 
@@ -31,12 +31,10 @@ impl Stimulus {
         let inputs = inputs_of(alloc, net)?;
         let schedule = read_schedule(alloc, text, &inputs)?;
         let initial = initial_values(alloc, &inputs, &schedule)?;
-        let clocks = clocks(alloc, &schedule.courses)?;
         Ok(Stimulus {
             inputs,
             schedule,
             initial,
-            clocks,
         })
     }
 }
@@ -74,17 +72,4 @@ fn push_values(
         values.push(schedule.value(place, from_left, element.start, 0))?;
     }
     Ok(())
-}
-
-/// The places of the courses that are clocks.
-fn clocks(alloc: Global, courses: &[Course]) -> Result<Vec<usize>, AllocError>
-    ensures { IfOk result (λ places. AreClocks (map course_view courses.now) places.items) }
-{
-    let mut places = Vec::new(alloc);
-    for (place, course) in courses.iter().enumerate() {
-        if let Course::Ticks { .. } = course {
-            places.push(place)?;
-        }
-    }
-    Ok(places)
 }

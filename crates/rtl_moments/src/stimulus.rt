@@ -18,7 +18,6 @@ pub struct Stimulus {
     pub(crate) inputs: Inputs,
     pub(crate) schedule: Schedule,
     pub(crate) initial: Vec<Nine>,
-    pub(crate) clocks: Vec<usize>,
 }
 
 impl Model for Stimulus {

@@ -44,11 +44,6 @@ course_value (Ticks first half) place start t = clock_value first half t
 abbrev pub toggles : (first half t : ℕ) → Bool
 toggles first half t = nat_le first t && (t - first) % half == 0
 
--- the input is a clock that toggles at the time
-abbrev pub course_toggles : Course → (t : ℕ) → Bool
-course_toggles (Sets sets) t = false
-course_toggles (Ticks first half) t = toggles first half t
-
 -- the input is set at the time
 abbrev pub is_set_at : List (ℕ × List Nine) → (t : ℕ) → Bool
 is_set_at sets t = is_some (lookup (is_at (nat_cmp t)) sets)

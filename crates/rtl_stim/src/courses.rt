@@ -2,7 +2,7 @@
 
 ghost use Rattle.std.specs.Prelude.{◌≡◌, ◌<◌, ◌+◌, ◌^◌, ◌/◌, IfSome, IfNone, option_map};
 ghost use Rattle.rtl_stim.specs.Courses as said;
-ghost use Rattle.rtl_stim.specs.Courses.{course_value, course_toggles, IsNextToggle};
+ghost use Rattle.rtl_stim.specs.Courses.{course_value, is_busy, IsNextToggle};
 ghost use Rattle.rtl_stim.specs.Reading.{after_set, after_clock, in_line};
 ghost use Rattle.rtl_stim.specs.View.{course_view, value_in, Leads};
 
@@ -59,12 +59,12 @@ impl Course {
         }
     }
 
-    /// Whether it is a clock that toggles at a time.
-    pub fn toggles(&self, time: u64) -> bool
-        ensures { result ≡ course_toggles (course_view self.now) time }
+    /// Whether it is set at a time, or a clock that toggles there.
+    pub fn is_busy(&self, time: u64) -> bool
+        ensures { result ≡ is_busy (course_view self.now) time }
     {
         match self {
-            Course::Sets(_) => false,
+            Course::Sets(sets) => sets.contains_key(&time),
             Course::Ticks { first, half } => {
                 *first <= time && (time - first).checked_rem(*half).unwrap_or(time - first) == 0
             }

@@ -11,7 +11,7 @@ use rtl_eval::Drives;
 use rtl_net::Indices;
 
 /// A value's elements, from the left, to the drivers at these places.
-pub(crate) fn assign(places: &Indices, value: &Evaluated, out: &mut Drives)
+pub fn assign(places: &Indices, value: &Evaluated, out: &mut Drives)
     requires as_many { length (numbers places.now) ≡ length (codes_of value.now) }
     requires there { All (λ place. place < length out.old.entries) (numbers places.now) }
     ensures { out.new ≡ record (out.old) { entries = assigned (numbers places.now) (codes_of value.now) out.old.entries } }
@@ -28,7 +28,7 @@ pub(crate) fn assign(places: &Indices, value: &Evaluated, out: &mut Drives)
 }
 
 /// A value's elements, from the left, to these elements of variables.
-pub(crate) fn set(elements: &Indices, value: &Evaluated, out: &mut Drives)
+pub fn set(elements: &Indices, value: &Evaluated, out: &mut Drives)
     requires as_many { length (numbers elements.now) ≡ length (codes_of value.now) }
     requires there { All (λ element. element < length out.old.variables) (numbers elements.now) }
     ensures { out.new ≡ record (out.old) { variables = put (numbers elements.now) (codes_of value.now) out.old.variables } }

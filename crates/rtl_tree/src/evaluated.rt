@@ -16,7 +16,7 @@ use vhdl_values::Vec9;
 
 /// Elements of the nine values, or the position of a literal of an enumeration.
 #[derive(Clone, Copy)]
-pub(crate) enum Evaluated {
+pub enum Evaluated {
     Elements(Vec9),
     Position(u8),
 }
@@ -46,7 +46,7 @@ fn position(value: &Value, seen: Sight<'_>) -> u8
 }
 
 /// Whether one of the choices is this value.
-pub(crate) fn is_chosen(choices: &[Choice], value: &Evaluated) -> bool
+pub fn is_chosen(choices: &[Choice], value: &Evaluated) -> bool
     ensures { result ≡ list_any (λ choice. same (codes_of value.now) (choice_view choice)) choices.now }
 {
     choices
@@ -65,7 +65,7 @@ fn chosen(choice: &Choice) -> Evaluated
 }
 
 /// Whether two values are the same.
-pub(crate) fn are_same(left: &Evaluated, right: &Evaluated) -> bool
+pub fn are_same(left: &Evaluated, right: &Evaluated) -> bool
     ensures { result ≡ same (codes_of left.now) (codes_of right.now) }
 {
     match left {

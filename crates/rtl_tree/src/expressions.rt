@@ -45,7 +45,7 @@ fn chain(first: &Vec9, links: &[Link], seen: Sight<'_>) -> Vec9
 }
 
 /// An operator on two vectors.
-fn operate(operator: Operator, left: &Vec9, right: &Vec9) -> Vec9
+pub fn operate(operator: Operator, left: &Vec9, right: &Vec9) -> Vec9
     requires operands { FitsOperands (operator_view operator) (length left.now) (length right.now) }
     requires width { IsWidth (operated_width (operator_view operator) (length left.now) (length right.now)) }
     ensures { result ≡ operated (operator_view operator) left.now right.now }
@@ -60,7 +60,7 @@ fn operate(operator: Operator, left: &Vec9, right: &Vec9) -> Vec9
 }
 
 /// The values at these places, which are of the nine.
-fn gathered(places: &Indices, values: &[u8]) -> Vec9
+pub fn gathered(places: &Indices, values: &[u8]) -> Vec9
     requires width { IsWidth (length (numbers places.now)) }
     requires there { All (λ place. place < length values.now) (numbers places.now) }
     requires nine { All (λ place. slice_index values.now place < 9) (numbers places.now) }

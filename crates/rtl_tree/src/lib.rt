@@ -1,4 +1,5 @@
-//! The run of a process's body as a tree, over the statements and expressions of rtl_net.
+//! The run of a process's body as a tree, over the statements and expressions of rtl_net, and the parts of a run that other
+//! forms of bodies share: vectors of nets, operators, choices and assignments.
 #![tactic(auto)]
 
 mod assigning;
@@ -9,4 +10,9 @@ mod statements;
 mod tests;
 mod tree;
 
+pub use assigning::{assign, set};
+pub use evaluated::{Evaluated, are_same, is_chosen};
+pub use expressions::{gathered, operate};
+pub use seen::{Sight, Valuations, seeing};
+pub use tests::{logical, nine};
 pub use tree::{Tree, trees};

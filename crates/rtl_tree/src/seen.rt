@@ -8,21 +8,21 @@ use rtl_eval::Drives;
 
 /// The codes of all nets now and before the last update, and of the process's variable elements.
 #[derive(Clone, Copy)]
-pub(crate) struct Sight<'a> {
-    pub(crate) current: &'a [u8],
-    pub(crate) previous: &'a [u8],
-    pub(crate) variables: &'a [u8],
+pub struct Sight<'a> {
+    pub current: &'a [u8],
+    pub previous: &'a [u8],
+    pub variables: &'a [u8],
 }
 
 /// The codes of all nets now and before the last update.
 #[derive(Clone, Copy)]
-pub(crate) struct Valuations<'a> {
-    pub(crate) current: &'a [u8],
-    pub(crate) previous: &'a [u8],
+pub struct Valuations<'a> {
+    pub current: &'a [u8],
+    pub previous: &'a [u8],
 }
 
 /// What a run sees that has come this far.
-pub(crate) fn seeing<'a>(nets: Valuations<'a>, out: &'a Drives) -> Sight<'a>
+pub fn seeing<'a>(nets: Valuations<'a>, out: &'a Drives) -> Sight<'a>
     ensures { seen_of result ≡ seen_by nets.entry out.now }
 {
     Sight {

@@ -54,7 +54,7 @@ fn chain(first: bool, links: &[TestLink], seen: Sight<'_>) -> bool
 }
 
 /// A logical operator on truth values.
-fn logical(operator: Logic, left: bool, right: bool) -> bool
+pub fn logical(operator: Logic, left: bool, right: bool) -> bool
     ensures { result ≡ spec.truth operator left right }
 {
     match operator {
@@ -80,7 +80,7 @@ fn has_edge(kind: Edge, net: u32, seen: Sight<'_>) -> bool
 }
 
 /// The value of a code.
-fn nine(code: u8) -> Nine
+pub fn nine(code: u8) -> Nine
     ensures { result ≡ value_of_code code }
 {
     Nine::from_code(code).unwrap_or(Nine::X)

@@ -48,7 +48,7 @@ pub record TouchesAll (processes : List Process) (before now : List (List ℕ)) 
 
 -- what stands at a number that no process has
 abbrev pub no_outcome : Outcome
-no_outcome = record { entries = []; starts = []; variables = []; room = 0 }
+no_outcome = record { entries = []; starts = []; variables = []; room = 0; laid = []; bits = [] }
 
 -- a run of this process has left these entries
 pub record HasRunOf (entries : List (Option ℕ)) (process : ℕ) (old new : List Outcome) : Type 0 where

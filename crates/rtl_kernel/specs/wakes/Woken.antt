@@ -1,9 +1,14 @@
 -- Which processes are resumed (IEEE 1076-2008, 14.7.5.3): those that are sensitive to a net with an event.
-use Rattle.std.specs.Prelude.{◌≡◌, ℕ, ◌<◌, ◌≤◌, ◌⊎◌, false, Bool, List, [], length, slice_index, slice_index_or, IsTrue, Contains, Vec}
+use Rattle.std.specs.Prelude.{◌≡◌, ℕ, ◌<◌, ◌≤◌, ◌⊎◌, false, Bool, List, [], length, map, slice_index, slice_index_or, IsTrue, Contains, Vec}
 use Rattle.std.specs.Global.{Global}
 use Rattle.std.specs.Vec.{vec_capacity}
+use Rattle.rtl_layout.specs.Groups.{Grouping}
 use Rattle.rtl_model.specs.basics.Valuations.{has_event}
 use Rattle.rtl_kernel.specs.worklists.Marked.{AreMarked}
+
+-- for each net the processes that its group is listed for
+abbrev pub wakers_of : Grouping → List (List ℕ)
+wakers_of groups = map (λ (g : ℕ). slice_index_or groups.listed g []) groups.of_net
 
 -- index has for each net the processes that wake on it, wakes for each process the nets that it wakes on
 pub record IsIndex (wakes index : List (List ℕ)) : Type 0 where
@@ -30,12 +35,6 @@ pub record IsListing (marks : Vec Bool Global) (places : Vec ℕ Global) : Type 
   pub marked : AreMarked marks.items places.items
   pub differ : AreDifferent places.items
   pub reserved : length marks.items ≤ vec_capacity places
-
--- new has what old has, and this process in the rows of these nets
-pub record IsIndexed (process : ℕ) (nets : List ℕ) (old new : List (List ℕ)) : Type 0 where
-  pub kept : (n p : ℕ) → Contains (slice_index_or old n []) p → Contains (slice_index_or new n []) p
-  pub added : (n : ℕ) → Contains nets n → Contains (slice_index_or new n []) process
-  pub no_other : (n p : ℕ) → Contains (slice_index_or new n []) p → Contains (slice_index_or old n []) p ⊎ ((p ≡ process) × Contains nets n)
 
 -- the same of these nets alone
 pub record AreWokenBy (nets : List ℕ) (index : List (List ℕ)) (before current : List ℕ) (waiting : List Bool) : Type 0 where

@@ -1,6 +1,5 @@
-use Rattle.std.proofs.Common.{◌≡◌, ℕ, ◌+◌, ◌<◌, None}
-use Rattle.rtl_eval.specs.Tracked.{entry}
+use Rattle.std.proofs.Common.{◌≡◌, ◌<◌, ℕ, false, get_or}
 use Rattle.rtl_eval.proofs.spans.are_free.Given as goal
 
-abbrev pub invariant-loop-at : goal.invariant-loop-at
-invariant-loop-at l = (k : ℕ) → k < l.at → entry l.entries (l.first + k) ≡ None
+abbrev pub invariant-loop-mark : goal.invariant-loop-mark
+invariant-loop-mark l = l.any ≡ false → (k : ℕ) → k < l.mark-index → get_or l.marks k false ≡ false

@@ -1,8 +1,8 @@
-use Rattle.std.proofs.Common.{◌≡◌, ℕ, ◌+◌, ◌<◌, List, Option, None, arith, length, get_or, ap, sym, subst, ◌∙◌}
+use Rattle.std.proofs.Common.{◌≡◌, ℕ, ◌+◌, ◌<◌, List, arith, length, get_or, ap, sym, subst, ◌∙◌}
 use Rattle.std.specs.Vec.{with_items}
 use Rattle.std.proofs.lemmas.List.{with_items_is}
 use Rattle.rtl_eval.specs.declared.spans.Span.{Span}
-use Rattle.rtl_eval.proofs.Places.{place_there}
+use Rattle.rtl_eval.proofs.Places.{place_assigned}
 use Rattle.rtl_kernel.specs.drivers.Transactions.{nets_of}
 use Rattle.rtl_kernel.specs.drivers.Updates.{Takes, IsTaken}
 use Rattle.rtl_kernel.proofs.Updating.{takes_none, takes_then, taken_values, left_all, left_one, none_left}
@@ -17,9 +17,11 @@ loop-span-init c = record {
   left = left_all c.args.outcome.now.entries c.args.values.now.items c.assigned-span-items.result.now c.assigned-span-items.ensures.places;
 }
 
-pub update_span-requires-clause-there : goal.update_span-requires-clause-there
-update_span-requires-clause-there c =
-    rw (c.entries.ensures) (λ k l. place_there _ _ c.assigned-span-items.ensures.places c.loop-span.span-index k no_span c.loop-span-test.true l)
+pub update_span-requires-clause-within : goal.update_span-requires-clause-within
+update_span-requires-clause-within c = c.assigned-span-items.ensures.within c.loop-span.span-index no_span c.loop-span-test.true
+
+pub update_span-requires-clause-all : goal.update_span-requires-clause-all
+update_span-requires-clause-all c = λ k l. place_assigned _ _ c.assigned-span-items.ensures.places c.loop-span.span-index k no_span c.loop-span-test.true l
 
 pub loop-span-preserved : goal.loop-span-preserved
 loop-span-preserved c =
@@ -31,7 +33,7 @@ loop-span-preserved c =
     let old = c.loop-span.values in
     let new = c.update_span.new.values in
     let I = c.loop-span.invariant in
-    let done = rw (c.entries.ensures, c.deref_mut.ensures.value) at c.update_span.ensures.takes in
+    let done = rw c.deref_mut.ensures.value at c.update_span.ensures.takes in
     let many : length new ≡ old.len = omega (arith, done.as_many, old.ok.0) in
     let kept = (with_items old new).items in
     let same : kept ≡ new = with_items_is old new many in
@@ -39,7 +41,7 @@ loop-span-preserved c =
     subst (λ (vs : List ℕ). Takes (nets_of drives) entries old.items c.loop-span.touched vs c.update_span.new.touched) (sym same) done in
     let taken : (k : ℕ) → k < span.len → IsTaken entries kept (span.first + k) =
     λ k l v e. ap (λ (vs : List ℕ). get_or vs (span.first + k) 0) same
-    ∙ c.update_span.ensures.taken k l v (ap (λ (es : List (Option ℕ)). get_or es (span.first + k) None) c.entries.ensures ∙ e) in
+    ∙ c.update_span.ensures.taken k l v e in
     record {
       takes = takes_then (nets_of drives) entries _ old.items kept _ c.loop-span.touched c.update_span.new.touched I.takes takes;
       left = left_one entries old.items kept spans i no_span c.loop-span-test.true takes.stay taken I.left;

@@ -5,6 +5,6 @@ use Rattle.rtl_kernel.proofs.drivers.update_span.Given as goal
 
 abbrev pub invariant-loop-at : goal.invariant-loop-at
 invariant-loop-at l = record {
-  takes : Takes (nets_of l.drives) l.entries l.initial.values l.initial.touched l.values l.touched;
-  taken : (k : ℕ) → k < l.at → IsTaken l.entries l.values (l.span.first + k);
+  takes : Takes (nets_of l.drives) l.outcome.entries l.initial.values l.initial.touched l.values l.touched;
+  taken : (k : ℕ) → k < l.at → IsTaken l.outcome.entries l.values (l.span.first + k);
 }

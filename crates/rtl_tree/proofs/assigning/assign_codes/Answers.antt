@@ -32,4 +32,4 @@ returns-in-Run c =
     let whole : assigned (numbers c.args.places.now) codes o.entries ≡ written first codes o.entries =
     ap (λ (ns : List ℕ). assigned ns codes o.entries) (is ∙ ap (range_with_len first) many) ∙ assigned_span first codes o.entries in
     c.set_span.ensures
-    ∙ ap {B = Outcome} (λ (es : List (Option ℕ)). record { entries = es; starts = o.starts; variables = o.variables; room = o.room }) (sym whole)
+    ∙ ap {B = Outcome} (λ (es : List (Option ℕ)). record { entries = es; starts = o.starts; variables = o.variables; room = o.room; laid = o.laid; bits = o.bits }) (sym whole)

@@ -21,4 +21,6 @@ loop-at-preserved c =
       variables_stay = ap (λ (o : Outcome). o.variables) c.set.ensures ∙ I.variables_stay;
       starts_stay = ap (λ (o : Outcome). o.starts) c.set.ensures ∙ I.starts_stay;
       room_stays = ap (λ (o : Outcome). o.room) c.set.ensures ∙ I.room_stays;
+      laid_stay = ap (λ (o : Outcome). o.laid) c.set.ensures ∙ I.laid_stay;
+      bits_stay = ap (λ (o : Outcome). o.bits) c.set.ensures ∙ I.bits_stay;
     }

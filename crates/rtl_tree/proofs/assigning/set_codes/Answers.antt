@@ -23,4 +23,6 @@ loop-at-preserved c =
       entries_stay = ap (λ (o : Outcome). o.entries) c.set_variable.ensures ∙ I.entries_stay;
       starts_stay = ap (λ (o : Outcome). o.starts) c.set_variable.ensures ∙ I.starts_stay;
       room_stays = ap (λ (o : Outcome). o.room) c.set_variable.ensures ∙ I.room_stays;
+      laid_stay = ap (λ (o : Outcome). o.laid) c.set_variable.ensures ∙ I.laid_stay;
+      bits_stay = ap (λ (o : Outcome). o.bits) c.set_variable.ensures ∙ I.bits_stay;
     }

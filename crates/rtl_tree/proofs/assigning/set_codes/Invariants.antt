@@ -11,4 +11,6 @@ invariant-loop-at l = record {
   entries_stay : l.out.entries ≡ l.initial.out.entries;
   starts_stay : l.out.starts ≡ l.initial.out.starts;
   room_stays : l.out.room ≡ l.initial.out.room;
+  laid_stay : l.out.laid ≡ l.initial.out.laid;
+  bits_stay : l.out.bits ≡ l.initial.out.bits;
 }

@@ -1,48 +1,104 @@
-use Rattle.std.proofs.Common.{◌≡◌, [], ◌∷◌, ◌++◌, length, length-append, arith, refl, ap, ◌∙◌, Some, None, not}
-use Rattle.std.proofs.lemmas.List.{length-set}
+use Rattle.std.proofs.Common.{◌≡◌, ℕ, ◌+◌, ◌<◌, ◌≤◌, Bool, true, false, List, [], ◌∷◌, ◌++◌, length, get_or, set, length-append, Option, Some, None, arith, refl, ap, sym, subst, ◌∙◌}
 use Rattle.std.specs.Option.{is_some}
+use Rattle.std.proofs.lemmas.List.{get_or_default, length-set}
+use Rattle.std.proofs.lemmas.List.Elements.{All-push}
 use Rattle.rtl_eval.specs.declared.spans.Span.{Span}
+use Rattle.rtl_eval.specs.declared.drives.Drives.TheInside.{Inside}
+use Rattle.rtl_eval.specs.Runs.{Outcome}
 use Rattle.rtl_eval.specs.Spans.{places_of}
+use Rattle.rtl_eval.specs.Tracked.{AreAssigned, LieWithin, entries_of, outcome_of, IsTracked}
+use Rattle.rtl_eval.proofs.Assigned.{as_many_entries, is_marked, set_marked, set_again}
 use Rattle.rtl_eval.proofs.Places.{places_more}
 use Rattle.rtl_eval.proofs.Listing.{room_left, listed_more, listed_again}
-use Rattle.rtl_eval.proofs.Assigned.{is_no_entry, is_an_entry}
 use Rattle.rtl_eval.proofs.drives.Drives.set.Goals as goal
-use Rattle.rtl_eval.proofs.drives.Drives.set.Goals.{then-is_none, else-is_none}
+use Rattle.rtl_eval.proofs.drives.Drives.set.Goals.{then-not-index, else-not-index}
+
+module _ (d : Inside) (I : IsTracked d) (o : Outcome) (is : outcome_of d ≡ o) (place : ℕ) (there : place < length o.entries) where
+  there_marked : place < length d.marks.items
+  there_marked = let many = ap (λ (o : Outcome). length o.entries) is in omega (arith, there, many, as_many_entries d.marks.items d.values.items)
+
+  mark_read : (read b : Bool) → read ≡ get_or d.marks.items place read → read ≡ b → get_or d.marks.items place false ≡ b
+  mark_read read b e h = get_or_default d.marks.items place false read there_marked ∙ sym e ∙ h
+
+  there_entry : place < length (entries_of d.marks.items d.values.items)
+  there_entry = let l = there_marked in omega (arith, l, as_many_entries d.marks.items d.values.items)
+
+  there_value : place < length d.values.items
+  there_value = let l = there_marked in omega (arith, l, I.each_value)
 
 pub push_reserved-requires : goal.push_reserved-requires
 push_reserved-requires c =
-    let entries = c.self.inside.entries.items in
-    let within = rw (← c.self.view_is) at c.requires in
-    let none = is_no_entry entries c.args.place c.index.result.now within c.index.ensures (c.is_none.ensures ∙ ap not c.if-is_none.true) in
-    let l = room_left is_some None entries (places_of c.self.inside.assigned.items) c.self.invariant.assigned c.args.place (Some c.args.value) within refl (ap is_some none) in
-    omega (arith, l, c.self.invariant.few, c.self.invariant.reserved)
+    let d = c.self.inside in
+    let I = c.self.invariant in
+    let place = c.args.place in
+    let entries = entries_of d.marks.items d.values.items in
+    let free = mark_read d I c.args.self.now c.self.view_is place c.requires c.index.result.now false c.index.ensures c.if-not-index.true in
+    let l = room_left is_some None entries (places_of d.assigned.items) I.assigned place (Some c.args.value)
+    (there_entry d I c.args.self.now c.self.view_is place c.requires) refl (is_marked d.marks.items d.values.items place ∙ free) in
+    omega (arith, l, I.few, I.reserved, as_many_entries d.marks.items d.values.items)
 
 pub invariant_of-self : goal.invariant_of-self
 invariant_of-self c =
-    let entries = c.self.inside.entries.items in
-    let spans = c.self.inside.assigned.items in
-    let places = places_of spans in
-    let span : Span = record { first = c.args.place; len = 1 } in
-    let within = rw (← c.self.view_is) at c.requires in
+    let d = c.self.inside in
     let I = c.self.invariant in
-    elim c.if-is_none.branch [
-      | then-is_none w ↦
-          let none = is_no_entry entries c.args.place c.index.result.now within c.index.ensures (c.is_none.ensures ∙ ap not w.if-is_none.true) in
-          let all : places_of w.push_reserved.new.self.items ≡ places ++ c.args.place ∷ [] = ap places_of w.push_reserved.ensures.items ∙ places_more spans span in
-          let long = ap length all ∙ length-append places (c.args.place ∷ []) in
+    let place = c.args.place in
+    let value = c.args.value in
+    let marks = d.marks.items in
+    let values = d.values.items in
+    let spans = d.assigned.items in
+    let places = places_of spans in
+    let entries = entries_of marks values in
+    let span : Span = record { first = place; len = 1 } in
+    let marked = there_marked d I c.args.self.now c.self.view_is place c.requires in
+    let within = there_entry d I c.args.self.now c.self.view_is place c.requires in
+    let valued = there_value d I c.args.self.now c.self.view_is place c.requires in
+    elim c.if-not-index.branch [
+      | then-not-index w ↦
+          let free = is_marked marks values place ∙ mark_read d I c.args.self.now c.self.view_is place c.requires c.index.result.now false c.index.ensures w.if-not-index.true in
+          let pushed = w.push_reserved.new.self.items in
+          let all : places_of pushed ≡ places ++ place ∷ [] = ap places_of w.push_reserved.ensures.items ∙ places_more spans span in
+          let long = ap length all ∙ length-append places (place ∷ []) in
           let more = ap length w.push_reserved.ensures.items ∙ length-append spans (span ∷ []) in
           rw w.self-inside-is (record {
-            assigned = rw all (listed_more is_some None entries places I.assigned c.args.place (Some c.args.value) within refl (ap is_some none));
+            each_value = length-set values place value ∙ I.each_value ∙ sym (length-set marks place true);
+            assigned = subst (λ (es : List (Option ℕ)). AreAssigned es (places_of pushed)) (sym (set_marked marks values place value valued))
+                (rw all (listed_more is_some None entries places I.assigned place (Some value) within refl free));
+            within = subst (λ (n : ℕ). LieWithin n pushed) (sym (length-set marks place true))
+                (subst (λ (ss : List Span). LieWithin (length marks) ss) (sym w.push_reserved.ensures.items)
+                (All-push (λ (s : Span). s.first + s.len ≤ length marks) spans span I.within (omega (arith, marked))));
             few = omega (arith, I.few, long, more);
-            reserved = omega (arith, I.reserved, w.push_reserved.ensures.capacity, length-set entries c.args.place (Some c.args.value));
+            reserved = omega (arith, I.reserved, w.push_reserved.ensures.capacity, length-set marks place true);
             each_element = I.each_element;
+            laid_fit = I.laid_fit;
+            bits_fit = I.bits_fit;
           })
-      | else-is_none w ↦
-          let some = is_an_entry entries c.args.place c.index.result.now within c.index.ensures (c.is_none.ensures ∙ ap not w.if-is_none.false) in
+      | else-not-index w ↦
+          let some = mark_read d I c.args.self.now c.self.view_is place c.requires c.index.result.now true c.index.ensures w.if-not-index.false in
           rw w.self-inside-is (record {
+            each_value = length-set values place value ∙ I.each_value;
+            assigned = subst (λ (es : List (Option ℕ)). AreAssigned es places) (sym (set_again marks values place value valued some))
+                (listed_again is_some None entries places I.assigned place (Some value) within refl (is_marked marks values place ∙ some));
+            within = I.within;
             few = I.few;
-            assigned = listed_again is_some None entries places I.assigned c.args.place (Some c.args.value) within refl some;
-            reserved = omega (arith, I.reserved, length-set entries c.args.place (Some c.args.value));
+            reserved = I.reserved;
             each_element = I.each_element;
+            laid_fit = I.laid_fit;
+            bits_fit = I.bits_fit;
           })
+    ]
+
+pub returns : goal.returns
+returns c =
+    let d = c.self.inside in
+    let I = c.self.invariant in
+    let place = c.args.place in
+    let value = c.args.value in
+    let valued = there_value d I c.args.self.now c.self.view_is place c.requires in
+    let with_entries : List (Option ℕ) → Outcome = λ es. record (outcome_of d) { entries = es } in
+    let after = ap (λ (o : Outcome). record o { entries = set o.entries place (Some value) }) c.self.view_is in
+    elim c.if-not-index.branch [
+      | then-not-index w ↦ rw w.self-inside-is (ap with_entries (set_marked d.marks.items d.values.items place value valued) ∙ after)
+      | else-not-index w ↦
+          let some = mark_read d I c.args.self.now c.self.view_is place c.requires c.index.result.now true c.index.ensures w.if-not-index.false in
+          rw w.self-inside-is (ap with_entries (set_again d.marks.items d.values.items place value valued some) ∙ after)
     ]

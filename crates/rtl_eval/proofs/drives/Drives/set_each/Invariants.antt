@@ -10,4 +10,6 @@ invariant-loop-at l = record {
   variables_stay : l.self.variables ≡ l.initial.self.variables;
   starts_stay : l.self.starts ≡ l.initial.self.starts;
   room_stays : l.self.room ≡ l.initial.self.room;
+  laid_stay : l.self.laid ≡ l.initial.self.laid;
+  bits_stay : l.self.bits ≡ l.initial.self.bits;
 }

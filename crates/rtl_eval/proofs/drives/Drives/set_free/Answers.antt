@@ -1,59 +1,121 @@
-use Rattle.std.proofs.Common.{◌≡◌, ℕ, ◌+◌, ◌<◌, ◌≤◌, ◌++◌, subst, List, Option, Some, None, length, ap, sym, ◌∙◌, arith, refl, length-append, [], ◌∷◌}
+use Rattle.std.proofs.Common.{◌≡◌, ℕ, ◌+◌, ◌-◌, ◌<◌, ◌≤◌, ◌++◌, [], ◌∷◌, Bool, true, List, length, replicate, rules, Option, Some, None, ap, sym, subst, ◌∙◌, arith, refl, length-append}
 use Rattle.std.specs.List.{range_with_len}
 use Rattle.std.specs.Option.{is_some}
-use Rattle.std.specs.Vec.{vec_capacity, with_items}
-use Rattle.std.proofs.lemmas.Bool.{eqb-false}
+use Rattle.std.specs.Vec.{with_items}
 use Rattle.std.proofs.lemmas.List.{with_items_is}
+use Rattle.std.proofs.lemmas.List.Edits.{sets}
+use Rattle.std.proofs.lemmas.List.Elements.{All-push}
 use Rattle.std.proofs.lemmas.List.FromFn.{length-range_with_len}
+use borrow.Rule.Slice.PartMut.{put_mid}
 use Rattle.rtl_eval.specs.declared.spans.Span.{Span}
+use Rattle.rtl_eval.specs.Runs.{Outcome}
 use Rattle.rtl_eval.specs.Spans.{places_of, written}
-use Rattle.rtl_eval.specs.Tracked.{entry, AreAssigned}
+use Rattle.rtl_eval.specs.Tracked.{entry, entries_of, outcome_of, AreAssigned, LieWithin}
+use Rattle.rtl_eval.proofs.Assigned.{as_many_entries, length_sets, part_copied, part_filled, set_all}
 use Rattle.rtl_eval.proofs.Listing.{room_left}
-use Rattle.rtl_eval.proofs.Places.{listed_written, length-written, places_more}
+use Rattle.rtl_eval.proofs.Places.{listed_written, places_more}
 use Rattle.rtl_eval.proofs.drives.Drives.set_free.Goals as goal
+
+pub overflow_add-end : goal.overflow_add-end
+overflow_add-end c =
+    let many = length c.args.values.now in
+    let last = c.requires.there (many - 1) (omega (arith, c.requires.some)) in
+    let within : c.args.first + many ≤ length c.args.self.now.entries = omega (arith, c.requires.some, last) in
+    search (rules, within, c.drivers-drivers.ensures)
 
 pub push_reserved-requires : goal.push_reserved-requires
 push_reserved-requires c =
-    let entries = c.self.inside.entries.items in
-    let places = places_of c.self.inside.assigned.items in
+    let d = c.self.inside in
+    let entries = entries_of d.marks.items d.values.items in
     let first = c.args.first in
-    let differ = eqb-false (length c.args.values.now) 0 (sym c.is_empty.ensures ∙ c.if-not-is_empty.true) in
-    let some : 0 < length c.args.values.now = omega (arith, differ) in
     let all_there = rw (← c.self.view_is) at c.requires.there in
     let all_free = rw (← c.self.view_is) at c.requires.free in
     let at : first ≡ first + 0 = omega arith in
-    let there : first < length entries = let t = all_there 0 some in omega (arith, t) in
-    let free = ap (λ (place : ℕ). is_some (entry entries place)) at ∙ ap is_some (all_free 0 some) in
-    let l = room_left is_some None entries places c.self.invariant.assigned first (Some 0) there refl free in
-    omega (arith, l, c.self.invariant.few, c.self.invariant.reserved)
+    let there : first < length entries = let t = all_there 0 c.requires.some in omega (arith, t) in
+    let free = ap (λ (place : ℕ). is_some (entry entries place)) at ∙ ap is_some (all_free 0 c.requires.some) in
+    let l = room_left is_some None entries (places_of d.assigned.items) c.self.invariant.assigned first (Some 0) there refl free in
+    omega (arith, l, c.self.invariant.few, c.self.invariant.reserved, as_many_entries d.marks.items d.values.items)
+
+-- the span ends within the marks
+ends : (c : goal.After-push_reserved) → c.args.first + length c.args.values.now ≤ length c.self.inside.marks.items
+ends c =
+    let d = c.self.inside in
+    let many = ap (λ (o : Outcome). length o.entries) c.self.view_is in
+    let last = c.requires.there (length c.args.values.now - 1) (omega (arith, c.requires.some)) in
+    omega (arith, c.requires.some, last, many, as_many_entries d.marks.items d.values.items)
+
+abbrev marks_of : goal.After-push_reserved → List Bool
+marks_of c = (with_items c.self.inside.marks (put_mid c.args.first (c.args.first + length c.args.values.now - c.args.first) c.deref_mut.result.now c.fill.new.self)).items
+
+abbrev values_of : goal.After-push_reserved → List ℕ
+values_of c = (with_items c.self.inside.values (put_mid c.args.first (c.args.first + length c.args.values.now - c.args.first) c.deref_mut-2.result.now c.copy_from_slice.new.self)).items
+
+marks_are : (c : goal.After-push_reserved) → marks_of c ≡ sets c.self.inside.marks.items c.args.first (replicate (length c.args.values.now) true)
+marks_are c =
+    let marks = c.self.inside.marks in
+    let first = c.args.first in
+    let many = length c.args.values.now in
+    let was = c.deref_mut.result.now in
+    let end = ends c in
+    let within : first + many ≤ length was = omega (arith, end, ap length c.deref_mut.ensures.value) in
+    let is = part_filled first many was c.fill.new.self true within (c.fill.ensures.after (λ y h. h))
+    ∙ ap (λ (ms : List Bool). sets ms first (replicate many true)) c.deref_mut.ensures.value in
+    with_items_is marks (put_mid first (first + many - first) was c.fill.new.self)
+    (omega (arith, ap length is, length_sets (replicate many true) marks.items first, marks.ok.0)) ∙ is
+
+values_are : (c : goal.After-push_reserved) → values_of c ≡ sets c.self.inside.values.items c.args.first c.args.values.now
+values_are c =
+    let values = c.self.inside.values in
+    let first = c.args.first in
+    let new = c.args.values.now in
+    let was = c.deref_mut-2.result.now in
+    let end = ends c in
+    let within : first + length new ≤ length was = omega (arith, end, c.self.invariant.each_value, ap length c.deref_mut-2.ensures.value) in
+    let is = part_copied first was c.copy_from_slice.new.self new within c.copy_from_slice.ensures.after
+    ∙ ap (λ (vs : List ℕ). sets vs first new) c.deref_mut-2.ensures.value in
+    with_items_is values (put_mid first (first + length new - first) was c.copy_from_slice.new.self)
+    (omega (arith, ap length is, length_sets new values.items first, values.ok.0)) ∙ is
+
+entries_are : (c : goal.After-push_reserved) → entries_of (marks_of c) (values_of c)
+    ≡ written c.args.first c.args.values.now (entries_of c.self.inside.marks.items c.self.inside.values.items)
+entries_are c =
+    let end = ends c in
+    (λ i. entries_of (marks_are c i) (values_are c i))
+    ∙ set_all c.args.first c.self.inside.marks.items c.self.inside.values.items c.args.values.now (omega (arith, end, c.self.invariant.each_value))
 
 pub invariant_of-self : goal.invariant_of-self
 invariant_of-self c =
-    let entries = c.self.inside.entries.items in
-    let spans = c.self.inside.assigned.items in
-    let first = c.args.first in
-    let values = c.args.values.now in
-    let span : Span = record { first = first; len = length values } in
+    let d = c.self.inside in
     let I = c.self.invariant in
-    let differ = eqb-false (length values) 0 (sym c.is_empty.ensures ∙ c.if-not-is_empty.true) in
-    let some : 0 < length values = omega (arith, differ) in
+    let spans = d.assigned.items in
+    let first = c.args.first in
+    let new = c.args.values.now in
+    let many = length new in
+    let span : Span = record { first = first; len = many } in
+    let pushed = c.push_reserved.new.self.items in
     let there = rw (← c.self.view_is) at c.requires.there in
     let free = rw (← c.self.view_is) at c.requires.free in
-    let written_is : c.write.new.entries ≡ written first values entries = c.write.ensures ∙ ap (λ (es : List (Option ℕ)). written first values es) c.deref_mut.ensures.value in
-    let many : length c.write.new.entries ≡ c.self.inside.entries.len = omega (arith, ap length written_is, length-written first values entries, c.self.inside.entries.ok.0) in
-    let kept = with_items c.self.inside.entries c.write.new.entries in
-    let items_are : kept.items ≡ written first values entries = with_items_is c.self.inside.entries c.write.new.entries many ∙ written_is in
-    let fits : length kept.items ≤ vec_capacity c.push_reserved.new.self =
-    omega (arith, I.reserved, c.push_reserved.ensures.capacity, ap length items_are, length-written first values entries) in
-    let all : places_of c.push_reserved.new.self.items ≡ places_of spans ++ range_with_len first (length values) =
-    ap places_of c.push_reserved.ensures.items ∙ places_more spans span in
-    let long : length (places_of c.push_reserved.new.self.items) ≡ length (places_of spans) + length values =
-    ap length all ∙ length-append (places_of spans) (range_with_len first (length values)) ∙ ap (λ (n : ℕ). length (places_of spans) + n) (length-range_with_len first (length values)) in
-    let more : length c.push_reserved.new.self.items ≡ length spans + 1 = ap length c.push_reserved.ensures.items ∙ length-append spans (span ∷ []) in
+    let all : places_of pushed ≡ places_of spans ++ range_with_len first many = ap places_of c.push_reserved.ensures.items ∙ places_more spans span in
+    let long : length (places_of pushed) ≡ length (places_of spans) + many =
+    ap length all ∙ length-append (places_of spans) (range_with_len first many) ∙ ap (λ (n : ℕ). length (places_of spans) + n) (length-range_with_len first many) in
+    let more : length pushed ≡ length spans + 1 = ap length c.push_reserved.ensures.items ∙ length-append spans (span ∷ []) in
+    let as_many : length (marks_of c) ≡ length d.marks.items = ap length (marks_are c) ∙ length_sets (replicate many true) d.marks.items first in
     record {
-      assigned = subst (λ (es : List (Option ℕ)). AreAssigned es (places_of c.push_reserved.new.self.items)) (sym items_are)
-          (rw all (listed_written first values entries (places_of spans) I.assigned there free));
-      few = omega (arith, I.few, some, long, more);
-      reserved = fits;
+      each_value = ap length (values_are c) ∙ length_sets new d.values.items first ∙ I.each_value ∙ sym as_many;
+      assigned = subst (λ (es : List (Option ℕ)). AreAssigned es (places_of pushed)) (sym (entries_are c))
+          (rw all (listed_written first new (entries_of d.marks.items d.values.items) (places_of spans) I.assigned there free));
+      within = subst (λ (n : ℕ). LieWithin n pushed) (sym as_many)
+          (subst (λ (ss : List Span). LieWithin (length d.marks.items) ss) (sym c.push_reserved.ensures.items)
+          (All-push (λ (s : Span). s.first + s.len ≤ length d.marks.items) spans span I.within (ends c)));
+      few = omega (arith, I.few, c.requires.some, long, more);
+      reserved = omega (arith, I.reserved, c.push_reserved.ensures.capacity, as_many);
       each_element = I.each_element;
+      laid_fit = I.laid_fit;
+      bits_fit = I.bits_fit;
     }
+
+pub returns : goal.returns
+returns c =
+    let with_entries : List (Option ℕ) → Outcome = λ es. record (outcome_of c.self.inside) { entries = es } in
+    ap with_entries (entries_are c)
+    ∙ ap (λ (o : Outcome). record o { entries = written c.args.first c.args.values.now o.entries }) c.self.view_is

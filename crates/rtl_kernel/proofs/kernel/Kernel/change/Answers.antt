@@ -1,8 +1,8 @@
 use Rattle.std.proofs.Common.{ap, ◌∙◌}
 use Rattle.std.proofs.lemmas.List.{length-map}
 use Rattle.rtl_net.specs.Nets.{flat}
-use Rattle.rtl_kernel.specs.drivers.Rows.{rows}
 use Rattle.rtl_kernel.specs.values.TwoValues.{TwoValues}
+use Rattle.rtl_kernel.specs.wakes.Woken.{wakers_of}
 use Rattle.rtl_kernel.proofs.Inputs.{inputs_there}
 use Rattle.rtl_kernel.proofs.Kept as kept
 use Rattle.rtl_kernel.proofs.Wiring.{indexed_there}
@@ -16,17 +16,17 @@ set_all-requires g c =
 pub resume-requires-clause-processes : goal.resume-requires-clause-processes
 resume-requires-clause-processes g c =
     let K = c.self.invariant in
-    λ n p h. rw (K.sound.each_process, length-map) (indexed_there c.self.inside.net.now (rows c.self.inside.index.items) K.is_index n p (rw (c.deref.ensures.value) at h))
+    λ n p h. rw (K.sound.each_process, length-map) (indexed_there c.self.inside.net.now (wakers_of c.self.inside.groups) K.is_index n p h)
 
 pub invariant_of-self : goal.invariant_of-self
 invariant_of-self g c =
     kept.kept_given _ _ _ _ _ _ _ _ _ _ c.self.invariant
     c.args.changes.now (rw (← c.self.view_is) at c.requires.inputs) c.set_all.new.self c.resume.new.self (c.set_all.ensures.before ∙ ap (λ (v : TwoValues). v.before) c.begin.ensures)
-    (rw (c.begin.ensures) at c.set_all.ensures.current) c.resume.ensures.as_many (rw (c.deref.ensures.value, c.before-2.ensures.value, c.now.ensures) at c.resume.ensures.woken)
+    (rw (c.begin.ensures) at c.set_all.ensures.current) c.resume.ensures.as_many (rw (c.before-2.ensures.value, c.now.ensures) at c.resume.ensures.woken)
     (rw (← c.self.view_is) at c.requires.quiet)
 
 pub returns-clause-state : goal.returns-clause-state
 returns-clause-state g c =
     rw (← c.self.view_is) (kept.is_given _ _ _ _ _ _ _ _ _ _ c.self.invariant
     c.args.changes.now (rw (← c.self.view_is) at c.requires.inputs) c.set_all.new.self c.resume.new.self (c.set_all.ensures.before ∙ ap (λ (v : TwoValues). v.before) c.begin.ensures)
-    (rw (c.begin.ensures) at c.set_all.ensures.current) c.resume.ensures.as_many (rw (c.deref.ensures.value, c.before-2.ensures.value, c.now.ensures) at c.resume.ensures.woken))
+    (rw (c.begin.ensures) at c.set_all.ensures.current) c.resume.ensures.as_many (rw (c.before-2.ensures.value, c.now.ensures) at c.resume.ensures.woken))

@@ -1,7 +1,7 @@
 use Rattle.std.proofs.Common.{ℕ, [], ap, ◌∙◌}
 use Rattle.std.proofs.lemmas.List.{length-map}
-use Rattle.rtl_kernel.specs.drivers.Rows.{rows}
 use Rattle.rtl_kernel.specs.values.TwoValues.{TwoValues}
+use Rattle.rtl_kernel.specs.wakes.Woken.{wakers_of}
 use Rattle.rtl_kernel.specs.worklists.Numbers.{Numbers}
 use Rattle.rtl_kernel.proofs.Kept as kept
 use Rattle.rtl_kernel.proofs.Wiring.{each_target, indexed_there, nets_there}
@@ -25,14 +25,14 @@ resolve_nets-requires-clause-there g c =
 pub resume-requires-clause-processes : goal.resume-requires-clause-processes
 resume-requires-clause-processes g c =
     let K = c.self.invariant in
-    λ n p h. rw (K.sound.each_process, length-map) (indexed_there c.self.inside.net.now (rows c.self.inside.index.items) K.is_index n p (rw (c.deref.ensures.value) at h))
+    λ n p h. rw (K.sound.each_process, length-map) (indexed_there c.self.inside.net.now (wakers_of c.self.inside.groups) K.is_index n p h)
 
 pub invariant_of-self : goal.invariant_of-self
 invariant_of-self g c =
     kept.kept_updated _ _ _ _ _ _ _ _ _ _ c.self.invariant
     c.resolve_nets.new.values c.update.new.self c.resume.new.self c.update.new.touched (c.resolve_nets.ensures.before ∙ ap (λ (v : TwoValues). v.before) c.begin.ensures) c.update.ensures.drivers c.update.ensures.outcomes
     (rw (c.processes.ensures) at c.update.ensures.touched) (rw (c.values.ensures, c.members.ensures.value, c.begin.ensures) at c.resolve_nets.ensures.current)
-    c.resume.ensures.as_many (rw (c.deref.ensures.value, c.before-2.ensures.value, c.now.ensures) at c.resume.ensures.woken)
+    c.resume.ensures.as_many (rw (c.before-2.ensures.value, c.now.ensures) at c.resume.ensures.woken)
     c.clear.new.self (c.clear.ensures ∙ ap none_of (c.update.ensures.touched.bound_stays ∙ ap (λ (w : Numbers). w.bound) c.self.invariant.idle))
 
 pub returns-clause-state : goal.returns-clause-state
@@ -40,4 +40,4 @@ returns-clause-state g c =
     rw (← c.self.view_is) (kept.is_updated _ _ _ _ _ _ _ _ _ _ c.self.invariant
     c.resolve_nets.new.values c.update.new.self c.resume.new.self c.update.new.touched (c.resolve_nets.ensures.before ∙ ap (λ (v : TwoValues). v.before) c.begin.ensures) c.update.ensures.drivers c.update.ensures.outcomes
     (rw (c.processes.ensures) at c.update.ensures.touched) (rw (c.values.ensures, c.members.ensures.value, c.begin.ensures) at c.resolve_nets.ensures.current)
-    c.resume.ensures.as_many (rw (c.deref.ensures.value, c.before-2.ensures.value, c.now.ensures) at c.resume.ensures.woken))
+    c.resume.ensures.as_many (rw (c.before-2.ensures.value, c.now.ensures) at c.resume.ensures.woken))

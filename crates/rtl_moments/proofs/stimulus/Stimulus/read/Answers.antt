@@ -1,4 +1,4 @@
-use Rattle.std.proofs.Common.{map, sym, subst, arith}
+use Rattle.std.proofs.Common.{sym, subst, arith}
 use Rattle.std.proofs.lemmas.List.{length-map}
 use Rattle.rtl_stim.specs.View.{course_view, inputs_view, schedule_view, AreVectors}
 use Rattle.std.proofs.Common.{List, ◌≤◌, length}
@@ -8,7 +8,6 @@ use Rattle.rtl_stim.specs.Inputs.{Input}
 use Rattle.rtl_stim.specs.View.{IsVector}
 use Rattle.rtl_moments.specs.Ports.{inputs_of}
 use Rattle.rtl_stim.specs.Filling.{HaveOwnNets}
-use Rattle.rtl_moments.specs.Kept.{AreClocks}
 use Rattle.rtl_moments.proofs.PortLemmas.{are_vectors, have_own_nets}
 use Rattle.rtl_moments.proofs.Stops.{stops_in_time}
 use Rattle.rtl_moments.proofs.stimulus.Stimulus.read.Goals as goal
@@ -28,6 +27,5 @@ invariant_of-result c = record {
         (All-weaker (λ input. IsVector input.elements) (λ input. 1 ≤ length input.elements) (λ input wide. wide.0) (inputs_of c.args.net.now) (are_vectors c.args.net.now c.nets-count.ensures.elaborated));
   };
   initial = c.in_ok-initial.ensures;
-  clocks = subst (λ courses. AreClocks (map course_view courses) c.in_ok-clocks.clocks.items) c.deref.ensures.value c.in_ok-clocks.ensures;
   in_time = stops_in_time (inputs_view c.in_ok-inputs.inputs) c.args.text.now (schedule_view c.in_ok-schedule.schedule) c.in_ok-schedule.ensures.given;
 }

@@ -1,0 +1,6 @@
+pub mod Starts
+pub mod Marking
+pub mod Numbering
+pub mod Listing
+pub mod Alike
+pub mod Cutting

@@ -1,0 +1,5 @@
+pub mod Lists
+pub mod Groups
+pub mod Cuts
+pub mod Kept
+pub mod steps

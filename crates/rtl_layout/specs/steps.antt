@@ -1,0 +1,4 @@
+pub mod Marks
+pub mod Numbered
+pub mod Listed
+pub mod Cutting

@@ -1,0 +1,69 @@
+# Completions of rtlsim for bash.
+
+# The commands; and of a command its options, the values of an option, and its operands by their places.
+# written by tools/pages
+_rtlsim_commands='eval net check run'
+_rtlsim_words_of() {
+    case $1 in
+    eval) echo --help ;;
+    eval1) echo FILE ;;
+    eval2) echo TOP ;;
+    eval3) echo NAME=VALUE ;;
+    net) echo --help ;;
+    net1) echo FILE ;;
+    net2) echo TOP ;;
+    check) echo --help ;;
+    check1) echo FILE ;;
+    check2) echo TOP ;;
+    run) echo --event --order --help ;;
+    run--order) echo forward reverse ;;
+    run1) echo FILE ;;
+    run2) echo TOP ;;
+    run3) echo STIM ;;
+    esac
+}
+# end of what tools/pages writes
+
+# The words of the command line that are operands of the command, up to the word that is completed.
+_rtlsim_operands() {
+    local at
+    for ((at = 2; at < COMP_CWORD; at++)); do
+        case ${COMP_WORDS[at - 1]} in --order) continue ;; esac
+        case ${COMP_WORDS[at]} in -?*) ;; *) echo "${COMP_WORDS[at]}" ;; esac
+    done
+}
+
+# The entities of a source.
+_rtlsim_tops() {
+    sed -n 's/^[[:space:]]*[Ee][Nn][Tt][Ii][Tt][Yy][[:space:]]\{1,\}\([[:alnum:]_]\{1,\}\)[[:space:]].*/\1/p' "$1" 2>/dev/null
+}
+
+_rtlsim() {
+    local word=${COMP_WORDS[COMP_CWORD]} command=${COMP_WORDS[1]} before=${COMP_WORDS[COMP_CWORD - 1]} operands kind
+    COMPREPLY=()
+    if [ "$COMP_CWORD" -eq 1 ]; then
+        mapfile -t COMPREPLY < <(compgen -W "$_rtlsim_commands --help --version" -- "$word")
+        return
+    fi
+    if [ -n "$(_rtlsim_words_of "$command$before")" ]; then
+        mapfile -t COMPREPLY < <(compgen -W "$(_rtlsim_words_of "$command$before")" -- "$word")
+        return
+    fi
+    case $word in
+    -*)
+        mapfile -t COMPREPLY < <(compgen -W "$(_rtlsim_words_of "$command")" -- "$word")
+        return
+        ;;
+    esac
+    mapfile -t operands < <(_rtlsim_operands)
+    kind=$(_rtlsim_words_of "$command$((${#operands[@]} + 1))")
+    case $kind in
+    FILE | STIM)
+        compopt -o filenames 2>/dev/null
+        mapfile -t COMPREPLY < <(compgen -f -- "$word")
+        ;;
+    TOP) mapfile -t COMPREPLY < <(compgen -W "$(_rtlsim_tops "${operands[0]}")" -- "$word") ;;
+    esac
+}
+
+complete -F _rtlsim rtlsim

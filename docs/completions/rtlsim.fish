@@ -1,0 +1,65 @@
+# Completions of rtlsim for fish.
+
+# The words in front of the one that is completed, without options: the program's name, the command and its operands.
+function __rtlsim_words
+    set -l is_value no
+    for word in (commandline -opc)
+        if test $is_value = yes
+            set is_value no
+        else if test $word = --order
+            set is_value yes
+        else if not string match -q -- '-?*' $word
+            echo $word
+        end
+    end
+end
+
+function __rtlsim_is_first
+    test (count (__rtlsim_words)) -eq 1
+end
+
+function __rtlsim_is
+    set -l words (__rtlsim_words)
+    test (count $words) -gt 1; and test $words[2] = $argv[1]
+end
+
+# Whether the operand of this place, from 1, comes next: with a '-' behind it, that one or a later one.
+function __rtlsim_is_at
+    __rtlsim_is $argv[1]; or return 1
+    set -l place (math (count (__rtlsim_words)) - 1)
+    string match -q -- '*-' $argv[2]; and test $place -ge (string trim -r -c - -- $argv[2]); and return
+    test $place = $argv[2]
+end
+
+# The entities of the source.
+function __rtlsim_tops
+    set -l words (__rtlsim_words)
+    string match -rgi '^\s*entity\s+(\w+)\s' < $words[3] 2>/dev/null
+end
+
+function __rtlsim_inputs
+end
+
+complete -c rtlsim -f
+complete -c rtlsim -n __rtlsim_is_first -l help -d 'Prints help'
+complete -c rtlsim -n __rtlsim_is_first -l version -d 'Prints the version'
+
+# The commands, and what stands behind each.
+# written by tools/pages
+complete -c rtlsim -n __rtlsim_is_first -a eval -d 'Prints the outputs under these inputs'
+complete -c rtlsim -n '__rtlsim_is_at eval 1' -F -d 'The source, or @ for the standard input'
+complete -c rtlsim -n '__rtlsim_is_at eval 2' -a '(__rtlsim_tops)' -d 'The entity at the top'
+complete -c rtlsim -n '__rtlsim_is_at eval 3-' -a '(__rtlsim_inputs)' -d 'An input'\''s value, of the characters U X 0 1 Z W L H -'
+complete -c rtlsim -n __rtlsim_is_first -a net -d 'Prints the nets and what drives each'
+complete -c rtlsim -n '__rtlsim_is_at net 1' -F -d 'The source, or @ for the standard input'
+complete -c rtlsim -n '__rtlsim_is_at net 2' -a '(__rtlsim_tops)' -d 'The entity at the top'
+complete -c rtlsim -n __rtlsim_is_first -a check -d 'Says whether the design settles'
+complete -c rtlsim -n '__rtlsim_is_at check 1' -F -d 'The source, or @ for the standard input'
+complete -c rtlsim -n '__rtlsim_is_at check 2' -a '(__rtlsim_tops)' -d 'The entity at the top'
+complete -c rtlsim -n __rtlsim_is_first -a run -d 'Prints the trace under a stimulus'
+complete -c rtlsim -n '__rtlsim_is run' -l event -d 'Simulates by events alone, without the checker'
+complete -c rtlsim -n '__rtlsim_is run' -l order -x -a 'forward reverse' -d 'The order in which resumed processes run'
+complete -c rtlsim -n '__rtlsim_is_at run 1' -F -d 'The source, or @ for the standard input'
+complete -c rtlsim -n '__rtlsim_is_at run 2' -a '(__rtlsim_tops)' -d 'The entity at the top'
+complete -c rtlsim -n '__rtlsim_is_at run 3' -F -d 'The stimulus, or @ for the standard input'
+# end of what tools/pages writes
