@@ -41,7 +41,7 @@ within nets k s r shown is =
 
 -- what it prints
 pub run_prints : (k : ℕ) (s : SignalView) (r : Run) (values : List ℕ) → IsRun k s r → r.first + r.count ≤ length values
-    → printed k s values ≡ beginning r.is_vector ++ map character (take r.count (drop r.first values)) ++ r.end.items
+    → printed k s values ≡ beginning r.is_vector ++ map character (take r.count (drop r.first values)) ++ take r.end.len r.end.bytes
 run_prints k s r values is there =
     let elements = ap (map (slice_index values)) is.nets ∙ pick_l-range_with_len 0 values r.first r.count there in
     ap (value_change s.kind (code k)) elements ∙ is.line (take r.count (drop r.first values))
@@ -55,8 +55,8 @@ run_tells k s r old new is before after =
     let one = run_prints k s r old is before in
     let other = run_prints k s r new is after in
     same_test xs ys (printed k s old) (printed k s new)
-    (λ e. one ∙ ap (λ cs. beginning r.is_vector ++ cs ++ r.end.items) e ∙ sym other)
-    (λ e. append_cancel_left (beginning r.is_vector) xs ys (append_cancel_right (beginning r.is_vector ++ xs) (beginning r.is_vector ++ ys) r.end.items (sym one ∙ e ∙ other)))
+    (λ e. one ∙ ap (λ cs. beginning r.is_vector ++ cs ++ take r.end.len r.end.bytes) e ∙ sym other)
+    (λ e. append_cancel_left (beginning r.is_vector) xs ys (append_cancel_right (beginning r.is_vector ++ xs) (beginning r.is_vector ++ ys) (take r.end.len r.end.bytes) (sym one ∙ e ∙ other)))
 
 one_line : (values code : List ℕ) → map character values ++ code ++ codes "\n" ≡ beginning false ++ map character values ++ (behind false ++ code ++ codes "\n")
 one_line values code = append_assoc (map character values) code (codes "\n")
@@ -74,7 +74,7 @@ module _ (k : ℕ) (s : SignalView) (r : Run) (nets : s.nets ≡ range_with_len 
   placed = nets ∙ ap (λ a. range_with_len a (length s.nets)) (sym first) ∙ ap (range_with_len r.first) (sym count)
 
   -- a name of one element, and a vector
-  pub one_run : s.kind ≡ One → r.is_vector ≡ false → r.end.items ≡ behind false ++ code k ++ codes "\n" → IsRun k s r
+  pub one_run : s.kind ≡ One → r.is_vector ≡ false → take r.end.len r.end.bytes ≡ behind false ++ code k ++ codes "\n" → IsRun k s r
   one_run kind is end = record {
     nets = placed;
     line = λ values. ap (λ d. value_change d (code k) values) kind ∙ one_line values (code k)
@@ -82,7 +82,7 @@ module _ (k : ℕ) (s : SignalView) (r : Run) (nets : s.nets ≡ range_with_len 
         ∙ ap (λ e. beginning r.is_vector ++ map character values ++ e) (sym end);
   }
 
-  pub vector_run : (left right : ℕ) → s.kind ≡ Vector left right → r.is_vector ≡ true → r.end.items ≡ behind true ++ code k ++ codes "\n" → IsRun k s r
+  pub vector_run : (left right : ℕ) → s.kind ≡ Vector left right → r.is_vector ≡ true → take r.end.len r.end.bytes ≡ behind true ++ code k ++ codes "\n" → IsRun k s r
   vector_run left right kind is end = record {
     nets = placed;
     line = λ values. ap (λ d. value_change d (code k) values) kind ∙ vector_line values (code k)

@@ -4,6 +4,7 @@ pub mod Ends
 pub mod Hulls
 pub mod Lanes
 pub mod Names
+pub mod Pages
 pub mod Printing
 pub mod Runs
 pub mod Scopes

@@ -1,5 +1,5 @@
 -- Texts of values, part by part.
-use Rattle.std.proofs.Common.{◌≡◌, ℕ, ◌+◌, ◌-◌, ◌<◌, true, false, not, List, ◌++◌, length, map, take, drop, get_or, slice_index, sym, ap, ap₂, ◌∙◌, arith}
+use Rattle.std.proofs.Common.{◌≡◌, ℕ, ◌+◌, ◌-◌, ◌<◌, true, false, not, List, ◌++◌, length, map, take, drop, get_or, slice_index, sym, ap, ap₂, ◌∙◌, arith, append_assoc}
 use Rattle.std.specs.Str.{bytes_eq}
 use Rattle.std.proofs.lemmas.Bool.{not-true, not-false, false_from_ne_true, both_ways}
 use Rattle.std.proofs.lemmas.Slice.Eq.{bytes_eq-Decides}
@@ -48,3 +48,35 @@ pub rest_tells : (n : ℕ) (old new : List ℕ) → map character (take n old) �
 rest_tells n old new e =
     rw (rest_is n old, rest_is n new) (same_test (map character (drop n old)) (map character (drop n new)) (map character old) (map character new)
     (λ r. characters_split n old ∙ ap₂ (λ xs ys. xs ++ ys) e r ∙ sym (characters_split n new)) (same_rest n old new))
+
+-- what is printed behind a page, part by part
+pub behind_page : (page first next last : List ℕ) → page ++ first ++ next ++ last ≡ page ++ (first ++ next ++ last)
+behind_page page first next last = ap (λ t. t ++ last) (append_assoc page first next) ∙ append_assoc page (first ++ next) last
+
+pub three_parts : (page values : List ℕ) (n m : ℕ)
+    → page ++ map character (take n values) ++ map character (take m (take (length values - n) (drop n values)))
+    ++ map character (take (length values - (n + m)) (drop (n + m) values)) ≡ page ++ map character values
+three_parts page values n m =
+    let first = map character (take n values) in
+    let next = map character (take m (drop n values)) in
+    let last = map character (drop (n + m) values) in
+    ap (λ t. page ++ first ++ map character (take m t) ++ map character (take (length values - (n + m)) (drop (n + m) values))) (rest_is n values)
+    ∙ ap (λ t. page ++ first ++ next ++ map character t) (rest_is (n + m) values)
+    ∙ behind_page page first next last
+    ∙ ap (λ t. page ++ (t ++ last)) (sym (characters_further n m values))
+    ∙ ap (λ t. page ++ t) (sym (characters_split (n + m) values))
+
+-- where the first values print the same, and those behind them
+pub further_alike : (n m : ℕ) (old new : List ℕ) → map character (take n old) ≡ map character (take n new)
+    → map character (take m (take (length old - n) (drop n old))) ≡ map character (take m (take (length new - n) (drop n new)))
+    → map character (take (n + m) old) ≡ map character (take (n + m) new)
+further_alike n m old new first next =
+    let before = ap (λ t. map character (take m t)) (rest_is n old) in
+    let after = ap (λ t. map character (take m t)) (rest_is n new) in
+    characters_further n m old ∙ ap₂ (λ xs ys. xs ++ ys) first (sym before ∙ next ∙ after) ∙ sym (characters_further n m new)
+
+-- where those behind don't print the same
+pub rest_alike : (n : ℕ) (old new : List ℕ) → map character old ≡ map character new
+    → map character (take (length old - n) (drop n old)) ≡ map character (take (length new - n) (drop n new))
+rest_alike n old new e =
+    ap (map character) (rest_is n old) ∙ same_rest n old new e ∙ sym (ap (map character) (rest_is n new))

@@ -55,7 +55,7 @@ continued_more false time (x ∷ xs) ys = sym (append_assoc (time_line time) (x 
 
 -- a change, behind its time if it is the first
 pub continued_one : (is_printed : Bool) (time : ℕ) (p : List ℕ) → are_some p ≡ true
-    → (if is_printed then p else (time_line time ++ p)) ≡ continued is_printed time p
+    → (if is_printed then [] else (time_line time)) ++ p ≡ continued is_printed time p
 continued_one true time p some = refl
 continued_one false time [] some = absurd (false≢true some)
 continued_one false time (x ∷ xs) some = refl

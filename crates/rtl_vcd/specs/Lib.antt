@@ -5,4 +5,5 @@ pub mod Trace
 pub mod Shown
 pub mod Blocks
 pub mod Ready
+pub mod Pages
 pub mod Laws

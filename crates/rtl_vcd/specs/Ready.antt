@@ -1,5 +1,5 @@
 -- Names that are ready to print.
-use Rattle.std.specs.Prelude.{◌≡◌, ℕ, ◌+◌, ◌<◌, Bool, true, false, List, [], ◌++◌, length, map, codes, Option, IfSome, slice_index_or}
+use Rattle.std.specs.Prelude.{◌≡◌, ℕ, ◌+◌, ◌<◌, Bool, true, false, List, [], ◌++◌, length, map, codes, Option, IfSome, slice_index_or, take}
 use Rattle.std.specs.List.{range_with_len}
 use Rattle.rtl_net.specs.Nets.{SignalView}
 use Rattle.rtl_vcd.specs.declared.ready.Run.{Run}
@@ -18,7 +18,7 @@ behind false = []
 -- of its elements between what it begins with and its end.
 pub record IsRun (k : ℕ) (s : SignalView) (r : Run) : Type 0 where
   pub nets : s.nets ≡ range_with_len r.first r.count
-  pub line : (values : List ℕ) → value_change s.kind (code k) values ≡ beginning r.is_vector ++ map character values ++ r.end.items
+  pub line : (values : List ℕ) → value_change s.kind (code k) values ≡ beginning r.is_vector ++ map character values ++ take r.end.len r.end.bytes
 
 -- each of these names, the first of them being number k, is the run at its place, if there is one
 pub record AreReady (k : ℕ) (names : List SignalView) (runs : List (Option Run)) : Type 0 where

@@ -1,75 +1,72 @@
-//! Runs of values as characters, eight at a time.
+//! Runs of values as characters, sixteen, eight and one at a time.
 
-ghost use Rattle.std.specs.Prelude.{◌≡◌, ◌+◌, ◌≤◌, ◌++◌, not, length, map, take, drop};
+ghost use Rattle.std.specs.Prelude.{◌≡◌, ◌+◌, ◌<◌, ◌≤◌, ◌++◌, not, length, map, take, drop, IfSome, IfNone};
 ghost use Rattle.std.specs.Str.{bytes_eq};
 ghost use Rattle.arrayvec.specs.ArrayVec.{array_vec_len};
 ghost use Rattle.rtl_vcd.specs.Values.{character};
 
 use crate::change::is_other_character;
-use crate::line::{self, Line};
+use crate::line::{self, PAGE, Page};
 use std::simd::prelude::*;
 
-/// How many values are looked at together.
-const LANES: usize = 8;
-
-/// What the values from this place on print as.
-fn characters(values: &[u8], at: usize) -> [u8; 8]
+/// What so many values from this place on print as.
+fn characters<const LANES: usize>(values: &[u8], at: usize) -> Simd<u8, LANES>
     requires { at + LANES ≤ length values.now }
     ensures { result ≡ map character (take LANES (drop at values.now)) }
 {
-    let lanes = u8x8::from_slice(&values[at..]);
-    let are_digits = (lanes & u8x8::splat(0xFA)).simd_eq(u8x8::splat(2));
-    let digits = (lanes & u8x8::splat(1)) | u8x8::splat(b'0');
-    let are_open = lanes.simd_eq(u8x8::splat(4));
-    let others = are_open.select(u8x8::splat(b'z'), u8x8::splat(b'x'));
-    are_digits.select(digits, others).to_array()
+    let lanes = Simd::<u8, LANES>::from_slice(&values[at..]);
+    let are_digits = (lanes & Simd::splat(0xFA)).simd_eq(Simd::splat(2));
+    let digits = (lanes & Simd::splat(1)) | Simd::splat(b'0');
+    let are_open = lanes.simd_eq(Simd::splat(4));
+    let others = are_open.select(Simd::splat(b'z'), Simd::splat(b'x'));
+    are_digits.select(digits, others)
 }
 
 /// Appends these bytes.
-pub(crate) fn push_bytes(line: &mut Line, bytes: &[u8])
-    requires room { array_vec_len line.old + length bytes.now ≤ 77 }
-    ensures bytes { line.new.items ≡ line.old.items ++ bytes.now }
-    ensures len { array_vec_len line.new ≡ array_vec_len line.old + length bytes.now }
+pub(crate) fn push_bytes(page: &mut Page, bytes: &[u8])
+    requires room { array_vec_len page.old + length bytes.now ≤ PAGE }
+    ensures bytes { page.new.items ≡ page.old.items ++ bytes.now }
+    ensures len { array_vec_len page.new ≡ array_vec_len page.old + length bytes.now }
 {
-    let _fits = line.try_extend_from_slice(bytes);
+    let _fits = page.try_extend_from_slice(bytes);
 }
 
 /// Appends what these values print as.
-pub(crate) fn push_run(line: &mut Line, values: &[u8])
-    requires room { array_vec_len line.old + length values.now ≤ 77 }
-    ensures characters { line.new.items ≡ line.old.items ++ map character values.now }
-    ensures len { array_vec_len line.new ≡ array_vec_len line.old + length values.now }
+pub(crate) fn push_run(page: &mut Page, values: &[u8])
+    requires room { array_vec_len page.old + length values.now ≤ PAGE }
+    ensures characters { page.new.items ≡ page.old.items ++ map character values.now }
+    ensures len { array_vec_len page.new ≡ array_vec_len page.old + length values.now }
+{
+    let done = push_lanes::<16>(page, values);
+    let more = done + push_lanes::<8>(page, &values[done..]);
+    push_each(page, &values[more..]);
+}
+
+/// The same, so many values at a time, from the first on and as far as there are so many. Answers how many are printed.
+fn push_lanes<const LANES: usize>(page: &mut Page, values: &[u8]) -> usize
+    requires lanes { 0 < LANES }
+    requires room { array_vec_len page.old + length values.now ≤ PAGE }
+    ensures within { result ≤ length values.now }
+    ensures characters { page.new.items ≡ page.old.items ++ map character (take result values.now) }
+    ensures len { array_vec_len page.new ≡ array_vec_len page.old + result }
 {
     let mut at = 0;
     while values.len() - at >= LANES {
-        push_bytes(line, &characters(values, at));
+        push_bytes(page, &characters::<LANES>(values, at).to_array());
         at += LANES;
     }
-    push_each(line, &values[at..]);
+    at
 }
 
 /// The same, one value at a time.
-fn push_each(line: &mut Line, values: &[u8])
-    requires room { array_vec_len line.old + length values.now ≤ 77 }
-    ensures characters { line.new.items ≡ line.old.items ++ map character values.now }
-    ensures len { array_vec_len line.new ≡ array_vec_len line.old + length values.now }
+fn push_each(page: &mut Page, values: &[u8])
+    requires room { array_vec_len page.old + length values.now ≤ PAGE }
+    ensures characters { page.new.items ≡ page.old.items ++ map character values.now }
+    ensures len { array_vec_len page.new ≡ array_vec_len page.old + length values.now }
 {
     for value in values {
-        line.push(line::character(*value));
+        page.push(line::character(*value));
     }
-}
-
-/// Whether the values from this place on print otherwise in `new` than in `old`.
-fn is_other_at(old: &[u8], new: &[u8], at: usize) -> bool
-    requires before { at + LANES ≤ length old.now }
-    requires after { at + LANES ≤ length new.now }
-    ensures { result ≡ not (bytes_eq (map character (take LANES (drop at old.now))) (map character (take LANES (drop at new.now)))) }
-{
-    let beyond = at + LANES;
-    if old[at..beyond] == new[at..beyond] {
-        return false;
-    }
-    characters(old, at) != characters(new, at)
 }
 
 /// Whether these values print otherwise in `new` than in `old`.
@@ -77,14 +74,58 @@ pub(crate) fn is_other_run(old: &[u8], new: &[u8]) -> bool
     requires { length old.now ≡ length new.now }
     ensures { result ≡ not (bytes_eq (map character old.now) (map character new.now)) }
 {
+    let Some(done) = alike_lanes::<16>(old, new) else {
+        return true;
+    };
+    let Some(more) = alike_lanes::<8>(&old[done..], &new[done..]) else {
+        return true;
+    };
+    is_other_each(&old[done + more..], &new[done + more..])
+}
+
+/// How many values print the same, so many at a time, from the first on and as far as there are so many; none where some of them
+/// print otherwise.
+fn alike_lanes<const LANES: usize>(old: &[u8], new: &[u8]) -> Option<usize>
+    requires lanes { 0 < LANES }
+    requires most { LANES ≤ 64 }
+    requires as_many { length old.now ≡ length new.now }
+    ensures within { IfSome result (λ n. n ≤ length old.now) }
+    ensures alike { IfSome result (λ n. map character (take n old.now) ≡ map character (take n new.now)) }
+    ensures otherwise { IfNone result (map character old.now ≡ map character new.now → ⊥) }
+{
     let mut at = 0;
     while old.len() - at >= LANES {
-        if is_other_at(old, new, at) {
-            return true;
+        if are_other_lanes::<LANES>(old, new, at) {
+            return None;
         }
         at += LANES;
     }
-    is_other_each(&old[at..], &new[at..])
+    Some(at)
+}
+
+/// Whether so many values from this place on print otherwise in `new` than in `old`.
+fn are_other_lanes<const LANES: usize>(old: &[u8], new: &[u8], at: usize) -> bool
+    requires most { LANES ≤ 64 }
+    requires before { at + LANES ≤ length old.now }
+    requires after { at + LANES ≤ length new.now }
+    ensures { result ≡ not (bytes_eq (map character (take LANES (drop at old.now))) (map character (take LANES (drop at new.now)))) }
+{
+    let before = Simd::<u8, LANES>::from_slice(&old[at..]);
+    let after = Simd::<u8, LANES>::from_slice(&new[at..]);
+    if !are_different::<LANES>(before, after) {
+        return false;
+    }
+    are_different::<LANES>(characters::<LANES>(old, at), characters::<LANES>(new, at))
+}
+
+/// Whether a lane of one is another than that of the other.
+fn are_different<const LANES: usize>(before: Simd<u8, LANES>, after: Simd<u8, LANES>) -> bool
+    requires most { LANES ≤ 64 }
+    requires before { length before ≡ LANES }
+    requires after { length after ≡ LANES }
+    ensures { result ≡ not (bytes_eq before.entry after.entry) }
+{
+    before.simd_ne(after).to_bitmask() != 0
 }
 
 /// The same, one value at a time.

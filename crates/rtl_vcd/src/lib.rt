@@ -7,6 +7,7 @@
 mod blocks;
 mod change;
 mod characters;
+mod ending;
 mod fault;
 mod heading;
 mod laws;

@@ -6,8 +6,17 @@ ghost use Rattle.rtl_vcd.specs.Values as spec;
 
 use arrayvec::ArrayVec;
 
-/// Room for the longest change: `b`, 64 digits, a space, a code of ten characters, and the line's end.
+/// How long the longest change is: `b`, 64 digits, a space, a code of ten characters, and the line's end.
+pub(crate) const LINE: usize = 77;
+
+/// Room for the longest change.
 pub type Line = ArrayVec<u8, 77>;
+
+/// How many bytes a page has room for.
+pub(crate) const PAGE: usize = 1024;
+
+/// What was printed and hasn't gone to the sink yet.
+pub(crate) type Page = ArrayVec<u8, 1024>;
 
 /// What one of the nine values, by its code, prints as.
 pub fn character(value: u8) -> u8

@@ -1,16 +1,19 @@
 //! The changes at a time after 0.
 
-ghost use Rattle.std.specs.Prelude.{◌≡◌, ◌+◌, ◌<◌, ◌||◌, ◌++◌, if◌then◌else◌, All, length, map, OnOk, OnErr, IfOk};
+ghost use Rattle.std.specs.Prelude.{◌≡◌, ◌+◌, ◌<◌, ◌≤◌, ◌||◌, [], if◌then◌else◌, All, length, map, OnOk, OnErr, IfOk};
 ghost use Rattle.rtl_sink.specs.Written.{IsIntact, HasFailed, Goes};
 ghost use Rattle.rtl_net.specs.Nets.{signal_view};
 ghost use Rattle.rtl_vcd.specs.Trace.{changes, time_line, are_some, moment_text};
 ghost use Rattle.rtl_vcd.specs.Blocks.{AreBlocks, changes_from, continued};
 ghost use Rattle.rtl_vcd.specs.Ready.{AreReady};
 ghost use Rattle.rtl_vcd.specs.Shown.{IsShown};
+ghost use Rattle.rtl_vcd.specs.Pages.{Passes};
+ghost use Rattle.arrayvec.specs.ArrayVec.{array_vec_len};
 
 use crate::blocks::{Block, blocks_of};
 use crate::fault::VcdFault;
-use crate::ready::{Run, is_otherwise, ready_line, runs_of};
+use crate::line::{LINE, PAGE, Page};
+use crate::ready::{Run, is_otherwise, push_ready, runs_of};
 use crate::trace::{push_time, written};
 use rtl_net::{Net, Signal};
 use rtl_sink::{Sink, push_text};
@@ -45,8 +48,7 @@ impl<'a> Model for Blocks<'a> {
 
 impl<'a> Blocks<'a> {
     /// The blocks of the net's names, and the names that stand on nets one behind the other, ready to print. They take three words
-    /// for each block: for each 64 names, where the nets of these stand close to one another, and else for fewer. A name takes
-    /// seven words.
+    /// for each block, and for each name: a block has 64 names where the nets of these stand close to one another, and else fewer.
     pub fn new(alloc: Global, net: &'a Net) -> Result<Blocks<'a>, AllocError>
         ensures { IfOk result (λ b. b ≡ net.now) }
     {
@@ -58,7 +60,8 @@ impl<'a> Blocks<'a> {
     /// Writes what the names print at a time after 0, where the nets had the values `old` and have the values `new`, one for
     /// each net: those that print otherwise than before, behind the time. Answers whether there were such. Takes no memory.
     ///
-    /// A block in which no net has changed costs one comparison of two runs of bytes; in the others each name is looked at.
+    /// A block in which no net has changed costs one comparison of two runs of bytes; in the others each name is looked at. The
+    /// sink gets up to a page of lines at a time.
     ///
     /// # Errors
     ///
@@ -116,6 +119,7 @@ fn push_moment<W: Sink>(
 {
     let _count = net.nets();
     let signals = net.signals();
+    let mut page = Page::new();
     let mut next = 0;
     let mut is_printed = false;
     for block in blocks {
@@ -127,29 +131,32 @@ fn push_moment<W: Sink>(
                 next,
                 step,
                 is_printed,
+                &mut page,
                 out,
             );
         }
         next = end;
     }
+    push_text(out, &page);
     is_printed
 }
 
 /// The changes of these names, the first of them being number `first`, behind their time where that isn't printed yet. Answers
-/// whether it is printed then.
+/// whether it is printed then. The last of what is printed stays in the page.
 fn push_changes<W: Sink>(
     names: &[Signal],
     runs: &[Option<Run>],
     first: usize,
     step: &Step,
     is_printed: bool,
+    page: &mut Page,
     out: &mut W,
 ) -> bool
     requires before { All (IsShown (length step.now.old.now)) (map signal_view names.now) }
     requires after { All (IsShown (length step.now.new.now)) (map signal_view names.now) }
     requires runs { AreReady first (map signal_view names.now) runs.now }
     requires room { first + length names.now < 18446744073709551616 }
-    ensures text { Goes (W.state out.old) (W.state out.new)
+    ensures text { Passes (W.state out.old) (W.state out.new) page.old.items page.new.items
         (continued is_printed step.now.time (changes_from first (map signal_view names.now) step.now.old.now step.now.new.now)) }
     ensures printed { result ≡ (is_printed || are_some (changes_from first (map signal_view names.now) step.now.old.now step.now.new.now)) }
 {
@@ -160,25 +167,34 @@ fn push_changes<W: Sink>(
         if !is_otherwise(number, signal, run, step.old, step.new) {
             continue;
         }
-        push_change(
-            out,
-            step.time,
-            printed,
-            &ready_line(number, signal, run, step.new),
-        );
+        make_way(step.time, printed, page, out);
+        push_ready(page, number, signal, run, step.new);
         printed = true;
     }
     printed
 }
 
-/// A change, behind its time where that isn't printed yet.
-fn push_change<W: Sink>(out: &mut W, time: u64, is_printed: bool, line: &[u8])
-    ensures { Goes (W.state out.old) (W.state out.new) (if is_printed then line.now else (time_line time ++ line.now)) }
+/// Makes room for a line in the page, behind the time where that isn't printed yet.
+fn make_way<W: Sink>(time: u64, is_printed: bool, page: &mut Page, out: &mut W)
+    ensures room { array_vec_len page.new + 77 ≤ PAGE }
+    ensures text { Passes (W.state out.old) (W.state out.new) page.old.items page.new.items (if is_printed then [] else (time_line time)) }
 {
-    if is_printed {
-        push_text(out, line);
+    if !is_printed {
+        put_page(page, out);
+        push_time(out, time);
         return;
     }
-    push_time(out, time);
-    push_text(out, line);
+    if page.remaining_capacity() >= LINE {
+        return;
+    }
+    put_page(page, out);
+}
+
+/// Hands the page to the sink.
+fn put_page<W: Sink>(page: &mut Page, out: &mut W)
+    ensures empty { page.new.items ≡ [] }
+    ensures text { Goes (W.state out.old) (W.state out.new) page.old.items }
+{
+    push_text(out, page);
+    page.clear();
 }

@@ -4,6 +4,7 @@ ghost use Rattle.std.specs.Prelude.{◌≡◌, ℕ, ◌+◌, ◌<◌, ◌≤◌,
 ghost use Rattle.std.specs.Str.{bytes_eq};
 ghost use Rattle.std.specs.List.{range_with_len};
 ghost use Rattle.rtl_net.specs.Nets.{signal_view};
+ghost use Rattle.arrayvec.specs.ArrayVec.{array_vec_len};
 ghost use Rattle.rtl_vcd.specs.Values.{character, code};
 ghost use Rattle.rtl_vcd.specs.Trace.{printed};
 ghost use Rattle.rtl_vcd.specs.Shown.{IsShown};
@@ -11,19 +12,20 @@ ghost use Rattle.rtl_vcd.specs.Ready.{IsRun, AreReady, beginning, behind};
 
 use crate::change::{change_line, prints_otherwise};
 use crate::characters::{is_other_run, push_bytes, push_run};
-use crate::line::{Line, push_code};
+use crate::ending::End;
+use crate::line::{PAGE, Page, push_code};
 use arrayvec::ArrayVec;
 use rtl_net::{Net, Signal, SignalKind};
 use std::alloc::{AllocError, Global};
 
 /// Room for the end of a line: a space, a code of ten characters, and the line's end.
-type End = ArrayVec<u8, 12>;
+type Ending = ArrayVec<u8, 12>;
 
 /// A name whose nets stand one behind the other, so many from the first on, and the end of its line.
-#[derive(Drop)]
+#[derive(Clone, Copy)]
 pub(crate) struct Run {
-    first: usize,
-    count: usize,
+    first: u32,
+    count: u8,
     is_vector: bool,
     end: End,
 }
@@ -31,33 +33,35 @@ pub(crate) struct Run {
 impl Run {
     /// The run of these nets, of the name with this number.
     fn of(number: usize, nets: &[usize], is_vector: bool) -> Run
-        requires { 0 < length nets.now }
+        requires some { 0 < length nets.now }
+        requires first { slice_index nets.now 0 < 4294967296 }
+        requires count { length nets.now < 256 }
         ensures first { result.first ≡ slice_index nets.now 0 }
         ensures count { result.count ≡ length nets.now }
         ensures is_vector { result.is_vector ≡ is_vector }
-        ensures end { result.end.items ≡ behind is_vector ++ code number ++ codes "\n" }
+        ensures end { take result.end.len result.end.bytes ≡ behind is_vector ++ code number ++ codes "\n" }
     {
         Run {
-            first: nets[0],
-            count: nets.len(),
+            first: nets[0] as u32,
+            count: nets.len() as u8,
             is_vector,
             end: end_of(number, is_vector),
         }
     }
 
-    /// The line that the name prints where the nets have these values.
-    fn line(&self, values: &[u8]) -> Line
+    /// Appends the line that the name prints where the nets have these values.
+    fn push(&self, page: &mut Page, values: &[u8])
         requires there { self.now.first + self.now.count ≤ length values.now }
         requires short { self.now.count ≤ 64 }
-        ensures { result.items ≡ beginning self.now.is_vector ++ map character (take self.now.count (drop self.now.first values.now)) ++ self.now.end.items }
+        requires room { array_vec_len page.old + 77 ≤ PAGE }
+        ensures { page.new.items ≡ page.old.items ++ beginning self.now.is_vector ++ map character (take self.now.count (drop self.now.first values.now)) ++ take self.now.end.len self.now.end.bytes }
     {
-        let mut line = Line::new();
+        let first = self.first as usize;
         if self.is_vector {
-            line.push(b'b');
+            page.push(b'b');
         }
-        push_run(&mut line, &values[self.first..self.first + self.count]);
-        push_bytes(&mut line, &self.end);
-        line
+        push_run(page, &values[first..first + self.count as usize]);
+        push_bytes(page, self.end.text());
     }
 
     /// Whether its elements print otherwise where the nets have the values `new` than where they have `old`.
@@ -66,8 +70,9 @@ impl Run {
         requires after { self.now.first + self.now.count ≤ length new.now }
         ensures { result ≡ not (bytes_eq (map character (take self.now.count (drop self.now.first old.now))) (map character (take self.now.count (drop self.now.first new.now)))) }
     {
-        let beyond = self.first + self.count;
-        is_other_run(&old[self.first..beyond], &new[self.first..beyond])
+        let first = self.first as usize;
+        let beyond = first + self.count as usize;
+        is_other_run(&old[first..beyond], &new[first..beyond])
     }
 }
 
@@ -89,7 +94,7 @@ fn run_of(number: usize, signal: &Signal) -> Option<Run>
     requires { 0 < length signal.now.nets.items }
     ensures { IfSome result (IsRun number (signal_view signal.now)) }
 {
-    if !are_neighbours(&signal.nets) {
+    if !is_short(&signal.nets) || !are_neighbours(&signal.nets) {
         return None;
     }
     match signal.kind {
@@ -97,6 +102,15 @@ fn run_of(number: usize, signal: &Signal) -> Option<Run>
         SignalKind::Vector { .. } => Some(Run::of(number, &signal.nets, true)),
         SignalKind::Enumeration { .. } => None,
     }
+}
+
+/// Whether the first of the nets, and how many they are, have room in a run.
+fn is_short(nets: &[usize]) -> bool
+    requires { 0 < length nets.now }
+    ensures first { result ≡ true → slice_index nets.now 0 < 4294967296 }
+    ensures count { result ≡ true → length nets.now < 256 }
+{
+    nets[0] < 4_294_967_296 && nets.len() < 256
 }
 
 /// Whether the nets stand one behind the other.
@@ -122,26 +136,33 @@ fn is_behind(first: usize, net: usize, many: usize) -> bool
 
 /// The end of the line of the name with this number.
 fn end_of(number: usize, is_vector: bool) -> End
-    ensures { result.items ≡ behind is_vector ++ code number ++ codes "\n" }
+    ensures { take result.len result.bytes ≡ behind is_vector ++ code number ++ codes "\n" }
 {
-    let mut end = End::new();
+    let mut ending = Ending::new();
     if is_vector {
-        end.push(b' ');
+        ending.push(b' ');
     }
-    push_code(&mut end, number);
-    end.push(b'\n');
-    end
+    push_code(&mut ending, number);
+    ending.push(b'\n');
+    End::of(&ending)
 }
 
-/// The line that the name with this number prints where the nets have these values.
-pub(crate) fn ready_line(number: usize, signal: &Signal, run: &Option<Run>, values: &[u8]) -> Line
+/// Appends the line that the name with this number prints where the nets have these values.
+pub(crate) fn push_ready(
+    page: &mut Page,
+    number: usize,
+    signal: &Signal,
+    run: &Option<Run>,
+    values: &[u8],
+)
     requires shown { IsShown (length values.now) (signal_view signal.now) }
     requires ready { IfSome run.now (IsRun number (signal_view signal.now)) }
-    ensures { result.items ≡ printed number (signal_view signal.now) values.now }
+    requires room { array_vec_len page.old + 77 ≤ PAGE }
+    ensures { page.new.items ≡ page.old.items ++ printed number (signal_view signal.now) values.now }
 {
     match run {
-        Some(run) => run.line(values),
-        None => change_line(number, signal, values),
+        Some(run) => run.push(page, values),
+        None => push_bytes(page, &change_line(number, signal, values)),
     }
 }
 

@@ -1,2 +1,4 @@
 pub mod Refusing
 pub mod Reading
+pub mod Serving
+pub mod Buffers

@@ -1,5 +1,5 @@
 -- What is known of the files that a read gives: the bytes of one, or none where reading it fails.
-use Rattle.std.specs.Prelude.{◌≡◌, ◌≢◌, ℕ, ◌≤◌, ◌⊎◌, List, Option, Some, None, IfSome, true, false, length, codes}
+use Rattle.std.specs.Prelude.{◌≡◌, ◌≢◌, ℕ, ◌≤◌, ◌⊎◌, ⊤, List, Option, Some, None, IfSome, true, false, length, codes}
 use Rattle.rtl_sink.specs.Read.{ReaderState}
 use Rattle.rtlsim.specs.Halves.{halves_of}
 
@@ -12,14 +12,25 @@ abbrev pub GivesWhole : ReaderState → ReaderState → Option (List ℕ) → Ty
 GivesWhole old new (Some all) = IfSome old.left (λ bytes. all ≡ bytes)
 GivesWhole old new None = (new.failed ≡ true) ⊎ IfSome old.left (λ bytes. greatest_input ≤ length bytes)
 
--- `@` names the standard input; of other files nothing is known
-abbrev pub GivesStandard : ReaderState → ReaderState → List ℕ → Option (List ℕ) → Type 0
-GivesStandard old new name given = name ≡ codes "@" → GivesWhole old new given
+-- `@` names the standard input, and a read of another file leaves that as it was
+pub record GivesStandard (old new : ReaderState) (name : List ℕ) (given : Option (List ℕ)) : Type 0 where
+  pub whole : name ≡ codes "@" → GivesWhole old new given
+  pub kept : name ≢ codes "@" → new ≡ old
 
 -- and there is no other file
 pub record GivesStandardAlone (old new : ReaderState) (name : List ℕ) (given : Option (List ℕ)) : Type 0 where
-  pub whole : GivesStandard old new name given
+  pub standard : GivesStandard old new name given
   pub alone : name ≢ codes "@" → given ≡ None
+
+-- all that a file of the system has left; which file is opened, and why none is, isn't known
+abbrev pub GivesFile : {File : Type 0} → (remaining : File → Option (List ℕ)) → Option (List ℕ) → Type 0
+GivesFile {File} remaining (Some all) = (file : File) × IfSome (remaining file) (λ bytes. all ≡ bytes)
+GivesFile {File} remaining None = ⊤
+
+-- and another name is that of a file of the system
+pub record GivesNamed {File : Type 0} (remaining : File → Option (List ℕ)) (old new : ReaderState) (name : List ℕ) (given : Option (List ℕ)) : Type 0 where
+  pub standard : GivesStandard old new name given
+  pub named : name ≢ codes "@" → GivesFile remaining given
 
 -- what a read of the file of a name may give, between two states of the standard input
 abbrev pub Reading : Type 1

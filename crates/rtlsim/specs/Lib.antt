@@ -4,3 +4,4 @@ pub mod Inputs
 pub mod Halves
 pub mod Lines
 pub mod Both
+pub mod Streams

@@ -14,7 +14,7 @@ use Rattle.rtl_sink.specs.Written.{Goes}
 use Rattle.rtl_words.specs.Words.{Says, SayNothing}
 use Rattle.rtl_words.specs.declared.request.Request.{Request}
 use Rattle.rtl_words.specs.declared.request.Request.TheVariants.{Eval, Net, Check, Run}
-use Rattle.rtlsim.specs.Inputs.{Reading, GivesWhole, GivesBoth, GivesStandardAlone, held}
+use Rattle.rtlsim.specs.Inputs.{Reading, GivesWhole, GivesBoth, held}
 use Rattle.rtlsim.specs.Lines.{ends_line, first_line_of}
 use Rattle.rtlsim.specs.declared.inputs.InputFault.{InputFault}
 use Rattle.rtlsim.specs.declared.inputs.InputFault.TheVariants.{Failed, NoMemory}
@@ -83,7 +83,7 @@ abbrev pub ServesFirstLine : Reading → (old new : ReaderState) → (outcome : 
 ServesFirstLine Gives old new outcome o =
     Reads (GivesWhole old new) (λ all. (left : List ℕ) × ServesLine Gives (first_line_of all) (held (after_first ends_line all)) (held left) outcome o) outcome o
 
--- the program over a reader alone
-abbrev pub ServesReader : (words : List (List ℕ)) → (old new : ReaderState) → (outcome : Status) → Outputs → Type 0
-ServesReader [] old new outcome o = ServesFirstLine GivesStandardAlone old new outcome o
-ServesReader (word ∷ words) old new outcome o = Serves GivesStandardAlone (word ∷ words) old new outcome o
+-- the program for its words; without words, for those of the input's first line
+abbrev pub ServesWords : Reading → (words : List (List ℕ)) → (old new : ReaderState) → (outcome : Status) → Outputs → Type 0
+ServesWords Gives [] old new outcome o = ServesFirstLine Gives old new outcome o
+ServesWords Gives (word ∷ words) old new outcome o = Serves Gives (word ∷ words) old new outcome o

@@ -4,14 +4,14 @@ ghost use Rattle.std.specs.Prelude.{◌≡◌, ◌<◌, ◌==◌, not, filter, I
 ghost use Rattle.std.specs.List.{before_first, after_first, slice_split};
 ghost use Rattle.rtl_sink.specs.Written.{IsIntact};
 ghost use Rattle.rtl_words.specs.Words.{IsOfWords};
-ghost use Rattle.rtlsim.specs.Inputs.{GivesStandard, GivesStandardAlone};
+ghost use Rattle.rtlsim.specs.Inputs.{GivesNamed, GivesStandardAlone};
 ghost use Rattle.rtlsim.specs.Lines as lines;
 ghost use Rattle.rtlsim.specs.Lines.{ends_line, first_line_of};
 ghost use Rattle.rtlsim.specs.Tools.{ServesFirstLine, ServesLine, words_in};
 
 use crate::inputs::{Inputs, Named, Standard, read_input};
-use crate::program::tool_with;
-use crate::refusals::{refuse_input, refuse_words};
+use crate::refusals::{not_text, refuse_input, refuse_words};
+use crate::tools::tool_with;
 use rtl_commands::{Front, Status};
 use rtl_sink::{Reader, Sink};
 use rtl_words::Refused;
@@ -30,7 +30,7 @@ pub fn tool_first_line<F: Front, T: Files, R: Reader, O: Sink, E: Sink>(
 ) -> Status
     requires out { IsIntact (O.state out.old) }
     requires err { IsIntact (E.state err.old) }
-    ensures { ServesFirstLine GivesStandard (R.state reader.old) (R.state reader.new) result
+    ensures { ServesFirstLine (GivesNamed T.File.remaining) (R.state reader.old) (R.state reader.new) result
         (record { out = O.state out.old; out_after = O.state out.new; err = E.state err.old; err_after = E.state err.new }) }
 {
     match read_input(alloc, reader) {
@@ -93,8 +93,7 @@ fn read_words(alloc: Global, line: &[u8]) -> Result<Vec<&str>, Refused>
     ensures refused { IfErr result (λ refused. IsOfWords refused → ¬ (IsUtf8 line.now)) }
 {
     let Ok(text) = str::from_utf8(line) else {
-        let reason = "error: the words are not UTF-8\n";
-        return Err(Refused::Words(String::from_str(alloc, reason)?));
+        return Err(not_text(alloc));
     };
     let pieces = pieces_of(alloc, text)?;
     Ok(filled(alloc, &pieces)?)

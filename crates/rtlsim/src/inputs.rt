@@ -2,7 +2,7 @@
 
 ghost use Rattle.std.specs.Prelude.{◌≡◌, ◌≤◌, ℕ, List, Option, Some, None, IfOk, IfErr, length};
 ghost use Rattle.rtl_sink.specs.Read.{ReaderState};
-ghost use Rattle.rtlsim.specs.Inputs.{GivesWhole, GivesStandard, GivesStandardAlone, greatest_input};
+ghost use Rattle.rtlsim.specs.Inputs.{GivesWhole, GivesFile, GivesNamed, GivesStandardAlone, greatest_input};
 ghost use Rattle.rtlsim.specs.declared.inputs.InputFault.TheVariants.{Failed, NoMemory};
 
 use rtl_sink::{In, Reader};
@@ -81,17 +81,25 @@ pub struct Named<'a, F: Files, R: Reader> {
 impl<F: Files, R: Reader> Inputs for Named<'_, F, R> {
     ghost state = { λ s. R.state s.reader };
 
-    ghost gives = { GivesStandard };
+    ghost gives = { GivesNamed F.File.remaining };
 
     fn read(&mut self, alloc: Global, name: &str) -> Result<Vec<u8>, InputFault> {
         if name == "@" {
             return read_input(alloc, &mut self.reader);
         }
-        match fs::open(self.files, name) {
-            Ok(file) => read_input(alloc, &mut In::new(file)),
-            Err(error) if error.kind() == ErrorKind::OutOfMemory => Err(InputFault::NoMemory),
-            Err(_) => Err(InputFault::Failed),
-        }
+        read_file(alloc, self.files, name)
+    }
+}
+
+/// Reads a file of the system to its end.
+fn read_file<F: Files>(alloc: Global, files: &F, name: &str) -> Result<Vec<u8>, InputFault>
+    ensures whole { IfOk result (λ all. GivesFile F.File.remaining (Some all.items)) }
+    ensures short { IfOk result (λ all. length all.items ≤ greatest_input) }
+{
+    match fs::open(files, name) {
+        Ok(file) => read_input(alloc, &mut In::new(file)),
+        Err(error) if error.kind() == ErrorKind::OutOfMemory => Err(InputFault::NoMemory),
+        Err(_) => Err(InputFault::Failed),
     }
 }
 

@@ -5,20 +5,23 @@
 //! the files are that it reads.
 #![tactic(auto)]
 
+mod arguments;
 mod files;
 mod first_line;
 mod halves;
 mod inputs;
-mod program;
 mod refusals;
 mod simulating;
+mod streams;
+mod tools;
 
 pub use first_line::tool_first_line;
 pub use halves::halves_at_line;
 pub use inputs::{InputFault, Inputs, MAX_INPUT, Named, Standard, read_input};
-pub use program::{perform, tool, tool_with};
 pub use rtl_commands::{
     CheckFault, ElabFault, ElabProblem, Fault, Forward, Front, NameFault, NameProblem, Net, Pick,
     Reverse, Sink, Status, StimFault, Summary, eval, run, run_event, show_check, show_net,
 };
 pub use rtl_words::{Order, Refused, Request, parse_words};
+pub use streams::{Ended, program};
+pub use tools::{perform, tool, tool_with};

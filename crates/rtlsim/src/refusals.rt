@@ -10,6 +10,7 @@ use crate::inputs::InputFault;
 use rtl_commands::{Status, ended_by_writes, push_memory};
 use rtl_sink::{Sink, push_text};
 use rtl_words::Refused;
+use std::alloc::Global;
 
 /// Tells why the words are refused, and answers the status.
 pub(crate) fn refuse_words<O: Sink, E: Sink>(refused: &Refused, out: &O, err: &mut E) -> Status
@@ -25,6 +26,14 @@ pub(crate) fn refuse_words<O: Sink, E: Sink>(refused: &Refused, out: &O, err: &m
             push_text(err, text.as_bytes());
             ended_by_writes(Status::Words, out, err)
         }
+    }
+}
+
+/// The refusal of words that are no text.
+pub(crate) fn not_text(alloc: Global) -> Refused {
+    match String::from_str(alloc, "error: the words are not UTF-8\n") {
+        Ok(text) => Refused::Words(text),
+        Err(refused) => Refused::from(refused),
     }
 }
 

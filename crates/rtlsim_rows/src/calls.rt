@@ -29,6 +29,7 @@ pub fn wrong_answer<R: Files + AllocGlobal>(
 ) -> io::Result<Option<Answer>> {
     let answer = match call.as_bytes() {
         b"tool" => by_tool(rt.alloc(), &row.words, row.input.as_slice()),
+        b"stream" => by_tool(rt.alloc(), &row.words, In::new(row.input.as_slice())),
         b"files" => by_files(rt, row),
         b"line" => by_line(rt, row, b"\n")?,
         b"crlf" => by_line(rt, row, b"\r\n")?,

@@ -23,7 +23,7 @@ use std::{fs, io};
 use tables::Told;
 
 /// The tables of calls, in the folder in which the program runs.
-const TABLES: [&str; 14] = [
+const TABLES: [&str; 15] = [
     "values.txt",
     "refused.txt",
     "inputs.txt",
@@ -38,6 +38,7 @@ const TABLES: [&str; 14] = [
     "event.txt",
     "run.txt",
     "examples.txt",
+    "sizes.txt",
 ];
 
 /// The tables of small sources, with what their rows tell.

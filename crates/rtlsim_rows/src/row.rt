@@ -55,17 +55,44 @@ impl<'a> Row<'a> {
     fn take_line<R: Files + AllocGlobal>(&mut self, rt: &R, line: &'a str) -> io::Result<()> {
         let (kind, text) = line.split_once(' ').unwrap_or((line, ""));
         match kind.as_bytes() {
-            b"<" => self.push_input(text, b"\n")?,
-            b"<-" => self.push_input(text, b"")?,
+            b"<" | b"<-" | b">" | b">-" => self.push_text(kind, text)?,
+            b"*" => self.push_repeated(rt.alloc(), text)?,
             b"<<" => self.input.extend_from_slice(&fs::read(rt, text)?)?,
             b"<*" => self.push_spaces(text.parse::<usize>().unwrap_or(0))?,
-            b">" => self.answer.push_output(text)?,
             b"!" => self.push_error(rt.alloc(), text)?,
             b"!~" => self.parts.push(text)?,
             b"=" => self.answer.status = text.parse::<u8>().unwrap_or(u8::MAX),
             b"by" => self.calls = text,
             b"" | b"#" => {}
             _ => return Err(io::Error::from(ErrorKind::InvalidData)),
+        }
+        Ok(())
+    }
+
+    /// Adds a text to the input, or to the output that is wanted.
+    fn push_text(&mut self, kind: &str, text: &str) -> io::Result<()> {
+        match kind.as_bytes() {
+            b"<" => self.push_input(text, b"\n")?,
+            b"<-" => self.push_input(text, b"")?,
+            b">" => self.answer.push_output(text)?,
+            b">-" => self.answer.out.extend_from_slice(text.as_bytes())?,
+            _ => return Err(io::Error::from(ErrorKind::InvalidData)),
+        }
+        Ok(())
+    }
+
+    /// Adds lines as often as a text says, with a number in them: how often, the first number, the step, and the lines.
+    fn push_repeated(&mut self, alloc: Global, text: &str) -> io::Result<()> {
+        let (count, text) = cut_number(text);
+        let (first, text) = cut_number(text);
+        let (step, text) = cut_number(text);
+        let (kind, text) = text.split_once(' ').unwrap_or((text, ""));
+        for turn in 0..count {
+            let number = first.saturating_add(turn.saturating_mul(step));
+            let lines = with_number(alloc, text, number)?;
+            for line in lines.as_str().split(" / ") {
+                self.push_text(kind, line)?;
+            }
         }
         Ok(())
     }
@@ -132,6 +159,24 @@ impl<'a> Row<'a> {
         }
         "tool files line library"
     }
+}
+
+/// The number that is the first word of a text, and what stands behind it.
+fn cut_number(text: &str) -> (usize, &str) {
+    let (word, rest) = text.split_once(' ').unwrap_or((text, ""));
+    (word.parse::<usize>().unwrap_or(0), rest)
+}
+
+/// A text with a number in place of each `%`.
+fn with_number(alloc: Global, text: &str, number: usize) -> Result<String, AllocError> {
+    let mut line = String::new(alloc);
+    for (at, part) in text.split('%').enumerate() {
+        if at > 0 {
+            line.push_str(format!(in alloc; "{number}")?.as_str())?;
+        }
+        line.push_str(part)?;
+    }
+    Ok(line)
 }
 
 /// The words of a line, cut at runs of spaces.

@@ -1,23 +1,15 @@
-use Rattle.std.proofs.Common.{◌++◌, not, arith, sym, ap, ap₂, ◌∙◌}
-use Rattle.rtl_vcd.proofs.Runs.{same_from, are_others, others_from, characters_further, same_part, rest_tells}
+use Rattle.std.proofs.Common.{◌+◌, not, ap, ◌∙◌}
+use Rattle.rtl_vcd.proofs.Runs.{are_others, rest_alike, rest_tells, further_alike}
 use Rattle.rtl_vcd.proofs.characters.is_other_run.Goals as goal
 
-pub returns-then-is_other_at : goal.returns-then-is_other_at
-returns-then-is_other_at c =
-    let old = c.args.old.now in
-    let new = c.args.new.now in
-    are_others _ _ (λ e. others_from _ _ (sym c.if-is_other_at.true ∙ c.is_other_at.ensures) (same_part c.loop-at.at 8 old new e))
-
-pub loop-at-preserved : goal.loop-at-preserved
-loop-at-preserved c =
-    let old = c.args.old.now in
-    let new = c.args.new.now in
-    let at = c.loop-at.at in (
-      characters_further at 8 old
-          ∙ ap₂ (λ xs ys. xs ++ ys) c.loop-at.invariant.0 (same_from _ _ (sym c.if-is_other_at.false ∙ c.is_other_at.ensures))
-          ∙ sym (characters_further at 8 new),
-      omega (arith, c.loop-at-test.true, c.loop-at.invariant.1),
-    )
+pub returns-in_default-alike_lanes : goal.returns-in_default-alike_lanes
+returns-in_default-alike_lanes c =
+    are_others _ _ (λ e. c.in_default-alike_lanes.ensures.otherwise (rest_alike c.in-Some.done c.args.old.now c.args.new.now e))
 
 pub returns : goal.returns
-returns c = c.is_other_each.ensures ∙ ap not (rest_tells c.loop-at.at c.args.old.now c.args.new.now c.loop-at.invariant.0)
+returns c =
+    let n = c.in-Some.done in
+    let m = c.in-Some-alike_lanes.more in
+    let old = c.args.old.now in
+    let new = c.args.new.now in
+    c.is_other_each.ensures ∙ ap not (rest_tells (n + m) old new (further_alike n m old new c.in-Some.ensures.alike c.in-Some-alike_lanes.ensures.alike))

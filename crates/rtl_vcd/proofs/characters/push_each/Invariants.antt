@@ -6,5 +6,5 @@ use Rattle.rtl_vcd.proofs.characters.push_each.Given as goal
 -- the values before this one are printed
 abbrev pub invariant-loop-value : goal.invariant-loop-value
 invariant-loop-value l =
-    (l.line.items ≡ l.fn.line.items ++ map character (take l.value-index l.values))
-    × (array_vec_len l.line ≡ array_vec_len l.fn.line + l.value-index)
+    (l.page.items ≡ l.fn.page.items ++ map character (take l.value-index l.values))
+    × (array_vec_len l.page ≡ array_vec_len l.fn.page + l.value-index)

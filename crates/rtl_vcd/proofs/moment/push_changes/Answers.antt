@@ -1,9 +1,8 @@
-use Rattle.std.proofs.Common.{◌≡◌, ◌+◌, ◌++◌, ◌||◌, length, map, take, ◌∙◌, subst, sym, ap, arith}
-use Rattle.std.specs.Prelude.{if◌then◌else◌}
-use Rattle.rtl_sink.specs.Written.{Goes}
-use Rattle.rtl_sink.proofs.Writing.{Goes-append}
+use Rattle.std.proofs.Common.{◌≡◌, ◌+◌, ◌||◌, length, map, take, ◌∙◌, subst, sym, ap, arith}
+use Rattle.rtl_vcd.specs.Pages.{Passes}
+use Rattle.rtl_vcd.proofs.Pages.{Passes-held, Passes-append}
 use Rattle.rtl_net.specs.Nets.{signal_view}
-use Rattle.rtl_vcd.specs.Trace.{printed, are_some, time_line}
+use Rattle.rtl_vcd.specs.Trace.{printed, are_some}
 use Rattle.rtl_vcd.specs.Blocks.{changes_from, continued}
 use Rattle.std.proofs.lemmas.List.{length-map}
 use Rattle.rtl_vcd.proofs.Names.{shown_at}
@@ -27,12 +26,12 @@ is_otherwise-requires-clause-ready g c =
     ready_at c.args.first c.args.names.now c.args.runs.now c.loop-place.place c.index-names-place.result c.index-runs-place.result c.loop-place-test.true
     c.index-names-place.is c.index-runs-place.is c.requires.runs
 
-pub ready_line-requires-clause-shown : goal.ready_line-requires-clause-shown
-ready_line-requires-clause-shown g c =
+pub push_ready-requires-clause-shown : goal.push_ready-requires-clause-shown
+push_ready-requires-clause-shown g c =
     shown_at (length c.args.step.now.new.now) c.args.names.now c.loop-place.place c.index-names-place.result c.loop-place-test.true c.index-names-place.is c.requires.after
 
-pub ready_line-requires-clause-ready : goal.ready_line-requires-clause-ready
-ready_line-requires-clause-ready g c =
+pub push_ready-requires-clause-ready : goal.push_ready-requires-clause-ready
+push_ready-requires-clause-ready g c =
     ready_at c.args.first c.args.names.now c.args.runs.now c.loop-place.place c.index-names-place.result c.index-runs-place.result c.loop-place-test.true
     c.index-names-place.is c.index-runs-place.is c.requires.runs
 
@@ -40,7 +39,7 @@ pub loop-place-preserved-then-not-is_otherwise : goal.loop-place-preserved-then-
 loop-place-preserved-then-not-is_otherwise g c =
     let same = changes_same c.args.first c.args.names.now c.loop-place.place c.index-names-place.result c.loop-place-test.true c.index-names-place.is
     c.args.step.now.old.now c.args.step.now.new.now c.is_otherwise.result c.is_otherwise.ensures c.if-not-is_otherwise.true in
-    subst (λ xs. Goes (g.W.Sink.state c.args.out.now) (g.W.Sink.state c.loop-place.out) (continued c.args.is_printed c.args.step.now.time xs)
+    subst (λ xs. Passes (g.W.Sink.state c.args.out.now) (g.W.Sink.state c.loop-place.out) c.args.page.now.items c.loop-place.page.items (continued c.args.is_printed c.args.step.now.time xs)
     × (c.loop-place.printed ≡ (c.args.is_printed || are_some xs)))
     (sym same) c.loop-place.invariant
 
@@ -52,17 +51,22 @@ loop-place-preserved g c =
     let time = c.args.step.now.time in
     let first = g.W.Sink.state c.args.out.now in
     let before = g.W.Sink.state c.loop-place.out in
-    let after = g.W.Sink.state c.push_change.new.out in
+    let after = g.W.Sink.state c.make_way.new.out in
+    let start = c.args.page.now.items in
+    let held = c.loop-place.page.items in
+    let way = c.make_way.new.page.items in
+    let holds = c.push_ready.new.page.items in
     let earlier = changes_from c.args.first (map signal_view (take place names)) c.args.step.now.old.now c.args.step.now.new.now in
     let line = printed (c.args.first + place) name c.args.step.now.new.now in
     let some = printed_is_some (c.args.first + place) name c.args.step.now.new.now in
     let more = changes_new c.args.first names place c.index-names-place.result c.loop-place-test.true c.index-names-place.is
     c.args.step.now.old.now c.args.step.now.new.now c.is_otherwise.result c.is_otherwise.ensures c.if-not-is_otherwise.false in
-    let pushed = subst (λ text. Goes before after (if c.loop-place.printed then text else (time_line time ++ text)))
-    (c.deref.ensures.0 ∙ c.ready_line.ensures) c.push_change.ensures in
-    let change = subst (λ b. Goes before after (continued b time line)) c.loop-place.invariant.1
-    (subst (Goes before after) (continued_one c.loop-place.printed time line some) pushed) in (
-      subst (λ xs. Goes first after (continued c.args.is_printed time xs)) (sym more)
-          (subst (Goes first after) (sym (continued_more c.args.is_printed time earlier line)) (Goes-append _ _ _ _ _ c.loop-place.invariant.0 change)),
+    let pushed = Passes-append _ _ _ _ _ _ _ _ c.make_way.ensures.text
+    (subst (λ h. Passes after after way h line) (sym c.push_ready.ensures) (Passes-held after way line)) in
+    let change = subst (λ b. Passes before after held holds (continued b time line)) c.loop-place.invariant.1
+    (subst (Passes before after held holds) (continued_one c.loop-place.printed time line some) pushed) in (
+      subst (λ xs. Passes first after start holds (continued c.args.is_printed time xs)) (sym more)
+          (subst (Passes first after start holds) (sym (continued_more c.args.is_printed time earlier line))
+          (Passes-append _ _ _ _ _ _ _ _ c.loop-place.invariant.0 change)),
       sym (ap (λ xs. c.args.is_printed || are_some xs) more ∙ or_some c.args.is_printed earlier line some),
     )

@@ -1,13 +1,13 @@
 use Rattle.std.specs.Prelude.{◌≡◌, ◌||◌, map, take}
-use Rattle.rtl_sink.specs.Written.{Goes}
+use Rattle.rtl_vcd.specs.Pages.{Passes}
 use Rattle.rtl_net.specs.Nets.{signal_view}
 use Rattle.rtl_vcd.specs.Trace.{are_some}
 use Rattle.rtl_vcd.specs.Blocks.{changes_from, continued}
 use Rattle.rtl_vcd.proofs.moment.push_changes.Given as goal
 
--- the changes of the names before this one are printed
+-- the changes of the names before this one are printed, the last of them in the page
 abbrev pub invariant-loop-place : goal.invariant-loop-place
 invariant-loop-place g l =
-    Goes (g.W.Sink.state l.initial.out) (g.W.Sink.state l.out)
+    Passes (g.W.Sink.state l.initial.out) (g.W.Sink.state l.out) l.initial.page.items l.page.items
     (continued l.is_printed l.step.time (changes_from l.first (map signal_view (take l.place l.names)) l.step.old.now l.step.new.now))
     × (l.printed ≡ (l.is_printed || are_some (changes_from l.first (map signal_view (take l.place l.names)) l.step.old.now l.step.new.now)))

@@ -1,6 +1,7 @@
-use Rattle.std.proofs.Common.{◌≡◌, ◌||◌, false, length, take, drop, get_or, sym, ap, subst, ◌∙◌}
+use Rattle.std.proofs.Common.{◌≡◌, ◌||◌, false, [], length, take, drop, get_or, refl, arith, sym, ap, subst, ◌∙◌}
 use Rattle.rtl_sink.specs.Written.{Goes}
-use Rattle.rtl_sink.proofs.Writing.{Goes-append}
+use Rattle.rtl_vcd.specs.Pages.{Passes}
+use Rattle.rtl_vcd.proofs.Pages.{Passes-nil, Passes-append, Passes-whole}
 use Rattle.rtl_vcd.specs.declared.blocks.Block.{Block}
 use Rattle.rtl_vcd.specs.Trace.{stamped, are_some}
 use Rattle.rtl_vcd.specs.Blocks.{changes_from, continued}
@@ -30,6 +31,15 @@ push_changes-is_printed-requires-clause-runs g c =
     part_of_runs c.signals-signals.result.now c.args.runs.now c.loop-block.next (get_or c.args.blocks.now c.loop-block.block-index none).names
     c.args.net.now.signals c.signals-signals.ensures c.requires.runs
 
+pub loop-block-init : goal.loop-block-init
+loop-block-init g c =
+    let start = g.W.Sink.state c.args.out.now in (
+      subst (λ held. Passes start start [] held []) (sym c.new-page.ensures) (Passes-nil start []),
+      refl,
+      omega arith,
+      c.requires.blocks,
+    )
+
 pub loop-block-preserved : goal.loop-block-preserved
 loop-block-preserved g c =
     let net = c.args.net.now in
@@ -43,19 +53,21 @@ loop-block-preserved g c =
     let here = this_block (length net.types) c.args.blocks.now c.loop-block.block-index none next names c.loop-block-test.true I.2 I.3 in
     let first = g.W.Sink.state c.args.out.now in
     let before = g.W.Sink.state c.loop-block.out in
+    let held = c.loop-block.page.items in
     let earlier = changes_from 0 (take next names) old new in
     let part = changes_from next (take block.names (drop next names)) old new in
     elim c.if-not-is_quiet.branch [
       | then-not-is_quiet w ↦
           let after = g.W.Sink.state w.push_changes-is_printed.new.out in
+          let holds = w.push_changes-is_printed.new.page.items in
           let listed = part_of_names c.signals-signals.result.now next block.names ∙ ap (λ ss. take block.names (drop next ss)) c.signals-signals.ensures in
-          let pushed = subst (λ ss. Goes before after (continued c.loop-block.is_printed time (changes_from next ss old new))) listed w.push_changes-is_printed.ensures.text in
+          let pushed = subst (λ ss. Passes before after held holds (continued c.loop-block.is_printed time (changes_from next ss old new))) listed w.push_changes-is_printed.ensures.text in
           let is = subst (λ ss. w.push_changes-is_printed.result ≡ (c.loop-block.is_printed || are_some (changes_from next ss old new))) listed w.push_changes-is_printed.ensures.printed in
           let more = changes_further next block.names names old new I.2 in
-          rw (w.out-is, w.next-is, w.is_printed-is) (
-            subst (λ xs. Goes first after (stamped time xs)) (sym more)
-                (subst (Goes first after) (sym (continued_more false time earlier part))
-                (Goes-append _ _ _ _ _ I.0 (subst (λ b. Goes before after (continued b time part)) I.1 pushed))),
+          rw (w.out-is, w.page-is, w.next-is, w.is_printed-is) (
+            subst (λ xs. Passes first after [] holds (stamped time xs)) (sym more)
+                (subst (Passes first after [] holds) (sym (continued_more false time earlier part))
+                (Passes-append _ _ _ _ _ _ _ _ I.0 (subst (λ b. Passes before after held holds (continued b time part)) I.1 pushed))),
             is ∙ ap (λ b. b || are_some part) I.1 ∙ sym (are_some_append earlier part) ∙ ap are_some (sym more),
             here.1,
             here.2,
@@ -63,8 +75,8 @@ loop-block-preserved g c =
       | else-not-is_quiet w ↦
           let same = none_further next block.names names old new I.2
           (no_changes block.least block.greatest old new (c.is_quiet.ensures w.if-not-is_quiet.false) next (take block.names (drop next names)) here.0.between) in
-          rw (w.out-is, w.next-is, w.is_printed-is) (
-            subst (λ xs. Goes first before (stamped time xs)) (sym same) I.0,
+          rw (w.out-is, w.page-is, w.next-is, w.is_printed-is) (
+            subst (λ xs. Passes first before [] held (stamped time xs)) (sym same) I.0,
             I.1 ∙ ap are_some (sym same),
             here.1,
             here.2,
@@ -74,8 +86,10 @@ loop-block-preserved g c =
 pub returns-clause-text : goal.returns-clause-text
 returns-clause-text g c =
     let all = all_taken (length c.args.net.now.types) c.args.blocks.now c.loop-block.block-index c.loop-block.next c.args.net.now.signals c.loop-block-test.false c.loop-block.invariant.3 in
-    subst (λ ss. Goes (g.W.Sink.state c.args.out.now) (g.W.Sink.state c.loop-block.out)
-    (stamped c.args.step.now.time (changes_from 0 ss c.args.step.now.old.now c.args.step.now.new.now))) all c.loop-block.invariant.0
+    let rest = subst (Goes (g.W.Sink.state c.loop-block.out) (g.W.Sink.state c.push_text.new.sink)) c.deref.ensures.0 c.push_text.ensures in
+    subst (λ ss. Goes (g.W.Sink.state c.args.out.now) (g.W.Sink.state c.push_text.new.sink)
+    (stamped c.args.step.now.time (changes_from 0 ss c.args.step.now.old.now c.args.step.now.new.now))) all
+    (Passes-whole _ _ _ _ _ c.loop-block.invariant.0 rest)
 
 pub returns-clause-printed : goal.returns-clause-printed
 returns-clause-printed g c =

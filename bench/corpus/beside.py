@@ -1,0 +1,164 @@
+"""One design beside GHDL: a random stimulus, a testbench for GHDL, both traces, and where they differ."""
+import os
+import random
+import re
+import subprocess
+import tempfile
+
+PERIOD, STEPS = 10, 40
+STATES = {"0": "0", "l": "0", "1": "1", "h": "1"}
+TYPES = {"std_logic": "std_logic", "std_ulogic": "std_logic", "bit": "bit", "std_logic_vector": "std_logic_vector", "std_ulogic_vector": "std_logic_vector",
+         "unsigned": "unsigned", "u_unsigned": "unsigned", "signed": "signed", "u_signed": "signed", "bit_vector": "bit_vector"}
+HEAD = "library ieee;\nuse ieee.std_logic_1164.all;\nuse ieee.numeric_std.all;\n"
+
+
+def kinds(text, top):
+    """The type of each port of an entity by its own words, or None where one isn't of the standard packages' elements and vectors."""
+    text = re.sub(r"--[^\n]*", "", text)
+    it = re.search(rf"(?is)\bentity\s+{top}\s+is\b(.*?)\bend\b", text)
+    ports = it and re.search(r"(?is)\bport\s*\((.*)\)\s*;", it[1])
+    if not ports:
+        return {}
+    found = {}
+    for part in ports[1].split(";"):
+        names, _, rest = part.partition(":")
+        word = re.match(r"(?is)\s*(?:in|out|inout|buffer)?\s*(\w+)", rest)
+        if not word or word[1].lower() not in TYPES:
+            return None
+        for name in names.split(","):
+            found[name.split()[-1].lower() if name.split() else ""] = TYPES[word[1].lower()]
+    return found
+
+
+def stimulus(ports, clocks, resets, seed):
+    """Changes of the inputs, each a time, a name and its value: clocks have their edges apart from all else."""
+    r, changes = random.Random(seed), []
+    for at, clock in enumerate(clocks):
+        changes.append((0, clock, "0"))
+        for step in range(STEPS):
+            changes.append((step * PERIOD + 5 + at % 3, clock, "1"))
+            changes.append((step * PERIOD + 9 if at % 3 == 2 else step * PERIOD + 10 + at % 3, clock, "0"))
+    inputs = [it for it in ports if it.kind == "in" and it.name not in clocks and it.shape.width()]
+    for it in inputs:
+        for step in range(STEPS + 1):
+            time = step * PERIOD + 3 if step else 0
+            if it.name in resets and step not in (0, 2, 20, 22):
+                continue
+            bits = "".join(r.choice("01") for _ in range(it.shape.width()))
+            if it.name in resets:
+                active = resets[it.name]
+                bits = active if step in (0, 20) else "10"[int(active)]
+            changes.append((time, it.name, bits))
+    return sorted(changes, key=lambda it: it[0])
+
+
+def as_stimulus(changes, stop, parts):
+    """The stimulus for rtlsim; a port in parts has its value in theirs, the rightmost first."""
+    lines = []
+    for time, name, bits in changes:
+        high = len(bits)
+        for part, width in parts.get(name, [(name, high)]):
+            lines.append(f"at {time} {part} {bits[high - width : high]}\n")
+            high -= width
+    return "".join(lines) + f"stop {stop}\n"
+
+
+def whole(values, parts):
+    """The values of a moment, with those of ports in parts joined."""
+    for name, them in parts.items():
+        values[name] = "".join(plain(values.get(part, "x"), width) for part, width in reversed(them))
+    return values
+
+
+def testbench(top, ports, types, changes):
+    value = lambda name, bits: f"'{bits}'" if by_name[name].shape.is_bit and types.get(name, "std_logic") in ("std_logic", "bit") else f'"{bits}"'
+    by_name = {it.name: it for it in ports}
+    lines = [HEAD, "entity tb is end;", "architecture t of tb is"]
+    first = {name: bits for time, name, bits in changes if time == 0}
+    for it in ports:
+        kind = types.get(it.name, "std_logic" if it.shape.is_bit else "std_logic_vector")
+        if not kind.endswith(("logic", "bit")):
+            kind += f"({it.shape.width() - 1} downto 0)"
+        lines.append(f"signal {it.name} : {kind}{' := ' + value(it.name, first[it.name]) if it.name in first else ''};")
+    connected = f" port map ({', '.join(f'{it.name} => {it.name}' for it in ports)})" if ports else ""
+    lines += ["begin", f"dut: entity work.{top}{connected};", "process begin"]
+    last = 0
+    for time in sorted({time for time, _, _ in changes if time}):
+        sets = " ".join(f"{name} <= {value(name, bits)};" for at, name, bits in changes if at == time)
+        lines.append(f"wait for {time - last} ns; {sets}")
+        last = time
+    return "\n".join(lines + ["wait; end process;", "end;", ""])
+
+
+def trace(text, scope):
+    """The settled values by time and name, in one scope of a VCD trace."""
+    codes, path, now, found, time, unit = {}, [], {}, {}, None, 1
+    for line in text.split("\n"):
+        words = line.split()
+        if not words:
+            continue
+        if words[0] == "$scope":
+            path.append(words[2])
+        elif words[0] == "$upscope":
+            path.pop()
+        elif words[0] == "$var" and ".".join(path) == scope:
+            codes.setdefault(words[3], []).append(re.sub(r"\[.*", "", words[4]))
+        elif words[0].startswith("#"):
+            if time is not None:
+                found[time] = dict(now)
+            time = int(words[0][1:]) // unit
+        elif words[0].lower()[0] == "b" and len(words) == 2:
+            for name in codes.get(words[1], []):
+                now[name] = words[0][1:]
+        elif len(words) == 1 and words[0][1:] in codes:
+            for name in codes[words[0][1:]]:
+                now[name] = words[0][0]
+        elif "fs" in line and "$" not in line and not codes:
+            unit = 1000000
+    if time is not None:
+        found[time] = dict(now)
+    return found
+
+
+def plain(bits, width):
+    bits = "".join(STATES.get(it, "x") for it in bits.lower())
+    return bits.rjust(width, "x" if bits[:1] == "x" else "0")
+
+
+def ghdl(text, bench, stop):
+    """GHDL's trace of the testbench's own signals, or what it says."""
+    with tempfile.TemporaryDirectory() as work:
+        with open(f"{work}/t.vhd", "w") as file:
+            file.write(text + "\n" + bench)
+        words = ["ghdl", "-c", "--std=08", "t.vhd", "-r", "tb", "--ieee-asserts=disable", f"--stop-time={stop}ns", "--vcd=t.vcd"]
+        done = subprocess.run(words, cwd=work, capture_output=True, text=True, timeout=60)
+        if done.returncode:
+            return None, (done.stderr or done.stdout).strip().split("\n")[0]
+        with open(f"{work}/t.vcd") as file:
+            return trace(file.read(), "tb"), ""
+
+
+def own(program, command, text, top, changes, stop, parts):
+    """rtlsim's trace of the top's ports, or what it says; `parts` are the ports that are in parts, with those and their widths."""
+    with tempfile.TemporaryDirectory() as work:
+        for name, part in (("t.vhd", text), ("t.stim", as_stimulus(changes, stop, parts))):
+            with open(f"{work}/{name}", "w") as file:
+                file.write(part)
+        done = subprocess.run([program, "run", *command, "t.vhd", top, "t.stim"], cwd=work, capture_output=True, text=True, timeout=120)
+    if done.returncode:
+        return None, done.stderr.strip().split("\n")[0]
+    return {time: whole(values, parts) for time, values in trace(done.stdout, top).items()}, ""
+
+
+def differences(theirs, ours, outputs):
+    """How many values of outputs there are, and those that differ where GHDL's is known: time, name, theirs, ours."""
+    count, found, a, b = 0, [], theirs.get(0, {}), ours.get(0, {})
+    for time in sorted((theirs.keys() | ours.keys()) - {0}):
+        a, b = theirs.get(time, a), ours.get(time, b)
+        for it in outputs:
+            width = it.shape.width()
+            left, right = plain(a.get(it.name, "x"), width), plain(b.get(it.name, "x"), width)
+            count += 1
+            if any(x != y and x != "x" for x, y in zip(left, right)):
+                found.append((time, it.name, left, right))
+    return count, found

@@ -1,0 +1,12 @@
+pub mod Leading
+pub mod Places
+pub mod Lengths
+pub mod Expressions
+pub mod Tests
+pub mod Values
+pub mod Effects
+pub mod Statements
+pub mod Branches
+pub mod Alternatives
+pub mod Backwards
+pub mod Bodies

@@ -1,0 +1,7 @@
+pub mod Instructions
+pub mod Ends
+pub mod Bodies
+pub mod Written
+pub mod Parts
+pub mod Codes
+pub mod Kept

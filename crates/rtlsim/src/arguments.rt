@@ -1,0 +1,92 @@
+//! The words that the system passes.
+
+ghost use Rattle.std.specs.Prelude.{◌≡◌, false, IfOk, List, Option, map, string_bytes, ℕ};
+ghost use Rattle.rtl_sink.specs.Read.{ReaderState};
+ghost use Rattle.rtl_sink.specs.Written.{IsIntact};
+ghost use Rattle.rtlsim.specs.Inputs.{GivesNamed};
+ghost use Rattle.rtlsim.specs.Streams.{ServesArguments};
+ghost use Rattle.rtlsim.specs.Tools.{ServesWords};
+
+use crate::first_line::tool_first_line;
+use crate::inputs::Named;
+use crate::refusals::{not_text, refuse_words};
+use crate::tools::tool_with;
+use rtl_commands::{Front, Status};
+use rtl_sink::{In, Sink};
+use rtl_words::Refused;
+use std::alloc::{AllocError, Global};
+use std::env;
+use std::io::{ErrorKind, Read};
+use std::rt::{Env, Files};
+
+/// Does what the arguments ask for, or tells why they are refused.
+pub(crate) fn serve_arguments<
+    F: Front,
+    T: Files + Env + AllocGlobal,
+    R: Read + Drop,
+    O: Sink,
+    E: Sink,
+>(rt: &T, reader: R, out: &mut O, err: &mut E) -> Status
+    requires out { IsIntact (O.state out.old) }
+    requires err { IsIntact (E.state err.old) }
+    ensures { (words : Option (List (List ℕ))) × ServesArguments (GivesNamed T.File.remaining) words (R.remaining reader) result
+        (record { out = O.state out.old; out_after = O.state out.new; err = E.state err.old; err_after = E.state err.new }) }
+{
+    match words_of(rt) {
+        Ok(words) => serve_words::<F, _, _, _, _>(rt.alloc(), rt, &words, reader, out, err),
+        Err(refused) => refuse_words(&refused, out, err),
+    }
+}
+
+/// The words after the program's name: refused where one of them is no text, or for want of memory.
+fn words_of<T: Env + AllocGlobal>(rt: &T) -> Result<Vec<String>, Refused> {
+    let args = match env::args(rt) {
+        Ok(args) => args,
+        Err(error) if error.kind() == ErrorKind::OutOfMemory => return Err(Refused::NoMemory),
+        Err(_) => return Err(not_text(rt.alloc())),
+    };
+    let mut words = Vec::new(rt.alloc());
+    for word in args.skip(1) {
+        words.push(word)?;
+    }
+    Ok(words)
+}
+
+/// Does what the words ask for; without words, what the first line of the input asks for.
+fn serve_words<F: Front, T: Files, R: Read + Drop, O: Sink, E: Sink>(
+    alloc: Global,
+    files: &T,
+    args: &[String],
+    reader: R,
+    out: &mut O,
+    err: &mut E,
+) -> Status
+    requires out { IsIntact (O.state out.old) }
+    requires err { IsIntact (E.state err.old) }
+    ensures { (after : ReaderState) × ServesWords (GivesNamed T.File.remaining) (map string_bytes args.now)
+        (record { left = R.remaining reader; failed = false }) after result
+        (record { out = O.state out.old; out_after = O.state out.new; err = E.state err.old; err_after = E.state err.new }) }
+{
+    let mut reader = In::new(reader);
+    if args.is_empty() {
+        return tool_first_line::<F, _, _, _, _>(alloc, files, &mut reader, out, err);
+    }
+    match texts_of(alloc, args) {
+        Ok(words) => {
+            let mut inputs = Named { files, reader };
+            tool_with::<F, _, _, _>(alloc, &words, &mut inputs, out, err)
+        }
+        Err(refused) => refuse_words(&Refused::from(refused), out, err),
+    }
+}
+
+/// The words as texts.
+fn texts_of(alloc: Global, args: &[String]) -> Result<Vec<&str>, AllocError>
+    ensures { IfOk result (λ words. map (λ word. word.now) words.items ≡ map string_bytes args.now) }
+{
+    let mut words = Vec::with_capacity(alloc, args.len())?;
+    for word in args {
+        words.push(word.as_str())?;
+    }
+    Ok(words)
+}

@@ -1,0 +1,121 @@
+//! The program over a reader and two writers, as the system gives them.
+
+ghost use Rattle.std.specs.Prelude.{◌≡◌, Option, List, ℕ};
+ghost use Rattle.rtl_sink.specs.Written.{IsIntact};
+ghost use Rattle.rtlsim.specs.Inputs.{GivesNamed};
+ghost use Rattle.rtlsim.specs.Streams.{Ends, GoesOut, GoesToWriters, RunsArguments, ServesArguments, TellsLoss, TellsMemory};
+ghost use Rattle.rtl_commands.specs.Served as served;
+
+use crate::arguments::serve_arguments;
+use rtl_commands::{Front, Status, push_memory};
+use rtl_sink::{Out, Sink, push_text};
+use std::io::{BufWriter, Read, Write};
+use std::rt::{Env, Files};
+
+/// What the program ends with: its status, and the writers of its two streams.
+#[derive(Drop)]
+pub struct Ended<O, E> {
+    pub status: Status,
+    pub stdout: O,
+    pub stderr: E,
+}
+
+/// The program over the system's arguments and files, a reader and two writers: does what the arguments ask for, as `tool_with`
+/// does, or `tool_first_line` where there are none, and sees that all that it prints and tells goes out, in as few writes as it
+/// can. The status is that of what was done, or `Failed` where something didn't go out.
+pub fn program<
+    F: Front,
+    T: Files + Env + AllocGlobal,
+    R: Read + Drop,
+    O: Write + Copy + Drop,
+    E: Write + Copy + Drop,
+>(rt: &T, reader: R, stdout: O, stderr: E) -> Ended<O, E>
+    ensures { RunsArguments (GivesNamed T.File.remaining) (R.remaining reader) result.status
+        (record { out = O.contents stdout; out_after = O.contents result.stdout; err = E.contents stderr; err_after = E.contents result.stderr }) }
+{
+    let Ok(output) = BufWriter::new(rt.alloc(), stdout) else {
+        return refuse_memory(stdout, stderr);
+    };
+    let Ok(errors) = BufWriter::new(rt.alloc(), stderr) else {
+        return refuse_memory(stdout, stderr);
+    };
+    run_arguments::<F, _, _, _, _>(rt, reader, Out::new(output), Out::new(errors))
+}
+
+/// Tells that memory was refused, where no buffers can be had.
+fn refuse_memory<O, E: Write + Drop>(stdout: O, stderr: E) -> Ended<O, E>
+    ensures kept { result.stdout ≡ stdout }
+    ensures told { TellsMemory result.status (E.contents stderr) (E.contents result.stderr) }
+{
+    let mut err = Out::new(stderr);
+    push_memory(&mut err);
+    Ended {
+        status: ended_by(err.failed(), Status::Memory),
+        stdout,
+        stderr: err.into_inner(),
+    }
+}
+
+/// Does what the arguments ask for, and sees that all goes out.
+fn run_arguments<
+    F: Front,
+    T: Files + Env + AllocGlobal,
+    R: Read + Drop,
+    O: Write + Drop,
+    E: Write + Drop,
+>(rt: &T, reader: R, mut out: Out<BufWriter<O>>, mut err: Out<BufWriter<E>>) -> Ended<O, E>
+    requires out { IsIntact (⟦<Out<BufWriter<O>> as Sink>⟧.state out) }
+    requires err { IsIntact (⟦<Out<BufWriter<E>> as Sink>⟧.state err) }
+    ensures { (words : Option (List (List ℕ)))
+        × GoesToWriters (ServesArguments (GivesNamed T.File.remaining) words (R.remaining reader)) result.status
+        (⟦<Out<BufWriter<O>> as Sink>⟧.state out) (⟦<Out<BufWriter<E>> as Sink>⟧.state err) (O.contents result.stdout) (E.contents result.stderr) }
+{
+    let outcome = serve_arguments::<F, _, _, _, _>(rt, reader, &mut out, &mut err);
+    end(outcome, out, err)
+}
+
+/// Sees that what both outputs took goes out, and that it is told where the first doesn't.
+fn end<O: Write + Drop, E: Write + Drop>(
+    outcome: Status,
+    out: Out<BufWriter<O>>,
+    mut err: Out<BufWriter<E>>,
+) -> Ended<O, E>
+    ensures { Ends outcome (⟦<Out<BufWriter<O>> as Sink>⟧.state out) (⟦<Out<BufWriter<E>> as Sink>⟧.state err) result.status
+        (O.contents result.stdout) (E.contents result.stderr) }
+{
+    let had_failed = out.failed();
+    let (stdout, is_out) = flush(out);
+    tell_loss(is_out, had_failed, &mut err);
+    let (stderr, is_told) = flush(err);
+    Ended {
+        status: ended_by(!is_told, ended_by(!is_out, outcome)),
+        stdout,
+        stderr,
+    }
+}
+
+/// Tells that the last bytes of the output don't go out, where it hadn't failed before.
+fn tell_loss<E: Sink>(is_out: bool, had_failed: bool, err: &mut E)
+    ensures { TellsLoss is_out had_failed (E.state err.old) (E.state err.new) }
+{
+    if !is_out && !had_failed {
+        push_text(err, b"rtlsim: output\n");
+    }
+}
+
+/// A status, which a failed write overrules.
+fn ended_by(has_failed: bool, outcome: Status) -> Status
+    ensures { result ≡ served.ended_by has_failed outcome }
+{
+    if has_failed { Status::Failed } else { outcome }
+}
+
+/// Sees that what was taken goes out. Gives the writer, and whether all went out.
+fn flush<W: Write + Drop>(sink: Out<BufWriter<W>>) -> (W, bool)
+    ensures { GoesOut result.1 (⟦<Out<BufWriter<W>> as Sink>⟧.state sink).taken (W.contents result.0) }
+{
+    let mut writer = sink.into_inner();
+    let is_out = writer.flush().is_ok();
+    let (inner, _rest) = writer.into_parts();
+    (inner, is_out)
+}

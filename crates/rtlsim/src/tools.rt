@@ -1,0 +1,111 @@
+//! The program, over any inputs and two sinks.
+
+ghost use Rattle.std.specs.Prelude.{◌≡◌, map};
+ghost use Rattle.rtl_commands.specs.Status.{code_of};
+ghost use Rattle.rtl_commands.specs.declared.status.Status.{Status};
+ghost use Rattle.rtl_sink.specs.Written.{IsIntact};
+ghost use Rattle.rtlsim.specs.Inputs.{GivesStandardAlone};
+ghost use Rattle.rtlsim.specs.Tools.{Performs, Serves, ServesWords};
+
+use crate::files::{read_both, read_eval};
+use crate::first_line::serve_reader_line;
+use crate::inputs::{Inputs, Standard};
+use crate::refusals::{refuse_input, refuse_words};
+use crate::simulating::{Texts, simulate};
+use rtl_commands::{Front, Status, serve_check, serve_eval, serve_net};
+use rtl_sink::{Reader, Sink};
+use rtl_words::{Request, parse_words};
+use std::alloc::Global;
+
+/// The program where each file is `@`: does what the words ask for, or without words what those of the
+/// input's first line ask for, with the standard input alone, and answers the exit status.
+pub fn tool<F: Front, R: Reader, O: Sink, E: Sink>(
+    alloc: Global,
+    words: &[&str],
+    input: &mut Standard<R>,
+    out: &mut O,
+    err: &mut E,
+) -> u8
+    requires out { IsIntact (O.state out.old) }
+    requires err { IsIntact (E.state err.old) }
+    ensures { (outcome : Status) × (result ≡ code_of outcome)
+        × ServesWords GivesStandardAlone (map (λ word. word.now) words.now) (R.state input.old.reader) (R.state input.new.reader) outcome
+        (record { out = O.state out.old; out_after = O.state out.new; err = E.state err.old; err_after = E.state err.new }) }
+{
+    if words.is_empty() {
+        return serve_reader_line::<F, _, _, _>(alloc, &mut input.reader, out, err).code();
+    }
+    tool_with::<F, _, _, _>(alloc, words, input, out, err).code()
+}
+
+/// Does what the words ask for: reads the files that they name by `inputs`, writes the result to `out` and
+/// what is told of it to `err`, and answers the status. Words that are no command are refused with a text
+/// on `err`. It takes memory for the words and the files, and as the command does.
+pub fn tool_with<F: Front, I: Inputs, O: Sink, E: Sink>(
+    alloc: Global,
+    words: &[&str],
+    inputs: &mut I,
+    out: &mut O,
+    err: &mut E,
+) -> Status
+    requires out { IsIntact (O.state out.old) }
+    requires err { IsIntact (E.state err.old) }
+    ensures { Serves I.gives (map (λ word. word.now) words.now) (I.state inputs.old) (I.state inputs.new) result
+        (record { out = O.state out.old; out_after = O.state out.new; err = E.state err.old; err_after = E.state err.new }) }
+{
+    match parse_words(alloc, words) {
+        Ok(request) => perform::<F, _, _, _>(alloc, &request, inputs, out, err),
+        Err(refused) => refuse_words(&refused, out, err),
+    }
+}
+
+/// Does what is asked for: reads the file, or the source and the stimulus, by `inputs`, and then does what the command does
+/// with the source: writes the result to `out` and what is told of it to `err`, and answers the status. It takes memory for
+/// the files, and as the command does.
+pub fn perform<F: Front, I: Inputs, O: Sink, E: Sink>(
+    alloc: Global,
+    request: &Request<'_>,
+    inputs: &mut I,
+    out: &mut O,
+    err: &mut E,
+) -> Status
+    requires out { IsIntact (O.state out.old) }
+    requires err { IsIntact (E.state err.old) }
+    ensures { Performs I.gives request.now (I.state inputs.old) (I.state inputs.new) result
+        (record { out = O.state out.old; out_after = O.state out.new; err = E.state err.old; err_after = E.state err.new }) }
+{
+    match request {
+        Request::Eval { file, top, sets } => match read_eval(alloc, inputs, file, sets) {
+            Ok((source, sets)) => {
+                serve_eval::<F, _, _>(alloc, &source, top.as_bytes(), &sets, out, err)
+            }
+            Err(fault) => refuse_input(fault, out, err),
+        },
+        Request::Net { file, top } => match inputs.read(alloc, file) {
+            Ok(source) => serve_net::<F, _, _>(alloc, &source, top.as_bytes(), out, err),
+            Err(fault) => refuse_input(fault, out, err),
+        },
+        Request::Check { file, top } => match inputs.read(alloc, file) {
+            Ok(source) => serve_check::<F, _, _>(alloc, &source, top.as_bytes(), out, err),
+            Err(fault) => refuse_input(fault, out, err),
+        },
+        Request::Run {
+            is_event,
+            order,
+            file,
+            top,
+            stimulus,
+        } => match read_both(alloc, inputs, file, stimulus) {
+            Ok(both) => {
+                let (source, stimulus) = both.texts();
+                let texts = Texts {
+                    source,
+                    top: top.as_bytes(),
+                    stimulus,
+                };
+                simulate::<F, _, _>(alloc, *is_event, *order, &texts, out, err)
+            }
+            Err(fault) => refuse_input(fault, out, err),
+        },
+    }
+}
