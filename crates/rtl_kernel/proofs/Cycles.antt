@@ -1,20 +1,23 @@
 -- The parts of a cycle, as they are computed, are those of rtl_model.
-use Rattle.std.proofs.Common.{◌≡◌, ℕ, ◌<◌, Bool, true, false, List, [], ◌∷◌, suc, length, get_or, map, refl, sym, ap, subst, ◌∙◌, arith, ◌⊎◌, inl, inr, Contains}
+use Rattle.std.proofs.Common.{◌≡◌, ℕ, ◌<◌, ◌≤◌, Bool, true, false, List, [], ◌∷◌, zero, suc, length, get_or, map, refl, sym, ap, subst, ◌∙◌, arith, ◌⊎◌, inl, inr, Contains}
 use Rattle.std.specs.List.{list_any}
-use Rattle.std.proofs.lemmas.Bool.{cases_Bool, cases_eq}
-use Rattle.std.proofs.lemmas.List.{ext_get_or, length-map}
+use Rattle.std.proofs.lemmas.Bool.{cases_Bool, cases_lt}
+use Rattle.std.proofs.lemmas.List.{ext_get_or, length-map, nil_from_length}
 use Rattle.std.proofs.lemmas.List.FromFn.{length-map-range_with_len}
 use Rattle.rtl_model.specs.basics.Valuations.{has_event}
-use Rattle.rtl_model.specs.simulation.Net.{Net, Process, Source, Driver, Idle, no_process, process, sources_of, target}
+use Rattle.rtl_model.specs.nets.FlatNet.{FlatNet, flat_sources}
+use Rattle.rtl_model.specs.simulation.Net.{Net, Process, Source, Driver, Idle, no_process, process, sources_of}
+use Rattle.rtl_net.specs.declared.process.Process as q
 use Rattle.rtl_model.specs.simulation.Cycle.{State, driven_all, net_value, resumed, source_value, updated}
 use Rattle.rtl_model.specs.simulation.Elaborated.{IsWired}
 use Rattle.rtl_model.specs.simulation.Laws.{IsConsistent}
-use Rattle.rtl_model.proofs.basics.Lists.{any_at, any_true, Contains-first}
+use Rattle.rtl_model.proofs.basics.Lists.{any_at, any_true, Contains-first, Contains-none}
 use Rattle.rtl_model.proofs.simulation.Decisions.{is_contained}
 use Rattle.rtl_model.proofs.simulation.Order.{get_or-rows}
 use Rattle.rtl_model.proofs.simulation.Rows.{get_or-map, resumed_at}
 use Rattle.rtl_kernel.specs.drivers.Resolved.{AreResolved}
-use Rattle.rtl_kernel.specs.drivers.Transactions.{driver_at}
+use Rattle.rtl_kernel.specs.drivers.Brought.{IsBroughtByAll, all_noted, all_kept, all_value}
+use Rattle.rtl_kernel.specs.drivers.Transactions.{driver_at, targets_of}
 use Rattle.rtl_kernel.specs.wakes.Woken.{IsIndex, AreWoken}
 
 module _ (net : Net) where
@@ -60,27 +63,72 @@ module _ (net : Net) where
           ap net.resolve (ap (map (source_value (driven_all s.pending s.drivers))) (sym e) ∙ same_values (sources_of net n) same)
           ∙ sym (C n x l (subst (λ (ys : List Source). Contains ys x) (sym e) (Contains-first x xs)))
 
-  -- Where all nets of drivers with new values are resolved, and the others left, the nets are updated.
-  pub resolved_are_updated : (s : State) (touched now : List ℕ) → IsWired net → IsConsistent net s → length s.now ≡ length net.start
-      → ((p place : ℕ) → (driver_at (driven_all s.pending s.drivers) p place ≡ driver_at s.drivers p place → ⊥) → Contains touched (target net p place))
-      → AreResolved net (driven_all s.pending s.drivers) touched s.now now → now ≡ (updated net s).now
-  resolved_are_updated s touched now W C as_many differing R =
-      ext_get_or 0 now (updated net s).now (R.as_many ∙ as_many ∙ sym (length-map-range_with_len _ 0 (length net.start)))
-      (λ n l. by n (omega (arith, l, R.as_many, as_many)) (is_contained touched n))
-    where
-      at : (n : ℕ) → n < length net.start → get_or (updated net s).now n 0 ≡ net_value net (driven_all s.pending s.drivers) (sources_of net n) (get_or s.now n 0)
-      at n l = get_or-rows (λ m. net_value net (driven_all s.pending s.drivers) (sources_of net m) (get_or s.now m 0)) (length net.start) n 0 l
+  -- Where the nets of drivers with new values have them at once, or are noted and then resolved, and the others are left, the
+  -- nets are updated.
+  module _ (one : (v : ℕ) → net.resolve (v ∷ []) ≡ v) (wiring : FlatNet) (processes : List q.Process) (s : State) (nets : List ℕ) (W : IsWired net) (C : IsConsistent net s)
+      (as_many : length s.now ≡ length net.start) (sources : (n : ℕ) → n < length net.start → flat_sources wiring n ≡ sources_of net n)
+      (targets : (p : ℕ) → targets_of processes p ≡ (process net p).drives) where
+    placed : (n p place : ℕ) → place < length (targets_of processes p) → get_or (targets_of processes p) place 0 ≡ n → Contains (sources_of net n) (Driver p place)
+    placed n p place l e =
+        let l' = subst (λ (ts : List ℕ). place < length ts) (targets p) l in
+        let e' = subst (λ (ts : List ℕ). get_or ts place 0 ≡ n) (targets p) e in
+        subst (λ (m : ℕ). Contains (sources_of net m) (Driver p place)) e' (W.drivers_are_sources p place l')
 
-      same : (n : ℕ) → (Contains touched n → ⊥) → (x : Source) → Contains (sources_of net n) x
-          → source_value (driven_all s.pending s.drivers) x ≡ source_value s.drivers x
-      same n absent (Idle v) source = refl
-      same n absent (Driver p place) source = by (cases_eq (driver_at (driven_all s.pending s.drivers) p place) (driver_at s.drivers p place))
-        where
-          by : (driver_at (driven_all s.pending s.drivers) p place ≡ driver_at s.drivers p place) ⊎ (driver_at (driven_all s.pending s.drivers) p place ≡ driver_at s.drivers p place → ⊥)
-              → driver_at (driven_all s.pending s.drivers) p place ≡ driver_at s.drivers p place
-          by (inl e) = e
-          by (inr differ) = absurd (absent (rw (← (W.sources_are_drivers n p place source).1) (differing p place differ)))
+    sourced : (n p place : ℕ) → Contains (sources_of net n) (Driver p place) → (place < length (targets_of processes p)) × (get_or (targets_of processes p) place 0 ≡ n)
+    sourced n p place h =
+        let (l, e) = W.sources_are_drivers n p place h in
+        (subst (λ (ts : List ℕ). place < length ts) (sym (targets p)) l, subst (λ (ts : List ℕ). get_or ts place 0 ≡ n) (sym (targets p)) e)
 
-      by : (n : ℕ) → n < length net.start → Contains touched n ⊎ (Contains touched n → ⊥) → get_or now n 0 ≡ get_or (updated net s).now n 0
-      by n l (inl there) = R.resolved n there ∙ sym (at n l)
-      by n l (inr absent) = R.others n absent ∙ sym (unmoved s n C l (λ x source. same n absent x source)) ∙ sym (at n l)
+    -- a net without a source is left alone
+    no_source : (n old : ℕ) → sources_of net n ≡ [] → net_value net (driven_all s.pending s.drivers) (sources_of net n) old ≡ old
+    no_source n old e = ap (λ (xs : List Source). net_value net (driven_all s.pending s.drivers) xs old) e
+
+    left : (now : List ℕ) (n : ℕ) → sources_of net n ≡ [] → IsBroughtByAll wiring processes s.drivers (driven_all s.pending s.drivers) s.now now nets n → get_or now n 0 ≡ get_or s.now n 0
+    left now n none (all_noted p place l e h) = absurd (Contains-none (Driver p place) (subst (λ (xs : List Source). Contains xs (Driver p place)) none (placed n p place l e)))
+    left now n none (all_kept same drivers) = same
+    left now n none (all_value p place l e alone is) = absurd (Contains-none (Driver p place) (subst (λ (xs : List Source). Contains xs (Driver p place)) none (placed n p place l e)))
+
+    -- where there are sources, the old value says nothing
+    either_way : (xs : List Source) (old old' : ℕ) → 0 < length xs → net_value net (driven_all s.pending s.drivers) xs old ≡ net_value net (driven_all s.pending s.drivers) xs old'
+    either_way [] old old' l = absurd (omega arith)
+    either_way (x ∷ xs) old old' l = refl
+
+    again : (now : List ℕ) (n : ℕ) → IsBroughtByAll wiring processes s.drivers (driven_all s.pending s.drivers) s.now now nets n
+        → net_value net (driven_all s.pending s.drivers) (sources_of net n) (get_or now n 0) ≡ net_value net (driven_all s.pending s.drivers) (sources_of net n) (get_or s.now n 0)
+    again now n B = by (cases_lt 0 (length (sources_of net n)))
+      where
+        by : (0 < length (sources_of net n)) ⊎ (length (sources_of net n) ≤ 0)
+            → net_value net (driven_all s.pending s.drivers) (sources_of net n) (get_or now n 0) ≡ net_value net (driven_all s.pending s.drivers) (sources_of net n) (get_or s.now n 0)
+        by (inl l) = either_way (sources_of net n) (get_or now n 0) (get_or s.now n 0) l
+        by (inr l) = ap (net_value net (driven_all s.pending s.drivers) (sources_of net n)) (left now n (nil_from_length (sources_of net n) (omega arith)) B)
+
+    only : (xs : List Source) (x : Source) → length xs ≡ 1 → Contains xs x → xs ≡ x ∷ []
+    only [] x l h = absurd (omega arith)
+    only (y ∷ []) x l (zero, m, e) = ap (λ (z : Source). z ∷ []) e
+    only (y ∷ []) x l (suc k, m, e) = absurd (omega arith)
+    only (y ∷ z ∷ xs) x l h = absurd (omega arith)
+
+    of_one : (n : ℕ) (now : List ℕ) → n < length net.start → (nets' : Contains nets n → ⊥) → IsBroughtByAll wiring processes s.drivers (driven_all s.pending s.drivers) s.now now nets n
+        → get_or now n 0 ≡ net_value net (driven_all s.pending s.drivers) (sources_of net n) (get_or s.now n 0)
+    of_one n now l absent (all_noted p place m e h) = absurd (absent h)
+    of_one n now l absent (all_kept same drivers) = same ∙ sym (unmoved s n C l still)
+      where
+        still : (x : Source) → Contains (sources_of net n) x → source_value (driven_all s.pending s.drivers) x ≡ source_value s.drivers x
+        still (Idle v) h = refl
+        still (Driver p place) h = let (m, e) = sourced n p place h in drivers p place m e
+    of_one n now l absent (all_value p place m e alone is) =
+        let single = only (sources_of net n) (Driver p place) (sym (ap length (sources n l)) ∙ alone) (placed n p place m e) in
+        is ∙ sym (one (driver_at (driven_all s.pending s.drivers) p place)) ∙ sym (ap (λ (xs : List Source). net_value net (driven_all s.pending s.drivers) xs (get_or s.now n 0)) single)
+
+    pub brought_are_updated : (mid now : List ℕ) → length mid ≡ length s.now → ((n : ℕ) → IsBroughtByAll wiring processes s.drivers (driven_all s.pending s.drivers) s.now mid nets n)
+        → AreResolved net (driven_all s.pending s.drivers) nets mid now → now ≡ (updated net s).now
+    brought_are_updated mid now many each R =
+        ext_get_or 0 now (updated net s).now (R.as_many ∙ many ∙ as_many ∙ sym (length-map-range_with_len _ 0 (length net.start)))
+        (λ n l. by n (omega (arith, l, R.as_many, many, as_many)) (is_contained nets n))
+      where
+        at : (n : ℕ) → n < length net.start → get_or (updated net s).now n 0 ≡ net_value net (driven_all s.pending s.drivers) (sources_of net n) (get_or s.now n 0)
+        at n l = get_or-rows (λ m. net_value net (driven_all s.pending s.drivers) (sources_of net m) (get_or s.now m 0)) (length net.start) n 0 l
+
+        by : (n : ℕ) → n < length net.start → Contains nets n ⊎ (Contains nets n → ⊥) → get_or now n 0 ≡ get_or (updated net s).now n 0
+        by n l (inl there) = R.resolved n there ∙ again mid n (each n) ∙ sym (at n l)
+        by n l (inr absent) = R.others n absent ∙ of_one n mid l absent (each n) ∙ sym (at n l)

@@ -1,18 +1,20 @@
 -- What a kernel's parts ask, and that its steps keep what holds of every kernel.
-use Rattle.std.proofs.Common.{◌≡◌, ℕ, ◌<◌, ◌≤◌, Bool, true, false, List, [], length, get_or, set, map, sym, ap, subst, ◌∙◌, Contains, All}
+use Rattle.std.proofs.Common.{◌≡◌, ℕ, ◌<◌, ◌≤◌, Bool, true, false, List, [], length, get_or, set, map, refl, sym, ap, subst, ◌∙◌, Contains, All}
 use Rattle.std.proofs.lemmas.List.{length-map}
 use Rattle.rtl_model.specs.bodies.Types.{ElementType, KeepsTypes}
 use Rattle.rtl_model.specs.nets.FlatNet.{FlatProcess, process_at, flat_sources}
 use Rattle.rtl_model.specs.nets.CoreNet.{core_net, part_effect}
 use Rattle.rtl_model.specs.simulation.Net.{Source}
 use Rattle.rtl_model.specs.simulation.Cycle.{State, changed, driven_all, given, is_quiet, ran, resumed, updated}
+use Rattle.rtl_model.proofs.nets.Sources.{sources-core_net}
 use Rattle.rtl_model.proofs.simulation.Order.{waits_in}
 use Rattle.vhdl_values.specs.declared.scalar.Nine.{Nine}
 use Rattle.rtl_eval.specs.Runs.{IsOf}
 use Rattle.rtl_net.specs.Nets.{NetView, flat}
 use Rattle.rtl_kernel.specs.drivers.Resolved.{AreResolved}
 use Rattle.rtl_kernel.specs.drivers.Rows.{IsThere}
-use Rattle.rtl_kernel.specs.drivers.Transactions.{Transactions, IsActive, HasRunOf, TouchesAll, driver_at, pending_of, without_entries, no_outcome}
+use Rattle.rtl_kernel.specs.drivers.Brought.{IsBroughtByAll}
+use Rattle.rtl_kernel.specs.drivers.Transactions.{Transactions, IsActive, HasRunOf, pending_of, without_entries, no_outcome}
 use Rattle.rtl_kernel.specs.kernel.Kept.{IsKernel, IsSound, state_of}
 use Rattle.rtl_kernel.specs.kernel.Simulation.{changes_of}
 use Rattle.rtl_kernel.specs.values.TwoValues.{TwoValues, AreChanged}
@@ -20,7 +22,7 @@ use Rattle.rtl_kernel.specs.wakes.ToRun.{ToRun}
 use Rattle.rtl_kernel.specs.wakes.Woken.{AreWoken}
 use Rattle.rtl_kernel.specs.worklists.Numbers.{Numbers}
 use Rattle.rtl_kernel.proofs.Changing.{given_values}
-use Rattle.rtl_kernel.proofs.Cycles.{woken_are_resumed, resolved_are_updated}
+use Rattle.rtl_kernel.proofs.Cycles.{woken_are_resumed, brought_are_updated}
 use Rattle.rtl_kernel.proofs.Inputs.{are_inputs, named}
 use Rattle.rtl_kernel.proofs.Running.{effect_length, room_ran, room_taken, state_given, state_ran, state_updated}
 use Rattle.rtl_kernel.proofs.Steps.{keeps_types, sound_given, sound_ran, sound_updated, sources_there, wired}
@@ -108,17 +110,20 @@ module _ {E : Type 0} (process : E → FlatProcess) (types : E → List ElementT
   sources_stand drivers is n source h =
       subst (λ (rows : List (List ℕ)). IsThere rows source) (sym is) (sources_there (flat net) K.in_range K.connected (updated (core_net (flat net)) before_step) sound_update n source h)
 
-  module _ (v' : TwoValues) (t' : Transactions) (r' : ToRun) (nets : Numbers) (before : v'.before ≡ v.current) (drivers : t'.drivers ≡ driven_all (pending_of t.outcomes) t.drivers)
-      (outcomes : t'.outcomes ≡ map without_entries t.outcomes) (T : TouchesAll net.processes t.drivers t'.drivers touched nets)
-      (R : AreResolved (core_net (flat net)) t'.drivers nets.members v.current v'.current)
+  module _ (mid v' : TwoValues) (t' : Transactions) (r' : ToRun) (nets : Numbers) (before : v'.before ≡ v.current) (drivers : t'.drivers ≡ driven_all (pending_of t.outcomes) t.drivers)
+      (outcomes : t'.outcomes ≡ map without_entries t.outcomes) (now : List ℕ) (now_is : now ≡ v.current)
+      (many : length mid.current ≡ length now) (B : (n : ℕ) → IsBroughtByAll (flat net) net.processes t.drivers t'.drivers now mid.current nets.members n)
+      (R : AreResolved (core_net (flat net)) t'.drivers nets.members mid.current v'.current)
       (as_many : length r'.waiting ≡ length r.waiting) (W : AreWoken index v'.before v'.current r'.waiting) where
     pub is_updated : state_of v' t' r' ≡ updated (core_net (flat net)) before_step
     is_updated =
         state_updated (flat net) v t r v' t' r' before
-        (resolved_are_updated (core_net (flat net)) before_step nets.members v'.current (wired (flat net) K.in_range K.connected) K.sound.consistent K.sound.in_range.now.each_net
-        (λ p place differ. subst (λ (ns : List ℕ). Contains nets.members (get_or ns place 0)) (targets_are net p)
-        (T.added p place (λ e. differ (ap (λ (rows : List (List ℕ)). driver_at rows p place) (sym drivers) ∙ e))))
-        (subst (λ (rows : List (List ℕ)). AreResolved (core_net (flat net)) rows nets.members v.current v'.current) drivers R))
+        (brought_are_updated (core_net (flat net)) (λ n. refl) (flat net) net.processes before_step nets.members (wired (flat net) K.in_range K.connected) K.sound.consistent K.sound.in_range.now.each_net
+        (λ n l. sym (sources-core_net (flat net) n (rw (← K.in_range.each_starts) l))) (targets_are net)
+        mid.current v'.current (many ∙ ap length now_is)
+        (λ n. subst (λ (vs : List ℕ). IsBroughtByAll (flat net) net.processes t.drivers (driven_all (pending_of t.outcomes) t.drivers) vs mid.current nets.members n) now_is
+        (subst (λ (rows : List (List ℕ)). IsBroughtByAll (flat net) net.processes t.drivers rows now mid.current nets.members n) drivers (B n)))
+        (subst (λ (rows : List (List ℕ)). AreResolved (core_net (flat net)) rows nets.members mid.current v'.current) drivers R))
         drivers outcomes (wakes_same v'.before v'.current r'.waiting as_many W)
 
     pub kept_updated : (touched' : Numbers) → touched' ≡ record { bound = length net.types; members = [] } → IsKernel process types most net bodies index v' t' r' touched'

@@ -8,6 +8,7 @@ pub mod Ordering
 pub mod Places
 pub mod Picking
 pub mod Updating
+pub mod Brought
 pub mod Active
 pub mod Steps
 pub mod Resolved

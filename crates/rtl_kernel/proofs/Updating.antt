@@ -9,6 +9,7 @@ use Rattle.rtl_eval.specs.Spans.{places_of}
 use Rattle.rtl_eval.specs.Tracked.{AreAssigned}
 use Rattle.rtl_eval.proofs.Assigned.{no_entry}
 use Rattle.rtl_eval.proofs.Places.{left_of, none_behind}
+use Rattle.rtl_model.specs.nets.FlatNet.{FlatNet}
 use Rattle.rtl_model.specs.simulation.Cycle.{driven, driven_all, none_pending}
 use Rattle.rtl_model.specs.simulation.Machine.{entry_or}
 use Rattle.rtl_model.proofs.basics.Lists.{get_or-map_within}
@@ -16,9 +17,12 @@ use Rattle.rtl_model.proofs.simulation.Rows.{driven_all_at, driven_at, length-dr
 use Rattle.std.specs.Option.{is_some}
 use Rattle.rtl_net.specs.declared.process.Driver as net
 use Rattle.rtl_net.specs.declared.process.Process.{Process}
-use Rattle.rtl_kernel.specs.worklists.Numbers.{Numbers, IsWith}
-use Rattle.rtl_kernel.specs.drivers.Transactions.{IsActive, Touches, TouchesAll, driver_at, nets_of, targets_of, pending_of, without_entries}
+use Rattle.rtl_kernel.specs.values.TwoValues.{TwoValues}
+use Rattle.rtl_kernel.specs.worklists.Numbers.{Numbers}
+use Rattle.rtl_kernel.specs.drivers.Brought.{BringsOne, Brings}
+use Rattle.rtl_kernel.specs.drivers.Transactions.{IsActive, nets_of, targets_of, pending_of, without_entries}
 use Rattle.rtl_kernel.specs.drivers.Updates.{Takes, IsTaken, IsUpdating}
+use Rattle.rtl_kernel.proofs.Brought.{brings_none, brings_one, brings_then, brings_all_none, brings_all_more}
 
 -- ---- one row
 
@@ -87,22 +91,23 @@ pending_without (o ∷ outcomes) = let rest = pending_without outcomes in λ i. 
 pub net_at : (ds : List net.Driver) (k : ℕ) (d : net.Driver) → k < length ds → get_or (nets_of ds) k 0 ≡ (get_or ds k d).net
 net_at ds k d within = get_or-map_within (λ (d : net.Driver). d.net) ds k d 0 within
 
-module _ (targets : List ℕ) (entries : List (Option ℕ)) where
-  pub takes_none : (old : List ℕ) (touched : Numbers) → Takes targets entries old touched old touched
-  takes_none old touched = record {
+module _ (wiring : FlatNet) (targets : List ℕ) (entries : List (Option ℕ)) where
+  pub takes_none : (old : List ℕ) (nets : TwoValues) (noted : Numbers) → Takes wiring targets entries old nets noted old nets noted
+  takes_none old nets noted = record {
     as_many = refl;
     unassigned = λ q e. refl;
     stay = λ q h. h;
-    touches = record { bound_stays = refl; kept = λ n h. h; added = λ q differ. absurd (differ refl) };
+    brings = brings_none wiring targets old nets noted;
   }
 
-  pub takes_one : (old : List ℕ) (touched : Numbers) (place v n : ℕ) → {touched' : Numbers} → get_or entries place None ≡ Some v → place < length old
-      → n ≡ get_or targets place 0 → IsWith n touched touched' → Takes targets entries old touched (set old place v) touched'
-  takes_one old touched place v n {touched'} entry within net_is W = record {
+  pub takes_one : (old : List ℕ) (nets : TwoValues) (noted : Numbers) (place v n : ℕ) → {nets' : TwoValues} → {noted' : Numbers} → get_or entries place None ≡ Some v → place < length old
+      → place < length targets → n ≡ get_or targets place 0 → n < length nets.current → BringsOne wiring n v nets noted nets' noted'
+      → Takes wiring targets entries old nets noted (set old place v) nets' noted'
+  takes_one old nets noted place v n {nets'} {noted'} entry within there net_is in_nets B = record {
     as_many = length-set old place v;
     unassigned = λ q e. unassigned q e (cases_eq q place);
     stay = λ q h w e. stay q h w e (cases_eq q place);
-    touches = record { bound_stays = W.bound_stays; kept = W.kept; added = λ q differ. added q differ (cases_eq q place) };
+    brings = brings_one wiring targets old place v n nets noted within there (sym net_is) nets' noted' in_nets B;
   }
     where
       unassigned : (q : ℕ) → get_or entries q None ≡ None → (q ≡ place) ⊎ (q ≡ place → ⊥) → get_or (set old place v) q 0 ≡ get_or old q 0
@@ -113,32 +118,19 @@ module _ (targets : List ℕ) (entries : List (Option ℕ)) where
       stay q h w e (inl same) = let f = rw same at e in rw same (get_or-set_same old place v 0 within ∙ (let g : v ≡ w = cc in g))
       stay q h w e (inr other) = get_or-set_other old place q v 0 other ∙ h w e
 
-      added : (q : ℕ) → (get_or (set old place v) q 0 ≡ get_or old q 0 → ⊥) → (q ≡ place) ⊎ (q ≡ place → ⊥) → Contains touched'.members (get_or targets q 0)
-      added q differ (inl same) = rw (same, ← net_is) W.added
-      added q differ (inr other) = absurd (differ (get_or-set_other old place q v 0 other))
-
-  pub takes_then : (old mid new : List ℕ) (touched touched' touched'' : Numbers) → Takes targets entries old touched mid touched' → Takes targets entries mid touched' new touched''
-      → Takes targets entries old touched new touched''
-  takes_then old mid new touched touched' touched'' A B = record {
+  pub takes_then : (old mid new : List ℕ) (nets nets' nets'' : TwoValues) (noted noted' noted'' : Numbers) → Takes wiring targets entries old nets noted mid nets' noted'
+      → Takes wiring targets entries mid nets' noted' new nets'' noted'' → Takes wiring targets entries old nets noted new nets'' noted''
+  takes_then old mid new nets nets' nets'' noted noted' noted'' A B = record {
     as_many = B.as_many ∙ A.as_many;
     unassigned = λ q e. B.unassigned q e ∙ A.unassigned q e;
     stay = λ q h. B.stay q (A.stay q h);
-    touches = record {
-      bound_stays = B.touches.bound_stays ∙ A.touches.bound_stays;
-      kept = λ n h. B.touches.kept n (A.touches.kept n h);
-      added = λ q differ. added q differ (cases_eq (get_or new q 0) (get_or mid q 0));
-    };
+    brings = brings_then wiring targets old mid new nets nets' nets'' noted noted' noted'' A.brings B.brings;
   }
-    where
-      added : (q : ℕ) → (get_or new q 0 ≡ get_or old q 0 → ⊥) → (get_or new q 0 ≡ get_or mid q 0) ⊎ (get_or new q 0 ≡ get_or mid q 0 → ⊥)
-          → Contains touched''.members (get_or targets q 0)
-      added q differ (inl same) = B.touches.kept _ (A.touches.added q (λ e. differ (same ∙ e)))
-      added q differ (inr differ') = B.touches.added q differ'
 
   -- where all are taken, they have what they are driven to
-  pub taken_values : (old : List ℕ) (touched : Numbers) (new : List ℕ) (touched' : Numbers) → Takes targets entries old touched new touched'
+  pub taken_values : (old : List ℕ) (nets : TwoValues) (noted : Numbers) (new : List ℕ) (nets' : TwoValues) (noted' : Numbers) → Takes wiring targets entries old nets noted new nets' noted'
       → ((q : ℕ) → IsTaken entries new q) → new ≡ driven entries old
-  taken_values old touched new touched' T taken = driven_from entries old new T.as_many T.unassigned taken
+  taken_values old nets noted new nets' noted' T taken = driven_from entries old new T.as_many T.unassigned taken
 
 module _ (entries : List (Option ℕ)) where
   pub taken_here : (values : List ℕ) (place v : ℕ) → get_or entries place None ≡ Some v → get_or values place 0 ≡ v → IsTaken entries values place
@@ -190,9 +182,9 @@ and_at P at below here k l = by (cases_eq k at)
 length-cleared : (o : Outcome) → without_entries (without_entries o) ≡ without_entries o
 length-cleared o = ap (λ (n : ℕ). record { entries = replicate {A = Option ℕ} n None; starts = o.starts; variables = o.variables; room = o.room; laid = o.laid; bits = o.bits }) (length-replicate (length o.entries) None)
 
-module _ (active : List ℕ) (processes : List Process) (outcomes : List Outcome) (drivers : List (List ℕ)) (touched : Numbers) where
+module _ (wiring : FlatNet) (active : List ℕ) (processes : List Process) (outcomes : List Outcome) (drivers : List (List ℕ)) (nets : TwoValues) (noted : Numbers) where
   pub updating_none_yet : ((p : ℕ) → IsActive (pending_of outcomes) p → Contains active p)
-      → IsUpdating active 0 processes outcomes drivers touched outcomes drivers touched
+      → IsUpdating wiring active 0 processes outcomes drivers nets noted outcomes drivers nets noted
   updating_none_yet all_active = record {
     each_outcome = refl;
     each_row = refl;
@@ -201,15 +193,13 @@ module _ (active : List ℕ) (processes : List Process) (outcomes : List Outcome
     each_value = λ p. refl;
     driven_stay = λ p. refl;
     left = λ p a. let (k, l, is) = all_active p a in (k, omega arith, l, get_or_default active k 0 p l ∙ is);
-    bound_stays = refl;
-    kept = λ n h. h;
-    added = λ p place differ. absurd (differ refl);
+    brings = brings_all_none wiring processes drivers nets noted;
   }
 
-  module _ (i : ℕ) (outcomes' : List Outcome) (drivers' : List (List ℕ)) (touched' : Numbers) (I : IsUpdating active i processes outcomes drivers touched outcomes' drivers' touched') where
-    module _ (p : ℕ) (o cleared : Outcome) (row : List ℕ) (touched'' : Numbers) (is : get_or active i 0 ≡ p) (there : p < length outcomes') (there_too : p < length drivers')
+  module _ (i : ℕ) (outcomes' : List Outcome) (drivers' : List (List ℕ)) (nets' : TwoValues) (noted' : Numbers) (I : IsUpdating wiring active i processes outcomes drivers nets noted outcomes' drivers' nets' noted') where
+    module _ (p : ℕ) (o cleared : Outcome) (row : List ℕ) (nets'' : TwoValues) (noted'' : Numbers) (is : get_or active i 0 ≡ p) (there : p < length outcomes') (there_too : p < length drivers')
         (o_is : get_or outcomes' p o ≡ o) (cleared_is : cleared ≡ without_entries o) (row_is : row ≡ driven o.entries (get_or drivers' p []))
-        (as_many : length (get_or drivers' p []) ≡ length o.entries) (T : Touches (targets_of processes p) (get_or drivers' p []) row touched' touched'') where
+        (as_many : length (get_or drivers' p []) ≡ length o.entries) (T : Brings wiring (targets_of processes p) (get_or drivers' p []) row nets' noted' nets'' noted'') where
       abbrev nones : List (Option ℕ)
       nones = replicate (length o.entries) None
 
@@ -231,7 +221,7 @@ module _ (active : List ℕ) (processes : List Process) (outcomes : List Outcome
       row_length : length row ≡ length o.entries
       row_length = ap length row_is ∙ length-driven o.entries (get_or drivers' p []) ∙ as_many
 
-      pub updating_one : IsUpdating active (i + 1) processes outcomes drivers touched (set outcomes' p cleared) (set drivers' p row) touched''
+      pub updating_one : IsUpdating wiring active (i + 1) processes outcomes drivers nets noted (set outcomes' p cleared) (set drivers' p row) nets'' noted''
       updating_one = record {
         each_outcome = length-set outcomes' p cleared ∙ I.each_outcome;
         each_row = length-set drivers' p row ∙ I.each_row;
@@ -240,9 +230,7 @@ module _ (active : List ℕ) (processes : List Process) (outcomes : List Outcome
         each_value = λ q. value q (cases_eq q p);
         driven_stay = λ q. driven_too q (cases_eq q p);
         left = λ q a. left q a (cases_eq q p);
-        bound_stays = T.bound_stays ∙ I.bound_stays;
-        kept = λ n h. T.kept n (I.kept n h);
-        added = λ q place differ. added q place differ (cases_eq q p);
+        brings = brings_all_more wiring processes drivers drivers' p row nets nets' nets'' noted noted' noted'' there_too I.brings T;
       }
         where
           entry : (q : ℕ) → (q ≡ p) ⊎ (q ≡ p → ⊥) → length (get_or (pending_of (set outcomes' p cleared)) q []) ≡ length (get_or (pending_of outcomes) q [])
@@ -269,19 +257,6 @@ module _ (active : List ℕ) (processes : List Process) (outcomes : List Outcome
               let (k, from, within, at) = I.left q (place, sym (ap (λ (r : List (Option ℕ)). is_some (get_or r place None)) (at_other q n)) ∙ some) in
               let differ : k ≡ i → ⊥ = λ e. n (sym at ∙ ap (λ (m : ℕ). get_or active m 0) e ∙ is) in
               (k, omega (arith, from, differ), within, at)
-
-          own : (place : ℕ) → (driver_at (set drivers' p row) p place ≡ driver_at drivers p place → ⊥)
-              → (get_or row place 0 ≡ driver_at drivers' p place) ⊎ (get_or row place 0 ≡ driver_at drivers' p place → ⊥) → Contains touched''.members (get_or (targets_of processes p) place 0)
-          own place differ (inl same) = T.kept _ (I.added p place (λ e. differ (ap (λ (r : List ℕ). get_or r place 0) row_at_p ∙ same ∙ e)))
-          own place differ (inr new) = T.added place new
-
-          added : (q place : ℕ) → (driver_at (set drivers' p row) q place ≡ driver_at drivers q place → ⊥) → (q ≡ p) ⊎ (q ≡ p → ⊥)
-              → Contains touched''.members (get_or (targets_of processes q) place 0)
-          added q place differ (inl e) = rw e (own place (rw e at differ) (cases_eq (get_or row place 0) (driver_at drivers' p place)))
-          added q place differ (inr n) = T.kept _ (I.added q place (λ e. differ (ap (λ (r : List ℕ). get_or r place 0) (get_or-set_other drivers' p q row [] n) ∙ e)))
-
-    pub updated_nets : TouchesAll processes drivers drivers' touched touched'
-    updated_nets = record { bound_stays = I.bound_stays; kept = I.kept; added = I.added }
 
     module _ (done : length active ≤ i) where
       none_left_active : (p : ℕ) → IsActive (pending_of outcomes') p → ⊥

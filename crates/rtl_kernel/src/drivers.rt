@@ -9,15 +9,18 @@ ghost use Rattle.rtl_model.specs.simulation.Cycle.{driven, driven_all};
 ghost use Rattle.rtl_eval.specs.Runs.{Outcome, IsOf, Leaves};
 ghost use Rattle.rtl_net.specs.declared.process.Driver as net;
 ghost use Rattle.rtl_net.specs.declared.process.Process.{Process};
+ghost use Rattle.rtl_net.specs.Nets.{flat};
 ghost use Rattle.rtl_kernel.specs.drivers.Rows.{rows};
 ghost use Rattle.rtl_kernel.specs.drivers.Starts.{AreFresh, start_row};
-ghost use Rattle.rtl_kernel.specs.drivers.Transactions.{IsActive, Touches, TouchesAll, HasRunOf, nets_of, targets_of, pending_of, without_entries, no_outcome};
+ghost use Rattle.rtl_kernel.specs.drivers.Transactions.{IsActive, HasRunOf, nets_of, targets_of, pending_of, without_entries, no_outcome};
+ghost use Rattle.rtl_kernel.specs.drivers.Brought.{BringsOne, Brings, BringsAll};
 ghost use Rattle.rtl_kernel.specs.drivers.Updates.{Takes, IsTaken};
 
 use crate::starts::{start_values, variable_starts};
+use crate::values::Values;
 use crate::worklist::Worklist;
 use rtl_eval::{Drives, Exec, Span};
-use rtl_net::{Driver, Process};
+use rtl_net::{Driver, Net, Process};
 use std::alloc::{AllocError, Global};
 use std::marker::Model;
 
@@ -84,22 +87,25 @@ impl Drivers {
         self.active.members().is_empty()
     }
 
-    /// Every transaction becomes its driver's value, and the nets of the drivers whose values change come to those in
-    /// `touched`.
-    pub fn update(&mut self, processes: &[Process], touched: &mut Worklist)
-        requires as_many { length processes.now ≡ length self.old.outcomes }
-        requires each_driver { (p : ℕ) → length (targets_of processes.now p) ≡ length (slice_index_or (pending_of self.old.outcomes) p []) }
-        requires nets { All (λ (p : Process). All (λ n. n < touched.old.bound) (nets_of p.drives.items)) processes.now }
+    /// Every transaction becomes its driver's value. A net with one source gets the new value of its driver at once, and the
+    /// other nets of drivers whose values change come to those in `noted`.
+    pub fn update(&mut self, wiring: &Net, nets: &mut Values, noted: &mut Worklist)
+        requires as_many { length wiring.now.processes ≡ length self.old.outcomes }
+        requires each_driver { (p : ℕ) → length (targets_of wiring.now.processes p) ≡ length (slice_index_or (pending_of self.old.outcomes) p []) }
+        requires there { All (λ (p : Process). All (λ n. n < length wiring.now.types) (nets_of p.drives.items)) wiring.now.processes }
+        requires each_net { length nets.old.current ≡ length wiring.now.types }
+        requires bound { noted.old.bound ≡ length wiring.now.types }
         ensures drivers { self.new.drivers ≡ driven_all (pending_of self.old.outcomes) self.old.drivers }
         ensures outcomes { self.new.outcomes ≡ map without_entries self.old.outcomes }
-        ensures touched { TouchesAll processes.now self.old.drivers self.new.drivers touched.old touched.new }
+        ensures brings { BringsAll (flat wiring.now) wiring.now.processes self.old.drivers self.new.drivers nets.old noted.old nets.new noted.new }
     {
         update_rows(
             self.active.members(),
-            processes,
+            wiring,
             &mut self.outcomes,
             &mut self.drivers,
-            touched,
+            nets,
+            noted,
         );
         self.active.clear();
     }
@@ -127,61 +133,80 @@ impl Drivers {
 /// Takes over the transactions of these processes.
 fn update_rows(
     active: &[usize],
-    processes: &[Process],
+    wiring: &Net,
     outcomes: &mut Vec<Drives>,
     drivers: &mut Vec<Vec<u8>>,
-    touched: &mut Worklist,
+    nets: &mut Values,
+    noted: &mut Worklist,
 )
-    requires as_many { length processes.now ≡ length outcomes.old.items }
+    requires as_many { length wiring.now.processes ≡ length outcomes.old.items }
     requires rows { length drivers.old.items ≡ length outcomes.old.items }
     requires active { All (λ p. p < length outcomes.old.items) active.now }
     requires all_active { (p : ℕ) → IsActive (pending_of outcomes.old.items) p → Contains active.now p }
-    requires each_driver { (p : ℕ) → length (targets_of processes.now p) ≡ length (slice_index_or (pending_of outcomes.old.items) p []) }
+    requires each_driver { (p : ℕ) → length (targets_of wiring.now.processes p) ≡ length (slice_index_or (pending_of outcomes.old.items) p []) }
     requires each_value { (p : ℕ) → length (slice_index_or (rows drivers.old.items) p []) ≡ length (slice_index_or (pending_of outcomes.old.items) p []) }
-    requires nets { All (λ (p : Process). All (λ n. n < touched.old.bound) (nets_of p.drives.items)) processes.now }
+    requires there { All (λ (p : Process). All (λ n. n < length wiring.now.types) (nets_of p.drives.items)) wiring.now.processes }
+    requires each_net { length nets.old.current ≡ length wiring.now.types }
+    requires bound { noted.old.bound ≡ length wiring.now.types }
     ensures drivers { rows drivers.new.items ≡ driven_all (pending_of outcomes.old.items) (rows drivers.old.items) }
     ensures outcomes { outcomes.new.items ≡ map without_entries outcomes.old.items }
-    ensures touched { TouchesAll processes.now (rows drivers.old.items) (rows drivers.new.items) touched.old touched.new }
+    ensures brings { BringsAll (flat wiring.now) wiring.now.processes (rows drivers.old.items) (rows drivers.new.items) nets.old noted.old nets.new noted.new }
 {
+    let processes = wiring.processes();
     for process in active {
         let outcome = &mut outcomes[*process];
         update_row(
+            wiring,
             &processes[*process].drives,
             outcome,
             &mut drivers[*process],
-            touched,
+            nets,
+            noted,
         );
         outcome.clear();
     }
 }
 
 /// Takes over the transactions of one process.
-fn update_row(drives: &[Driver], outcome: &Drives, values: &mut Vec<u8>, touched: &mut Worklist)
+fn update_row(
+    wiring: &Net,
+    drives: &[Driver],
+    outcome: &Drives,
+    values: &mut Vec<u8>,
+    nets: &mut Values,
+    noted: &mut Worklist,
+)
     requires as_many { length values.old.items ≡ length outcome.now.entries }
     requires each_driver { length drives.now ≡ length outcome.now.entries }
-    requires nets { All (λ n. n < touched.old.bound) (nets_of drives.now) }
+    requires there { All (λ n. n < length wiring.now.types) (nets_of drives.now) }
+    requires each_net { length nets.old.current ≡ length wiring.now.types }
+    requires bound { noted.old.bound ≡ length wiring.now.types }
     ensures values { values.new.items ≡ driven outcome.now.entries values.old.items }
-    ensures touched { Touches (nets_of drives.now) values.old.items values.new.items touched.old touched.new }
+    ensures brings { Brings (flat wiring.now) (nets_of drives.now) values.old.items values.new.items nets.old noted.old nets.new noted.new }
 {
     for span in outcome.assigned() {
-        update_span(drives, outcome, *span, values, touched);
+        update_span(wiring, drives, outcome, *span, values, nets, noted);
     }
 }
 
 /// Takes over the transactions of one process at the places of a span, each of which has one.
 fn update_span(
+    wiring: &Net,
     drives: &[Driver],
     outcome: &Drives,
     span: Span,
     values: &mut [u8],
-    touched: &mut Worklist,
+    nets: &mut Values,
+    noted: &mut Worklist,
 )
     requires as_many { length values.old ≡ length outcome.now.entries }
     requires each_driver { length drives.now ≡ length outcome.now.entries }
     requires within { span.first + span.len ≤ length outcome.now.entries }
     requires all { (k : ℕ) → k < span.len → IsSome (slice_index_or outcome.now.entries (span.first + k) None) }
-    requires nets { All (λ n. n < touched.old.bound) (nets_of drives.now) }
-    ensures takes { Takes (nets_of drives.now) outcome.now.entries values.old touched.old values.new touched.new }
+    requires there { All (λ n. n < length wiring.now.types) (nets_of drives.now) }
+    requires each_net { length nets.old.current ≡ length wiring.now.types }
+    requires bound { noted.old.bound ≡ length wiring.now.types }
+    ensures takes { Takes (flat wiring.now) (nets_of drives.now) outcome.now.entries values.old nets.old noted.old values.new nets.new noted.new }
     ensures taken { (k : ℕ) → k < span.len → IsTaken outcome.now.entries values.new (span.first + k) }
 {
     let assigned = outcome.values(span);
@@ -189,7 +214,21 @@ fn update_span(
         let place = span.first + at;
         if values[place] != assigned[at] {
             values[place] = assigned[at];
-            touched.insert(drives[place].net);
+            bring(wiring, drives[place].net, assigned[at], nets, noted);
         }
+    }
+}
+
+/// Gives a net the new value of a driver, if that is its one source, and else notes it.
+fn bring(wiring: &Net, net: usize, value: u8, nets: &mut Values, noted: &mut Worklist)
+    requires there { net < length wiring.now.types }
+    requires each_net { length nets.old.current ≡ length wiring.now.types }
+    requires bound { noted.old.bound ≡ length wiring.now.types }
+    ensures { BringsOne (flat wiring.now) net value nets.old noted.old nets.new noted.new }
+{
+    if wiring.sources(net).len() == 1 {
+        nets.set(net, value);
+    } else {
+        noted.insert(net);
     }
 }

@@ -35,7 +35,7 @@ pub struct Kernel<'a, E: Exec> {
     values: Values,
     drivers: Drivers,
     resumed: Resumed,
-    touched: Worklist,
+    noted: Worklist,
 }
 
 /// No number of delta cycles up to the limit leaves no driver active.
@@ -56,7 +56,7 @@ impl<'a, E: Exec> Model for Kernel<'a, E> {
 
     ghost view = { λ k. record { net = k.net.now; state = state_of k.values k.drivers k.resumed } };
 
-    ghost invariant = { λ k. IsKernel E.process E.types E.most k.net.now k.bodies.now (wakers_of k.groups) k.values k.drivers k.resumed k.touched };
+    ghost invariant = { λ k. IsKernel E.process E.types E.most k.net.now k.bodies.now (wakers_of k.groups) k.values k.drivers k.resumed k.noted };
 }
 
 impl<'a, E: Exec> Kernel<'a, E> {
@@ -85,7 +85,7 @@ impl<'a, E: Exec> Kernel<'a, E> {
         let groups = wake_groups(alloc, net)?;
         let drivers = Drivers::new(alloc, processes, bodies)?;
         let resumed = Resumed::all(alloc, processes.len())?;
-        let touched = Worklist::new(alloc, nets)?;
+        let noted = Worklist::new(alloc, nets)?;
         Ok(Kernel {
             net,
             bodies,
@@ -93,7 +93,7 @@ impl<'a, E: Exec> Kernel<'a, E> {
             values,
             drivers,
             resumed,
-            touched,
+            noted,
         })
     }
 
@@ -226,14 +226,14 @@ impl<'a, E: Exec> Kernel<'a, E> {
     {
         let net = self.net;
         self.values.begin();
-        self.drivers.update(net.processes(), &mut self.touched);
+        self.drivers.update(net, &mut self.values, &mut self.noted);
         resolve_nets(
-            self.touched.members(),
+            self.noted.members(),
             net,
             self.drivers.values(),
             &mut self.values,
         );
-        self.touched.clear();
+        self.noted.clear();
         self.resumed.resume(
             self.values.changed(),
             self.values.before(),

@@ -1,9 +1,8 @@
 -- The drivers of all processes, and their transactions (IEEE 1076-2008, 14.7.2).
-use Rattle.std.specs.Prelude.{◌≡◌, ℕ, List, [], length, map, replicate, slice_index, slice_index_or, slice_set, Option, None, IsSome, Contains}
+use Rattle.std.specs.Prelude.{◌≡◌, ℕ, List, [], length, map, replicate, slice_index, slice_index_or, slice_set, Option, None, IsSome}
 use Rattle.rtl_eval.specs.Runs.{Outcome, Leaves}
 use Rattle.rtl_net.specs.declared.process.Driver as net
 use Rattle.rtl_net.specs.declared.process.Process.{Process}
-use Rattle.rtl_kernel.specs.worklists.Numbers.{Numbers}
 
 -- of each process the values of its drivers, and what its last run left
 pub record Transactions : Type 0 where
@@ -32,19 +31,8 @@ nets_of ds = map (λ (d : net.Driver). d.net) ds
 abbrev pub targets_of : List Process → (process : ℕ) → List ℕ
 targets_of ps p = slice_index_or (map (λ (q : Process). nets_of q.drives.items) ps) p []
 
--- nets, among which are those of the drivers whose values differ
-pub record Touches (targets before now : List ℕ) (old new : Numbers) : Type 0 where
-  pub bound_stays : new.bound ≡ old.bound
-  pub kept : (n : ℕ) → Contains old.members n → Contains new.members n
-  pub added : (place : ℕ) → (slice_index now place ≡ slice_index before place → ⊥) → Contains new.members (slice_index_or targets place 0)
-
 abbrev pub driver_at : List (List ℕ) → (process place : ℕ) → ℕ
 driver_at rows p place = slice_index (slice_index_or rows p []) place
-
-pub record TouchesAll (processes : List Process) (before now : List (List ℕ)) (old new : Numbers) : Type 0 where
-  pub bound_stays : new.bound ≡ old.bound
-  pub kept : (n : ℕ) → Contains old.members n → Contains new.members n
-  pub added : (p place : ℕ) → (driver_at now p place ≡ driver_at before p place → ⊥) → Contains new.members (slice_index_or (targets_of processes p) place 0)
 
 -- what stands at a number that no process has
 abbrev pub no_outcome : Outcome

@@ -3,6 +3,7 @@ use Rattle.std.specs.Vec.{with_items}
 use Rattle.std.proofs.lemmas.List.{with_items_is}
 use Rattle.rtl_eval.specs.declared.spans.Span.{Span}
 use Rattle.rtl_eval.proofs.Places.{place_assigned}
+use Rattle.rtl_net.specs.Nets.{flat}
 use Rattle.rtl_kernel.specs.drivers.Transactions.{nets_of}
 use Rattle.rtl_kernel.specs.drivers.Updates.{Takes, IsTaken}
 use Rattle.rtl_kernel.proofs.Updating.{takes_none, takes_then, taken_values, left_all, left_one, none_left}
@@ -13,7 +14,7 @@ no_span = record { first = 0; len = 0 }
 
 pub loop-span-init : goal.loop-span-init
 loop-span-init c = record {
-  takes = takes_none _ _ _ _;
+  takes = takes_none _ _ _ _ _ _;
   left = left_all c.args.outcome.now.entries c.args.values.now.items c.assigned-span-items.result.now c.assigned-span-items.ensures.places;
 }
 
@@ -23,8 +24,15 @@ update_span-requires-clause-within c = c.assigned-span-items.ensures.within c.lo
 pub update_span-requires-clause-all : goal.update_span-requires-clause-all
 update_span-requires-clause-all c = λ k l. place_assigned _ _ c.assigned-span-items.ensures.places c.loop-span.span-index k no_span c.loop-span-test.true l
 
+pub update_span-requires-clause-each_net : goal.update_span-requires-clause-each_net
+update_span-requires-clause-each_net c = c.loop-span.invariant.takes.brings.as_many ∙ c.requires.each_net
+
+pub update_span-requires-clause-bound : goal.update_span-requires-clause-bound
+update_span-requires-clause-bound c = c.loop-span.invariant.takes.brings.bound_stays ∙ c.requires.bound
+
 pub loop-span-preserved : goal.loop-span-preserved
 loop-span-preserved c =
+    let wiring = flat c.args.wiring.now in
     let drives = c.args.drives.now in
     let entries = c.args.outcome.now.entries in
     let spans = c.assigned-span-items.result.now in
@@ -37,20 +45,20 @@ loop-span-preserved c =
     let many : length new ≡ old.len = omega (arith, done.as_many, old.ok.0) in
     let kept = (with_items old new).items in
     let same : kept ≡ new = with_items_is old new many in
-    let takes : Takes (nets_of drives) entries old.items c.loop-span.touched kept c.update_span.new.touched =
-    subst (λ (vs : List ℕ). Takes (nets_of drives) entries old.items c.loop-span.touched vs c.update_span.new.touched) (sym same) done in
+    let takes : Takes wiring (nets_of drives) entries old.items c.loop-span.nets c.loop-span.noted kept c.update_span.new.nets c.update_span.new.noted =
+    subst (λ (vs : List ℕ). Takes wiring (nets_of drives) entries old.items c.loop-span.nets c.loop-span.noted vs c.update_span.new.nets c.update_span.new.noted) (sym same) done in
     let taken : (k : ℕ) → k < span.len → IsTaken entries kept (span.first + k) =
     λ k l v e. ap (λ (vs : List ℕ). get_or vs (span.first + k) 0) same
     ∙ c.update_span.ensures.taken k l v e in
     record {
-      takes = takes_then (nets_of drives) entries _ old.items kept _ c.loop-span.touched c.update_span.new.touched I.takes takes;
+      takes = takes_then wiring (nets_of drives) entries _ old.items kept _ c.loop-span.nets c.update_span.new.nets _ c.loop-span.noted c.update_span.new.noted I.takes takes;
       left = left_one entries old.items kept spans i no_span c.loop-span-test.true takes.stay taken I.left;
     }
 
 pub returns-clause-values : goal.returns-clause-values
 returns-clause-values c =
     let I = c.loop-span.invariant in
-    taken_values _ _ _ _ _ _ I.takes (none_left _ _ _ c.loop-span.span-index (omega (arith, c.loop-span-test.false)) I.left)
+    taken_values _ _ _ _ _ _ _ _ _ I.takes (none_left _ _ _ c.loop-span.span-index (omega (arith, c.loop-span-test.false)) I.left)
 
-pub returns-clause-touched : goal.returns-clause-touched
-returns-clause-touched c = c.loop-span.invariant.takes.touches
+pub returns-clause-brings : goal.returns-clause-brings
+returns-clause-brings c = c.loop-span.invariant.takes.brings

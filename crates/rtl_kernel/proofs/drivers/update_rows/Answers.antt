@@ -1,13 +1,15 @@
-use Rattle.std.proofs.Common.{◌<◌, ℕ, List, Option, Vec, arith, refl, sym, ap, subst, ◌∙◌, get_or, length, []}
+use Rattle.std.proofs.Common.{◌<◌, All, ℕ, List, Option, Vec, arith, refl, sym, ap, subst, ◌∙◌, get_or, length, []}
 use Rattle.std.specs.Global.{Global}
 use Rattle.std.proofs.lemmas.List.{length-map, map-set}
 use Rattle.rtl_model.proofs.basics.Lists.{get_or-map_within}
 use Rattle.rtl_model.specs.simulation.Cycle.{driven}
 use Rattle.rtl_eval.specs.Runs.{Outcome}
+use Rattle.rtl_net.specs.Nets.{flat}
 use Rattle.rtl_net.specs.declared.process.Process.{Process}
 use Rattle.rtl_kernel.specs.drivers.Rows.{rows}
-use Rattle.rtl_kernel.specs.drivers.Transactions.{Touches, nets_of, targets_of}
-use Rattle.rtl_kernel.proofs.Updating.{updating_none_yet, updating_one, updated_drivers, updated_outcomes, updated_nets}
+use Rattle.rtl_kernel.specs.drivers.Brought.{Brings}
+use Rattle.rtl_kernel.specs.drivers.Transactions.{nets_of, targets_of}
+use Rattle.rtl_kernel.proofs.Updating.{updating_none_yet, updating_one, updated_drivers, updated_outcomes}
 use Rattle.rtl_kernel.proofs.drivers.update_rows.Goals as goal
 
 abbrev items_of : Vec ℕ Global → List ℕ
@@ -20,7 +22,8 @@ abbrev targets : Process → List ℕ
 targets q = nets_of q.drives.items
 
 pub loop-process-init : goal.loop-process-init
-loop-process-init c = updating_none_yet c.args.active.now c.args.processes.now c.args.outcomes.now.items (rows c.args.drivers.now.items) c.args.touched.now c.requires.all_active
+loop-process-init c =
+    updating_none_yet (flat c.args.wiring.now) c.args.active.now c.args.wiring.now.processes c.args.outcomes.now.items (rows c.args.drivers.now.items) c.args.nets.now c.args.noted.now c.requires.all_active
 
 pub update_row-requires-clause-as_many : goal.update_row-requires-clause-as_many
 update_row-requires-clause-as_many c =
@@ -39,14 +42,32 @@ update_row-requires-clause-each_driver c =
     let p = get_or c.args.active.now c.loop-process.process-index 0 in
     let I = c.loop-process.invariant in
     let there = c.requires.active c.loop-process.process-index 0 c.loop-process-test.true in
+    let same = c.processes-processes.ensures in
     ap length c.deref.ensures.value
-    ∙ sym (ap length (get_or-map_within targets c.args.processes.now p c.index-processes-process.result [] (rw (c.requires.as_many) there)) ∙ length-map _ _)
-    ∙ c.requires.each_driver p ∙ sym (I.each_entry p)
+    ∙ sym (ap length (get_or-map_within targets c.processes-processes.result.now p c.index-processes-process.result [] (rw (same, c.requires.as_many) there)) ∙ length-map _ _)
+    ∙ ap (λ (ps : List Process). length (targets_of ps p)) same ∙ c.requires.each_driver p ∙ sym (I.each_entry p)
     ∙ ap length (get_or-map_within entries_of c.loop-process.outcomes.items p c.index_mut-outcome.result.now [] (rw (I.each_outcome) there))
     ∙ ap (λ (o : Outcome). length o.entries) (sym c.index_mut-outcome.ensures.value)
 
+pub update_row-requires-clause-there : goal.update_row-requires-clause-there
+update_row-requires-clause-there c =
+    let p = get_or c.args.active.now c.loop-process.process-index 0 in
+    let there = c.requires.active c.loop-process.process-index 0 c.loop-process-test.true in
+    let q = c.index-processes-process.result in
+    rw (c.deref.ensures.value) (subst (λ (ps : List Process). All (λ n. n < length c.args.wiring.now.types) (nets_of (get_or ps p q).drives.items))
+    (sym c.processes-processes.ensures) (c.requires.there p q (rw (c.requires.as_many) there)))
+
+pub update_row-requires-clause-each_net : goal.update_row-requires-clause-each_net
+update_row-requires-clause-each_net c = c.loop-process.invariant.brings.as_many ∙ c.requires.each_net
+
+pub update_row-requires-clause-bound : goal.update_row-requires-clause-bound
+update_row-requires-clause-bound c = c.loop-process.invariant.brings.bound_stays ∙ c.requires.bound
+
 pub loop-process-preserved : goal.loop-process-preserved
 loop-process-preserved c =
+    let wiring = flat c.args.wiring.now in
+    let ps = c.args.wiring.now.processes in
+    let same = c.processes-processes.ensures in
     let p = get_or c.args.active.now c.loop-process.process-index 0 in
     let I = c.loop-process.invariant in
     let drivers = c.loop-process.drivers.items in
@@ -58,26 +79,27 @@ loop-process-preserved c =
     let as_many = I.each_value p ∙ c.requires.each_value p ∙ sym (I.each_entry p)
     ∙ ap length (get_or-map_within entries_of c.loop-process.outcomes.items p o [] in_outcomes) ∙ ap (λ (x : Outcome). length x.entries) (sym c.index_mut-outcome.ensures.value) in
     let targets_are = ap nets_of c.deref.ensures.value
-    ∙ sym (get_or-map_within targets c.args.processes.now p c.index-processes-process.result [] (rw (c.requires.as_many) there)) in
+    ∙ sym (get_or-map_within targets c.processes-processes.result.now p c.index-processes-process.result [] (rw (same, c.requires.as_many) there))
+    ∙ ap (λ (qs : List Process). targets_of qs p) same in
+    let brings = subst (λ (ns : List ℕ). Brings wiring ns c.index_mut.result.now.items c.update_row.new.values.items c.loop-process.nets c.loop-process.noted c.update_row.new.nets c.update_row.new.noted)
+    targets_are c.update_row.ensures.brings in
     rw (map-set items_of drivers p c.update_row.new.values)
-    (updating_one c.args.active.now c.args.processes.now c.args.outcomes.now.items (rows c.args.drivers.now.items) c.args.touched.now c.loop-process.process-index
-    c.loop-process.outcomes.items (rows drivers) c.loop-process.touched I p o c.clear.new.self c.update_row.new.values.items c.update_row.new.touched refl in_outcomes (rw length-map in_rows)
+    (updating_one wiring c.args.active.now ps c.args.outcomes.now.items (rows c.args.drivers.now.items) c.args.nets.now c.args.noted.now c.loop-process.process-index
+    c.loop-process.outcomes.items (rows drivers) c.loop-process.nets c.loop-process.noted I p o c.clear.new.self c.update_row.new.values.items c.update_row.new.nets c.update_row.new.noted
+    refl in_outcomes (rw length-map in_rows)
     (sym c.index_mut-outcome.ensures.value) c.clear.ensures (c.update_row.ensures.values ∙ ap (driven o.entries) (sym row)) as_many
-    (subst (λ (xs : List ℕ). Touches (targets_of c.args.processes.now p) xs c.update_row.new.values.items c.loop-process.touched c.update_row.new.touched) (sym row)
-    (subst (λ (ns : List ℕ). Touches ns c.index_mut.result.now.items c.update_row.new.values.items c.loop-process.touched c.update_row.new.touched) targets_are c.update_row.ensures.touched)))
+    (subst (λ (xs : List ℕ). Brings wiring (targets_of ps p) xs c.update_row.new.values.items c.loop-process.nets c.loop-process.noted c.update_row.new.nets c.update_row.new.noted) (sym row) brings))
 
 pub returns-clause-drivers : goal.returns-clause-drivers
 returns-clause-drivers c =
-    updated_drivers c.args.active.now c.args.processes.now c.args.outcomes.now.items (rows c.args.drivers.now.items) c.args.touched.now c.loop-process.process-index
-    c.loop-process.outcomes.items (rows c.loop-process.drivers.items) c.loop-process.touched c.loop-process.invariant (omega (arith, c.loop-process-test.false))
+    updated_drivers (flat c.args.wiring.now) c.args.active.now c.args.wiring.now.processes c.args.outcomes.now.items (rows c.args.drivers.now.items) c.args.nets.now c.args.noted.now c.loop-process.process-index
+    c.loop-process.outcomes.items (rows c.loop-process.drivers.items) c.loop-process.nets c.loop-process.noted c.loop-process.invariant (omega (arith, c.loop-process-test.false))
     (length-map c.args.drivers.now.items _ ∙ c.requires.rows) c.requires.each_value
 
 pub returns-clause-outcomes : goal.returns-clause-outcomes
 returns-clause-outcomes c =
-    updated_outcomes c.args.active.now c.args.processes.now c.args.outcomes.now.items (rows c.args.drivers.now.items) c.args.touched.now c.loop-process.process-index
-    c.loop-process.outcomes.items (rows c.loop-process.drivers.items) c.loop-process.touched c.loop-process.invariant (omega (arith, c.loop-process-test.false))
+    updated_outcomes (flat c.args.wiring.now) c.args.active.now c.args.wiring.now.processes c.args.outcomes.now.items (rows c.args.drivers.now.items) c.args.nets.now c.args.noted.now c.loop-process.process-index
+    c.loop-process.outcomes.items (rows c.loop-process.drivers.items) c.loop-process.nets c.loop-process.noted c.loop-process.invariant (omega (arith, c.loop-process-test.false))
 
-pub returns-clause-touched : goal.returns-clause-touched
-returns-clause-touched c =
-    updated_nets c.args.active.now c.args.processes.now c.args.outcomes.now.items (rows c.args.drivers.now.items) c.args.touched.now c.loop-process.process-index
-    c.loop-process.outcomes.items (rows c.loop-process.drivers.items) c.loop-process.touched c.loop-process.invariant
+pub returns-clause-brings : goal.returns-clause-brings
+returns-clause-brings c = c.loop-process.invariant.brings

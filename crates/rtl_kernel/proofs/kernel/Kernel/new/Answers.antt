@@ -21,7 +21,7 @@ invariant_of-result g c =
     let net = c.args.net.now in
     let N = c.nets-nets.ensures.elaborated in
     let start : c.in_ok-values.values.current ≡ net.starts = ap (λ (v : TwoValues). v.current) c.in_ok-values.ensures ∙ c.deref.ensures.value ∙ c.in_ok-starting_codes.ensures in
-    kept_started _ _ _ net c.args.bodies.now (wakers_of c.in_ok-groups.groups) c.begin.new.self c.in_ok-drivers.drivers c.in_ok-resumed.resumed c.in_ok-touched.touched c.args.initial.now
+    kept_started _ _ _ net c.args.bodies.now (wakers_of c.in_ok-groups.groups) c.begin.new.self c.in_ok-drivers.drivers c.in_ok-resumed.resumed c.in_ok-noted.noted c.args.initial.now
     N.in_range N.connected c.requires.bodies
     (ap (λ (v : TwoValues). v.before) c.begin.ensures ∙ sym (ap (λ (v : TwoValues). v.current) c.begin.ensures))
     (rw (c.begin.ensures) (rw (c.inputs.ensures, start) at c.set_each.ensures.current))
@@ -30,7 +30,7 @@ invariant_of-result g c =
     (ap (λ (r : ToRun). r.waiting) c.in_ok-resumed.ensures ∙ ap (λ (ps : List Process). replicate (length ps) true) c.processes-processes.ensures)
     c.in_ok-groups.ensures.index
     c.in_ok-groups.ensures.as_many
-    (c.in_ok-touched.ensures ∙ ap (λ (n : ℕ). record { bound = n; members = [] }) c.nets-nets.ensures.count)
+    (c.in_ok-noted.ensures ∙ ap (λ (n : ℕ). record { bound = n; members = [] }) c.nets-nets.ensures.count)
 
 pub returns : goal.returns
 returns g c =
@@ -38,7 +38,7 @@ returns g c =
     let N = c.nets-nets.ensures.elaborated in
     let start : c.in_ok-values.values.current ≡ net.starts = ap (λ (v : TwoValues). v.current) c.in_ok-values.ensures ∙ c.deref.ensures.value ∙ c.in_ok-starting_codes.ensures in
     let state = is_started g.E.Exec.process g.E.Exec.types g.E.Exec.most net c.args.bodies.now (wakers_of c.in_ok-groups.groups)
-    c.begin.new.self c.in_ok-drivers.drivers c.in_ok-resumed.resumed c.in_ok-touched.touched c.args.initial.now
+    c.begin.new.self c.in_ok-drivers.drivers c.in_ok-resumed.resumed c.in_ok-noted.noted c.args.initial.now
     N.in_range N.connected c.requires.bodies
     (ap (λ (v : TwoValues). v.before) c.begin.ensures ∙ sym (ap (λ (v : TwoValues). v.current) c.begin.ensures))
     (rw (c.begin.ensures) (rw (c.inputs.ensures, start) at c.set_each.ensures.current))

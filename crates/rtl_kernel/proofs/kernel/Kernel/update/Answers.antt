@@ -1,4 +1,4 @@
-use Rattle.std.proofs.Common.{ℕ, [], ap, ◌∙◌}
+use Rattle.std.proofs.Common.{ℕ, [], length, ap, ◌∙◌}
 use Rattle.std.proofs.lemmas.List.{length-map}
 use Rattle.rtl_kernel.specs.values.TwoValues.{TwoValues}
 use Rattle.rtl_kernel.specs.wakes.Woken.{wakers_of}
@@ -11,12 +11,16 @@ abbrev none_of : ℕ → Numbers
 none_of bound = record { bound = bound; members = [] }
 
 pub update-requires-clause-each_driver : goal.update-requires-clause-each_driver
-update-requires-clause-each_driver g c = rw (c.processes.ensures) (each_target c.self.inside.net.now _ _ _ c.self.invariant.room)
+update-requires-clause-each_driver g c = each_target c.self.inside.net.now _ _ _ c.self.invariant.room
 
-pub update-requires-clause-nets : goal.update-requires-clause-nets
-update-requires-clause-nets g c =
-    let bound = ap (λ (w : Numbers). w.bound) c.self.invariant.idle in
-    rw (c.processes.ensures, bound) (nets_there c.self.inside.net.now c.self.invariant.in_range)
+pub update-requires-clause-there : goal.update-requires-clause-there
+update-requires-clause-there g c = nets_there c.self.inside.net.now c.self.invariant.in_range
+
+pub update-requires-clause-each_net : goal.update-requires-clause-each_net
+update-requires-clause-each_net g c = ap (λ (v : TwoValues). length v.current) c.begin.ensures ∙ kept.all_now _ _ _ _ _ _ _ _ _ _ c.self.invariant
+
+pub update-requires-clause-bound : goal.update-requires-clause-bound
+update-requires-clause-bound g c = ap (λ (w : Numbers). w.bound) c.self.invariant.idle
 
 pub resolve_nets-requires-clause-there : goal.resolve_nets-requires-clause-there
 resolve_nets-requires-clause-there g c =
@@ -29,15 +33,21 @@ resume-requires-clause-processes g c =
 
 pub invariant_of-self : goal.invariant_of-self
 invariant_of-self g c =
+    let B = c.update.ensures.brings in
     kept.kept_updated _ _ _ _ _ _ _ _ _ _ c.self.invariant
-    c.resolve_nets.new.values c.update.new.self c.resume.new.self c.update.new.touched (c.resolve_nets.ensures.before ∙ ap (λ (v : TwoValues). v.before) c.begin.ensures) c.update.ensures.drivers c.update.ensures.outcomes
-    (rw (c.processes.ensures) at c.update.ensures.touched) (rw (c.values.ensures, c.members.ensures.value, c.begin.ensures) at c.resolve_nets.ensures.current)
+    c.update.new.nets c.resolve_nets.new.values c.update.new.self c.resume.new.self c.update.new.noted
+    (c.resolve_nets.ensures.before ∙ B.before_stays ∙ ap (λ (v : TwoValues). v.before) c.begin.ensures) c.update.ensures.drivers c.update.ensures.outcomes
+    c.begin.new.self.current (ap (λ (v : TwoValues). v.current) c.begin.ensures) B.as_many B.each
+    (rw (c.values.ensures, c.members.ensures.value) at c.resolve_nets.ensures.current)
     c.resume.ensures.as_many (rw (c.before-2.ensures.value, c.now.ensures) at c.resume.ensures.woken)
-    c.clear.new.self (c.clear.ensures ∙ ap none_of (c.update.ensures.touched.bound_stays ∙ ap (λ (w : Numbers). w.bound) c.self.invariant.idle))
+    c.clear.new.self (c.clear.ensures ∙ ap none_of (B.bound_stays ∙ ap (λ (w : Numbers). w.bound) c.self.invariant.idle))
 
 pub returns-clause-state : goal.returns-clause-state
 returns-clause-state g c =
+    let B = c.update.ensures.brings in
     rw (← c.self.view_is) (kept.is_updated _ _ _ _ _ _ _ _ _ _ c.self.invariant
-    c.resolve_nets.new.values c.update.new.self c.resume.new.self c.update.new.touched (c.resolve_nets.ensures.before ∙ ap (λ (v : TwoValues). v.before) c.begin.ensures) c.update.ensures.drivers c.update.ensures.outcomes
-    (rw (c.processes.ensures) at c.update.ensures.touched) (rw (c.values.ensures, c.members.ensures.value, c.begin.ensures) at c.resolve_nets.ensures.current)
+    c.update.new.nets c.resolve_nets.new.values c.update.new.self c.resume.new.self c.update.new.noted
+    (c.resolve_nets.ensures.before ∙ B.before_stays ∙ ap (λ (v : TwoValues). v.before) c.begin.ensures) c.update.ensures.drivers c.update.ensures.outcomes
+    c.begin.new.self.current (ap (λ (v : TwoValues). v.current) c.begin.ensures) B.as_many B.each
+    (rw (c.values.ensures, c.members.ensures.value) at c.resolve_nets.ensures.current)
     c.resume.ensures.as_many (rw (c.before-2.ensures.value, c.now.ensures) at c.resume.ensures.woken))
