@@ -1,0 +1,3 @@
+pub mod Later
+pub mod Settling
+pub mod Edges
