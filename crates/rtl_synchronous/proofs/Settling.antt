@@ -10,11 +10,17 @@ use Rattle.rtl_model.proofs.simulation.Faultless.{faultless}
 use Rattle.rtl_model.proofs.simulation.Leveled.{Leveled, leveled}
 use Rattle.rtl_model.proofs.simulation.Levels.{assigned, sole}
 use Rattle.rtl_synchronous.specs.Running.{IsSettled, IsWritten}
-use Rattle.rtl_synchronous.specs.Laws.{EachRunSettles}
+use Rattle.rtl_synchronous.specs.Laws.{EachRunSettles, EachStaysSettled}
 
 some_entry : (o : Option ℕ) (old : ℕ) → IsSome o → o ≡ Some (entry_or o old)
 some_entry (Some v) old h = refl
 some_entry None old h = cc
+
+pub each_stays_settled : EachStaysSettled
+each_stays_settled net E p v w c settled agree same place h =
+    ap (λ (row : List (Option ℕ)). get_or row place None) (E.bodies.effect_reads p w w v v c (λ n r. sym (agree n r)))
+    ∙ settled place h
+    ∙ ap (λ (x : ℕ). Some x) (sym (same place h))
 
 module _ (net : Net) (L : Leveled net) where
   -- a net has one driver's process
@@ -46,10 +52,7 @@ module _ (net : Net) (L : Leveled net) where
       where
         go : (q ≡ p) ⊎ (q ≡ p → ⊥) → IsSettled net w q
         go (inl e) = subst (λ (x : ℕ). IsSettled net w x) (sym e) settles_itself
-        go (inr other) = λ place h.
-            ap (λ (row : List (Option ℕ)). get_or row place None) (L.elaborated.bodies.effect_reads q w w v v cq (λ n r. sym (agree n r)))
-            ∙ settled place h
-            ∙ ap (λ (x : ℕ). Some x) (sym (W.on_others (target net q place) (λ at has t. other (one_process p q at place has h t))))
+        go (inr other) = each_stays_settled net L.elaborated q v w cq settled agree (λ place h. W.on_others (target net q place) (λ at has t. other (one_process p q at place has h t)))
 
 pub each_run_settles : EachRunSettles
 each_run_settles net E A p v w c W =
