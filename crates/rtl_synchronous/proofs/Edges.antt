@@ -1,5 +1,5 @@
 -- A run of a clocked process gives what its registers have next.
-use Rattle.std.proofs.Common.{◌≡◌, ℕ, ◌<◌, Bool, true, false, List, length, get_or, Option, Some, None, refl, sym, ap, ◌∙◌, arith, ◌⊎◌, inl, inr, IsTrue, Contains, ◌==◌}
+use Rattle.std.proofs.Common.{◌≡◌, ℕ, ◌<◌, Bool, true, false, List, length, get_or, Option, Some, None, refl, sym, ap, ◌∙◌, arith, ◌⊎◌, inl, inr, ◌==◌}
 use Rattle.std.specs.List.{list_any}
 use Rattle.std.proofs.lemmas.Bool.{cases_Bool, cases_eq}
 use Rattle.rtl_model.specs.basics.Valuations.{AgreeOn, clocked_entry}
@@ -7,7 +7,7 @@ use Rattle.rtl_model.specs.simulation.Net.{Edge, HasPlace, HasReset, IsClockedBy
 use Rattle.rtl_model.specs.simulation.Cycle.{driven, with_inputs}
 use Rattle.rtl_model.specs.simulation.Accepted.{IsClock}
 use Rattle.rtl_model.specs.simulation.Races.{IsRace}
-use Rattle.rtl_model.specs.simulation.Machine.{entry_or, IsFirst, IsStep, register_entry, register_first, register_next, Solves}
+use Rattle.rtl_model.specs.simulation.Machine.{entry_or, register_entry, register_next, Solves}
 use Rattle.rtl_model.proofs.simulation.Faultless.{faultless}
 use Rattle.rtl_model.proofs.simulation.Leveled.{Leveled, leveled}
 use Rattle.rtl_model.proofs.simulation.Rows.{driven_at}

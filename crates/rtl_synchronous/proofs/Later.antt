@@ -1,5 +1,5 @@
 -- What reads a net is above what drives it.
-use Rattle.std.proofs.Common.{◌≡◌, ℕ, zero, suc, ◌<◌, ◌≤◌, Option, Some, sym, ◌∙◌, arith}
+use Rattle.std.proofs.Common.{◌≡◌, ℕ, zero, suc, ◌<◌, Some, sym, ◌∙◌, arith}
 use Rattle.rtl_model.specs.simulation.Net.{Net, target}
 use Rattle.rtl_model.specs.simulation.Accepted.{Feeds}
 use Rattle.rtl_model.specs.simulation.Levels.{IsLevel}
