@@ -1,0 +1,82 @@
+-- The laws of running processes one by one, each once a moment.
+use Rattle.std.specs.Prelude.{◌≡◌, ℕ, suc, ◌<◌, false, List, Option, Some, None, slice_index, slice_index_or, Contains}
+use Rattle.rtl_model.specs.basics.Valuations.{AgreeOn}
+use Rattle.rtl_model.specs.simulation.Net.{Net, Edge, Reset, process, target, HasPlace, HasReset, IsCombinational, IsClockedBy}
+use Rattle.rtl_model.specs.simulation.Cycle.{driven, with_inputs}
+use Rattle.rtl_model.specs.simulation.Elaborated.{IsElaborated}
+use Rattle.rtl_model.specs.simulation.Accepted.{IsAccepted}
+use Rattle.rtl_model.specs.simulation.Levels.{AreLevels}
+use Rattle.rtl_model.specs.simulation.Races.{IsRace}
+use Rattle.rtl_model.specs.simulation.Machine.{Solves, IsFirst, IsStep, IsMachineRun, register_first, register_next}
+use Rattle.rtl_synchronous.specs.Running.{IsSettled, IsWritten, IsRow, KeepsResets}
+
+-- ---- combinational processes
+
+-- the levels rise from each process to those that read what it drives
+abbrev pub EachReaderIsLater : Type 0
+EachReaderIsLater =
+    (net : Net) → IsAccepted net → (levels : List (Option ℕ)) (greatest : ℕ) → AreLevels net levels greatest
+    → (p q place a b : ℕ) → IsCombinational net p → IsCombinational net q → HasPlace net p place
+    → Contains (process net q).reads (target net p place) → slice_index_or levels p None ≡ Some a → slice_index_or levels q None ≡ Some b → a < b
+
+-- a process stays settled where neither what it reads nor what it drives changes
+abbrev pub EachStaysSettled : Type 0
+EachStaysSettled =
+    (net : Net) → IsElaborated net → (p : ℕ) (v w : List ℕ) → IsCombinational net p → IsSettled net v p → AgreeOn (process net p).reads v w
+    → ((place : ℕ) → HasPlace net p place → slice_index w (target net p place) ≡ slice_index v (target net p place)) → IsSettled net w p
+
+-- From v to w, p is settled, and each that was, and reads nothing that changed, still is.
+pub record RunSettles (net : Net) (p : ℕ) (v w : List ℕ) : Type 0 where
+  pub itself : IsSettled net w p
+  pub others : (q : ℕ) → IsCombinational net q → IsSettled net v q → AgreeOn (process net q).reads v w → IsSettled net w q
+
+abbrev pub EachRunSettles : Type 0
+EachRunSettles =
+    (net : Net) → IsElaborated net → IsAccepted net → (p : ℕ) (v w : List ℕ) → IsCombinational net p → IsWritten net p v w → RunSettles net p v w
+
+-- ---- clocked processes
+
+-- Before the first moment there is no edge: a run of the clocked process p over the row of its nets' starting values gives
+-- what its registers start with.
+abbrev pub EachStartIsTaken : Type 0
+EachStartIsTaken =
+    (net : Net) → IsElaborated net → IsAccepted net → (inputs : ℕ → ℕ) (p clock place : ℕ) (edge : Edge) (before row : List ℕ)
+    → IsClockedBy net p clock edge → HasPlace net p place → IsRow net p net.start row
+    → slice_index before clock ≡ slice_index (with_inputs net inputs net.start) clock
+    → slice_index (driven ((process net p).effect before (with_inputs net inputs net.start)) row) place ≡ register_first net p place inputs
+
+-- What the clocked process p does from the valuation v with new inputs.
+pub record EdgeIsTaken (net : Net) (v : List ℕ) (inputs : ℕ → ℕ) (p clock : ℕ) (edge : Edge) : Type 0 where
+  -- whatever the other nets had before, a run of p over the row of v's values gives what its registers have next;
+  pub taken : (before row : List ℕ) (place : ℕ) → slice_index before clock ≡ slice_index v clock → IsRow net p v row → HasPlace net p place
+      → slice_index (driven ((process net p).effect before (with_inputs net inputs v)) row) place ≡ register_next net p place clock edge v inputs
+  -- where neither its clock has its edge nor its reset's net changes, they have v's values
+  pub left : (place : ℕ) → HasPlace net p place → net.edge edge (slice_index v clock) (inputs clock) ≡ false
+      → ((reset : Reset) → HasReset net p reset → slice_index v reset.net ≡ inputs reset.net)
+      → register_next net p place clock edge v inputs ≡ slice_index v (target net p place)
+
+abbrev pub EachEdgeIsTaken : Type 0
+EachEdgeIsTaken =
+    (net : Net) → IsElaborated net → IsAccepted net → (was registers : ℕ → ℕ) (v : List ℕ) → Solves net was registers v → KeepsResets net v
+    → (inputs : ℕ → ℕ) → (IsRace net (slice_index v) inputs → ⊥) → (p clock : ℕ) (edge : Edge) → IsClockedBy net p clock edge
+    → EdgeIsTaken net v inputs p clock edge
+
+-- the machine's first valuation keeps resets, and so does each that a step gives
+pub record ResetsAreKept (net : Net) (inputs : ℕ → ℕ) (w : List ℕ) : Type 0 where
+  pub first : IsFirst net inputs w → KeepsResets net w
+  pub step : (v : List ℕ) → IsStep net v inputs w → KeepsResets net w
+
+abbrev pub EachResetIsKept : Type 0
+EachResetIsKept = (net : Net) → IsElaborated net → IsAccepted net → (inputs : ℕ → ℕ) (w : List ℕ) → ResetsAreKept net inputs w
+
+-- ---- the run
+
+-- What begins as the machine does is its run's first valuation, and what a step gives is the next.
+pub record GoesOnAlike (net : Net) (stimulus : ℕ → ℕ → ℕ) (run : ℕ → List ℕ) : Type 0 where
+  pub first : (v : List ℕ) → IsFirst net (stimulus 0) v → v ≡ run 0
+  pub step : (m : ℕ) (v : List ℕ) → IsStep net (run m) (stimulus (suc m)) v → v ≡ run (suc m)
+
+abbrev pub EachMachineGoesOnAlike : Type 0
+EachMachineGoesOnAlike =
+    (net : Net) → IsElaborated net → IsAccepted net → (stimulus : ℕ → ℕ → ℕ) (run : ℕ → List ℕ) → IsMachineRun net stimulus run
+    → GoesOnAlike net stimulus run

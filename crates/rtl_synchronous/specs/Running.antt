@@ -1,0 +1,28 @@
+-- What the runs of single processes are to a valuation.
+use Rattle.std.specs.Prelude.{◌≡◌, ℕ, List, length, slice_index, slice_index_or, Some, None, IsTrue}
+use Rattle.rtl_model.specs.simulation.Net.{Net, Edge, process, target, reset_of, reset_entry, resets, HasPlace, IsClockedBy}
+use Rattle.rtl_model.specs.simulation.Machine.{entry_or}
+
+-- what p drives has, in v, the value that its effect in v gives
+abbrev pub IsSettled : Net → (v : List ℕ) → (p : ℕ) → Type 0
+IsSettled net v p =
+    (place : ℕ) → HasPlace net p place → slice_index_or ((process net p).effect v v) place None ≡ Some (slice_index v (target net p place))
+
+-- w is v with p's entries in v at its targets
+pub record IsWritten (net : Net) (p : ℕ) (v w : List ℕ) : Type 0 where
+  pub each_net : length w ≡ length v
+  -- a target has its entry, and without one v's value
+  pub on_targets : (place : ℕ) → HasPlace net p place → slice_index w (target net p place)
+      ≡ entry_or (slice_index_or ((process net p).effect v v) place None) (slice_index v (target net p place))
+  pub on_others : (n : ℕ) → ((place : ℕ) → HasPlace net p place → target net p place ≡ n → ⊥) → slice_index w n ≡ slice_index v n
+
+-- the row has, of each driver of p, the value of its net in v
+pub record IsRow (net : Net) (p : ℕ) (v row : List ℕ) : Type 0 where
+  pub each_driver : length row ≡ length (process net p).drives
+  pub at_places : (place : ℕ) → HasPlace net p place → slice_index row place ≡ slice_index v (target net p place)
+
+-- where a reset holds in v, each register with an entry of its branch has that entry
+abbrev pub KeepsResets : Net → (v : List ℕ) → Type 0
+KeepsResets net v =
+    (p place clock value : ℕ) (edge : Edge) → IsClockedBy net p clock edge → HasPlace net p place → IsTrue (resets (reset_of net p) (slice_index v))
+    → reset_entry (reset_of net p) place ≡ Some value → slice_index v (target net p place) ≡ value
