@@ -65,7 +65,7 @@ module _ (net : Net) (L : Leveled net) where
     branch_at : (place : ℕ) → has_edge ≡ true → get_or ((process net p).acting_effect now) place None ≡ get_or ((process net p).acting_effect v) place None
     branch_at place e = ap (λ (row : List (Option ℕ)). get_or row place None) (L.elaborated.bodies.branch_reads p clock edge now v is (agree e))
 
-    entry_is : (before : List ℕ) (place : ℕ) → get_or before clock 0 ≡ get_or v clock 0
+    pub entry_is : (before : List ℕ) (place : ℕ) → get_or before clock 0 ≡ get_or v clock 0
         → get_or ((process net p).effect before now) place None ≡ register_entry net p place clock edge v inputs
     entry_is before place same =
         L.elaborated.bodies.clocked_acts p clock place edge before now is

@@ -9,7 +9,7 @@ use Rattle.rtl_synchronous.specs.Laws.{EachReaderIsLater}
 some_same : {a b : ℕ} → Some a ≡ Some b → a ≡ b
 some_same e = cc
 
-level_above : (net : Net) (p q a b : ℕ) → Feeds net p q → IsLevel net p a → IsLevel net q b → a < b
+pub level_above : (net : Net) (p q a b : ℕ) → Feeds net p q → IsLevel net p a → IsLevel net q b → a < b
 level_above net p q zero b f x y = absurd x.reached
 level_above net p q (suc n) b f x y = let h = y.longest (suc (suc n)) (p, x.reached, f) in omega arith
 

@@ -3,3 +3,12 @@ pub mod Settling
 pub mod Starts
 pub mod Edges
 pub mod Alike
+pub mod Marking
+pub mod Taking
+pub mod Sweeping
+pub mod Together
+pub mod Resting
+pub mod Inputs
+pub mod Stepping
+pub mod Rooms
+pub mod Ordering

@@ -24,7 +24,7 @@ each_stays_settled net E p v w c settled agree same place h =
 
 module _ (net : Net) (L : Leveled net) where
   -- a net has one driver's process
-  one_process : (p q at place : ℕ) → HasPlace net p at → HasPlace net q place → target net p at ≡ target net q place → q ≡ p
+  pub one_process : (p q at place : ℕ) → HasPlace net p at → HasPlace net q place → target net p at ≡ target net q place → q ≡ p
   one_process p q at place has h t =
       let c = subst (λ (n : ℕ). Contains (sources_of net n) (Driver p at)) t (L.elaborated.wiring.drivers_are_sources p at has) in
       let e = Contains-one (Driver q place) (Driver p at) (subst (λ (xs : List Source). Contains xs (Driver p at)) (sole net L q place h) c) in

@@ -1,2 +1,7 @@
 pub mod Running
 pub mod Laws
+pub mod Machine
+pub mod Scheduled
+pub mod Marks
+pub mod Steps
+pub mod Kept

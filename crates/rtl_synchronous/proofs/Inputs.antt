@@ -1,0 +1,34 @@
+-- New values of inputs.
+use Rattle.std.proofs.Common.{◌≡◌, ℕ, ◌<◌, ◌≤◌, true, false, List, [], ◌∷◌, length, get_or, set, sym, ◌∙◌, ◌⊎◌, inl, inr, Contains, All, ◌==◌}
+use Rattle.std.specs.List.{list_any}
+use Rattle.std.proofs.lemmas.Bool.{cases_Bool, cases_eq, cases_lt}
+use Rattle.std.proofs.lemmas.List.{get_or-set_same, get_or-set_other, get_or_past, length-set}
+use Rattle.vhdl_values.specs.declared.scalar.Nine.{Nine}
+use Rattle.rtl_model.specs.nets.FlatNet.{FlatNet, IsInRange}
+use Rattle.rtl_model.specs.nets.CoreNet.{core_net}
+use Rattle.rtl_model.specs.simulation.Net.{IsInput}
+use Rattle.rtl_model.specs.simulation.Cycle.{changed}
+use Rattle.rtl_model.specs.simulation.Range.{IsValuation, limit}
+use Rattle.rtl_model.proofs.simulation.Consistent.{each_change_is_made}
+use Rattle.rtl_kernel.specs.kernel.Simulation.{changes_of}
+use Rattle.rtl_kernel.specs.values.TwoValues.{AreChanged}
+use Rattle.rtl_kernel.proofs.Inputs.{are_inputs, named}
+
+-- the same changes give a net the same, where it had the same
+pub changed_alike : (cs : List (ℕ × ℕ)) (v w : List ℕ) (n : ℕ) → length v ≡ length w → get_or v n 0 ≡ get_or w n 0 → changed cs v n ≡ changed cs w n
+changed_alike [] v w n many same = same
+changed_alike (c ∷ cs) v w n many same =
+    changed_alike cs (set v c.0 c.1) (set w c.0 c.1) n (length-set v c.0 c.1 ∙ many ∙ sym (length-set w c.0 c.1)) (by (cases_eq n c.0) (cases_lt c.0 (length v)))
+  where
+    by : (n ≡ c.0) ⊎ (n ≡ c.0 → ⊥) → (c.0 < length v) ⊎ (length v ≤ c.0) → get_or (set v c.0 c.1) n 0 ≡ get_or (set w c.0 c.1) n 0
+    by (inl e) (inl l) = rw e (get_or-set_same v c.0 c.1 0 l ∙ sym (get_or-set_same w c.0 c.1 0 (rw (← many) l)))
+    by (inl e) (inr l) = rw e (get_or_past (set v c.0 c.1) c.0 0 (rw length-set l) ∙ sym (get_or_past (set w c.0 c.1) c.0 0 (rw (length-set, ← many) l)))
+    by (inr ne) _ = get_or-set_other v c.0 n c.1 0 ne ∙ same ∙ sym (get_or-set_other w c.0 n c.1 0 ne)
+
+module _ (net : FlatNet) (R : IsInRange net) (cs : List (ℕ × Nine)) (inputs : All (λ (c : ℕ × Nine). Contains net.inputs c.0) cs) where
+  pub changed_in_range : (old new : List ℕ) → IsValuation (core_net net) old → AreChanged (changes_of cs) old new → IsValuation (core_net net) new
+  changed_in_range old new V A = record { each_net = A.as_many ∙ V.each_net; in_range = λ n l. rw (A.each n) (by n l (cases_Bool (list_any (λ m. m == n) net.inputs))) }
+    where
+      by : (n : ℕ) → n < length net.start → (list_any (λ m. m == n) net.inputs ≡ true) ⊎ (list_any (λ m. m == n) net.inputs ≡ false) → changed (changes_of cs) old n < limit (core_net net) n
+      by n l (inl is) = are_inputs net R cs old V n is
+      by n l (inr none) = rw ((each_change_is_made (changes_of cs) old).kept n (λ value there. let h = named net R cs inputs n value there in cc)) (V.in_range n l)

@@ -1,0 +1,65 @@
+-- Marks that follow the changes of nets.
+use Rattle.std.proofs.Common.{◌≡◌, ℕ, ◌<◌, Bool, true, false, List, [], length, get_or, set, refl, sym, subst, ◌∙◌, ◌⊎◌, inl, inr, Contains}
+use Rattle.std.proofs.lemmas.Bool.{cases_eq}
+use Rattle.std.proofs.lemmas.List.{get_or-set_same, get_or-set_other}
+use Rattle.rtl_kernel.specs.wakes.Woken.{Adds}
+use Rattle.rtl_synchronous.specs.Marks.{Marks, Follows}
+
+module _ (index : List (List ℕ)) where
+  pub marks_none : (nets : ℕ → Type 0) (v : List ℕ) (m : List Bool) → Marks index nets v v m m
+  marks_none nets v m = record { as_many = refl; kept = λ k h. h; followed = λ net k differs f. absurd (differs refl); no_other = λ k h. inl h }
+
+  pub marks_then : (nets : ℕ → Type 0) (u v w : List ℕ) (a b c : List Bool) → Marks index nets u v a b → Marks index nets v w b c → Marks index nets u w a c
+  marks_then nets u v w a b c A B = record {
+    as_many = B.as_many ∙ A.as_many;
+    kept = λ k h. B.kept k (A.kept k h);
+    followed = λ net k differs f. followed net k differs f (cases_eq (get_or u net 0) (get_or v net 0));
+    no_other = λ k h. other k (B.no_other k h);
+  }
+    where
+      followed : (net k : ℕ) → (get_or u net 0 ≡ get_or w net 0 → ⊥) → Follows index net k → (get_or u net 0 ≡ get_or v net 0) ⊎ (get_or u net 0 ≡ get_or v net 0 → ⊥)
+          → get_or c k false ≡ true
+      followed net k differs f (inl same) = B.followed net k (λ e. differs (same ∙ e)) f
+      followed net k differs f (inr other) = B.kept k (A.followed net k other f)
+
+      other : (k : ℕ) → (get_or b k false ≡ true) ⊎ ((net : ℕ) × nets net × Follows index net k) → (get_or a k false ≡ true) ⊎ ((net : ℕ) × nets net × Follows index net k)
+      other k (inl h) = A.no_other k h
+      other k (inr x) = inr x
+
+  -- of more nets
+  pub marks_wider : (nets more : ℕ → Type 0) → ((n : ℕ) → nets n → more n) → (v w : List ℕ) (a b : List Bool) → Marks index nets v w a b → Marks index more v w a b
+  marks_wider nets more wider v w a b M = record { as_many = M.as_many; kept = M.kept; followed = M.followed; no_other = λ k h. other k (M.no_other k h) }
+    where
+      other : (k : ℕ) → (get_or a k false ≡ true) ⊎ ((net : ℕ) × nets net × Follows index net k) → (get_or a k false ≡ true) ⊎ ((net : ℕ) × more net × Follows index net k)
+      other k (inl h) = inl h
+      other k (inr (net, among, f)) = inr (net, wider net among, f)
+
+  -- the followers of one net
+  pub marks_one : (v : List ℕ) (net value : ℕ) (a b : List Bool) → length b ≡ length a → Adds (get_or index net []) a b → Marks index (λ n. n ≡ net) v (set v net value) a b
+  marks_one v net value a b many A = record {
+    as_many = many;
+    kept = A.kept;
+    followed = λ n k differs f. followed n k differs f (cases_eq n net);
+    no_other = λ k h. other k (A.no_other k h);
+  }
+    where
+      followed : (n k : ℕ) → (get_or v n 0 ≡ get_or (set v net value) n 0 → ⊥) → Follows index n k → (n ≡ net) ⊎ (n ≡ net → ⊥) → get_or b k false ≡ true
+      followed n k differs f (inl e) = A.added k (subst (λ (m : ℕ). Contains (get_or index m []) k) e f)
+      followed n k differs f (inr ne) = absurd (differs (sym (get_or-set_other v net n value 0 ne)))
+
+      other : (k : ℕ) → (get_or a k false ≡ true) ⊎ Contains (get_or index net []) k → (get_or a k false ≡ true) ⊎ ((n : ℕ) × (n ≡ net) × Follows index n k)
+      other k (inl h) = inl h
+      other k (inr c) = inr (net, refl, c)
+
+  -- a value that the net has
+  pub marks_same : (v : List ℕ) (net value : ℕ) (a : List Bool) → net < length v → get_or v net 0 ≡ value → Marks index (λ n. n ≡ net) v (set v net value) a a
+  marks_same v net value a within has = record {
+    as_many = refl;
+    kept = λ k h. h;
+    followed = λ n k differs f. absurd (differs (same n (cases_eq n net)));
+    no_other = λ k h. inl h;
+  }
+    where
+      same : (n : ℕ) → (n ≡ net) ⊎ (n ≡ net → ⊥) → get_or v n 0 ≡ get_or (set v net value) n 0
+      same n (inl e) = rw e (has ∙ sym (get_or-set_same v net value 0 within))
+      same n (inr ne) = sym (get_or-set_other v net n value 0 ne)

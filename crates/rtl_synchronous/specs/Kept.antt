@@ -1,0 +1,53 @@
+-- What holds of every machine.
+use Rattle.std.specs.Prelude.{◌≡◌, ℕ, Bool, List, length, slice_index}
+use Rattle.rtl_model.specs.bodies.Types.{ElementType}
+use Rattle.rtl_model.specs.nets.FlatNet.{FlatProcess, IsInRange}
+use Rattle.rtl_model.specs.nets.CoreNet.{core_net}
+use Rattle.rtl_model.specs.nets.Wiring.{IsConnected}
+use Rattle.rtl_model.specs.simulation.Net.{Net, IsInput}
+use Rattle.rtl_model.specs.simulation.Accepted.{IsAccepted}
+use Rattle.rtl_model.specs.simulation.Machine.{Solves}
+use Rattle.rtl_model.specs.simulation.Range.{IsValuation}
+use Rattle.rtl_eval.specs.Runs.{Outcome}
+use Rattle.rtl_kernel.specs.kernel.Kept.{RunBodies, HaveRoom}
+use Rattle.rtl_net.specs.Nets.{NetView, flat}
+use Rattle.rtl_synchronous.specs.Running.{KeepsResets}
+use Rattle.rtl_synchronous.specs.Marks.{HasNoMark}
+use Rattle.rtl_synchronous.specs.Scheduled.{IsSchedule}
+
+abbrev pub core : NetView → Net
+core net = core_net (flat net)
+
+-- Each process of an accepted net may be run: the k-th body is that of the k-th process, and the k-th run has its room.
+pub record MayRun {E : Type 0} (process : E → FlatProcess) (types : E → List ElementType) (most : E → ℕ)
+    (net : NetView) (bodies : List E) (runs : List Outcome) : Type 0 where
+  pub in_range : IsInRange (flat net)
+  pub connected : IsConnected (flat net)
+  pub accepted : IsAccepted (core net)
+  pub run_bodies : RunBodies process types (flat net) bodies
+  pub room : HaveRoom most (flat net) bodies runs
+
+-- the values have settled, for some inputs and registers
+pub record IsAtRest (net : Net) (before values : List ℕ) : Type 0 where
+  pub inputs : ℕ → ℕ
+  pub registers : ℕ → ℕ
+  pub solves : Solves net inputs registers values
+  pub resets : KeepsResets net values
+  pub before_in_range : IsValuation net before
+  pub values_in_range : IsValuation net values
+  -- no input has an event
+  pub no_event : (n : ℕ) → IsInput net n → slice_index before n ≡ slice_index values n
+
+-- Between the steps of a machine its values have settled, and no process is to run.
+pub record IsMachine {E : Type 0} (process : E → FlatProcess) (types : E → List ElementType) (most : E → ℕ)
+    (net : NetView) (bodies : List E) (order : List ℕ) (readers clocked : List (List ℕ)) (before values : List ℕ) (runs : List Outcome)
+    (dirty woken : List Bool) : Type 0 where
+  pub may_run : MayRun process types most net bodies runs
+  pub schedule : IsSchedule (core net) order readers clocked
+  pub each_reader : length readers ≡ length values
+  pub each_clocked : length clocked ≡ length values
+  pub at_rest : IsAtRest (core net) before values
+  pub each_rank : length dirty ≡ length order
+  pub each_process : length woken ≡ length net.processes
+  pub none_dirty : HasNoMark dirty
+  pub none_woken : HasNoMark woken

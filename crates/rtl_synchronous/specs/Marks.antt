@@ -1,0 +1,24 @@
+-- Marks of those that are to run, because a net that they are sensitive to has changed (IEEE 1076-2008, 14.7.5.3).
+use Rattle.std.specs.Prelude.{◌≡◌, ℕ, ◌<◌, ◌⊎◌, Bool, false, List, [], length, slice_index, slice_index_or, IsTrue, Contains}
+
+-- Of an index: for each net the numbers of those that are sensitive to it.
+module _ (index : List (List ℕ)) where
+  -- this number is sensitive to the net
+  abbrev pub Follows : (net number : ℕ) → Type 0
+  Follows net number = Contains (slice_index_or index net []) number
+
+  -- all such numbers are below this
+  abbrev pub AreBelow : ℕ → Type 0
+  AreBelow many = (net number : ℕ) → Follows net number → number < many
+
+  -- From v to w only these nets change; whatever follows one that does is marked, and marks are added for followers of
+  -- these nets alone.
+  pub record Marks (nets : ℕ → Type 0) (v w : List ℕ) (old new : List Bool) : Type 0 where
+    pub as_many : length new ≡ length old
+    pub kept : (k : ℕ) → IsTrue (slice_index_or old k false) → IsTrue (slice_index_or new k false)
+    pub followed : (net k : ℕ) → (slice_index v net ≡ slice_index w net → ⊥) → Follows net k → IsTrue (slice_index_or new k false)
+    pub no_other : (k : ℕ) → IsTrue (slice_index_or new k false) → IsTrue (slice_index_or old k false) ⊎ ((net : ℕ) × nets net × Follows net k)
+
+-- none is marked
+abbrev pub HasNoMark : List Bool → Type 0
+HasNoMark marks = (k : ℕ) → slice_index_or marks k false ≡ false

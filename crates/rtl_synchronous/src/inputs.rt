@@ -1,0 +1,57 @@
+//! New values of inputs.
+
+ghost use Rattle.std.specs.Prelude.{◌≡◌, ◌<◌, ⊤, length, All};
+ghost use Rattle.rtl_kernel.specs.kernel.Simulation.{changes_of, each_given};
+ghost use Rattle.rtl_kernel.specs.values.TwoValues.{AreChanged};
+ghost use Rattle.rtl_kernel.specs.wakes.Woken.{wakers_of};
+ghost use Rattle.rtl_synchronous.specs.Marks.{AreBelow, Marks};
+
+use crate::marks::mark_followers;
+use crate::schedule::Schedule;
+use vhdl_values::Nine;
+
+/// Gives nets values, one after the other.
+pub fn set_inputs(changes: &[(usize, Nine)], values: &mut Vec<u8>)
+    requires { All (λ c. c.0 < length values.old.items) changes.now }
+    ensures { AreChanged (changes_of changes.now) values.old.items values.new.items }
+{
+    for (net, value) in changes {
+        values[*net] = value.code();
+    }
+}
+
+/// Gives each of these nets the value of the same number.
+pub fn set_each(nets: &[usize], given: &[Nine], values: &mut Vec<u8>)
+    requires as_many { length given.now ≡ length nets.now }
+    requires there { All (λ n. n < length values.old.items) nets.now }
+    ensures { AreChanged (each_given nets.now given.now) values.old.items values.new.items }
+{
+    for number in 0..nets.len() {
+        values[nets[number]] = given[number].code();
+    }
+}
+
+/// Gives nets values, one after the other, and marks what is sensitive to those that change.
+pub fn take_inputs(
+    schedule: &Schedule,
+    changes: &[(usize, Nine)],
+    values: &mut Vec<u8>,
+    woken: &mut Vec<bool>,
+    dirty: &mut Vec<bool>,
+)
+    requires there { All (λ c. c.0 < length values.old.items) changes.now }
+    requires each_reader { length (wakers_of schedule.now.readers) ≡ length values.old.items }
+    requires each_clocked { length (wakers_of schedule.now.clocked) ≡ length values.old.items }
+    requires readers { AreBelow (wakers_of schedule.now.readers) (length dirty.old.items) }
+    requires clocked { AreBelow (wakers_of schedule.now.clocked) (length woken.old.items) }
+    ensures values { AreChanged (changes_of changes.now) values.old.items values.new.items }
+    ensures woken { Marks (wakers_of schedule.now.clocked) (λ _. ⊤) values.old.items values.new.items woken.old.items woken.new.items }
+    ensures dirty { Marks (wakers_of schedule.now.readers) (λ _. ⊤) values.old.items values.new.items dirty.old.items dirty.new.items }
+{
+    for (net, value) in changes {
+        let code = value.code();
+        mark_followers(&schedule.clocked, values, *net, code, woken);
+        mark_followers(&schedule.readers, values, *net, code, dirty);
+        values[*net] = code;
+    }
+}

@@ -1,0 +1,36 @@
+//! Marks of those that are to run.
+
+ghost use Rattle.std.specs.Prelude.{◌≡◌, ◌<◌, length, slice_set, All};
+ghost use Rattle.rtl_kernel.specs.wakes.Woken.{Adds, wakers_of};
+ghost use Rattle.rtl_synchronous.specs.Marks.{AreBelow, Marks};
+
+use rtl_layout::Groups;
+
+/// Marks these numbers.
+fn mark(marks: &mut Vec<bool>, numbers: &[usize])
+    requires there { All (λ k. k < length marks.old.items) numbers.now }
+    ensures as_many { length marks.new.items ≡ length marks.old.items }
+    ensures marks { Adds numbers.now marks.old.items marks.new.items }
+{
+    for number in numbers {
+        marks[*number] = true;
+    }
+}
+
+/// Marks what is sensitive to a net, if the net is to get another value than it has.
+pub fn mark_followers(
+    groups: &Groups,
+    values: &[u8],
+    net: usize,
+    value: u8,
+    marks: &mut Vec<bool>,
+)
+    requires there { net < length values.now }
+    requires each_net { length (wakers_of groups.now) ≡ length values.now }
+    requires below { AreBelow (wakers_of groups.now) (length marks.old.items) }
+    ensures { Marks (wakers_of groups.now) (λ n. n ≡ net) values.now (slice_set values.now net value) marks.old.items marks.new.items }
+{
+    if values[net] != value {
+        mark(marks, groups.listed(groups.of_net()[net]));
+    }
+}

@@ -1,0 +1,80 @@
+//! Who is run when.
+
+ghost use Rattle.std.specs.Prelude.{◌≡◌, ℕ, ◌<◌, All, length, map, IfOk};
+ghost use Rattle.rtl_model.specs.simulation.Accepted.{IsAccepted};
+ghost use Rattle.rtl_model.specs.simulation.Levels.{AreLevels};
+ghost use Rattle.rtl_kernel.specs.wakes.Woken.{wakers_of};
+ghost use Rattle.rtl_synchronous.specs.Kept.{core};
+ghost use Rattle.rtl_synchronous.specs.Scheduled.{IsSchedule, clocked_wakes, wakes_by_rank};
+
+use crate::order::order_of;
+use rtl_layout::{Groups, Lists};
+use rtl_net::Net;
+use std::alloc::{AllocError, Global};
+
+/// The combinational processes in the order in which they are run, the ranks of those that are sensitive to each net, and the
+/// clocked processes that are.
+#[derive(Drop)]
+pub struct Schedule {
+    pub order: Vec<usize>,
+    pub readers: Groups,
+    pub clocked: Groups,
+}
+
+impl Schedule {
+    /// The schedule of an accepted net, whose processes have these levels.
+    pub fn new(alloc: Global, net: &Net, levels: &[Option<u32>]) -> Result<Schedule, AllocError>
+        requires accepted { IsAccepted (core net.now) }
+        requires levels { (greatest : ℕ) × AreLevels (core net.now) levels.now greatest }
+        ensures schedule { IfOk result (λ s. IsSchedule (core net.now) s.order.items (wakers_of s.readers) (wakers_of s.clocked)) }
+        ensures each_reader { IfOk result (λ s. length (wakers_of s.readers) ≡ length net.now.types) }
+        ensures each_clocked { IfOk result (λ s. length (wakers_of s.clocked) ≡ length net.now.types) }
+    {
+        let order = order_of(alloc, levels)?;
+        let together = vec![in alloc; 0; net.nets()]?;
+        let by_rank = wakes_of(alloc, net, &order)?;
+        let by_process = wakes_of_clocked(alloc, net, levels)?;
+        let readers = Groups::new(alloc, &together, &by_rank)?;
+        let clocked = Groups::new(alloc, &together, &by_process)?;
+        Ok(Schedule {
+            order,
+            readers,
+            clocked,
+        })
+    }
+}
+
+/// The nets that these processes are sensitive to.
+fn wakes_of(alloc: Global, net: &Net, order: &[usize]) -> Result<Lists<usize>, AllocError>
+    requires there { All (λ p. p < length net.now.processes) order.now }
+    ensures { IfOk result (λ lists. lists ≡ wakes_by_rank (core net.now) order.now) }
+{
+    let processes = net.processes();
+    let mut lists = Lists::new(alloc)?;
+    for process in order {
+        lists.push(processes[*process].wakes.as_slice())?;
+    }
+    Ok(lists)
+}
+
+/// Of each process the nets that it is sensitive to, where it is clocked.
+fn wakes_of_clocked(
+    alloc: Global,
+    net: &Net,
+    levels: &[Option<u32>],
+) -> Result<Lists<usize>, AllocError>
+    requires accepted { IsAccepted (core net.now) }
+    requires levels { (greatest : ℕ) × AreLevels (core net.now) levels.now greatest }
+    ensures { IfOk result (λ lists. lists ≡ map clocked_wakes (core net.now).processes) }
+{
+    let processes = net.processes();
+    let mut lists = Lists::new(alloc)?;
+    for number in 0..processes.len() {
+        if levels[number].is_none() {
+            lists.push(processes[number].wakes.as_slice())?;
+        } else {
+            lists.push(&[])?;
+        }
+    }
+    Ok(lists)
+}
