@@ -1,19 +1,18 @@
 -- A run of a clocked process gives what its registers have next.
-use Rattle.std.proofs.Common.{◌≡◌, ℕ, ◌<◌, Bool, true, false, List, length, get_or, Option, Some, None, refl, sym, ap, ◌∙◌, arith, ◌⊎◌, inl, inr, ◌==◌}
+use Rattle.std.proofs.Common.{◌≡◌, ℕ, Bool, true, false, List, length, get_or, Option, Some, None, refl, sym, ap, ◌∙◌, ◌⊎◌, inl, inr, ◌==◌}
 use Rattle.std.specs.List.{list_any}
 use Rattle.std.proofs.lemmas.Bool.{cases_Bool, cases_eq}
 use Rattle.rtl_model.specs.basics.Valuations.{AgreeOn, clocked_entry}
 use Rattle.rtl_model.specs.simulation.Net.{Edge, HasPlace, HasReset, IsClockedBy, IsInput, Net, process, Reset, reset_entry, reset_of, resets, target}
-use Rattle.rtl_model.specs.simulation.Cycle.{driven, with_inputs}
+use Rattle.rtl_model.specs.simulation.Cycle.{with_inputs}
 use Rattle.rtl_model.specs.simulation.Accepted.{IsClock}
 use Rattle.rtl_model.specs.simulation.Races.{IsRace}
 use Rattle.rtl_model.specs.simulation.Machine.{entry_or, register_entry, register_next, Solves}
 use Rattle.rtl_model.proofs.simulation.Faultless.{faultless}
 use Rattle.rtl_model.proofs.simulation.Leveled.{Leveled, leveled}
-use Rattle.rtl_model.proofs.simulation.Rows.{driven_at}
 use Rattle.rtl_model.proofs.simulation.Held.{entry_none, entry_of_reset, reset_now}
 use Rattle.rtl_model.proofs.simulation.Starting.{inputs_at, others_at}
-use Rattle.rtl_synchronous.specs.Running.{IsRow, KeepsResets}
+use Rattle.rtl_synchronous.specs.Running.{KeepsResets}
 use Rattle.rtl_synchronous.specs.Laws.{EachEdgeIsTaken, EachResetIsKept}
 
 -- the branch counts only at the edge
@@ -65,7 +64,7 @@ module _ (net : Net) (L : Leveled net) where
     branch_at : (place : ℕ) → has_edge ≡ true → get_or ((process net p).acting_effect now) place None ≡ get_or ((process net p).acting_effect v) place None
     branch_at place e = ap (λ (row : List (Option ℕ)). get_or row place None) (L.elaborated.bodies.branch_reads p clock edge now v is (agree e))
 
-    pub entry_is : (before : List ℕ) (place : ℕ) → get_or before clock 0 ≡ get_or v clock 0
+    entry_is : (before : List ℕ) (place : ℕ) → get_or before clock 0 ≡ get_or v clock 0
         → get_or ((process net p).effect before now) place None ≡ register_entry net p place clock edge v inputs
     entry_is before place same =
         L.elaborated.bodies.clocked_acts p clock place edge before now is
@@ -81,14 +80,9 @@ module _ (net : Net) (L : Leveled net) where
             ap (λ (x : ℕ). net.edge edge x (get_or now clock 0)) same
             ∙ ap (λ (x : ℕ). net.edge edge (get_or v clock 0) x) (inputs_at net L.elaborated inputs v clock (L.faultless.clock_is_input p clock edge is))
 
-    pub taken : (before row : List ℕ) (place : ℕ) → get_or before clock 0 ≡ get_or v clock 0 → IsRow net p v row → HasPlace net p place
-        → get_or (driven ((process net p).effect before now) row) place 0 ≡ register_next net p place clock edge v inputs
-    taken before row place same r h =
-        let e = r.each_driver in
-        let l : place < length row = omega arith in
-        driven_at ((process net p).effect before now) row place l
-        ∙ ap (λ (o : Option ℕ). entry_or o (get_or row place 0)) (entry_is before place same)
-        ∙ ap (entry_or (register_entry net p place clock edge v inputs)) (r.at_places place h)
+    pub taken : (before : List ℕ) (place : ℕ) → get_or before clock 0 ≡ get_or v clock 0
+        → entry_or (get_or ((process net p).effect before now) place None) (old place) ≡ register_next net p place clock edge v inputs
+    taken before place same = ap (λ (o : Option ℕ). entry_or o (old place)) (entry_is before place same)
 
     pub left : KeepsResets net v → (place : ℕ) → HasPlace net p place → has_edge ≡ false
         → ((reset : Reset) → HasReset net p reset → get_or v reset.net 0 ≡ inputs reset.net)

@@ -8,7 +8,8 @@ pub mod Taking
 pub mod Sweeping
 pub mod Together
 pub mod Resting
-pub mod Inputs
+pub mod Changed
 pub mod Stepping
 pub mod Rooms
+pub mod Wired
 pub mod Ordering

@@ -30,6 +30,13 @@ module _ (net : Net) (L : Leveled net) where
       let e = Contains-one (Driver q place) (Driver p at) (subst (λ (xs : List Source). Contains xs (Driver p at)) (sole net L q place h) c) in
       cc
 
+  -- and one place of it
+  pub one_place : (p at place : ℕ) → HasPlace net p at → HasPlace net p place → target net p at ≡ target net p place → at ≡ place
+  one_place p at place has h t =
+      let c = subst (λ (n : ℕ). Contains (sources_of net n) (Driver p at)) t (L.elaborated.wiring.drivers_are_sources p at has) in
+      let e = Contains-one (Driver p place) (Driver p at) (subst (λ (xs : List Source). Contains xs (Driver p at)) (sole net L p place h) c) in
+      cc
+
   module _ (p : ℕ) (c : IsCombinational net p) (v w : List ℕ) (W : IsWritten net p v w) where
     -- else it feeds itself
     reads_no_target : (n : ℕ) → Contains (process net p).reads n → (place : ℕ) → HasPlace net p place → target net p place ≡ n → ⊥

@@ -1,12 +1,11 @@
 -- A run of a clocked process gives what its registers start with.
-use Rattle.std.proofs.Common.{◌≡◌, ℕ, ◌<◌, Bool, true, false, length, get_or, Option, None, refl, ap, ◌∙◌, arith}
+use Rattle.std.proofs.Common.{◌≡◌, ℕ, Bool, true, false, get_or, Option, None, refl, ap, ◌∙◌}
 use Rattle.rtl_model.specs.basics.Valuations.{clocked_entry}
-use Rattle.rtl_model.specs.simulation.Net.{process, reset_entry, reset_of, resets}
+use Rattle.rtl_model.specs.simulation.Net.{reset_entry, reset_of, target}
 use Rattle.rtl_model.specs.simulation.Cycle.{with_inputs}
 use Rattle.rtl_model.specs.simulation.Machine.{entry_or}
 use Rattle.rtl_model.proofs.simulation.Faultless.{faultless}
 use Rattle.rtl_model.proofs.simulation.Leveled.{leveled}
-use Rattle.rtl_model.proofs.simulation.Rows.{driven_at}
 use Rattle.rtl_model.proofs.simulation.Held.{no_edge_same, reset_now}
 use Rattle.rtl_model.proofs.simulation.Starting.{inputs_at}
 use Rattle.rtl_synchronous.specs.Laws.{EachStartIsTaken}
@@ -16,14 +15,10 @@ no_branch true edge a b e = refl
 no_branch false edge a b e = rw e refl
 
 pub each_start_is_taken : EachStartIsTaken
-each_start_is_taken net E A inputs p clock place edge before row is h r same =
+each_start_is_taken net E A inputs p clock place edge before is same =
     let L = leveled net E (faultless net A) in
     let now = with_inputs net inputs net.start in
-    let e = r.each_driver in
-    let l : place < length row = omega arith in
-    driven_at ((process net p).effect before now) row place l
-    ∙ ap (λ (o : Option ℕ). entry_or o (get_or row place 0))
+    ap (λ (o : Option ℕ). entry_or o (get_or net.start (target net p place) 0))
     (E.bodies.clocked_acts p clock place edge before now is
     ∙ no_branch _ _ (reset_entry (reset_of net p) place) _ (no_edge_same net L before now clock edge same)
     ∙ ap (λ (x : Bool). clocked_entry x false (reset_entry (reset_of net p) place) None) (reset_now net L p (λ n. get_or now n 0) inputs (λ n i. inputs_at net E inputs net.start n i)))
-    ∙ ap (entry_or (clocked_entry (resets (reset_of net p) inputs) false (reset_entry (reset_of net p) place) None)) (r.at_places place h)

@@ -1,10 +1,11 @@
 -- Values that come to rest are the machine's next.
-use Rattle.std.proofs.Common.{◌≡◌, ℕ, ◌<◌, Bool, true, false, List, [], length, get_or, map, Option, Some, None, refl, sym, ap, subst, ◌∙◌, ◌⊎◌, inl, inr, Contains}
+use Rattle.std.proofs.Common.{◌≡◌, ℕ, ◌<◌, Bool, true, false, List, [], length, get_or, map, Option, Some, None, refl, sym, ap, subst, ◌∙◌, arith, ◌⊎◌, inl, inr, Contains}
+use Rattle.std.specs.Prelude.{⊤}
 use Rattle.std.proofs.lemmas.Bool.{cases_Bool, cases_eq}
 use Rattle.std.proofs.lemmas.List.{length-map}
 use Rattle.rtl_model.proofs.basics.Lists.{get_or-map_within}
 use Rattle.rtl_model.specs.simulation.Net.{Net, Clocked, Edge, Kind, Process, Reset, process, no_process, target, HasPlace, HasReset, IsCombinational, IsClockedBy, IsInput}
-use Rattle.rtl_model.specs.simulation.Cycle.{driven, with_inputs}
+use Rattle.rtl_model.specs.simulation.Cycle.{with_inputs}
 use Rattle.rtl_model.specs.simulation.Elaborated.{IsElaborated}
 use Rattle.rtl_model.specs.simulation.Accepted.{IsAccepted}
 use Rattle.rtl_model.specs.simulation.Levels.{is_clocked}
@@ -14,7 +15,6 @@ use Rattle.rtl_model.proofs.simulation.Faultless.{faultless}
 use Rattle.rtl_model.proofs.simulation.Held.{input_not_driven}
 use Rattle.rtl_model.proofs.simulation.Leveled.{Leveled, leveled}
 use Rattle.rtl_model.proofs.simulation.Levels.{place_in_range}
-use Rattle.rtl_model.proofs.simulation.Rows.{driven_at}
 use Rattle.rtl_model.proofs.simulation.Solution.{length-table}
 use Rattle.rtl_model.proofs.simulation.Starting.{inputs_at, others_at, target_no_input}
 use Rattle.rtl_synchronous.specs.Kept.{IsAtRest}
@@ -71,7 +71,7 @@ module _ (net : Net) (E : IsElaborated net) (A : IsAccepted net) where
         let k : is_clocked (process net p).kind ≡ false = ap is_clocked is in
         let row : get_or (map clocked_wakes net.processes) p [] ≡ [] = get_or-map_within clocked_wakes net.processes p no_process [] l ∙ rw k refl in
         let (j, within, e) = subst (λ (xs : List ℕ). Contains xs n) row (S.clocked_are.no_other n p f) in
-        absurd (omega within)
+        absurd (omega (arith, within))
 
     module _ (before v : List ℕ) (R : IsAtRest net before v) (inputs : ℕ → ℕ) (no_race : IsRace net (λ n. get_or v n 0) inputs → ⊥)
         (now w : List ℕ) (now_is : now ≡ with_inputs net inputs v) (idle woken : List Bool) (M : Marks clocked (λ n. ⊤) v now idle woken) (C : ComesToRest net woken before now w) where
@@ -107,8 +107,7 @@ module _ (net : Net) (E : IsElaborated net) (A : IsAccepted net) where
               C.on_marked p place m h
               ∙ ap (entry_or (get_or ((process net p).effect before now) place None)) stood
               ∙ ap (λ (u : List ℕ). entry_or (get_or ((process net p).effect before u) place None) (get_or v (target net p place) 0)) now_is
-              ∙ ap (λ (o : Option ℕ). entry_or o (get_or v (target net p place) 0))
-              (edges.entry_is net L v each_net inputs no_race p clock edge is before place (R.no_event clock (L.faultless.clock_is_input p clock edge is)))
+              ∙ edges.taken net L v each_net inputs no_race p clock edge is before place (R.no_event clock (L.faultless.clock_is_input p clock edge is))
           by (inr none) =
               let same = unchanged p clock clock edge is l none (L.faultless.clock_is_input p clock edge is) (L.faultless.clock_wakes p clock edge is) in
               let still : net.edge edge (get_or v clock 0) (inputs clock) ≡ false = ap (λ (x : ℕ). net.edge edge (get_or v clock 0) x) (sym same) ∙ E.values.edges_differ edge (get_or v clock 0) in
@@ -133,23 +132,14 @@ module _ (net : Net) (E : IsElaborated net) (A : IsAccepted net) where
 
   module _ (inputs : ℕ → ℕ) (woken : List Bool) (all_woken : (p clock : ℕ) (edge : Edge) → IsClockedBy net p clock edge → get_or woken p false ≡ true)
       (now w : List ℕ) (now_is : now ≡ with_inputs net inputs net.start) (C : ComesToRest net woken now now w) where
-    row : ℕ → List ℕ
-    row p = map (λ (n : ℕ). get_or net.start n 0) (process net p).drives
-
     first_next : (p place clock : ℕ) (edge : Edge) → IsClockedBy net p clock edge → HasPlace net p place → get_or w (target net p place) 0 ≡ register_first net p place inputs
     first_next p place clock edge is h =
         let t = target net p place in
-        let effect = (process net p).effect now (with_inputs net inputs net.start) in
-        let within : place < length (row p) = rw length-map h in
-        let at : get_or (row p) place 0 ≡ get_or net.start t 0 = get_or-map_within (λ (n : ℕ). get_or net.start n 0) (process net p).drives place 0 0 h in
         let stood : get_or now t 0 ≡ get_or net.start t 0 = ap (λ (u : List ℕ). get_or u t 0) now_is ∙ others_at net inputs net.start t refl (target_no_input net L p place h) in
         C.on_marked p place (all_woken p clock edge is) h
         ∙ ap (λ (u : List ℕ). entry_or (get_or ((process net p).effect now u) place None) (get_or now t 0)) now_is
-        ∙ ap (entry_or (get_or effect place None)) (stood ∙ sym at)
-        ∙ sym (driven_at effect (row p) place within)
-        ∙ each_start_is_taken net E A inputs p clock place edge now (row p) is h
-        (record { each_driver = length-map (process net p).drives _; at_places = λ q l. get_or-map_within (λ (n : ℕ). get_or net.start n 0) (process net p).drives q 0 0 l })
-        (ap (λ (u : List ℕ). get_or u clock 0) now_is)
+        ∙ ap (entry_or (get_or ((process net p).effect now (with_inputs net inputs net.start)) place None)) stood
+        ∙ each_start_is_taken net E A inputs p clock place edge now is (ap (λ (u : List ℕ). get_or u clock 0) now_is)
 
     pub is_first : IsFirst net inputs w
     is_first = record {

@@ -4,7 +4,7 @@ use Rattle.std.proofs.lemmas.Bool.{cases_lt}
 use Rattle.std.proofs.lemmas.List.{get_or-set_same, get_or-set_other, length-set}
 use Rattle.rtl_model.specs.simulation.Machine.{entry_or}
 use Rattle.rtl_kernel.specs.wakes.Woken.{AreDifferent}
-use Rattle.rtl_synchronous.specs.Steps.{TakesOver}
+use Rattle.rtl_synchronous.specs.Running.{TakesOver}
 
 -- the places before the i-th are taken over
 pub record IsTaking (targets : List ℕ) (entries : List (Option ℕ)) (i : ℕ) (v w : List ℕ) : Type 0 where

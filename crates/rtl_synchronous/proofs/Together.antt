@@ -9,7 +9,8 @@ use Rattle.rtl_model.specs.simulation.Machine.{entry_or}
 use Rattle.rtl_model.specs.simulation.Range.{IsValuation, limit}
 use Rattle.rtl_model.proofs.simulation.Leveled.{Leveled}
 use Rattle.rtl_model.proofs.simulation.Range.{entry_or_below}
-use Rattle.rtl_synchronous.specs.Steps.{AllTakeOver, TakesOver}
+use Rattle.rtl_synchronous.specs.Running.{TakesOver}
+use Rattle.rtl_synchronous.specs.Steps.{AllTakeOver}
 use Rattle.rtl_synchronous.proofs.Settling.{one_process}
 
 -- of the marked processes those before the i-th are done
@@ -47,8 +48,8 @@ module _ (net : Net) (L : Leveled net) (marked : List Bool) (entries : ℕ → L
         other p q at place has h ne t = ne (one_process net L p q at place has h t)
 
         here : (p place : ℕ) → p ≡ i → HasPlace net p place → get_or w' (target net p place) 0 ≡ entry_or (get_or (entries p) place None) (get_or v (target net p place) 0)
-        here p place e = rw e (λ (h : HasPlace net i place). O.on_targets place h
-        ∙ ap (entry_or (get_or (entries i) place None)) (T.others (target net i place) (λ q at l m has t. other q i at place has h (omega arith) t)))
+        here p place e = rw e (λ (h : HasPlace net i place).
+            O.on_targets place h ∙ ap (entry_or (get_or (entries i) place None)) (T.others (target net i place) (λ q at l m has t. other q i at place has h (omega arith) t)))
 
         taken : (p place : ℕ) → p < i + 1 → get_or marked p false ≡ true → HasPlace net p place → (p < i) ⊎ (i ≤ p)
             → get_or w' (target net p place) 0 ≡ entry_or (get_or (entries p) place None) (get_or v (target net p place) 0)

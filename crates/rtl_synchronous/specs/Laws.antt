@@ -1,14 +1,14 @@
 -- The laws of running processes one by one, each once a moment.
 use Rattle.std.specs.Prelude.{◌≡◌, ℕ, suc, ◌<◌, false, List, Option, Some, None, slice_index, slice_index_or, Contains}
 use Rattle.rtl_model.specs.basics.Valuations.{AgreeOn}
-use Rattle.rtl_model.specs.simulation.Net.{Net, Edge, Reset, process, target, HasPlace, HasReset, IsCombinational, IsClockedBy}
-use Rattle.rtl_model.specs.simulation.Cycle.{driven, with_inputs}
+use Rattle.rtl_model.specs.simulation.Net.{Net, Edge, Reset, process, target, HasPlace, HasReset, IsCombinational, IsClockedBy, IsInput}
+use Rattle.rtl_model.specs.simulation.Cycle.{with_inputs}
 use Rattle.rtl_model.specs.simulation.Elaborated.{IsElaborated}
 use Rattle.rtl_model.specs.simulation.Accepted.{IsAccepted}
 use Rattle.rtl_model.specs.simulation.Levels.{AreLevels}
 use Rattle.rtl_model.specs.simulation.Races.{IsRace}
-use Rattle.rtl_model.specs.simulation.Machine.{Solves, IsFirst, IsStep, IsMachineRun, register_first, register_next}
-use Rattle.rtl_synchronous.specs.Running.{IsSettled, IsWritten, IsRow, KeepsResets}
+use Rattle.rtl_model.specs.simulation.Machine.{Solves, IsFirst, IsStep, IsMachineRun, entry_or, register_first, register_next}
+use Rattle.rtl_synchronous.specs.Running.{IsSettled, IsWritten, KeepsResets}
 
 -- ---- combinational processes
 
@@ -36,20 +36,21 @@ EachRunSettles =
 
 -- ---- clocked processes
 
--- Before the first moment there is no edge: a run of the clocked process p over the row of its nets' starting values gives
--- what its registers start with.
+-- Before the first moment there is no edge: what a run of the clocked process p leaves gives what its registers start with.
 abbrev pub EachStartIsTaken : Type 0
 EachStartIsTaken =
-    (net : Net) → IsElaborated net → IsAccepted net → (inputs : ℕ → ℕ) (p clock place : ℕ) (edge : Edge) (before row : List ℕ)
-    → IsClockedBy net p clock edge → HasPlace net p place → IsRow net p net.start row
-    → slice_index before clock ≡ slice_index (with_inputs net inputs net.start) clock
-    → slice_index (driven ((process net p).effect before (with_inputs net inputs net.start)) row) place ≡ register_first net p place inputs
+    (net : Net) → IsElaborated net → IsAccepted net → (inputs : ℕ → ℕ) (p clock place : ℕ) (edge : Edge) (before : List ℕ)
+    → IsClockedBy net p clock edge → slice_index before clock ≡ slice_index (with_inputs net inputs net.start) clock
+    → entry_or (slice_index_or ((process net p).effect before (with_inputs net inputs net.start)) place None) (slice_index net.start (target net p place))
+    ≡ register_first net p place inputs
 
 -- What the clocked process p does from the valuation v with new inputs.
 pub record EdgeIsTaken (net : Net) (v : List ℕ) (inputs : ℕ → ℕ) (p clock : ℕ) (edge : Edge) : Type 0 where
-  -- whatever the other nets had before, a run of p over the row of v's values gives what its registers have next;
-  pub taken : (before row : List ℕ) (place : ℕ) → slice_index before clock ≡ slice_index v clock → IsRow net p v row → HasPlace net p place
-      → slice_index (driven ((process net p).effect before (with_inputs net inputs v)) row) place ≡ register_next net p place clock edge v inputs
+  -- Whatever the other nets had before, a run of p leaves what its registers have next. It reads the new inputs, and so does
+  -- what is done in v itself: without a race no data input changes at an edge, and no branch reads a clock.
+  pub taken : (before : List ℕ) (place : ℕ) → slice_index before clock ≡ slice_index v clock
+      → entry_or (slice_index_or ((process net p).effect before (with_inputs net inputs v)) place None) (slice_index v (target net p place))
+      ≡ register_next net p place clock edge v inputs
   -- where neither its clock has its edge nor its reset's net changes, they have v's values
   pub left : (place : ℕ) → HasPlace net p place → net.edge edge (slice_index v clock) (inputs clock) ≡ false
       → ((reset : Reset) → HasReset net p reset → slice_index v reset.net ≡ inputs reset.net)
@@ -71,10 +72,15 @@ EachResetIsKept = (net : Net) → IsElaborated net → IsAccepted net → (input
 
 -- ---- the run
 
--- What begins as the machine does is its run's first valuation, and what a step gives is the next.
+-- these give each input the same value
+abbrev pub AgreeOnInputs : Net → (given other : ℕ → ℕ) → Type 0
+AgreeOnInputs net given other = (n : ℕ) → IsInput net n → given n ≡ other n
+
+-- What begins as the machine does is its run's first valuation, and what a step gives is the next, by any values that agree with
+-- the stimulus on the inputs.
 pub record GoesOnAlike (net : Net) (stimulus : ℕ → ℕ → ℕ) (run : ℕ → List ℕ) : Type 0 where
-  pub first : (v : List ℕ) → IsFirst net (stimulus 0) v → v ≡ run 0
-  pub step : (m : ℕ) (v : List ℕ) → IsStep net (run m) (stimulus (suc m)) v → v ≡ run (suc m)
+  pub first : (given : ℕ → ℕ) (v : List ℕ) → AgreeOnInputs net given (stimulus 0) → IsFirst net given v → v ≡ run 0
+  pub step : (m : ℕ) (given : ℕ → ℕ) (v : List ℕ) → AgreeOnInputs net given (stimulus (suc m)) → IsStep net (run m) given v → v ≡ run (suc m)
 
 abbrev pub EachMachineGoesOnAlike : Type 0
 EachMachineGoesOnAlike =

@@ -11,8 +11,8 @@ module _ (index : List (List ℕ)) where
   abbrev pub AreBelow : ℕ → Type 0
   AreBelow many = (net number : ℕ) → Follows net number → number < many
 
-  -- From v to w only these nets change; whatever follows one that does is marked, and marks are added for followers of
-  -- these nets alone.
+  -- Whatever follows a net that changes from v to w is marked. What gets marked follows one of these nets, changed or not: a net
+  -- that is set twice may have its old value again.
   pub record Marks (nets : ℕ → Type 0) (v w : List ℕ) (old new : List Bool) : Type 0 where
     pub as_many : length new ≡ length old
     pub kept : (k : ℕ) → IsTrue (slice_index_or old k false) → IsTrue (slice_index_or new k false)

@@ -1,5 +1,5 @@
 -- What the runs of single processes are to a valuation.
-use Rattle.std.specs.Prelude.{◌≡◌, ℕ, List, length, slice_index, slice_index_or, Some, None, IsTrue}
+use Rattle.std.specs.Prelude.{◌≡◌, ℕ, ◌<◌, List, length, slice_index, slice_index_or, Option, Some, None, IsTrue}
 use Rattle.rtl_model.specs.simulation.Net.{Net, Edge, process, target, reset_of, reset_entry, resets, HasPlace, IsClockedBy}
 use Rattle.rtl_model.specs.simulation.Machine.{entry_or}
 
@@ -8,18 +8,17 @@ abbrev pub IsSettled : Net → (v : List ℕ) → (p : ℕ) → Type 0
 IsSettled net v p =
     (place : ℕ) → HasPlace net p place → slice_index_or ((process net p).effect v v) place None ≡ Some (slice_index v (target net p place))
 
--- w is v with p's entries in v at its targets
-pub record IsWritten (net : Net) (p : ℕ) (v w : List ℕ) : Type 0 where
+-- w is v with the entries of a run at the nets of its drivers
+pub record TakesOver (targets : List ℕ) (entries : List (Option ℕ)) (v w : List ℕ) : Type 0 where
   pub each_net : length w ≡ length v
   -- a target has its entry, and without one v's value
-  pub on_targets : (place : ℕ) → HasPlace net p place → slice_index w (target net p place)
-      ≡ entry_or (slice_index_or ((process net p).effect v v) place None) (slice_index v (target net p place))
-  pub on_others : (n : ℕ) → ((place : ℕ) → HasPlace net p place → target net p place ≡ n → ⊥) → slice_index w n ≡ slice_index v n
+  pub on_targets : (place : ℕ) → place < length targets → slice_index w (slice_index targets place)
+      ≡ entry_or (slice_index_or entries place None) (slice_index v (slice_index targets place))
+  pub on_others : (n : ℕ) → ((place : ℕ) → place < length targets → slice_index targets place ≡ n → ⊥) → slice_index w n ≡ slice_index v n
 
--- the row has, of each driver of p, the value of its net in v
-pub record IsRow (net : Net) (p : ℕ) (v row : List ℕ) : Type 0 where
-  pub each_driver : length row ≡ length (process net p).drives
-  pub at_places : (place : ℕ) → HasPlace net p place → slice_index row place ≡ slice_index v (target net p place)
+-- w is v with p's entries in v at its targets
+abbrev pub IsWritten : Net → (p : ℕ) → (v w : List ℕ) → Type 0
+IsWritten net p v w = TakesOver (process net p).drives ((process net p).effect v v) v w
 
 -- where a reset holds in v, each register with an entry of its branch has that entry
 abbrev pub KeepsResets : Net → (v : List ℕ) → Type 0

@@ -1,16 +1,8 @@
 -- What the parts of a moment do to the values of the nets.
-use Rattle.std.specs.Prelude.{◌≡◌, ℕ, ◌<◌, Bool, false, List, length, slice_index, slice_index_or, Option, None, IsTrue}
+use Rattle.std.specs.Prelude.{◌≡◌, ℕ, Bool, false, List, length, slice_index, slice_index_or, Option, None, IsTrue}
 use Rattle.rtl_model.specs.simulation.Net.{Net, process, target, HasPlace, IsCombinational}
 use Rattle.rtl_model.specs.simulation.Machine.{entry_or}
 use Rattle.rtl_synchronous.specs.Running.{IsSettled}
-
--- w is v with the entries of a run at the nets of its drivers
-pub record TakesOver (targets : List ℕ) (entries : List (Option ℕ)) (v w : List ℕ) : Type 0 where
-  pub each_net : length w ≡ length v
-  -- a target has its entry, and without one v's value
-  pub on_targets : (place : ℕ) → place < length targets → slice_index w (slice_index targets place)
-      ≡ entry_or (slice_index_or entries place None) (slice_index v (slice_index targets place))
-  pub on_others : (n : ℕ) → ((place : ℕ) → place < length targets → slice_index targets place ≡ n → ⊥) → slice_index w n ≡ slice_index v n
 
 -- a marked process drives n
 abbrev pub IsDrivenByMarked : Net → List Bool → (n : ℕ) → Type 0
@@ -21,7 +13,7 @@ IsDrivenByMarked net marked n =
 abbrev pub IsCombinationallyDriven : Net → (n : ℕ) → Type 0
 IsCombinationallyDriven net n = (p : ℕ) × (place : ℕ) × IsCombinational net p × HasPlace net p place × (target net p place ≡ n)
 
--- The same of all marked processes, with these entries of each.
+-- The marked processes' entries, taken over together.
 pub record AllTakeOver (net : Net) (marked : List Bool) (entries : ℕ → List (Option ℕ)) (v w : List ℕ) : Type 0 where
   pub each_net : length w ≡ length v
   pub on_targets : (p place : ℕ) → IsTrue (slice_index_or marked p false) → HasPlace net p place
@@ -34,8 +26,8 @@ pub record IsSwept (net : Net) (v w : List ℕ) : Type 0 where
   pub settled : (p : ℕ) → IsCombinational net p → IsSettled net w p
   pub on_others : (n : ℕ) → (IsCombinationallyDriven net n → ⊥) → slice_index w n ≡ slice_index v n
 
--- The marked processes, none of them combinational, have run together from the values before and v, and with what they
--- assigned all combinational ones have settled in w.
+-- The marked processes, which are to be clocked, have run together from the values before and v, and with what they assigned
+-- all combinational ones have settled in w.
 pub record ComesToRest (net : Net) (marked : List Bool) (before v w : List ℕ) : Type 0 where
   pub each_net : length w ≡ length v
   pub on_marked : (p place : ℕ) → IsTrue (slice_index_or marked p false) → HasPlace net p place

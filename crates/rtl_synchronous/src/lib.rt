@@ -6,7 +6,8 @@
 //! `specs/Scheduled.antt`, `Marks.antt`, `Steps.antt` and `Kept.antt` say how its parts go together.
 #![tactic(auto)]
 
-mod edges;
+mod clocked;
+mod initial;
 mod inputs;
 pub mod laws;
 mod machine;
@@ -15,7 +16,6 @@ mod order;
 mod outcomes;
 mod running;
 mod schedule;
-mod starts;
 mod sweep;
 
 pub use machine::Machine;

@@ -18,11 +18,11 @@ ghost use Rattle.rtl_synchronous.specs.Running.{IsSettled};
 ghost use Rattle.rtl_synchronous.specs.Scheduled.{IsSchedule, without_level};
 ghost use Rattle.rtl_synchronous.specs.Steps.{ComesToRest};
 
-use crate::edges::{run_marked, take_marked};
+use crate::clocked::{run_marked, take_marked};
 use crate::inputs::{set_each, set_inputs, take_inputs};
 use crate::outcomes::room_for;
 use crate::schedule::Schedule;
-use crate::starts::starting_codes;
+use crate::initial::starting_codes;
 use crate::sweep::sweep;
 use rtl_eval::{Drives, Exec};
 use rtl_net::Net;
@@ -31,14 +31,15 @@ use std::marker::Model;
 use vhdl_values::Nine;
 
 /// The synchronous machine of an accepted net, at a moment at which it has settled. A step runs the clocked processes that are
-/// sensitive to what changes, on the values before, and then each combinational process of which something that it is
-/// sensitive to changes, once, in order of level. `new` takes all memory, and no other call takes any.
+/// sensitive to what changes, with the new inputs and before anything else changes, and then each combinational process of
+/// which something that it is sensitive to changes, in order of level. `new` takes all memory, and no other call takes any.
 #[derive(Drop)]
 pub struct Machine<'a, E: Exec> {
     net: &'a Net,
     bodies: &'a [E],
     schedule: Schedule,
-    /// The values before the last step: right at the inputs, which is all that an edge looks at.
+    /// At the inputs, the values before the step under way, and between steps those of now: all that an edge looks at. At other
+    /// nets it says nothing.
     before: Vec<u8>,
     values: Vec<u8>,
     runs: Vec<Drives>,
@@ -65,8 +66,8 @@ impl<'a, E: Exec> Model for Machine<'a, E> {
 }
 
 impl<'a, E: Exec> Machine<'a, E> {
-    /// The machine of an accepted net, whose k-th process the k-th body runs and has the k-th level, at its first moment, with
-    /// a value for each of the net's inputs, in their order.
+    /// The machine of an accepted net at its first moment. The k-th body runs the k-th process, and the k-th level is its level;
+    /// there is a value for each of the net's inputs, in their order.
     pub fn new(
         alloc: Global,
         net: &'a Net,
@@ -118,7 +119,7 @@ impl<'a, E: Exec> Machine<'a, E> {
         self.values.as_slice()
     }
 
-    /// The next moment, at which inputs get new values: no data input changes at an active clock edge.
+    /// The next moment, at which inputs get new values. It asks that no data input changes at an active clock edge.
     pub fn step(&mut self, changes: &[(usize, Nine)])
         requires inputs { All (λ c. Contains self.old.net.inputs c.0) changes.now }
         requires raceless { IsRace (core self.old.net) (slice_index self.old.values) (changed (changes_of changes.now) self.old.values) → ⊥ }

@@ -4,7 +4,7 @@ ghost use Rattle.std.specs.Prelude.{◌≡◌, ◌<◌, length, IfOk};
 ghost use Rattle.rtl_kernel.specs.kernel.Kept.{HaveRoom, RunBodies};
 ghost use Rattle.rtl_net.specs.Nets.{flat};
 
-use crate::starts::variable_starts;
+use crate::initial::variable_starts;
 use rtl_eval::{Drives, Exec};
 use rtl_net::Net;
 use std::alloc::{AllocError, Global};

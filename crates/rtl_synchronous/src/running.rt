@@ -7,8 +7,7 @@ ghost use Rattle.rtl_kernel.specs.drivers.Transactions.{HasRunOf, nets_of};
 ghost use Rattle.rtl_kernel.specs.wakes.Woken.{AreDifferent, wakers_of};
 ghost use Rattle.rtl_synchronous.specs.Kept.{MayRun, core};
 ghost use Rattle.rtl_synchronous.specs.Marks.{AreBelow, Marks};
-ghost use Rattle.rtl_synchronous.specs.Running.{IsWritten};
-ghost use Rattle.rtl_synchronous.specs.Steps.{TakesOver};
+ghost use Rattle.rtl_synchronous.specs.Running.{IsWritten, TakesOver};
 
 use crate::marks::mark_followers;
 use rtl_eval::{Drives, Exec};
@@ -19,19 +18,19 @@ use rtl_net::{Driver, Net};
 pub fn run<E: Exec>(
     net: &Net,
     bodies: &[E],
-    process: usize,
+    number: usize,
     before: &[u8],
     values: &[u8],
     runs: &mut Vec<Drives>,
 )
     requires may { MayRun E.process E.types E.most net.now bodies.now runs.old.items }
-    requires there { process < length net.now.processes }
+    requires there { number < length net.now.processes }
     requires before { IsValuation (core net.now) before.now }
     requires values { IsValuation (core net.now) values.now }
     ensures may { MayRun E.process E.types E.most net.now bodies.now runs.new.items }
-    ensures ran { HasRunOf ((process (core net.now) process.now).effect before.now values.now) process.now runs.old.items runs.new.items }
+    ensures ran { HasRunOf ((process (core net.now) number).effect before.now values.now) number runs.old.items runs.new.items }
 {
-    bodies[process].run(values, before, &mut runs[process]);
+    bodies[number].run(values, before, &mut runs[number]);
 }
 
 /// Gives the nets of a process's drivers the entries that a run has left, and marks what is sensitive to those that change.
@@ -64,27 +63,23 @@ pub fn settle<E: Exec>(
     net: &Net,
     bodies: &[E],
     groups: &Groups,
-    process: usize,
+    number: usize,
     runs: &mut Vec<Drives>,
     values: &mut Vec<u8>,
     marks: &mut Vec<bool>,
 )
     requires may { MayRun E.process E.types E.most net.now bodies.now runs.old.items }
-    requires combinational { IsCombinational (core net.now) process }
+    requires combinational { IsCombinational (core net.now) number }
     requires in_range { IsValuation (core net.now) values.old.items }
     requires each_net { length (wakers_of groups.now) ≡ length values.old.items }
     requires below { AreBelow (wakers_of groups.now) (length marks.old.items) }
     ensures may { MayRun E.process E.types E.most net.now bodies.now runs.new.items }
     ensures in_range { IsValuation (core net.now) values.new.items }
-    ensures written { IsWritten (core net.now) process values.old.items values.new.items }
-    ensures marks { Marks (wakers_of groups.now) (Contains (process (core net.now) process).drives) values.old.items values.new.items marks.old.items marks.new.items }
+    ensures written { IsWritten (core net.now) number values.old.items values.new.items }
+    ensures marks { Marks (wakers_of groups.now) (Contains (process (core net.now) number).drives) values.old.items values.new.items marks.old.items marks.new.items }
 {
-    run(net, bodies, process, values, values, runs);
-    take_over(
-        &net.processes()[process].drives,
-        &runs[process],
-        groups,
-        values,
-        marks,
-    );
+    run(net, bodies, number, values, values, runs);
+    let processes = net.processes();
+    let drives = &processes[number].drives;
+    take_over(drives, &runs[number], groups, values, marks);
 }

@@ -1,4 +1,5 @@
-use Rattle.std.proofs.Common.{◌≡◌, ℕ, ⊤, drop, length}
+use Rattle.std.proofs.Common.{◌≡◌, ℕ, drop, length}
+use Rattle.std.specs.Prelude.{⊤}
 use Rattle.rtl_model.specs.simulation.Cycle.{changed}
 use Rattle.rtl_kernel.specs.kernel.Simulation.{changes_of}
 use Rattle.rtl_kernel.specs.wakes.Woken.{wakers_of}

@@ -1,11 +1,12 @@
-use Rattle.std.proofs.Common.{◌≡◌, ℕ, ◌<◌, ◌≤◌, ⊤, false, get_or, length}
+use Rattle.std.proofs.Common.{◌≡◌, ℕ, ◌<◌, ◌≤◌, false, get_or, length}
+use Rattle.std.specs.Prelude.{⊤}
 use Rattle.rtl_model.specs.simulation.Range.{IsValuation}
 use Rattle.rtl_kernel.specs.drivers.Transactions.{no_outcome}
 use Rattle.rtl_kernel.specs.wakes.Woken.{wakers_of}
 use Rattle.rtl_synchronous.specs.Kept.{core}
 use Rattle.rtl_synchronous.specs.Marks.{Marks}
 use Rattle.rtl_synchronous.proofs.Together.{AreTaking}
-use Rattle.rtl_synchronous.proofs.edges.take_marked.Given as goal
+use Rattle.rtl_synchronous.proofs.clocked.take_marked.Given as goal
 
 abbrev pub invariant-loop-process : goal.invariant-loop-process
 invariant-loop-process l = record {

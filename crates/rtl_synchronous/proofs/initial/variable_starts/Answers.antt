@@ -4,7 +4,7 @@ use Rattle.rtl_model.proofs.basics.Lists.{get_or-map_within}
 use Rattle.rtl_model.specs.nets.FlatNet.{FlatVariable, element_starts}
 use Rattle.rtl_net.specs.Nets.{variable_view}
 use Rattle.rtl_kernel.proofs.Started.{element_starts-push}
-use Rattle.rtl_synchronous.proofs.starts.variable_starts.Goals as goal
+use Rattle.rtl_synchronous.proofs.initial.variable_starts.Goals as goal
 
 pub loop-variable-preserved : goal.loop-variable-preserved
 loop-variable-preserved c =

@@ -2,7 +2,7 @@ use Rattle.std.proofs.Common.{◌≡◌, ℕ, ◌<◌, true, false, get_or}
 use Rattle.rtl_model.specs.simulation.Net.{process}
 use Rattle.rtl_kernel.specs.drivers.Transactions.{no_outcome}
 use Rattle.rtl_synchronous.specs.Kept.{MayRun, core}
-use Rattle.rtl_synchronous.proofs.edges.run_marked.Given as goal
+use Rattle.rtl_synchronous.proofs.clocked.run_marked.Given as goal
 
 abbrev pub invariant-loop-process : goal.invariant-loop-process
 invariant-loop-process g l = record {

@@ -67,16 +67,12 @@ pub fn take_marked(
     ensures each_process { length marked.new.items ≡ length marked.old.items }
     ensures none_marked { HasNoMark marked.new.items }
 {
+    let processes = net.processes();
     for process in 0..marked.len() {
         if marked[process] {
             marked[process] = false;
-            take_over(
-                &net.processes()[process].drives,
-                &runs[process],
-                groups,
-                values,
-                dirty,
-            );
+            let drives = &processes[process].drives;
+            take_over(drives, &runs[process], groups, values, dirty);
         }
     }
 }

@@ -1,0 +1,75 @@
+-- What the machine takes from its net.
+use Rattle.std.proofs.Common.{◌≡◌, ℕ, ◌<◌, List, [], length, get_or, map, sym, ap, subst, ◌∙◌, All}
+use Rattle.std.proofs.lemmas.List.{get_or_default, length-map}
+use Rattle.rtl_model.specs.bodies.Types.{ElementType}
+use Rattle.rtl_model.specs.nets.CoreNet.{core_process}
+use Rattle.rtl_model.specs.nets.FlatNet.{FlatProcess, element_starts, no_flat_process, process_at}
+use Rattle.rtl_model.specs.simulation.Net as m
+use Rattle.rtl_model.specs.simulation.Net.{process, IsCombinational}
+use Rattle.rtl_model.specs.simulation.Elaborated.{IsElaborated}
+use Rattle.rtl_model.proofs.basics.Lists.{get_or-map_within}
+use Rattle.rtl_model.proofs.nets.Processes.{process-core_net}
+use Rattle.rtl_model.proofs.nets.Connected.{connected_is_elaborated}
+use Rattle.rtl_model.proofs.simulation.Faultless.{faultless}
+use Rattle.rtl_model.proofs.simulation.Leveled.{Leveled, leveled}
+use Rattle.rtl_eval.specs.Runs.{Outcome}
+use Rattle.rtl_kernel.specs.drivers.Transactions.{nets_of}
+use Rattle.rtl_kernel.specs.wakes.Woken.{AreDifferent}
+use Rattle.rtl_kernel.proofs.Wiring.{targets_are}
+use Rattle.rtl_net.specs.Nets.{NetView, flat, process_view, variable_view}
+use Rattle.rtl_net.specs.declared.process.Process.{Process}
+use Rattle.rtl_synchronous.specs.Kept.{MayRun, core}
+use Rattle.rtl_synchronous.proofs.Settling.{one_place}
+
+module _ (net : NetView) where
+  pub processes_many : length (core net).processes ≡ length net.processes
+  processes_many = length-map (flat net).processes (core_process net.inputs) ∙ length-map net.processes process_view
+
+  module _ (p : ℕ) (q : Process) (there : p < length net.processes) (is : q ≡ get_or net.processes p q) where
+    pub drives_are : nets_of q.drives.items ≡ (process (core net) p).drives
+    drives_are =
+        ap (λ (x : Process). nets_of x.drives.items) is
+        ∙ sym (get_or-map_within (λ (x : Process). nets_of x.drives.items) net.processes p q [] there)
+        ∙ targets_are net p
+
+    pub drivers_many : length q.drives.items ≡ length (process_at (flat net) p).drivers
+    drivers_many =
+        sym (length-map q.drives.items _) ∙ ap (λ (x : Process). length (process_view x).drivers) is
+        ∙ sym (ap (λ (x : FlatProcess). length x.drivers) (get_or-map_within process_view net.processes p q no_flat_process there))
+
+    pub starts_are : element_starts (map variable_view q.variables.items) ≡ element_starts (process_at (flat net) p).variables
+    starts_are =
+        ap (λ (x : Process). element_starts (process_view x).variables) is
+        ∙ sym (ap (λ (x : FlatProcess). element_starts x.variables) (get_or-map_within process_view net.processes p q no_flat_process there))
+
+    pub wakes_are : q.wakes.items ≡ (process (core net) p).wakes
+    wakes_are =
+        ap (λ (x : Process). x.wakes.items) is
+        ∙ sym (ap (λ (x : FlatProcess). x.wakes) (get_or-map_within process_view net.processes p q no_flat_process there))
+        ∙ sym (ap (λ (x : m.Process). x.wakes) (process-core_net (flat net) p))
+
+module _ {E : Type 0} (process_of : E → FlatProcess) (types : E → List ElementType) (most : E → ℕ) (net : NetView) (bodies : List E) (runs : List Outcome)
+    (M : MayRun process_of types most net bodies runs) where
+  pub elaborated : IsElaborated (core net)
+  elaborated = connected_is_elaborated (flat net) M.in_range M.connected
+
+  pub is_leveled : Leveled (core net)
+  is_leveled = leveled (core net) elaborated (faultless (core net) M.accepted)
+
+  pub combinational_there : (p : ℕ) → IsCombinational (core net) p → p < length net.processes
+  combinational_there p c = rw (← processes_many net) c.0
+
+  pub runs_many : length runs ≡ length net.processes
+  runs_many = M.room.as_many ∙ length-map net.processes process_view
+
+  pub bodies_many : length bodies ≡ length net.processes
+  bodies_many = M.run_bodies.as_many ∙ length-map net.processes process_view
+
+module _ (net : NetView) (L : Leveled (core net)) (p : ℕ) (q : Process) (there : p < length net.processes) (is : q ≡ get_or net.processes p q) where
+  pub targets_differ : AreDifferent (nets_of q.drives.items)
+  targets_differ = subst AreDifferent (sym (drives_are net p q there is)) (λ j k l m e. one_place (core net) L p j k l m e)
+
+  pub targets_there : (values : List ℕ) → length values ≡ length (core net).start → All (λ n. n < length values) (nets_of q.drives.items)
+  targets_there values many =
+      subst (λ (ns : List ℕ). All (λ n. n < length values) ns) (sym (drives_are net p q there is))
+      (λ k d l. rw many (subst (λ (n : ℕ). n < length (core net).start) (get_or_default (process (core net) p).drives k 0 d l) (L.elaborated.wiring.targets_are_nets p k l)))
