@@ -1,9 +1,13 @@
 -- What the machine takes from its net.
-use Rattle.std.proofs.Common.{◌≡◌, ℕ, ◌<◌, List, [], length, get_or, map, sym, ap, subst, ◌∙◌, All}
-use Rattle.std.proofs.lemmas.List.{get_or_default, length-map}
+use Rattle.std.proofs.Common.{◌≡◌, ℕ, ◌<◌, ◌≤◌, true, false, List, [], length, get_or, map, Option, sym, ap, subst, ◌∙◌, arith, ◌⊎◌, inl, inr, All}
+use Rattle.std.proofs.lemmas.Bool.{cases_Bool, cases_lt}
+use Rattle.std.proofs.lemmas.List.Elements.{All-map}
+use Rattle.std.proofs.lemmas.List.{get_or-set_other, get_or-set_same, get_or_default, get_or_past, length-map}
 use Rattle.rtl_model.specs.bodies.Types.{ElementType}
 use Rattle.rtl_model.specs.nets.CoreNet.{core_process}
-use Rattle.rtl_model.specs.nets.FlatNet.{FlatProcess, element_starts, no_flat_process, process_at}
+use Rattle.rtl_model.specs.nets.FlatNet.{FlatProcess, IsInRange, element_starts, no_flat_process, process_at}
+use Rattle.rtl_model.specs.simulation.Levels.{is_clocked}
+use Rattle.rtl_model.proofs.nets.InRange.{process_in_range}
 use Rattle.rtl_model.specs.simulation.Net as m
 use Rattle.rtl_model.specs.simulation.Net.{process, IsCombinational}
 use Rattle.rtl_model.specs.simulation.Elaborated.{IsElaborated}
@@ -13,15 +17,45 @@ use Rattle.rtl_model.proofs.nets.Connected.{connected_is_elaborated}
 use Rattle.rtl_model.proofs.simulation.Faultless.{faultless}
 use Rattle.rtl_model.proofs.simulation.Leveled.{Leveled, leveled}
 use Rattle.rtl_eval.specs.Runs.{Outcome}
-use Rattle.rtl_kernel.specs.drivers.Transactions.{nets_of}
+use Rattle.rtl_kernel.specs.drivers.Transactions.{HasRunOf, nets_of, no_outcome}
 use Rattle.rtl_kernel.specs.wakes.Woken.{AreDifferent}
 use Rattle.rtl_kernel.proofs.Wiring.{targets_are}
 use Rattle.rtl_net.specs.Nets.{NetView, flat, process_view, variable_view}
 use Rattle.rtl_net.specs.declared.process.Process.{Process}
 use Rattle.rtl_synchronous.specs.Kept.{MayRun, core}
+use Rattle.rtl_synchronous.specs.Scheduled.{clocked_wakes, wakes_by_rank}
 use Rattle.rtl_synchronous.proofs.Settling.{one_place}
 
+-- what a run of a process has left, and what others had left
+module _ (entries : List (Option ℕ)) (p : ℕ) (old new : List Outcome) (R : HasRunOf entries p old new) where
+  pub ran_entries : p < length old → (get_or new p no_outcome).entries ≡ entries
+  ran_entries l =
+      ap (λ (os : List Outcome). (get_or os p no_outcome).entries) R.is
+      ∙ ap (λ (o : Outcome). o.entries) (get_or-set_same old p R.outcome no_outcome l) ∙ R.leaves.entries_are
+
+  pub ran_others : (q : ℕ) → (q ≡ p → ⊥) → get_or new q no_outcome ≡ get_or old q no_outcome
+  ran_others q ne = ap (λ (os : List Outcome). get_or os q no_outcome) R.is ∙ get_or-set_other old p q R.outcome no_outcome ne
+
 module _ (net : NetView) where
+  pub wakes_there : IsInRange (flat net) → (p : ℕ) → All (λ n. n < length net.types) (process (core net) p).wakes
+  wakes_there R p = by (cases_lt p (length (flat net).processes))
+    where
+      by : (p < length (flat net).processes) ⊎ (length (flat net).processes ≤ p) → All (λ n. n < length net.types) (process (core net) p).wakes
+      by (inl l) = rw (process-core_net (flat net) p) (process_in_range (flat net) R p l).wakes
+      by (inr l) = rw (process-core_net (flat net) p, get_or_past (flat net).processes p no_flat_process l) (λ k d m. absurd (omega (arith, m)))
+
+  pub rows_there : IsInRange (flat net) → (order : List ℕ) → All (λ (nets : List ℕ). All (λ n. n < length net.types) nets) (wakes_by_rank (core net) order)
+  rows_there R order = All-map (λ (nets : List ℕ). All (λ n. n < length net.types) nets) (λ (p : ℕ). (process (core net) p).wakes) order (λ k d l. wakes_there R (get_or order k d))
+
+  pub clocked_there : IsInRange (flat net) → All (λ (nets : List ℕ). All (λ n. n < length net.types) nets) (map clocked_wakes (core net).processes)
+  clocked_there R =
+      All-map (λ (nets : List ℕ). All (λ n. n < length net.types) nets) clocked_wakes (core net).processes
+      (λ k d l. subst (λ (x : m.Process). All (λ n. n < length net.types) (clocked_wakes x)) (get_or_default (core net).processes k m.no_process d l) (row k (cases_Bool (is_clocked (process (core net) k).kind))))
+    where
+      row : (p : ℕ) → (is_clocked (process (core net) p).kind ≡ true) ⊎ (is_clocked (process (core net) p).kind ≡ false) → All (λ n. n < length net.types) (clocked_wakes (process (core net) p))
+      row p (inl e) = rw e (wakes_there R p)
+      row p (inr e) = rw e (λ k d m. absurd (omega (arith, m)))
+
   pub processes_many : length (core net).processes ≡ length net.processes
   processes_many = length-map (flat net).processes (core_process net.inputs) ∙ length-map net.processes process_view
 

@@ -6,16 +6,12 @@
 //! `specs/Scheduled.antt`, `Marks.antt`, `Steps.antt` and `Kept.antt` say how its parts go together.
 #![tactic(auto)]
 
-mod clocked;
 mod initial;
 mod inputs;
 pub mod laws;
-mod machine;
 mod marks;
 mod order;
 mod outcomes;
 mod running;
 mod schedule;
-mod sweep;
 
-pub use machine::Machine;

@@ -16,6 +16,6 @@ loop-process-preserved c =
     let same = c.processes-processes.ensures in
     let there = c.requires.there i 0 c.loop-process-test.true in
     let is : q ≡ get_or net.processes p q = c.index-processes-process.is ∙ ap (λ (ps : List Process). get_or ps p q) same in
-    let row : c.as_slice.result.now ≡ (process (core net) p).wakes = c.as_slice.ensures ∙ wakes_are net p q there is in
+    let row : c.as_slice.result.now ≡ (process (core net) p).wakes = c.as_slice.ensures ∙ sym (ap (λ (x : Process). x.wakes.items) c.index-processes-process.is) ∙ wakes_are net p q there is in
     c.in_ok-push.ensures.ok ∙ (λ j. c.loop-process.invariant j ++ row j ∷ [])
     ∙ sym (map_more (λ (n : ℕ). (process (core net) n).wakes) order i 0 c.loop-process-test.true)

@@ -1,4 +1,4 @@
-use Rattle.std.proofs.Common.{◌≡◌, ◌<◌, ℕ, true, false, List, [], ◌∷◌, ◌++◌, length, get_or, ap, sym, ◌∙◌}
+use Rattle.std.proofs.Common.{◌≡◌, ◌<◌, ℕ, Bool, true, false, not, List, [], ◌∷◌, ◌++◌, length, get_or, ap, sym, ◌∙◌}
 use Rattle.std.proofs.lemmas.List.{map_more}
 use Rattle.rtl_model.specs.simulation.Net.{no_process, process}
 use Rattle.rtl_net.specs.declared.process.Process.{Process}
@@ -23,12 +23,12 @@ loop-number-preserved c =
       | then-is_none+in_ok-push w ↦
           (let q = w.index-processes-number.result in
           let is : q ≡ get_or net.processes k q = w.index-processes-number.is ∙ ap (λ (ps : List Process). get_or ps k q) same in
-          let none = sym c.is_none.ensures ∙ w.if-is_none.true in
+          let none = ap not c.is_none.ensures ∙ ap (λ (b : Bool). not (not b)) w.if-is_none.true in
           let row : w.as_slice.result.now ≡ clocked_wakes (process (core net) k) =
-          w.as_slice.ensures ∙ wakes_are net k q there is ∙ sym (clocked_row (core net) c.requires.accepted levels greatest V k inside none) in
+          w.as_slice.ensures ∙ sym (ap (λ (x : Process). x.wakes.items) w.index-processes-number.is) ∙ wakes_are net k q there is ∙ sym (clocked_row (core net) c.requires.accepted levels greatest V k inside none) in
           w.lists-is ∙ w.in_ok-push.ensures.ok ∙ (λ j. c.loop-number.invariant j ++ row j ∷ []) ∙ more)
       | else-is_none+in_ok-push-2 w ↦
-          (let some = sym c.is_none.ensures ∙ w.if-is_none.false in
+          (let some = ap not c.is_none.ensures ∙ ap (λ (b : Bool). not (not b)) w.if-is_none.false in
           let row : [] ≡ clocked_wakes (process (core net) k) = sym (combinational_row (core net) c.requires.accepted levels greatest V k inside some) in
           w.lists-is ∙ w.in_ok-push-2.ensures.ok ∙ (λ j. c.loop-number.invariant j ++ row j ∷ []) ∙ more)
     ]

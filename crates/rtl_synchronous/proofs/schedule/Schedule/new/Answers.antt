@@ -1,0 +1,44 @@
+use Rattle.std.proofs.Common.{◌≡◌, ◌<◌, ℕ, List, All, length, map, ap, sym, subst, ◌∙◌}
+use Rattle.rtl_kernel.specs.wakes.Woken.{IsIndex, wakers_of}
+use Rattle.rtl_kernel.proofs.Grouped.{groups_index}
+use Rattle.rtl_synchronous.specs.Kept.{core}
+use Rattle.rtl_synchronous.specs.Scheduled.{clocked_wakes, wakes_by_rank}
+use Rattle.rtl_synchronous.proofs.Ordering.{is_order}
+use Rattle.rtl_synchronous.proofs.Wired.{clocked_there, processes_many, rows_there}
+use Rattle.rtl_synchronous.proofs.schedule.Schedule.new.Goals as goal
+
+pub wakes_of-requires : goal.wakes_of-requires
+wakes_of-requires c =
+    let net = c.args.net.now in
+    let (greatest, V) = c.requires.levels in
+    let O = is_order (core net) c.requires.accepted c.args.levels.now greatest V c.in_ok-order.order.items c.in_ok-order.ensures in
+    record {
+      there = subst (λ (ps : List ℕ). All (λ p. p < length net.processes) ps) (sym c.deref.ensures.value) (λ k d l. rw (← processes_many net) (O.combinational k d l).0);
+    }
+
+pub new-requires : goal.new-requires
+new-requires c =
+    let net = c.args.net.now in
+    let many : length c.deref-2.result.now ≡ length net.types = c.deref-2.ensures.len ∙ c.in_ok-together.ensures.len ∙ c.nets.ensures.count in
+    rw (c.in_ok-by_rank.ensures, many) (rows_there net c.nets.ensures.elaborated.in_range c.deref.result.now)
+
+pub new-requires-2 : goal.new-requires-2
+new-requires-2 c =
+    let net = c.args.net.now in
+    let many : length c.deref-3.result.now ≡ length net.types = c.deref-3.ensures.len ∙ c.in_ok-together.ensures.len ∙ c.nets.ensures.count in
+    rw (c.in_ok-by_process.ensures, many) (clocked_there net c.nets.ensures.elaborated.in_range)
+
+pub returns-clause-schedule : goal.returns-clause-schedule
+returns-clause-schedule c =
+    let net = c.args.net.now in
+    let R = c.nets.ensures.elaborated.in_range in
+    let (greatest, V) = c.requires.levels in
+    let order = c.in_ok-order.order.items in
+    let ranks : c.in_ok-by_rank.by_rank ≡ wakes_by_rank (core net) order = c.in_ok-by_rank.ensures ∙ ap (wakes_by_rank (core net)) c.deref.ensures.value in
+    let many : length c.deref-2.result.now ≡ length net.types = c.deref-2.ensures.len ∙ c.in_ok-together.ensures.len ∙ c.nets.ensures.count in
+    let many' : length c.deref-3.result.now ≡ length net.types = c.deref-3.ensures.len ∙ c.in_ok-together.ensures.len ∙ c.nets.ensures.count in
+    record {
+      order_is = is_order (core net) c.requires.accepted c.args.levels.now greatest V order c.in_ok-order.ensures;
+      readers_are = rw (← ranks) (groups_index c.in_ok-readers.readers c.deref-2.result.now c.in_ok-by_rank.by_rank (rw (ranks, many) (rows_there net R order)) c.in_ok-readers.ensures);
+      clocked_are = rw (← c.in_ok-by_process.ensures) (groups_index c.in_ok-clocked.clocked c.deref-3.result.now c.in_ok-by_process.by_process (rw (c.in_ok-by_process.ensures, many') (clocked_there net R)) c.in_ok-clocked.ensures);
+    }
