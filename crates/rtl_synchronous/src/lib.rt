@@ -6,6 +6,7 @@
 //! `specs/Scheduled.antt`, `Marks.antt`, `Steps.antt` and `Kept.antt` say how its parts go together.
 #![tactic(auto)]
 
+mod clocked;
 mod initial;
 mod inputs;
 pub mod laws;
@@ -14,4 +15,5 @@ mod order;
 mod outcomes;
 mod running;
 mod schedule;
+mod sweep;
 

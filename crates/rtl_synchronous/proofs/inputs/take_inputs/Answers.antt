@@ -1,3 +1,11 @@
+use Rattle.std.proofs.Common.{◌≡◌, ℕ, get_or, set, ◌∙◌, length}
+use Rattle.std.specs.Prelude.{⊤}
+use Rattle.std.proofs.lemmas.List.{length-map, length-set}
+use Rattle.vhdl_values.specs.declared.scalar.Nine.TheVariants.{U}
+use Rattle.rtl_kernel.specs.kernel.Simulation.{changes_of}
+use Rattle.rtl_kernel.specs.wakes.Woken.{wakers_of}
+use Rattle.rtl_kernel.proofs.Changing.{changed_more, set_at}
+use Rattle.rtl_synchronous.proofs.Marking.{marks_then, marks_wider}
 use Rattle.rtl_synchronous.proofs.inputs.take_inputs.Goals as goal
 
 pub mark_followers-requires-clause-below : goal.mark_followers-requires-clause-below
@@ -7,4 +15,21 @@ pub mark_followers-requires-in-loop-net-clause-below : goal.mark_followers-requi
 mark_followers-requires-in-loop-net-clause-below c = λ n k f. rw (c.loop-net.invariant.dirty.as_many) (c.requires.readers n k f)
 
 pub loop-net-preserved : goal.loop-net-preserved
-loop-net-preserved c = ?
+loop-net-preserved c =
+    let cs = c.args.changes.now in
+    let i = c.loop-net.net-index in
+    let I = c.loop-net.invariant in
+    let values = c.loop-net.values.items in
+    let old = c.args.values.now.items in
+    let net = (get_or cs i (0, U)).0 in
+    let new = set values net c.code-code.result in
+    record {
+      as_many = length-set _ _ _ ∙ I.as_many;
+      rest = changed_more (changes_of cs) i _ c.code-code.result values old (rw length-map c.loop-net-test.true)
+          (set_at cs i c.code-code.result _ c.loop-net-test.true c.code-code.ensures.code) I.rest;
+      woken = marks_then (wakers_of c.args.schedule.now.clocked) (λ n. ⊤) old values new c.args.woken.now.items c.loop-net.woken.items c.mark_followers.new.marks.items I.woken
+          (marks_wider (wakers_of c.args.schedule.now.clocked) (λ n. n ≡ net) (λ n. ⊤) (λ n e. tt) values new c.loop-net.woken.items c.mark_followers.new.marks.items (rw (c.deref.ensures.value) at c.mark_followers.ensures));
+      dirty = marks_then (wakers_of c.args.schedule.now.readers) (λ n. ⊤) old values new c.args.dirty.now.items c.loop-net.dirty.items c.mark_followers-in-loop-net.new.marks.items I.dirty
+          (marks_wider (wakers_of c.args.schedule.now.readers) (λ n. n ≡ net) (λ n. ⊤) (λ n e. tt) values new c.loop-net.dirty.items c.mark_followers-in-loop-net.new.marks.items
+          (rw (c.deref-in-loop-net.ensures.value) at c.mark_followers-in-loop-net.ensures));
+    }

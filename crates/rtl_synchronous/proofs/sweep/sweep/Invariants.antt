@@ -1,0 +1,11 @@
+use Rattle.rtl_model.specs.simulation.Range.{IsValuation}
+use Rattle.rtl_synchronous.specs.Kept.{MayRun, core}
+use Rattle.rtl_synchronous.proofs.Sweeping.{IsSweeping}
+use Rattle.rtl_synchronous.proofs.sweep.sweep.Given as goal
+
+abbrev pub invariant-loop-rank : goal.invariant-loop-rank
+invariant-loop-rank g l = record {
+  may : MayRun g.E.Exec.process g.E.Exec.types g.E.Exec.most l.net l.bodies l.runs.items;
+  in_range : IsValuation (core l.net) l.values.items;
+  sweeping : IsSweeping (core l.net) l.schedule.order.items l.rank l.initial.values.items l.values.items l.dirty.items;
+}

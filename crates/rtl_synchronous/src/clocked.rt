@@ -1,0 +1,78 @@
+//! The clocked processes of a moment.
+
+ghost use Rattle.std.specs.Prelude.{◌≡◌, ℕ, ◌<◌, ⊤, false, length, slice_index_or, IsTrue, Some, None};
+ghost use Rattle.rtl_model.specs.nets.FlatNet.{process_at};
+ghost use Rattle.rtl_model.specs.simulation.Accepted.{IsAccepted};
+ghost use Rattle.rtl_model.specs.simulation.Elaborated.{IsElaborated};
+ghost use Rattle.rtl_model.specs.simulation.Net.{process, target, HasPlace};
+ghost use Rattle.rtl_model.specs.simulation.Range.{IsValuation, limit};
+ghost use Rattle.rtl_eval.specs.Runs.{IsOf};
+ghost use Rattle.rtl_kernel.specs.drivers.Transactions.{no_outcome};
+ghost use Rattle.rtl_kernel.specs.wakes.Woken.{wakers_of};
+ghost use Rattle.rtl_net.specs.Nets.{flat};
+ghost use Rattle.rtl_synchronous.specs.Kept.{MayRun, core};
+ghost use Rattle.rtl_synchronous.specs.Marks.{AreBelow, HasNoMark, Marks};
+ghost use Rattle.rtl_synchronous.specs.Steps.{AllTakeOver};
+
+use crate::running::{run, take_over};
+use rtl_eval::{Drives, Exec};
+use rtl_layout::Groups;
+use rtl_net::Net;
+
+/// Runs the marked processes. Nothing is taken over, so each of them reads what was there before any of them ran.
+pub fn run_marked<E: Exec>(
+    net: &Net,
+    bodies: &[E],
+    marked: &[bool],
+    before: &[u8],
+    values: &[u8],
+    runs: &mut Vec<Drives>,
+)
+    requires may { MayRun E.process E.types E.most net.now bodies.now runs.old.items }
+    requires before { IsValuation (core net.now) before.now }
+    requires values { IsValuation (core net.now) values.now }
+    requires each_process { length marked.now ≡ length net.now.processes }
+    ensures may { MayRun E.process E.types E.most net.now bodies.now runs.new.items }
+    ensures ran { (p : ℕ) → IsTrue (slice_index_or marked.now p false) → (slice_index_or runs.new.items p no_outcome).entries ≡ (process (core net.now) p).effect before.now values.now }
+{
+    for process in 0..marked.len() {
+        if marked[process] {
+            run(net, bodies, process, before, values, runs);
+        }
+    }
+}
+
+/// Takes over what the marked processes have assigned, and takes their marks off.
+pub fn take_marked(
+    net: &Net,
+    runs: &[Drives],
+    groups: &Groups,
+    marked: &mut Vec<bool>,
+    values: &mut Vec<u8>,
+    dirty: &mut Vec<bool>,
+)
+    requires elaborated { IsElaborated (core net.now) }
+    requires accepted { IsAccepted (core net.now) }
+    requires each_process { length marked.old.items ≡ length net.now.processes }
+    requires each_run { length runs.now ≡ length net.now.processes }
+    requires own { (p : ℕ) → p < length runs.now → IsOf (process_at (flat net.now) p) (slice_index_or runs.now p no_outcome) }
+    requires entries { (p place x : ℕ) → IsTrue (slice_index_or marked.old.items p false) → HasPlace (core net.now) p place
+        → slice_index_or (slice_index_or runs.now p no_outcome).entries place None ≡ Some x → x < limit (core net.now) (target (core net.now) p place) }
+    requires in_range { IsValuation (core net.now) values.old.items }
+    requires each_net { length (wakers_of groups.now) ≡ length values.old.items }
+    requires below { AreBelow (wakers_of groups.now) (length dirty.old.items) }
+    ensures taken { AllTakeOver (core net.now) marked.old.items (λ p. (slice_index_or runs.now p no_outcome).entries) values.old.items values.new.items }
+    ensures in_range { IsValuation (core net.now) values.new.items }
+    ensures dirty { Marks (wakers_of groups.now) (λ _. ⊤) values.old.items values.new.items dirty.old.items dirty.new.items }
+    ensures each_process { length marked.new.items ≡ length marked.old.items }
+    ensures none_marked { HasNoMark marked.new.items }
+{
+    let processes = net.processes();
+    for process in 0..marked.len() {
+        if marked[process] {
+            marked[process] = false;
+            let drives = &processes[process].drives;
+            take_over(drives, &runs[process], groups, values, dirty);
+        }
+    }
+}

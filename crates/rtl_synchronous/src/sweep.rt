@@ -1,0 +1,54 @@
+//! The combinational processes of a moment.
+
+ghost use Rattle.std.specs.Prelude.{◌≡◌, ℕ, ◌<◌, false, length, slice_index, slice_index_or};
+ghost use Rattle.rtl_model.specs.simulation.Range.{IsValuation};
+ghost use Rattle.rtl_kernel.specs.wakes.Woken.{wakers_of};
+ghost use Rattle.rtl_synchronous.specs.Kept.{MayRun, core};
+ghost use Rattle.rtl_synchronous.specs.Marks.{HasNoMark};
+ghost use Rattle.rtl_synchronous.specs.Running.{IsSettled};
+ghost use Rattle.rtl_synchronous.specs.Scheduled.{IsSchedule};
+ghost use Rattle.rtl_synchronous.specs.Steps.{IsSwept};
+
+use crate::running::settle;
+use crate::schedule::Schedule;
+use rtl_eval::{Drives, Exec};
+use rtl_net::Net;
+
+/// Runs the marked combinational processes, and those that get marked by what these change, each once, in order of rank. All
+/// others are settled; afterwards all are.
+pub fn sweep<E: Exec>(
+    net: &Net,
+    bodies: &[E],
+    schedule: &Schedule,
+    runs: &mut Vec<Drives>,
+    values: &mut Vec<u8>,
+    dirty: &mut Vec<bool>,
+)
+    requires may { MayRun E.process E.types E.most net.now bodies.now runs.old.items }
+    requires schedule { IsSchedule (core net.now) schedule.now.order.items (wakers_of schedule.now.readers) (wakers_of schedule.now.clocked) }
+    requires each_reader { length (wakers_of schedule.now.readers) ≡ length values.old.items }
+    requires in_range { IsValuation (core net.now) values.old.items }
+    requires each_rank { length dirty.old.items ≡ length schedule.now.order.items }
+    requires clean { (k : ℕ) → k < length schedule.now.order.items → slice_index_or dirty.old.items k false ≡ false → IsSettled (core net.now) values.old.items (slice_index schedule.now.order.items k) }
+    ensures may { MayRun E.process E.types E.most net.now bodies.now runs.new.items }
+    ensures in_range { IsValuation (core net.now) values.new.items }
+    ensures swept { IsSwept (core net.now) values.old.items values.new.items }
+    ensures each_rank { length dirty.new.items ≡ length dirty.old.items }
+    ensures none_dirty { HasNoMark dirty.new.items }
+{
+    for rank in 0..schedule.order.len() {
+        if dirty[rank] {
+            dirty[rank] = false;
+            let process = schedule.order[rank];
+            settle(
+                net,
+                bodies,
+                &schedule.readers,
+                process,
+                runs,
+                values,
+                dirty,
+            );
+        }
+    }
+}
