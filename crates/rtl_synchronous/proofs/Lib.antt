@@ -12,4 +12,5 @@ pub mod Changed
 pub mod Stepping
 pub mod Rooms
 pub mod Wired
+pub mod Machines
 pub mod Ordering

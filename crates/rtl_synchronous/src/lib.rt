@@ -10,6 +10,7 @@ mod clocked;
 mod initial;
 mod inputs;
 pub mod laws;
+mod machine;
 mod marks;
 mod order;
 mod outcomes;
@@ -17,3 +18,4 @@ mod running;
 mod schedule;
 mod sweep;
 
+pub use machine::Machine;
