@@ -1,18 +1,26 @@
 -- New values of inputs.
-use Rattle.std.proofs.Common.{◌≡◌, ℕ, ◌<◌, ◌≤◌, true, false, List, [], ◌∷◌, length, get_or, set, sym, ◌∙◌, ◌⊎◌, inl, inr, Contains, All, ◌==◌}
+use Rattle.std.proofs.Common.{refl, ap, subst, arith, zero, suc, ◌≡◌, ℕ, ◌<◌, ◌≤◌, true, false, List, [], ◌∷◌, length, get_or, set, sym, ◌∙◌, ◌⊎◌, inl, inr, Contains, All, ◌==◌}
 use Rattle.std.specs.List.{list_any}
 use Rattle.std.proofs.lemmas.Bool.{cases_Bool, cases_eq, cases_lt}
 use Rattle.std.proofs.lemmas.List.{get_or-set_same, get_or-set_other, get_or_past, length-set}
+use Rattle.std.proofs.lemmas.Option.{slice_get_within}
 use Rattle.vhdl_values.specs.declared.scalar.Nine.{Nine}
+use Rattle.vhdl_values.proofs.Codes.{code_of_below}
+use Rattle.rtl_model.specs.bodies.Types.{nine_valued}
+use Rattle.rtl_model.specs.nets.Wiring.{IsConnected}
+use Rattle.rtl_model.proofs.basics.Lists.{contains_in, in_contains}
+use Rattle.rtl_model.proofs.nets.InRange.{keeps_range, limit-at}
 use Rattle.rtl_model.specs.nets.FlatNet.{FlatNet, IsInRange}
 use Rattle.rtl_model.specs.nets.CoreNet.{core_net}
 use Rattle.rtl_model.specs.simulation.Net.{IsInput}
-use Rattle.rtl_model.specs.simulation.Cycle.{changed}
-use Rattle.rtl_model.specs.simulation.Range.{IsValuation, limit}
+use Rattle.rtl_model.specs.simulation.Cycle.{changed, with_inputs}
+use Rattle.rtl_model.specs.simulation.Range.{AreInputs, IsValuation, limit}
 use Rattle.rtl_model.proofs.simulation.Consistent.{each_change_is_made}
-use Rattle.rtl_kernel.specs.kernel.Simulation.{changes_of}
+use Rattle.rtl_kernel.specs.kernel.Simulation.{changes_of, each_given, initial_inputs}
 use Rattle.rtl_kernel.specs.values.TwoValues.{AreChanged}
-use Rattle.rtl_kernel.proofs.Inputs.{are_inputs, named}
+use Rattle.rtl_kernel.proofs.Changing.{changed_below, given_values}
+use Rattle.rtl_kernel.proofs.Inputs.{are_inputs, input_has, named}
+use Rattle.rtl_kernel.proofs.Steps.{keeps}
 
 -- the same changes give a net the same, where it had the same
 pub changed_alike : (cs : List (ℕ × ℕ)) (v w : List ℕ) (n : ℕ) → length v ≡ length w → get_or v n 0 ≡ get_or w n 0 → changed cs v n ≡ changed cs w n
@@ -32,3 +40,31 @@ module _ (net : FlatNet) (R : IsInRange net) (cs : List (ℕ × Nine)) (inputs :
       by : (n : ℕ) → n < length net.start → (list_any (λ m. m == n) net.inputs ≡ true) ⊎ (list_any (λ m. m == n) net.inputs ≡ false) → changed (changes_of cs) old n < limit (core_net net) n
       by n l (inl is) = are_inputs net R cs old V n is
       by n l (inr none) = rw ((each_change_is_made (changes_of cs) old).kept n (λ value there. let h = named net R cs inputs n value there in cc)) (V.in_range n l)
+
+-- ---- the first values of all inputs
+
+given_named : (ns : List ℕ) (vs : List Nine) (n value : ℕ) → Contains (each_given ns vs) (n, value) → Contains ns n
+given_named [] vs n value (k, l, e) = absurd (omega arith)
+given_named (m ∷ ns) [] n value (k, l, e) = absurd (omega arith)
+given_named (m ∷ ns) (v ∷ vs) n value (zero, l, e) = (zero, omega arith, ap (λ (c : ℕ × ℕ). c.0) e)
+given_named (m ∷ ns) (v ∷ vs) n value (suc k, l, e) = let (j, within, is) = given_named ns vs n value (k, omega arith, e) in (suc j, omega arith, is)
+
+given_below : (ns : List ℕ) (vs : List Nine) → All (λ (c : ℕ × ℕ). c.1 < 9) (each_given ns vs)
+given_below [] vs k d l = absurd (omega arith)
+given_below (m ∷ ns) [] k d l = absurd (omega arith)
+given_below (m ∷ ns) (v ∷ vs) zero d l = code_of_below v
+given_below (m ∷ ns) (v ∷ vs) (suc k) d l = given_below ns vs k d (omega arith)
+
+module _ (net : FlatNet) (R : IsInRange net) (C : IsConnected net) (initial : List Nine) (now : List ℕ) (A : AreChanged (each_given net.inputs initial) net.start now) where
+  pub first_is : now ≡ with_inputs (core_net net) (initial_inputs net initial) net.start
+  first_is = given_values (core_net net) (each_given net.inputs initial) net.start now refl A (λ n value h. contains_in net.inputs n (given_named net.inputs initial n value h))
+
+  first_inputs : AreInputs (core_net net) (initial_inputs net initial)
+  first_inputs n is_input =
+      let has = input_has net R n (in_contains net.inputs n is_input) in
+      let limit_is = limit-at net.types n nine_valued has in
+      let there : n < length net.start = rw (R.each_starts) (slice_get_within net.types n nine_valued has) in
+      rw limit_is (changed_below (each_given net.inputs initial) net.start n 9 (given_below net.inputs initial) (rw limit_is at ((keeps_range net R).starts_in_range.in_range n there)))
+
+  pub first_in_range : IsValuation (core_net net) now
+  first_in_range = subst (λ (v : List ℕ). IsValuation (core_net net) v) (sym first_is) ((keeps net R C).starts (initial_inputs net initial) first_inputs).now

@@ -1,18 +1,19 @@
 -- A machine's step keeps what holds of it.
-use Rattle.std.proofs.Common.{◌≡◌, ℕ, ◌<◌, ◌≤◌, Bool, true, false, List, [], length, get_or, map, refl, sym, ap, subst, ◌∙◌, arith, ◌⊎◌, inl, inr, Contains, All}
+use Rattle.std.proofs.Common.{◌≡◌, ℕ, ◌<◌, ◌≤◌, Bool, true, false, List, [], length, get_or, map, replicate, Option, None, zero, suc, refl, sym, ap, subst, ◌∙◌, arith, ◌⊎◌, inl, inr, Contains, All}
 use Rattle.std.specs.Prelude.{⊤}
 use Rattle.std.proofs.lemmas.Bool.{cases_lt}
 use Rattle.std.proofs.lemmas.List.{get_or_past, length-map}
 use Rattle.vhdl_values.specs.declared.scalar.Nine.{Nine}
 use Rattle.rtl_model.specs.bodies.Types.{ElementType}
 use Rattle.rtl_model.specs.nets.FlatNet.{FlatProcess}
-use Rattle.rtl_model.specs.simulation.Net.{Net, target, IsCombinational, IsInput}
+use Rattle.rtl_model.specs.simulation.Levels.{AreLevels}
+use Rattle.rtl_model.specs.simulation.Net.{Net, Edge, Process, no_process, target, IsClockedBy, IsCombinational, IsInput}
 use Rattle.rtl_model.specs.simulation.Cycle.{changed, with_inputs}
 use Rattle.rtl_model.specs.simulation.Elaborated.{IsElaborated}
 use Rattle.rtl_model.specs.simulation.Machine.{IsFirst, IsStep}
 use Rattle.rtl_model.specs.simulation.Races.{IsRace}
 use Rattle.rtl_model.specs.simulation.Range.{IsValuation}
-use Rattle.rtl_model.proofs.basics.Lists.{Contains-none}
+use Rattle.rtl_model.proofs.basics.Lists.{Contains-none, get_or-map_within}
 use Rattle.rtl_model.proofs.simulation.Faultless.{faultless}
 use Rattle.rtl_model.proofs.simulation.Leveled.{Leveled, leveled}
 use Rattle.rtl_model.proofs.simulation.Starting.{inputs_at, others_at, target_no_input}
@@ -25,7 +26,7 @@ use Rattle.rtl_net.specs.Nets.{NetView, flat}
 use Rattle.rtl_synchronous.specs.Kept.{IsAtRest, IsMachine, MayRun, core}
 use Rattle.rtl_synchronous.specs.Marks.{AreBelow, Marks, HasNoMark}
 use Rattle.rtl_synchronous.specs.Running.{IsSettled}
-use Rattle.rtl_synchronous.specs.Scheduled.{IsSchedule, clocked_wakes}
+use Rattle.rtl_synchronous.specs.Scheduled.{IsSchedule, clocked_wakes, without_level}
 use Rattle.rtl_synchronous.specs.Steps.{ComesToRest}
 use Rattle.rtl_synchronous.proofs.Changed.{changed_alike, changed_in_range}
 use Rattle.rtl_synchronous.proofs.Edges.{each_reset_is_kept}
@@ -120,6 +121,27 @@ module _ {E : Type 0} (process : E → FlatProcess) (types : E → List ElementT
               same = in_range.each_net ∙ sym K.at_rest.solves.each_net
 
 -- ---- the first moment
+
+-- the marks of the processes that have no level
+module _ (net : Net) (levels : List (Option ℕ)) (greatest : ℕ) (V : AreLevels net levels greatest) where
+  pub clocked_marked : (p clock : ℕ) (edge : Edge) → IsClockedBy net p clock edge → get_or (map without_level levels) p false ≡ true
+  clocked_marked p clock edge (reset, is) = by (cases_lt p (length net.processes))
+    where
+      by : (p < length net.processes) ⊎ (length net.processes ≤ p) → get_or (map without_level levels) p false ≡ true
+      by (inl l) =
+          get_or-map_within without_level levels p None false (rw (V.each_process) l) ∙ ap without_level (V.clocked p clock edge (reset, is))
+      by (inr l) = let e = ap (λ (q : Process). q.kind) (get_or_past net.processes p no_process l) in cc
+
+  pub marked_clocked : (p : ℕ) → get_or (map without_level levels) p false ≡ true → IsCombinational net p → ⊥
+  marked_clocked p h c =
+      let (level, e, _) = V.combinational p c in
+      let f = get_or-map_within without_level levels p None false (rw (V.each_process) c.0) ∙ ap without_level e in
+      cc
+
+pub all_marked : (n k : ℕ) → k < n → get_or (replicate n true) k false ≡ true
+all_marked zero k l = absurd (omega arith)
+all_marked (suc n) zero l = refl
+all_marked (suc n) (suc k) l = all_marked n k (omega arith)
 
 module _ {E : Type 0} (process : E → FlatProcess) (types : E → List ElementType) (most : E → ℕ) (net : NetView) (bodies : List E) (order : List ℕ) (readers clocked : List (List ℕ))
     (runs : List Outcome) (may : MayRun process types most net bodies runs) (S : IsSchedule (core net) order readers clocked)

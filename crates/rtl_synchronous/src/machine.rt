@@ -82,6 +82,7 @@ impl<'a, E: Exec> Machine<'a, E> {
         ensures net { IfOk result (λ m. m.net ≡ net.now) }
         ensures first { IfOk result (λ m. IsFirst (core net.now) (initial_inputs (flat net.now) initial.now) m.values) }
     {
+        let _count = net.nets();
         let schedule = Schedule::new(alloc, net, levels)?;
         let mut runs = room_for(alloc, net, bodies)?;
         let mut values = starting_codes(alloc, net)?;

@@ -1,0 +1,93 @@
+use Rattle.std.proofs.Common.{◌≡◌, ◌<◌, ℕ, Bool, true, false, List, Option, get_or, length, map, replicate, ap, sym, subst, ◌∙◌, arith, refl}
+use Rattle.std.proofs.lemmas.List.{length-map, length-replicate}
+use Rattle.std.proofs.lemmas.Option.{slice_get_within}
+use Rattle.rtl_model.specs.bodies.Types.{nine_valued}
+use Rattle.rtl_model.specs.simulation.Machine.{IsFirst}
+use Rattle.rtl_kernel.specs.kernel.Simulation.{each_given, initial_inputs}
+use Rattle.rtl_kernel.specs.values.TwoValues.{AreChanged}
+use Rattle.rtl_kernel.specs.wakes.Woken.{wakers_of}
+use Rattle.rtl_net.specs.Nets.{flat}
+use Rattle.rtl_synchronous.specs.Kept.{core, MayRun}
+use Rattle.rtl_synchronous.specs.Scheduled.{without_level}
+use Rattle.rtl_synchronous.specs.Steps.{ComesToRest}
+use Rattle.rtl_synchronous.proofs.Changed.{first_in_range, first_is}
+use Rattle.rtl_synchronous.proofs.Machines.{all_marked, clocked_marked, kept_first, marked_clocked}
+use Rattle.rtl_synchronous.proofs.Stepping.{is_first}
+use Rattle.rtl_synchronous.proofs.Wired.{elaborated, processes_many}
+use Rattle.rtl_synchronous.proofs.machine.Machine.new.Goals as goal
+
+pub set_each-requires-clause-there : goal.set_each-requires-clause-there
+set_each-requires-clause-there g c =
+    let net = c.args.net.now in
+    let R = c.nets-count.ensures.elaborated.in_range in
+    λ k d l. rw (c.inputs.ensures, c.in_ok-values.ensures, R.each_starts) (slice_get_within net.types _ nine_valued (R.inputs k d (rw (c.inputs.ensures) at l)))
+
+pub come_to_rest-requires-clause-may : goal.come_to_rest-requires-clause-may
+come_to_rest-requires-clause-may g c =
+    let N = c.nets-count.ensures.elaborated in
+    record { in_range = N.in_range; connected = N.connected; accepted = c.requires.accepted; run_bodies = c.requires.bodies; room = c.in_ok-runs.ensures }
+
+pub come_to_rest-requires-clause-before : goal.come_to_rest-requires-clause-before
+come_to_rest-requires-clause-before g c =
+    let N = c.nets-count.ensures.elaborated in
+    let now = c.set_each.new.values.items in
+    let A : AreChanged (each_given c.args.net.now.inputs c.args.initial.now) c.args.net.now.starts now = rw (c.inputs.ensures, c.in_ok-values.ensures) at c.set_each.ensures in
+    rw (c.deref-2.ensures.value, c.in_ok-before.ensures.items, c.deref.ensures.value) (first_in_range (flat c.args.net.now) N.in_range N.connected c.args.initial.now now A)
+
+pub come_to_rest-requires-clause-in_range : goal.come_to_rest-requires-clause-in_range
+come_to_rest-requires-clause-in_range g c =
+    let N = c.nets-count.ensures.elaborated in
+    let now = c.set_each.new.values.items in
+    let A : AreChanged (each_given c.args.net.now.inputs c.args.initial.now) c.args.net.now.starts now = rw (c.inputs.ensures, c.in_ok-values.ensures) at c.set_each.ensures in
+    first_in_range (flat c.args.net.now) N.in_range N.connected c.args.initial.now now A
+
+pub come_to_rest-requires-clause-each_reader : goal.come_to_rest-requires-clause-each_reader
+come_to_rest-requires-clause-each_reader g c =
+    let N = c.nets-count.ensures.elaborated in
+    c.in_ok-schedule.ensures.each_reader ∙ sym N.in_range.each_starts ∙ sym (ap length c.in_ok-values.ensures) ∙ sym c.set_each.ensures.as_many
+
+pub come_to_rest-requires-clause-each_process : goal.come_to_rest-requires-clause-each_process
+come_to_rest-requires-clause-each_process g c =
+    let (greatest, V) = c.requires.levels in
+    ap length c.in_ok-woken.ensures ∙ length-map c.args.levels.now without_level ∙ V.each_process ∙ processes_many c.args.net.now
+
+pub come_to_rest-requires-clause-clocked : goal.come_to_rest-requires-clause-clocked
+come_to_rest-requires-clause-clocked g c =
+    let (greatest, V) = c.requires.levels in
+    rw (c.in_ok-woken.ensures) (marked_clocked (core c.args.net.now) c.args.levels.now greatest V)
+
+pub returns-clause-first : goal.returns-clause-first
+returns-clause-first g c =
+    let net = c.args.net.now in
+    let N = c.nets-count.ensures.elaborated in
+    let (greatest, V) = c.requires.levels in
+    let now = c.set_each.new.values.items in
+    let A : AreChanged (each_given net.inputs c.args.initial.now) net.starts now = rw (c.inputs.ensures, c.in_ok-values.ensures) at c.set_each.ensures in
+    is_first (core net) (elaborated _ _ _ _ _ _ c.come_to_rest.ensures.may) c.requires.accepted (initial_inputs (flat net) c.args.initial.now) c.in_ok-woken.woken.items
+    (λ p clock edge is. rw (c.in_ok-woken.ensures) (clocked_marked (core net) c.args.levels.now greatest V p clock edge is))
+    now c.come_to_rest.new.values.items (first_is (flat net) N.in_range N.connected c.args.initial.now now A)
+    (rw (c.deref-2.ensures.value, c.in_ok-before.ensures.items, c.deref.ensures.value) at c.come_to_rest.ensures.rest)
+
+pub invariant_of-result : goal.invariant_of-result
+invariant_of-result g c =
+    let net = c.args.net.now in
+    let N = c.nets-count.ensures.elaborated in
+    let (greatest, V) = c.requires.levels in
+    let schedule = c.in_ok-schedule.schedule in
+    let now = c.set_each.new.values.items in
+    let A : AreChanged (each_given net.inputs c.args.initial.now) net.starts now = rw (c.inputs.ensures, c.in_ok-values.ensures) at c.set_each.ensures in
+    let may : MayRun g.E.Exec.process g.E.Exec.types g.E.Exec.most net c.args.bodies.now c.in_ok-runs.runs.items =
+    record { in_range = N.in_range; connected = N.connected; accepted = c.requires.accepted; run_bodies = c.requires.bodies; room = c.in_ok-runs.ensures } in
+    let now_is = first_is (flat net) N.in_range N.connected c.args.initial.now now A in
+    let now_in_range = first_in_range (flat net) N.in_range N.connected c.args.initial.now now A in
+    let rest = rw (c.deref-2.ensures.value, c.in_ok-before.ensures.items, c.deref.ensures.value) at c.come_to_rest.ensures.rest in
+    let first = is_first (core net) (elaborated _ _ _ _ _ _ may) c.requires.accepted (initial_inputs (flat net) c.args.initial.now) c.in_ok-woken.woken.items
+    (λ p clock edge is. rw (c.in_ok-woken.ensures) (clocked_marked (core net) c.args.levels.now greatest V p clock edge is)) now c.come_to_rest.new.values.items now_is rest in
+    rw (c.in_ok-before.ensures.items, c.deref.ensures.value)
+    (kept_first g.E.Exec.process g.E.Exec.types g.E.Exec.most net c.args.bodies.now schedule.order.items (wakers_of schedule.readers) (wakers_of schedule.clocked)
+    c.in_ok-runs.runs.items may c.in_ok-schedule.ensures.schedule (initial_inputs (flat net) c.args.initial.now) now c.come_to_rest.new.values.items now_is now_in_range c.in_ok-woken.woken.items first rest
+    c.come_to_rest.new.runs.items c.come_to_rest.new.dirty.items c.come_to_rest.new.woken.items c.come_to_rest.ensures.may c.come_to_rest.ensures.in_range
+    c.in_ok-schedule.ensures.each_reader c.in_ok-schedule.ensures.each_clocked
+    (omega (arith, c.come_to_rest.ensures.each_rank, c.in_ok-dirty.ensures.len, c.len.ensures, c.in_ok-dirty.dirty.ok.0, schedule.order.ok.0))
+    (c.come_to_rest.ensures.each_process ∙ ap length c.in_ok-woken.ensures ∙ length-map c.args.levels.now without_level ∙ V.each_process ∙ processes_many net)
+    c.come_to_rest.ensures.none_dirty c.come_to_rest.ensures.none_woken)
