@@ -12,7 +12,6 @@ use Rattle.rtl_model.proofs.basics.Lists.{contains_in, in_contains}
 use Rattle.rtl_model.proofs.nets.InRange.{keeps_range, limit-at}
 use Rattle.rtl_model.specs.nets.FlatNet.{FlatNet, IsInRange}
 use Rattle.rtl_model.specs.nets.CoreNet.{core_net}
-use Rattle.rtl_model.specs.simulation.Net.{IsInput}
 use Rattle.rtl_model.specs.simulation.Cycle.{changed, with_inputs}
 use Rattle.rtl_model.specs.simulation.Range.{AreInputs, IsValuation, limit}
 use Rattle.rtl_model.proofs.simulation.Consistent.{each_change_is_made}

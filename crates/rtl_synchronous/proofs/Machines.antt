@@ -7,7 +7,7 @@ use Rattle.vhdl_values.specs.declared.scalar.Nine.{Nine}
 use Rattle.rtl_model.specs.bodies.Types.{ElementType}
 use Rattle.rtl_model.specs.nets.FlatNet.{FlatProcess}
 use Rattle.rtl_model.specs.simulation.Levels.{AreLevels}
-use Rattle.rtl_model.specs.simulation.Net.{Net, Edge, Process, no_process, target, IsClockedBy, IsCombinational, IsInput}
+use Rattle.rtl_model.specs.simulation.Net.{Net, Edge, Process, no_process, target, IsClockedBy, IsCombinational}
 use Rattle.rtl_model.specs.simulation.Cycle.{changed, with_inputs}
 use Rattle.rtl_model.specs.simulation.Elaborated.{IsElaborated}
 use Rattle.rtl_model.specs.simulation.Machine.{IsFirst, IsStep}
@@ -15,7 +15,7 @@ use Rattle.rtl_model.specs.simulation.Races.{IsRace}
 use Rattle.rtl_model.specs.simulation.Range.{IsValuation}
 use Rattle.rtl_model.proofs.basics.Lists.{Contains-none, get_or-map_within}
 use Rattle.rtl_model.proofs.simulation.Faultless.{faultless}
-use Rattle.rtl_model.proofs.simulation.Leveled.{Leveled, leveled}
+use Rattle.rtl_model.proofs.simulation.Leveled.{leveled}
 use Rattle.rtl_model.proofs.simulation.Starting.{inputs_at, others_at, target_no_input}
 use Rattle.rtl_eval.specs.Runs.{Outcome}
 use Rattle.rtl_kernel.specs.kernel.Simulation.{changes_of}
@@ -23,7 +23,7 @@ use Rattle.rtl_kernel.specs.values.TwoValues.{AreChanged}
 use Rattle.rtl_kernel.proofs.Changing.{given_values}
 use Rattle.rtl_kernel.proofs.Inputs.{inputs_there, named}
 use Rattle.rtl_net.specs.Nets.{NetView, flat}
-use Rattle.rtl_synchronous.specs.Kept.{IsAtRest, IsMachine, MayRun, core}
+use Rattle.rtl_synchronous.specs.Kept.{IsMachine, MayRun, core}
 use Rattle.rtl_synchronous.specs.Marks.{AreBelow, Marks, HasNoMark}
 use Rattle.rtl_synchronous.specs.Running.{IsSettled}
 use Rattle.rtl_synchronous.specs.Scheduled.{IsSchedule, clocked_wakes, without_level}
@@ -33,7 +33,7 @@ use Rattle.rtl_synchronous.proofs.Edges.{each_reset_is_kept}
 use Rattle.rtl_synchronous.proofs.Settling.{each_stays_settled}
 use Rattle.rtl_synchronous.proofs.Stepping as stepping
 use Rattle.rtl_synchronous.proofs.Sweeping.{at_rank, reads_agree}
-use Rattle.rtl_synchronous.proofs.Wired.{elaborated, processes_many}
+use Rattle.rtl_synchronous.proofs.Wired.{elaborated}
 
 -- who follows a net among the clocked processes is a process
 pub clocked_below : (net : Net) (order : List ℕ) (readers clocked : List (List ℕ)) → IsSchedule net order readers clocked → (many : ℕ) → many ≡ length net.processes → AreBelow clocked many

@@ -1,5 +1,5 @@
 -- Clocked processes that run together, and a sweep behind them, bring the values to rest.
-use Rattle.std.proofs.Common.{◌≡◌, ℕ, ◌<◌, Bool, true, false, List, length, get_or, Option, None, refl, sym, ap, subst, ◌∙◌, ◌⊎◌, inl, inr}
+use Rattle.std.proofs.Common.{◌≡◌, ℕ, ◌<◌, Bool, true, false, List, length, get_or, Option, None, sym, ap, subst, ◌∙◌, ◌⊎◌, inl, inr}
 use Rattle.std.proofs.lemmas.Bool.{cases_Bool}
 use Rattle.rtl_model.specs.simulation.Net.{Net, process, target, HasPlace, IsCombinational}
 use Rattle.rtl_model.specs.simulation.Elaborated.{IsElaborated}

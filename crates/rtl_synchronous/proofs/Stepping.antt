@@ -1,10 +1,9 @@
 -- Values that come to rest are the machine's next.
-use Rattle.std.proofs.Common.{◌≡◌, ℕ, ◌<◌, Bool, true, false, List, [], length, get_or, map, Option, Some, None, refl, sym, ap, subst, ◌∙◌, arith, ◌⊎◌, inl, inr, Contains}
+use Rattle.std.proofs.Common.{◌≡◌, ℕ, ◌<◌, Bool, true, false, List, [], length, get_or, map, None, refl, sym, ap, subst, ◌∙◌, arith, ◌⊎◌, inl, inr, Contains}
 use Rattle.std.specs.Prelude.{⊤}
 use Rattle.std.proofs.lemmas.Bool.{cases_Bool, cases_eq}
-use Rattle.std.proofs.lemmas.List.{length-map}
 use Rattle.rtl_model.proofs.basics.Lists.{get_or-map_within}
-use Rattle.rtl_model.specs.simulation.Net.{Net, Clocked, Edge, Kind, Process, Reset, process, no_process, target, HasPlace, HasReset, IsCombinational, IsClockedBy, IsInput}
+use Rattle.rtl_model.specs.simulation.Net.{Net, Edge, process, no_process, target, HasPlace, IsCombinational, IsClockedBy, IsInput}
 use Rattle.rtl_model.specs.simulation.Cycle.{with_inputs}
 use Rattle.rtl_model.specs.simulation.Elaborated.{IsElaborated}
 use Rattle.rtl_model.specs.simulation.Accepted.{IsAccepted}
@@ -18,7 +17,7 @@ use Rattle.rtl_model.proofs.simulation.Levels.{place_in_range}
 use Rattle.rtl_model.proofs.simulation.Solution.{length-table}
 use Rattle.rtl_model.proofs.simulation.Starting.{inputs_at, others_at, target_no_input}
 use Rattle.rtl_synchronous.specs.Kept.{IsAtRest}
-use Rattle.rtl_synchronous.specs.Marks.{Marks, Follows, HasNoMark}
+use Rattle.rtl_synchronous.specs.Marks.{Marks, Follows}
 use Rattle.rtl_synchronous.specs.Scheduled.{IsSchedule, clocked_wakes}
 use Rattle.rtl_synchronous.specs.Steps.{ComesToRest, IsCombinationallyDriven, IsDrivenByMarked}
 use Rattle.rtl_synchronous.proofs.Edges as edges

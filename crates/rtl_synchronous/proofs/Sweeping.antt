@@ -1,10 +1,10 @@
 -- A sweep in order of rank settles all combinational processes.
-use Rattle.std.proofs.Common.{◌≡◌, ℕ, ◌+◌, ◌<◌, ◌≤◌, Bool, true, false, List, [], length, get_or, set, map, refl, sym, subst, ◌∙◌, arith, ◌⊎◌, inl, inr, Contains}
+use Rattle.std.proofs.Common.{◌≡◌, ℕ, ◌+◌, ◌<◌, ◌≤◌, Bool, true, false, List, [], length, get_or, set, refl, sym, subst, ◌∙◌, arith, ◌⊎◌, inl, inr, Contains}
 use Rattle.std.proofs.lemmas.Bool.{cases_Bool, cases_eq, cases_lt}
 use Rattle.std.proofs.lemmas.List.{get_or-set_same, get_or-set_other, get_or_past, get_or_default, length-map, length-set}
 use Rattle.rtl_model.specs.basics.Valuations.{AgreeOn}
 use Rattle.rtl_model.proofs.basics.Lists.{Contains-none, get_or-map_within}
-use Rattle.rtl_model.specs.simulation.Net.{Net, process, target, HasPlace, IsCombinational}
+use Rattle.rtl_model.specs.simulation.Net.{Net, process, target, IsCombinational}
 use Rattle.rtl_model.specs.simulation.Elaborated.{IsElaborated}
 use Rattle.rtl_model.specs.simulation.Accepted.{IsAccepted, Feeds}
 use Rattle.rtl_model.proofs.simulation.Faultless.{faultless}

@@ -19,10 +19,10 @@ ghost use Rattle.rtl_synchronous.specs.Scheduled.{IsSchedule, without_level};
 ghost use Rattle.rtl_synchronous.specs.Steps.{ComesToRest};
 
 use crate::clocked::{run_marked, take_marked};
+use crate::initial::starting_codes;
 use crate::inputs::{set_each, set_inputs, take_inputs};
 use crate::outcomes::room_for;
 use crate::schedule::Schedule;
-use crate::initial::starting_codes;
 use crate::sweep::sweep;
 use rtl_eval::{Drives, Exec};
 use rtl_net::Net;

@@ -18,13 +18,7 @@ fn mark(marks: &mut Vec<bool>, numbers: &[usize])
 }
 
 /// Marks what is sensitive to a net, if the net is to get another value than it has.
-pub fn mark_followers(
-    groups: &Groups,
-    values: &[u8],
-    net: usize,
-    value: u8,
-    marks: &mut Vec<bool>,
-)
+pub fn mark_followers(groups: &Groups, values: &[u8], net: usize, value: u8, marks: &mut Vec<bool>)
     requires there { net < length values.now }
     requires each_net { length (wakers_of groups.now) ≡ length values.now }
     requires below { AreBelow (wakers_of groups.now) (length marks.old.items) }

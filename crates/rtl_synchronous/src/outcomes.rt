@@ -10,11 +10,7 @@ use rtl_net::Net;
 use std::alloc::{AllocError, Global};
 
 /// The room that the run of each process's body wants, in order of the processes.
-pub fn room_for<E: Exec>(
-    alloc: Global,
-    net: &Net,
-    bodies: &[E],
-) -> Result<Vec<Drives>, AllocError>
+pub fn room_for<E: Exec>(alloc: Global, net: &Net, bodies: &[E]) -> Result<Vec<Drives>, AllocError>
     requires { RunBodies E.process E.types (flat net.now) bodies.now }
     ensures { IfOk result (λ runs. HaveRoom E.most (flat net.now) bodies.now runs.items) }
 {

@@ -40,15 +40,7 @@ pub fn sweep<E: Exec>(
         if dirty[rank] {
             dirty[rank] = false;
             let process = schedule.order[rank];
-            settle(
-                net,
-                bodies,
-                &schedule.readers,
-                process,
-                runs,
-                values,
-                dirty,
-            );
+            settle(net, bodies, &schedule.readers, process, runs, values, dirty);
         }
     }
 }

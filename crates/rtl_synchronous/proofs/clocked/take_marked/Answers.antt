@@ -1,4 +1,4 @@
-use Rattle.std.proofs.Common.{◌≡◌, ◌<◌, ◌≤◌, ◌+◌, ℕ, true, false, List, Option, Contains, All, length, get_or, set, below_more, ap, sym, subst, ◌∙◌, arith}
+use Rattle.std.proofs.Common.{◌≡◌, ◌<◌, ◌≤◌, ℕ, false, List, Option, Contains, All, length, get_or, set, below_more, ap, sym, subst, ◌∙◌, arith}
 use Rattle.std.specs.Prelude.{⊤}
 use Rattle.std.proofs.lemmas.List.{get_or_default, get_or-set_other, get_or-set_same, length-set}
 use Rattle.rtl_model.specs.simulation.Net.{process}
@@ -85,13 +85,13 @@ loop-process-preserved c =
             rest = λ k l. get_or-set_other marked p k false false (omega arith) ∙ I.rest k (omega arith);
           })
       | else-index w ↦ rw (w.marked-is, w.values-is, w.dirty-is) (record {
-          taking = one_skipped (core net) L first entries p v u I.taking (sym (I.rest p (omega arith)) ∙ read ∙ w.if-index.false);
-          in_range = I.in_range;
-          dirty = I.dirty;
-          each_process = I.each_process;
-          off = below_more (λ (k : ℕ). get_or marked k false ≡ false) p I.off (read ∙ w.if-index.false);
-          rest = λ k l. I.rest k (omega arith);
-        })
+        taking = one_skipped (core net) L first entries p v u I.taking (sym (I.rest p (omega arith)) ∙ read ∙ w.if-index.false);
+        in_range = I.in_range;
+        dirty = I.dirty;
+        each_process = I.each_process;
+        off = below_more (λ (k : ℕ). get_or marked k false ≡ false) p I.off (read ∙ w.if-index.false);
+        rest = λ k l. I.rest k (omega arith);
+      })
     ]
 
 pub returns-clause-taken : goal.returns-clause-taken

@@ -1,4 +1,4 @@
-use Rattle.std.proofs.Common.{ℕ, ◌+◌, List, ap, sym, ◌∙◌, arith}
+use Rattle.std.proofs.Common.{ℕ, List, ap, sym, ◌∙◌, arith}
 use Rattle.std.proofs.lemmas.List.{drop_all, length-set}
 use Rattle.rtl_model.specs.simulation.Cycle.{changed}
 use Rattle.rtl_kernel.specs.kernel.Simulation.{each_given}

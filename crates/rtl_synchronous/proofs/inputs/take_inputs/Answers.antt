@@ -1,4 +1,4 @@
-use Rattle.std.proofs.Common.{◌≡◌, ℕ, get_or, set, ◌∙◌, length}
+use Rattle.std.proofs.Common.{◌≡◌, get_or, set, ◌∙◌}
 use Rattle.std.specs.Prelude.{⊤}
 use Rattle.std.proofs.lemmas.List.{length-map, length-set}
 use Rattle.vhdl_values.specs.declared.scalar.Nine.TheVariants.{U}

@@ -1,4 +1,4 @@
-use Rattle.std.proofs.Common.{◌≡◌, ◌<◌, ◌≤◌, ℕ, List, length, map, replicate, None, ap, sym, ◌∙◌, arith, get_or}
+use Rattle.std.proofs.Common.{◌≡◌, ◌<◌, List, length, map, None, ap, ◌∙◌, arith, get_or}
 use Rattle.std.proofs.lemmas.List.{get_or_default, length-map, length-replicate}
 use Rattle.rtl_model.specs.nets.FlatNet.{element_starts}
 use Rattle.rtl_eval.specs.Runs.{Outcome}

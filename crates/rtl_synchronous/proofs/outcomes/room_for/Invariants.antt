@@ -1,4 +1,3 @@
-use Rattle.std.proofs.Common.{◌≡◌, length}
 use Rattle.rtl_net.specs.Nets.{flat}
 use Rattle.rtl_synchronous.proofs.Rooms.{HaveRoomTo}
 use Rattle.rtl_synchronous.proofs.outcomes.room_for.Given as goal

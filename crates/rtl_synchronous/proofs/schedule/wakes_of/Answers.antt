@@ -1,4 +1,4 @@
-use Rattle.std.proofs.Common.{◌≡◌, ◌<◌, ℕ, List, [], ◌∷◌, ◌++◌, length, get_or, ap, sym, ◌∙◌}
+use Rattle.std.proofs.Common.{◌≡◌, ℕ, List, [], ◌∷◌, ◌++◌, get_or, ap, sym, ◌∙◌}
 use Rattle.std.proofs.lemmas.List.{map_more}
 use Rattle.rtl_model.specs.simulation.Net.{process}
 use Rattle.rtl_net.specs.declared.process.Process.{Process}

@@ -43,10 +43,10 @@ loop-rank-preserved g c =
                 (subst (λ (p : ℕ). Marks readers (Contains (process net p).drives) u w' (set dirty rank false) dirty') is w.settle.ensures.marks);
           })
       | else-index w ↦ rw (w.runs-is, w.values-is, w.dirty-is) (record {
-          may = I.may;
-          in_range = I.in_range;
-          sweeping = sweeping_skip net order readers clocked S E A rank v u dirty I.sweeping (get_or_default dirty rank false c.index.result.now there ∙ sym c.index.ensures ∙ w.if-index.false);
-        })
+        may = I.may;
+        in_range = I.in_range;
+        sweeping = sweeping_skip net order readers clocked S E A rank v u dirty I.sweeping (get_or_default dirty rank false c.index.result.now there ∙ sym c.index.ensures ∙ w.if-index.false);
+      })
     ]
 
 pub returns-clause-swept : goal.returns-clause-swept

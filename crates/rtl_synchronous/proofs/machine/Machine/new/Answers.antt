@@ -1,17 +1,15 @@
-use Rattle.std.proofs.Common.{◌≡◌, ◌<◌, ℕ, Bool, true, false, List, Option, get_or, length, map, replicate, ap, sym, subst, ◌∙◌, arith, refl}
-use Rattle.std.proofs.lemmas.List.{length-map, length-replicate}
+use Rattle.std.proofs.Common.{length, ap, sym, ◌∙◌, arith}
+use Rattle.std.proofs.lemmas.List.{length-map}
 use Rattle.std.proofs.lemmas.Option.{slice_get_within}
 use Rattle.rtl_model.specs.bodies.Types.{nine_valued}
-use Rattle.rtl_model.specs.simulation.Machine.{IsFirst}
 use Rattle.rtl_kernel.specs.kernel.Simulation.{each_given, initial_inputs}
 use Rattle.rtl_kernel.specs.values.TwoValues.{AreChanged}
 use Rattle.rtl_kernel.specs.wakes.Woken.{wakers_of}
 use Rattle.rtl_net.specs.Nets.{flat}
 use Rattle.rtl_synchronous.specs.Kept.{core, MayRun}
 use Rattle.rtl_synchronous.specs.Scheduled.{without_level}
-use Rattle.rtl_synchronous.specs.Steps.{ComesToRest}
 use Rattle.rtl_synchronous.proofs.Changed.{first_in_range, first_is}
-use Rattle.rtl_synchronous.proofs.Machines.{all_marked, clocked_marked, kept_first, marked_clocked}
+use Rattle.rtl_synchronous.proofs.Machines.{clocked_marked, kept_first, marked_clocked}
 use Rattle.rtl_synchronous.proofs.Stepping.{is_first}
 use Rattle.rtl_synchronous.proofs.Wired.{elaborated, processes_many}
 use Rattle.rtl_synchronous.proofs.machine.Machine.new.Goals as goal

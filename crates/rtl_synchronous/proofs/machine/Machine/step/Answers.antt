@@ -1,6 +1,4 @@
-use Rattle.std.proofs.Common.{ℕ, List, sym, subst, ◌∙◌}
-use Rattle.rtl_synchronous.specs.Kept.{core}
-use Rattle.rtl_synchronous.specs.Steps.{ComesToRest}
+use Rattle.std.proofs.Common.{sym, ◌∙◌}
 use Rattle.rtl_synchronous.proofs.Machines as machines
 use Rattle.rtl_synchronous.proofs.Sweeping.{readers_below}
 use Rattle.rtl_synchronous.proofs.Wired.{processes_many}

@@ -1,8 +1,7 @@
-use Rattle.std.proofs.Common.{◌≡◌, ◌<◌, ℕ, List, All, length, map, ap, sym, subst, ◌∙◌}
-use Rattle.rtl_kernel.specs.wakes.Woken.{IsIndex, wakers_of}
+use Rattle.std.proofs.Common.{◌≡◌, ◌<◌, ℕ, List, All, length, ap, sym, subst, ◌∙◌}
 use Rattle.rtl_kernel.proofs.Grouped.{groups_index}
 use Rattle.rtl_synchronous.specs.Kept.{core}
-use Rattle.rtl_synchronous.specs.Scheduled.{clocked_wakes, wakes_by_rank}
+use Rattle.rtl_synchronous.specs.Scheduled.{wakes_by_rank}
 use Rattle.rtl_synchronous.proofs.Ordering.{is_order}
 use Rattle.rtl_synchronous.proofs.Wired.{clocked_there, processes_many, rows_there}
 use Rattle.rtl_synchronous.proofs.schedule.Schedule.new.Goals as goal
