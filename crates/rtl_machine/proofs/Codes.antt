@@ -10,17 +10,17 @@ use Rattle.rtl_code.specs.Codes.{CodeOf, process_of}
 abbrev pub run_of : CodeOf → ProcessOf
 run_of code = code.process
 
+abbrev of_number : NetView → ℕ → ProcessOf
+of_number net number = record { net = net; number = number }
+
 module _ (net : NetView) (codes : List CodeOf) (are : map run_of codes ≡ processes_of net) where
-  of_number : ℕ → ProcessOf
-  of_number number = record { net = net; number = number }
-
   many : length codes ≡ length net.processes
-  many = sym (length-map codes run_of) ∙ ap length are ∙ length-map-range_with_len of_number 0 (length net.processes)
+  many = sym (length-map codes run_of) ∙ ap length are ∙ length-map-range_with_len (of_number net) 0 (length net.processes)
 
-  run_at : (p : ℕ) (d : CodeOf) → p < length codes → run_of (get_or codes p d) ≡ of_number p
+  run_at : (p : ℕ) (d : CodeOf) → p < length codes → run_of (get_or codes p d) ≡ of_number net p
   run_at p d less =
-      sym (get_or-map run_of codes p d (of_number p) less) ∙ ap (λ (ps : List ProcessOf). get_or ps p (of_number p)) are
-      ∙ get_or-map-range_with_len of_number 0 (length net.processes) p p (of_number p) (omega (arith, less, many)) (omega arith)
+      sym (get_or-map run_of codes p d (of_number net p) less) ∙ ap (λ (ps : List ProcessOf). get_or ps p (of_number net p)) are
+      ∙ get_or-map-range_with_len (of_number net) 0 (length net.processes) p p (of_number net p) (omega (arith, less, many)) (omega arith)
 
   pub codes_run : RunBodies process_of (λ (c : CodeOf). c.process.net.types) (flat net) codes
   codes_run = record {
