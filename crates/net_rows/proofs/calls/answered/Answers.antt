@@ -2,7 +2,7 @@ use Rattle.std.proofs.Common.{List, sym, subst, refl, ◌∙◌}
 use Rattle.rtl_net.specs.Nets.{flat}
 use Rattle.rtl_kernel.specs.kernel.Kept.{RunBodies}
 use Rattle.rtl_tree.specs.Trees.{ProcessOf, process_of, processes_of}
-use Rattle.net_rows.proofs.Calls.{trees_run}
+use Rattle.net_rows.proofs.Trees.{trees_run}
 use Rattle.net_rows.proofs.calls.answered.Goals as goal
 
 pub run-requires-clause-bodies : goal.run-requires-clause-bodies

@@ -1,7 +1,7 @@
 use Rattle.rtl_model.proofs.simulation.Order.{HasRun-done}
 use Rattle.rtl_model.specs.nets.CoreNet.{core_net}
 use Rattle.rtl_net.specs.Nets.{flat}
-use Rattle.net_rows.proofs.Calls.{run_bodies}
+use Rattle.net_rows.proofs.Trees.{run_bodies}
 use Rattle.net_rows.proofs.stepping.tell_bodies.Goals as goal
 
 pub new-requires-clause-bodies : goal.new-requires-clause-bodies
