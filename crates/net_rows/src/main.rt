@@ -1,11 +1,12 @@
 //! Rows of elaborated nets: reads the tables in `data/`, and prints for each row what its processes reach, what the checker
 //! reports and a second look lets stand, and what comes of a simulation. Then it prints what the kernel does step by step, with
-//! the processes in several orders.
+//! the processes in several orders, once for bodies as trees and once for bodies as codes; and what agendas give.
 //!
 //! A row that is as expected is printed as it stands in its table; of any other it is said what was found. So the
 //! transcript is the tables, comments aside.
 #![tactic(auto)]
 
+mod agendas;
 mod bodies;
 mod calls;
 mod change;
@@ -22,6 +23,8 @@ mod stepping;
 mod tries;
 mod ways;
 
+use agendas::tell_agendas;
+use bodies::Bodies;
 use orders::tell_orders;
 use outcome::Processes;
 use row_text::tell_table;
@@ -34,5 +37,9 @@ fn main(rt: HostRuntime) -> io::Result<()> {
     tell_table(&rt, "reports.rows", &Tries)?;
     tell_runs(&rt, "traces.rows")?;
     tell_runs(&rt, "faults.rows")?;
-    tell_orders(&rt)
+    println!(rt; "bodies as trees")?;
+    tell_orders(&rt, Bodies::Trees)?;
+    println!(rt; "bodies as codes")?;
+    tell_orders(&rt, Bodies::Codes)?;
+    tell_agendas(&rt)
 }

@@ -1,6 +1,7 @@
-//! Rows of the kernel: nets whose processes run in several orders, with what they come to step by step. What is printed of
-//! nets are codes of the nine values: 0 for 'U', 1 for 'X', 2 for '0' and 3 for '1'.
+//! Rows of the kernel: nets whose processes run in several orders, with what they come to step by step, their bodies as trees and
+//! as codes. What is printed of nets are codes of the nine values: 0 for 'U', 1 for 'X', 2 for '0' and 3 for '1'.
 
+use crate::bodies::Bodies;
 use crate::courses::{
     COUNTER, CUT_COUNTER, Course, OSCILLATOR_FROM_0, OSCILLATOR_FROM_U, REGISTERS, SIBLINGS,
     THREE_REGISTERS, TWO_DRIVERS,
@@ -10,55 +11,75 @@ use crate::stepping::tell_course;
 use rtl_kernel::{Forward, Reverse};
 use std::io;
 
-/// Prints the rows.
-pub fn tell_orders(rt: &(impl Print + AllocGlobal)) -> io::Result<()> {
-    tell_course(
-        rt,
+/// Which of the processes that are to run is run next.
+#[derive(Clone, Copy)]
+enum Order {
+    Forward,
+    Reverse,
+    /// The first, where it is told among how many it was.
+    First,
+    /// The one in the middle, likewise.
+    Middle,
+}
+
+const ROWS: &[(&str, &Course, Order)] = &[
+    (
         "counter, forward, 2 delta cycles at most",
         COUNTER,
-        &mut Forward,
-    )?;
-    tell_course(
-        rt,
+        Order::Forward,
+    ),
+    (
         "counter, reverse, 2 delta cycles at most",
         COUNTER,
-        &mut Reverse,
-    )?;
-    tell_course(
-        rt,
+        Order::Reverse,
+    ),
+    (
         "counter, forward, 1 delta cycle at most",
         CUT_COUNTER,
-        &mut Forward,
-    )?;
-    tell_course(rt, "registers, forward", REGISTERS, &mut Forward)?;
-    tell_course(rt, "registers, reverse", REGISTERS, &mut Reverse)?;
-    tell_asked(rt, "registers, recorded", REGISTERS, false)?;
-    tell_course(rt, "oscillator from 'U'", OSCILLATOR_FROM_U, &mut Forward)?;
-    tell_course(rt, "oscillator from '0'", OSCILLATOR_FROM_0, &mut Forward)?;
-    tell_course(rt, "two drivers", TWO_DRIVERS, &mut Forward)?;
-    tell_course(rt, "siblings: a, y, z", SIBLINGS, &mut Forward)?;
-    tell_course(
-        rt,
+        Order::Forward,
+    ),
+    ("registers, forward", REGISTERS, Order::Forward),
+    ("registers, reverse", REGISTERS, Order::Reverse),
+    ("registers, recorded", REGISTERS, Order::First),
+    ("oscillator from 'U'", OSCILLATOR_FROM_U, Order::Forward),
+    ("oscillator from '0'", OSCILLATOR_FROM_0, Order::Forward),
+    ("two drivers", TWO_DRIVERS, Order::Forward),
+    ("siblings: a, y, z", SIBLINGS, Order::Forward),
+    (
         "registers, forward: clk, d, q1, q2, q3",
         THREE_REGISTERS,
-        &mut Forward,
-    )?;
-    tell_course(rt, "registers, reverse", THREE_REGISTERS, &mut Reverse)?;
-    tell_asked(rt, "registers, from the middle", THREE_REGISTERS, true)
+        Order::Forward,
+    ),
+    ("registers, reverse", THREE_REGISTERS, Order::Reverse),
+    ("registers, from the middle", THREE_REGISTERS, Order::Middle),
+];
+
+/// Prints the rows, for bodies of a form.
+pub fn tell_orders(rt: &(impl Print + AllocGlobal), form: Bodies) -> io::Result<()> {
+    for (head, course, order) in ROWS {
+        println!(rt; "{head}")?;
+        match order {
+            Order::Forward => tell_course(rt, course, form, &mut Forward)?,
+            Order::Reverse => tell_course(rt, course, form, &mut Reverse)?,
+            Order::First => tell_asked(rt, course, form, false)?,
+            Order::Middle => tell_asked(rt, course, form, true)?,
+        }
+    }
+    Ok(())
 }
 
 /// Prints a row, and among how many processes one was to be taken each time.
 fn tell_asked(
     rt: &(impl Print + AllocGlobal),
-    head: &str,
     course: &Course,
+    form: Bodies,
     is_middle: bool,
 ) -> io::Result<()> {
     let mut pick = Asked {
         counts: Vec::new(rt.alloc()),
         is_middle,
     };
-    tell_course(rt, head, course, &mut pick)?;
+    tell_course(rt, course, form, &mut pick)?;
     for count in &pick.counts {
         println!(rt; "  asked for one of {count}")?;
     }

@@ -1,12 +1,15 @@
 //! The kernel, step by step.
 
-ghost use Rattle.std.specs.Prelude.{◌≡◌, map};
+ghost use Rattle.std.specs.Prelude.{◌≡◌};
+ghost use Rattle.rtl_kernel.specs.kernel.Kept.{RunBodies};
 ghost use Rattle.rtl_model.specs.simulation.Moments.{HasNoneToRun};
-ghost use Rattle.rtl_tree.specs.Trees.{processes_of};
+ghost use Rattle.rtl_net.specs.Nets.{flat};
 
-use crate::bodies::{Stamped, with_stamps};
+use crate::bodies::{Bodies, Stamped, with_stamps};
 use crate::courses::{Course, Form};
 use crate::nets::net_named;
+use rtl_code::codes;
+use rtl_eval::Exec;
 use rtl_kernel::{Kernel, Pick};
 use rtl_net::Net;
 use rtl_tree::trees;
@@ -14,16 +17,15 @@ use std::cell::Cell;
 use std::io;
 use vhdl_values::Nine;
 
-/// Prints a line, starts a net, and prints what it comes to at each step.
+/// Starts a net, whose bodies have this form, and prints what it comes to at each step.
 pub fn tell_course<P: Pick>(
     rt: &(impl Print + AllocGlobal),
-    head: &str,
     course: &Course,
+    form: Bodies,
     pick: &mut P,
 ) -> io::Result<()> {
-    println!(rt; "{head}")?;
     match net_named(rt.alloc(), course.net) {
-        Some(net) => tell_net(rt, &net, course, pick),
+        Some(net) => tell_net(rt, &net, course, form, pick),
         None => println!(rt; "no net has this name"),
     }
 }
@@ -32,22 +34,43 @@ fn tell_net<P: Pick>(
     rt: &(impl Print + AllocGlobal),
     net: &Net,
     course: &Course,
+    form: Bodies,
     pick: &mut P,
 ) -> io::Result<()> {
-    let count = Cell::new(0);
-    let trees = trees(rt.alloc(), net)?;
-    let bodies = with_stamps(rt.alloc(), &trees, &count)?;
-    tell_bodies(rt, net, &bodies, course, pick)
+    match form {
+        Bodies::Trees => {
+            let trees = trees(rt.alloc(), net)?;
+            tell_bodies(rt, net, &trees, course, pick)
+        }
+        Bodies::Codes => {
+            let codes = codes(rt.alloc(), net)?;
+            tell_bodies(rt, net, &codes, course, pick)
+        }
+    }
 }
 
-fn tell_bodies<P: Pick>(
+fn tell_bodies<E: Exec, P: Pick>(
     rt: &(impl Print + AllocGlobal),
     net: &Net,
-    bodies: &[Stamped<'_>],
+    bodies: &[E],
     course: &Course,
     pick: &mut P,
 ) -> io::Result<()>
-    requires { map (λ b. b.tree.now) bodies.now ≡ processes_of net.now }
+    requires { RunBodies E.process E.types (flat net.now) bodies.now }
+{
+    let count = Cell::new(0);
+    let stamped = with_stamps(rt.alloc(), bodies, &count)?;
+    tell_stamped(rt, net, &stamped, course, pick)
+}
+
+fn tell_stamped<E: Exec, P: Pick>(
+    rt: &(impl Print + AllocGlobal),
+    net: &Net,
+    bodies: &[Stamped<'_, E>],
+    course: &Course,
+    pick: &mut P,
+) -> io::Result<()>
+    requires { RunBodies (λ b. E.process b.body.now) (λ b. E.types b.body.now) (flat net.now) bodies.now }
 {
     if course.initial.len() != net.inputs().len() {
         return println!(rt; "no such inputs");
@@ -58,11 +81,11 @@ fn tell_bodies<P: Pick>(
 }
 
 /// Prints what a net comes to behind its start.
-fn tell_steps<P: Pick>(
+fn tell_steps<E: Exec, P: Pick>(
     rt: &impl Print,
     net: &Net,
-    bodies: &[Stamped<'_>],
-    kernel: &mut Kernel<'_, Stamped<'_>>,
+    bodies: &[Stamped<'_, E>],
+    kernel: &mut Kernel<'_, Stamped<'_, E>>,
     course: &Course,
     pick: &mut P,
 ) -> io::Result<()>
@@ -84,9 +107,9 @@ fn tell_steps<P: Pick>(
 }
 
 /// Lets the start settle, and prints in how many delta cycles it does.
-fn tell_start<P: Pick>(
+fn tell_start<E: Exec, P: Pick>(
     rt: &impl Print,
-    kernel: &mut Kernel<'_, Stamped<'_>>,
+    kernel: &mut Kernel<'_, Stamped<'_, E>>,
     limit: u32,
     pick: &mut P,
 ) -> io::Result<()>
@@ -101,7 +124,12 @@ fn tell_start<P: Pick>(
 }
 
 /// Gives the first input a value, where there is one and no driver is active.
-fn change<P: Pick>(net: &Net, kernel: &mut Kernel<'_, Stamped<'_>>, value: Nine, pick: &mut P)
+fn change<E: Exec, P: Pick>(
+    net: &Net,
+    kernel: &mut Kernel<'_, Stamped<'_, E>>,
+    value: Nine,
+    pick: &mut P,
+)
     requires net { kernel.old.net ≡ net.now }
     requires ready { HasNoneToRun kernel.old.state }
     ensures net { kernel.new.net ≡ kernel.old.net }
@@ -114,9 +142,9 @@ fn change<P: Pick>(net: &Net, kernel: &mut Kernel<'_, Stamped<'_>>, value: Nine,
 }
 
 /// Lets a net settle, and prints what it comes to.
-fn tell_step<P: Pick>(
+fn tell_step<E: Exec, P: Pick>(
     rt: &impl Print,
-    kernel: &mut Kernel<'_, Stamped<'_>>,
+    kernel: &mut Kernel<'_, Stamped<'_, E>>,
     limit: u32,
     form: &Form,
     pick: &mut P,
@@ -148,7 +176,7 @@ fn tell_values(rt: &impl Print, values: &[u8], form: &Form) -> io::Result<()> {
 }
 
 /// Prints of each body which run its last one was, where a form has it.
-fn tell_order(rt: &impl Print, bodies: &[Stamped<'_>], form: &Form) -> io::Result<()> {
+fn tell_order<E: Exec>(rt: &impl Print, bodies: &[Stamped<'_, E>], form: &Form) -> io::Result<()> {
     if !form.has_order {
         return Ok(());
     }
