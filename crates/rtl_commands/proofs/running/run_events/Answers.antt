@@ -1,6 +1,5 @@
 use Rattle.std.proofs.Common.{map, sym, ap, ◌∙◌}
 use Rattle.std.proofs.lemmas.Bool.{eqb-true}
-use Rattle.rtl_commands.specs.Simulated.{IsStimulusOf}
 use Rattle.rtl_commands.proofs.Listed.{unrun, none_stored, run_failed, began}
 use Rattle.rtl_machine.proofs.Codes.{run_of, codes_run}
 use Rattle.rtl_commands.proofs.running.run_events.Goals as goal
@@ -16,13 +15,11 @@ pub returns-in_err-summary : goal.returns-in_err-summary
 returns-in_err-summary g c =
     let stored = c.in_ok-stored.stored in
     let none = none_stored c.args.net.now stored.items stored.len c.in_ok-stored.ensures stored.ok.0 (eqb-true stored.len 0 (sym c.is_empty.ensures ∙ c.if-not-is_empty.false)) in
-    let said : IsStimulusOf c.args.net.now c.args.stimulus.now c.in_ok-stimulus.stimulus = record { inputs = c.in_ok-stimulus.ensures.0; said = c.in_ok-stimulus.ensures.1 } in
     run_failed c.args.stimulus.now c.args.net.now _ _ _ _ c.from_residual-in_err-summary.ensures.1
-    (began c.args.stimulus.now c.args.net.now c.in_ok-stimulus.stimulus _ _ _ none said c.in_err-summary.ensures)
+    (began c.args.stimulus.now c.args.net.now c.in_ok-stimulus.stimulus _ _ _ none c.in_ok-stimulus.ensures c.in_err-summary.ensures)
 
 pub returns : goal.returns
 returns g c =
     let stored = c.in_ok-stored.stored in
     let none = none_stored c.args.net.now stored.items stored.len c.in_ok-stored.ensures stored.ok.0 (eqb-true stored.len 0 (sym c.is_empty.ensures ∙ c.if-not-is_empty.false)) in
-    let said : IsStimulusOf c.args.net.now c.args.stimulus.now c.in_ok-stimulus.stimulus = record { inputs = c.in_ok-stimulus.ensures.0; said = c.in_ok-stimulus.ensures.1 } in
-    began c.args.stimulus.now c.args.net.now c.in_ok-stimulus.stimulus _ _ _ none said c.in_ok-summary.ensures
+    began c.args.stimulus.now c.args.net.now c.in_ok-stimulus.stimulus _ _ _ none c.in_ok-stimulus.ensures c.in_ok-summary.ensures
