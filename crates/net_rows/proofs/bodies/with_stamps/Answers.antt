@@ -3,4 +3,4 @@ use Rattle.std.proofs.lemmas.List.{take_all}
 use Rattle.net_rows.proofs.bodies.with_stamps.Goals as goal
 
 pub returns : goal.returns
-returns c = c.loop-tree.invariant ∙ take_all c.loop-tree.tree-index c.args.trees.now (omega arith)
+returns g c = c.loop-body.invariant ∙ take_all c.loop-body.body-index c.args.bodies.now (omega arith)
