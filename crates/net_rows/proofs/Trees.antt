@@ -24,10 +24,10 @@ of_number net number = record { net = net; number = number }
 -- the trees of a net's processes run its bodies
 pub trees_run : (net : NetView) (trees : List ProcessOf) → trees ≡ processes_of net → RunBodies process_of (λ (p : ProcessOf). p.net.types) (flat net) trees
 trees_run net trees e = subst (λ (ts : List ProcessOf). RunBodies process_of (λ (p : ProcessOf). p.net.types) (flat net) ts) (sym e) (record {
-    as_many = many ∙ sym (length-map net.processes process_view);
-    each = λ p d l. ap process_of (tree_at p d (omega (arith, l, many)));
-    among = λ p d l. ap (λ (q : ProcessOf). q.net.types) (tree_at p d (omega (arith, l, many)));
-  })
+  as_many = many ∙ sym (length-map net.processes process_view);
+  each = λ p d l. ap process_of (tree_at p d (omega (arith, l, many)));
+  among = λ p d l. ap (λ (q : ProcessOf). q.net.types) (tree_at p d (omega (arith, l, many)));
+})
   where
     many : length (processes_of net) ≡ length net.processes
     many = length-map-range_with_len (of_number net) 0 (length net.processes)
