@@ -19,13 +19,14 @@ pub fn change(report: &mut Report, line: &str) -> Result<bool, AllocError> {
     let mut words = line.split(' ');
     let word = words.next().unwrap_or("");
     let field = words.next().unwrap_or("");
+    let given = words.next().unwrap_or("");
     let first = number(field).unwrap_or(0);
-    let second = number(words.next().unwrap_or(""));
+    let second = number(given);
     let edge = edge_of(words.next().unwrap_or(""));
     match word.as_bytes() {
         b"" => {}
-        b"bound" => report.bound = small(first),
-        b"level" => put(&mut report.levels, first, second.map(small))?,
+        b"bound" => report.bound = field.parse::<u32>().unwrap_or(0),
+        b"level" => put(&mut report.levels, first, given.parse::<u32>().ok())?,
         b"from" => put(&mut report.from, first, second)?,
         b"clock" => put(&mut report.clocks, first, (second.unwrap_or(0), edge))?,
         b"drop" => return Ok(drop_last(report, field)),
@@ -36,10 +37,6 @@ pub fn change(report: &mut Report, line: &str) -> Result<bool, AllocError> {
 
 fn number(word: &str) -> Option<usize> {
     word.parse::<usize>().ok()
-}
-
-fn small(number: usize) -> u32 {
-    u32::try_from(number).unwrap_or(u32::MAX)
 }
 
 fn edge_of(word: &str) -> Edge {

@@ -1,4 +1,4 @@
-//! The nets that rows of simulations name, as VHDL.
+//! The nets that rows of simulations and of the kernel name, as VHDL.
 
 ghost use Rattle.std.specs.Prelude.{IfSome};
 ghost use Rattle.rtl_moments.specs.Ports.{HasOwnPorts};
@@ -22,6 +22,15 @@ const FROM_0: &str =
 const REGISTERS: &str =
     "library ieee; use ieee.std_logic_1164.all; entity row is port (clk, d : in std_logic); end; architecture r of row is signal q1, q2 : std_logic := '0'; begin process (clk) begin if rising_edge(clk) then q1 <= d; end if; end process; process (clk) begin if rising_edge(clk) then q2 <= q1; end if; end process; end;";
 
+const THREE_REGISTERS: &str =
+    "library ieee; use ieee.std_logic_1164.all; entity row is port (clk, d : in std_logic); end; architecture r of row is signal q1, q2, q3 : std_logic := '0'; begin process (clk) begin if rising_edge(clk) then q1 <= d; end if; end process; process (clk) begin if rising_edge(clk) then q2 <= q1; end if; end process; process (clk) begin if rising_edge(clk) then q3 <= q2; end if; end process; end;";
+
+const TWO_DRIVERS: &str =
+    "library ieee; use ieee.std_logic_1164.all; entity two is end; architecture r of two is signal s : std_logic; begin s <= '0'; s <= '1'; end;";
+
+const SIBLINGS: &str =
+    "library ieee; use ieee.std_logic_1164.all; entity sib is port (a : in std_logic); end; architecture r of sib is signal y, z : std_logic; begin z <= not a; process (a, z) begin y <= a; end process; end;";
+
 /// The net of a name, if it has one.
 pub fn net_named(alloc: Global, name: &str) -> Option<Net>
     ensures { IfSome result HasOwnPorts }
@@ -41,6 +50,9 @@ fn text_of(name: &str) -> (&'static str, &'static str) {
         b"oscillator_from_U" => (FROM_U, "osc"),
         b"oscillator_from_0" => (FROM_0, "osc"),
         b"registers" => (REGISTERS, "row"),
+        b"three_registers" => (THREE_REGISTERS, "row"),
+        b"two_drivers" => (TWO_DRIVERS, "two"),
+        b"siblings" => (SIBLINGS, "sib"),
         _ => ("", ""),
     }
 }

@@ -1,5 +1,5 @@
 -- A net's faults, or its loop.
-use Rattle.std.proofs.Common.{◌≡◌, ◌==◌, ℕ, true, false, List, [], ◌∷◌, ◌++◌, length, map, refl, sym, ap, subst, ◌∙◌, arith, inl, inr, Vec, Global, vec_len}
+use Rattle.std.proofs.Common.{◌≡◌, ◌==◌, ℕ, zero, suc, true, false, List, [], ◌∷◌, ◌++◌, length, map, refl, sym, ap, subst, ◌∙◌, arith, inl, inr, Vec, Global, vec_len}
 use Rattle.std.specs.Prelude.{IsTrue, ◌↔◌}
 use Rattle.std.proofs.lemmas.Bool.{eqb-true}
 use Rattle.rtl_model.specs.simulation.Net.{Net}
@@ -8,9 +8,11 @@ use Rattle.rtl_model.specs.simulation.Faults.{AreFaults, AreFaultsButLoops}
 use Rattle.rtl_model.specs.simulation.Laws.{FaultsAreListed}
 use Rattle.rtl_levels.specs.Feeding as t
 use Rattle.rtl_levels.specs.OfNets.{IsTableOf}
+use Rattle.rtl_levels.specs.Rounds.{IsListedOnce}
 use Rattle.rtl_check.specs.declared.fault.CheckFault.{CheckFault}
 use Rattle.rtl_check.specs.declared.fault.CheckFault.TheVariants as c
 use Rattle.rtl_check.specs.Views.{fault_view}
+use Rattle.rtl_check.specs.Verdicts.{AreLoopsOnce}
 
 some_faults : (xs : List CheckFault) → (length xs == 0) ≡ false → map fault_view xs ≡ [] → ⊥
 some_faults [] e h = cc
@@ -44,3 +46,20 @@ refused net faults laws h = (to, λ a. absurd (laws.none_if_accepted faults h a)
   where
     to : false ≡ true → f.IsAccepted net
     to e = absurd cc
+
+-- ---- loops are listed once
+
+-- no loop stands among the other faults
+pub none_once : (net : Net) (faults : List f.Fault) → AreFaultsButLoops net faults → AreLoopsOnce faults
+none_once net faults h processes has = let no : false ≡ true = ((h.are (f.Loop processes)).0 has).1 in absurd cc
+
+same_loop : (round processes : List ℕ) → f.Loop round ≡ f.Loop processes → round ≡ processes
+same_loop round processes e = cc
+
+one_once : (round : List ℕ) → IsListedOnce round → AreLoopsOnce (f.Loop round ∷ [])
+one_once round once processes (zero, l, is) = subst IsListedOnce (same_loop round processes is) once
+one_once round once processes (suc k, l, is) = absurd (omega arith)
+
+pub looped_once : (old new : List CheckFault) (round : Vec ℕ Global) → old ≡ [] → new ≡ old ++ c.Loop round ∷ [] → IsListedOnce round.items → AreLoopsOnce (map fault_view new)
+looped_once old new round none e once =
+    subst AreLoopsOnce (sym (ap (map fault_view) (e ∙ ap (λ (xs : List CheckFault). xs ++ c.Loop round ∷ []) none))) (one_once round.items once)

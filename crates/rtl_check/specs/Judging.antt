@@ -1,5 +1,5 @@
 -- What is found of a net: faults, or levels.
-use Rattle.std.specs.Prelude.{[], map}
+use Rattle.std.specs.Prelude.{⊤, [], map}
 use Rattle.rtl_model.specs.simulation.Net.{Net}
 use Rattle.rtl_model.specs.simulation.Faults.{AreFaults, AreFaultsButLoops}
 use Rattle.rtl_levels.specs.declared.order.Levels.{Levels}
@@ -9,6 +9,7 @@ use Rattle.rtl_levels.specs.OfNets.{IsTableOf}
 use Rattle.rtl_check.specs.declared.judging.Judged.{Judged}
 use Rattle.rtl_check.specs.declared.judging.Judged.TheVariants.{Faulty, Leveled}
 use Rattle.rtl_check.specs.Views.{fault_view}
+use Rattle.rtl_check.specs.Verdicts.{AreLoopsOnce}
 
 -- no fault is found before loops are looked for, and its combinational processes have levels
 pub record IsLeveled (net : Net) (levels : Levels) : Type 0 where
@@ -20,3 +21,7 @@ pub record IsLeveled (net : Net) (levels : Levels) : Type 0 where
 abbrev pub IsJudged : Net → Judged → Type 0
 IsJudged net (Faulty faults) = AreFaults net (map fault_view faults.items)
 IsJudged net (Leveled levels) = IsLeveled net levels
+
+abbrev pub JudgesLoopsOnce : Judged → Type 0
+JudgesLoopsOnce (Faulty faults) = AreLoopsOnce (map fault_view faults.items)
+JudgesLoopsOnce (Leveled levels) = ⊤

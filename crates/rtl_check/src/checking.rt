@@ -3,7 +3,7 @@
 ghost use Rattle.std.specs.Prelude.{◌↔◌, IfOk, IsTrue};
 ghost use Rattle.rtl_model.specs.simulation.Accepted.{IsAccepted};
 ghost use Rattle.rtl_check.specs.Views.{core};
-ghost use Rattle.rtl_check.specs.Verdicts.{IsVerdict, is_yes};
+ghost use Rattle.rtl_check.specs.Verdicts.{IsVerdict, ListsLoopsOnce, is_yes};
 
 use crate::clocks::clock_nets;
 use crate::fault::CheckFault;
@@ -19,7 +19,8 @@ use std::alloc::Global;
 pub enum Verdict {
     /// It is accepted, and this is the report on it.
     Yes(Report),
-    /// It has these faults: all but loops, in order, each once; or one loop, where it has no other.
+    /// It has these faults: all but loops, in order, each once; or one loop, where it has no other, listed once round from its
+    /// lowest process.
     No(Vec<CheckFault>),
 }
 
@@ -29,6 +30,7 @@ pub enum Verdict {
 pub fn check(alloc: Global, net: &Net) -> Result<Verdict, NoMemory>
     ensures verdict { IfOk result (IsVerdict (core net.now)) }
     ensures yes { IfOk result (λ v. IsTrue (is_yes v) ↔ IsAccepted (core net.now)) }
+    ensures once { IfOk result ListsLoopsOnce }
 {
     simulation_laws::faults_are_listed();
     let kinds = kinds_of(alloc, net)?;

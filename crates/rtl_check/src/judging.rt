@@ -3,7 +3,7 @@
 ghost use Rattle.std.specs.Prelude.{IfOk};
 ghost use Rattle.rtl_check.specs.Views.{core, AreKinds};
 ghost use Rattle.rtl_check.specs.Rules.{AreClockNets};
-ghost use Rattle.rtl_check.specs.Judging.{IsJudged};
+ghost use Rattle.rtl_check.specs.Judging.{IsJudged, JudgesLoopsOnce};
 
 use crate::fault::CheckFault;
 use crate::faults::faults_of;
@@ -27,7 +27,8 @@ pub enum Judged {
 pub fn judge(alloc: Global, net: &Net, kinds: &[Kind], clocks: &[usize]) -> Result<Judged, NoMemory>
     requires kinds { AreKinds (core net.now) kinds.now }
     requires clocks { AreClockNets (core net.now) clocks.now }
-    ensures { IfOk result (IsJudged (core net.now)) }
+    ensures judged { IfOk result (IsJudged (core net.now)) }
+    ensures once { IfOk result JudgesLoopsOnce }
 {
     tables_are_of_nets();
     let _nets = net.nets();

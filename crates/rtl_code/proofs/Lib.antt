@@ -1,11 +1,14 @@
 pub mod Leading
+pub mod Copied
 pub mod Places
 pub mod Lengths
 pub mod Expressions
 pub mod Tests
 pub mod Values
+pub mod Jumps
 pub mod Effects
 pub mod Statements
+pub mod Given
 pub mod Branches
 pub mod Alternatives
 pub mod Backwards

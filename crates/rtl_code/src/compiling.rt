@@ -1,6 +1,8 @@
 //! From a body to instructions.
 
+mod assignments;
 mod expressions;
+mod jumps;
 mod statements;
 mod tests;
 mod values;

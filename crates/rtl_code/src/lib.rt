@@ -6,6 +6,7 @@
 
 mod code;
 mod compiling;
+mod giving;
 mod instruction;
 mod judging;
 mod running;

@@ -1,14 +1,14 @@
 -- What a listing answers as a command.
 use Rattle.std.proofs.Common.{◌≡◌, ◌≢◌, ℕ, Bool, List, [], length, Result, Ok, Err, map, inl, inr, refl, sym, ◌∙◌, subst, ◌∷◌, arith}
 use Rattle.std.specs.Prelude.{IsErrAnd}
-use Rattle.rtl_check.specs.Verdicts.{IsVerdict}
+use Rattle.rtl_check.specs.Verdicts.{IsVerdict, ListsLoopsOnce}
 use Rattle.rtl_check.specs.Views.{core, fault_view}
 use Rattle.rtl_check.specs.declared.fault.CheckFault.{CheckFault}
 use Rattle.rtl_model.specs.simulation.Faults.{AreStored}
 use Rattle.rtl_check.specs.declared.checking.Verdict.{Verdict}
 use Rattle.rtl_commands.specs.Faults.{of_listing, of_run, of_stim}
 use Rattle.rtl_commands.specs.Listed.{Writes, ChecksNet}
-use Rattle.rtl_commands.specs.Simulated.{HasNoneStored, IsStimulusOf, Simulates, RunsEvents, most_deltas}
+use Rattle.rtl_commands.specs.Simulated.{HasNoneStored, Simulates, RunsEvents, most_deltas}
 use Rattle.rtl_commands.specs.declared.faults.Fault.{Fault}
 use Rattle.rtl_commands.specs.declared.faults.Fault.TheVariants.{Memory}
 use Rattle.rtl_listing.specs.CheckText.{check_text}
@@ -16,7 +16,7 @@ use Rattle.rtl_listing.specs.Printing.{IsListed}
 use Rattle.rtl_listing.specs.declared.fault.ListingFault.{ListingFault}
 use Rattle.rtl_listing.specs.declared.fault.ListingFault.TheVariants as listing
 use Rattle.rtl_moments.specs.Ports.{inputs_of}
-use Rattle.rtl_moments.specs.Stimuli.{StimulusView}
+use Rattle.rtl_moments.specs.Stimuli.{StimulusView, IsRead}
 use Rattle.rtl_net.specs.Nets.{NetView}
 use Rattle.rtl_run.specs.Answered.{Answers}
 use Rattle.rtl_run.specs.declared.summary.RunFault.{RunFault}
@@ -39,10 +39,10 @@ lists_failed net text (Err f) fault old new h listed = rw h (writes_listing (Uni
 
 -- a verdict whose listing fails
 pub checks_failed : (net : NetView) (verdict : Verdict) (answer : Result Bool Fault) (fault : ListingFault) (old new : SinkState) → IsErrAnd answer (λ f. f ≡ of_listing fault)
-    → IsVerdict (core net) verdict → IsListed {T = Unit {0}} (Err fault) old new (check_text net verdict) → ChecksNet net answer old new
-checks_failed net verdict (Ok x) fault old new h is listed = absurd h
-checks_failed net verdict (Err f) fault old new h is listed =
-    inl (record { verdict = verdict; is = is; written = rw h (writes_listing Bool (check_text net verdict) fault old new listed) })
+    → IsVerdict (core net) verdict → ListsLoopsOnce verdict → IsListed {T = Unit {0}} (Err fault) old new (check_text net verdict) → ChecksNet net answer old new
+checks_failed net verdict (Ok x) fault old new h is once listed = absurd h
+checks_failed net verdict (Err f) fault old new h is once listed =
+    inl (record { verdict = verdict; is = is; once = once; written = rw h (writes_listing Bool (check_text net verdict) fault old new listed) })
 
 -- no verdict for want of memory
 pub unchecked : (net : NetView) (answer : Result Bool Fault) (old : SinkState) → IsErrAnd answer (λ f. f ≡ Memory) → ChecksNet net answer old old
@@ -76,7 +76,7 @@ none_stored net [] count h is none = h
 none_stored net (f ∷ fs) count h is none = let some = sym is ∙ none in absurd (omega (arith, some))
 
 -- what a simulation answers, where it began
-pub began : (text : List ℕ) (net : NetView) (s : StimulusView) (answer : Result Summary RunFault) (old new : SinkState) → HasNoneStored net → IsStimulusOf net text s
+pub began : (text : List ℕ) (net : NetView) (s : StimulusView) (answer : Result Summary RunFault) (old new : SinkState) → HasNoneStored net → IsRead net text (Ok s)
     → Answers net s most_deltas old new answer → Simulates text net answer old new
 began text net s answer old new none said answers = record { none_stored = none; stimulus = s; said = said; answers = answers }
 

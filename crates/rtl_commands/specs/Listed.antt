@@ -1,6 +1,6 @@
 -- What `net` and `check` write of a net.
 use Rattle.std.specs.Prelude.{◌≡◌, ◌⊎◌, ℕ, Bool, List, Result, Ok, Err}
-use Rattle.rtl_check.specs.Verdicts.{IsVerdict, is_yes}
+use Rattle.rtl_check.specs.Verdicts.{IsVerdict, ListsLoopsOnce, is_yes}
 use Rattle.rtl_check.specs.Views.{core}
 use Rattle.rtl_check.specs.declared.checking.Verdict.{Verdict}
 use Rattle.rtl_commands.specs.declared.faults.Fault.{Fault}
@@ -21,10 +21,11 @@ Writes text (Err _) old new = ⊥
 abbrev pub ListsNet : NetView → Result (Unit {0}) Fault → (old new : SinkState) → Type 0
 ListsNet net answer old new = Writes (net_text net) answer old new
 
--- the lines of the checker's one verdict on the net
+-- the lines of the checker's verdict on the net, in which a loop stands once round
 pub record WritesVerdict (net : NetView) (answer : Result Bool Fault) (old new : SinkState) : Type 0 where
   pub verdict : Verdict
   pub is : IsVerdict (core net) verdict
+  pub once : ListsLoopsOnce verdict
   pub written : Writes (check_text net verdict) answer old new
 
 -- it answers whether the verdict is yes; memory may also be refused before there is one

@@ -6,7 +6,7 @@ use Rattle.rtl_commands.specs.declared.faults.Fault.{Fault}
 use Rattle.rtl_commands.specs.declared.faults.Fault.TheVariants.{Rejected, Stim, NoSettling, Memory, Output}
 use Rattle.rtl_model.specs.simulation.Faults.{AreStored}
 use Rattle.rtl_moments.specs.Ports.{inputs_of}
-use Rattle.rtl_moments.specs.Stimuli.{StimulusView}
+use Rattle.rtl_moments.specs.Stimuli.{StimulusView, IsRead}
 use Rattle.rtl_net.specs.Nets.{NetView}
 use Rattle.rtl_run.specs.Answered.{Answers}
 use Rattle.rtl_run.specs.declared.summary.RunFault.{RunFault}
@@ -20,11 +20,6 @@ use Rattle.rtl_stim.specs.declared.faults.StimFault.TheVariants as stim
 abbrev pub most_deltas : ℕ
 most_deltas = 1000
 
--- the text is a stimulus of the net's in ports
-pub record IsStimulusOf (net : NetView) (text : List ℕ) (stimulus : StimulusView) : Type 0 where
-  pub inputs : stimulus.inputs ≡ inputs_of net
-  pub said : schedule_of (inputs_of net) text ≡ Ok stimulus.schedule
-
 -- no process keeps a variable's value from one run to the next
 abbrev pub HasNoneStored : NetView → Type 0
 HasNoneStored net = AreStored (core net) []
@@ -35,7 +30,7 @@ HasNoneStored net = AreStored (core net) []
 pub record Simulates (text : List ℕ) (net : NetView) (answer : Result Summary RunFault) (old new : SinkState) : Type 0 where
   pub none_stored : HasNoneStored net
   pub stimulus : StimulusView
-  pub said : IsStimulusOf net text stimulus
+  pub said : IsRead net text (Ok stimulus)
   pub answers : Answers net stimulus most_deltas old new answer
 
 abbrev pub RunsEvents : (text : List ℕ) → NetView → Result Summary Fault → (old new : SinkState) → Type 0

@@ -9,13 +9,13 @@ ghost use Rattle.rtl_commands.specs.Simulated.{RunsEvents, most_deltas};
 
 use crate::faults::Fault;
 use rtl_check::stored;
+use rtl_code::codes;
 use rtl_kernel::Pick;
 use rtl_machine::SLOTS;
 use rtl_moments::{Stimulus, Wheel};
 use rtl_net::Net;
 use rtl_run::{Simulation, Summary};
 use rtl_sink::Sink;
-use rtl_tree::trees;
 use std::alloc::Global;
 use vhdl_designs::Front;
 
@@ -72,7 +72,7 @@ pub fn run_events<P: Pick, S: Sink>(
         return Err(Fault::Rejected(stored));
     }
     let stimulus = Stimulus::read(alloc, net, stimulus)?;
-    let bodies = trees(alloc, net)?;
+    let bodies = codes(alloc, net)?;
     let simulation = Simulation {
         net,
         bodies: &bodies,

@@ -1,12 +1,13 @@
 -- Nets' new values and notes, as an update of drivers goes on.
-use Rattle.std.proofs.Common.{◌≡◌, ℕ, ◌<◌, List, [], length, get_or, set, refl, sym, ap, subst, ◌∙◌, ◌⊎◌, inl, inr}
-use Rattle.std.proofs.lemmas.Bool.{cases_eq}
-use Rattle.std.proofs.lemmas.List.{get_or-set_same, get_or-set_other, length-set}
+use Rattle.std.proofs.Common.{◌≡◌, ℕ, ◌+◌, ◌-◌, ◌<◌, ◌≤◌, List, [], length, get_or, set, refl, sym, ap, subst, ◌∙◌, arith, ◌⊎◌, inl, inr, Contains}
+use Rattle.std.proofs.lemmas.Bool.{cases_eq, cases_lt}
+use Rattle.std.proofs.lemmas.List.{get_or-set_same, get_or-set_other}
+use Rattle.rtl_layout.specs.Groups.{Grouping}
 use Rattle.rtl_model.specs.nets.FlatNet.{FlatNet}
 use Rattle.rtl_net.specs.declared.process.Process.{Process}
-use Rattle.rtl_kernel.specs.drivers.Brought.{BringsOne, at_once, later, IsBrought, is_noted, has_kept, has_value, IsBroughtByAll, all_noted, all_kept, all_value, Brings, BringsAll}
+use Rattle.rtl_kernel.specs.drivers.Brought.{AreAloneAlike, BringsRun, at_once, later, IsDriver, IsBrought, is_noted, has_kept, has_value, IsBroughtByAll, all_noted, all_kept, all_value, Brings, BringsAll}
 use Rattle.rtl_kernel.specs.drivers.Transactions.{driver_at, targets_of}
-use Rattle.rtl_kernel.specs.values.TwoValues.{TwoValues}
+use Rattle.rtl_kernel.specs.values.TwoValues.{TwoValues, IsWritten, group_of}
 use Rattle.rtl_kernel.specs.worklists.Numbers.{Numbers}
 
 module _ (wiring : FlatNet) where
@@ -15,62 +16,107 @@ module _ (wiring : FlatNet) where
     brings_none row nets noted = record {
       bound_stays = refl;
       noted_stay = λ n h. h;
+      groups_stay = refl;
       before_stays = refl;
       as_many = refl;
-      each = λ n. has_kept refl (λ place l e. refl);
+      each = λ n. has_kept refl (λ place D. refl);
     }
 
-    -- a new value of the driver at a place
-    module _ (row : List ℕ) (place v n : ℕ) (nets : TwoValues) (noted : Numbers) (in_row : place < length row) (there : place < length targets) (is : get_or targets place 0 ≡ n) where
-      others : (m q : ℕ) → (m ≡ n → ⊥) → get_or targets q 0 ≡ m → get_or (set row place v) q 0 ≡ get_or row q 0
-      others m q other e = get_or-set_other row place q v 0 (λ same. other (sym e ∙ ap (λ (k : ℕ). get_or targets k 0) same ∙ is))
+    -- new values of the drivers from a place on, whose nets are those from `first` on, in one group
+    module _ (row row' : List ℕ) (place first : ℕ) (values : List ℕ) (nets : TwoValues) (noted : Numbers) (alike : AreAloneAlike wiring nets.groups.of_net)
+        (some : 0 < length values) (there : place + length values ≤ length targets) (is : (k : ℕ) → k < length values → get_or targets (place + k) 0 ≡ first + k)
+        (together : (k : ℕ) → k < length values → group_of nets (first + k) ≡ group_of nets first) (in_nets : first + length values ≤ length nets.groups.of_net)
+        (Wrote : IsWritten place values row row') where
+      -- the driver of a net among these
+      driver : (k : ℕ) → k < length values → IsDriver targets (place + k) (first + k)
+      driver k l = record { there = omega (arith, l, there); is = is k l }
 
-      pub brings_one : (nets' : TwoValues) (noted' : Numbers) → n < length nets.current → BringsOne wiring n v nets noted nets' noted' → Brings wiring targets row (set row place v) nets noted nets' noted'
-      brings_one nets' noted' in_nets (at_once alone new same) = record {
+      -- a driver of another net keeps its value
+      other : (m q : ℕ) → ((k : ℕ) → k < length values → first + k ≡ m → ⊥) → IsDriver targets q m → get_or row' q 0 ≡ get_or row q 0
+      other m q out D = by (cases_lt q place) (cases_lt q (place + length values))
+        where
+          by : (q < place) ⊎ (place ≤ q) → (q < place + length values) ⊎ (place + length values ≤ q) → get_or row' q 0 ≡ get_or row q 0
+          by (inl low) _ = Wrote.below q low
+          by (inr from) (inr high) = Wrote.behind q high
+          by (inr from) (inl l) =
+              let k = q - place in
+              let at : q ≡ place + k = omega arith in
+              let within : k < length values = omega (arith, l, from) in
+              absurd (out k within (sym (is k within) ∙ ap (λ (p : ℕ). get_or targets p 0) (sym at) ∙ D.is))
+
+      -- a net is among these, or not
+      among : (m : ℕ) → ((k : ℕ) × (k < length values) × (first + k ≡ m)) ⊎ ((k : ℕ) → k < length values → first + k ≡ m → ⊥)
+      among m = by (cases_lt m first) (cases_lt m (first + length values))
+        where
+          by : (m < first) ⊎ (first ≤ m) → (m < first + length values) ⊎ (first + length values ≤ m)
+              → ((k : ℕ) × (k < length values) × (first + k ≡ m)) ⊎ ((k : ℕ) → k < length values → first + k ≡ m → ⊥)
+          by (inl low) _ = inr (λ k l e. omega (arith, low, l, e))
+          by (inr from) (inr high) = inr (λ k l e. omega (arith, high, l, e))
+          by (inr from) (inl l) = inl (m - first, omega (arith, from, l), omega (arith, from))
+
+      pub brings_run : (nets' : TwoValues) (noted' : Numbers) → BringsRun wiring first values nets noted nets' noted' → Brings wiring targets row row' nets noted nets' noted'
+      brings_run nets' noted' (at_once alone H same) = record {
         bound_stays = ap (λ (w : Numbers). w.bound) same;
         noted_stay = λ m h. rw same h;
-        before_stays = ap (λ (t : TwoValues). t.before) new;
-        as_many = ap (λ (t : TwoValues). length t.current) new ∙ length-set nets.current n v;
-        each = λ m. by m (cases_eq m n);
+        groups_stay = H.groups_stay;
+        before_stays = H.before_stays;
+        as_many = H.current.as_many;
+        each = λ m. by m (among m);
       }
         where
-          by : (m : ℕ) → (m ≡ n) ⊎ (m ≡ n → ⊥) → IsBrought wiring targets row (set row place v) nets.current nets'.current noted'.members m
-          by m (inl e) =
-              has_value place there (is ∙ sym e) (rw e alone)
-              (ap (λ (t : TwoValues). get_or t.current m 0) new ∙ ap (λ (k : ℕ). get_or (set nets.current n v) k 0) e
-              ∙ get_or-set_same nets.current n v 0 in_nets ∙ sym (get_or-set_same row place v 0 in_row))
-          by m (inr other) =
-              has_kept (ap (λ (t : TwoValues). get_or t.current m 0) new ∙ get_or-set_other nets.current n m v 0 other) (λ q l e. others m q other e)
-      brings_one nets' noted' in_nets (later same W) = record {
+          kept : (m : ℕ) → ((k : ℕ) → k < length values → first + k ≡ m → ⊥) → get_or nets'.current m 0 ≡ get_or nets.current m 0
+          kept m out = at (cases_lt m first) (cases_lt m (first + length values))
+            where
+              at : (m < first) ⊎ (first ≤ m) → (m < first + length values) ⊎ (first + length values ≤ m) → get_or nets'.current m 0 ≡ get_or nets.current m 0
+              at (inl low) _ = H.current.below m low
+              at (inr from) (inr high) = H.current.behind m high
+              at (inr from) (inl l) = absurd (out (m - first) (omega (arith, from, l)) (omega (arith, from)))
+
+          by : (m : ℕ) → ((k : ℕ) × (k < length values) × (first + k ≡ m)) ⊎ ((k : ℕ) → k < length values → first + k ≡ m → ⊥)
+              → IsBrought wiring nets.groups.of_net targets row row' nets.current nets'.current noted'.members m
+          by m (inl (k, l, e)) =
+              subst (λ (n : ℕ). IsBrought wiring nets.groups.of_net targets row row' nets.current nets'.current noted'.members n) e
+              (has_value (place + k) (driver k l) (alike first (first + k) (omega (arith, some, in_nets)) (omega (arith, l, in_nets)) (sym (together k l)) alone)
+              (H.current.written k l ∙ sym (Wrote.written k l)))
+          by m (inr out) = has_kept (kept m out) (λ q D. other m q out D)
+      brings_run nets' noted' (later same W) = record {
         bound_stays = W.bound_stays;
         noted_stay = W.kept;
+        groups_stay = ap (λ (t : TwoValues). t.groups) same;
         before_stays = ap (λ (t : TwoValues). t.before) same;
         as_many = ap (λ (t : TwoValues). length t.current) same;
-        each = λ m. by m (cases_eq m n);
+        each = λ m. by m (among m);
       }
         where
-          by : (m : ℕ) → (m ≡ n) ⊎ (m ≡ n → ⊥) → IsBrought wiring targets row (set row place v) nets.current nets'.current noted'.members m
-          by m (inl e) = is_noted place there (is ∙ sym e) (rw e W.added)
-          by m (inr other) = has_kept (ap (λ (t : TwoValues). get_or t.current m 0) same) (λ q l e. others m q other e)
+          by : (m : ℕ) → ((k : ℕ) × (k < length values) × (first + k ≡ m)) ⊎ ((k : ℕ) → k < length values → first + k ≡ m → ⊥)
+              → IsBrought wiring nets.groups.of_net targets row row' nets.current nets'.current noted'.members m
+          by m (inl (k, l, e)) =
+              subst (λ (n : ℕ). IsBrought wiring nets.groups.of_net targets row row' nets.current nets'.current noted'.members n) e
+              (is_noted (place + k) (driver k l) (subst (Contains noted'.members) (sym (together k l)) W.added))
+          by m (inr out) = has_kept (ap (λ (t : TwoValues). get_or t.current m 0) same) (λ q D. other m q out D)
 
     -- one after the other
     module _ (row row' row'' : List ℕ) (nets nets' nets'' : TwoValues) (noted noted' noted'' : Numbers) (A : Brings wiring targets row row' nets noted nets' noted')
         (B : Brings wiring targets row' row'' nets' noted' nets'' noted'') where
-      then_at : (n : ℕ) → IsBrought wiring targets row row' nets.current nets'.current noted'.members n → IsBrought wiring targets row' row'' nets'.current nets''.current noted''.members n
-          → IsBrought wiring targets row row'' nets.current nets''.current noted''.members n
-      then_at n _ (is_noted place l e h) = is_noted place l e h
-      then_at n _ (has_value place l e alone is) = has_value place l e alone is
-      then_at n (is_noted place l e h) (has_kept _ _) = is_noted place l e (B.noted_stay n h)
-      then_at n (has_kept same drivers) (has_kept same' drivers') = has_kept (same' ∙ same) (λ place l e. drivers' place l e ∙ drivers place l e)
-      then_at n (has_value place l e alone is) (has_kept same' drivers') = has_value place l e alone (same' ∙ is ∙ sym (drivers' place l e))
+      then_at : (n : ℕ) → IsBrought wiring nets.groups.of_net targets row row' nets.current nets'.current noted'.members n
+          → IsBrought wiring nets.groups.of_net targets row' row'' nets'.current nets''.current noted''.members n → IsBrought wiring nets.groups.of_net targets row row'' nets.current nets''.current noted''.members n
+      then_at n _ (is_noted place D h) = is_noted place D h
+      then_at n _ (has_value place D alone is) = has_value place D alone is
+      then_at n (is_noted place D h) (has_kept _ _) = is_noted place D (B.noted_stay (get_or nets.groups.of_net n 0) h)
+      then_at n (has_kept same drivers) (has_kept same' drivers') = has_kept (same' ∙ same) (λ place D. drivers' place D ∙ drivers place D)
+      then_at n (has_value place D alone is) (has_kept same' drivers') = has_value place D alone (same' ∙ is ∙ sym (drivers' place D))
+
+      later_at : (n : ℕ) → IsBrought wiring nets.groups.of_net targets row' row'' nets'.current nets''.current noted''.members n
+      later_at n = subst (λ (g : Grouping). IsBrought wiring g.of_net targets row' row'' nets'.current nets''.current noted''.members n) A.groups_stay (B.each n)
 
       pub brings_then : Brings wiring targets row row'' nets noted nets'' noted''
       brings_then = record {
         bound_stays = B.bound_stays ∙ A.bound_stays;
         noted_stay = λ n h. B.noted_stay n (A.noted_stay n h);
+        groups_stay = B.groups_stay ∙ A.groups_stay;
         before_stays = B.before_stays ∙ A.before_stays;
         as_many = B.as_many ∙ A.as_many;
-        each = λ n. then_at n (A.each n) (B.each n);
+        each = λ n. then_at n (A.each n) (later_at n);
       }
 
   -- ---- all processes
@@ -80,9 +126,10 @@ module _ (wiring : FlatNet) where
     brings_all_none rows nets noted = record {
       bound_stays = refl;
       noted_stay = λ n h. h;
+      groups_stay = refl;
       before_stays = refl;
       as_many = refl;
-      each = λ n. all_kept refl (λ p place l e. refl);
+      each = λ n. all_kept refl (λ p place D. refl);
     }
 
     -- and one process more
@@ -92,33 +139,37 @@ module _ (wiring : FlatNet) where
       own = get_or-set_same rows' p row [] there
 
       -- drivers of this net stay, where those of p do
-      stays : (n : ℕ) → ((place : ℕ) → place < length (targets_of processes p) → get_or (targets_of processes p) place 0 ≡ n → get_or row place 0 ≡ get_or (get_or rows' p []) place 0)
-          → (q place : ℕ) → place < length (targets_of processes q) → get_or (targets_of processes q) place 0 ≡ n → driver_at (set rows' p row) q place ≡ driver_at rows' q place
-      stays n same q place l e = by (cases_eq q p)
+      stays : (n : ℕ) → ((place : ℕ) → IsDriver (targets_of processes p) place n → get_or row place 0 ≡ get_or (get_or rows' p []) place 0)
+          → (q place : ℕ) → IsDriver (targets_of processes q) place n → driver_at (set rows' p row) q place ≡ driver_at rows' q place
+      stays n same q place D = by (cases_eq q p)
         where
           by : (q ≡ p) ⊎ (q ≡ p → ⊥) → driver_at (set rows' p row) q place ≡ driver_at rows' q place
           by (inl is) =
-              let l' = subst (λ (k : ℕ). place < length (targets_of processes k)) is l in
-              let e' = subst (λ (k : ℕ). get_or (targets_of processes k) place 0 ≡ n) is e in
-              ap (λ (k : ℕ). driver_at (set rows' p row) k place) is ∙ ap (λ (r : List ℕ). get_or r place 0) own ∙ same place l' e' ∙ sym (ap (λ (k : ℕ). driver_at rows' k place) is)
+              let D' = subst (λ (k : ℕ). IsDriver (targets_of processes k) place n) is D in
+              ap (λ (k : ℕ). driver_at (set rows' p row) k place) is ∙ ap (λ (r : List ℕ). get_or r place 0) own ∙ same place D' ∙ sym (ap (λ (k : ℕ). driver_at rows' k place) is)
           by (inr other) = ap (λ (r : List ℕ). get_or r place 0) (get_or-set_other rows' p q row [] other)
 
-      more_at : (n : ℕ) → IsBroughtByAll wiring processes rows rows' nets.current nets'.current noted'.members n
-          → IsBrought wiring (targets_of processes p) (get_or rows' p []) row nets'.current nets''.current noted''.members n
-          → IsBroughtByAll wiring processes rows (set rows' p row) nets.current nets''.current noted''.members n
-      more_at n _ (is_noted place l e h) = all_noted p place l e h
-      more_at n _ (has_value place l e alone is) = all_value p place l e alone (is ∙ sym (ap (λ (r : List ℕ). get_or r place 0) own))
-      more_at n (all_noted q place l e h) (has_kept _ _) = all_noted q place l e (B.noted_stay n h)
+      more_at : (n : ℕ) → IsBroughtByAll wiring nets.groups.of_net processes rows rows' nets.current nets'.current noted'.members n
+          → IsBrought wiring nets.groups.of_net (targets_of processes p) (get_or rows' p []) row nets'.current nets''.current noted''.members n
+          → IsBroughtByAll wiring nets.groups.of_net processes rows (set rows' p row) nets.current nets''.current noted''.members n
+      more_at n _ (is_noted place D h) = all_noted p place D h
+      more_at n _ (has_value place D alone is) = all_value p place D alone (is ∙ sym (ap (λ (r : List ℕ). get_or r place 0) own))
+      more_at n (all_noted q place D h) (has_kept _ _) = all_noted q place D (B.noted_stay (get_or nets.groups.of_net n 0) h)
       more_at n (all_kept same drivers) (has_kept same' drivers') =
-          all_kept (same' ∙ same) (λ q place l e. stays n drivers' q place l e ∙ drivers q place l e)
-      more_at n (all_value q place l e alone is) (has_kept same' drivers') =
-          all_value q place l e alone (same' ∙ is ∙ sym (stays n drivers' q place l e))
+          all_kept (same' ∙ same) (λ q place D. stays n drivers' q place D ∙ drivers q place D)
+      more_at n (all_value q place D alone is) (has_kept same' drivers') =
+          all_value q place D alone (same' ∙ is ∙ sym (stays n drivers' q place D))
+
+      own_at : (n : ℕ) → IsBrought wiring nets.groups.of_net (targets_of processes p) (get_or rows' p []) row nets'.current nets''.current noted''.members n
+      own_at n =
+          subst (λ (g : Grouping). IsBrought wiring g.of_net (targets_of processes p) (get_or rows' p []) row nets'.current nets''.current noted''.members n) A.groups_stay (B.each n)
 
       pub brings_all_more : BringsAll wiring processes rows (set rows' p row) nets noted nets'' noted''
       brings_all_more = record {
         bound_stays = B.bound_stays ∙ A.bound_stays;
         noted_stay = λ n h. B.noted_stay n (A.noted_stay n h);
+        groups_stay = B.groups_stay ∙ A.groups_stay;
         before_stays = B.before_stays ∙ A.before_stays;
         as_many = B.as_many ∙ A.as_many;
-        each = λ n. more_at n (A.each n) (B.each n);
+        each = λ n. more_at n (A.each n) (own_at n);
       }

@@ -16,7 +16,7 @@ use Rattle.rtl_model.proofs.simulation.Decisions.{is_contained}
 use Rattle.rtl_model.proofs.simulation.Order.{get_or-rows}
 use Rattle.rtl_model.proofs.simulation.Rows.{get_or-map, resumed_at}
 use Rattle.rtl_kernel.specs.drivers.Resolved.{AreResolved}
-use Rattle.rtl_kernel.specs.drivers.Brought.{IsBroughtByAll, all_noted, all_kept, all_value}
+use Rattle.rtl_kernel.specs.drivers.Brought.{IsDriver, IsBroughtByAll, all_noted, all_kept, all_value}
 use Rattle.rtl_kernel.specs.drivers.Transactions.{driver_at, targets_of}
 use Rattle.rtl_kernel.specs.wakes.Woken.{IsIndex, AreWoken}
 
@@ -64,36 +64,35 @@ module _ (net : Net) where
           ∙ sym (C n x l (subst (λ (ys : List Source). Contains ys x) (sym e) (Contains-first x xs)))
 
   -- Where the nets of drivers with new values have them at once, or are noted and then resolved, and the others are left, the
-  -- nets are updated.
-  module _ (one : (v : ℕ) → net.resolve (v ∷ []) ≡ v) (wiring : FlatNet) (processes : List q.Process) (s : State) (nets : List ℕ) (W : IsWired net) (C : IsConsistent net s)
+  -- nets are updated. A net is noted by its group.
+  module _ (one : (v : ℕ) → net.resolve (v ∷ []) ≡ v) (wiring : FlatNet) (of_net : List ℕ) (processes : List q.Process) (s : State) (noted : List ℕ) (W : IsWired net) (C : IsConsistent net s)
       (as_many : length s.now ≡ length net.start) (sources : (n : ℕ) → n < length net.start → flat_sources wiring n ≡ sources_of net n)
       (targets : (p : ℕ) → targets_of processes p ≡ (process net p).drives) where
-    placed : (n p place : ℕ) → place < length (targets_of processes p) → get_or (targets_of processes p) place 0 ≡ n → Contains (sources_of net n) (Driver p place)
-    placed n p place l e =
-        let l' = subst (λ (ts : List ℕ). place < length ts) (targets p) l in
-        let e' = subst (λ (ts : List ℕ). get_or ts place 0 ≡ n) (targets p) e in
-        subst (λ (m : ℕ). Contains (sources_of net m) (Driver p place)) e' (W.drivers_are_sources p place l')
+    abbrev pub IsNoted : ℕ → Type 0
+    IsNoted n = Contains noted (get_or of_net n 0)
 
-    sourced : (n p place : ℕ) → Contains (sources_of net n) (Driver p place) → (place < length (targets_of processes p)) × (get_or (targets_of processes p) place 0 ≡ n)
+    placed : (n p place : ℕ) → IsDriver (targets_of processes p) place n → Contains (sources_of net n) (Driver p place)
+    placed n p place D =
+        let l = subst (λ (ts : List ℕ). place < length ts) (targets p) D.there in
+        let e = subst (λ (ts : List ℕ). get_or ts place 0 ≡ n) (targets p) D.is in
+        subst (λ (m : ℕ). Contains (sources_of net m) (Driver p place)) e (W.drivers_are_sources p place l)
+
+    sourced : (n p place : ℕ) → Contains (sources_of net n) (Driver p place) → IsDriver (targets_of processes p) place n
     sourced n p place h =
         let (l, e) = W.sources_are_drivers n p place h in
-        (subst (λ (ts : List ℕ). place < length ts) (sym (targets p)) l, subst (λ (ts : List ℕ). get_or ts place 0 ≡ n) (sym (targets p)) e)
+        record { there = subst (λ (ts : List ℕ). place < length ts) (sym (targets p)) l; is = subst (λ (ts : List ℕ). get_or ts place 0 ≡ n) (sym (targets p)) e }
 
-    -- a net without a source is left alone
-    no_source : (n old : ℕ) → sources_of net n ≡ [] → net_value net (driven_all s.pending s.drivers) (sources_of net n) old ≡ old
-    no_source n old e = ap (λ (xs : List Source). net_value net (driven_all s.pending s.drivers) xs old) e
-
-    left : (now : List ℕ) (n : ℕ) → sources_of net n ≡ [] → IsBroughtByAll wiring processes s.drivers (driven_all s.pending s.drivers) s.now now nets n → get_or now n 0 ≡ get_or s.now n 0
-    left now n none (all_noted p place l e h) = absurd (Contains-none (Driver p place) (subst (λ (xs : List Source). Contains xs (Driver p place)) none (placed n p place l e)))
+    left : (now : List ℕ) (n : ℕ) → sources_of net n ≡ [] → IsBroughtByAll wiring of_net processes s.drivers (driven_all s.pending s.drivers) s.now now noted n → get_or now n 0 ≡ get_or s.now n 0
+    left now n none (all_noted p place D h) = absurd (Contains-none (Driver p place) (subst (λ (xs : List Source). Contains xs (Driver p place)) none (placed n p place D)))
     left now n none (all_kept same drivers) = same
-    left now n none (all_value p place l e alone is) = absurd (Contains-none (Driver p place) (subst (λ (xs : List Source). Contains xs (Driver p place)) none (placed n p place l e)))
+    left now n none (all_value p place D alone is) = absurd (Contains-none (Driver p place) (subst (λ (xs : List Source). Contains xs (Driver p place)) none (placed n p place D)))
 
     -- where there are sources, the old value says nothing
     either_way : (xs : List Source) (old old' : ℕ) → 0 < length xs → net_value net (driven_all s.pending s.drivers) xs old ≡ net_value net (driven_all s.pending s.drivers) xs old'
     either_way [] old old' l = absurd (omega arith)
     either_way (x ∷ xs) old old' l = refl
 
-    again : (now : List ℕ) (n : ℕ) → IsBroughtByAll wiring processes s.drivers (driven_all s.pending s.drivers) s.now now nets n
+    again : (now : List ℕ) (n : ℕ) → IsBroughtByAll wiring of_net processes s.drivers (driven_all s.pending s.drivers) s.now now noted n
         → net_value net (driven_all s.pending s.drivers) (sources_of net n) (get_or now n 0) ≡ net_value net (driven_all s.pending s.drivers) (sources_of net n) (get_or s.now n 0)
     again now n B = by (cases_lt 0 (length (sources_of net n)))
       where
@@ -108,27 +107,28 @@ module _ (net : Net) where
     only (y ∷ []) x l (suc k, m, e) = absurd (omega arith)
     only (y ∷ z ∷ xs) x l h = absurd (omega arith)
 
-    of_one : (n : ℕ) (now : List ℕ) → n < length net.start → (nets' : Contains nets n → ⊥) → IsBroughtByAll wiring processes s.drivers (driven_all s.pending s.drivers) s.now now nets n
+    of_one : (n : ℕ) (now : List ℕ) → n < length net.start → (IsNoted n → ⊥) → IsBroughtByAll wiring of_net processes s.drivers (driven_all s.pending s.drivers) s.now now noted n
         → get_or now n 0 ≡ net_value net (driven_all s.pending s.drivers) (sources_of net n) (get_or s.now n 0)
-    of_one n now l absent (all_noted p place m e h) = absurd (absent h)
+    of_one n now l absent (all_noted p place D h) = absurd (absent h)
     of_one n now l absent (all_kept same drivers) = same ∙ sym (unmoved s n C l still)
       where
         still : (x : Source) → Contains (sources_of net n) x → source_value (driven_all s.pending s.drivers) x ≡ source_value s.drivers x
         still (Idle v) h = refl
-        still (Driver p place) h = let (m, e) = sourced n p place h in drivers p place m e
-    of_one n now l absent (all_value p place m e alone is) =
-        let single = only (sources_of net n) (Driver p place) (sym (ap length (sources n l)) ∙ alone) (placed n p place m e) in
+        still (Driver p place) h = drivers p place (sourced n p place h)
+    of_one n now l absent (all_value p place D alone is) =
+        let single = only (sources_of net n) (Driver p place) (sym (ap length (sources n l)) ∙ alone) (placed n p place D) in
         is ∙ sym (one (driver_at (driven_all s.pending s.drivers) p place)) ∙ sym (ap (λ (xs : List Source). net_value net (driven_all s.pending s.drivers) xs (get_or s.now n 0)) single)
 
-    pub brought_are_updated : (mid now : List ℕ) → length mid ≡ length s.now → ((n : ℕ) → IsBroughtByAll wiring processes s.drivers (driven_all s.pending s.drivers) s.now mid nets n)
-        → AreResolved net (driven_all s.pending s.drivers) nets mid now → now ≡ (updated net s).now
+    pub brought_are_updated : (mid now : List ℕ) → length mid ≡ length s.now
+        → ((n : ℕ) → IsBroughtByAll wiring of_net processes s.drivers (driven_all s.pending s.drivers) s.now mid noted n)
+        → AreResolved net (driven_all s.pending s.drivers) IsNoted mid now → now ≡ (updated net s).now
     brought_are_updated mid now many each R =
         ext_get_or 0 now (updated net s).now (R.as_many ∙ many ∙ as_many ∙ sym (length-map-range_with_len _ 0 (length net.start)))
-        (λ n l. by n (omega (arith, l, R.as_many, many, as_many)) (is_contained nets n))
+        (λ n l. by n (omega (arith, l, R.as_many, many, as_many)) (omega (arith, l, R.as_many)) (is_contained noted (get_or of_net n 0)))
       where
         at : (n : ℕ) → n < length net.start → get_or (updated net s).now n 0 ≡ net_value net (driven_all s.pending s.drivers) (sources_of net n) (get_or s.now n 0)
         at n l = get_or-rows (λ m. net_value net (driven_all s.pending s.drivers) (sources_of net m) (get_or s.now m 0)) (length net.start) n 0 l
 
-        by : (n : ℕ) → n < length net.start → Contains nets n ⊎ (Contains nets n → ⊥) → get_or now n 0 ≡ get_or (updated net s).now n 0
-        by n l (inl there) = R.resolved n there ∙ again mid n (each n) ∙ sym (at n l)
-        by n l (inr absent) = R.others n absent ∙ of_one n mid l absent (each n) ∙ sym (at n l)
+        by : (n : ℕ) → n < length net.start → n < length mid → IsNoted n ⊎ (IsNoted n → ⊥) → get_or now n 0 ≡ get_or (updated net s).now n 0
+        by n l m (inl there) = R.resolved n m there ∙ again mid n (each n) ∙ sym (at n l)
+        by n l m (inr absent) = R.others n m absent ∙ of_one n mid l absent (each n) ∙ sym (at n l)

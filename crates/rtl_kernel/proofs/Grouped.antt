@@ -1,10 +1,14 @@
 -- The processes that wake on a net, by its group.
-use Rattle.std.proofs.Common.{◌≡◌, ℕ, ◌<◌, ◌≤◌, List, [], length, get_or, subst, ◌⊎◌, inl, inr, Contains, All}
-use Rattle.std.proofs.lemmas.Bool.{cases_lt}
-use Rattle.std.proofs.lemmas.List.{get_or-map, get_or_past, length-map}
+use Rattle.std.proofs.Common.{◌≡◌, ◌↔◌, ℕ, ◌+◌, ◌<◌, ◌≤◌, ◌%◌, ◌==◌, Bool, true, List, [], length, map, get_or, set, arith, sym, ap, subst, ◌∙◌, ◌⊎◌, inl, inr, Contains, All}
+use Rattle.std.proofs.lemmas.Bool.{cases_eq, cases_lt, eq-eqb, eqb-true}
+use Rattle.std.proofs.lemmas.List.{get_or-map, get_or-set_same, get_or-set_other, get_or_past, length-map}
 use Rattle.std.proofs.lemmas.List.Elements.{All-contains}
 use Rattle.rtl_layout.specs.Groups.{Grouping, AreGroups}
+use Rattle.rtl_model.specs.nets.FlatNet.{FlatNet, flat_sources}
+use Rattle.rtl_net.specs.Nets.{source_view}
+use Rattle.rtl_net.specs.declared.net.Source as r
 use Rattle.rtl_model.proofs.basics.Lists.{Contains-none}
+use Rattle.rtl_kernel.specs.drivers.Brought.{AreAloneAlike, AreToldApart, IsAlone}
 use Rattle.rtl_kernel.specs.wakes.Woken.{IsIndex, wakers_of}
 
 module _ (groups : Grouping) where
@@ -28,3 +32,29 @@ module _ (groups : Grouping) where
       from : (n p : ℕ) → Contains (get_or (wakers_of groups) n []) p → (n < length groups.of_net) ⊎ (length groups.of_net ≤ n) → Contains (get_or wakes p []) n
       from n p h (inl l) = (G.listed n p (rw (← G.each_net) l)).0 (rw (wakers_at n l) at h)
       from n p h (inr l) = absurd (Contains-none p (subst (λ (xs : List ℕ). Contains xs p) (get_or_past (wakers_of groups) n [] (rw length-map l)) h))
+
+  -- where the declarations of nets tell those with one source apart, so do the groups
+  pub alone_alike : (wiring : FlatNet) (declared : List ℕ) (wakes : List (List ℕ)) → AreGroups declared wakes groups → AreToldApart wiring declared → AreAloneAlike wiring groups.of_net
+  alone_alike wiring declared wakes G T m n l k same alone =
+      let m' = rw (G.each_net) at l in
+      let n' = rw (G.each_net) at k in
+      let alike = (G.alike m n m' n' same).one_declaration in
+      (T n n').1 (ap (λ (d : ℕ). d % 2) (sym alike) ∙ (T m m').0 alone)
+
+-- one net more that is told apart
+pub told_more : (wiring : FlatNet) (numbers : List ℕ) (each x : ℕ) (sources : List r.Source) (b : Bool) → each < length numbers → map source_view sources ≡ flat_sources wiring each
+    → b ≡ (length sources == 1) → (b ≡ true) ↔ (x % 2 ≡ 1) → ((n : ℕ) → n < each → IsAlone wiring n ↔ (get_or numbers n 0 % 2 ≡ 1))
+    → (n : ℕ) → n < each + 1 → IsAlone wiring n ↔ (get_or (set numbers each x) n 0 % 2 ≡ 1)
+told_more wiring numbers each x sources b there are test odd before n l = by (cases_eq n each)
+  where
+    many : length sources ≡ length (flat_sources wiring each)
+    many = sym (length-map sources source_view) ∙ ap length are
+
+    here : IsAlone wiring each ↔ (get_or (set numbers each x) each 0 % 2 ≡ 1)
+    here =
+        let is = get_or-set_same numbers each x 0 there in
+        (λ alone. ap (λ (m : ℕ). m % 2) is ∙ odd.0 (test ∙ eq-eqb (length sources) 1 (many ∙ alone)), λ h. sym many ∙ eqb-true (length sources) 1 (sym test ∙ odd.1 (sym (ap (λ (m : ℕ). m % 2) is) ∙ h)))
+
+    by : (n ≡ each) ⊎ (n ≡ each → ⊥) → IsAlone wiring n ↔ (get_or (set numbers each x) n 0 % 2 ≡ 1)
+    by (inl e) = rw e here
+    by (inr other) = rw (get_or-set_other numbers each n x 0 other) (before n (omega (arith, l, other)))

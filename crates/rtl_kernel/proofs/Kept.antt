@@ -10,16 +10,19 @@ use Rattle.rtl_model.proofs.nets.Sources.{sources-core_net}
 use Rattle.rtl_model.proofs.simulation.Order.{waits_in}
 use Rattle.vhdl_values.specs.declared.scalar.Nine.{Nine}
 use Rattle.rtl_eval.specs.Runs.{IsOf}
+use Rattle.rtl_layout.specs.Cuts.{Cutting, AreCutsOf}
+use Rattle.rtl_layout.specs.Groups.{Grouping}
 use Rattle.rtl_net.specs.Nets.{NetView, flat}
+use Rattle.rtl_net.specs.declared.process.Process.{Process}
 use Rattle.rtl_kernel.specs.drivers.Resolved.{AreResolved}
 use Rattle.rtl_kernel.specs.drivers.Rows.{IsThere}
-use Rattle.rtl_kernel.specs.drivers.Brought.{IsBroughtByAll}
-use Rattle.rtl_kernel.specs.drivers.Transactions.{Transactions, IsActive, HasRunOf, pending_of, without_entries, no_outcome}
+use Rattle.rtl_kernel.specs.drivers.Brought.{AreAloneAlike, IsBroughtByAll}
+use Rattle.rtl_kernel.specs.drivers.Transactions.{Transactions, IsActive, HasRunOf, all_targets, pending_of, without_entries, no_outcome}
 use Rattle.rtl_kernel.specs.kernel.Kept.{IsKernel, IsSound, state_of}
 use Rattle.rtl_kernel.specs.kernel.Simulation.{changes_of}
 use Rattle.rtl_kernel.specs.values.TwoValues.{TwoValues, AreChanged}
 use Rattle.rtl_kernel.specs.wakes.ToRun.{ToRun}
-use Rattle.rtl_kernel.specs.wakes.Woken.{AreWoken}
+use Rattle.rtl_kernel.specs.wakes.Woken.{AreWoken, IsIndex, wakers_of}
 use Rattle.rtl_kernel.specs.worklists.Numbers.{Numbers}
 use Rattle.rtl_kernel.proofs.Changing.{given_values}
 use Rattle.rtl_kernel.proofs.Cycles.{woken_are_resumed, brought_are_updated}
@@ -28,8 +31,8 @@ use Rattle.rtl_kernel.proofs.Running.{effect_length, room_ran, room_taken, state
 use Rattle.rtl_kernel.proofs.Steps.{keeps_types, sound_given, sound_ran, sound_updated, sources_there, wired}
 use Rattle.rtl_kernel.proofs.Wiring.{targets_are, wakes_are}
 
-module _ {E : Type 0} (process : E → FlatProcess) (types : E → List ElementType) (most : E → ℕ) (net : NetView) (bodies : List E) (index : List (List ℕ))
-    (v : TwoValues) (t : Transactions) (r : ToRun) (touched : Numbers) (K : IsKernel process types most net bodies index v t r touched) where
+module _ {E : Type 0} (process : E → FlatProcess) (types : E → List ElementType) (most : E → ℕ) (net : NetView) (bodies : List E) (cuts : Cutting)
+    (v : TwoValues) (t : Transactions) (r : ToRun) (noted : Numbers) (K : IsKernel process types most net bodies cuts v t r noted) where
   abbrev pub before_step : State
   before_step = state_of v t r
 
@@ -38,6 +41,10 @@ module _ {E : Type 0} (process : E → FlatProcess) (types : E → List ElementT
 
   pub all_before : length v.before ≡ length net.types
   all_before = K.sound.in_range.before.each_net ∙ K.in_range.each_starts
+
+  -- the groups are those of the net
+  pub groups_there : length (wakers_of v.groups) ≡ length net.types
+  groups_there = length-map v.groups.of_net _ ∙ K.each_net
 
   pub now_typed : KeepsTypes net.types v.current
   now_typed = keeps_types (flat net) K.in_range K.connected v.current K.sound.in_range.now
@@ -78,7 +85,7 @@ module _ {E : Type 0} (process : E → FlatProcess) (types : E → List ElementT
         pub is_ran : state_of v t' r' ≡ ran (core_net (flat net)) p before_step
         is_ran = state_ran (flat net) v t r t' r' p (process e) process_is in_outcomes own fresh drivers R waiting
 
-        pub kept_ran : IsKernel process types most net bodies index v t' r' touched
+        pub kept_ran : IsKernel process types most net bodies cuts v t' r' noted
         kept_ran = record {
           in_range = K.in_range;
           connected = K.connected;
@@ -88,15 +95,18 @@ module _ {E : Type 0} (process : E → FlatProcess) (types : E → List ElementT
           sound = subst (IsSound (flat net)) (sym is_ran) (sound_ran (flat net) K.in_range K.connected before_step p K.sound);
           is_index = K.is_index;
           each_net = K.each_net;
+          alike = K.alike;
+          are_cuts = K.are_cuts;
           idle = K.idle;
         }
 
   -- ---- an update
 
-  wakes_same : (before now : List ℕ) (waiting : List Bool) → length waiting ≡ length r.waiting → AreWoken index before now waiting → waiting ≡ resumed (core_net (flat net)) before now
-  wakes_same before now waiting as_many W =
-      woken_are_resumed (core_net (flat net)) before now index waiting (as_many ∙ K.sound.each_process ∙ sym (length-map (flat net).processes _))
-      (rw (← wakes_are net) K.is_index) W
+  wakes_same : (groups : Grouping) (before now : List ℕ) (waiting : List Bool) → groups ≡ v.groups → length waiting ≡ length r.waiting → AreWoken (wakers_of groups) before now waiting
+      → waiting ≡ resumed (core_net (flat net)) before now
+  wakes_same groups before now waiting same as_many W =
+      woken_are_resumed (core_net (flat net)) before now (wakers_of v.groups) waiting (as_many ∙ K.sound.each_process ∙ sym (length-map (flat net).processes _))
+      (rw (← wakes_are net) K.is_index) (subst (λ (g : Grouping). AreWoken (wakers_of g) before now waiting) same W)
 
   rows_match : length (pending_of t.outcomes) ≡ length t.drivers
   rows_match = length-map t.outcomes _ ∙ K.room.as_many ∙ sym K.sound.each_row
@@ -110,45 +120,48 @@ module _ {E : Type 0} (process : E → FlatProcess) (types : E → List ElementT
   sources_stand drivers is n source h =
       subst (λ (rows : List (List ℕ)). IsThere rows source) (sym is) (sources_there (flat net) K.in_range K.connected (updated (core_net (flat net)) before_step) sound_update n source h)
 
-  module _ (mid v' : TwoValues) (t' : Transactions) (r' : ToRun) (nets : Numbers) (before : v'.before ≡ v.current) (drivers : t'.drivers ≡ driven_all (pending_of t.outcomes) t.drivers)
-      (outcomes : t'.outcomes ≡ map without_entries t.outcomes) (now : List ℕ) (now_is : now ≡ v.current)
-      (many : length mid.current ≡ length now) (B : (n : ℕ) → IsBroughtByAll (flat net) net.processes t.drivers t'.drivers now mid.current nets.members n)
-      (R : AreResolved (core_net (flat net)) t'.drivers nets.members mid.current v'.current)
-      (as_many : length r'.waiting ≡ length r.waiting) (W : AreWoken index v'.before v'.current r'.waiting) where
+  module _ (mid v' : TwoValues) (t' : Transactions) (r' : ToRun) (nets : Numbers) (groups : v'.groups ≡ v.groups) (before : v'.before ≡ v.current)
+      (drivers : t'.drivers ≡ driven_all (pending_of t.outcomes) t.drivers) (outcomes : t'.outcomes ≡ map without_entries t.outcomes) (now : TwoValues)
+      (now_is : now ≡ record v { before = v.current }) (many : length mid.current ≡ length now.current)
+      (B : (n : ℕ) → IsBroughtByAll (flat net) now.groups.of_net net.processes t.drivers t'.drivers now.current mid.current nets.members n)
+      (R : AreResolved (core_net (flat net)) t'.drivers (λ n. Contains nets.members (get_or v.groups.of_net n 0)) mid.current v'.current)
+      (as_many : length r'.waiting ≡ length r.waiting) (W : AreWoken (wakers_of v'.groups) v'.before v'.current r'.waiting) where
     pub is_updated : state_of v' t' r' ≡ updated (core_net (flat net)) before_step
     is_updated =
         state_updated (flat net) v t r v' t' r' before
-        (brought_are_updated (core_net (flat net)) (λ n. refl) (flat net) net.processes before_step nets.members (wired (flat net) K.in_range K.connected) K.sound.consistent K.sound.in_range.now.each_net
-        (λ n l. sym (sources-core_net (flat net) n (rw (← K.in_range.each_starts) l))) (targets_are net)
-        mid.current v'.current (many ∙ ap length now_is)
-        (λ n. subst (λ (vs : List ℕ). IsBroughtByAll (flat net) net.processes t.drivers (driven_all (pending_of t.outcomes) t.drivers) vs mid.current nets.members n) now_is
-        (subst (λ (rows : List (List ℕ)). IsBroughtByAll (flat net) net.processes t.drivers rows now mid.current nets.members n) drivers (B n)))
-        (subst (λ (rows : List (List ℕ)). AreResolved (core_net (flat net)) rows nets.members mid.current v'.current) drivers R))
-        drivers outcomes (wakes_same v'.before v'.current r'.waiting as_many W)
+        (brought_are_updated (core_net (flat net)) (λ n. refl) (flat net) v.groups.of_net net.processes before_step nets.members (wired (flat net) K.in_range K.connected) K.sound.consistent
+        K.sound.in_range.now.each_net (λ n l. sym (sources-core_net (flat net) n (rw (← K.in_range.each_starts) l))) (targets_are net)
+        mid.current v'.current (many ∙ ap (λ (w : TwoValues). length w.current) now_is)
+        (λ n. subst (λ (w : TwoValues). IsBroughtByAll (flat net) w.groups.of_net net.processes t.drivers (driven_all (pending_of t.outcomes) t.drivers) w.current mid.current nets.members n) now_is
+        (subst (λ (rows : List (List ℕ)). IsBroughtByAll (flat net) now.groups.of_net net.processes t.drivers rows now.current mid.current nets.members n) drivers (B n)))
+        (subst (λ (rows : List (List ℕ)). AreResolved (core_net (flat net)) rows (λ n. Contains nets.members (get_or v.groups.of_net n 0)) mid.current v'.current) drivers R))
+        drivers outcomes (wakes_same v'.groups v'.before v'.current r'.waiting groups as_many W)
 
-    pub kept_updated : (touched' : Numbers) → touched' ≡ record { bound = length net.types; members = [] } → IsKernel process types most net bodies index v' t' r' touched'
-    kept_updated touched' idle = record {
+    pub kept_updated : (noted' : Numbers) → noted' ≡ record { bound = length v.groups.listed; members = [] } → IsKernel process types most net bodies cuts v' t' r' noted'
+    kept_updated noted' idle = record {
       in_range = K.in_range;
       connected = K.connected;
       run_bodies = K.run_bodies;
       room = room_taken most (flat net) bodies t.outcomes t'.outcomes outcomes K.room;
       sound = subst (IsSound (flat net)) (sym is_updated) sound_update;
-      is_index = K.is_index;
-      each_net = K.each_net;
-      idle = idle;
+      is_index = subst (λ (g : Grouping). IsIndex (map (λ (p : Process). p.wakes.items) net.processes) (wakers_of g)) (sym groups) K.is_index;
+      each_net = ap (λ (g : Grouping). length g.of_net) groups ∙ K.each_net;
+      alike = subst (λ (g : Grouping). AreAloneAlike (flat net) g.of_net) (sym groups) K.alike;
+      are_cuts = subst (λ (g : Grouping). AreCutsOf g.of_net (all_targets net.processes) cuts) (sym groups) K.are_cuts;
+      idle = idle ∙ ap (λ (g : Grouping). record { bound = length g.listed; members = [] }) (sym groups);
     }
 
   -- ---- new values of in ports
 
-  module _ (cs : List (ℕ × Nine)) (inputs : All (λ (c : ℕ × Nine). Contains net.inputs c.0) cs) (v' : TwoValues) (r' : ToRun) (before : v'.before ≡ v.current)
-      (C : AreChanged (changes_of cs) v.current v'.current) (as_many : length r'.waiting ≡ length r.waiting) (W : AreWoken index v'.before v'.current r'.waiting) where
+  module _ (cs : List (ℕ × Nine)) (inputs : All (λ (c : ℕ × Nine). Contains net.inputs c.0) cs) (v' : TwoValues) (r' : ToRun) (groups : v'.groups ≡ v.groups) (before : v'.before ≡ v.current)
+      (C : AreChanged (changes_of cs) v.current v'.current) (as_many : length r'.waiting ≡ length r.waiting) (W : AreWoken (wakers_of v'.groups) v'.before v'.current r'.waiting) where
     pub is_given : state_of v' t r' ≡ given (core_net (flat net)) (changed (changes_of cs) v.current) before_step
     is_given =
         state_given (flat net) v t r v' r' (changed (changes_of cs) v.current) before
         (given_values (core_net (flat net)) (changes_of cs) v.current v'.current K.sound.in_range.now.each_net C (named (flat net) K.in_range cs inputs))
-        (wakes_same v'.before v'.current r'.waiting as_many W)
+        (wakes_same v'.groups v'.before v'.current r'.waiting groups as_many W)
 
-    pub kept_given : is_quiet before_step ≡ true → IsKernel process types most net bodies index v' t r' touched
+    pub kept_given : is_quiet before_step ≡ true → IsKernel process types most net bodies cuts v' t r' noted
     kept_given quiet = record {
       in_range = K.in_range;
       connected = K.connected;
@@ -156,7 +169,9 @@ module _ {E : Type 0} (process : E → FlatProcess) (types : E → List ElementT
       room = K.room;
       sound = subst (IsSound (flat net)) (sym is_given)
           (sound_given (flat net) K.in_range K.connected (changed (changes_of cs) v.current) before_step (are_inputs (flat net) K.in_range cs v.current K.sound.in_range.now) quiet K.sound);
-      is_index = K.is_index;
-      each_net = K.each_net;
-      idle = K.idle;
+      is_index = subst (λ (g : Grouping). IsIndex (map (λ (p : Process). p.wakes.items) net.processes) (wakers_of g)) (sym groups) K.is_index;
+      each_net = ap (λ (g : Grouping). length g.of_net) groups ∙ K.each_net;
+      alike = subst (λ (g : Grouping). AreAloneAlike (flat net) g.of_net) (sym groups) K.alike;
+      are_cuts = subst (λ (g : Grouping). AreCutsOf g.of_net (all_targets net.processes) cuts) (sym groups) K.are_cuts;
+      idle = K.idle ∙ ap (λ (g : Grouping). record { bound = length g.listed; members = [] }) (sym groups);
     }

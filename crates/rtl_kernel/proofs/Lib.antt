@@ -1,4 +1,6 @@
 pub mod Marks
+pub mod Runs
+pub mod Pieces
 pub mod Events
 pub mod Cycles
 pub mod Resolving

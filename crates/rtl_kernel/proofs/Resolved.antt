@@ -1,5 +1,5 @@
 -- Nets that are resolved, one after the other.
-use Rattle.std.proofs.Common.{◌≡◌, ℕ, ◌+◌, ◌<◌, List, [], ◌∷◌, length, get_or, map, take, refl, sym, ap, subst, ◌∙◌, arith, ◌⊎◌, inl, inr, Contains}
+use Rattle.std.proofs.Common.{◌≡◌, ℕ, ◌+◌, ◌<◌, ◌≤◌, List, [], ◌∷◌, length, get_or, map, take, refl, sym, ap, subst, ◌∙◌, arith, ◌⊎◌, inl, inr, Contains}
 use Rattle.std.proofs.lemmas.Bool.{cases_eq}
 use Rattle.std.proofs.lemmas.List.{length-map, take_more}
 use Rattle.std.proofs.lemmas.List.Elements.{Contains-push, Contains-append_left, Contains-push_cases}
@@ -7,7 +7,7 @@ use Rattle.rtl_model.specs.nets.FlatNet.{FlatNet, flat_sources}
 use Rattle.rtl_model.specs.nets.CoreNet.{core_net, core_resolve}
 use Rattle.rtl_model.specs.simulation.Net.{Net, Source, sources_of}
 use Rattle.rtl_model.specs.simulation.Cycle.{net_value, source_value}
-use Rattle.rtl_model.proofs.basics.Lists.{Contains-none, get_or-map_within}
+use Rattle.rtl_model.proofs.basics.Lists.{get_or-map_within}
 use Rattle.rtl_model.proofs.nets.Sources.{sources-core_net}
 use Rattle.rtl_model.proofs.simulation.Decisions.{is_contained}
 use Rattle.rtl_net.specs.Nets.{source_view}
@@ -15,32 +15,65 @@ use Rattle.rtl_net.specs.declared.net.Source as r
 use Rattle.rtl_kernel.specs.drivers.Resolved.{AreResolved}
 
 module _ (net : Net) (drivers : List (List ℕ)) where
-  pub none_resolved : (nets values : List ℕ) → AreResolved net drivers (take 0 nets) values values
-  none_resolved nets values = record { as_many = refl; resolved = λ n h. absurd (Contains-none n h); others = λ n h. refl }
+  pub none_resolved : (is_one : ℕ → Type 0) (values : List ℕ) → ((n : ℕ) → is_one n → ⊥) → AreResolved net drivers is_one values values
+  none_resolved is_one values none = record { as_many = refl; resolved = λ n l h. absurd (none n h); others = λ n l h. refl }
 
-  -- one net more
-  pub one_resolved : (nets : List ℕ) (i n : ℕ) (old mid new : List ℕ) → i < length nets → get_or nets i 0 ≡ n → AreResolved net drivers (take i nets) old mid
+  -- the same nets
+  pub resolved_same : (P Q : ℕ → Type 0) (old new : List ℕ) → ((n : ℕ) → n < length old → P n → Q n) → ((n : ℕ) → n < length old → Q n → P n)
+      → AreResolved net drivers P old new → AreResolved net drivers Q old new
+  resolved_same P Q old new to from R = record {
+    as_many = R.as_many;
+    resolved = λ n l q. R.resolved n l (from n l q);
+    others = λ n l h. R.others n l (λ p. h (to n l p));
+  }
+
+  -- nets up to one, and that one
+  pub one_resolved : (first n : ℕ) (old mid new : List ℕ) → first ≤ n → AreResolved net drivers (λ m. (first ≤ m) × (m < n)) old mid
       → length new ≡ length mid → get_or new n 0 ≡ net_value net drivers (sources_of net n) (get_or old n 0) → ((m : ℕ) → (m ≡ n → ⊥) → get_or new m 0 ≡ get_or mid m 0)
-      → AreResolved net drivers (take (i + 1) nets) old new
-  one_resolved nets i n old mid new within is R as_many value others = rw (take_more nets i 0 within, is) (record {
+      → AreResolved net drivers (λ m. (first ≤ m) × (m < n + 1)) old new
+  one_resolved first n old mid new from R as_many value others = record {
     as_many = as_many ∙ R.as_many;
-    resolved = λ m h. resolved m (Contains-push_cases (take i nets) n m h) (cases_eq m n);
-    others = λ m h. others m (λ e. h (rw e (Contains-push (take i nets) n))) ∙ R.others m (λ there. h (Contains-append_left (take i nets) (n ∷ []) m there));
-  })
+    resolved = λ m l h. resolved m l h (cases_eq m n);
+    others = λ m l h. others m (λ e. h (omega (arith, e, from), omega (arith, e))) ∙ R.others m l (λ there. h (there.0, omega (arith, there.1)));
+  }
     where
-      resolved : (m : ℕ) → Contains (take i nets) m ⊎ (n ≡ m) → (m ≡ n) ⊎ (m ≡ n → ⊥) → get_or new m 0 ≡ net_value net drivers (sources_of net m) (get_or old m 0)
-      resolved m _ (inl e) = rw e value
-      resolved m (inl h) (inr ne) = others m ne ∙ R.resolved m h
-      resolved m (inr e) (inr ne) = absurd (ne (sym e))
+      resolved : (m : ℕ) → m < length old → (first ≤ m) × (m < n + 1) → (m ≡ n) ⊎ (m ≡ n → ⊥) → get_or new m 0 ≡ net_value net drivers (sources_of net m) (get_or old m 0)
+      resolved m l h (inl e) = rw e value
+      resolved m l h (inr ne) = others m ne ∙ R.resolved m l (h.0, omega (arith, h.1, ne))
 
   -- a net without a source has its value
-  pub kept_value : (nets : List ℕ) (i n : ℕ) (old mid : List ℕ) → sources_of net n ≡ [] → AreResolved net drivers (take i nets) old mid
+  pub kept_value : (first n : ℕ) (old mid : List ℕ) → n < length old → sources_of net n ≡ [] → AreResolved net drivers (λ m. (first ≤ m) × (m < n)) old mid
       → get_or mid n 0 ≡ net_value net drivers (sources_of net n) (get_or old n 0)
-  kept_value nets i n old mid none R = by (is_contained (take i nets) n)
+  kept_value first n old mid l none R = rw none (R.others n l (λ h. omega (arith, h.1)))
+
+  again : (xs : List Source) (old : ℕ) → net_value net drivers xs (net_value net drivers xs old) ≡ net_value net drivers xs old
+  again [] old = refl
+  again (x ∷ xs) old = refl
+
+  -- the nets of some groups, and those of one group more
+  pub group_resolved : (of_net groups : List ℕ) (i g : ℕ) (old mid new : List ℕ) → i < length groups → get_or groups i 0 ≡ g
+      → AreResolved net drivers (λ n. Contains (take i groups) (get_or of_net n 0)) old mid → AreResolved net drivers (λ n. get_or of_net n 0 ≡ g) mid new
+      → AreResolved net drivers (λ n. Contains (take (i + 1) groups) (get_or of_net n 0)) old new
+  group_resolved of_net groups i g old mid new within is A B = rw (take_more groups i 0 within, is) (record {
+    as_many = B.as_many ∙ A.as_many;
+    resolved = λ n l h. by n l (Contains-push_cases (take i groups) g (get_or of_net n 0) h) (cases_eq (get_or of_net n 0) g);
+    others = λ n l h. B.others n (in_mid n l) (λ e. h (rw e (Contains-push (take i groups) g)))
+        ∙ A.others n l (λ there. h (Contains-append_left (take i groups) (g ∷ []) (get_or of_net n 0) there));
+  })
     where
-      by : Contains (take i nets) n ⊎ (Contains (take i nets) n → ⊥) → get_or mid n 0 ≡ net_value net drivers (sources_of net n) (get_or old n 0)
-      by (inl h) = R.resolved n h
-      by (inr h) = rw none (R.others n h)
+      in_mid : (n : ℕ) → n < length old → n < length mid
+      in_mid n l = rw (A.as_many) l
+
+      same : (n : ℕ) → n < length old → Contains (take i groups) (get_or of_net n 0) ⊎ (Contains (take i groups) (get_or of_net n 0) → ⊥)
+          → net_value net drivers (sources_of net n) (get_or mid n 0) ≡ net_value net drivers (sources_of net n) (get_or old n 0)
+      same n l (inl h) = ap (net_value net drivers (sources_of net n)) (A.resolved n l h) ∙ again (sources_of net n) (get_or old n 0)
+      same n l (inr h) = ap (net_value net drivers (sources_of net n)) (A.others n l h)
+
+      by : (n : ℕ) → n < length old → Contains (take i groups) (get_or of_net n 0) ⊎ (g ≡ get_or of_net n 0) → (get_or of_net n 0 ≡ g) ⊎ (get_or of_net n 0 ≡ g → ⊥)
+          → get_or new n 0 ≡ net_value net drivers (sources_of net n) (get_or old n 0)
+      by n l _ (inl e) = B.resolved n (in_mid n l) e ∙ same n l (is_contained (take i groups) (get_or of_net n 0))
+      by n l (inl h) (inr ne) = B.others n (in_mid n l) ne ∙ A.resolved n l h
+      by n l (inr e) (inr ne) = absurd (ne (sym e))
 
 -- the resolution of a net's sources
 pub resolution_is : (net : FlatNet) (drivers : List (List ℕ)) (n old : ℕ) (sources : List r.Source) → n < length net.types → map source_view sources ≡ flat_sources net n

@@ -17,16 +17,18 @@ use Rattle.rtl_model.specs.simulation.Range.{AreInputs, StateInRange}
 use Rattle.rtl_model.proofs.basics.Lists.{contains_in, in_contains, get_or-map_within}
 use Rattle.rtl_model.proofs.nets.InRange.{keeps_range, limit-at}
 use Rattle.rtl_eval.specs.Runs.{Outcome}
+use Rattle.rtl_layout.specs.Cuts.{Cutting, AreCutsOf}
 use Rattle.rtl_net.specs.Nets.{NetView, flat, driver_view, process_view}
 use Rattle.rtl_net.specs.declared.process.Driver as r
 use Rattle.rtl_net.specs.declared.process.Process as q
 use Rattle.rtl_kernel.specs.drivers.Starts.{AreFresh, elements_of, no_entries, start_row, starts_of}
-use Rattle.rtl_kernel.specs.drivers.Transactions.{Transactions, no_outcome}
+use Rattle.rtl_kernel.specs.drivers.Brought.{AreAloneAlike}
+use Rattle.rtl_kernel.specs.drivers.Transactions.{Transactions, all_targets, no_outcome}
 use Rattle.rtl_kernel.specs.kernel.Kept.{HaveRoom, IsKernel, IsSound, RunBodies, state_of}
 use Rattle.rtl_kernel.specs.kernel.Simulation.{each_given, initial_inputs}
 use Rattle.rtl_kernel.specs.values.TwoValues.{TwoValues, AreChanged}
 use Rattle.rtl_kernel.specs.wakes.ToRun.{ToRun}
-use Rattle.rtl_kernel.specs.wakes.Woken.{IsIndex}
+use Rattle.rtl_kernel.specs.wakes.Woken.{IsIndex, wakers_of}
 use Rattle.rtl_kernel.specs.worklists.Numbers.{Numbers}
 use Rattle.rtl_kernel.proofs.Changing.{changed_below, given_values}
 use Rattle.rtl_kernel.proofs.Inputs.{input_has}
@@ -105,8 +107,8 @@ length-given (n ∷ ns) (v ∷ vs) e = ap suc (length-given ns vs (omega arith))
 
 -- ---- the kernel
 
-module _ {E : Type 0} (process : E → FlatProcess) (types : E → List ElementType) (most : E → ℕ) (net : NetView) (bodies : List E) (index : List (List ℕ))
-    (v : TwoValues) (t : Transactions) (r : ToRun) (touched : Numbers) (initial : List Nine) (R : IsInRange (flat net)) (C : IsConnected (flat net)) (B : RunBodies process types (flat net) bodies)
+module _ {E : Type 0} (process : E → FlatProcess) (types : E → List ElementType) (most : E → ℕ) (net : NetView) (bodies : List E)
+    (v : TwoValues) (t : Transactions) (r : ToRun) (initial : List Nine) (R : IsInRange (flat net)) (C : IsConnected (flat net)) (B : RunBodies process types (flat net) bodies)
     (before : v.before ≡ v.current) (A : AreChanged (each_given net.inputs initial) net.starts v.current) (drivers : t.drivers ≡ map start_row net.processes)
     (F : AreFresh most net.processes bodies t.outcomes) (waiting : r.waiting ≡ replicate (length net.processes) true) where
   abbrev inputs : ℕ → ℕ
@@ -156,9 +158,10 @@ module _ {E : Type 0} (process : E → FlatProcess) (types : E → List ElementT
     fresh = λ p waits a. none_fresh net.processes p (subst (λ (rows : List (List (Option ℕ))). (place : ℕ) × IsSome (get_or (get_or rows p []) place None)) F.entries a);
   }
 
-  pub kept_started : IsIndex (map (λ (p : q.Process). p.wakes.items) net.processes) index → length index ≡ length net.types → touched ≡ record { bound = length net.types; members = [] }
-      → IsKernel process types most net bodies index v t r touched
-  kept_started I each_net idle = record {
+  pub kept_started : (cuts : Cutting) (noted : Numbers) → IsIndex (map (λ (p : q.Process). p.wakes.items) net.processes) (wakers_of v.groups) → length v.groups.of_net ≡ length net.types
+      → AreAloneAlike (flat net) v.groups.of_net → AreCutsOf v.groups.of_net (all_targets net.processes) cuts → noted ≡ record { bound = length v.groups.listed; members = [] }
+      → IsKernel process types most net bodies cuts v t r noted
+  kept_started cuts noted I each_net alike are_cuts idle = record {
     in_range = R;
     connected = C;
     run_bodies = B;
@@ -166,6 +169,8 @@ module _ {E : Type 0} (process : E → FlatProcess) (types : E → List ElementT
     sound = sound;
     is_index = I;
     each_net = each_net;
+    alike = alike;
+    are_cuts = are_cuts;
     idle = idle;
   }
 

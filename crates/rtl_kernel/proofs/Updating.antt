@@ -1,6 +1,6 @@
 -- Transactions that are taken over, process by process.
-use Rattle.std.proofs.Common.{◌≡◌, ℕ, zero, suc, ◌+◌, ◌<◌, ◌≤◌, List, [], ◌∷◌, length, get_or, set, drop, map, replicate, Option, Some, None, refl, sym, ap, subst, ◌∙◌, arith, ◌⊎◌, inl, inr, IsSome, Contains}
-use Rattle.std.proofs.lemmas.Bool.{cases_eq}
+use Rattle.std.proofs.Common.{◌≡◌, ℕ, zero, suc, ◌+◌, ◌-◌, ◌<◌, ◌≤◌, List, [], ◌∷◌, length, get_or, set, drop, map, replicate, Option, Some, None, refl, sym, ap, subst, ◌∙◌, arith, ◌⊎◌, inl, inr, IsSome, Contains}
+use Rattle.std.proofs.lemmas.Bool.{cases_eq, cases_lt}
 use Rattle.std.proofs.lemmas.List.{ext_get_or, get_or-set_same, get_or-set_other, get_or_default, length-set, length-map, length-replicate, map-set}
 use Rattle.std.proofs.Math.Seq.{map-set_same}
 use Rattle.rtl_eval.specs.Runs.{Outcome}
@@ -17,12 +17,12 @@ use Rattle.rtl_model.proofs.simulation.Rows.{driven_all_at, driven_at, length-dr
 use Rattle.std.specs.Option.{is_some}
 use Rattle.rtl_net.specs.declared.process.Driver as net
 use Rattle.rtl_net.specs.declared.process.Process.{Process}
-use Rattle.rtl_kernel.specs.values.TwoValues.{TwoValues}
+use Rattle.rtl_kernel.specs.values.TwoValues.{TwoValues, IsWritten}
 use Rattle.rtl_kernel.specs.worklists.Numbers.{Numbers}
-use Rattle.rtl_kernel.specs.drivers.Brought.{BringsOne, Brings}
+use Rattle.rtl_kernel.specs.drivers.Brought.{Brings}
 use Rattle.rtl_kernel.specs.drivers.Transactions.{IsActive, nets_of, targets_of, pending_of, without_entries}
 use Rattle.rtl_kernel.specs.drivers.Updates.{Takes, IsTaken, IsUpdating}
-use Rattle.rtl_kernel.proofs.Brought.{brings_none, brings_one, brings_then, brings_all_none, brings_all_more}
+use Rattle.rtl_kernel.proofs.Brought.{brings_none, brings_then, brings_all_none, brings_all_more}
 
 -- ---- one row
 
@@ -100,23 +100,36 @@ module _ (wiring : FlatNet) (targets : List ℕ) (entries : List (Option ℕ)) w
     brings = brings_none wiring targets old nets noted;
   }
 
-  pub takes_one : (old : List ℕ) (nets : TwoValues) (noted : Numbers) (place v n : ℕ) → {nets' : TwoValues} → {noted' : Numbers} → get_or entries place None ≡ Some v → place < length old
-      → place < length targets → n ≡ get_or targets place 0 → n < length nets.current → BringsOne wiring n v nets noted nets' noted'
-      → Takes wiring targets entries old nets noted (set old place v) nets' noted'
-  takes_one old nets noted place v n {nets'} {noted'} entry within there net_is in_nets B = record {
-    as_many = length-set old place v;
-    unassigned = λ q e. unassigned q e (cases_eq q place);
-    stay = λ q h w e. stay q h w e (cases_eq q place);
-    brings = brings_one wiring targets old place v n nets noted within there (sym net_is) nets' noted' in_nets B;
+  -- the places from one on, whose transactions are these, are taken together
+  pub takes_run : (old new : List ℕ) (nets nets' : TwoValues) (noted noted' : Numbers) (place : ℕ) (values : List ℕ)
+      → ((k : ℕ) → k < length values → get_or entries (place + k) None ≡ Some (get_or values k 0)) → IsWritten place values old new
+      → Brings wiring targets old new nets noted nets' noted' → Takes wiring targets entries old nets noted new nets' noted'
+  takes_run old new nets nets' noted noted' place values are W B = record {
+    as_many = W.as_many;
+    unassigned = λ q e. unassigned q e (cases_lt q place) (cases_lt q (place + length values));
+    stay = λ q h w e. stay q h w e (cases_lt q place) (cases_lt q (place + length values));
+    brings = B;
   }
     where
-      unassigned : (q : ℕ) → get_or entries q None ≡ None → (q ≡ place) ⊎ (q ≡ place → ⊥) → get_or (set old place v) q 0 ≡ get_or old q 0
-      unassigned q e (inl same) = let f = rw same at e in absurd cc
-      unassigned q e (inr other) = get_or-set_other old place q v 0 other
+      unassigned : (q : ℕ) → get_or entries q None ≡ None → (q < place) ⊎ (place ≤ q) → (q < place + length values) ⊎ (place + length values ≤ q) → get_or new q 0 ≡ get_or old q 0
+      unassigned q e (inl low) _ = W.below q low
+      unassigned q e (inr from) (inr high) = W.behind q high
+      unassigned q e (inr from) (inl l) =
+          let at : q ≡ place + (q - place) = omega (arith, from) in
+          let some = are (q - place) (omega (arith, l, from)) in
+          let none = ap (λ (p : ℕ). get_or entries p None) (sym at) ∙ e in
+          absurd cc
 
-      stay : (q : ℕ) → IsTaken entries old q → (w : ℕ) → get_or entries q None ≡ Some w → (q ≡ place) ⊎ (q ≡ place → ⊥) → get_or (set old place v) q 0 ≡ w
-      stay q h w e (inl same) = let f = rw same at e in rw same (get_or-set_same old place v 0 within ∙ (let g : v ≡ w = cc in g))
-      stay q h w e (inr other) = get_or-set_other old place q v 0 other ∙ h w e
+      stay : (q : ℕ) → IsTaken entries old q → (w : ℕ) → get_or entries q None ≡ Some w → (q < place) ⊎ (place ≤ q) → (q < place + length values) ⊎ (place + length values ≤ q)
+          → get_or new q 0 ≡ w
+      stay q h w e (inl low) _ = W.below q low ∙ h w e
+      stay q h w e (inr from) (inr high) = W.behind q high ∙ h w e
+      stay q h w e (inr from) (inl l) =
+          let at : q ≡ place + (q - place) = omega (arith, from) in
+          let within : q - place < length values = omega (arith, l, from) in
+          let some = are (q - place) within in
+          let has = ap (λ (p : ℕ). get_or entries p None) (sym at) ∙ e in
+          ap (λ (p : ℕ). get_or new p 0) at ∙ W.written (q - place) within ∙ (let is : get_or values (q - place) 0 ≡ w = cc in is)
 
   pub takes_then : (old mid new : List ℕ) (nets nets' nets'' : TwoValues) (noted noted' noted'' : Numbers) → Takes wiring targets entries old nets noted mid nets' noted'
       → Takes wiring targets entries mid nets' noted' new nets'' noted'' → Takes wiring targets entries old nets noted new nets'' noted''
@@ -135,6 +148,19 @@ module _ (wiring : FlatNet) (targets : List ℕ) (entries : List (Option ℕ)) w
 module _ (entries : List (Option ℕ)) where
   pub taken_here : (values : List ℕ) (place v : ℕ) → get_or entries place None ≡ Some v → get_or values place 0 ≡ v → IsTaken entries values place
   taken_here values place v entry has w e = has ∙ (let g : v ≡ w = cc in g)
+
+  -- places whose transactions are the values there are taken
+  pub taken_more : (values values' : List ℕ) (from first : ℕ) (run : List ℕ) → ((k : ℕ) → k < length run → get_or entries (first + k) None ≡ Some (get_or run k 0))
+      → ((k : ℕ) → k < length run → get_or values' (first + k) 0 ≡ get_or run k 0) → ((q : ℕ) → IsTaken entries values q → IsTaken entries values' q)
+      → ((q : ℕ) → from ≤ q → q < first → IsTaken entries values q) → (q : ℕ) → from ≤ q → q < first + length run → IsTaken entries values' q
+  taken_more values values' from first run are is stay taken q low high = by (cases_lt q first)
+    where
+      by : (q < first) ⊎ (first ≤ q) → IsTaken entries values' q
+      by (inl l) = stay q (taken q low l)
+      by (inr behind) =
+          let at : first + (q - first) ≡ q = omega (arith, behind) in
+          let within : q - first < length run = omega (arith, high, behind) in
+          subst (λ (p : ℕ). IsTaken entries values' p) at (taken_here values' (first + (q - first)) (get_or run (q - first) 0) (are (q - first) within) (is (q - first) within))
 
   -- before the first span, what is not taken is in one of them
   pub left_all : (values : List ℕ) (spans : List Span) → AreAssigned entries (places_of spans) → (q : ℕ) → IsTaken entries values q ⊎ Contains (places_of spans) q
@@ -168,14 +194,6 @@ module _ (entries : List (Option ℕ)) where
       by : IsTaken entries values q ⊎ Contains (places_of (drop i spans)) q → IsTaken entries values q
       by (inl h) = h
       by (inr there) = absurd (none_behind spans i done q there)
-
--- what holds below a number and at it holds up to it
-pub and_at : (P : ℕ → Type 0) (at : ℕ) → ((k : ℕ) → k < at → P k) → P at → (k : ℕ) → k < at + 1 → P k
-and_at P at below here k l = by (cases_eq k at)
-  where
-    by : (k ≡ at) ⊎ (k ≡ at → ⊥) → P k
-    by (inl same) = subst P (sym same) here
-    by (inr other) = below k (omega (arith, l, other))
 
 -- ---- the drivers of all processes
 

@@ -1,15 +1,15 @@
 -- Processes that are marked and listed, one after the other.
-use Rattle.std.proofs.Common.{◌≡◌, ℕ, zero, suc, ◌+◌, ◌<◌, ◌≤◌, Bool, true, false, not, List, [], ◌∷◌, ◌++◌, length, get_or, set, take, sym, ap, subst, ◌∙◌, arith, length-append, ◌⊎◌, inl, inr, Contains, Vec}
-use Rattle.std.specs.Global.{Global}
-use Rattle.std.proofs.lemmas.Bool.{cases_eq, cases_lt, eq-eqb}
-use Rattle.std.proofs.lemmas.List.{get_or-set_same, get_or-set_other, get_or_append_left, take_more, take_all}
+use Rattle.std.proofs.Common.{◌≡◌, ℕ, zero, suc, ◌+◌, ◌<◌, ◌≤◌, Bool, true, false, List, [], ◌∷◌, ◌++◌, length, get_or, set, take, sym, subst, ◌∙◌, arith, length-append, ◌⊎◌, inl, inr, Contains}
+use Rattle.std.proofs.lemmas.Bool.{cases_eq, cases_lt}
+use Rattle.std.proofs.lemmas.List.{get_or-set_same, get_or-set_other, get_or_append_left, get_or_past, length-map, take_more, take_all}
 use Rattle.std.proofs.Math.Seq.{get_or-append_seam}
 use Rattle.std.proofs.lemmas.List.Elements.{Contains-push, Contains-append_left, Contains-push_cases}
 use Rattle.rtl_model.specs.basics.Valuations.{has_event}
-use Rattle.rtl_model.proofs.basics.Lists.{Contains-none, get_or-map_within}
-use Rattle.rtl_kernel.specs.drivers.Rows.{rows}
+use Rattle.rtl_model.proofs.basics.Lists.{Contains-none}
+use Rattle.rtl_layout.specs.Groups.{Grouping}
 use Rattle.rtl_kernel.specs.values.TwoValues.{CoverEvents}
-use Rattle.rtl_kernel.specs.wakes.Woken.{Adds, AreDifferent, AreWoken, AreWokenBy}
+use Rattle.rtl_kernel.specs.wakes.Woken.{Adds, AreDifferent, AreWoken, AreWokenBy, wakers_of}
+use Rattle.rtl_kernel.proofs.Grouped.{wakers_at}
 
 -- ---- numbers that stand once
 
@@ -58,10 +58,6 @@ adds_again marks x marked = record { kept = λ p h. h; added = λ p (k, l, e). a
     added p zero l e = subst (λ (q : ℕ). get_or marks q false ≡ true) e marked
     added p (suc k) l e = absurd (omega arith)
 
--- marks that are there already
-pub adds_held : (xs : List ℕ) (marks : List Bool) → ((p : ℕ) → Contains xs p → get_or marks p false ≡ true) → Adds xs marks marks
-adds_held xs marks held = record { kept = λ p h. h; added = held; no_other = λ p h. inl h }
-
 -- marks of a list, and of one more
 pub adds_more : (xs : List ℕ) (i : ℕ) (x : ℕ) (old mid new : List Bool) → i < length xs → get_or xs i 0 ≡ x → Adds (take i xs) old mid → Adds (x ∷ []) mid new
     → Adds (take (i + 1) xs) old new
@@ -89,49 +85,54 @@ adds_more xs i x old mid new within is A B = rw (take_more xs i 0 within, is) (r
 
 -- ---- by events
 
-module _ (index : List (List ℕ)) (before current : List ℕ) where
-  pub none_woken : (nets : List ℕ) (waiting : List Bool) → ((p : ℕ) → get_or waiting p false ≡ true → ⊥) → AreWokenBy (take 0 nets) index before current waiting
-  none_woken nets waiting none = record { all_wait = λ n p h. absurd (Contains-none n h); no_other = λ p h. absurd (none p h) }
+module _ (groups : Grouping) (before current : List ℕ) where
+  pub none_woken : (changed : List ℕ) (waiting : List Bool) → ((p : ℕ) → get_or waiting p false ≡ true → ⊥) → AreWokenBy (take 0 changed) groups before current waiting
+  none_woken changed waiting none = record { all_wait = λ n p l h. absurd (Contains-none (get_or groups.of_net n 0) h); no_other = λ p h. absurd (none p h) }
 
-  -- a net without an event wakes none
-  pub woken_without : (nets : List ℕ) (i n : ℕ) (waiting : List Bool) → i < length nets → get_or nets i 0 ≡ n → has_event before current n ≡ false
-      → AreWokenBy (take i nets) index before current waiting → AreWokenBy (take (i + 1) nets) index before current waiting
-  woken_without nets i n waiting within is none A = rw (take_more nets i 0 within, is) (record {
-    all_wait = λ m p h. wait m p (Contains-push_cases (take i nets) n m h);
-    no_other = A.no_other;
-  })
-    where
-      wait : (m p : ℕ) → Contains (take i nets) m ⊎ (n ≡ m) → has_event before current m ≡ true → Contains (get_or index m []) p → get_or waiting p false ≡ true
-      wait m p (inl h) event there = A.all_wait m p h event there
-      wait m p (inr e) event there = let f = subst (λ (k : ℕ). has_event before current k ≡ false) e none in cc
+  module _ (changed : List ℕ) (i g : ℕ) (old : List Bool) (within : i < length changed) (is : get_or changed i 0 ≡ g) (A : AreWokenBy (take i changed) groups before current old) where
+    -- a group without an event wakes none
+    pub woken_without : ((n : ℕ) → n < length groups.of_net → get_or groups.of_net n 0 ≡ g → has_event before current n ≡ true → ⊥)
+        → AreWokenBy (take (i + 1) changed) groups before current old
+    woken_without none = rw (take_more changed i 0 within, is) (record {
+      all_wait = λ m p l h. wait m p l (Contains-push_cases (take i changed) g (get_or groups.of_net m 0) h);
+      no_other = A.no_other;
+    })
+      where
+        wait : (m p : ℕ) → m < length groups.of_net → Contains (take i changed) (get_or groups.of_net m 0) ⊎ (g ≡ get_or groups.of_net m 0) → has_event before current m ≡ true
+            → Contains (get_or (wakers_of groups) m []) p → get_or old p false ≡ true
+        wait m p l (inl h) event there = A.all_wait m p l h event there
+        wait m p l (inr e) event there = absurd (none m l (sym e) event)
 
-  -- and one with an event those of its row
-  pub woken_with : (nets : List ℕ) (i n : ℕ) (old new : List Bool) → i < length nets → get_or nets i 0 ≡ n → has_event before current n ≡ true
-      → AreWokenBy (take i nets) index before current old → Adds (get_or index n []) old new → AreWokenBy (take (i + 1) nets) index before current new
-  woken_with nets i n old new within is event A B = rw (take_more nets i 0 within, is) (record {
-    all_wait = λ m p h. wait m p (Contains-push_cases (take i nets) n m h);
-    no_other = λ p h. other p (B.no_other p h);
-  })
-    where
-      wait : (m p : ℕ) → Contains (take i nets) m ⊎ (n ≡ m) → has_event before current m ≡ true → Contains (get_or index m []) p → get_or new p false ≡ true
-      wait m p (inl h) event there = B.kept p (A.all_wait m p h event there)
-      wait m p (inr e) event there = B.added p (rw e there)
+    -- and one with an event those that it is listed for
+    pub woken_with : (new : List Bool) (n : ℕ) → n < length groups.of_net → get_or groups.of_net n 0 ≡ g → has_event before current n ≡ true
+        → Adds (get_or groups.listed g []) old new → AreWokenBy (take (i + 1) changed) groups before current new
+    woken_with new n there own event B = rw (take_more changed i 0 within, is) (record {
+      all_wait = λ m p l h. wait m p l (Contains-push_cases (take i changed) g (get_or groups.of_net m 0) h);
+      no_other = λ p h. other p (B.no_other p h);
+    })
+      where
+        listed : (m p : ℕ) → m < length groups.of_net → get_or groups.of_net m 0 ≡ g → Contains (get_or (wakers_of groups) m []) p → Contains (get_or groups.listed g []) p
+        listed m p l e h = subst (λ (k : ℕ). Contains (get_or groups.listed k []) p) e (rw (wakers_at groups m l) at h)
 
-      other : (p : ℕ) → (get_or old p false ≡ true) ⊎ Contains (get_or index n []) p → (m : ℕ) × (has_event before current m ≡ true) × Contains (get_or index m []) p
-      other p (inl h) = A.no_other p h
-      other p (inr there) = (n, event, there)
+        wait : (m p : ℕ) → m < length groups.of_net → Contains (take i changed) (get_or groups.of_net m 0) ⊎ (g ≡ get_or groups.of_net m 0) → has_event before current m ≡ true
+            → Contains (get_or (wakers_of groups) m []) p → get_or new p false ≡ true
+        wait m p l (inl h) event here = B.kept p (A.all_wait m p l h event here)
+        wait m p l (inr e) event here = B.added p (listed m p l (sym e) here)
 
-  pub all_woken : (nets : List ℕ) (i : ℕ) (waiting : List Bool) → length nets ≤ i → CoverEvents (record { before = before; current = current }) nets
-      → AreWokenBy (take i nets) index before current waiting → AreWoken index before current waiting
-  all_woken nets i waiting done C A = record {
-    all_wait = λ n p event there. A.all_wait n p (rw (take_all i nets done) (C.events n event)) event there;
+        other : (p : ℕ) → (get_or old p false ≡ true) ⊎ Contains (get_or groups.listed g []) p
+            → (m : ℕ) × (has_event before current m ≡ true) × Contains (get_or (wakers_of groups) m []) p
+        other p (inl h) = A.no_other p h
+        other p (inr h) = (n, event, rw (wakers_at groups n there) (subst (λ (k : ℕ). Contains (get_or groups.listed k []) p) (sym own) h))
+
+  pub all_woken : (changed : List ℕ) (i : ℕ) (waiting : List Bool) → length changed ≤ i
+      → CoverEvents (record { groups = groups; before = before; current = current }) changed → AreWokenBy (take i changed) groups before current waiting
+      → AreWoken (wakers_of groups) before current waiting
+  all_woken changed i waiting done C A = record {
+    all_wait = λ n p event there. by n p event there (cases_lt n (length groups.of_net));
     no_other = A.no_other;
   }
-
-pub same_no_event : (before current : List ℕ) (n : ℕ) → get_or before n 0 ≡ get_or current n 0 → has_event before current n ≡ false
-same_no_event before current n e = ap not (eq-eqb (get_or before n 0) (get_or current n 0) e)
-
--- ---- rows
-
-pub row_is : (index : List (Vec ℕ Global)) (n : ℕ) (row : Vec ℕ Global) → n < length index → row ≡ get_or index n row → get_or (rows index) n [] ≡ row.items
-row_is index n row within is = get_or-map_within (λ (v : Vec ℕ Global). v.items) index n row [] within ∙ ap (λ (v : Vec ℕ Global). v.items) (sym is)
+    where
+      by : (n p : ℕ) → has_event before current n ≡ true → Contains (get_or (wakers_of groups) n []) p → (n < length groups.of_net) ⊎ (length groups.of_net ≤ n)
+          → get_or waiting p false ≡ true
+      by n p event there (inl l) = A.all_wait n p l (rw (take_all i changed done) (C.events n event)) event there
+      by n p event there (inr l) = absurd (Contains-none p (subst (λ (xs : List ℕ). Contains xs p) (get_or_past (wakers_of groups) n [] (rw length-map l)) there))

@@ -12,14 +12,18 @@ ghost use Rattle.rtl_net.specs.declared.process.Process.{Process};
 ghost use Rattle.rtl_net.specs.Nets.{flat};
 ghost use Rattle.rtl_kernel.specs.drivers.Rows.{rows};
 ghost use Rattle.rtl_kernel.specs.drivers.Starts.{AreFresh, start_row};
-ghost use Rattle.rtl_kernel.specs.drivers.Transactions.{IsActive, HasRunOf, nets_of, targets_of, pending_of, without_entries, no_outcome};
-ghost use Rattle.rtl_kernel.specs.drivers.Brought.{BringsOne, Brings, BringsAll};
+ghost use Rattle.rtl_kernel.specs.drivers.Transactions.{IsActive, HasRunOf, all_targets, nets_of, targets_of, pending_of, without_entries, no_outcome};
+ghost use Rattle.rtl_kernel.specs.drivers.Brought.{AreAloneAlike, BringsRun, Brings, BringsAll};
 ghost use Rattle.rtl_kernel.specs.drivers.Updates.{Takes, IsTaken};
+ghost use Rattle.rtl_kernel.specs.values.TwoValues.{group_of};
+ghost use Rattle.rtl_layout.specs.Cuts.{AreCuts, AreCutsOf};
 
+use crate::slices::{differ, write};
 use crate::starts::{start_values, variable_starts};
 use crate::values::Values;
 use crate::worklist::Worklist;
 use rtl_eval::{Drives, Exec, Span};
+use rtl_layout::{Cut, Cuts};
 use rtl_net::{Driver, Net, Process};
 use std::alloc::{AllocError, Global};
 use std::marker::Model;
@@ -87,20 +91,24 @@ impl Drivers {
         self.active.members().is_empty()
     }
 
-    /// Every transaction becomes its driver's value. A net with one source gets the new value of its driver at once, and the
-    /// other nets of drivers whose values change come to those in `noted`.
-    pub fn update(&mut self, wiring: &Net, nets: &mut Values, noted: &mut Worklist)
+    /// Every transaction becomes its driver's value. Nets with one source get the new values of their drivers at once, and the
+    /// groups of the other nets of drivers whose values change come to those in `noted`. `cuts` has the drivers' nets in cuts.
+    pub fn update(&mut self, cuts: &Cuts, wiring: &Net, nets: &mut Values, noted: &mut Worklist)
         requires as_many { length wiring.now.processes ≡ length self.old.outcomes }
         requires each_driver { (p : ℕ) → length (targets_of wiring.now.processes p) ≡ length (slice_index_or (pending_of self.old.outcomes) p []) }
+        requires cuts { AreCutsOf nets.old.groups.of_net (all_targets wiring.now.processes) cuts.now }
         requires there { All (λ (p : Process). All (λ n. n < length wiring.now.types) (nets_of p.drives.items)) wiring.now.processes }
         requires each_net { length nets.old.current ≡ length wiring.now.types }
-        requires bound { noted.old.bound ≡ length wiring.now.types }
+        requires grouped { length nets.old.groups.of_net ≡ length wiring.now.types }
+        requires alike { AreAloneAlike (flat wiring.now) nets.old.groups.of_net }
+        requires bound { noted.old.bound ≡ length nets.old.groups.listed }
         ensures drivers { self.new.drivers ≡ driven_all (pending_of self.old.outcomes) self.old.drivers }
         ensures outcomes { self.new.outcomes ≡ map without_entries self.old.outcomes }
         ensures brings { BringsAll (flat wiring.now) wiring.now.processes self.old.drivers self.new.drivers nets.old noted.old nets.new noted.new }
     {
         update_rows(
             self.active.members(),
+            cuts,
             wiring,
             &mut self.outcomes,
             &mut self.drivers,
@@ -130,9 +138,18 @@ impl Drivers {
     }
 }
 
+/// The drivers of a process, and the cuts that their nets are in.
+#[derive(Clone, Copy)]
+struct Row<'a> {
+    drives: &'a [Driver],
+    cuts: &'a [Cut],
+    numbers: &'a [usize],
+}
+
 /// Takes over the transactions of these processes.
 fn update_rows(
     active: &[usize],
+    cuts: &Cuts,
     wiring: &Net,
     outcomes: &mut Vec<Drives>,
     drivers: &mut Vec<Vec<u8>>,
@@ -145,54 +162,58 @@ fn update_rows(
     requires all_active { (p : ℕ) → IsActive (pending_of outcomes.old.items) p → Contains active.now p }
     requires each_driver { (p : ℕ) → length (targets_of wiring.now.processes p) ≡ length (slice_index_or (pending_of outcomes.old.items) p []) }
     requires each_value { (p : ℕ) → length (slice_index_or (rows drivers.old.items) p []) ≡ length (slice_index_or (pending_of outcomes.old.items) p []) }
+    requires cuts { AreCutsOf nets.old.groups.of_net (all_targets wiring.now.processes) cuts.now }
     requires there { All (λ (p : Process). All (λ n. n < length wiring.now.types) (nets_of p.drives.items)) wiring.now.processes }
     requires each_net { length nets.old.current ≡ length wiring.now.types }
-    requires bound { noted.old.bound ≡ length wiring.now.types }
+    requires grouped { length nets.old.groups.of_net ≡ length wiring.now.types }
+    requires alike { AreAloneAlike (flat wiring.now) nets.old.groups.of_net }
+    requires bound { noted.old.bound ≡ length nets.old.groups.listed }
     ensures drivers { rows drivers.new.items ≡ driven_all (pending_of outcomes.old.items) (rows drivers.old.items) }
     ensures outcomes { outcomes.new.items ≡ map without_entries outcomes.old.items }
     ensures brings { BringsAll (flat wiring.now) wiring.now.processes (rows drivers.old.items) (rows drivers.new.items) nets.old noted.old nets.new noted.new }
 {
     let processes = wiring.processes();
     for process in active {
+        let row = Row {
+            drives: &processes[*process].drives,
+            cuts: cuts.of(*process),
+            numbers: cuts.numbers(*process),
+        };
         let outcome = &mut outcomes[*process];
-        update_row(
-            wiring,
-            &processes[*process].drives,
-            outcome,
-            &mut drivers[*process],
-            nets,
-            noted,
-        );
+        update_row(row, wiring, outcome, &mut drivers[*process], nets, noted);
         outcome.clear();
     }
 }
 
 /// Takes over the transactions of one process.
 fn update_row(
+    row: Row,
     wiring: &Net,
-    drives: &[Driver],
     outcome: &Drives,
     values: &mut Vec<u8>,
     nets: &mut Values,
     noted: &mut Worklist,
 )
     requires as_many { length values.old.items ≡ length outcome.now.entries }
-    requires each_driver { length drives.now ≡ length outcome.now.entries }
-    requires there { All (λ n. n < length wiring.now.types) (nets_of drives.now) }
+    requires each_driver { length row.drives.now ≡ length outcome.now.entries }
+    requires cuts { AreCuts nets.old.groups.of_net (nets_of row.drives.now) row.cuts.now row.numbers.now }
+    requires there { All (λ n. n < length wiring.now.types) (nets_of row.drives.now) }
     requires each_net { length nets.old.current ≡ length wiring.now.types }
-    requires bound { noted.old.bound ≡ length wiring.now.types }
+    requires grouped { length nets.old.groups.of_net ≡ length wiring.now.types }
+    requires alike { AreAloneAlike (flat wiring.now) nets.old.groups.of_net }
+    requires bound { noted.old.bound ≡ length nets.old.groups.listed }
     ensures values { values.new.items ≡ driven outcome.now.entries values.old.items }
-    ensures brings { Brings (flat wiring.now) (nets_of drives.now) values.old.items values.new.items nets.old noted.old nets.new noted.new }
+    ensures brings { Brings (flat wiring.now) (nets_of row.entry.drives.now) values.old.items values.new.items nets.old noted.old nets.new noted.new }
 {
     for span in outcome.assigned() {
-        update_span(wiring, drives, outcome, *span, values, nets, noted);
+        update_span(row, wiring, outcome, *span, values, nets, noted);
     }
 }
 
-/// Takes over the transactions of one process at the places of a span, each of which has one.
+/// Takes over the transactions of one process at the places of a span, each of which has one, cut by cut.
 fn update_span(
+    row: Row,
     wiring: &Net,
-    drives: &[Driver],
     outcome: &Drives,
     span: Span,
     values: &mut [u8],
@@ -200,35 +221,49 @@ fn update_span(
     noted: &mut Worklist,
 )
     requires as_many { length values.old ≡ length outcome.now.entries }
-    requires each_driver { length drives.now ≡ length outcome.now.entries }
+    requires each_driver { length row.drives.now ≡ length outcome.now.entries }
     requires within { span.first + span.len ≤ length outcome.now.entries }
     requires all { (k : ℕ) → k < span.len → IsSome (slice_index_or outcome.now.entries (span.first + k) None) }
-    requires there { All (λ n. n < length wiring.now.types) (nets_of drives.now) }
+    requires cuts { AreCuts nets.old.groups.of_net (nets_of row.drives.now) row.cuts.now row.numbers.now }
+    requires there { All (λ n. n < length wiring.now.types) (nets_of row.drives.now) }
     requires each_net { length nets.old.current ≡ length wiring.now.types }
-    requires bound { noted.old.bound ≡ length wiring.now.types }
-    ensures takes { Takes (flat wiring.now) (nets_of drives.now) outcome.now.entries values.old nets.old noted.old values.new nets.new noted.new }
+    requires grouped { length nets.old.groups.of_net ≡ length wiring.now.types }
+    requires alike { AreAloneAlike (flat wiring.now) nets.old.groups.of_net }
+    requires bound { noted.old.bound ≡ length nets.old.groups.listed }
+    ensures takes { Takes (flat wiring.now) (nets_of row.entry.drives.now) outcome.now.entries values.old nets.old noted.old values.new nets.new noted.new }
     ensures taken { (k : ℕ) → k < span.len → IsTaken outcome.now.entries values.new (span.first + k) }
 {
-    let assigned = outcome.values(span);
-    for at in 0..assigned.len() {
-        let place = span.first + at;
-        if values[place] != assigned[at] {
-            values[place] = assigned[at];
-            bring(wiring, drives[place].net, assigned[at], nets, noted);
+    let end = span.first + span.len;
+    let mut first = span.first;
+    while first < end {
+        let cut = row.cuts[row.numbers[first]];
+        let beyond = end.min(cut.place + cut.len);
+        let run = Span {
+            first,
+            len: beyond - first,
+        };
+        let assigned = outcome.values(run);
+        if differ(values, first, assigned) {
+            write(values, first, assigned);
+            bring(wiring, row.drives[first].net, assigned, nets, noted);
         }
+        first = beyond;
     }
 }
 
-/// Gives a net the new value of a driver, if that is its one source, and else notes it.
-fn bring(wiring: &Net, net: usize, value: u8, nets: &mut Values, noted: &mut Worklist)
-    requires there { net < length wiring.now.types }
+/// Gives the nets from one on, all in one group, new values of their drivers, if those are their one source each, and else
+/// notes their group.
+fn bring(wiring: &Net, first: usize, values: &[u8], nets: &mut Values, noted: &mut Worklist)
+    requires some { 0 < length values.now }
+    requires there { first + length values.now ≤ length wiring.now.types }
+    requires together { (k : ℕ) → k < length values.now → group_of nets.old (first + k) ≡ group_of nets.old first }
     requires each_net { length nets.old.current ≡ length wiring.now.types }
-    requires bound { noted.old.bound ≡ length wiring.now.types }
-    ensures { BringsOne (flat wiring.now) net value nets.old noted.old nets.new noted.new }
+    requires bound { noted.old.bound ≡ length nets.old.groups.listed }
+    ensures { BringsRun (flat wiring.now) first values.now nets.old noted.old nets.new noted.new }
 {
-    if wiring.sources(net).len() == 1 {
-        nets.set(net, value);
+    if wiring.sources(first).len() == 1 {
+        nets.set_run(first, values);
     } else {
-        noted.insert(net);
+        noted.insert(nets.groups().of_net()[first]);
     }
 }

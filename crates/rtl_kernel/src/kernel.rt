@@ -10,16 +10,17 @@ ghost use Rattle.rtl_kernel.specs.kernel.Simulation.{changes_of, initial_inputs}
 ghost use Rattle.rtl_kernel.specs.kernel.Kept.{RunBodies};
 ghost use Rattle.rtl_kernel.specs.kernel.Picked.{IsAt, HasRunAsPicked, HasDeltasAsPicked};
 
+use crate::cutting::driver_cuts;
 use crate::drivers::Drivers;
 use crate::pick::Pick;
 use crate::resumed::Resumed;
 use crate::starts::starting_codes;
-use crate::update::resolve_nets;
+use crate::update::resolve_groups;
 use crate::values::Values;
 use crate::wakes::wake_groups;
 use crate::worklist::Worklist;
 use rtl_eval::Exec;
-use rtl_layout::Groups;
+use rtl_layout::Cuts;
 use rtl_net::Net;
 use std::alloc::{AllocError, Global};
 use std::marker::Model;
@@ -31,7 +32,7 @@ use vhdl_values::Nine;
 pub struct Kernel<'a, E: Exec> {
     net: &'a Net,
     bodies: &'a [E],
-    groups: Groups,
+    cuts: Cuts,
     values: Values,
     drivers: Drivers,
     resumed: Resumed,
@@ -52,11 +53,10 @@ impl<'a, E: Exec> Model for Kernel<'a, E> {
     ghost coded = { Prim.hlevel (codes, process_contract.the_row.coded) };
 
     ghost use Rattle.rtl_kernel.specs.kernel.Kept.{IsKernel, state_of};
-    ghost use Rattle.rtl_kernel.specs.wakes.Woken.{wakers_of};
 
     ghost view = { λ k. record { net = k.net.now; state = state_of k.values k.drivers k.resumed } };
 
-    ghost invariant = { λ k. IsKernel E.process E.types E.most k.net.now k.bodies.now (wakers_of k.groups) k.values k.drivers k.resumed k.noted };
+    ghost invariant = { λ k. IsKernel E.process E.types E.most k.net.now k.bodies.now k.cuts k.values k.drivers k.resumed k.noted };
 }
 
 impl<'a, E: Exec> Kernel<'a, E> {
@@ -77,19 +77,20 @@ impl<'a, E: Exec> Kernel<'a, E> {
           state = started (core_net (flat net.now)) (initial_inputs (flat net.now) initial.now);
         }) }
     {
-        let nets = net.nets();
+        let _nets = net.nets();
         let processes = net.processes();
-        let mut values = Values::new(alloc, &starting_codes(alloc, net)?)?;
+        let layout = wake_groups(alloc, net)?;
+        let cuts = driver_cuts(alloc, layout.of_net(), processes)?;
+        let mut values = Values::new(alloc, layout, &starting_codes(alloc, net)?)?;
         values.set_each(net.inputs(), initial);
         values.begin();
-        let groups = wake_groups(alloc, net)?;
         let drivers = Drivers::new(alloc, processes, bodies)?;
         let resumed = Resumed::all(alloc, processes.len())?;
-        let noted = Worklist::new(alloc, nets)?;
+        let noted = Worklist::new(alloc, values.groups().count())?;
         Ok(Kernel {
             net,
             bodies,
-            groups,
+            cuts,
             values,
             drivers,
             resumed,
@@ -226,20 +227,16 @@ impl<'a, E: Exec> Kernel<'a, E> {
     {
         let net = self.net;
         self.values.begin();
-        self.drivers.update(net, &mut self.values, &mut self.noted);
-        resolve_nets(
+        self.drivers
+            .update(&self.cuts, net, &mut self.values, &mut self.noted);
+        resolve_groups(
             self.noted.members(),
             net,
             self.drivers.values(),
             &mut self.values,
         );
         self.noted.clear();
-        self.resumed.resume(
-            self.values.changed(),
-            self.values.before(),
-            self.values.now(),
-            &self.groups,
-        );
+        self.resumed.resume(&self.values);
     }
 
     /// Gives in ports new values, and resumes the processes that wake.
@@ -252,11 +249,6 @@ impl<'a, E: Exec> Kernel<'a, E> {
     {
         self.values.begin();
         self.values.set_all(changes);
-        self.resumed.resume(
-            self.values.changed(),
-            self.values.before(),
-            self.values.now(),
-            &self.groups,
-        );
+        self.resumed.resume(&self.values);
     }
 }

@@ -1,11 +1,13 @@
 //! The simulation cycle (IEEE 1076-2008, 14.7.5).
 #![tactic(auto)]
 
+mod cutting;
 mod drivers;
 mod kernel;
 mod pick;
 mod resolution;
 mod resumed;
+mod slices;
 mod starts;
 mod update;
 mod values;

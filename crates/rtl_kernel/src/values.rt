@@ -1,18 +1,23 @@
 //! The values of the nets.
 
-ghost use Rattle.std.specs.Prelude.{◌≡◌, ◌<◌, length, slice_set, All, IfOk};
+ghost use Rattle.std.specs.Prelude.{◌≡◌, ◌+◌, ◌<◌, ◌≤◌, ℕ, true, false, length, slice_index, slice_set, All, IfOk};
+ghost use Rattle.rtl_layout.specs.Groups.{AreRuns};
+ghost use Rattle.rtl_model.specs.basics.Valuations.{has_event};
 ghost use Rattle.rtl_kernel.specs.kernel.Simulation.{changes_of, each_given};
-ghost use Rattle.rtl_kernel.specs.values.TwoValues.{AreChanged, CoverEvents};
+ghost use Rattle.rtl_kernel.specs.values.TwoValues.{AreChanged, CoverEvents, HasWritten, group_of};
 
+use crate::slices::write;
 use crate::worklist::Worklist;
+use rtl_layout::Groups;
 use std::alloc::{AllocError, Global};
 use std::marker::Model;
 use vhdl_values::Nine;
 
-/// The nets' values before the last update and now, as codes, with the nets that may differ in the two: so what a cycle
-/// costs here goes by the nets that it changes. All memory is taken by `new`.
+/// The nets' values before the last update and now, as codes, with the groups whose nets may differ in the two: so what a
+/// cycle costs here goes by the groups of the nets that it changes. All memory is taken by `new`.
 #[derive(Drop)]
 pub struct Values {
+    groups: Groups,
     before: Vec<u8>,
     current: Vec<u8>,
     changed: Worklist,
@@ -31,15 +36,32 @@ impl Model for Values {
 }
 
 impl Values {
-    /// These values, before and now.
-    pub fn new(alloc: Global, start: &[u8]) -> Result<Values, AllocError>
-        ensures { IfOk result (λ v. v ≡ record { before = start.now; current = start.now }) }
+    /// These values, before and now, of nets in these groups.
+    pub fn new(alloc: Global, groups: Groups, start: &[u8]) -> Result<Values, AllocError>
+        requires runs { AreRuns groups.of_net groups.first }
+        requires each_group { length groups.listed ≡ length groups.first }
+        requires each_net { length groups.of_net ≡ length start.now }
+        ensures { IfOk result (λ v. v ≡ record { groups = groups; before = start.now; current = start.now }) }
     {
+        let before = Vec::from_slice(alloc, start)?;
+        let current = Vec::from_slice(alloc, start)?;
+        let changed = Worklist::new(alloc, groups.count())?;
         Ok(Values {
-            before: Vec::from_slice(alloc, start)?,
-            current: Vec::from_slice(alloc, start)?,
-            changed: Worklist::new(alloc, start.len())?,
+            groups,
+            before,
+            current,
+            changed,
         })
+    }
+
+    /// The groups of the nets.
+    pub fn groups(&self) -> &Groups
+        ensures value { result.now ≡ self.now.groups }
+        ensures runs { AreRuns result.now.of_net result.now.first }
+        ensures each_group { length result.now.listed ≡ length result.now.first }
+        ensures each_net { length result.now.of_net ≡ length self.now.current }
+    {
+        &self.groups
     }
 
     /// The values before the last update.
@@ -57,18 +79,36 @@ impl Values {
         self.current.as_slice()
     }
 
-    /// Nets among which are all that have an event.
+    /// Groups among whose nets are all that have an event.
     pub fn changed(&self) -> &[usize]
         ensures { CoverEvents self.now result.now }
     {
         self.changed.members()
     }
 
+    /// Whether a net of a group has an event.
+    pub fn has_event(&self, group: usize) -> bool
+        requires { group < length self.now.groups.listed }
+        ensures yes { result ≡ true → (n : ℕ) × (group_of self.now n ≡ group) × (n < length self.now.groups.of_net)
+            × (has_event self.now.before self.now.current n ≡ true) }
+        ensures no { result ≡ false → (n : ℕ) → n < length self.now.groups.of_net → group_of self.now n ≡ group
+            → has_event self.now.before self.now.current n ≡ true → ⊥ }
+    {
+        let first = self.groups.first(group);
+        let end = self.groups.end(group);
+        self.before[first..end] != self.current[first..end]
+    }
+
     /// Begins an update: the values before are those of now, so that no net has an event.
     pub fn begin(&mut self)
-        ensures { self.new ≡ record { before = self.old.current; current = self.old.current } }
+        ensures { self.new ≡ record (self.old) { before = self.old.current } }
     {
-        bring_up(&mut self.before, &self.current, self.changed.members());
+        bring_up(
+            &mut self.before,
+            &self.current,
+            &self.groups,
+            self.changed.members(),
+        );
         self.changed.clear();
     }
 
@@ -76,6 +116,7 @@ impl Values {
     pub fn set_each(&mut self, nets: &[usize], values: &[Nine])
         requires as_many { length values.now ≡ length nets.now }
         requires there { All (λ n. n < length self.old.current) nets.now }
+        ensures groups { self.new.groups ≡ self.old.groups }
         ensures before { self.new.before ≡ self.old.before }
         ensures current { AreChanged (each_given nets.now values.now) self.old.current self.new.current }
     {
@@ -87,6 +128,7 @@ impl Values {
     /// Gives nets values now, one after the other.
     pub fn set_all(&mut self, changes: &[(usize, Nine)])
         requires { All (λ c. c.0 < length self.old.current) changes.now }
+        ensures groups { self.new.groups ≡ self.old.groups }
         ensures before { self.new.before ≡ self.old.before }
         ensures current { AreChanged (changes_of changes.now) self.old.current self.new.current }
     {
@@ -102,18 +144,34 @@ impl Values {
     {
         if self.current[net] != value {
             self.current[net] = value;
-            self.changed.insert(net);
+            self.changed.insert(self.groups.of_net()[net]);
         }
+    }
+
+    /// Gives the nets from one on, all in one group, these values now.
+    pub fn set_run(&mut self, first: usize, values: &[u8])
+        requires some { 0 < length values.now }
+        requires there { first + length values.now ≤ length self.old.current }
+        requires together { (k : ℕ) → k < length values.now → group_of self.old (first + k) ≡ group_of self.old first }
+        ensures { HasWritten first values.now self.old self.new }
+    {
+        write(&mut self.current, first, values);
+        self.changed.insert(self.groups.of_net()[first]);
     }
 }
 
-/// Makes the values before those of now, where only these nets may differ.
-fn bring_up(before: &mut [u8], current: &[u8], nets: &[usize])
+/// Makes the values before those of now, where only nets of these groups may differ.
+fn bring_up(before: &mut [u8], current: &[u8], groups: &Groups, changed: &[usize])
     requires as_many { length before.old ≡ length current.now }
-    requires covers { CoverEvents (record { before = before.old; current = current.now }) nets.now }
+    requires runs { AreRuns groups.now.of_net groups.now.first }
+    requires each_group { length groups.now.listed ≡ length groups.now.first }
+    requires each_net { length groups.now.of_net ≡ length current.now }
+    requires covers { CoverEvents (record { groups = groups.now; before = before.old; current = current.now }) changed.now }
     ensures { before.new ≡ current.now }
 {
-    for net in nets {
-        before[*net] = current[*net];
+    for group in changed {
+        let first = groups.first(*group);
+        let end = groups.end(*group);
+        write(before, first, &current[first..end]);
     }
 }

@@ -1,19 +1,26 @@
 //! Which processes wake on each net.
 
-ghost use Rattle.std.specs.Prelude.{◌≡◌, length, map, IfOk};
+ghost use Rattle.std.specs.Prelude.{◌≡◌, ◌↔◌, ◌%◌, true, length, map, IfOk};
+ghost use Rattle.rtl_kernel.specs.drivers.Brought.{AreAloneAlike, AreToldApart};
 ghost use Rattle.rtl_kernel.specs.wakes.Woken.{IsIndex, wakers_of};
+ghost use Rattle.rtl_layout.specs.Groups.{AreRuns};
+ghost use Rattle.rtl_net.specs.Nets.{flat};
 ghost use Rattle.rtl_net.specs.declared.process.Process.{Process};
 
 use rtl_layout::{Groups, Lists};
 use rtl_net::{Net, Process, Signal};
 use std::alloc::{AllocError, Global};
 
-/// A net's nets in groups that the same processes wake on.
+/// A net's nets in groups that the same processes wake on, and that have one source each, or none of them just one.
 pub fn wake_groups(alloc: Global, net: &Net) -> Result<Groups, AllocError>
-    ensures as_many { IfOk result (λ groups. length (wakers_of groups) ≡ length net.now.types) }
+    ensures runs { IfOk result (λ groups. AreRuns groups.of_net groups.first) }
+    ensures each_group { IfOk result (λ groups. length groups.listed ≡ length groups.first) }
+    ensures as_many { IfOk result (λ groups. length groups.of_net ≡ length net.now.types) }
     ensures index { IfOk result (λ groups. IsIndex (map (λ (p : Process). p.wakes.items) net.now.processes) (wakers_of groups)) }
+    ensures alike { IfOk result (λ groups. AreAloneAlike (flat net.now) groups.of_net) }
 {
-    let declared = declarations(alloc, net.nets(), net.signals())?;
+    let mut declared = declarations(alloc, net.nets(), net.signals())?;
+    tell_apart(&mut declared, net);
     let wakes = wake_lists(alloc, net.processes())?;
     let groups = Groups::new(alloc, &declared, &wakes)?;
     Ok(groups)
@@ -51,4 +58,24 @@ fn number_nets(declared: &mut Vec<usize>, nets: &[usize], number: usize)
             declared[*net] = number;
         }
     }
+}
+
+/// Gives nets with one source odd numbers, and even ones to those with none or with several.
+fn tell_apart(declared: &mut Vec<usize>, net: &Net)
+    requires { length declared.old.items ≡ length net.now.types }
+    ensures as_many { length declared.new.items ≡ length declared.old.items }
+    ensures apart { AreToldApart (flat net.now) declared.new.items }
+{
+    for each in 0..declared.len() {
+        let is_alone = net.sources(each).len() == 1;
+        declared[each] = told_apart(declared[each], is_alone);
+    }
+}
+
+/// A number for this one, odd where it is to be. As long as they aren't huge, numbers that differ stay different.
+fn told_apart(number: usize, is_odd: bool) -> usize
+    ensures { (is_odd ≡ true) ↔ (result % 2 ≡ 1) }
+{
+    let even = number.min(usize::MAX / 2) * 2;
+    if is_odd { even + 1 } else { even }
 }

@@ -4,3 +4,4 @@ pub mod Numbering
 pub mod Listing
 pub mod Alike
 pub mod Cutting
+pub mod Ends

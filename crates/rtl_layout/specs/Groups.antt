@@ -30,3 +30,9 @@ pub record AreGroups (declared : List ℕ) (nets_of : List (List ℕ)) (g : Grou
   -- nets of one group are alike, and a process is listed for a net's group just where the net is listed for the process
   pub alike : (m n : ℕ) → m < length declared → n < length declared → slice_index g.of_net m ≡ slice_index g.of_net n → AreAlike declared nets_of m n
   pub listed : (n p : ℕ) → n < length declared → Contains (slice_index_or g.listed (slice_index g.of_net n) []) p ↔ Contains (slice_index_or nets_of p []) n
+
+-- these are the nets of the group
+pub record AreNetsOf (g : Grouping) (group first end : ℕ) : Type 0 where
+  pub some : first < end
+  pub within : end ≤ length g.of_net
+  pub each : (n : ℕ) → n < length g.of_net → (slice_index g.of_net n ≡ group) ↔ ((first ≤ n) × (n < end))

@@ -1,7 +1,7 @@
 //! Groups of nets.
 
 ghost use Rattle.std.specs.Prelude.{◌≡◌, ◌<◌, [], All, length, slice_index, slice_index_or, IfOk};
-ghost use Rattle.rtl_layout.specs.Groups.{AreGroups};
+ghost use Rattle.rtl_layout.specs.Groups.{AreGroups, AreNetsOf, AreRuns};
 
 use crate::beginnings::beginnings;
 use crate::listed::listed_by_group;
@@ -67,6 +67,20 @@ impl Groups {
         ensures { result ≡ slice_index self.now.first group }
     {
         self.runs.first[group]
+    }
+
+    /// The net behind the last one of a group.
+    pub fn end(&self, group: usize) -> usize
+        requires there { group < length self.now.first }
+        requires runs { AreRuns self.now.of_net self.now.first }
+        ensures { AreNetsOf self.now group (slice_index self.now.first group) result }
+    {
+        let groups = self.runs.first.len();
+        if group + 1 < groups {
+            self.runs.first[group + 1]
+        } else {
+            self.runs.of_net.len()
+        }
     }
 
     /// The processes for which the nets of a group are listed.

@@ -5,3 +5,4 @@ pub mod Settling
 pub mod Placing
 pub mod Rotating
 pub mod OfNets
+pub mod Listing

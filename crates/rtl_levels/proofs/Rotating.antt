@@ -70,15 +70,17 @@ module _ (table : Table) where
   pub turned_at : (k : ℕ) (xs : List ℕ) → IsRound table xs → IsRound table (drop k xs ++ take k xs)
   turned_at k xs h = turned_round (take k xs) (drop k xs) (subst (IsRound table) (sym (take-append-drop k xs)) h)
 
+-- ---- places on a path
+
+pub some_same : {a b : ℕ} → Some a ≡ Some b → a ≡ b
+some_same e = cc
+
 -- the places of processes on a path, and one process more
 pub known_more : (places : List (Option ℕ)) (path : List ℕ) (at x : ℕ) → at < length places → x ≡ length path
     → ((r i : ℕ) → get_or places r None ≡ Some i → (i < length path) × (get_or path i 0 ≡ r))
     → (r i : ℕ) → get_or (set places at (Some x)) r None ≡ Some i → (i < length (path ++ at ∷ [])) × (get_or (path ++ at ∷ []) i 0 ≡ r)
 known_more places path at x l n known r i e = go (cases_eq r at)
   where
-    some_same : {a b : ℕ} → Some a ≡ Some b → a ≡ b
-    some_same e = cc
-
     go : (r ≡ at) ⊎ (r ≡ at → ⊥) → (i < length (path ++ at ∷ [])) × (get_or (path ++ at ∷ []) i 0 ≡ r)
     go (inl same) =
         let f : get_or (set places at (Some x)) at None ≡ Some i = subst (λ (s : ℕ). get_or (set places at (Some x)) s None ≡ Some i) same e in

@@ -5,7 +5,7 @@ ghost use Rattle.std.specs.List.{IsFirstBest};
 ghost use Rattle.rtl_levels.specs.Feeding.{IsClosed, IsIn, feeders_of};
 ghost use Rattle.rtl_levels.specs.Levels.{level_of};
 ghost use Rattle.rtl_levels.specs.Lowest.{LowestOpen, IsLowestOpen, AreLeft};
-ghost use Rattle.rtl_levels.specs.Rounds.{IsRound};
+ghost use Rattle.rtl_levels.specs.Rounds.{IsRound, IsListedOnce};
 
 use std::alloc::{AllocError, Global};
 
@@ -90,7 +90,8 @@ pub fn find_round(
     requires left { AreLeft table.now levels.now }
     requires inside { IsIn table.now start }
     requires unplaced { level_of levels.now start ≡ None }
-    ensures { IfOk result (λ round. IsRound table.now round.items) }
+    ensures round { IfOk result (λ round. IsRound table.now round.items) }
+    ensures once { IfOk result (λ round. IsListedOnce round.items) }
 {
     let mut path = Vec::new(alloc);
     let mut places: Vec<Option<usize>> = vec![in alloc; None; table.len()]?;

@@ -3,6 +3,6 @@ pub mod BadLines
 pub mod Refusals
 pub mod Texts
 pub mod Traces
-pub mod Trees
+pub mod Codes
 pub mod FirstMoment
 pub mod Saying

@@ -23,6 +23,11 @@ pub record SaysYes (net : Net) (bound : ℕ) : Type 0 where
 abbrev pub IsRaceless : Net → (stimulus : ℕ → ℕ → ℕ) → Type 0
 IsRaceless net stimulus = (last : ℕ) → HasNoRace net stimulus last
 
+-- for these inputs and registers one valuation solves the net's equations, and no other
+abbrev pub HasOneSolution : Net → (inputs registers : ℕ → ℕ) → Type 0
+HasOneSolution net inputs registers =
+    (v : List ℕ) × Solves net inputs registers v × ((w : List ℕ) → Solves net inputs registers w → w ≡ v)
+
 -- Under this stimulus the event-driven simulation of the net is the synchronous machine with this run, whose m-th
 -- valuation is the one at moment m. Orders of processes are all those that the standard leaves open
 -- (IEEE 1076-2008, 14.7.5.3): the simulation may be in a state by any of them.
@@ -36,8 +41,8 @@ pub record IsSynchronous (net : Net) (bound : ℕ) (stimulus : ℕ → ℕ → �
   pub is_machine : (m deltas : ℕ) (settled : State) → HasSettled net stimulus m deltas settled → settled.now ≡ run m
   -- in which each register is computed from the settled values before the edge,
   pub machine : IsMachineRun net stimulus run
-  -- and all combinational nets are the one solution of their equations.
-  pub one_solution : (inputs registers : ℕ → ℕ) (v w : List ℕ) → Solves net inputs registers v → Solves net inputs registers w → v ≡ w
+  -- and all combinational nets are the solution of their equations, of which there is one for any inputs and registers.
+  pub one_solution : (inputs registers : ℕ → ℕ) → HasOneSolution net inputs registers
 
 -- Where the checker says yes with a bound, then for every stimulus without a race the simulation is a synchronous machine.
 abbrev pub EachAcceptedIsSynchronous : Type 0

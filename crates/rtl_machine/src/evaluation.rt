@@ -14,10 +14,10 @@ use crate::fault::MachineFault;
 use crate::laws::accepted_nets_are_synchronous;
 use crate::ports::push_ports;
 use crate::words::words_text;
+use rtl_code::{Code, codes};
 use rtl_kernel::{Forward, Kernel};
 use rtl_net::Net;
 use rtl_sink::{Sink, finish};
-use rtl_tree::{Tree, trees};
 use std::alloc::{AllocError, Global};
 
 /// Writes, for each out port of the top in order of declaration, the line `NAME=VALUE` with its value in the first valuation of
@@ -57,7 +57,7 @@ fn first_values(alloc: Global, net: &Net, admitted: &Admitted) -> Result<Vec<u8>
     ensures as_many { IfOk result (λ values. length values.items ≡ length net.now.types) }
 {
     let _count = net.nets();
-    let bodies = trees(alloc, net)?;
+    let bodies = codes(alloc, net)?;
     let mut kernel = Kernel::new(alloc, net, &bodies, admitted.stimulus.initial())?;
     kernel.start(&mut Forward);
     settled_values(alloc, net, admitted, &mut kernel)
@@ -68,7 +68,7 @@ fn settled_values(
     alloc: Global,
     net: &Net,
     admitted: &Admitted,
-    kernel: &mut Kernel<'_, Tree<'_>>,
+    kernel: &mut Kernel<'_, Code<'_>>,
 ) -> Result<Vec<u8>, AllocError>
     requires net { kernel.old.net ≡ net.now }
     requires ready { HasNoneToRun kernel.old.state }

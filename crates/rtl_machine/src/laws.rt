@@ -3,7 +3,7 @@
 ghost use Rattle.rtl_machine.specs.Synchronous.{EachAcceptedIsSynchronous};
 ghost use Rattle.rtl_machine.specs.Words.{EachWordSets};
 
-use rtl_model::simulation_laws;
+use rtl_model::net_laws;
 use rtl_net::nets_meet_the_laws;
 
 /// Where the checker says yes with a bound, then for every stimulus without a race and every order of processes each moment
@@ -13,11 +13,8 @@ pub fn accepted_nets_are_synchronous()
     ensures { EachAcceptedIsSynchronous }
 {
     nets_meet_the_laws();
-    simulation_laws::each_moment_comes();
-    simulation_laws::settles_in_bound();
-    simulation_laws::one_machine_run();
-    simulation_laws::is_the_machine();
-    simulation_laws::one_solution();
+    net_laws::simulates_the_machine();
+    net_laws::has_one_solution();
 }
 
 /// The stimulus that NAME=VALUE words say sets each input that a word names at 0, and stops there; the first bad word is the

@@ -14,6 +14,7 @@ ghost use Rattle.rtl_machine.specs.Answered.{Runs};
 use crate::admission::admit;
 use crate::fault::MachineFault;
 use crate::laws::accepted_nets_are_synchronous;
+use rtl_code::codes;
 use rtl_eval::Exec;
 use rtl_kernel::Pick;
 use rtl_model::simulation_laws;
@@ -21,7 +22,6 @@ use rtl_moments::{Agenda, Wheel};
 use rtl_net::Net;
 use rtl_run::{RunFault, Simulation, Summary};
 use rtl_sink::Sink;
-use rtl_tree::trees;
 use std::alloc::Global;
 
 /// How many slots the agenda of a simulation has.
@@ -50,7 +50,7 @@ pub fn run<P: Pick, W: Sink>(
 {
     let _count = net.nets();
     let admitted = admit(alloc, net, text)?;
-    let bodies = trees(alloc, net)?;
+    let bodies = codes(alloc, net)?;
     let simulation = Simulation {
         net,
         bodies: &bodies,

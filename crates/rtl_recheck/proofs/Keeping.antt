@@ -1,7 +1,5 @@
 -- A process keeps the rules just where none of its nets is a fault.
-use Rattle.std.proofs.Common.{◌≡◌, ℕ, ◌<◌, Bool, true, false, not, ◌&&◌, ◌||◌, ◌==◌, List, [], ◌∷◌, length, get_or, refl, sym, ap, subst, ◌∙◌, ◌⊎◌, inl, inr, arith, Contains}
-use Rattle.std.specs.Prelude.{◌↔◌}
-use Rattle.std.specs.List.Sorted.{IsStrictlyIncreasing}
+use Rattle.std.proofs.Common.{◌≡◌, ℕ, ◌<◌, Bool, true, false, not, ◌&&◌, ◌==◌, List, [], ◌∷◌, length, get_or, refl, sym, ap, subst, ◌∙◌, ◌⊎◌, inl, inr, arith}
 use Rattle.std.proofs.lemmas.Bool.{cases_Bool, or_cases, or_left, and_parts, and_from, not-true, not_from_false, eqb-true, eq-eqb}
 use Rattle.rtl_model.specs.bodies.Assigns.{must_assign}
 use Rattle.rtl_model.specs.simulation.Net as m
@@ -20,11 +18,11 @@ use Rattle.rtl_facts.specs.Paths.{driven, to_net}
 use Rattle.rtl_check.specs.declared.rule.Rule.{Rule}
 use Rattle.rtl_check.specs.declared.rule.Rule.TheVariants.{ClockNotInput, EdgeNotSensitive, ClockAsData, MissingSensitivity, Latch}
 use Rattle.rtl_check.specs.Views.{core, tested, IsKind}
-use Rattle.rtl_check.specs.Rules.{is_data, clocked_breaks, combinational_breaks, breaks, fault_of}
+use Rattle.rtl_check.specs.Rules.{is_data, breaks, fault_of}
 use Rattle.rtl_check.specs.Standing.{HasNoMixed}
 use Rattle.rtl_check.proofs.Processes.{process_there}
 use Rattle.rtl_check.proofs.Broken.{breaks_to, breaks_from}
-use Rattle.rtl_recheck.specs.Kept.{clock_nets, AreWithin, HasNoClockAsData, ClockedKeeps, HasNoLatch, CombinationalKeeps, KeepsBy, KeepsRules, StoresNothing, HaveOneSource, AllKeep}
+use Rattle.rtl_recheck.specs.Kept.{clock_nets, AreWithin, ClockedKeeps, HasNoLatch, CombinationalKeeps, KeepsBy, KeepsRules, HaveOneSource, AllKeep}
 use Rattle.rtl_recheck.proofs.Clocks.{sorted_clocks, same_clocks, clocks_are}
 
 -- no net breaks a rule

@@ -5,12 +5,10 @@
 #![tactic(auto)]
 
 mod clocked;
-mod laws;
 mod paths;
 mod rechecking;
 mod rules;
 mod sources;
 mod variables;
 
-pub use laws::checked_reports_stand;
 pub use rechecking::recheck;

@@ -45,7 +45,7 @@ pub fn set(elements: &Indices, value: &Evaluated, out: &mut Drives)
 }
 
 /// These codes, from the left, to the drivers at these places.
-fn assign_codes(places: &Indices, codes: &[u8], out: &mut Drives)
+pub fn assign_codes(places: &Indices, codes: &[u8], out: &mut Drives)
     requires as_many { length (numbers places.now) ≡ length codes.now }
     requires there { All (λ place. place < length out.old.entries) (numbers places.now) }
     ensures { out.new ≡ record (out.old) { entries = assigned (numbers places.now) codes.now out.old.entries } }

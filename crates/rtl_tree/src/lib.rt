@@ -10,7 +10,7 @@ mod statements;
 mod tests;
 mod tree;
 
-pub use assigning::{assign, set};
+pub use assigning::{assign, assign_codes, set};
 pub use evaluated::{Evaluated, are_same, is_chosen};
 pub use expressions::{gathered, operate};
 pub use seen::{Sight, Valuations, seeing};

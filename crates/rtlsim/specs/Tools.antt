@@ -15,7 +15,8 @@ use Rattle.rtl_words.specs.Words.{Says, SayNothing}
 use Rattle.rtl_words.specs.declared.request.Request.{Request}
 use Rattle.rtl_words.specs.declared.request.Request.TheVariants.{Eval, Net, Check, Run}
 use Rattle.rtlsim.specs.Inputs.{Reading, GivesWhole, GivesBoth, held}
-use Rattle.rtlsim.specs.Lines.{ends_line, first_line_of}
+use Rattle.rtl_stim.specs.Lines.{ends_line}
+use Rattle.rtlsim.specs.Lines.{first_line_of}
 use Rattle.rtlsim.specs.declared.inputs.InputFault.{InputFault}
 use Rattle.rtlsim.specs.declared.inputs.InputFault.TheVariants.{Failed, NoMemory}
 

@@ -5,8 +5,9 @@ ghost use Rattle.std.specs.List.{before_first, after_first, slice_split};
 ghost use Rattle.rtl_sink.specs.Written.{IsIntact};
 ghost use Rattle.rtl_words.specs.Words.{IsOfWords};
 ghost use Rattle.rtlsim.specs.Inputs.{GivesNamed, GivesStandardAlone};
-ghost use Rattle.rtlsim.specs.Lines as lines;
-ghost use Rattle.rtlsim.specs.Lines.{ends_line, first_line_of};
+ghost use Rattle.rtl_stim.specs.Lines as lines;
+ghost use Rattle.rtl_stim.specs.Lines.{ends_line};
+ghost use Rattle.rtlsim.specs.Lines.{first_line_of};
 ghost use Rattle.rtlsim.specs.Tools.{ServesFirstLine, ServesLine, words_in};
 
 use crate::inputs::{Inputs, Named, Standard, read_input};

@@ -26,8 +26,8 @@ pub record HasNoDesign (source top : List ℕ) : Type 0 where
   pub analysed : HasUnits source units
   pub refused : IsErr (elaborated units top)
 
--- A layer's want of memory is told as NoMemory alone. Which of the problems of a layer is told, no definition says, but for the
--- lexer's.
+-- A layer's want of memory is told as NoMemory alone. Which of the problems of names and of elaboration is told, no definition
+-- says, nor whether TooDeep or Unexpected is told of a source that has both.
 abbrev pub Refuses : (source top : List ℕ) → SourceFault → Type 0
 Refuses source top (Lex lex.NoMemory) = ⊥
 Refuses source top (Lex fault) = HasFault fault source

@@ -2,7 +2,8 @@
 use Rattle.std.specs.Prelude.{◌≡◌, ℕ, List, [], None}
 use Rattle.vhdl_lexer.specs.Cut.{Cuts}
 use Rattle.vhdl_lexer.specs.declared.token.Token.{Token}
-use Rattle.vhdl_parser.specs.Fault.{IsRefusal, IsTooDeep}
+use Rattle.vhdl_parser.specs.Fault.{IsRefusal, IsTooDeep, IsPlaced}
+use Rattle.vhdl_parser.specs.Stuck.{IsStuck}
 use Rattle.vhdl_parser.specs.declared.fault.SyntaxFault.{SyntaxFault}
 use Rattle.vhdl_tree.specs.Levels.{IsShallow, IsDeep, most_open}
 use Rattle.vhdl_tree.specs.Lexeme.{lexemes}
@@ -24,10 +25,13 @@ pub record IsFileOf (source : List ℕ) (file : File) : Type 0 where
   pub only_file : (other : File) → IsFile other → SpellsTokens source tokens other → other ≡ file
   pub shallow : IsShallow most_open (lexemes source tokens)
 
--- no well-formed tree spells the source's one list of tokens, or the tokens open more levels than the limit
+-- No well-formed tree spells the source's one list of tokens, or the tokens open more levels than the limit. Unexpected is told
+-- of the first token with which no file goes on, and EndOfFile at the end of a source all of whose tokens begin a file.
 pub record HasSyntaxFault (fault : SyntaxFault) (source : List ℕ) : Type 0 where
   pub tokens : List Token
   pub cut : Cuts None 0 source tokens
   pub only_tokens : (other : List Token) → Cuts None 0 source other → other ≡ tokens
   pub refused : IsRefusal fault → (other : File) → IsFile other → SpellsTokens source tokens other → ⊥
   pub deep : IsTooDeep fault → IsDeep most_open (lexemes source tokens)
+  pub met : IsPlaced source tokens fault
+  pub stuck : IsStuck source tokens fault

@@ -28,8 +28,11 @@ without_entries o = record o { entries = replicate (length o.entries) None }
 abbrev pub nets_of : List net.Driver → List ℕ
 nets_of ds = map (λ (d : net.Driver). d.net) ds
 
+abbrev pub all_targets : List Process → List (List ℕ)
+all_targets ps = map (λ (q : Process). nets_of q.drives.items) ps
+
 abbrev pub targets_of : List Process → (process : ℕ) → List ℕ
-targets_of ps p = slice_index_or (map (λ (q : Process). nets_of q.drives.items) ps) p []
+targets_of ps p = slice_index_or (all_targets ps) p []
 
 abbrev pub driver_at : List (List ℕ) → (process place : ℕ) → ℕ
 driver_at rows p place = slice_index (slice_index_or rows p []) place

@@ -1,5 +1,6 @@
 -- What holds of every kernel.
 use Rattle.std.specs.Prelude.{◌≡◌, ℕ, ◌<◌, ◌≤◌, List, [], length, map, slice_index_or}
+use Rattle.rtl_layout.specs.Cuts.{Cutting, AreCutsOf}
 use Rattle.rtl_model.specs.bodies.Types.{ElementType}
 use Rattle.rtl_model.specs.nets.FlatNet.{FlatNet, FlatProcess, IsInRange, process_at}
 use Rattle.rtl_model.specs.nets.CoreNet.{core_net}
@@ -8,12 +9,13 @@ use Rattle.rtl_model.specs.simulation.Cycle.{State, IsToRun}
 use Rattle.rtl_model.specs.simulation.Laws.{IsConsistent}
 use Rattle.rtl_model.specs.simulation.Range.{StateInRange}
 use Rattle.rtl_eval.specs.Runs.{Outcome, IsOf}
-use Rattle.rtl_kernel.specs.drivers.Transactions.{Transactions, IsActive, no_outcome, pending_of}
+use Rattle.rtl_kernel.specs.drivers.Brought.{AreAloneAlike}
+use Rattle.rtl_kernel.specs.drivers.Transactions.{Transactions, IsActive, all_targets, no_outcome, pending_of}
 use Rattle.rtl_kernel.specs.values.TwoValues.{TwoValues}
 use Rattle.rtl_net.specs.Nets.{NetView, flat}
 use Rattle.rtl_net.specs.declared.process.Process.{Process}
 use Rattle.rtl_kernel.specs.wakes.ToRun.{ToRun}
-use Rattle.rtl_kernel.specs.wakes.Woken.{IsIndex}
+use Rattle.rtl_kernel.specs.wakes.Woken.{IsIndex, wakers_of}
 use Rattle.rtl_kernel.specs.worklists.Numbers.{Numbers}
 
 abbrev pub state_of : TwoValues → Transactions → ToRun → State
@@ -47,13 +49,15 @@ pub record IsSound (net : FlatNet) (s : State) : Type 0 where
 
 -- what a kernel keeps is of its net, and fits together
 pub record IsKernel {E : Type 0} (process : E → FlatProcess) (types : E → List ElementType) (most : E → ℕ)
-    (net : NetView) (bodies : List E) (index : List (List ℕ)) (values : TwoValues) (drivers : Transactions) (resumed : ToRun) (touched : Numbers) : Type 0 where
+    (net : NetView) (bodies : List E) (cuts : Cutting) (values : TwoValues) (drivers : Transactions) (resumed : ToRun) (noted : Numbers) : Type 0 where
   pub in_range : IsInRange (flat net)
   pub connected : IsConnected (flat net)
   pub run_bodies : RunBodies process types (flat net) bodies
   pub room : HaveRoom most (flat net) bodies drivers.outcomes
   pub sound : IsSound (flat net) (state_of values drivers resumed)
-  pub is_index : IsIndex (map (λ (p : Process). p.wakes.items) net.processes) index
-  pub each_net : length index ≡ length net.types
-  -- no net is left over from an update
-  pub idle : touched ≡ record { bound = length net.types; members = [] }
+  pub is_index : IsIndex (map (λ (p : Process). p.wakes.items) net.processes) (wakers_of values.groups)
+  pub each_net : length values.groups.of_net ≡ length net.types
+  pub alike : AreAloneAlike (flat net) values.groups.of_net
+  pub are_cuts : AreCutsOf values.groups.of_net (all_targets net.processes) cuts
+  -- no group is left over from an update
+  pub idle : noted ≡ record { bound = length values.groups.listed; members = [] }

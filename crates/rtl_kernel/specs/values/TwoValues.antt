@@ -1,16 +1,34 @@
--- The values of all nets before the last update and now.
-use Rattle.std.specs.Prelude.{◌≡◌, ℕ, ◌<◌, true, All, List, length, slice_index, Contains}
+-- The values of all nets before the last update and now, and the groups that the nets stand in.
+use Rattle.std.specs.Prelude.{◌≡◌, ℕ, ◌+◌, ◌<◌, ◌≤◌, true, All, List, length, slice_index, Contains}
+use Rattle.rtl_layout.specs.Groups.{Grouping}
 use Rattle.rtl_model.specs.basics.Valuations.{has_event}
 use Rattle.rtl_model.specs.simulation.Cycle.{changed}
 
 pub record TwoValues : Type 0 where
+  pub groups : Grouping
   pub before : List ℕ
   pub current : List ℕ
 
--- among these nets is each that has an event
-pub record CoverEvents (v : TwoValues) (nets : List ℕ) : Type 0 where
-  pub there : All (λ n. n < length v.current) nets
-  pub events : (n : ℕ) → has_event v.before v.current n ≡ true → Contains nets n
+abbrev pub group_of : TwoValues → (net : ℕ) → ℕ
+group_of v n = slice_index v.groups.of_net n
+
+-- among the nets of these groups is each that has an event
+pub record CoverEvents (v : TwoValues) (groups : List ℕ) : Type 0 where
+  pub there : All (λ g. g < length v.groups.listed) groups
+  pub events : (n : ℕ) → has_event v.before v.current n ≡ true → Contains groups (group_of v n)
+
+-- new has these values from the place `first` on, and else what old has
+pub record IsWritten (first : ℕ) (values old new : List ℕ) : Type 0 where
+  pub as_many : length new ≡ length old
+  pub written : (k : ℕ) → k < length values → slice_index new (first + k) ≡ slice_index values k
+  pub below : (q : ℕ) → q < first → slice_index new q ≡ slice_index old q
+  pub behind : (q : ℕ) → first + length values ≤ q → slice_index new q ≡ slice_index old q
+
+-- new has these values now from this net on
+pub record HasWritten (first : ℕ) (values : List ℕ) (old new : TwoValues) : Type 0 where
+  pub groups_stay : new.groups ≡ old.groups
+  pub before_stays : new.before ≡ old.before
+  pub current : IsWritten first values old.current new.current
 
 -- new has what old has, after these changes, each a net and its value
 pub record AreChanged (changes : List (ℕ × ℕ)) (old new : List ℕ) : Type 0 where

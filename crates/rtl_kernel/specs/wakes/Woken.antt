@@ -1,5 +1,6 @@
 -- Which processes are resumed (IEEE 1076-2008, 14.7.5.3): those that are sensitive to a net with an event.
-use Rattle.std.specs.Prelude.{◌≡◌, ℕ, ◌<◌, ◌≤◌, ◌⊎◌, false, Bool, List, [], length, map, slice_index, slice_index_or, IsTrue, Contains, Vec}
+use Rattle.std.specs.Prelude.{◌≡◌, ℕ, ◌<◌, ◌≤◌, ◌⊎◌, false, Bool, List, [], length, map, slice_index, slice_index_or}
+use Rattle.std.specs.Prelude.{IsTrue, Contains, Vec}
 use Rattle.std.specs.Global.{Global}
 use Rattle.std.specs.Vec.{vec_capacity}
 use Rattle.rtl_layout.specs.Groups.{Grouping}
@@ -17,8 +18,10 @@ pub record IsIndex (wakes index : List (List ℕ)) : Type 0 where
 
 -- each process that wakes on a net with an event waits, and no other
 pub record AreWoken (index : List (List ℕ)) (before current : List ℕ) (waiting : List Bool) : Type 0 where
-  pub all_wait : (n p : ℕ) → IsTrue (has_event before current n) → Contains (slice_index_or index n []) p → IsTrue (slice_index_or waiting p false)
-  pub no_other : (p : ℕ) → IsTrue (slice_index_or waiting p false) → (n : ℕ) × IsTrue (has_event before current n) × Contains (slice_index_or index n []) p
+  pub all_wait : (n p : ℕ) → IsTrue (has_event before current n) → Contains (slice_index_or index n []) p
+      → IsTrue (slice_index_or waiting p false)
+  pub no_other : (p : ℕ) → IsTrue (slice_index_or waiting p false)
+      → (n : ℕ) × IsTrue (has_event before current n) × Contains (slice_index_or index n []) p
 
 -- new has the marks of old, and these
 pub record Adds (places : List ℕ) (old new : List Bool) : Type 0 where
@@ -36,8 +39,9 @@ pub record IsListing (marks : Vec Bool Global) (places : Vec ℕ Global) : Type 
   pub differ : AreDifferent places.items
   pub reserved : length marks.items ≤ vec_capacity places
 
--- the same of these nets alone
-pub record AreWokenBy (nets : List ℕ) (index : List (List ℕ)) (before current : List ℕ) (waiting : List Bool) : Type 0 where
-  pub all_wait : (n p : ℕ) → Contains nets n → IsTrue (has_event before current n) → Contains (slice_index_or index n []) p
-      → IsTrue (slice_index_or waiting p false)
-  pub no_other : (p : ℕ) → IsTrue (slice_index_or waiting p false) → (n : ℕ) × IsTrue (has_event before current n) × Contains (slice_index_or index n []) p
+-- the same of the nets of these groups alone
+pub record AreWokenBy (changed : List ℕ) (groups : Grouping) (before current : List ℕ) (waiting : List Bool) : Type 0 where
+  pub all_wait : (n p : ℕ) → n < length groups.of_net → Contains changed (slice_index groups.of_net n) → IsTrue (has_event before current n)
+      → Contains (slice_index_or (wakers_of groups) n []) p → IsTrue (slice_index_or waiting p false)
+  pub no_other : (p : ℕ) → IsTrue (slice_index_or waiting p false)
+      → (n : ℕ) × IsTrue (has_event before current n) × Contains (slice_index_or (wakers_of groups) n []) p

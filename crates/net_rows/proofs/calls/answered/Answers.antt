@@ -1,7 +1,7 @@
-use Rattle.std.proofs.Common.{List, sym, subst, ◌∙◌}
+use Rattle.std.proofs.Common.{List, sym, subst, refl, ◌∙◌}
 use Rattle.rtl_net.specs.Nets.{flat}
 use Rattle.rtl_kernel.specs.kernel.Kept.{RunBodies}
-use Rattle.rtl_tree.specs.Trees.{ProcessOf, process_of}
+use Rattle.rtl_tree.specs.Trees.{ProcessOf, process_of, processes_of}
 use Rattle.net_rows.proofs.Trees.{trees_run}
 use Rattle.net_rows.proofs.calls.answered.Goals as goal
 
@@ -9,4 +9,4 @@ pub run-requires-clause-bodies : goal.run-requires-clause-bodies
 run-requires-clause-bodies g c =
     let net = c.args.net.now in
     subst (λ (bodies : List ProcessOf). RunBodies process_of (λ (t : ProcessOf). t.net.types) (flat net) bodies)
-    (sym (c.deref-2.ensures.value ∙ c.in_ok-bodies.ensures)) (trees_run net)
+    (sym (c.deref-2.ensures.value ∙ c.in_ok-bodies.ensures)) (trees_run net (processes_of net) refl)

@@ -1,11 +1,11 @@
-use Rattle.std.proofs.Common.{◌≡◌, ◌<◌, ◌≤◌, ℕ, length, sym, ap, subst, ◌∙◌, arith}
+use Rattle.std.proofs.Common.{◌≡◌, ◌<◌, ◌≤◌, ℕ, length, map, sym, ap, subst, ◌∙◌, arith}
 use Rattle.rtl_levels.specs.Feeding as t
 use Rattle.rtl_levels.specs.declared.order.Order.{Order}
 use Rattle.rtl_levels.specs.Orders.{IsOrder}
 use Rattle.rtl_levels.specs.Rounds.{IsRound}
-use Rattle.rtl_check.specs.Views.{core}
+use Rattle.rtl_check.specs.Views.{core, fault_view}
 use Rattle.rtl_check.proofs.Processes.{many_processes}
-use Rattle.rtl_check.proofs.Verdicts.{looped, none_of, closed}
+use Rattle.rtl_check.proofs.Verdicts.{looped, none_of, closed, none_once, looped_once}
 use Rattle.rtl_check.proofs.judging.judge.Goals as goal
 
 small : {a b m n : ℕ} → a ≡ b → b ≡ m → m ≡ n → n ≤ 65536 → a < 4294967296
@@ -20,10 +20,18 @@ order_of-requires c =
       few = small (ap (λ (xs : t.Table). length xs) is) c.in_ok-table.ensures.each_process (many_processes c.args.net.now) c.nets-nets.ensures.elaborated.processes_limit;
     }
 
-pub returns-in_ok-push-in-Looped : goal.returns-in_ok-push-in-Looped
-returns-in_ok-push-in-Looped c =
+pub returns-then-not-is_empty-clause-once : goal.returns-then-not-is_empty-clause-once
+returns-then-not-is_empty-clause-once c = none_once (core c.args.net.now) (map fault_view c.in_ok-faults.faults.items) c.in_ok-faults.ensures
+
+pub returns-in_ok-push-in-Looped-clause-judged : goal.returns-in_ok-push-in-Looped-clause-judged
+returns-in_ok-push-in-Looped-clause-judged c =
     let n = core c.args.net.now in
     let faults = c.in_ok-faults.faults in
     looped n faults.items c.push.new.self.items c.in-Looped.processes (none_of faults (sym c.is_empty.ensures ∙ c.if-not-is_empty.false)) c.in_ok-faults.ensures (c.in_ok-push-in-Looped).ensures.items
     (c.tables_are_of_nets.ensures.loops n c.in_ok-table.table.items c.in-Looped.processes.items c.in_ok-table.ensures
-    (subst (λ (xs : t.Table). IsRound xs c.in-Looped.processes.items) c.deref.ensures.value (subst (λ (o : Order). IsOrder c.deref.result.now o) c.in-Looped.is c.in_ok-levels.ensures)))
+    (subst (λ (xs : t.Table). IsRound xs c.in-Looped.processes.items) c.deref.ensures.value (subst (λ (o : Order). IsOrder c.deref.result.now o) c.in-Looped.is c.in_ok-levels.ensures).0))
+
+pub returns-in_ok-push-in-Looped-clause-once : goal.returns-in_ok-push-in-Looped-clause-once
+returns-in_ok-push-in-Looped-clause-once c =
+    looped_once c.in_ok-faults.faults.items c.push.new.self.items c.in-Looped.processes (none_of c.in_ok-faults.faults (sym c.is_empty.ensures ∙ c.if-not-is_empty.false))
+    (c.in_ok-push-in-Looped).ensures.items (subst (λ (o : Order). IsOrder c.deref.result.now o) c.in-Looped.is c.in_ok-levels.ensures).1

@@ -1,11 +1,7 @@
-use Rattle.std.proofs.Common.{List, sym, subst, ◌∙◌}
+use Rattle.std.proofs.Common.{map, sym, ap, ◌∙◌}
 use Rattle.std.proofs.lemmas.Bool.{eqb-true}
-use Rattle.rtl_commands.specs.Simulated.{IsStimulusOf}
 use Rattle.rtl_commands.proofs.Listed.{unrun, none_stored, run_failed, began}
-use Rattle.rtl_kernel.specs.kernel.Kept.{RunBodies}
-use Rattle.rtl_machine.proofs.Trees.{trees_run}
-use Rattle.rtl_net.specs.Nets.{flat}
-use Rattle.rtl_tree.specs.Trees.{ProcessOf, process_of}
+use Rattle.rtl_machine.proofs.Codes.{run_of, codes_run}
 use Rattle.rtl_commands.proofs.running.run_events.Goals as goal
 
 pub returns-in_err-stored : goal.returns-in_err-stored
@@ -13,21 +9,17 @@ returns-in_err-stored g c = unrun c.args.stimulus.now c.args.net.now _ _ c.from_
 
 pub run-requires-clause-bodies : goal.run-requires-clause-bodies
 run-requires-clause-bodies g c =
-    let net = c.args.net.now in
-    subst (λ (bodies : List ProcessOf). RunBodies process_of (λ (t : ProcessOf). t.net.types) (flat net) bodies)
-    (sym (c.deref.ensures.value ∙ c.in_ok-bodies.ensures)) (trees_run net)
+    codes_run c.args.net.now c.deref.result.now (ap (map run_of) c.deref.ensures.value ∙ c.in_ok-bodies.ensures)
 
 pub returns-in_err-summary : goal.returns-in_err-summary
 returns-in_err-summary g c =
     let stored = c.in_ok-stored.stored in
     let none = none_stored c.args.net.now stored.items stored.len c.in_ok-stored.ensures stored.ok.0 (eqb-true stored.len 0 (sym c.is_empty.ensures ∙ c.if-not-is_empty.false)) in
-    let said : IsStimulusOf c.args.net.now c.args.stimulus.now c.in_ok-stimulus.stimulus = record { inputs = c.in_ok-stimulus.ensures.0; said = c.in_ok-stimulus.ensures.1 } in
     run_failed c.args.stimulus.now c.args.net.now _ _ _ _ c.from_residual-in_err-summary.ensures.1
-    (began c.args.stimulus.now c.args.net.now c.in_ok-stimulus.stimulus _ _ _ none said c.in_err-summary.ensures)
+    (began c.args.stimulus.now c.args.net.now c.in_ok-stimulus.stimulus _ _ _ none c.in_ok-stimulus.ensures c.in_err-summary.ensures)
 
 pub returns : goal.returns
 returns g c =
     let stored = c.in_ok-stored.stored in
     let none = none_stored c.args.net.now stored.items stored.len c.in_ok-stored.ensures stored.ok.0 (eqb-true stored.len 0 (sym c.is_empty.ensures ∙ c.if-not-is_empty.false)) in
-    let said : IsStimulusOf c.args.net.now c.args.stimulus.now c.in_ok-stimulus.stimulus = record { inputs = c.in_ok-stimulus.ensures.0; said = c.in_ok-stimulus.ensures.1 } in
-    began c.args.stimulus.now c.args.net.now c.in_ok-stimulus.stimulus _ _ _ none said c.in_ok-summary.ensures
+    began c.args.stimulus.now c.args.net.now c.in_ok-stimulus.stimulus _ _ _ none c.in_ok-stimulus.ensures c.in_ok-summary.ensures

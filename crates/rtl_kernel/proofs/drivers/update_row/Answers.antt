@@ -3,7 +3,10 @@ use Rattle.std.specs.Vec.{with_items}
 use Rattle.std.proofs.lemmas.List.{with_items_is}
 use Rattle.rtl_eval.specs.declared.spans.Span.{Span}
 use Rattle.rtl_eval.proofs.Places.{place_assigned}
+use Rattle.rtl_layout.specs.Cuts.{AreCuts}
+use Rattle.rtl_layout.specs.Groups.{Grouping}
 use Rattle.rtl_net.specs.Nets.{flat}
+use Rattle.rtl_kernel.specs.drivers.Brought.{AreAloneAlike}
 use Rattle.rtl_kernel.specs.drivers.Transactions.{nets_of}
 use Rattle.rtl_kernel.specs.drivers.Updates.{Takes, IsTaken}
 use Rattle.rtl_kernel.proofs.Updating.{takes_none, takes_then, taken_values, left_all, left_one, none_left}
@@ -27,13 +30,26 @@ update_span-requires-clause-all c = λ k l. place_assigned _ _ c.assigned-span-i
 pub update_span-requires-clause-each_net : goal.update_span-requires-clause-each_net
 update_span-requires-clause-each_net c = c.loop-span.invariant.takes.brings.as_many ∙ c.requires.each_net
 
+pub update_span-requires-clause-cuts : goal.update_span-requires-clause-cuts
+update_span-requires-clause-cuts c =
+    subst (λ (g : Grouping). AreCuts g.of_net (nets_of c.args.row.drives.now) c.args.row.cuts.now c.args.row.numbers.now) (sym c.loop-span.invariant.takes.brings.groups_stay) c.requires.cuts
+
+pub update_span-requires-clause-grouped : goal.update_span-requires-clause-grouped
+update_span-requires-clause-grouped c = ap (λ (g : Grouping). length g.of_net) c.loop-span.invariant.takes.brings.groups_stay ∙ c.requires.grouped
+
+pub update_span-requires-clause-alike : goal.update_span-requires-clause-alike
+update_span-requires-clause-alike c =
+    subst (λ (g : Grouping). AreAloneAlike (flat c.args.wiring.now) g.of_net) (sym c.loop-span.invariant.takes.brings.groups_stay) c.requires.alike
+
 pub update_span-requires-clause-bound : goal.update_span-requires-clause-bound
-update_span-requires-clause-bound c = c.loop-span.invariant.takes.brings.bound_stays ∙ c.requires.bound
+update_span-requires-clause-bound c =
+    let B = c.loop-span.invariant.takes.brings in
+    B.bound_stays ∙ c.requires.bound ∙ ap (λ (g : Grouping). length g.listed) (sym B.groups_stay)
 
 pub loop-span-preserved : goal.loop-span-preserved
 loop-span-preserved c =
     let wiring = flat c.args.wiring.now in
-    let drives = c.args.drives.now in
+    let drives = c.args.row.drives.now in
     let entries = c.args.outcome.now.entries in
     let spans = c.assigned-span-items.result.now in
     let i = c.loop-span.span-index in

@@ -7,6 +7,6 @@ use Rattle.rtl_kernel.proofs.drivers.update_row.Given as goal
 
 abbrev pub invariant-loop-span : goal.invariant-loop-span
 invariant-loop-span l = record {
-  takes : Takes (flat l.wiring) (nets_of l.drives) l.outcome.entries l.initial.values.items l.initial.nets l.initial.noted l.values.items l.nets l.noted;
+  takes : Takes (flat l.wiring) (nets_of l.row.drives.now) l.outcome.entries l.initial.values.items l.initial.nets l.initial.noted l.values.items l.nets l.noted;
   left : (q : ℕ) → IsTaken l.outcome.entries l.values.items q ⊎ Contains (places_of (drop l.span-index l.span-items)) q;
 }

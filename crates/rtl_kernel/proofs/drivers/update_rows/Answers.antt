@@ -7,8 +7,9 @@ use Rattle.rtl_eval.specs.Runs.{Outcome}
 use Rattle.rtl_net.specs.Nets.{flat}
 use Rattle.rtl_net.specs.declared.process.Process.{Process}
 use Rattle.rtl_kernel.specs.drivers.Rows.{rows}
-use Rattle.rtl_kernel.specs.drivers.Brought.{Brings}
-use Rattle.rtl_kernel.specs.drivers.Transactions.{nets_of, targets_of}
+use Rattle.rtl_layout.specs.Groups.{Grouping}
+use Rattle.rtl_kernel.specs.drivers.Brought.{AreAloneAlike, Brings}
+use Rattle.rtl_kernel.specs.drivers.Transactions.{all_targets, nets_of, targets_of}
 use Rattle.rtl_kernel.proofs.Updating.{updating_none_yet, updating_one, updated_drivers, updated_outcomes}
 use Rattle.rtl_kernel.proofs.drivers.update_rows.Goals as goal
 
@@ -60,8 +61,31 @@ update_row-requires-clause-there c =
 pub update_row-requires-clause-each_net : goal.update_row-requires-clause-each_net
 update_row-requires-clause-each_net c = c.loop-process.invariant.brings.as_many ∙ c.requires.each_net
 
+pub update_row-requires-clause-cuts : goal.update_row-requires-clause-cuts
+update_row-requires-clause-cuts c =
+    let p = get_or c.args.active.now c.loop-process.process-index 0 in
+    let there = c.requires.active c.loop-process.process-index 0 c.loop-process-test.true in
+    let same = c.processes-processes.ensures in
+    let of_net = c.loop-process.nets.groups.of_net in
+    let ps = c.args.wiring.now.processes in
+    let in_targets : p < length (all_targets ps) = rw (length-map, c.requires.as_many) there in
+    let groups = c.loop-process.invariant.brings.groups_stay in
+    let targets_are = ap nets_of c.deref.ensures.value
+    ∙ sym (get_or-map_within targets c.processes-processes.result.now p c.index-processes-process.result [] (rw (same, c.requires.as_many) there))
+    ∙ ap (λ (qs : List Process). targets_of qs p) same in
+    rw (targets_are, groups, c.of.ensures, c.numbers.ensures) (c.requires.cuts.each p in_targets)
+
+pub update_row-requires-clause-grouped : goal.update_row-requires-clause-grouped
+update_row-requires-clause-grouped c = ap (λ (g : Grouping). length g.of_net) c.loop-process.invariant.brings.groups_stay ∙ c.requires.grouped
+
+pub update_row-requires-clause-alike : goal.update_row-requires-clause-alike
+update_row-requires-clause-alike c =
+    subst (λ (g : Grouping). AreAloneAlike (flat c.args.wiring.now) g.of_net) (sym c.loop-process.invariant.brings.groups_stay) c.requires.alike
+
 pub update_row-requires-clause-bound : goal.update_row-requires-clause-bound
-update_row-requires-clause-bound c = c.loop-process.invariant.brings.bound_stays ∙ c.requires.bound
+update_row-requires-clause-bound c =
+    let B = c.loop-process.invariant.brings in
+    B.bound_stays ∙ c.requires.bound ∙ ap (λ (g : Grouping). length g.listed) (sym B.groups_stay)
 
 pub loop-process-preserved : goal.loop-process-preserved
 loop-process-preserved c =

@@ -1,11 +1,16 @@
-use Rattle.std.proofs.Common.{ℕ, ◌+◌, ◌<◌}
+use Rattle.std.proofs.Common.{ℕ, ◌+◌, ◌-◌, ◌<◌, ◌≤◌}
 use Rattle.rtl_net.specs.Nets.{flat}
 use Rattle.rtl_kernel.specs.drivers.Transactions.{nets_of}
 use Rattle.rtl_kernel.specs.drivers.Updates.{Takes, IsTaken}
 use Rattle.rtl_kernel.proofs.drivers.update_span.Given as goal
 
-abbrev pub invariant-loop-at : goal.invariant-loop-at
-invariant-loop-at l = record {
-  takes : Takes (flat l.wiring) (nets_of l.drives) l.outcome.entries l.initial.values l.initial.nets l.initial.noted l.values l.nets l.noted;
-  taken : (k : ℕ) → k < l.at → IsTaken l.outcome.entries l.values (l.span.first + k);
+abbrev pub invariant-loop-first : goal.invariant-loop-first
+invariant-loop-first l = record {
+  from : l.fn.span.first ≤ l.first;
+  to : l.first ≤ l.fn.span.first + l.fn.span.len;
+  takes : Takes (flat l.wiring) (nets_of l.row.drives.now) l.outcome.entries l.initial.values l.initial.nets l.initial.noted l.values l.nets l.noted;
+  taken : (q : ℕ) → l.fn.span.first ≤ q → q < l.first → IsTaken l.outcome.entries l.values q;
 }
+
+abbrev pub decreases-loop-first : goal.decreases-loop-first
+decreases-loop-first l = l.fn.span.first + l.fn.span.len - l.first

@@ -12,6 +12,7 @@ invariant-loop-first l = record {
   inside : IsIn l.table l.at;
   unplaced : level_of l.levels l.at ≡ None;
   known : (r i : ℕ) → get_or l.places.items r None ≡ Some i → (i < length l.path.items) × (get_or l.path.items i 0 ≡ r);
+  noted : (i : ℕ) → i < length l.path.items → get_or l.places.items (get_or l.path.items i 0) None ≡ Some i;
 }
 
 abbrev pub decreases-loop-first : goal.decreases-loop-first

@@ -1,4 +1,4 @@
-use Rattle.std.proofs.Common.{List, sym, subst, ◌∙◌}
+use Rattle.std.proofs.Common.{List, map, ap, subst, ◌∙◌}
 use Rattle.vhdl_values.specs.declared.scalar.Nine.{Nine}
 use Rattle.rtl_model.specs.nets.CoreNet.{core_net}
 use Rattle.rtl_model.specs.simulation.Cycle.{started}
@@ -6,18 +6,14 @@ use Rattle.rtl_model.specs.simulation.Moments.{HasRun}
 use Rattle.rtl_model.proofs.simulation.Order.{HasRun-done}
 use Rattle.rtl_net.specs.Nets.{flat}
 use Rattle.rtl_check.specs.Views.{core}
-use Rattle.rtl_kernel.specs.kernel.Kept.{RunBodies}
 use Rattle.rtl_kernel.specs.kernel.Simulation.{Simulation, initial_inputs}
-use Rattle.rtl_tree.specs.Trees.{ProcessOf, process_of}
 use Rattle.rtl_run.proofs.Steps.{first_begun}
-use Rattle.rtl_machine.proofs.Trees.{trees_run}
+use Rattle.rtl_machine.proofs.Codes.{run_of, codes_run}
 use Rattle.rtl_machine.proofs.evaluation.first_values.Goals as goal
 
 pub new-requires-clause-bodies : goal.new-requires-clause-bodies
 new-requires-clause-bodies c =
-    let net = c.args.net.now in
-    subst (λ (bodies : List ProcessOf). RunBodies process_of (λ (t : ProcessOf). t.net.types) (flat net) bodies)
-    (sym (c.deref.ensures.value ∙ c.in_ok-bodies.ensures)) (trees_run net)
+    codes_run c.args.net.now c.deref.result.now (ap (map run_of) c.deref.ensures.value ∙ c.in_ok-bodies.ensures)
 
 pub settled_values-requires-clause-ready : goal.settled_values-requires-clause-ready
 settled_values-requires-clause-ready c = HasRun-done (core_net (flat c.in_ok-kernel.kernel.net)) c.in_ok-kernel.kernel.state c.start.new.self.state c.start.ensures.ran

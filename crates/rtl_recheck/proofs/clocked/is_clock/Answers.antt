@@ -1,4 +1,4 @@
-use Rattle.std.proofs.Common.{◌<◌, ◌≤◌, ◌+◌, ◌-◌, ◌/◌, ℕ, length, arith, sym}
+use Rattle.std.proofs.Common.{◌<◌, ◌≤◌, ◌+◌, ◌-◌, ◌/◌, ℕ, arith, sym}
 use Rattle.rtl_recheck.proofs.Clocks.{higher, lower, found, nowhere, half_below, apart}
 use Rattle.rtl_recheck.proofs.clocked.is_clock.Goals as goal
 

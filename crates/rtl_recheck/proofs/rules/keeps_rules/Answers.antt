@@ -1,4 +1,4 @@
-use Rattle.std.proofs.Common.{◌≡◌, ℕ, List, get_or, ap, subst, ◌∙◌}
+use Rattle.std.proofs.Common.{ℕ, List, get_or, ap, subst, ◌∙◌}
 use Rattle.std.specs.Prelude.{◌↔◌, IsTrue}
 use Rattle.rtl_net.specs.declared.process.Process.{Process}
 use Rattle.rtl_check.proofs.RuleLists.{reads_listed, wakes_rise}

@@ -1,4 +1,4 @@
-use Rattle.std.proofs.Common.{◌≤◌, ℕ, length, take, sym, ap, ◌∙◌, ◌+◌, ◌*◌, arith, subst}
+use Rattle.std.proofs.Common.{ℕ, length, take, sym, ap, ◌∙◌, ◌+◌, arith, subst}
 use Rattle.rtl_check.specs.Places.{places_from, widths}
 use Rattle.rtl_recheck.specs.Kept.{HasFew}
 use Rattle.rtl_recheck.proofs.Stored.{variable_more}

@@ -5,6 +5,7 @@ use Rattle.rtl_kernel.proofs.values.Values.set_all.Given as goal
 
 abbrev pub invariant-loop-net : goal.invariant-loop-net
 invariant-loop-net l = record {
+  groups : l.self.groups ≡ l.initial.self.groups;
   before : l.self.before ≡ l.initial.self.before;
   as_many : length l.self.current ≡ length l.initial.self.current;
   rest : (m : ℕ) → changed (drop l.net-index (changes_of l.changes)) l.self.current m ≡ changed (changes_of l.changes) l.initial.self.current m;

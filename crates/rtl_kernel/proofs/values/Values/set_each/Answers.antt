@@ -13,6 +13,7 @@ loop-number-preserved c =
     let i = c.loop-number.number in
     let I = c.loop-number.invariant in
     record {
+      groups = ap (λ (v : TwoValues). v.groups) c.set.ensures ∙ I.groups;
       before = ap (λ (v : TwoValues). v.before) c.set.ensures ∙ I.before;
       as_many = ap (λ (v : TwoValues). length v.current) c.set.ensures ∙ length-set _ _ _ ∙ I.as_many;
       rest = λ m. ap (λ (v : TwoValues). changed (drop (i + 1) cs) v.current m) c.set.ensures

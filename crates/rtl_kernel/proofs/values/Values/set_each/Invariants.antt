@@ -5,6 +5,7 @@ use Rattle.rtl_kernel.proofs.values.Values.set_each.Given as goal
 
 abbrev pub invariant-loop-number : goal.invariant-loop-number
 invariant-loop-number l = record {
+  groups : l.self.groups ≡ l.initial.self.groups;
   before : l.self.before ≡ l.initial.self.before;
   as_many : length l.self.current ≡ length l.initial.self.current;
   rest : (m : ℕ) → changed (drop l.number (each_given l.nets l.values)) l.self.current m ≡ changed (each_given l.nets l.values) l.initial.self.current m;

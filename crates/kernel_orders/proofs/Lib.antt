@@ -1,4 +1,0 @@
-pub mod Premises
-pub mod Views
-pub mod Signals
-pub mod Calls

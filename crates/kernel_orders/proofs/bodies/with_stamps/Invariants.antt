@@ -1,5 +1,0 @@
-use Rattle.std.proofs.Common.{◌≡◌, map, take}
-use Rattle.kernel_orders.proofs.bodies.with_stamps.Given as goal
-
-abbrev pub invariant-loop-tree : goal.invariant-loop-tree
-invariant-loop-tree l = map (λ b. b.tree.now) l.bodies.items ≡ take l.tree-index l.trees

@@ -1,5 +1,0 @@
-pub mod Premises
-pub mod Counted
-pub mod Shifted
-pub mod Inverted
-pub mod Nested
