@@ -11,8 +11,6 @@ mod chains;
 mod laws;
 mod map_agenda;
 mod occupied;
-#[cfg(test)]
-mod tests;
 mod wheel;
 
 pub use agenda::{Agenda, Change, NoMemory};
