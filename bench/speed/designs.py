@@ -44,6 +44,22 @@ def chain(number=60, width=32):
     return bank("chain", number, width, lambda k: "std_logic_vector(q0)" if k == 0 else f"x{k - 1}")
 
 
+def bank_in_verilog(top, number, width, left):
+    """The same bank: a synthesis would leave out what nothing reads."""
+    lines = [f"module {top}(input clk, output [{width - 1}:0] y);"]
+    lines += [f"  reg [{width - 1}:0] q{k} = 0;\n  always @(posedge clk) q{k} <= q{k} + {k + 1};" for k in range(number)]
+    lines += [f"  wire [{width - 1}:0] x{k} = {left(k)} ^ q{k + 1};" for k in range(number - 1)]
+    return "\n".join([*lines, f"  assign y = x{number - 2};", "endmodule", ""])
+
+
+def pairs_in_verilog(number=200, width=32):
+    return bank_in_verilog("pairs", number, width, lambda k: f"q{k}")
+
+
+def chain_in_verilog(number=60, width=32):
+    return bank_in_verilog("chain", number, width, lambda k: "q0" if k == 0 else f"x{k - 1}")
+
+
 ARBITER = HEAD + """entity arbiter is
   port (clk, reset : in std_logic; r0, r1, r2, r3 : in std_logic; g0, g1, g2, g3 : out std_logic);
 end;
@@ -140,10 +156,10 @@ def registers(words=64, width=32):
     return whole("registers", f"port (clk : in std_logic; y : out {vector(width)})", declarations, statements)
 
 
-CELL = HEAD + """entity cell is
+QUAD = HEAD + """entity tally is
   port (clk, enable : in std_logic; q : out unsigned(7 downto 0); carry : out std_logic);
 end;
-architecture rtl of cell is
+architecture rtl of tally is
   signal count : unsigned(7 downto 0) := "00000000";
 begin
   process (clk)
@@ -164,10 +180,10 @@ architecture rtl of quad is
   signal a, b, c, d : unsigned(7 downto 0);
   signal ca, cb, cc, cd : std_logic;
 begin
-  u0 : entity work.cell port map (clk, enable, a, ca);
-  u1 : entity work.cell port map (clk, ca, b, cb);
-  u2 : entity work.cell port map (clk, enable, c, cc);
-  u3 : entity work.cell port map (clk, cc, d, cd);
+  u0 : entity work.tally port map (clk, enable, a, ca);
+  u1 : entity work.tally port map (clk, ca, b, cb);
+  u2 : entity work.tally port map (clk, enable, c, cc);
+  u3 : entity work.tally port map (clk, cc, d, cd);
   q <= (a xor b) + (c xor d);
   carry <= cb or cd;
 end;
@@ -183,7 +199,9 @@ def hierarchy(number=250):
         statements.append(f"  u{k} : entity work.quad port map (clk, noise({k % 32}), s{k}, c{k});")
     sums = " xor ".join(f"s{k}" for k in range(number))
     statements.append(f"  y <= {sums};")
-    return CELL + whole("hierarchy", "port (clk : in std_logic; y : out unsigned(7 downto 0))", declarations, statements)
+    statements.append("  carry <= " + " xor ".join(f"c{k}" for k in range(number)) + ";")
+    ports = "port (clk : in std_logic; y : out unsigned(7 downto 0); carry : out std_logic)"
+    return QUAD + whole("hierarchy", ports, declarations, statements)
 
 
 def quiet(vectors=16384):
@@ -193,11 +211,11 @@ def quiet(vectors=16384):
     return whole("quiet", "port (clk : in std_logic; y : out std_logic)", ["  signal toggle : std_logic := '0';", *declarations], statements)
 
 
-# Of each design its source, and how many clock cycles are timed.
+# Of each design its source, how many clock cycles are timed, and its Verilog where a synthesis leaves something out.
 DESIGNS = {
-    "pairs": (pairs, 2000),
-    "chain": (chain, 2000),
-    "arbiters": (arbiters, 2000),
-    "registers": (registers, 5000),
-    "hierarchy": (hierarchy, 2000),
+    "pairs": (pairs, 2000, pairs_in_verilog),
+    "chain": (chain, 2000, chain_in_verilog),
+    "arbiters": (arbiters, 2000, None),
+    "registers": (registers, 5000, None),
+    "hierarchy": (hierarchy, 2000, None),
 }
