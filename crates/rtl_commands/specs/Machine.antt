@@ -1,7 +1,10 @@
--- What `run` and `eval` do on a net: the calls of rtl_machine, with their faults as those of a command.
+-- What `run`, `run --levels` and `eval` do on a net: the calls of rtl_machine and rtl_levelized, with their faults as those of a
+-- command.
 use Rattle.std.specs.Prelude.{◌≡◌, ℕ, List, Result, Ok, Err}
 use Rattle.rtl_commands.specs.declared.faults.Fault.{Fault}
 use Rattle.rtl_commands.specs.declared.faults.Fault.TheVariants.{Rejected, Stim, Memory, Output}
+use Rattle.rtl_levelized.specs.Answered.{RunsLevels}
+use Rattle.rtl_levelized.specs.declared.summary.LevelSummary.{LevelSummary}
 use Rattle.rtl_machine.specs.Answered.{Runs}
 use Rattle.rtl_machine.specs.Evaluated.{Evaluates}
 use Rattle.rtl_machine.specs.declared.fault.MachineFault.{MachineFault}
@@ -23,6 +26,11 @@ as_answer (Err fault) = Err (of_machine fault)
 -- The trace of the synchronous machine's run under the stimulus that the text says, or why there is none.
 abbrev pub RunsMachine : (text : List ℕ) → NetView → Result Summary Fault → (old new : SinkState) → Type 0
 RunsMachine text net answer old new = (given : Result Summary MachineFault) × (answer ≡ as_answer given) × Runs net text old new given
+
+-- The same trace, each process run once a moment in order of level, or why there is none.
+abbrev pub RunsMachineByLevels : (text : List ℕ) → NetView → Result LevelSummary Fault → (old new : SinkState) → Type 0
+RunsMachineByLevels text net answer old new =
+    (given : Result LevelSummary MachineFault) × (answer ≡ as_answer given) × RunsLevels net text old new given
 
 -- The out ports' values in the machine's first valuation under NAME=VALUE words, or why there are none.
 abbrev pub EvaluatesMachine : (words : List (List ℕ)) → NetView → Result (Unit {0}) Fault → (old new : SinkState) → Type 0

@@ -5,6 +5,7 @@ use Rattle.rtl_commands.specs.Lines.{fault_lines, memory_line}
 use Rattle.rtl_commands.specs.declared.faults.Fault.{Fault}
 use Rattle.rtl_commands.specs.declared.status.Status.{Status}
 use Rattle.rtl_commands.specs.declared.status.Status.TheVariants as status
+use Rattle.rtl_levelized.specs.declared.summary.LevelSummary.{LevelSummary}
 use Rattle.rtl_net.specs.Nets.{NetView}
 use Rattle.rtl_run.specs.declared.summary.Summary.{Summary}
 use Rattle.rtl_sink.specs.Written.{SinkState, TakesBeginning, Goes}
@@ -57,3 +58,9 @@ summary_line s = codes "moments " ++ decimal s.moments ++ codes " deltas " ++ de
 
 abbrev pub summary : Done Summary
 summary = record { text = summary_line; status = λ s. status.Done }
+
+abbrev pub levels_line : LevelSummary → List ℕ
+levels_line s = codes "moments " ++ decimal s.moments ++ codes " bound " ++ decimal s.bound ++ codes "\n"
+
+abbrev pub levels : Done LevelSummary
+levels = record { text = levels_line; status = λ s. status.Done }

@@ -9,13 +9,14 @@ ghost use Rattle.rtl_sink.specs.Written.{Goes, IsIntact};
 ghost use Rattle.rtl_commands.specs.Faults.{has_names, of_source};
 ghost use Rattle.rtl_commands.specs.Lines.{place_text, notice_text, told_line, race_line, stim_line, fault_lines, memory_line};
 ghost use Rattle.rtl_commands.specs.Notices.{entry_of};
-ghost use Rattle.rtl_commands.specs.Told.{TellsFault, summary_line};
+ghost use Rattle.rtl_commands.specs.Told.{TellsFault, summary_line, levels_line};
 ghost use Rattle.rtl_commands.specs.Faults as faults;
 
 use crate::faults::{
     Fault, Notice, Place, elab_notice, lex_notice, name_notice, stim_notice, syntax_notice,
 };
 use crate::status::Status;
+use rtl_levelized::LevelSummary;
 use rtl_listing::{ListingFault, net_name, show_faults};
 use rtl_moments::StimFault;
 use rtl_net::Net;
@@ -57,6 +58,16 @@ pub fn tell_summary<E: Sink>(summary: Summary, err: &mut E)
     push_counted(err, b"moments ", summary.moments);
     push_text(err, b" deltas ");
     push_number(err, u64::from(summary.most_deltas));
+    push_text(err, b"\n");
+}
+
+/// Writes how many moments there were, and the bound on the delta cycles of one.
+pub fn tell_levels<E: Sink>(summary: LevelSummary, err: &mut E)
+    ensures { Goes (E.state err.old) (E.state err.new) (levels_line summary) }
+{
+    push_counted(err, b"moments ", summary.moments);
+    push_text(err, b" bound ");
+    push_number(err, u64::from(summary.bound));
     push_text(err, b"\n");
 }
 

@@ -3,12 +3,14 @@
 ghost use Rattle.std.specs.Prelude.{IfErr, length, map};
 ghost use Rattle.rtl_moments.specs.Ports.{HasOwnPorts};
 ghost use Rattle.rtl_sink.specs.Written.{IsIntact};
-ghost use Rattle.rtl_commands.specs.Machine.{RunsMachine, EvaluatesMachine};
+ghost use Rattle.rtl_commands.specs.Machine.{RunsMachine, RunsMachineByLevels, EvaluatesMachine};
 ghost use Rattle.rtl_commands.specs.Opened.{Opens};
 ghost use Rattle.rtl_commands.specs.Places.{IsTold};
 
 use crate::faults::Fault;
 use rtl_kernel::Pick;
+use rtl_levelized;
+use rtl_levelized::LevelSummary;
 use rtl_machine;
 use rtl_net::Net;
 use rtl_run::Summary;
@@ -60,6 +62,51 @@ pub fn run_net<P: Pick, S: Sink>(
     ensures { RunsMachine stimulus.now net.now result (S.state out.old) (S.state out.new) }
 {
     match rtl_machine::run(alloc, net, stimulus, pick, out) {
+        Ok(summary) => Ok(summary),
+        Err(fault) => Err(Fault::from(fault)),
+    }
+}
+
+/// Simulates the net of a source under a stimulus, where `run` does, and writes the trace that it writes: at each moment the clocked
+/// processes that an input wakes run once, and then the combinational ones in order of level. `source` has the bytes of the file,
+/// `top` the name of an entity in it, in letters of either case, `stimulus` the lines of the stimulus, with times in ns. It answers
+/// the number of moments, and the checker's bound. It takes memory for the source's net, for the stimulus and for the values of the
+/// nets.
+///
+/// # Errors
+///
+/// As `run`.
+pub fn run_levels<F: Front, S: Sink>(
+    alloc: Global,
+    source: &[u8],
+    top: &[u8],
+    stimulus: &[u8],
+    out: &mut S,
+) -> Result<LevelSummary, Fault>
+    requires intact { IsIntact (S.state out.old) }
+    ensures runs { Opens (RunsMachineByLevels stimulus.now) source.now top.now result (S.state out.old) (S.state out.new) }
+    ensures told { IfErr result (IsTold (length source.now)) }
+{
+    let net = F::open(alloc, source, top)?;
+    run_net_levels(alloc, &net, stimulus, out)
+}
+
+/// Simulates a net under a stimulus, as `run_levels` does the net of a source.
+///
+/// # Errors
+///
+/// As `run`, from `Rejected` on.
+pub fn run_net_levels<S: Sink>(
+    alloc: Global,
+    net: &Net,
+    stimulus: &[u8],
+    out: &mut S,
+) -> Result<LevelSummary, Fault>
+    requires ports { HasOwnPorts net.now }
+    requires intact { IsIntact (S.state out.old) }
+    ensures { RunsMachineByLevels stimulus.now net.now result (S.state out.old) (S.state out.new) }
+{
+    match rtl_levelized::run_levels(alloc, net, stimulus, out) {
         Ok(summary) => Ok(summary),
         Err(fault) => Err(Fault::from(fault)),
     }

@@ -6,18 +6,19 @@ ghost use Rattle.rtl_sink.specs.Written.{IsIntact, Goes};
 ghost use Rattle.rtl_commands.specs.Faults.{of_source, status_of};
 ghost use Rattle.rtl_commands.specs.Lines.{fault_lines};
 ghost use Rattle.rtl_commands.specs.Listed.{ListsNet, ChecksNet};
-ghost use Rattle.rtl_commands.specs.Machine.{RunsMachine, EvaluatesMachine};
+ghost use Rattle.rtl_commands.specs.Machine.{RunsMachine, RunsMachineByLevels, EvaluatesMachine};
 ghost use Rattle.rtl_commands.specs.Served.{Serves, ended};
 ghost use Rattle.rtl_commands.specs.Simulated.{RunsEvents};
 ghost use Rattle.rtl_commands.specs.Told as told;
 
 use crate::faults::Fault;
-use crate::lines::{tell_fault, tell_source_fault, tell_summary};
+use crate::lines::{tell_fault, tell_levels, tell_source_fault, tell_summary};
 use crate::listing::{check_net, list_net};
-use crate::machine::{eval_net, run_net};
+use crate::machine::{eval_net, run_net, run_net_levels};
 use crate::running::run_events;
 use crate::status::Status;
 use rtl_kernel::Pick;
+use rtl_levelized::LevelSummary;
 use rtl_net::Net;
 use rtl_run::Summary;
 use rtl_sink::Sink;
@@ -122,6 +123,31 @@ pub fn serve_run<F: Front, P: Pick, O: Sink, E: Sink>(
     }
 }
 
+/// Simulates the net of a source as a synchronous machine, each process run once a moment, writes the trace to `out`, the number of
+/// moments and the bound or the lines of a fault to `err`, and answers the status.
+pub fn serve_run_levels<F: Front, O: Sink, E: Sink>(
+    alloc: Global,
+    source: &[u8],
+    top: &[u8],
+    stimulus: &[u8],
+    out: &mut O,
+    err: &mut E,
+) -> Status
+    requires out { IsIntact (O.state out.old) }
+    requires err { IsIntact (E.state err.old) }
+    ensures { Serves (RunsMachineByLevels stimulus.now) told.levels source.now top.now result
+        (record { out = O.state out.old; out_after = O.state out.new; err = E.state err.old; err_after = E.state err.new }) }
+{
+    let net = match F::open(alloc, source, top) {
+        Ok(net) => net,
+        Err(fault) => return refuse_source(fault, out, err),
+    };
+    match run_net_levels(alloc, &net, stimulus, out) {
+        Ok(summary) => end_levels(summary, out, err),
+        Err(fault) => refuse_net(alloc, &net, &fault, out, err),
+    }
+}
+
 /// Writes the values of the out ports of the net of a source under these NAME=VALUE words to `out`, the lines of a fault to `err`,
 /// and answers the status.
 pub fn serve_eval<F: Front, O: Sink, E: Sink>(
@@ -178,6 +204,15 @@ fn end_run<O: Sink, E: Sink>(summary: Summary, out: &O, err: &mut E) -> Status
     ensures status { result ≡ ended Status.Done (O.state out.now) (E.state err.new) }
 {
     tell_summary(summary, err);
+    ended_by_writes(Status::Done, out, err)
+}
+
+/// Tells the numbers of a run by levels that is done, and answers the status.
+fn end_levels<O: Sink, E: Sink>(summary: LevelSummary, out: &O, err: &mut E) -> Status
+    ensures told { Goes (E.state err.old) (E.state err.new) (told.levels_line summary) }
+    ensures status { result ≡ ended Status.Done (O.state out.now) (E.state err.new) }
+{
+    tell_levels(summary, err);
     ended_by_writes(Status::Done, out, err)
 }
 

@@ -1,4 +1,5 @@
 -- The lines of a net and of a verdict. In order of reading:
 pub mod NetText
 pub mod CheckText
+pub mod DotText
 pub mod Printing

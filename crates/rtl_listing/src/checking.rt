@@ -2,9 +2,11 @@
 
 ghost use Rattle.rtl_sink.specs.Written.{IsIntact};
 ghost use Rattle.rtl_listing.specs.CheckText.{check_text, rejection_text};
+ghost use Rattle.rtl_listing.specs.DotText.{dot_text};
 ghost use Rattle.rtl_listing.specs.Printing.{Prints, IsListed};
 
 use crate::fault::ListingFault;
+use crate::graph::push_graph;
 use crate::levels::push_report;
 use crate::rejection::push_rejection;
 use rtl_check::{CheckFault, Verdict};
@@ -29,6 +31,26 @@ pub fn show_check<W: Sink>(
     ensures { IsListed result (W.state out.old) (W.state out.new) (check_text net.now verdict.now) }
 {
     push_verdict(alloc, net, verdict, out)?;
+    finish(out)?;
+    Ok(())
+}
+
+/// Writes the levels of an accepted net as a graph in Graphviz's language, or as `show_check` does `no` with a line for each fault.
+/// It takes the memory of a few names at a time.
+///
+/// # Errors
+///
+/// As `show_check`.
+pub fn show_dot<W: Sink>(
+    alloc: Global,
+    net: &Net,
+    verdict: &Verdict,
+    out: &mut W,
+) -> Result<(), ListingFault>
+    requires intact { IsIntact (W.state out.old) }
+    ensures { IsListed result (W.state out.old) (W.state out.new) (dot_text net.now verdict.now) }
+{
+    push_drawn(alloc, net, verdict, out)?;
     finish(out)?;
     Ok(())
 }
@@ -63,6 +85,21 @@ fn push_verdict<W: Sink>(
 {
     match verdict {
         Verdict::Yes(report) => push_report(alloc, net, report, out),
+        Verdict::No(faults) => push_rejection(alloc, net, faults, out),
+    }
+}
+
+/// The whole text, with the graph of an accepted net.
+fn push_drawn<W: Sink>(
+    alloc: Global,
+    net: &Net,
+    verdict: &Verdict,
+    out: &mut W,
+) -> Result<(), NoMemory>
+    ensures { Prints result (W.state out.old) (W.state out.new) (dot_text net.now verdict.now) }
+{
+    match verdict {
+        Verdict::Yes(report) => push_graph(alloc, net, report, out),
         Verdict::No(faults) => push_rejection(alloc, net, faults, out),
     }
 }

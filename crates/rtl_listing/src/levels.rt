@@ -26,7 +26,7 @@ pub fn push_report<W: Sink>(
 }
 
 /// The greatest of the levels that there are, 0 without any.
-fn greatest_level(levels: &[Option<u32>]) -> u32
+pub fn greatest_level(levels: &[Option<u32>]) -> u32
     ensures { result ≡ spec.greatest_level levels.now }
 {
     let mut greatest = 0;

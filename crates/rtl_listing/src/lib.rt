@@ -1,18 +1,20 @@
 //! What is printed of a net and of the checker's verdict on it, in lines.
 //!
-//! `specs/NetText.antt` and `specs/CheckText.antt` define the lines, and `specs/Printing.antt` says what goes out of them where
-//! the sink fails or memory is refused.
+//! `specs/NetText.antt` and `specs/CheckText.antt` define the lines, `specs/DotText.antt` the graph of an accepted net's levels, and
+//! `specs/Printing.antt` says what goes out of them where the sink fails or memory is refused.
 #![tactic(auto)]
 
+mod arrows;
 mod checking;
 mod fault;
+mod graph;
 mod levels;
 mod names;
 mod nets;
 mod rejection;
 mod sources;
 
-pub use checking::{show_check, show_faults};
+pub use checking::{show_check, show_dot, show_faults};
 pub use fault::ListingFault;
 pub use names::net_name;
 pub use nets::show_net;

@@ -1,17 +1,25 @@
 //! The options and operands behind a command.
 
-ghost use Rattle.std.specs.Prelude.{◌≡◌, ◌∷◌, ◌≤◌, Bool, List, Option, drop, if◌then◌else◌, map, length, Some, None, IfOk, IfSome, IfNone, MatchOption};
+ghost use Rattle.std.specs.Prelude.{◌≡◌, ◌∷◌, ◌≤◌, List, Option, drop, if◌then◌else◌, map, length, Some, None, IfOk, IfSome, IfNone, MatchOption};
 ghost use Rattle.rtl_words.specs.Words as words;
 ghost use Rattle.rtl_words.specs.Words.{Word, Mixes};
-ghost use Rattle.rtl_words.specs.Reading.{kind_of, order_named, reads_from, event_from, named_from, order_from};
+ghost use Rattle.rtl_words.specs.Reading.{kind_of, order_named, reads_from, flag_from, named_from, order_from};
 
 use crate::request::Order;
 use std::alloc::{AllocError, Global};
 
-/// The options and operands of a command, as far as they are read.
+/// An option without a value.
+#[derive(Clone, Copy, PartialEq, Eq, Debug)]
+pub enum Flag {
+    Event,
+    Levels,
+    Dot,
+}
+
+/// The options and operands of a command, as far as they are read: at most one flag, and at most one order.
 #[derive(Drop)]
 pub struct Arguments<'a> {
-    pub is_event: bool,
+    pub flag: Option<Flag>,
     pub order: Option<Order>,
     pub operands: Vec<&'a str>,
 }
@@ -21,7 +29,7 @@ pub struct Arguments<'a> {
 pub enum Kind {
     Operand,
     Dashes,
-    Event,
+    FlagIs(Flag),
     OrderNext,
     OrderIs(Order),
     Unknown,
@@ -34,12 +42,12 @@ pub fn read_arguments<'a>(
     words: &[&'a str],
 ) -> Result<Option<Arguments<'a>>, AllocError>
     ensures given { IfOk result (λ given. IfSome given (λ a.
-        Mixes a.is_event a.order (map (λ w. w.now) a.operands.items) (map (λ w. w.now) words.now))) }
-    ensures none { IfOk result (λ given. IfNone given ((event : Bool) (order : Option Order) (operands : List Word)
-        → Mixes event order operands (map (λ w. w.now) words.now) → ⊥)) }
+        Mixes a.flag a.order (map (λ w. w.now) a.operands.items) (map (λ w. w.now) words.now))) }
+    ensures none { IfOk result (λ given. IfNone given ((flag : Option Flag) (order : Option Order) (operands : List Word)
+        → Mixes flag order operands (map (λ w. w.now) words.now) → ⊥)) }
 {
     let mut given = Arguments {
-        is_event: false,
+        flag: None,
         order: None,
         operands: Vec::new(alloc),
     };
@@ -71,20 +79,22 @@ impl<'a> Arguments<'a> {
                 self.operands.extend_from_slice(others)?;
                 Ok(Some(others.len()))
             }
-            Kind::Event if self.take_event() => Ok(Some(0)),
+            Kind::FlagIs(flag) if self.take_flag(flag) => Ok(Some(0)),
             Kind::OrderNext => Ok(self.take_order_named(others)),
             Kind::OrderIs(order) if self.take_order(order) => Ok(Some(0)),
             _ => Ok(None),
         }
     }
 
-    /// Takes `--event` in, and answers whether it may stand there: it may once.
-    fn take_event(&mut self) -> bool
-        ensures { (words : List Word) → event_from self.old words ≡ (if result then reads_from self.new words else None) }
+    /// Takes a flag in, and answers whether it may stand there: one may.
+    fn take_flag(&mut self, flag: Flag) -> bool
+        ensures { (words : List Word) → flag_from self.old flag words ≡ (if result then reads_from self.new words else None) }
     {
-        let may_stand = !self.is_event;
-        self.is_event = true;
-        may_stand
+        if self.flag.is_some() {
+            return false;
+        }
+        self.flag = Some(flag);
+        true
     }
 
     /// Takes in the order that the first of the others names.
@@ -126,7 +136,13 @@ fn kind_of(word: &str) -> Kind
         return Kind::Dashes;
     }
     if word == "--event" {
-        return Kind::Event;
+        return Kind::FlagIs(Flag::Event);
+    }
+    if word == "--levels" {
+        return Kind::FlagIs(Flag::Levels);
+    }
+    if word == "--dot" {
+        return Kind::FlagIs(Flag::Dot);
     }
     if word == "--order" {
         return Kind::OrderNext;

@@ -6,6 +6,10 @@ use std::alloc::{AllocError, Global};
 /// The orders of a run.
 static ORDERS: [&str; 2] = ["forward", "reverse"];
 
+/// How simulations are asked for.
+static RUN_USAGE: &str = "rtlsim run [--event] [--order <ORDER>] <FILE> <TOP> <STIM>
+       rtlsim run --levels <FILE> <TOP> <STIM>";
+
 /// What stands below the help of all commands.
 static EXAMPLES: &str = "FILE or STIM may be @, the standard input.
 
@@ -13,7 +17,9 @@ Examples:
   rtlsim eval and2.vhd and2 a=L b=H
   rtlsim net counter.vhd counter
   rtlsim check counter.vhd counter
+  rtlsim check --dot counter.vhd counter
   rtlsim run counter.vhd counter counter.stim
+  rtlsim run --levels counter.vhd counter counter.stim
   rtlsim run --event --order reverse counter.vhd counter counter.stim";
 
 /// The commands.
@@ -21,9 +27,6 @@ pub fn command<'a>(alloc: Global) -> Result<Command<'a>, AllocError> {
     let net = design_command(alloc, "net", "Prints the nets and what drives each")?
         .override_usage("rtlsim net <FILE> <TOP>")
         .after_help("Example: rtlsim net counter.vhd counter");
-    let check = design_command(alloc, "check", "Says whether the design settles")?
-        .override_usage("rtlsim check <FILE> <TOP>")
-        .after_help("Example: rtlsim check counter.vhd counter");
     Command::new(alloc, "rtlsim")
         .version("0.1.0")
         .about("Simulates the register-transfer subset of VHDL")
@@ -32,7 +35,7 @@ pub fn command<'a>(alloc: Global) -> Result<Command<'a>, AllocError> {
         .subcommand_required(true)
         .subcommand(eval_command(alloc)?)?
         .subcommand(net)?
-        .subcommand(check)?
+        .subcommand(check_command(alloc)?)?
         .subcommand(run_command(alloc)?)
 }
 
@@ -68,6 +71,18 @@ fn eval_command<'a>(alloc: Global) -> Result<Command<'a>, AllocError> {
         .arg(sets)
 }
 
+/// The command that checks a design.
+fn check_command<'a>(alloc: Global) -> Result<Command<'a>, AllocError> {
+    let dot = Arg::new(alloc, "dot")
+        .long("dot")
+        .help("Draws the levels of one that is, as a graph of Graphviz")
+        .action(ArgAction::SetTrue);
+    design_command(alloc, "check", "Says whether the design is sure to settle")?
+        .override_usage("rtlsim check [--dot] <FILE> <TOP>")
+        .after_help("Example: rtlsim check counter.vhd counter")
+        .arg(dot)
+}
+
 /// The command that simulates a design.
 fn run_command<'a>(alloc: Global) -> Result<Command<'a>, AllocError> {
     let event = Arg::new(alloc, "event")
@@ -78,10 +93,17 @@ fn run_command<'a>(alloc: Global) -> Result<Command<'a>, AllocError> {
         .long("order")
         .help("The order in which resumed processes run")
         .value_parser(ORDERS.as_slice());
+    let levels = Arg::new(alloc, "levels")
+        .long("levels")
+        .help("Runs each process once a moment, in order of level")
+        .conflicts_with("event")?
+        .conflicts_with("order")?
+        .action(ArgAction::SetTrue);
     design_command(alloc, "run", "Prints the trace under a stimulus")?
-        .override_usage("rtlsim run [--event] [--order <ORDER>] <FILE> <TOP> <STIM>")
+        .override_usage(RUN_USAGE)
         .after_help("Example: rtlsim run counter.vhd counter counter.stim")
         .arg(operand(alloc, "STIM", "The stimulus, or @ for the standard input"))?
         .arg(event)?
-        .arg(order)
+        .arg(order)?
+        .arg(levels)
 }

@@ -1,12 +1,13 @@
 //! The request that words say.
 
-ghost use Rattle.std.specs.Prelude.{◌≡◌, ◌≢◌, ◌<◌, false, IfOk, IfErr, IsErr, IfSome, IfNone, None, length, codes, map};
-ghost use Rattle.rtl_words.specs.Words.{Says, SayNothing, Asks, IsOfWords};
+ghost use Rattle.std.specs.Prelude.{◌≡◌, ◌≢◌, ◌<◌, IfOk, IfErr, IsErr, IfSome, IfNone, Some, None, length, codes, map};
+ghost use Rattle.rtl_words.specs.Words.{Says, SayNothing, Asks, IsOfWords, event_flag};
+ghost use Rattle.rtl_words.specs.declared.arguments.Flag.TheVariants.{Levels, Dot};
 ghost use Rattle.rtl_words.specs.declared.request.Request.{Request};
 ghost use Rattle.clap.specs.Values.{kind_of};
 ghost use Rattle.clap.specs.declared.error.kind.ErrorKind.TheVariants.{OutOfMemory};
 
-use crate::arguments::{Arguments, read_arguments};
+use crate::arguments::{Arguments, Flag, read_arguments};
 use crate::commands::command;
 use crate::request::{Order, Refused, Request};
 use clap::Error;
@@ -51,15 +52,18 @@ fn asked<'a>(
     arguments: &Arguments<'a>,
 ) -> Result<Option<Request<'a>>, AllocError>
     ensures asked { IfOk result (λ asked. IfSome asked (λ request.
-        Asks request command.now arguments.now.is_event arguments.now.order (map (λ word. word.now) arguments.now.operands.items))) }
+        Asks request command.now arguments.now.flag arguments.now.order (map (λ word. word.now) arguments.now.operands.items))) }
     ensures none { IfOk result (λ asked. IfNone asked ((request : Request)
-        → Asks request command.now arguments.now.is_event arguments.now.order (map (λ word. word.now) arguments.now.operands.items) → ⊥)) }
+        → Asks request command.now arguments.now.flag arguments.now.order (map (λ word. word.now) arguments.now.operands.items) → ⊥)) }
 {
     let operands = arguments.operands.as_slice();
     if command == "run" {
-        return Ok(run_of(arguments.is_event, arguments.order, operands));
+        return Ok(run_with(arguments.flag, arguments.order, operands));
     }
-    if arguments.is_event || arguments.order.is_some() {
+    if command == "check" {
+        return Ok(check_with(arguments.flag, arguments.order, operands));
+    }
+    if arguments.flag.is_some() || arguments.order.is_some() {
         return Ok(None);
     }
     if command == "eval" {
@@ -68,14 +72,47 @@ fn asked<'a>(
     if command == "net" {
         return Ok(net_of(operands));
     }
-    if command == "check" {
-        return Ok(check_of(operands));
-    }
     Ok(None)
 }
 
+/// The run of these options and operands.
+fn run_with<'a>(
+    flag: Option<Flag>,
+    order: Option<Order>,
+    operands: &[&'a str],
+) -> Option<Request<'a>>
+    ensures asked { IfSome result (λ request. Asks request (codes "run") flag order (map (λ word. word.now) operands.now)) }
+    ensures none { IfNone result ((request : Request) → Asks request (codes "run") flag order (map (λ word. word.now) operands.now) → ⊥) }
+{
+    match flag {
+        None => run_of(false, order, operands),
+        Some(Flag::Event) => run_of(true, order, operands),
+        Some(Flag::Levels) if order.is_none() => levels_of(operands),
+        _ => None,
+    }
+}
+
+/// The check of these options and operands.
+fn check_with<'a>(
+    flag: Option<Flag>,
+    order: Option<Order>,
+    operands: &[&'a str],
+) -> Option<Request<'a>>
+    ensures asked { IfSome result (λ request. Asks request (codes "check") flag order (map (λ word. word.now) operands.now)) }
+    ensures none { IfNone result ((request : Request) → Asks request (codes "check") flag order (map (λ word. word.now) operands.now) → ⊥) }
+{
+    if order.is_some() {
+        return None;
+    }
+    match flag {
+        None => check_of(operands),
+        Some(Flag::Dot) => dot_of(operands),
+        _ => None,
+    }
+}
+
 fn run_of<'a>(is_event: bool, order: Option<Order>, operands: &[&'a str]) -> Option<Request<'a>>
-    ensures asked { IfSome result (λ request. Asks request (codes "run") is_event order (map (λ word. word.now) operands.now)) }
+    ensures asked { IfSome result (λ request. Asks request (codes "run") (event_flag is_event) order (map (λ word. word.now) operands.now)) }
     ensures none { IfNone result (length operands.now ≢ 3) }
 {
     match operands {
@@ -90,9 +127,23 @@ fn run_of<'a>(is_event: bool, order: Option<Order>, operands: &[&'a str]) -> Opt
     }
 }
 
+fn levels_of<'a>(operands: &[&'a str]) -> Option<Request<'a>>
+    ensures asked { IfSome result (λ request. Asks request (codes "run") (Some Levels) None (map (λ word. word.now) operands.now)) }
+    ensures none { IfNone result (length operands.now ≢ 3) }
+{
+    match operands {
+        [file, top, stimulus] => Some(Request::Levels {
+            file,
+            top,
+            stimulus,
+        }),
+        _ => None,
+    }
+}
+
 fn eval_of<'a>(alloc: Global, operands: &[&'a str]) -> Result<Option<Request<'a>>, AllocError>
     ensures asked { IfOk result (λ asked. IfSome asked (λ request.
-        Asks request (codes "eval") false None (map (λ word. word.now) operands.now))) }
+        Asks request (codes "eval") None None (map (λ word. word.now) operands.now))) }
     ensures none { IfOk result (λ asked. IfNone asked (length operands.now < 2)) }
 {
     match operands {
@@ -105,7 +156,7 @@ fn eval_of<'a>(alloc: Global, operands: &[&'a str]) -> Result<Option<Request<'a>
 }
 
 fn net_of<'a>(operands: &[&'a str]) -> Option<Request<'a>>
-    ensures asked { IfSome result (λ request. Asks request (codes "net") false None (map (λ word. word.now) operands.now)) }
+    ensures asked { IfSome result (λ request. Asks request (codes "net") None None (map (λ word. word.now) operands.now)) }
     ensures none { IfNone result (length operands.now ≢ 2) }
 {
     match operands {
@@ -115,11 +166,21 @@ fn net_of<'a>(operands: &[&'a str]) -> Option<Request<'a>>
 }
 
 fn check_of<'a>(operands: &[&'a str]) -> Option<Request<'a>>
-    ensures asked { IfSome result (λ request. Asks request (codes "check") false None (map (λ word. word.now) operands.now)) }
+    ensures asked { IfSome result (λ request. Asks request (codes "check") None None (map (λ word. word.now) operands.now)) }
     ensures none { IfNone result (length operands.now ≢ 2) }
 {
     match operands {
         [file, top] => Some(Request::Check { file, top }),
+        _ => None,
+    }
+}
+
+fn dot_of<'a>(operands: &[&'a str]) -> Option<Request<'a>>
+    ensures asked { IfSome result (λ request. Asks request (codes "check") (Some Dot) None (map (λ word. word.now) operands.now)) }
+    ensures none { IfNone result (length operands.now ≢ 2) }
+{
+    match operands {
+        [file, top] => Some(Request::Dot { file, top }),
         _ => None,
     }
 }

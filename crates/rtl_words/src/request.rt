@@ -29,8 +29,13 @@ pub enum Request<'a> {
         file: &'a str,
         top: &'a str,
     },
-    /// Says whether a design settles.
+    /// Says whether a design is sure to settle.
     Check {
+        file: &'a str,
+        top: &'a str,
+    },
+    /// Draws the levels of a design that is sure to settle, or tells its faults.
+    Dot {
         file: &'a str,
         top: &'a str,
     },
@@ -38,6 +43,12 @@ pub enum Request<'a> {
     Run {
         is_event: bool,
         order: Order,
+        file: &'a str,
+        top: &'a str,
+        stimulus: &'a str,
+    },
+    /// Prints the trace of a design under a stimulus, each process run once a moment, in order of level.
+    Levels {
         file: &'a str,
         top: &'a str,
         stimulus: &'a str,

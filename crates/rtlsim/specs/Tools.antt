@@ -2,18 +2,18 @@
 use Rattle.std.specs.List.{after_first, slice_split}
 use Rattle.std.specs.Prelude.{◌≡◌, ◌==◌, ◌⊎◌, not, filter, length, [], ◌∷◌, Option, Some, None, ℕ, List, Bool, true, false, map, IsUtf8}
 use Rattle.rtl_commands.specs.Lines.{memory_line, input_line}
-use Rattle.rtl_commands.specs.Listed.{ListsNet, ChecksNet}
-use Rattle.rtl_commands.specs.Machine.{RunsMachine, EvaluatesMachine}
+use Rattle.rtl_commands.specs.Listed.{ListsNet, ChecksNet, DrawsNet}
+use Rattle.rtl_commands.specs.Machine.{RunsMachine, RunsMachineByLevels, EvaluatesMachine}
 use Rattle.rtl_commands.specs.Served.{Outputs, ended, Serves as ServesSource}
 use Rattle.rtl_commands.specs.Simulated.{RunsEvents}
-use Rattle.rtl_commands.specs.Told.{quiet, verdict, summary}
+use Rattle.rtl_commands.specs.Told.{quiet, verdict, summary, levels}
 use Rattle.rtl_commands.specs.declared.status.Status.{Status}
 use Rattle.rtl_commands.specs.declared.status.Status.TheVariants as status
 use Rattle.rtl_sink.specs.Read.{ReaderState}
 use Rattle.rtl_sink.specs.Written.{Goes}
 use Rattle.rtl_words.specs.Words.{Says, SayNothing}
 use Rattle.rtl_words.specs.declared.request.Request.{Request}
-use Rattle.rtl_words.specs.declared.request.Request.TheVariants.{Eval, Net, Check, Run}
+use Rattle.rtl_words.specs.declared.request.Request.TheVariants.{Eval, Net, Check, Dot, Run, Levels}
 use Rattle.rtlsim.specs.Inputs.{Reading, GivesWhole, GivesBoth, held}
 use Rattle.rtl_stim.specs.Lines.{ends_line}
 use Rattle.rtlsim.specs.Lines.{first_line_of}
@@ -53,8 +53,13 @@ Performs Gives (Net file top) old new outcome o =
     Reads (Gives old new file.now) (λ source. ServesSource ListsNet quiet source top.now outcome o) outcome o
 Performs Gives (Check file top) old new outcome o =
     Reads (Gives old new file.now) (λ source. ServesSource ChecksNet verdict source top.now outcome o) outcome o
+Performs Gives (Dot file top) old new outcome o =
+    Reads (Gives old new file.now) (λ source. ServesSource DrawsNet verdict source top.now outcome o) outcome o
 Performs Gives (Run is_event order file top stimulus) old new outcome o =
     Reads (GivesBoth Gives file.now stimulus.now old new) (λ both. Simulates is_event both.1 both.0 top.now outcome o) outcome o
+Performs Gives (Levels file top stimulus) old new outcome o =
+    Reads (GivesBoth Gives file.now stimulus.now old new)
+      (λ both. ServesSource (RunsMachineByLevels both.1) levels both.0 top.now outcome o) outcome o
 
 -- the words are refused for this reason, or for want of memory, with a text on the standard error and nothing else
 pub record RefusesWords (Reason : Type 0) (outcome : Status) (o : Outputs) : Type 0 where

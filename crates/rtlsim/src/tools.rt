@@ -7,12 +7,12 @@ ghost use Rattle.rtl_sink.specs.Written.{IsIntact};
 ghost use Rattle.rtlsim.specs.Inputs.{GivesStandardAlone};
 ghost use Rattle.rtlsim.specs.Tools.{Performs, Serves, ServesWords};
 
-use crate::files::{read_both, read_eval};
+use crate::files::read_eval;
 use crate::first_line::serve_reader_line;
 use crate::inputs::{Inputs, Standard};
 use crate::refusals::{refuse_input, refuse_words};
-use crate::simulating::{Texts, simulate};
-use rtl_commands::{Front, Status, serve_check, serve_eval, serve_net};
+use crate::simulating::{Names, perform_levels, perform_run};
+use rtl_commands::{Front, Status, serve_check, serve_check_dot, serve_eval, serve_net};
 use rtl_sink::{Reader, Sink};
 use rtl_words::{Request, parse_words};
 use std::alloc::Global;
@@ -89,23 +89,27 @@ pub fn perform<F: Front, I: Inputs, O: Sink, E: Sink>(
             Ok(source) => serve_check::<F, _, _>(alloc, &source, top.as_bytes(), out, err),
             Err(fault) => refuse_input(fault, out, err),
         },
+        Request::Dot { file, top } => match inputs.read(alloc, file) {
+            Ok(source) => serve_check_dot::<F, _, _>(alloc, &source, top.as_bytes(), out, err),
+            Err(fault) => refuse_input(fault, out, err),
+        },
         Request::Run {
             is_event,
             order,
             file,
             top,
             stimulus,
-        } => match read_both(alloc, inputs, file, stimulus) {
-            Ok(both) => {
-                let (source, stimulus) = both.texts();
-                let texts = Texts {
-                    source,
-                    top: top.as_bytes(),
-                    stimulus,
-                };
-                simulate::<F, _, _>(alloc, *is_event, *order, &texts, out, err)
-            }
-            Err(fault) => refuse_input(fault, out, err),
-        },
+        } => {
+            let names = Names::new(file, top, stimulus);
+            perform_run::<F, _, _, _>(alloc, *is_event, *order, names, inputs, out, err)
+        }
+        Request::Levels {
+            file,
+            top,
+            stimulus,
+        } => {
+            let names = Names::new(file, top, stimulus);
+            perform_levels::<F, _, _, _>(alloc, names, inputs, out, err)
+        }
     }
 }

@@ -1,4 +1,4 @@
-use Rattle.std.proofs.Common.{◌≡◌, false, None, [], map, drop, refl, ◌∙◌, arith}
+use Rattle.std.proofs.Common.{◌≡◌, None, [], map, drop, refl, ◌∙◌, arith}
 use Rattle.std.proofs.lemmas.Grind.{common_steps}
 use Rattle.rtl_words.specs.Reading.{reads}
 use Rattle.rtl_words.proofs.Complete.{read_is, none_read}
@@ -6,7 +6,7 @@ use Rattle.rtl_words.proofs.arguments.read_arguments.Goals as goal
 
 pub returns-in-None-clause-none : goal.returns-in-None-clause-none
 returns-in-None-clause-none c =
-    let e : reads false None [] (map (λ w. w.now) c.args.words.now) ≡ None = grind (arith, common_steps) in
+    let e : reads None None [] (map (λ w. w.now) c.args.words.now) ≡ None = grind (arith, common_steps) in
     none_read _ e
 
 pub returns-clause-given : goal.returns-clause-given

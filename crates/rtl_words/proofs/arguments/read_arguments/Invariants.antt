@@ -1,4 +1,4 @@
-use Rattle.std.proofs.Common.{◌≡◌, ◌≤◌, ◌-◌, false, [], None, length, map, drop}
+use Rattle.std.proofs.Common.{◌≡◌, ◌≤◌, ◌-◌, [], None, length, map, drop}
 use Rattle.rtl_words.specs.Reading.{reads, reads_from}
 use Rattle.rtl_words.proofs.arguments.read_arguments.Given as goal
 
@@ -6,7 +6,7 @@ use Rattle.rtl_words.proofs.arguments.read_arguments.Given as goal
 
 abbrev pub invariant-loop-at : goal.invariant-loop-at
 invariant-loop-at l =
-    (reads false None [] (map (λ w. w.now) l.words) ≡ reads_from l.given (map (λ w. w.now) (drop l.at l.words))) × (l.at ≤ length l.words)
+    (reads None None [] (map (λ w. w.now) l.words) ≡ reads_from l.given (map (λ w. w.now) (drop l.at l.words))) × (l.at ≤ length l.words)
 
 abbrev pub decreases-loop-at : goal.decreases-loop-at
 decreases-loop-at l = length l.words - l.at

@@ -8,5 +8,5 @@ returns-clause-none c =
     let a = c.in-Some.arguments in
     let mixed = rw c.in-Some.is at c.in_ok-arguments.ensures.given in
     IfOk-weaker c.asked.result _ _ (λ r h. if_none r h (λ none.
-    says_nothing (map text_of c.args.words.now) _ (map text_of (others_of c.args.words.now)) a.is_event a.order (map text_of a.operands.items)
+    says_nothing (map text_of c.args.words.now) _ (map text_of (others_of c.args.words.now)) a.flag a.order (map text_of a.operands.items)
     (cut c.args.words.now _ c.in-len1-up.len_at_least) mixed none)) c.asked.ensures.none
