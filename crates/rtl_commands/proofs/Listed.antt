@@ -7,11 +7,10 @@ use Rattle.rtl_check.specs.declared.fault.CheckFault.{CheckFault}
 use Rattle.rtl_model.specs.simulation.Faults.{AreStored}
 use Rattle.rtl_check.specs.declared.checking.Verdict.{Verdict}
 use Rattle.rtl_commands.specs.Faults.{of_listing, of_run, of_stim}
-use Rattle.rtl_commands.specs.Listed.{Writes, ChecksNet}
+use Rattle.rtl_commands.specs.Listed.{Writes, AnswersVerdict}
 use Rattle.rtl_commands.specs.Simulated.{HasNoneStored, Simulates, RunsEvents, most_deltas}
 use Rattle.rtl_commands.specs.declared.faults.Fault.{Fault}
 use Rattle.rtl_commands.specs.declared.faults.Fault.TheVariants.{Memory}
-use Rattle.rtl_listing.specs.CheckText.{check_text}
 use Rattle.rtl_listing.specs.Printing.{IsListed}
 use Rattle.rtl_listing.specs.declared.fault.ListingFault.{ListingFault}
 use Rattle.rtl_listing.specs.declared.fault.ListingFault.TheVariants as listing
@@ -38,16 +37,17 @@ lists_failed net text (Ok x) fault old new h listed = absurd h
 lists_failed net text (Err f) fault old new h listed = rw h (writes_listing (Unit {0}) text fault old new listed)
 
 -- a verdict whose listing fails
-pub checks_failed : (net : NetView) (verdict : Verdict) (answer : Result Bool Fault) (fault : ListingFault) (old new : SinkState) → IsErrAnd answer (λ f. f ≡ of_listing fault)
-    → IsVerdict (core net) verdict → ListsLoopsOnce verdict → IsListed {T = Unit {0}} (Err fault) old new (check_text net verdict) → ChecksNet net answer old new
-checks_failed net verdict (Ok x) fault old new h is once listed = absurd h
-checks_failed net verdict (Err f) fault old new h is once listed =
-    inl (record { verdict = verdict; is = is; once = once; written = rw h (writes_listing Bool (check_text net verdict) fault old new listed) })
+module _ (text_of : NetView → Verdict → List ℕ) (net : NetView) where
+  pub checks_failed : (verdict : Verdict) (answer : Result Bool Fault) (fault : ListingFault) (old new : SinkState) → IsErrAnd answer (λ f. f ≡ of_listing fault)
+      → IsVerdict (core net) verdict → ListsLoopsOnce verdict → IsListed {T = Unit {0}} (Err fault) old new (text_of net verdict) → AnswersVerdict text_of net answer old new
+  checks_failed verdict (Ok x) fault old new h is once listed = absurd h
+  checks_failed verdict (Err f) fault old new h is once listed =
+      inl (record { verdict = verdict; is = is; once = once; written = rw h (writes_listing Bool (text_of net verdict) fault old new listed) })
 
--- no verdict for want of memory
-pub unchecked : (net : NetView) (answer : Result Bool Fault) (old : SinkState) → IsErrAnd answer (λ f. f ≡ Memory) → ChecksNet net answer old old
-unchecked net (Ok x) old h = absurd h
-unchecked net (Err f) old h = inr (h, refl)
+  -- no verdict for want of memory
+  pub unchecked : (answer : Result Bool Fault) (old : SinkState) → IsErrAnd answer (λ f. f ≡ Memory) → AnswersVerdict text_of net answer old old
+  unchecked (Ok x) old h = absurd h
+  unchecked (Err f) old h = inr (h, refl)
 
 -- ---- simulation
 

@@ -2,7 +2,8 @@
 use Rattle.std.proofs.Common.{◌≡◌, ℕ, Bool, false, List, Result, Ok, Err, inl, inr, refl, ap}
 use Rattle.std.specs.Prelude.{IfErr, IsErrAnd}
 use Rattle.rtl_commands.specs.Faults.{of_source, has_names}
-use Rattle.rtl_commands.specs.Listed.{Writes, ListsNet, ChecksNet}
+use Rattle.rtl_check.specs.declared.checking.Verdict.{Verdict}
+use Rattle.rtl_commands.specs.Listed.{Writes, ListsNet, AnswersVerdict}
 use Rattle.rtl_commands.specs.Machine.{of_machine, as_answer}
 use Rattle.rtl_commands.specs.Opened.{Opens}
 use Rattle.rtl_commands.specs.Places.{IsTold}
@@ -52,10 +53,11 @@ pub lists_told : (net : NetView) (answer : Result (Unit {0}) Fault) (size : ℕ)
 lists_told net (Ok x) size old new h = tt
 lists_told net (Err fault) size old new h = writes_fault (Unit {0}) _ fault size old new h
 
-pub checks_told : (net : NetView) (answer : Result Bool Fault) (size : ℕ) (old new : SinkState) → ChecksNet net answer old new → IfErr answer (IsTold size)
-checks_told net (Ok x) size old new h = tt
-checks_told net (Err fault) size old new (inl w) = writes_fault Bool _ fault size old new w.written
-checks_told net (Err fault) size old new (inr w) = rw w.0 tt
+pub checks_told : (text_of : NetView → Verdict → List ℕ) (net : NetView) (answer : Result Bool Fault) (size : ℕ) (old new : SinkState) → AnswersVerdict text_of net answer old new
+    → IfErr answer (IsTold size)
+checks_told text_of net (Ok x) size old new h = tt
+checks_told text_of net (Err fault) size old new (inl w) = writes_fault Bool _ fault size old new w.written
+checks_told text_of net (Err fault) size old new (inr w) = rw w.0 tt
 
 pub runs_fault : (text : List ℕ) (net : NetView) (fault : Fault) (size : ℕ) (old new : SinkState) → RunsEvents text net (Err fault) old new → IsTold size fault
 runs_fault text net (Lex x) size old new h = absurd h

@@ -6,6 +6,7 @@ use Rattle.rtl_check.specs.declared.checking.Verdict.{Verdict}
 use Rattle.rtl_commands.specs.declared.faults.Fault.{Fault}
 use Rattle.rtl_commands.specs.declared.faults.Fault.TheVariants.{Memory, Output}
 use Rattle.rtl_listing.specs.CheckText.{check_text}
+use Rattle.rtl_listing.specs.DotText.{dot_text}
 use Rattle.rtl_listing.specs.NetText.{net_text}
 use Rattle.rtl_net.specs.Nets.{NetView}
 use Rattle.rtl_sink.specs.Written.{SinkState, IsIntact, HasFailed, TakesAll, TakesBeginning}
@@ -21,14 +22,22 @@ Writes text (Err _) old new = ⊥
 abbrev pub ListsNet : NetView → Result (Unit {0}) Fault → (old new : SinkState) → Type 0
 ListsNet net answer old new = Writes (net_text net) answer old new
 
--- the lines of the checker's verdict on the net, in which a loop stands once round
-pub record WritesVerdict (net : NetView) (answer : Result Bool Fault) (old new : SinkState) : Type 0 where
+-- the text of the checker's verdict on the net, in which a loop stands once round
+pub record WritesVerdict (text_of : NetView → Verdict → List ℕ) (net : NetView) (answer : Result Bool Fault) (old new : SinkState) : Type 0 where
   pub verdict : Verdict
   pub is : IsVerdict (core net) verdict
   pub once : ListsLoopsOnce verdict
-  pub written : Writes (check_text net verdict) answer old new
+  pub written : Writes (text_of net verdict) answer old new
 
 -- it answers whether the verdict is yes; memory may also be refused before there is one
+abbrev pub AnswersVerdict : (text_of : NetView → Verdict → List ℕ) → NetView → Result Bool Fault → (old new : SinkState) → Type 0
+AnswersVerdict text_of net (Ok passed) old new = (w : WritesVerdict text_of net (Ok passed) old new) × (is_yes w.verdict ≡ passed)
+AnswersVerdict text_of net (Err fault) old new = WritesVerdict text_of net (Err fault) old new ⊎ ((fault ≡ Memory) × (new ≡ old))
+
+-- the lines of the verdict
 abbrev pub ChecksNet : NetView → Result Bool Fault → (old new : SinkState) → Type 0
-ChecksNet net (Ok passed) old new = (w : WritesVerdict net (Ok passed) old new) × (is_yes w.verdict ≡ passed)
-ChecksNet net (Err fault) old new = WritesVerdict net (Err fault) old new ⊎ ((fault ≡ Memory) × (new ≡ old))
+ChecksNet net answer old new = AnswersVerdict check_text net answer old new
+
+-- the graph of an accepted net's levels, or the lines of another verdict
+abbrev pub DrawsNet : NetView → Result Bool Fault → (old new : SinkState) → Type 0
+DrawsNet net answer old new = AnswersVerdict dot_text net answer old new

@@ -16,7 +16,7 @@ mod status;
 
 pub use faults::Fault;
 pub use lines::{push_memory, tell_fault, tell_levels, tell_source_fault, tell_summary};
-pub use listing::{check_net, list_net, show_check, show_net};
+pub use listing::{check_net, check_net_dot, list_net, show_check, show_check_dot, show_net};
 pub use machine::{eval, eval_net, run, run_levels, run_net, run_net_levels};
 pub use rtl_check::CheckFault;
 pub use rtl_kernel::{Forward, Pick, Reverse};
@@ -27,8 +27,8 @@ pub use rtl_run::Summary;
 pub use rtl_sink::Sink;
 pub use running::{MAX_DELTAS, run_event, run_events};
 pub use serving::{
-    ended_by_writes, serve_check, serve_eval, serve_net, serve_run, serve_run_event,
-    serve_run_levels,
+    ended_by_writes, serve_check, serve_check_dot, serve_eval, serve_net, serve_run,
+    serve_run_event, serve_run_levels,
 };
 pub use status::Status;
 pub use vhdl_designs::{Front, SourceFault};

@@ -3,7 +3,7 @@
 ghost use Rattle.std.specs.Prelude.{◌≡◌, IfErr, length};
 ghost use Rattle.rtl_check.specs.Verdicts as verdicts;
 ghost use Rattle.rtl_sink.specs.Written.{IsIntact};
-ghost use Rattle.rtl_commands.specs.Listed.{ListsNet, ChecksNet};
+ghost use Rattle.rtl_commands.specs.Listed.{ListsNet, ChecksNet, DrawsNet};
 ghost use Rattle.rtl_commands.specs.Opened.{Opens};
 ghost use Rattle.rtl_commands.specs.Places.{IsTold};
 
@@ -80,6 +80,41 @@ pub fn check_net<S: Sink>(alloc: Global, net: &Net, out: &mut S) -> Result<bool,
 {
     let verdict = check(alloc, net)?;
     rtl_listing::show_check(alloc, net, &verdict, out)?;
+    Ok(is_yes(&verdict))
+}
+
+/// Checks the net of a source, draws its levels where the verdict is yes and writes its lines else, and answers whether it is yes: as
+/// `show_check` does, but for the graph.
+///
+/// # Errors
+///
+/// As `show_check`.
+pub fn show_check_dot<F: Front, S: Sink>(
+    alloc: Global,
+    source: &[u8],
+    top: &[u8],
+    out: &mut S,
+) -> Result<bool, Fault>
+    requires intact { IsIntact (S.state out.old) }
+    ensures checks { Opens DrawsNet source.now top.now result (S.state out.old) (S.state out.new) }
+    ensures told { IfErr result (IsTold (length source.now)) }
+{
+    let net = F::open(alloc, source, top)?;
+    check_net_dot(alloc, &net, out)
+}
+
+/// Checks a net, draws its levels where the verdict is yes and writes its lines else, and answers whether it is yes. It takes memory in
+/// proportion to the net.
+///
+/// # Errors
+///
+/// `Memory` and `Output`, where a beginning of the text was written.
+pub fn check_net_dot<S: Sink>(alloc: Global, net: &Net, out: &mut S) -> Result<bool, Fault>
+    requires intact { IsIntact (S.state out.old) }
+    ensures { DrawsNet net.now result (S.state out.old) (S.state out.new) }
+{
+    let verdict = check(alloc, net)?;
+    rtl_listing::show_dot(alloc, net, &verdict, out)?;
     Ok(is_yes(&verdict))
 }
 

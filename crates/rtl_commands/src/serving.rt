@@ -5,7 +5,7 @@ ghost use Rattle.rtl_net.specs.Nets.{NetView};
 ghost use Rattle.rtl_sink.specs.Written.{IsIntact, Goes};
 ghost use Rattle.rtl_commands.specs.Faults.{of_source, status_of};
 ghost use Rattle.rtl_commands.specs.Lines.{fault_lines};
-ghost use Rattle.rtl_commands.specs.Listed.{ListsNet, ChecksNet};
+ghost use Rattle.rtl_commands.specs.Listed.{ListsNet, ChecksNet, DrawsNet};
 ghost use Rattle.rtl_commands.specs.Machine.{RunsMachine, RunsMachineByLevels, EvaluatesMachine};
 ghost use Rattle.rtl_commands.specs.Served.{Serves, ended};
 ghost use Rattle.rtl_commands.specs.Simulated.{RunsEvents};
@@ -13,7 +13,7 @@ ghost use Rattle.rtl_commands.specs.Told as told;
 
 use crate::faults::Fault;
 use crate::lines::{tell_fault, tell_levels, tell_source_fault, tell_summary};
-use crate::listing::{check_net, list_net};
+use crate::listing::{check_net, check_net_dot, list_net};
 use crate::machine::{eval_net, run_net, run_net_levels};
 use crate::running::run_events;
 use crate::status::Status;
@@ -66,6 +66,30 @@ pub fn serve_check<F: Front, O: Sink, E: Sink>(
         Err(fault) => return refuse_source(fault, out, err),
     };
     match check_net(alloc, &net, out) {
+        Ok(yes) => ended_by_writes(verdict_status(yes), out, err),
+        Err(fault) => refuse_net(alloc, &net, &fault, out, err),
+    }
+}
+
+/// Checks the net of a source, draws its levels to `out` where the verdict is yes and writes its lines there else, writes the lines of a
+/// fault to `err`, and answers the status.
+pub fn serve_check_dot<F: Front, O: Sink, E: Sink>(
+    alloc: Global,
+    source: &[u8],
+    top: &[u8],
+    out: &mut O,
+    err: &mut E,
+) -> Status
+    requires out { IsIntact (O.state out.old) }
+    requires err { IsIntact (E.state err.old) }
+    ensures { Serves DrawsNet told.verdict source.now top.now result
+        (record { out = O.state out.old; out_after = O.state out.new; err = E.state err.old; err_after = E.state err.new }) }
+{
+    let net = match F::open(alloc, source, top) {
+        Ok(net) => net,
+        Err(fault) => return refuse_source(fault, out, err),
+    };
+    match check_net_dot(alloc, &net, out) {
         Ok(yes) => ended_by_writes(verdict_status(yes), out, err),
         Err(fault) => refuse_net(alloc, &net, &fault, out, err),
     }

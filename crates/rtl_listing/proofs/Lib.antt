@@ -1,3 +1,4 @@
 pub mod Absent
+pub mod Arrows
 pub mod Greatest
 pub mod Printing

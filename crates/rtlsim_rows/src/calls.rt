@@ -8,8 +8,8 @@ use crate::row::Row;
 use rtl_sink::{In, Out, Reader};
 use rtlsim::{
     Fault, Forward, Named, Order, Pick, Request, Reverse, Sink, Standard, Status, eval,
-    halves_at_line, parse_words, run, run_event, show_check, show_net, tool, tool_first_line,
-    tool_with,
+    halves_at_line, parse_words, run, run_event, run_levels, show_check, show_check_dot, show_net,
+    tool, tool_first_line, tool_with,
 };
 use std::alloc::{AllocError, Global};
 use std::io;
@@ -164,6 +164,11 @@ fn call<S: Sink>(
                 return Ok(Status::Rejected);
             }
         }
+        Request::Dot { top, .. } => {
+            if !show_check_dot::<Vhdl, _>(alloc, input, top.as_bytes(), out)? {
+                return Ok(Status::Rejected);
+            }
+        }
         Request::Run {
             is_event,
             order: Order::Forward,
@@ -172,6 +177,10 @@ fn call<S: Sink>(
         } => simulate(alloc, *is_event, input, top, &mut Forward, out)?,
         Request::Run { is_event, top, .. } => {
             simulate(alloc, *is_event, input, top, &mut Reverse, out)?
+        }
+        Request::Levels { top, .. } => {
+            let (source, stimulus) = halves_at_line(input);
+            run_levels::<Vhdl, _>(alloc, source, top.as_bytes(), stimulus, out)?;
         }
     }
     Ok(Status::Done)

@@ -23,7 +23,7 @@ use std::{fs, io};
 use tables::Told;
 
 /// The tables of calls, in the folder in which the program runs.
-const TABLES: [&str; 15] = [
+const TABLES: [&str; 17] = [
     "values.txt",
     "refused.txt",
     "inputs.txt",
@@ -35,8 +35,10 @@ const TABLES: [&str; 15] = [
     "check_registers.txt",
     "check_resets.txt",
     "check_variables.txt",
+    "dot.txt",
     "event.txt",
     "run.txt",
+    "levels.txt",
     "examples.txt",
     "sizes.txt",
 ];

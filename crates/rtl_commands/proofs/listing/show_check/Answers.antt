@@ -1,4 +1,5 @@
 use Rattle.std.proofs.Common.{inl}
+use Rattle.rtl_listing.specs.CheckText.{check_text}
 use Rattle.rtl_commands.specs.Listed.{ChecksNet}
 use Rattle.rtl_commands.proofs.Refused.{opens_refused, refused_told, checks_told}
 use Rattle.rtl_commands.proofs.listing.show_check.Goals as goal
@@ -13,4 +14,4 @@ pub returns-clause-checks : goal.returns-clause-checks
 returns-clause-checks g c = inl (_, c.in_ok-net.ensures.net, c.check_net.ensures)
 
 pub returns-clause-told : goal.returns-clause-told
-returns-clause-told g c = checks_told _ _ _ _ _ c.check_net.ensures
+returns-clause-told g c = checks_told check_text _ _ _ _ _ c.check_net.ensures
