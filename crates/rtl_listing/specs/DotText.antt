@@ -39,10 +39,14 @@ arrow net from to n =
     codes "    \"" ++ process_name net from ++ codes "\" -> \"" ++ process_name net to ++ codes "\" [label=\"" ++ without_index (net_name net n)
     ++ codes "\"];\n"
 
+abbrev pub process_of : Source → Option ℕ
+process_of (Driver process place) = Some process
+process_of (Idle value) = None
+
 -- the process of a net's first driver; drivers stand before idle ports
 abbrev pub driver_of : List Source → Option ℕ
-driver_of (Driver process place ∷ sources) = Some process
-driver_of _ = None
+driver_of [] = None
+driver_of (source ∷ sources) = process_of source
 
 abbrev pub arrow_from : NetView → (from : Option ℕ) → (to n : ℕ) → List ℕ
 arrow_from net None to n = []

@@ -73,8 +73,18 @@ fn driver_of(sources: &[Source]) -> Option<usize>
     ensures { result ≡ spec.driver_of (map source_view sources.now) }
 {
     match sources {
-        [Source::Driven { process, .. }, ..] => Some(*process),
-        _ => None,
+        [first, ..] => process_of(*first),
+        [] => None,
+    }
+}
+
+/// The process of a driver.
+fn process_of(source: Source) -> Option<usize>
+    ensures { result ≡ spec.process_of (source_view source) }
+{
+    match source {
+        Source::Driven { process, .. } => Some(process),
+        Source::Idle { .. } => None,
     }
 }
 
