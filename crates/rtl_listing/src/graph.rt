@@ -33,7 +33,10 @@ pub fn push_graph<W: Sink>(
 fn push_columns<W: Sink>(levels: u32, out: &mut W)
     ensures { Goes (W.state out.old) (W.state out.new) (spec.columns_text levels) }
 {
-    push_text(out, b"digraph levels {\n    rankdir=LR;\n    node [shape=plaintext, fontname=Helvetica, fontsize=11];\n    edge [style=invis];\n");
+    push_text(
+        out,
+        b"digraph levels {\n    rankdir=LR;\n    node [shape=plaintext, fontname=Helvetica, fontsize=11];\n    edge [style=invis];\n",
+    );
     push_heads(levels, out);
     push_text(
         out,

@@ -59,7 +59,7 @@ Performs Gives (Run is_event order file top stimulus) old new outcome o =
     Reads (GivesBoth Gives file.now stimulus.now old new) (λ both. Simulates is_event both.1 both.0 top.now outcome o) outcome o
 Performs Gives (Levels file top stimulus) old new outcome o =
     Reads (GivesBoth Gives file.now stimulus.now old new)
-      (λ both. ServesSource (RunsMachineByLevels both.1) levels both.0 top.now outcome o) outcome o
+    (λ both. ServesSource (RunsMachineByLevels both.1) levels both.0 top.now outcome o) outcome o
 
 -- the words are refused for this reason, or for want of memory, with a text on the standard error and nothing else
 pub record RefusesWords (Reason : Type 0) (outcome : Status) (o : Outputs) : Type 0 where

@@ -19,9 +19,9 @@ pub use first_line::tool_first_line;
 pub use halves::halves_at_line;
 pub use inputs::{InputFault, Inputs, MAX_INPUT, Named, Standard, read_input};
 pub use rtl_commands::{
-    CheckFault, ElabFault, ElabProblem, Fault, Forward, Front, LevelSummary, NameFault, NameProblem,
-    Net, Pick, Reverse, Sink, Status, StimFault, Summary, eval, run, run_event, run_levels,
-    show_check, show_check_dot, show_net,
+    CheckFault, ElabFault, ElabProblem, Fault, Forward, Front, LevelSummary, NameFault,
+    NameProblem, Net, Pick, Reverse, Sink, Status, StimFault, Summary, eval, run, run_event,
+    run_levels, show_check, show_check_dot, show_net,
 };
 pub use rtl_words::{Order, Refused, Request, parse_words};
 pub use streams::{Ended, program};

@@ -63,7 +63,7 @@ pub(crate) fn perform_run<F: Front, I: Inputs, O: Sink, E: Sink>(
     requires err { IsIntact (E.state err.old) }
     ensures { let o : Outputs = record { out = O.state out.old; out_after = O.state out.new; err = E.state err.old; err_after = E.state err.new } in
         Reads (GivesBoth I.gives names.file.now names.stimulus.now (I.state inputs.old) (I.state inputs.new))
-          (λ both. Simulates is_event both.1 both.0 names.top.now result o) result o }
+        (λ both. Simulates is_event both.1 both.0 names.top.now result o) result o }
 {
     match read_both(alloc, inputs, names.file, names.stimulus) {
         Ok(both) => {
@@ -91,7 +91,7 @@ pub(crate) fn perform_levels<F: Front, I: Inputs, O: Sink, E: Sink>(
     requires err { IsIntact (E.state err.old) }
     ensures { let o : Outputs = record { out = O.state out.old; out_after = O.state out.new; err = E.state err.old; err_after = E.state err.new } in
         Reads (GivesBoth I.gives names.file.now names.stimulus.now (I.state inputs.old) (I.state inputs.new))
-          (λ both. ServesSource (RunsMachineByLevels both.1) levels both.0 names.top.now result o) result o }
+        (λ both. ServesSource (RunsMachineByLevels both.1) levels both.0 names.top.now result o) result o }
 {
     match read_both(alloc, inputs, names.file, names.stimulus) {
         Ok(both) => {
