@@ -1,15 +1,12 @@
 -- How far a run of the machine has come, moment by moment.
 use Rattle.std.specs.Prelude.{◌≡◌, ℕ, suc, ◌<◌, List, ◌∷◌, length, slice_get, slice_index, Some, Result, Ok, Err}
-use Rattle.rtl_model.specs.simulation.Net.{Net}
 use Rattle.rtl_net.specs.Nets.{NetView}
 use Rattle.rtl_sink.specs.Written.{SinkState, IsIntact, Goes}
-use Rattle.rtl_moments.specs.Stimuli.{StimulusView, moments, inputs_at}
-use Rattle.rtl_check.specs.Views.{core}
+use Rattle.rtl_moments.specs.Stimuli.{StimulusView, moments}
 use Rattle.rtl_run.specs.Simulated.{Settled}
 use Rattle.rtl_run.specs.Traced.{text_so_far}
 use Rattle.rtl_run.specs.Running.{last_values, last_printed_of}
 use Rattle.rtl_machine.specs.declared.fault.MachineFault.{MachineFault}
-use Rattle.rtl_machine.specs.Synchronous.{IsSynchronous}
 use Rattle.rtl_levelized.specs.declared.progress.Progress.{Progress}
 use Rattle.rtl_levelized.specs.Answered.{TracesLevels}
 

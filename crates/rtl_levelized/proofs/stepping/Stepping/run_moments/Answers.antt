@@ -1,4 +1,4 @@
-use Rattle.std.proofs.Common.{◌≡◌, ℕ, suc, List, length, refl, sym, ap, subst, ◌∙◌, arith}
+use Rattle.std.proofs.Common.{ℕ, suc, List, refl, sym, ap, subst, ◌∙◌, arith}
 use Rattle.rtl_stim.specs.Filling.{Waits}
 use Rattle.rtl_agenda.specs.Agenda.{Change}
 use Rattle.rtl_moments.proofs.Next.{each_begins_at_zero}
