@@ -1,4 +1,4 @@
 pub mod Absent
-pub mod Arrows
+pub mod ArrowTexts
 pub mod Greatest
 pub mod Printing

@@ -1,7 +1,7 @@
 -- The levels of an accepted net as a graph in Graphviz's language: a column for each level, with its combinational processes; the
 -- registers in a column of their own before them; and an arrow to each combinational process from each that drives what it is sensitive
 -- to, with the signal's name. Names stand between quotes as they are: none has a quote or a backslash in it.
-use Rattle.std.specs.Prelude.{ℕ, zero, suc, ◌==◌, ◌&&◌, Bool, false, if◌then◌else◌, List, [], ◌∷◌, ◌++◌, length, position, bytes_eq, slice_get, slice_index, slice_index_or, Option, Some, None, codes, decimal}
+use Rattle.std.specs.Prelude.{ℕ, zero, suc, ◌+◌, ◌==◌, ◌&&◌, Bool, false, if◌then◌else◌, List, [], ◌∷◌, ◌++◌, length, position, bytes_eq, slice_get, slice_index, slice_index_or, Option, Some, None, codes, decimal}
 use Rattle.rtl_check.specs.declared.reporting.Report.{Report}
 use Rattle.rtl_check.specs.declared.checking.Verdict.{Verdict}
 use Rattle.rtl_check.specs.declared.checking.Verdict.TheVariants.{Yes, No}
@@ -21,7 +21,7 @@ opens (byte ∷ bytes) = byte == 40
 
 abbrev pub is_last : Option ℕ → (length : ℕ) → Bool
 is_last None n = false
-is_last (Some at) n = suc at == n
+is_last (Some at) n = at + 1 == n
 
 -- `(`, and then a `)` at the end alone
 abbrev pub is_index : List ℕ → Bool
@@ -99,11 +99,12 @@ process_lines net levels p = process_text net p (slice_index_or levels p None)
 
 -- ---- the graph
 
+abbrev pub next_column : (before : ℕ) → List ℕ
+next_column before = codes "    \"level " ++ decimal before ++ codes "\" -> \"level " ++ decimal (before + 1) ++ codes "\";\n"
+
 -- the head of a level's column, behind that of the one before it
 abbrev pub column_text : (before : ℕ) → List ℕ
-column_text before =
-    if before == 0 then codes "    \"level 1\";\n"
-    else codes "    \"level " ++ decimal before ++ codes "\" -> \"level " ++ decimal (suc before) ++ codes "\";\n"
+column_text before = if before == 0 then codes "    \"level 1\";\n" else next_column before
 
 abbrev pub graph_begin : List ℕ
 graph_begin = codes "digraph levels {\n    rankdir=LR;\n    node [shape=plaintext, fontname=Helvetica, fontsize=11];\n    edge [style=invis];\n"

@@ -1,6 +1,6 @@
 //! The arrows of a graph of levels, to the processes that are sensitive to nets from those that drive these.
 
-ghost use Rattle.std.specs.Prelude.{◌≡◌, ◌<◌, ◌==◌, All, [], if◌then◌else◌, length, position, bytes_eq, map, IfOk};
+ghost use Rattle.std.specs.Prelude.{◌≡◌, ◌<◌, ◌==◌, All, [], if◌then◌else◌, length, position, bytes_eq, map, IfOk, IfSome};
 ghost use Rattle.rtl_sink.specs.Written.{Goes};
 ghost use Rattle.rtl_net.specs.Nets.{source_view};
 ghost use Rattle.rtl_listing.specs.DotText as spec;
@@ -142,8 +142,16 @@ fn opens(text: &[u8]) -> bool
 fn closes(text: &[u8]) -> bool
     ensures { result ≡ spec.is_last (position (λ byte. byte == 41) text.now) (length text.now) }
 {
-    match text.iter().position(|byte| *byte == b')') {
+    match close_of(text) {
         Some(at) => at + 1 == text.len(),
         None => false,
     }
+}
+
+/// Where the first `)` of a text stands.
+fn close_of(text: &[u8]) -> Option<usize>
+    ensures close { result ≡ position (λ byte. byte == 41) text.now }
+    ensures within { IfSome result (λ at. at < length text.now) }
+{
+    text.iter().position(|byte| *byte == b')')
 }

@@ -59,12 +59,19 @@ fn push_head<W: Sink>(before: u32, out: &mut W)
 {
     if before == 0 {
         push_text(out, b"    \"level 1\";\n");
-        return;
+    } else {
+        push_next_head(before, out);
     }
+}
+
+/// The head of a column behind another.
+fn push_next_head<W: Sink>(before: u32, out: &mut W)
+    ensures { Goes (W.state out.old) (W.state out.new) (spec.next_column before) }
+{
     push_text(out, b"    \"level ");
-    push_number(out, u64::from(before));
+    push_number(out, before as u64);
     push_text(out, b"\" -> \"level ");
-    push_number(out, u64::from(before) + 1);
+    push_number(out, before as u64 + 1);
     push_text(out, b"\";\n");
 }
 
@@ -142,7 +149,7 @@ fn push_node<W: Sink>(
 {
     let name = process_name(alloc, net, number)?;
     push_text(out, b"    { rank=same; \"level ");
-    push_number(out, u64::from(level));
+    push_number(out, level as u64);
     push_text(out, b"\"; \"");
     push_text(out, &name);
     push_text(out, b"\"; }\n");

@@ -1,7 +1,14 @@
 use Rattle.std.proofs.Common.{subst, ◌∙◌}
 use Rattle.rtl_sink.specs.Written.{Goes}
 use Rattle.rtl_sink.proofs.Writing.{Goes-append}
+use Rattle.rtl_listing.specs.DotText.{node_text}
+use Rattle.rtl_listing.proofs.Printing.{none, refused}
 use Rattle.rtl_listing.proofs.graph.push_node.Goals as goal
+
+pub returns-in_err-name : goal.returns-in_err-name
+returns-in_err-name g c =
+    let text = node_text c.args.net.now c.args.number c.args.level in
+    refused c.from_residual.result _ _ _ text c.from_residual.ensures.1 (none _ text)
 
 pub returns : goal.returns
 returns g c =
