@@ -1,4 +1,4 @@
-use Rattle.std.proofs.Common.{◌≡◌, ℕ, List, Option, Some, All, length, sym, ap, subst, ◌∙◌, ◌<◌}
+use Rattle.std.proofs.Common.{◌≡◌, ℕ, List, Some, All, length, sym, ap, subst, ◌∙◌, ◌<◌}
 use Rattle.std.specs.Prelude.{slice_get}
 use Rattle.rtl_net.specs.declared.process.Process.{Process}
 use Rattle.rtl_listing.specs.DotText.{arrows_by, wakes_of}

@@ -1,5 +1,4 @@
 use Rattle.std.proofs.Common.{ℕ, Option, sym, subst}
-use Rattle.rtl_sink.specs.Written.{Goes}
 use Rattle.rtl_listing.specs.DotText.{process_text}
 use Rattle.rtl_listing.specs.Printing.{Prints}
 use Rattle.rtl_listing.proofs.graph.push_process.Goals as goal
