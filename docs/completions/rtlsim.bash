@@ -12,10 +12,10 @@ _rtlsim_words_of() {
     net) echo --help ;;
     net1) echo FILE ;;
     net2) echo TOP ;;
-    check) echo --help ;;
+    check) echo --dot --help ;;
     check1) echo FILE ;;
     check2) echo TOP ;;
-    run) echo --event --order --help ;;
+    run) echo --event --order --levels --help ;;
     run--order) echo forward reverse ;;
     run1) echo FILE ;;
     run2) echo TOP ;;
