@@ -54,7 +54,7 @@ pub(crate) fn perform_run<F: Front, I: Inputs, O: Sink, E: Sink>(
     alloc: Global,
     is_event: bool,
     order: Order,
-    names: Names<'_>,
+    names: &Names<'_>,
     inputs: &mut I,
     out: &mut O,
     err: &mut E,
@@ -62,8 +62,8 @@ pub(crate) fn perform_run<F: Front, I: Inputs, O: Sink, E: Sink>(
     requires out { IsIntact (O.state out.old) }
     requires err { IsIntact (E.state err.old) }
     ensures { let o : Outputs = record { out = O.state out.old; out_after = O.state out.new; err = E.state err.old; err_after = E.state err.new } in
-        Reads (GivesBoth I.gives names.file.now names.stimulus.now (I.state inputs.old) (I.state inputs.new))
-        (λ both. Simulates is_event both.1 both.0 names.top.now result o) result o }
+        Reads (GivesBoth I.gives names.now.file.now names.now.stimulus.now (I.state inputs.old) (I.state inputs.new))
+        (λ both. Simulates is_event both.1 both.0 names.now.top.now result o) result o }
 {
     match read_both(alloc, inputs, names.file, names.stimulus) {
         Ok(both) => {
@@ -82,7 +82,7 @@ pub(crate) fn perform_run<F: Front, I: Inputs, O: Sink, E: Sink>(
 /// Reads a source and a stimulus, and simulates by levels.
 pub(crate) fn perform_levels<F: Front, I: Inputs, O: Sink, E: Sink>(
     alloc: Global,
-    names: Names<'_>,
+    names: &Names<'_>,
     inputs: &mut I,
     out: &mut O,
     err: &mut E,
@@ -90,8 +90,8 @@ pub(crate) fn perform_levels<F: Front, I: Inputs, O: Sink, E: Sink>(
     requires out { IsIntact (O.state out.old) }
     requires err { IsIntact (E.state err.old) }
     ensures { let o : Outputs = record { out = O.state out.old; out_after = O.state out.new; err = E.state err.old; err_after = E.state err.new } in
-        Reads (GivesBoth I.gives names.file.now names.stimulus.now (I.state inputs.old) (I.state inputs.new))
-        (λ both. ServesSource (RunsMachineByLevels both.1) levels both.0 names.top.now result o) result o }
+        Reads (GivesBoth I.gives names.now.file.now names.now.stimulus.now (I.state inputs.old) (I.state inputs.new))
+        (λ both. ServesSource (RunsMachineByLevels both.1) levels both.0 names.now.top.now result o) result o }
 {
     match read_both(alloc, inputs, names.file, names.stimulus) {
         Ok(both) => {

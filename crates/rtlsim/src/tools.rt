@@ -101,7 +101,7 @@ pub fn perform<F: Front, I: Inputs, O: Sink, E: Sink>(
             stimulus,
         } => {
             let names = Names::new(file, top, stimulus);
-            perform_run::<F, _, _, _>(alloc, *is_event, *order, names, inputs, out, err)
+            perform_run::<F, _, _, _>(alloc, *is_event, *order, &names, inputs, out, err)
         }
         Request::Levels {
             file,
@@ -109,7 +109,7 @@ pub fn perform<F: Front, I: Inputs, O: Sink, E: Sink>(
             stimulus,
         } => {
             let names = Names::new(file, top, stimulus);
-            perform_levels::<F, _, _, _>(alloc, names, inputs, out, err)
+            perform_levels::<F, _, _, _>(alloc, &names, inputs, out, err)
         }
     }
 }
