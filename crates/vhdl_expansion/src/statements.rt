@@ -20,6 +20,7 @@ ghost use Rattle.vhdl_names.specs.views.Integers.{range_view};
 ghost use Rattle.vhdl_names.specs.views.Vectors.{value_view};
 
 use crate::assignments::choice;
+use crate::both::both;
 use crate::operand::Width;
 use crate::site::Site;
 use rtl_net::{Alternative, Branch, Choice, Statement};
@@ -171,7 +172,7 @@ impl Site<'_> {
             (analysed.last_of (analysed.option_statements_view (out-If conditional.now).otherwise))) result }
     {
         let branches = self.branches(alloc, &conditional.branches, conditional.at)?;
-        let otherwise = self.otherwise(alloc, conditional)?;
+        let (branches, otherwise) = both(branches, self.otherwise(alloc, conditional))?;
         Ok(Statement::If {
             branches,
             otherwise,
@@ -211,7 +212,7 @@ impl Site<'_> {
             (steps.branch (site_view self.now) (analysed.branch_view branch.now)) result }
     {
         let test = self.expanded_test(alloc, &branch.condition, at)?;
-        let statements = self.sequence(alloc, &branch.statements)?;
+        let (test, statements) = both(test, self.sequence(alloc, &branch.statements))?;
         Ok(Branch { test, statements })
     }
 
@@ -249,8 +250,10 @@ impl Site<'_> {
         let at = selection.at;
         let selector = self.expanded_value(alloc, &selection.selector, at)?;
         let width = selector.width;
-        let alternatives = self.alternatives(alloc, &selection.alternatives, width, at)?;
-        let others = self.sequence(alloc, &selection.others)?;
+        let alternatives = self.alternatives(alloc, &selection.alternatives, width, at);
+        let (selector, alternatives) = both(selector, alternatives)?;
+        let others = self.sequence(alloc, &selection.others);
+        let ((selector, alternatives), others) = both((selector, alternatives), others)?;
         Ok(Statement::Case {
             selector: selector.value,
             alternatives,
@@ -293,7 +296,8 @@ impl Site<'_> {
             (steps.alternative (site_view self.now) width.len (analysed.alternative_view alternative.now)) result }
     {
         let choices = choices(alloc, width, &alternative.choices, at)?;
-        let statements = self.sequence(alloc, &alternative.statements)?;
+        let statements = self.sequence(alloc, &alternative.statements);
+        let (choices, statements) = both(choices, statements)?;
         Ok(Alternative {
             choices,
             statements,
