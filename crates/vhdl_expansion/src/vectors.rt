@@ -1,11 +1,6 @@
 //! Elements and vectors of the nine values, expanded (IEEE 1076-2008, clause 9; numeric_std).
 
 ghost use Rattle.std.specs.Prelude.{◌≡◌, length};
-ghost use Rattle.rtl_model.specs.bodies.Body as body;
-ghost use Rattle.rtl_model.specs.bodies.Fits as fits;
-ghost use Rattle.rtl_model.specs.bodies.Fits.{operated_width};
-ghost use Rattle.rtl_net.specs.Bodies.{expr_view, operator_view};
-ghost use Rattle.std.specs.Prelude.{IfOk};
 ghost use Rattle.vhdl_names.specs.units.Expressions as units;
 ghost use Rattle.vhdl_names.specs.views.Integers.{static_view};
 ghost use Rattle.vhdl_names.specs.views.Vectors.{part_view, place_view, vector_view};
@@ -48,7 +43,10 @@ impl Site<'_> {
         match vector {
             Vector::Signal(place) => self.signal(place),
             Vector::Variable(at, number, part) => self.variable(*number, part, *at),
-            Vector::Constant(at, number, part) => self.constant(*number, part, *at),
+            Vector::Constant(at, number, part) => {
+                let values = self.constant_values(*number, part, *at)?;
+                Ok(Operand::constant(values))
+            }
             Vector::Character(_, value) | Vector::EnclosedCharacter(_, value) => {
                 Ok(Operand::constant(Vec9::fill(*value, 1)))
             }
@@ -104,14 +102,6 @@ impl Site<'_> {
             expr: Expr::Variable(elements),
             width: Width { len: run.len },
         })
-    }
-
-    /// A constant or part of one.
-    fn constant(&self, number: usize, part: &Part, at: usize) -> Result<Operand, ElabFault>
-        ensures { Expands operand_view (steps.constant (site_view self.now) number (part_view part.now)) result }
-    {
-        let values = self.constant_values(number, part, at)?;
-        Ok(Operand::constant(values))
     }
 
     /// `to_unsigned`.
