@@ -1,4 +1,4 @@
-use Rattle.std.proofs.Common.{◌≡◌, ◌∙◌, refl}
+use Rattle.std.proofs.Common.{◌∙◌, refl}
 use Rattle.std.proofs.lemmas.Simd.{zip2_of_maps, splat_is_map}
 use Rattle.vhdl_values.specs.declared.kinds.Logic.TheVariants.{And}
 use Rattle.vhdl_values.specs.Scalar.{code_of}

@@ -1,4 +1,4 @@
-use Rattle.std.proofs.Common.{◌≡◌, ◌∙◌, ℕ, w8, refl, sym}
+use Rattle.std.proofs.Common.{◌∙◌, ℕ, w8, refl, sym}
 use Rattle.std.proofs.lemmas.Simd.{zip2_of_maps, zip2_splat, splat_is_map, length-chunk, chunk-fits, map-map}
 use lib.Lanes.{chunk}
 use Rattle.vhdl_values.specs.Scalar.{code_of, value_of_code}
