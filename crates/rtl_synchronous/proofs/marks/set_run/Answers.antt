@@ -29,8 +29,8 @@ returns-then-differ-clause-written c =
     let many : length new ≡ old.len = omega (arith, done.as_many, old.ok.0) in
     subst (λ (vs : List ℕ). IsWritten c.args.first c.args.given.now old.items vs) (sym (with_items_is old new many)) done
 
-pub returns-clause-written : goal.returns-clause-written
-returns-clause-written c = record {
+pub returns-else-differ-clause-written : goal.returns-else-differ-clause-written
+returns-else-differ-clause-written c = record {
   as_many = refl;
   written = λ k l. ap (λ (vs : List ℕ). get_or vs (c.args.first + k) 0) (sym c.deref.ensures.value) ∙ c.differ.ensures c.if-differ.false k l;
   below = λ q l. refl;
@@ -52,5 +52,5 @@ returns-then-differ-clause-marks c =
     marks_run (wakers_of groups) c.args.values.now.items _ first given c.args.marks.now.items c.mark.new.marks.items c.requires.some together (returns-then-differ-clause-written c) c.mark.ensures.as_many
     (subst (λ (xs : List ℕ). Adds xs c.args.marks.now.items c.mark.new.marks.items) row c.mark.ensures.marks)
 
-pub returns-clause-marks : goal.returns-clause-marks
-returns-clause-marks c = marks_none (wakers_of c.args.groups.now) (IsOfRun c.args.first (length c.args.given.now)) c.args.values.now.items c.args.marks.now.items
+pub returns-else-differ-clause-marks : goal.returns-else-differ-clause-marks
+returns-else-differ-clause-marks c = marks_none (wakers_of c.args.groups.now) (IsOfRun c.args.first (length c.args.given.now)) c.args.values.now.items c.args.marks.now.items

@@ -7,7 +7,7 @@ use Rattle.rtl_synchronous.proofs.machine.Machine.step.Goals as goal
 pub take_inputs-requires-clause-there : goal.take_inputs-requires-clause-there
 take_inputs-requires-clause-there g c =
     machines.changes_there _ _ _ _ _ _ _ _ _ _ _ _ _ c.self.invariant.0 c.args.changes.now (rw (← c.self.view_is) at c.requires.inputs) c.self.inside.values.items
-    (machines.each_value _ _ _ _ _ _ _ _ _ _ _ _ _ c.self.invariant)
+    (machines.each_value _ _ _ _ _ _ _ _ _ _ _ _ _ c.self.invariant.0)
 
 pub take_inputs-requires-clause-readers : goal.take_inputs-requires-clause-readers
 take_inputs-requires-clause-readers g c = readers_below _ _ _ _ c.self.invariant.0.schedule _ c.self.invariant.0.each_rank

@@ -36,7 +36,7 @@ new-requires-3 c =
     let many : length c.deref-2.result.now ≡ length net.types = c.deref-2.ensures.len ∙ c.in_ok-together.ensures.len ∙ c.nets.ensures.count in
     let rows = c.in_ok-by_rank.ensures ∙ ap (wakes_by_rank (core net)) c.deref.ensures.value in
     let each = c.in_ok-readers.ensures.each_net ∙ many in
-    rw (c.in_ok-targets.ensures, c.of_net.ensures.value, each, c.processes-2.ensures) (all_targets_there net R)
+    rw (c.in_ok-targets.ensures, c.of_net.ensures.value, each, c.processes.ensures) (all_targets_there net R)
 
 pub returns-clause-cuts : goal.returns-clause-cuts
 returns-clause-cuts c =
