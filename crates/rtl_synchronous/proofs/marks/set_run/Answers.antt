@@ -1,11 +1,10 @@
 use Rattle.std.proofs.Common.{◌≡◌, ◌<◌, ◌+◌, ℕ, List, [], get_or, length, ap, sym, subst, refl, ◌∙◌, arith, Contains}
-use Rattle.std.specs.Vec.{with_items}
 use Rattle.std.proofs.lemmas.List.{length-map, with_items_is}
 use Rattle.std.proofs.lemmas.List.Elements.{Contains-get_or}
 use Rattle.rtl_kernel.specs.values.TwoValues.{IsWritten}
 use Rattle.rtl_kernel.specs.wakes.Woken.{Adds, wakers_of}
 use Rattle.rtl_kernel.proofs.Grouped.{wakers_at}
-use Rattle.rtl_synchronous.specs.Marks.{Marks, IsOfRun}
+use Rattle.rtl_synchronous.specs.Marks.{IsOfRun}
 use Rattle.rtl_synchronous.proofs.Marking.{marks_none, marks_run}
 use Rattle.rtl_synchronous.proofs.marks.set_run.Goals as goal
 

@@ -40,15 +40,17 @@ set_inputs-requires g c =
 
 pub invariant_of-self : goal.invariant_of-self
 invariant_of-self g c =
-    let K = c.self.invariant.0 in
-    (machines.kept _ _ _ _ _ _ _ _ _ _ _ _ _ K c.args.changes.now (rw (← c.self.view_is) at c.requires.inputs) c.take_inputs.new.values.items c.take_inputs.ensures.values
-    c.take_inputs.new.woken.items c.take_inputs.new.dirty.items c.take_inputs.ensures.woken c.take_inputs.ensures.dirty
-    (rw (← c.self.view_is) at c.requires.raceless) c.come_to_rest.new.values.items (rw (c.deref.ensures.value) at c.come_to_rest.ensures.rest)
-    c.come_to_rest.new.runs.items c.set_inputs.new.values.items c.come_to_rest.new.dirty.items c.come_to_rest.new.woken.items
-    c.come_to_rest.ensures.may c.come_to_rest.ensures.in_range c.set_inputs.ensures
-    (c.come_to_rest.ensures.each_rank ∙ c.take_inputs.ensures.dirty.as_many ∙ K.each_rank)
-    (c.come_to_rest.ensures.each_process ∙ c.take_inputs.ensures.woken.as_many ∙ K.each_process)
-    c.come_to_rest.ensures.none_dirty c.come_to_rest.ensures.none_woken, c.self.invariant.1)
+    let K = c.self.invariant.0 in (
+      machines.kept _ _ _ _ _ _ _ _ _ _ _ _ _ K c.args.changes.now (rw (← c.self.view_is) at c.requires.inputs) c.take_inputs.new.values.items c.take_inputs.ensures.values
+          c.take_inputs.new.woken.items c.take_inputs.new.dirty.items c.take_inputs.ensures.woken c.take_inputs.ensures.dirty
+          (rw (← c.self.view_is) at c.requires.raceless) c.come_to_rest.new.values.items (rw (c.deref.ensures.value) at c.come_to_rest.ensures.rest)
+          c.come_to_rest.new.runs.items c.set_inputs.new.values.items c.come_to_rest.new.dirty.items c.come_to_rest.new.woken.items
+          c.come_to_rest.ensures.may c.come_to_rest.ensures.in_range c.set_inputs.ensures
+          (c.come_to_rest.ensures.each_rank ∙ c.take_inputs.ensures.dirty.as_many ∙ K.each_rank)
+          (c.come_to_rest.ensures.each_process ∙ c.take_inputs.ensures.woken.as_many ∙ K.each_process)
+          c.come_to_rest.ensures.none_dirty c.come_to_rest.ensures.none_woken,
+      c.self.invariant.1,
+    )
 
 pub returns-clause-step : goal.returns-clause-step
 returns-clause-step g c =
