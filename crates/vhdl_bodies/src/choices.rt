@@ -3,6 +3,7 @@
 ghost use Rattle.std.specs.Prelude.{◌≡◌, ◌≢◌, ◌||◌, ◌∷◌, [], map, IfOk, Some};
 ghost use Rattle.std.specs.List.{list_all, list_any, range_with_len};
 ghost use Rattle.vhdl_names.specs.Choices as rules;
+ghost use Rattle.vhdl_names.specs.declared.fault.NameProblem.TheVariants.{WrongKind};
 ghost use Rattle.vhdl_names.specs.Rules.{rule};
 ghost use Rattle.vhdl_names.specs.Visibility.{is_among};
 ghost use Rattle.vhdl_names.specs.Gives.{Gives};
@@ -123,7 +124,7 @@ fn others_place(lists: &[&[syntax::Choice]]) -> usize {
 
 /// `others` stands in no alternative but the last.
 fn others_last(lists: &[&[syntax::Choice]]) -> Result<(), NameFault>
-    ensures { Gives (λ _. tt) (rule (rules.only_last_others (steps.all_lists lists.now))) result }
+    ensures { Gives (λ _. tt) (rule WrongKind (rules.only_last_others (steps.all_lists lists.now))) result }
 {
     match lists.split_last() {
         None => Ok(()),

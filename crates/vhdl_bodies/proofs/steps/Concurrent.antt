@@ -7,7 +7,7 @@ use Rattle.vhdl_names.specs.declared.kind.ObjectType.{ObjectType}
 use Rattle.vhdl_names.specs.units.Expressions.{Test, Value}
 use Rattle.vhdl_names.specs.units.Statements as s
 use Rattle.vhdl_names.specs.units.Units as u
-use Rattle.vhdl_names.specs.Rules.{◌>>=◌, ◌>>◌, rule, each, if_any}
+use Rattle.vhdl_names.specs.Rules.{◌>>=◌, ◌>>◌, met, each, if_any}
 use Rattle.vhdl_names.specs.Visibility.{Sight}
 use Rattle.vhdl_names.specs.Expressions.{typed, condition, given}
 use Rattle.vhdl_names.specs.Choices.{choices, covered, selector, arranged}
@@ -138,7 +138,7 @@ selected_gives sight label a =
     outer_steps (Some all) by = asked (cover by.0 (steps.choice_lists a.waveforms) (all_choices all)) (but_last all)
       where
         asked : (c : Option (Unit {0})) (d : Option Divided)
-            → option_map (assigning label) (c >>= λ _. rule true >> (d >>= λ d. Some (s.select by.1 (put_together d))))
+            → option_map (assigning label) (c >>= λ _. met true >> (d >>= λ d. Some (s.select by.1 (put_together d))))
             ≡ (c >>= λ _. d >>= λ d. Some (assigning label (s.select by.1 (put_together d))))
         asked None d = refl
         asked (Some u) None = refl

@@ -9,6 +9,7 @@ use Rattle.vhdl_tree.specs.Tree.{Ident}
 use Rattle.vhdl_names.specs.declared.kind.ObjectType.{ObjectType}
 use Rattle.vhdl_names.specs.declared.kind.ObjectType.TheVariants.{Elements, Enumeration}
 use Rattle.vhdl_names.specs.units.Statements as s
+use Rattle.vhdl_names.specs.declared.fault.NameProblem.TheVariants.{WrongKind, NoOthers, ChoiceTwice}
 use Rattle.vhdl_names.specs.Rules.{◌>>=◌, ◌>>◌, rule, each}
 use Rattle.vhdl_names.specs.Visibility.{Name, Sight, label_ends, is_among, are_distinct}
 use Rattle.vhdl_names.specs.Choices.{choices, only_last_others, is_last_others, names_all}
@@ -31,9 +32,9 @@ all_choices alts = flat_map (λ (a : Chosen). a.choices) alts
 -- what choices of all alternatives are asked
 abbrev pub cover : ObjectType → List (List t.Choice) → List s.Choice → Option (Unit {0})
 cover type lists cs = do
-  rule (only_last_others lists)
-  rule (are_distinct (map key_of cs))
-  rule (is_last_others lists || names_all type cs)
+  rule WrongKind (only_last_others lists)
+  rule ChoiceTwice (are_distinct (map key_of cs))
+  rule NoOthers (is_last_others lists || names_all type cs)
 
 -- alternatives but the last, which is done otherwise
 pub record Divided : Type 0 where
@@ -53,7 +54,7 @@ selection sight label e alts end = do
   by ← selected_by sight e
   all ← each (chosen sight by.0) alts
   cover by.0 (choice_lists alts) (all_choices all)
-  rule (label_ends label end)
+  rule WrongKind (label_ends label end)
   d ← but_last all
   Some (s.select by.1 (alternatives_of d.alternatives (statements_of d.last)))
 
