@@ -217,7 +217,7 @@ pub(crate) fn first_fault(
 
 /// What the choices of all alternatives are asked; the case starts at byte `at`.
 #[tactic(auto, using(crate::proofs::steps::Cases::covered_by))]
-pub(crate) fn cover(
+fn cover(
     alloc: Global,
     selected: ObjectType,
     at: usize,
@@ -236,6 +236,21 @@ pub(crate) fn cover(
     } else {
         Err(NameProblem::NoOthers.at(at))
     }
+}
+
+/// Alternatives whose choices are as they are asked to be. Where they aren't, they are let go here.
+pub(crate) fn covered(
+    alloc: Global,
+    selected: ObjectType,
+    at: usize,
+    lists: &[&[syntax::Choice]],
+    alternatives: Vec<Alternative>,
+) -> Result<Vec<Alternative>, NameFault>
+    ensures same { IfOk result (λ all. all ≡ alternatives) }
+    ensures asked { Gives (λ _. tt) (steps.cover selected (steps.all_lists lists.now) (steps.all_choices (views.alternatives_view alternatives))) result }
+{
+    cover(alloc, selected, at, lists, &alternatives)?;
+    Ok(alternatives)
 }
 
 /// Alternatives but the last, which is done otherwise. The case starts at byte `at`.

@@ -132,6 +132,18 @@ module _ (sight : Sight) (type : ObjectType) (value : Value) (l : Bool) (lists :
     d ← but_last all
     Some (s.select value (put_together d))
 
+  -- the last alternative apart
+  apart : (h : Option (List Chosen)) → by_steps h
+      ≡ ((h >>= λ all. cover type lists (all_choices all) >>= λ _. met l >> but_last all) >>= λ d. Some (s.select value (put_together d)))
+  apart None = refl
+  apart (Some all) = go (cover type lists (all_choices all)) l (but_last all)
+    where
+      go : (c : Option (Unit {0})) (b : Bool) (u : Option Divided) → (c >>= λ _. met b >> (u >>= λ d. Some (s.select value (put_together d))))
+          ≡ ((c >>= λ _. met b >> u) >>= λ d. Some (s.select value (put_together d)))
+      go None b u = refl
+      go (Some _) true u = refl
+      go (Some _) false u = refl
+
   fits : (o d n : Bool) (css : List (List s.Choice)) (bs : List s.Statements) (u : Option Divided) → arranged css bs ≡ option_map put_together u
       → (met l >> ((met o >> (met d >> (met n >> Some css))) >>= λ cs. arranged cs bs >>= λ all. Some (s.select value all)))
       ≡ ((met o >> (met d >> met n)) >>= λ _. met l >> (u >>= λ d. Some (s.select value (put_together d))))
@@ -185,8 +197,10 @@ selection_by sight label at e alts end =
     >>= λ bodies. arranged cs bodies >>= λ all. Some (s.select by.1 all))) (lists_each alts)
     ∙ ap (λ o. met (label_ends label end) >> o) (inner (typed sight e) selector body)
     ∙ late (label_ends label end) (selected_by sight e) body
-    ∙ bound (selected_by sight e) (λ by. met (label_ends label end) >> body by) (λ by. by_steps sight by.0 by.1 (label_ends label end) (steps.choice_lists alts) (each (chosen sight by.0) alts))
-    (λ by. same sight by.0 by.1 (label_ends label end) (steps.choice_lists alts) _ _ _ (pairs sight by.0 alts))
+    ∙ bound (selected_by sight e) (λ by. met (label_ends label end) >> body by)
+    (λ by. steps.parts sight by.0 label alts end >>= λ d. Some (s.select by.1 (put_together d)))
+    (λ by. same sight by.0 by.1 (label_ends label end) (steps.choice_lists alts) _ _ _ (pairs sight by.0 alts)
+    ∙ apart sight by.0 by.1 (label_ends label end) (steps.choice_lists alts) (each (chosen sight by.0) alts))
   where
     body : ObjectType × Value → Option s.Statement
     body by = by_rules sight by.0 by.1 (label_ends label end) (steps.choice_lists alts) (each (choices sight by.0) (steps.choice_lists alts)) (alternatives sight (t.alternatives_of alts))

@@ -110,6 +110,7 @@ unfolding rules.selected
 selected_gives sight label a =
     inner (typed sight a.selector) selector rest
     ∙ bound (selected_by sight a.selector) rest steps_rest (λ by. go by (target sight a.target) refl)
+    ∙ bound (selected_by sight a.selector) steps_rest by_parts (λ by. apart by (target sight a.target) (each (steps.chosen sight by.0 a.target) a.waveforms))
   where
     rest : ObjectType × Value → Option u.Concurrent
     rest by = target sight a.target >>= λ x. covered sight by.0 (steps.choice_lists a.waveforms)
@@ -119,6 +120,21 @@ selected_gives sight label a =
     steps_rest : ObjectType × Value → Option u.Concurrent
     steps_rest by = target sight a.target >>= λ _. each (steps.chosen sight by.0 a.target) a.waveforms
         >>= λ all. cover by.0 (steps.choice_lists a.waveforms) (all_choices all) >>= λ _. but_last all >>= λ d. Some (assigning label (s.select by.1 (put_together d)))
+
+    by_parts : ObjectType × Value → Option u.Concurrent
+    by_parts by = steps.parts sight by.0 a >>= λ d. Some (assigning label (s.select by.1 (put_together d)))
+
+    apart : (by : ObjectType × Value) (o : Option SignalName) (h : Option (List Chosen))
+        → (o >>= λ _. h >>= λ all. cover by.0 (steps.choice_lists a.waveforms) (all_choices all) >>= λ _. but_last all >>= λ d. Some (assigning label (s.select by.1 (put_together d))))
+        ≡ ((o >>= λ _. h >>= λ all. cover by.0 (steps.choice_lists a.waveforms) (all_choices all) >>= λ _. but_last all) >>= λ d. Some (assigning label (s.select by.1 (put_together d))))
+    apart by None h = refl
+    apart by (Some x) None = refl
+    apart by (Some x) (Some all) = end (cover by.0 (steps.choice_lists a.waveforms) (all_choices all)) (but_last all)
+      where
+        end : (c : Option (Unit {0})) (d : Option Divided)
+            → (c >>= λ _. d >>= λ d. Some (assigning label (s.select by.1 (put_together d)))) ≡ ((c >>= λ _. d) >>= λ d. Some (assigning label (s.select by.1 (put_together d))))
+        end None d = refl
+        end (Some u) d = refl
 
     outer_rules : (f : Option (List (List s.Choice))) (g : Option (List s.Statements)) (value : Value)
         → (f >>= λ cs. g >>= λ bodies. arranged cs bodies >>= λ all. Some (assigning label (s.select value all)))

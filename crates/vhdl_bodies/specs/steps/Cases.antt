@@ -49,13 +49,18 @@ but_last (a ∷ b ∷ more) = but_last (b ∷ more) >>= λ d. Some (record { alt
 abbrev pub choice_lists : List t.Alternative → List (List t.Choice)
 choice_lists = map (λ a. a.choices)
 
+-- what is done by a value of this type, the last alternative apart
+abbrev pub parts : Sight → ObjectType → Option Ident → List t.Alternative → Option Ident → Option Divided
+parts sight type label alts end = do
+  all ← each (chosen sight type) alts
+  cover type (choice_lists alts) (all_choices all)
+  rule WrongKind (label_ends label end)
+  but_last all
+
 abbrev pub selection : Sight → Option Ident → t.Expr → List t.Alternative → Option Ident → Option s.Statement
 selection sight label e alts end = do
   by ← selected_by sight e
-  all ← each (chosen sight by.0) alts
-  cover by.0 (choice_lists alts) (all_choices all)
-  rule WrongKind (label_ends label end)
-  d ← but_last all
+  d ← parts sight by.0 label alts end
   Some (s.select by.1 (alternatives_of d.alternatives (statements_of d.last)))
 
 -- ---- tables of choices

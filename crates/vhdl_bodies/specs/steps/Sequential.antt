@@ -47,12 +47,16 @@ conditional sight label bs o end = do
   rule WrongKind (label_ends label end)
   Some (s.choose (branches_of gs (last_of last)))
 
+-- what a loop over this parameter does in a turn
+abbrev pub turn : Sight → Ident → List t.Sequential → Option (List s.Statement)
+turn sight n body = all_labelled (within_loop sight n) body
+
 abbrev pub repetition : Sight → Option Ident → Ident → t.Range → List t.Sequential → Option Ident → Option s.Statement
 repetition sight label n r body end = do
   range ← static_range sight r
-  turn ← all_labelled (within_loop sight n) body
+  found ← turn sight n body
   rule WrongKind (label_ends label end)
-  Some (s.loop range (statements_of turn))
+  Some (s.loop range (statements_of found))
 
 -- with one more parameter, the innermost
 abbrev pub in_loop : Sight → Declared → Sight
