@@ -45,19 +45,6 @@ pub fn label_ends(label: &Option<Identifier>, end: &Option<Identifier>) -> Resul
     }
 }
 
-/// What was analysed, whose end label repeats its label. Where it doesn't, `found` is let go here.
-pub(crate) fn ended<T: Drop>(
-    label: &Option<Identifier>,
-    end: &Option<Identifier>,
-    found: T,
-) -> Result<T, NameFault>
-    ensures same { IfOk result (λ x. x ≡ found) }
-    ensures asked { Gives (λ _. tt) (rule WrongKind (rules.label_ends (option_map tree.ident_view label.now) (option_map tree.ident_view end.now))) result }
-{
-    label_ends(label, end)?;
-    Ok(found)
-}
-
 /// A copy of an identifier.
 pub fn copied(alloc: Global, name: &Identifier) -> Result<Identifier, AllocError>
     ensures { IfOk result (λ n. tree.ident_view n ≡ tree.ident_view name.now) }

@@ -5,6 +5,7 @@
 mod assignments;
 mod choices;
 mod faults;
+mod held;
 mod labels;
 mod statements;
 

@@ -16,7 +16,7 @@ ghost use Rattle.vhdl_bodies.specs.steps.Cases as cases;
 ghost use Rattle.vhdl_bodies.specs.steps.Sequential as steps;
 
 use crate::choices::{but_last, choice_lists, covered, first_fault};
-use crate::labels::ended;
+use crate::held::ended;
 use std::alloc::Global;
 use vhdl_names::{NameFault, ObjectType};
 use vhdl_tree as syntax;

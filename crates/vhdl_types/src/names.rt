@@ -71,10 +71,7 @@ fn conversion_of(kind: Kind, operand: Option<Typed>, at: usize) -> Result<Typed,
         Some(Typed::Elements(Kind::LogicVector | Kind::Unsigned | Kind::OpenVector, vector)) => {
             Ok(Typed::Elements(kind, vector))
         }
-        operand => {
-            drop(operand);
-            Err(NameProblem::TypeMismatch.at(at))
-        }
+        _ => Err(NameProblem::TypeMismatch.at(at)),
     }
 }
 
@@ -200,11 +197,14 @@ fn variable_of(
 ) -> Result<Typed, NameFault>
     ensures { Gives typed_view (rules.denoted (meanings.variable number object_type) (typed_suffix_view suffix)) result }
 {
-    let value = Value::StateOfVariable(number);
     match object_type {
         ObjectType::Elements(kind) => read_variable(number, kind, suffix, at),
-        ObjectType::Enumeration { number, count } => {
-            if_plain(suffix, enumerated(number, count, value), at)
+        ObjectType::Enumeration {
+            number: enumeration,
+            count,
+        } => {
+            let value = Value::StateOfVariable(number);
+            if_plain(suffix, enumerated(enumeration, count, value), at)
         }
     }
 }

@@ -56,10 +56,7 @@ pub fn inverse(alloc: Global, at: usize, operand: Typed) -> Result<Typed, NameFa
     match operand {
         Typed::Elements(kind, x) => Ok(Typed::Elements(kind, Vector::inverse(alloc, at, x)?)),
         Typed::Truth(x) => Ok(Typed::Truth(x.negated(alloc)?)),
-        operand => {
-            drop(operand);
-            Err(NameProblem::TypeMismatch.at(at))
-        }
+        _ => Err(NameProblem::TypeMismatch.at(at)),
     }
 }
 

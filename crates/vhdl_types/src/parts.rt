@@ -38,10 +38,7 @@ fn element(kind: Kind, index: Option<Typed>, at: usize) -> Result<(Part, Kind), 
         (Kind::LogicVector | Kind::Unsigned, Some(Typed::Integer(index))) => {
             Ok((Part::Element(index), Kind::Element))
         }
-        (_, index) => {
-            drop(index);
-            Err(NameProblem::TypeMismatch.at(at))
-        }
+        _ => Err(NameProblem::TypeMismatch.at(at)),
     }
 }
 
