@@ -16,8 +16,8 @@ ghost use Rattle.vhdl_bodies.specs.steps.Cases as cases;
 ghost use Rattle.vhdl_bodies.specs.steps.Sequential as steps;
 
 use crate::choices::{but_last, choice_lists, cover, first_fault};
-use crate::labels::label_ends;
 use std::alloc::Global;
+use vhdl_labels::label_ends;
 use vhdl_names::{NameFault, ObjectType};
 use vhdl_tree as syntax;
 use vhdl_tree::Identifier;
@@ -95,7 +95,7 @@ pub fn analysed(
 
 /// Statements one after another.
 #[cycle(statements)]
-#[tactic(auto, using(crate::proofs::steps::Lists::each_in_turn))]
+#[tactic(auto, using(vhdl_labels::proofs::Lists::each_in_turn))]
 fn statements(
     alloc: Global,
     sight: &mut Sight,
@@ -156,7 +156,7 @@ fn if_statement(
 
 /// The branches of an if statement.
 #[cycle(statements)]
-#[tactic(auto, using(crate::proofs::steps::Lists::each_in_turn))]
+#[tactic(auto, using(vhdl_labels::proofs::Lists::each_in_turn))]
 fn branches(
     alloc: Global,
     sight: &mut Sight,
@@ -228,7 +228,7 @@ fn case_statement(
 
 /// The alternatives of a case statement.
 #[cycle(statements)]
-#[tactic(auto, using(crate::proofs::steps::Lists::each_in_turn))]
+#[tactic(auto, using(vhdl_labels::proofs::Lists::each_in_turn))]
 fn alternatives(
     alloc: Global,
     sight: &mut Sight,
