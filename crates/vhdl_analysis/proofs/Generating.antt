@@ -15,7 +15,7 @@ use Rattle.vhdl_names.specs.Instances.{instance}
 use Rattle.vhdl_names.specs.Concurrent as rules
 use Rattle.vhdl_names.specs.Concurrent.{concurrent_labels, sight_within, generated}
 use Rattle.vhdl_units.specs.views.Concurrent.{concurrents_of}
-use Rattle.vhdl_bodies.proofs.steps.Cases.{bound}
+use Rattle.vhdl_labels.proofs.Lists.{bound}
 use Rattle.vhdl_analysis.specs.steps.Concurrents as steps
 use Rattle.vhdl_analysis.specs.steps.Concurrents.{in_generate}
 

@@ -10,10 +10,11 @@ use Rattle.vhdl_tree.specs.declared.sequential.Case.{Case, out-Case}
 use Rattle.vhdl_names.specs.Rules.{◌>>=◌, met, then_some}
 use Rattle.vhdl_names.specs.Visibility.{Name, are_distinct}
 use Rattle.vhdl_names.specs.Statements.{label_names, inner_labels, statement_labels, conditional_labels, otherwise_labels, alternative_labels}
-use Rattle.vhdl_bodies.specs.steps.Lists.{in_turn}
-use Rattle.vhdl_bodies.specs.steps.Once.{one_name}
-use Rattle.vhdl_bodies.proofs.steps.Cases.{bound, turned-append, case_is}
-use Rattle.vhdl_bodies.proofs.steps.Once.{once}
+use Rattle.vhdl_labels.specs.Lists.{in_turn}
+use Rattle.vhdl_labels.specs.Once.{one_name}
+use Rattle.vhdl_bodies.proofs.steps.Cases.{turned-append, case_is}
+use Rattle.vhdl_labels.proofs.Lists.{bound}
+use Rattle.vhdl_labels.proofs.Once.{once}
 use Rattle.vhdl_bodies.proofs.steps.Sequential.{if_is, for_is}
 use Rattle.vhdl_analysis.specs.steps.Labels.{with_statement, with_statements, with_branch, with_alternative, with_else, with_if}
 

@@ -10,7 +10,7 @@ use Rattle.vhdl_names.specs.Declarations.{in_order, variables}
 use Rattle.vhdl_names.specs.Interfaces.{declared_names}
 use Rattle.vhdl_names.specs.Statements.{statements, statement_labels}
 use Rattle.vhdl_names.specs.Concurrent.{sensitivity, process, label_of}
-use Rattle.vhdl_bodies.proofs.steps.Cases.{bound, inner}
+use Rattle.vhdl_labels.proofs.Lists.{bound, inner}
 use Rattle.vhdl_analysis.specs.steps.Processes as steps
 
 module _ (sight : Sight) (label : Option Ident) (p : t.Process) (outside : sight.variables ≡ []) where

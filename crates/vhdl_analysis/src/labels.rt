@@ -2,8 +2,8 @@
 
 ghost use Rattle.std.specs.Prelude.{◌≡◌, map};
 ghost use Rattle.vhdl_analysis.specs.steps.Labels as steps;
-ghost use Rattle.vhdl_bodies.specs.steps.Lists.{in_turn};
-ghost use Rattle.vhdl_bodies.specs.steps.Once.{names_view, one_name};
+ghost use Rattle.vhdl_labels.specs.Lists.{in_turn};
+ghost use Rattle.vhdl_labels.specs.Once.{names_view, one_name};
 ghost use Rattle.vhdl_names.specs.Gives.{Gives};
 ghost use Rattle.vhdl_names.specs.declared.fault.NameProblem.TheVariants.{Twice};
 ghost use Rattle.vhdl_names.specs.Rules.{rule};

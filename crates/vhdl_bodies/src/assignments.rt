@@ -13,9 +13,9 @@ ghost use Rattle.vhdl_units.specs.views.Concurrent.{one_process};
 ghost use Rattle.vhdl_units.specs.views.Sequential as views;
 
 use crate::choices::{but_last, covered, first_fault};
-use crate::labels::copied_label;
 use crate::statements::assigned;
 use std::alloc::{AllocError, Global};
+use vhdl_labels::copied_label;
 use vhdl_names::{NameFault, ObjectType};
 use vhdl_tree as syntax;
 use vhdl_tree::Identifier;
@@ -80,7 +80,7 @@ fn waveform(
 }
 
 /// Waveforms with conditions.
-#[tactic(auto, using(crate::proofs::steps::Lists::each_in_turn))]
+#[tactic(auto, using(vhdl_labels::proofs::Lists::each_in_turn))]
 fn waveforms(
     alloc: Global,
     sight: &Sight,
@@ -182,7 +182,7 @@ fn chosen(
 }
 
 /// Waveforms with choices.
-#[tactic(auto, using(crate::proofs::steps::Lists::each_in_turn))]
+#[tactic(auto, using(vhdl_labels::proofs::Lists::each_in_turn))]
 fn all_chosen(
     alloc: Global,
     sight: &Sight,

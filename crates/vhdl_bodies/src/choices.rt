@@ -11,13 +11,13 @@ ghost use Rattle.vhdl_names.specs.declared.fault.NameFault.TheVariants.{NoMemory
 ghost use Rattle.vhdl_tree.specs.View as tree;
 ghost use Rattle.vhdl_units.specs.views.Answers.{choice_view};
 ghost use Rattle.vhdl_bodies.specs.steps.Cases as steps;
-ghost use Rattle.vhdl_bodies.specs.steps.Lists.{in_turn};
-ghost use Rattle.vhdl_bodies.specs.steps.Once.{one_name, names_view, key_of};
+ghost use Rattle.vhdl_labels.specs.Lists.{in_turn};
+ghost use Rattle.vhdl_labels.specs.Once.{one_name, names_view, key_of};
 ghost use Rattle.vhdl_units.specs.views.Sequential as views;
 
-use crate::faults::{earlier, earlier_in};
 use indexmap::IndexSet;
 use std::alloc::{AllocError, Global};
+use vhdl_labels::{earlier, earlier_in};
 use vhdl_names::{NameFault, NameProblem, ObjectType};
 use vhdl_tree as syntax;
 use vhdl_types::Sight;

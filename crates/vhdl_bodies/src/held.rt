@@ -7,7 +7,7 @@ ghost use Rattle.vhdl_names.specs.Visibility as rules;
 ghost use Rattle.vhdl_names.specs.Gives.{Gives};
 ghost use Rattle.vhdl_tree.specs.View as tree;
 
-use crate::labels::label_ends;
+use vhdl_labels::label_ends;
 use vhdl_names::NameFault;
 use vhdl_tree::Identifier;
 

@@ -18,6 +18,7 @@ ghost use Rattle.vhdl_bodies.specs.steps.Sequential as steps;
 use crate::choices::{but_last, choice_lists, covered, first_fault};
 use crate::held::ended;
 use std::alloc::Global;
+use vhdl_labels::label_ends;
 use vhdl_names::{NameFault, ObjectType};
 use vhdl_tree as syntax;
 use vhdl_tree::Identifier;
@@ -95,7 +96,7 @@ pub fn analysed(
 
 /// Statements one after another.
 #[cycle(statements)]
-#[tactic(auto, using(crate::proofs::steps::Lists::each_in_turn))]
+#[tactic(auto, using(vhdl_labels::proofs::Lists::each_in_turn))]
 fn statements(
     alloc: Global,
     sight: &mut Sight,
@@ -156,7 +157,7 @@ fn if_statement(
 
 /// The branches of an if statement.
 #[cycle(statements)]
-#[tactic(auto, using(crate::proofs::steps::Lists::each_in_turn))]
+#[tactic(auto, using(vhdl_labels::proofs::Lists::each_in_turn))]
 fn branches(
     alloc: Global,
     sight: &mut Sight,
@@ -244,7 +245,7 @@ fn case_parts(
 
 /// The alternatives of a case statement.
 #[cycle(statements)]
-#[tactic(auto, using(crate::proofs::steps::Lists::each_in_turn))]
+#[tactic(auto, using(vhdl_labels::proofs::Lists::each_in_turn))]
 fn alternatives(
     alloc: Global,
     sight: &mut Sight,

@@ -12,7 +12,7 @@ use Rattle.vhdl_names.specs.Declarations.{in_order}
 use Rattle.vhdl_names.specs.Interfaces.{EntityView, declared_names}
 use Rattle.vhdl_names.specs.Concurrent.{concurrents, concurrent_labels}
 use Rattle.vhdl_names.specs.Files.{declaration, labelled, architecture}
-use Rattle.vhdl_bodies.proofs.steps.Cases.{bound, inner}
+use Rattle.vhdl_labels.proofs.Lists.{bound, inner}
 use Rattle.vhdl_declared.specs.Entered.{entered, entering, more}
 use Rattle.vhdl_declared.proofs.Regions.{more_split}
 use Rattle.vhdl_interfaces.specs.Views.{sight_behind, named_view}

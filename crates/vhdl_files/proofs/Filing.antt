@@ -11,10 +11,10 @@ use Rattle.vhdl_names.specs.Packages.{context, no_context, sight_of}
 use Rattle.vhdl_names.specs.Interfaces.{EntityView, entity, interface}
 use Rattle.vhdl_names.specs.Files.{entities_of, entity_names, described_names, architectures_of, architecture, stand_after, viewed, unit, units_of}
 use Rattle.vhdl_names.proofs.laws.Rules.{comes, kept, some_is}
-use Rattle.vhdl_bodies.specs.steps.Lists.{in_turn}
-use Rattle.vhdl_bodies.specs.steps.Once.{one_name}
-use Rattle.vhdl_bodies.proofs.steps.Cases.{bound}
-use Rattle.vhdl_bodies.proofs.steps.Once.{once}
+use Rattle.vhdl_labels.specs.Lists.{in_turn}
+use Rattle.vhdl_labels.specs.Once.{one_name}
+use Rattle.vhdl_labels.proofs.Lists.{bound}
+use Rattle.vhdl_labels.proofs.Once.{once}
 use Rattle.vhdl_interfaces.specs.Views.{one_more}
 use Rattle.vhdl_files.specs.Views.{Keyed}
 use Rattle.vhdl_files.specs.steps.Outlines.{keyed, described_of, outline_of}

@@ -10,9 +10,9 @@ use Rattle.vhdl_names.specs.Visibility.{Name, Meaning, Declared, declare, is_amo
 use Rattle.vhdl_names.specs.Interfaces.{declared_names}
 use Rattle.vhdl_names.specs.Instances.{Formal, generic_name, port_formal}
 use Rattle.vhdl_names.proofs.laws.Rules.{both, not_true, neither}
-use Rattle.vhdl_bodies.specs.steps.Lists.{in_turn}
-use Rattle.vhdl_bodies.specs.steps.Once.{one_name}
-use Rattle.vhdl_bodies.proofs.steps.Once.{once}
+use Rattle.vhdl_labels.specs.Lists.{in_turn}
+use Rattle.vhdl_labels.specs.Once.{one_name}
+use Rattle.vhdl_labels.proofs.Once.{once}
 use Rattle.vhdl_instances.specs.Table.{Seen, type_of}
 use Rattle.vhdl_instances.specs.steps.Tables.{with_declared, no_formals}
 use Rattle.vhdl_instances.specs.declared.actuals.PortType.{PortType}

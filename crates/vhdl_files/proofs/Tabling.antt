@@ -7,9 +7,9 @@ use Rattle.std.proofs.lemmas.Map.Keys.{IsDistinct-head, IsDistinct-tail}
 use Rattle.vhdl_names.specs.Rules.{◌>>=◌, then_some}
 use Rattle.vhdl_names.specs.Visibility.{Name, is_among, are_distinct}
 use Rattle.vhdl_names.specs.Interfaces.{EntityView}
-use Rattle.vhdl_bodies.specs.steps.Lists.{in_turn}
-use Rattle.vhdl_bodies.specs.steps.Once.{one_name}
-use Rattle.vhdl_bodies.proofs.steps.Once.{once}
+use Rattle.vhdl_labels.specs.Lists.{in_turn}
+use Rattle.vhdl_labels.specs.Once.{one_name}
+use Rattle.vhdl_labels.proofs.Once.{once}
 use Rattle.vhdl_instances.specs.Table.{seen}
 use Rattle.vhdl_interfaces.specs.declared.interface.EntityInterface.{EntityInterface}
 use Rattle.vhdl_interfaces.specs.Views.{named_view}

@@ -13,13 +13,13 @@ use Rattle.vhdl_names.specs.Expressions.{static}
 use Rattle.vhdl_names.specs.Instances as rules
 use Rattle.vhdl_names.specs.Instances.{Formal, associated, is_architecture, as_component, generic_name, port_formal, port_actual}
 use Rattle.vhdl_names.specs.Interfaces.{EntityView, entity_named}
-use Rattle.vhdl_bodies.proofs.steps.Cases.{bound}
+use Rattle.vhdl_labels.proofs.Lists.{bound}
 use Rattle.vhdl_instances.specs.Table.{Seen, seen, seen_view, type_of, items, AreEntities}
 use Rattle.vhdl_instances.specs.declared.instances.Formals.{Formals}
 use Rattle.vhdl_instances.specs.declared.instances.Entities.{Entities}
 use Rattle.vhdl_instances.specs.steps.Actuals as actuals
 use Rattle.vhdl_instances.specs.steps.Instances as steps
-use Rattle.vhdl_bodies.specs.steps.Once.{names_view}
+use Rattle.vhdl_labels.specs.Once.{names_view}
 
 -- ---- places of names
 

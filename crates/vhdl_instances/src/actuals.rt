@@ -219,7 +219,7 @@ fn generic_entry(
 }
 
 /// The actuals of generics, in the order of the generics.
-#[tactic(auto, using(vhdl_bodies::proofs::steps::Lists::each_in_turn))]
+#[tactic(auto, using(vhdl_labels::proofs::Lists::each_in_turn))]
 pub fn generic_actuals(
     alloc: Global,
     sight: &Sight,

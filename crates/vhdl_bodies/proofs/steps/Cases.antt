@@ -21,23 +21,16 @@ use Rattle.vhdl_names.specs.Choices.{choices, covered, selector, arranged, only_
 use Rattle.vhdl_names.specs.Statements.{statement, statements, alternatives, choice_lists}
 use Rattle.vhdl_typing.specs.Asked.{selected_by}
 use Rattle.vhdl_units.specs.views.Sequential.{Chosen, chosen_by, statements_of, alternatives_of}
-use Rattle.vhdl_bodies.specs.steps.Lists.{in_turn}
-use Rattle.vhdl_bodies.specs.steps.Once.{one_name, key_of}
+use Rattle.vhdl_labels.specs.Lists.{in_turn}
+use Rattle.vhdl_labels.specs.Once.{one_name, key_of}
 use Rattle.vhdl_bodies.specs.steps.Sequential.{all_labelled}
 use Rattle.vhdl_bodies.specs.steps.Cases as steps
 use Rattle.vhdl_bodies.specs.steps.Cases.{Divided, all_choices, chosen, cover, but_last, selection, with_choices, has_all, choice_list, all_lists}
-use Rattle.vhdl_bodies.proofs.steps.Once.{once, among_keys, distinct_keys}
+use Rattle.vhdl_labels.proofs.Lists.{bound, inner}
+use Rattle.vhdl_labels.proofs.Once.{once, among_keys, distinct_keys}
 use Rattle.vhdl_bodies.proofs.steps.Sequential.{statements_each}
 
 -- ---- rules in another order
-
-pub bound : {A B : Type 0} (m : Option A) (f g : A → Option B) → ((x : A) → f x ≡ g x) → (m >>= f) ≡ (m >>= g)
-bound None f g h = refl
-bound (Some x) f g h = h x
-
-pub inner : {A B C : Type 0} (m : Option A) (f : A → Option B) (g : B → Option C) → (m >>= λ x. f x >>= g) ≡ ((m >>= f) >>= g)
-inner None f g = refl
-inner (Some x) f g = refl
 
 late : {A B : Type 0} (b : Bool) (m : Option A) (f : A → Option B) → (met b >> (m >>= f)) ≡ (m >>= λ x. met b >> f x)
 late true m f = refl

@@ -19,7 +19,8 @@ use Rattle.vhdl_units.specs.views.Sequential.{Guarded, guarded_by, Chosen, chose
 use Rattle.vhdl_bodies.specs.steps.Cases.{Divided, all_choices, cover, but_last}
 use Rattle.vhdl_bodies.specs.steps.Sequential.{assigned}
 use Rattle.vhdl_bodies.specs.steps.Concurrent as steps
-use Rattle.vhdl_bodies.proofs.steps.Cases.{Pairs, all_there, one_pair, bound, inner, put_together, by_steps, same}
+use Rattle.vhdl_bodies.proofs.steps.Cases.{Pairs, all_there, one_pair, put_together, by_steps, same}
+use Rattle.vhdl_labels.proofs.Lists.{bound, inner}
 
 module _ (sight : Sight) (n : t.Name) (x : SignalName) (found : target sight n ≡ Some x) where
   assigned_by : (v : t.Value) → rules.assigned sight x v ≡ assigned sight n v

@@ -15,8 +15,8 @@ use Rattle.vhdl_names.specs.Visibility.{Name, Sight, label_ends, is_among, are_d
 use Rattle.vhdl_names.specs.Choices.{choices, only_last_others, is_last_others, names_all}
 use Rattle.vhdl_typing.specs.Asked.{selected_by}
 use Rattle.vhdl_units.specs.views.Sequential.{Chosen, chosen_by, statements_of, alternatives_of}
-use Rattle.vhdl_bodies.specs.steps.Lists.{in_turn}
-use Rattle.vhdl_bodies.specs.steps.Once.{one_name, key_of}
+use Rattle.vhdl_labels.specs.Lists.{in_turn}
+use Rattle.vhdl_labels.specs.Once.{one_name, key_of}
 use Rattle.vhdl_bodies.specs.steps.Sequential.{all_labelled}
 
 -- the choices of an alternative, and what it does

@@ -6,7 +6,7 @@ use Rattle.vhdl_names.specs.declared.fault.NameProblem.TheVariants.{Undeclared, 
 use Rattle.vhdl_names.specs.Rules.{◌>>=◌, ◌>>◌, rule, given_that}
 use Rattle.vhdl_names.specs.Visibility.{Name, is_among, are_distinct}
 use Rattle.vhdl_names.specs.Files.{entity_names, described_names, architectures_of, stand_after}
-use Rattle.vhdl_bodies.specs.steps.Once.{one_name}
+use Rattle.vhdl_labels.specs.Once.{one_name}
 use Rattle.vhdl_files.specs.Views.{Keyed, OutlineView}
 
 abbrev pub keyed : List ContextItem × t.Architecture → Keyed

@@ -6,7 +6,7 @@ use Rattle.vhdl_names.specs.Rules.{◌>>=◌, ◌>>◌, rule}
 use Rattle.vhdl_names.specs.Visibility.{Name}
 use Rattle.vhdl_names.specs.Instances.{is_named, expression_of, actual_of}
 pub use Rattle.vhdl_names.specs.Visibility.{is_among}
-pub use Rattle.vhdl_bodies.specs.steps.Once.{one_name}
+pub use Rattle.vhdl_labels.specs.Once.{one_name}
 
 -- the name of the formal that an association at a place is for
 abbrev pub formal_at : List Name → ℕ → Option Ident → Option Name

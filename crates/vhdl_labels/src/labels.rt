@@ -1,6 +1,6 @@
 //! Labels and end names (IEEE 1076-2008, 10.1, 11.1).
 
-ghost use Rattle.std.specs.Prelude.{◌≡◌, IfOk, bytes_eq, option_map, map};
+ghost use Rattle.std.specs.Prelude.{◌≡◌, IfOk, bytes_eq, option_map};
 ghost use Rattle.vhdl_names.specs.declared.fault.NameProblem.TheVariants.{WrongKind};
 ghost use Rattle.vhdl_names.specs.Rules.{rule};
 ghost use Rattle.vhdl_names.specs.Visibility as rules;
@@ -66,15 +66,4 @@ pub fn copied_label(
         None => Ok(None),
         Some(label) => Ok(Some(copied(alloc, label)?)),
     }
-}
-
-/// Copies of identifiers.
-pub fn all_copied(alloc: Global, names: &[Identifier]) -> Result<Vec<Identifier>, AllocError>
-    ensures { IfOk result (λ v. tree.idents_view v ≡ map tree.ident_view names.now) }
-{
-    let mut copies = Vec::new(alloc);
-    for name in names {
-        copies.push(copied(alloc, name)?)?;
-    }
-    Ok(copies)
 }

@@ -12,8 +12,8 @@ use Rattle.vhdl_names.specs.Rules.{◌>>=◌, then_some}
 use Rattle.vhdl_names.specs.Visibility.{Name, is_among, are_distinct}
 use Rattle.vhdl_names.specs.Choices.{same_choice, are_distinct_choices}
 use Rattle.indexmap.specs.IndexSet.{insert_key}
-use Rattle.vhdl_bodies.specs.steps.Lists.{in_turn}
-use Rattle.vhdl_bodies.specs.steps.Once.{one_name, key_of}
+use Rattle.vhdl_labels.specs.Lists.{in_turn}
+use Rattle.vhdl_labels.specs.Once.{one_name, key_of}
 
 eq-sym : (a b : Name) → bytes_eq a b ≡ bytes_eq b a
 eq-sym a b = go (bytes_eq a b) refl (bytes_eq b a) refl
