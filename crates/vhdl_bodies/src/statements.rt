@@ -18,7 +18,6 @@ ghost use Rattle.vhdl_bodies.specs.steps.Sequential as steps;
 use crate::choices::{but_last, choice_lists, covered, first_fault};
 use crate::held::ended;
 use std::alloc::Global;
-use vhdl_labels::label_ends;
 use vhdl_names::{NameFault, ObjectType};
 use vhdl_tree as syntax;
 use vhdl_tree::Identifier;

@@ -91,8 +91,8 @@ fn element_of(operand: Typed, at: usize) -> Result<Vector, NameFault>
 {
     match operand {
         Typed::Elements(Kind::Element, vector) => Ok(vector),
-        Typed::Integer(_) => Err(NameProblem::WrongKind.at(at)),
-        _ => Err(NameProblem::TypeMismatch.at(at)),
+        Typed::Integer(_integer) => Err(NameProblem::WrongKind.at(at)),
+        _operand => Err(NameProblem::TypeMismatch.at(at)),
     }
 }
 
