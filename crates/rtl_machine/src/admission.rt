@@ -2,6 +2,7 @@
 
 ghost use Rattle.std.specs.Prelude.{IfOk, IfErr, ℕ, List};
 ghost use Rattle.rtl_model.specs.simulation.Accepted.{IsAccepted};
+ghost use Rattle.rtl_model.specs.simulation.Levels.{AreLevels};
 ghost use Rattle.rtl_check.specs.Verdicts.{IsReportOf};
 ghost use Rattle.rtl_moments.specs.Ports.{HasOwnPorts};
 ghost use Rattle.rtl_check.specs.Views.{core};
@@ -13,11 +14,12 @@ use rtl_moments::{StimFault, Stimulus, first_race};
 use rtl_net::Net;
 use std::alloc::Global;
 
-/// A stimulus without a race, of an accepted net, whose moments settle within the bound.
+/// A stimulus without a race, of an accepted net, whose processes have these levels and whose moments settle within the bound.
 #[derive(Drop)]
 pub struct Admitted {
     pub stimulus: Stimulus,
     pub bound: u32,
+    pub levels: Vec<Option<u32>>,
 }
 
 /// Checks a net, reads the text of a stimulus for it, and looks for a race. It takes the checker's memory and the
@@ -30,6 +32,7 @@ pub struct Admitted {
 pub fn admit(alloc: Global, net: &Net, text: &[u8]) -> Result<Admitted, MachineFault>
     requires { HasOwnPorts net.now }
     ensures admitted { IfOk result (λ a. IsAdmitted net.now text.now a.bound a.stimulus) }
+    ensures levels { IfOk result (λ a. (greatest : ℕ) × AreLevels (core net.now) a.levels.items greatest) }
     ensures refused { IfErr result (Refuses net.now text.now) }
 {
     let report = accept(alloc, net)?;
@@ -44,6 +47,7 @@ pub fn admit(alloc: Global, net: &Net, text: &[u8]) -> Result<Admitted, MachineF
     Ok(Admitted {
         stimulus,
         bound: report.bound,
+        levels: report.levels,
     })
 }
 

@@ -7,6 +7,7 @@ ghost use Rattle.rtl_machine.specs.Faults.{of_stim};
 use rtl_check::CheckFault;
 use rtl_moments::StimFault;
 use rtl_sink::WriteFailed;
+use rtl_vcd::VcdFault;
 use std::alloc::AllocError;
 
 /// Why a net is not simulated, or what is written of it not the whole.
@@ -45,6 +46,14 @@ impl From<WriteFailed> for MachineFault {
     ghost from_gives = { λ _ fault. fault ≡ Output };
 
     fn from(_failed: WriteFailed) -> MachineFault {
+        MachineFault::Output
+    }
+}
+
+impl From<VcdFault> for MachineFault {
+    ghost from_gives = { λ _ fault. fault ≡ Output };
+
+    fn from(_failed: VcdFault) -> MachineFault {
         MachineFault::Output
     }
 }

@@ -64,11 +64,11 @@ module _ (net : NetView) (is_net : IsNet net) (s : StimulusView) (ports : HasOwn
   wired : IsWired (core net)
   wired = (connected_is_elaborated (flat net) is_net.in_range is_net.connected).wiring
 
-  below : (n : ℕ) → IsInput (core net) n → n < length net.types
+  pub below : (n : ℕ) → IsInput (core net) n → n < length net.types
   below n is = let less = wired.inputs_are_nets n is in omega (arith, less, is_net.in_range.each_starts)
 
   -- the inputs at 0
-  first_inputs : (n : ℕ) → IsInput (core net) n → initial_inputs (flat net) (initial_values s) n ≡ inputs_at s 0 n
+  pub first_inputs : (n : ℕ) → IsInput (core net) n → initial_inputs (flat net) (initial_values s) n ≡ inputs_at s 0 n
   first_inputs n is =
       let begins = each_begins_at_zero s in
       let at = ap (λ (v : ℕ → ℕ). v n) ((ends_at_last (core net) (moments s) (code_at s)).is_at 0 begins.0) in
@@ -85,11 +85,17 @@ module _ (net : NetView) (is_net : IsNet net) (s : StimulusView) (ports : HasOwn
   pub of_inputs : (m t : ℕ) (changes : List Change) → GivesNext s m t changes → All (λ c. Contains net.inputs c.0) changes
   of_inputs m t changes next = subst (λ (ns : List ℕ). All (λ c. Contains ns c.0) changes) own next.of_inputs
 
+  -- the changes that come next lead from the inputs at the moment m to those at the next
+  pub leads : (m t : ℕ) (changes : List Change) (values : List ℕ) → length values ≡ length net.types
+      → ((n : ℕ) → IsInput (core net) n → slice_index values n ≡ inputs_at s m n) → GivesNext s m t changes
+      → (n : ℕ) → IsInput (core net) n → changed (changes_of changes) values n ≡ inputs_at s (suc m) n
+  leads m t changes values as_many holds next n is =
+      next.lead values n (let less = below n is in omega (arith, less, as_many)) (subst (λ (ns : List ℕ). Contains ns n) (sym own) (contained n is)) (holds n is)
+
   next_inputs : (m t : ℕ) (changes : List Change) (quiet : State) → length quiet.now ≡ length net.types → HasSettledIn net s 0 m quiet → GivesNext s m t changes
       → (n : ℕ) → IsInput (core net) n → changed (changes_of changes) quiet.now n ≡ inputs_at s (suc m) n
-  next_inputs m t changes quiet as_many has next n is =
-      let here = (each_input_holds (core net) wired (inputs_at s) m n is).settled has.deltas quiet has.settled in
-      next.lead quiet.now n (let less = below n is in omega (arith, less, as_many)) (subst (λ (ns : List ℕ). Contains ns n) (sym own) (contained n is)) here
+  next_inputs m t changes quiet as_many has next =
+      leads m t changes quiet.now as_many (λ n is. (each_input_holds (core net) wired (inputs_at s) m n is).settled has.deltas quiet has.settled) next
 
   pub next_begun : (limit m t : ℕ) (changes : List Change) (quiet state : State) → length quiet.now ≡ length net.types → HasSettledIn net s limit m quiet → GivesNext s m t changes
       → HasRun (core net) (given (core net) (changed (changes_of changes) quiet.now) quiet) state → Begun (core net) (inputs_at s) (suc m) state

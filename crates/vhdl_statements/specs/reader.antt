@@ -3,3 +3,4 @@ pub mod Subtypes
 pub mod Sequential
 pub mod Process
 pub mod Waveforms
+pub mod Behind

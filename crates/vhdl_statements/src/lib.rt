@@ -1,6 +1,7 @@
 //! From tokens to subtypes, sequential statements, processes, and what is assigned by conditions.
 #![tactic(auto)]
 
+mod behind;
 mod objects;
 mod processes;
 mod sequential;

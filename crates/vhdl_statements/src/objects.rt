@@ -6,6 +6,7 @@ ghost use Rattle.vhdl_expressions.specs.reader.Input.{Reads};
 ghost use Rattle.vhdl_statements.specs.reader.Subtypes as read;
 ghost use Rattle.vhdl_statements.specs.reader.Subtypes.{objects_view};
 
+use crate::behind::followed;
 use vhdl_expressions::{Parser, Stop, below, separated};
 use vhdl_lexer::Kind;
 use vhdl_tree::{Identifier, Range, Subtype, Value};
@@ -24,8 +25,7 @@ fn constraint(parser: &mut Parser<'_>, levels: usize) -> Result<Range, Stop>
     parser.expect(Kind::LeftParen)?;
     let inner = below(levels)?;
     let range = parser.range(inner)?;
-    parser.expect(Kind::RightParen)?;
-    Ok(range)
+    followed(parser, range, Kind::RightParen)
 }
 
 #[tactic(auto, unfolding(crate::specs::reader::Subtypes::optional_constraint, vhdl_expressions::specs::reader::Input::optional))]
@@ -81,9 +81,8 @@ pub fn object_declaration(
 {
     parser.expect(word)?;
     let names = identifiers(parser)?;
-    parser.expect(Kind::Colon)?;
+    let names = followed(parser, names, Kind::Colon)?;
     let subtype = subtype(parser, levels)?;
     let default = optional_default(parser, levels)?;
-    parser.expect(Kind::Semicolon)?;
-    Ok((names, subtype, default))
+    followed(parser, (names, subtype, default), Kind::Semicolon)
 }

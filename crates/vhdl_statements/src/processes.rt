@@ -6,8 +6,9 @@ ghost use Rattle.vhdl_expressions.specs.reader.Input.{Reads};
 ghost use Rattle.vhdl_statements.specs.reader.Process as read;
 ghost use Rattle.vhdl_statements.specs.reader.Process.{body_view};
 
+use crate::behind::{ended, followed};
 use crate::objects::object_declaration;
-use crate::sequential::{end_of, statements};
+use crate::sequential::statements;
 use vhdl_expressions::{Parser, Stop, below, many, separated};
 use vhdl_lexer::Kind;
 use vhdl_tree::{Identifier, Name, Process, Sensitivity, Sequential, Variables};
@@ -37,8 +38,7 @@ fn sensitivity(parser: &mut Parser<'_>, levels: usize) -> Result<Sensitivity, St
     parser.expect(Kind::LeftParen)?;
     let inner = below(levels)?;
     let found = sensitivity_list(parser, inner)?;
-    parser.expect(Kind::RightParen)?;
-    Ok(found)
+    followed(parser, found, Kind::RightParen)
 }
 
 #[tactic(auto, unfolding(crate::specs::reader::Process::optional_sensitivity))]
@@ -86,8 +86,7 @@ fn body(
 {
     parser.expect(Kind::Begin)?;
     let statements = statements(parser, levels)?;
-    let end_label = end_of(parser, Kind::Process)?;
-    Ok((statements, end_label))
+    ended(parser, statements, Kind::Process)
 }
 
 /// A process behind its label, in which so many levels may be opened.

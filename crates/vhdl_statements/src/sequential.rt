@@ -7,6 +7,7 @@ ghost use Rattle.vhdl_expressions.specs.reader.Input as input;
 ghost use Rattle.vhdl_expressions.specs.reader.Input.{Reads};
 ghost use Rattle.vhdl_statements.specs.reader.Sequential as read;
 
+use crate::behind::{ended, followed};
 use vhdl_expressions::{Parser, Stop, below};
 use vhdl_lexer::Kind;
 use vhdl_tree::{Alternative, Conditional, Identifier, Sequential, Statement, Value};
@@ -33,8 +34,7 @@ pub fn optional_label(parser: &mut Parser<'_>) -> Result<Option<Identifier>, Sto
         return Ok(None);
     }
     let label = parser.identifier()?;
-    parser.expect(Kind::Colon)?;
-    Ok(Some(label))
+    Ok(Some(followed(parser, label, Kind::Colon)?))
 }
 
 /// `end word [ id ] ;`
@@ -45,8 +45,7 @@ pub fn end_of(parser: &mut Parser<'_>, word: Kind) -> Result<Option<Identifier>,
     parser.expect(Kind::End)?;
     parser.expect(word)?;
     let label = parser.optional_identifier()?;
-    parser.expect(Kind::Semicolon)?;
-    Ok(label)
+    followed(parser, label, Kind::Semicolon)
 }
 
 #[tactic(auto, unfolding(crate::specs::reader::Sequential::null_statement))]
@@ -65,8 +64,7 @@ fn assigned_value(parser: &mut Parser<'_>, levels: usize, sign: Kind) -> Result<
 {
     parser.expect(sign)?;
     let value = parser.value(levels)?;
-    parser.expect(Kind::Semicolon)?;
-    Ok(value)
+    followed(parser, value, Kind::Semicolon)
 }
 
 #[tactic(auto, unfolding(crate::specs::reader::Sequential::assign))]
@@ -145,7 +143,7 @@ fn if_rest(parser: &mut Parser<'_>, levels: usize, at: usize) -> Result<Statemen
 {
     let branches = branches(parser, levels)?;
     let otherwise = otherwise(parser, levels)?;
-    let end_label = end_of(parser, Kind::If)?;
+    let ((branches, otherwise), end_label) = ended(parser, (branches, otherwise), Kind::If)?;
     Ok(Statement::conditional(at, branches, otherwise, end_label))
 }
 
@@ -172,7 +170,7 @@ fn condition(parser: &mut Parser<'_>, levels: usize) -> Result<Conditional, Stop
     ensures { Reads conditional_view (read.condition levels (read.statements levels) parser.old) result parser.new }
 {
     let condition = parser.expr(levels)?;
-    parser.expect(Kind::Then)?;
+    let condition = followed(parser, condition, Kind::Then)?;
     let statements = statements(parser, levels)?;
     Ok(Conditional::new(condition, statements))
 }
@@ -205,10 +203,10 @@ fn case_rest(parser: &mut Parser<'_>, levels: usize, at: usize) -> Result<Statem
     ensures { Reads statement_view (read.case_rest levels (read.statements levels) at parser.old) result parser.new }
 {
     let selector = parser.expr(levels)?;
-    parser.expect(Kind::Is)?;
-    parser.expect(Kind::When)?;
+    let selector = followed(parser, selector, Kind::Is)?;
+    let selector = followed(parser, selector, Kind::When)?;
     let all = alternatives(parser, levels)?;
-    let end_label = end_of(parser, Kind::Case)?;
+    let ((selector, all), end_label) = ended(parser, (selector, all), Kind::Case)?;
     Ok(Statement::selection(at, selector, all, end_label))
 }
 
@@ -235,7 +233,7 @@ fn alternative(parser: &mut Parser<'_>, levels: usize) -> Result<Alternative, St
     ensures { Reads alternative_view (read.alternative_part levels (read.statements levels) parser.old) result parser.new }
 {
     let choices = parser.choices(levels)?;
-    parser.expect(Kind::Arrow)?;
+    let choices = followed(parser, choices, Kind::Arrow)?;
     let statements = statements(parser, levels)?;
     Ok(Alternative::new(choices, statements))
 }
@@ -256,10 +254,11 @@ fn for_rest(parser: &mut Parser<'_>, levels: usize, at: usize) -> Result<Stateme
     ensures { Reads statement_view (read.for_rest levels (read.statements levels) at parser.old) result parser.new }
 {
     let parameter = parser.identifier()?;
-    parser.expect(Kind::In)?;
+    let parameter = followed(parser, parameter, Kind::In)?;
     let range = parser.range(levels)?;
-    parser.expect(Kind::Loop)?;
+    let head = followed(parser, (parameter, range), Kind::Loop)?;
     let statements = statements(parser, levels)?;
-    let end_label = end_of(parser, Kind::Loop)?;
+    let ((head, statements), end_label) = ended(parser, (head, statements), Kind::Loop)?;
+    let (parameter, range) = head;
     Ok(Statement::repetition(at, parameter, range, statements, end_label))
 }

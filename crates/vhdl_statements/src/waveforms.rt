@@ -8,6 +8,7 @@ ghost use Rattle.vhdl_expressions.specs.reader.Input.{Reads};
 ghost use Rattle.vhdl_statements.specs.reader.Waveforms as read;
 ghost use Rattle.vhdl_statements.specs.reader.Waveforms.{part_view, conditional_view};
 
+use crate::behind::followed;
 use vhdl_expressions::{Parser, Stop, separated};
 use vhdl_lexer::Kind;
 use vhdl_tree::{Branch, Expr, SelectedAssignment, Value, Waveform};
@@ -92,7 +93,7 @@ fn waveform(parser: &mut Parser<'_>, levels: usize) -> Result<Waveform, Stop>
     ensures { Reads waveform_view (read.waveform levels parser.old) result parser.new }
 {
     let value = parser.value(levels)?;
-    parser.expect(Kind::When)?;
+    let value = followed(parser, value, Kind::When)?;
     let choices = parser.choices(levels)?;
     Ok(Waveform { value, choices })
 }
@@ -113,11 +114,11 @@ pub fn selected_assignment(
 {
     let at = parser.expect(Kind::With)?;
     let selector = parser.expr(levels)?;
-    parser.expect(Kind::Select)?;
+    let selector = followed(parser, selector, Kind::Select)?;
     let target = parser.name(levels)?;
-    parser.expect(Kind::LessEqual)?;
+    let parts = followed(parser, (selector, target), Kind::LessEqual)?;
     let waveforms = waveforms(parser, levels)?;
-    parser.expect(Kind::Semicolon)?;
+    let ((selector, target), waveforms) = followed(parser, (parts, waveforms), Kind::Semicolon)?;
     Ok(SelectedAssignment {
         at,
         selector,

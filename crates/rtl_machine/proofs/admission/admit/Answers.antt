@@ -17,3 +17,6 @@ returns-in_err-stimulus-clause-refused c =
     let fault = c.in_err-stimulus.field-0.0 in
     err_with (λ r. IfErr r (Refuses net text)) c.from_residual-in_err-stimulus.result (of_stim fault) c.from_residual-in_err-stimulus.ensures.1
     (refused_text net text fault c.in_ok-report.ensures.accepted c.in_err-stimulus.ensures)
+
+pub returns-clause-levels : goal.returns-clause-levels
+returns-clause-levels c = let report = c.in_ok-report.ensures.report in (report.greatest, report.levels_are)

@@ -1,0 +1,24 @@
+use Rattle.std.proofs.Common.{◌≡◌, ℕ, suc, ◌-◌, List, length}
+use Rattle.rtl_check.specs.Views.{core}
+use Rattle.rtl_stim.specs.Filling.{Waits}
+use Rattle.rtl_moments.specs.Stimuli.{inputs_at}
+use Rattle.rtl_machine.specs.Synchronous.{IsSynchronous}
+use Rattle.rtl_levelized.specs.Running.{HasCome}
+use Rattle.rtl_levelized.proofs.stepping.Stepping.run_moments.Given as goal
+
+-- the moments so far went out, the machine has the run's valuation at the last of them, and what comes after it waits
+abbrev pub invariant-loop-time : goal.invariant-loop-time
+invariant-loop-time g l = record {
+  net : l.machine.net ≡ l.self.net.now;
+  as_many : length l.progress.shown.items ≡ length l.self.net.now.types;
+  run : ℕ → List ℕ;
+  synchronous : IsSynchronous (core l.self.net.now) l.self.bound (inputs_at l.self.stimulus.now) run;
+  come : HasCome l.self.net.now l.self.stimulus.now run (g.W.Sink.state l.fn.out) (g.W.Sink.state l.out) l.progress;
+  m : ℕ;
+  is_last : suc m ≡ l.progress.moments;
+  values : l.machine.values ≡ run m;
+  waits : Waits l.self.stimulus.now.inputs l.self.stimulus.now.schedule l.progress.now (g.A.Agenda.state l.agenda).waiting;
+}
+
+abbrev pub decreases-loop-time : goal.decreases-loop-time
+decreases-loop-time g l = l.self.stimulus.now.schedule.stop - l.progress.now

@@ -1,0 +1,51 @@
+use Rattle.std.proofs.Common.{List, subst}
+use Rattle.vhdl_values.specs.declared.scalar.Nine.{Nine}
+use Rattle.rtl_model.specs.simulation.Machine.{IsFirst}
+use Rattle.rtl_net.specs.Nets.{flat}
+use Rattle.rtl_kernel.specs.kernel.Simulation.{initial_inputs}
+use Rattle.rtl_check.specs.Views.{core}
+use Rattle.rtl_moments.specs.Stimuli.{inputs_at}
+use Rattle.rtl_machine.specs.declared.fault.MachineFault.TheVariants.{Memory}
+use Rattle.rtl_machine.proofs.Refusals.{err_with}
+use Rattle.rtl_levelized.specs.Answered.{TracesLevels}
+use Rattle.rtl_levelized.proofs.Going.{nothing_leaves}
+use Rattle.rtl_levelized.proofs.Turns.{first_is}
+use Rattle.rtl_levelized.proofs.stepping.Stepping.trace.Goals as goal
+
+pub returns-in_err-load : goal.returns-in_err-load
+returns-in_err-load g c =
+    let net = c.args.self.now.net.now in
+    let s = c.args.self.now.stimulus.now in
+    let bound = c.args.self.now.bound in
+    let out = g.W.Sink.state c.args.out.now in
+    let run = c.accepted_nets_are_synchronous.ensures net bound (inputs_at s) c.nets-count.ensures.elaborated c.requires.accepted c.requires.raceless in
+    err_with (TracesLevels net s bound out out) c.from_residual.result Memory c.from_residual.ensures.1 (nothing_leaves net s bound run.0 run.1 out, c.requires.intact)
+
+pub returns-in_err-blocks : goal.returns-in_err-blocks
+returns-in_err-blocks g c =
+    let net = c.args.self.now.net.now in
+    let s = c.args.self.now.stimulus.now in
+    let bound = c.args.self.now.bound in
+    let out = g.W.Sink.state c.args.out.now in
+    let run = c.accepted_nets_are_synchronous.ensures net bound (inputs_at s) c.nets-count.ensures.elaborated c.requires.accepted c.requires.raceless in
+    err_with (TracesLevels net s bound out out) c.from_residual-in_err-blocks.result Memory c.from_residual-in_err-blocks.ensures.1 (nothing_leaves net s bound run.0 run.1 out, c.requires.intact)
+
+pub returns-in_err-machine : goal.returns-in_err-machine
+returns-in_err-machine g c =
+    let net = c.args.self.now.net.now in
+    let s = c.args.self.now.stimulus.now in
+    let bound = c.args.self.now.bound in
+    let out = g.W.Sink.state c.args.out.now in
+    let run = c.accepted_nets_are_synchronous.ensures net bound (inputs_at s) c.nets-count.ensures.elaborated c.requires.accepted c.requires.raceless in
+    err_with (TracesLevels net s bound out out) c.from_residual-in_err-machine.result Memory c.from_residual-in_err-machine.ensures.1 (nothing_leaves net s bound run.0 run.1 out, c.requires.intact)
+
+pub run_moments-requires-clause-run : goal.run_moments-requires-clause-run
+run_moments-requires-clause-run g c =
+    let net = c.args.self.now.net.now in
+    let s = c.args.self.now.stimulus.now in
+    let bound = c.args.self.now.bound in
+    let is_net = c.nets-count.ensures.elaborated in
+    let run = c.accepted_nets_are_synchronous.ensures net bound (inputs_at s) is_net c.requires.accepted c.requires.raceless in
+    let values = c.in_ok-machine.machine.values in
+    let first = subst (λ (vs : List Nine). IsFirst (core net) (initial_inputs (flat net) vs) values) c.initial-initial.ensures c.in_ok-machine.ensures.first in
+    (run.0, run.1, first_is c.each_machine_goes_on_alike.ensures net is_net c.requires.accepted.accepted s c.requires.ports c.requires.inputs bound run.0 run.1 values first)

@@ -1,0 +1,3 @@
+pub mod Answered
+pub mod Laws
+pub mod Running

@@ -1,0 +1,50 @@
+//! The levelized simulation of a net under a text.
+
+ghost use Rattle.rtl_moments.specs.Ports.{HasOwnPorts};
+ghost use Rattle.rtl_sink.specs.Written.{IsIntact};
+ghost use Rattle.rtl_levelized.specs.Answered.{RunsLevels};
+
+use crate::stepping::Stepping;
+use crate::summary::LevelSummary;
+use rtl_code::codes;
+use rtl_machine::{MachineFault, SLOTS, admit};
+use rtl_moments::Wheel;
+use rtl_net::Net;
+use rtl_sink::Sink;
+use std::alloc::Global;
+
+/// Simulates a net under the stimulus that a text says, as the synchronous machine that it is: at each moment the clocked processes
+/// that the inputs wake run once, and then the combinational ones in order of level. It writes the trace that `run` writes. Nothing is
+/// written before the checker, the stimulus and the search for a race have passed.
+///
+/// It takes the checker's memory, the stimulus's, the machine's, that of the names' blocks, and a byte for each net.
+///
+/// # Errors
+///
+/// `Rejected` with what the checker found; then `Stim` with the first bad line of the text, or with the earliest race. Nothing
+/// is written till here. `Memory` and `Output` leave a beginning of the trace.
+pub fn run_levels<W: Sink>(
+    alloc: Global,
+    net: &Net,
+    text: &[u8],
+    out: &mut W,
+) -> Result<LevelSummary, MachineFault>
+    requires ports { HasOwnPorts net.now }
+    requires intact { IsIntact (W.state out.old) }
+    ensures { RunsLevels net.now text.now (W.state out.old) (W.state out.new) result }
+{
+    let _count = net.nets();
+    let admitted = admit(alloc, net, text)?;
+    let bodies = codes(alloc, net)?;
+    let stepping = Stepping {
+        net,
+        bodies: &bodies,
+        levels: &admitted.levels,
+        stimulus: &admitted.stimulus,
+        bound: admitted.bound,
+    };
+    let Ok(mut agenda) = Wheel::new(alloc, SLOTS) else {
+        return Err(MachineFault::Memory);
+    };
+    stepping.trace(alloc, &mut agenda, out)
+}
