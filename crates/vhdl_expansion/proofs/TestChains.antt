@@ -65,7 +65,7 @@ level-more plain f (suc (suc len)) x h = refl
 
 -- ---- chains
 
-pub links-push : (left : b.Test) (xs : List m.TestLink) (y : m.TestLink) → test_links_of left (xs ++ y ∷ []) ≡ b.combined y.operator (test_links_of left xs) (net.test_view y.operand)
+links-push : (left : b.Test) (xs : List m.TestLink) (y : m.TestLink) → test_links_of left (xs ++ y ∷ []) ≡ b.combined y.operator (test_links_of left xs) (net.test_view y.operand)
 links-push left [] y = refl
 links-push left (x ∷ xs) y = links-push (b.combined x.operator left (net.test_view x.operand)) xs y
 
@@ -89,23 +89,34 @@ module _ (at : Site) where
   next-left : (xs : List TestLink) (i : ℕ) (x : TestLink) → i < length xs → x ≡ get_or xs i x → drop i xs ≡ x ∷ drop (i + 1) xs
   next-left xs i x h e = drop-cons xs i x h ∙ ap (λ y. y ∷ drop (suc i) xs) (sym e) ∙ ap (λ j. x ∷ drop j xs) (sym (add-one i))
 
-  pub next_link : (begun first : b.Test) (ls : List TestLink) (rest more : List m.TestLink) (i : ℕ) (k : TestLink) (x : m.TestLink) → i < length ls → k ≡ get_or ls i k
-      → steps.all_linked at begun ls ≡ steps.all_linked at (test_links_of first rest) (drop i ls)
-      → test at (test_view k.operand) ≡ Ok (net.test_view x.operand) → x.operator ≡ k.operator → more ≡ rest ++ x ∷ []
-      → steps.all_linked at begun ls ≡ steps.all_linked at (test_links_of first more) (drop (i + 1) ls)
-  next_link begun first ls rest more i k x below is so_far h same pushed =
-      so_far ∙ ap (λ left. steps.all_linked at (test_links_of first rest) left) (next-left ls i k below is)
-      ∙ ap (λ r. (r >>= λ d. one_more (b.combined k.operator (test_links_of first rest) d)) >>= λ d. steps.all_linked at d (drop (i + 1) ls)) h
-      ∙ ap (λ op. steps.all_linked at (b.combined op (test_links_of first rest) (net.test_view x.operand)) (drop (i + 1) ls)) (sym same)
-      ∙ ap (λ d. steps.all_linked at d (drop (i + 1) ls)) (sym (ap (test_links_of first) pushed ∙ links-push first rest x))
+  -- one more
+  pub next_goes : (begun now new : b.Test) (ls : List TestLink) (i : ℕ) (k : TestLink) → i < length ls → k ≡ get_or ls i k
+      → steps.all_linked at begun ls ≡ steps.all_linked at now (drop i ls) → steps.linked at now k ≡ Ok new
+      → steps.all_linked at begun ls ≡ steps.all_linked at new (drop (i + 1) ls)
+  next_goes begun now new ls i k below is so_far h =
+      so_far ∙ ap (λ left. steps.all_linked at now left) (next-left ls i k below is)
+      ∙ ap (λ r. r >>= λ d. steps.all_linked at d (drop (i + 1) ls)) h
 
-  pub next_stops : (begun first : b.Test) (ls : List TestLink) (rest : List m.TestLink) (i : ℕ) (k : TestLink) → i < length ls → k ≡ get_or ls i k
-      → steps.all_linked at begun ls ≡ steps.all_linked at (test_links_of first rest) (drop i ls)
-      → IsErr (test at (test_view k.operand)) → IsErr (steps.all_linked at begun ls)
-  next_stops begun first ls rest i k below is so_far h =
+  -- one that is refused
+  pub next_stops : (begun now : b.Test) (ls : List TestLink) (i : ℕ) (k : TestLink) → i < length ls → k ≡ get_or ls i k
+      → steps.all_linked at begun ls ≡ steps.all_linked at now (drop i ls) → IsErr (steps.linked at now k) → IsErr (steps.all_linked at begun ls)
+  next_stops begun now ls i k below is so_far h =
       subst (λ (r : Elab b.Test). IsErr r)
-      (sym (so_far ∙ ap (λ left. steps.all_linked at (test_links_of first rest) left) (next-left ls i k below is)))
-      (err_first (steps.linked at (test_links_of first rest) k) _ (err_first (test at (test_view k.operand)) _ h))
+      (sym (so_far ∙ ap (λ left. steps.all_linked at now left) (next-left ls i k below is)))
+      (err_first (steps.linked at now k) _ h)
+
+  -- all
+  pub links_end : (begun now : b.Test) (ls left : List TestLink) → left ≡ [] → steps.all_linked at begun ls ≡ steps.all_linked at now left → steps.all_linked at begun ls ≡ Ok now
+  links_end begun now ls left h so_far = so_far ∙ ap (λ ks. steps.all_linked at now ks) h
+
+  -- an operator with its right operand, behind a chain
+  pub link_given : (first : b.Test) (rest more : List m.TestLink) (k : TestLink) (x : m.TestLink)
+      → test at (test_view k.operand) ≡ Ok (net.test_view x.operand) → x.operator ≡ k.operator → more ≡ rest ++ x ∷ []
+      → steps.linked at (test_links_of first rest) k ≡ Ok (test_links_of first more)
+  link_given first rest more k x h same pushed =
+      ap (λ r. r >>= λ d. one_more (b.combined k.operator (test_links_of first rest) d)) h
+      ∙ ap (λ op. one_more (b.combined op (test_links_of first rest) (net.test_view x.operand))) (sym same)
+      ∙ ap one_more (sym (ap (test_links_of first) pushed ∙ links-push first rest x))
 
   linked-step : (c : u.Test) (k : TestLink) → test at (u.Test.both k.operator c (test_view k.operand)) ≡ (test at c >>= λ d. steps.linked at d k)
   unfolding test
@@ -120,22 +131,28 @@ module _ (at : Site) where
   chained c (k ∷ ls) = chained (u.Test.both k.operator c (test_view k.operand)) ls ∙ ap (λ r. r >>= λ d. steps.all_linked at d ls) (linked-step c k)
       ∙ bind-assoc (test at c) (λ d. steps.linked at d k) (λ d. steps.all_linked at d ls)
 
-  chain-is : (e : Test) (start : Box TestStart Global) (links : Vec TestLink Global) (st : TestStart) (ls : List TestLink)
+  chain_is : (e : Test) (start : Box TestStart Global) (links : Vec TestLink Global) (st : TestStart) (ls : List TestLink)
       → e ≡ t.Chain start links → st ≡ start.value → ls ≡ links.items
       → test at (test_view e) ≡ (steps.started at st >>= λ d. steps.all_linked at d ls)
-  chain-is e start links st ls h j k =
+  chain_is e start links st ls h j k =
       ap (λ (a : Test). test at (test_view a)) h ∙ ap (λ a. test at a) (view_chain start links)
       ∙ ap (λ (a : TestStart). test at (test_chained (start_view a) links.items)) (sym j)
       ∙ ap (λ xs. test at (test_chained (start_view st) xs)) (sym k)
       ∙ chained (start_view st) ls
       ∙ ap (λ r. r >>= λ d. steps.all_linked at d ls) (linked-step (test_view st.first) st.link)
 
-  pub chain-goes : (e : Test) (start : Box TestStart Global) (links : Vec TestLink Global) (st : TestStart) (ls : List TestLink) (d : b.Test)
+  pub chain_goes : (e : Test) (start : Box TestStart Global) (links : Vec TestLink Global) (st : TestStart) (ls : List TestLink) (d : b.Test)
       → e ≡ t.Chain start links → st ≡ start.value → ls ≡ links.items → steps.started at st ≡ Ok d
       → test at (test_view e) ≡ steps.all_linked at d ls
-  chain-goes e start links st ls d h j k given = chain-is e start links st ls h j k ∙ ap (λ r. r >>= λ d. steps.all_linked at d ls) given
+  chain_goes e start links st ls d h j k given = chain_is e start links st ls h j k ∙ ap (λ r. r >>= λ d. steps.all_linked at d ls) given
 
-  pub chain-stops : (e : Test) (start : Box TestStart Global) (links : Vec TestLink Global) (st : TestStart)
+  pub chain_stops : (e : Test) (start : Box TestStart Global) (links : Vec TestLink Global) (st : TestStart)
       → e ≡ t.Chain start links → st ≡ start.value → IsErr (steps.started at st) → IsErr (test at (test_view e))
-  chain-stops e start links st h j given =
-      subst (λ (r : Elab b.Test). IsErr r) (sym (chain-is e start links st links.items h j refl)) (err_first (steps.started at st) _ given)
+  chain_stops e start links st h j given =
+      subst (λ (r : Elab b.Test). IsErr r) (sym (chain_is e start links st links.items h j refl)) (err_first (steps.started at st) _ given)
+
+  pub more_stops : (e : Test) (start : Box TestStart Global) (links : Vec TestLink Global) (st : TestStart) (ls : List TestLink) (d : b.Test)
+      → e ≡ t.Chain start links → st ≡ start.value → ls ≡ links.items → steps.started at st ≡ Ok d
+      → IsErr (steps.all_linked at d ls) → IsErr (test at (test_view e))
+  more_stops e start links st ls d h j k given stopped =
+      subst (λ (r : Elab b.Test). IsErr r) (sym (chain_goes e start links st ls d h j k given)) stopped

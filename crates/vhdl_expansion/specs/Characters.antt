@@ -16,4 +16,4 @@ abbrev pub character_view : Character → steps.Character
 character_view c = record { is_plain = c.is_plain; literal = c.literal }
 
 abbrev pub chain_view : TestChain → b.Test
-chain_view c = test_links_of (test_view c.first) c.rest.items
+chain_view c = test_links_of (test_view c.first.value) c.rest.items

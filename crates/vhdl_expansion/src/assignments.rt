@@ -56,6 +56,7 @@ impl Site<'_> {
             Given::Single(value) => {
                 let selected = self.expanded_value(alloc, value, at)?;
                 if selected.width.len != len as usize {
+                    drop(selected);
                     return Err(ElabProblem::Length.at(at));
                 }
                 Ok(selected.value)
@@ -63,6 +64,7 @@ impl Site<'_> {
             Given::Filled(element) => {
                 let operand = self.expanded(alloc, element)?;
                 if operand.width.len != 1 {
+                    drop(operand);
                     return Err(ElabProblem::Length.at(at));
                 }
                 let element = Box::new(alloc, operand.expr)?;

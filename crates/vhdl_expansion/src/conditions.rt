@@ -5,6 +5,7 @@ ghost use Rattle.std.specs.Prelude.{◌≡◌, true, option_map, IfOk};
 ghost use Rattle.vhdl_values.specs.declared.kinds.Logic.TheVariants.{And};
 ghost use Rattle.rtl_model.specs.bodies.Body as body;
 ghost use Rattle.rtl_net.specs.Bodies.{test_view, test_links_of};
+ghost use Rattle.vhdl_names.specs.views.Integers.{static_view};
 ghost use Rattle.vhdl_names.specs.views.Tests as analysed;
 ghost use Rattle.vhdl_names.specs.views.Vectors.{place_view, value_view, vector_view};
 ghost use Rattle.vhdl_expand.specs.Expressions as definition;
@@ -13,12 +14,13 @@ ghost use Rattle.vhdl_expansion.specs.Sites.{IsSite, site_view};
 ghost use Rattle.vhdl_expansion.specs.Characters.{named_view, character_view, chain_view};
 ghost use Rattle.vhdl_expansion.specs.steps.Tests as steps;
 
+use crate::both::both;
 use crate::site::{Site, element, elements};
 use rtl_net::{Expr, Test, TestLink};
 use std::alloc::{AllocError, Global};
 use vhdl_expand::ElabFault;
 use vhdl_names as analysed;
-use vhdl_names::{Place, TestStart, Value, Vector};
+use vhdl_names::{Place, Static, TestStart, Value, Vector};
 use vhdl_values::{Cmp, Edge, Logic, Nine, Vec9};
 
 /// A character literal, and whether it stands with no parentheses.
@@ -31,7 +33,7 @@ pub(crate) struct Character {
 /// A first operand, and the logical operators after it so far.
 #[derive(Drop)]
 pub(crate) struct TestChain {
-    pub first: Test,
+    pub first: Box<Test>,
     pub rest: Vec<TestLink>,
 }
 
@@ -124,6 +126,7 @@ fn turned(relation: Cmp) -> Cmp
 fn event_to(alloc: Global, element: u32, value: Nine) -> Result<Test, AllocError>
     ensures { IfOk result (λ t. test_view t ≡ body.combined And (body.event element) (body.level true element value)) }
 {
+    let first = Box::new(alloc, Test::Event(element))?;
     let mut rest = Vec::new(alloc);
     rest.push(TestLink {
         operator: Logic::And,
@@ -133,7 +136,7 @@ fn event_to(alloc: Global, element: u32, value: Nine) -> Result<Test, AllocError
             value,
         },
     })?;
-    combined(alloc, Test::Event(element), rest)
+    Ok(Test::Combined { first, rest })
 }
 
 /// A test for an edge of an element. It takes the memory of a list and a box.
@@ -148,15 +151,17 @@ fn edge_test(alloc: Global, edge: Edge, element: u32) -> Result<Test, AllocError
     }
 }
 
-/// A first operand, and the logical operators after it.
-#[tactic(auto, using(rtl_net::proofs::Rows::view_combined))]
-fn combined(alloc: Global, first: Test, rest: Vec<TestLink>) -> Result<Test, AllocError>
-    ensures { IfOk result (λ t. test_view t ≡ test_links_of (test_view first) rest.items) }
-{
-    Ok(Test::Combined {
-        first: Box::new(alloc, first)?,
-        rest,
-    })
+impl TestChain {
+    /// The whole of it.
+    #[tactic(auto, using(rtl_net::proofs::Rows::view_combined))]
+    fn whole(self) -> Test
+        ensures { test_view result ≡ test_links_of (test_view self.first.value) self.rest.items }
+    {
+        Test::Combined {
+            first: self.first,
+            rest: self.rest,
+        }
+    }
 }
 
 impl Site<'_> {
@@ -181,20 +186,12 @@ impl Site<'_> {
                 Ok(Test::Decided(holds))
             }
             analysed::Test::Alike(at, left, right) => self.alike(alloc, left, right, *at),
-            analysed::Test::Unlike(at, left, right) => {
-                let left = self.expanded_value(alloc, left, *at)?;
-                let right = self.expanded_value(alloc, right, *at)?;
-                Ok(Test::Unequal(left.value, right.value))
-            }
+            analysed::Test::Unlike(at, left, right) => self.unlike(alloc, left, right, *at),
             analysed::Test::Compared(relation, _, left, right) => {
-                let left = self.expanded(alloc, left)?;
-                let right = self.expanded(alloc, right)?;
-                Ok(Test::Compared(*relation, left.expr, right.expr))
+                self.compared(alloc, *relation, left, right)
             }
             analysed::Test::ComparedTo(relation, at, vector, integer) => {
-                let operand = self.expanded(alloc, vector)?;
-                let number = self.integers.natural(integer, *at)?;
-                Ok(Test::ComparedTo(*relation, operand.expr, number))
+                self.compared_to(alloc, *relation, vector, integer, *at)
             }
             analysed::Test::ComparedWith(relation, at, integer, vector) => {
                 let number = self.integers.natural(integer, *at)?;
@@ -214,8 +211,9 @@ impl Site<'_> {
                 Ok(Test::Negated(Box::new(alloc, operand)?))
             }
             analysed::Test::Chain(start, links) => {
-                let chain = self.started_test(alloc, start, at)?;
-                self.continued_test(alloc, chain, links, at)
+                let mut chain = self.started_test(alloc, start, at)?;
+                self.add_tests(alloc, links, at, &mut chain)?;
+                Ok(chain.whole())
             }
         }
     }
@@ -255,8 +253,57 @@ impl Site<'_> {
         ensures { Expands test_view (steps.equal (site_view self.now) (value_view left.now) (value_view right.now)) result }
     {
         let left = self.expanded_value(alloc, left, at)?;
-        let right = self.expanded_value(alloc, right, at)?;
+        let (left, right) = both(left, self.expanded_value(alloc, right, at))?;
         Ok(Test::Equal(left.value, right.value))
+    }
+
+    /// Inequality of two values.
+    fn unlike(
+        &self,
+        alloc: Global,
+        left: &Value,
+        right: &Value,
+        at: usize,
+    ) -> Result<Test, ElabFault>
+        requires { IsSite self.now }
+        ensures { Expands test_view (steps.unlike (site_view self.now) (value_view left.now) (value_view right.now)) result }
+    {
+        let left = self.expanded_value(alloc, left, at)?;
+        let (left, right) = both(left, self.expanded_value(alloc, right, at))?;
+        Ok(Test::Unequal(left.value, right.value))
+    }
+
+    /// A relation of two numbers.
+    fn compared(
+        &self,
+        alloc: Global,
+        relation: Cmp,
+        left: &Vector,
+        right: &Vector,
+    ) -> Result<Test, ElabFault>
+        requires { IsSite self.now }
+        ensures { Expands test_view (steps.compared (site_view self.now) relation (vector_view left.now) (vector_view right.now)) result }
+    {
+        let left = self.expanded(alloc, left)?;
+        let (left, right) = both(left, self.expanded(alloc, right))?;
+        Ok(Test::Compared(relation, left.expr, right.expr))
+    }
+
+    /// A relation of a number and a static integer.
+    fn compared_to(
+        &self,
+        alloc: Global,
+        relation: Cmp,
+        vector: &Vector,
+        integer: &Static,
+        at: usize,
+    ) -> Result<Test, ElabFault>
+        requires { IsSite self.now }
+        ensures { Expands test_view (steps.compared_to (site_view self.now) relation (vector_view vector.now) (static_view integer.now)) result }
+    {
+        let operand = self.expanded(alloc, vector)?;
+        let (operand, number) = both(operand, self.integers.natural(integer, at))?;
+        Ok(Test::ComparedTo(relation, operand.expr, number))
     }
 
     /// Equality of a signal's name and a character literal.
@@ -288,31 +335,48 @@ impl Site<'_> {
         ensures { Expands chain_view (steps.started (site_view self.now) start.now) result }
     {
         let first = self.expanded_test(alloc, &start.first, at)?;
-        let operand = self.expanded_test(alloc, &start.link.operand, at)?;
-        let operator = start.link.operator;
-        let mut rest = Vec::new(alloc);
-        rest.push(TestLink { operator, operand })?;
-        Ok(TestChain { first, rest })
+        let first = Box::new(alloc, first)?;
+        let mut chain = TestChain {
+            first,
+            rest: Vec::new(alloc),
+        };
+        self.add_test(alloc, &start.link, at, &mut chain)?;
+        Ok(chain)
     }
 
-    /// A chain with its further operators.
+    /// Puts further operators behind a chain.
     #[cycle(condition)]
-    fn continued_test(
+    fn add_tests(
         &self,
         alloc: Global,
-        chain: TestChain,
         links: &[analysed::TestLink],
         at: usize,
-    ) -> Result<Test, ElabFault>
+        chain: &mut TestChain,
+    ) -> Result<(), ElabFault>
         requires { IsSite self.now }
-        ensures { Expands test_view (steps.all_linked (site_view self.now) (chain_view chain) links.now) result }
+        ensures { Expands (λ _. chain_view chain.new) (steps.all_linked (site_view self.now) (chain_view chain.old) links.now) result }
     {
-        let TestChain { first, mut rest } = chain;
         for link in links {
-            let operand = self.expanded_test(alloc, &link.operand, at)?;
-            let operator = link.operator;
-            rest.push(TestLink { operator, operand })?;
+            self.add_test(alloc, link, at, chain)?;
         }
-        Ok(combined(alloc, first, rest)?)
+        Ok(())
+    }
+
+    /// Puts an operator with its right operand behind a chain.
+    #[cycle(condition)]
+    fn add_test(
+        &self,
+        alloc: Global,
+        link: &analysed::TestLink,
+        at: usize,
+        chain: &mut TestChain,
+    ) -> Result<(), ElabFault>
+        requires { IsSite self.now }
+        ensures { Expands (λ _. chain_view chain.new) (steps.linked (site_view self.now) (chain_view chain.old) link.now) result }
+    {
+        let operand = self.expanded_test(alloc, &link.operand, at)?;
+        let operator = link.operator;
+        chain.rest.push(TestLink { operator, operand })?;
+        Ok(())
     }
 }

@@ -5,6 +5,7 @@
 #![tactic(auto)]
 
 mod assignments;
+mod both;
 mod conditions;
 mod constant;
 mod layout;

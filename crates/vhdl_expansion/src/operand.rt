@@ -30,20 +30,13 @@ pub struct Operand {
     ghost counted: { fits.width (expr_view expr) ≡ width.len },
 }
 
-/// An operator with its right operand, and how many elements it makes.
-#[derive(Drop)]
-pub(crate) struct Linked {
-    pub link: Link,
-    pub width: Width,
-}
-
 /// A first operand, and the operators after it so far.
 #[derive(Drop)]
 pub(crate) struct Chain {
-    pub first: Expr,
+    pub first: Box<Expr>,
     pub rest: Vec<Link>,
     pub width: Width,
-    ghost counted: { fits.width (links_of (expr_view first) rest.items) ≡ width.len },
+    ghost counted: { fits.width (links_of (expr_view first.value) rest.items) ≡ width.len },
 }
 
 /// A numeric operator in a body.
@@ -94,37 +87,37 @@ fn fitted(operator: Operator, left: Width, right: Width, at: usize) -> Result<Wi
     }
 }
 
-/// An operator with its right operand, after so many elements; a fault is Length or TooWide.
-pub(crate) fn applied(
-    left: Width,
-    operator: Operator,
-    right: Operand,
-    at: usize,
-) -> Result<Linked, ElabFault>
-    ensures given { (d : body.Expr) → fits.width d ≡ left.len
-        → Expands (λ x. body.Expr.binary (operator_view x.link.operator) d (expr_view x.link.operand)) (definition.operated (operator_view operator) d (expr_view right.expr)) result }
-    ensures width { IfOk result
-        (λ x. x.width.len ≡ operated_width (operator_view x.link.operator) left.len (fits.width (expr_view x.link.operand))) }
-{
-    let width = fitted(operator, left, right.width, at)?;
-    Ok(Linked {
-        link: Link {
-            operator,
-            operand: right.expr,
-        },
-        width,
-    })
-}
+impl Chain {
+    /// Puts an operator with its right operand behind it; a fault is Length or TooWide. It takes the memory of a list.
+    #[tactic(auto, using(crate::proofs::Links::links_push))]
+    pub(crate) fn add(
+        &mut self,
+        operator: Operator,
+        right: Operand,
+        at: usize,
+    ) -> Result<(), ElabFault>
+        ensures { Expands (λ _. links_of (expr_view self.new.first.value) self.new.rest.items)
+            (definition.operated (operator_view operator) (links_of (expr_view self.old.first.value) self.old.rest.items) (expr_view right.expr)) result }
+    {
+        let width = fitted(operator, self.width, right.width, at)?;
+        let operand = right.expr;
+        self.rest.push(Link { operator, operand })?;
+        self.width = width;
+        Ok(())
+    }
 
-/// A first operand, and the operators after it.
-#[tactic(auto, using(rtl_net::proofs::Rows::view_chain))]
-pub(crate) fn chained(alloc: Global, first: Expr, rest: Vec<Link>) -> Result<Expr, AllocError>
-    ensures { IfOk result (λ e. expr_view e ≡ links_of (expr_view first) rest.items) }
-{
-    Ok(Expr::Chain {
-        first: Box::new(alloc, first)?,
-        rest,
-    })
+    /// The whole of it.
+    #[tactic(auto, using(rtl_net::proofs::Rows::view_chain))]
+    pub(crate) fn whole(self) -> Operand
+        ensures { expr_view result.expr ≡ links_of (expr_view self.first.value) self.rest.items }
+    {
+        let width = self.width;
+        let expr = Expr::Chain {
+            first: self.first,
+            rest: self.rest,
+        };
+        Operand { expr, width }
+    }
 }
 
 impl Operand {
@@ -189,35 +182,32 @@ impl Operand {
         })
     }
 
-    /// An operator on this and another operand; a fault is Length or TooWide. It takes the memory of a list and a box.
-    pub(crate) fn with(
+    /// An operator on a number and this: the number stands for its last digits, as many as this has; a fault is Length or
+    /// TooWide. It takes the memory of a list and a box.
+    pub(crate) fn behind(
         self,
         alloc: Global,
+        number: u32,
         operator: Operator,
-        right: Operand,
         at: usize,
     ) -> Result<Operand, ElabFault>
-        ensures { Expands (λ o. expr_view o.expr) (definition.operated (operator_view operator) (expr_view self.expr) (expr_view right.expr)) result }
+        ensures { Expands (λ o. expr_view o.expr)
+            (definition.operated (operator_view operator) (body.constant (digits_of (fits.width (expr_view self.expr)) number)) (expr_view self.expr)) result }
     {
-        let next = applied(self.width, operator, right, at)?;
-        let chain = self.begin(alloc, next)?;
-        let width = chain.width;
-        let expr = chained(alloc, chain.first, chain.rest)?;
-        Ok(Operand { expr, width })
+        let digits = Operand::constant(Vec9::of_nat(u64::from(number), self.width.len));
+        let mut chain = digits.begin(alloc)?;
+        chain.add(operator, self, at)?;
+        Ok(chain.whole())
     }
 
-    /// This operand and an operator after it. It takes the memory of a list.
-    pub(crate) fn begin(self, alloc: Global, next: Linked) -> Result<Chain, AllocError>
-        requires { next.width.len ≡ operated_width (operator_view next.link.operator) self.width.len (fits.width (expr_view next.link.operand)) }
-        ensures { IfOk result (λ c. links_of (expr_view c.first) c.rest.items
-            ≡ body.Expr.binary (operator_view next.link.operator) (expr_view self.expr) (expr_view next.link.operand)) }
+    /// This operand as the first of a chain. It takes the memory of a box.
+    pub(crate) fn begin(self, alloc: Global) -> Result<Chain, AllocError>
+        ensures { IfOk result (λ c. links_of (expr_view c.first.value) c.rest.items ≡ expr_view self.expr) }
     {
-        let mut rest = Vec::new(alloc);
-        rest.push(next.link)?;
         Ok(Chain {
-            first: self.expr,
-            rest,
-            width: next.width,
+            first: Box::new(alloc, self.expr)?,
+            rest: Vec::new(alloc),
+            width: self.width,
         })
     }
 }

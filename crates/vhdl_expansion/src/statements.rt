@@ -20,6 +20,7 @@ ghost use Rattle.vhdl_names.specs.views.Integers.{range_view};
 ghost use Rattle.vhdl_names.specs.views.Vectors.{value_view};
 
 use crate::assignments::choice;
+use crate::both::both;
 use crate::operand::Width;
 use crate::site::Site;
 use rtl_net::{Alternative, Branch, Choice, Statement};
@@ -74,6 +75,7 @@ fn parameter(turns: Turns, turn: u32) -> Result<i32, ElabFault>
 impl Site<'_> {
     /// A body, expanded: its statements in order, in which names and targets are elements; a fault is StaticError, Length, Index,
     /// TooWide or TooMany. It takes the memory of the body.
+    #[cycle(statement)]
     pub fn body(
         &self,
         alloc: Global,
@@ -83,22 +85,8 @@ impl Site<'_> {
         ensures { Expands (λ v. statements_of v.items)
             (definition.statements (site_view self.now) (analysed.statements_of (map analysed.statement_view statements.now))) result }
     {
-        self.sequence(alloc, statements)
-    }
-
-    /// Statements in a list of their own.
-    #[cycle(statement)]
-    fn sequence(
-        &self,
-        alloc: Global,
-        list: &[analysed::Statement],
-    ) -> Result<Vec<Statement>, ElabFault>
-        requires { IsSite self.now }
-        ensures { Expands (λ v. statements_of v.items)
-            (definition.statements (site_view self.now) (analysed.statements_of (map analysed.statement_view list.now))) result }
-    {
         let mut body = Vec::new(alloc);
-        self.add_statements(alloc, list, &mut body)?;
+        self.add_statements(alloc, statements, &mut body)?;
         Ok(body)
     }
 
@@ -171,7 +159,7 @@ impl Site<'_> {
             (analysed.last_of (analysed.option_statements_view (out-If conditional.now).otherwise))) result }
     {
         let branches = self.branches(alloc, &conditional.branches, conditional.at)?;
-        let otherwise = self.otherwise(alloc, conditional)?;
+        let (branches, otherwise) = both(branches, self.otherwise(alloc, conditional))?;
         Ok(Statement::If {
             branches,
             otherwise,
@@ -211,7 +199,7 @@ impl Site<'_> {
             (steps.branch (site_view self.now) (analysed.branch_view branch.now)) result }
     {
         let test = self.expanded_test(alloc, &branch.condition, at)?;
-        let statements = self.sequence(alloc, &branch.statements)?;
+        let (test, statements) = both(test, self.body(alloc, &branch.statements))?;
         Ok(Branch { test, statements })
     }
 
@@ -231,7 +219,7 @@ impl Site<'_> {
         match &conditional.otherwise {
             None => Ok(None),
             Some(list) => {
-                let statements = self.sequence(alloc, list)?;
+                let statements = self.body(alloc, list)?;
                 Ok(Some(statements))
             }
         }
@@ -249,8 +237,10 @@ impl Site<'_> {
         let at = selection.at;
         let selector = self.expanded_value(alloc, &selection.selector, at)?;
         let width = selector.width;
-        let alternatives = self.alternatives(alloc, &selection.alternatives, width, at)?;
-        let others = self.sequence(alloc, &selection.others)?;
+        let alternatives = self.alternatives(alloc, &selection.alternatives, width, at);
+        let (selector, alternatives) = both(selector, alternatives)?;
+        let others = both(alternatives, self.body(alloc, &selection.others));
+        let (selector, (alternatives, others)) = both(selector, others)?;
         Ok(Statement::Case {
             selector: selector.value,
             alternatives,
@@ -293,7 +283,8 @@ impl Site<'_> {
             (steps.alternative (site_view self.now) width.len (analysed.alternative_view alternative.now)) result }
     {
         let choices = choices(alloc, width, &alternative.choices, at)?;
-        let statements = self.sequence(alloc, &alternative.statements)?;
+        let statements = self.body(alloc, &alternative.statements);
+        let (choices, statements) = both(choices, statements)?;
         Ok(Alternative {
             choices,
             statements,

@@ -5,7 +5,7 @@ ghost use Rattle.rtl_model.specs.bodies.Body as body;
 ghost use Rattle.vhdl_names.specs.views.Vectors as analysed;
 ghost use Rattle.vhdl_names.specs.views.Vectors.{part_view, signal_view};
 ghost use Rattle.vhdl_expand.specs.Expressions as definition;
-ghost use Rattle.vhdl_expand.specs.Site.{signal_elements, variable_elements, the_element};
+ghost use Rattle.vhdl_expand.specs.Site.{signal_elements, the_element};
 ghost use Rattle.vhdl_expansion.specs.Results.{Expands};
 ghost use Rattle.vhdl_expansion.specs.Selecteds.{selected_view};
 ghost use Rattle.vhdl_expansion.specs.Sites.{IsSite, site_view};
@@ -46,15 +46,6 @@ impl Site<'_> {
         element(run)
     }
 
-    /// The element that a variable, or part of one, is; a fault is StaticError or Index.
-    fn variable_element(&self, number: usize, part: &Part, at: usize) -> Result<u32, ElabFault>
-        requires { IsSite self.now }
-        ensures { Expands (λ n. n) (the_element (variable_elements (site_view self.now) number (part_view part.now))) result }
-    {
-        let run = self.variable_elements(number, part, at)?;
-        element(run)
-    }
-
     /// A value, expanded; a fault is StaticError, Length, Index or TooWide.
     #[tactic(auto, unfolding(vhdl_expand::specs::Expressions::value))]
     pub(crate) fn expanded_value(
@@ -83,7 +74,8 @@ impl Site<'_> {
                 })
             }
             Value::StateOfVariable(number) => {
-                let element = self.variable_element(*number, &Part::Whole, at)?;
+                let run = self.variable_elements(*number, &Part::Whole, at)?;
+                let element = element(run)?;
                 Ok(Selected {
                     value: rtl_net::Value::PositionIn(element),
                     width: Width { len: 1 },

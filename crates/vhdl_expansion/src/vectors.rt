@@ -1,11 +1,6 @@
 //! Elements and vectors of the nine values, expanded (IEEE 1076-2008, clause 9; numeric_std).
 
 ghost use Rattle.std.specs.Prelude.{◌≡◌, length};
-ghost use Rattle.rtl_model.specs.bodies.Body as body;
-ghost use Rattle.rtl_model.specs.bodies.Fits as fits;
-ghost use Rattle.rtl_model.specs.bodies.Fits.{operated_width};
-ghost use Rattle.rtl_net.specs.Bodies.{expr_view, operator_view};
-ghost use Rattle.std.specs.Prelude.{IfOk};
 ghost use Rattle.vhdl_names.specs.units.Expressions as units;
 ghost use Rattle.vhdl_names.specs.views.Integers.{static_view};
 ghost use Rattle.vhdl_names.specs.views.Vectors.{part_view, place_view, vector_view};
@@ -13,9 +8,10 @@ ghost use Rattle.vhdl_expand.specs.Expressions as definition;
 ghost use Rattle.vhdl_expansion.specs.Results.{Expands};
 ghost use Rattle.vhdl_expansion.specs.Sites.{IsSite, site_view};
 ghost use Rattle.vhdl_expansion.specs.steps.Vectors as steps;
-ghost use Rattle.vhdl_expansion.specs.Operands.{operand_view, linked_view, chain_view};
+ghost use Rattle.vhdl_expansion.specs.Operands.{operand_view, chain_view};
 
-use crate::operand::{Chain, Linked, Operand, Width, applied, chained, numeric, operator};
+use crate::both::both;
+use crate::operand::{Chain, Operand, Width, numeric, operator};
 use crate::site::{Site, elements};
 use rtl_net::Expr;
 use std::alloc::Global;
@@ -47,7 +43,10 @@ impl Site<'_> {
         match vector {
             Vector::Signal(place) => self.signal(place),
             Vector::Variable(at, number, part) => self.variable(*number, part, *at),
-            Vector::Constant(at, number, part) => self.constant(*number, part, *at),
+            Vector::Constant(at, number, part) => {
+                let values = self.constant_values(*number, part, *at)?;
+                Ok(Operand::constant(values))
+            }
             Vector::Character(_, value) | Vector::EnclosedCharacter(_, value) => {
                 Ok(Operand::constant(Vec9::fill(*value, 1)))
             }
@@ -57,8 +56,9 @@ impl Site<'_> {
                 Ok(operand.inverse(alloc)?)
             }
             Vector::Chain(start, links) => {
-                let chain = self.started(alloc, start)?;
-                self.continued(alloc, chain, links)
+                let mut chain = self.started(alloc, start)?;
+                self.add_links(alloc, links, &mut chain)?;
+                Ok(chain.whole())
             }
             Vector::IntegerWith(operator, at, integer, operand) => {
                 self.integer_with(alloc, *operator, operand, integer, *at)
@@ -67,12 +67,12 @@ impl Site<'_> {
             Vector::Resized(at, operand, size) => self.resized(alloc, operand, size, *at),
             Vector::ShiftedLeft(at, operand, count) => {
                 let operand = self.expanded(alloc, operand)?;
-                let count = self.integers.natural(count, *at)?;
+                let (operand, count) = both(operand, self.integers.natural(count, *at))?;
                 Ok(operand.shifted_left(alloc, count)?)
             }
             Vector::ShiftedRight(at, operand, count) => {
                 let operand = self.expanded(alloc, operand)?;
-                let count = self.integers.natural(count, *at)?;
+                let (operand, count) = both(operand, self.integers.natural(count, *at))?;
                 Ok(operand.shifted_right(alloc, count)?)
             }
         }
@@ -104,14 +104,6 @@ impl Site<'_> {
         })
     }
 
-    /// A constant or part of one.
-    fn constant(&self, number: usize, part: &Part, at: usize) -> Result<Operand, ElabFault>
-        ensures { Expands operand_view (steps.constant (site_view self.now) number (part_view part.now)) result }
-    {
-        let values = self.constant_values(number, part, at)?;
-        Ok(Operand::constant(values))
-    }
-
     /// `to_unsigned`.
     #[tactic(auto, using(crate::proofs::Places::size_fits))]
     fn encoded(&self, number: &Static, size: &Static, at: usize) -> Result<Operand, ElabFault>
@@ -137,7 +129,7 @@ impl Site<'_> {
             (steps.resized (site_view self.now) (vector_view operand.now) (static_view size.now)) result }
     {
         let operand = self.expanded(alloc, operand)?;
-        let len = self.integers.size_of(size, at)?;
+        let (operand, len) = both(operand, self.integers.size_of(size, at))?;
         Ok(operand.resized(alloc, len)?)
     }
 
@@ -157,8 +149,7 @@ impl Site<'_> {
     {
         let number = self.integers.natural(integer, at)?;
         let operand = self.expanded(alloc, operand)?;
-        let digits = Operand::constant(Vec9::of_nat(u64::from(number), operand.width.len));
-        digits.with(alloc, numeric(operator), operand, at)
+        operand.behind(alloc, number, numeric(operator), at)
     }
 
     /// The first operator of a chain.
@@ -168,53 +159,43 @@ impl Site<'_> {
         ensures { Expands chain_view (steps.started (site_view self.now) start.now) result }
     {
         let first = self.expanded(alloc, &start.first)?;
-        let next = self.link(alloc, first.width, &start.link)?;
-        Ok(first.begin(alloc, next)?)
+        let mut chain = first.begin(alloc)?;
+        self.add_link(alloc, &start.link, &mut chain)?;
+        Ok(chain)
     }
 
-    /// A chain with its further operators.
+    /// Puts further operators behind a chain.
     #[cycle(vector)]
-    fn continued(
+    fn add_links(
         &self,
         alloc: Global,
-        chain: Chain,
         links: &[VectorLink],
-    ) -> Result<Operand, ElabFault>
+        chain: &mut Chain,
+    ) -> Result<(), ElabFault>
         requires { IsSite self.now }
-        ensures { Expands operand_view (steps.all_linked (site_view self.now) (chain_view chain) links.now) result }
+        ensures { Expands (λ _. chain_view chain.new) (steps.all_linked (site_view self.now) (chain_view chain.old) links.now) result }
     {
-        let Chain {
-            first,
-            mut rest,
-            mut width,
-        } = chain;
         for link in links {
-            let next = self.link(alloc, width, link)?;
-            rest.push(next.link)?;
-            width = next.width;
+            self.add_link(alloc, link, chain)?;
         }
-        let expr = chained(alloc, first, rest)?;
-        Ok(Operand { expr, width })
+        Ok(())
     }
 
-    /// An operator with its right operand, after so many elements.
+    /// Puts an operator with its right operand behind a chain.
     #[cycle(vector)]
-    fn link(&self, alloc: Global, left: Width, link: &VectorLink) -> Result<Linked, ElabFault>
+    fn add_link(&self, alloc: Global, link: &VectorLink, chain: &mut Chain) -> Result<(), ElabFault>
         requires { IsSite self.now }
-        ensures given { (d : body.Expr) → fits.width d ≡ left.len
-            → Expands (linked_view d) (steps.linked (site_view self.now) d link.now) result }
-        ensures width { IfOk result
-            (λ x. x.width.len ≡ operated_width (operator_view x.link.operator) left.len (fits.width (expr_view x.link.operand))) }
+        ensures { Expands (λ _. chain_view chain.new) (steps.linked (site_view self.now) (chain_view chain.old) link.now) result }
     {
         match link {
             VectorLink::Vector(kind, at, operand) => {
                 let operand = self.expanded(alloc, operand)?;
-                applied(left, operator(*kind), operand, *at)
+                chain.add(operator(*kind), operand, *at)
             }
             VectorLink::Integer(kind, at, integer) => {
                 let number = self.integers.natural(integer, *at)?;
-                let digits = Operand::constant(Vec9::of_nat(u64::from(number), left.len));
-                applied(left, numeric(*kind), digits, *at)
+                let digits = Operand::constant(Vec9::of_nat(u64::from(number), chain.width.len));
+                chain.add(numeric(*kind), digits, *at)
             }
         }
     }

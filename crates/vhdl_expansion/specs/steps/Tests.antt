@@ -1,15 +1,17 @@
 -- Parts of conditions, as the code comes to them.
 use Rattle.std.specs.Prelude.{Bool, true, false, List, [], ◌∷◌, Option, Some, None, Ok}
 use Rattle.vhdl_values.specs.declared.scalar.Nine.{Nine}
+use Rattle.vhdl_values.specs.declared.kinds.Cmp.{Cmp}
 use Rattle.vhdl_names.specs.declared.test.TestLink.{TestLink}
 use Rattle.vhdl_names.specs.declared.test.TestStart.{TestStart}
 use Rattle.vhdl_names.specs.views.Tests.{test_view}
 use Rattle.vhdl_names.specs.units.Expressions as u
-use Rattle.vhdl_names.specs.units.Expressions.{Place, Vector, Value}
+use Rattle.vhdl_names.specs.units.Expressions.{Static, Place, Vector, Value}
 use Rattle.rtl_model.specs.bodies.Body as b
 use Rattle.vhdl_expand.specs.Elab.{Elab, ◌>>=◌}
 use Rattle.vhdl_expand.specs.Site.{Site, place_elements}
-use Rattle.vhdl_expand.specs.Expressions.{levelled, value, test}
+use Rattle.vhdl_expand.specs.Integers.{natural}
+use Rattle.vhdl_expand.specs.Expressions.{levelled, value, vector, test}
 
 -- a character literal, and whether it stands with no parentheses
 pub record Character : Type 0 where
@@ -45,6 +47,24 @@ module _ (at : Site) where
     d ← value at v
     e ← value at w
     Ok (b.equal d e)
+
+  abbrev pub unlike : Value → Value → Elab b.Test
+  unlike v w = do
+    d ← value at v
+    e ← value at w
+    Ok (b.unequal d e)
+
+  abbrev pub compared : Cmp → Vector → Vector → Elab b.Test
+  compared op x y = do
+    d ← vector at x
+    e ← vector at y
+    Ok (b.compared op d e)
+
+  abbrev pub compared_to : Cmp → Vector → Static → Elab b.Test
+  compared_to op x s = do
+    e ← vector at x
+    n ← natural at.integers s
+    Ok (b.compared_to op e n)
 
   -- a name and a character literal, in either order, or any other values
   abbrev pub alike : Value → Value → Elab b.Test

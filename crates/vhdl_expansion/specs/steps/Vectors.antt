@@ -14,7 +14,7 @@ use Rattle.rtl_model.specs.bodies.Fits.{width}
 use Rattle.vhdl_expand.specs.Elab.{Elab, ◌>>=◌, ◌>>◌}
 use Rattle.vhdl_expand.specs.Integers.{natural}
 use Rattle.vhdl_expand.specs.Kinds.{as_size, size_of}
-use Rattle.vhdl_expand.specs.Site.{Site, place_elements, variable_elements, constant_values}
+use Rattle.vhdl_expand.specs.Site.{Site, place_elements, variable_elements}
 use Rattle.vhdl_expand.specs.Expressions.{operated, operator, numeric, vector}
 
 abbrev pub literal : List Nine → Elab b.Expr
@@ -32,11 +32,6 @@ module _ (at : Site) where
   variable k part = do
     es ← variable_elements at k part
     Ok (b.variable es)
-
-  abbrev pub constant : ℕ → Part → Elab b.Expr
-  constant k part = do
-    vs ← constant_values at k part
-    Ok (b.constant vs)
 
   abbrev pub encoded : Static → Static → Elab b.Expr
   encoded s t = do
