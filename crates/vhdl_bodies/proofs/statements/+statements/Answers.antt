@@ -9,7 +9,7 @@ use Rattle.vhdl_bodies.proofs.steps.Cases.{case_gives}
 use Rattle.vhdl_bodies.proofs.statements.+statements.Goals as goal
 
 pub turn-returns-clause-kept : goal.turn-returns-clause-kept
-turn-returns-clause-kept t c = left_loop _ _ _ _ _ c.in_ok-enter_loop.ensures.given c.statements.ensures.kept c.leave_loop.ensures
+turn-returns-clause-kept t c = left_loop _ _ _ _ _ c.in_ok-enter_loop.ensures.given c.statements-found.ensures.kept c.leave_loop.ensures
 
 pub statement-returns-in-If-clause-given : goal.statement-returns-in-If-clause-given
 statement-returns-in-If-clause-given t c =
