@@ -204,7 +204,7 @@ def hierarchy(number=250):
     return QUAD + whole("hierarchy", ports, declarations, statements)
 
 
-def quiet(vectors=16384):
+def quiet(vectors=16383):
     """A million nets that nothing changes, beside one that toggles."""
     declarations = [f"  signal n{k} : {vector(64)} := (others => '0');" for k in range(vectors)]
     statements = ["  process (clk) begin if rising_edge(clk) then toggle <= not toggle; end if; end process;", "  y <= toggle;"]

@@ -1,4 +1,5 @@
 pub mod Instructions
+pub mod Combined
 pub mod Ends
 pub mod Bodies
 pub mod Written

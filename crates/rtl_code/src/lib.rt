@@ -5,6 +5,7 @@
 #![tactic(auto)]
 
 mod code;
+mod combining;
 mod compiling;
 mod giving;
 mod instruction;

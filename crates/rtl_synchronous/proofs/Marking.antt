@@ -1,9 +1,10 @@
 -- Marks that follow the changes of nets.
-use Rattle.std.proofs.Common.{◌≡◌, ℕ, ◌<◌, Bool, true, false, List, [], length, get_or, set, refl, sym, subst, ◌∙◌, ◌⊎◌, inl, inr, Contains}
-use Rattle.std.proofs.lemmas.Bool.{cases_eq}
+use Rattle.std.proofs.Common.{◌≡◌, ℕ, ◌+◌, ◌-◌, ◌<◌, ◌≤◌, Bool, true, false, List, [], length, get_or, set, refl, sym, ap, subst, ◌∙◌, arith, ◌⊎◌, inl, inr, Contains}
+use Rattle.std.proofs.lemmas.Bool.{cases_eq, cases_lt}
 use Rattle.std.proofs.lemmas.List.{get_or-set_same, get_or-set_other}
 use Rattle.rtl_kernel.specs.wakes.Woken.{Adds}
-use Rattle.rtl_synchronous.specs.Marks.{Marks, Follows}
+use Rattle.rtl_kernel.specs.values.TwoValues.{IsWritten}
+use Rattle.rtl_synchronous.specs.Marks.{Marks, IsOfRun, Follows}
 
 module _ (index : List (List ℕ)) where
   pub marks_none : (nets : ℕ → Type 0) (v : List ℕ) (m : List Bool) → Marks index nets v v m m
@@ -50,6 +51,31 @@ module _ (index : List (List ℕ)) where
       other : (k : ℕ) → (get_or a k false ≡ true) ⊎ Contains (get_or index net []) k → (get_or a k false ≡ true) ⊎ ((n : ℕ) × (n ≡ net) × Follows index n k)
       other k (inl h) = inl h
       other k (inr c) = inr (net, refl, c)
+
+  -- the followers of a run of nets, which have the same
+  pub marks_run : (v w : List ℕ) (first : ℕ) (given : List ℕ) (a b : List Bool) → 0 < length given → ((k : ℕ) → k < length given → get_or index (first + k) [] ≡ get_or index first [])
+      → IsWritten first given v w → length b ≡ length a → Adds (get_or index first []) a b → Marks index (IsOfRun first (length given)) v w a b
+  marks_run v w first given a b some together W many A = record {
+    as_many = many;
+    kept = A.kept;
+    followed = λ n k differs f. followed n k differs f (cases_lt n first);
+    no_other = λ k h. other k (A.no_other k h);
+  }
+    where
+      behind : (n k : ℕ) → (get_or v n 0 ≡ get_or w n 0 → ⊥) → Follows index n k → first ≤ n → (n < first + length given) ⊎ (first + length given ≤ n) → get_or b k false ≡ true
+      behind n k differs f low (inl less) =
+          let at : first + (n - first) ≡ n = omega (arith, low) in
+          let row = ap (λ (m : ℕ). get_or index m []) (sym at) ∙ together (n - first) (omega (arith, less, low)) in
+          A.added k (subst (λ (xs : List ℕ). Contains xs k) row f)
+      behind n k differs f low (inr past) = absurd (differs (sym (W.behind n past)))
+
+      followed : (n k : ℕ) → (get_or v n 0 ≡ get_or w n 0 → ⊥) → Follows index n k → (n < first) ⊎ (first ≤ n) → get_or b k false ≡ true
+      followed n k differs f (inl less) = absurd (differs (sym (W.below n less)))
+      followed n k differs f (inr low) = behind n k differs f low (cases_lt n (first + length given))
+
+      other : (k : ℕ) → (get_or a k false ≡ true) ⊎ Contains (get_or index first []) k → (get_or a k false ≡ true) ⊎ ((n : ℕ) × IsOfRun first (length given) n × Follows index n k)
+      other k (inl h) = inl h
+      other k (inr c) = inr (first, record { at = 0; within = some; is = omega arith }, c)
 
   -- a value that the net has
   pub marks_same : (v : List ℕ) (net value : ℕ) (a : List Bool) → net < length v → get_or v net 0 ≡ value → Marks index (λ n. n ≡ net) v (set v net value) a a

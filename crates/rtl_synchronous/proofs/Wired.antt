@@ -17,9 +17,10 @@ use Rattle.rtl_model.proofs.nets.Connected.{connected_is_elaborated}
 use Rattle.rtl_model.proofs.simulation.Faultless.{faultless}
 use Rattle.rtl_model.proofs.simulation.Leveled.{Leveled, leveled}
 use Rattle.rtl_eval.specs.Runs.{Outcome}
-use Rattle.rtl_kernel.specs.drivers.Transactions.{HasRunOf, nets_of, no_outcome}
+use Rattle.rtl_kernel.specs.drivers.Transactions.{HasRunOf, all_targets, nets_of, no_outcome}
 use Rattle.rtl_kernel.specs.wakes.Woken.{AreDifferent}
-use Rattle.rtl_kernel.proofs.Wiring.{targets_are}
+use Rattle.rtl_kernel.proofs.Wiring.{nets_there, targets_are}
+use Rattle.rtl_layout.specs.Cuts.{AreCuts, AreCutsOf, Cutting}
 use Rattle.rtl_net.specs.Nets.{NetView, flat, process_view, variable_view}
 use Rattle.rtl_net.specs.declared.process.Process.{Process}
 use Rattle.rtl_synchronous.specs.Kept.{MayRun, core}
@@ -56,6 +57,9 @@ module _ (net : NetView) where
       row p (inl e) = rw e (wakes_there R p)
       row p (inr e) = rw e (λ k d m. absurd (omega (arith, m)))
 
+  pub all_targets_there : IsInRange (flat net) → All (λ (nets : List ℕ). All (λ n. n < length net.types) nets) (all_targets net.processes)
+  all_targets_there R = All-map (λ (nets : List ℕ). All (λ n. n < length net.types) nets) (λ (p : Process). nets_of p.drives.items) net.processes (nets_there net R)
+
   pub processes_many : length (core net).processes ≡ length net.processes
   processes_many = length-map (flat net).processes (core_process net.inputs) ∙ length-map net.processes process_view
 
@@ -65,6 +69,16 @@ module _ (net : NetView) where
         ap (λ (x : Process). nets_of x.drives.items) is
         ∙ sym (get_or-map_within (λ (x : Process). nets_of x.drives.items) net.processes p q [] there)
         ∙ targets_are net p
+
+    module _ (of_net : List ℕ) (cutting : Cutting) (C : AreCutsOf of_net (all_targets net.processes) cutting) where
+      pub cuts_many : p < length cutting.cuts
+      cuts_many = rw (C.each_process, length-map net.processes (λ (x : Process). nets_of x.drives.items)) there
+
+      pub cuts_are : AreCuts of_net (nets_of q.drives.items) (get_or cutting.cuts p []) (get_or cutting.numbers p [])
+      cuts_are =
+          subst (λ (ns : List ℕ). AreCuts of_net ns (get_or cutting.cuts p []) (get_or cutting.numbers p []))
+          (get_or-map_within (λ (x : Process). nets_of x.drives.items) net.processes p q [] there ∙ sym (ap (λ (x : Process). nets_of x.drives.items) is))
+          (C.each p (rw (length-map net.processes (λ (x : Process). nets_of x.drives.items)) there))
 
     pub drivers_many : length q.drives.items ≡ length (process_at (flat net) p).drivers
     drivers_many =

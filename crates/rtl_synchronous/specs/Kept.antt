@@ -10,7 +10,10 @@ use Rattle.rtl_model.specs.simulation.Machine.{Solves}
 use Rattle.rtl_model.specs.simulation.Range.{IsValuation}
 use Rattle.rtl_eval.specs.Runs.{Outcome}
 use Rattle.rtl_kernel.specs.kernel.Kept.{RunBodies, HaveRoom}
+use Rattle.rtl_kernel.specs.drivers.Transactions.{all_targets}
+use Rattle.rtl_layout.specs.Cuts.{AreCutsOf}
 use Rattle.rtl_net.specs.Nets.{NetView, flat}
+use Rattle.rtl_synchronous.specs.declared.schedule.Schedule.{Schedule}
 use Rattle.rtl_synchronous.specs.Running.{KeepsResets}
 use Rattle.rtl_synchronous.specs.Marks.{HasNoMark}
 use Rattle.rtl_synchronous.specs.Scheduled.{IsSchedule}
@@ -26,6 +29,10 @@ pub record MayRun {E : Type 0} (process : E → FlatProcess) (types : E → List
   pub accepted : IsAccepted (core net)
   pub run_bodies : RunBodies process types (flat net) bodies
   pub room : HaveRoom most (flat net) bodies runs
+
+-- each process's drivers are cut over the nets that the same combinational processes are sensitive to
+abbrev pub HasCuts : NetView → Schedule → Type 0
+HasCuts net schedule = AreCutsOf schedule.readers.of_net (all_targets net.processes) schedule.cuts
 
 -- the values have settled, for some inputs and registers
 pub record IsAtRest (net : Net) (before values : List ℕ) : Type 0 where

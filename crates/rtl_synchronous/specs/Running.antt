@@ -1,7 +1,8 @@
 -- What the runs of single processes are to a valuation.
-use Rattle.std.specs.Prelude.{◌≡◌, ℕ, ◌<◌, List, length, slice_index, slice_index_or, Option, Some, None, IsTrue}
+use Rattle.std.specs.Prelude.{◌≡◌, ℕ, ◌<◌, List, length, map, slice_index, slice_index_or, Option, Some, None, IsTrue}
 use Rattle.rtl_model.specs.simulation.Net.{Net, Edge, process, target, reset_of, reset_entry, resets, HasPlace, IsClockedBy}
 use Rattle.rtl_model.specs.simulation.Machine.{entry_or}
+use Rattle.rtl_kernel.specs.drivers.Updates.{IsTaken}
 
 -- what p drives has, in v, the value that its effect in v gives
 abbrev pub IsSettled : Net → (v : List ℕ) → (p : ℕ) → Type 0
@@ -14,6 +15,17 @@ pub record TakesOver (targets : List ℕ) (entries : List (Option ℕ)) (v w : L
   -- a target has its entry, and without one v's value
   pub on_targets : (place : ℕ) → place < length targets → slice_index w (slice_index targets place)
       ≡ entry_or (slice_index_or entries place None) (slice_index v (slice_index targets place))
+  pub on_others : (n : ℕ) → ((place : ℕ) → place < length targets → slice_index targets place ≡ n → ⊥) → slice_index w n ≡ slice_index v n
+
+-- the values that the targets have
+abbrev pub at_targets : (targets v : List ℕ) → List ℕ
+at_targets targets v = map (slice_index v) targets
+
+-- some of the targets have their entries in w, all others what they have in v
+pub record TakesPart (targets : List ℕ) (entries : List (Option ℕ)) (v w : List ℕ) : Type 0 where
+  pub each_net : length w ≡ length v
+  pub unassigned : (place : ℕ) → slice_index_or entries place None ≡ None → slice_index (at_targets targets w) place ≡ slice_index (at_targets targets v) place
+  pub stay : (place : ℕ) → IsTaken entries (at_targets targets v) place → IsTaken entries (at_targets targets w) place
   pub on_others : (n : ℕ) → ((place : ℕ) → place < length targets → slice_index targets place ≡ n → ⊥) → slice_index w n ≡ slice_index v n
 
 -- w is v with p's entries in v at its targets

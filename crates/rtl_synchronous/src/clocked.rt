@@ -10,13 +10,13 @@ ghost use Rattle.rtl_eval.specs.Runs.{IsOf};
 ghost use Rattle.rtl_kernel.specs.drivers.Transactions.{no_outcome};
 ghost use Rattle.rtl_kernel.specs.wakes.Woken.{wakers_of};
 ghost use Rattle.rtl_net.specs.Nets.{flat};
-ghost use Rattle.rtl_synchronous.specs.Kept.{MayRun, core};
+ghost use Rattle.rtl_synchronous.specs.Kept.{HasCuts, MayRun, core};
 ghost use Rattle.rtl_synchronous.specs.Marks.{AreBelow, HasNoMark, Marks};
 ghost use Rattle.rtl_synchronous.specs.Steps.{AllTakeOver};
 
-use crate::running::{run, take_over};
+use crate::running::{Row, run, take_over};
+use crate::schedule::Schedule;
 use rtl_eval::{Drives, Exec};
-use rtl_layout::Groups;
 use rtl_net::Net;
 
 /// Runs the marked processes. Nothing is taken over, so each of them reads what was there before any of them ran.
@@ -46,7 +46,7 @@ pub fn run_marked<E: Exec>(
 pub fn take_marked(
     net: &Net,
     runs: &[Drives],
-    groups: &Groups,
+    schedule: &Schedule,
     marked: &mut Vec<bool>,
     values: &mut Vec<u8>,
     dirty: &mut Vec<bool>,
@@ -59,11 +59,12 @@ pub fn take_marked(
     requires entries { (p place x : ℕ) → IsTrue (slice_index_or marked.old.items p false) → HasPlace (core net.now) p place
         → slice_index_or (slice_index_or runs.now p no_outcome).entries place None ≡ Some x → x < limit (core net.now) (target (core net.now) p place) }
     requires in_range { IsValuation (core net.now) values.old.items }
-    requires each_net { length (wakers_of groups.now) ≡ length values.old.items }
-    requires below { AreBelow (wakers_of groups.now) (length dirty.old.items) }
+    requires cuts { HasCuts net.now schedule.now }
+    requires each_net { length (wakers_of schedule.now.readers) ≡ length values.old.items }
+    requires below { AreBelow (wakers_of schedule.now.readers) (length dirty.old.items) }
     ensures taken { AllTakeOver (core net.now) marked.old.items (λ p. (slice_index_or runs.now p no_outcome).entries) values.old.items values.new.items }
     ensures in_range { IsValuation (core net.now) values.new.items }
-    ensures dirty { Marks (wakers_of groups.now) (λ _. ⊤) values.old.items values.new.items dirty.old.items dirty.new.items }
+    ensures dirty { Marks (wakers_of schedule.now.readers) (λ _. ⊤) values.old.items values.new.items dirty.old.items dirty.new.items }
     ensures each_process { length marked.new.items ≡ length marked.old.items }
     ensures none_marked { HasNoMark marked.new.items }
 {
@@ -71,8 +72,12 @@ pub fn take_marked(
     for process in 0..marked.len() {
         if marked[process] {
             marked[process] = false;
-            let drives = &processes[process].drives;
-            take_over(drives, &runs[process], groups, values, dirty);
+            let row = Row {
+                drives: &processes[process].drives,
+                cuts: schedule.cuts.of(process),
+                numbers: schedule.cuts.numbers(process),
+            };
+            take_over(row, &runs[process], &schedule.readers, values, dirty);
         }
     }
 }

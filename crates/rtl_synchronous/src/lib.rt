@@ -16,6 +16,8 @@ mod order;
 mod outcomes;
 mod running;
 mod schedule;
+mod slices;
 mod sweep;
+mod targets;
 
 pub use machine::Machine;

@@ -12,7 +12,7 @@ ghost use Rattle.rtl_kernel.specs.kernel.Kept.{RunBodies};
 ghost use Rattle.rtl_kernel.specs.kernel.Simulation.{changes_of, initial_inputs};
 ghost use Rattle.rtl_kernel.specs.wakes.Woken.{wakers_of};
 ghost use Rattle.rtl_net.specs.Nets.{flat};
-ghost use Rattle.rtl_synchronous.specs.Kept.{MayRun, core};
+ghost use Rattle.rtl_synchronous.specs.Kept.{HasCuts, MayRun, core};
 ghost use Rattle.rtl_synchronous.specs.Marks.{HasNoMark};
 ghost use Rattle.rtl_synchronous.specs.Running.{IsSettled};
 ghost use Rattle.rtl_synchronous.specs.Scheduled.{IsSchedule, without_level};
@@ -57,12 +57,12 @@ impl<'a, E: Exec> Model for Machine<'a, E> {
 
     ghost coded = { Prim.hlevel (codes, process_contract.the_row.coded) };
 
-    ghost use Rattle.rtl_synchronous.specs.Kept.{IsMachine};
+    ghost use Rattle.rtl_synchronous.specs.Kept.{HasCuts, IsMachine};
     ghost use Rattle.rtl_kernel.specs.wakes.Woken.{wakers_of};
 
     ghost view = { λ m. record { net = m.net.now; values = m.values.items } };
 
-    ghost invariant = { λ m. IsMachine E.process E.types E.most m.net.now m.bodies.now m.schedule.order.items (wakers_of m.schedule.readers) (wakers_of m.schedule.clocked) m.before.items m.values.items m.runs.items m.dirty.items m.woken.items };
+    ghost invariant = { λ m. IsMachine E.process E.types E.most m.net.now m.bodies.now m.schedule.order.items (wakers_of m.schedule.readers) (wakers_of m.schedule.clocked) m.before.items m.values.items m.runs.items m.dirty.items m.woken.items × HasCuts m.net.now m.schedule };
 }
 
 impl<'a, E: Exec> Machine<'a, E> {
@@ -173,6 +173,7 @@ fn come_to_rest<E: Exec>(
 )
     requires may { MayRun E.process E.types E.most net.now bodies.now runs.old.items }
     requires schedule { IsSchedule (core net.now) schedule.now.order.items (wakers_of schedule.now.readers) (wakers_of schedule.now.clocked) }
+    requires cuts { HasCuts net.now schedule.now }
     requires each_reader { length (wakers_of schedule.now.readers) ≡ length values.old.items }
     requires before { IsValuation (core net.now) before.now }
     requires in_range { IsValuation (core net.now) values.old.items }
@@ -190,6 +191,6 @@ fn come_to_rest<E: Exec>(
 {
     let _count = net.nets();
     run_marked(net, bodies, woken, before, values, runs);
-    take_marked(net, runs, &schedule.readers, woken, values, dirty);
+    take_marked(net, runs, schedule, woken, values, dirty);
     sweep(net, bodies, schedule, runs, values, dirty);
 }

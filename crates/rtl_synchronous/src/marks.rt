@@ -1,9 +1,11 @@
 //! Marks of those that are to run.
 
-ghost use Rattle.std.specs.Prelude.{◌≡◌, ◌<◌, length, slice_set, All};
+ghost use Rattle.std.specs.Prelude.{◌≡◌, ℕ, ◌+◌, ◌<◌, ◌≤◌, length, slice_index, slice_set, All};
+ghost use Rattle.rtl_kernel.specs.values.TwoValues.{IsWritten as HasRun};
 ghost use Rattle.rtl_kernel.specs.wakes.Woken.{Adds, wakers_of};
-ghost use Rattle.rtl_synchronous.specs.Marks.{AreBelow, Marks};
+ghost use Rattle.rtl_synchronous.specs.Marks.{AreBelow, IsOfRun, Marks};
 
+use crate::slices::{differ, write};
 use rtl_layout::Groups;
 
 /// Marks these numbers.
@@ -26,5 +28,28 @@ pub fn mark_followers(groups: &Groups, values: &[u8], net: usize, value: u8, mar
 {
     if values[net] != value {
         mark(marks, groups.listed(groups.of_net()[net]));
+    }
+}
+
+/// Gives nets that stand one behind the other in one group these values, and marks what is sensitive to them, if one is to get
+/// another value than it has.
+pub fn set_run(
+    groups: &Groups,
+    first: usize,
+    given: &[u8],
+    values: &mut Vec<u8>,
+    marks: &mut Vec<bool>,
+)
+    requires some { 0 < length given.now }
+    requires there { first + length given.now ≤ length values.old.items }
+    requires together { (k : ℕ) → k < length given.now → slice_index groups.now.of_net (first + k) ≡ slice_index groups.now.of_net first }
+    requires each_net { length (wakers_of groups.now) ≡ length values.old.items }
+    requires below { AreBelow (wakers_of groups.now) (length marks.old.items) }
+    ensures written { HasRun first given.now values.old.items values.new.items }
+    ensures marks { Marks (wakers_of groups.now) (IsOfRun first (length given.now)) values.old.items values.new.items marks.old.items marks.new.items }
+{
+    if differ(values, first, given) {
+        write(values, first, given);
+        mark(marks, groups.listed(groups.of_net()[first]));
     }
 }

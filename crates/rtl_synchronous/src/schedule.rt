@@ -4,21 +4,23 @@ ghost use Rattle.std.specs.Prelude.{◌≡◌, ℕ, ◌<◌, All, length, map, I
 ghost use Rattle.rtl_model.specs.simulation.Accepted.{IsAccepted};
 ghost use Rattle.rtl_model.specs.simulation.Levels.{AreLevels};
 ghost use Rattle.rtl_kernel.specs.wakes.Woken.{wakers_of};
-ghost use Rattle.rtl_synchronous.specs.Kept.{core};
+ghost use Rattle.rtl_synchronous.specs.Kept.{HasCuts, core};
 ghost use Rattle.rtl_synchronous.specs.Scheduled.{IsSchedule, clocked_wakes, wakes_by_rank};
 
 use crate::order::order_of;
-use rtl_layout::{Groups, Lists};
+use crate::targets::target_lists;
+use rtl_layout::{Cuts, Groups, Lists};
 use rtl_net::Net;
 use std::alloc::{AllocError, Global};
 
 /// The combinational processes in the order in which they are run, the ranks of those that are sensitive to each net, and the
-/// clocked processes that are.
+/// clocked processes that are; and the cuts of each process's drivers over nets that the same combinational ones are sensitive to.
 #[derive(Drop)]
 pub struct Schedule {
     pub order: Vec<usize>,
     pub readers: Groups,
     pub clocked: Groups,
+    pub cuts: Cuts,
 }
 
 impl Schedule {
@@ -28,6 +30,7 @@ impl Schedule {
         requires levels { (greatest : ℕ) × AreLevels (core net.now) levels.now greatest }
         ensures schedule { IfOk result (λ s. IsSchedule (core net.now) s.order.items (wakers_of s.readers) (wakers_of s.clocked)) }
         ensures each_reader { IfOk result (λ s. length (wakers_of s.readers) ≡ length net.now.types) }
+        ensures cuts { IfOk result (HasCuts net.now) }
         ensures each_clocked { IfOk result (λ s. length (wakers_of s.clocked) ≡ length net.now.types) }
     {
         let order = order_of(alloc, levels)?;
@@ -36,10 +39,13 @@ impl Schedule {
         let by_process = wakes_of_clocked(alloc, net, levels)?;
         let readers = Groups::new(alloc, &together, &by_rank)?;
         let clocked = Groups::new(alloc, &together, &by_process)?;
+        let targets = target_lists(alloc, net.processes())?;
+        let cuts = Cuts::new(alloc, readers.of_net(), &targets)?;
         Ok(Schedule {
             order,
             readers,
             clocked,
+            cuts,
         })
     }
 }

@@ -3,7 +3,7 @@
 ghost use Rattle.std.specs.Prelude.{◌≡◌, ℕ, ◌<◌, false, length, slice_index, slice_index_or};
 ghost use Rattle.rtl_model.specs.simulation.Range.{IsValuation};
 ghost use Rattle.rtl_kernel.specs.wakes.Woken.{wakers_of};
-ghost use Rattle.rtl_synchronous.specs.Kept.{MayRun, core};
+ghost use Rattle.rtl_synchronous.specs.Kept.{HasCuts, MayRun, core};
 ghost use Rattle.rtl_synchronous.specs.Marks.{HasNoMark};
 ghost use Rattle.rtl_synchronous.specs.Running.{IsSettled};
 ghost use Rattle.rtl_synchronous.specs.Scheduled.{IsSchedule};
@@ -26,6 +26,7 @@ pub fn sweep<E: Exec>(
 )
     requires may { MayRun E.process E.types E.most net.now bodies.now runs.old.items }
     requires schedule { IsSchedule (core net.now) schedule.now.order.items (wakers_of schedule.now.readers) (wakers_of schedule.now.clocked) }
+    requires cuts { HasCuts net.now schedule.now }
     requires each_reader { length (wakers_of schedule.now.readers) ≡ length values.old.items }
     requires in_range { IsValuation (core net.now) values.old.items }
     requires each_rank { length dirty.old.items ≡ length schedule.now.order.items }
@@ -40,7 +41,7 @@ pub fn sweep<E: Exec>(
         if dirty[rank] {
             dirty[rank] = false;
             let process = schedule.order[rank];
-            settle(net, bodies, &schedule.readers, process, runs, values, dirty);
+            settle(net, bodies, schedule, process, runs, values, dirty);
         }
     }
 }

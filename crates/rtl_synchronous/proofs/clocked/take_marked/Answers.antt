@@ -1,4 +1,4 @@
-use Rattle.std.proofs.Common.{◌≡◌, ◌<◌, ◌≤◌, ℕ, false, List, Option, Contains, All, length, get_or, set, below_more, ap, sym, subst, ◌∙◌, arith}
+use Rattle.std.proofs.Common.{◌≡◌, ◌<◌, ◌≤◌, ℕ, false, List, [], Option, Contains, All, length, get_or, set, below_more, ap, sym, subst, ◌∙◌, arith}
 use Rattle.std.specs.Prelude.{⊤}
 use Rattle.std.proofs.lemmas.List.{get_or_default, get_or-set_other, get_or-set_same, length-set}
 use Rattle.rtl_model.specs.simulation.Net.{process}
@@ -7,15 +7,53 @@ use Rattle.rtl_model.proofs.simulation.Leveled.{leveled}
 use Rattle.rtl_eval.specs.Runs.{Outcome}
 use Rattle.rtl_kernel.specs.drivers.Transactions.{nets_of, no_outcome}
 use Rattle.rtl_kernel.specs.wakes.Woken.{AreDifferent, wakers_of}
+use Rattle.rtl_layout.specs.declared.cuts.Cut.{Cut}
+use Rattle.rtl_layout.specs.Cuts.{AreCuts}
 use Rattle.rtl_net.specs.declared.process.Driver.{Driver}
 use Rattle.rtl_net.specs.declared.process.Process.{Process}
 use Rattle.rtl_synchronous.specs.Kept.{core}
 use Rattle.rtl_synchronous.specs.Running.{TakesOver}
 use Rattle.rtl_synchronous.proofs.Marking.{marks_then, marks_wider}
 use Rattle.rtl_synchronous.proofs.Together.{all_taken, one_skipped, one_taken, taken_in_range}
-use Rattle.rtl_synchronous.proofs.Wired.{drives_are, targets_differ, targets_there}
+use Rattle.rtl_synchronous.proofs.Wired.{cuts_are, cuts_many, drives_are, targets_differ, targets_there}
 use Rattle.rtl_synchronous.proofs.clocked.take_marked.Goals as goal
 use Rattle.rtl_synchronous.proofs.clocked.take_marked.Goals.{then-index, else-index}
+
+pub of-requires : goal.of-requires
+of-requires c =
+    let net = c.args.net.now in
+    let p = c.loop-process.process in
+    let q = c.index-processes-process.result in
+    let there : p < length net.processes = omega (arith, c.loop-process-test.true, c.len-process-end.ensures, c.args.marked.now.ok.0, c.requires.each_process) in
+    let is : q ≡ get_or net.processes p q = c.index-processes-process.is ∙ ap (λ (ps : List Process). get_or ps p q) c.processes-processes.ensures in
+    let of_net = c.args.schedule.now.readers.of_net in
+    let cutting = c.args.schedule.now.cuts in
+    cuts_many net p q there is of_net cutting c.requires.cuts
+
+pub numbers-requires : goal.numbers-requires
+numbers-requires c =
+    let net = c.args.net.now in
+    let p = c.loop-process.process in
+    let q = c.index-processes-process.result in
+    let there : p < length net.processes = omega (arith, c.loop-process-test.true, c.len-process-end.ensures, c.args.marked.now.ok.0, c.requires.each_process) in
+    let is : q ≡ get_or net.processes p q = c.index-processes-process.is ∙ ap (λ (ps : List Process). get_or ps p q) c.processes-processes.ensures in
+    let of_net = c.args.schedule.now.readers.of_net in
+    let cutting = c.args.schedule.now.cuts in
+    cuts_many net p q there is of_net cutting c.requires.cuts
+
+pub take_over-requires-clause-cuts : goal.take_over-requires-clause-cuts
+take_over-requires-clause-cuts c =
+    let net = c.args.net.now in
+    let p = c.loop-process.process in
+    let q = c.index-processes-process.result in
+    let there : p < length net.processes = omega (arith, c.loop-process-test.true, c.len-process-end.ensures, c.args.marked.now.ok.0, c.requires.each_process) in
+    let is : q ≡ get_or net.processes p q = c.index-processes-process.is ∙ ap (λ (ps : List Process). get_or ps p q) c.processes-processes.ensures in
+    let of_net = c.args.schedule.now.readers.of_net in
+    let cutting = c.args.schedule.now.cuts in
+    let here = c.deref.ensures.value ∙ ap (λ (x : Process). x.drives.items) (sym c.index-processes-process.is) in
+    subst (λ (ds : List Driver). AreCuts of_net (nets_of ds) c.of.result.now c.numbers.result.now) (sym here)
+    (subst (λ (cs : List Cut). AreCuts of_net (nets_of q.drives.items) cs c.numbers.result.now) (sym c.of.ensures)
+    (subst (λ (ns : List ℕ). AreCuts of_net (nets_of q.drives.items) (get_or cutting.cuts p []) ns) (sym c.numbers.ensures) (cuts_are net p q there is of_net cutting c.requires.cuts)))
 
 pub take_over-requires-clause-there : goal.take_over-requires-clause-there
 take_over-requires-clause-there c =
@@ -46,7 +84,7 @@ pub loop-process-preserved : goal.loop-process-preserved
 loop-process-preserved c =
     let net = c.args.net.now in
     let L = leveled (core net) c.requires.elaborated (faultless (core net) c.requires.accepted) in
-    let index = wakers_of c.args.groups.now in
+    let index = wakers_of c.args.schedule.now.readers in
     let runs = c.args.runs.now in
     let p = c.loop-process.process in
     let first = c.args.marked.now.items in

@@ -12,7 +12,7 @@ abbrev pub invariant-loop-process : goal.invariant-loop-process
 invariant-loop-process l = record {
   taking : AreTaking (core l.net) l.initial.marked.items (λ p. (get_or l.runs p no_outcome).entries) l.process l.initial.values.items l.values.items;
   in_range : IsValuation (core l.net) l.values.items;
-  dirty : Marks (wakers_of l.groups) (λ n. ⊤) l.initial.values.items l.values.items l.initial.dirty.items l.dirty.items;
+  dirty : Marks (wakers_of l.schedule.readers) (λ n. ⊤) l.initial.values.items l.values.items l.initial.dirty.items l.dirty.items;
   each_process : length l.marked.items ≡ length l.initial.marked.items;
   off : (k : ℕ) → k < l.process → get_or l.marked.items k false ≡ false;
   rest : (k : ℕ) → l.process ≤ k → get_or l.marked.items k false ≡ get_or l.initial.marked.items k false;

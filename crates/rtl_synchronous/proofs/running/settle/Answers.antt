@@ -1,10 +1,12 @@
-use Rattle.std.proofs.Common.{◌≡◌, ◌<◌, ℕ, List, Option, Contains, All, length, ap, sym, subst, ◌∙◌, get_or}
+use Rattle.std.proofs.Common.{◌≡◌, ◌<◌, ℕ, List, [], Option, Contains, All, length, ap, sym, subst, ◌∙◌, get_or}
 use Rattle.std.proofs.lemmas.List.{get_or_default}
 use Rattle.rtl_model.specs.simulation.Net.{process}
 use Rattle.rtl_model.proofs.nets.InRange.{keeps_range}
 use Rattle.rtl_eval.specs.Runs.{Outcome}
 use Rattle.rtl_kernel.specs.drivers.Transactions.{nets_of, no_outcome}
 use Rattle.rtl_kernel.specs.wakes.Woken.{AreDifferent, wakers_of}
+use Rattle.rtl_layout.specs.declared.cuts.Cut.{Cut}
+use Rattle.rtl_layout.specs.Cuts.{AreCuts}
 use Rattle.rtl_net.specs.Nets.{flat}
 use Rattle.rtl_net.specs.declared.process.Driver.{Driver}
 use Rattle.rtl_net.specs.declared.process.Process.{Process}
@@ -12,8 +14,38 @@ use Rattle.rtl_synchronous.specs.Kept.{core}
 use Rattle.rtl_synchronous.specs.Marks.{Marks}
 use Rattle.rtl_synchronous.specs.Running.{TakesOver}
 use Rattle.rtl_synchronous.proofs.Together.{taken_in_range}
-use Rattle.rtl_synchronous.proofs.Wired.{combinational_there, drives_are, is_leveled, ran_entries, runs_many, targets_differ, targets_there}
+use Rattle.rtl_synchronous.proofs.Wired.{combinational_there, cuts_are, cuts_many, drives_are, is_leveled, ran_entries, runs_many, targets_differ, targets_there}
 use Rattle.rtl_synchronous.proofs.running.settle.Goals as goal
+
+pub of-requires : goal.of-requires
+of-requires g c =
+    let net = c.args.net.now in
+    let q = c.index-processes-number.result in
+    let there = combinational_there _ _ _ _ _ _ c.requires.may c.args.number c.requires.combinational in
+    let is : q ≡ get_or net.processes c.args.number q = c.index-processes-number.is ∙ ap (λ (ps : List Process). get_or ps c.args.number q) c.processes-processes.ensures in
+    cuts_many net c.args.number q there is c.args.schedule.now.readers.of_net c.args.schedule.now.cuts c.requires.cuts
+
+pub numbers-requires : goal.numbers-requires
+numbers-requires g c =
+    let net = c.args.net.now in
+    let q = c.index-processes-number.result in
+    let there = combinational_there _ _ _ _ _ _ c.requires.may c.args.number c.requires.combinational in
+    let is : q ≡ get_or net.processes c.args.number q = c.index-processes-number.is ∙ ap (λ (ps : List Process). get_or ps c.args.number q) c.processes-processes.ensures in
+    cuts_many net c.args.number q there is c.args.schedule.now.readers.of_net c.args.schedule.now.cuts c.requires.cuts
+
+pub take_over-requires-clause-cuts : goal.take_over-requires-clause-cuts
+take_over-requires-clause-cuts g c =
+    let here = c.deref-3.ensures.value ∙ ap (λ (x : Process). x.drives.items) (sym c.index-processes-number.is) in
+    let net = c.args.net.now in
+    let p = c.args.number in
+    let q = c.index-processes-number.result in
+    let of_net = c.args.schedule.now.readers.of_net in
+    let cutting = c.args.schedule.now.cuts in
+    let there = combinational_there _ _ _ _ _ _ c.requires.may p c.requires.combinational in
+    let is : q ≡ get_or net.processes p q = c.index-processes-number.is ∙ ap (λ (ps : List Process). get_or ps p q) c.processes-processes.ensures in
+    subst (λ (ds : List Driver). AreCuts of_net (nets_of ds) c.of.result.now c.numbers.result.now) (sym here)
+    (subst (λ (cs : List Cut). AreCuts of_net (nets_of q.drives.items) cs c.numbers.result.now) (sym c.of.ensures)
+    (subst (λ (ns : List ℕ). AreCuts of_net (nets_of q.drives.items) (get_or cutting.cuts p []) ns) (sym c.numbers.ensures) (cuts_are net p q there is of_net cutting c.requires.cuts)))
 
 pub take_over-requires-clause-there : goal.take_over-requires-clause-there
 take_over-requires-clause-there g c =
@@ -73,4 +105,4 @@ returns-clause-marks g c =
     let there = combinational_there _ _ _ _ _ _ c.requires.may p c.requires.combinational in
     let is : q ≡ get_or net.processes p q = c.index-processes-number.is ∙ ap (λ (ps : List Process). get_or ps p q) c.processes-processes.ensures in
     let targets : nets_of c.deref-3.result.now ≡ (process (core net) p).drives = ap nets_of here ∙ drives_are net p q there is in
-    subst (λ (ns : List ℕ). Marks (wakers_of c.args.groups.now) (Contains ns) c.args.values.now.items c.take_over.new.values.items c.args.marks.now.items c.take_over.new.marks.items) targets c.take_over.ensures.marks
+    subst (λ (ns : List ℕ). Marks (wakers_of c.args.schedule.now.readers) (Contains ns) c.args.values.now.items c.take_over.new.values.items c.args.marks.now.items c.take_over.new.marks.items) targets c.take_over.ensures.marks

@@ -1,60 +1,56 @@
-use Rattle.std.proofs.Common.{◌≡◌, ◌<◌, ◌+◌, ℕ, length, get_or, set, ap, sym, subst, ◌∙◌, arith, Contains}
-use Rattle.std.proofs.lemmas.List.{length-map}
-use Rattle.std.proofs.lemmas.List.Elements.{Contains-get_or}
+use Rattle.std.proofs.Common.{arith, sym, ◌∙◌}
+use Rattle.rtl_eval.specs.declared.spans.Span.{Span}
+use Rattle.rtl_eval.proofs.Places.{place_assigned}
 use Rattle.rtl_kernel.specs.drivers.Transactions.{nets_of}
 use Rattle.rtl_kernel.specs.wakes.Woken.{wakers_of}
-use Rattle.rtl_kernel.proofs.Updating.{net_at}
-use Rattle.rtl_net.specs.declared.process.Driver.{Driver}
-use Rattle.rtl_synchronous.proofs.Marking.{marks_then, marks_wider}
-use Rattle.rtl_synchronous.proofs.Taking.{IsTaking, taking_one, taking_skip}
+use Rattle.rtl_kernel.proofs.Updating.{left_all, left_one, none_left}
+use Rattle.rtl_synchronous.specs.Running.{at_targets}
+use Rattle.rtl_synchronous.proofs.Marking.{marks_none, marks_then}
+use Rattle.rtl_synchronous.proofs.Taking.{part_none, part_then, part_all}
 use Rattle.rtl_synchronous.proofs.running.take_over.Goals as goal
-use Rattle.rtl_synchronous.proofs.running.take_over.Goals.{in-Some, in_default}
 
-abbrev none : Driver
-none = record { net = 0; start = 0 }
+abbrev no_span : Span
+no_span = record { first = 0; len = 0 }
 
-pub mark_followers-requires-clause-there : goal.mark_followers-requires-clause-there
-mark_followers-requires-clause-there c =
-    let drives = c.args.drives.now in
-    let place = c.loop-place.place in
-    let below = c.requires.there place 0 (rw length-map c.loop-place-test.true) in
-    omega (arith, below, net_at drives place none c.loop-place-test.true, c.loop-place.invariant.taking.each_net, ap length c.deref.ensures.value)
+pub loop-span-init : goal.loop-span-init
+loop-span-init c = record {
+  part = part_none _ _ _;
+  left = left_all c.args.outcome.now.entries (at_targets (nets_of c.args.row.drives.now) c.args.values.now.items) c.assigned-span-items.result.now c.assigned-span-items.ensures.places;
+  marks = marks_none _ _ _ _;
+}
 
-pub mark_followers-requires-clause-below : goal.mark_followers-requires-clause-below
-mark_followers-requires-clause-below c = λ n k f. rw (c.loop-place.invariant.marks.as_many) (c.requires.below n k f)
+pub take_span-requires-clause-within : goal.take_span-requires-clause-within
+take_span-requires-clause-within c = c.assigned-span-items.ensures.within c.loop-span.span-index no_span c.loop-span-test.true
 
-pub index_mut-requires : goal.index_mut-requires
-index_mut-requires c =
-    let drives = c.args.drives.now in
-    let place = c.loop-place.place in
-    let below = c.requires.there place 0 (rw length-map c.loop-place-test.true) in
-    omega (arith, below, net_at drives place none c.loop-place-test.true, c.loop-place.invariant.taking.each_net, c.loop-place.values.ok.0)
+pub take_span-requires-clause-all : goal.take_span-requires-clause-all
+take_span-requires-clause-all c = λ k l. place_assigned _ _ c.assigned-span-items.ensures.places c.loop-span.span-index k no_span c.loop-span-test.true l
 
-pub loop-place-preserved : goal.loop-place-preserved
-loop-place-preserved c =
-    let drives = c.args.drives.now in
-    let targets = nets_of drives in
+pub take_span-requires-clause-there : goal.take_span-requires-clause-there
+take_span-requires-clause-there c = λ k d l. rw (c.loop-span.invariant.part.each_net) (c.requires.there k d l)
+
+pub take_span-requires-clause-each_net : goal.take_span-requires-clause-each_net
+take_span-requires-clause-each_net c = c.requires.each_net ∙ sym c.loop-span.invariant.part.each_net
+
+pub take_span-requires-clause-below : goal.take_span-requires-clause-below
+take_span-requires-clause-below c = λ n k f. rw (c.loop-span.invariant.marks.as_many) (c.requires.below n k f)
+
+pub loop-span-preserved : goal.loop-span-preserved
+loop-span-preserved c =
+    let targets = nets_of c.args.row.drives.now in
     let entries = c.args.outcome.now.entries in
-    let index = wakers_of c.args.groups.now in
-    let place = c.loop-place.place in
-    let values = c.loop-place.values.items in
-    let marks = c.loop-place.marks.items in
-    let old = c.args.values.now.items in
-    let I = c.loop-place.invariant in
-    let within : place < length targets = rw length-map c.loop-place-test.true in
-    let target = net_at drives place none c.loop-place-test.true in
-    let below = c.requires.there place 0 within in
-    let there : get_or targets place 0 < length values = rw (I.taking.each_net) below in
-    elim c.match-get.branch [
-      | in-Some w ↦ rw (w.values-is, w.marks-is)
-          (let value = w.in-Some.value in
-          let net = (get_or drives place none).net in
-          record {
-            taking = subst (λ (n : ℕ). IsTaking targets entries (place + 1) old (set values n value)) target
-                (taking_one targets entries place old values I.taking value c.requires.once within there (sym c.get.ensures ∙ w.in-Some.is));
-            marks = marks_then index (Contains targets) old values (set values net value) c.args.marks.now.items marks w.mark_followers.new.marks.items I.marks
-                (marks_wider index (λ n. n ≡ net) (Contains targets) (λ n e. subst (λ (m : ℕ). Contains targets m) (target ∙ sym e) (Contains-get_or targets place 0 within))
-                values (set values net value) marks w.mark_followers.new.marks.items (rw (w.deref.ensures.value) at w.mark_followers.ensures));
-          })
-      | in_default w ↦ rw (w.values-is, w.marks-is) (record { taking = taking_skip targets entries place old values I.taking (sym c.get.ensures ∙ w.in_default.is); marks = I.marks })
-    ]
+    let spans = c.assigned-span-items.result.now in
+    let first = c.args.values.now.items in
+    let old = c.loop-span.values.items in
+    let new = c.take_span.new.values.items in
+    let I = c.loop-span.invariant in
+    let E = c.take_span.ensures in
+    record {
+      part = part_then targets entries first old new I.part E.taking;
+      left = left_one entries (at_targets targets old) (at_targets targets new) spans c.loop-span.span-index no_span c.loop-span-test.true E.taking.stay E.taken I.left;
+      marks = marks_then (wakers_of c.args.groups.now) _ first old new c.args.marks.now.items c.loop-span.marks.items c.take_span.new.marks.items I.marks E.marks;
+    }
+
+pub returns-clause-taken : goal.returns-clause-taken
+returns-clause-taken c =
+    let I = c.loop-span.invariant in
+    part_all _ _ _ _ I.part (none_left _ _ _ c.loop-span.span-index (omega (arith, c.loop-span-test.false)) I.left)

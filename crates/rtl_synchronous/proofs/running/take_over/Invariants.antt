@@ -1,12 +1,15 @@
-use Rattle.std.proofs.Common.{Contains}
+use Rattle.std.proofs.Common.{ℕ, ◌⊎◌, drop, Contains}
+use Rattle.rtl_eval.specs.Spans.{places_of}
 use Rattle.rtl_kernel.specs.drivers.Transactions.{nets_of}
+use Rattle.rtl_kernel.specs.drivers.Updates.{IsTaken}
 use Rattle.rtl_kernel.specs.wakes.Woken.{wakers_of}
 use Rattle.rtl_synchronous.specs.Marks.{Marks}
-use Rattle.rtl_synchronous.proofs.Taking.{IsTaking}
+use Rattle.rtl_synchronous.specs.Running.{TakesPart, at_targets}
 use Rattle.rtl_synchronous.proofs.running.take_over.Given as goal
 
-abbrev pub invariant-loop-place : goal.invariant-loop-place
-invariant-loop-place l = record {
-  taking : IsTaking (nets_of l.drives) l.outcome.entries l.place l.initial.values.items l.values.items;
-  marks : Marks (wakers_of l.groups) (Contains (nets_of l.drives)) l.initial.values.items l.values.items l.initial.marks.items l.marks.items;
+abbrev pub invariant-loop-span : goal.invariant-loop-span
+invariant-loop-span l = record {
+  part : TakesPart (nets_of l.row.drives.now) l.outcome.entries l.initial.values.items l.values.items;
+  left : (q : ℕ) → IsTaken l.outcome.entries (at_targets (nets_of l.row.drives.now) l.values.items) q ⊎ Contains (places_of (drop l.span-index l.span-items)) q;
+  marks : Marks (wakers_of l.groups) (Contains (nets_of l.row.drives.now)) l.initial.values.items l.values.items l.initial.marks.items l.marks.items;
 }

@@ -80,12 +80,14 @@ invariant_of-result g c =
     let now_in_range = first_in_range (flat net) N.in_range N.connected c.args.initial.now now A in
     let rest = rw (c.deref-2.ensures.value, c.in_ok-before.ensures.items, c.deref.ensures.value) at c.come_to_rest.ensures.rest in
     let first = is_first (core net) (elaborated _ _ _ _ _ _ may) c.requires.accepted (initial_inputs (flat net) c.args.initial.now) c.in_ok-woken.woken.items
-    (λ p clock edge is. rw (c.in_ok-woken.ensures) (clocked_marked (core net) c.args.levels.now greatest V p clock edge is)) now c.come_to_rest.new.values.items now_is rest in
-    rw (c.in_ok-before.ensures.items, c.deref.ensures.value)
-    (kept_first g.E.Exec.process g.E.Exec.types g.E.Exec.most net c.args.bodies.now schedule.order.items (wakers_of schedule.readers) (wakers_of schedule.clocked)
-    c.in_ok-runs.runs.items may c.in_ok-schedule.ensures.schedule (initial_inputs (flat net) c.args.initial.now) now c.come_to_rest.new.values.items now_is now_in_range c.in_ok-woken.woken.items first rest
-    c.come_to_rest.new.runs.items c.come_to_rest.new.dirty.items c.come_to_rest.new.woken.items c.come_to_rest.ensures.may c.come_to_rest.ensures.in_range
-    c.in_ok-schedule.ensures.each_reader c.in_ok-schedule.ensures.each_clocked
-    (omega (arith, c.come_to_rest.ensures.each_rank, c.in_ok-dirty.ensures.len, c.len.ensures, c.in_ok-dirty.dirty.ok.0, schedule.order.ok.0))
-    (c.come_to_rest.ensures.each_process ∙ ap length c.in_ok-woken.ensures ∙ length-map c.args.levels.now without_level ∙ V.each_process ∙ processes_many net)
-    c.come_to_rest.ensures.none_dirty c.come_to_rest.ensures.none_woken)
+    (λ p clock edge is. rw (c.in_ok-woken.ensures) (clocked_marked (core net) c.args.levels.now greatest V p clock edge is)) now c.come_to_rest.new.values.items now_is rest in (
+      rw (c.in_ok-before.ensures.items, c.deref.ensures.value)
+          (kept_first g.E.Exec.process g.E.Exec.types g.E.Exec.most net c.args.bodies.now schedule.order.items (wakers_of schedule.readers) (wakers_of schedule.clocked)
+          c.in_ok-runs.runs.items may c.in_ok-schedule.ensures.schedule (initial_inputs (flat net) c.args.initial.now) now c.come_to_rest.new.values.items now_is now_in_range c.in_ok-woken.woken.items first rest
+          c.come_to_rest.new.runs.items c.come_to_rest.new.dirty.items c.come_to_rest.new.woken.items c.come_to_rest.ensures.may c.come_to_rest.ensures.in_range
+          c.in_ok-schedule.ensures.each_reader c.in_ok-schedule.ensures.each_clocked
+          (omega (arith, c.come_to_rest.ensures.each_rank, c.in_ok-dirty.ensures.len, c.len.ensures, c.in_ok-dirty.dirty.ok.0, schedule.order.ok.0))
+          (c.come_to_rest.ensures.each_process ∙ ap length c.in_ok-woken.ensures ∙ length-map c.args.levels.now without_level ∙ V.each_process ∙ processes_many net)
+          c.come_to_rest.ensures.none_dirty c.come_to_rest.ensures.none_woken),
+      c.in_ok-schedule.ensures.cuts,
+    )

@@ -6,49 +6,54 @@ use Rattle.rtl_synchronous.proofs.machine.Machine.step.Goals as goal
 
 pub take_inputs-requires-clause-there : goal.take_inputs-requires-clause-there
 take_inputs-requires-clause-there g c =
-    machines.changes_there _ _ _ _ _ _ _ _ _ _ _ _ _ c.self.invariant c.args.changes.now (rw (← c.self.view_is) at c.requires.inputs) c.self.inside.values.items
-    (machines.each_value _ _ _ _ _ _ _ _ _ _ _ _ _ c.self.invariant)
+    machines.changes_there _ _ _ _ _ _ _ _ _ _ _ _ _ c.self.invariant.0 c.args.changes.now (rw (← c.self.view_is) at c.requires.inputs) c.self.inside.values.items
+    (machines.each_value _ _ _ _ _ _ _ _ _ _ _ _ _ c.self.invariant.0)
 
 pub take_inputs-requires-clause-readers : goal.take_inputs-requires-clause-readers
-take_inputs-requires-clause-readers g c = readers_below _ _ _ _ c.self.invariant.schedule _ c.self.invariant.each_rank
+take_inputs-requires-clause-readers g c = readers_below _ _ _ _ c.self.invariant.0.schedule _ c.self.invariant.0.each_rank
 
 pub take_inputs-requires-clause-clocked : goal.take_inputs-requires-clause-clocked
-take_inputs-requires-clause-clocked g c = machines.clocked_below _ _ _ _ c.self.invariant.schedule _ (c.self.invariant.each_process ∙ sym (processes_many c.self.inside.net.now))
+take_inputs-requires-clause-clocked g c = machines.clocked_below _ _ _ _ c.self.invariant.0.schedule _ (c.self.invariant.0.each_process ∙ sym (processes_many c.self.inside.net.now))
 
 pub come_to_rest-requires-clause-in_range : goal.come_to_rest-requires-clause-in_range
 come_to_rest-requires-clause-in_range g c =
-    machines.now_in_range _ _ _ _ _ _ _ _ _ _ _ _ _ c.self.invariant c.args.changes.now (rw (← c.self.view_is) at c.requires.inputs) c.take_inputs.new.values.items c.take_inputs.ensures.values
+    machines.now_in_range _ _ _ _ _ _ _ _ _ _ _ _ _ c.self.invariant.0 c.args.changes.now (rw (← c.self.view_is) at c.requires.inputs) c.take_inputs.new.values.items c.take_inputs.ensures.values
 
 pub come_to_rest-requires-clause-clocked : goal.come_to_rest-requires-clause-clocked
 come_to_rest-requires-clause-clocked g c =
-    machines.woken_clocked _ _ _ _ _ _ _ _ _ _ _ _ _ c.self.invariant c.args.changes.now (rw (← c.self.view_is) at c.requires.inputs) c.take_inputs.new.values.items c.take_inputs.ensures.values
+    machines.woken_clocked _ _ _ _ _ _ _ _ _ _ _ _ _ c.self.invariant.0 c.args.changes.now (rw (← c.self.view_is) at c.requires.inputs) c.take_inputs.new.values.items c.take_inputs.ensures.values
     c.take_inputs.new.woken.items c.take_inputs.new.dirty.items c.take_inputs.ensures.woken c.take_inputs.ensures.dirty
 
 pub come_to_rest-requires-clause-clean : goal.come_to_rest-requires-clause-clean
 come_to_rest-requires-clause-clean g c =
-    machines.still_clean _ _ _ _ _ _ _ _ _ _ _ _ _ c.self.invariant c.args.changes.now (rw (← c.self.view_is) at c.requires.inputs) c.take_inputs.new.values.items c.take_inputs.ensures.values
+    machines.still_clean _ _ _ _ _ _ _ _ _ _ _ _ _ c.self.invariant.0 c.args.changes.now (rw (← c.self.view_is) at c.requires.inputs) c.take_inputs.new.values.items c.take_inputs.ensures.values
     c.take_inputs.new.woken.items c.take_inputs.new.dirty.items c.take_inputs.ensures.woken c.take_inputs.ensures.dirty
+
+pub come_to_rest-requires-clause-cuts : goal.come_to_rest-requires-clause-cuts
+come_to_rest-requires-clause-cuts g c = c.self.invariant.1
 
 pub set_inputs-requires : goal.set_inputs-requires
 set_inputs-requires g c =
-    let K = c.self.invariant in
+    let K = c.self.invariant.0 in
     machines.changes_there _ _ _ _ _ _ _ _ _ _ _ _ _ K c.args.changes.now (rw (← c.self.view_is) at c.requires.inputs) c.self.inside.before.items
     (K.at_rest.before_in_range.each_net ∙ K.may_run.in_range.each_starts)
 
 pub invariant_of-self : goal.invariant_of-self
 invariant_of-self g c =
-    let K = c.self.invariant in
-    machines.kept _ _ _ _ _ _ _ _ _ _ _ _ _ K c.args.changes.now (rw (← c.self.view_is) at c.requires.inputs) c.take_inputs.new.values.items c.take_inputs.ensures.values
-    c.take_inputs.new.woken.items c.take_inputs.new.dirty.items c.take_inputs.ensures.woken c.take_inputs.ensures.dirty
-    (rw (← c.self.view_is) at c.requires.raceless) c.come_to_rest.new.values.items (rw (c.deref.ensures.value) at c.come_to_rest.ensures.rest)
-    c.come_to_rest.new.runs.items c.set_inputs.new.values.items c.come_to_rest.new.dirty.items c.come_to_rest.new.woken.items
-    c.come_to_rest.ensures.may c.come_to_rest.ensures.in_range c.set_inputs.ensures
-    (c.come_to_rest.ensures.each_rank ∙ c.take_inputs.ensures.dirty.as_many ∙ K.each_rank)
-    (c.come_to_rest.ensures.each_process ∙ c.take_inputs.ensures.woken.as_many ∙ K.each_process)
-    c.come_to_rest.ensures.none_dirty c.come_to_rest.ensures.none_woken
+    let K = c.self.invariant.0 in (
+      machines.kept _ _ _ _ _ _ _ _ _ _ _ _ _ K c.args.changes.now (rw (← c.self.view_is) at c.requires.inputs) c.take_inputs.new.values.items c.take_inputs.ensures.values
+          c.take_inputs.new.woken.items c.take_inputs.new.dirty.items c.take_inputs.ensures.woken c.take_inputs.ensures.dirty
+          (rw (← c.self.view_is) at c.requires.raceless) c.come_to_rest.new.values.items (rw (c.deref.ensures.value) at c.come_to_rest.ensures.rest)
+          c.come_to_rest.new.runs.items c.set_inputs.new.values.items c.come_to_rest.new.dirty.items c.come_to_rest.new.woken.items
+          c.come_to_rest.ensures.may c.come_to_rest.ensures.in_range c.set_inputs.ensures
+          (c.come_to_rest.ensures.each_rank ∙ c.take_inputs.ensures.dirty.as_many ∙ K.each_rank)
+          (c.come_to_rest.ensures.each_process ∙ c.take_inputs.ensures.woken.as_many ∙ K.each_process)
+          c.come_to_rest.ensures.none_dirty c.come_to_rest.ensures.none_woken,
+      c.self.invariant.1,
+    )
 
 pub returns-clause-step : goal.returns-clause-step
 returns-clause-step g c =
-    rw (← c.self.view_is) (machines.is_step _ _ _ _ _ _ _ _ _ _ _ _ _ c.self.invariant c.args.changes.now (rw (← c.self.view_is) at c.requires.inputs) c.take_inputs.new.values.items c.take_inputs.ensures.values
+    rw (← c.self.view_is) (machines.is_step _ _ _ _ _ _ _ _ _ _ _ _ _ c.self.invariant.0 c.args.changes.now (rw (← c.self.view_is) at c.requires.inputs) c.take_inputs.new.values.items c.take_inputs.ensures.values
     c.take_inputs.new.woken.items c.take_inputs.new.dirty.items c.take_inputs.ensures.woken c.take_inputs.ensures.dirty
     (rw (← c.self.view_is) at c.requires.raceless) c.come_to_rest.new.values.items (rw (c.deref.ensures.value) at c.come_to_rest.ensures.rest))

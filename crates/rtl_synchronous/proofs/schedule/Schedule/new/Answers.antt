@@ -1,9 +1,11 @@
 use Rattle.std.proofs.Common.{◌≡◌, ◌<◌, ℕ, List, All, length, ap, sym, subst, ◌∙◌}
+use Rattle.rtl_kernel.specs.drivers.Transactions.{all_targets}
 use Rattle.rtl_kernel.proofs.Grouped.{groups_index}
+use Rattle.rtl_layout.specs.Cuts.{AreCutsOf}
 use Rattle.rtl_synchronous.specs.Kept.{core}
 use Rattle.rtl_synchronous.specs.Scheduled.{wakes_by_rank}
 use Rattle.rtl_synchronous.proofs.Ordering.{is_order}
-use Rattle.rtl_synchronous.proofs.Wired.{clocked_there, processes_many, rows_there}
+use Rattle.rtl_synchronous.proofs.Wired.{all_targets_there, clocked_there, processes_many, rows_there}
 use Rattle.rtl_synchronous.proofs.schedule.Schedule.new.Goals as goal
 
 pub wakes_of-requires : goal.wakes_of-requires
@@ -26,6 +28,21 @@ new-requires-2 c =
     let net = c.args.net.now in
     let many : length c.deref-3.result.now ≡ length net.types = c.deref-3.ensures.len ∙ c.in_ok-together.ensures.len ∙ c.nets.ensures.count in
     rw (c.in_ok-by_process.ensures, many) (clocked_there net c.nets.ensures.elaborated.in_range)
+
+pub new-requires-3 : goal.new-requires-3
+new-requires-3 c =
+    let net = c.args.net.now in
+    let R = c.nets.ensures.elaborated.in_range in
+    let many : length c.deref-2.result.now ≡ length net.types = c.deref-2.ensures.len ∙ c.in_ok-together.ensures.len ∙ c.nets.ensures.count in
+    let rows = c.in_ok-by_rank.ensures ∙ ap (wakes_by_rank (core net)) c.deref.ensures.value in
+    let each = c.in_ok-readers.ensures.each_net ∙ many in
+    rw (c.in_ok-targets.ensures, c.of_net.ensures.value, each, c.processes.ensures) (all_targets_there net R)
+
+pub returns-clause-cuts : goal.returns-clause-cuts
+returns-clause-cuts c =
+    let net = c.args.net.now in
+    subst (λ (ns : List ℕ). AreCutsOf ns (all_targets net.processes) c.in_ok-cuts.cuts) c.of_net.ensures.value
+    (subst (λ (ts : List (List ℕ)). AreCutsOf c.of_net.result.now ts c.in_ok-cuts.cuts) (c.in_ok-targets.ensures ∙ ap all_targets c.processes.ensures) c.in_ok-cuts.ensures)
 
 pub returns-clause-schedule : goal.returns-clause-schedule
 returns-clause-schedule c =
