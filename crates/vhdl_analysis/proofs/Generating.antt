@@ -8,14 +8,14 @@ use Rattle.vhdl_tree.specs.declared.concurrent.Generate.{Generate, out-Generate}
 use Rattle.vhdl_tree.specs.declared.concurrent.Concurrent.TheVariants as c
 use Rattle.vhdl_tree.proofs.RowsConcurrents.{view_generate}
 use Rattle.vhdl_names.specs.units.Units as u
-use Rattle.vhdl_names.specs.Rules.{◌>>=◌, ◌>>◌, rule}
+use Rattle.vhdl_names.specs.Rules.{◌>>=◌, ◌>>◌, met}
 use Rattle.vhdl_names.specs.Visibility.{Sight, are_distinct, ends}
 use Rattle.vhdl_names.specs.Interfaces.{EntityView}
 use Rattle.vhdl_names.specs.Instances.{instance}
 use Rattle.vhdl_names.specs.Concurrent as rules
 use Rattle.vhdl_names.specs.Concurrent.{concurrent_labels, sight_within, generated}
 use Rattle.vhdl_units.specs.views.Concurrent.{concurrents_of}
-use Rattle.vhdl_bodies.proofs.steps.Cases.{bound}
+use Rattle.vhdl_labels.proofs.Lists.{bound}
 use Rattle.vhdl_analysis.specs.steps.Concurrents as steps
 use Rattle.vhdl_analysis.specs.steps.Concurrents.{in_generate}
 
@@ -43,13 +43,13 @@ module _ (f : Sight → Ident → t.Instance → Option u.Instance) where
   generate_by : (sight : Sight) (label : Ident) (at : _) (k : t.Scheme) (word : Bool) (cs : List t.Concurrent) (end : Option Ident)
       → steps.concurrent f sight (t.generated label at k word (t.concurrents_of cs) end) ≡ steps.generate f sight label k cs end
   generate_by sight label at k word cs end =
-      ap (λ o. rule (ends label.text end) >> (rule (are_distinct (concurrent_labels (t.concurrents_of cs))) >> (o >>= λ b. generated sight label.text k b)))
+      ap (λ o. met (ends label.text end) >> (met (are_distinct (concurrent_labels (t.concurrents_of cs))) >> (o >>= λ b. generated sight label.text k b)))
       (each_statement (sight_within sight k) cs)
       ∙ go (ends label.text end) (are_distinct (concurrent_labels (t.concurrents_of cs))) (steps.all f (sight_within sight k) cs)
     where
       go : (e d : Bool) (o : Option (List u.Concurrent))
-          → (rule e >> (rule d >> (option_map concurrents_of o >>= λ b. generated sight label.text k b)))
-          ≡ ((rule d >> o) >>= λ xs. rule e >> generated sight label.text k (concurrents_of xs))
+          → (met e >> (met d >> (option_map concurrents_of o >>= λ b. generated sight label.text k b)))
+          ≡ ((met d >> o) >>= λ xs. met e >> generated sight label.text k (concurrents_of xs))
       go true true None = refl
       go true true (Some xs) = refl
       go true false o = refl
@@ -76,7 +76,7 @@ module _ (f : Sight → Ident → t.Instance → Option u.Instance) where
       → ((b : u.Concurrents) → generated sight label.text k b ≡ None) → steps.generate f sight label k cs end ≡ None
   no_scheme sight label k cs end h = go (are_distinct (concurrent_labels (t.concurrents_of cs))) (ends label.text end) (steps.all f (sight_within sight k) cs)
     where
-      go : (d e : Bool) (o : Option (List u.Concurrent)) → ((rule d >> o) >>= λ xs. rule e >> generated sight label.text k (concurrents_of xs)) ≡ None
+      go : (d e : Bool) (o : Option (List u.Concurrent)) → ((met d >> o) >>= λ xs. met e >> generated sight label.text k (concurrents_of xs)) ≡ None
       go true true None = refl
       go true true (Some xs) = h (concurrents_of xs)
       go true false None = refl
@@ -93,7 +93,7 @@ module _ (f : Sight → Ident → t.Instance → Option u.Instance) where
       by_instance sight (t.process label p) = refl
       by_instance sight (t.instance label i) = ap (option_map u.instance) (h sight label i)
       by_instance sight (t.generated label at k word cs end) =
-          ap (λ o. rule (ends label.text end) >> (rule (are_distinct (concurrent_labels cs)) >> (o >>= λ b. generated sight label.text k b)))
+          ap (λ o. met (ends label.text end) >> (met (are_distinct (concurrent_labels cs)) >> (o >>= λ b. generated sight label.text k b)))
           (by_instances (sight_within sight k) cs)
 
       by_instances : (sight : Sight) (cs : t.Concurrents) → rules.concurrents es sight cs ≡ steps.concurrents f sight cs

@@ -7,13 +7,14 @@ use Rattle.vhdl_tree.specs.View as tree
 use Rattle.vhdl_tree.specs.declared.sequential.If.{If, out-If}
 use Rattle.vhdl_tree.specs.declared.sequential.For.{For, out-For}
 use Rattle.vhdl_tree.specs.declared.sequential.Case.{Case, out-Case}
-use Rattle.vhdl_names.specs.Rules.{◌>>=◌, rule, given_that}
+use Rattle.vhdl_names.specs.Rules.{◌>>=◌, met, then_some}
 use Rattle.vhdl_names.specs.Visibility.{Name, are_distinct}
 use Rattle.vhdl_names.specs.Statements.{label_names, inner_labels, statement_labels, conditional_labels, otherwise_labels, alternative_labels}
-use Rattle.vhdl_bodies.specs.steps.Lists.{in_turn}
-use Rattle.vhdl_bodies.specs.steps.Once.{one_name}
-use Rattle.vhdl_bodies.proofs.steps.Cases.{bound, turned-append, case_is}
-use Rattle.vhdl_bodies.proofs.steps.Once.{once}
+use Rattle.vhdl_labels.specs.Lists.{in_turn}
+use Rattle.vhdl_labels.specs.Once.{one_name}
+use Rattle.vhdl_bodies.proofs.steps.Cases.{turned-append, case_is}
+use Rattle.vhdl_labels.proofs.Lists.{bound}
+use Rattle.vhdl_labels.proofs.Once.{once}
 use Rattle.vhdl_bodies.proofs.steps.Sequential.{if_is, for_is}
 use Rattle.vhdl_analysis.specs.steps.Labels.{with_statement, with_statements, with_branch, with_alternative, with_else, with_if}
 
@@ -71,11 +72,11 @@ loop_labels ns f = ap (inner ns) (for_is f) ∙ each_statement ns (tree.sequenti
 
 -- ---- the whole
 
-pub labels_once : (qs : List t.Sequential) → rule (are_distinct (statement_labels (t.statements_of qs))) ≡ (with_statements [] qs >>= λ ns. Some tt)
+pub labels_once : (qs : List t.Sequential) → met (are_distinct (statement_labels (t.statements_of qs))) ≡ (with_statements [] qs >>= λ ns. Some tt)
 labels_once qs =
     go (are_distinct (statement_labels (t.statements_of qs)))
     ∙ ap (λ o. o >>= λ ns. Some tt) (sym (once (statement_labels (t.statements_of qs))) ∙ each_statement [] qs)
   where
-    go : (b : Bool) → rule b ≡ (given_that b (statement_labels (t.statements_of qs)) >>= λ ns. Some tt)
+    go : (b : Bool) → met b ≡ (then_some b (statement_labels (t.statements_of qs)) >>= λ ns. Some tt)
     go true = refl
     go false = refl

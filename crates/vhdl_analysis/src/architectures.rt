@@ -4,7 +4,7 @@ ghost use Rattle.std.specs.Prelude.{◌≡◌, List, [], map, Some, OnOk, OnErr}
 ghost use Rattle.vhdl_instances.specs.Table.{AreEntities, seens_view};
 ghost use Rattle.vhdl_analysis.specs.steps.Concurrents as steps;
 ghost use Rattle.vhdl_instances.specs.steps.Instances.{instance as instance_of};
-ghost use Rattle.vhdl_bodies.specs.steps.Once.{names_view};
+ghost use Rattle.vhdl_labels.specs.Once.{names_view};
 ghost use Rattle.vhdl_names.specs.Concurrent as rules;
 ghost use Rattle.vhdl_names.specs.Gives.{Gives};
 ghost use Rattle.vhdl_names.specs.Interfaces.{EntityView};
@@ -18,9 +18,10 @@ ghost use Rattle.vhdl_units.specs.views.Concurrent as views;
 use crate::processes::process;
 use crate::schemes::scheme;
 use std::alloc::Global;
-use vhdl_bodies::{assignment, copied, earlier_in, ends, selected};
+use vhdl_bodies::{assignment, selected};
 use vhdl_declared::labels_are_distinct;
 use vhdl_instances::{Entities, instance_in_turn};
+use vhdl_labels::{copied, earlier_in, ends};
 use vhdl_names::NameFault;
 use vhdl_tree as syntax;
 use vhdl_tree::Identifier;
@@ -74,7 +75,7 @@ fn leave_generate(sight: &mut Sight, scheme: &syntax::Scheme)
 
 /// Statements one after another.
 #[cycle(concurrent)]
-#[tactic(auto, using(vhdl_bodies::proofs::steps::Lists::each_in_turn))]
+#[tactic(auto, using(vhdl_labels::proofs::Lists::each_in_turn))]
 fn statements(
     alloc: Global,
     entities: &Entities,

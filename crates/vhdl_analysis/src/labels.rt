@@ -2,9 +2,10 @@
 
 ghost use Rattle.std.specs.Prelude.{◌≡◌, map};
 ghost use Rattle.vhdl_analysis.specs.steps.Labels as steps;
-ghost use Rattle.vhdl_bodies.specs.steps.Lists.{in_turn};
-ghost use Rattle.vhdl_bodies.specs.steps.Once.{names_view, one_name};
+ghost use Rattle.vhdl_labels.specs.Lists.{in_turn};
+ghost use Rattle.vhdl_labels.specs.Once.{names_view, one_name};
 ghost use Rattle.vhdl_names.specs.Gives.{Gives};
+ghost use Rattle.vhdl_names.specs.declared.fault.NameProblem.TheVariants.{Twice};
 ghost use Rattle.vhdl_names.specs.Rules.{rule};
 ghost use Rattle.vhdl_names.specs.Statements as rules;
 ghost use Rattle.vhdl_names.specs.Visibility.{are_distinct};
@@ -130,7 +131,7 @@ pub fn statement_labels_are_distinct(
     alloc: Global,
     list: &[syntax::Sequential],
 ) -> Result<(), NameFault>
-    ensures { Gives (λ _. tt) (rule (are_distinct (rules.statement_labels (statements_of (map tree.sequential_view list.now))))) result }
+    ensures { Gives (λ _. tt) (rule Twice (are_distinct (rules.statement_labels (statements_of (map tree.sequential_view list.now))))) result }
 {
     let mut taken: Names = IndexSet::new(alloc);
     of_statements(alloc, &mut taken, list)?;

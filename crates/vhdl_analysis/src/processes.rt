@@ -15,8 +15,9 @@ ghost use Rattle.vhdl_units.specs.views.Sequential.{body_view};
 use crate::labels::statement_labels_are_distinct;
 use indexmap::IndexMap;
 use std::alloc::Global;
-use vhdl_bodies::{analysed, copied_label, earlier_in, label_ends};
+use vhdl_bodies::analysed;
 use vhdl_declared::objects::variables;
+use vhdl_labels::{copied_label, earlier_in, label_ends};
 use vhdl_names::{NameFault, NameProblem, Place};
 use vhdl_tree as syntax;
 use vhdl_tree::Identifier;
@@ -25,7 +26,7 @@ use vhdl_typing::signal;
 use vhdl_units::{Process, Sensitivity, Statement};
 
 /// The signals of a list of names.
-#[tactic(auto, using(vhdl_bodies::proofs::steps::Lists::each_in_turn))]
+#[tactic(auto, using(vhdl_labels::proofs::Lists::each_in_turn))]
 fn places(alloc: Global, sight: &Sight, names: &[syntax::Name]) -> Result<Vec<Place>, NameFault>
     ensures { Gives all_places_view (each (steps.place_of (sight_view sight.now)) (map tree.name_view names.now)) result }
 {

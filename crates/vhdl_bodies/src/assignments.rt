@@ -1,6 +1,6 @@
 //! How concurrent assignments are analysed (IEEE 1076-2008, 11.6).
 
-ghost use Rattle.std.specs.Prelude.{◌≡◌, map, option_map, IfOk};
+ghost use Rattle.std.specs.Prelude.{◌≡◌, ◌∷◌, [], map, option_map, IfOk};
 ghost use Rattle.vhdl_names.specs.Concurrent as rules;
 ghost use Rattle.vhdl_names.specs.Rules.{each, if_any};
 ghost use Rattle.vhdl_names.specs.Gives.{Gives};
@@ -12,16 +12,25 @@ ghost use Rattle.vhdl_bodies.specs.steps.Sequential as sequential;
 ghost use Rattle.vhdl_units.specs.views.Concurrent.{one_process};
 ghost use Rattle.vhdl_units.specs.views.Sequential as views;
 
-use crate::choices::{but_last, cover, first_fault};
-use crate::labels::copied_label;
+use crate::choices::{but_last, covered, first_fault};
 use crate::statements::assigned;
 use std::alloc::{AllocError, Global};
+use vhdl_labels::copied_label;
 use vhdl_names::{NameFault, ObjectType};
 use vhdl_tree as syntax;
 use vhdl_tree::Identifier;
 use vhdl_types::Sight;
 use vhdl_typing::{choices, condition, selector, target};
 use vhdl_units::{Alternative, Branch, Process, Sensitivity, Statement};
+
+/// A statement alone.
+fn single(alloc: Global, statement: Statement) -> Result<Vec<Statement>, AllocError>
+    ensures { IfOk result (λ v. views.statements_view v ≡ views.statement_view statement ∷ []) }
+{
+    let mut statements = Vec::new(alloc);
+    statements.push(statement)?;
+    Ok(statements)
+}
 
 /// A process that assigns what it reads; it starts at byte `at`.
 fn assigning(
@@ -32,9 +41,8 @@ fn assigning(
 ) -> Result<Process, AllocError>
     ensures { IfOk result (λ p. one_process p ≡ rules.assigning (option_map tree.ident_view label.now) (views.statement_view statement)) }
 {
+    let statements = single(alloc, statement)?;
     let label = copied_label(alloc, label)?;
-    let mut statements = Vec::new(alloc);
-    statements.push(statement)?;
     Ok(Process {
         at,
         label,
@@ -54,9 +62,7 @@ fn alone(
     ensures { Gives views.statements_view (steps.alone (sight_view sight.now) (tree.name_view target.now) (tree.value_view value.now)) result }
 {
     let statement = assigned(alloc, sight, target, value)?;
-    let mut statements = Vec::new(alloc);
-    statements.push(statement)?;
-    Ok(statements)
+    Ok(single(alloc, statement)?)
 }
 
 /// `value when condition`.
@@ -74,7 +80,7 @@ fn waveform(
 }
 
 /// Waveforms with conditions.
-#[tactic(auto, using(crate::proofs::steps::Lists::each_in_turn))]
+#[tactic(auto, using(vhdl_labels::proofs::Lists::each_in_turn))]
 fn waveforms(
     alloc: Global,
     sight: &Sight,
@@ -176,7 +182,7 @@ fn chosen(
 }
 
 /// Waveforms with choices.
-#[tactic(auto, using(crate::proofs::steps::Lists::each_in_turn))]
+#[tactic(auto, using(vhdl_labels::proofs::Lists::each_in_turn))]
 fn all_chosen(
     alloc: Global,
     sight: &Sight,
@@ -209,6 +215,25 @@ fn choice_lists(
     Ok(lists)
 }
 
+/// What a selected assignment does by the value selected, the last alternative apart.
+fn selected_parts(
+    alloc: Global,
+    sight: &Sight,
+    by: ObjectType,
+    assignment: &syntax::SelectedAssignment,
+) -> Result<(Vec<Alternative>, Vec<Statement>), NameFault>
+    ensures { Gives (λ p. cases.divided (views.alternatives_view p.0) (views.statements_view p.1))
+        (steps.parts (sight_view sight.now) by (tree.selected_assignment_view assignment.now)) result }
+{
+    let _ = target(alloc, sight, &assignment.target)?;
+    let lists = choice_lists(alloc, &assignment.waveforms)?;
+    let all = match all_chosen(alloc, sight, by, &assignment.target, &assignment.waveforms) {
+        Ok(all) => covered(alloc, by, assignment.at, &lists, all)?,
+        Err(fault) => return Err(first_fault(alloc, sight, by, &lists, fault)),
+    };
+    but_last(assignment.at, all)
+}
+
 /// A selected assignment, in the order of its parts.
 fn selected_in_turn(
     alloc: Global,
@@ -220,14 +245,7 @@ fn selected_in_turn(
         (steps.selected (sight_view sight.now) (option_map tree.ident_view label.now) (tree.selected_assignment_view assignment.now)) result }
 {
     let (by, value) = selector(alloc, sight, &assignment.selector)?;
-    let _ = target(alloc, sight, &assignment.target)?;
-    let lists = choice_lists(alloc, &assignment.waveforms)?;
-    let all = match all_chosen(alloc, sight, by, &assignment.target, &assignment.waveforms) {
-        Ok(all) => all,
-        Err(fault) => return Err(first_fault(alloc, sight, by, &lists, fault)),
-    };
-    cover(alloc, by, assignment.at, &lists, &all)?;
-    let (alternatives, others) = but_last(assignment.at, all)?;
+    let (alternatives, others) = selected_parts(alloc, sight, by, assignment)?;
     let statement = Statement::selection(assignment.at, value, alternatives, others);
     Ok(assigning(alloc, assignment.at, label, statement)?)
 }

@@ -3,6 +3,7 @@
 ghost use Rattle.std.specs.Prelude.{◌≡◌, ◌≢◌, ◌||◌, ◌∷◌, [], map, IfOk, Some};
 ghost use Rattle.std.specs.List.{list_all, list_any, range_with_len};
 ghost use Rattle.vhdl_names.specs.Choices as rules;
+ghost use Rattle.vhdl_names.specs.declared.fault.NameProblem.TheVariants.{WrongKind};
 ghost use Rattle.vhdl_names.specs.Rules.{rule};
 ghost use Rattle.vhdl_names.specs.Visibility.{is_among};
 ghost use Rattle.vhdl_names.specs.Gives.{Gives};
@@ -10,13 +11,13 @@ ghost use Rattle.vhdl_names.specs.declared.fault.NameFault.TheVariants.{NoMemory
 ghost use Rattle.vhdl_tree.specs.View as tree;
 ghost use Rattle.vhdl_units.specs.views.Answers.{choice_view};
 ghost use Rattle.vhdl_bodies.specs.steps.Cases as steps;
-ghost use Rattle.vhdl_bodies.specs.steps.Lists.{in_turn};
-ghost use Rattle.vhdl_bodies.specs.steps.Once.{one_name, names_view, key_of};
+ghost use Rattle.vhdl_labels.specs.Lists.{in_turn};
+ghost use Rattle.vhdl_labels.specs.Once.{one_name, names_view, key_of};
 ghost use Rattle.vhdl_units.specs.views.Sequential as views;
 
-use crate::faults::{earlier, earlier_in};
 use indexmap::IndexSet;
 use std::alloc::{AllocError, Global};
+use vhdl_labels::{earlier, earlier_in};
 use vhdl_names::{NameFault, NameProblem, ObjectType};
 use vhdl_tree as syntax;
 use vhdl_types::Sight;
@@ -123,7 +124,7 @@ fn others_place(lists: &[&[syntax::Choice]]) -> usize {
 
 /// `others` stands in no alternative but the last.
 fn others_last(lists: &[&[syntax::Choice]]) -> Result<(), NameFault>
-    ensures { Gives (λ _. tt) (rule (rules.only_last_others (steps.all_lists lists.now))) result }
+    ensures { Gives (λ _. tt) (rule WrongKind (rules.only_last_others (steps.all_lists lists.now))) result }
 {
     match lists.split_last() {
         None => Ok(()),
@@ -216,7 +217,7 @@ pub(crate) fn first_fault(
 
 /// What the choices of all alternatives are asked; the case starts at byte `at`.
 #[tactic(auto, using(crate::proofs::steps::Cases::covered_by))]
-pub(crate) fn cover(
+fn cover(
     alloc: Global,
     selected: ObjectType,
     at: usize,
@@ -235,6 +236,21 @@ pub(crate) fn cover(
     } else {
         Err(NameProblem::NoOthers.at(at))
     }
+}
+
+/// Alternatives whose choices are as they are asked to be. Where they aren't, they are let go here.
+pub(crate) fn covered(
+    alloc: Global,
+    selected: ObjectType,
+    at: usize,
+    lists: &[&[syntax::Choice]],
+    alternatives: Vec<Alternative>,
+) -> Result<Vec<Alternative>, NameFault>
+    ensures same { IfOk result (λ all. all ≡ alternatives) }
+    ensures asked { Gives (λ _. tt) (steps.cover selected (steps.all_lists lists.now) (steps.all_choices (views.alternatives_view alternatives))) result }
+{
+    cover(alloc, selected, at, lists, &alternatives)?;
+    Ok(alternatives)
 }
 
 /// Alternatives but the last, which is done otherwise. The case starts at byte `at`.

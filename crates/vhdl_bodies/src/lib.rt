@@ -4,11 +4,8 @@
 
 mod assignments;
 mod choices;
-mod faults;
-mod labels;
+mod held;
 mod statements;
 
 pub use assignments::{assignment, selected};
-pub use faults::{earlier, earlier_in};
-pub use labels::{copied, copied_label, ends, is_text, label_ends};
 pub use statements::analysed;

@@ -15,8 +15,8 @@ ghost use Rattle.vhdl_units.specs.views.Sequential as views;
 ghost use Rattle.vhdl_bodies.specs.steps.Cases as cases;
 ghost use Rattle.vhdl_bodies.specs.steps.Sequential as steps;
 
-use crate::choices::{but_last, choice_lists, cover, first_fault};
-use crate::labels::label_ends;
+use crate::choices::{but_last, choice_lists, covered, first_fault};
+use crate::held::ended;
 use std::alloc::Global;
 use vhdl_names::{NameFault, ObjectType};
 use vhdl_tree as syntax;
@@ -95,7 +95,7 @@ pub fn analysed(
 
 /// Statements one after another.
 #[cycle(statements)]
-#[tactic(auto, using(crate::proofs::steps::Lists::each_in_turn))]
+#[tactic(auto, using(vhdl_labels::proofs::Lists::each_in_turn))]
 fn statements(
     alloc: Global,
     sight: &mut Sight,
@@ -150,13 +150,13 @@ fn if_statement(
 {
     let branches = branches(alloc, sight, &conditional.branches)?;
     let otherwise = otherwise(alloc, sight, conditional)?;
-    label_ends(label, &conditional.end_label)?;
+    let (branches, otherwise) = ended(label, &conditional.end_label, (branches, otherwise))?;
     Ok(Statement::conditional(conditional.at, branches, otherwise))
 }
 
 /// The branches of an if statement.
 #[cycle(statements)]
-#[tactic(auto, using(crate::proofs::steps::Lists::each_in_turn))]
+#[tactic(auto, using(vhdl_labels::proofs::Lists::each_in_turn))]
 fn branches(
     alloc: Global,
     sight: &mut Sight,
@@ -215,20 +215,36 @@ fn case_statement(
     ensures kept { sight_view sight.new ≡ sight_view sight.old }
 {
     let (selected, value) = selector(alloc, sight, &case.selector)?;
+    let (alternatives, others) = case_parts(alloc, sight, selected, label, case)?;
+    Ok(Statement::selection(case.at, value, alternatives, others))
+}
+
+/// What a case statement does by the value selected, the last alternative apart.
+#[cycle(statements)]
+fn case_parts(
+    alloc: Global,
+    sight: &mut Sight,
+    selected: ObjectType,
+    label: &Option<Identifier>,
+    case: &syntax::Case,
+) -> Result<(Vec<Alternative>, Vec<Statement>), NameFault>
+    ensures given { Gives (λ p. cases.divided (views.alternatives_view p.0) (views.statements_view p.1))
+        (cases.parts (sight_view sight.old) selected (option_map tree.ident_view label.now)
+        (tree.alternatives_view (out-Case case.now).alternatives) (tree.option_ident_view (out-Case case.now).end_label)) result }
+    ensures kept { sight_view sight.new ≡ sight_view sight.old }
+{
     let lists = choice_lists(alloc, &case.alternatives)?;
     let all = match alternatives(alloc, sight, selected, &case.alternatives) {
-        Ok(all) => all,
+        Ok(all) => covered(alloc, selected, case.at, &lists, all)?,
         Err(fault) => return Err(first_fault(alloc, sight, selected, &lists, fault)),
     };
-    cover(alloc, selected, case.at, &lists, &all)?;
-    label_ends(label, &case.end_label)?;
-    let (alternatives, others) = but_last(case.at, all)?;
-    Ok(Statement::selection(case.at, value, alternatives, others))
+    let all = ended(label, &case.end_label, all)?;
+    but_last(case.at, all)
 }
 
 /// The alternatives of a case statement.
 #[cycle(statements)]
-#[tactic(auto, using(crate::proofs::steps::Lists::each_in_turn))]
+#[tactic(auto, using(vhdl_labels::proofs::Lists::each_in_turn))]
 fn alternatives(
     alloc: Global,
     sight: &mut Sight,
@@ -276,10 +292,24 @@ fn for_loop(
     ensures kept { sight_view sight.new ≡ sight_view sight.old }
 {
     let range = static_range(alloc, sight, &repeated.range)?;
-    enter_loop(alloc, sight, &repeated.parameter)?;
-    let turn = statements(alloc, sight, &repeated.statements);
-    leave_loop(sight);
-    let turn = turn?;
-    label_ends(label, &repeated.end_label)?;
+    let turn = turn(alloc, sight, repeated)?;
+    let (range, turn) = ended(label, &repeated.end_label, (range, turn))?;
     Ok(Statement::repetition(repeated.at, range, turn))
+}
+
+/// What a for loop does in a turn.
+#[cycle(statements)]
+fn turn(
+    alloc: Global,
+    sight: &mut Sight,
+    repeated: &syntax::For,
+) -> Result<Vec<Statement>, NameFault>
+    ensures given { Gives views.statements_view
+        (steps.turn (sight_view sight.old) (tree.ident_view (out-For repeated.now).parameter) (tree.sequentials_view (out-For repeated.now).statements)) result }
+    ensures kept { sight_view sight.new ≡ sight_view sight.old }
+{
+    enter_loop(alloc, sight, &repeated.parameter)?;
+    let found = statements(alloc, sight, &repeated.statements);
+    leave_loop(sight);
+    found
 }

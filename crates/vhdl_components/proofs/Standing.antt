@@ -10,7 +10,7 @@ use Rattle.vhdl_types.specs.declared.meaning.Meaning.TheVariants.{Unfinished}
 use Rattle.vhdl_types.specs.Views.{entry_view}
 use Rattle.vhdl_tree.specs.Tree as t
 use Rattle.vhdl_names.specs.units.Units as u
-use Rattle.vhdl_names.specs.Rules.{◌>>=◌, rule}
+use Rattle.vhdl_names.specs.Rules.{◌>>=◌, met}
 use Rattle.vhdl_names.specs.SameText.{same_generics, same_ports}
 use Rattle.vhdl_names.specs.Visibility as m
 use Rattle.vhdl_names.specs.Visibility.{Name, Declared, Sight, Declares, declare, are_distinct, with_declared, ends}
@@ -31,13 +31,13 @@ abbrev pub named : Sight → t.Component → ℕ × EntityView → Option (Sight
 named s c e = more s.region (declare c.name.text (m.component e.0) ∷ []) >>= λ r. Some (pair (record s { region = r }) none_analysed)
 
 abbrev pub closed : Sight → t.Component → ℕ × EntityView → Option (Sight × List u.Declaration)
-closed s c e = rule (ends c.name.text c.end_name) >>= λ _. named s c e
+closed s c e = met (ends c.name.text c.end_name) >>= λ _. named s c e
 
 abbrev pub same_entity : t.Component → ℕ × EntityView → Bool
 same_entity c e = same_generics c.generics e.1.generic_text && same_ports c.ports e.1.port_text
 
 abbrev pub of_entity : Sight → t.Component → ℕ × EntityView → Option (Sight × List u.Declaration)
-of_entity s c e = rule (same_entity c e) >>= λ _. (has_interface s c >>= λ _. closed s c e)
+of_entity s c e = met (same_entity c e) >>= λ _. (has_interface s c >>= λ _. closed s c e)
 
 abbrev there : Option (Unit {0})
 there = Some tt
@@ -54,28 +54,28 @@ unfolding component
 in_entity es s c = go (entity_named es c.name.text)
   where
     last : (e : ℕ × EntityView) (b : Bool) →
-        (rule b >>= λ _. Some (pair (with_declared s (declares c e).declared) none_analysed))
-        ≡ ((rule b >>= λ _. Some (s.region ++ (declares c e).declared)) >>= λ r. Some (pair (record s { region = r }) none_analysed))
+        (met b >>= λ _. Some (pair (with_declared s (declares c e).declared) none_analysed))
+        ≡ ((met b >>= λ _. Some (s.region ++ (declares c e).declared)) >>= λ r. Some (pair (record s { region = r }) none_analysed))
     last e true = refl
     last e false = refl
 
-    closing : (e : ℕ × EntityView) (b : Bool) → ((rule b >>= λ _. Some (declares c e)) >>= entered s) ≡ (rule b >>= λ _. named s c e)
+    closing : (e : ℕ × EntityView) (b : Bool) → ((met b >>= λ _. Some (declares c e)) >>= entered s) ≡ (met b >>= λ _. named s c e)
     closing e true = last e (are_distinct (declared_names (s.region ++ (declares c e).declared)))
     closing e false = refl
 
     inside : (e : ℕ × EntityView) (o : Option Interface) →
-        ((o >>= λ i. (rule (ends c.name.text c.end_name) >>= λ _. Some (declares c e))) >>= entered s) ≡ ((o >>= λ _. there) >>= λ _. closed s c e)
+        ((o >>= λ i. (met (ends c.name.text c.end_name) >>= λ _. Some (declares c e))) >>= entered s) ≡ ((o >>= λ _. there) >>= λ _. closed s c e)
     inside e None = refl
     inside e (Some i) = closing e (ends c.name.text c.end_name)
 
     by : (e : ℕ × EntityView) (b : Bool) →
-        ((rule b >>= λ _. (interface (inner s) c.generics c.ports >>= λ i. (rule (ends c.name.text c.end_name) >>= λ _. Some (declares c e)))) >>= entered s)
-        ≡ (rule b >>= λ _. (has_interface s c >>= λ _. closed s c e))
+        ((met b >>= λ _. (interface (inner s) c.generics c.ports >>= λ i. (met (ends c.name.text c.end_name) >>= λ _. Some (declares c e)))) >>= entered s)
+        ≡ (met b >>= λ _. (has_interface s c >>= λ _. closed s c e))
     by e true = inside e (interface (inner s) c.generics c.ports)
     by e false = refl
 
     go : (o : Option (ℕ × EntityView)) →
-        ((o >>= λ e. (rule (same_entity c e) >>= λ _. (interface (inner s) c.generics c.ports >>= λ i. (rule (ends c.name.text c.end_name) >>= λ _. Some (declares c e))))) >>= entered s)
+        ((o >>= λ e. (met (same_entity c e) >>= λ _. (interface (inner s) c.generics c.ports >>= λ i. (met (ends c.name.text c.end_name) >>= λ _. Some (declares c e))))) >>= entered s)
         ≡ (o >>= of_entity s c)
     go None = refl
     go (Some e) = by e (same_entity c e)
@@ -97,16 +97,16 @@ component_in_turn es s c = in_entity es s c ∙ by (are_distinct (declared_names
     after = s.region ++ declare c.name.text m.unfinished ∷ []
 
     first : Bool → Option (Unit {0})
-    first b = (rule b >>= λ _. Some after) >>= λ _. Some tt
+    first b = (met b >>= λ _. Some after) >>= λ _. Some tt
 
     twice : are_distinct (declared_names after) ≡ false → (e : ℕ × EntityView) → of_entity s c e ≡ None
     twice h e =
-        ap (λ b. rule (same_entity c e) >>= λ _. (has_interface s c >>= λ _. (rule (ends c.name.text c.end_name) >>= λ _.
-        ((rule b >>= λ _. Some (s.region ++ declare c.name.text (m.component e.0) ∷ [])) >>= λ r. Some (pair (record s { region = r }) none_analysed)))))
+        ap (λ b. met (same_entity c e) >>= λ _. (has_interface s c >>= λ _. (met (ends c.name.text c.end_name) >>= λ _.
+        ((met b >>= λ _. Some (s.region ++ declare c.name.text (m.component e.0) ∷ [])) >>= λ r. Some (pair (record s { region = r }) none_analysed)))))
         (ap are_distinct (named_twice s.region c.name.text (m.component e.0)) ∙ h)
-        ∙ ap (λ o. rule (same_entity c e) >>= λ _. (has_interface s c >>= λ _. o)) (nothing (rule (ends c.name.text c.end_name)))
-        ∙ ap (λ o. rule (same_entity c e) >>= λ _. o) (nothing (has_interface s c))
-        ∙ nothing (rule (same_entity c e))
+        ∙ ap (λ o. met (same_entity c e) >>= λ _. (has_interface s c >>= λ _. o)) (nothing (met (ends c.name.text c.end_name)))
+        ∙ ap (λ o. met (same_entity c e) >>= λ _. o) (nothing (has_interface s c))
+        ∙ nothing (met (same_entity c e))
 
     none_of : are_distinct (declared_names after) ≡ false → (o : Option (ℕ × EntityView)) → (o >>= of_entity s c) ≡ None
     none_of h None = refl

@@ -37,7 +37,7 @@ fn is_new(region: &Region, name: &Identifier) -> Result<(), NameFault>
 
 /// A component that differs from its entity, in as little as an optional word, is of WrongKind.
 fn is_entity(component: &Component, entity: &Entity) -> Result<(), NameFault>
-    ensures given { Gives (λ x. x) (rule (same_generics (option_generics_view component.now.generics) (option_generics_view entity.now.generics)
+    ensures given { Gives (λ x. x) (rule WrongKind (same_generics (option_generics_view component.now.generics) (option_generics_view entity.now.generics)
         && same_ports (option_ports_view component.now.ports) (option_ports_view entity.now.ports))) result }
     ensures fault { IfErr result (λ f. f ≡ At WrongKind component.now.name.at) }
 {

@@ -9,7 +9,7 @@ use Rattle.vhdl_names.specs.declared.operator.IntegerType.{IntegerType}
 use Rattle.vhdl_names.specs.units.Expressions.{Static}
 use Rattle.vhdl_names.specs.units.Units as u
 use Rattle.vhdl_names.specs.units.Units.{Fixed}
-use Rattle.vhdl_names.specs.Rules.{◌>>=◌, rule, if_any}
+use Rattle.vhdl_names.specs.Rules.{◌>>=◌, met, if_any}
 use Rattle.vhdl_names.specs.Visibility as m
 use Rattle.vhdl_names.specs.Visibility.{Name, Meaning, Declared, Sight, Declares, names_of, count_of, with_declared, with_variables, numbered, meaning}
 use Rattle.vhdl_names.specs.Expressions.{static}
@@ -112,7 +112,7 @@ abbrev pub constants_of : Sight → t.Constants → Option TypedConstant → Opt
 constants_of s d o = declares_all (names_of d.names) (constant_number s) c.declared_as (c.declarations d.names) o
 
 constants_typed : (s : Sight) (d : t.Constants) (o : Option IntegerType) → constants_by s d o ≡ constants_of s d (c.by_type (within s d.names) d o)
-constants_typed s d (Some w) = go (rule (is_none d.subtype.range))
+constants_typed s d (Some w) = go (met (is_none d.subtype.range))
   where
     last : (o : Option Static) → (o >>= λ value. Some (record { declared = numbered m.integer_constant (count_of m.is_integer_constant s.region) (names_of d.names); analysed = for_each (λ n. u.Declaration.integer w value) d.names }))
         ≡ constants_of s d (o >>= λ value. Some (of_integers w value))

@@ -12,7 +12,7 @@ use Rattle.vhdl_tree.specs.View.{ident_view}
 use Rattle.vhdl_names.specs.declared.operator.IntegerType.{IntegerType}
 use Rattle.vhdl_names.specs.units.Expressions.{Static}
 use Rattle.vhdl_names.specs.units.Units as u
-use Rattle.vhdl_names.specs.Rules.{◌>>=◌, rule, if_any}
+use Rattle.vhdl_names.specs.Rules.{◌>>=◌, met, if_any}
 use Rattle.vhdl_names.specs.Visibility as m
 use Rattle.vhdl_names.specs.Visibility.{Name, Meaning, Declared, Sight, Declares, declare, meaning, names_of, count_of, with_declared, are_distinct, numbered}
 use Rattle.vhdl_names.specs.Expressions.{static}
@@ -79,7 +79,7 @@ pub enumeration_is : (s : Sight) (d : t.Enumeration) (number count : ℕ) → nu
 unfolding enumeration
 enumeration_is s d number count h size le =
     let t : nat_le (length d.literals) 256 ≡ true = grind (arith, nat_tests) in
-    ap (λ b. (rule b >>= λ _. Some (record {
+    ap (λ b. (met b >>= λ _. Some (record {
       declared = declare d.name.text (m.enumeration_type (count_of m.is_enumeration_type s.region) (length d.literals))
           ∷ literals (count_of m.is_enumeration_type s.region) (length d.literals) 0 (names_of d.literals);
       analysed = [];
@@ -88,7 +88,7 @@ enumeration_is s d number count h size le =
     ∙ ap (λ n. (more s.region (declare d.name.text (m.enumeration_type n (length d.literals)) ∷ []) >>= λ r. more r (literals n (length d.literals) 0 (names_of d.literals))) >>= in_region s) (sym h)
     ∙ ap (λ n. (more s.region (declare d.name.text (m.enumeration_type number n) ∷ []) >>= λ r. more r (literals number n 0 (names_of d.literals))) >>= in_region s) (sym size)
   where
-    entered_by : (b : Bool) (l : List Declared) → (rule b >>= λ _. Some (record s { region = l }, [])) ≡ ((rule b >>= λ _. Some l) >>= in_region s)
+    entered_by : (b : Bool) (l : List Declared) → (met b >>= λ _. Some (record s { region = l }, [])) ≡ ((met b >>= λ _. Some l) >>= in_region s)
     entered_by true l = refl
     entered_by false l = refl
 

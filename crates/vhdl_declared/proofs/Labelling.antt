@@ -8,7 +8,7 @@ use Rattle.std.proofs.lemmas.List.{drop_all, map-append}
 use Rattle.vhdl_tree.specs.Tree as t
 use Rattle.vhdl_tree.specs.View.{concurrent_view}
 use Rattle.vhdl_tree.specs.declared.concurrent.Concurrent.{Concurrent}
-use Rattle.vhdl_names.specs.Rules.{◌>>=◌, rule}
+use Rattle.vhdl_names.specs.Rules.{◌>>=◌, met}
 use Rattle.vhdl_names.specs.Visibility as v
 use Rattle.vhdl_names.specs.Visibility.{Name, Declared, are_distinct, all_declared}
 use Rattle.vhdl_names.specs.Interfaces.{declared_names}
@@ -40,16 +40,16 @@ no_labels es cs i le apart = ap (λ l. more (map entry_view es) (labelled (label
 labels_distinct : (ns : List Name) → are_distinct (declared_names (labelled ns)) ≡ are_distinct ns
 labels_distinct ns = ap are_distinct (names-all v.label ns)
 
-pub distinct_none : (ns : List Name) → more [] (labelled ns) ≡ None → rule (are_distinct ns) ≡ None
-distinct_none ns h = ap rule (sym (labels_distinct ns)) ∙ go (are_distinct (declared_names (labelled ns))) h
+pub distinct_none : (ns : List Name) → more [] (labelled ns) ≡ None → met (are_distinct ns) ≡ None
+distinct_none ns h = ap met (sym (labels_distinct ns)) ∙ go (are_distinct (declared_names (labelled ns))) h
   where
-    go : (b : Bool) → (rule b >>= λ _. Some (labelled ns)) ≡ None → rule b ≡ None
+    go : (b : Bool) → (met b >>= λ _. Some (labelled ns)) ≡ None → met b ≡ None
     go true h = cc
     go false h = refl
 
-pub distinct_some : (ns : List Name) (r : List Declared) → more [] (labelled ns) ≡ Some r → rule (are_distinct ns) ≡ Some tt
-distinct_some ns r h = ap rule (sym (labels_distinct ns)) ∙ go (are_distinct (declared_names (labelled ns))) h
+pub distinct_some : (ns : List Name) (r : List Declared) → more [] (labelled ns) ≡ Some r → met (are_distinct ns) ≡ Some tt
+distinct_some ns r h = ap met (sym (labels_distinct ns)) ∙ go (are_distinct (declared_names (labelled ns))) h
   where
-    go : (b : Bool) → (rule b >>= λ _. Some (labelled ns)) ≡ Some r → rule b ≡ Some tt
+    go : (b : Bool) → (met b >>= λ _. Some (labelled ns)) ≡ Some r → met b ≡ Some tt
     go true h = refl
     go false h = cc

@@ -3,7 +3,7 @@ use Rattle.std.proofs.Common.{◌≡◌, ℕ, ◌+◌, ◌<◌, ◌≤◌, Bool,
 use Rattle.std.proofs.Math.Seq.{take-append_seam}
 use Rattle.std.proofs.lemmas.Grind.{flat_map-append}
 use Rattle.std.proofs.lemmas.List.{length-append}
-use Rattle.vhdl_names.specs.Rules.{◌>>=◌, rule}
+use Rattle.vhdl_names.specs.Rules.{◌>>=◌, met}
 use Rattle.vhdl_names.specs.Visibility.{Declared, Sight, Declares, are_distinct, with_declared, with_variables}
 use Rattle.vhdl_names.specs.Declarations.{in_order}
 use Rattle.vhdl_names.specs.Interfaces.{declared_names}
@@ -83,7 +83,7 @@ module _ {A B : Type 0} (declares : Sight → A → Option (Declares B)) where
   pub grown_by : (s t : Sight) (a : A) (ys : List B) → entering declares s a ≡ Some (t, ys) → (ds : List Declared) × (t.region ≡ s.region ++ ds)
   grown_by s t a ys h = go (declares s a) h
     where
-      by : (x : Declares B) (b : Bool) → (rule b >>= λ _. Some (o.pair (with_declared s x.declared) x.analysed)) ≡ Some (t, ys) → t.region ≡ s.region ++ x.declared
+      by : (x : Declares B) (b : Bool) → (met b >>= λ _. Some (o.pair (with_declared s x.declared) x.analysed)) ≡ Some (t, ys) → t.region ≡ s.region ++ x.declared
       by x true e = ap (λ (y : Sight). y.region) (sym (o.first_is (with_declared s x.declared) t x.analysed ys e))
       by x false e = cc
 
@@ -114,7 +114,7 @@ module _ {A B : Type 0} (declares : Sight → A → Option (Declares B)) where
   pub grown_by_variables : (s t : Sight) (a : A) (ys : List B) → entering_variables declares s a ≡ Some (t, ys) → (ds : List Declared) × (t.variables ≡ s.variables ++ ds)
   grown_by_variables s t a ys h = go (declares s a) h
     where
-      by : (x : Declares B) (b : Bool) → (rule b >>= λ _. Some (o.pair (with_variables s x.declared) x.analysed)) ≡ Some (t, ys) → t.variables ≡ s.variables ++ x.declared
+      by : (x : Declares B) (b : Bool) → (met b >>= λ _. Some (o.pair (with_variables s x.declared) x.analysed)) ≡ Some (t, ys) → t.variables ≡ s.variables ++ x.declared
       by x true e = ap (λ (y : Sight). y.variables) (sym (o.first_is (with_variables s x.declared) t x.analysed ys e))
       by x false e = cc
 

@@ -2,7 +2,7 @@
 use Rattle.std.proofs.Common.{◌≡◌, ℕ, suc, ◌+◌, ◌<◌, ◌≤◌, Bool, true, false, List, [], ◌∷◌, ◌++◌, map, length, drop, get_or, Option, Some, None, refl, sym, ap, ◌∙◌, append_assoc, append-nil, arith}
 use Rattle.std.proofs.Math.Seq.{drop-cons}
 use Rattle.std.proofs.lemmas.List.{drop_all}
-use Rattle.vhdl_names.specs.Rules.{◌>>=◌, rule}
+use Rattle.vhdl_names.specs.Rules.{◌>>=◌, met}
 use Rattle.vhdl_names.specs.Visibility.{Declared, Sight, Declares, followed_by, are_distinct}
 use Rattle.vhdl_names.specs.Declarations.{in_order}
 use Rattle.vhdl_names.specs.Interfaces.{declared_names}
@@ -36,7 +36,7 @@ module _ (region : Sight → List Declared) (with_more : Sight → List Declared
     (joins : (s : Sight) (ds es : List Declared) → with_more (with_more s ds) es ≡ with_more s (ds ++ es))
     (stays : (s : Sight) → with_more s [] ≡ s) where
   abbrev pub enters : {B : Type 0} → Sight → Declares B → Option (Sight × List B)
-  enters s x = rule (are_distinct (declared_names (region s ++ x.declared))) >>= λ _. Some (pair (with_more s x.declared) x.analysed)
+  enters s x = met (are_distinct (declared_names (region s ++ x.declared))) >>= λ _. Some (pair (with_more s x.declared) x.analysed)
 
   module _ {A B : Type 0} (declares : Sight → A → Option (Declares B)) where
     abbrev pub stepped : Sight → List A → Option (Sight × List B)
@@ -46,22 +46,22 @@ module _ (region : Sight → List Declared) (with_more : Sight → List Declared
     module _ (s : Sight) (x : Declares B) where
       first : (b : Bool) → are_distinct (declared_names (region s ++ x.declared)) ≡ b → (o : Option (Declares B)) →
           ((o >>= λ xs. Some (followed_by x xs)) >>= enters s)
-          ≡ ((rule b >>= λ _. Some (pair (with_more s x.declared) x.analysed)) >>= λ y. behind y.1 (o >>= enters y.0))
+          ≡ ((met b >>= λ _. Some (pair (with_more s x.declared) x.analysed)) >>= λ y. behind y.1 (o >>= enters y.0))
       first true h None = refl
       first false h None = refl
       first true h (Some xs) =
-          ap (λ l. rule (are_distinct (declared_names l)) >>= λ _. Some (pair (with_more s (x.declared ++ xs.declared)) (x.analysed ++ xs.analysed)))
+          ap (λ l. met (are_distinct (declared_names l)) >>= λ _. Some (pair (with_more s (x.declared ++ xs.declared)) (x.analysed ++ xs.analysed)))
           (sym (append_assoc (region s) x.declared xs.declared) ∙ ap (λ r. r ++ xs.declared) (sym (grows s x.declared)))
-          ∙ ap (λ t. rule (are_distinct (declared_names (region (with_more s x.declared) ++ xs.declared))) >>= λ _. Some (pair t (x.analysed ++ xs.analysed)))
+          ∙ ap (λ t. met (are_distinct (declared_names (region (with_more s x.declared) ++ xs.declared))) >>= λ _. Some (pair t (x.analysed ++ xs.analysed)))
           (sym (joins s x.declared xs.declared))
           ∙ out (are_distinct (declared_names (region (with_more s x.declared) ++ xs.declared)))
         where
-          out : (b : Bool) → (rule b >>= λ _. Some (pair (with_more (with_more s x.declared) xs.declared) (x.analysed ++ xs.analysed)))
-              ≡ behind x.analysed (rule b >>= λ _. Some (pair (with_more (with_more s x.declared) xs.declared) xs.analysed))
+          out : (b : Bool) → (met b >>= λ _. Some (pair (with_more (with_more s x.declared) xs.declared) (x.analysed ++ xs.analysed)))
+              ≡ behind x.analysed (met b >>= λ _. Some (pair (with_more (with_more s x.declared) xs.declared) xs.analysed))
           out true = refl
           out false = refl
       first false h (Some xs) =
-          ap (λ b. rule b >>= λ _. Some (pair (with_more s (x.declared ++ xs.declared)) (x.analysed ++ xs.analysed)))
+          ap (λ b. met b >>= λ _. Some (pair (with_more s (x.declared ++ xs.declared)) (x.analysed ++ xs.analysed)))
           (ap (λ l. are_distinct (declared_names l)) (sym (append_assoc (region s) x.declared xs.declared))
           ∙ ap are_distinct (names-append (region s ++ x.declared) xs.declared)
           ∙ still_twice (declared_names (region s ++ x.declared)) (declared_names xs.declared) h)
@@ -72,13 +72,13 @@ module _ (region : Sight → List Declared) (with_more : Sight → List Declared
     pub in_steps : (as' : List A) (s : Sight) → are_distinct (declared_names (region s)) ≡ true →
         (in_order with_more declares s as' >>= enters s) ≡ stepped s as'
     in_steps [] s h =
-        ap (λ r. rule (are_distinct (declared_names r)) >>= λ _. Some (pair (with_more s []) [])) (append-nil (region s))
-        ∙ ap (λ b. rule b >>= λ _. Some (pair (with_more s []) [])) h ∙ ap (λ t. Some (pair t [])) (stays s)
+        ap (λ r. met (are_distinct (declared_names r)) >>= λ _. Some (pair (with_more s []) [])) (append-nil (region s))
+        ∙ ap (λ b. met b >>= λ _. Some (pair (with_more s []) [])) h ∙ ap (λ t. Some (pair t [])) (stays s)
     in_steps (a ∷ as') s h = go (declares s a) (λ t e. in_steps as' t e)
       where
         by : (x : Declares B) (b : Bool) → are_distinct (declared_names (region s ++ x.declared)) ≡ b → Steps as' →
-            ((rule b >>= λ _. Some (pair (with_more s x.declared) x.analysed)) >>= λ y. behind y.1 (in_order with_more declares (with_more s x.declared) as' >>= enters y.0))
-            ≡ ((rule b >>= λ _. Some (pair (with_more s x.declared) x.analysed)) >>= λ y. behind y.1 (stepped y.0 as'))
+            ((met b >>= λ _. Some (pair (with_more s x.declared) x.analysed)) >>= λ y. behind y.1 (in_order with_more declares (with_more s x.declared) as' >>= enters y.0))
+            ≡ ((met b >>= λ _. Some (pair (with_more s x.declared) x.analysed)) >>= λ y. behind y.1 (stepped y.0 as'))
         by x true e rest = ap (behind x.analysed) (rest (with_more s x.declared) (ap (λ r. are_distinct (declared_names r)) (grows s x.declared) ∙ e))
         by x false e rest = refl
 

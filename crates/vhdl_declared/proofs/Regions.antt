@@ -7,7 +7,7 @@ use Rattle.std.proofs.lemmas.Map.Keys.{IsDistinct-head, IsDistinct-tail}
 use Rattle.std.proofs.Math.Seq.{drop-cons}
 use Rattle.std.proofs.lemmas.List.{map-append, length-map, drop_all}
 use Rattle.std.proofs.lemmas.Slice.Eq.{bytes_eq-Decides}
-use Rattle.vhdl_names.specs.Rules.{◌>>=◌, rule}
+use Rattle.vhdl_names.specs.Rules.{◌>>=◌, met}
 use Rattle.vhdl_names.specs.Visibility as v
 use Rattle.vhdl_tree.specs.declared.expression.Identifier.{Identifier}
 use Rattle.vhdl_tree.specs.View.{ident_view}
@@ -84,23 +84,23 @@ distinct-last (m ∷ ms) n =
 
 pub more_split : (ds es fs : List Declared) → more ds (es ++ fs) ≡ (more ds es >>= λ r. more r fs)
 more_split ds es fs =
-    ap (λ l. rule (are_distinct (declared_names l)) >>= λ _. Some l) (sym (append_assoc ds es fs)) ∙ go (are_distinct (declared_names (ds ++ es))) refl
+    ap (λ l. met (are_distinct (declared_names l)) >>= λ _. Some l) (sym (append_assoc ds es fs)) ∙ go (are_distinct (declared_names (ds ++ es))) refl
   where
     go : (b : Bool) → are_distinct (declared_names (ds ++ es)) ≡ b
-        → (rule (are_distinct (declared_names ((ds ++ es) ++ fs))) >>= λ _. Some ((ds ++ es) ++ fs)) ≡ ((rule b >>= λ _. Some (ds ++ es)) >>= λ r. more r fs)
+        → (met (are_distinct (declared_names ((ds ++ es) ++ fs))) >>= λ _. Some ((ds ++ es) ++ fs)) ≡ ((met b >>= λ _. Some (ds ++ es)) >>= λ r. more r fs)
     go true h = refl
     go false h =
-        ap (λ b. rule b >>= λ _. Some ((ds ++ es) ++ fs))
+        ap (λ b. met b >>= λ _. Some ((ds ++ es) ++ fs))
         (ap are_distinct (names-append (ds ++ es) fs) ∙ still_twice (declared_names (ds ++ es)) (declared_names fs) h)
 
 pub more_none : (ds : List Declared) → are_distinct (declared_names ds) ≡ true → more ds [] ≡ Some ds
 more_none ds h =
-    ap (λ l. rule (are_distinct (declared_names l)) >>= λ _. Some l) (append-nil ds) ∙ ap (λ b. rule b >>= λ _. Some ds) h
+    ap (λ l. met (are_distinct (declared_names l)) >>= λ _. Some l) (append-nil ds) ∙ ap (λ b. met b >>= λ _. Some ds) h
 
 more_last : (ds : List Declared) (d : Declared) → are_distinct (declared_names ds) ≡ true →
-    more ds (d ∷ []) ≡ (rule (not (is_among d.name (declared_names ds))) >>= λ _. Some (ds ++ d ∷ []))
+    more ds (d ∷ []) ≡ (met (not (is_among d.name (declared_names ds))) >>= λ _. Some (ds ++ d ∷ []))
 more_last ds d h =
-    ap (λ b. rule b >>= λ _. Some (ds ++ d ∷ []))
+    ap (λ b. met b >>= λ _. Some (ds ++ d ∷ []))
     (ap are_distinct (names-append ds (d ∷ [])) ∙ distinct-last (declared_names ds) d.name ∙ ap (λ b. b && not (is_among d.name (declared_names ds))) h)
 
 -- ---- tables
@@ -138,14 +138,14 @@ pub refused : (es : List (Vec ℕ Global × CodeMeaning)) (n : Name) (m : Meanin
     → is_some (lookup (λ k. bytes_eq n k.items) es) ≡ true → more (map entry_view es) (v.declare n m ∷ []) ≡ None
 refused es n m apart there =
     more_last (map entry_view es) (v.declare n m) (names_apart es apart)
-    ∙ ap (λ b. rule (not b) >>= λ _. Some (map entry_view es ++ v.declare n m ∷ [])) (sym (among_keys n es) ∙ there)
+    ∙ ap (λ b. met (not b) >>= λ _. Some (map entry_view es ++ v.declare n m ∷ [])) (sym (among_keys n es) ∙ there)
 
 pub grown : (es es' : List (Vec ℕ Global × CodeMeaning)) (n : Name) (key : Vec ℕ Global) (m : CodeMeaning) → IsDistinct (λ a b. bytes_eq a.items b.items) (keys_of es)
     → is_some (lookup (λ k. bytes_eq n k.items) es) ≡ false → key.items ≡ n → es' ≡ es ++ (key, m) ∷ []
     → more (map entry_view es) (v.declare n (meaning_view m) ∷ []) ≡ Some (map entry_view es')
 grown es es' n key m apart new same e =
     more_last (map entry_view es) (v.declare n (meaning_view m)) (names_apart es apart)
-    ∙ ap (λ b. rule (not b) >>= λ _. Some (map entry_view es ++ v.declare n (meaning_view m) ∷ [])) (sym (among_keys n es) ∙ new)
+    ∙ ap (λ b. met (not b) >>= λ _. Some (map entry_view es ++ v.declare n (meaning_view m) ∷ [])) (sym (among_keys n es) ∙ new)
     ∙ ap (λ t. Some (map entry_view es ++ v.declare t (meaning_view m) ∷ [])) (sym same)
     ∙ ap Some (sym (map-append entry_view es ((key, m) ∷ []))) ∙ ap (λ l. Some (map entry_view l)) (sym e)
 

@@ -1,7 +1,7 @@
 -- A declaration of several names: its names enter the region, and what they mean is known thereafter.
 use Rattle.std.proofs.Common.{◌≡◌, ℕ, suc, ◌+◌, ◌≤◌, Bool, true, false, List, [], ◌∷◌, ◌++◌, map, length, take, drop, Option, Some, None, Vec, Global, refl, sym, ap, ◌∙◌, append_assoc, append-nil, arith}
 use Rattle.std.proofs.Math.Seq.{take-append_seam, drop-append_seam}
-use Rattle.vhdl_names.specs.Rules.{◌>>=◌, rule}
+use Rattle.vhdl_names.specs.Rules.{◌>>=◌, met}
 use Rattle.vhdl_names.specs.Visibility as v
 use Rattle.vhdl_names.specs.Visibility.{Name, Meaning, Declared, Sight, Declares, are_distinct, all_declared, numbered, count_of}
 use Rattle.vhdl_names.specs.Interfaces.{declared_names}
@@ -25,7 +25,7 @@ settled_hidden f number ds ns =
 pub more_is : (ds es r : List Declared) → more ds es ≡ Some r → r ≡ ds ++ es
 more_is ds es r h = go (are_distinct (declared_names (ds ++ es))) h
   where
-    go : (b : Bool) → (rule b >>= λ _. Some (ds ++ es)) ≡ Some r → r ≡ ds ++ es
+    go : (b : Bool) → (met b >>= λ _. Some (ds ++ es)) ≡ Some r → r ≡ ds ++ es
     go true h = cc
     go false h = cc
 
@@ -38,14 +38,14 @@ same_names f k ds ns =
 not_more : (ds es : List Declared) → more ds es ≡ None → are_distinct (declared_names (ds ++ es)) ≡ false
 not_more ds es h = go (are_distinct (declared_names (ds ++ es))) h
   where
-    go : (b : Bool) → (rule b >>= λ _. Some (ds ++ es)) ≡ None → b ≡ false
+    go : (b : Bool) → (met b >>= λ _. Some (ds ++ es)) ≡ None → b ≡ false
     go true h = cc
     go false h = refl
 
 has_more : (ds es r : List Declared) → more ds es ≡ Some r → are_distinct (declared_names (ds ++ es)) ≡ true
 has_more ds es r h = go (are_distinct (declared_names (ds ++ es))) h
   where
-    go : (b : Bool) → (rule b >>= λ _. Some (ds ++ es)) ≡ Some r → b ≡ true
+    go : (b : Bool) → (met b >>= λ _. Some (ds ++ es)) ≡ Some r → b ≡ true
     go true h = refl
     go false h = cc
 
@@ -58,13 +58,13 @@ declares_all ns k f a o = o >>= λ x. Some (record { declared = numbered (f x) (
 
 module _ (region : Sight → List Declared) (with_more : Sight → List Declared → Sight) where
   abbrev pub enters : {B : Type 0} → Sight → Declares B → Option (Sight × List B)
-  enters s x = rule (are_distinct (declared_names (region s ++ x.declared))) >>= λ _. Some (pair (with_more s x.declared) x.analysed)
+  enters s x = met (are_distinct (declared_names (region s ++ x.declared))) >>= λ _. Some (pair (with_more s x.declared) x.analysed)
 
   module _ {X B : Type 0} (s : Sight) (ns : List Name) (k : X → ℕ) (f : X → ℕ → Meaning) (a : X → List B) where
     pub refused : more (region s) (all_declared v.unfinished ns) ≡ None → (o : Option X) → (declares_all ns k f a o >>= enters s) ≡ None
     refused h None = refl
     refused h (Some x) =
-        ap (λ b. rule b >>= λ _. Some (pair (with_more s (numbered (f x) (k x) ns)) (a x)))
+        ap (λ b. met b >>= λ _. Some (pair (with_more s (numbered (f x) (k x) ns)) (a x)))
         (ap are_distinct (same_names (f x) (k x) (region s) ns) ∙ not_more (region s) (all_declared v.unfinished ns) h)
 
     pub unknown : (o : Option X) → o ≡ None → (declares_all ns k f a o >>= enters s) ≡ None
@@ -74,7 +74,7 @@ module _ (region : Sight → List Declared) (with_more : Sight → List Declared
         (declares_all ns k f a o >>= enters s) ≡ Some (pair (with_more s (numbered (f x) (k x) ns)) (a x))
     known r h o x e =
         ap (λ o. declares_all ns k f a o >>= enters s) e
-        ∙ ap (λ b. rule b >>= λ _. Some (pair (with_more s (numbered (f x) (k x) ns)) (a x)))
+        ∙ ap (λ b. met b >>= λ _. Some (pair (with_more s (numbered (f x) (k x) ns)) (a x)))
         (ap are_distinct (same_names (f x) (k x) (region s) ns) ∙ has_more (region s) (all_declared v.unfinished ns) r h)
 
 -- a region once its last names are settled

@@ -7,6 +7,7 @@ use Rattle.vhdl_names.specs.declared.kind.Kind.{Kind}
 use Rattle.vhdl_names.specs.declared.operator.IntegerType.{IntegerType}
 use Rattle.vhdl_names.specs.units.Expressions.{Static}
 use Rattle.vhdl_names.specs.units.Units as u
+use Rattle.vhdl_names.specs.declared.fault.NameProblem.TheVariants.{LeftOut}
 use Rattle.vhdl_names.specs.Rules.{◌>>=◌, ◌>>◌, rule}
 use Rattle.vhdl_names.specs.Visibility as m
 use Rattle.vhdl_names.specs.Visibility.{Sight, Meaning, meaning}
@@ -28,7 +29,7 @@ constant_view (c.Other k form value) = of_values k (form_view form) (fixed_view 
 
 abbrev pub integer : Sight → IntegerType → t.Constants → Option TypedConstant
 integer sight type d = do
-  rule (is_none d.subtype.range)
+  rule LeftOut (is_none d.subtype.range)
   e ← single_expression d.value
   value ← static sight e
   Some (of_integers type value)

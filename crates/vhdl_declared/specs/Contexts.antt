@@ -1,7 +1,8 @@
 -- What contracts see of a context, and what one clause brings.
-use Rattle.std.specs.Prelude.{◌||◌, ◌&&◌, List, Option, Some}
+use Rattle.std.specs.Prelude.{◌||◌, List, Option, Some}
 use Rattle.std.specs.List.{list_any, list_all}
 use Rattle.vhdl_tree.specs.Tree.{Ident, Selected}
+use Rattle.vhdl_names.specs.declared.fault.NameProblem.TheVariants.{Undeclared, LeftOut}
 use Rattle.vhdl_names.specs.Rules.{◌>>=◌, ◌>>◌, rule}
 use Rattle.vhdl_names.specs.Packages as p
 use Rattle.vhdl_declared.specs.declared.context.Context.{Context}
@@ -12,11 +13,12 @@ context_view c = record { has_ieee = c.has_ieee; has_logic = c.has_logic; has_nu
 -- a library clause
 abbrev pub libraries_named : p.Context → List Ident → Option p.Context
 libraries_named before ns = do
-  rule (list_all p.is_library ns)
+  rule LeftOut (list_all p.is_library ns)
   Some (record before { has_ieee = before.has_ieee || list_any p.is_ieee ns })
 
 -- a use clause
 abbrev pub packages_used : p.Context → List Selected → Option p.Context
 packages_used before ss = do
-  rule (before.has_ieee && list_all (λ s. p.is_logic s || p.is_numbers s) ss)
+  rule Undeclared before.has_ieee
+  rule LeftOut (list_all (λ s. p.is_logic s || p.is_numbers s) ss)
   Some (record before { has_logic = before.has_logic || list_any p.is_logic ss; has_numbers = before.has_numbers || list_any p.is_numbers ss })

@@ -6,6 +6,7 @@ ghost use Rattle.vhdl_declared.specs.Entered.{more};
 ghost use Rattle.vhdl_names.specs.Concurrent as rules;
 ghost use Rattle.vhdl_names.specs.Files.{labelled};
 ghost use Rattle.vhdl_names.specs.Gives.{Gives};
+ghost use Rattle.vhdl_names.specs.declared.fault.NameProblem.TheVariants.{Twice};
 ghost use Rattle.vhdl_names.specs.Rules.{rule};
 ghost use Rattle.vhdl_names.specs.Statements.{label_names};
 ghost use Rattle.vhdl_names.specs.Visibility.{are_distinct};
@@ -75,7 +76,7 @@ pub fn declare_labels(
 /// No label stands twice directly among statements, as those of a generate; else it is Twice. It
 /// takes the memory of the labels and their entries.
 pub fn labels_are_distinct(alloc: Global, statements: &[Concurrent]) -> Result<(), NameFault>
-    ensures { Gives (λ x. x) (rule (are_distinct (rules.concurrent_labels (concurrents_of (map concurrent_view statements.now))))) result }
+    ensures { Gives (λ x. x) (rule Twice (are_distinct (rules.concurrent_labels (concurrents_of (map concurrent_view statements.now))))) result }
 {
     let mut region: Region = IndexMap::new(alloc);
     declare_labels(alloc, &mut region, statements)?;

@@ -121,7 +121,8 @@ turned Le = Ge
 turned Gt = Lt
 turned Ge = Le
 
--- one element and a character literal, which is plain where it stands as `s = '1'`
+-- One element and a character literal. Of the forms `s = '1'`, `s = ('1')` with `(s) = '1'`, `'1' = s` and `('1') = s` the first alone
+-- is plain: it makes an edge together with `s'event`. The literal of the second is an enclosed one.
 abbrev pub levelled : (plain : Bool) → (es : List ℕ) → Nine → b.Test
 levelled plain (e ∷ []) x = b.level plain e x
 levelled plain es x = b.equal (b.elements (b.signal es)) (b.elements (b.constant (x ∷ [])))

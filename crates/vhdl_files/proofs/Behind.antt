@@ -5,14 +5,14 @@ use Rattle.vhdl_tree.specs.Tree.{ContextItem}
 use Rattle.vhdl_names.specs.units.Units as u
 use Rattle.vhdl_names.specs.declared.fault.NameFault.{NameFault}
 use Rattle.vhdl_names.specs.declared.fault.NameFault.TheVariants.{NoMemory}
-use Rattle.vhdl_names.specs.Rules.{◌>>=◌, ◌>>◌, rule, if_any}
+use Rattle.vhdl_names.specs.Rules.{◌>>=◌, ◌>>◌, met, if_any}
 use Rattle.vhdl_names.specs.Visibility.{Name, Declared, Sight, Declares, are_distinct, ends, with_declared}
 use Rattle.vhdl_names.specs.Packages.{Context, context, sight_of}
 use Rattle.vhdl_names.specs.Declarations.{in_order}
 use Rattle.vhdl_names.specs.Interfaces.{EntityView, declared_names}
 use Rattle.vhdl_names.specs.Concurrent.{concurrents, concurrent_labels}
 use Rattle.vhdl_names.specs.Files.{declaration, labelled, architecture}
-use Rattle.vhdl_bodies.proofs.steps.Cases.{bound, inner}
+use Rattle.vhdl_labels.proofs.Lists.{bound, inner}
 use Rattle.vhdl_declared.specs.Entered.{entered, entering, more}
 use Rattle.vhdl_declared.proofs.Regions.{more_split}
 use Rattle.vhdl_interfaces.specs.Views.{sight_behind, named_view}
@@ -38,7 +38,7 @@ module _ (all : List EntityView) (e : EntityView) (items : List ContextItem) (a 
 
   -- what is made of the region, behind all declarations and labels
   abbrev rest : Sight → List u.Declaration → Option (List Declared) → Option u.Architecture
-  rest s ds o = o >>= λ region. (concurrents all (with_region s region) (t.concurrents_of a.statements) >>= λ body. (rule (ends a.name.text a.end_name) >>
+  rest s ds o = o >>= λ region. (concurrents all (with_region s region) (t.concurrents_of a.statements) >>= λ body. (met (ends a.name.text a.end_name) >>
       Some (record { declarations = ds; statements = body })))
 
   -- the rule of the whole region, and the region, are what its parts give one after another
@@ -46,20 +46,20 @@ module _ (all : List EntityView) (e : EntityView) (items : List ContextItem) (a 
       → rest s x.analysed (more s.region (x.declared ++ labels)) ≡ (entered s x >>= λ w. steps.body all w.0 w.1 a)
   by_parts s x = ap (rest s x.analysed) (more_split s.region x.declared labels) ∙ go (are_distinct (declared_names (s.region ++ x.declared)))
     where
-      go : (b : Bool) → rest s x.analysed ((rule b >>= λ _. Some (s.region ++ x.declared)) >>= λ r. more r labels)
-          ≡ ((rule b >>= λ _. Some (pair (with_declared s x.declared) x.analysed)) >>= λ w. steps.body all w.0 w.1 a)
+      go : (b : Bool) → rest s x.analysed ((met b >>= λ _. Some (s.region ++ x.declared)) >>= λ r. more r labels)
+          ≡ ((met b >>= λ _. Some (pair (with_declared s x.declared) x.analysed)) >>= λ w. steps.body all w.0 w.1 a)
       go true = refl
       go false = refl
 
   ruled : (s : Sight) (x : Declares u.Declaration) (region : List Declared)
-      → (rule (are_distinct (declared_names region)) >> (concurrents all (with_region s region) (t.concurrents_of a.statements) >>= λ body.
-      (rule (ends a.name.text a.end_name) >> let r : Option u.Architecture = Some (record { declarations = x.analysed; statements = body }) in r)))
-      ≡ rest s x.analysed (rule (are_distinct (declared_names region)) >>= λ _. Some region)
+      → (met (are_distinct (declared_names region)) >> (concurrents all (with_region s region) (t.concurrents_of a.statements) >>= λ body.
+      (met (ends a.name.text a.end_name) >> let r : Option u.Architecture = Some (record { declarations = x.analysed; statements = body }) in r)))
+      ≡ rest s x.analysed (met (are_distinct (declared_names region)) >>= λ _. Some region)
   ruled s x region = go (are_distinct (declared_names region))
     where
-      go : (b : Bool) → (rule b >> (concurrents all (with_region s region) (t.concurrents_of a.statements) >>= λ body.
-          (rule (ends a.name.text a.end_name) >> let r : Option u.Architecture = Some (record { declarations = x.analysed; statements = body }) in r)))
-          ≡ rest s x.analysed (rule b >>= λ _. Some region)
+      go : (b : Bool) → (met b >> (concurrents all (with_region s region) (t.concurrents_of a.statements) >>= λ body.
+          (met (ends a.name.text a.end_name) >> let r : Option u.Architecture = Some (record { declarations = x.analysed; statements = body }) in r)))
+          ≡ rest s x.analysed (met b >>= λ _. Some region)
       go true = refl
       go false = refl
 
@@ -117,7 +117,7 @@ no_variables {A} {B} declares c region s w ds y h k = go (declares s ds) k
     empty : s.variables ≡ []
     empty = let same : sight_of c region ≡ s = cc in ap (λ (s : Sight). s.variables) (sym same)
 
-    ruled : (x : Declares B) (b : Bool) → (rule b >>= λ _. Some (pair (with_declared s x.declared) x.analysed)) ≡ Some (w, y) → w.variables ≡ []
+    ruled : (x : Declares B) (b : Bool) → (met b >>= λ _. Some (pair (with_declared s x.declared) x.analysed)) ≡ Some (w, y) → w.variables ≡ []
     ruled x true q = sym (ap (λ o. (first s o).variables) q) ∙ empty
     ruled x false q = cc
 

@@ -7,7 +7,7 @@ use Rattle.std.specs.Option.{option_copied}
 use Rattle.std.proofs.lemmas.List.{map-append}
 use Rattle.vhdl_tree.specs.Tree as t
 use Rattle.vhdl_tree.specs.Tree.{ContextItem}
-use Rattle.vhdl_names.specs.Rules.{given_that}
+use Rattle.vhdl_names.specs.Rules.{then_some}
 use Rattle.vhdl_names.specs.Visibility.{Name, is_among}
 use Rattle.vhdl_files.specs.declared.outline.Described.{Described}
 use Rattle.vhdl_files.specs.Views.{Keyed, keyed_view, described_view}
@@ -35,12 +35,12 @@ absent es n h = none_of (lookup (λ k. bytes_eq n k.items) es) h
 pub refused : (es : List Entry) (a : List ContextItem × t.Architecture) → is_some (lookup (λ k. bytes_eq a.1.entity.text k.items) es) ≡ true
     → one_described (map keyed_view es) a ≡ None
 refused es a there =
-    ap (λ b. given_that (not b) (map keyed_view es ++ record { name = a.1.entity.text; unit = a } ∷ [])) (sym (among a.1.entity.text es) ∙ there)
+    ap (λ b. then_some (not b) (map keyed_view es ++ record { name = a.1.entity.text; unit = a } ∷ [])) (sym (among a.1.entity.text es) ∙ there)
 
 pub grown : (es es' : List Entry) (key : Vec ℕ Global) (d : Described) → is_some (lookup (λ k. bytes_eq d.tree.now.entity.text.items k.items) es) ≡ false
     → key.items ≡ d.tree.now.entity.text.items → es' ≡ es ++ (key, d) ∷ [] → one_described (map keyed_view es) (described_view d) ≡ Some (map keyed_view es')
 grown es es' key d new same h =
-    ap (λ b. given_that (not b) (map keyed_view es ++ record { name = d.tree.now.entity.text.items; unit = described_view d } ∷ [])) (sym (among d.tree.now.entity.text.items es) ∙ new)
+    ap (λ b. then_some (not b) (map keyed_view es ++ record { name = d.tree.now.entity.text.items; unit = described_view d } ∷ [])) (sym (among d.tree.now.entity.text.items es) ∙ new)
     ∙ ap (λ n. Some (map keyed_view es ++ record { name = n; unit = described_view d } ∷ [])) (sym same)
     ∙ ap Some (sym (map-append keyed_view es ((key, d) ∷ []))) ∙ ap (λ l. Some (map keyed_view l)) (sym h)
 

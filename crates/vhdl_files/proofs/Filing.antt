@@ -5,16 +5,16 @@ use Rattle.std.proofs.lemmas.List.{map-append}
 use Rattle.vhdl_tree.specs.Tree as t
 use Rattle.vhdl_tree.specs.Tree.{ContextItem, DesignUnit, LibraryUnit, File}
 use Rattle.vhdl_names.specs.units.Units as u
-use Rattle.vhdl_names.specs.Rules.{◌>>=◌, ◌>>◌, rule, given_that, each, if_any}
+use Rattle.vhdl_names.specs.Rules.{◌>>=◌, ◌>>◌, met, then_some, each, if_any}
 use Rattle.vhdl_names.specs.Visibility.{Name, is_among, are_distinct, ends}
 use Rattle.vhdl_names.specs.Packages.{context, no_context, sight_of}
 use Rattle.vhdl_names.specs.Interfaces.{EntityView, entity, interface}
 use Rattle.vhdl_names.specs.Files.{entities_of, entity_names, described_names, architectures_of, architecture, stand_after, viewed, unit, units_of}
 use Rattle.vhdl_names.proofs.laws.Rules.{comes, kept, some_is}
-use Rattle.vhdl_bodies.specs.steps.Lists.{in_turn}
-use Rattle.vhdl_bodies.specs.steps.Once.{one_name}
-use Rattle.vhdl_bodies.proofs.steps.Cases.{bound}
-use Rattle.vhdl_bodies.proofs.steps.Once.{once}
+use Rattle.vhdl_labels.specs.Lists.{in_turn}
+use Rattle.vhdl_labels.specs.Once.{one_name}
+use Rattle.vhdl_labels.proofs.Lists.{bound}
+use Rattle.vhdl_labels.proofs.Once.{once}
 use Rattle.vhdl_interfaces.specs.Views.{one_more}
 use Rattle.vhdl_files.specs.Views.{Keyed}
 use Rattle.vhdl_files.specs.steps.Outlines.{keyed, described_of, outline_of}
@@ -83,8 +83,8 @@ module _ (as' : List Keyed) where
   turned vs (e ∷ es) = go (λ ws. turned ws es) (seen e) (λ v h. entity_name e.0 e.1 _ v h)
     where
       new : ((ws : List EntityView) → in_turn step ws es ≡ put ws (each seen es) (in_turn one_name (names_in ws) (map text es))) → (v : EntityView) (b : Bool)
-          → ((rule (not b) >>= λ _. let r : Option (List EntityView) = Some (vs ++ v ∷ []) in r) >>= λ ws. in_turn step ws es)
-          ≡ put vs (each seen es >>= λ ys. Some (v ∷ ys)) (given_that (not b) (names_in vs ++ v.name ∷ []) >>= λ ns. in_turn one_name ns (map text es))
+          → ((met (not b) >>= λ _. let r : Option (List EntityView) = Some (vs ++ v ∷ []) in r) >>= λ ws. in_turn step ws es)
+          ≡ put vs (each seen es >>= λ ys. Some (v ∷ ys)) (then_some (not b) (names_in vs ++ v.name ∷ []) >>= λ ns. in_turn one_name ns (map text es))
       new more v true = sym (no_names vs (each seen es >>= λ ys. Some (v ∷ ys)))
       new more v false =
           more (vs ++ v ∷ [])
@@ -111,7 +111,7 @@ module _ (as' : List Keyed) where
   each_entity : (ds : List DesignUnit) → are_distinct (entity_names ds) ≡ true → in_turn (with_unit as') [] ds ≡ each seen (entities_of ds)
   each_entity ds h =
       entities_alone [] ds ∙ turned [] (entities_of ds)
-      ∙ ap (put [] (each seen (entities_of ds))) (once (entity_names ds) ∙ ap (λ b. given_that b (entity_names ds)) h)
+      ∙ ap (put [] (each seen (entities_of ds))) (once (entity_names ds) ∙ ap (λ b. then_some b (entity_names ds)) h)
       ∙ whole (each seen (entities_of ds))
 
 -- ---- units
@@ -160,8 +160,8 @@ unfolding units_of
 in_order f = go (are_distinct (entity_names f.units)) refl (are_distinct (described_names f.units)) (stand_after f.units)
   where
     go : (b : Bool) → are_distinct (entity_names f.units) ≡ b → (c d : Bool)
-        → (rule b >> (rule c >> (rule d >> (each (viewed f.units) (entities_of f.units) >>= λ es. each (unit es f.units) es))))
-        ≡ ((rule b >> (rule c >> (rule d >> Some (outline_of f.units)))) >>= λ o. (in_turn (with_unit o.architectures) [] f.units >>= λ es. units es o.architectures))
+        → (met b >> (met c >> (met d >> (each (viewed f.units) (entities_of f.units) >>= λ es. each (unit es f.units) es))))
+        ≡ ((met b >> (met c >> (met d >> Some (outline_of f.units)))) >>= λ o. (in_turn (with_unit o.architectures) [] f.units >>= λ es. units es o.architectures))
     go false h c d = refl
     go true h false d = refl
     go true h true false = refl

@@ -7,12 +7,12 @@ use Rattle.std.proofs.lemmas.List.{map-append, length-append}
 use Rattle.std.proofs.lemmas.List.Elements.{filter_map-append}
 use Rattle.vhdl_tree.specs.Tree as t
 use Rattle.vhdl_tree.specs.Tree.{ContextItem, DesignUnit, LibraryUnit}
-use Rattle.vhdl_names.specs.Rules.{◌>>=◌, ◌>>◌, rule, given_that}
+use Rattle.vhdl_names.specs.Rules.{◌>>=◌, ◌>>◌, met, then_some}
 use Rattle.vhdl_names.specs.Visibility.{Name, is_among, are_distinct}
 use Rattle.vhdl_names.specs.Files.{as_entity, entities_of, entity_names, described_names, architectures_of, stands_after, stand_after}
-use Rattle.vhdl_bodies.specs.steps.Lists.{in_turn}
-use Rattle.vhdl_bodies.specs.steps.Once.{one_name}
-use Rattle.vhdl_bodies.proofs.steps.Once.{once}
+use Rattle.vhdl_labels.specs.Lists.{in_turn}
+use Rattle.vhdl_labels.specs.Once.{one_name}
+use Rattle.vhdl_labels.proofs.Once.{once}
 use Rattle.vhdl_files.specs.Views.{Keyed, OutlineView}
 use Rattle.vhdl_files.specs.steps.Outlines.{keyed, names_of, one_described, with_unit, no_outline, outline_of, outlined}
 
@@ -52,8 +52,8 @@ apart ks (a ∷ as') = by (is_among (text a) (names_of ks)) (apart (ks ++ keyed 
   where
     by : (b : Bool) → in_turn one_described (ks ++ keyed a ∷ []) as'
         ≡ (in_turn one_name (names_of (ks ++ keyed a ∷ [])) (map text as') >>= λ _. Some ((ks ++ keyed a ∷ []) ++ map keyed as'))
-        → (given_that (not b) (ks ++ keyed a ∷ []) >>= λ z. in_turn one_described z as')
-        ≡ ((given_that (not b) (names_of ks ++ text a ∷ []) >>= λ z. in_turn one_name z (map text as')) >>= λ _. Some (ks ++ keyed a ∷ map keyed as'))
+        → (then_some (not b) (ks ++ keyed a ∷ []) >>= λ z. in_turn one_described z as')
+        ≡ ((then_some (not b) (names_of ks ++ text a ∷ []) >>= λ z. in_turn one_name z (map text as')) >>= λ _. Some (ks ++ keyed a ∷ map keyed as'))
     by true h = refl
     by false h =
         h ∙ ap (λ ns. in_turn one_name ns (map text as') >>= λ _. Some ((ks ++ keyed a ∷ []) ++ map keyed as')) (map-append (λ (k : Keyed). k.name) ks (keyed a ∷ []))
@@ -62,7 +62,7 @@ apart ks (a ∷ as') = by (is_among (text a) (names_of ks)) (apart (ks ++ keyed 
 -- ---- unit by unit
 
 abbrev gathered : Option (List Name) → Option (List Keyed) → Bool → Option OutlineView
-gathered es as' b = es >>= λ ns. (as' >>= λ l. (rule b >> Some (record { entities = ns; architectures = l })))
+gathered es as' b = es >>= λ ns. (as' >>= λ l. (met b >> Some (record { entities = ns; architectures = l })))
 
 not_placed : (es : Option (List Name)) (as' : Option (List Keyed)) → gathered es as' false ≡ None
 not_placed None as' = refl
@@ -85,17 +85,17 @@ turned o (d ∷ ds) = go d.context d.unit (λ p. turned p ds)
     go items (t.LibraryUnit.entity e) more = by (is_among e.name.text o.entities)
       where
         by : (b : Bool)
-            → ((given_that (not b) (o.entities ++ e.name.text ∷ []) >>= λ ns. let p : Option OutlineView = Some (record o { entities = ns }) in p) >>= λ p. in_turn with_unit p ds)
-            ≡ gathered (given_that (not b) (o.entities ++ e.name.text ∷ []) >>= λ ns. in_turn one_name ns (entity_names ds))
+            → ((then_some (not b) (o.entities ++ e.name.text ∷ []) >>= λ ns. let p : Option OutlineView = Some (record o { entities = ns }) in p) >>= λ p. in_turn with_unit p ds)
+            ≡ gathered (then_some (not b) (o.entities ++ e.name.text ∷ []) >>= λ ns. in_turn one_name ns (entity_names ds))
             (in_turn one_described o.architectures (architectures_of ds)) (placed (o.entities ++ e.name.text ∷ []) ds)
         by true = refl
         by false = more (record o { entities = o.entities ++ e.name.text ∷ [] })
     go items (t.architecture a) more = by (is_among a.entity.text o.entities)
       where
         new : (c : Bool)
-            → ((given_that (not c) (o.architectures ++ keyed (items, a) ∷ []) >>= λ l. let p : Option OutlineView = Some (record o { architectures = l }) in p) >>= λ p. in_turn with_unit p ds)
+            → ((then_some (not c) (o.architectures ++ keyed (items, a) ∷ []) >>= λ l. let p : Option OutlineView = Some (record o { architectures = l }) in p) >>= λ p. in_turn with_unit p ds)
             ≡ gathered (in_turn one_name o.entities (entity_names ds))
-            (given_that (not c) (o.architectures ++ keyed (items, a) ∷ []) >>= λ l. in_turn one_described l (architectures_of ds)) (placed (o.entities ++ []) ds)
+            (then_some (not c) (o.architectures ++ keyed (items, a) ∷ []) >>= λ l. in_turn one_described l (architectures_of ds)) (placed (o.entities ++ []) ds)
         new true = sym (not_apart (in_turn one_name o.entities (entity_names ds)) (placed (o.entities ++ []) ds))
         new false =
             more (record o { architectures = o.architectures ++ keyed (items, a) ∷ [] })
@@ -103,7 +103,7 @@ turned o (d ∷ ds) = go d.context d.unit (λ p. turned p ds)
             (sym (append-nil o.entities))
 
         by : (b : Bool)
-            → ((rule b >> (one_described o.architectures (items, a) >>= λ l. let p : Option OutlineView = Some (record o { architectures = l }) in p)) >>= λ p. in_turn with_unit p ds)
+            → ((met b >> (one_described o.architectures (items, a) >>= λ l. let p : Option OutlineView = Some (record o { architectures = l }) in p)) >>= λ p. in_turn with_unit p ds)
             ≡ gathered (in_turn one_name o.entities (entity_names ds)) (one_described o.architectures (items, a) >>= λ l. in_turn one_described l (architectures_of ds))
             ((b && true) && placed (o.entities ++ []) ds)
         by true = new (is_among a.entity.text (names_of o.architectures))
@@ -113,14 +113,14 @@ pub outlined_in_turn : (ds : List DesignUnit) → outlined ds ≡ in_turn with_u
 outlined_in_turn ds =
     sym (turned no_outline ds
     ∙ ap (λ o. gathered o (in_turn one_described [] (architectures_of ds)) (placed [] ds)) (once (entity_names ds))
-    ∙ ap (λ o. gathered (given_that (are_distinct (entity_names ds)) (entity_names ds)) o (placed [] ds))
+    ∙ ap (λ o. gathered (then_some (are_distinct (entity_names ds)) (entity_names ds)) o (placed [] ds))
     (apart [] (architectures_of ds) ∙ ap (λ o. o >>= λ _. let l : Option (List Keyed) = Some (map keyed (architectures_of ds)) in l) (once (described_names ds)))
-    ∙ ap (λ b. gathered (given_that (are_distinct (entity_names ds)) (entity_names ds))
-    (given_that (are_distinct (described_names ds)) (described_names ds) >>= λ _. Some (map keyed (architectures_of ds))) b) (sym (placed_from [] ds))
+    ∙ ap (λ b. gathered (then_some (are_distinct (entity_names ds)) (entity_names ds))
+    (then_some (are_distinct (described_names ds)) (described_names ds) >>= λ _. Some (map keyed (architectures_of ds))) b) (sym (placed_from [] ds))
     ∙ go (are_distinct (entity_names ds)) (are_distinct (described_names ds)) (stand_after ds))
   where
-    go : (c d b : Bool) → gathered (given_that c (entity_names ds)) (given_that d (described_names ds) >>= λ _. Some (map keyed (architectures_of ds))) b
-        ≡ (rule c >> (rule d >> (rule b >> Some (outline_of ds))))
+    go : (c d b : Bool) → gathered (then_some c (entity_names ds)) (then_some d (described_names ds) >>= λ _. Some (map keyed (architectures_of ds))) b
+        ≡ (met c >> (met d >> (met b >> Some (outline_of ds))))
     go false d b = refl
     go true false b = refl
     go true true false = refl

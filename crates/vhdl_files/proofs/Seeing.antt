@@ -4,15 +4,15 @@ use Rattle.std.specs.Prelude.{◌&&◌, ◌||◌, option_map, filter_map, bytes_
 use Rattle.std.specs.List.{cons_option}
 use Rattle.vhdl_tree.specs.declared.declaration.Mode.{Mode}
 use Rattle.vhdl_names.specs.declared.kind.Kind.{Kind}
-use Rattle.vhdl_names.specs.Rules.{◌>>=◌, given_that}
+use Rattle.vhdl_names.specs.Rules.{◌>>=◌, then_some}
 use Rattle.vhdl_names.specs.Visibility as m
 use Rattle.vhdl_names.specs.Visibility.{Name, Meaning, Declared, declare, is_among, are_distinct}
 use Rattle.vhdl_names.specs.Interfaces.{declared_names}
 use Rattle.vhdl_names.specs.Instances.{Formal, generic_name, port_formal}
 use Rattle.vhdl_names.proofs.laws.Rules.{both, not_true, neither}
-use Rattle.vhdl_bodies.specs.steps.Lists.{in_turn}
-use Rattle.vhdl_bodies.specs.steps.Once.{one_name}
-use Rattle.vhdl_bodies.proofs.steps.Once.{once}
+use Rattle.vhdl_labels.specs.Lists.{in_turn}
+use Rattle.vhdl_labels.specs.Once.{one_name}
+use Rattle.vhdl_labels.proofs.Once.{once}
 use Rattle.vhdl_instances.specs.Table.{Seen, type_of}
 use Rattle.vhdl_instances.specs.steps.Tables.{with_declared, no_formals}
 use Rattle.vhdl_instances.specs.declared.actuals.PortType.{PortType}
@@ -116,8 +116,8 @@ turned f (d ∷ ds) =
     of_generic more n k = new (is_among n f.generics)
       where
         new : (b : Bool)
-            → ((given_that (not b) (f.generics ++ n ∷ []) >>= λ ns. let g : Option Seen = Some (record f { generics = ns }) in g) >>= λ g. in_turn with_declared g ds)
-            ≡ put f (f.port_types ++ map type_of (filter_map port_formal ds)) (given_that (not b) (f.generics ++ n ∷ []) >>= λ ns. in_turn one_name ns (generics_in ds)) (in_turn one_name f.ports (ports_in ds))
+            → ((then_some (not b) (f.generics ++ n ∷ []) >>= λ ns. let g : Option Seen = Some (record f { generics = ns }) in g) >>= λ g. in_turn with_declared g ds)
+            ≡ put f (f.port_types ++ map type_of (filter_map port_formal ds)) (then_some (not b) (f.generics ++ n ∷ []) >>= λ ns. in_turn one_name ns (generics_in ds)) (in_turn one_name f.ports (ports_in ds))
         new true = refl
         new false = more (record f { generics = f.generics ++ n ∷ [] })
 
@@ -126,10 +126,10 @@ turned f (d ∷ ds) =
     of_port more n k mode kind = new (is_among n f.ports)
       where
         new : (b : Bool)
-            → ((given_that (not b) (f.ports ++ n ∷ []) >>= λ ns. let g : Option Seen = Some (record f { ports = ns; port_types = f.port_types ++ record { mode = mode; kind = kind } ∷ [] }) in g)
+            → ((then_some (not b) (f.ports ++ n ∷ []) >>= λ ns. let g : Option Seen = Some (record f { ports = ns; port_types = f.port_types ++ record { mode = mode; kind = kind } ∷ [] }) in g)
             >>= λ g. in_turn with_declared g ds)
             ≡ put f (f.port_types ++ record { mode = mode; kind = kind } ∷ map type_of (filter_map port_formal ds)) (in_turn one_name f.generics (generics_in ds))
-            (given_that (not b) (f.ports ++ n ∷ []) >>= λ ns. in_turn one_name ns (ports_in ds))
+            (then_some (not b) (f.ports ++ n ∷ []) >>= λ ns. in_turn one_name ns (ports_in ds))
         new true = sym (no_ports f (f.port_types ++ record { mode = mode; kind = kind } ∷ map type_of (filter_map port_formal ds)) (in_turn one_name f.generics (generics_in ds)))
         new false =
             more (record f { ports = f.ports ++ n ∷ []; port_types = f.port_types ++ record { mode = mode; kind = kind } ∷ [] })
@@ -154,7 +154,7 @@ seen_in architecture ds = record {
 }
 
 taken : (ns : List Name) → are_distinct ns ≡ true → in_turn one_name [] ns ≡ Some ns
-taken ns h = once ns ∙ ap (λ b. given_that b ns) h
+taken ns h = once ns ∙ ap (λ b. then_some b ns) h
 
 pub all_seen : (architecture : Option Name) (ds : List Declared) → are_distinct (declared_names ds) ≡ true
     → in_turn with_declared (no_formals architecture) ds ≡ Some (seen_in architecture ds)

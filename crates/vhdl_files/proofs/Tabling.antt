@@ -4,12 +4,12 @@ use Rattle.std.specs.Prelude.{◌&&◌, ◌||◌, bytes_eq}
 use Rattle.std.specs.List.{IsDistinct, AllByRecursion}
 use Rattle.std.specs.Map.{keys_of}
 use Rattle.std.proofs.lemmas.Map.Keys.{IsDistinct-head, IsDistinct-tail}
-use Rattle.vhdl_names.specs.Rules.{◌>>=◌, given_that}
+use Rattle.vhdl_names.specs.Rules.{◌>>=◌, then_some}
 use Rattle.vhdl_names.specs.Visibility.{Name, is_among, are_distinct}
 use Rattle.vhdl_names.specs.Interfaces.{EntityView}
-use Rattle.vhdl_bodies.specs.steps.Lists.{in_turn}
-use Rattle.vhdl_bodies.specs.steps.Once.{one_name}
-use Rattle.vhdl_bodies.proofs.steps.Once.{once}
+use Rattle.vhdl_labels.specs.Lists.{in_turn}
+use Rattle.vhdl_labels.specs.Once.{one_name}
+use Rattle.vhdl_labels.proofs.Once.{once}
 use Rattle.vhdl_instances.specs.Table.{seen}
 use Rattle.vhdl_interfaces.specs.declared.interface.EntityInterface.{EntityInterface}
 use Rattle.vhdl_interfaces.specs.Views.{named_view}
@@ -26,8 +26,8 @@ turned t [] = ap (λ l. let p : Option TableView = Some (record t { formals = l 
 turned t (e ∷ es) = new (λ s. turned s es) (is_among e.name t.names)
   where
     new : ((s : TableView) → in_turn with_seen s es ≡ whole s (in_turn one_name s.names (names_in es)) es) → (b : Bool)
-        → ((given_that (not b) (t.names ++ e.name ∷ []) >>= λ ns. let p : Option TableView = Some (record { names = ns; formals = t.formals ++ seen e ∷ [] }) in p) >>= λ s. in_turn with_seen s es)
-        ≡ whole t (given_that (not b) (t.names ++ e.name ∷ []) >>= λ ns. in_turn one_name ns (names_in es)) (e ∷ es)
+        → ((then_some (not b) (t.names ++ e.name ∷ []) >>= λ ns. let p : Option TableView = Some (record { names = ns; formals = t.formals ++ seen e ∷ [] }) in p) >>= λ s. in_turn with_seen s es)
+        ≡ whole t (then_some (not b) (t.names ++ e.name ∷ []) >>= λ ns. in_turn one_name ns (names_in es)) (e ∷ es)
     new more true = refl
     new more false =
         more (record { names = t.names ++ e.name ∷ []; formals = t.formals ++ seen e ∷ [] })
@@ -35,7 +35,7 @@ turned t (e ∷ es) = new (λ s. turned s es) (is_among e.name t.names)
         (append_assoc t.formals (seen e ∷ []) (map seen es))
 
 pub all_tabled : (es : List EntityView) → are_distinct (names_in es) ≡ true → in_turn with_seen no_table es ≡ Some (table_of es)
-all_tabled es h = turned no_table es ∙ ap (λ o. whole no_table o es) (once (names_in es) ∙ ap (λ b. given_that b (names_in es)) h)
+all_tabled es h = turned no_table es ∙ ap (λ o. whole no_table o es) (once (names_in es) ∙ ap (λ b. then_some b (names_in es)) h)
 
 -- a table's names are distinct
 abbrev Entry : Type 0

@@ -6,7 +6,7 @@ use Rattle.vhdl_tree.specs.Tree as t
 use Rattle.vhdl_tree.specs.Tree.{ContextItem}
 use Rattle.vhdl_tree.specs.View as tree
 use Rattle.vhdl_names.specs.Visibility.{Name}
-use Rattle.vhdl_bodies.specs.steps.Once.{names_view}
+use Rattle.vhdl_labels.specs.Once.{names_view}
 use Rattle.vhdl_files.specs.declared.outline.Described.{Described}
 use Rattle.vhdl_files.specs.declared.outline.Outline.{Outline}
 

@@ -1,7 +1,7 @@
 //! The entities of a file (IEEE 1076-2008, 3.2 and 13.1).
 
 ghost use Rattle.std.specs.Prelude.{◌≡◌, [], map, option_map};
-ghost use Rattle.vhdl_bodies.specs.steps.Lists.{in_turn};
+ghost use Rattle.vhdl_labels.specs.Lists.{in_turn};
 ghost use Rattle.vhdl_files.specs.Views.{architectures_view};
 ghost use Rattle.vhdl_files.specs.steps.Entities as steps;
 ghost use Rattle.vhdl_files.specs.steps.Outlines.{described_of};

@@ -1,8 +1,8 @@
 //! The entities and architectures of a file, before they are analysed (IEEE 1076-2008, 3.2, 3.3 and 13.1).
 
 ghost use Rattle.std.specs.Prelude.{◌≡◌, map, option_map, bytes_eq, find};
-ghost use Rattle.vhdl_bodies.specs.steps.Lists.{in_turn};
-ghost use Rattle.vhdl_bodies.specs.steps.Once.{names_view};
+ghost use Rattle.vhdl_labels.specs.Lists.{in_turn};
+ghost use Rattle.vhdl_labels.specs.Once.{names_view};
 ghost use Rattle.vhdl_files.specs.Views.{described_view, outline_view, architectures_view};
 ghost use Rattle.vhdl_files.specs.steps.Outlines as steps;
 ghost use Rattle.vhdl_names.specs.Gives.{Gives};

@@ -7,13 +7,13 @@ use Rattle.std.proofs.lemmas.Iterator.Adapters.{position_from-zero}
 use Rattle.vhdl_tree.specs.Tree.{Ident, Expr, Association}
 use Rattle.vhdl_tree.specs.View.{association_view}
 use Rattle.vhdl_tree.specs.declared.expression.Association as a
-use Rattle.vhdl_names.specs.Rules.{◌>>=◌, ◌>>◌, rule, given_that}
+use Rattle.vhdl_names.specs.Rules.{◌>>=◌, ◌>>◌, met, then_some}
 use Rattle.vhdl_names.specs.Visibility.{Name, is_among, are_distinct}
 use Rattle.vhdl_names.specs.Instances.{is_named, positional_first, formal_of, formals_of, expression_of, actual_of, associated}
-use Rattle.vhdl_bodies.specs.steps.Lists.{in_turn}
-use Rattle.vhdl_bodies.specs.steps.Once.{one_name}
-use Rattle.vhdl_bodies.proofs.steps.Cases.{bound}
-use Rattle.vhdl_bodies.proofs.steps.Once.{once}
+use Rattle.vhdl_labels.specs.Lists.{in_turn}
+use Rattle.vhdl_labels.specs.Once.{one_name}
+use Rattle.vhdl_labels.proofs.Lists.{bound}
+use Rattle.vhdl_labels.proofs.Once.{once}
 use Rattle.vhdl_instances.specs.steps.Associations.{formal_at, one_taken, taking, all_taken, actuals, actual_at}
 
 abbrev items : Vec ℕ Global → List ℕ
@@ -46,16 +46,16 @@ abbrev first : Bool → List Association → Bool
 first true as' = list_all is_named as'
 first false as' = positional_first as'
 
-split_behind : (c : Bool) (as' : List Association) → rule (c && list_all is_named as') ≡ (rule (not true || c) >> rule (first c as'))
+split_behind : (c : Bool) (as' : List Association) → met (c && list_all is_named as') ≡ (met (not true || c) >> met (first c as'))
 split_behind true as' = refl
 split_behind false as' = refl
 
 split_before : (c : Bool) (as' : List Association)
-    → rule (if c then list_all is_named as' else positional_first as') ≡ (rule (not false || c) >> rule (first c as'))
+    → met (if c then list_all is_named as' else positional_first as') ≡ (met (not false || c) >> met (first c as'))
 split_before true as' = refl
 split_before false as' = refl
 
-split : (b : Bool) (a : Association) (as' : List Association) → rule (first b (a ∷ as')) ≡ (rule (not b || is_named a) >> rule (first (is_named a) as'))
+split : (b : Bool) (a : Association) (as' : List Association) → met (first b (a ∷ as')) ≡ (met (not b || is_named a) >> met (first (is_named a) as'))
 split true a as' = split_behind (is_named a) as'
 split false a as' = split_before (is_named a) as'
 
@@ -66,15 +66,15 @@ module _ (formals : List Name) where
   all fs = list_all (λ f. is_among f formals) fs
 
   abbrev rest : List Name → Option (List Name) → Option (List Name)
-  rest taken o = o >>= λ fs. rule (all fs) >> in_turn one_name taken fs
+  rest taken o = o >>= λ fs. met (all fs) >> in_turn one_name taken fs
 
-  nothing : (c : Bool) (o : Option (List Name)) → (rule c >> o >>= λ ns. let n : Option (List Name) = None in n) ≡ None
+  nothing : (c : Bool) (o : Option (List Name)) → (met c >> o >>= λ ns. let n : Option (List Name) = None in n) ≡ None
   nothing true None = refl
   nothing true (Some ns) = refl
   nothing false o = refl
 
   both : (c d : Bool) (o : Option (List Name)) (t : List Name → Option (List Name))
-      → (rule (c && d) >> (o >>= t)) ≡ ((rule c >> o) >>= λ ns. rule d >> t ns)
+      → (met (c && d) >> (o >>= t)) ≡ ((met c >> o) >>= λ ns. met d >> t ns)
   both false d o t = refl
   both true true None t = refl
   both true true (Some ns) t = refl
@@ -82,8 +82,8 @@ module _ (formals : List Name) where
   both true false (Some ns) t = refl
 
   one_more : (taken : List Name) (a b : Bool) (f : Option Name) (g : Option (List Name))
-      → ((rule a >> (f >>= λ n. rule (is_among n formals) >> one_name taken n)) >>= λ ns. rule b >> rest ns g)
-      ≡ ((rule a >> rule b) >> rest taken (f >>= λ n. g >>= λ fs. Some (n ∷ fs)))
+      → ((met a >> (f >>= λ n. met (is_among n formals) >> one_name taken n)) >>= λ ns. met b >> rest ns g)
+      ≡ ((met a >> met b) >> rest taken (f >>= λ n. g >>= λ fs. Some (n ∷ fs)))
   one_more taken false b f g = refl
   one_more taken true true None g = refl
   one_more taken true false None g = refl
@@ -92,32 +92,32 @@ module _ (formals : List Name) where
   one_more taken true false (Some n) g = nothing (is_among n formals) (one_name taken n)
 
   turned : (k : ℕ) (b : Bool) (taken : List Name) (as' : List Association)
-      → taking formals k b taken as' ≡ (rule (first b as') >> rest taken (formals_of (drop k formals) as'))
+      → taking formals k b taken as' ≡ (met (first b as') >> rest taken (formals_of (drop k formals) as'))
   turned k true taken [] = refl
   turned k false taken [] = refl
   turned k b taken (a ∷ as') =
       bound (one_taken formals k b taken a) (λ ns. taking formals (suc k) (is_named a) ns as')
-      (λ ns. rule (first (is_named a) as') >> rest ns (formals_of (drop (suc k) formals) as')) (λ ns. turned (suc k) (is_named a) ns as')
+      (λ ns. met (first (is_named a) as') >> rest ns (formals_of (drop (suc k) formals) as')) (λ ns. turned (suc k) (is_named a) ns as')
       ∙ one_more taken (not b || is_named a) (first (is_named a) as') (formal_at formals k a.formal) (formals_of (drop (suc k) formals) as')
       ∙ ap (λ o. o >> rest taken (formal_at formals k a.formal >>= λ n. formals_of (drop (suc k) formals) as' >>= λ fs. Some (n ∷ fs))) (sym (split b a as'))
-      ∙ ap (λ o. rule (first b (a ∷ as')) >> rest taken (o >>= λ n. formals_of (drop (suc k) formals) as' >>= λ fs. Some (n ∷ fs))) (sym (by_either formals k a.formal))
-      ∙ ap (λ ds. rule (first b (a ∷ as')) >> rest taken (formal_of (drop k formals) a.formal >>= λ n. formals_of ds as' >>= λ fs. Some (n ∷ fs))) (sym (next_drop formals k))
+      ∙ ap (λ o. met (first b (a ∷ as')) >> rest taken (o >>= λ n. formals_of (drop (suc k) formals) as' >>= λ fs. Some (n ∷ fs))) (sym (by_either formals k a.formal))
+      ∙ ap (λ ds. met (first b (a ∷ as')) >> rest taken (formal_of (drop k formals) a.formal >>= λ n. formals_of ds as' >>= λ fs. Some (n ∷ fs))) (sym (next_drop formals k))
 
   abbrev found : List Association → List Name → List (Option Expr)
   found as' taken = actuals formals taken as'
 
-  last : (as' : List Association) (q : Bool) (fs : List Name) (o : Option (List Name)) → o ≡ given_that (are_distinct fs) fs
-      → (rule q >> (rule (are_distinct fs) >> Some (found as' fs))) ≡ ((rule q >> o) >>= λ taken. Some (found as' taken))
+  last : (as' : List Association) (q : Bool) (fs : List Name) (o : Option (List Name)) → o ≡ then_some (are_distinct fs) fs
+      → (met q >> (met (are_distinct fs) >> Some (found as' fs))) ≡ ((met q >> o) >>= λ taken. Some (found as' taken))
   last as' false fs o e = refl
   last as' true fs o e = go (are_distinct fs) ∙ ap (λ o. o >>= λ taken. Some (found as' taken)) (sym e)
     where
-      go : (d : Bool) → (rule d >> Some (found as' fs)) ≡ (given_that d fs >>= λ taken. Some (found as' taken))
+      go : (d : Bool) → (met d >> Some (found as' fs)) ≡ (then_some d fs >>= λ taken. Some (found as' taken))
       go true = refl
       go false = refl
 
   done : (as' : List Association) (p : Bool) (g : Option (List Name))
-      → (rule p >> (g >>= λ fs. rule (all fs) >> (rule (are_distinct fs) >> Some (found as' fs))))
-      ≡ ((rule p >> rest [] g) >>= λ taken. Some (found as' taken))
+      → (met p >> (g >>= λ fs. met (all fs) >> (met (are_distinct fs) >> Some (found as' fs))))
+      ≡ ((met p >> rest [] g) >>= λ taken. Some (found as' taken))
   done as' false g = refl
   done as' true None = refl
   done as' true (Some fs) = last as' (all fs) fs (in_turn one_name [] fs) (once fs)

@@ -7,19 +7,19 @@ use Rattle.std.proofs.lemmas.Iterator.Adapters.{position_from-zero}
 use Rattle.vhdl_tree.specs.Tree as t
 use Rattle.vhdl_tree.specs.Tree.{Ident, Expr, Association}
 use Rattle.vhdl_names.specs.units.Units as u
-use Rattle.vhdl_names.specs.Rules.{◌>>=◌, ◌>>◌, rule, each, if_any, all_of}
+use Rattle.vhdl_names.specs.Rules.{◌>>=◌, ◌>>◌, met, each, if_any, all_of}
 use Rattle.vhdl_names.specs.Visibility.{Name, Sight}
 use Rattle.vhdl_names.specs.Expressions.{static}
 use Rattle.vhdl_names.specs.Instances as rules
 use Rattle.vhdl_names.specs.Instances.{Formal, associated, is_architecture, as_component, generic_name, port_formal, port_actual}
 use Rattle.vhdl_names.specs.Interfaces.{EntityView, entity_named}
-use Rattle.vhdl_bodies.proofs.steps.Cases.{bound}
+use Rattle.vhdl_labels.proofs.Lists.{bound}
 use Rattle.vhdl_instances.specs.Table.{Seen, seen, seen_view, type_of, items, AreEntities}
 use Rattle.vhdl_instances.specs.declared.instances.Formals.{Formals}
 use Rattle.vhdl_instances.specs.declared.instances.Entities.{Entities}
 use Rattle.vhdl_instances.specs.steps.Actuals as actuals
 use Rattle.vhdl_instances.specs.steps.Instances as steps
-use Rattle.vhdl_bodies.specs.steps.Once.{names_view}
+use Rattle.vhdl_labels.specs.Once.{names_view}
 
 -- ---- places of names
 
@@ -66,8 +66,8 @@ pub formals_at : (fs : List Formals) (i : ℕ) (o : Option Formals) → o ≡ sl
 formals_at fs i o e = slice_get-map seen_view fs i ∙ ap (option_map seen_view) (sym e)
 
 pub seen_at : (seens : List Seen) (a : Option Ident) (k : ℕ) (e : Seen) → Some e ≡ slice_get seens k
-    → steps.with_architecture seens a k ≡ (rule (is_architecture a e.architecture) >> Some k)
-seen_at seens a k e h = ap (λ o. o >>= λ e. rule (is_architecture a e.architecture) >> Some k) (sym h)
+    → steps.with_architecture seens a k ≡ (met (is_architecture a e.architecture) >> Some k)
+seen_at seens a k e h = ap (λ o. o >>= λ e. met (is_architecture a e.architecture) >> Some k) (sym h)
 
 pub instance_seen : (names : List Name) (seens : List Seen) (sight : Sight) (label : Ident) (i : t.Instance) (k : ℕ) (e : Seen)
     → steps.instantiated names seens sight i.unit ≡ Some k → Some e ≡ slice_get seens k
@@ -86,18 +86,18 @@ module _ (es : List EntityView) where
       → rules.instantiated es sight (t.entity_unit library n a) ≡ steps.entity_of (map (λ (e : EntityView). e.name) es) (map seen es) library n a
   unfolding rules.instantiated
   entity_by library n a sight =
-      ap (λ o. rule (bytes_eq library.text (codes "work")) >> (o >>= λ e. rule (is_architecture a e.1.architecture) >> Some e.0)) (found n.text)
-      ∙ ap (λ o. rule (bytes_eq library.text (codes "work")) >> o) (go (position_from (bytes_eq n.text) 0 (map (λ (e : EntityView). e.name) es)))
+      ap (λ o. met (bytes_eq library.text (codes "work")) >> (o >>= λ e. met (is_architecture a e.1.architecture) >> Some e.0)) (found n.text)
+      ∙ ap (λ o. met (bytes_eq library.text (codes "work")) >> o) (go (position_from (bytes_eq n.text) 0 (map (λ (e : EntityView). e.name) es)))
     where
       at : (j : ℕ) (o : Option EntityView) (q : Option Seen) → q ≡ option_map seen o
-          → ((o >>= beside j) >>= λ e. rule (is_architecture a e.1.architecture) >> Some e.0)
-          ≡ (q >>= λ e. rule (is_architecture a e.architecture) >> Some j)
-      at j None q h = ap (λ q. q >>= λ e. rule (is_architecture a e.architecture) >> Some j) (sym h)
-      at j (Some e) q h = ap (λ q. q >>= λ e. rule (is_architecture a e.architecture) >> Some j) (sym h)
+          → ((o >>= beside j) >>= λ e. met (is_architecture a e.1.architecture) >> Some e.0)
+          ≡ (q >>= λ e. met (is_architecture a e.architecture) >> Some j)
+      at j None q h = ap (λ q. q >>= λ e. met (is_architecture a e.architecture) >> Some j) (sym h)
+      at j (Some e) q h = ap (λ q. q >>= λ e. met (is_architecture a e.architecture) >> Some j) (sym h)
 
       go : (o : Option ℕ)
-          → ((o >>= λ j. slice_get es j >>= beside j) >>= λ e. rule (is_architecture a e.1.architecture) >> Some e.0)
-          ≡ (o >>= λ k. slice_get (map seen es) k >>= λ e. rule (is_architecture a e.architecture) >> Some k)
+          → ((o >>= λ j. slice_get es j >>= beside j) >>= λ e. met (is_architecture a e.1.architecture) >> Some e.0)
+          ≡ (o >>= λ k. slice_get (map seen es) k >>= λ e. met (is_architecture a e.architecture) >> Some k)
       go None = refl
       go (Some j) = at j (slice_get es j) (slice_get (map seen es) j) (slice_get-map seen es j)
 

@@ -7,7 +7,7 @@ use Rattle.vhdl_names.specs.Rules.{◌>>=◌}
 use Rattle.vhdl_names.specs.Visibility.{Declared}
 use Rattle.vhdl_types.specs.declared.meaning.Meaning.{Meaning}
 use Rattle.vhdl_types.specs.Views.{entry_view}
-use Rattle.vhdl_bodies.specs.steps.Lists.{in_turn}
+use Rattle.vhdl_labels.specs.Lists.{in_turn}
 use Rattle.vhdl_instances.specs.Table.{Seen}
 use Rattle.vhdl_instances.specs.steps.Tables.{with_declared, with_declared_at}
 

@@ -4,7 +4,7 @@ use Rattle.std.specs.Global.{Global}
 use Rattle.vhdl_names.specs.Visibility.{Name}
 use Rattle.vhdl_names.specs.Instances.{Formal, generic_name, port_formal}
 use Rattle.vhdl_names.specs.Interfaces.{EntityView}
-use Rattle.vhdl_bodies.specs.steps.Once.{names_view}
+use Rattle.vhdl_labels.specs.Once.{names_view}
 use Rattle.vhdl_instances.specs.declared.actuals.PortType.{PortType}
 use Rattle.vhdl_instances.specs.declared.instances.Formals.{Formals}
 use Rattle.vhdl_instances.specs.declared.instances.Entities.{Entities}

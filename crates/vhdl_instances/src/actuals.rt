@@ -1,22 +1,26 @@
 //! The actuals of generics and ports (IEEE 1076-2008, 6.5.7.2 and 6.5.7.3).
 
-ghost use Rattle.std.specs.Prelude.{◌≡◌, map, option_map, slice_get};
+ghost use Rattle.std.specs.Prelude.{◌≡◌, ◌≢◌, map, option_map, slice_get};
 ghost use Rattle.vhdl_instances.specs.Views.{actual_view, places_view, statics_view};
 ghost use Rattle.vhdl_instances.specs.steps.Actuals as steps;
 ghost use Rattle.vhdl_names.specs.Expressions.{static as static_of};
 ghost use Rattle.vhdl_names.specs.Gives.{Gives};
 ghost use Rattle.vhdl_names.specs.Instances as rules;
 ghost use Rattle.vhdl_names.specs.Rules.{each, if_any};
+ghost use Rattle.vhdl_names.specs.Statements.{signal as signal_of};
+ghost use Rattle.vhdl_names.specs.declared.fault.NameFault.TheVariants.{NoMemory};
 ghost use Rattle.vhdl_names.specs.views.Integers.{static_view};
 ghost use Rattle.vhdl_names.specs.views.Vectors.{place_view};
 ghost use Rattle.vhdl_tree.specs.View.{view, name_view};
 ghost use Rattle.vhdl_types.specs.Views.{sight_view};
+ghost use Rattle.vhdl_units.specs.views.Answers.{signal_name_view};
 
 use std::alloc::Global;
 use vhdl_names::{Kind, NameFault, NameProblem, ObjectType, Place, Static};
-use vhdl_tree::{Expr, Mode, Name};
-use vhdl_types::Sight;
+use vhdl_tree::{Expr, Mode, Name, Suffix};
+use vhdl_types::{Meaning, Sight};
 use vhdl_typing::{signal, start, static_integer};
+use vhdl_units::SignalName;
 
 /// A port as it is associated: its mode and kind.
 #[derive(Clone, Copy)]
@@ -65,6 +69,47 @@ fn may_join(mode: Mode, actual: Option<Mode>) -> bool
     }
 }
 
+/// Whether a name of this meaning is a value, with what follows it.
+fn is_value(meaning: &Meaning, suffix: &Suffix) -> bool {
+    match meaning {
+        Meaning::Generic(_) | Meaning::IntegerConstant(_) => true,
+        Meaning::GenerateParameter(_) | Meaning::LoopParameter(_) => true,
+        Meaning::Constant(..) | Meaning::Literal { .. } | Meaning::Function(_) => true,
+        Meaning::VectorType(..) => matches!(suffix, Suffix::Arguments(_)),
+        _ => false,
+    }
+}
+
+/// Why a name is no actual of a port: an expression that is no signal's name is left out, and a name
+/// of another kind is no expression.
+fn actual_fault(sight: &Sight, name: &Name, fault: NameFault) -> NameFault
+    ensures { result ≢ NoMemory → fault ≢ NoMemory }
+{
+    let NameFault::At {
+        problem: NameProblem::WrongKind,
+        at,
+    } = fault
+    else {
+        return fault;
+    };
+    match sight.meaning(&name.identifier.text) {
+        Some(meaning) if at == name.identifier.at && is_value(meaning, &name.suffix) => {
+            NameProblem::LeftOut.at(at)
+        }
+        _ => fault,
+    }
+}
+
+/// The signal that an actual is.
+fn actual_signal(alloc: Global, sight: &Sight, name: &Name) -> Result<SignalName, NameFault>
+    ensures { Gives signal_name_view (signal_of (sight_view sight.now) (name_view name.now)) result }
+{
+    match signal(alloc, sight, name) {
+        Ok(actual) => Ok(actual),
+        Err(fault) => Err(actual_fault(sight, name, fault)),
+    }
+}
+
 /// The actual of a port: the name of a signal or port, or of a part of one.
 #[tactic(auto, unfolding(vhdl_names::specs::Instances::port_actual))]
 fn port_actual(alloc: Global, sight: &Sight, port: PortType, e: &Expr) -> Result<Place, NameFault>
@@ -73,7 +118,7 @@ fn port_actual(alloc: Global, sight: &Sight, port: PortType, e: &Expr) -> Result
     match as_name(e) {
         None => Err(NameProblem::LeftOut.at(start(e))),
         Some(name) => {
-            let actual = signal(alloc, sight, name)?;
+            let actual = actual_signal(alloc, sight, name)?;
             if !is_kind(port.kind, actual.object_type) {
                 return Err(NameProblem::TypeMismatch.at(actual.place.at));
             }
@@ -174,7 +219,7 @@ fn generic_entry(
 }
 
 /// The actuals of generics, in the order of the generics.
-#[tactic(auto, using(vhdl_bodies::proofs::steps::Lists::each_in_turn))]
+#[tactic(auto, using(vhdl_labels::proofs::Lists::each_in_turn))]
 pub fn generic_actuals(
     alloc: Global,
     sight: &Sight,

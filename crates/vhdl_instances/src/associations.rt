@@ -3,7 +3,7 @@
 ghost use Rattle.std.specs.Prelude.{◌≡◌, IfOk, false, map, option_map, Some};
 ghost use Rattle.vhdl_instances.specs.steps.Associations as steps;
 ghost use Rattle.vhdl_instances.specs.Views.{actuals_view};
-ghost use Rattle.vhdl_bodies.specs.steps.Once.{names_view};
+ghost use Rattle.vhdl_labels.specs.Once.{names_view};
 ghost use Rattle.vhdl_names.specs.Gives.{Gives};
 ghost use Rattle.vhdl_names.specs.Instances as rules;
 ghost use Rattle.vhdl_tree.specs.View.{view, option_ident_view, association_view};

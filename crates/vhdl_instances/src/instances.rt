@@ -4,7 +4,7 @@ ghost use Rattle.std.specs.Prelude.{◌≡◌, List, bytes_eq, map, option_map, 
 ghost use Rattle.std.specs.List.{position_from};
 ghost use Rattle.vhdl_instances.specs.Table.{AreEntities, seen_view, seens_view};
 ghost use Rattle.vhdl_instances.specs.steps.Instances as steps;
-ghost use Rattle.vhdl_bodies.specs.steps.Once.{names_view};
+ghost use Rattle.vhdl_labels.specs.Once.{names_view};
 ghost use Rattle.vhdl_names.specs.Gives.{Gives};
 ghost use Rattle.vhdl_names.specs.Instances as rules;
 ghost use Rattle.vhdl_names.specs.Interfaces.{EntityView};
@@ -17,7 +17,7 @@ use crate::actuals::{PortType, generic_actuals, port_actuals};
 use crate::associations::{Names, associated};
 use crate::maps::maps;
 use std::alloc::Global;
-use vhdl_bodies::{copied, earlier_in, is_text};
+use vhdl_labels::{copied, earlier_in, is_text};
 use vhdl_names::{NameFault, NameProblem};
 use vhdl_tree as syntax;
 use vhdl_tree::{Association, Identifier, Instantiated};

@@ -5,7 +5,7 @@ use crate::associations::{Names, actuals, take_all};
 use crate::instances::{Formals, listed};
 use indexmap::IndexSet;
 use std::alloc::{AllocError, Global};
-use vhdl_bodies::earlier_in;
+use vhdl_labels::earlier_in;
 use vhdl_names::NameFault;
 use vhdl_tree as syntax;
 use vhdl_tree::Association;

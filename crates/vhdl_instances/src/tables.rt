@@ -1,7 +1,7 @@
 //! What instances see of an entity, from its region (IEEE 1076-2008, 6.5.6).
 
 ghost use Rattle.std.specs.Prelude.{◌≡◌, IfOk, option_map};
-ghost use Rattle.vhdl_bodies.specs.steps.Lists.{in_turn};
+ghost use Rattle.vhdl_labels.specs.Lists.{in_turn};
 ghost use Rattle.vhdl_instances.specs.Table.{seen_view};
 ghost use Rattle.vhdl_instances.specs.steps.Tables as steps;
 ghost use Rattle.vhdl_names.specs.Gives.{Gives};

@@ -4,7 +4,7 @@ use Rattle.std.specs.Prelude.{slice_get, bytes_eq}
 use Rattle.std.specs.List.{IsDistinct}
 use Rattle.std.specs.Map.{keys_of}
 use Rattle.std.proofs.lemmas.List.{length-map, drop_all}
-use Rattle.vhdl_names.specs.Rules.{◌>>=◌, rule}
+use Rattle.vhdl_names.specs.Rules.{◌>>=◌, met}
 use Rattle.vhdl_names.specs.Visibility.{Declared, declare}
 use Rattle.vhdl_types.specs.declared.meaning.Meaning.{Meaning}
 use Rattle.vhdl_types.specs.Views.{meaning_view, entry_view}
@@ -26,7 +26,7 @@ next_entry ds es i k m h =
     ∙ ap (λ n. more ds (declare k.items (meaning_view m) ∷ []) >>= λ r. more r (drop n (map entry_view es))) s
 
 pub more_whole : (es : List (Vec ℕ Global × Meaning)) → IsDistinct (λ a b. bytes_eq a.items b.items) (keys_of es) → more [] (map entry_view es) ≡ Some (map entry_view es)
-more_whole es apart = ap (λ b. rule b >>= λ _. Some (map entry_view es)) (names_apart es apart)
+more_whole es apart = ap (λ b. met b >>= λ _. Some (map entry_view es)) (names_apart es apart)
 
 pub no_entries : (es cs : List (Vec ℕ Global × Meaning)) (i : ℕ) → length es ≤ i → IsDistinct (λ a b. bytes_eq a.items b.items) (keys_of cs) →
     more (map entry_view cs) (drop i (map entry_view es)) ≡ Some (map entry_view cs)

@@ -7,7 +7,7 @@ use Rattle.vhdl_names.specs.declared.fault.NameFault.TheVariants.{NoMemory}
 use Rattle.vhdl_names.specs.Gives.{Gives}
 use Rattle.vhdl_tree.specs.Tree as t
 use Rattle.vhdl_names.specs.units.Units as u
-use Rattle.vhdl_names.specs.Rules.{◌>>=◌, rule, all_of}
+use Rattle.vhdl_names.specs.Rules.{◌>>=◌, met, all_of}
 use Rattle.vhdl_names.specs.Visibility.{Declared, Sight, Declares, are_distinct, with_declared}
 use Rattle.vhdl_names.specs.Declarations.{in_order, generic, port}
 use Rattle.vhdl_names.specs.Visibility.{Name, ends}
@@ -34,38 +34,38 @@ interface_in_turn s gs ps empty = go (in_order with_declared generic s (all_of g
     start g = ap (λ r. r ++ g.declared) empty
 
     last : (g : Declares u.Generic) (p : Declares u.Port) →
-        (rule (are_distinct (declared_names (g.declared ++ p.declared))) >>= λ _. Some (made (g.declared ++ p.declared) g.analysed p.analysed))
+        (met (are_distinct (declared_names (g.declared ++ p.declared))) >>= λ _. Some (made (g.declared ++ p.declared) g.analysed p.analysed))
         ≡ (entered (with_declared s g.declared) p >>= λ y. Some (made y.0.region g.analysed y.1))
     last g p =
-        ap (λ r. rule (are_distinct (declared_names (r ++ p.declared))) >>= λ _. Some (made (r ++ p.declared) g.analysed p.analysed)) (sym (start g))
+        ap (λ r. met (are_distinct (declared_names (r ++ p.declared))) >>= λ _. Some (made (r ++ p.declared) g.analysed p.analysed)) (sym (start g))
         ∙ out (are_distinct (declared_names ((s.region ++ g.declared) ++ p.declared)))
       where
-        out : (b : Bool) → (rule b >>= λ _. Some (made ((s.region ++ g.declared) ++ p.declared) g.analysed p.analysed))
-            ≡ ((rule b >>= λ _. Some (pair (with_declared (with_declared s g.declared) p.declared) p.analysed)) >>= λ y. Some (made y.0.region g.analysed y.1))
+        out : (b : Bool) → (met b >>= λ _. Some (made ((s.region ++ g.declared) ++ p.declared) g.analysed p.analysed))
+            ≡ ((met b >>= λ _. Some (pair (with_declared (with_declared s g.declared) p.declared) p.analysed)) >>= λ y. Some (made y.0.region g.analysed y.1))
         out true = refl
         out false = refl
 
     none : (g : Declares u.Generic) → are_distinct (declared_names g.declared) ≡ false → (o : Option (Declares u.Port)) →
-        (o >>= λ p. (rule (are_distinct (declared_names (g.declared ++ p.declared))) >>= λ _. Some (made (g.declared ++ p.declared) g.analysed p.analysed))) ≡ None
+        (o >>= λ p. (met (are_distinct (declared_names (g.declared ++ p.declared))) >>= λ _. Some (made (g.declared ++ p.declared) g.analysed p.analysed))) ≡ None
     none g h None = refl
     none g h (Some p) =
-        ap (λ b. rule b >>= λ _. Some (made (g.declared ++ p.declared) g.analysed p.analysed))
+        ap (λ b. met b >>= λ _. Some (made (g.declared ++ p.declared) g.analysed p.analysed))
         (ap are_distinct (names-append g.declared p.declared) ∙ still_twice (declared_names g.declared) (declared_names p.declared) h)
 
     some : (g : Declares u.Generic) (o : Option (Declares u.Port)) →
-        (o >>= λ p. (rule (are_distinct (declared_names (g.declared ++ p.declared))) >>= λ _. Some (made (g.declared ++ p.declared) g.analysed p.analysed)))
+        (o >>= λ p. (met (are_distinct (declared_names (g.declared ++ p.declared))) >>= λ _. Some (made (g.declared ++ p.declared) g.analysed p.analysed)))
         ≡ ((o >>= entered (with_declared s g.declared)) >>= λ y. Some (made y.0.region g.analysed y.1))
     some g None = refl
     some g (Some p) = last g p
 
     by : (g : Declares u.Generic) (b : Bool) → are_distinct (declared_names (s.region ++ g.declared)) ≡ b →
-        (in_order with_declared port (with_declared s g.declared) (all_of ps) >>= λ p. (rule (are_distinct (declared_names (g.declared ++ p.declared))) >>= λ _. Some (made (g.declared ++ p.declared) g.analysed p.analysed)))
-        ≡ ((rule b >>= λ _. Some (pair (with_declared s g.declared) g.analysed)) >>= λ x. (entering (in_order with_declared port) x.0 (all_of ps) >>= λ y. Some (made y.0.region x.1 y.1)))
+        (in_order with_declared port (with_declared s g.declared) (all_of ps) >>= λ p. (met (are_distinct (declared_names (g.declared ++ p.declared))) >>= λ _. Some (made (g.declared ++ p.declared) g.analysed p.analysed)))
+        ≡ ((met b >>= λ _. Some (pair (with_declared s g.declared) g.analysed)) >>= λ x. (entering (in_order with_declared port) x.0 (all_of ps) >>= λ y. Some (made y.0.region x.1 y.1)))
     by g true h = some g (in_order with_declared port (with_declared s g.declared) (all_of ps))
     by g false h = none g (ap (λ r. are_distinct (declared_names r)) (sym (start g)) ∙ h) (in_order with_declared port (with_declared s g.declared) (all_of ps))
 
     go : (o : Option (Declares u.Generic)) →
-        (o >>= λ g. (in_order with_declared port (with_declared s g.declared) (all_of ps) >>= λ p. (rule (are_distinct (declared_names (g.declared ++ p.declared))) >>= λ _. Some (made (g.declared ++ p.declared) g.analysed p.analysed))))
+        (o >>= λ g. (in_order with_declared port (with_declared s g.declared) (all_of ps) >>= λ p. (met (are_distinct (declared_names (g.declared ++ p.declared))) >>= λ _. Some (made (g.declared ++ p.declared) g.analysed p.analysed))))
         ≡ ((o >>= entered s) >>= λ x. (entering (in_order with_declared port) x.0 (all_of ps) >>= λ y. Some (made y.0.region x.1 y.1)))
     go None = refl
     go (Some g) = by g (are_distinct (declared_names (s.region ++ g.declared))) refl
@@ -76,7 +76,7 @@ abbrev pub entity_of : Context → Interface → t.Entity → Option Name → En
 entity_of c i e a = record { name = e.name.text; context = c; interface = i; generic_text = e.generics; port_text = e.ports; architecture = a }
 
 abbrev pub behind_interface : Context → t.Entity → Option Name → Option Interface → Option EntityView
-behind_interface c e a o = o >>= λ i. (rule (ends e.name.text e.end_name) >>= λ _. Some (entity_of c i e a))
+behind_interface c e a o = o >>= λ i. (met (ends e.name.text e.end_name) >>= λ _. Some (entity_of c i e a))
 
 pub no_entity : (items : List t.ContextItem) (e : t.Entity) (a : Option Name) → context no_context items ≡ None → entity items e a ≡ None
 unfolding entity

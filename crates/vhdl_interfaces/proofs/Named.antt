@@ -6,7 +6,7 @@ use Rattle.std.specs.Map.{keys_of, lookup}
 use Rattle.std.proofs.lemmas.List.{map-append}
 use Rattle.std.proofs.lemmas.Bool.Decides.{nat_tests}
 use Rattle.std.proofs.lemmas.Slice.Eq.{bytes_eq-Decides}
-use Rattle.vhdl_names.specs.Rules.{◌>>=◌, rule}
+use Rattle.vhdl_names.specs.Rules.{◌>>=◌, met}
 use Rattle.vhdl_names.specs.Visibility.{Name, is_among}
 use Rattle.vhdl_names.specs.Interfaces.{EntityView}
 use Rattle.vhdl_interfaces.specs.declared.interface.EntityInterface.{EntityInterface}
@@ -79,11 +79,11 @@ pub absent : (es : List (Vec ℕ Global × EntityInterface)) (n : Name) → is_s
 absent es n h = none_of (lookup (λ k. bytes_eq n k.items) es) h
 
 pub refused : (es : List (Vec ℕ Global × EntityInterface)) (e : EntityView) → is_some (lookup (λ k. bytes_eq e.name k.items) es) ≡ true → one_more (map entry_view es) e ≡ None
-refused es e there = ap (λ b. rule (not b) >>= λ _. Some (map entry_view es ++ e ∷ [])) (sym (among e.name es) ∙ there)
+refused es e there = ap (λ b. met (not b) >>= λ _. Some (map entry_view es ++ e ∷ [])) (sym (among e.name es) ∙ there)
 
 pub grown : (es es' : List (Vec ℕ Global × EntityInterface)) (key : Vec ℕ Global) (e : EntityInterface) → is_some (lookup (λ k. bytes_eq e.tree.now.name.text.items k.items) es) ≡ false
     → key.items ≡ e.tree.now.name.text.items → es' ≡ es ++ (key, e) ∷ [] → one_more (map entry_view es) (entity_view e) ≡ Some (map entry_view es')
 grown es es' key e new same h =
-    ap (λ b. rule (not b) >>= λ _. Some (map entry_view es ++ entity_view e ∷ [])) (sym (among e.tree.now.name.text.items es) ∙ new)
+    ap (λ b. met (not b) >>= λ _. Some (map entry_view es ++ entity_view e ∷ [])) (sym (among e.tree.now.name.text.items es) ∙ new)
     ∙ ap (λ n. Some (map entry_view es ++ named_view n e ∷ [])) (sym same)
     ∙ ap Some (sym (map-append entry_view es ((key, e) ∷ []))) ∙ ap (λ l. Some (map entry_view l)) (sym h)

@@ -3,6 +3,7 @@ use Rattle.std.specs.Prelude.{ℕ, List, [], ◌∷◌, ◌++◌, map, not, Opti
 use Rattle.indexmap.specs.IndexMap.{IndexMap}
 use Rattle.std.specs.Global.{Global}
 use Rattle.vhdl_tree.specs.View as tree
+use Rattle.vhdl_names.specs.declared.fault.NameProblem.TheVariants.{Twice}
 use Rattle.vhdl_names.specs.Rules.{◌>>=◌, rule}
 use Rattle.vhdl_tree.specs.Tree.{ContextItem}
 use Rattle.vhdl_names.specs.Packages.{context, sight_of}
@@ -39,7 +40,7 @@ entities_view t = map (λ e. named_view e.0.items e.1) t.entries
 
 -- one more, whose name none before it has
 abbrev pub one_more : List EntityView → EntityView → Option (List EntityView)
-one_more es e = rule (not (is_among e.name (map (λ d. d.name) es))) >>= λ _. Some (es ++ e ∷ [])
+one_more es e = rule Twice (not (is_among e.name (map (λ d. d.name) es))) >>= λ _. Some (es ++ e ∷ [])
 
 -- what is in sight where the architecture of an entity begins
 abbrev pub sight_behind : EntityView → List ContextItem → Option Sight

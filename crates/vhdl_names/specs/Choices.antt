@@ -10,6 +10,7 @@ use Rattle.vhdl_names.specs.declared.kind.ObjectType.TheVariants.{Elements, Enum
 use Rattle.vhdl_names.specs.units.Expressions as u
 use Rattle.vhdl_names.specs.units.Expressions.{Value}
 use Rattle.vhdl_names.specs.units.Statements.{Choice, values, position, Statements, Alternatives, others, alternative}
+use Rattle.vhdl_names.specs.declared.fault.NameProblem.TheVariants.{WrongKind, TypeMismatch, NoOthers, ChoiceTwice}
 use Rattle.vhdl_names.specs.Rules.{◌>>=◌, ◌>>◌, rule, each, given_that}
 use Rattle.vhdl_names.specs.Visibility as m
 use Rattle.vhdl_names.specs.Visibility.{Meaning, Sight, meaning}
@@ -23,7 +24,7 @@ abbrev pub named_choice : ObjectType → Meaning → Option Choice
 named_choice (Elements Element) (m.constant k Element (Some vs)) = Some (values vs)
 named_choice (Elements LogicVector) (m.constant k LogicVector (Some vs)) = Some (values vs)
 named_choice (Elements Unsigned) (m.constant k Unsigned (Some vs)) = Some (values vs)
-named_choice (Enumeration e count) (m.literal d size p) = given_that (d == e) (position p)
+named_choice (Enumeration e count) (m.literal d size p) = given_that TypeMismatch (d == e) (position p)
 named_choice _ _ = None
 
 abbrev pub literal_choice : ObjectType → Expr → Option Choice
@@ -80,10 +81,10 @@ names_all (Enumeration e count) cs = list_all (λ p. list_any (same_choice (posi
 -- the choices of each alternative
 abbrev pub covered : Sight → ObjectType → List (List t.Choice) → Option (List (List Choice))
 covered sight type alternatives = do
-  rule (only_last_others alternatives)
+  rule WrongKind (only_last_others alternatives)
   css ← each (choices sight type) alternatives
-  rule (are_distinct_choices (flat_map (λ cs. cs) css))
-  rule (is_last_others alternatives || names_all type (flat_map (λ cs. cs) css))
+  rule ChoiceTwice (are_distinct_choices (flat_map (λ cs. cs) css))
+  rule NoOthers (is_last_others alternatives || names_all type (flat_map (λ cs. cs) css))
   Some css
 
 -- ---- selectors and alternatives

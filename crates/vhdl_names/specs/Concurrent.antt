@@ -4,6 +4,7 @@ use Rattle.vhdl_tree.specs.Tree as t
 use Rattle.vhdl_tree.specs.Tree.{Ident}
 use Rattle.vhdl_names.specs.units.Statements as s
 use Rattle.vhdl_names.specs.units.Units as u
+use Rattle.vhdl_names.specs.declared.fault.NameProblem.TheVariants.{Twice, WrongKind}
 use Rattle.vhdl_names.specs.Rules.{◌>>=◌, ◌>>◌, rule, each}
 use Rattle.vhdl_names.specs.Visibility.{Name, Sight, are_distinct, ends, label_ends, within_generate, with_variables}
 use Rattle.vhdl_names.specs.Expressions.{typed, static_range, condition, given, as_static_test}
@@ -80,10 +81,10 @@ unfoldable pub process : Sight → Option Ident → t.Process → Option u.Proce
 process sight label p = do
   on ← sensitivity sight p.sensitivity
   vs ← in_order with_variables variables sight p.variables
-  rule (are_distinct (declared_names vs.declared))
-  rule (are_distinct (statement_labels (t.statements_of p.statements)))
+  rule Twice (are_distinct (declared_names vs.declared))
+  rule Twice (are_distinct (statement_labels (t.statements_of p.statements)))
   body ← statements (with_variables sight vs.declared) (t.statements_of p.statements)
-  rule (label_ends label p.end_label)
+  rule WrongKind (label_ends label p.end_label)
   Some (record { label = label_of label; variables = vs.analysed; sensitivity = on; body = body })
 
 -- ---- the labels that stand directly among concurrent statements
@@ -119,8 +120,8 @@ module _ (entities : List EntityView) where
     concurrent sight (t.process label p) = option_map u.process (process sight label p)
     concurrent sight (t.instance label i) = option_map u.instance (instance entities sight label i)
     concurrent sight (t.generated label at scheme word cs end) = do
-      rule (ends label.text end)
-      rule (are_distinct (concurrent_labels cs))
+      rule WrongKind (ends label.text end)
+      rule Twice (are_distinct (concurrent_labels cs))
       body ← concurrents (sight_within sight scheme) cs
       generated sight label.text scheme body
 

@@ -11,6 +11,7 @@ use Rattle.vhdl_names.specs.declared.kind.ObjectType.TheVariants.{Elements, Enum
 use Rattle.vhdl_names.specs.declared.operator.IntegerType.{IntegerType}
 use Rattle.vhdl_names.specs.units.Units as u
 use Rattle.vhdl_names.specs.units.Units.{Fixed, Object}
+use Rattle.vhdl_names.specs.declared.fault.NameProblem.TheVariants.{LeftOut}
 use Rattle.vhdl_names.specs.Rules.{◌>>=◌, ◌>>◌, rule, if_any}
 use Rattle.vhdl_names.specs.Visibility as m
 use Rattle.vhdl_names.specs.Visibility.{declare, Name, Meaning, Declared, Sight, meaning, names_of, numbered, all_declared, count_of, with_declared, with_variables, Declares, followed_by}
@@ -103,7 +104,7 @@ single_expression (t.others at e) = None
 -- an integer constant takes no range, and its value is a static integer
 abbrev pub integer_constants : Sight → t.Constants → IntegerType → Option (Declares u.Declaration)
 integer_constants sight d type = do
-  rule (is_none d.subtype.range)
+  rule LeftOut (is_none d.subtype.range)
   e ← single_expression d.value
   value ← static (within sight d.names) e
   Some (record {
@@ -141,7 +142,7 @@ literals e count p (n ∷ ns) = declare n (m.literal e count p) ∷ literals e c
 -- an enumeration has at most 256 literals
 unfoldable pub enumeration : Sight → t.Enumeration → Option (Declares u.Declaration)
 enumeration sight d = do
-  rule (nat_le (length d.literals) 256)
+  rule LeftOut (nat_le (length d.literals) 256)
   Some (record {
     declared = declare d.name.text (m.enumeration_type number (length d.literals))
         ∷ literals number (length d.literals) 0 (names_of d.literals);

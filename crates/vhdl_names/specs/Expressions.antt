@@ -12,6 +12,7 @@ use Rattle.vhdl_names.specs.declared.kind.ObjectType.TheVariants.{Elements, Enum
 use Rattle.vhdl_names.specs.units.Expressions as u
 use Rattle.vhdl_names.specs.units.Expressions.{Static, Place, Test}
 use Rattle.vhdl_names.specs.units.Statements.{Given, single, filled}
+use Rattle.vhdl_names.specs.declared.fault.NameProblem.TheVariants.{TypeMismatch}
 use Rattle.vhdl_names.specs.Rules.{◌>>=◌, given_that}
 use Rattle.vhdl_names.specs.Visibility.{Sight, meaning}
 use Rattle.vhdl_names.specs.Literals.{number_of, nine_of, values_of_string, values_of_bits}
@@ -127,13 +128,13 @@ is_vector Unsigned = true
 is_vector _ = false
 
 abbrev pub as_value : ObjectType → Typed → Option Given
-as_value (Elements k) (elements j x) = given_that (fits k j) (single (u.elements x))
-as_value (Enumeration e count) (enumerated d size x) = given_that (e == d) (single x)
+as_value (Elements k) (elements j x) = given_that TypeMismatch (fits k j) (single (u.elements x))
+as_value (Enumeration e count) (enumerated d size x) = given_that TypeMismatch (e == d) (single x)
 as_value _ _ = None
 
 -- (others => e): one element for each of a vector (9.3.3)
 abbrev pub as_filled : ObjectType → Typed → Option Given
-as_filled (Elements k) (elements Element x) = given_that (is_vector k) (filled x)
+as_filled (Elements k) (elements Element x) = given_that TypeMismatch (is_vector k) (filled x)
 as_filled _ _ = None
 
 -- what is given to a target of this type

@@ -5,6 +5,7 @@ use Rattle.vhdl_tree.specs.Tree as t
 use Rattle.vhdl_tree.specs.Tree.{File, DesignUnit, LibraryUnit, ContextItem}
 use Rattle.vhdl_names.specs.units.Units as u
 use Rattle.vhdl_names.specs.units.Units.{Units}
+use Rattle.vhdl_names.specs.declared.fault.NameProblem.TheVariants.{Undeclared, Twice, WrongKind, SecondArchitecture}
 use Rattle.vhdl_names.specs.Rules.{◌>>=◌, ◌>>◌, rule, each, if_any}
 use Rattle.vhdl_names.specs.Visibility as m
 use Rattle.vhdl_names.specs.Visibility.{Name, Declared, Sight, is_among, are_distinct, ends, all_declared, with_declared, Declares}
@@ -76,9 +77,9 @@ architecture entities e items a = do
   c ← context e.context items
   ds ← in_order with_declared (declaration entities) (sight_of c e.interface.declared) a.declarations
   let region = e.interface.declared ++ (ds.declared ++ labelled (concurrent_labels (t.concurrents_of a.statements)))
-  rule (are_distinct (declared_names region))
+  rule Twice (are_distinct (declared_names region))
   body ← concurrents entities (sight_of c region) (t.concurrents_of a.statements)
-  rule (ends a.name.text a.end_name)
+  rule WrongKind (ends a.name.text a.end_name)
   Some (record { declarations = ds.analysed; statements = body })
 
 -- ---- files
@@ -93,9 +94,9 @@ unit entities ds e = do
 -- be of any entity of the file.
 unfoldable pub units_of : File → Option Units
 units_of f = do
-  rule (are_distinct (entity_names f.units))
-  rule (are_distinct (described_names f.units))
-  rule (stand_after f.units)
+  rule Twice (are_distinct (entity_names f.units))
+  rule SecondArchitecture (are_distinct (described_names f.units))
+  rule Undeclared (stand_after f.units)
   entities ← each (viewed f.units) (entities_of f.units)
   each (unit entities f.units) entities
 

@@ -11,6 +11,7 @@ use Rattle.vhdl_names.specs.declared.kind.ObjectType.{ObjectType}
 use Rattle.vhdl_names.specs.declared.kind.ObjectType.TheVariants.{Elements}
 use Rattle.vhdl_names.specs.units.Expressions.{Place}
 use Rattle.vhdl_names.specs.units.Units as u
+use Rattle.vhdl_names.specs.declared.fault.NameProblem.TheVariants.{Undeclared, Twice, WrongKind, TypeMismatch, WriteOfIn}
 use Rattle.vhdl_names.specs.Rules.{◌>>=◌, ◌>>◌, rule, each, if_any, all_of}
 use Rattle.vhdl_names.specs.Visibility as m
 use Rattle.vhdl_names.specs.Visibility.{Name, Meaning, Declared, Sight, meaning, is_among, are_distinct}
@@ -58,10 +59,10 @@ actual_of n _ _ = None
 -- the actual of each formal: every association is for a formal, and each formal is associated once at most
 unfoldable pub associated : List Name → List Association → Option (List (Option Expr))
 associated formals as' = do
-  rule (positional_first as')
+  rule WrongKind (positional_first as')
   fs ← formals_of formals as'
-  rule (list_all (λ f. is_among f formals) fs)
-  rule (are_distinct fs)
+  rule Undeclared (list_all (λ f. is_among f formals) fs)
+  rule Twice (are_distinct fs)
   Some (map (λ n. actual_of n fs as') formals)
 
 -- ---- actuals
@@ -108,8 +109,8 @@ unfoldable pub port_actual : Sight → Formal → Expr → Option Place
 port_actual sight f e = do
   n ← as_name e
   x ← signal sight n
-  rule (is_kind f.kind x.type)
-  rule (may_join f.mode x.mode)
+  rule TypeMismatch (is_kind f.kind x.type)
+  rule WriteOfIn (may_join f.mode x.mode)
   Some x.place
 
 abbrev pub port_actuals : Sight → List Formal → List (Option Expr) → Option (List (Option Place))
@@ -134,9 +135,9 @@ is_architecture (Some n) (Some a) = bytes_eq n.text a
 -- work . entity ( architecture ), or a component in sight
 unfoldable pub instantiated : List EntityView → Sight → t.Instantiated → Option ℕ
 instantiated entities sight (t.entity_unit library n architecture) = do
-  rule (bytes_eq library.text (codes "work"))
+  rule Undeclared (bytes_eq library.text (codes "work"))
   e ← entity_named entities n.text
-  rule (is_architecture architecture e.1.architecture)
+  rule WrongKind (is_architecture architecture e.1.architecture)
   Some e.0
 instantiated entities sight (t.component_unit word n) = meaning sight n.text >>= as_component
 

@@ -4,6 +4,7 @@ use Rattle.std.specs.List.{enumerate_from}
 use Rattle.vhdl_tree.specs.Tree as t
 use Rattle.vhdl_tree.specs.Tree.{Ident}
 use Rattle.vhdl_names.specs.units.Units as u
+use Rattle.vhdl_names.specs.declared.fault.NameProblem.TheVariants.{Twice, WrongKind}
 use Rattle.vhdl_names.specs.Rules.{◌>>=◌, ◌>>◌, rule, all_of}
 use Rattle.vhdl_names.specs.Visibility as m
 use Rattle.vhdl_names.specs.Visibility.{declare, Name, Meaning, Declared, Sight, are_distinct, ends, with_declared, Declares}
@@ -27,7 +28,7 @@ unfoldable pub interface : Sight → Option (List t.Generic) → Option (List t.
 interface sight gs ps = do
   g ← in_order with_declared generic sight (all_of gs)
   p ← in_order with_declared port (with_declared sight g.declared) (all_of ps)
-  rule (are_distinct (declared_names (g.declared ++ p.declared)))
+  rule Twice (are_distinct (declared_names (g.declared ++ p.declared)))
   Some (record { declared = g.declared ++ p.declared; generics = g.analysed; ports = p.analysed })
 
 -- ---- entities
@@ -49,7 +50,7 @@ unfoldable pub entity : List t.ContextItem → t.Entity → Option Name → Opti
 entity items e architecture = do
   c ← context no_context items
   i ← interface (sight_of c []) e.generics e.ports
-  rule (ends e.name.text e.end_name)
+  rule WrongKind (ends e.name.text e.end_name)
   Some (record {
     name = e.name.text;
     context = c;
@@ -69,7 +70,7 @@ entity_named entities n = find (λ e. bytes_eq n e.1.name) (enumerate_from 0 ent
 unfoldable pub component : List EntityView → Sight → t.Component → Option (Declares u.Declaration)
 component entities sight c = do
   e ← entity_named entities c.name.text
-  rule (same_generics c.generics e.1.generic_text && same_ports c.ports e.1.port_text)
+  rule WrongKind (same_generics c.generics e.1.generic_text && same_ports c.ports e.1.port_text)
   i ← interface (record sight { region = []; outside = sight.region ++ sight.outside }) c.generics c.ports
-  rule (ends c.name.text c.end_name)
+  rule WrongKind (ends c.name.text c.end_name)
   Some (record { declared = declare c.name.text (m.component e.0) ∷ []; analysed = [] })

@@ -10,11 +10,12 @@ use Rattle.vhdl_lexer.specs.declared.byte.Class.TheVariants as c
 use Rattle.vhdl_lexer.specs.Bytes.{quote, underscore}
 use Rattle.vhdl_lexer.specs.Literals.{integer_of, greatest_integer}
 use Rattle.vhdl_lexer.specs.Words.{base_class}
+use Rattle.vhdl_names.specs.declared.fault.NameProblem.TheVariants.{LeftOut}
 use Rattle.vhdl_names.specs.Rules.{◌>>=◌, each, given_that}
 
 -- the number that an integer writes, which the type's range has (5.2.3.2)
 abbrev pub number_of : List ℕ → Option ℕ
-number_of text = given_that (nat_le (integer_of text) greatest_integer) (integer_of text)
+number_of text = given_that LeftOut (nat_le (integer_of text) greatest_integer) (integer_of text)
 
 -- the value of a character: one of the nine, letters in capitals (16.7)
 abbrev pub nine_of : ℕ → Option Nine

@@ -11,6 +11,7 @@ use Rattle.vhdl_names.specs.declared.kind.Function.{Function}
 use Rattle.vhdl_names.specs.declared.kind.Function.TheVariants.{EdgeCall, Resize, ShiftLeft, ShiftRight, ToUnsigned}
 use Rattle.vhdl_names.specs.units.Expressions as u
 use Rattle.vhdl_names.specs.units.Expressions.{Static, Part, Place, Signal, Vector}
+use Rattle.vhdl_names.specs.declared.fault.NameProblem.TheVariants.{LeftOut}
 use Rattle.vhdl_names.specs.Rules.{◌>>=◌, ◌>>◌, rule}
 use Rattle.vhdl_names.specs.Visibility as m
 use Rattle.vhdl_names.specs.Visibility.{Meaning}
@@ -125,6 +126,6 @@ denoted _ s = None
 abbrev pub attributed : Option Ident → Typed → Option Typed
 attributed None x = Some x
 attributed (Some a) x = do
-  rule (bytes_eq a.text (codes "event"))
+  rule LeftOut (bytes_eq a.text (codes "event"))
   p ← edge_signal x
   Some (truth (u.event p))

@@ -16,6 +16,7 @@ use Rattle.vhdl_names.specs.declared.operator.VectorOperator.{VectorOperator}
 use Rattle.vhdl_names.specs.declared.operator.VectorOperator.TheVariants as v
 use Rattle.vhdl_names.specs.units.Expressions as u
 use Rattle.vhdl_names.specs.units.Expressions.{Static, StaticTest, Vector, Value, Test}
+use Rattle.vhdl_names.specs.declared.fault.NameProblem.TheVariants.{TypeMismatch, NotVisible, LeftOut}
 use Rattle.vhdl_names.specs.Rules.{◌>>◌, rule, given_that}
 
 -- what an expression is: a static integer, one element or a vector of a kind, a value of an enumeration, or a truth
@@ -98,14 +99,14 @@ integral _ _ _ = None
 abbrev pub arithmetic : (numbers : Bool) → Arithmetic → Numeric → Typed → Typed → Option Typed
 arithmetic numbers op by (integer s) (integer t) = Some (integer (u.Static.binary op s t))
 arithmetic numbers op by (elements j x) (elements k y) = do
-  rule numbers
-  given_that (are_numbers j k) (elements Unsigned (u.Vector.binary (v.Arithmetic by) x y))
+  rule NotVisible numbers
+  given_that TypeMismatch (are_numbers j k) (elements Unsigned (u.Vector.binary (v.Arithmetic by) x y))
 arithmetic numbers op by (elements j x) (integer t) = do
-  rule numbers
-  given_that (is_number j) (elements Unsigned (u.with_integer by x t))
+  rule NotVisible numbers
+  given_that TypeMismatch (is_number j) (elements Unsigned (u.with_integer by x t))
 arithmetic numbers op by (integer s) (elements k y) = do
-  rule numbers
-  given_that (is_number k) (elements Unsigned (u.integer_with by s y))
+  rule NotVisible numbers
+  given_that TypeMismatch (is_number k) (elements Unsigned (u.integer_with by s y))
 arithmetic numbers op by _ _ = None
 
 -- ---- relations (9.2.3)
@@ -124,21 +125,21 @@ equality op same (integer s) (integer t) = Some (integers_compared op s t)
 equality op same (elements j x) (elements k y) = option_map (equal_by op same x y) (common_kind j k)
 equality op same (elements Unsigned x) (integer t) = Some (truth (u.compared_to op x t))
 equality op same (integer s) (elements Unsigned y) = Some (truth (u.compared_with op s y))
-equality op same (enumerated d m x) (enumerated e n y) = given_that (d == e) (truth (same x y))
+equality op same (enumerated d m x) (enumerated e n y) = given_that TypeMismatch (d == e) (truth (same x y))
 equality op same _ _ = None
 
 -- < <= > >=: integers; numbers; a number and an integer
 abbrev pub ordering : (numbers : Bool) → Cmp → Typed → Typed → Option Typed
 ordering numbers op (integer s) (integer t) = Some (integers_compared op s t)
 ordering numbers op (elements j x) (elements k y) = do
-  rule numbers
-  given_that (are_numbers j k) (truth (u.Test.compared op x y))
+  rule NotVisible numbers
+  given_that LeftOut (are_numbers j k) (truth (u.Test.compared op x y))
 ordering numbers op (elements j x) (integer t) = do
-  rule numbers
-  given_that (is_number j) (truth (u.compared_to op x t))
+  rule NotVisible numbers
+  given_that LeftOut (is_number j) (truth (u.compared_to op x t))
 ordering numbers op (integer s) (elements k y) = do
-  rule numbers
-  given_that (is_number k) (truth (u.compared_with op s y))
+  rule NotVisible numbers
+  given_that LeftOut (is_number k) (truth (u.compared_with op s y))
 ordering numbers op _ _ = None
 
 -- ---- all binary operators

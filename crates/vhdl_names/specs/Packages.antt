@@ -6,6 +6,7 @@ use Rattle.vhdl_tree.specs.Tree.{Ident, Selected, ContextItem, library, uses}
 use Rattle.vhdl_names.specs.declared.kind.Kind.TheVariants.{LogicVector, Unsigned}
 use Rattle.vhdl_names.specs.declared.kind.Function.TheVariants.{EdgeCall, Resize, ShiftLeft, ShiftRight, ToUnsigned}
 use Rattle.vhdl_names.specs.declared.operator.IntegerType.TheVariants.{Integer, Natural, Positive}
+use Rattle.vhdl_names.specs.declared.fault.NameProblem.TheVariants.{Undeclared, LeftOut}
 use Rattle.vhdl_names.specs.Rules.{◌>>◌, rule}
 use Rattle.vhdl_names.specs.Visibility.{declare, Declared, integer_type, element_type, vector_type, function, Sight}
 
@@ -59,10 +60,11 @@ is_numbers s = is_ieee s.library && bytes_eq s.name.text (codes "numeric_std")
 abbrev pub context : Context → List ContextItem → Option Context
 context before [] = Some before
 context before (library ns ∷ rest) = do
-  rule (list_all is_library ns)
+  rule LeftOut (list_all is_library ns)
   context (record before { has_ieee = before.has_ieee || list_any is_ieee ns }) rest
 context before (uses ss ∷ rest) = do
-  rule (before.has_ieee && list_all (λ s. is_logic s || is_numbers s) ss)
+  rule Undeclared before.has_ieee
+  rule LeftOut (list_all (λ s. is_logic s || is_numbers s) ss)
   context (record before { has_logic = before.has_logic || list_any is_logic ss; has_numbers = before.has_numbers || list_any is_numbers ss }) rest
 
 -- the packages' declarations that are in sight

@@ -1,5 +1,8 @@
--- Rules that are kept or broken: what rests on several rules is there where each of them is kept.
+-- Rules that are kept or broken, each with the problem that is told where it is broken: what rests on several rules is there where each
+-- of them is kept.
+pub use Rattle.std.specs.Bool.{then_some}
 use Rattle.std.specs.Prelude.{Bool, true, false, List, [], ◌∷◌, Option, Some, None}
+use Rattle.vhdl_names.specs.declared.fault.NameProblem.{NameProblem}
 
 infixl 10 ◌>>=◌
 abbrev pub ◌>>=◌ : {A B : Type 0} → Option A → (A → Option B) → Option B
@@ -10,15 +13,18 @@ infixl 10 ◌>>◌
 abbrev pub ◌>>◌ : {A B : Type 0} → Option A → Option B → Option B
 o >> p = o >>= λ _. p
 
--- what must hold
-abbrev pub rule : Bool → Option (Unit {0})
-rule true = Some tt
-rule false = None
+-- a condition that has to be met
+abbrev pub met : Bool → Option (Unit {0})
+met true = Some tt
+met false = None
 
--- a thing that is there where a condition holds
-abbrev pub given_that : {A : Type 0} → Bool → A → Option A
-given_that true x = Some x
-given_that false x = None
+-- what must hold, else there is this problem; what is given rests on the condition alone
+abbrev pub rule : NameProblem → Bool → Option (Unit {0})
+rule problem holds = met holds
+
+-- a thing that is there where a condition holds, else there is this problem
+abbrev pub given_that : {A : Type 0} → NameProblem → Bool → A → Option A
+given_that problem holds x = then_some holds x
 
 -- of each of several things
 abbrev pub each : {A B : Type 0} → (A → Option B) → List A → Option (List B)

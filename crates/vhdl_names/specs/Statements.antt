@@ -9,6 +9,7 @@ use Rattle.vhdl_names.specs.declared.kind.ObjectType.TheVariants.{Elements}
 use Rattle.vhdl_names.specs.units.Expressions as u
 use Rattle.vhdl_names.specs.units.Expressions.{Part, Place, Signal}
 use Rattle.vhdl_names.specs.units.Statements as s
+use Rattle.vhdl_names.specs.declared.fault.NameProblem.TheVariants.{WrongKind, WriteOfIn, LeftOut}
 use Rattle.vhdl_names.specs.Rules.{◌>>=◌, ◌>>◌, rule}
 use Rattle.vhdl_names.specs.Visibility as m
 use Rattle.vhdl_names.specs.Visibility.{Name, Meaning, Sight, meaning, label_ends, within_loop}
@@ -35,7 +36,7 @@ as_signal _ suffix = None
 -- the signal that a name is
 unfoldable pub signal : Sight → t.Name → Option SignalName
 signal sight n = do
-  rule (is_none n.attribute)
+  rule LeftOut (is_none n.attribute)
   suffix ← typed_suffix sight n.suffix
   d ← meaning sight n.identifier.text
   as_signal d suffix
@@ -50,7 +51,7 @@ is_input None = false
 unfoldable pub target : Sight → t.Name → Option SignalName
 target sight n = do
   x ← signal sight n
-  rule (not (is_input x.mode))
+  rule WriteOfIn (not (is_input x.mode))
   Some x
 
 -- a variable, or part of one
@@ -66,7 +67,7 @@ as_variable _ suffix = None
 -- the target of a variable assignment (10.6)
 unfoldable pub variable : Sight → t.Name → Option VariableName
 variable sight n = do
-  rule (is_none n.attribute)
+  rule LeftOut (is_none n.attribute)
   suffix ← typed_suffix sight n.suffix
   d ← meaning sight n.identifier.text
   as_variable d suffix
@@ -94,13 +95,13 @@ unfoldable mutual
     Some (s.set x.number x.part g)
   -- if (10.8)
   statement sight label (t.conditional at bs o end) = do
-    rule (label_ends label end)
+    rule WrongKind (label_ends label end)
     last ← otherwise sight o
     branches ← conditionals sight last bs
     Some (s.choose branches)
   -- case (10.9)
   statement sight label (t.selection at e alts end) = do
-    rule (label_ends label end)
+    rule WrongKind (label_ends label end)
     x ← typed sight e
     by ← selector x
     choices ← covered sight by.0 (choice_lists alts)
@@ -109,7 +110,7 @@ unfoldable mutual
     Some (s.select by.1 all)
   -- a for loop (10.10); its parameter's range has the outer names in sight
   statement sight label (t.loop at n r body end) = do
-    rule (label_ends label end)
+    rule WrongKind (label_ends label end)
     range ← static_range sight r
     turn ← statements (within_loop sight n) body
     Some (s.loop range turn)

@@ -12,6 +12,7 @@ use Rattle.vhdl_names.specs.declared.operator.IntegerType.{IntegerType}
 use Rattle.vhdl_names.specs.units.Expressions.{Range}
 use Rattle.vhdl_names.specs.units.Units as u
 use Rattle.vhdl_names.specs.units.Units.{Form, Fixed, Object}
+use Rattle.vhdl_names.specs.declared.fault.NameProblem.TheVariants.{TypeMismatch}
 use Rattle.vhdl_names.specs.Rules.{◌>>=◌, ◌>>◌, rule, if_any, given_that}
 use Rattle.vhdl_names.specs.Visibility as m
 use Rattle.vhdl_names.specs.Visibility.{Name, Meaning, Sight, meaning}
@@ -70,7 +71,7 @@ abbrev pub named_value : ObjectType → Meaning → Option Fixed
 named_value (Elements Element) (m.constant k Element values) = Some (u.Fixed.constant k)
 named_value (Elements LogicVector) (m.constant k LogicVector values) = Some (u.Fixed.constant k)
 named_value (Elements Unsigned) (m.constant k Unsigned values) = Some (u.Fixed.constant k)
-named_value (Enumeration e count) (m.literal d size p) = given_that (d == e) (u.Fixed.position p)
+named_value (Enumeration e count) (m.literal d size p) = given_that TypeMismatch (d == e) (u.Fixed.position p)
 named_value _ _ = None
 
 -- to_unsigned of two static integers
@@ -94,7 +95,7 @@ fixed sight type e = literal_value type e
 -- (others => c), c being a character literal
 abbrev pub filled_value : ObjectType → Expr → Option Fixed
 filled_value (Elements k) (t.character at c) = do
-  rule (is_vector k)
+  rule TypeMismatch (is_vector k)
   v ← nine_of c
   Some (u.Fixed.filled v)
 filled_value _ _ = None

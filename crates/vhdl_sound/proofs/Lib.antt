@@ -20,3 +20,4 @@ pub mod Words
 pub mod Labels
 pub mod Named
 pub mod Spelled
+pub mod Texts

@@ -19,7 +19,7 @@ use Rattle.vhdl_names.specs.units.Expressions as e
 use Rattle.vhdl_names.specs.units.Expressions.{Static, Range, Part, Place, Signal, Vector}
 use Rattle.vhdl_names.specs.units.Units as u
 use Rattle.vhdl_names.specs.units.Units.{Form}
-use Rattle.vhdl_names.specs.Rules.{◌>>=◌, given_that}
+use Rattle.vhdl_names.specs.Rules.{◌>>=◌, then_some}
 use Rattle.vhdl_names.specs.Visibility as m
 use Rattle.vhdl_names.specs.Visibility.{Meaning}
 use Rattle.vhdl_names.specs.Operators as o
@@ -49,12 +49,12 @@ SuffixFits i counts (n.range r) = range_fits i r ≡ true
 -- a vector's form has a range
 vector_form : (i : Inside) (f : Form) (s : Static) → shape_of f ≡ vector → static_fits i s ≡ true → part_shape i f (e.Part.element s) ≡ Some one
 vector_form i u.element s h t = absurd cc
-vector_form i (u.vector r) s h t = ap (λ b. given_that b one) t
+vector_form i (u.vector r) s h t = ap (λ b. then_some b one) t
 vector_form i (u.enumeration c) s h t = absurd cc
 
 slice_form : (i : Inside) (f : Form) (r : Range) → shape_of f ≡ vector → range_fits i r ≡ true → part_shape i f (e.slice r) ≡ Some vector
 slice_form i u.element s h t = absurd cc
-slice_form i (u.vector r) s h t = ap (λ b. given_that b vector) t
+slice_form i (u.vector r) s h t = ap (λ b. then_some b vector) t
 slice_form i (u.enumeration c) s h t = absurd cc
 
 module _ (i : Inside) (counts : Counts) where
@@ -113,15 +113,15 @@ module _ (i : Inside) (counts : Counts) where
   -- ---- objects that are read
 
   -- what is read of an object of a form
-  read_fits : (object : Part → Vector) (f : Form) → ((p : Part) → vector_shape i (object p) ≡ (part_shape i f p >>= λ x. given_that (is_elements x) x))
+  read_fits : (object : Part → Vector) (f : Form) → ((p : Part) → vector_shape i (object p) ≡ (part_shape i f p >>= λ x. then_some (is_elements x) x))
       → (k : Kind) → shape_of f ≡ kind_shape k → (s : Suffix) (x : Typed) → SuffixFits i counts s → read_by object k s ≡ Some x → TypedFits i counts x
   read_fits object f c k h s x t g =
       let a = mapped (λ (p : Part × Kind). o.elements p.1 (object p.0)) (part k s) x g in
       subst (TypedFits i counts) a.is
-      (c a.value.0 ∙ ap (λ z. z >>= λ x. given_that (is_elements x) x) (part_fits f k s a.value h t a.from) ∙ ap (λ b. given_that b (kind_shape a.value.1)) (shape_elements a.value.1))
+      (c a.value.0 ∙ ap (λ z. z >>= λ x. then_some (is_elements x) x) (part_fits f k s a.value h t a.from) ∙ ap (λ b. then_some b (kind_shape a.value.1)) (shape_elements a.value.1))
 
-  read_place : (z : Signal) (f : Form) → signal_form i z ≡ Some f → (p : Part) → vector_shape i (e.of_signal (place_of z p)) ≡ (part_shape i f p >>= λ x. given_that (is_elements x) x)
-  read_place z f h p = ap (λ w. (w >>= λ f. part_shape i f p) >>= λ x. given_that (is_elements x) x) h
+  read_place : (z : Signal) (f : Form) → signal_form i z ≡ Some f → (p : Part) → vector_shape i (e.of_signal (place_of z p)) ≡ (part_shape i f p >>= λ x. then_some (is_elements x) x)
+  read_place z f h p = ap (λ w. (w >>= λ f. part_shape i f p) >>= λ x. then_some (is_elements x) x) h
 
   pub port_form_is : (k : ℕ) (mode : Mode) (kind : Kind) (f : IsPort i.ports k mode kind) → signal_form i (e.port k) ≡ Some (port_form f.port)
   port_form_is k mode kind f = slice_get-map port_form i.ports k ∙ ap (option_map port_form) f.at
@@ -136,7 +136,7 @@ module _ (i : Inside) (counts : Counts) where
 
   -- a signal or variable of an enumeration
   state_is : (f : Form) (count : ℕ) → shape_of f ≡ state count → state_shape f ≡ Some (state count)
-  state_is f count h = ap (λ x. given_that (not (is_elements x)) x) h
+  state_is f count h = ap (λ x. then_some (not (is_elements x)) x) h
 
   plain_fits : (s : Suffix) (x y : Typed) → TypedFits i counts x → if_plain s x ≡ Some y → TypedFits i counts y
   plain_fits n.plain x y h g = subst (TypedFits i counts) (some_same x y g) h
@@ -167,7 +167,7 @@ module _ (i : Inside) (counts : Counts) where
   counted_fits f c (n.range r) y t g = absurd cc
   counted_fits f c (n.arguments b (o.elements Unsigned x ∷ o.integer s ∷ [])) y t g =
       subst (TypedFits i counts) (some_same (o.elements Unsigned (f x s)) y g)
-      (c x s ∙ ap (λ z. with_static i z s) t.0 ∙ ap (λ b. given_that b vector) t.1.0)
+      (c x s ∙ ap (λ z. with_static i z s) t.0 ∙ ap (λ b. then_some b vector) t.1.0)
   counted_fits f c (n.arguments b []) y t g = absurd cc
   counted_fits f c (n.arguments b (o.integer x ∷ zs)) y t g = absurd cc
   counted_fits f c (n.arguments b (o.enumerated d m x ∷ zs)) y t g = absurd cc
@@ -186,7 +186,7 @@ module _ (i : Inside) (counts : Counts) where
   encoding_fits (n.range r) y t g = absurd cc
   encoding_fits (n.arguments b (o.integer s ∷ o.integer size ∷ [])) y t g =
       subst (TypedFits i counts) (some_same (o.elements Unsigned (e.Vector.encoded s size)) y g)
-      (ap (λ b. given_that b vector) (and_from (static_fits i s) (static_fits i size) t.0 t.1.0))
+      (ap (λ b. then_some b vector) (and_from (static_fits i s) (static_fits i size) t.0 t.1.0))
   encoding_fits (n.arguments b []) y t g = absurd cc
   encoding_fits (n.arguments b (o.elements k x ∷ zs)) y t g = absurd cc
   encoding_fits (n.arguments b (o.enumerated d m x ∷ zs)) y t g = absurd cc
@@ -217,7 +217,7 @@ module _ (i : Inside) (counts : Counts) where
   part_outside u.element (e.Part.element s) h t = absurd cc
   part_outside (u.vector r) (e.Part.element s) h t =
       let g = given (static_fits i s) one one t in
-      ap (λ b. given_that b one) (outside_loops s h g.holds)
+      ap (λ b. then_some b one) (outside_loops s h g.holds)
   part_outside (u.enumeration c) (e.Part.element s) h t = absurd cc
   part_outside f (e.slice r) h t = absurd cc
 
@@ -241,7 +241,7 @@ module _ (i : Inside) (counts : Counts) where
     where
       by : (b : Bool) → is_static_part q.part ≡ b → cond b (Some q) None ≡ Some p → edge_fits i p ≡ true
       by true h g =
-          let c = comes (place_shape i q) (λ x. given_that (is_elements x) x) one t in
+          let c = comes (place_shape i q) (λ x. then_some (is_elements x) x) one t in
           let d = given (is_elements c.value) c.value one c.rest in
           subst (λ p. edge_fits i p ≡ true) (some_same q p g)
           (fits_self one (place_shape (record i { loops = 0 }) q) (place_outside q h (c.is ∙ ap Some d.is)))
@@ -295,14 +295,14 @@ module _ (i : Inside) (counts : Counts) where
       (fits_self (state count) (value_shape i (e.state_of (e.Signal.signal k))) (ap (λ w. w >>= state_shape) f.1 ∙ state_is f.0 count f.2), h.counted) g
   denoted_fits (m.variable k (Elements kind)) s y h t g =
       let f = the_form (Elements kind) (slice_get i.variables k) h in
-      read_fits (e.of_variable k) f.0 (λ p. ap (λ w. w >>= λ f. part_shape i f p >>= λ x. given_that (is_elements x) x) f.1) kind f.2 s y t g
+      read_fits (e.of_variable k) f.0 (λ p. ap (λ w. w >>= λ f. part_shape i f p >>= λ x. then_some (is_elements x) x) f.1) kind f.2 s y t g
   denoted_fits (m.variable k (Enumeration d count)) s y h t g =
       let f = the_form (Enumeration d count) (slice_get i.variables k) h in
       plain_fits s (o.enumerated d count (e.state_of_variable k)) y
       (fits_self (state count) (value_shape i (e.state_of_variable k)) (ap (λ w. w >>= state_shape) f.1 ∙ state_is f.0 count f.2), h.counted) g
   denoted_fits (m.constant k kind values) s y h t g =
       let f = the_form (Elements kind) (slice_get i.constants k) h.0 in
-      read_fits (e.of_constant k) f.0 (λ p. ap (λ w. w >>= λ f. part_shape i f p >>= λ x. given_that (is_elements x) x) f.1) kind f.2 s y t g
+      read_fits (e.of_constant k) f.0 (λ p. ap (λ w. w >>= λ f. part_shape i f p >>= λ x. then_some (is_elements x) x) f.1) kind f.2 s y t g
   denoted_fits (m.literal d count p) s y h t g = plain_fits s (o.enumerated d count (e.Value.position p)) y h g
   denoted_fits (m.vector_type k r) s y h t g = converted_fits k s y h t g
   denoted_fits (m.function f) s y h t g = called_fits f s y t g

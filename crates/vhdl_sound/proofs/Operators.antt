@@ -15,7 +15,7 @@ use Rattle.vhdl_names.specs.declared.operator.VectorOperator.{VectorOperator}
 use Rattle.vhdl_names.specs.declared.operator.VectorOperator.TheVariants as v
 use Rattle.vhdl_names.specs.units.Expressions as e
 use Rattle.vhdl_names.specs.units.Expressions.{Static, StaticTest, Vector, Value, Test}
-use Rattle.vhdl_names.specs.Rules.{◌>>=◌, rule, given_that}
+use Rattle.vhdl_names.specs.Rules.{◌>>=◌, met, then_some}
 use Rattle.vhdl_names.specs.Operators as o
 use Rattle.vhdl_names.specs.Operators.{Typed, common_kind, joined_kind, is_number, are_numbers, binary, both, negated, logical, inverse, concatenated, integral, arithmetic, integers_compared, equal_by, equality, ordering, operated}
 use Rattle.vhdl_names.specs.sound.Expressions.{Inside, Shape, one, vector, state, static_fits, static_test_fits, same_shape, is_elements, operated_shape, with_static, vector_shape, value_shape, fits_shape, value_fits, value_fits_beside, values_fit, test_fits}
@@ -28,7 +28,7 @@ pub record Given {A : Type 0} (b : Bool) (x y : A) : Type 0 where
   pub holds : b ≡ true
   pub is : x ≡ y
 
-pub given : {A : Type 0} (b : Bool) (x y : A) → given_that b x ≡ Some y → Given b x y
+pub given : {A : Type 0} (b : Bool) (x y : A) → then_some b x ≡ Some y → Given b x y
 given true x y h = record { holds = refl; is = some_same x y h }
 given false x y h = absurd cc
 
@@ -167,7 +167,7 @@ module _ (i : Inside) (counts : Counts) where
   vector_is x k h t = h ∙ ap Some t
 
   with_static_is : (o : Option Shape) (n : Static) → o ≡ Some vector → static_fits i n ≡ true → with_static i o n ≡ Some vector
-  with_static_is o n h t = ap (λ o. with_static i o n) h ∙ ap (λ b. given_that b vector) t
+  with_static_is o n h t = ap (λ o. with_static i o n) h ∙ ap (λ b. then_some b vector) t
 
   two : (x y : Vector) (op : VectorOperator) (a b : Shape) → vector_shape i x ≡ Some a → vector_shape i y ≡ Some b
       → vector_shape i (e.Vector.binary op x y) ≡ operated_shape op a b
@@ -216,7 +216,7 @@ module _ (i : Inside) (counts : Counts) where
   inverse_fits (o.truth s) y h t = known (o.truth (negated s)) y t (negated_fits s h)
 
   logical_shape : (op : Logic) (a : Shape) → is_elements a ≡ true → operated_shape (v.Logical op) a a ≡ Some a
-  logical_shape op a h = ap (λ b. given_that b a) (and_from (same_shape a a) (is_elements a) (same_self a) h)
+  logical_shape op a h = ap (λ b. then_some b a) (and_from (same_shape a a) (is_elements a) (same_self a) h)
 
   logical_fits : (op : Logic) (x y z : Typed) → TypedFits i counts x → TypedFits i counts y → logical op x y ≡ Some z → TypedFits i counts z
   logical_fits op (o.elements j x) (o.elements k y) z h t g =
@@ -239,7 +239,7 @@ module _ (i : Inside) (counts : Counts) where
       let c = mapped (binary v.Concatenate x y) (joined_kind j k) z g in
       subst (TypedFits i counts) c.is
       (two x y v.Concatenate (kind_shape j) (kind_shape k) h t
-      ∙ ap (λ b. given_that b vector) (and_from (is_elements (kind_shape j)) (is_elements (kind_shape k)) (shape_elements j) (shape_elements k))
+      ∙ ap (λ b. then_some b vector) (and_from (is_elements (kind_shape j)) (is_elements (kind_shape k)) (shape_elements j) (shape_elements k))
       ∙ ap Some (sym (joined j k c.value c.from)))
   concatenated_fits (o.integer s) y z h t g = absurd cc
   concatenated_fits (o.enumerated n c s) y z h t g = absurd cc
@@ -258,7 +258,7 @@ module _ (i : Inside) (counts : Counts) where
   integral_fits op (o.truth x) y z h t g = absurd cc
 
   -- a result that is there where operators of numbers are in sight, and something holds
-  ruled : (numbers b : Bool) (x y : Typed) → (rule numbers >>= λ _. given_that b x) ≡ Some y → Given b x y
+  ruled : (numbers b : Bool) (x y : Typed) → (met numbers >>= λ _. then_some b x) ≡ Some y → Given b x y
   ruled true b x y h = given b x y h
   ruled false b x y h = absurd cc
 

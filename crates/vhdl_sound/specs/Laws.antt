@@ -10,7 +10,7 @@ use Rattle.vhdl_tree.specs.Tree.{Expr, File}
 use Rattle.vhdl_tree.specs.grammar.Units.{spell_file, IsFile}
 use Rattle.vhdl_names.specs.units.Units as u
 use Rattle.vhdl_names.specs.units.Units.{Units}
-use Rattle.vhdl_names.specs.Visibility.{Sight, are_distinct}
+use Rattle.vhdl_names.specs.Visibility.{Sight, Declares, are_distinct}
 use Rattle.vhdl_names.specs.Operators.{Typed}
 use Rattle.vhdl_names.specs.Expressions.{typed}
 use Rattle.vhdl_names.specs.Statements.{statements}
@@ -19,8 +19,10 @@ use Rattle.vhdl_names.specs.sound.Expressions.{Inside}
 use Rattle.vhdl_names.specs.sound.Statements.{statements_fit}
 use Rattle.vhdl_names.specs.sound.Units.{are_sound}
 use Rattle.vhdl_names.specs.Files.{units_of}
+use Rattle.vhdl_names.specs.Interfaces.{EntityView, component}
 use Rattle.vhdl_names.specs.sound.Named.{are_named}
 use Rattle.vhdl_sound.specs.Words.{small, HasWords}
+use Rattle.vhdl_sound.specs.Texts.{IsTextOfEntity}
 use Rattle.vhdl_sound.specs.Meanings.{Counts, IsInside, TypedFits}
 
 -- Each expression is what its type says, among what is declared inside.
@@ -59,3 +61,8 @@ SmallPortsAreDistinct = (f : File) (units : Units) → HasWords f → units_of f
 abbrev pub SpelledFilesHaveWords : Type 0
 SpelledFilesHaveWords = (source : List ℕ) (tokens : List Token) (f : File) → Cuts None 0 source tokens → AreWithin source tokens
     → Spells (spell_file f) (lexemes source tokens) [] → HasWords f
+
+-- A component is the text of the entity of its name.
+abbrev pub ComponentsAreTexts : Type 0
+ComponentsAreTexts = (entities : List EntityView) (sight : Sight) (c : t.Component) (x : Declares u.Declaration)
+    → component entities sight c ≡ Some x → IsTextOfEntity entities c

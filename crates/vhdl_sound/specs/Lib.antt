@@ -1,3 +1,4 @@
 pub mod Meanings
 pub mod Words
+pub mod Texts
 pub mod Laws

@@ -1,6 +1,6 @@
 //! Laws of soundness (`specs/Laws`), each the contract of a function that does nothing.
 
-ghost use Rattle.vhdl_sound.specs.Laws.{ExpressionsFit, StatementsFit, UnitsAreSound, PortsAreDistinct, UnitsAreNamed, SmallPortsAreDistinct, SpelledFilesHaveWords};
+ghost use Rattle.vhdl_sound.specs.Laws.{ExpressionsFit, StatementsFit, UnitsAreSound, PortsAreDistinct, UnitsAreNamed, SmallPortsAreDistinct, SpelledFilesHaveWords, ComponentsAreTexts};
 
 /// Each expression is what its type says: integers are in range, vectors have the shape of their kind, literals of an
 /// enumeration are below its count, and tests compare values of one shape.
@@ -35,4 +35,10 @@ pub fn units_are_named()
 /// are small.
 pub fn spelled_files_have_words()
     ensures { SpelledFilesHaveWords }
+{}
+
+/// A component spells its entity's generics and ports, token for token apart from case: every optional word, default and bound
+/// stands in both.
+pub fn components_are_texts()
+    ensures { ComponentsAreTexts }
 {}

@@ -1,9 +1,11 @@
 //! Edges of signals: rising_edge, falling_edge and 'event (IEEE 1076-2008, 16.2.4; IEEE 1164), of a signal's static name (8.1).
 
-ghost use Rattle.std.specs.Prelude.{◌≡◌, false, option_map, IfOk, IfErr};
+ghost use Rattle.std.specs.Prelude.{◌≡◌, false, None, option_map, IfOk, IfErr, OnErr};
 ghost use Rattle.std.specs.List.{list_all};
 ghost use Rattle.vhdl_names.specs.Gives.{Gives};
 ghost use Rattle.vhdl_names.specs.Names as rules;
+ghost use Rattle.vhdl_names.specs.Operators as table;
+ghost use Rattle.vhdl_names.specs.declared.kind.Kind.TheVariants.{Element};
 ghost use Rattle.vhdl_names.specs.units.Expressions as units;
 ghost use Rattle.vhdl_names.specs.views.Integers.{static_view, start_view};
 ghost use Rattle.vhdl_names.specs.views.Vectors.{part_view, place_view, vector_view};
@@ -82,28 +84,41 @@ fn edge_problem(vector: &Vector) -> NameProblem {
     }
 }
 
-/// The signal of one element that an edge call or 'event at byte `at` asks for.
+/// The element that an operand is.
+fn element_of(operand: Typed, at: usize) -> Result<Vector, NameFault>
+    ensures element { IfOk result (λ v. typed_view operand ≡ table.elements Element (vector_view v)) }
+    ensures other { OnErr result (rules.edge_signal (typed_view operand) ≡ None) }
+{
+    match operand {
+        Typed::Elements(Kind::Element, vector) => Ok(vector),
+        Typed::Integer(_integer) => Err(NameProblem::WrongKind.at(at)),
+        _operand => Err(NameProblem::TypeMismatch.at(at)),
+    }
+}
+
+/// The signal that an element is, by a static name.
 #[tactic(auto, using(crate::proofs::Meant::no_edge))]
+fn static_signal(vector: Vector, at: usize) -> Result<Place, NameFault>
+    ensures { Gives place_view (rules.edge_signal (table.elements Element (vector_view vector))) result }
+{
+    match as_place(vector) {
+        Ok(place) => {
+            if is_static_part(&place.part) {
+                Ok(place)
+            } else {
+                Err(NameProblem::TypeMismatch.at(at))
+            }
+        }
+        Err(vector) => Err(edge_problem(&vector).at(at)),
+    }
+}
+
+/// The signal of one element that an edge call or 'event at byte `at` asks for.
 pub(crate) fn edge_signal(operand: Typed, at: usize) -> Result<Place, NameFault>
     ensures { Gives place_view (rules.edge_signal (typed_view operand)) result }
 {
-    match operand {
-        Typed::Elements(Kind::Element, vector) => match as_place(vector) {
-            Ok(place) => {
-                if is_static_part(&place.part) {
-                    Ok(place)
-                } else {
-                    Err(NameProblem::TypeMismatch.at(at))
-                }
-            }
-            Err(vector) => Err(edge_problem(&vector).at(at)),
-        },
-        Typed::Integer(_) => Err(NameProblem::WrongKind.at(at)),
-        operand => {
-            drop(operand);
-            Err(NameProblem::TypeMismatch.at(at))
-        }
-    }
+    let vector = element_of(operand, at)?;
+    static_signal(vector, at)
 }
 
 /// An edge of a signal, for a call at byte `at`.

@@ -14,7 +14,7 @@ use vhdl_tree::Literal;
 use vhdl_values::Nine;
 
 /// The base of a bit string.
-#[derive(Clone, Copy, Debug, PartialEq, Eq)]
+#[derive(Clone, Copy, PartialEq, Eq)]
 enum Base {
     Hexadecimal,
     Octal,

@@ -10,11 +10,10 @@ ghost use Rattle.vhdl_names.specs.units.Expressions as units;
 ghost use Rattle.vhdl_names.specs.views.Integers.{static_view};
 ghost use Rattle.vhdl_names.specs.views.Vectors.{signal_view, value_view, vector_view};
 ghost use Rattle.vhdl_tree.specs.View.{ident_view};
-ghost use Rattle.vhdl_types.specs.Steps.{conversion, counting, encoded_by};
+ghost use Rattle.vhdl_types.specs.Steps.{conversion, counting, encoded_by, two};
 ghost use Rattle.vhdl_types.specs.Views.{meaning_view, typed_view, typed_suffix_view};
 
 use crate::edges::{edge_of, edge_signal};
-use crate::held::refused;
 use crate::meaning::Meaning;
 use crate::parts::{if_plain, part, sole_argument, two_arguments};
 use crate::types::{Typed, TypedSuffix};
@@ -71,10 +70,7 @@ fn conversion_of(kind: Kind, operand: Option<Typed>, at: usize) -> Result<Typed,
         Some(Typed::Elements(Kind::LogicVector | Kind::Unsigned | Kind::OpenVector, vector)) => {
             Ok(Typed::Elements(kind, vector))
         }
-        operand => {
-            drop(operand);
-            Err(NameProblem::TypeMismatch.at(at))
-        }
+        _operand => Err(NameProblem::TypeMismatch.at(at)),
     }
 }
 
@@ -90,30 +86,27 @@ fn converted(kind: Kind, suffix: TypedSuffix, at: usize) -> Result<Typed, NameFa
 }
 
 /// A number and a count, which a call at byte `at` is of.
-fn number_and_count(
-    arguments: Option<(Typed, Typed)>,
-    at: usize,
-) -> Result<(Vector, Static), NameFault>
-    ensures { Gives (λ p. (vector_view p.0, static_view p.1)) (counting (option_map (λ p. (typed_view p.0, typed_view p.1)) arguments)) result }
+fn number_and_count(arguments: Vec<Typed>, at: usize) -> Result<(Vector, Static), NameFault>
+    ensures { Gives (λ p. (vector_view p.0, static_view p.1)) (counting (option_map (λ p. (typed_view p.0, typed_view p.1)) (two arguments.items))) result }
 {
-    let Some((first, second)) = arguments else {
+    let Some((first, second)) = two_arguments(arguments) else {
         return Err(NameProblem::TypeMismatch.at(at));
     };
     let problem = NameProblem::TypeMismatch;
     match first {
         Typed::Elements(Kind::Unsigned, number) => match second {
             Typed::Integer(count) => Ok((number, count)),
-            second => Err(refused(problem, at, number, second)),
+            _second => Err(problem.at(at)),
         },
-        first => Err(refused(problem, at, first, second)),
+        _first => Err(problem.at(at)),
     }
 }
 
 /// to_unsigned, whose name is at byte `at`, of a number and a size.
-fn encoded(arguments: Option<(Typed, Typed)>, at: usize) -> Result<Typed, NameFault>
-    ensures { Gives typed_view (encoded_by (option_map (λ p. (typed_view p.0, typed_view p.1)) arguments)) result }
+fn encoded(arguments: Vec<Typed>, at: usize) -> Result<Typed, NameFault>
+    ensures { Gives typed_view (encoded_by (option_map (λ p. (typed_view p.0, typed_view p.1)) (two arguments.items))) result }
 {
-    let Some((first, second)) = arguments else {
+    let Some((first, second)) = two_arguments(arguments) else {
         return Err(NameProblem::TypeMismatch.at(at));
     };
     let problem = NameProblem::TypeMismatch;
@@ -122,9 +115,9 @@ fn encoded(arguments: Option<(Typed, Typed)>, at: usize) -> Result<Typed, NameFa
             Typed::Integer(size) => {
                 Ok(Typed::Elements(Kind::Unsigned, Vector::Encoded(at, number, size)))
             }
-            second => Err(refused(problem, at, number, second)),
+            _second => Err(problem.at(at)),
         },
-        first => Err(refused(problem, at, first, second)),
+        _first => Err(problem.at(at)),
     }
 }
 
@@ -144,11 +137,10 @@ fn called(
     let TypedSuffix::Arguments(_, arguments) = suffix else {
         return Err(NameProblem::TypeMismatch.at(at));
     };
-    let operands = two_arguments(arguments);
     if function == Function::ToUnsigned {
-        return encoded(operands, at);
+        return encoded(arguments, at);
     }
-    let (number, count) = number_and_count(operands, at)?;
+    let (number, count) = number_and_count(arguments, at)?;
     let number = Box::new(alloc, number)?;
     let vector = match function {
         Function::Resize => Vector::Resized(at, number, count),
@@ -200,11 +192,14 @@ fn variable_of(
 ) -> Result<Typed, NameFault>
     ensures { Gives typed_view (rules.denoted (meanings.variable number object_type) (typed_suffix_view suffix)) result }
 {
-    let value = Value::StateOfVariable(number);
     match object_type {
         ObjectType::Elements(kind) => read_variable(number, kind, suffix, at),
-        ObjectType::Enumeration { number, count } => {
-            if_plain(suffix, enumerated(number, count, value), at)
+        ObjectType::Enumeration {
+            number: enumeration,
+            count,
+        } => {
+            let value = Value::StateOfVariable(number);
+            if_plain(suffix, enumerated(enumeration, count, value), at)
         }
     }
 }
@@ -262,7 +257,6 @@ pub fn attributed(
         None => Ok(operand),
         Some(name) => {
             if name.text.as_slice() != b"event".as_slice() {
-                drop(operand);
                 return Err(NameProblem::LeftOut.at(name.at));
             }
             let place = edge_signal(operand, at)?;

@@ -64,10 +64,7 @@ pub fn signed(alloc: Global, sign: Sign, operand: Typed, at: usize) -> Result<Ty
             Sign::Plus => Ok(Typed::Integer(integer)),
             Sign::Minus => Ok(Typed::Integer(Static::negated(alloc, at, integer)?)),
         },
-        operand => {
-            drop(operand);
-            Err(NameProblem::TypeMismatch.at(at))
-        }
+        _operand => Err(NameProblem::TypeMismatch.at(at)),
     }
 }
 

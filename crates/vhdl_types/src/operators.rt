@@ -9,7 +9,6 @@ ghost use Rattle.vhdl_names.specs.views.Vectors.{value_view};
 ghost use Rattle.vhdl_types.specs.Steps.{same_by};
 ghost use Rattle.vhdl_types.specs.Views.{typed_view};
 
-use crate::held::{both, refused};
 use crate::types::Typed;
 use std::alloc::Global;
 use vhdl_names::{
@@ -24,28 +23,28 @@ fn logical(
     alloc: Global,
     at: usize,
     operator: Logic,
-    left: Typed,
-    right: Typed,
+    operands: (Typed, Typed),
 ) -> Result<Typed, NameFault>
-    ensures { Gives typed_view (table.logical operator (typed_view left) (typed_view right)) result }
+    ensures { Gives typed_view (table.logical operator (typed_view operands.0) (typed_view operands.1)) result }
 {
+    let (left, right) = operands;
     let problem = NameProblem::TypeMismatch;
     match left {
         Typed::Elements(j, x) => match right {
             Typed::Elements(k, y) => match j.common(k) {
-                None => Err(refused(problem, at, x, y)),
+                None => Err(problem.at(at)),
                 Some(kind) => {
                     let link = VectorLink::Vector(VectorOperator::Logical(operator), at, y);
                     Ok(Typed::Elements(kind, x.with_link(alloc, link)?))
                 }
             },
-            right => Err(refused(problem, at, x, right)),
+            _right => Err(problem.at(at)),
         },
         Typed::Truth(x) => match right {
             Typed::Truth(y) => Ok(Typed::Truth(x.both(alloc, operator, y)?)),
-            right => Err(refused(problem, at, x, right)),
+            _right => Err(problem.at(at)),
         },
-        left => Err(refused(problem, at, left, right)),
+        _left => Err(problem.at(at)),
     }
 }
 
@@ -56,30 +55,28 @@ pub fn inverse(alloc: Global, at: usize, operand: Typed) -> Result<Typed, NameFa
     match operand {
         Typed::Elements(kind, x) => Ok(Typed::Elements(kind, Vector::inverse(alloc, at, x)?)),
         Typed::Truth(x) => Ok(Typed::Truth(x.negated(alloc)?)),
-        operand => {
-            drop(operand);
-            Err(NameProblem::TypeMismatch.at(at))
-        }
+        _operand => Err(NameProblem::TypeMismatch.at(at)),
     }
 }
 
 /// &, at byte `at`.
-fn concatenated(alloc: Global, at: usize, left: Typed, right: Typed) -> Result<Typed, NameFault>
-    ensures { Gives typed_view (table.concatenated (typed_view left) (typed_view right)) result }
+fn concatenated(alloc: Global, at: usize, operands: (Typed, Typed)) -> Result<Typed, NameFault>
+    ensures { Gives typed_view (table.concatenated (typed_view operands.0) (typed_view operands.1)) result }
 {
+    let (left, right) = operands;
     let problem = NameProblem::TypeMismatch;
     match left {
         Typed::Elements(j, x) => match right {
             Typed::Elements(k, y) => match j.joined(k) {
-                None => Err(refused(problem, at, x, y)),
+                None => Err(problem.at(at)),
                 Some(kind) => {
                     let link = VectorLink::Vector(VectorOperator::Concatenate, at, y);
                     Ok(Typed::Elements(kind, x.with_link(alloc, link)?))
                 }
             },
-            right => Err(refused(problem, at, x, right)),
+            _right => Err(problem.at(at)),
         },
-        left => Err(refused(problem, at, left, right)),
+        _left => Err(problem.at(at)),
     }
 }
 
@@ -88,18 +85,18 @@ fn integral(
     alloc: Global,
     at: usize,
     operator: Arithmetic,
-    left: Typed,
-    right: Typed,
+    operands: (Typed, Typed),
 ) -> Result<Typed, NameFault>
-    ensures { Gives typed_view (table.integral operator (typed_view left) (typed_view right)) result }
+    ensures { Gives typed_view (table.integral operator (typed_view operands.0) (typed_view operands.1)) result }
 {
+    let (left, right) = operands;
     let problem = NameProblem::TypeMismatch;
     match left {
         Typed::Integer(x) => match right {
             Typed::Integer(y) => Ok(Typed::Integer(x.binary(alloc, operator, at, y)?)),
-            right => Err(refused(problem, at, x, right)),
+            _right => Err(problem.at(at)),
         },
-        left => Err(refused(problem, at, left, right)),
+        _left => Err(problem.at(at)),
     }
 }
 
@@ -131,39 +128,36 @@ fn arithmetic(
     at: usize,
     operator: Arithmetic,
     by: Numeric,
-    left: Typed,
-    right: Typed,
+    operands: (Typed, Typed),
 ) -> Result<Typed, NameFault>
-    ensures { Gives typed_view (table.arithmetic numbers operator by (typed_view left) (typed_view right)) result }
+    ensures { Gives typed_view (table.arithmetic numbers operator by (typed_view operands.0) (typed_view operands.1)) result }
 {
+    let (left, right) = operands;
     let problem = NameProblem::TypeMismatch;
     match left {
         Typed::Integer(s) => match right {
             Typed::Integer(t) => Ok(Typed::Integer(s.binary(alloc, operator, at, t)?)),
             Typed::Elements(k, y) => {
-                let fits = numeric(numbers, k.is_number(), problem, at);
-                let (s, (y, ())) = both(s, both(y, fits))?;
+                numeric(numbers, k.is_number(), problem, at)?;
                 let made = Vector::integer_with(alloc, by, at, s, y)?;
                 Ok(Typed::Elements(Kind::Unsigned, made))
             }
-            right => Err(refused(problem, at, s, right)),
+            _right => Err(problem.at(at)),
         },
         Typed::Elements(j, x) => match right {
             Typed::Elements(k, y) => {
-                let fits = numeric(numbers, j.is_number() && k.is_number(), problem, at);
-                let (x, (y, ())) = both(x, both(y, fits))?;
+                numeric(numbers, j.is_number() && k.is_number(), problem, at)?;
                 let link = VectorLink::Vector(VectorOperator::Arithmetic(by), at, y);
                 Ok(Typed::Elements(Kind::Unsigned, x.with_link(alloc, link)?))
             }
             Typed::Integer(t) => {
-                let fits = numeric(numbers, j.is_number(), problem, at);
-                let (x, (t, ())) = both(x, both(t, fits))?;
+                numeric(numbers, j.is_number(), problem, at)?;
                 let link = VectorLink::Integer(by, at, t);
                 Ok(Typed::Elements(Kind::Unsigned, x.with_link(alloc, link)?))
             }
-            right => Err(refused(problem, at, x, right)),
+            _right => Err(problem.at(at)),
         },
-        left => Err(refused(problem, at, left, right)),
+        _left => Err(problem.at(at)),
     }
 }
 
@@ -185,9 +179,10 @@ fn same(comparison: Cmp, at: usize, left: Value, right: Value) -> Typed
 }
 
 /// = and /=, at byte `at`.
-fn equality(at: usize, comparison: Cmp, left: Typed, right: Typed) -> Result<Typed, NameFault>
-    ensures { Gives typed_view (table.equality comparison (same_by comparison) (typed_view left) (typed_view right)) result }
+fn equality(at: usize, comparison: Cmp, operands: (Typed, Typed)) -> Result<Typed, NameFault>
+    ensures { Gives typed_view (table.equality comparison (same_by comparison) (typed_view operands.0) (typed_view operands.1)) result }
 {
+    let (left, right) = operands;
     let problem = NameProblem::TypeMismatch;
     match left {
         Typed::Integer(s) => match right {
@@ -195,35 +190,29 @@ fn equality(at: usize, comparison: Cmp, left: Typed, right: Typed) -> Result<Typ
             Typed::Elements(Kind::Unsigned, y) => {
                 Ok(Typed::Truth(Test::ComparedWith(comparison, at, s, y)))
             }
-            right => Err(refused(problem, at, s, right)),
+            _right => Err(problem.at(at)),
         },
         Typed::Elements(j, x) => match right {
             Typed::Elements(k, y) => match j.common(k) {
-                None => Err(refused(problem, at, x, y)),
+                None => Err(problem.at(at)),
                 Some(Kind::Unsigned) => Ok(Typed::Truth(Test::Compared(comparison, at, x, y))),
                 Some(_) => Ok(same(comparison, at, Value::Elements(x), Value::Elements(y))),
             },
             Typed::Integer(t) => match j {
                 Kind::Unsigned => Ok(Typed::Truth(Test::ComparedTo(comparison, at, x, t))),
-                _ => Err(refused(problem, at, x, t)),
+                _ => Err(problem.at(at)),
             },
-            right => Err(refused(problem, at, x, right)),
+            _right => Err(problem.at(at)),
         },
         Typed::Enumerated { number, value, .. } => match right {
             Typed::Enumerated {
                 number: other,
                 value: beside,
                 ..
-            } => {
-                if number == other {
-                    Ok(same(comparison, at, value, beside))
-                } else {
-                    Err(refused(problem, at, value, beside))
-                }
-            }
-            right => Err(refused(problem, at, value, right)),
+            } if number == other => Ok(same(comparison, at, value, beside)),
+            _right => Err(problem.at(at)),
         },
-        left => Err(refused(problem, at, left, right)),
+        _left => Err(problem.at(at)),
     }
 }
 
@@ -236,37 +225,61 @@ fn is_left_out(operand: &Typed) -> bool {
     }
 }
 
+/// What is wrong with operands that are not ordered.
+fn order_problem(operands: &(Typed, Typed)) -> NameProblem {
+    if is_left_out(&operands.0) || is_left_out(&operands.1) {
+        NameProblem::LeftOut
+    } else {
+        NameProblem::TypeMismatch
+    }
+}
+
+/// < <= > >=, at byte `at`; where the operands are no numbers, there is this problem.
+fn ordered(
+    numbers: bool,
+    at: usize,
+    comparison: Cmp,
+    problem: NameProblem,
+    operands: (Typed, Typed),
+) -> Result<Typed, NameFault>
+    ensures { Gives typed_view (table.ordering numbers comparison (typed_view operands.0) (typed_view operands.1)) result }
+{
+    let (left, right) = operands;
+    match left {
+        Typed::Integer(s) => match right {
+            Typed::Integer(t) => Ok(integers_compared(comparison, at, s, t)),
+            Typed::Elements(k, y) => {
+                numeric(numbers, k.is_number(), problem, at)?;
+                Ok(Typed::Truth(Test::ComparedWith(comparison, at, s, y)))
+            }
+            _right => Err(problem.at(at)),
+        },
+        Typed::Elements(j, x) => match right {
+            Typed::Elements(k, y) => {
+                numeric(numbers, j.is_number() && k.is_number(), problem, at)?;
+                Ok(Typed::Truth(Test::Compared(comparison, at, x, y)))
+            }
+            Typed::Integer(t) => {
+                numeric(numbers, j.is_number(), problem, at)?;
+                Ok(Typed::Truth(Test::ComparedTo(comparison, at, x, t)))
+            }
+            _right => Err(problem.at(at)),
+        },
+        _left => Err(problem.at(at)),
+    }
+}
+
 /// < <= > >=, at byte `at`.
 fn ordering(
     numbers: bool,
     at: usize,
     comparison: Cmp,
-    left: Typed,
-    right: Typed,
+    operands: (Typed, Typed),
 ) -> Result<Typed, NameFault>
-    ensures { Gives typed_view (table.ordering numbers comparison (typed_view left) (typed_view right)) result }
+    ensures { Gives typed_view (table.ordering numbers comparison (typed_view operands.0) (typed_view operands.1)) result }
 {
-    let problem = if is_left_out(&left) || is_left_out(&right) {
-        NameProblem::LeftOut
-    } else {
-        NameProblem::TypeMismatch
-    };
-    match (left, right) {
-        (Typed::Integer(s), Typed::Integer(t)) => Ok(integers_compared(comparison, at, s, t)),
-        (Typed::Elements(j, x), Typed::Elements(k, y)) => {
-            numeric(numbers, j.is_number() && k.is_number(), problem, at)?;
-            Ok(Typed::Truth(Test::Compared(comparison, at, x, y)))
-        }
-        (Typed::Elements(j, x), Typed::Integer(t)) => {
-            numeric(numbers, j.is_number(), problem, at)?;
-            Ok(Typed::Truth(Test::ComparedTo(comparison, at, x, t)))
-        }
-        (Typed::Integer(s), Typed::Elements(k, y)) => {
-            numeric(numbers, k.is_number(), problem, at)?;
-            Ok(Typed::Truth(Test::ComparedWith(comparison, at, s, y)))
-        }
-        _ => Err(problem.at(at)),
-    }
+    let problem = order_problem(&operands);
+    ordered(numbers, at, comparison, problem, operands)
 }
 
 /// A binary operator, at byte `at`, on typed operands; `numbers` says whether the operators of
@@ -281,39 +294,32 @@ pub fn operated(
 ) -> Result<Typed, NameFault>
     ensures { Gives typed_view (table.operated numbers operator (typed_view left) (typed_view right)) result }
 {
+    let operands = (left, right);
     match operator {
-        Operator::And => logical(alloc, at, Logic::And, left, right),
-        Operator::Or => logical(alloc, at, Logic::Or, left, right),
-        Operator::Xor => logical(alloc, at, Logic::Xor, left, right),
-        Operator::Xnor => logical(alloc, at, Logic::Xnor, left, right),
-        Operator::Nand => logical(alloc, at, Logic::Nand, left, right),
-        Operator::Nor => logical(alloc, at, Logic::Nor, left, right),
-        Operator::Equal => equality(at, Cmp::Eq, left, right),
-        Operator::NotEqual => equality(at, Cmp::Ne, left, right),
-        Operator::Less => ordering(numbers, at, Cmp::Lt, left, right),
-        Operator::LessEqual => ordering(numbers, at, Cmp::Le, left, right),
-        Operator::Greater => ordering(numbers, at, Cmp::Gt, left, right),
-        Operator::GreaterEqual => ordering(numbers, at, Cmp::Ge, left, right),
-        Operator::Add => arithmetic(
-            alloc,
-            numbers,
-            at,
-            Arithmetic::Add,
-            Numeric::Add,
-            left,
-            right,
-        ),
+        Operator::And => logical(alloc, at, Logic::And, operands),
+        Operator::Or => logical(alloc, at, Logic::Or, operands),
+        Operator::Xor => logical(alloc, at, Logic::Xor, operands),
+        Operator::Xnor => logical(alloc, at, Logic::Xnor, operands),
+        Operator::Nand => logical(alloc, at, Logic::Nand, operands),
+        Operator::Nor => logical(alloc, at, Logic::Nor, operands),
+        Operator::Equal => equality(at, Cmp::Eq, operands),
+        Operator::NotEqual => equality(at, Cmp::Ne, operands),
+        Operator::Less => ordering(numbers, at, Cmp::Lt, operands),
+        Operator::LessEqual => ordering(numbers, at, Cmp::Le, operands),
+        Operator::Greater => ordering(numbers, at, Cmp::Gt, operands),
+        Operator::GreaterEqual => ordering(numbers, at, Cmp::Ge, operands),
+        Operator::Add => arithmetic(alloc, numbers, at, Arithmetic::Add, Numeric::Add, operands),
         Operator::Subtract => {
             let by = Numeric::Subtract;
-            arithmetic(alloc, numbers, at, Arithmetic::Subtract, by, left, right)
+            arithmetic(alloc, numbers, at, Arithmetic::Subtract, by, operands)
         }
-        Operator::Concatenate => concatenated(alloc, at, left, right),
+        Operator::Concatenate => concatenated(alloc, at, operands),
         Operator::Multiply => {
             let by = Numeric::Multiply;
-            arithmetic(alloc, numbers, at, Arithmetic::Multiply, by, left, right)
+            arithmetic(alloc, numbers, at, Arithmetic::Multiply, by, operands)
         }
-        Operator::Divide => integral(alloc, at, Arithmetic::Divide, left, right),
-        Operator::Modulo => integral(alloc, at, Arithmetic::Modulo, left, right),
-        Operator::Remainder => integral(alloc, at, Arithmetic::Remainder, left, right),
+        Operator::Divide => integral(alloc, at, Arithmetic::Divide, operands),
+        Operator::Modulo => integral(alloc, at, Arithmetic::Modulo, operands),
+        Operator::Remainder => integral(alloc, at, Arithmetic::Remainder, operands),
     }
 }

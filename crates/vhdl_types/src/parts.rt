@@ -7,7 +7,7 @@ ghost use Rattle.vhdl_names.specs.views.Vectors.{part_view};
 ghost use Rattle.vhdl_types.specs.Steps.{sole, two, indexed};
 ghost use Rattle.vhdl_types.specs.Views.{typed_view, typed_suffix_view};
 
-use crate::held::{before, refused};
+use crate::held::before;
 use crate::types::{Typed, TypedSuffix};
 use vhdl_names::{Kind, NameFault, NameProblem, ObjectType, Part};
 
@@ -34,14 +34,12 @@ pub fn two_arguments(mut arguments: Vec<Typed>) -> Option<(Typed, Typed)>
 fn element(kind: Kind, index: Option<Typed>, at: usize) -> Result<(Part, Kind), NameFault>
     ensures { Gives (λ p. (part_view p.0, p.1)) (indexed kind (option_map typed_view index)) result }
 {
-    match (kind, index) {
-        (Kind::LogicVector | Kind::Unsigned, Some(Typed::Integer(index))) => {
-            Ok((Part::Element(index), Kind::Element))
-        }
-        (_, index) => {
-            drop(index);
-            Err(NameProblem::TypeMismatch.at(at))
-        }
+    match index {
+        Some(Typed::Integer(index)) => match kind {
+            Kind::LogicVector | Kind::Unsigned => Ok((Part::Element(index), Kind::Element)),
+            _ => Err(NameProblem::TypeMismatch.at(at)),
+        },
+        _index => Err(NameProblem::TypeMismatch.at(at)),
     }
 }
 
@@ -86,6 +84,6 @@ pub(crate) fn if_plain(suffix: TypedSuffix, value: Typed, at: usize) -> Result<T
 {
     match suffix {
         TypedSuffix::Plain => Ok(value),
-        suffix => Err(refused(NameProblem::TypeMismatch, at, suffix, value)),
+        _suffix => Err(NameProblem::TypeMismatch.at(at)),
     }
 }

@@ -91,7 +91,7 @@ const OFFERED: [&[u8]; 11] = [
 
 /// What the language leaves out of package standard (16.3), std_logic_1164 (16.7) and numeric_std
 /// (16.8).
-const LEFT_OUT: [&[u8]; 50] = [
+const LEFT_OUT: [&[u8]; 60] = [
     b"bit",
     b"bit_vector",
     b"boolean",
@@ -116,13 +116,23 @@ const LEFT_OUT: [&[u8]; 50] = [
     b"is_x",
     b"resolved",
     b"to_01",
+    b"to_binary_string",
     b"to_bit",
+    b"to_bit_vector",
     b"to_bitvector",
+    b"to_bstring",
+    b"to_bv",
+    b"to_hex_string",
     b"to_hstring",
+    b"to_octal_string",
     b"to_ostring",
+    b"to_slv",
+    b"to_std_logic_vector",
+    b"to_std_ulogic_vector",
     b"to_stdlogicvector",
     b"to_stdulogic",
     b"to_stdulogicvector",
+    b"to_sulv",
     b"to_ux01",
     b"to_x01",
     b"to_x01z",

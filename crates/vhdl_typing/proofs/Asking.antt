@@ -5,7 +5,7 @@ use Rattle.vhdl_tree.specs.Tree as t
 use Rattle.vhdl_names.specs.declared.kind.ObjectType.{ObjectType}
 use Rattle.vhdl_names.specs.units.Expressions as u
 use Rattle.vhdl_names.specs.views.Tests.{is_fixed}
-use Rattle.vhdl_names.specs.Rules.{◌>>=◌, ◌>>◌, rule, given_that}
+use Rattle.vhdl_names.specs.Rules.{◌>>=◌, ◌>>◌, met, then_some}
 use Rattle.vhdl_names.specs.Visibility.{Sight, Meaning, meaning}
 use Rattle.vhdl_names.specs.Names.{Suffix}
 use Rattle.vhdl_names.specs.Operators.{Typed, integer, elements, enumerated, truth}
@@ -43,7 +43,7 @@ not_static (u.Test.both o a b) h = refl
 
 -- the identifier first, and the attribute last
 turned : {A : Type 0} (b : Bool) (o : Option Suffix) (p : Option Meaning) (f : Meaning → Suffix → Option A) →
-    (rule b >> (o >>= λ s. (p >>= λ d. f d s))) ≡ (p >>= λ d. (o >>= λ s. (rule b >> f d s)))
+    (met b >> (o >>= λ s. (p >>= λ d. f d s))) ≡ (p >>= λ d. (o >>= λ s. (met b >> f d s)))
 turned true None None f = refl
 turned true None (Some d) f = refl
 turned true (Some s) None f = refl
@@ -54,23 +54,23 @@ turned false (Some s) None f = refl
 turned false (Some s) (Some d) f = refl
 
 pub signal_in_turn : (sight : Sight) (n : t.Name) →
-    signal sight n ≡ (meaning sight n.identifier.text >>= λ d. (typed_suffix sight n.suffix >>= λ s. (rule (is_none n.attribute) >> as_signal d s)))
+    signal sight n ≡ (meaning sight n.identifier.text >>= λ d. (typed_suffix sight n.suffix >>= λ s. (met (is_none n.attribute) >> as_signal d s)))
 unfolding signal
 signal_in_turn sight n = turned (is_none n.attribute) (typed_suffix sight n.suffix) (meaning sight n.identifier.text) as_signal
 
 pub variable_in_turn : (sight : Sight) (n : t.Name) →
-    variable sight n ≡ (meaning sight n.identifier.text >>= λ d. (typed_suffix sight n.suffix >>= λ s. (rule (is_none n.attribute) >> as_variable d s)))
+    variable sight n ≡ (meaning sight n.identifier.text >>= λ d. (typed_suffix sight n.suffix >>= λ s. (met (is_none n.attribute) >> as_variable d s)))
 unfolding variable
 variable_in_turn sight n = turned (is_none n.attribute) (typed_suffix sight n.suffix) (meaning sight n.identifier.text) as_variable
 
-pub target_is : (sight : Sight) (n : t.Name) → target sight n ≡ (signal sight n >>= λ x. (rule (not (is_input x.mode)) >> Some x))
+pub target_is : (sight : Sight) (n : t.Name) → target sight n ≡ (signal sight n >>= λ x. (met (not (is_input x.mode)) >> Some x))
 unfolding target
 target_is sight n = refl
 
 -- what is no vector is not filled
 pub no_filled : (k : Kind) (x : Typed) → is_vector k ≡ false → as_filled (Elements k) x ≡ None
 no_filled k (integer s) h = refl
-no_filled k (elements Element v) h = ap (λ b. given_that b (filled v)) h
+no_filled k (elements Element v) h = ap (λ b. then_some b (filled v)) h
 no_filled k (elements LogicVector v) h = refl
 no_filled k (elements Unsigned v) h = refl
 no_filled k (elements OpenVector v) h = refl

@@ -20,7 +20,7 @@ use Rattle.vhdl_tree.proofs.Rows.{view_arguments}
 use Rattle.vhdl_names.specs.declared.kind.ObjectType.{ObjectType}
 use Rattle.vhdl_names.specs.declared.kind.ObjectType.TheVariants.{Elements, Enumeration}
 use Rattle.vhdl_names.specs.units.Statements.{Choice}
-use Rattle.vhdl_names.specs.Rules.{◌>>=◌, ◌>>◌, rule, each}
+use Rattle.vhdl_names.specs.Rules.{◌>>=◌, ◌>>◌, met, each}
 use Rattle.vhdl_names.specs.Visibility as m
 use Rattle.vhdl_names.specs.Visibility.{Sight}
 use Rattle.vhdl_names.specs.Literals.{values_of_string, values_of_bits}
@@ -102,13 +102,13 @@ literal_character LogicVector at c = refl
 literal_character Unsigned at c = refl
 literal_character OpenVector at c = refl
 
-pub literal_string : (k : Kind) (at : ℕ) (text : List ℕ) → literal_values k (t.string at text) ≡ (rule (is_vector k) >> values_of_string text)
+pub literal_string : (k : Kind) (at : ℕ) (text : List ℕ) → literal_values k (t.string at text) ≡ (met (is_vector k) >> values_of_string text)
 literal_string Element at text = refl
 literal_string LogicVector at text = refl
 literal_string Unsigned at text = refl
 literal_string OpenVector at text = refl
 
-pub literal_bits : (k : Kind) (at : ℕ) (text : List ℕ) → literal_values k (t.bits at text) ≡ (rule (is_vector k) >> values_of_bits text)
+pub literal_bits : (k : Kind) (at : ℕ) (text : List ℕ) → literal_values k (t.bits at text) ≡ (met (is_vector k) >> values_of_bits text)
 literal_bits Element at text = refl
 literal_bits LogicVector at text = refl
 literal_bits Unsigned at text = refl
@@ -148,7 +148,7 @@ no_literal k (t.bits at s) h = absurd (true≢false h)
 pub arguments_not_bare : (y : f.Suffix) (all : Vec Expr Global) (a : Option t.Ident) → y ≡ s.Arguments all → is_bare (suffix_view y) a ≡ false
 arguments_not_bare y all a is = ap (λ z. is_bare (suffix_view z) a) is ∙ ap (λ z. is_bare z a) (view_arguments all)
 
-none_after : {A B : Type 0} (o : Option A) (f : A → Option B) → (o >>= λ d. (rule false >> f d)) ≡ None
+none_after : {A B : Type 0} (o : Option A) (f : A → Option B) → (o >>= λ d. (met false >> f d)) ≡ None
 none_after None f = refl
 none_after (Some d) f = refl
 
@@ -159,7 +159,7 @@ name_unchosen (Enumeration e count) n y a = refl
 
 -- a name whose identifier comes first
 pub chosen_named : (sight : Sight) (type : ObjectType) (n : t.Ident) (y : t.Suffix) (a : Option t.Ident) →
-    c.chosen sight type (t.named n y a) ≡ (m.meaning sight n.text >>= λ d. (rule (is_bare y a) >> c.named_choice type d))
+    c.chosen sight type (t.named n y a) ≡ (m.meaning sight n.text >>= λ d. (met (is_bare y a) >> c.named_choice type d))
 chosen_named sight type n t.plain None = refl
 chosen_named sight type n t.plain (Some a) = name_unchosen type n t.plain (Some a) ∙ sym (none_after (m.meaning sight n.text) (c.named_choice type))
 chosen_named sight type n (t.arguments es) a = name_unchosen type n (t.arguments es) a ∙ sym (none_after (m.meaning sight n.text) (c.named_choice type))

@@ -8,7 +8,7 @@ use Rattle.vhdl_names.specs.declared.kind.ObjectType.{ObjectType}
 use Rattle.vhdl_names.specs.declared.kind.ObjectType.TheVariants.{Elements, Enumeration}
 use Rattle.vhdl_names.specs.units.Expressions as u
 use Rattle.vhdl_names.specs.units.Units.{Fixed}
-use Rattle.vhdl_names.specs.Rules.{◌>>=◌, ◌>>◌, rule}
+use Rattle.vhdl_names.specs.Rules.{◌>>=◌, ◌>>◌, met}
 use Rattle.vhdl_names.specs.Visibility as m
 use Rattle.vhdl_names.specs.Visibility.{Sight}
 use Rattle.vhdl_names.specs.Names.{arguments, range}
@@ -76,7 +76,7 @@ name_unvalued : (type : ObjectType) (n : t.Ident) (y : t.Suffix) (a : Option t.I
 name_unvalued (Elements k) n y a = ap (option_map Fixed.literal) (no_literal k (t.named n y a) refl)
 name_unvalued (Enumeration e count) n y a = refl
 
-broken : {A B C : Type 0} (p : Option A) (q : Option B) (f : A → B → Option C) → (p >>= λ d. (q >>= λ s. (rule false >> f d s))) ≡ None
+broken : {A B C : Type 0} (p : Option A) (q : Option B) (f : A → B → Option C) → (p >>= λ d. (q >>= λ s. (met false >> f d s))) ≡ None
 broken None q f = refl
 broken (Some d) None f = refl
 broken (Some d) (Some s) f = refl
@@ -84,7 +84,7 @@ broken (Some d) (Some s) f = refl
 -- the identifier first, and the attribute last
 pub fixed_named : (sight : Sight) (type : ObjectType) (n : t.Ident) (y : t.Suffix) (a : Option t.Ident) →
     r.fixed sight type (t.named n y a)
-    ≡ (m.meaning sight n.text >>= λ d. (typed_suffix sight y >>= λ s. (rule (is_none a) >> suffixed_value type d s)))
+    ≡ (m.meaning sight n.text >>= λ d. (typed_suffix sight y >>= λ s. (met (is_none a) >> suffixed_value type d s)))
 unfolding typed_suffix
 fixed_named sight type n t.plain None = go (m.meaning sight n.text)
   where
@@ -95,28 +95,28 @@ fixed_named sight type n (t.arguments es) None = go (m.meaning sight n.text) (ty
   where
     go : (p : Option m.Meaning) (q : Option (List o.Typed)) →
         (p >>= λ d. (q >>= λ xs. r.encoded_value type d xs))
-        ≡ (p >>= λ d. (option_map (arguments (is_one_name es)) q >>= λ s. (rule true >> suffixed_value type d s)))
+        ≡ (p >>= λ d. (option_map (arguments (is_one_name es)) q >>= λ s. (met true >> suffixed_value type d s)))
     go None q = refl
     go (Some d) None = refl
     go (Some d) (Some xs) = refl
 fixed_named sight type n (t.sliced d w e) None = name_unvalued type n (t.sliced d w e) None ∙ sym (go (m.meaning sight n.text) (typed sight d))
   where
     last : (p : m.Meaning) (l : u.Static) (q : Option o.Typed) →
-        ((q >>= λ y. (as_integer y >>= λ r. Some (range (record { left = l; direction = w; right = r })))) >>= λ s. (rule true >> suffixed_value type p s)) ≡ None
+        ((q >>= λ y. (as_integer y >>= λ r. Some (range (record { left = l; direction = w; right = r })))) >>= λ s. (met true >> suffixed_value type p s)) ≡ None
     last p l None = refl
     last p l (Some y) = end (as_integer y)
       where
-        end : (q : Option u.Static) → ((q >>= λ r. Some (range (record { left = l; direction = w; right = r }))) >>= λ s. (rule true >> suffixed_value type p s)) ≡ None
+        end : (q : Option u.Static) → ((q >>= λ r. Some (range (record { left = l; direction = w; right = r }))) >>= λ s. (met true >> suffixed_value type p s)) ≡ None
         end None = refl
         end (Some r) = refl
 
     next : (p : m.Meaning) (q : Option u.Static) →
-        ((q >>= λ l. (typed sight e >>= λ y. (as_integer y >>= λ r. Some (range (record { left = l; direction = w; right = r }))))) >>= λ s. (rule true >> suffixed_value type p s)) ≡ None
+        ((q >>= λ l. (typed sight e >>= λ y. (as_integer y >>= λ r. Some (range (record { left = l; direction = w; right = r }))))) >>= λ s. (met true >> suffixed_value type p s)) ≡ None
     next p None = refl
     next p (Some l) = last p l (typed sight e)
 
     go : (p : Option m.Meaning) (q : Option o.Typed) →
-        (p >>= λ d. ((q >>= λ x. (as_integer x >>= λ l. (typed sight e >>= λ y. (as_integer y >>= λ r. Some (range (record { left = l; direction = w; right = r })))))) >>= λ s. (rule true >> suffixed_value type d s))) ≡ None
+        (p >>= λ d. ((q >>= λ x. (as_integer x >>= λ l. (typed sight e >>= λ y. (as_integer y >>= λ r. Some (range (record { left = l; direction = w; right = r })))))) >>= λ s. (met true >> suffixed_value type d s))) ≡ None
     go None q = refl
     go (Some p) None = refl
     go (Some p) (Some x) = next p (as_integer x)

@@ -8,6 +8,7 @@ use Rattle.vhdl_names.specs.Operators.{Typed, integer}
 use Rattle.vhdl_names.specs.declared.kind.ObjectType.TheVariants.{Elements}
 use Rattle.vhdl_names.specs.Expressions.{is_vector}
 use Rattle.vhdl_names.specs.Literals.{nine_of}
+use Rattle.vhdl_names.specs.declared.fault.NameProblem.TheVariants.{TypeMismatch}
 use Rattle.vhdl_names.specs.Rules.{◌>>=◌, ◌>>◌, rule}
 use Rattle.vhdl_names.specs.Subtypes.{named_value, encoded_value}
 use Rattle.vhdl_names.specs.Visibility.{Meaning}
@@ -26,7 +27,7 @@ suffixed_value type m (range r) = None
 -- (others => c) by its character
 abbrev pub filled_with : ObjectType → Option ℕ → Option Fixed
 filled_with (Elements k) (Some c) = do
-  rule (is_vector k)
+  rule TypeMismatch (is_vector k)
   v ← nine_of c
   Some (u.Fixed.filled v)
 filled_with _ _ = None

@@ -1,21 +1,23 @@
 //! The types of expressions (IEEE 1076-2008, clause 9). Faults are told in order of the text, those
 //! of operands before those of their operator.
 
-ghost use Rattle.std.specs.Prelude.{◌≡◌, Some, map, option_map};
+ghost use Rattle.std.specs.Prelude.{◌≡◌, ◌≢◌, Some, map, option_map};
 ghost use Rattle.vhdl_names.specs.Expressions as rules;
 ghost use Rattle.vhdl_names.specs.Gives.{Gives};
+ghost use Rattle.vhdl_names.specs.Names.{denoted as denoted_of};
+ghost use Rattle.vhdl_names.specs.declared.fault.NameFault.TheVariants.{NoMemory};
 ghost use Rattle.vhdl_names.specs.views.Integers.{static_view, range_view};
 ghost use Rattle.vhdl_tree.specs.Tree as tree;
 ghost use Rattle.vhdl_tree.specs.View.{view, suffix_view, ident_view, range_view as tree_range_view};
 ghost use Rattle.vhdl_typing.specs.Chosen.{is_name, arguments_of, started, links_of};
 ghost use Rattle.vhdl_typing.specs.Steps.{is_parens, enclosed_if, linked, all_linked};
-ghost use Rattle.vhdl_types.specs.Views.{sight_view, typed_view, typed_suffix_view};
+ghost use Rattle.vhdl_types.specs.Views.{meaning_view, sight_view, typed_view, typed_suffix_view};
 
 use std::alloc::Global;
 use vhdl_names::{NameFault, NameProblem, Static, StaticRange};
 use vhdl_tree::{Chain, Expr, Link, Name, Range, Suffix};
 use vhdl_types::{
-    Sight, Typed, TypedSuffix, attributed, bit_string_literal, character_literal, denoted,
+    Meaning, Sight, Typed, TypedSuffix, attributed, bit_string_literal, character_literal, denoted,
     enclosed, integer_literal, inverse, meaning_of, operated, signed, string_literal,
 };
 
@@ -188,6 +190,52 @@ fn links(alloc: Global, sight: &Sight, links: &[Link], first: Typed) -> Result<T
     Ok(done)
 }
 
+/// Whether a name of this meaning is a type's, a component's or a label's, with nothing behind it.
+fn is_no_value(meaning: &Meaning, suffix: &Suffix) -> bool {
+    match meaning {
+        Meaning::IntegerType(_) | Meaning::ElementType { .. } | Meaning::VectorType(..) => {
+            matches!(suffix, Suffix::Plain)
+        }
+        Meaning::EnumerationType { .. } | Meaning::Component(_) | Meaning::Label => {
+            matches!(suffix, Suffix::Plain)
+        }
+        _ => false,
+    }
+}
+
+/// What is told of a name that is no value: its attribute, if it has one, is left out, as each is but
+/// 'event.
+fn attribute_fault(meaning: &Meaning, name: &Name, fault: NameFault) -> NameFault
+    ensures { result ≢ NoMemory → fault ≢ NoMemory }
+{
+    match (fault, &name.attribute) {
+        (NameFault::At { .. }, Some(attribute)) => {
+            let is_event = attribute.text.as_slice() == b"event".as_slice();
+            if !is_event && is_no_value(meaning, &name.suffix) {
+                NameProblem::LeftOut.at(attribute.at)
+            } else {
+                fault
+            }
+        }
+        _ => fault,
+    }
+}
+
+/// What a name of this meaning is, with what follows its identifier but for an attribute.
+fn denoted_name(
+    alloc: Global,
+    meaning: &Meaning,
+    suffix: TypedSuffix,
+    name: &Name,
+) -> Result<Typed, NameFault>
+    ensures { Gives typed_view (denoted_of (meaning_view meaning.now) (typed_suffix_view suffix)) result }
+{
+    match denoted(alloc, meaning, suffix, name.identifier.at) {
+        Ok(value) => Ok(value),
+        Err(fault) => Err(attribute_fault(meaning, name, fault)),
+    }
+}
+
 /// What a name is, with what follows its identifier.
 #[cycle(typed)]
 #[tactic(auto, using(crate::proofs::Chains::named_in_turn))]
@@ -197,7 +245,7 @@ fn named(alloc: Global, sight: &Sight, name: &Name) -> Result<Typed, NameFault>
     let at = name.identifier.at;
     let meaning = meaning_of(sight, &name.identifier)?;
     let suffix = typed_suffix(alloc, sight, &name.suffix)?;
-    let value = denoted(alloc, meaning, suffix, at)?;
+    let value = denoted_name(alloc, meaning, suffix, name)?;
     attributed(&name.attribute, value, at)
 }
 

@@ -4,6 +4,7 @@ use Rattle.std.specs.Global.{Global}
 use Rattle.vhdl_tree.specs.Tree as t
 use Rattle.vhdl_tree.specs.Tree.{Ident}
 use Rattle.vhdl_names.specs.units.Units as u
+use Rattle.vhdl_names.specs.declared.fault.NameProblem.TheVariants.{Twice, WrongKind}
 use Rattle.vhdl_names.specs.Rules.{◌>>=◌, ◌>>◌, rule, each}
 use Rattle.vhdl_names.specs.Visibility.{Sight, Declared, are_distinct, ends}
 use Rattle.vhdl_names.specs.Concurrent.{assignment, selected, process, concurrent_labels, sight_within, generated}
@@ -26,8 +27,8 @@ module _ (instance : Sight → Ident → t.Instance → Option u.Instance) where
     concurrent sight (t.process label p) = option_map u.process (process sight label p)
     concurrent sight (t.instance label i) = option_map u.instance (instance sight label i)
     concurrent sight (t.generated label at scheme word cs end) = do
-      rule (ends label.text end)
-      rule (are_distinct (concurrent_labels cs))
+      rule WrongKind (ends label.text end)
+      rule Twice (are_distinct (concurrent_labels cs))
       body ← concurrents (sight_within sight scheme) cs
       generated sight label.text scheme body
 
@@ -43,10 +44,10 @@ module _ (instance : Sight → Ident → t.Instance → Option u.Instance) where
 
   -- the statements directly in a generate
   abbrev pub labelled : Sight → List t.Concurrent → Option (List u.Concurrent)
-  labelled sight cs = rule (are_distinct (concurrent_labels (t.concurrents_of cs))) >> all sight cs
+  labelled sight cs = rule Twice (are_distinct (concurrent_labels (t.concurrents_of cs))) >> all sight cs
 
   abbrev pub generate : Sight → Ident → t.Scheme → List t.Concurrent → Option Ident → Option u.Concurrent
   generate sight label scheme cs end = do
     xs ← labelled (sight_within sight scheme) cs
-    rule (ends label.text end)
+    rule WrongKind (ends label.text end)
     generated sight label.text scheme (concurrents_of xs)

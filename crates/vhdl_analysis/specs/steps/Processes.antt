@@ -5,6 +5,7 @@ use Rattle.vhdl_tree.specs.Tree.{Ident}
 use Rattle.vhdl_names.specs.units.Expressions.{Place}
 use Rattle.vhdl_names.specs.units.Statements as s
 use Rattle.vhdl_names.specs.units.Units as u
+use Rattle.vhdl_names.specs.declared.fault.NameProblem.TheVariants.{Twice, WrongKind}
 use Rattle.vhdl_names.specs.Rules.{◌>>=◌, ◌>>◌, rule}
 use Rattle.vhdl_names.specs.Visibility.{Sight, are_distinct, label_ends, with_variables}
 use Rattle.vhdl_names.specs.Declarations.{in_order, variables}
@@ -20,12 +21,12 @@ abbrev pub variables_in : Sight → List t.Variables → Option (Sight × List u
 variables_in = entering_variables (in_order with_variables variables)
 
 abbrev pub body : Sight → List t.Sequential → Option s.Statements
-body sight qs = rule (are_distinct (statement_labels (t.statements_of qs))) >> statements sight (t.statements_of qs)
+body sight qs = rule Twice (are_distinct (statement_labels (t.statements_of qs))) >> statements sight (t.statements_of qs)
 
 abbrev pub process : Sight → Option Ident → t.Process → Option u.Process
 process sight label p = do
   on ← sensitivity sight p.sensitivity
   w ← variables_in sight p.variables
   b ← body w.0 p.statements
-  rule (label_ends label p.end_label)
+  rule WrongKind (label_ends label p.end_label)
   Some (record { label = label_of label; variables = w.1; sensitivity = on; body = b })

@@ -14,32 +14,25 @@ use Rattle.vhdl_names.specs.declared.kind.ObjectType.{ObjectType}
 use Rattle.vhdl_names.specs.declared.kind.ObjectType.TheVariants.{Elements, Enumeration}
 use Rattle.vhdl_names.specs.units.Expressions.{Value}
 use Rattle.vhdl_names.specs.units.Statements as s
-use Rattle.vhdl_names.specs.Rules.{◌>>=◌, ◌>>◌, rule, each, given_that}
+use Rattle.vhdl_names.specs.Rules.{◌>>=◌, ◌>>◌, met, each, then_some}
 use Rattle.vhdl_names.specs.Visibility.{Name, Sight, label_ends, are_distinct, is_among}
 use Rattle.vhdl_names.specs.Expressions.{typed}
 use Rattle.vhdl_names.specs.Choices.{choices, covered, selector, arranged, only_last_others, is_last_others, is_others, are_distinct_choices, names_all, same_choice}
 use Rattle.vhdl_names.specs.Statements.{statement, statements, alternatives, choice_lists}
 use Rattle.vhdl_typing.specs.Asked.{selected_by}
 use Rattle.vhdl_units.specs.views.Sequential.{Chosen, chosen_by, statements_of, alternatives_of}
-use Rattle.vhdl_bodies.specs.steps.Lists.{in_turn}
-use Rattle.vhdl_bodies.specs.steps.Once.{one_name, key_of}
+use Rattle.vhdl_labels.specs.Lists.{in_turn}
+use Rattle.vhdl_labels.specs.Once.{one_name, key_of}
 use Rattle.vhdl_bodies.specs.steps.Sequential.{all_labelled}
 use Rattle.vhdl_bodies.specs.steps.Cases as steps
 use Rattle.vhdl_bodies.specs.steps.Cases.{Divided, all_choices, chosen, cover, but_last, selection, with_choices, has_all, choice_list, all_lists}
-use Rattle.vhdl_bodies.proofs.steps.Once.{once, among_keys, distinct_keys}
+use Rattle.vhdl_labels.proofs.Lists.{bound, inner}
+use Rattle.vhdl_labels.proofs.Once.{once, among_keys, distinct_keys}
 use Rattle.vhdl_bodies.proofs.steps.Sequential.{statements_each}
 
 -- ---- rules in another order
 
-pub bound : {A B : Type 0} (m : Option A) (f g : A → Option B) → ((x : A) → f x ≡ g x) → (m >>= f) ≡ (m >>= g)
-bound None f g h = refl
-bound (Some x) f g h = h x
-
-pub inner : {A B C : Type 0} (m : Option A) (f : A → Option B) (g : B → Option C) → (m >>= λ x. f x >>= g) ≡ ((m >>= f) >>= g)
-inner None f g = refl
-inner (Some x) f g = refl
-
-late : {A B : Type 0} (b : Bool) (m : Option A) (f : A → Option B) → (rule b >> (m >>= f)) ≡ (m >>= λ x. rule b >> f x)
+late : {A B : Type 0} (b : Bool) (m : Option A) (f : A → Option B) → (met b >> (m >>= f)) ≡ (m >>= λ x. met b >> f x)
 late true m f = refl
 late false None f = refl
 late false (Some x) f = refl
@@ -115,10 +108,10 @@ module _ (sight : Sight) (type : ObjectType) (value : Value) (l : Bool) (lists :
   abbrev pub by_rules : Option (List (List s.Choice)) → Option (List s.Statements) → Option s.Statement
   by_rules f g = do
     cs ← (do
-      rule (only_last_others lists)
+      met (only_last_others lists)
       css ← f
-      rule (are_distinct_choices (flat_map (λ cs. cs) css))
-      rule (is_last_others lists || names_all type (flat_map (λ cs. cs) css))
+      met (are_distinct_choices (flat_map (λ cs. cs) css))
+      met (is_last_others lists || names_all type (flat_map (λ cs. cs) css))
       Some css)
     bodies ← g
     all ← arranged cs bodies
@@ -128,13 +121,25 @@ module _ (sight : Sight) (type : ObjectType) (value : Value) (l : Bool) (lists :
   by_steps h = do
     all ← h
     cover type lists (all_choices all)
-    rule l
+    met l
     d ← but_last all
     Some (s.select value (put_together d))
 
+  -- the last alternative apart
+  apart : (h : Option (List Chosen)) → by_steps h
+      ≡ ((h >>= λ all. cover type lists (all_choices all) >>= λ _. met l >> but_last all) >>= λ d. Some (s.select value (put_together d)))
+  apart None = refl
+  apart (Some all) = go (cover type lists (all_choices all)) l (but_last all)
+    where
+      go : (c : Option (Unit {0})) (b : Bool) (u : Option Divided) → (c >>= λ _. met b >> (u >>= λ d. Some (s.select value (put_together d))))
+          ≡ ((c >>= λ _. met b >> u) >>= λ d. Some (s.select value (put_together d)))
+      go None b u = refl
+      go (Some _) true u = refl
+      go (Some _) false u = refl
+
   fits : (o d n : Bool) (css : List (List s.Choice)) (bs : List s.Statements) (u : Option Divided) → arranged css bs ≡ option_map put_together u
-      → (rule l >> ((rule o >> (rule d >> (rule n >> Some css))) >>= λ cs. arranged cs bs >>= λ all. Some (s.select value all)))
-      ≡ ((rule o >> (rule d >> rule n)) >>= λ _. rule l >> (u >>= λ d. Some (s.select value (put_together d))))
+      → (met l >> ((met o >> (met d >> (met n >> Some css))) >>= λ cs. arranged cs bs >>= λ all. Some (s.select value all)))
+      ≡ ((met o >> (met d >> met n)) >>= λ _. met l >> (u >>= λ d. Some (s.select value (put_together d))))
   fits o d n css bs u e = go l o d n u e
     where
       done : (u : Option Divided) → (option_map put_together u >>= λ all. Some (s.select value all)) ≡ (u >>= λ d. Some (s.select value (put_together d)))
@@ -142,8 +147,8 @@ module _ (sight : Sight) (type : ObjectType) (value : Value) (l : Bool) (lists :
       done (Some d) = refl
 
       go : (l o d n : Bool) (u : Option Divided) → arranged css bs ≡ option_map put_together u
-          → (rule l >> ((rule o >> (rule d >> (rule n >> Some css))) >>= λ cs. arranged cs bs >>= λ all. Some (s.select value all)))
-          ≡ ((rule o >> (rule d >> rule n)) >>= λ _. rule l >> (u >>= λ d. Some (s.select value (put_together d))))
+          → (met l >> ((met o >> (met d >> (met n >> Some css))) >>= λ cs. arranged cs bs >>= λ all. Some (s.select value all)))
+          ≡ ((met o >> (met d >> met n)) >>= λ _. met l >> (u >>= λ d. Some (s.select value (put_together d))))
       go true true true true u e = ap (λ o. o >>= λ all. Some (s.select value all)) e ∙ done u
       go false true true true u e = refl
       go true false d n u e = refl
@@ -153,40 +158,42 @@ module _ (sight : Sight) (type : ObjectType) (value : Value) (l : Bool) (lists :
       go true true true false u e = refl
       go false true true false u e = refl
 
-  pub same : (f : Option (List (List s.Choice))) (g : Option (List s.Statements)) (h : Option (List Chosen)) → Pairs f g h → (rule l >> by_rules f g) ≡ by_steps h
-  same f g h (no_choices p r) = ap (λ f. rule l >> by_rules f g) p ∙ none l (only_last_others lists) ∙ ap by_steps (sym r)
+  pub same : (f : Option (List (List s.Choice))) (g : Option (List s.Statements)) (h : Option (List Chosen)) → Pairs f g h → (met l >> by_rules f g) ≡ by_steps h
+  same f g h (no_choices p r) = ap (λ f. met l >> by_rules f g) p ∙ none l (only_last_others lists) ∙ ap by_steps (sym r)
     where
-      none : (l o : Bool) → (rule l >> ((rule o >> (None >>= λ css. rule (are_distinct_choices (flat_map (λ cs. cs) css)) >> (rule (is_last_others lists || names_all type (flat_map (λ cs. cs) css)) >> Some css)))
+      none : (l o : Bool) → (met l >> ((met o >> (None >>= λ css. met (are_distinct_choices (flat_map (λ cs. cs) css)) >> (met (is_last_others lists || names_all type (flat_map (λ cs. cs) css)) >> Some css)))
           >>= λ cs. g >>= λ bodies. arranged cs bodies >>= λ all. Some (s.select value all))) ≡ None
       none true true = refl
       none true false = refl
       none false true = refl
       none false false = refl
-  same f g h (no_bodies q r) = ap (λ g. rule l >> by_rules f g) q ∙ ap (λ o. rule l >> o) (lost (rule (only_last_others lists) >> (f >>= λ css. rule (are_distinct_choices (flat_map (λ cs. cs) css)) >> (rule (is_last_others lists || names_all type (flat_map (λ cs. cs) css)) >> Some css)))) ∙ none l ∙ ap by_steps (sym r)
+  same f g h (no_bodies q r) = ap (λ g. met l >> by_rules f g) q ∙ ap (λ o. met l >> o) (lost (met (only_last_others lists) >> (f >>= λ css. met (are_distinct_choices (flat_map (λ cs. cs) css)) >> (met (is_last_others lists || names_all type (flat_map (λ cs. cs) css)) >> Some css)))) ∙ none l ∙ ap by_steps (sym r)
     where
-      none : (l : Bool) → (rule l >> let n : Option s.Statement = None in n) ≡ None
+      none : (l : Bool) → (met l >> let n : Option s.Statement = None in n) ≡ None
       none true = refl
       none false = refl
   same f g h (all_there all p q r) =
-      ap (λ f. rule l >> by_rules f g) p ∙ ap (λ g. rule l >> by_rules (Some (choices_of all)) g) q
+      ap (λ f. met l >> by_rules f g) p ∙ ap (λ g. met l >> by_rules (Some (choices_of all)) g) q
       ∙ fits (only_last_others lists) (are_distinct_choices (flat_map (λ cs. cs) (choices_of all)))
       (is_last_others lists || names_all type (flat_map (λ cs. cs) (choices_of all))) (choices_of all) (bodies_of all) (but_last all) (arranged_by all)
-      ∙ ap (λ cs. (rule (only_last_others lists) >> (rule (are_distinct_choices cs) >> rule (is_last_others lists || names_all type cs)))
-      >>= λ _. rule l >> (but_last all >>= λ d. Some (s.select value (put_together d)))) (flat_each all)
-      ∙ ap (λ b. (rule (only_last_others lists) >> (rule b >> rule (is_last_others lists || names_all type (all_choices all))))
-      >>= λ _. rule l >> (but_last all >>= λ d. Some (s.select value (put_together d)))) (sym (distinct_keys (all_choices all)))
+      ∙ ap (λ cs. (met (only_last_others lists) >> (met (are_distinct_choices cs) >> met (is_last_others lists || names_all type cs)))
+      >>= λ _. met l >> (but_last all >>= λ d. Some (s.select value (put_together d)))) (flat_each all)
+      ∙ ap (λ b. (met (only_last_others lists) >> (met b >> met (is_last_others lists || names_all type (all_choices all))))
+      >>= λ _. met l >> (but_last all >>= λ d. Some (s.select value (put_together d)))) (sym (distinct_keys (all_choices all)))
       ∙ ap by_steps (sym r)
 
 selection_by : (sight : Sight) (label : Option Ident) (at : ℕ) (e : t.Expr) (alts : List t.Alternative) (end : Option Ident)
     → statement sight label (t.selection at e (t.alternatives_of alts) end) ≡ selection sight label e alts end
 unfolding statement
 selection_by sight label at e alts end =
-    ap (λ lists. rule (label_ends label end) >> (typed sight e >>= λ x. selector x >>= λ by. covered sight by.0 lists >>= λ cs. alternatives sight (t.alternatives_of alts)
+    ap (λ lists. met (label_ends label end) >> (typed sight e >>= λ x. selector x >>= λ by. covered sight by.0 lists >>= λ cs. alternatives sight (t.alternatives_of alts)
     >>= λ bodies. arranged cs bodies >>= λ all. Some (s.select by.1 all))) (lists_each alts)
-    ∙ ap (λ o. rule (label_ends label end) >> o) (inner (typed sight e) selector body)
+    ∙ ap (λ o. met (label_ends label end) >> o) (inner (typed sight e) selector body)
     ∙ late (label_ends label end) (selected_by sight e) body
-    ∙ bound (selected_by sight e) (λ by. rule (label_ends label end) >> body by) (λ by. by_steps sight by.0 by.1 (label_ends label end) (steps.choice_lists alts) (each (chosen sight by.0) alts))
-    (λ by. same sight by.0 by.1 (label_ends label end) (steps.choice_lists alts) _ _ _ (pairs sight by.0 alts))
+    ∙ bound (selected_by sight e) (λ by. met (label_ends label end) >> body by)
+    (λ by. steps.parts sight by.0 label alts end >>= λ d. Some (s.select by.1 (put_together d)))
+    (λ by. same sight by.0 by.1 (label_ends label end) (steps.choice_lists alts) _ _ _ (pairs sight by.0 alts)
+    ∙ apart sight by.0 by.1 (label_ends label end) (steps.choice_lists alts) (each (chosen sight by.0) alts))
   where
     body : ObjectType × Value → Option s.Statement
     body by = by_rules sight by.0 by.1 (label_ends label end) (steps.choice_lists alts) (each (choices sight by.0) (steps.choice_lists alts)) (alternatives sight (t.alternatives_of alts))
@@ -220,7 +227,7 @@ turned_choices ks (a ∷ all) =
     ∙ ap (in_turn one_name ks) (sym (map-append key_of a.choices (all_choices all)))
 
 -- choices that are told apart leave their keys
-pub told : (all : List Chosen) → in_turn with_choices [] all ≡ given_that (are_distinct (map key_of (all_choices all))) (map key_of (all_choices all))
+pub told : (all : List Chosen) → in_turn with_choices [] all ≡ then_some (are_distinct (map key_of (all_choices all))) (map key_of (all_choices all))
 told all = turned_choices [] all ∙ once (map key_of (all_choices all))
 
 pub has_names : (type : ObjectType) (cs : List s.Choice) → has_all type (map key_of cs) ≡ names_all type cs
@@ -235,14 +242,14 @@ has_names (Enumeration e count) cs = go (range_with_len 0 count)
 
 -- what is asked, by a table of keys
 pub covered_by : (type : ObjectType) (lists : List (List t.Choice)) (all : List Chosen) → cover type lists (all_choices all)
-    ≡ (rule (only_last_others lists) >> (in_turn with_choices [] all >>= λ keys. rule (is_last_others lists || has_all type keys)))
+    ≡ (met (only_last_others lists) >> (in_turn with_choices [] all >>= λ keys. met (is_last_others lists || has_all type keys)))
 covered_by type lists all =
-    ap (λ o. rule (only_last_others lists) >> o) (go (are_distinct (map key_of (all_choices all))))
-    ∙ ap (λ o. rule (only_last_others lists) >> (o >>= λ keys. rule (is_last_others lists || has_all type keys))) (sym (told all))
+    ap (λ o. met (only_last_others lists) >> o) (go (are_distinct (map key_of (all_choices all))))
+    ∙ ap (λ o. met (only_last_others lists) >> (o >>= λ keys. met (is_last_others lists || has_all type keys))) (sym (told all))
   where
-    go : (b : Bool) → (rule b >> rule (is_last_others lists || names_all type (all_choices all)))
-        ≡ (given_that b (map key_of (all_choices all)) >>= λ keys. rule (is_last_others lists || has_all type keys))
-    go true = ap (λ b. rule (is_last_others lists || b)) (sym (has_names type (all_choices all)))
+    go : (b : Bool) → (met b >> met (is_last_others lists || names_all type (all_choices all)))
+        ≡ (then_some b (map key_of (all_choices all)) >>= λ keys. met (is_last_others lists || has_all type keys))
+    go true = ap (λ b. met (is_last_others lists || b)) (sym (has_names type (all_choices all)))
     go false = refl
 
 -- others in no list but the last
@@ -293,8 +300,8 @@ next_false p i count lt e = next p i count lt ∙ ap (λ b. b && list_all p (ran
 
 pub not_told : (type : ObjectType) (lists : List (List t.Choice)) (all : List Chosen) → in_turn with_choices [] all ≡ None → cover type lists (all_choices all) ≡ None
 not_told type lists all e =
-    covered_by type lists all ∙ ap (λ o. rule (only_last_others lists) >> (o >>= λ keys. rule (is_last_others lists || has_all type keys))) e
-    ∙ lost (rule (only_last_others lists))
+    covered_by type lists all ∙ ap (λ o. met (only_last_others lists) >> (o >>= λ keys. met (is_last_others lists || has_all type keys))) e
+    ∙ lost (met (only_last_others lists))
 
 pub but_last-push : (all : List Chosen) (a : Chosen) → but_last (all ++ a ∷ []) ≡ Some (record { alternatives = all; last = a.statements })
 but_last-push [] a = refl

@@ -7,7 +7,7 @@ use Rattle.vhdl_names.specs.declared.kind.ObjectType.{ObjectType}
 use Rattle.vhdl_names.specs.units.Expressions.{Test, Value}
 use Rattle.vhdl_names.specs.units.Statements as s
 use Rattle.vhdl_names.specs.units.Units as u
-use Rattle.vhdl_names.specs.Rules.{◌>>=◌, ◌>>◌, rule, each, if_any}
+use Rattle.vhdl_names.specs.Rules.{◌>>=◌, ◌>>◌, met, each, if_any}
 use Rattle.vhdl_names.specs.Visibility.{Sight}
 use Rattle.vhdl_names.specs.Expressions.{typed, condition, given}
 use Rattle.vhdl_names.specs.Choices.{choices, covered, selector, arranged}
@@ -19,7 +19,8 @@ use Rattle.vhdl_units.specs.views.Sequential.{Guarded, guarded_by, Chosen, chose
 use Rattle.vhdl_bodies.specs.steps.Cases.{Divided, all_choices, cover, but_last}
 use Rattle.vhdl_bodies.specs.steps.Sequential.{assigned}
 use Rattle.vhdl_bodies.specs.steps.Concurrent as steps
-use Rattle.vhdl_bodies.proofs.steps.Cases.{Pairs, all_there, one_pair, bound, inner, put_together, by_steps, same}
+use Rattle.vhdl_bodies.proofs.steps.Cases.{Pairs, all_there, one_pair, put_together, by_steps, same}
+use Rattle.vhdl_labels.proofs.Lists.{bound, inner}
 
 module _ (sight : Sight) (n : t.Name) (x : SignalName) (found : target sight n ≡ Some x) where
   assigned_by : (v : t.Value) → rules.assigned sight x v ≡ assigned sight n v
@@ -110,6 +111,7 @@ unfolding rules.selected
 selected_gives sight label a =
     inner (typed sight a.selector) selector rest
     ∙ bound (selected_by sight a.selector) rest steps_rest (λ by. go by (target sight a.target) refl)
+    ∙ bound (selected_by sight a.selector) steps_rest by_parts (λ by. apart by (target sight a.target) (each (steps.chosen sight by.0 a.target) a.waveforms))
   where
     rest : ObjectType × Value → Option u.Concurrent
     rest by = target sight a.target >>= λ x. covered sight by.0 (steps.choice_lists a.waveforms)
@@ -119,6 +121,21 @@ selected_gives sight label a =
     steps_rest : ObjectType × Value → Option u.Concurrent
     steps_rest by = target sight a.target >>= λ _. each (steps.chosen sight by.0 a.target) a.waveforms
         >>= λ all. cover by.0 (steps.choice_lists a.waveforms) (all_choices all) >>= λ _. but_last all >>= λ d. Some (assigning label (s.select by.1 (put_together d)))
+
+    by_parts : ObjectType × Value → Option u.Concurrent
+    by_parts by = steps.parts sight by.0 a >>= λ d. Some (assigning label (s.select by.1 (put_together d)))
+
+    apart : (by : ObjectType × Value) (o : Option SignalName) (h : Option (List Chosen))
+        → (o >>= λ _. h >>= λ all. cover by.0 (steps.choice_lists a.waveforms) (all_choices all) >>= λ _. but_last all >>= λ d. Some (assigning label (s.select by.1 (put_together d))))
+        ≡ ((o >>= λ _. h >>= λ all. cover by.0 (steps.choice_lists a.waveforms) (all_choices all) >>= λ _. but_last all) >>= λ d. Some (assigning label (s.select by.1 (put_together d))))
+    apart by None h = refl
+    apart by (Some x) None = refl
+    apart by (Some x) (Some all) = end (cover by.0 (steps.choice_lists a.waveforms) (all_choices all)) (but_last all)
+      where
+        end : (c : Option (Unit {0})) (d : Option Divided)
+            → (c >>= λ _. d >>= λ d. Some (assigning label (s.select by.1 (put_together d)))) ≡ ((c >>= λ _. d) >>= λ d. Some (assigning label (s.select by.1 (put_together d))))
+        end None d = refl
+        end (Some u) d = refl
 
     outer_rules : (f : Option (List (List s.Choice))) (g : Option (List s.Statements)) (value : Value)
         → (f >>= λ cs. g >>= λ bodies. arranged cs bodies >>= λ all. Some (assigning label (s.select value all)))
@@ -138,7 +155,7 @@ selected_gives sight label a =
     outer_steps (Some all) by = asked (cover by.0 (steps.choice_lists a.waveforms) (all_choices all)) (but_last all)
       where
         asked : (c : Option (Unit {0})) (d : Option Divided)
-            → option_map (assigning label) (c >>= λ _. rule true >> (d >>= λ d. Some (s.select by.1 (put_together d))))
+            → option_map (assigning label) (c >>= λ _. met true >> (d >>= λ d. Some (s.select by.1 (put_together d))))
             ≡ (c >>= λ _. d >>= λ d. Some (assigning label (s.select by.1 (put_together d))))
         asked None d = refl
         asked (Some u) None = refl

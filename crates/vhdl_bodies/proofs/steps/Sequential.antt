@@ -9,7 +9,7 @@ use Rattle.vhdl_tree.specs.declared.sequential.For.{For, out-For, roll-out-For}
 use Rattle.vhdl_tree.proofs.RowsStatements.{view_if, view_for}
 use Rattle.vhdl_names.specs.units.Expressions.{Range, Test}
 use Rattle.vhdl_names.specs.units.Statements as s
-use Rattle.vhdl_names.specs.Rules.{◌>>=◌, ◌>>◌, rule, each, if_any}
+use Rattle.vhdl_names.specs.Rules.{◌>>=◌, ◌>>◌, met, each, if_any}
 use Rattle.vhdl_names.specs.Visibility.{Sight, Declared, label_ends, within_loop}
 use Rattle.vhdl_names.specs.Expressions.{static_range, condition}
 use Rattle.vhdl_names.specs.Statements.{statement, statements, conditionals, otherwise}
@@ -74,13 +74,13 @@ conditional_by : (sight : Sight) (label : Option Ident) (at : _) (bs : List t.Co
     → statement sight label (t.conditional at (t.conditionals_of bs) (t.otherwise_of o) end) ≡ steps.conditional sight label bs o end
 unfolding statement
 conditional_by sight label at bs o end =
-    ap (λ x. rule (label_ends label end) >> (x >>= λ last. conditionals sight last (t.conditionals_of bs) >>= λ ys. Some (s.choose ys))) (otherwise_each sight o)
+    ap (λ x. met (label_ends label end) >> (x >>= λ last. conditionals sight last (t.conditionals_of bs) >>= λ ys. Some (s.choose ys))) (otherwise_each sight o)
     ∙ go (label_ends label end) (if_any (all_labelled sight) o) (each (guarded sight) bs) (λ last. conditionals sight last (t.conditionals_of bs)) (λ last. conditionals_each sight last bs)
   where
     go : (b : Bool) (x : Option (Option (List s.Statement))) (k : Option (List Guarded)) (r : s.Branches → Option s.Branches)
         → ((last : s.Branches) → r last ≡ option_map (λ gs. branches_of gs last) k)
-        → (rule b >> (option_map last_of x >>= λ last. r last >>= λ ys. Some (s.choose ys)))
-        ≡ (k >>= λ gs. x >>= λ last. rule b >> Some (s.choose (branches_of gs (last_of last))))
+        → (met b >> (option_map last_of x >>= λ last. r last >>= λ ys. Some (s.choose ys)))
+        ≡ (k >>= λ gs. x >>= λ last. met b >> Some (s.choose (branches_of gs (last_of last))))
     go false None None r h = refl
     go false None (Some gs) r h = refl
     go false (Some last) None r h = refl
@@ -94,12 +94,12 @@ loop_by : (sight : Sight) (label : Option Ident) (at : _) (n : Ident) (r : t.Ran
     → statement sight label (t.loop at n r (t.statements_of qs) end) ≡ steps.repetition sight label n r qs end
 unfolding statement
 loop_by sight label at n r qs end =
-    ap (λ m. rule (label_ends label end) >> (static_range sight r >>= λ range. m >>= λ turn. Some (s.loop range turn))) (statements_each (within_loop sight n) qs)
+    ap (λ m. met (label_ends label end) >> (static_range sight r >>= λ range. m >>= λ turn. Some (s.loop range turn))) (statements_each (within_loop sight n) qs)
     ∙ go (label_ends label end) (static_range sight r) (all_labelled (within_loop sight n) qs)
   where
     go : (b : Bool) (x : Option Range) (l : Option (List s.Statement))
-        → (rule b >> (x >>= λ range. option_map statements_of l >>= λ turn. Some (s.loop range turn)))
-        ≡ (x >>= λ range. l >>= λ turn. rule b >> Some (s.loop range (statements_of turn)))
+        → (met b >> (x >>= λ range. option_map statements_of l >>= λ turn. Some (s.loop range turn)))
+        ≡ (x >>= λ range. l >>= λ turn. met b >> Some (s.loop range (statements_of turn)))
     go false None l = refl
     go false (Some r) None = refl
     go false (Some r) (Some ys) = refl

@@ -9,13 +9,14 @@ use Rattle.vhdl_tree.specs.Tree.{Ident}
 use Rattle.vhdl_names.specs.declared.kind.ObjectType.{ObjectType}
 use Rattle.vhdl_names.specs.declared.kind.ObjectType.TheVariants.{Elements, Enumeration}
 use Rattle.vhdl_names.specs.units.Statements as s
+use Rattle.vhdl_names.specs.declared.fault.NameProblem.TheVariants.{WrongKind, NoOthers, ChoiceTwice}
 use Rattle.vhdl_names.specs.Rules.{◌>>=◌, ◌>>◌, rule, each}
 use Rattle.vhdl_names.specs.Visibility.{Name, Sight, label_ends, is_among, are_distinct}
 use Rattle.vhdl_names.specs.Choices.{choices, only_last_others, is_last_others, names_all}
 use Rattle.vhdl_typing.specs.Asked.{selected_by}
 use Rattle.vhdl_units.specs.views.Sequential.{Chosen, chosen_by, statements_of, alternatives_of}
-use Rattle.vhdl_bodies.specs.steps.Lists.{in_turn}
-use Rattle.vhdl_bodies.specs.steps.Once.{one_name, key_of}
+use Rattle.vhdl_labels.specs.Lists.{in_turn}
+use Rattle.vhdl_labels.specs.Once.{one_name, key_of}
 use Rattle.vhdl_bodies.specs.steps.Sequential.{all_labelled}
 
 -- the choices of an alternative, and what it does
@@ -31,9 +32,9 @@ all_choices alts = flat_map (λ (a : Chosen). a.choices) alts
 -- what choices of all alternatives are asked
 abbrev pub cover : ObjectType → List (List t.Choice) → List s.Choice → Option (Unit {0})
 cover type lists cs = do
-  rule (only_last_others lists)
-  rule (are_distinct (map key_of cs))
-  rule (is_last_others lists || names_all type cs)
+  rule WrongKind (only_last_others lists)
+  rule ChoiceTwice (are_distinct (map key_of cs))
+  rule NoOthers (is_last_others lists || names_all type cs)
 
 -- alternatives but the last, which is done otherwise
 pub record Divided : Type 0 where
@@ -48,13 +49,18 @@ but_last (a ∷ b ∷ more) = but_last (b ∷ more) >>= λ d. Some (record { alt
 abbrev pub choice_lists : List t.Alternative → List (List t.Choice)
 choice_lists = map (λ a. a.choices)
 
+-- what is done by a value of this type, the last alternative apart
+abbrev pub parts : Sight → ObjectType → Option Ident → List t.Alternative → Option Ident → Option Divided
+parts sight type label alts end = do
+  all ← each (chosen sight type) alts
+  cover type (choice_lists alts) (all_choices all)
+  rule WrongKind (label_ends label end)
+  but_last all
+
 abbrev pub selection : Sight → Option Ident → t.Expr → List t.Alternative → Option Ident → Option s.Statement
 selection sight label e alts end = do
   by ← selected_by sight e
-  all ← each (chosen sight by.0) alts
-  cover by.0 (choice_lists alts) (all_choices all)
-  rule (label_ends label end)
-  d ← but_last all
+  d ← parts sight by.0 label alts end
   Some (s.select by.1 (alternatives_of d.alternatives (statements_of d.last)))
 
 -- ---- tables of choices

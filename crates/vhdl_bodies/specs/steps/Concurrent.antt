@@ -13,7 +13,7 @@ use Rattle.vhdl_names.specs.Statements.{target}
 use Rattle.vhdl_names.specs.Concurrent.{assigning}
 use Rattle.vhdl_typing.specs.Asked.{selected_by}
 use Rattle.vhdl_units.specs.views.Sequential.{Guarded, guarded_by, Chosen, chosen_by, statements_of, branches_of, last_of, alternatives_of}
-use Rattle.vhdl_bodies.specs.steps.Cases.{all_choices, cover, but_last}
+use Rattle.vhdl_bodies.specs.steps.Cases.{Divided, all_choices, cover, but_last}
 use Rattle.vhdl_bodies.specs.steps.Sequential.{assigned}
 
 -- an assignment alone
@@ -54,11 +54,16 @@ chosen sight type n w = do
 abbrev pub choice_lists : List t.Waveform → List (List t.Choice)
 choice_lists = map (λ w. w.choices)
 
+-- what is done by a value of this type, the last alternative apart
+abbrev pub parts : Sight → ObjectType → t.SelectedAssignment → Option Divided
+parts sight type a = do
+  target sight a.target
+  all ← each (chosen sight type a.target) a.waveforms
+  cover type (choice_lists a.waveforms) (all_choices all)
+  but_last all
+
 abbrev pub selected : Sight → Option Ident → t.SelectedAssignment → Option u.Concurrent
 selected sight label a = do
   by ← selected_by sight a.selector
-  target sight a.target
-  all ← each (chosen sight by.0 a.target) a.waveforms
-  cover by.0 (choice_lists a.waveforms) (all_choices all)
-  d ← but_last all
+  d ← parts sight by.0 a
   Some (assigning label (s.select by.1 (alternatives_of d.alternatives (statements_of d.last))))

@@ -3,6 +3,7 @@ use Rattle.std.specs.Prelude.{List, ◌∷◌, Option, Some}
 use Rattle.vhdl_tree.specs.Tree as t
 use Rattle.vhdl_tree.specs.Tree.{Ident}
 use Rattle.vhdl_names.specs.units.Statements as s
+use Rattle.vhdl_names.specs.declared.fault.NameProblem.TheVariants.{WrongKind}
 use Rattle.vhdl_names.specs.Rules.{◌>>=◌, ◌>>◌, rule, each, if_any}
 use Rattle.vhdl_names.specs.Visibility.{Sight, Declared, label_ends, within_loop}
 use Rattle.vhdl_names.specs.Expressions.{static_range, condition, given}
@@ -43,15 +44,19 @@ abbrev pub conditional : Sight → Option Ident → List t.Conditional → Optio
 conditional sight label bs o end = do
   gs ← each (guarded sight) bs
   last ← if_any (all_labelled sight) o
-  rule (label_ends label end)
+  rule WrongKind (label_ends label end)
   Some (s.choose (branches_of gs (last_of last)))
+
+-- what a loop over this parameter does in a turn
+abbrev pub turn : Sight → Ident → List t.Sequential → Option (List s.Statement)
+turn sight n body = all_labelled (within_loop sight n) body
 
 abbrev pub repetition : Sight → Option Ident → Ident → t.Range → List t.Sequential → Option Ident → Option s.Statement
 repetition sight label n r body end = do
   range ← static_range sight r
-  turn ← all_labelled (within_loop sight n) body
-  rule (label_ends label end)
-  Some (s.loop range (statements_of turn))
+  found ← turn sight n body
+  rule WrongKind (label_ends label end)
+  Some (s.loop range (statements_of found))
 
 -- with one more parameter, the innermost
 abbrev pub in_loop : Sight → Declared → Sight

@@ -4,6 +4,7 @@ use Rattle.std.specs.Global.{Global}
 use Rattle.vhdl_tree.specs.Tree as t
 use Rattle.vhdl_tree.specs.Tree.{ContextItem}
 use Rattle.vhdl_names.specs.units.Units as u
+use Rattle.vhdl_names.specs.declared.fault.NameProblem.TheVariants.{WrongKind}
 use Rattle.vhdl_names.specs.Rules.{◌>>=◌, ◌>>◌, rule, if_any}
 use Rattle.vhdl_names.specs.Visibility.{Declared, Sight, ends, with_declared}
 use Rattle.vhdl_names.specs.Declarations.{in_order}
@@ -27,7 +28,7 @@ abbrev pub body : List EntityView → Sight → List u.Declaration → t.Archite
 body all sight ds a = do
   region ← more sight.region (labelled (concurrent_labels (t.concurrents_of a.statements)))
   body ← concurrents all (with_region sight region) (t.concurrents_of a.statements)
-  rule (ends a.name.text a.end_name)
+  rule WrongKind (ends a.name.text a.end_name)
   Some (record { declarations = ds; statements = body })
 
 abbrev pub architecture : List EntityView → EntityView → List ContextItem → t.Architecture → Option u.Architecture

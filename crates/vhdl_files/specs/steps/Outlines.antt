@@ -2,10 +2,11 @@
 use Rattle.std.specs.Prelude.{not, List, [], ◌∷◌, ◌++◌, map, find, Option, Some, option_map, bytes_eq}
 use Rattle.vhdl_tree.specs.Tree as t
 use Rattle.vhdl_tree.specs.Tree.{ContextItem, DesignUnit, LibraryUnit}
+use Rattle.vhdl_names.specs.declared.fault.NameProblem.TheVariants.{Undeclared, Twice, SecondArchitecture}
 use Rattle.vhdl_names.specs.Rules.{◌>>=◌, ◌>>◌, rule, given_that}
 use Rattle.vhdl_names.specs.Visibility.{Name, is_among, are_distinct}
 use Rattle.vhdl_names.specs.Files.{entity_names, described_names, architectures_of, stand_after}
-use Rattle.vhdl_bodies.specs.steps.Once.{one_name}
+use Rattle.vhdl_labels.specs.Once.{one_name}
 use Rattle.vhdl_files.specs.Views.{Keyed, OutlineView}
 
 abbrev pub keyed : List ContextItem × t.Architecture → Keyed
@@ -16,14 +17,14 @@ names_of as' = map (λ (k : Keyed). k.name) as'
 
 -- one more architecture, of an entity that none before it is of
 abbrev pub one_described : List Keyed → List ContextItem × t.Architecture → Option (List Keyed)
-one_described as' a = given_that (not (is_among a.1.entity.text (names_of as'))) (as' ++ keyed a ∷ [])
+one_described as' a = given_that SecondArchitecture (not (is_among a.1.entity.text (names_of as'))) (as' ++ keyed a ∷ [])
 
 abbrev pub with_entity : OutlineView → t.Entity → Option OutlineView
 with_entity o e = one_name o.entities e.name.text >>= λ ns. Some (record o { entities = ns })
 
 abbrev pub with_architecture : OutlineView → List ContextItem → t.Architecture → Option OutlineView
 with_architecture o items a = do
-  rule (is_among a.entity.text o.entities)
+  rule Undeclared (is_among a.entity.text o.entities)
   as' ← one_described o.architectures (items, a)
   Some (record o { architectures = as' })
 
@@ -43,9 +44,9 @@ outline_of ds = record { entities = entity_names ds; architectures = map keyed (
 
 abbrev pub outlined : List DesignUnit → Option OutlineView
 outlined ds = do
-  rule (are_distinct (entity_names ds))
-  rule (are_distinct (described_names ds))
-  rule (stand_after ds)
+  rule Twice (are_distinct (entity_names ds))
+  rule SecondArchitecture (are_distinct (described_names ds))
+  rule Undeclared (stand_after ds)
   Some (outline_of ds)
 
 -- the architecture of the entity of a name

@@ -3,7 +3,7 @@ use Rattle.std.specs.Prelude.{List, [], ◌∷◌, ◌++◌, map, Option, Some}
 use Rattle.vhdl_names.specs.Rules.{◌>>=◌}
 use Rattle.vhdl_names.specs.Visibility.{Name}
 use Rattle.vhdl_names.specs.Interfaces.{EntityView}
-use Rattle.vhdl_bodies.specs.steps.Once.{names_view, one_name}
+use Rattle.vhdl_labels.specs.Once.{names_view, one_name}
 use Rattle.vhdl_instances.specs.Table.{Seen, seen, seens_view}
 use Rattle.vhdl_instances.specs.declared.instances.Entities.{Entities}
 

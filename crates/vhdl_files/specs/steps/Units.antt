@@ -4,7 +4,7 @@ use Rattle.vhdl_tree.specs.Tree.{File}
 use Rattle.vhdl_names.specs.units.Units as u
 use Rattle.vhdl_names.specs.Rules.{◌>>=◌, each}
 use Rattle.vhdl_names.specs.Interfaces.{EntityView}
-use Rattle.vhdl_bodies.specs.steps.Lists.{in_turn}
+use Rattle.vhdl_labels.specs.Lists.{in_turn}
 use Rattle.vhdl_files.specs.Views.{Keyed}
 use Rattle.vhdl_files.specs.steps.Outlines.{outlined}
 use Rattle.vhdl_files.specs.steps.Entities.{with_unit}

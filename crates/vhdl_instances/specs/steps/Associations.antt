@@ -1,11 +1,12 @@
 -- Associations in the order in which the code comes to them.
 use Rattle.std.specs.Prelude.{ℕ, suc, Bool, false, not, ◌||◌, List, [], ◌∷◌, map, Option, Some, None, slice_get}
 use Rattle.vhdl_tree.specs.Tree.{Ident, Expr, Association}
+use Rattle.vhdl_names.specs.declared.fault.NameProblem.TheVariants.{Undeclared, WrongKind}
 use Rattle.vhdl_names.specs.Rules.{◌>>=◌, ◌>>◌, rule}
 use Rattle.vhdl_names.specs.Visibility.{Name}
 use Rattle.vhdl_names.specs.Instances.{is_named, expression_of, actual_of}
 pub use Rattle.vhdl_names.specs.Visibility.{is_among}
-pub use Rattle.vhdl_bodies.specs.steps.Once.{one_name}
+pub use Rattle.vhdl_labels.specs.Once.{one_name}
 
 -- the name of the formal that an association at a place is for
 abbrev pub formal_at : List Name → ℕ → Option Ident → Option Name
@@ -15,9 +16,9 @@ formal_at formals k None = slice_get formals k
 -- one more association, which may stand behind a named one
 abbrev pub one_taken : List Name → ℕ → Bool → List Name → Association → Option (List Name)
 one_taken formals k behind taken a = do
-  rule (not behind || is_named a)
+  rule WrongKind (not behind || is_named a)
   n ← formal_at formals k a.formal
-  rule (is_among n formals)
+  rule Undeclared (is_among n formals)
   one_name taken n
 
 abbrev pub taking : List Name → ℕ → Bool → List Name → List Association → Option (List Name)

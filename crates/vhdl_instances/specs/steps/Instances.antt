@@ -4,6 +4,7 @@ use Rattle.std.specs.List.{position_from}
 use Rattle.vhdl_tree.specs.Tree as t
 use Rattle.vhdl_tree.specs.Tree.{Ident, Association}
 use Rattle.vhdl_names.specs.units.Units as u
+use Rattle.vhdl_names.specs.declared.fault.NameProblem.TheVariants.{Undeclared, WrongKind}
 use Rattle.vhdl_names.specs.Rules.{◌>>=◌, ◌>>◌, rule, each, if_any, all_of}
 use Rattle.vhdl_names.specs.Visibility.{Name, Sight, meaning}
 use Rattle.vhdl_names.specs.Expressions.{static}
@@ -15,13 +16,13 @@ use Rattle.vhdl_instances.specs.steps.Actuals.{port_actuals}
 abbrev pub with_architecture : List Seen → Option Ident → ℕ → Option ℕ
 with_architecture seens architecture k = do
   e ← slice_get seens k
-  rule (is_architecture architecture e.architecture)
+  rule WrongKind (is_architecture architecture e.architecture)
   Some k
 
 -- work . entity ( architecture )
 abbrev pub entity_of : List Name → List Seen → Ident → Ident → Option Ident → Option ℕ
 entity_of names seens library n architecture = do
-  rule (bytes_eq library.text (codes "work"))
+  rule Undeclared (bytes_eq library.text (codes "work"))
   k ← position_from (bytes_eq n.text) 0 names
   with_architecture seens architecture k
 

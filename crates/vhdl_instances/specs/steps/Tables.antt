@@ -3,7 +3,7 @@ use Rattle.std.specs.Prelude.{ℕ, List, [], ◌∷◌, ◌++◌, Option, Some, 
 use Rattle.vhdl_names.specs.Rules.{◌>>=◌}
 use Rattle.vhdl_names.specs.Visibility as m
 use Rattle.vhdl_names.specs.Visibility.{Name, Meaning, Declared, is_generic}
-use Rattle.vhdl_bodies.specs.steps.Once.{one_name}
+use Rattle.vhdl_labels.specs.Once.{one_name}
 use Rattle.vhdl_instances.specs.Table.{Seen}
 use Rattle.vhdl_instances.specs.declared.actuals.PortType.{PortType}
 

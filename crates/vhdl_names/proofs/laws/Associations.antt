@@ -8,7 +8,7 @@ use Rattle.std.proofs.lemmas.List.{length-map}
 use Rattle.std.proofs.lemmas.Option.{slice_get-map}
 use Rattle.std.proofs.lemmas.Slice.Eq.{bytes_eq-Decides}
 use Rattle.vhdl_tree.specs.Tree.{Ident, Expr, Association}
-use Rattle.vhdl_names.specs.Rules.{◌>>=◌, ◌>>◌, rule}
+use Rattle.vhdl_names.specs.Rules.{◌>>=◌, ◌>>◌, met}
 use Rattle.vhdl_names.specs.Visibility.{Name, is_among, are_distinct}
 use Rattle.vhdl_names.specs.Instances.{positional_first, formal_of, formals_of, expression_of, actual_of, associated}
 use Rattle.vhdl_names.specs.laws.Associations.{IsFor, AreForFormals, FormalsHaveActuals}
@@ -99,8 +99,8 @@ is_associated formals as' es e = first (kept (positional_first as') _ es e)
   where
     then : List Name → Option (List (Option Expr))
     then fs = do
-      rule (list_all (λ f. is_among f formals) fs)
-      rule (are_distinct fs)
+      met (list_all (λ f. is_among f formals) fs)
+      met (are_distinct fs)
       Some (map (λ n. actual_of n fs as') formals)
 
     second : Comes (formals_of formals as') then es → IsAssociated formals as' es

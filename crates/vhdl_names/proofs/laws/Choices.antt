@@ -4,7 +4,7 @@ use Rattle.std.specs.List.{slice_get, list_any, flat_map}
 use Rattle.vhdl_tree.specs.Tree as t
 use Rattle.vhdl_names.specs.declared.kind.ObjectType.{ObjectType}
 use Rattle.vhdl_names.specs.units.Statements.{Choice}
-use Rattle.vhdl_names.specs.Rules.{◌>>=◌, ◌>>◌, rule, each}
+use Rattle.vhdl_names.specs.Rules.{◌>>=◌, ◌>>◌, met, each}
 use Rattle.vhdl_names.specs.Visibility.{Sight}
 use Rattle.vhdl_names.specs.Choices.{same_choice, covered, choice, choices, are_distinct_choices, is_others, only_last_others, is_last_others, names_all}
 use Rattle.vhdl_names.specs.laws.Choices.{ChoicesDiffer, OthersIsLast}
@@ -33,8 +33,8 @@ is_covered sight type alternatives css e = first (kept (only_last_others alterna
   where
     then : List (List Choice) → Option (List (List Choice))
     then css = do
-      rule (are_distinct_choices (flat_map (λ cs. cs) css))
-      rule (is_last_others alternatives || names_all type (flat_map (λ cs. cs) css))
+      met (are_distinct_choices (flat_map (λ cs. cs) css))
+      met (is_last_others alternatives || names_all type (flat_map (λ cs. cs) css))
       Some css
 
     second : only_last_others alternatives ≡ true → Comes (each (choices sight type) alternatives) then css → IsCovered sight type alternatives css

@@ -1,7 +1,7 @@
 -- What follows where rules are kept.
 use Rattle.std.proofs.Common.{◌≡◌, ℕ, zero, suc, Bool, true, false, not, ◌&&◌, ◌||◌, map, List, [], ◌∷◌, Option, Some, None, refl, ap, sym, ◌∙◌}
 use Rattle.std.specs.List.{slice_get, list_any, list_all}
-use Rattle.vhdl_names.specs.Rules.{◌>>=◌, ◌>>◌, rule, each}
+use Rattle.vhdl_names.specs.Rules.{◌>>=◌, ◌>>◌, met, each}
 
 -- what the rest rests on
 pub record Comes {A B : Type 0} (o : Option A) (f : A → Option B) (y : B) : Type 0 where
@@ -13,7 +13,7 @@ pub comes : {A B : Type 0} (o : Option A) (f : A → Option B) (y : B) → (o >>
 comes None f y e = cc
 comes (Some x) f y e = record { value = x; is = refl; rest = e }
 
-pub kept : {A : Type 0} (b : Bool) (o : Option A) (y : A) → (rule b >> o) ≡ Some y → (b ≡ true) × (o ≡ Some y)
+pub kept : {A : Type 0} (b : Bool) (o : Option A) (y : A) → (met b >> o) ≡ Some y → (b ≡ true) × (o ≡ Some y)
 kept true o y e = (refl, e)
 kept false o y e = cc
 

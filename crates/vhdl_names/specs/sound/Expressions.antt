@@ -7,7 +7,7 @@ use Rattle.vhdl_names.specs.units.Expressions as e
 use Rattle.vhdl_names.specs.units.Expressions.{Static, Range, StaticTest, Signal, Part, Place, Vector, Value, Test}
 use Rattle.vhdl_names.specs.units.Units as u
 use Rattle.vhdl_names.specs.units.Units.{Form, Fixed, Units}
-use Rattle.vhdl_names.specs.Rules.{◌>>=◌, given_that}
+use Rattle.vhdl_names.specs.Rules.{◌>>=◌, then_some}
 
 -- ---- what is declared where an expression stands
 
@@ -56,8 +56,8 @@ shape_of (u.enumeration count) = state count
 -- a part of an object: elements and slices are parts of vectors
 abbrev pub part_shape : Inside → Form → Part → Option Shape
 part_shape i f e.whole = Some (shape_of f)
-part_shape i (u.vector r) (e.Part.element x) = given_that (static_fits i x) one
-part_shape i (u.vector r) (e.slice x) = given_that (range_fits i x) vector
+part_shape i (u.vector r) (e.Part.element x) = then_some (static_fits i x) one
+part_shape i (u.vector r) (e.slice x) = then_some (range_fits i x) vector
 part_shape i _ _ = None
 
 abbrev pub port_form : u.Port → Form
@@ -94,28 +94,28 @@ is_elements _ = true
 
 -- what an operator makes: logical operators of two alike, `&` of any two, arithmetic of two vectors
 abbrev pub operated_shape : VectorOperator → Shape → Shape → Option Shape
-operated_shape (v.Logical op) x y = given_that (same_shape x y && is_elements x) x
-operated_shape v.Concatenate x y = given_that (is_elements x && is_elements y) vector
-operated_shape (v.Arithmetic op) x y = given_that (is_vector x && is_vector y) vector
+operated_shape (v.Logical op) x y = then_some (same_shape x y && is_elements x) x
+operated_shape v.Concatenate x y = then_some (is_elements x && is_elements y) vector
+operated_shape (v.Arithmetic op) x y = then_some (is_vector x && is_vector y) vector
 
 -- a vector and a static integer make a vector
 abbrev pub with_static : Inside → Option Shape → Static → Option Shape
 with_static i x n = do
   y ← x
-  given_that (is_vector y && static_fits i n) vector
+  then_some (is_vector y && static_fits i n) vector
 
 abbrev pub vector_shape : Inside → Vector → Option Shape
 vector_shape i (e.of_signal p) = do
   x ← place_shape i p
-  given_that (is_elements x) x
+  then_some (is_elements x) x
 vector_shape i (e.of_variable k p) = do
   f ← slice_get i.variables k
   x ← part_shape i f p
-  given_that (is_elements x) x
+  then_some (is_elements x) x
 vector_shape i (e.of_constant k p) = do
   f ← slice_get i.constants k
   x ← part_shape i f p
-  given_that (is_elements x) x
+  then_some (is_elements x) x
 vector_shape i (e.character x) = Some one
 vector_shape i (e.enclosed_character x) = Some one
 vector_shape i (e.Vector.literal xs) = Some vector
@@ -126,7 +126,7 @@ vector_shape i (e.Vector.binary op x y) = do
   operated_shape op a b
 vector_shape i (e.with_integer op x n) = with_static i (vector_shape i x) n
 vector_shape i (e.integer_with op n x) = with_static i (vector_shape i x) n
-vector_shape i (e.Vector.encoded n size) = given_that (static_fits i n && static_fits i size) vector
+vector_shape i (e.Vector.encoded n size) = then_some (static_fits i n && static_fits i size) vector
 vector_shape i (e.Vector.resized x n) = with_static i (vector_shape i x) n
 vector_shape i (e.Vector.shifted_left x n) = with_static i (vector_shape i x) n
 vector_shape i (e.Vector.shifted_right x n) = with_static i (vector_shape i x) n
@@ -135,7 +135,7 @@ vector_shape i (e.Vector.shifted_right x n) = with_static i (vector_shape i x) n
 
 -- what is said to be of an enumeration is
 abbrev pub state_shape : Form → Option Shape
-state_shape f = given_that (not (is_elements (shape_of f))) (shape_of f)
+state_shape f = then_some (not (is_elements (shape_of f))) (shape_of f)
 
 -- a literal of an enumeration has no shape of its own
 abbrev pub value_shape : Inside → Value → Option Shape

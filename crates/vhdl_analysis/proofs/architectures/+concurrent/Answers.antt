@@ -5,7 +5,7 @@ use Rattle.vhdl_names.specs.declared.fault.NameFault.TheVariants.{NoMemory}
 use Rattle.vhdl_types.specs.Views.{sight_view}
 use Rattle.vhdl_types.proofs.Along.{gives_along}
 use Rattle.vhdl_units.specs.views.Concurrent as views
-use Rattle.vhdl_bodies.specs.steps.Once.{names_view}
+use Rattle.vhdl_labels.specs.Once.{names_view}
 use Rattle.vhdl_instances.specs.Table.{seens_view}
 use Rattle.vhdl_analysis.specs.steps.Concurrents as steps
 use Rattle.vhdl_instances.specs.steps.Instances.{instance}

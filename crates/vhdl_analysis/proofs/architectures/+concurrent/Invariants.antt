@@ -3,8 +3,8 @@ use Rattle.vhdl_names.specs.Rules.{each}
 use Rattle.vhdl_tree.specs.View as tree
 use Rattle.vhdl_types.specs.Views.{sight_view}
 use Rattle.vhdl_units.specs.views.Concurrent.{concurrents_view}
-use Rattle.vhdl_bodies.specs.steps.Lists.{in_turn, one_more}
-use Rattle.vhdl_bodies.specs.steps.Once.{names_view}
+use Rattle.vhdl_labels.specs.Lists.{in_turn, one_more}
+use Rattle.vhdl_labels.specs.Once.{names_view}
 use Rattle.vhdl_instances.specs.Table.{seens_view}
 use Rattle.vhdl_analysis.specs.steps.Concurrents as steps
 use Rattle.vhdl_instances.specs.steps.Instances.{instance}

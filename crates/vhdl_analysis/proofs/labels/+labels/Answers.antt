@@ -2,8 +2,8 @@ use Rattle.std.proofs.Common.{ap, ◌∙◌}
 use Rattle.vhdl_tree.specs.View as tree
 use Rattle.vhdl_names.specs.Statements.{inner_labels}
 use Rattle.vhdl_types.proofs.Along.{gives_along}
-use Rattle.vhdl_bodies.specs.steps.Lists.{in_turn}
-use Rattle.vhdl_bodies.specs.steps.Once.{names_view, one_name}
+use Rattle.vhdl_labels.specs.Lists.{in_turn}
+use Rattle.vhdl_labels.specs.Once.{names_view, one_name}
 use Rattle.vhdl_analysis.proofs.Labelling.{if_labels, case_labels, loop_labels}
 use Rattle.vhdl_analysis.proofs.labels.+labels.Goals as goal
 

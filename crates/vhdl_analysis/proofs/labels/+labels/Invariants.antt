@@ -1,8 +1,8 @@
 use Rattle.std.proofs.Common.{◌≡◌, map, drop}
 use Rattle.vhdl_tree.specs.View as tree
 use Rattle.vhdl_tree.specs.declared.sequential.Case.{out-Case}
-use Rattle.vhdl_bodies.specs.steps.Lists.{in_turn}
-use Rattle.vhdl_bodies.specs.steps.Once.{names_view}
+use Rattle.vhdl_labels.specs.Lists.{in_turn}
+use Rattle.vhdl_labels.specs.Once.{names_view}
 use Rattle.vhdl_analysis.specs.steps.Labels as steps
 use Rattle.vhdl_analysis.proofs.labels.+labels.Given as goal
 

@@ -2,7 +2,7 @@ use Rattle.std.proofs.Common.{◌≡◌, map, drop}
 use Rattle.vhdl_names.specs.Rules.{each}
 use Rattle.vhdl_tree.specs.View.{name_view}
 use Rattle.vhdl_types.specs.Views.{sight_view}
-use Rattle.vhdl_bodies.specs.steps.Lists.{in_turn, one_more}
+use Rattle.vhdl_labels.specs.Lists.{in_turn, one_more}
 use Rattle.vhdl_analysis.specs.Views.{all_places_view}
 use Rattle.vhdl_analysis.specs.steps.Processes.{place_of}
 use Rattle.vhdl_analysis.proofs.processes.places.Given as goal

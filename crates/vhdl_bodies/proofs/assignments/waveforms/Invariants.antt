@@ -3,7 +3,7 @@ use Rattle.vhdl_names.specs.Rules.{each}
 use Rattle.vhdl_tree.specs.View as tree
 use Rattle.vhdl_types.specs.Views.{sight_view}
 use Rattle.vhdl_units.specs.views.Sequential as views
-use Rattle.vhdl_bodies.specs.steps.Lists.{in_turn, one_more}
+use Rattle.vhdl_labels.specs.Lists.{in_turn, one_more}
 use Rattle.vhdl_bodies.specs.steps.Concurrent as steps
 use Rattle.vhdl_bodies.proofs.assignments.waveforms.Given as goal
 

@@ -1,7 +1,7 @@
 use Rattle.std.proofs.Common.{◌≡◌, map, drop}
 use Rattle.vhdl_units.specs.views.Answers.{choice_view}
-use Rattle.vhdl_bodies.specs.steps.Lists.{in_turn}
-use Rattle.vhdl_bodies.specs.steps.Once.{one_name, names_view, key_of}
+use Rattle.vhdl_labels.specs.Lists.{in_turn}
+use Rattle.vhdl_labels.specs.Once.{one_name, names_view, key_of}
 use Rattle.vhdl_bodies.proofs.choices.add_choices.Given as goal
 
 abbrev pub invariant-loop-index : goal.invariant-loop-index

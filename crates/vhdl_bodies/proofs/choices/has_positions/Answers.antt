@@ -1,7 +1,7 @@
 use Rattle.std.proofs.Common.{◌≡◌, ◌-◌, ap, sym, ◌∙◌, [], ◌∷◌, ℕ, Bool, arith}
 use Rattle.std.specs.List.{list_all, range_with_len}
 use Rattle.vhdl_names.specs.Visibility.{is_among}
-use Rattle.vhdl_bodies.specs.steps.Once.{names_view}
+use Rattle.vhdl_labels.specs.Once.{names_view}
 use Rattle.vhdl_bodies.proofs.steps.Cases.{next_true, next_false}
 use Rattle.vhdl_bodies.proofs.choices.has_positions.Goals as goal
 

@@ -1,10 +1,10 @@
 use Rattle.std.proofs.Common.{ap, sym, not, ◌∙◌}
-use Rattle.vhdl_names.specs.Rules.{rule}
+use Rattle.vhdl_names.specs.Rules.{met}
 use Rattle.vhdl_bodies.proofs.steps.Cases.{others_in}
 use Rattle.vhdl_bodies.proofs.choices.others_last.Goals as goal
 
 pub returns-then-has_others : goal.returns-then-has_others
-returns-then-has_others c = λ n. ap rule (others_in c.args.lists.now c.in-Some.before.now c.in-Some.field-0-0.now c.in-Some.ensures.cases.0 ∙ ap not (sym c.has_others.ensures ∙ c.if-has_others.true))
+returns-then-has_others c = λ n. ap met (others_in c.args.lists.now c.in-Some.before.now c.in-Some.field-0-0.now c.in-Some.ensures.cases.0 ∙ ap not (sym c.has_others.ensures ∙ c.if-has_others.true))
 
 pub returns-else-has_others : goal.returns-else-has_others
-returns-else-has_others c = ap rule (others_in c.args.lists.now c.in-Some.before.now c.in-Some.field-0-0.now c.in-Some.ensures.cases.0 ∙ ap not (sym c.has_others.ensures ∙ c.if-has_others.false))
+returns-else-has_others c = ap met (others_in c.args.lists.now c.in-Some.before.now c.in-Some.field-0-0.now c.in-Some.ensures.cases.0 ∙ ap not (sym c.has_others.ensures ∙ c.if-has_others.false))

@@ -1,7 +1,7 @@
 use Rattle.std.proofs.Common.{◌≡◌, [], map, drop}
 use Rattle.vhdl_bodies.specs.steps.Cases as steps
-use Rattle.vhdl_bodies.specs.steps.Lists.{in_turn}
-use Rattle.vhdl_bodies.specs.steps.Once.{names_view}
+use Rattle.vhdl_labels.specs.Lists.{in_turn}
+use Rattle.vhdl_labels.specs.Once.{names_view}
 use Rattle.vhdl_units.specs.views.Sequential as views
 use Rattle.vhdl_bodies.proofs.choices.told_apart.Given as goal
 

@@ -8,14 +8,8 @@ use Rattle.vhdl_bodies.proofs.steps.Sequential.{if_gives, loop_gives, left_loop}
 use Rattle.vhdl_bodies.proofs.steps.Cases.{case_gives}
 use Rattle.vhdl_bodies.proofs.statements.+statements.Goals as goal
 
-pub for_loop-returns-in_err-turn-clause-kept : goal.for_loop-returns-in_err-turn-clause-kept
-for_loop-returns-in_err-turn-clause-kept t c = left_loop _ _ _ _ _ c.in_ok-enter_loop.ensures.given c.statements-turn.ensures.kept c.leave_loop.ensures
-
-pub for_loop-returns-in_err-label_ends-clause-kept : goal.for_loop-returns-in_err-label_ends-clause-kept
-for_loop-returns-in_err-label_ends-clause-kept t c = left_loop _ _ _ _ _ c.in_ok-enter_loop.ensures.given c.statements-turn.ensures.kept c.leave_loop.ensures
-
-pub for_loop-returns-clause-kept : goal.for_loop-returns-clause-kept
-for_loop-returns-clause-kept t c = left_loop _ _ _ _ _ c.in_ok-enter_loop.ensures.given c.statements-turn.ensures.kept c.leave_loop.ensures
+pub turn-returns-clause-kept : goal.turn-returns-clause-kept
+turn-returns-clause-kept t c = left_loop _ _ _ _ _ c.in_ok-enter_loop.ensures.given c.statements-found.ensures.kept c.leave_loop.ensures
 
 pub statement-returns-in-If-clause-given : goal.statement-returns-in-If-clause-given
 statement-returns-in-If-clause-given t c =

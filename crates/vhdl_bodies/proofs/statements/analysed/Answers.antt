@@ -2,7 +2,7 @@ use Rattle.std.proofs.Common.{map}
 use Rattle.vhdl_tree.specs.View as tree
 use Rattle.vhdl_types.specs.Views.{sight_view}
 use Rattle.vhdl_units.specs.views.Sequential.{statements_of, statements_view}
-use Rattle.vhdl_bodies.proofs.steps.Lists.{gives_more}
+use Rattle.vhdl_labels.proofs.Lists.{gives_more}
 use Rattle.vhdl_bodies.proofs.steps.Sequential.{statements_each}
 use Rattle.vhdl_bodies.proofs.statements.analysed.Goals as goal
 

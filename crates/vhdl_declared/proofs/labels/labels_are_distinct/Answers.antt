@@ -1,7 +1,7 @@
 use Rattle.std.proofs.Common.{rules, arith, ◌≡◌, ◌≢◌, [], map, Some, None, ap, ◌∙◌, sym}
 use Rattle.std.proofs.lemmas.Grind.{common_steps}
 use Rattle.vhdl_names.specs.declared.fault.NameFault.TheVariants.{NoMemory}
-use Rattle.vhdl_names.specs.Rules.{rule}
+use Rattle.vhdl_names.specs.Rules.{met}
 use Rattle.vhdl_names.specs.Files.{labelled}
 use Rattle.vhdl_names.specs.Visibility.{are_distinct}
 use Rattle.vhdl_types.specs.Views.{region_view, entry_view}
@@ -12,7 +12,7 @@ use Rattle.vhdl_declared.proofs.labels.labels_are_distinct.Goals as goal
 pub returns-in_err-declare_labels : goal.returns-in_err-declare_labels
 returns-in_err-declare_labels c =
     let ns = labels_of c.args.statements.now in
-    let f : c.in_err-declare_labels.field-0.0 ≢ NoMemory → rule (are_distinct (labels_of c.args.statements.now)) ≡ None =
+    let f : c.in_err-declare_labels.field-0.0 ≢ NoMemory → met (are_distinct (labels_of c.args.statements.now)) ≡ None =
     λ n. distinct_none ns (ap (λ es. more (map entry_view es) (labelled ns)) (sym c.new-region.ensures.empty) ∙ c.in_err-declare_labels.ensures n) in
     first_of (search rules, grind (arith, common_steps))
 

@@ -4,8 +4,8 @@ use Rattle.std.proofs.lemmas.List.{map-append}
 use Rattle.vhdl_names.specs.declared.fault.NameFault.TheVariants.{NoMemory}
 use Rattle.vhdl_names.specs.Rules.{each}
 use Rattle.vhdl_units.specs.views.Units.{architecture_view}
-use Rattle.vhdl_bodies.specs.steps.Lists.{in_turn, one_more}
-use Rattle.vhdl_bodies.proofs.steps.Lists.{each_in_turn}
+use Rattle.vhdl_labels.specs.Lists.{in_turn, one_more}
+use Rattle.vhdl_labels.proofs.Lists.{each_in_turn}
 use Rattle.vhdl_interfaces.specs.Views.{entities_view, named_view}
 use Rattle.vhdl_interfaces.proofs.Interfacing.{passed_on}
 use Rattle.vhdl_files.specs.Views.{architectures_view}

@@ -1,6 +1,6 @@
 use Rattle.std.proofs.Common.{◌≡◌, drop}
 use Rattle.vhdl_names.specs.Rules.{each}
-use Rattle.vhdl_bodies.specs.steps.Lists.{in_turn, one_more}
+use Rattle.vhdl_labels.specs.Lists.{in_turn, one_more}
 use Rattle.vhdl_interfaces.specs.Views.{entities_view}
 use Rattle.vhdl_files.specs.Views.{architectures_view}
 use Rattle.vhdl_files.specs.steps.Architectures.{own, options_view}

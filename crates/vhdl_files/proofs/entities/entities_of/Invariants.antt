@@ -1,6 +1,6 @@
 use Rattle.std.proofs.Common.{◌≡◌, [], map, drop}
 use Rattle.vhdl_tree.specs.View as view
-use Rattle.vhdl_bodies.specs.steps.Lists.{in_turn}
+use Rattle.vhdl_labels.specs.Lists.{in_turn}
 use Rattle.vhdl_interfaces.specs.Views.{entities_view}
 use Rattle.vhdl_files.specs.Views.{architectures_view}
 use Rattle.vhdl_files.specs.steps.Entities.{with_unit}

@@ -1,5 +1,5 @@
 use Rattle.std.proofs.Common.{◌∙◌}
-use Rattle.vhdl_bodies.proofs.steps.Once.{contained}
+use Rattle.vhdl_labels.proofs.Once.{contained}
 use Rattle.vhdl_files.proofs.outline.has_name.Goals as goal
 
 pub returns : goal.returns

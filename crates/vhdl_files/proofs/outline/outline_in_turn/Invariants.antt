@@ -1,6 +1,6 @@
 use Rattle.std.proofs.Common.{◌≡◌, map, drop}
 use Rattle.vhdl_tree.specs.View as view
-use Rattle.vhdl_bodies.specs.steps.Lists.{in_turn}
+use Rattle.vhdl_labels.specs.Lists.{in_turn}
 use Rattle.vhdl_files.specs.Views.{outline_view}
 use Rattle.vhdl_files.specs.steps.Outlines.{with_unit, no_outline}
 use Rattle.vhdl_files.proofs.outline.outline_in_turn.Given as goal

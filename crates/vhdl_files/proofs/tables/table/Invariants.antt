@@ -1,5 +1,5 @@
 use Rattle.std.proofs.Common.{◌≡◌, drop}
-use Rattle.vhdl_bodies.specs.steps.Lists.{in_turn}
+use Rattle.vhdl_labels.specs.Lists.{in_turn}
 use Rattle.vhdl_interfaces.specs.Views.{entities_view}
 use Rattle.vhdl_files.specs.steps.Tables.{table_view, with_seen, no_table}
 use Rattle.vhdl_files.proofs.tables.table.Given as goal

@@ -2,7 +2,7 @@ use Rattle.std.proofs.Common.{◌≡◌, map, drop}
 use Rattle.vhdl_names.specs.Expressions.{static}
 use Rattle.vhdl_names.specs.Rules.{each, if_any}
 use Rattle.vhdl_types.specs.Views.{sight_view}
-use Rattle.vhdl_bodies.specs.steps.Lists.{in_turn, one_more}
+use Rattle.vhdl_labels.specs.Lists.{in_turn, one_more}
 use Rattle.vhdl_instances.specs.Views.{actual_view, statics_view}
 use Rattle.vhdl_instances.proofs.actuals.generic_actuals.Given as goal
 

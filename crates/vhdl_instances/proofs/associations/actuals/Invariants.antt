@@ -1,6 +1,6 @@
 use Rattle.std.proofs.Common.{◌≡◌, map, take}
 use Rattle.vhdl_tree.specs.View.{association_view}
-use Rattle.vhdl_bodies.specs.steps.Once.{names_view}
+use Rattle.vhdl_labels.specs.Once.{names_view}
 use Rattle.vhdl_instances.specs.Views.{actuals_view}
 use Rattle.vhdl_instances.specs.steps.Associations as steps
 use Rattle.vhdl_instances.proofs.associations.actuals.Given as goal

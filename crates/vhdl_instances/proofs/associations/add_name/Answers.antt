@@ -1,6 +1,6 @@
 use Rattle.std.proofs.Common.{ap, sym, ◌∙◌}
-use Rattle.vhdl_bodies.specs.steps.Once.{one_name, names_view}
-use Rattle.vhdl_bodies.proofs.steps.Once.{inserted, refused}
+use Rattle.vhdl_labels.specs.Once.{one_name, names_view}
+use Rattle.vhdl_labels.proofs.Once.{inserted, refused}
 use Rattle.vhdl_instances.proofs.associations.add_name.Goals as goal
 
 pub returns-then-branch : goal.returns-then-branch

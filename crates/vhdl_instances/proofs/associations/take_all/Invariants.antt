@@ -1,6 +1,6 @@
 use Rattle.std.proofs.Common.{◌≡◌, false, map, drop}
 use Rattle.vhdl_tree.specs.View.{association_view}
-use Rattle.vhdl_bodies.specs.steps.Once.{names_view}
+use Rattle.vhdl_labels.specs.Once.{names_view}
 use Rattle.vhdl_instances.specs.steps.Associations.{taking}
 use Rattle.vhdl_instances.proofs.associations.take_all.Given as goal
 

@@ -2,7 +2,7 @@ use Rattle.vhdl_tree.specs.View as tree
 use Rattle.vhdl_types.specs.Views.{sight_view}
 use Rattle.vhdl_types.proofs.Along.{gives_along}
 use Rattle.vhdl_units.specs.views.Concurrent.{instance_view}
-use Rattle.vhdl_bodies.specs.steps.Once.{names_view}
+use Rattle.vhdl_labels.specs.Once.{names_view}
 use Rattle.vhdl_instances.specs.Table.{seen_view, seens_view}
 use Rattle.vhdl_instances.proofs.Instancing.{instance_seen}
 use Rattle.vhdl_instances.proofs.instances.instance_in_turn.Goals as goal

@@ -2,7 +2,7 @@ use Rattle.std.proofs.Common.{ap}
 use Rattle.vhdl_tree.specs.View as tree
 use Rattle.vhdl_types.specs.Views.{sight_view}
 use Rattle.vhdl_types.proofs.Along.{gives_along}
-use Rattle.vhdl_bodies.specs.steps.Once.{names_view}
+use Rattle.vhdl_labels.specs.Once.{names_view}
 use Rattle.vhdl_instances.specs.Table.{seens_view}
 use Rattle.vhdl_instances.specs.steps.Instances as steps
 use Rattle.vhdl_instances.proofs.instances.instantiated.Goals as goal

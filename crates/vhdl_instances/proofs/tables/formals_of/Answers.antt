@@ -3,7 +3,7 @@ use Rattle.std.specs.Prelude.{option_map}
 use Rattle.std.proofs.lemmas.Grind.{common_steps}
 use Rattle.vhdl_names.specs.declared.fault.NameFault.TheVariants.{NoMemory}
 use Rattle.vhdl_types.specs.Views.{region_view}
-use Rattle.vhdl_bodies.specs.steps.Lists.{in_turn}
+use Rattle.vhdl_labels.specs.Lists.{in_turn}
 use Rattle.vhdl_instances.specs.Table.{seen_view}
 use Rattle.vhdl_instances.specs.steps.Tables as steps
 use Rattle.vhdl_instances.proofs.Tabling.{declared_fails, declared_goes}

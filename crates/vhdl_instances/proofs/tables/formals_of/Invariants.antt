@@ -1,7 +1,7 @@
 use Rattle.std.proofs.Common.{◌≡◌, drop}
 use Rattle.std.specs.Prelude.{option_map}
 use Rattle.vhdl_types.specs.Views.{region_view}
-use Rattle.vhdl_bodies.specs.steps.Lists.{in_turn}
+use Rattle.vhdl_labels.specs.Lists.{in_turn}
 use Rattle.vhdl_instances.specs.Table.{seen_view}
 use Rattle.vhdl_instances.specs.steps.Tables as steps
 use Rattle.vhdl_instances.proofs.tables.formals_of.Given as goal

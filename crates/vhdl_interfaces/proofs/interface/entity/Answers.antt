@@ -1,7 +1,7 @@
 use Rattle.std.proofs.Common.{rules, arith, ◌≡◌, ◌≢◌, [], map, option_map, Some, None, sym, ap, ◌∙◌}
 use Rattle.std.proofs.lemmas.Grind.{common_steps}
 use Rattle.vhdl_names.specs.declared.fault.NameFault.TheVariants.{NoMemory}
-use Rattle.vhdl_names.specs.Rules.{◌>>=◌, rule}
+use Rattle.vhdl_names.specs.Rules.{◌>>=◌, met}
 use Rattle.vhdl_names.specs.Packages.{sight_of}
 use Rattle.vhdl_names.specs.Interfaces as r
 use Rattle.vhdl_tree.specs.View as view

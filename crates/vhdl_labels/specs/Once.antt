@@ -4,12 +4,13 @@ use Rattle.std.specs.Global.{Global}
 use Rattle.indexmap.specs.IndexSet.{IndexSet}
 use Rattle.vhdl_values.specs.Scalar.{code_of}
 use Rattle.vhdl_names.specs.units.Statements.{Choice, values, position}
+use Rattle.vhdl_names.specs.declared.fault.NameProblem.TheVariants.{Twice}
 use Rattle.vhdl_names.specs.Rules.{given_that}
 use Rattle.vhdl_names.specs.Visibility.{Name, is_among}
 
 -- one more name, which none before it is
 abbrev pub one_name : List Name → Name → Option (List Name)
-one_name ns n = given_that (not (is_among n ns)) (ns ++ n ∷ [])
+one_name ns n = given_that Twice (not (is_among n ns)) (ns ++ n ∷ [])
 
 abbrev pub names_view : {S : Type 0} → IndexSet (Vec ℕ Global) S → List Name
 names_view s = map (λ (v : Vec ℕ Global). v.items) s.keys

@@ -1,6 +1,7 @@
 //! Labels and end names (IEEE 1076-2008, 10.1, 11.1).
 
-ghost use Rattle.std.specs.Prelude.{◌≡◌, IfOk, bytes_eq, option_map, map};
+ghost use Rattle.std.specs.Prelude.{◌≡◌, IfOk, bytes_eq, option_map};
+ghost use Rattle.vhdl_names.specs.declared.fault.NameProblem.TheVariants.{WrongKind};
 ghost use Rattle.vhdl_names.specs.Rules.{rule};
 ghost use Rattle.vhdl_names.specs.Visibility as rules;
 ghost use Rattle.vhdl_names.specs.Gives.{Gives};
@@ -19,7 +20,7 @@ pub fn is_text(text: &[u8], other: &[u8]) -> bool
 
 /// An end name, if there is one, repeats the name at the beginning.
 pub fn ends(name: &Identifier, end: &Option<Identifier>) -> Result<(), NameFault>
-    ensures { Gives (λ _. tt) (rule (rules.ends name.now.text.items (option_map tree.ident_view end.now))) result }
+    ensures { Gives (λ _. tt) (rule WrongKind (rules.ends name.now.text.items (option_map tree.ident_view end.now))) result }
 {
     match end {
         None => Ok(()),
@@ -35,7 +36,7 @@ pub fn ends(name: &Identifier, end: &Option<Identifier>) -> Result<(), NameFault
 
 /// An end label repeats the label; where no label stands, none stands at the end.
 pub fn label_ends(label: &Option<Identifier>, end: &Option<Identifier>) -> Result<(), NameFault>
-    ensures { Gives (λ _. tt) (rule (rules.label_ends (option_map tree.ident_view label.now) (option_map tree.ident_view end.now))) result }
+    ensures { Gives (λ _. tt) (rule WrongKind (rules.label_ends (option_map tree.ident_view label.now) (option_map tree.ident_view end.now))) result }
 {
     match (label, end) {
         (Some(label), _) => ends(label, end),
@@ -65,15 +66,4 @@ pub fn copied_label(
         None => Ok(None),
         Some(label) => Ok(Some(copied(alloc, label)?)),
     }
-}
-
-/// Copies of identifiers.
-pub fn all_copied(alloc: Global, names: &[Identifier]) -> Result<Vec<Identifier>, AllocError>
-    ensures { IfOk result (λ v. tree.idents_view v ≡ map tree.ident_view names.now) }
-{
-    let mut copies = Vec::new(alloc);
-    for name in names {
-        copies.push(copied(alloc, name)?)?;
-    }
-    Ok(copies)
 }

@@ -8,12 +8,12 @@ use Rattle.vhdl_values.specs.declared.scalar.Nine.{Nine}
 use Rattle.vhdl_values.specs.declared.scalar.Nine.TheVariants.{U, X, Zero, One, Z, W, L, H, Dash}
 use Rattle.vhdl_values.specs.Scalar.{code_of}
 use Rattle.vhdl_names.specs.units.Statements.{Choice, values, position}
-use Rattle.vhdl_names.specs.Rules.{◌>>=◌, given_that}
+use Rattle.vhdl_names.specs.Rules.{◌>>=◌, then_some}
 use Rattle.vhdl_names.specs.Visibility.{Name, is_among, are_distinct}
 use Rattle.vhdl_names.specs.Choices.{same_choice, are_distinct_choices}
 use Rattle.indexmap.specs.IndexSet.{insert_key}
-use Rattle.vhdl_bodies.specs.steps.Lists.{in_turn}
-use Rattle.vhdl_bodies.specs.steps.Once.{one_name, key_of}
+use Rattle.vhdl_labels.specs.Lists.{in_turn}
+use Rattle.vhdl_labels.specs.Once.{one_name, key_of}
 
 eq-sym : (a b : Name) → bytes_eq a b ≡ bytes_eq b a
 eq-sym a b = go (bytes_eq a b) refl (bytes_eq b a) refl
@@ -55,7 +55,7 @@ apart-push n ns (m ∷ ms) =
     go false false true d = refl
     go false false false d = refl
 
-turned : (ns ms : List Name) → in_turn one_name ns ms ≡ given_that (apart ns ms && are_distinct ms) (ns ++ ms)
+turned : (ns ms : List Name) → in_turn one_name ns ms ≡ then_some (apart ns ms && are_distinct ms) (ns ++ ms)
 turned ns [] = ap Some (sym (append-nil ns))
 turned ns (m ∷ ms) = go (is_among m ns) (turned (ns ++ m ∷ []) ms) (apart-push m ns ms) (append_assoc ns (m ∷ []) ms)
   where
@@ -63,22 +63,22 @@ turned ns (m ∷ ms) = go (is_among m ns) (turned (ns ++ m ∷ []) ms) (apart-pu
     order true b c = refl
     order false b c = refl
 
-    go : (b : Bool) → in_turn one_name (ns ++ m ∷ []) ms ≡ given_that (apart (ns ++ m ∷ []) ms && are_distinct ms) ((ns ++ m ∷ []) ++ ms)
+    go : (b : Bool) → in_turn one_name (ns ++ m ∷ []) ms ≡ then_some (apart (ns ++ m ∷ []) ms && are_distinct ms) ((ns ++ m ∷ []) ++ ms)
         → apart (ns ++ m ∷ []) ms ≡ (apart ns ms && not (is_among m ms)) → (ns ++ m ∷ []) ++ ms ≡ ns ++ m ∷ ms
-        → (given_that (not b) (ns ++ m ∷ []) >>= λ z. in_turn one_name z ms)
-        ≡ given_that ((not b && apart ns ms) && (not (is_among m ms) && are_distinct ms)) (ns ++ m ∷ ms)
+        → (then_some (not b) (ns ++ m ∷ []) >>= λ z. in_turn one_name z ms)
+        ≡ then_some ((not b && apart ns ms) && (not (is_among m ms) && are_distinct ms)) (ns ++ m ∷ ms)
     go true h e f = refl
     go false h e f =
-        h ∙ ap (λ xs. given_that (apart (ns ++ m ∷ []) ms && are_distinct ms) xs) f
-        ∙ ap (λ b. given_that (b && are_distinct ms) (ns ++ m ∷ ms)) e
-        ∙ ap (λ b. given_that b (ns ++ m ∷ ms)) (order (apart ns ms) (not (is_among m ms)) (are_distinct ms))
+        h ∙ ap (λ xs. then_some (apart (ns ++ m ∷ []) ms && are_distinct ms) xs) f
+        ∙ ap (λ b. then_some (b && are_distinct ms) (ns ++ m ∷ ms)) e
+        ∙ ap (λ b. then_some b (ns ++ m ∷ ms)) (order (apart ns ms) (not (is_among m ms)) (are_distinct ms))
 
 apart-none : (ms : List Name) → apart [] ms ≡ true
 apart-none [] = refl
 apart-none (m ∷ ms) = apart-none ms
 
-pub once : (ms : List Name) → in_turn one_name [] ms ≡ given_that (are_distinct ms) ms
-once ms = turned [] ms ∙ ap (λ b. given_that (b && are_distinct ms) ms) (apart-none ms)
+pub once : (ms : List Name) → in_turn one_name [] ms ≡ then_some (are_distinct ms) ms
+once ms = turned [] ms ∙ ap (λ b. then_some (b && are_distinct ms) ms) (apart-none ms)
 
 -- a key that is inserted
 abbrev items : Vec ℕ Global → List ℕ
@@ -91,7 +91,7 @@ contained k (x ∷ ks) = ap (λ b. bytes_eq k x.items || b) (contained k ks)
 pub inserted : (k : Vec ℕ Global) (ks ks' : List (Vec ℕ Global)) (new : Bool) → new ≡ not (list_any (λ x. bytes_eq k.items x.items) ks)
     → ks' ≡ insert_key (λ a b. bytes_eq a.items b.items) ks k → new ≡ true → one_name (map items ks) k.items ≡ Some (map items ks')
 inserted k ks ks' new e h t =
-    ap (λ b. given_that b (map items ks ++ k.items ∷ [])) (ap not (sym (contained k.items ks)) ∙ sym e ∙ t)
+    ap (λ b. then_some b (map items ks ++ k.items ∷ [])) (ap not (sym (contained k.items ks)) ∙ sym e ∙ t)
     ∙ ap Some (sym (map-append items ks (k ∷ []))) ∙ ap (λ xs. Some (map items xs)) (sym (h ∙ go (list_any (λ x. bytes_eq k.items x.items) ks) (sym e ∙ t)))
   where
     go : (b : Bool) → not b ≡ true → (if b then ks else ks ++ k ∷ []) ≡ ks ++ k ∷ []
@@ -100,7 +100,7 @@ inserted k ks ks' new e h t =
 
 pub refused : (k : Vec ℕ Global) (ks : List (Vec ℕ Global)) (new : Bool) → new ≡ not (list_any (λ x. bytes_eq k.items x.items) ks)
     → new ≡ false → one_name (map items ks) k.items ≡ None
-refused k ks new e t = ap (λ b. given_that b (map items ks ++ k.items ∷ [])) (ap not (sym (contained k.items ks)) ∙ sym e ∙ t)
+refused k ks new e t = ap (λ b. then_some b (map items ks ++ k.items ∷ [])) (ap not (sym (contained k.items ks)) ∙ sym e ∙ t)
 
 -- ---- choices
 

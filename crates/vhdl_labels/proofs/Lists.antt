@@ -6,7 +6,16 @@ use Rattle.std.specs.Prelude.{Result, Ok, Err}
 use Rattle.vhdl_names.specs.declared.fault.NameFault.{NameFault}
 use Rattle.vhdl_names.specs.Gives.{Gives}
 use Rattle.vhdl_names.specs.Rules.{◌>>=◌, each}
-use Rattle.vhdl_bodies.specs.steps.Lists.{in_turn, one_more}
+use Rattle.vhdl_labels.specs.Lists.{in_turn, one_more}
+
+-- what follows the same way, and what is bound within
+pub bound : {A B : Type 0} (m : Option A) (f g : A → Option B) → ((x : A) → f x ≡ g x) → (m >>= f) ≡ (m >>= g)
+bound None f g h = refl
+bound (Some x) f g h = h x
+
+pub inner : {A B C : Type 0} (m : Option A) (f : A → Option B) (g : B → Option C) → (m >>= λ x. f x >>= g) ≡ ((m >>= f) >>= g)
+inner None f g = refl
+inner (Some x) f g = refl
 
 abbrev after : {B : Type 0} → List B → Option (List B) → Option (List B)
 after done o = option_map (λ ys. done ++ ys) o

@@ -1,7 +1,7 @@
 //! Which of several faults is told: the first in order of the text.
 
 ghost use Rattle.std.specs.Prelude.{◌≡◌, ◌≢◌};
-ghost use Rattle.vhdl_bodies.specs.Faults as rules;
+ghost use Rattle.vhdl_labels.specs.Faults as rules;
 ghost use Rattle.vhdl_names.specs.declared.fault.NameFault.TheVariants.{NoMemory};
 
 use vhdl_names::NameFault;
