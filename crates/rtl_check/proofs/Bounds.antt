@@ -12,8 +12,8 @@ use Rattle.rtl_model.specs.simulation.Levels.{is_clocked, has_clocked, is_driver
 use Rattle.rtl_model.proofs.basics.Lists.{any_true, all_none, in_contains, contains_in, Contains-none, Contains-first}
 use Rattle.rtl_net.specs.declared.net.Source.{Source as Kept}
 use Rattle.rtl_net.specs.Nets.{NetView, flat, source_view}
-use Rattle.rtl_facts.specs.declared.kinds.Kind.{Kind}
-use Rattle.rtl_facts.specs.declared.kinds.Kind.TheVariants as k
+use Rattle.rtl_net_facts.specs.declared.kinds.Kind.{Kind}
+use Rattle.rtl_net_facts.specs.declared.kinds.Kind.TheVariants as k
 use Rattle.rtl_check.specs.Views.{core, IsKind, reset_net}
 use Rattle.rtl_check.specs.Rules.{AreClockNets}
 use Rattle.rtl_check.specs.Bounds as b

@@ -8,9 +8,9 @@ use Rattle.rtl_model.specs.simulation.Net as m
 use Rattle.rtl_model.specs.simulation.Net.{Net, Edge, Reset, process}
 use Rattle.rtl_model.specs.simulation.Accepted.{IsClock, IsClockOf}
 use Rattle.rtl_model.proofs.basics.Lists.{any_at, any_true}
-use Rattle.rtl_facts.specs.declared.kinds.Kind.{Kind}
-use Rattle.rtl_facts.specs.declared.kinds.Kind.TheVariants as k
-use Rattle.rtl_facts.specs.Reading.{is_in}
+use Rattle.rtl_net_facts.specs.declared.kinds.Kind.{Kind}
+use Rattle.rtl_net_facts.specs.declared.kinds.Kind.TheVariants as k
+use Rattle.rtl_net_facts.specs.Reading.{is_in}
 use Rattle.rtl_check.specs.Views.{IsKind, AreKinds}
 use Rattle.rtl_check.specs.Rules.{has_clock, AreClockNets}
 use Rattle.rtl_check.proofs.Processes.{clock_there}

@@ -9,8 +9,8 @@ use Rattle.std.proofs.lemmas.List.Elements.{All-from_get_or, recursion_from_All}
 use Rattle.std.proofs.lemmas.Map.Keys.{IsDistinct-cons}
 use Rattle.std.proofs.lemmas.Map.Steps.{length-le_from_distinct_below}
 use Rattle.rtl_model.proofs.basics.Lists.{any_at}
-use Rattle.rtl_levels.specs.Feeding.{Table, IsIn, feeders_of}
-use Rattle.rtl_levels.specs.Levels.{AreLevels, IsHighest, level_of}
+use Rattle.rtl_check_levels.specs.Feeding.{Table, IsIn, feeders_of}
+use Rattle.rtl_check_levels.specs.Levels.{AreLevels, IsHighest, level_of}
 
 some_is : (o : Option (Vec ℕ)) (v : Vec ℕ) → o ≡ Some v → IsSome o
 some_is (Some w) v e = refl

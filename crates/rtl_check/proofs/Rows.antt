@@ -14,11 +14,11 @@ use Rattle.rtl_model.proofs.basics.Lists.{in_contains, contains_in, any_at, any_
 use Rattle.rtl_net.specs.declared.process.Process.{Process}
 use Rattle.rtl_net.specs.Nets.{NetView, flat, process_view}
 use Rattle.rtl_net.specs.Elaborated.{IsNet}
-use Rattle.rtl_levels.specs.Feeding as t
-use Rattle.rtl_levels.specs.OfNets.{IsTableOf}
-use Rattle.rtl_facts.specs.declared.kinds.Kind.{Kind}
-use Rattle.rtl_facts.specs.declared.kinds.Kind.TheVariants as k
-use Rattle.rtl_facts.specs.Reading.{is_in}
+use Rattle.rtl_check_levels.specs.Feeding as t
+use Rattle.rtl_check_levels.specs.OfNets.{IsTableOf}
+use Rattle.rtl_net_facts.specs.declared.kinds.Kind.{Kind}
+use Rattle.rtl_net_facts.specs.declared.kinds.Kind.TheVariants as k
+use Rattle.rtl_net_facts.specs.Reading.{is_in}
 use Rattle.rtl_check.specs.Views.{core, IsKind, AreKinds}
 use Rattle.rtl_check.specs.Feeders.{combinational_kind, combinational_at, feeds_by, IsRow}
 use Rattle.rtl_check.proofs.Processes.{process_is}

@@ -6,9 +6,9 @@ use Rattle.rtl_model.specs.simulation.Net.{Net}
 use Rattle.rtl_model.specs.simulation.Accepted as f
 use Rattle.rtl_model.specs.simulation.Faults.{AreFaults, AreFaultsButLoops}
 use Rattle.rtl_model.specs.simulation.Laws.{FaultsAreListed}
-use Rattle.rtl_levels.specs.Feeding as t
-use Rattle.rtl_levels.specs.OfNets.{IsTableOf}
-use Rattle.rtl_levels.specs.Rounds.{IsListedOnce}
+use Rattle.rtl_check_levels.specs.Feeding as t
+use Rattle.rtl_check_levels.specs.OfNets.{IsTableOf}
+use Rattle.rtl_check_levels.specs.Rounds.{IsListedOnce}
 use Rattle.rtl_check.specs.declared.fault.CheckFault.{CheckFault}
 use Rattle.rtl_check.specs.declared.fault.CheckFault.TheVariants as c
 use Rattle.rtl_check.specs.Views.{fault_view}

@@ -4,8 +4,8 @@ use Rattle.std.specs.Option.{is_some}
 use Rattle.std.specs.List.{list_any}
 use Rattle.rtl_model.specs.simulation.Net.{Net, Process, kind_reset, sources_of}
 use Rattle.rtl_model.specs.simulation.Levels.{is_driver}
-use Rattle.rtl_facts.specs.declared.kinds.Kind.{Kind}
-use Rattle.rtl_facts.specs.declared.kinds.Kind.TheVariants as k
+use Rattle.rtl_net_facts.specs.declared.kinds.Kind.{Kind}
+use Rattle.rtl_net_facts.specs.declared.kinds.Kind.TheVariants as k
 
 abbrev pub is_driven : Net → (n : ℕ) → Bool
 is_driven net n = list_any is_driver (sources_of net n)

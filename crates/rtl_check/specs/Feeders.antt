@@ -3,8 +3,8 @@ use Rattle.std.specs.Prelude.{◌↔◌, ℕ, Bool, true, false, ◌&&◌, ◌==
 use Rattle.std.specs.Global.{Vec}
 use Rattle.rtl_model.specs.simulation.Net.{Net, Source, Driver, Idle, IsCombinational}
 use Rattle.rtl_model.specs.simulation.Accepted.{Feeds}
-use Rattle.rtl_facts.specs.declared.kinds.Kind.{Kind}
-use Rattle.rtl_facts.specs.declared.kinds.Kind.TheVariants as k
+use Rattle.rtl_net_facts.specs.declared.kinds.Kind.{Kind}
+use Rattle.rtl_net_facts.specs.declared.kinds.Kind.TheVariants as k
 
 abbrev pub combinational_kind : Kind → Bool
 combinational_kind k.Combinational = true

@@ -2,10 +2,10 @@
 use Rattle.std.specs.Prelude.{⊤, [], map}
 use Rattle.rtl_model.specs.simulation.Net.{Net}
 use Rattle.rtl_model.specs.simulation.Faults.{AreFaults, AreFaultsButLoops}
-use Rattle.rtl_levels.specs.declared.order.Levels.{Levels}
-use Rattle.rtl_levels.specs.Feeding.{Table}
-use Rattle.rtl_levels.specs.Levels as l
-use Rattle.rtl_levels.specs.OfNets.{IsTableOf}
+use Rattle.rtl_check_levels.specs.declared.order.Levels.{Levels}
+use Rattle.rtl_check_levels.specs.Feeding.{Table}
+use Rattle.rtl_check_levels.specs.Levels as l
+use Rattle.rtl_check_levels.specs.OfNets.{IsTableOf}
 use Rattle.rtl_check.specs.declared.judging.Judged.{Judged}
 use Rattle.rtl_check.specs.declared.judging.Judged.TheVariants.{Faulty, Leveled}
 use Rattle.rtl_check.specs.Views.{fault_view}

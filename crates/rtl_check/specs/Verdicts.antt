@@ -4,7 +4,7 @@ use Rattle.rtl_model.specs.simulation.Net.{Net}
 use Rattle.rtl_model.specs.simulation.Accepted.{Fault, Loop, IsAccepted}
 use Rattle.rtl_model.specs.simulation.Faults.{AreFaults}
 use Rattle.rtl_model.specs.simulation.Report.{IsReport}
-use Rattle.rtl_levels.specs.Rounds.{IsListedOnce}
+use Rattle.rtl_check_levels.specs.Rounds.{IsListedOnce}
 use Rattle.rtl_check.specs.declared.reporting.Report.{Report}
 use Rattle.rtl_check.specs.declared.checking.Verdict.{Verdict}
 use Rattle.rtl_check.specs.declared.checking.Verdict.TheVariants.{Yes, No}

@@ -5,10 +5,10 @@ use Rattle.rtl_model.specs.nets.CoreNet.{core_net}
 use Rattle.rtl_model.specs.simulation.Net as m
 use Rattle.rtl_model.specs.simulation.Accepted as f
 use Rattle.rtl_net.specs.Nets.{NetView, flat, source_view}
-use Rattle.rtl_facts.specs.declared.kinds.Clocking.{Clocking}
-use Rattle.rtl_facts.specs.declared.kinds.Kind.{Kind}
-use Rattle.rtl_facts.specs.declared.kinds.Kind.TheVariants as k
-use Rattle.rtl_facts.specs.Reading.{is_in}
+use Rattle.rtl_net_facts.specs.declared.kinds.Clocking.{Clocking}
+use Rattle.rtl_net_facts.specs.declared.kinds.Kind.{Kind}
+use Rattle.rtl_net_facts.specs.declared.kinds.Kind.TheVariants as k
+use Rattle.rtl_net_facts.specs.Reading.{is_in}
 use Rattle.rtl_check.specs.declared.fault.CheckFault.{CheckFault}
 use Rattle.rtl_check.specs.declared.fault.CheckFault.TheVariants as c
 

@@ -8,7 +8,7 @@ ghost use Rattle.rtl_check.specs.Views.{core, AreKinds};
 ghost use Rattle.rtl_check.specs.Rules.{AreClockNets};
 ghost use Rattle.rtl_check.specs.Bounds as b;
 
-use rtl_facts::Kind;
+use rtl_net_facts::Kind;
 use rtl_net::{Net, Source};
 
 /// Whether a source is a driver.

@@ -5,13 +5,13 @@ ghost use Rattle.std.specs.List.{filter};
 ghost use Rattle.std.specs.List.Sorted.{IsStrictlyIncreasing};
 ghost use Rattle.rtl_model.specs.bodies.Assigns.{must_assign};
 ghost use Rattle.rtl_net.specs.Nets.{body_of};
-ghost use Rattle.rtl_facts.specs.Reading.{is_in};
-ghost use Rattle.rtl_facts.specs.Paths.{driven, to_net};
+ghost use Rattle.rtl_net_facts.specs.Reading.{is_in};
+ghost use Rattle.rtl_net_facts.specs.Paths.{driven, to_net};
 ghost use Rattle.rtl_check.specs.Views.{tested};
 ghost use Rattle.rtl_check.specs.Rules.{is_data, clocked_breaks, combinational_breaks, breaks};
 
 use crate::rule::Rule;
-use rtl_facts::{Clocking, Kind, assigned_nets, contains_rising, sort_once};
+use rtl_net_facts::{Clocking, Kind, assigned_nets, contains_rising, sort_once};
 use rtl_net::{Driver, NoMemory, Process};
 use std::alloc::Global;
 

@@ -1,11 +1,11 @@
 //! The clocks of a net.
 
 ghost use Rattle.std.specs.Prelude.{◌≡◌, ◌||◌, ℕ, IfOk, OnOk};
-ghost use Rattle.rtl_facts.specs.Reading.{is_in};
+ghost use Rattle.rtl_net_facts.specs.Reading.{is_in};
 ghost use Rattle.rtl_check.specs.Views.{core, AreKinds};
 ghost use Rattle.rtl_check.specs.Rules.{AreClockNets, has_clock};
 
-use rtl_facts::{Kind, sort_once};
+use rtl_net_facts::{Kind, sort_once};
 use rtl_net::{Net, NoMemory};
 use std::alloc::Global;
 

@@ -10,7 +10,7 @@ use crate::listing::{mixed, two_drivers};
 use crate::rule::Rule;
 use crate::rules::by_rule;
 use crate::variables::stored_variables;
-use rtl_facts::Kind;
+use rtl_net_facts::Kind;
 use rtl_net::{Net, NoMemory};
 use std::alloc::Global;
 

@@ -4,12 +4,12 @@ ghost use Rattle.std.specs.Prelude.{◌≡◌, ◌||◌, ◌<◌, ℕ, length, I
 ghost use Rattle.std.specs.List.{list_any};
 ghost use Rattle.rtl_model.specs.nets.FlatNet.{flat_sources};
 ghost use Rattle.rtl_net.specs.Nets.{flat, source_view};
-ghost use Rattle.rtl_levels.specs.OfNets.{IsTableOf};
-ghost use Rattle.rtl_facts.specs.Reading.{is_in};
+ghost use Rattle.rtl_check_levels.specs.OfNets.{IsTableOf};
+ghost use Rattle.rtl_net_facts.specs.Reading.{is_in};
 ghost use Rattle.rtl_check.specs.Views.{core, AreKinds};
 ghost use Rattle.rtl_check.specs.Feeders.{combinational_at, feeds_by, IsRow};
 
-use rtl_facts::Kind;
+use rtl_net_facts::Kind;
 use rtl_net::{Net, NoMemory, Source, nets_meet_the_laws};
 use std::alloc::Global;
 

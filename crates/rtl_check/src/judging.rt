@@ -8,8 +8,8 @@ ghost use Rattle.rtl_check.specs.Judging.{IsJudged, JudgesLoopsOnce};
 use crate::fault::CheckFault;
 use crate::faults::faults_of;
 use crate::graph::table_of;
-use rtl_facts::Kind;
-use rtl_levels::{Levels, Order, order_of, tables_are_of_nets};
+use rtl_net_facts::Kind;
+use rtl_check_levels::{Levels, Order, order_of, tables_are_of_nets};
 use rtl_net::{Net, NoMemory};
 use std::alloc::Global;
 

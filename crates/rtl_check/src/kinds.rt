@@ -4,7 +4,7 @@ ghost use Rattle.std.specs.Prelude.{◌<◌, length, IfOk};
 ghost use Rattle.rtl_model.specs.simulation.Net as m;
 ghost use Rattle.rtl_check.specs.Views.{core, AreKinds, IsKind};
 
-use rtl_facts::{Kind, kind_of};
+use rtl_net_facts::{Kind, kind_of};
 use rtl_net::{Net, NoMemory};
 use std::alloc::Global;
 

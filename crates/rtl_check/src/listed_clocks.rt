@@ -10,7 +10,7 @@ ghost use Rattle.rtl_check.specs.ListedClocks as s;
 
 use crate::clock_edges::edge_number;
 use crate::kinds::kind_at;
-use rtl_facts::Kind;
+use rtl_net_facts::Kind;
 use rtl_net::Net;
 use vhdl_values::Edge;
 

@@ -5,7 +5,7 @@ ghost use Rattle.rtl_check.specs.Views.{core, AreKinds};
 ghost use Rattle.rtl_check.specs.Listing.{numbered, one_place, Adds};
 
 use crate::fault::CheckFault;
-use rtl_facts::Kind;
+use rtl_net_facts::Kind;
 use rtl_net::{Net, NoMemory};
 
 /// Appends the fault of a net that has two sources or more.

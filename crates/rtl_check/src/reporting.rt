@@ -9,8 +9,8 @@ ghost use Rattle.rtl_check.specs.Verdicts.{IsReportOf};
 
 use crate::bound::bound_of;
 use crate::clock_edges::clock_edges;
-use rtl_facts::Kind;
-use rtl_levels::{Levels, tables_are_of_nets};
+use rtl_net_facts::Kind;
+use rtl_check_levels::{Levels, tables_are_of_nets};
 use rtl_model::simulation_laws;
 use rtl_net::{Net, NoMemory};
 use std::alloc::Global;

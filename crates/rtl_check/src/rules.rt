@@ -8,7 +8,7 @@ ghost use Rattle.rtl_check.specs.Rules.{rule_number, Pushes, AreClockNets};
 use crate::breaking::breaking_nets;
 use crate::fault::CheckFault;
 use crate::rule::Rule;
-use rtl_facts::Kind;
+use rtl_net_facts::Kind;
 use rtl_net::{Net, NoMemory};
 use std::alloc::Global;
 

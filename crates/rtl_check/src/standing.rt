@@ -7,7 +7,7 @@ ghost use Rattle.rtl_check.specs.Views.{core, IsKind};
 ghost use Rattle.rtl_check.specs.Standing as s;
 
 use crate::kinds::kind_at;
-use rtl_facts::Kind;
+use rtl_net_facts::Kind;
 use rtl_net::{Net, Source, nets_meet_the_laws};
 
 /// The greatest level of some processes, and the lowest that has it; 0 and none where none has a level.

@@ -10,7 +10,7 @@ ghost use Rattle.rtl_check.specs.Listing.{numbered, one_place, Adds};
 ghost use Rattle.rtl_check.specs.Places.{place_in, places_from, widths, added_if};
 
 use crate::fault::CheckFault;
-use rtl_facts::body_stores;
+use rtl_net_facts::body_stores;
 use rtl_net::{Net, NoMemory, Statement, Variable};
 use std::alloc::Global;
 

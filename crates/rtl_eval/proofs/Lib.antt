@@ -2,3 +2,15 @@ pub mod Counting
 pub mod Listing
 pub mod Assigned
 pub mod Places
+pub mod Reading
+pub mod Chains
+pub mod Values
+pub mod Weights
+pub mod OneByOne
+pub mod Codes
+pub mod Doing
+pub mod StatementWeights
+pub mod Taking
+pub mod Ready
+pub mod Found
+pub mod Starting

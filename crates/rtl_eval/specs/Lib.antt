@@ -2,3 +2,8 @@ pub mod Listed
 pub mod Runs
 pub mod Spans
 pub mod Tracked
+pub mod Evaluations
+pub mod Running
+pub mod Seeing
+pub mod Kept
+pub mod Trees

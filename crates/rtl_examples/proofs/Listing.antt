@@ -8,10 +8,10 @@ use Rattle.rtl_examples.specs.Counter as example
 use Rattle.rtl_net.specs.declared.process.Process.{Process}
 use Rattle.rtl_net.specs.Nets.{NetView, flat, process_view}
 use Rattle.rtl_net.specs.Names.{net_name, name_of_process, generates_prefix}
-use Rattle.rtl_facts.specs.Reading.{is_in}
+use Rattle.rtl_net_facts.specs.Reading.{is_in}
 use Rattle.rtl_check.specs.declared.reporting.Report.{Report}
-use Rattle.rtl_listing.specs.NetText.{net_text, net_line, lines, counts_text, start_text, sources_text}
-use Rattle.rtl_listing.specs.CheckText.{report_text, bounds_text, greatest_level, level_line}
+use Rattle.rtlsim_listing.specs.NetText.{net_text, net_line, lines, counts_text, start_text, sources_text}
+use Rattle.rtlsim_listing.specs.CheckText.{report_text, bounds_text, greatest_level, level_line}
 use Rattle.rtl_examples.specs.Listing.{IsUnlabelled, IsBare, top, cnt, of_processes, CounterIsListed, CounterIsReported, LoopIsListed, LevelIsListed, AreListed, LinesAreAsSaid}
 
 -- the name of a process without a label

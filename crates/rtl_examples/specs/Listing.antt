@@ -9,8 +9,8 @@ use Rattle.rtl_net.specs.declared.process.Process.{Process}
 use Rattle.rtl_net.specs.declared.signal.SignalKind.TheVariants.{One, Vector}
 use Rattle.rtl_net.specs.Nets.{NetView, ScopeView, process_view}
 use Rattle.rtl_check.specs.declared.reporting.Report.{Report}
-use Rattle.rtl_listing.specs.NetText.{net_text, start_text, driven_text}
-use Rattle.rtl_listing.specs.CheckText.{report_text, level_of, line_of}
+use Rattle.rtlsim_listing.specs.NetText.{net_text, start_text, driven_text}
+use Rattle.rtlsim_listing.specs.CheckText.{report_text, level_of, line_of}
 
 -- a process of the top with no label, in these generates
 pub record IsUnlabelled (p : Process) (generates : List ℕ) : Type 0 where

@@ -10,8 +10,8 @@ use Rattle.rtl_model.proofs.nets.Sources.{sources-core_net}
 use Rattle.rtl_model.proofs.simulation.Order.{waits_in}
 use Rattle.vhdl_values.specs.declared.scalar.Nine.{Nine}
 use Rattle.rtl_eval.specs.Runs.{IsOf}
-use Rattle.rtl_layout.specs.Cuts.{Cutting, AreCutsOf}
-use Rattle.rtl_layout.specs.Groups.{Grouping}
+use Rattle.rtl_net_layout.specs.Cuts.{Cutting, AreCutsOf}
+use Rattle.rtl_net_layout.specs.Groups.{Grouping}
 use Rattle.rtl_net.specs.Nets.{NetView, flat}
 use Rattle.rtl_net.specs.declared.process.Process.{Process}
 use Rattle.rtl_kernel.specs.drivers.Resolved.{AreResolved}

@@ -17,7 +17,7 @@ use Rattle.rtl_model.specs.simulation.Range.{AreInputs, StateInRange}
 use Rattle.rtl_model.proofs.basics.Lists.{contains_in, in_contains, get_or-map_within}
 use Rattle.rtl_model.proofs.nets.InRange.{keeps_range, limit-at}
 use Rattle.rtl_eval.specs.Runs.{Outcome}
-use Rattle.rtl_layout.specs.Cuts.{Cutting, AreCutsOf}
+use Rattle.rtl_net_layout.specs.Cuts.{Cutting, AreCutsOf}
 use Rattle.rtl_net.specs.Nets.{NetView, flat, driver_view, process_view}
 use Rattle.rtl_net.specs.declared.process.Driver as r
 use Rattle.rtl_net.specs.declared.process.Process as q

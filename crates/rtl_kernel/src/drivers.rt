@@ -16,14 +16,14 @@ ghost use Rattle.rtl_kernel.specs.drivers.Transactions.{IsActive, HasRunOf, all_
 ghost use Rattle.rtl_kernel.specs.drivers.Brought.{AreAloneAlike, BringsRun, Brings, BringsAll};
 ghost use Rattle.rtl_kernel.specs.drivers.Updates.{Takes, IsTaken};
 ghost use Rattle.rtl_kernel.specs.values.TwoValues.{group_of};
-ghost use Rattle.rtl_layout.specs.Cuts.{AreCuts, AreCutsOf};
+ghost use Rattle.rtl_net_layout.specs.Cuts.{AreCuts, AreCutsOf};
 
 use crate::slices::{differ, write};
 use crate::starts::{start_values, variable_starts};
 use crate::values::Values;
 use crate::worklist::Worklist;
 use rtl_eval::{Drives, Exec, Span};
-use rtl_layout::{Cut, Cuts};
+use rtl_net_layout::{Cut, Cuts};
 use rtl_net::{Driver, Net, Process};
 use std::alloc::{AllocError, Global};
 use std::marker::Model;

@@ -20,7 +20,7 @@ use crate::values::Values;
 use crate::wakes::wake_groups;
 use crate::worklist::Worklist;
 use rtl_eval::Exec;
-use rtl_layout::Cuts;
+use rtl_net_layout::Cuts;
 use rtl_net::Net;
 use std::alloc::{AllocError, Global};
 use std::marker::Model;

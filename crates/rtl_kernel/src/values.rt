@@ -1,14 +1,14 @@
 //! The values of the nets.
 
 ghost use Rattle.std.specs.Prelude.{◌≡◌, ◌+◌, ◌<◌, ◌≤◌, ℕ, true, false, length, slice_index, slice_set, All, IfOk};
-ghost use Rattle.rtl_layout.specs.Groups.{AreRuns};
+ghost use Rattle.rtl_net_layout.specs.Groups.{AreRuns};
 ghost use Rattle.rtl_model.specs.basics.Valuations.{has_event};
 ghost use Rattle.rtl_kernel.specs.kernel.Simulation.{changes_of, each_given};
 ghost use Rattle.rtl_kernel.specs.values.TwoValues.{AreChanged, CoverEvents, HasWritten, group_of};
 
 use crate::slices::write;
 use crate::worklist::Worklist;
-use rtl_layout::Groups;
+use rtl_net_layout::Groups;
 use std::alloc::{AllocError, Global};
 use std::marker::Model;
 use vhdl_values::Nine;

@@ -3,11 +3,11 @@
 ghost use Rattle.std.specs.Prelude.{◌≡◌, ◌↔◌, ◌%◌, true, length, map, IfOk};
 ghost use Rattle.rtl_kernel.specs.drivers.Brought.{AreAloneAlike, AreToldApart};
 ghost use Rattle.rtl_kernel.specs.wakes.Woken.{IsIndex, wakers_of};
-ghost use Rattle.rtl_layout.specs.Groups.{AreRuns};
+ghost use Rattle.rtl_net_layout.specs.Groups.{AreRuns};
 ghost use Rattle.rtl_net.specs.Nets.{flat};
 ghost use Rattle.rtl_net.specs.declared.process.Process.{Process};
 
-use rtl_layout::{Groups, Lists};
+use rtl_net_layout::{Groups, Lists};
 use rtl_net::{Net, Process, Signal};
 use std::alloc::{AllocError, Global};
 

@@ -8,8 +8,8 @@ use Rattle.rtl_sink.specs.Written.{SinkState, IsIntact, Goes, TakesBeginning}
 use Rattle.rtl_sink.proofs.Writing.{Goes-append}
 use Rattle.rtl_vcd.specs.Header.{header_text}
 use Rattle.rtl_vcd.specs.Trace.{first_text, moment_text, end_text, are_some, changes}
-use Rattle.rtl_moments.specs.Stimuli.{StimulusView, moments, inputs_at}
-use Rattle.rtl_moments.proofs.Next.{each_begins_at_zero}
+use Rattle.rtl_stim.specs.Stimuli.{StimulusView, moments, inputs_at}
+use Rattle.rtl_stim.proofs.Next.{each_begins_at_zero}
 use Rattle.rtl_run.specs.Simulated.{Settled}
 use Rattle.rtl_run.specs.Traced.{text_so_far, whole_text}
 use Rattle.rtl_run.specs.Answered.{IsTextOf}

@@ -12,10 +12,10 @@ use Rattle.rtl_net.specs.Nets.{NetView, flat}
 use Rattle.rtl_net.specs.Elaborated.{IsNet}
 use Rattle.rtl_kernel.specs.kernel.Simulation.{changes_of, initial_inputs}
 use Rattle.rtl_agenda.specs.Agenda.{AgendaState, Change, IsOrderly}
-use Rattle.rtl_stim.specs.Filling.{Waits}
-use Rattle.rtl_moments.specs.Moments.{GivesNext, IsStimulus}
-use Rattle.rtl_moments.specs.Ports.{HasOwnPorts, inputs_of}
-use Rattle.rtl_moments.specs.Stimuli.{StimulusView, moments, inputs_at, initial_values}
+use Rattle.rtl_stim_lines.specs.Filling.{Waits}
+use Rattle.rtl_stim.specs.Moments.{GivesNext, IsStimulus}
+use Rattle.rtl_stim.specs.Ports.{HasOwnPorts, inputs_of}
+use Rattle.rtl_stim.specs.Stimuli.{StimulusView, moments, inputs_at, initial_values}
 use Rattle.rtl_check.specs.Views.{core}
 use Rattle.rtl_run.proofs.Steps.{first_inputs, leads, of_inputs, next_moment, later, within_stop, few}
 use Rattle.rtl_machine.specs.Synchronous.{IsRaceless, IsSynchronous}

@@ -3,7 +3,7 @@
 use Rattle.std.specs.Prelude.{◌≡◌, ℕ, ◌⊎◌, List, length, Result, Ok, Err}
 use Rattle.rtl_net.specs.Nets.{NetView}
 use Rattle.rtl_sink.specs.Written.{SinkState, IsIntact, HasFailed, TakesAll}
-use Rattle.rtl_moments.specs.Stimuli.{StimulusView, moments}
+use Rattle.rtl_stim.specs.Stimuli.{StimulusView, moments}
 use Rattle.rtl_machine.specs.declared.fault.MachineFault.{MachineFault}
 use Rattle.rtl_machine.specs.declared.fault.MachineFault.TheVariants.{Memory, Output}
 use Rattle.rtl_machine.specs.Traced.{IsTrace, TracesBeginning}

@@ -2,7 +2,7 @@
 use Rattle.std.specs.Prelude.{◌≡◌, ℕ, suc, ◌<◌, List, ◌∷◌, length, slice_get, slice_index, Some, Result, Ok, Err}
 use Rattle.rtl_net.specs.Nets.{NetView}
 use Rattle.rtl_sink.specs.Written.{SinkState, IsIntact, Goes}
-use Rattle.rtl_moments.specs.Stimuli.{StimulusView, moments}
+use Rattle.rtl_stim.specs.Stimuli.{StimulusView, moments}
 use Rattle.rtl_run.specs.Simulated.{Settled}
 use Rattle.rtl_run.specs.Traced.{text_so_far}
 use Rattle.rtl_run.specs.Running.{last_values, last_printed_of}

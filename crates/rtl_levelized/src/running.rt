@@ -1,14 +1,14 @@
 //! The levelized simulation of a net under a text.
 
-ghost use Rattle.rtl_moments.specs.Ports.{HasOwnPorts};
+ghost use Rattle.rtl_stim.specs.Ports.{HasOwnPorts};
 ghost use Rattle.rtl_sink.specs.Written.{IsIntact};
 ghost use Rattle.rtl_levelized.specs.Answered.{RunsLevels};
 
 use crate::stepping::Stepping;
 use crate::summary::LevelSummary;
-use rtl_code::codes;
+use rtl_eval_code::codes;
 use rtl_machine::{MachineFault, SLOTS, admit};
-use rtl_moments::Wheel;
+use rtl_stim::Wheel;
 use rtl_net::Net;
 use rtl_sink::Sink;
 use std::alloc::Global;

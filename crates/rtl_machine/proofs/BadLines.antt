@@ -1,11 +1,11 @@
 -- A text is refused for a bad line or for want of a stop, and never for a race.
 use Rattle.std.proofs.Common.{◌≡◌, ℕ, suc, List, [], ◌∷◌, Option, Some, None, Result, Ok, Err}
-use Rattle.rtl_stim.specs.declared.faults.StimProblem.{StimProblem}
-use Rattle.rtl_stim.specs.declared.faults.StimFault.{StimFault}
-use Rattle.rtl_stim.specs.declared.faults.StimFault.TheVariants.{InLine, NoStop, Race, NoMemory}
-use Rattle.rtl_stim.specs.Lines.{lines_of}
-use Rattle.rtl_stim.specs.Inputs.{Input}
-use Rattle.rtl_stim.specs.Reading.{Said, Schedule, nothing_said, after_line, in_line, one_more, after_lines, with_end, ended, schedule_of}
+use Rattle.rtl_stim_lines.specs.declared.faults.StimProblem.{StimProblem}
+use Rattle.rtl_stim_lines.specs.declared.faults.StimFault.{StimFault}
+use Rattle.rtl_stim_lines.specs.declared.faults.StimFault.TheVariants.{InLine, NoStop, Race, NoMemory}
+use Rattle.rtl_stim_lines.specs.Lines.{lines_of}
+use Rattle.rtl_stim_lines.specs.Inputs.{Input}
+use Rattle.rtl_stim_lines.specs.Reading.{Said, Schedule, nothing_said, after_line, in_line, one_more, after_lines, with_end, ended, schedule_of}
 
 abbrev IsNoRace : {A : Type 0} → Result A StimFault → Type 0
 IsNoRace (Ok x) = Unit {0}

@@ -4,8 +4,8 @@ use Rattle.std.proofs.lemmas.List.{get_or-map, length-map}
 use Rattle.std.proofs.lemmas.List.FromFn.{length-map-range_with_len, get_or-map-range_with_len}
 use Rattle.rtl_net.specs.Nets.{NetView, flat, process_view}
 use Rattle.rtl_kernel.specs.kernel.Kept.{RunBodies}
-use Rattle.rtl_tree.specs.Trees.{ProcessOf, process_of as run_by, processes_of}
-use Rattle.rtl_code.specs.Codes.{CodeOf, process_of}
+use Rattle.rtl_eval.specs.Trees.{ProcessOf, process_of as run_by, processes_of}
+use Rattle.rtl_eval_code.specs.Codes.{CodeOf, process_of}
 
 abbrev pub run_of : CodeOf → ProcessOf
 run_of code = code.process

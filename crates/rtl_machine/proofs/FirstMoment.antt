@@ -4,7 +4,7 @@ use Rattle.rtl_model.specs.simulation.Cycle.{State}
 use Rattle.rtl_model.specs.simulation.Moments.{Begun, SettlesTo, IsUnsettled}
 use Rattle.rtl_net.specs.Nets.{NetView}
 use Rattle.rtl_check.specs.Views.{core}
-use Rattle.rtl_moments.specs.Stimuli.{StimulusView, inputs_at}
+use Rattle.rtl_stim.specs.Stimuli.{StimulusView, inputs_at}
 use Rattle.rtl_machine.specs.Synchronous.{IsSynchronous}
 use Rattle.rtl_machine.specs.Evaluated.{IsFirstOf}
 

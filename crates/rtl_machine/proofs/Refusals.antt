@@ -4,10 +4,10 @@ use Rattle.std.specs.Prelude.{IsErrAnd}
 use Rattle.rtl_model.specs.simulation.Accepted.{IsAccepted}
 use Rattle.rtl_net.specs.Nets.{NetView}
 use Rattle.rtl_check.specs.Views.{core}
-use Rattle.rtl_stim.specs.declared.faults.StimFault.{StimFault}
-use Rattle.rtl_stim.specs.declared.faults.StimFault.TheVariants.{InLine, NoStop, Race, NoMemory}
-use Rattle.rtl_moments.specs.Ports.{inputs_of}
-use Rattle.rtl_moments.specs.Stimuli.{IsRead}
+use Rattle.rtl_stim_lines.specs.declared.faults.StimFault.{StimFault}
+use Rattle.rtl_stim_lines.specs.declared.faults.StimFault.TheVariants.{InLine, NoStop, Race, NoMemory}
+use Rattle.rtl_stim.specs.Ports.{inputs_of}
+use Rattle.rtl_stim.specs.Stimuli.{IsRead}
 use Rattle.rtl_machine.specs.declared.fault.MachineFault.{MachineFault}
 use Rattle.rtl_machine.specs.Faults.{of_stim}
 use Rattle.rtl_sink.specs.Written.{SinkState}

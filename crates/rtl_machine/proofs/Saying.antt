@@ -7,13 +7,13 @@ use Rattle.std.proofs.lemmas.Bool.Decides.{nat_tests}
 use Rattle.std.proofs.lemmas.List.Elements.{All-take, All-drop, All-append, All-weaker}
 use Rattle.std.proofs.lemmas.List.Splits.{slice_split_at, slice_split_none, length-slice_split}
 use Rattle.vhdl_values.specs.declared.scalar.Nine.{Nine}
-use Rattle.rtl_stim.specs.declared.faults.StimProblem.{StimProblem}
-use Rattle.rtl_stim.specs.declared.faults.StimFault.{StimFault}
-use Rattle.rtl_stim.specs.Lines.{Word, ends_line, without_return, as_lines, lines_of, is_blank, is_word, words_of, says_nothing}
-use Rattle.rtl_stim.specs.Forms.{form_of}
-use Rattle.rtl_stim.specs.Inputs.{Input, input_at, input_named, values_for}
-use Rattle.rtl_stim.specs.Courses.{Course}
-use Rattle.rtl_stim.specs.Reading.{Said, nothing_said, after_set, course_at, with_course, set_values, set_input, after_form, after_line, in_line, one_more, after_lines, ended}
+use Rattle.rtl_stim_lines.specs.declared.faults.StimProblem.{StimProblem}
+use Rattle.rtl_stim_lines.specs.declared.faults.StimFault.{StimFault}
+use Rattle.rtl_stim_lines.specs.Lines.{Word, ends_line, without_return, as_lines, lines_of, is_blank, is_word, words_of, says_nothing}
+use Rattle.rtl_stim_lines.specs.Forms.{form_of}
+use Rattle.rtl_stim_lines.specs.Inputs.{Input, input_at, input_named, values_for}
+use Rattle.rtl_stim_lines.specs.Courses.{Course}
+use Rattle.rtl_stim_lines.specs.Reading.{Said, nothing_said, after_set, course_at, with_course, set_values, set_input, after_form, after_line, in_line, one_more, after_lines, ended}
 use Rattle.rtl_machine.specs.Words as words
 use Rattle.rtl_machine.specs.Words.{halves, filled, sides, set_line, word_line, after_sides, next_word, after_words, stopped_at_zero, EachWordSets}
 

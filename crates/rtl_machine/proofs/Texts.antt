@@ -9,7 +9,7 @@ use Rattle.rtl_sink.specs.Written.{SinkState, TakesBeginning}
 use Rattle.rtl_sink.proofs.Writing.{TakesBeginning-append}
 use Rattle.rtl_vcd.specs.Header.{header_text}
 use Rattle.rtl_vcd.specs.Trace.{Moment, first_text, moment_text, moments_text, trace_text, are_some, changes}
-use Rattle.rtl_moments.specs.Stimuli.{StimulusView, moments, inputs_at}
+use Rattle.rtl_stim.specs.Stimuli.{StimulusView, moments, inputs_at}
 use Rattle.rtl_run.specs.Simulated.{Settled, AreMoments}
 use Rattle.rtl_run.specs.Traced.{behind_first, at_times, changes_text, text_so_far, whole_text}
 use Rattle.rtl_run.specs.Answered.{IsTextOf}

@@ -7,8 +7,8 @@ use Rattle.rtl_net.specs.Elaborated.{IsNet}
 use Rattle.rtl_check.specs.Views.{core}
 use Rattle.rtl_sink.specs.Written.{SinkState, TakesAll}
 use Rattle.rtl_model.proofs.nets.Connected.{connected_is_elaborated}
-use Rattle.rtl_moments.specs.Stimuli.{StimulusView, moments, inputs_at}
-use Rattle.rtl_moments.proofs.Next.{each_begins_at_zero}
+use Rattle.rtl_stim.specs.Stimuli.{StimulusView, moments, inputs_at}
+use Rattle.rtl_stim.proofs.Next.{each_begins_at_zero}
 use Rattle.rtl_run.specs.declared.summary.Summary.{Summary}
 use Rattle.rtl_run.specs.Answered.{IsWhole, StopsAt, LeavesBeginning}
 use Rattle.rtl_machine.specs.Synchronous.{SaysYes, IsSynchronous}

@@ -8,11 +8,11 @@ use Rattle.rtl_model.specs.simulation.Races.{IsFirstRace}
 use Rattle.rtl_model.specs.simulation.Report.{AreClocks}
 use Rattle.rtl_net.specs.Nets.{NetView}
 use Rattle.rtl_check.specs.Views.{core, fault_view}
-use Rattle.rtl_stim.specs.declared.faults.StimFault.{StimFault}
-use Rattle.rtl_stim.specs.declared.faults.StimFault.TheVariants.{Race, NoMemory}
-use Rattle.rtl_stim.specs.Reading.{schedule_of}
-use Rattle.rtl_moments.specs.Ports.{inputs_of}
-use Rattle.rtl_moments.specs.Stimuli.{StimulusView, IsRead, moments, inputs_at}
+use Rattle.rtl_stim_lines.specs.declared.faults.StimFault.{StimFault}
+use Rattle.rtl_stim_lines.specs.declared.faults.StimFault.TheVariants.{Race, NoMemory}
+use Rattle.rtl_stim_lines.specs.Reading.{schedule_of}
+use Rattle.rtl_stim.specs.Ports.{inputs_of}
+use Rattle.rtl_stim.specs.Stimuli.{StimulusView, IsRead, moments, inputs_at}
 use Rattle.rtl_machine.specs.declared.fault.MachineFault.{MachineFault}
 use Rattle.rtl_machine.specs.declared.fault.MachineFault.TheVariants.{Rejected, Stim, Memory, Output}
 use Rattle.rtl_machine.specs.Synchronous.{SaysYes, IsRaceless}

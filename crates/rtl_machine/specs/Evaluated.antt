@@ -4,8 +4,8 @@ use Rattle.std.specs.Prelude.{◌≡◌, ℕ, ◌==◌, ◌&&◌, ◌⊎◌, Boo
 use Rattle.vhdl_values.specs.Scalar.{letter_of, value_of_code}
 use Rattle.rtl_net.specs.Nets.{NetView, SignalView}
 use Rattle.rtl_sink.specs.Written.{SinkState, IsIntact, HasFailed, TakesAll, TakesBeginning}
-use Rattle.rtl_moments.specs.Ports.{is_input}
-use Rattle.rtl_moments.specs.Stimuli.{StimulusView, inputs_at}
+use Rattle.rtl_stim.specs.Ports.{is_input}
+use Rattle.rtl_stim.specs.Stimuli.{StimulusView, inputs_at}
 use Rattle.rtl_check.specs.Views.{core}
 use Rattle.rtl_machine.specs.declared.fault.MachineFault.{MachineFault}
 use Rattle.rtl_machine.specs.declared.fault.MachineFault.TheVariants.{Output}

@@ -4,7 +4,7 @@ use Rattle.rtl_model.specs.simulation.Moments.{IsMost}
 use Rattle.rtl_net.specs.Nets.{NetView}
 use Rattle.rtl_sink.specs.Written.{SinkState, IsIntact, HasFailed, TakesAll, TakesBeginning}
 use Rattle.rtl_vcd.specs.Trace.{Moment, trace_text}
-use Rattle.rtl_moments.specs.Stimuli.{StimulusView, moments, inputs_at}
+use Rattle.rtl_stim.specs.Stimuli.{StimulusView, moments, inputs_at}
 use Rattle.rtl_run.specs.declared.summary.Summary.{Summary}
 use Rattle.rtl_check.specs.Views.{core}
 use Rattle.rtl_run.specs.Traced.{behind_first}

@@ -2,11 +2,11 @@
 use Rattle.std.specs.Prelude.{◌≡◌, ℕ, suc, ◌+◌, ◌==◌, ◌||◌, nat_le, Bool, if◌then◌else◌, List, [], ◌∷◌, ◌++◌, length, flat_map, take, drop, position, Option, Some, None, option_map, codes, Result, Ok, Err}
 use Rattle.std.specs.Borrow.{Bor}
 use Rattle.std.specs.List.{list_all}
-use Rattle.rtl_stim.specs.declared.faults.StimProblem.{StimProblem}
-use Rattle.rtl_stim.specs.declared.faults.StimProblem.TheVariants.{BadLine}
-use Rattle.rtl_stim.specs.declared.faults.StimFault.{StimFault}
-use Rattle.rtl_stim.specs.Inputs.{Input, input_named}
-use Rattle.rtl_stim.specs.Reading.{Said, Schedule, nothing_said, set_input, in_line, schedule_of}
+use Rattle.rtl_stim_lines.specs.declared.faults.StimProblem.{StimProblem}
+use Rattle.rtl_stim_lines.specs.declared.faults.StimProblem.TheVariants.{BadLine}
+use Rattle.rtl_stim_lines.specs.declared.faults.StimFault.{StimFault}
+use Rattle.rtl_stim_lines.specs.Inputs.{Input, input_named}
+use Rattle.rtl_stim_lines.specs.Reading.{Said, Schedule, nothing_said, set_input, in_line, schedule_of}
 
 -- what stands before and after the first `=`
 abbrev pub halves : List ℕ → Option (List ℕ × List ℕ)

@@ -4,13 +4,13 @@ ghost use Rattle.std.specs.Prelude.{IfOk, IfErr, ℕ, List};
 ghost use Rattle.rtl_model.specs.simulation.Accepted.{IsAccepted};
 ghost use Rattle.rtl_model.specs.simulation.Levels.{AreLevels};
 ghost use Rattle.rtl_check.specs.Verdicts.{IsReportOf};
-ghost use Rattle.rtl_moments.specs.Ports.{HasOwnPorts};
+ghost use Rattle.rtl_stim.specs.Ports.{HasOwnPorts};
 ghost use Rattle.rtl_check.specs.Views.{core};
 ghost use Rattle.rtl_machine.specs.Admitted.{IsAdmitted, Refuses};
 
 use crate::fault::MachineFault;
 use rtl_check::{Report, Verdict, check};
-use rtl_moments::{StimFault, Stimulus, first_race};
+use rtl_stim::{StimFault, Stimulus, first_race};
 use rtl_net::Net;
 use std::alloc::Global;
 

@@ -2,8 +2,8 @@
 
 ghost use Rattle.std.specs.Prelude.{◌≡◌, map, length, IfOk};
 ghost use Rattle.rtl_model.specs.simulation.Moments.{Begun, HasNoneToRun};
-ghost use Rattle.rtl_moments.specs.Ports.{HasOwnPorts, inputs_of};
-ghost use Rattle.rtl_moments.specs.Stimuli.{inputs_at};
+ghost use Rattle.rtl_stim.specs.Ports.{HasOwnPorts, inputs_of};
+ghost use Rattle.rtl_stim.specs.Stimuli.{inputs_at};
 ghost use Rattle.rtl_check.specs.Views.{core};
 ghost use Rattle.rtl_sink.specs.Written.{IsIntact};
 ghost use Rattle.rtl_machine.specs.Synchronous.{SaysYes, IsRaceless};
@@ -14,7 +14,7 @@ use crate::fault::MachineFault;
 use crate::laws::accepted_nets_are_synchronous;
 use crate::ports::push_ports;
 use crate::words::words_text;
-use rtl_code::{Code, codes};
+use rtl_eval_code::{Code, codes};
 use rtl_kernel::{Forward, Kernel};
 use rtl_net::Net;
 use rtl_sink::{Sink, finish};

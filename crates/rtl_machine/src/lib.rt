@@ -4,7 +4,7 @@
 //! what `run` answers, and `specs/Words.antt` and `specs/Evaluated.antt` what `eval` does.
 //!
 //! Both ask that the ports of the net's top have names of their own, and that the elements of its in ports are the net's inputs,
-//! in their order (`HasOwnPorts` of rtl_moments). A net that a front gives has that (`Front::open` of vhdl_designs). Whoever makes
+//! in their order (`HasOwnPorts` of rtl_stim). A net that a front gives has that (`Front::open` of vhdl_source_rules). Whoever makes
 //! a `Net` of parts has to show it: `Net::new` doesn't ask it, and no call tests it.
 #![tactic(auto)]
 

@@ -2,8 +2,8 @@
 
 ghost use Rattle.std.specs.Prelude.{◌≡◌, [], None};
 ghost use Rattle.rtl_kernel.specs.kernel.Kept.{RunBodies};
-ghost use Rattle.rtl_moments.specs.Ports.{HasOwnPorts, inputs_of};
-ghost use Rattle.rtl_moments.specs.Stimuli.{inputs_at};
+ghost use Rattle.rtl_stim.specs.Ports.{HasOwnPorts, inputs_of};
+ghost use Rattle.rtl_stim.specs.Stimuli.{inputs_at};
 ghost use Rattle.rtl_net.specs.Nets.{flat};
 ghost use Rattle.rtl_check.specs.Views.{core};
 ghost use Rattle.rtl_sink.specs.Written.{IsIntact};
@@ -14,11 +14,11 @@ ghost use Rattle.rtl_machine.specs.Answered.{Runs};
 use crate::admission::admit;
 use crate::fault::MachineFault;
 use crate::laws::accepted_nets_are_synchronous;
-use rtl_code::codes;
+use rtl_eval_code::codes;
 use rtl_eval::Exec;
 use rtl_kernel::Pick;
 use rtl_model::simulation_laws;
-use rtl_moments::{Agenda, Wheel};
+use rtl_stim::{Agenda, Wheel};
 use rtl_net::Net;
 use rtl_run::{RunFault, Simulation, Summary};
 use rtl_sink::Sink;

@@ -4,8 +4,8 @@ use Rattle.std.specs.List.{list_any, range_with_len}
 use Rattle.std.proofs.lemmas.List.{length-map}
 use Rattle.rtl_model.proofs.basics.Lists.{contains_in, get_or-map_within}
 use Rattle.rtl_net.specs.declared.process.Driver.{Driver}
-use Rattle.rtl_facts.specs.Reading.{is_in}
-use Rattle.rtl_facts.specs.Paths.{driven}
+use Rattle.rtl_net_facts.specs.Reading.{is_in}
+use Rattle.rtl_net_facts.specs.Paths.{driven}
 
 -- a run without its first number
 pub run_on : (f : ℕ → Bool) (a n i : ℕ) → i < n → list_any f (range_with_len (a + i) (n - i)) ≡ (f (a + i) || list_any f (range_with_len (a + (i + 1)) (n - (i + 1))))

@@ -4,12 +4,12 @@ ghost use Rattle.std.specs.Prelude.{◌≡◌, ◌↔◌, IsTrue};
 ghost use Rattle.std.specs.List.Sorted.{IsStrictlyIncreasing};
 ghost use Rattle.rtl_model.specs.basics.Lists.{RisesBy};
 ghost use Rattle.rtl_model.specs.simulation.Report.{clock_key};
-ghost use Rattle.rtl_facts.specs.Reading.{is_in};
+ghost use Rattle.rtl_net_facts.specs.Reading.{is_in};
 ghost use Rattle.rtl_check.specs.Views.{tested};
 ghost use Rattle.rtl_recheck.specs.Kept.{AreWithin, HasNoClockAsData, ClockedKeeps, clock_nets};
 
 use rtl_check::is_used;
-use rtl_facts::{Clocking, contains_rising};
+use rtl_net_facts::{Clocking, contains_rising};
 use rtl_net::Process;
 use vhdl_values::Edge;
 

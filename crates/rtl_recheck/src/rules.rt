@@ -12,7 +12,7 @@ use crate::clocked::{are_within, clocked_keeps};
 use crate::paths::covers;
 use crate::variables::stores_nothing;
 use rtl_check::kind_at;
-use rtl_facts::Kind;
+use rtl_net_facts::Kind;
 use rtl_net::{Net, Process};
 use vhdl_values::Edge;
 

@@ -12,8 +12,8 @@ use Rattle.rtl_sink.specs.Written.{SinkState, IsIntact, Goes}
 use Rattle.rtl_sink.proofs.Writing.{Goes-append}
 use Rattle.rtl_vcd.specs.Header.{header_text}
 use Rattle.rtl_vcd.specs.Trace.{first_text, moment_text, end_text, are_some, changes}
-use Rattle.rtl_moments.specs.Stimuli.{StimulusView, moments, inputs_at}
-use Rattle.rtl_moments.proofs.Next.{each_begins_at_zero}
+use Rattle.rtl_stim.specs.Stimuli.{StimulusView, moments, inputs_at}
+use Rattle.rtl_stim.proofs.Next.{each_begins_at_zero}
 use Rattle.rtl_run.specs.declared.progress.Progress.{Progress}
 use Rattle.rtl_run.specs.declared.summary.RunFault.{RunFault}
 use Rattle.rtl_run.specs.Simulated.{Settled, core, AreMoments}

@@ -6,7 +6,7 @@ use Rattle.std.proofs.lemmas.Bool.{cases_lt}
 use Rattle.rtl_model.specs.simulation.Moments.{HasSettled, IsMost, Takes}
 use Rattle.rtl_model.proofs.simulation.Orders.{every_order_is_one}
 use Rattle.rtl_net.specs.Nets.{NetView}
-use Rattle.rtl_moments.specs.Stimuli.{StimulusView, moments, inputs_at}
+use Rattle.rtl_stim.specs.Stimuli.{StimulusView, moments, inputs_at}
 use Rattle.rtl_run.specs.Simulated.{Settled, core, SettlesAs, AreMoments}
 use Rattle.rtl_run.specs.Running.{IsGreatest}
 

@@ -19,17 +19,17 @@ use Rattle.rtl_net.specs.Nets.{NetView, flat}
 use Rattle.rtl_net.specs.Elaborated.{IsNet}
 use Rattle.rtl_kernel.specs.kernel.Simulation.{changes_of, each_given, initial_inputs}
 use Rattle.rtl_agenda.specs.Agenda.{Change}
-use Rattle.rtl_stim.specs.Times.{all_nets, value_at}
+use Rattle.rtl_stim_lines.specs.Times.{all_nets, value_at}
 use Rattle.rtl_agenda.specs.Agenda.{AgendaState, IsOrderly}
-use Rattle.rtl_stim.specs.Filling.{Waits}
-use Rattle.rtl_stim.specs.Times.{is_moment}
-use Rattle.rtl_moments.specs.Moments.{GivesNext, IsStimulus}
-use Rattle.rtl_moments.proofs.MomentLists.{rise, member}
+use Rattle.rtl_stim_lines.specs.Filling.{Waits}
+use Rattle.rtl_stim_lines.specs.Times.{is_moment}
+use Rattle.rtl_stim.specs.Moments.{GivesNext, IsStimulus}
+use Rattle.rtl_stim.proofs.MomentLists.{rise, member}
 use Rattle.std.proofs.lemmas.List.FromFn.{length-range_with_len}
-use Rattle.rtl_moments.specs.Ports.{HasOwnPorts, inputs_of}
-use Rattle.rtl_moments.specs.Stimuli.{StimulusView, initial_values, inputs_at, moments, code_at}
-use Rattle.rtl_moments.proofs.Next.{any_from, each_begins_at_zero, each_moment_follows}
-use Rattle.rtl_moments.proofs.Values.{first_or_later}
+use Rattle.rtl_stim.specs.Ports.{HasOwnPorts, inputs_of}
+use Rattle.rtl_stim.specs.Stimuli.{StimulusView, initial_values, inputs_at, moments, code_at}
+use Rattle.rtl_stim.proofs.Next.{any_from, each_begins_at_zero, each_moment_follows}
+use Rattle.rtl_stim.proofs.Values.{first_or_later}
 use Rattle.rtl_run.specs.Simulated.{core}
 use Rattle.rtl_run.specs.Running.{HasSettledIn}
 

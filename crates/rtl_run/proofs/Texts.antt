@@ -4,7 +4,7 @@ use Rattle.std.specs.Prelude.{if◌then◌else◌}
 use Rattle.rtl_net.specs.Nets.{NetView, SignalView}
 use Rattle.rtl_vcd.specs.Header.{header_text}
 use Rattle.rtl_vcd.specs.Trace.{Moment, first_text, moment_text, moments_text, end_text, are_some, changes}
-use Rattle.rtl_moments.specs.Stimuli.{StimulusView, moments}
+use Rattle.rtl_stim.specs.Stimuli.{StimulusView, moments}
 use Rattle.rtl_run.specs.Simulated.{Settled}
 use Rattle.rtl_run.specs.Traced.{behind_first, at_times, changes_text, text_so_far, whole_text}
 use Rattle.rtl_run.specs.Running.{last_values, last_printed, last_printed_of}

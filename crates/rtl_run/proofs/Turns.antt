@@ -8,10 +8,10 @@ use Rattle.rtl_net.specs.Nets.{NetView, flat}
 use Rattle.rtl_net.specs.Elaborated.{IsNet}
 use Rattle.rtl_kernel.specs.kernel.Simulation.{changes_of}
 use Rattle.rtl_agenda.specs.Agenda.{AgendaState, Change, IsOrderly}
-use Rattle.rtl_stim.specs.Filling.{Waits}
-use Rattle.rtl_moments.specs.Moments.{GivesNext, IsStimulus}
-use Rattle.rtl_moments.specs.Ports.{HasOwnPorts, inputs_of}
-use Rattle.rtl_moments.specs.Stimuli.{StimulusView, moments, inputs_at}
+use Rattle.rtl_stim_lines.specs.Filling.{Waits}
+use Rattle.rtl_stim.specs.Moments.{GivesNext, IsStimulus}
+use Rattle.rtl_stim.specs.Ports.{HasOwnPorts, inputs_of}
+use Rattle.rtl_stim.specs.Stimuli.{StimulusView, moments, inputs_at}
 use Rattle.rtl_run.specs.declared.progress.Progress.{Progress}
 use Rattle.rtl_run.specs.Simulated.{core}
 use Rattle.rtl_run.specs.Running.{IsNext, HasSettledIn}

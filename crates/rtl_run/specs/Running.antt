@@ -6,7 +6,7 @@ use Rattle.rtl_net.specs.Nets.{NetView, SignalView}
 use Rattle.rtl_sink.specs.Written.{SinkState, IsIntact, Goes}
 use Rattle.rtl_vcd.specs.Header.{header_text}
 use Rattle.rtl_vcd.specs.Trace.{Moment, are_some, changes}
-use Rattle.rtl_moments.specs.Stimuli.{StimulusView, moments, inputs_at}
+use Rattle.rtl_stim.specs.Stimuli.{StimulusView, moments, inputs_at}
 use Rattle.rtl_run.specs.declared.progress.Progress.{Progress}
 use Rattle.rtl_run.specs.declared.summary.RunFault.{RunFault}
 use Rattle.rtl_run.specs.Answered.{Answers}

@@ -5,7 +5,7 @@ use Rattle.rtl_model.specs.simulation.Net.{Net}
 use Rattle.rtl_model.specs.simulation.Cycle.{State}
 use Rattle.rtl_model.specs.simulation.Moments.{HasSettled, Begun, IsUnsettled}
 use Rattle.rtl_net.specs.Nets.{NetView, flat}
-use Rattle.rtl_moments.specs.Stimuli.{StimulusView, moments, inputs_at}
+use Rattle.rtl_stim.specs.Stimuli.{StimulusView, moments, inputs_at}
 
 -- what a moment settles to: the nets' values, after so many delta cycles
 pub record Settled : Type 0 where

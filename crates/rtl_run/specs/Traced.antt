@@ -3,7 +3,7 @@ use Rattle.std.specs.Prelude.{ℕ, List, [], ◌∷◌, ◌++◌}
 use Rattle.rtl_net.specs.Nets.{NetView, SignalView}
 use Rattle.rtl_vcd.specs.Header.{header_text}
 use Rattle.rtl_vcd.specs.Trace.{Moment, first_text, moment_text, trace_text}
-use Rattle.rtl_moments.specs.Stimuli.{StimulusView, moments}
+use Rattle.rtl_stim.specs.Stimuli.{StimulusView, moments}
 use Rattle.rtl_run.specs.Simulated.{Settled}
 
 abbrev pub behind_first : List ℕ → List ℕ

@@ -1,22 +1,17 @@
-//! Stimuli: which value each input of the top has at each time.
+//! Stimuli of nets: `Stimulus`, which a text says of the in ports of a net's top, and what an agenda is filled with.
 //!
-//! `specs/Lines.antt`, `specs/Forms.antt` and `specs/Reading.antt` say which lines a stimulus has and which is the
-//! first bad one, `specs/Courses.antt` and `specs/Times.antt` the values and the moments, and `specs/Filling.antt`
-//! what waits in an agenda.
+//! `specs/Ports.antt` says which inputs a net has, and `specs/Stimuli.antt` what a stimulus is.
 #![tactic(auto)]
 
-mod courses;
-mod faults;
-mod forms;
-mod inputs;
-mod numbers;
+mod filling;
+mod laws;
+mod ports;
+mod races;
 mod reading;
-mod schedule;
-mod values;
-mod words;
+mod stimulus;
 
-pub use courses::Course;
-pub use faults::{StimFault, StimProblem};
-pub use inputs::{Element, Input, Inputs, add_input};
-pub use reading::read_schedule;
-pub use schedule::Schedule;
+pub use laws::{agenda_gives_moments, times_show_races};
+pub use races::{Race, first_race};
+pub use rtl_agenda::{Agenda, Change, MapAgenda, NoMemory, Wheel};
+pub use rtl_stim_lines::{StimFault, StimProblem};
+pub use stimulus::Stimulus;

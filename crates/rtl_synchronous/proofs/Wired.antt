@@ -20,7 +20,7 @@ use Rattle.rtl_eval.specs.Runs.{Outcome}
 use Rattle.rtl_kernel.specs.drivers.Transactions.{HasRunOf, all_targets, nets_of, no_outcome}
 use Rattle.rtl_kernel.specs.wakes.Woken.{AreDifferent}
 use Rattle.rtl_kernel.proofs.Wiring.{nets_there, targets_are}
-use Rattle.rtl_layout.specs.Cuts.{AreCuts, AreCutsOf, Cutting}
+use Rattle.rtl_net_layout.specs.Cuts.{AreCuts, AreCutsOf, Cutting}
 use Rattle.rtl_net.specs.Nets.{NetView, flat, process_view, variable_view}
 use Rattle.rtl_net.specs.declared.process.Process.{Process}
 use Rattle.rtl_synchronous.specs.Kept.{MayRun, core}

@@ -11,7 +11,7 @@ use Rattle.rtl_model.specs.simulation.Range.{IsValuation}
 use Rattle.rtl_eval.specs.Runs.{Outcome}
 use Rattle.rtl_kernel.specs.kernel.Kept.{RunBodies, HaveRoom}
 use Rattle.rtl_kernel.specs.drivers.Transactions.{all_targets}
-use Rattle.rtl_layout.specs.Cuts.{AreCutsOf}
+use Rattle.rtl_net_layout.specs.Cuts.{AreCutsOf}
 use Rattle.rtl_net.specs.Nets.{NetView, flat}
 use Rattle.rtl_synchronous.specs.declared.schedule.Schedule.{Schedule}
 use Rattle.rtl_synchronous.specs.Running.{KeepsResets}

@@ -6,7 +6,7 @@ ghost use Rattle.rtl_kernel.specs.wakes.Woken.{Adds, wakers_of};
 ghost use Rattle.rtl_synchronous.specs.Marks.{AreBelow, IsOfRun, Marks};
 
 use crate::slices::{differ, write};
-use rtl_layout::Groups;
+use rtl_net_layout::Groups;
 
 /// Marks these numbers.
 fn mark(marks: &mut Vec<bool>, numbers: &[usize])

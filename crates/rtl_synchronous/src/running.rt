@@ -6,7 +6,7 @@ ghost use Rattle.rtl_model.specs.simulation.Range.{IsValuation};
 ghost use Rattle.rtl_kernel.specs.drivers.Transactions.{HasRunOf, nets_of};
 ghost use Rattle.rtl_kernel.specs.drivers.Updates.{IsTaken};
 ghost use Rattle.rtl_kernel.specs.wakes.Woken.{AreDifferent, wakers_of};
-ghost use Rattle.rtl_layout.specs.Cuts.{AreCuts};
+ghost use Rattle.rtl_net_layout.specs.Cuts.{AreCuts};
 ghost use Rattle.rtl_synchronous.specs.Kept.{HasCuts, MayRun, core};
 ghost use Rattle.rtl_synchronous.specs.Marks.{AreBelow, Marks};
 ghost use Rattle.rtl_synchronous.specs.Running.{IsWritten, TakesOver, TakesPart, at_targets};
@@ -14,7 +14,7 @@ ghost use Rattle.rtl_synchronous.specs.Running.{IsWritten, TakesOver, TakesPart,
 use crate::marks::set_run;
 use crate::schedule::Schedule;
 use rtl_eval::{Drives, Exec, Span};
-use rtl_layout::{Cut, Groups};
+use rtl_net_layout::{Cut, Groups};
 use rtl_net::{Driver, Net};
 
 /// Runs the body of a process; what it assigns is what its run leaves.

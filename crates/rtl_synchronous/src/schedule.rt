@@ -9,7 +9,7 @@ ghost use Rattle.rtl_synchronous.specs.Scheduled.{IsSchedule, clocked_wakes, wak
 
 use crate::order::order_of;
 use crate::targets::target_lists;
-use rtl_layout::{Cuts, Groups, Lists};
+use rtl_net_layout::{Cuts, Groups, Lists};
 use rtl_net::Net;
 use std::alloc::{AllocError, Global};
 

@@ -3,7 +3,7 @@
 ghost use Rattle.std.specs.Prelude.{◌≡◌, IfOk};
 ghost use Rattle.rtl_kernel.specs.drivers.Transactions.{all_targets, nets_of};
 
-use rtl_layout::Lists;
+use rtl_net_layout::Lists;
 use rtl_net::{Driver, Process};
 use std::alloc::{AllocError, Global};
 

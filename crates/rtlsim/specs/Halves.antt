@@ -1,7 +1,7 @@
 -- Where the source and the stimulus both are the standard input, the first line that is `@` alone ends the source.
 use Rattle.std.specs.Prelude.{ℕ, suc, Bool, true, ◌&&◌, if◌then◌else◌, List, [], ◌∷◌, Option, Some, None, take, drop, bytes_eq, codes}
 use Rattle.std.specs.List.{after_first}
-use Rattle.rtl_stim.specs.Lines.{ends_line}
+use Rattle.rtl_stim_lines.specs.Lines.{ends_line}
 use Rattle.rtlsim.specs.Lines.{first_line_of}
 
 -- a line that is `@` alone stands in front, a carriage return at its end aside

@@ -1,10 +1,10 @@
 -- What the program leaves in the writers of its two streams, and the status that it ends with.
 use Rattle.std.specs.Prelude.{◌≡◌, ◌⊎◌, ⊤, ℕ, List, Option, Some, None, Bool, true, false, not}
 use Rattle.std.specs.Io.KnownBytes.{Keeps, append_known}
-use Rattle.rtl_commands.specs.Lines.{memory_line, output_line}
-use Rattle.rtl_commands.specs.Served.{Outputs, ended_by}
-use Rattle.rtl_commands.specs.declared.status.Status.{Status}
-use Rattle.rtl_commands.specs.declared.status.Status.TheVariants as status
+use Rattle.rtlsim_commands.specs.Lines.{memory_line, output_line}
+use Rattle.rtlsim_commands.specs.Served.{Outputs, ended_by}
+use Rattle.rtlsim_commands.specs.declared.status.Status.{Status}
+use Rattle.rtlsim_commands.specs.declared.status.Status.TheVariants as status
 use Rattle.rtl_sink.specs.Read.{ReaderState}
 use Rattle.rtl_sink.specs.Written.{SinkState, Goes}
 use Rattle.rtlsim.specs.Inputs.{Reading}

@@ -1,21 +1,21 @@
 -- What the program does for its words.
 use Rattle.std.specs.List.{after_first, slice_split}
 use Rattle.std.specs.Prelude.{◌≡◌, ◌==◌, ◌⊎◌, not, filter, length, [], ◌∷◌, Option, Some, None, ℕ, List, Bool, true, false, map, IsUtf8}
-use Rattle.rtl_commands.specs.Lines.{memory_line, input_line}
-use Rattle.rtl_commands.specs.Listed.{ListsNet, ChecksNet, DrawsNet}
-use Rattle.rtl_commands.specs.Machine.{RunsMachine, RunsMachineByLevels, EvaluatesMachine}
-use Rattle.rtl_commands.specs.Served.{Outputs, ended, Serves as ServesSource}
-use Rattle.rtl_commands.specs.Simulated.{RunsEvents}
-use Rattle.rtl_commands.specs.Told.{quiet, verdict, summary, levels}
-use Rattle.rtl_commands.specs.declared.status.Status.{Status}
-use Rattle.rtl_commands.specs.declared.status.Status.TheVariants as status
+use Rattle.rtlsim_commands.specs.Lines.{memory_line, input_line}
+use Rattle.rtlsim_commands.specs.Listed.{ListsNet, ChecksNet, DrawsNet}
+use Rattle.rtlsim_commands.specs.Machine.{RunsMachine, RunsMachineByLevels, EvaluatesMachine}
+use Rattle.rtlsim_commands.specs.Served.{Outputs, ended, Serves as ServesSource}
+use Rattle.rtlsim_commands.specs.Simulated.{RunsEvents}
+use Rattle.rtlsim_commands.specs.Told.{quiet, verdict, summary, levels}
+use Rattle.rtlsim_commands.specs.declared.status.Status.{Status}
+use Rattle.rtlsim_commands.specs.declared.status.Status.TheVariants as status
 use Rattle.rtl_sink.specs.Read.{ReaderState}
 use Rattle.rtl_sink.specs.Written.{Goes}
-use Rattle.rtl_words.specs.Words.{Says, SayNothing}
-use Rattle.rtl_words.specs.declared.request.Request.{Request}
-use Rattle.rtl_words.specs.declared.request.Request.TheVariants.{Eval, Net, Check, Dot, Run, Levels}
+use Rattle.rtlsim_words.specs.Words.{Says, SayNothing}
+use Rattle.rtlsim_words.specs.declared.request.Request.{Request}
+use Rattle.rtlsim_words.specs.declared.request.Request.TheVariants.{Eval, Net, Check, Dot, Run, Levels}
 use Rattle.rtlsim.specs.Inputs.{Reading, GivesWhole, GivesBoth, held}
-use Rattle.rtl_stim.specs.Lines.{ends_line}
+use Rattle.rtl_stim_lines.specs.Lines.{ends_line}
 use Rattle.rtlsim.specs.Lines.{first_line_of}
 use Rattle.rtlsim.specs.declared.inputs.InputFault.{InputFault}
 use Rattle.rtlsim.specs.declared.inputs.InputFault.TheVariants.{Failed, NoMemory}

@@ -3,19 +3,19 @@
 ghost use Rattle.std.specs.Prelude.{◌≡◌, ◌<◌, ◌==◌, not, filter, IfOk, IfErr, IfSome, IsUtf8, length, map, position};
 ghost use Rattle.std.specs.List.{before_first, after_first, slice_split};
 ghost use Rattle.rtl_sink.specs.Written.{IsIntact};
-ghost use Rattle.rtl_words.specs.Words.{IsOfWords};
+ghost use Rattle.rtlsim_words.specs.Words.{IsOfWords};
 ghost use Rattle.rtlsim.specs.Inputs.{GivesNamed, GivesStandardAlone};
-ghost use Rattle.rtl_stim.specs.Lines as lines;
-ghost use Rattle.rtl_stim.specs.Lines.{ends_line};
+ghost use Rattle.rtl_stim_lines.specs.Lines as lines;
+ghost use Rattle.rtl_stim_lines.specs.Lines.{ends_line};
 ghost use Rattle.rtlsim.specs.Lines.{first_line_of};
 ghost use Rattle.rtlsim.specs.Tools.{ServesFirstLine, ServesLine, words_in};
 
 use crate::inputs::{Inputs, Named, Standard, read_input};
 use crate::refusals::{not_text, refuse_input, refuse_words};
 use crate::tools::tool_with;
-use rtl_commands::{Front, Status};
+use rtlsim_commands::{Front, Status};
 use rtl_sink::{Reader, Sink};
-use rtl_words::Refused;
+use rtlsim_words::Refused;
 use std::alloc::{AllocError, Global};
 use std::rt::Files;
 

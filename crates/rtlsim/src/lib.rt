@@ -1,6 +1,6 @@
 //! The simulator as one library: from the bytes of a source to the bytes of the answer.
 //!
-//! The commands are those of rtl_commands, and so is `Front`, by whose contract each call that has it for its first type parameter
+//! The commands are those of rtlsim_commands, and so is `Front`, by whose contract each call that has it for its first type parameter
 //! opens sources. `specs/Tools.antt` says what the program does for its words, and `specs/Inputs.antt` what
 //! the files are that it reads.
 #![tactic(auto)]
@@ -18,11 +18,11 @@ mod tools;
 pub use first_line::tool_first_line;
 pub use halves::halves_at_line;
 pub use inputs::{InputFault, Inputs, MAX_INPUT, Named, Standard, read_input};
-pub use rtl_commands::{
+pub use rtlsim_commands::{
     CheckFault, ElabFault, ElabProblem, Fault, Forward, Front, LevelSummary, NameFault,
     NameProblem, Net, Pick, Reverse, Sink, Status, StimFault, Summary, eval, run, run_event,
     run_levels, show_check, show_check_dot, show_net,
 };
-pub use rtl_words::{Order, Refused, Request, parse_words};
+pub use rtlsim_words::{Order, Refused, Request, parse_words};
 pub use streams::{Ended, program};
 pub use tools::{perform, tool, tool_with};

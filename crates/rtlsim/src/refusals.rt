@@ -1,15 +1,15 @@
 //! What is told where the words are refused, or an input isn't read.
 
 ghost use Rattle.std.specs.Prelude.{◌≡◌};
-ghost use Rattle.rtl_commands.specs.Served.{ended};
+ghost use Rattle.rtlsim_commands.specs.Served.{ended};
 ghost use Rattle.rtl_sink.specs.Written.{Goes};
-ghost use Rattle.rtl_words.specs.Words.{IsOfWords};
+ghost use Rattle.rtlsim_words.specs.Words.{IsOfWords};
 ghost use Rattle.rtlsim.specs.Tools.{RefusesWords, input_text, input_status};
 
 use crate::inputs::InputFault;
-use rtl_commands::{Status, ended_by_writes, push_memory};
+use rtlsim_commands::{Status, ended_by_writes, push_memory};
 use rtl_sink::{Sink, push_text};
-use rtl_words::Refused;
+use rtlsim_words::Refused;
 use std::alloc::Global;
 
 /// Tells why the words are refused, and answers the status.

@@ -1,8 +1,8 @@
 //! Simulations that are asked for.
 
-ghost use Rattle.rtl_commands.specs.Machine.{RunsMachineByLevels};
-ghost use Rattle.rtl_commands.specs.Served.{Outputs, Serves as ServesSource};
-ghost use Rattle.rtl_commands.specs.Told.{levels};
+ghost use Rattle.rtlsim_commands.specs.Machine.{RunsMachineByLevels};
+ghost use Rattle.rtlsim_commands.specs.Served.{Outputs, Serves as ServesSource};
+ghost use Rattle.rtlsim_commands.specs.Told.{levels};
 ghost use Rattle.rtl_sink.specs.Written.{IsIntact};
 ghost use Rattle.rtlsim.specs.Inputs.{GivesBoth};
 ghost use Rattle.rtlsim.specs.Tools.{Reads, Simulates};
@@ -10,11 +10,11 @@ ghost use Rattle.rtlsim.specs.Tools.{Reads, Simulates};
 use crate::files::read_both;
 use crate::inputs::Inputs;
 use crate::refusals::refuse_input;
-use rtl_commands::{
+use rtlsim_commands::{
     Forward, Front, Pick, Reverse, Status, serve_run, serve_run_event, serve_run_levels,
 };
 use rtl_sink::Sink;
-use rtl_words::Order;
+use rtlsim_words::Order;
 use std::alloc::Global;
 
 /// A source and a stimulus, by whose texts a top is simulated.

@@ -4,10 +4,10 @@ ghost use Rattle.std.specs.Prelude.{◌≡◌, Option, List, ℕ};
 ghost use Rattle.rtl_sink.specs.Written.{IsIntact};
 ghost use Rattle.rtlsim.specs.Inputs.{GivesNamed};
 ghost use Rattle.rtlsim.specs.Streams.{Ends, GoesOut, GoesToWriters, RunsArguments, ServesArguments, TellsLoss, TellsMemory};
-ghost use Rattle.rtl_commands.specs.Served as served;
+ghost use Rattle.rtlsim_commands.specs.Served as served;
 
 use crate::arguments::serve_arguments;
-use rtl_commands::{Front, Status, push_memory};
+use rtlsim_commands::{Front, Status, push_memory};
 use rtl_sink::{Out, Sink, push_text};
 use std::io::{BufWriter, Read, Write};
 use std::rt::{Env, Files};

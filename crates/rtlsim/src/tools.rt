@@ -1,8 +1,8 @@
 //! The program, over any inputs and two sinks.
 
 ghost use Rattle.std.specs.Prelude.{◌≡◌, map};
-ghost use Rattle.rtl_commands.specs.Status.{code_of};
-ghost use Rattle.rtl_commands.specs.declared.status.Status.{Status};
+ghost use Rattle.rtlsim_commands.specs.Status.{code_of};
+ghost use Rattle.rtlsim_commands.specs.declared.status.Status.{Status};
 ghost use Rattle.rtl_sink.specs.Written.{IsIntact};
 ghost use Rattle.rtlsim.specs.Inputs.{GivesStandardAlone};
 ghost use Rattle.rtlsim.specs.Tools.{Performs, Serves, ServesWords};
@@ -12,9 +12,9 @@ use crate::first_line::serve_reader_line;
 use crate::inputs::{Inputs, Standard};
 use crate::refusals::{refuse_input, refuse_words};
 use crate::simulating::{Names, perform_levels, perform_run};
-use rtl_commands::{Front, Status, serve_check, serve_check_dot, serve_eval, serve_net};
+use rtlsim_commands::{Front, Status, serve_check, serve_check_dot, serve_eval, serve_net};
 use rtl_sink::{Reader, Sink};
-use rtl_words::{Request, parse_words};
+use rtlsim_words::{Request, parse_words};
 use std::alloc::Global;
 
 /// The program where each file is `@`: does what the words ask for, or without words what those of the

@@ -1,2 +1,2 @@
-pub mod Segments
-pub mod laws
+mod Joined
+mod There

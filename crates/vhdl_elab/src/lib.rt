@@ -1,5 +1,7 @@
-//! Elaboration of a design: from the units of a file and the name of its top to its flat net (IEEE 1076-2008, clause 14).
-//! The definitions stand in `specs`.
+//! Elaboration of a design: from the units of a file and the name of its top to its net (IEEE 1076-2008, clause 14).
 #![tactic(auto)]
 
-pub mod elaboration_laws;
+mod elaboration;
+
+pub use elaboration::elaborate;
+pub use vhdl_expand_rules::{ElabFault, ElabProblem};

@@ -1,6 +1,6 @@
-pub mod Steps
-pub mod Options
-pub mod Chains
-pub mod Decided
-pub mod StaticChains
-pub mod laws
+pub mod Making
+pub mod Statements
+pub mod Generates
+pub mod Nested
+pub mod Weights
+pub mod Heavier

@@ -1,12 +1,5 @@
-pub mod Elab
-pub mod Integers
-pub mod Kinds
-pub mod Site
-pub mod Expressions
-pub mod Tree
-pub mod Statements
-pub mod Prefixes
-pub mod Declarations
-pub mod Expansion
-pub mod views
-pub mod laws
+pub mod Limits
+pub mod Making
+pub mod Spots
+pub mod Walks
+pub mod Turns

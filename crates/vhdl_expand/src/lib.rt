@@ -1,17 +1,12 @@
-//! Expansion of a design: from its units and its top to the tree of its instances, in which every static value is
-//! computed, generates have become their turns, and loops are unrolled (IEEE 1076-2008, clause 14). The definitions stand
-//! in `specs`.
+//! The tree of a design's instances: the concurrent statements of architectures, their generates and their instances, from the
+//! top on (IEEE 1076-2008, clause 11, 14.2 to 14.5).
 #![tactic(auto)]
 
-mod decision;
-pub mod expansion_laws;
-mod fault;
-mod integer;
-mod kind;
+mod expansion;
 mod prefix;
+mod progress;
+mod spot;
+mod walk;
 
-pub use decision::Turns;
-pub use fault::{ElabFault, ElabProblem};
-pub use integer::Integers;
-pub use kind::{Bounds, Kind, Run};
-pub use prefix::{is_static, is_static_part};
+pub use expansion::expand;
+pub use vhdl_expand_rules::{ElabFault, ElabProblem};

@@ -1,63 +1,58 @@
-//! Which names are static: their longest static prefixes are the drivers of a process (IEEE 1076-2008, 8.1).
+//! Labels of generates before the labels in them.
 
-ghost use Rattle.std.specs.Prelude.{◌≡◌};
-ghost use Rattle.vhdl_names.specs.views.Integers.{static_view, start_view};
-ghost use Rattle.vhdl_names.specs.views.Vectors.{part_view};
-ghost use Rattle.vhdl_expand.specs.Prefixes as definition;
-ghost use Rattle.vhdl_expand.specs.views.Prefixes.{all_static};
+ghost use Rattle.std.specs.Prelude.{◌≡◌, ◌++◌, codes, IfOk, OnOk};
+ghost use Rattle.std.specs.Fmt.{signed_decimal};
+ghost use Rattle.vhdl_expand_rules.specs.Expansion.{dotted};
 
-use vhdl_names::{Part, Static, StaticLink, StaticStart};
+use itoa::Buffer;
+use std::alloc::{AllocError, Global};
 
-/// Whether an integer is static: no parameter of a loop stands in it.
-#[cycle(is_static)]
-#[tactic(auto, using(crate::proofs::StaticChains::start_stops, crate::proofs::StaticChains::start_goes_on))]
-pub fn is_static(value: &Static) -> bool
-    ensures { result ≡ definition.is_static (static_view value.now) }
+/// Appends `label(i)`, as a turn of a for generate is named.
+fn push_turn(prefix: &mut Vec<u8>, label: &[u8], parameter: i32) -> Result<(), AllocError>
+    ensures { OnOk result (prefix.new.items ≡ prefix.old.items ++ dotted (label.now ++ (codes "(" ++ (signed_decimal parameter ++ codes ")")))) }
 {
-    match value {
-        Static::LoopParameter(_) => false,
-        Static::Number(_)
-        | Static::Generic(_)
-        | Static::Constant(_)
-        | Static::GenerateParameter(_) => true,
-        Static::Negated(_, operand) => is_static(operand),
-        Static::Chain(start, links) => {
-            if !is_start_static(start) {
-                return false;
-            }
-            are_static(links)
-        }
-    }
+    let mut buffer = Buffer::new();
+    prefix.extend_from_slice(label)?;
+    prefix.extend_from_slice(b"(")?;
+    prefix.extend_from_slice(buffer.format(parameter).as_bytes())?;
+    prefix.extend_from_slice(b").")?;
+    Ok(())
 }
 
-/// Whether the first operator of a chain has static operands.
-#[cycle(is_static)]
-fn is_start_static(start: &StaticStart) -> bool
-    ensures { result ≡ definition.is_static (start_view start.now) }
+/// The labels round what stands in a turn of a for generate, and that generate's own with the value of its parameter. It takes
+/// the memory of the text.
+pub(crate) fn turn_prefix(
+    alloc: Global,
+    outer: &[u8],
+    label: &[u8],
+    parameter: i32,
+) -> Result<Vec<u8>, AllocError>
+    ensures { IfOk result (λ v. v.items ≡ outer.now ++ dotted (label.now ++ (codes "(" ++ (signed_decimal parameter ++ codes ")")))) }
 {
-    is_static(&start.first) && is_static(&start.link.operand)
+    let mut prefix = outer.to_vec(alloc)?;
+    push_turn(&mut prefix, label, parameter)?;
+    Ok(prefix)
 }
 
-/// Whether the operands of operators are static.
-#[cycle(is_static)]
-fn are_static(links: &[StaticLink]) -> bool
-    ensures { result ≡ all_static links.now }
+/// The labels round what stands in an if generate, and that generate's own. It takes the memory of the text.
+pub(crate) fn branch_prefix(
+    alloc: Global,
+    outer: &[u8],
+    label: &[u8],
+) -> Result<Vec<u8>, AllocError>
+    ensures { IfOk result (λ v. v.items ≡ outer.now ++ dotted label.now) }
 {
-    for link in links {
-        if !is_static(&link.operand) {
-            return false;
-        }
-    }
-    true
+    let mut prefix = outer.to_vec(alloc)?;
+    prefix.extend_from_slice(label)?;
+    prefix.extend_from_slice(b".")?;
+    Ok(prefix)
 }
 
-/// Whether a part is static, so that the name with it is its own longest static prefix.
-pub fn is_static_part(part: &Part) -> bool
-    ensures { result ≡ definition.is_static_part (part_view part.now) }
+/// The label of an instance behind those of the generates round it. It takes the memory of the text.
+pub(crate) fn labelled(alloc: Global, outer: &[u8], label: &[u8]) -> Result<Vec<u8>, AllocError>
+    ensures { IfOk result (λ v. v.items ≡ outer.now ++ label.now) }
 {
-    match part {
-        Part::Whole => true,
-        Part::Element(index) => is_static(index),
-        Part::Slice(range) => is_static(&range.left) && is_static(&range.right),
-    }
+    let mut name = outer.to_vec(alloc)?;
+    name.extend_from_slice(label)?;
+    Ok(name)
 }

@@ -1,2 +1,7 @@
-pub mod laws
-pub mod rows
+pub mod Behind
+pub mod Describing
+pub mod Filing
+pub mod Outlining
+pub mod Seeing
+pub mod Tabling
+pub mod Walking

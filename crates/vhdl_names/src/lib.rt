@@ -1,20 +1,18 @@
-//! Names and types of a file (IEEE 1076-2008, clauses 6 and 8 to 13). The definitions stand in `specs`: what an analysed
-//! file is (`units`), which file is well typed, one rule a line, and what follows of both.
+//! The analysis of a file (IEEE 1076-2008, clauses 3 and 13), by the rules of `vhdl_names_rules`: its entities and architectures in order
+//! of the text, and the units that they are.
 #![tactic(auto)]
 
-mod fault;
-mod integer;
-mod kind;
-mod literal;
-mod operator;
-pub mod rule_laws;
-mod test;
-mod vector;
+mod architectures;
+mod entities;
+mod mentions;
+mod outline;
+mod refusal;
+mod tables;
+mod units;
 
-pub use fault::{NameFault, NameProblem};
-pub use integer::{Static, StaticLink, StaticRange, StaticStart};
-pub use kind::{Function, Kind, ObjectType};
-pub use literal::nine_of;
-pub use operator::{Arithmetic, IntegerType, Numeric, VectorOperator};
-pub use test::{StaticTest, StaticTestLink, StaticTestStart, Test, TestLink, TestStart};
-pub use vector::{Part, Place, Signal, Value, Vector, VectorLink, VectorStart};
+pub use architectures::architectures_of;
+pub use entities::entities_of;
+pub use outline::{Architectures, Described, Outline, architecture_of, outline_of};
+pub use tables::table;
+pub use units::analyse;
+pub use vhdl_names_rules::{NameFault, NameProblem};

@@ -7,21 +7,21 @@ use Rattle.vhdl_tree.specs.Tree.{Ident, Scheme, for_each, if_holds, Concurrent, 
 use Rattle.vhdl_tree.specs.Pieces.{Piece, some, spell_option, spell_word, spell_each, IsEach}
 use Rattle.vhdl_tree.specs.grammar.Sequential.{spell_label, spell_end}
 use Rattle.vhdl_tree.specs.grammar.Concurrent.{spell_assignment, spell_scheme, spell_concurrent, spell_concurrents, IsAssignment, IsScheme, IsConcurrent, AreConcurrents}
-use Rattle.vhdl_expressions.specs.reader.Input.{Parser, and_then, expect, eat, identifier, next_kind, second_kind}
-use Rattle.vhdl_expressions.specs.reader.Expressions.{range}
-use Rattle.vhdl_statements.specs.reader.Sequential.{end_of}
+use Rattle.vhdl_parser_expressions.specs.reader.Input.{Parser, and_then, expect, eat, identifier, next_kind, second_kind}
+use Rattle.vhdl_parser_expressions.specs.reader.Expressions.{range}
+use Rattle.vhdl_parser_statements.specs.reader.Sequential.{end_of}
 use Rattle.vhdl_parser.specs.reader.Concurrent.{concurrent, assign, begins_concurrent, select_with, process_with, assign_with, instance_with, sees_component, named_with, unlabelled_by, unlabelled, generate_body, generate_rest, for_scheme, for_generate, if_generate, labelled_by, labelled, by_label, concurrents_with, deeper_concurrents, concurrents}
-use Rattle.vhdl_expressions.proofs.Steady.{left_of}
-use Rattle.vhdl_expressions.proofs.Ahead.{eager, steady_by}
-use Rattle.vhdl_expressions.proofs.Walks.{Walks, Rule, w_pure, w_then, w_map, w_last, w_ends}
-use Rattle.vhdl_expressions.proofs.Rules.{w_take, w_some, w_ident, w_open, w_refuse, w_choose, w_inner, w_by, w_below, below_met, under, under_none, word_rule}
-use Rattle.vhdl_expressions.proofs.Repeats.{each_rule}
-use Rattle.vhdl_expressions.proofs.WalkExpressions.{expr_rule, a_name_rule}
-use Rattle.vhdl_expressions.proofs.WalkValues.{range_rule}
-use Rattle.vhdl_statements.proofs.Conditional.{conditional_rule}
-use Rattle.vhdl_statements.proofs.WalkSequential.{w_end_of, w_labelled}
-use Rattle.vhdl_statements.proofs.WalkProcess.{process_rule, selected_rule}
-use Rattle.vhdl_declarations.proofs.WalkInstance.{instance_rule}
+use Rattle.vhdl_parser_expressions.proofs.Steady.{left_of}
+use Rattle.vhdl_parser_expressions.proofs.Ahead.{eager, steady_by}
+use Rattle.vhdl_parser_expressions.proofs.Walks.{Walks, Rule, w_pure, w_then, w_map, w_last, w_ends}
+use Rattle.vhdl_parser_expressions.proofs.Rules.{w_take, w_some, w_ident, w_open, w_refuse, w_choose, w_inner, w_by, w_below, below_met, under, under_none, word_rule}
+use Rattle.vhdl_parser_expressions.proofs.Repeats.{each_rule}
+use Rattle.vhdl_parser_expressions.proofs.WalkExpressions.{expr_rule, a_name_rule}
+use Rattle.vhdl_parser_expressions.proofs.WalkValues.{range_rule}
+use Rattle.vhdl_parser_statements.proofs.Conditional.{conditional_rule}
+use Rattle.vhdl_parser_statements.proofs.WalkSequential.{w_end_of, w_labelled}
+use Rattle.vhdl_parser_statements.proofs.WalkProcess.{process_rule, selected_rule}
+use Rattle.vhdl_parser_declarations.proofs.WalkInstance.{instance_rule}
 use Rattle.vhdl_parser.proofs.Alone.{assign_with_alone, instance_with_alone, unlabelled_alone}
 use Rattle.vhdl_parser.proofs.Plain.{plain_concurrent, plain_for, plain_if, concurrent_long}
 

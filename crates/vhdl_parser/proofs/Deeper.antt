@@ -1,9 +1,9 @@
 -- What stands one level down, where so many levels may be opened.
 use Rattle.std.proofs.Common.{◌≡◌, ℕ, zero, suc, List, Ok, ap}
 use Rattle.vhdl_tree.specs.Lexeme.{Lexeme}
-use Rattle.vhdl_expressions.specs.reader.Input.{below}
+use Rattle.vhdl_parser_expressions.specs.reader.Input.{below}
 use Rattle.vhdl_parser.specs.reader.Concurrent.{deeper_concurrents, concurrents}
-use Rattle.vhdl_expressions.proofs.Steps.{pure_ok}
+use Rattle.vhdl_parser_expressions.proofs.Steps.{pure_ok}
 
 pub concurrents_below : (n m : ℕ) (ts : List Lexeme) → below n ts ≡ Ok (m, ts) → deeper_concurrents n ≡ concurrents m
 unfolding deeper_concurrents below

@@ -11,15 +11,15 @@ use Rattle.vhdl_tree.specs.grammar.Sequential.{spell_label, spell_end}
 use Rattle.vhdl_tree.specs.grammar.Process.{spell_process, spell_selected, IsProcess, IsSelected}
 use Rattle.vhdl_tree.specs.grammar.Instance.{spell_map, spell_instance, IsInstance}
 use Rattle.vhdl_tree.specs.grammar.Concurrent.{spell_waveforms, spell_scheme, spell_concurrent, AreWaveforms, IsScheme, IsConcurrent, AreConcurrents}
-use Rattle.vhdl_expressions.specs.reader.Input.{Parser, Outcome, and_then, next_kind, is_kind, sees_both}
-use Rattle.vhdl_statements.specs.reader.Sequential.{label, optional_label}
+use Rattle.vhdl_parser_expressions.specs.reader.Input.{Parser, Outcome, and_then, next_kind, is_kind, sees_both}
+use Rattle.vhdl_parser_statements.specs.reader.Sequential.{label, optional_label}
 use Rattle.vhdl_parser.specs.reader.Concurrent.{concurrent, assign, begins_concurrent, assign_with, instance_with, sees_component, named_with, unlabelled_by, unlabelled, GenerateBody, generate_body, generate_rest, for_scheme, for_generate, if_generate, labelled_by, labelled, by_label, concurrents_with, deeper_concurrents, concurrents}
-use Rattle.vhdl_expressions.proofs.Gives.{Reaches, Gives, Whatever, front, g_pure, g_then, g_map, g_at, g_some, g_ident, g_below, g_choose, eat_gives, more_gives}
-use Rattle.vhdl_expressions.proofs.GiveValues.{Ends, both, sees_is, g_neither_then, expr_gives, name_gives, range_gives}
-use Rattle.vhdl_statements.proofs.Conditional.{conditional_gives}
-use Rattle.vhdl_statements.proofs.GiveSequential.{label_gives, end_gives}
-use Rattle.vhdl_statements.proofs.GiveProcess.{process_gives, selected_gives}
-use Rattle.vhdl_declarations.proofs.GiveInstance.{instance_gives}
+use Rattle.vhdl_parser_expressions.proofs.Gives.{Reaches, Gives, Whatever, front, g_pure, g_then, g_map, g_at, g_some, g_ident, g_below, g_choose, eat_gives, more_gives}
+use Rattle.vhdl_parser_expressions.proofs.GiveValues.{Ends, both, sees_is, g_neither_then, expr_gives, name_gives, range_gives}
+use Rattle.vhdl_parser_statements.proofs.Conditional.{conditional_gives}
+use Rattle.vhdl_parser_statements.proofs.GiveSequential.{label_gives, end_gives}
+use Rattle.vhdl_parser_statements.proofs.GiveProcess.{process_gives, selected_gives}
+use Rattle.vhdl_parser_declarations.proofs.GiveInstance.{instance_gives}
 use Rattle.vhdl_parser.proofs.Plain.{concurrent_long}
 use Rattle.vhdl_parser.proofs.Concurrents.{spelled_all, spelled_all-each}
 

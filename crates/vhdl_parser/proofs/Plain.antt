@@ -7,9 +7,9 @@ use Rattle.vhdl_tree.specs.grammar.Expressions.{spell_name}
 use Rattle.vhdl_tree.specs.grammar.Process.{spell_process, spell_selected}
 use Rattle.vhdl_tree.specs.grammar.Sequential.{spell_label, spell_end}
 use Rattle.vhdl_tree.specs.grammar.Concurrent.{spell_waveforms, spell_concurrent, IsConcurrent}
-use Rattle.vhdl_expressions.proofs.Halts.{Example}
-use Rattle.vhdl_expressions.proofs.WalkExpressions.{number}
-use Rattle.vhdl_statements.proofs.Plain.{an_ident, a_range, a_number}
+use Rattle.vhdl_parser_expressions.proofs.Halts.{Example}
+use Rattle.vhdl_parser_expressions.proofs.WalkExpressions.{number}
+use Rattle.vhdl_parser_statements.proofs.Plain.{an_ident, a_range, a_number}
 
 -- id <= 0 ;
 pub plain_concurrent : (label : Option Ident) → Example (λ r. spell_option spell_label label ++ r) spell_concurrent IsConcurrent

@@ -2,21 +2,21 @@
 use Rattle.std.proofs.Common.{◌≡◌, ℕ, ◌-◌, ◌≤◌, List, [], ◌∷◌, ◌++◌, length, Ok, Err, ⊎_elim, refl, sym, ap, ◌∙◌, subst, append_assoc, append-nil, length-append, arith}
 use Rattle.std.proofs.lemmas.List.{map-append, length-map}
 use Rattle.vhdl_lexer.specs.declared.token.Token.{Token}
-use Rattle.vhdl_expressions.specs.declared.stop.Stop.{Stop}
-use Rattle.vhdl_expressions.specs.declared.stop.Stop.TheVariants.{TooDeep}
+use Rattle.vhdl_parser_expressions.specs.declared.stop.Stop.{Stop}
+use Rattle.vhdl_parser_expressions.specs.declared.stop.Stop.TheVariants.{TooDeep}
 use Rattle.vhdl_tree.specs.Lexeme.{Lexeme, lexeme, lexemes}
 use Rattle.vhdl_tree.specs.Tree.{DesignUnit}
 use Rattle.vhdl_tree.specs.Pieces.{Spells, spell_each, IsEach}
 use Rattle.vhdl_tree.specs.grammar.Units.{spell_unit, spell_file, IsUnit}
-use Rattle.vhdl_expressions.specs.reader.Input.{IsRefused, is_more}
+use Rattle.vhdl_parser_expressions.specs.reader.Input.{IsRefused, is_more}
 use Rattle.vhdl_parser.specs.declared.fault.SyntaxFault.{SyntaxFault}
 use Rattle.vhdl_parser.specs.declared.fault.SyntaxFault.TheVariants as f
 use Rattle.vhdl_parser.specs.Fault.{IsRefusal}
 use Rattle.vhdl_parser.specs.Stuck.{Begins, IsStuck, IsMetBehind}
 use Rattle.vhdl_parser.specs.reader.Units.{units, finish, file}
-use Rattle.vhdl_expressions.proofs.Steps.{bind_err, pure_err}
-use Rattle.vhdl_expressions.proofs.Steady.{Steady, steady_pure, steady_refuse, steady_then, steady_test, refused_alike}
-use Rattle.vhdl_expressions.proofs.Halts.{Halts, halt_here, halt_after}
+use Rattle.vhdl_parser_expressions.proofs.Steps.{bind_err, pure_err}
+use Rattle.vhdl_parser_expressions.proofs.Steady.{Steady, steady_pure, steady_refuse, steady_then, steady_test, refused_alike}
+use Rattle.vhdl_parser_expressions.proofs.Halts.{Halts, halt_here, halt_after}
 use Rattle.vhdl_parser.proofs.Files.{units_rule, file_refused, finish_here}
 
 file_steady : Steady file

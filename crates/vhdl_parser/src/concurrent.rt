@@ -4,12 +4,12 @@ ghost use Rattle.std.specs.Prelude.{◌≡◌};
 ghost use Rattle.vhdl_tree.specs.View.{ident_view, option_ident_view, scheme_view, assignment_view, concurrent_view, concurrents_view};
 ghost use Rattle.vhdl_parser.specs.reader.Concurrent as read;
 ghost use Rattle.vhdl_parser.specs.reader.Concurrent.{generate_body_view};
-ghost use Rattle.vhdl_expressions.specs.reader.Input.{Reads};
+ghost use Rattle.vhdl_parser_expressions.specs.reader.Input.{Reads};
 
-use vhdl_declarations::instance;
-use vhdl_expressions::{Parser, Stop, below};
+use vhdl_parser_declarations::instance;
+use vhdl_parser_expressions::{Parser, Stop, below};
 use vhdl_lexer::Kind;
-use vhdl_statements::{
+use vhdl_parser_statements::{
     conditional_waveforms, end_of, optional_label, process, selected_assignment,
 };
 use vhdl_tree::{Assignment, Concurrent, Identifier, Scheme};

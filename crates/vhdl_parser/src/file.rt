@@ -10,13 +10,13 @@ ghost use Rattle.vhdl_tree.specs.Lexeme.{lexemes};
 ghost use Rattle.vhdl_tree.specs.Pieces.{Spells};
 ghost use Rattle.vhdl_tree.specs.Tree as tree;
 ghost use Rattle.vhdl_tree.specs.View.{file_view};
-ghost use Rattle.vhdl_expressions.specs.declared.stop.Stop.TheVariants as s;
+ghost use Rattle.vhdl_parser_expressions.specs.declared.stop.Stop.TheVariants as s;
 ghost use Rattle.vhdl_tree.specs.grammar.Units.{spell_file, IsFile};
 
 use crate::fault::SyntaxFault;
 use crate::unit::file;
 use std::alloc::Global;
-use vhdl_expressions::{Parser, Stop};
+use vhdl_parser_expressions::{Parser, Stop};
 use vhdl_lexer::Token;
 use vhdl_tree::File;
 

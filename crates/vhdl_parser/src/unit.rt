@@ -2,13 +2,13 @@
 
 ghost use Rattle.std.specs.Prelude.{◌≡◌};
 ghost use Rattle.vhdl_tree.specs.View.{entity_view, architecture_view, library_unit_view, unit_view, units_view, file_view};
-ghost use Rattle.vhdl_expressions.specs.reader.Input as input;
-ghost use Rattle.vhdl_expressions.specs.reader.Input.{Reads};
+ghost use Rattle.vhdl_parser_expressions.specs.reader.Input as input;
+ghost use Rattle.vhdl_parser_expressions.specs.reader.Input.{Reads};
 ghost use Rattle.vhdl_parser.specs.reader.Units as read;
 
 use crate::concurrent::concurrents;
-use vhdl_declarations::{context_clause, declarations, optional_generics, optional_ports};
-use vhdl_expressions::{Parser, Stop, many};
+use vhdl_parser_declarations::{context_clause, declarations, optional_generics, optional_ports};
+use vhdl_parser_expressions::{Parser, Stop, many};
 use vhdl_lexer::Kind;
 use vhdl_tree::{Architecture, DesignUnit, Entity, File, LibraryUnit, MAX_OPEN};
 

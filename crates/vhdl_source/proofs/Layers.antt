@@ -3,32 +3,32 @@ use Rattle.std.proofs.Common.{◌≡◌, ◌≢◌, ℕ, ◌≤◌, List, None, 
 use Rattle.std.specs.Prelude.{IsTrue, IsErr, IsErrAnd, IfOk, IfErr, min}
 use Rattle.vhdl_lexer.proofs.Reached.{cut_within}
 use Rattle.vhdl_tree.specs.Tree.{File}
-use Rattle.vhdl_names.specs.Files.{units_of}
-use Rattle.vhdl_names.specs.declared.fault.NameFault.{NameFault}
-use Rattle.vhdl_names.specs.declared.fault.NameFault.TheVariants as names
-use Rattle.vhdl_names.specs.sound.Named.{are_named}
-use Rattle.vhdl_names.specs.sound.Units.{are_sound}
-use Rattle.vhdl_names.specs.units.Units as u
-use Rattle.vhdl_sound.specs.Words.{HasWords}
-use Rattle.vhdl_sound.proofs.Units.{units_are_sound}
-use Rattle.vhdl_sound.proofs.Named.{units_are_named, small_ports_distinct}
-use Rattle.vhdl_sound.proofs.Spelled.{spelled_files_have_words}
-use Rattle.vhdl_expand.specs.Elab.{Elab as Expanded}
-use Rattle.vhdl_expand.specs.declared.fault.ElabFault.{ElabFault}
-use Rattle.vhdl_expand.specs.declared.fault.ElabFault.TheVariants as elab
-use Rattle.vhdl_elab.specs.Elaboration.{Elaborated, elaborated}
-use Rattle.vhdl_nets.specs.Shown.{as_shown, net_shown}
-use Rattle.vhdl_nets.proofs.Nets.{each-has-its-names}
-use Rattle.vhdl_ports.proofs.Ports.{each-has-own-ports}
+use Rattle.vhdl_names_rules.specs.Files.{units_of}
+use Rattle.vhdl_names_rules.specs.declared.fault.NameFault.{NameFault}
+use Rattle.vhdl_names_rules.specs.declared.fault.NameFault.TheVariants as names
+use Rattle.vhdl_names_rules.specs.sound.Named.{are_named}
+use Rattle.vhdl_names_rules.specs.sound.Units.{are_sound}
+use Rattle.vhdl_names_rules.specs.units.Units as u
+use Rattle.vhdl_names_laws.specs.Words.{HasWords}
+use Rattle.vhdl_names_laws.proofs.Units.{units_are_sound}
+use Rattle.vhdl_names_laws.proofs.Named.{units_are_named, small_ports_distinct}
+use Rattle.vhdl_names_laws.proofs.Spelled.{spelled_files_have_words}
+use Rattle.vhdl_expand_rules.specs.Elab.{Elab as Expanded}
+use Rattle.vhdl_expand_rules.specs.declared.fault.ElabFault.{ElabFault}
+use Rattle.vhdl_expand_rules.specs.declared.fault.ElabFault.TheVariants as elab
+use Rattle.vhdl_elab_rules.specs.Elaboration.{Elaborated, elaborated}
+use Rattle.vhdl_elab_laws.specs.Shown.{as_shown, net_shown}
+use Rattle.vhdl_elab_laws.proofs.Nets.{each-has-its-names}
+use Rattle.vhdl_elab_laws.proofs.Ports.{each-has-own-ports}
 use Rattle.rtl_net.specs.Nets.{NetView}
-use Rattle.rtl_moments.specs.Ports.{HasOwnPorts}
-use Rattle.vhdl_designs.specs.Sources.{IsFileOf}
-use Rattle.vhdl_designs.specs.Designs.{IsNetOf}
-use Rattle.vhdl_designs.specs.Refusals.{Refuses}
-use Rattle.vhdl_designs.specs.Faults.{of_name, of_elab, LiesIn}
+use Rattle.rtl_stim.specs.Ports.{HasOwnPorts}
+use Rattle.vhdl_source_rules.specs.Sources.{IsFileOf}
+use Rattle.vhdl_source_rules.specs.Designs.{IsNetOf}
+use Rattle.vhdl_source_rules.specs.Refusals.{Refuses}
+use Rattle.vhdl_source_rules.specs.Faults.{of_name, of_elab, LiesIn}
 use Rattle.vhdl_source.specs.Steps.{HasNameFault, HasElabFault, ShowsTop, GivesNet, name_within, elab_within}
-use Rattle.vhdl_designs.specs.declared.fault.SourceFault.{SourceFault}
-use Rattle.vhdl_designs.specs.declared.fault.SourceFault.TheVariants.{Lex, Syntax, Name, Elab, NoMemory}
+use Rattle.vhdl_source_rules.specs.declared.fault.SourceFault.{SourceFault}
+use Rattle.vhdl_source_rules.specs.declared.fault.SourceFault.TheVariants.{Lex, Syntax, Name, Elab, NoMemory}
 
 -- ---- the units of a source's file
 

@@ -8,18 +8,18 @@ use Rattle.vhdl_parser.specs.declared.fault.SyntaxFault.TheVariants as syntax
 use Rattle.vhdl_tree.specs.Levels.{IsShallow, IsDeep, most_open}
 use Rattle.vhdl_tree.specs.Lexeme.{Lexeme, lexemes}
 use Rattle.vhdl_tree.specs.Tree.{File}
-use Rattle.vhdl_names.specs.Files.{units_of}
-use Rattle.vhdl_names.specs.declared.fault.NameFault.TheVariants as names
-use Rattle.vhdl_names.specs.units.Units.{Units}
-use Rattle.vhdl_expand.specs.Elab.{Elab as Expanded}
-use Rattle.vhdl_expand.specs.declared.fault.ElabFault.TheVariants as elab
-use Rattle.vhdl_elab.specs.Elaboration.{Elaborated, elaborated}
-use Rattle.vhdl_nets.specs.Shown.{shown}
-use Rattle.vhdl_designs.specs.Sources.{SpellsTokens, IsFileOf, HasSyntaxFault}
-use Rattle.vhdl_designs.specs.Designs.{HasUnits, HasDesign}
-use Rattle.vhdl_designs.specs.Refusals.{HasNoUnits, HasNoDesign}
+use Rattle.vhdl_names_rules.specs.Files.{units_of}
+use Rattle.vhdl_names_rules.specs.declared.fault.NameFault.TheVariants as names
+use Rattle.vhdl_names_rules.specs.units.Units.{Units}
+use Rattle.vhdl_expand_rules.specs.Elab.{Elab as Expanded}
+use Rattle.vhdl_expand_rules.specs.declared.fault.ElabFault.TheVariants as elab
+use Rattle.vhdl_elab_rules.specs.Elaboration.{Elaborated, elaborated}
+use Rattle.vhdl_elab_laws.specs.Shown.{shown}
+use Rattle.vhdl_source_rules.specs.Sources.{SpellsTokens, IsFileOf, HasSyntaxFault}
+use Rattle.vhdl_source_rules.specs.Designs.{HasUnits, HasDesign}
+use Rattle.vhdl_source_rules.specs.Refusals.{HasNoUnits, HasNoDesign}
 use Rattle.vhdl_source.specs.Laws.{EachSourceHasOneDesign, EachSourceHasOneNet, EachRefusedHasNone}
-use Rattle.vhdl_designs.specs.declared.fault.SourceFault.TheVariants.{Lex, Syntax, Name, Elab, NoMemory}
+use Rattle.vhdl_source_rules.specs.declared.fault.SourceFault.TheVariants.{Lex, Syntax, Name, Elab, NoMemory}
 
 one_file : (source : List ℕ) (a b : File) → IsFileOf source a → IsFileOf source b → a ≡ b
 one_file source a b p q =

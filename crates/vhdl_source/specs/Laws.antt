@@ -1,13 +1,13 @@
 -- A source has one design at most under a top, and is refused only where it has none.
 use Rattle.std.specs.Prelude.{◌≡◌, ℕ, List}
-use Rattle.rtl_moments.specs.Ports.{HasOwnPorts}
+use Rattle.rtl_stim.specs.Ports.{HasOwnPorts}
 use Rattle.rtl_net.specs.Nets.{NetView}
-use Rattle.vhdl_elab.specs.Elaboration.{Elaborated}
-use Rattle.vhdl_nets.specs.Shown.{net_shown}
-use Rattle.vhdl_designs.specs.Designs.{HasDesign, IsNetOf}
-use Rattle.vhdl_designs.specs.Refusals.{Refuses}
-use Rattle.vhdl_designs.specs.declared.fault.SourceFault.{SourceFault}
-use Rattle.vhdl_designs.specs.declared.fault.SourceFault.TheVariants.{Lex, NoMemory}
+use Rattle.vhdl_elab_rules.specs.Elaboration.{Elaborated}
+use Rattle.vhdl_elab_laws.specs.Shown.{net_shown}
+use Rattle.vhdl_source_rules.specs.Designs.{HasDesign, IsNetOf}
+use Rattle.vhdl_source_rules.specs.Refusals.{Refuses}
+use Rattle.vhdl_source_rules.specs.declared.fault.SourceFault.{SourceFault}
+use Rattle.vhdl_source_rules.specs.declared.fault.SourceFault.TheVariants.{Lex, NoMemory}
 
 abbrev pub EachSourceHasOneDesign : Type 0
 EachSourceHasOneDesign =

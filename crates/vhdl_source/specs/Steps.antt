@@ -1,19 +1,19 @@
 -- What the code's own calls say.
 use Rattle.std.specs.Prelude.{◌≡◌, ℕ, min, List, None, Some, Result, Ok, Err, IsErr}
 use Rattle.rtl_net.specs.Nets.{NetView}
-use Rattle.vhdl_elab.specs.Elaboration.{Elaborated, elaborated}
-use Rattle.vhdl_expand.specs.declared.fault.ElabFault.{ElabFault}
-use Rattle.vhdl_expand.specs.declared.fault.ElabFault.TheVariants as elab
-use Rattle.vhdl_names.specs.Files as rules
-use Rattle.vhdl_names.specs.declared.fault.NameFault.{NameFault}
-use Rattle.vhdl_names.specs.declared.fault.NameFault.TheVariants as names
-use Rattle.vhdl_names.specs.units.Units as u
-use Rattle.vhdl_nets.specs.Shown.{Shows}
+use Rattle.vhdl_elab_rules.specs.Elaboration.{Elaborated, elaborated}
+use Rattle.vhdl_expand_rules.specs.declared.fault.ElabFault.{ElabFault}
+use Rattle.vhdl_expand_rules.specs.declared.fault.ElabFault.TheVariants as elab
+use Rattle.vhdl_names_rules.specs.Files as rules
+use Rattle.vhdl_names_rules.specs.declared.fault.NameFault.{NameFault}
+use Rattle.vhdl_names_rules.specs.declared.fault.NameFault.TheVariants as names
+use Rattle.vhdl_names_rules.specs.units.Units as u
+use Rattle.vhdl_elab_laws.specs.Shown.{Shows}
 use Rattle.vhdl_tree.specs.Tree.{File}
-use Rattle.vhdl_units.specs.declared.unit.Units.{Units}
-use Rattle.vhdl_units.specs.views.Units.{units_view}
-use Rattle.vhdl_designs.specs.declared.fault.SourceFault.{SourceFault}
-use Rattle.vhdl_designs.specs.declared.fault.SourceFault.TheVariants.{Name, Elab, NoMemory}
+use Rattle.vhdl_names_units.specs.declared.unit.Units.{Units}
+use Rattle.vhdl_names_units.specs.views.Units.{units_view}
+use Rattle.vhdl_source_rules.specs.declared.fault.SourceFault.{SourceFault}
+use Rattle.vhdl_source_rules.specs.declared.fault.SourceFault.TheVariants.{Name, Elab, NoMemory}
 
 -- the same fault, told at a byte that is not behind the given one
 abbrev pub name_within : (most : ℕ) → NameFault → NameFault

@@ -1,6 +1,6 @@
 //! The net of a source: from its bytes and the name of the top to the elaborated net (IEEE 1076-2008, 13.5 and clause 14).
 //!
-//! The specs of vhdl_designs say which tree, design and net a source has, and why it is refused; `specs/Laws.antt` says that it
+//! The specs of vhdl_source_rules say which tree, design and net a source has, and why it is refused; `specs/Laws.antt` says that it
 //! has one design at most for a top.
 #![tactic(auto)]
 
@@ -11,4 +11,4 @@ pub use laws::{
     a_source_has_one_design, nets_of_sources_have_own_ports, refused_sources_have_no_design,
 };
 pub use opening::{Vhdl, open};
-pub use vhdl_designs::SourceFault;
+pub use vhdl_source_rules::SourceFault;

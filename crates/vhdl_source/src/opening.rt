@@ -1,28 +1,28 @@
 //! From a source to its net.
 
 ghost use Rattle.std.specs.Prelude.{◌≡◌, IsTrue, IfOk, IfErr, List, ℕ, length};
-ghost use Rattle.rtl_moments.specs.Ports.{HasOwnPorts};
-ghost use Rattle.vhdl_designs.specs.Designs.{IsNetOf};
-ghost use Rattle.vhdl_designs.specs.Faults.{LiesIn};
-ghost use Rattle.vhdl_designs.specs.Refusals.{Refuses};
-ghost use Rattle.vhdl_designs.specs.Sources.{IsFileOf};
-ghost use Rattle.vhdl_names.specs.sound.Named.{are_named};
-ghost use Rattle.vhdl_names.specs.sound.Units.{are_sound};
+ghost use Rattle.rtl_stim.specs.Ports.{HasOwnPorts};
+ghost use Rattle.vhdl_source_rules.specs.Designs.{IsNetOf};
+ghost use Rattle.vhdl_source_rules.specs.Faults.{LiesIn};
+ghost use Rattle.vhdl_source_rules.specs.Refusals.{Refuses};
+ghost use Rattle.vhdl_source_rules.specs.Sources.{IsFileOf};
+ghost use Rattle.vhdl_names_rules.specs.sound.Named.{are_named};
+ghost use Rattle.vhdl_names_rules.specs.sound.Units.{are_sound};
 ghost use Rattle.vhdl_source.specs.Steps.{GivesUnits, GivesNet, name_within, elab_within};
 ghost use Rattle.vhdl_tree.specs.View.{file_view};
-ghost use Rattle.vhdl_units.specs.views.Units.{units_view};
+ghost use Rattle.vhdl_names_units.specs.views.Units.{units_view};
 
 use rtl_net::Net;
 use std::alloc::Global;
-use vhdl_designs::{Front, SourceFault};
-use vhdl_elaboration::elaborate;
-use vhdl_expand::ElabFault;
-use vhdl_files::analyse;
+use vhdl_source_rules::{Front, SourceFault};
+use vhdl_elab::elaborate;
+use vhdl_expand_rules::ElabFault;
+use vhdl_names::analyse;
 use vhdl_lexer::lex;
-use vhdl_names::NameFault;
+use vhdl_names_rules::NameFault;
 use vhdl_parser::parse;
 use vhdl_tree::File;
-use vhdl_units::Units;
+use vhdl_names_units::Units;
 
 /// The net of a source: `source` has the bytes of one file, `top` the name of an entity in it, in letters of either case. The
 /// file is read, its names and types are analysed, and its top is elaborated (IEEE 1076-2008, clauses 15, 12 and 14). It takes

@@ -1,6 +1,6 @@
 -- What holds of every kernel.
 use Rattle.std.specs.Prelude.{◌≡◌, ℕ, ◌<◌, ◌≤◌, List, [], length, map, slice_index_or}
-use Rattle.rtl_layout.specs.Cuts.{Cutting, AreCutsOf}
+use Rattle.rtl_net_layout.specs.Cuts.{Cutting, AreCutsOf}
 use Rattle.rtl_model.specs.bodies.Types.{ElementType}
 use Rattle.rtl_model.specs.nets.FlatNet.{FlatNet, FlatProcess, IsInRange, process_at}
 use Rattle.rtl_model.specs.nets.CoreNet.{core_net}

@@ -1,17 +1,17 @@
 -- The examples of specs/examples/Bodies.antt compute.
 use Rattle.std.proofs.Common.{refl}
 use Rattle.vhdl_values.specs.Numbers.{digits_of}
-use Rattle.vhdl_expand.specs.Integers.{integer, natural, integer_of, decision, turns}
-use Rattle.vhdl_expand.specs.Kinds.{declared_bounds, kind_of, size_of, places}
-use Rattle.vhdl_expand.specs.Site.{signal_elements, variable_elements, constant_values}
-use Rattle.vhdl_expand.specs.Expressions.{vector, value, test}
-use Rattle.vhdl_expand.specs.Statements.{given, choice, statement, statements, statement_turns, statements_turns}
-use Rattle.vhdl_expand.specs.Prefixes.{names_elements, prefixes_elements, in_order}
-use Rattle.vhdl_expand.specs.Declarations.{generics, fixed, starts, object, ports, declaration, declarations, variable, interface, association, associations}
-use Rattle.vhdl_expand.specs.Expansion.{sensitivity, process, instance, concurrent, concurrents, concurrent_turns, concurrents_turns, instance_of, expanded}
-use Rattle.vhdl_elab.specs.Numbering.{numbered}
-use Rattle.vhdl_elab.specs.Wiring.{flat_net}
-use Rattle.vhdl_elab.specs.Elaboration.{connected, elaborated}
+use Rattle.vhdl_expand_rules.specs.Integers.{integer, natural, integer_of, decision, turns}
+use Rattle.vhdl_expand_rules.specs.Kinds.{declared_bounds, kind_of, size_of, places}
+use Rattle.vhdl_expand_rules.specs.Site.{signal_elements, variable_elements, constant_values}
+use Rattle.vhdl_expand_rules.specs.Expressions.{vector, value, test}
+use Rattle.vhdl_expand_rules.specs.Statements.{given, choice, statement, statements, statement_turns, statements_turns}
+use Rattle.vhdl_expand_rules.specs.Prefixes.{names_elements, prefixes_elements, in_order}
+use Rattle.vhdl_expand_rules.specs.Declarations.{generics, fixed, starts, object, ports, declaration, declarations, variable, interface, association, associations}
+use Rattle.vhdl_expand_rules.specs.Expansion.{sensitivity, process, instance, concurrent, concurrents, concurrent_turns, concurrents_turns, instance_of, expanded}
+use Rattle.vhdl_elab_rules.specs.Numbering.{numbered}
+use Rattle.vhdl_elab_rules.specs.Wiring.{flat_net}
+use Rattle.vhdl_elab_rules.specs.Elaboration.{connected, elaborated}
 use Rattle.vhdl_examples.specs.designs.Bodies.{ConditionsBecomeTests, NumbersBecomeConstants, DefaultsAreTaken}
 
 pub tests : ConditionsBecomeTests

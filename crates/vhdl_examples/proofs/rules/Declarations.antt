@@ -1,9 +1,9 @@
 -- The small trees of specs/examples/Declarations.antt compute.
 use Rattle.std.proofs.Common.{refl}
-use Rattle.vhdl_names.specs.Expressions.{typed, static}
-use Rattle.vhdl_names.specs.Subtypes.{subtype, fixed_value}
-use Rattle.vhdl_names.specs.Declarations.{generic, port, signals}
-use Rattle.vhdl_names.specs.Interfaces.{interface}
+use Rattle.vhdl_names_rules.specs.Expressions.{typed, static}
+use Rattle.vhdl_names_rules.specs.Subtypes.{subtype, fixed_value}
+use Rattle.vhdl_names_rules.specs.Declarations.{generic, port, signals}
+use Rattle.vhdl_names_rules.specs.Interfaces.{interface}
 use Rattle.vhdl_examples.specs.rules.Declarations.{DeclarationsDeclare, ValuesAreFixed, ChoicesCover}
 
 pub declarations_declare : DeclarationsDeclare

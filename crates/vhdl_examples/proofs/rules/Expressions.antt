@@ -1,6 +1,6 @@
 -- The small trees of specs/examples/Expressions.antt compute.
 use Rattle.std.proofs.Common.{refl}
-use Rattle.vhdl_names.specs.Expressions.{typed, given}
+use Rattle.vhdl_names_rules.specs.Expressions.{typed, given}
 use Rattle.vhdl_examples.specs.rules.Expressions.{OperatorsHaveTypes, NamesHaveMeanings, EdgesAskForSignals, LiteralsHaveValues}
 
 pub operators_have_types : OperatorsHaveTypes

@@ -1,14 +1,14 @@
 -- The small trees of specs/examples/Files.antt compute.
 use Rattle.std.proofs.Common.{refl}
 use Rattle.vhdl_tree.specs.Lexeme.{same_kind}
-use Rattle.vhdl_names.specs.Expressions.{typed, static, given}
-use Rattle.vhdl_names.specs.Subtypes.{subtype}
-use Rattle.vhdl_names.specs.Declarations.{port}
-use Rattle.vhdl_names.specs.Statements.{signal, target}
-use Rattle.vhdl_names.specs.Interfaces.{interface, entity, component}
-use Rattle.vhdl_names.specs.Instances.{associated, port_actual, instantiated, instance}
-use Rattle.vhdl_names.specs.Concurrent.{assignment, concurrent, concurrents}
-use Rattle.vhdl_names.specs.Files.{architecture, unit, units_of}
+use Rattle.vhdl_names_rules.specs.Expressions.{typed, static, given}
+use Rattle.vhdl_names_rules.specs.Subtypes.{subtype}
+use Rattle.vhdl_names_rules.specs.Declarations.{port}
+use Rattle.vhdl_names_rules.specs.Statements.{signal, target}
+use Rattle.vhdl_names_rules.specs.Interfaces.{interface, entity, component}
+use Rattle.vhdl_names_rules.specs.Instances.{associated, port_actual, instantiated, instance}
+use Rattle.vhdl_names_rules.specs.Concurrent.{assignment, concurrent, concurrents}
+use Rattle.vhdl_names_rules.specs.Files.{architecture, unit, units_of}
 use Rattle.vhdl_examples.specs.rules.Files.{UnitsAreOnce, FormalsAreAssociated, ContextsBringNames}
 
 pub units_are_once : UnitsAreOnce

@@ -1,10 +1,10 @@
 -- The small trees of specs/examples/Statements.antt compute.
 use Rattle.std.proofs.Common.{refl}
-use Rattle.vhdl_names.specs.Expressions.{typed, static, condition, given}
-use Rattle.vhdl_names.specs.Subtypes.{subtype}
-use Rattle.vhdl_names.specs.Declarations.{variables}
-use Rattle.vhdl_names.specs.Statements.{signal, target, variable, statement, statements}
-use Rattle.vhdl_names.specs.Concurrent.{assignment, process, concurrent, concurrents}
+use Rattle.vhdl_names_rules.specs.Expressions.{typed, static, condition, given}
+use Rattle.vhdl_names_rules.specs.Subtypes.{subtype}
+use Rattle.vhdl_names_rules.specs.Declarations.{variables}
+use Rattle.vhdl_names_rules.specs.Statements.{signal, target, variable, statement, statements}
+use Rattle.vhdl_names_rules.specs.Concurrent.{assignment, process, concurrent, concurrents}
 use Rattle.vhdl_examples.specs.rules.Statements.{TargetsAreSignals, ProcessesAreRegions, TurnsHaveParameters, ConditionsBecomeIfs}
 
 pub targets_are_signals : TargetsAreSignals

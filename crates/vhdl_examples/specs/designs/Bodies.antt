@@ -5,21 +5,21 @@ use Rattle.vhdl_values.specs.declared.kinds.Cmp.TheVariants.{Eq, Lt, Gt}
 use Rattle.vhdl_values.specs.declared.kinds.Logic.TheVariants.{And}
 use Rattle.vhdl_tree.specs.declared.declaration.Mode.TheVariants.{Out}
 use Rattle.vhdl_tree.specs.declared.operator.Direction.TheVariants.{Downto}
-use Rattle.vhdl_names.specs.declared.operator.Arithmetic.TheVariants as arithmetic
-use Rattle.vhdl_names.specs.declared.operator.IntegerType.TheVariants.{Natural}
-use Rattle.vhdl_names.specs.declared.operator.Numeric.TheVariants.{Add, Multiply}
-use Rattle.vhdl_names.specs.declared.operator.VectorOperator.TheVariants as v
-use Rattle.vhdl_names.specs.units.Expressions as e
-use Rattle.vhdl_names.specs.units.Expressions.{Vector, Value}
-use Rattle.vhdl_names.specs.units.Units as u
-use Rattle.vhdl_names.specs.units.Units.{Entity}
+use Rattle.vhdl_names_rules.specs.declared.operator.Arithmetic.TheVariants as arithmetic
+use Rattle.vhdl_names_rules.specs.declared.operator.IntegerType.TheVariants.{Natural}
+use Rattle.vhdl_names_rules.specs.declared.operator.Numeric.TheVariants.{Add, Multiply}
+use Rattle.vhdl_names_rules.specs.declared.operator.VectorOperator.TheVariants as v
+use Rattle.vhdl_names_rules.specs.units.Expressions as e
+use Rattle.vhdl_names_rules.specs.units.Expressions.{Vector, Value}
+use Rattle.vhdl_names_rules.specs.units.Units as u
+use Rattle.vhdl_names_rules.specs.units.Units.{Entity}
 use Rattle.rtl_model.specs.bodies.Body as b
-use Rattle.vhdl_expand.specs.declared.fault.ElabProblem.TheVariants.{StaticError, Length, Index, TooWide}
-use Rattle.vhdl_expand.specs.Kinds.{one}
-use Rattle.vhdl_expand.specs.Kinds as k
-use Rattle.vhdl_expand.specs.Site.{Site, no_site}
-use Rattle.vhdl_expand.specs.Expressions.{vector, test}
-use Rattle.vhdl_elab.specs.Elaboration.{elaborated}
+use Rattle.vhdl_expand_rules.specs.declared.fault.ElabProblem.TheVariants.{StaticError, Length, Index, TooWide}
+use Rattle.vhdl_expand_rules.specs.Kinds.{one}
+use Rattle.vhdl_expand_rules.specs.Kinds as k
+use Rattle.vhdl_expand_rules.specs.Site.{Site, no_site}
+use Rattle.vhdl_expand_rules.specs.Expressions.{vector, test}
+use Rattle.vhdl_elab_rules.specs.Elaboration.{elaborated}
 use Rattle.vhdl_examples.specs.designs.Words.{number, downto, port, at, assignment, object, input, entity, Of}
 use Rattle.vhdl_examples.specs.designs.Designs.{no_statement}
 use Rattle.vhdl_examples.specs.designs.Refusals.{minus, of}

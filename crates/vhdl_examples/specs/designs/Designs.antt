@@ -3,15 +3,15 @@ use Rattle.std.specs.Prelude.{◌≡◌, [], ◌∷◌, map, Some, Ok, codes}
 use Rattle.vhdl_values.specs.declared.scalar.Nine.TheVariants.{Zero, One}
 use Rattle.vhdl_values.specs.declared.kinds.Edge.TheVariants.{Rising}
 use Rattle.vhdl_tree.specs.declared.declaration.Mode.TheVariants.{Out}
-use Rattle.vhdl_names.specs.declared.operator.Numeric.TheVariants.{Add}
-use Rattle.vhdl_names.specs.units.Expressions as e
-use Rattle.vhdl_names.specs.units.Statements as s
-use Rattle.vhdl_names.specs.units.Units as u
-use Rattle.vhdl_names.specs.units.Units.{Entity}
+use Rattle.vhdl_names_rules.specs.declared.operator.Numeric.TheVariants.{Add}
+use Rattle.vhdl_names_rules.specs.units.Expressions as e
+use Rattle.vhdl_names_rules.specs.units.Statements as s
+use Rattle.vhdl_names_rules.specs.units.Units as u
+use Rattle.vhdl_names_rules.specs.units.Units.{Entity}
 use Rattle.rtl_model.specs.bodies.Body as b
 use Rattle.rtl_model.specs.nets.FlatNet.{flat_sources}
 use Rattle.rtl_model.specs.simulation.Net.{Driver}
-use Rattle.vhdl_elab.specs.Elaboration.{elaborated}
+use Rattle.vhdl_elab_rules.specs.Elaboration.{elaborated}
 use Rattle.vhdl_examples.specs.designs.Words.{number, downto, to, port, signal, at, read, assigned, process, assignment, object, input, output, declared}
 use Rattle.vhdl_examples.specs.designs.Words.{entity, shown, Of}
 

@@ -4,21 +4,21 @@ use Rattle.vhdl_values.specs.declared.scalar.Nine.TheVariants.{Zero, One}
 use Rattle.vhdl_values.specs.declared.kinds.Cmp.TheVariants.{Eq}
 use Rattle.vhdl_tree.specs.declared.declaration.Mode.TheVariants.{Out}
 use Rattle.vhdl_tree.specs.declared.operator.Direction.TheVariants.{Downto}
-use Rattle.vhdl_names.specs.declared.operator.Arithmetic.{Arithmetic}
-use Rattle.vhdl_names.specs.declared.operator.Arithmetic.TheVariants.{Add, Divide, Modulo, Remainder}
-use Rattle.vhdl_names.specs.declared.operator.IntegerType.TheVariants.{Positive}
-use Rattle.vhdl_names.specs.units.Expressions as e
-use Rattle.vhdl_names.specs.units.Expressions.{Static, Range, Part}
-use Rattle.vhdl_names.specs.units.Statements as s
-use Rattle.vhdl_names.specs.units.Units as u
-use Rattle.vhdl_names.specs.units.Units.{Entity, Concurrent}
+use Rattle.vhdl_names_rules.specs.declared.operator.Arithmetic.{Arithmetic}
+use Rattle.vhdl_names_rules.specs.declared.operator.Arithmetic.TheVariants.{Add, Divide, Modulo, Remainder}
+use Rattle.vhdl_names_rules.specs.declared.operator.IntegerType.TheVariants.{Positive}
+use Rattle.vhdl_names_rules.specs.units.Expressions as e
+use Rattle.vhdl_names_rules.specs.units.Expressions.{Static, Range, Part}
+use Rattle.vhdl_names_rules.specs.units.Statements as s
+use Rattle.vhdl_names_rules.specs.units.Units as u
+use Rattle.vhdl_names_rules.specs.units.Units.{Entity, Concurrent}
 use Rattle.rtl_model.specs.bodies.Body as b
 use Rattle.rtl_model.specs.bodies.Types.{nine_valued}
-use Rattle.vhdl_expand.specs.declared.fault.ElabProblem.TheVariants.{NoTop, NoGeneric, GenericRange, StaticError, Length, Index, TooWide}
-use Rattle.vhdl_expand.specs.declared.fault.ElabProblem.TheVariants.{Unassociated, TwoUnresolved, ReadOfShared, TooDeep, TooMany}
-use Rattle.vhdl_expand.specs.Integers.{integer}
-use Rattle.vhdl_expand.specs.Site.{no_integers}
-use Rattle.vhdl_elab.specs.Elaboration.{elaborated}
+use Rattle.vhdl_expand_rules.specs.declared.fault.ElabProblem.TheVariants.{NoTop, NoGeneric, GenericRange, StaticError, Length, Index, TooWide}
+use Rattle.vhdl_expand_rules.specs.declared.fault.ElabProblem.TheVariants.{Unassociated, TwoUnresolved, ReadOfShared, TooDeep, TooMany}
+use Rattle.vhdl_expand_rules.specs.Integers.{integer}
+use Rattle.vhdl_expand_rules.specs.Site.{no_integers}
+use Rattle.vhdl_elab_rules.specs.Elaboration.{elaborated}
 use Rattle.vhdl_examples.specs.designs.Words.{number, downto, to, port, signal, at, read, assigned, process, assignment, object, input, output, declared}
 use Rattle.vhdl_examples.specs.designs.Words.{entity, Of}
 use Rattle.vhdl_examples.specs.designs.Designs.{inverter, no_statement}

@@ -2,13 +2,13 @@
 use Rattle.std.specs.Prelude.{ℕ, true, List, [], ◌∷◌, Option, Some, None, Ok, Err}
 use Rattle.vhdl_tree.specs.declared.declaration.Mode.TheVariants.{In, Out}
 use Rattle.vhdl_tree.specs.declared.operator.Direction.TheVariants.{To, Downto}
-use Rattle.vhdl_names.specs.units.Expressions as e
-use Rattle.vhdl_names.specs.units.Expressions.{Static, Range, Part, Place, Vector, Value}
-use Rattle.vhdl_names.specs.units.Statements as s
-use Rattle.vhdl_names.specs.units.Units as u
-use Rattle.vhdl_names.specs.units.Units.{Form, Fixed, Entity, Concurrent, Concurrents, Units}
-use Rattle.vhdl_expand.specs.Elab.{Elab, ◌>>=◌}
-use Rattle.vhdl_elab.specs.Elaboration.{Elaborated}
+use Rattle.vhdl_names_rules.specs.units.Expressions as e
+use Rattle.vhdl_names_rules.specs.units.Expressions.{Static, Range, Part, Place, Vector, Value}
+use Rattle.vhdl_names_rules.specs.units.Statements as s
+use Rattle.vhdl_names_rules.specs.units.Units as u
+use Rattle.vhdl_names_rules.specs.units.Units.{Form, Fixed, Entity, Concurrent, Concurrents, Units}
+use Rattle.vhdl_expand_rules.specs.Elab.{Elab, ◌>>=◌}
+use Rattle.vhdl_elab_rules.specs.Elaboration.{Elaborated}
 
 -- ---- names and ranges
 

@@ -4,18 +4,18 @@ use Rattle.vhdl_values.specs.declared.scalar.Nine.TheVariants.{Zero, One}
 use Rattle.vhdl_tree.specs.declared.declaration.Mode.TheVariants.{In}
 use Rattle.vhdl_tree.specs.Tree as t
 use Rattle.vhdl_tree.specs.Tree.{Expr}
-use Rattle.vhdl_names.specs.declared.kind.Kind.TheVariants.{Element, LogicVector, Unsigned}
-use Rattle.vhdl_names.specs.declared.kind.ObjectType.TheVariants.{Elements, Enumeration}
-use Rattle.vhdl_names.specs.units.Expressions as u
-use Rattle.vhdl_names.specs.units.Statements as s
-use Rattle.vhdl_names.specs.units.Units as u'
-use Rattle.vhdl_names.specs.Visibility as m
-use Rattle.vhdl_names.specs.Visibility.{declare, Sight, Declares}
-use Rattle.vhdl_names.specs.Packages.{sight_of}
-use Rattle.vhdl_names.specs.Subtypes.{fixed_value}
-use Rattle.vhdl_names.specs.Declarations.{generic, port, signals}
-use Rattle.vhdl_names.specs.Choices.{covered}
-use Rattle.vhdl_names.specs.Interfaces.{interface}
+use Rattle.vhdl_names_rules.specs.declared.kind.Kind.TheVariants.{Element, LogicVector, Unsigned}
+use Rattle.vhdl_names_rules.specs.declared.kind.ObjectType.TheVariants.{Elements, Enumeration}
+use Rattle.vhdl_names_rules.specs.units.Expressions as u
+use Rattle.vhdl_names_rules.specs.units.Statements as s
+use Rattle.vhdl_names_rules.specs.units.Units as u'
+use Rattle.vhdl_names_rules.specs.Visibility as m
+use Rattle.vhdl_names_rules.specs.Visibility.{declare, Sight, Declares}
+use Rattle.vhdl_names_rules.specs.Packages.{sight_of}
+use Rattle.vhdl_names_rules.specs.Subtypes.{fixed_value}
+use Rattle.vhdl_names_rules.specs.Declarations.{generic, port, signals}
+use Rattle.vhdl_names_rules.specs.Choices.{covered}
+use Rattle.vhdl_names_rules.specs.Interfaces.{interface}
 use Rattle.vhdl_examples.specs.rules.Words.{words, name, with_two, enclosed, number, character, string, plain_type, of_four, sight, both_packages, logic_alone}
 
 -- ---- declarations

@@ -7,16 +7,16 @@ use Rattle.vhdl_values.specs.declared.kinds.Edge.TheVariants.{Rising}
 use Rattle.vhdl_tree.specs.declared.operator.Operator.TheVariants as o
 use Rattle.vhdl_tree.specs.Tree as t
 use Rattle.vhdl_tree.specs.Tree.{Expr}
-use Rattle.vhdl_names.specs.declared.kind.Kind.TheVariants.{Element, LogicVector, Unsigned, OpenVector}
-use Rattle.vhdl_names.specs.declared.kind.ObjectType.TheVariants.{Elements}
-use Rattle.vhdl_names.specs.declared.operator.Numeric.TheVariants as by
-use Rattle.vhdl_names.specs.declared.operator.VectorOperator.TheVariants as op
-use Rattle.vhdl_names.specs.units.Expressions as u
-use Rattle.vhdl_names.specs.units.Statements as s
-use Rattle.vhdl_names.specs.Visibility.{Sight, within_loop, within_generate}
-use Rattle.vhdl_names.specs.Packages.{sight_of}
-use Rattle.vhdl_names.specs.Operators.{integer, elements, truth}
-use Rattle.vhdl_names.specs.Expressions.{typed, given}
+use Rattle.vhdl_names_rules.specs.declared.kind.Kind.TheVariants.{Element, LogicVector, Unsigned, OpenVector}
+use Rattle.vhdl_names_rules.specs.declared.kind.ObjectType.TheVariants.{Elements}
+use Rattle.vhdl_names_rules.specs.declared.operator.Numeric.TheVariants as by
+use Rattle.vhdl_names_rules.specs.declared.operator.VectorOperator.TheVariants as op
+use Rattle.vhdl_names_rules.specs.units.Expressions as u
+use Rattle.vhdl_names_rules.specs.units.Statements as s
+use Rattle.vhdl_names_rules.specs.Visibility.{Sight, within_loop, within_generate}
+use Rattle.vhdl_names_rules.specs.Packages.{sight_of}
+use Rattle.vhdl_names_rules.specs.Operators.{integer, elements, truth}
+use Rattle.vhdl_names_rules.specs.Expressions.{typed, given}
 use Rattle.vhdl_examples.specs.rules.Words.{word, name, with_one, with_two, event, enclosed, number, character, string, binary, region, sight, logic_alone, a, v, n}
 
 abbrev pub named_a : Expr

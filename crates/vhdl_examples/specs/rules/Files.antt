@@ -4,10 +4,10 @@ use Rattle.vhdl_tree.specs.declared.declaration.Mode.{Mode}
 use Rattle.vhdl_tree.specs.declared.declaration.Mode.TheVariants.{In, Out}
 use Rattle.vhdl_tree.specs.Tree as t
 use Rattle.vhdl_tree.specs.Tree.{Expr, File, DesignUnit, ContextItem}
-use Rattle.vhdl_names.specs.units.Expressions as u
-use Rattle.vhdl_names.specs.units.Statements as s
-use Rattle.vhdl_names.specs.units.Units as u'
-use Rattle.vhdl_names.specs.Files.{units_of}
+use Rattle.vhdl_names_rules.specs.units.Expressions as u
+use Rattle.vhdl_names_rules.specs.units.Statements as s
+use Rattle.vhdl_names_rules.specs.units.Units as u'
+use Rattle.vhdl_names_rules.specs.Files.{units_of}
 use Rattle.vhdl_examples.specs.rules.Words.{word, words, name, enclosed, character, target, plain_type}
 
 -- ---- words to write files with

@@ -6,11 +6,11 @@ use Rattle.vhdl_tree.specs.declared.operator.Operator.TheVariants as o
 use Rattle.vhdl_tree.specs.declared.operator.Direction.TheVariants.{To}
 use Rattle.vhdl_tree.specs.Tree as t
 use Rattle.vhdl_tree.specs.Tree.{Expr, Ident}
-use Rattle.vhdl_names.specs.units.Expressions as u
-use Rattle.vhdl_names.specs.units.Statements as s
-use Rattle.vhdl_names.specs.units.Units as u'
-use Rattle.vhdl_names.specs.Statements.{statement}
-use Rattle.vhdl_names.specs.Concurrent.{process, assignment, concurrent}
+use Rattle.vhdl_names_rules.specs.units.Expressions as u
+use Rattle.vhdl_names_rules.specs.units.Statements as s
+use Rattle.vhdl_names_rules.specs.units.Units as u'
+use Rattle.vhdl_names_rules.specs.Statements.{statement}
+use Rattle.vhdl_names_rules.specs.Concurrent.{process, assignment, concurrent}
 use Rattle.vhdl_examples.specs.rules.Words.{word, words, name, number, character, binary, target, plain_type, sight, a}
 
 -- y, as it is assigned

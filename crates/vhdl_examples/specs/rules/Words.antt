@@ -6,13 +6,13 @@ use Rattle.vhdl_tree.specs.declared.operator.Direction.TheVariants.{Downto}
 use Rattle.vhdl_tree.specs.declared.declaration.Mode.TheVariants.{In, Out}
 use Rattle.vhdl_tree.specs.Tree as t
 use Rattle.vhdl_tree.specs.Tree.{Ident, Expr}
-use Rattle.vhdl_names.specs.declared.kind.Kind.TheVariants.{Element, LogicVector, Unsigned}
-use Rattle.vhdl_names.specs.declared.kind.ObjectType.TheVariants.{Enumeration}
-use Rattle.vhdl_names.specs.units.Expressions as u
-use Rattle.vhdl_names.specs.units.Expressions.{Part, Vector}
-use Rattle.vhdl_names.specs.Visibility as m
-use Rattle.vhdl_names.specs.Visibility.{declare, Declared, Sight}
-use Rattle.vhdl_names.specs.Packages.{Context, sight_of}
+use Rattle.vhdl_names_rules.specs.declared.kind.Kind.TheVariants.{Element, LogicVector, Unsigned}
+use Rattle.vhdl_names_rules.specs.declared.kind.ObjectType.TheVariants.{Enumeration}
+use Rattle.vhdl_names_rules.specs.units.Expressions as u
+use Rattle.vhdl_names_rules.specs.units.Expressions.{Part, Vector}
+use Rattle.vhdl_names_rules.specs.Visibility as m
+use Rattle.vhdl_names_rules.specs.Visibility.{declare, Declared, Sight}
+use Rattle.vhdl_names_rules.specs.Packages.{Context, sight_of}
 
 -- ---- trees
 

@@ -8,13 +8,13 @@ use Rattle.vhdl_tree.specs.declared.expression.Identifier as code_identifier
 use Rattle.vhdl_tree.specs.View.{option_ident_view, concurrents_view}
 use Rattle.vhdl_tree.specs.Lexeme.{Lexeme}
 use Rattle.vhdl_tree.specs.Tree.{Ident, Assignment, Scheme, for_each, if_holds, Concurrent, assignment, selected, process, instance, generated, concurrents_of}
-use Rattle.vhdl_expressions.specs.reader.Input.{Parser, ◌>>=◌, ◌>>◌, ◌<$>◌, pure, refuse, too_deep, choose, sees_both, expect, eat, identifier, many, below}
-use Rattle.vhdl_expressions.specs.reader.Expressions.{expr, inside, name, range}
-use Rattle.vhdl_statements.specs.reader.Sequential.{optional_label, end_of}
-use Rattle.vhdl_statements.specs.reader.Process as process_reader
-use Rattle.vhdl_statements.specs.reader.Waveforms as waveforms_reader
-use Rattle.vhdl_statements.specs.reader.Waveforms.{conditional_waveforms}
-use Rattle.vhdl_declarations.specs.reader.Instance as instance_reader
+use Rattle.vhdl_parser_expressions.specs.reader.Input.{Parser, ◌>>=◌, ◌>>◌, ◌<$>◌, pure, refuse, too_deep, choose, sees_both, expect, eat, identifier, many, below}
+use Rattle.vhdl_parser_expressions.specs.reader.Expressions.{expr, inside, name, range}
+use Rattle.vhdl_parser_statements.specs.reader.Sequential.{optional_label, end_of}
+use Rattle.vhdl_parser_statements.specs.reader.Process as process_reader
+use Rattle.vhdl_parser_statements.specs.reader.Waveforms as waveforms_reader
+use Rattle.vhdl_parser_statements.specs.reader.Waveforms.{conditional_waveforms}
+use Rattle.vhdl_parser_declarations.specs.reader.Instance as instance_reader
 
 -- behind its label
 unfoldable pub assign : ℕ → Option Ident → Parser Assignment

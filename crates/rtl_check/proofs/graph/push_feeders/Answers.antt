@@ -4,7 +4,7 @@ use Rattle.std.proofs.lemmas.List.{take_all}
 use Rattle.rtl_model.specs.simulation.Net as m
 use Rattle.rtl_net.specs.declared.net.Source.{Source}
 use Rattle.rtl_net.specs.Nets.{source_view}
-use Rattle.rtl_facts.specs.Reading.{is_in}
+use Rattle.rtl_net_facts.specs.Reading.{is_in}
 use Rattle.rtl_check.specs.Feeders.{feeds_by}
 use Rattle.rtl_check.proofs.Rows.{any_map}
 use Rattle.rtl_check.proofs.graph.push_feeders.Goals as goal

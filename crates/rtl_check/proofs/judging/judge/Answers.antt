@@ -1,8 +1,8 @@
 use Rattle.std.proofs.Common.{◌≡◌, ◌<◌, ◌≤◌, ℕ, length, map, sym, ap, subst, ◌∙◌, arith}
-use Rattle.rtl_levels.specs.Feeding as t
-use Rattle.rtl_levels.specs.declared.order.Order.{Order}
-use Rattle.rtl_levels.specs.Orders.{IsOrder}
-use Rattle.rtl_levels.specs.Rounds.{IsRound}
+use Rattle.rtl_check_levels.specs.Feeding as t
+use Rattle.rtl_check_levels.specs.declared.order.Order.{Order}
+use Rattle.rtl_check_levels.specs.Orders.{IsOrder}
+use Rattle.rtl_check_levels.specs.Rounds.{IsRound}
 use Rattle.rtl_check.specs.Views.{core, fault_view}
 use Rattle.rtl_check.proofs.Processes.{many_processes}
 use Rattle.rtl_check.proofs.Verdicts.{looped, none_of, closed, none_once, looped_once}

@@ -7,7 +7,7 @@ use Rattle.rtl_eval.specs.Runs.{Outcome}
 use Rattle.rtl_net.specs.Nets.{flat}
 use Rattle.rtl_net.specs.declared.process.Process.{Process}
 use Rattle.rtl_kernel.specs.drivers.Rows.{rows}
-use Rattle.rtl_layout.specs.Groups.{Grouping}
+use Rattle.rtl_net_layout.specs.Groups.{Grouping}
 use Rattle.rtl_kernel.specs.drivers.Brought.{AreAloneAlike, Brings}
 use Rattle.rtl_kernel.specs.drivers.Transactions.{all_targets, nets_of, targets_of}
 use Rattle.rtl_kernel.proofs.Updating.{updating_none_yet, updating_one, updated_drivers, updated_outcomes}

@@ -1,7 +1,7 @@
 use Rattle.std.proofs.Common.{◌≡◌, ℕ, ◌+◌, ◌-◌, ◌<◌, ◌≤◌, List, Option, Some, None, arith, length, get_or, ap, sym, subst, ◌∙◌}
 use Rattle.std.specs.Prelude.{IsSome}
 use Rattle.std.proofs.lemmas.List.{length-map}
-use Rattle.rtl_layout.specs.Groups.{Grouping}
+use Rattle.rtl_net_layout.specs.Groups.{Grouping}
 use Rattle.rtl_net.specs.Nets.{flat}
 use Rattle.rtl_net.specs.declared.process.Driver.{Driver}
 use Rattle.rtl_kernel.specs.drivers.Brought.{AreAloneAlike}

@@ -2,7 +2,7 @@ use Rattle.std.proofs.Common.{[], sym, subst}
 use Rattle.rtl_net.specs.Nets.{SignalView, signal_view}
 use Rattle.rtl_sink.specs.Written.{Goes}
 use Rattle.rtl_sink.proofs.Writing.{Goes-next}
-use Rattle.rtl_moments.proofs.PortLemmas.{has_nets, view_there, place_there}
+use Rattle.rtl_stim.proofs.PortLemmas.{has_nets, view_there, place_there}
 use Rattle.rtl_machine.specs.Evaluated.{port_text}
 use Rattle.rtl_machine.proofs.ports.push_ports.Goals as goal
 

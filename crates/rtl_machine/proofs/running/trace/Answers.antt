@@ -2,7 +2,7 @@ use Rattle.std.proofs.Common.{Result, Err, subst, ap, ◌∙◌}
 use Rattle.rtl_run.specs.declared.summary.Summary.{Summary}
 use Rattle.rtl_run.specs.declared.summary.RunFault.{RunFault}
 use Rattle.rtl_run.specs.Answered.{Answers}
-use Rattle.rtl_moments.specs.Stimuli.{inputs_at}
+use Rattle.rtl_stim.specs.Stimuli.{inputs_at}
 use Rattle.rtl_machine.proofs.Traces.{never_stops, beginning, whole}
 use Rattle.rtl_machine.proofs.running.trace.Goals as goal
 

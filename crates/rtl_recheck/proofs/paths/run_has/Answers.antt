@@ -1,5 +1,5 @@
 use Rattle.std.proofs.Common.{arith, sym, ◌∙◌}
-use Rattle.rtl_facts.specs.Paths.{covers}
+use Rattle.rtl_net_facts.specs.Paths.{covers}
 use Rattle.rtl_recheck.proofs.Listed.{run_goes}
 use Rattle.rtl_recheck.proofs.paths.run_has.Goals as goal
 

@@ -7,8 +7,8 @@ use Rattle.rtl_model.proofs.simulation.Leveled.{leveled}
 use Rattle.rtl_eval.specs.Runs.{Outcome}
 use Rattle.rtl_kernel.specs.drivers.Transactions.{nets_of, no_outcome}
 use Rattle.rtl_kernel.specs.wakes.Woken.{AreDifferent, wakers_of}
-use Rattle.rtl_layout.specs.declared.cuts.Cut.{Cut}
-use Rattle.rtl_layout.specs.Cuts.{AreCuts}
+use Rattle.rtl_net_layout.specs.declared.cuts.Cut.{Cut}
+use Rattle.rtl_net_layout.specs.Cuts.{AreCuts}
 use Rattle.rtl_net.specs.declared.process.Driver.{Driver}
 use Rattle.rtl_net.specs.declared.process.Process.{Process}
 use Rattle.rtl_synchronous.specs.Kept.{core}

@@ -5,8 +5,8 @@ use Rattle.rtl_model.proofs.nets.InRange.{keeps_range}
 use Rattle.rtl_eval.specs.Runs.{Outcome}
 use Rattle.rtl_kernel.specs.drivers.Transactions.{nets_of, no_outcome}
 use Rattle.rtl_kernel.specs.wakes.Woken.{AreDifferent, wakers_of}
-use Rattle.rtl_layout.specs.declared.cuts.Cut.{Cut}
-use Rattle.rtl_layout.specs.Cuts.{AreCuts}
+use Rattle.rtl_net_layout.specs.declared.cuts.Cut.{Cut}
+use Rattle.rtl_net_layout.specs.Cuts.{AreCuts}
 use Rattle.rtl_net.specs.Nets.{flat}
 use Rattle.rtl_net.specs.declared.process.Driver.{Driver}
 use Rattle.rtl_net.specs.declared.process.Process.{Process}

@@ -1,7 +1,7 @@
 use Rattle.std.proofs.Common.{ℕ, List, Bor, false, inr, map, string_bytes, subst}
-use Rattle.rtl_commands.specs.Served.{Outputs}
+use Rattle.rtlsim_commands.specs.Served.{Outputs}
 use Rattle.rtl_sink.specs.Read.{ReaderState}
-use Rattle.rtl_words.specs.Words.{IsOfWords, SayNothing}
+use Rattle.rtlsim_words.specs.Words.{IsOfWords, SayNothing}
 use Rattle.rtlsim.specs.Inputs.{Reading, GivesNamed}
 use Rattle.rtlsim.specs.Tools.{Serves, ServesFirstLine}
 use Rattle.rtlsim.proofs.Refusing.{refuses_for}

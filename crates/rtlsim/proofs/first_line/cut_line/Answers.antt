@@ -4,7 +4,7 @@ use Rattle.std.proofs.lemmas.Bool.Decides.{nat_tests}
 use Rattle.std.proofs.lemmas.List.{take_all, drop_all}
 use Rattle.std.specs.List.{position_or_len}
 use Rattle.std.specs.Prelude.{position}
-use Rattle.rtl_stim.specs.Lines.{ends_line}
+use Rattle.rtl_stim_lines.specs.Lines.{ends_line}
 use Rattle.rtlsim.proofs.first_line.cut_line.Goals as goal
 
 found : (b : Bool) (n i : ℕ) → cond b (Some n) None ≡ Some i → n ≡ i

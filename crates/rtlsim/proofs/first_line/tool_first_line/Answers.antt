@@ -1,8 +1,8 @@
 use Rattle.std.proofs.Common.{◌≡◌, List, ℕ, inr, ap, subst, ◌∙◌}
 use Rattle.std.specs.List.{after_first}
 use Rattle.rtlsim.specs.Inputs.{Reading, GivesNamed, held}
-use Rattle.rtl_commands.specs.Served.{Outputs}
-use Rattle.rtl_stim.specs.Lines.{ends_line}
+use Rattle.rtlsim_commands.specs.Served.{Outputs}
+use Rattle.rtl_stim_lines.specs.Lines.{ends_line}
 use Rattle.rtlsim.specs.Lines.{first_line_of}
 use Rattle.rtlsim.specs.Tools.{ServesLine}
 use Rattle.rtlsim.proofs.first_line.tool_first_line.Goals as goal

@@ -1,10 +1,10 @@
 use Rattle.std.proofs.Common.{rules, arith, []}
 use Rattle.std.proofs.lemmas.Grind.{common_steps}
 use Rattle.vhdl_tree.specs.View.{concurrents_view}
-use Rattle.vhdl_expressions.specs.reader.Input.{many_from}
+use Rattle.vhdl_parser_expressions.specs.reader.Input.{many_from}
 use Rattle.vhdl_parser.specs.reader.Concurrent as read
 use Rattle.vhdl_parser.specs.reader.Concurrent.{concurrents_with, for_generate, if_generate}
-use Rattle.vhdl_expressions.proofs.Turns.{one_more, no_more}
+use Rattle.vhdl_parser_expressions.proofs.Turns.{one_more, no_more}
 use Rattle.vhdl_parser.proofs.Deeper.{concurrents_below}
 use Rattle.vhdl_parser.proofs.concurrent.+concurrent.Goals as goal
 

@@ -1,6 +1,6 @@
 use Rattle.std.proofs.Common.{◌≡◌, ◌+◌, ◌-◌, ◌*◌}
 use Rattle.vhdl_tree.specs.View.{concurrents_view}
-use Rattle.vhdl_expressions.specs.reader.Input.{many_from}
+use Rattle.vhdl_parser_expressions.specs.reader.Input.{many_from}
 use Rattle.vhdl_parser.specs.reader.Concurrent as read
 use Rattle.vhdl_parser.proofs.concurrent.+concurrent.Given as goal
 

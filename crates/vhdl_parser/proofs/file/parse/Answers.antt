@@ -1,7 +1,7 @@
 use Rattle.std.proofs.Common.{◌≡◌, ℕ, [], Err, refl, sym, ap, ◌∙◌, subst, arith}
-use Rattle.vhdl_expressions.specs.declared.stop.Stop.{Stop}
-use Rattle.vhdl_expressions.specs.declared.stop.Stop.TheVariants.{Unexpected, EndOfFile, TooDeep, NoMemory}
-use Rattle.vhdl_expressions.specs.reader.Input.{IsRefused}
+use Rattle.vhdl_parser_expressions.specs.declared.stop.Stop.{Stop}
+use Rattle.vhdl_parser_expressions.specs.declared.stop.Stop.TheVariants.{Unexpected, EndOfFile, TooDeep, NoMemory}
+use Rattle.vhdl_parser_expressions.specs.reader.Input.{IsRefused}
 use Rattle.vhdl_tree.specs.Levels.{IsShallow, IsDeep}
 use Rattle.vhdl_tree.specs.Pieces.{Spells}
 use Rattle.vhdl_tree.specs.View.{file_view}

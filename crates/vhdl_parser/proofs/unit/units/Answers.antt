@@ -1,7 +1,7 @@
 use Rattle.std.proofs.Common.{rules}
 use Rattle.vhdl_tree.specs.View.{unit_view}
-use Rattle.vhdl_expressions.specs.reader.Input.{is_more}
-use Rattle.vhdl_expressions.proofs.Lists.{reads_many}
+use Rattle.vhdl_parser_expressions.specs.reader.Input.{is_more}
+use Rattle.vhdl_parser_expressions.proofs.Lists.{reads_many}
 use Rattle.vhdl_parser.specs.reader.Units.{units, unit}
 use Rattle.vhdl_parser.proofs.unit.units.Goals as goal
 

@@ -1,7 +1,7 @@
 use Rattle.std.proofs.Common.{◌≡◌, ℕ, List, [], true, length, map, replicate, ap, sym, subst, ◌∙◌, arith}
 use Rattle.std.proofs.lemmas.Option.{slice_get_within}
-use Rattle.rtl_layout.specs.Cuts.{AreCutsOf}
-use Rattle.rtl_layout.specs.Groups.{Grouping, AreRuns}
+use Rattle.rtl_net_layout.specs.Cuts.{AreCutsOf}
+use Rattle.rtl_net_layout.specs.Groups.{Grouping, AreRuns}
 use Rattle.rtl_model.specs.bodies.Types.{nine_valued}
 use Rattle.rtl_net.specs.Nets.{flat}
 use Rattle.rtl_net.specs.declared.process.Process.{Process}

@@ -1,7 +1,7 @@
 use Rattle.std.proofs.Common.{ℕ, suc, List, refl, sym, ap, subst, ◌∙◌, arith}
-use Rattle.rtl_stim.specs.Filling.{Waits}
+use Rattle.rtl_stim_lines.specs.Filling.{Waits}
 use Rattle.rtl_agenda.specs.Agenda.{Change}
-use Rattle.rtl_moments.proofs.Next.{each_begins_at_zero}
+use Rattle.rtl_stim.proofs.Next.{each_begins_at_zero}
 use Rattle.rtl_sink.specs.Written.{Goes}
 use Rattle.rtl_vcd.specs.Trace.{end_text}
 use Rattle.rtl_run.proofs.Steps.{no_moment}

@@ -1,7 +1,7 @@
 use Rattle.std.proofs.Common.{◌≡◌, ℕ, suc, ◌-◌, List, length}
 use Rattle.rtl_check.specs.Views.{core}
-use Rattle.rtl_stim.specs.Filling.{Waits}
-use Rattle.rtl_moments.specs.Stimuli.{inputs_at}
+use Rattle.rtl_stim_lines.specs.Filling.{Waits}
+use Rattle.rtl_stim.specs.Stimuli.{inputs_at}
 use Rattle.rtl_machine.specs.Synchronous.{IsSynchronous}
 use Rattle.rtl_levelized.specs.Running.{HasCome}
 use Rattle.rtl_levelized.proofs.stepping.Stepping.run_moments.Given as goal

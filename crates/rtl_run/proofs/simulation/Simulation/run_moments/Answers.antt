@@ -5,8 +5,8 @@ use Rattle.rtl_model.proofs.simulation.Order.{HasRun-done}
 use Rattle.rtl_net.specs.Nets.{flat}
 use Rattle.rtl_kernel.specs.kernel.Simulation.{changes_of}
 use Rattle.rtl_agenda.specs.Agenda.{Change}
-use Rattle.rtl_stim.specs.Filling.{Waits}
-use Rattle.rtl_moments.proofs.Next.{each_begins_at_zero}
+use Rattle.rtl_stim_lines.specs.Filling.{Waits}
+use Rattle.rtl_stim.proofs.Next.{each_begins_at_zero}
 use Rattle.rtl_sink.specs.Written.{Goes}
 use Rattle.rtl_vcd.specs.Trace.{end_text}
 use Rattle.rtl_run.specs.declared.summary.RunFault.TheVariants.{Output}

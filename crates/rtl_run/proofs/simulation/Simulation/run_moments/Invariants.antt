@@ -2,8 +2,8 @@ use Rattle.std.proofs.Common.{◌≡◌, ℕ, suc, ◌<◌, ◌-◌, length, IsT
 use Rattle.std.specs.Prelude.{slice_index}
 use Rattle.rtl_model.specs.simulation.Cycle.{is_quiet}
 use Rattle.rtl_model.specs.simulation.Moments.{HasNoneToRun}
-use Rattle.rtl_stim.specs.Filling.{Waits}
-use Rattle.rtl_moments.specs.Stimuli.{moments}
+use Rattle.rtl_stim_lines.specs.Filling.{Waits}
+use Rattle.rtl_stim.specs.Stimuli.{moments}
 use Rattle.rtl_run.specs.Running.{HasCome, HasSettledIn}
 use Rattle.rtl_run.proofs.simulation.Simulation.run_moments.Given as goal
 

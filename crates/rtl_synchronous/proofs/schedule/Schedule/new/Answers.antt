@@ -1,7 +1,7 @@
 use Rattle.std.proofs.Common.{◌≡◌, ◌<◌, ℕ, List, All, length, ap, sym, subst, ◌∙◌}
 use Rattle.rtl_kernel.specs.drivers.Transactions.{all_targets}
 use Rattle.rtl_kernel.proofs.Grouped.{groups_index}
-use Rattle.rtl_layout.specs.Cuts.{AreCutsOf}
+use Rattle.rtl_net_layout.specs.Cuts.{AreCutsOf}
 use Rattle.rtl_synchronous.specs.Kept.{core}
 use Rattle.rtl_synchronous.specs.Scheduled.{wakes_by_rank}
 use Rattle.rtl_synchronous.proofs.Ordering.{is_order}

@@ -1,0 +1,114 @@
+//! Whole calls of the program, row by row. Each row is made by every call that can serve it, and each answer
+//! is compared with the row's: the status, and what goes to both outputs.
+//!
+//! The tables lie in `data/` with the sources that they name; `data/values.txt` tells how a row is written.
+//! Where a call answers otherwise, what it gave is printed, and so the output isn't that of `stdout`.
+//!
+//! `data/names/` and `data/nets/` have tables of many small sources, as rows_tables reads them: a row is a call of `net`, of
+//! which it tells a few words. They are printed as they stand, comments aside.
+#![tactic(auto)]
+
+mod answer;
+mod calls;
+mod faulty;
+mod row;
+mod tables;
+
+use answer::text_of;
+use calls::wrong_answer;
+use row::Row;
+use rows_tables::tell_table;
+use std::rt::Files;
+use std::{fs, io};
+use tables::Told;
+
+/// The tables of calls, in the folder in which the program runs.
+const TABLES: [&str; 17] = [
+    "values.txt",
+    "refused.txt",
+    "inputs.txt",
+    "words.txt",
+    "net.txt",
+    "check.txt",
+    "check_faults.txt",
+    "check_loops.txt",
+    "check_registers.txt",
+    "check_resets.txt",
+    "check_variables.txt",
+    "dot.txt",
+    "event.txt",
+    "run.txt",
+    "levels.txt",
+    "examples.txt",
+    "sizes.txt",
+];
+
+/// The tables of small sources, with what their rows tell.
+const SOURCES: [(&str, Told); 18] = [
+    ("names/units.rows", Told::Names),
+    ("names/context.rows", Told::Names),
+    ("names/regions.rows", Told::Names),
+    ("names/declarations.rows", Told::Names),
+    ("names/types.rows", Told::Names),
+    ("names/names.rows", Told::Names),
+    ("names/statements.rows", Told::Names),
+    ("names/instances.rows", Told::Names),
+    ("names/left_out.rows", Told::Names),
+    ("names/order.rows", Told::Names),
+    ("nets/nets.rows", Told::Lines),
+    ("nets/instances.rows", Told::Lines),
+    ("nets/generates.rows", Told::Lines),
+    ("nets/integers.rows", Told::Lines),
+    ("nets/static.rows", Told::Counts),
+    ("nets/lengths.rows", Told::Counts),
+    ("nets/sources.rows", Told::Counts),
+    ("nets/limits.rows", Told::Counts),
+];
+
+fn main(rt: HostRuntime) -> io::Result<()> {
+    for table in TABLES {
+        tell_calls(&rt, table)?;
+    }
+    tell_sources(&rt)
+}
+
+/// Prints a table of calls.
+fn tell_calls<R: Files + Print + AllocGlobal>(rt: &R, table: &str) -> io::Result<()> {
+    println!(rt; "{table}")?;
+    let text = fs::read_to_string(rt, table)?;
+    for part in text.as_str().split("\n$").skip(1) {
+        tell_row(rt, part)?;
+    }
+    Ok(())
+}
+
+/// Prints the tables of small sources.
+fn tell_sources<R: Files + Print + AllocGlobal>(rt: &R) -> io::Result<()> {
+    for (table, told) in SOURCES {
+        tell_table(rt, table, &told)?;
+    }
+    Ok(())
+}
+
+/// Prints a row with its answer and its calls, and what a call gives that answers otherwise.
+fn tell_row<R: Files + Print + AllocGlobal>(rt: &R, part: &str) -> io::Result<()> {
+    let row = Row::read(rt, part)?;
+    println!(rt;
+        "{}: {} {}, by {}",
+        row.line,
+        row.answer.status,
+        row.told(),
+        row.calls
+    )?;
+    for call in row.calls.split(' ') {
+        if let Some(answer) = wrong_answer(rt, &row, call)? {
+            println!(rt;
+                "NOT by {call}: {}\n{}{}",
+                answer.status,
+                text_of(&answer.out),
+                text_of(&answer.err)
+            )?;
+        }
+    }
+    Ok(())
+}

@@ -1,0 +1,99 @@
+use Rattle.std.proofs.Common.{◌≡◌, ℕ, ◌<◌, ◌≤◌, List, length, get_or, Option, None, sym, ap, subst, ◌∙◌, arith, All}
+use Rattle.std.specs.Prelude.{IsSome}
+use Rattle.std.proofs.lemmas.List.{get_or_read}
+use Rattle.rtl_check_levels.specs.Feeding.{feeders_of}
+use Rattle.rtl_check_levels.specs.Levels.{level_of}
+use Rattle.rtl_check_levels.proofs.Placing.{there, feeders_are, later_sound, later_waits, waits_now}
+use Rattle.rtl_check_levels.proofs.finding.Finding.place.Goals as goal
+
+pub first_open-at-requires-clause-there : goal.first_open-at-requires-clause-there
+first_open-at-requires-clause-there c k d l =
+    let table = c.args.table.now in
+    let q = c.args.q in
+    let f = feeders_are table q c.index-table-q.result c.in-Some.feeders c.requires.there c.index-table-q.is c.in-Some.is in
+    let e : feeders_of table q ≡ c.deref.result.now = f ∙ sym c.deref.ensures.value in
+    let m = subst (λ (xs : List ℕ). All (λ p. p < length table) xs) e (there table q c.requires.closed) k d l in
+    let n = c.requires.sound.levels.each_process in
+    let o = ap length c.deref-2.ensures.value in
+    omega arith
+
+pub index_mut-requires-2 : goal.index_mut-requires-2
+index_mut-requires-2 c =
+    let table = c.args.table.now in
+    let q = c.args.q in
+    let f = feeders_are table q c.index-table-q.result c.in-Some.feeders c.requires.there c.index-table-q.is c.in-Some.is in
+    let a = c.first_open-at.ensures.within in
+    let b = c.if-at-len.false in
+    let d = c.len.ensures in
+    let e = c.deref.ensures.len in
+    let g = c.in-Some.feeders.ok in
+    let within : c.first_open-at.result < length c.in-Some.feeders.items = omega arith in
+    let m = subst (λ (xs : List ℕ). All (λ p. p < length table) xs) f (there table q c.requires.closed) c.first_open-at.result c.index-3.result.now within in
+    let n = c.requires.sound.waiting.each_waiting in
+    let o = c.args.self.now.waiting.ok in
+    let i = c.index-3.ensures in
+    omega arith
+
+pub returns-clause-sound : goal.returns-clause-sound
+returns-clause-sound c =
+    let table = c.args.table.now in
+    let s = c.args.self.now in
+    let q = c.args.q in
+    let at = c.first_open-at.result in
+    let p = c.index-3.result.now in
+    let fs = c.in-Some.feeders.items in
+    let f = feeders_are table q c.index-table-q.result c.in-Some.feeders c.requires.there c.index-table-q.is c.in-Some.is in
+    let a = c.first_open-at.ensures.within in
+    let b = c.if-at-len.false in
+    let d = c.len.ensures in
+    let e = c.deref.ensures.len in
+    let g = c.in-Some.feeders.ok in
+    let within : at < length fs = omega arith in
+    let v = c.deref.ensures.value in
+    let w = c.deref-2.ensures.value in
+    let k = c.requires.sound.waiting.each_passed in
+    let there_q = c.requires.there in
+    let in_passed : q < length s.passed.items = omega arith in
+    let old : get_or s.passed.items q 0 ≡ c.index-2.result.now = sym (get_or_read s.passed.items q c.index-2.result.now in_passed c.index-2.ensures 0) in
+    let is_p : get_or fs at 0 ≡ p = sym (get_or_read fs at p within c.index-3.ensures 0) in
+    let open_now : level_of c.deref-2.result.now (get_or c.deref.result.now at 0) ≡ None = c.first_open-at.ensures.open (omega arith) in
+    let open_at : level_of s.levels.items (get_or fs at 0) ≡ None
+    = subst (λ (xs : List ℕ). level_of s.levels.items (get_or xs at 0) ≡ None) v (subst (λ (ls : List (Option ℕ)). level_of ls (get_or c.deref.result.now at 0) ≡ None) w open_now) in
+    let has : (k : ℕ) → get_or s.passed.items q 0 ≤ k → k < at → IsSome (level_of s.levels.items (get_or fs k 0))
+    = (λ k l m. subst (λ (xs : List ℕ). IsSome (level_of s.levels.items (get_or xs k 0))) v
+    (subst (λ (ls : List (Option ℕ)). IsSome (level_of ls (get_or c.deref.result.now k 0))) w (c.first_open-at.ensures.passed k (subst (λ (n : ℕ). n ≤ k) old l) m))) in
+    record {
+      levels = c.requires.sound.levels;
+      waiting = later_sound table s q at p fs c.push.new.self c.index_mut-2.result.now c.requires.sound c.requires.closed c.requires.there f within c.index-3.ensures
+          c.index_mut-2.ensures.value c.in_ok-push.ensures.items (subst (λ (x : ℕ). level_of s.levels.items x ≡ None) is_p open_at) has;
+    }
+
+pub returns-clause-grows : goal.returns-clause-grows
+returns-clause-grows c =
+    let table = c.args.table.now in
+    let f = feeders_are table c.args.q c.index-table-q.result c.in-Some.feeders c.requires.there c.index-table-q.is c.in-Some.is in
+    let a = c.first_open-at.ensures.within in
+    let b = c.if-at-len.false in
+    let d = c.len.ensures in
+    let e = c.deref.ensures.len in
+    let g = c.in-Some.feeders.ok in
+    let within : c.first_open-at.result < length c.in-Some.feeders.items = omega arith in
+    record {
+      levels = λ p level h. h;
+      waits = later_waits table c.args.self.now c.args.q c.first_open-at.result c.index-3.result.now c.in-Some.feeders.items c.push.new.self c.index_mut-2.result.now c.requires.sound
+          c.requires.closed c.requires.there f within c.index-3.ensures c.index_mut-2.ensures.value c.in_ok-push.ensures.items;
+      less = omega arith;
+    }
+
+pub returns-clause-placed : goal.returns-clause-placed
+returns-clause-placed c =
+    let table = c.args.table.now in
+    let f = feeders_are table c.args.q c.index-table-q.result c.in-Some.feeders c.requires.there c.index-table-q.is c.in-Some.is in
+    let a = c.first_open-at.ensures.within in
+    let b = c.if-at-len.false in
+    let d = c.len.ensures in
+    let e = c.deref.ensures.len in
+    let g = c.in-Some.feeders.ok in
+    let within : c.first_open-at.result < length c.in-Some.feeders.items = omega arith in
+    λ _ _. waits_now table c.args.self.now c.args.q c.first_open-at.result c.index-3.result.now c.in-Some.feeders.items c.push.new.self c.index_mut-2.result.now c.requires.sound
+    c.requires.closed c.requires.there f within c.index-3.ensures c.index_mut-2.ensures.value c.in_ok-push.ensures.items

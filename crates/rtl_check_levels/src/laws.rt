@@ -1,0 +1,15 @@
+//! What tables, levels and loops are to nets, over `specs/OfNets.antt`.
+
+ghost use Rattle.rtl_check_levels.specs.OfNets.{LevelsAreOfNets, RoundsAreLoops};
+
+use rtl_model::simulation_laws;
+
+/// The levels of a net's table are those of the report on it, and there is no loop; and a loop of its table is one of its
+/// loops.
+pub fn tables_are_of_nets()
+    ensures levels { LevelsAreOfNets }
+    ensures loops { RoundsAreLoops }
+{
+    simulation_laws::reports_are_shown();
+    simulation_laws::levels_are_shown();
+}

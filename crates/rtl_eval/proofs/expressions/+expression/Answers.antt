@@ -1,0 +1,71 @@
+use Rattle.std.proofs.Common.{◌≡◌, arith, ◌+◌, List, length, drop, ap, sym, ◌∙◌, subst}
+use Rattle.vhdl_values.specs.declared.scalar.Nine.{Nine}
+use Rattle.rtl_model.specs.bodies.Body as m
+use Rattle.rtl_model.specs.bodies.Values.{operated, elements_of}
+use Rattle.rtl_model.specs.bodies.Fits.{IsWidth, operated_width, FitsOperands, FitsExpr}
+use Rattle.rtl_net.specs.declared.body.Expr.{Expr}
+use Rattle.rtl_net.specs.declared.body.Link.{Link}
+use Rattle.rtl_net.specs.Bodies.{operator_view, expr_view, links_of}
+use Rattle.rtl_net.proofs.Rows.{view_chain}
+use Rattle.rtl_eval.specs.Seeing.{seen_of, Within}
+use Rattle.rtl_eval.proofs.Chains.{within-map, same_value, fits_first, fits_reduced, operands_fit, rest_at, chain_at, within_link, within_first, within_rest}
+use Rattle.rtl_eval.proofs.Weights.{weight, links_weight, chain_weight, link_lighter}
+use Rattle.rtl_eval.proofs.expressions.+expression.Goals as goal
+
+pub chain-operate-left-requires-clause-operands : goal.chain-operate-left-requires-clause-operands
+chain-operate-left-requires-clause-operands t c =
+    let x = c.link-item.result in
+    let now = chain_at (seen_of c.args.seen) c.loop-link.left c.args.links.now c.loop-link.link-index x c.loop-link-test.true c.link-item.is c.loop-link.invariant.1 in
+    let fit = operands_fit (seen_of c.args.seen) now.scope (operator_view x.operator) (m.constant c.loop-link.left) (expr_view x.operand) (fits_first now.scope (m.binary (operator_view x.operator) (m.constant c.loop-link.left) (expr_view x.operand)) (drop (c.loop-link.link-index + 1) c.args.links.now) now.fits) in
+    subst (λ (v : List Nine). FitsOperands (operator_view x.operator) (length c.loop-link.left) (length v)) (sym c.value.ensures) fit.0
+
+pub chain-operate-left-requires-clause-width : goal.chain-operate-left-requires-clause-width
+chain-operate-left-requires-clause-width t c =
+    let x = c.link-item.result in
+    let now = chain_at (seen_of c.args.seen) c.loop-link.left c.args.links.now c.loop-link.link-index x c.loop-link-test.true c.link-item.is c.loop-link.invariant.1 in
+    let fit = operands_fit (seen_of c.args.seen) now.scope (operator_view x.operator) (m.constant c.loop-link.left) (expr_view x.operand) (fits_first now.scope (m.binary (operator_view x.operator) (m.constant c.loop-link.left) (expr_view x.operand)) (drop (c.loop-link.link-index + 1) c.args.links.now) now.fits) in
+    subst (λ (v : List Nine). IsWidth (operated_width (operator_view x.operator) (length c.loop-link.left) (length v))) (sym c.value.ensures) fit.1
+
+pub chain-loop-link-preserved : goal.chain-loop-link-preserved
+chain-loop-link-preserved t c =
+    let x = c.link-item.result in
+    let seen = seen_of c.args.seen in
+    let left = c.loop-link.left in
+    let ls = c.args.links.now in
+    let i = c.loop-link.link-index in
+    let now = chain_at seen left ls i x c.loop-link-test.true c.link-item.is c.loop-link.invariant.1 in
+    let both = m.binary (operator_view x.operator) (m.constant left) (expr_view x.operand) in
+    let e : c.operate-left.result ≡ elements_of seen both = c.operate-left.ensures ∙ ap (operated (operator_view x.operator) left) c.value.ensures in (
+      same_value seen (m.constant c.operate-left.result) both (drop (i + 1) ls) e
+          ∙ (ap (λ (ys : List Link). elements_of seen (links_of (m.constant left) ys)) (sym (rest_at ls i x c.loop-link-test.true c.link-item.is)) ∙ c.loop-link.invariant.0),
+      subst (λ (v : List Nine). Within seen (λ scope. FitsExpr scope (links_of (m.constant v) (drop (i + 1) ls)))) (sym e)
+          (within-map seen (λ scope. FitsExpr scope (links_of both (drop (i + 1) ls))) (λ scope. FitsExpr scope (links_of (m.constant (elements_of seen both)) (drop (i + 1) ls)))
+          (λ scope f. fits_reduced seen scope both (drop (i + 1) ls) f) now),
+    )
+
+pub value-returns-in-Chain : goal.value-returns-in-Chain
+value-returns-in-Chain t c =
+    let seen = seen_of c.args.seen in
+    let first = c.in-Chain.first.value in
+    let ls = c.in-Chain.rest.items in
+    let whole = ap expr_view c.in-Chain.is ∙ view_chain c.in-Chain.first c.in-Chain.rest in
+    let e : c.value-in-Chain.result ≡ elements_of seen (expr_view first) = c.value-in-Chain.ensures ∙ ap (λ (x : Expr). elements_of seen (expr_view x)) c.deref-in-Chain.ensures in
+    c.chain.ensures
+    ∙ (ap (λ (ys : List Link). elements_of seen (links_of (m.constant c.value-in-Chain.result) ys)) c.deref-in-Chain-2.ensures.value
+    ∙ (same_value seen (m.constant c.value-in-Chain.result) (expr_view first) ls e ∙ ap (elements_of seen) (sym whole)))
+
+pub chain-value-requires : goal.chain-value-requires
+chain-value-requires t c =
+    let w = within_link (seen_of c.args.seen) c.loop-link.left c.args.links.now c.loop-link.link-index c.link-item.result c.loop-link.invariant.1 c.loop-link-test.true c.link-item.is in
+    (omega (arith, c.decreases, link_lighter c.args.links.now c.loop-link.link-index c.link-item.result c.loop-link-test.true c.link-item.is), w)
+
+pub value-value-requires-in-Chain : goal.value-value-requires-in-Chain
+value-value-requires-in-Chain t c =
+    let w = within_first (seen_of c.args.seen) c.args.expr.now c.in-Chain.first c.in-Chain.rest c.deref-in-Chain.result.now c.requires c.in-Chain.is c.deref-in-Chain.ensures in
+    (omega (arith, c.decreases, ap weight c.in-Chain.is, chain_weight c.in-Chain.first c.in-Chain.rest, ap weight c.deref-in-Chain.ensures), w)
+
+pub value-chain-requires : goal.value-chain-requires
+value-chain-requires t c =
+    let w = within_rest (seen_of c.args.seen) c.args.expr.now c.in-Chain.first c.in-Chain.rest c.deref-in-Chain.result.now c.value-in-Chain.result c.deref-in-Chain-2.result.now
+    c.requires c.in-Chain.is c.deref-in-Chain.ensures c.value-in-Chain.ensures c.deref-in-Chain-2.ensures.value in
+    (omega (arith, c.decreases, ap weight c.in-Chain.is, chain_weight c.in-Chain.first c.in-Chain.rest, ap links_weight c.deref-in-Chain-2.ensures.value), w)

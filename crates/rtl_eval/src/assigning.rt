@@ -1,0 +1,96 @@
+//! Assignments to drivers and variables.
+
+ghost use Rattle.std.specs.Prelude.{◌≡◌, ◌<◌, All, length, slice_index};
+ghost use Rattle.rtl_model.specs.bodies.Variables.{put};
+ghost use Rattle.rtl_net.specs.Indices.{numbers};
+ghost use Rattle.rtl_eval.specs.Evaluations.{codes_of};
+ghost use Rattle.rtl_eval.specs.Running.{assigned};
+
+use crate::evaluated::Evaluated;
+use crate::drives::Drives;
+use rtl_net::Indices;
+
+/// A value's elements, from the left, to the drivers at these places.
+pub fn assign(places: &Indices, value: &Evaluated, out: &mut Drives)
+    requires as_many { length (numbers places.now) ≡ length (codes_of value.now) }
+    requires there { All (λ place. place < length out.old.entries) (numbers places.now) }
+    ensures { out.new ≡ record (out.old) { entries = assigned (numbers places.now) (codes_of value.now) out.old.entries } }
+{
+    match value {
+        Evaluated::Elements(values) => {
+            let mut codes = [0; 64];
+            let written = &mut codes[..values.len()];
+            values.write_codes(written);
+            assign_codes(places, written, out);
+        }
+        Evaluated::Position(at) => assign_codes(places, &[*at], out),
+    }
+}
+
+/// A value's elements, from the left, to these elements of variables.
+pub fn set(elements: &Indices, value: &Evaluated, out: &mut Drives)
+    requires as_many { length (numbers elements.now) ≡ length (codes_of value.now) }
+    requires there { All (λ element. element < length out.old.variables) (numbers elements.now) }
+    ensures { out.new ≡ record (out.old) { variables = put (numbers elements.now) (codes_of value.now) out.old.variables } }
+{
+    match value {
+        Evaluated::Elements(values) => {
+            let mut codes = [0; 64];
+            let written = &mut codes[..values.len()];
+            values.write_codes(written);
+            set_codes(elements, written, out);
+        }
+        Evaluated::Position(at) => set_codes(elements, &[*at], out),
+    }
+}
+
+/// These codes, from the left, to the drivers at these places.
+pub fn assign_codes(places: &Indices, codes: &[u8], out: &mut Drives)
+    requires as_many { length (numbers places.now) ≡ length codes.now }
+    requires there { All (λ place. place < length out.old.entries) (numbers places.now) }
+    ensures { out.new ≡ record (out.old) { entries = assigned (numbers places.now) codes.now out.old.entries } }
+{
+    match places {
+        Indices::Run { first, len } => {
+            let _len = *len;
+            out.set_span(*first as usize, codes);
+        }
+        Indices::List(listed) => assign_each(listed.as_slice(), codes, out),
+    }
+}
+
+/// These codes, from the left, to the drivers at these places, which need not stand one after another.
+fn assign_each(places: &[u32], codes: &[u8], out: &mut Drives)
+    requires as_many { length places.now ≡ length codes.now }
+    requires there { All (λ place. place < length out.old.entries) places.now }
+    ensures { out.new ≡ record (out.old) { entries = assigned places.now codes.now out.old.entries } }
+{
+    for at in 0..codes.len() {
+        out.set(places[at] as usize, codes[at]);
+    }
+}
+
+/// These codes, from the left, to these elements of variables.
+fn set_codes(elements: &Indices, codes: &[u8], out: &mut Drives)
+    requires as_many { length (numbers elements.now) ≡ length codes.now }
+    requires there { All (λ element. element < length out.old.variables) (numbers elements.now) }
+    ensures { out.new ≡ record (out.old) { variables = put (numbers elements.now) codes.now out.old.variables } }
+{
+    for at in 0..codes.len() {
+        out.set_variable(number_at(elements, at), codes[at]);
+    }
+}
+
+/// The number at a place.
+fn number_at(indices: &Indices, at: usize) -> usize
+    requires { at < length (numbers indices.now) }
+    ensures { result ≡ slice_index (numbers indices.now) at }
+{
+    match indices {
+        Indices::Run { first, len } => {
+            let _len = *len;
+            *first as usize + at
+        }
+        Indices::List(listed) => listed.as_slice()[at] as usize,
+    }
+}

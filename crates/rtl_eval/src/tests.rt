@@ -1,0 +1,95 @@
+//! Tests.
+
+ghost use Rattle.std.specs.Prelude.{◌≡◌};
+ghost use Rattle.vhdl_values.specs.Scalar.{value_of_code};
+ghost use Rattle.rtl_model.specs.bodies.Body as m;
+ghost use Rattle.rtl_model.specs.bodies.Values.{value_of};
+ghost use Rattle.rtl_model.specs.bodies.Tests as spec;
+ghost use Rattle.rtl_model.specs.bodies.Types.{nine_valued, HasType};
+ghost use Rattle.rtl_model.specs.bodies.Fits.{FitBoth, FitsTest};
+ghost use Rattle.rtl_net.specs.Bodies.{value_view, test_view, test_links_of};
+ghost use Rattle.rtl_eval.specs.Seeing.{seen_of, Within};
+
+use crate::evaluated::{are_same, evaluate};
+use crate::expressions::value;
+use crate::seen::Sight;
+use rtl_net::{Test, TestLink, Value};
+use vhdl_values::{Edge, Logic, Nine, edge};
+
+/// Whether a test is met.
+#[cycle(condition)]
+pub(crate) fn is_met(test: &Test, seen: Sight<'_>) -> bool
+    requires { Within (seen_of seen) (λ scope. FitsTest scope (test_view test.now)) }
+    ensures { result ≡ spec.is_met (seen_of seen.entry) (test_view test.now) }
+{
+    match test {
+        Test::Condition(expr) => value(expr, seen).get(0).is_true(),
+        Test::Decided(holds) => *holds,
+        Test::Equal(left, right) => are_equal(left, right, seen),
+        Test::Unequal(left, right) => !are_equal(left, right, seen),
+        Test::Level { net, value, .. } => seen.current[*net as usize] == value.code(),
+        Test::Compared(relation, left, right) => {
+            value(left, seen).cmp(*relation, &value(right, seen))
+        }
+        Test::ComparedTo(relation, left, number) => value(left, seen).cmp_nat(*relation, *number),
+        Test::Rising(net) => has_edge(Edge::Rising, *net, seen),
+        Test::Falling(net) => has_edge(Edge::Falling, *net, seen),
+        Test::Event(net) => seen.previous[*net as usize] != seen.current[*net as usize],
+        Test::Negated(operand) => !is_met(operand, seen),
+        Test::Combined { first, rest } => chain(is_met(first, seen), rest, seen),
+    }
+}
+
+/// Whether a chain is met, behind its first operand.
+#[cycle(condition)]
+fn chain(first: bool, links: &[TestLink], seen: Sight<'_>) -> bool
+    requires { Within (seen_of seen) (λ scope. FitsTest scope (test_links_of (m.decided first) links.now)) }
+    ensures { result ≡ spec.is_met (seen_of seen.entry) (test_links_of (m.decided first) links.now) }
+{
+    let mut left = first;
+    for link in links {
+        left = logical(link.operator, left, is_met(&link.operand, seen));
+    }
+    left
+}
+
+/// A logical operator on truth values.
+pub fn logical(operator: Logic, left: bool, right: bool) -> bool
+    ensures { result ≡ spec.truth operator left right }
+{
+    match operator {
+        Logic::And => left && right,
+        Logic::Or => left || right,
+        Logic::Nand => !(left && right),
+        Logic::Nor => !(left || right),
+        Logic::Xor => left != right,
+        Logic::Xnor => left == right,
+    }
+}
+
+/// Whether a net of the nine values has an edge.
+fn has_edge(kind: Edge, net: u32, seen: Sight<'_>) -> bool
+    requires { Within (seen_of seen) (λ scope. HasType scope.nets nine_valued net) }
+    ensures { result ≡ spec.edge_at (seen_of seen.entry) kind net }
+{
+    edge(
+        kind,
+        nine(seen.previous[net as usize]),
+        nine(seen.current[net as usize]),
+    )
+}
+
+/// The value of a code.
+pub fn nine(code: u8) -> Nine
+    ensures { result ≡ value_of_code code }
+{
+    Nine::from_code(code).unwrap_or(Nine::X)
+}
+
+/// Whether two values are equal.
+fn are_equal(left: &Value, right: &Value, seen: Sight<'_>) -> bool
+    requires { Within (seen_of seen) (λ scope. FitBoth scope (value_view left.now) (value_view right.now)) }
+    ensures { result ≡ spec.same (value_of (seen_of seen.entry) (value_view left.now)) (value_of (seen_of seen.entry) (value_view right.now)) }
+{
+    are_same(&evaluate(left, seen), &evaluate(right, seen))
+}

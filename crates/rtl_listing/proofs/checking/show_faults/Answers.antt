@@ -1,9 +1,0 @@
-use Rattle.std.proofs.lemmas.Result.{err_from_is_err_and}
-use Rattle.rtl_listing.specs.CheckText.{rejection_text}
-use Rattle.rtl_listing.proofs.Printing.{beginning}
-use Rattle.rtl_listing.proofs.checking.show_faults.Goals as goal
-
-pub returns-in_err-push_rejection : goal.returns-in_err-push_rejection
-returns-in_err-push_rejection g c =
-    let failed = err_from_is_err_and c.from_residual.result c.from_residual.ensures.1 in
-    rw (failed.1, failed.2) (beginning _ _ (rejection_text c.args.net.now c.args.faults.now) c.requires.intact c.in_err-push_rejection.ensures)

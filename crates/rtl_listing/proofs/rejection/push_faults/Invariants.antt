@@ -1,9 +1,0 @@
-use Rattle.std.specs.Prelude.{flat_map, take}
-use Rattle.rtl_sink.specs.Written.{Goes}
-use Rattle.rtl_listing.specs.CheckText.{fault_line}
-use Rattle.rtl_listing.proofs.rejection.push_faults.Given as goal
-
--- the lines of the faults before this one went out
-abbrev pub invariant-loop-fault : goal.invariant-loop-fault
-invariant-loop-fault g l =
-    Goes (g.W.Sink.state l.initial.out) (g.W.Sink.state l.out) (flat_map (fault_line l.net) (take l.fault-index l.faults))

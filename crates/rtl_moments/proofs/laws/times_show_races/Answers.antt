@@ -1,5 +1,0 @@
-use Rattle.rtl_moments.proofs.Edges as proved
-use Rattle.rtl_moments.proofs.laws.times_show_races.Goals as goal
-
-pub returns : goal.returns
-returns c = proved.times_show_races

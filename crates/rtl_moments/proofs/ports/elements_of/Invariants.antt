@@ -1,7 +1,0 @@
-use Rattle.std.proofs.Common.{◌≡◌, map, take}
-use Rattle.rtl_stim.specs.View.{element_view}
-use Rattle.rtl_moments.specs.Ports.{element_on}
-use Rattle.rtl_moments.proofs.ports.elements_of.Given as goal
-
-abbrev pub invariant-loop-number : goal.invariant-loop-number
-invariant-loop-number l = map element_view l.elements.items ≡ map (element_on l.net) (take l.number-index l.nets)

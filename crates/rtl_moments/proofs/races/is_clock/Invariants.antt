@@ -1,6 +1,0 @@
-use Rattle.std.proofs.Common.{◌≡◌, ℕ, ◌<◌}
-use Rattle.rtl_moments.specs.Quiet.{clock_at}
-use Rattle.rtl_moments.proofs.races.is_clock.Given as goal
-
-abbrev pub invariant-loop-clock : goal.invariant-loop-clock
-invariant-loop-clock l = (k : ℕ) → k < l.clock-index → clock_at l.clocks k ≡ l.net → ⊥

@@ -1,9 +1,0 @@
-pub mod Ports
-pub mod Stimuli
-pub mod Numbered
-pub mod Pushes
-pub mod Left
-pub mod Moments
-pub mod Edges
-pub mod Quiet
-pub mod Kept

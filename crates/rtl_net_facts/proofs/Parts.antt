@@ -1,0 +1,152 @@
+-- What nodes of bodies look at, assign and store, by their parts in lists.
+use Rattle.std.proofs.Common.{◌≡◌, ℕ, ◌+◌, ◌<◌, ◌≤◌, Bool, true, false, ◌&&◌, ◌||◌, not, List, [], ◌∷◌, length, get_or, drop, refl, sym, ap, ◌∙◌, Vec, Some, None, Global}
+use Rattle.std.specs.List.{list_any, list_all}
+use Rattle.std.proofs.lemmas.List.{at_drop_more, at_drop_all}
+use Rattle.rtl_net.specs.declared.body.Expr.{Expr}
+use Rattle.rtl_net.specs.declared.body.Expr.TheVariants as ve
+use Rattle.rtl_net.specs.declared.body.Test.{Test}
+use Rattle.rtl_net.specs.declared.body.Test.TheVariants as vt
+use Rattle.rtl_net.specs.declared.body.Value.{Value}
+use Rattle.rtl_net.specs.declared.body.Statement.TheVariants as vs
+use Rattle.rtl_net.specs.Indices.{numbers}
+use Rattle.rtl_net.proofs.Rows.{view_chain, view_combined, view_if, view_case}
+use Rattle.rtl_net.specs.declared.body.Link.{Link}
+use Rattle.rtl_net.specs.declared.body.TestLink.{TestLink}
+use Rattle.rtl_net.specs.declared.body.Statement.{Statement}
+use Rattle.rtl_net.specs.declared.body.Branch.{Branch}
+use Rattle.rtl_net.specs.declared.body.Alternative.{Alternative}
+use Rattle.rtl_net.specs.Bodies.{operator_view, expr_view, value_view, links_of, test_view, test_links_of, statement_view, statements_of, branches_of, alternatives_of}
+use Rattle.rtl_model.specs.bodies.Body as m
+use Rattle.rtl_model.specs.bodies.Assigns.{must_assign, stmt_must_assign, is_element, branches_must_assign, alternatives_must_assign}
+use Rattle.rtl_model.specs.bodies.Stored.{expr_looks_at, value_looks_at, test_looks_at, stmt_stores, stores_element, branches_store, alternatives_store}
+use Rattle.rtl_net_facts.specs.Looks.{link_looks, test_link_looks, statement_assigned, branch_assigns, alternative_assigns, branch_stores, alternative_stores}
+use Rattle.rtl_net_facts.proofs.Anys.{or_assoc, or_none, and_assoc, and_not}
+
+module _ (e : ℕ) where
+  pub looks_links : (left : m.Expr) (ls : List Link) → expr_looks_at e (links_of left ls) ≡ (expr_looks_at e left || list_any (link_looks e) ls)
+  looks_links left [] = or_none (expr_looks_at e left)
+  looks_links left (l ∷ ls) = looks_links (m.binary (operator_view l.operator) left (expr_view l.operand)) ls
+      ∙ or_assoc (expr_looks_at e left) (expr_looks_at e (expr_view l.operand)) (list_any (link_looks e) ls)
+
+  pub looks_test_links : (left : m.Test) (ls : List TestLink) → test_looks_at e (test_links_of left ls) ≡ (test_looks_at e left || list_any (test_link_looks e) ls)
+  looks_test_links left [] = or_none (test_looks_at e left)
+  looks_test_links left (l ∷ ls) = looks_test_links (m.combined l.operator left (test_view l.operand)) ls
+      ∙ or_assoc (test_looks_at e left) (test_looks_at e (test_view l.operand)) (list_any (test_link_looks e) ls)
+
+  pub must_is_any : (xs : List Statement) → must_assign (is_element e) (statements_of xs) ≡ list_any (statement_assigned e) xs
+  must_is_any [] = refl
+  must_is_any (x ∷ xs) = ap (λ (b : Bool). stmt_must_assign (is_element e) (statement_view x) || b) (must_is_any xs)
+
+  pub branches_all : (last : m.Branches) (bs : List Branch)
+      → branches_must_assign (is_element e) (branches_of last bs) ≡ (list_all (branch_assigns e) bs && branches_must_assign (is_element e) last)
+  branches_all last [] = refl
+  branches_all last (b ∷ bs) = ap (λ (c : Bool). branch_assigns e b && c) (branches_all last bs)
+      ∙ sym (and_assoc (branch_assigns e b) (list_all (branch_assigns e) bs) (branches_must_assign (is_element e) last))
+
+  pub alternatives_all : (last : m.Stmts) (bs : List Alternative)
+      → alternatives_must_assign (is_element e) (alternatives_of last bs) ≡ (list_all (alternative_assigns e) bs && must_assign (is_element e) last)
+  alternatives_all last [] = refl
+  alternatives_all last (b ∷ bs) = ap (λ (c : Bool). alternative_assigns e b && c) (alternatives_all last bs)
+      ∙ sym (and_assoc (alternative_assigns e b) (list_all (alternative_assigns e) bs) (must_assign (is_element e) last))
+
+  pub branches_any : (last : m.Branches) (bs : List Branch) → branches_store e (branches_of last bs) ≡ (list_any (branch_stores e) bs || branches_store e last)
+  branches_any last [] = refl
+  branches_any last (b ∷ bs) =
+      let t = test_looks_at e (test_view b.test) in
+      let s = stores_element e (statements_of b.statements.items) in
+      ap (λ (c : Bool). t || (s || c)) (branches_any last bs)
+      ∙ (sym (or_assoc t s (list_any (branch_stores e) bs || branches_store e last)) ∙ sym (or_assoc (t || s) (list_any (branch_stores e) bs) (branches_store e last)))
+
+  pub alternatives_any : (last : m.Stmts) (bs : List Alternative)
+      → alternatives_store e (alternatives_of last bs) ≡ (list_any (alternative_stores e) bs || stores_element e last)
+  alternatives_any last [] = refl
+  alternatives_any last (b ∷ bs) = ap (λ (c : Bool). alternative_stores e b || c) (alternatives_any last bs)
+      ∙ sym (or_assoc (alternative_stores e b) (list_any (alternative_stores e) bs) (stores_element e last))
+
+  -- ---- nodes
+
+  pub chain_looks : (x : Expr) (first : _) (rest : Vec Link Global) → x ≡ ve.Chain first rest
+      → expr_looks_at e (expr_view x) ≡ (expr_looks_at e (expr_view first.value) || list_any (link_looks e) rest.items)
+  chain_looks x first rest is =
+      ap (λ (y : Expr). expr_looks_at e (expr_view y)) is ∙ (ap (expr_looks_at e) (view_chain first rest) ∙ looks_links (expr_view first.value) rest.items)
+
+  pub combined_looks : (x : Test) (first : _) (rest : Vec TestLink Global) → x ≡ vt.Combined first rest
+      → test_looks_at e (test_view x) ≡ (test_looks_at e (test_view first.value) || list_any (test_link_looks e) rest.items)
+  combined_looks x first rest is =
+      ap (λ (y : Test). test_looks_at e (test_view y)) is ∙ (ap (test_looks_at e) (view_combined first rest) ∙ looks_test_links (test_view first.value) rest.items)
+
+  never : (xs : List ℕ) → list_any (λ (p : ℕ). false) xs ≡ false
+  never [] = refl
+  never (x ∷ xs) = never xs
+
+  pub assign_assigns : (x : Statement) (places : _) (value : _) → x ≡ vs.Assign places value → stmt_must_assign (is_element e) (statement_view x) ≡ false
+  assign_assigns x places value is = ap (λ (y : Statement). stmt_must_assign (is_element e) (statement_view y)) is ∙ never (numbers places)
+
+  pub if_assigns : (x : Statement) (branches : Vec Branch Global) (v : Vec Statement Global) → x ≡ vs.If branches (Some v)
+      → stmt_must_assign (is_element e) (statement_view x) ≡ (list_all (branch_assigns e) branches.items && must_assign (is_element e) (statements_of v.items))
+  if_assigns x branches v is =
+      ap (λ (y : Statement). stmt_must_assign (is_element e) (statement_view y)) is
+      ∙ (ap (stmt_must_assign (is_element e)) (view_if branches (Some v)) ∙ branches_all (m.otherwise (statements_of v.items)) branches.items)
+
+  pub if_alone_assigns : (x : Statement) (branches : Vec Branch Global) → x ≡ vs.If branches None → stmt_must_assign (is_element e) (statement_view x) ≡ false
+  if_alone_assigns x branches is =
+      ap (λ (y : Statement). stmt_must_assign (is_element e) (statement_view y)) is
+      ∙ (ap (stmt_must_assign (is_element e)) (view_if branches None) ∙ (branches_all m.no_else branches.items ∙ sym (and_not (list_all (branch_assigns e) branches.items))))
+
+  pub case_assigns : (x : Statement) (selector : Value) (alternatives : Vec Alternative Global) (others : Vec Statement Global) → x ≡ vs.Case selector alternatives others
+      → stmt_must_assign (is_element e) (statement_view x) ≡ (list_all (alternative_assigns e) alternatives.items && must_assign (is_element e) (statements_of others.items))
+  case_assigns x selector alternatives others is =
+      ap (λ (y : Statement). stmt_must_assign (is_element e) (statement_view y)) is
+      ∙ (ap (stmt_must_assign (is_element e)) (view_case selector alternatives others) ∙ alternatives_all (statements_of others.items) alternatives.items)
+
+  pub if_stores : (x : Statement) (branches : Vec Branch Global) (v : Vec Statement Global) → x ≡ vs.If branches (Some v)
+      → stmt_stores e (statement_view x) ≡ (list_any (branch_stores e) branches.items || stores_element e (statements_of v.items))
+  if_stores x branches v is =
+      ap (λ (y : Statement). stmt_stores e (statement_view y)) is
+      ∙ (ap (stmt_stores e) (view_if branches (Some v)) ∙ branches_any (m.otherwise (statements_of v.items)) branches.items)
+
+  pub if_alone_stores : (x : Statement) (branches : Vec Branch Global) → x ≡ vs.If branches None
+      → stmt_stores e (statement_view x) ≡ list_any (branch_stores e) branches.items
+  if_alone_stores x branches is =
+      ap (λ (y : Statement). stmt_stores e (statement_view y)) is
+      ∙ (ap (stmt_stores e) (view_if branches None) ∙ (branches_any m.no_else branches.items ∙ sym (or_none (list_any (branch_stores e) branches.items))))
+
+  pub case_stores : (x : Statement) (selector : Value) (alternatives : Vec Alternative Global) (others : Vec Statement Global) → x ≡ vs.Case selector alternatives others
+      → stmt_stores e (statement_view x)
+      ≡ (value_looks_at e (value_view selector) || (list_any (alternative_stores e) alternatives.items || stores_element e (statements_of others.items)))
+  case_stores x selector alternatives others is =
+      ap (λ (y : Statement). stmt_stores e (statement_view y)) is
+      ∙ (ap (stmt_stores e) (view_case selector alternatives others)
+      ∙ ap (λ (b : Bool). value_looks_at e (value_view selector) || b) (alternatives_any (statements_of others.items) alternatives.items))
+
+  -- ---- a sequence, one statement at a time
+
+  abbrev pub rest_stores : List Statement → Bool
+  rest_stores xs = stores_element e (statements_of xs)
+
+  module _ (xs : List Statement) (i : ℕ) where
+    stores_at : (x : Statement) → i < length xs → x ≡ get_or xs i x
+        → rest_stores (drop i xs) ≡ (stmt_stores e (statement_view x) || (not (stmt_must_assign (is_element e) (statement_view x)) && rest_stores (drop (i + 1) xs)))
+    stores_at x l is = at_drop_more rest_stores xs i x l
+        ∙ ap (λ (y : Statement). stmt_stores e (statement_view y) || (not (stmt_must_assign (is_element e) (statement_view y)) && rest_stores (drop (i + 1) xs))) (sym is)
+
+    pub stores_found : (x : Statement) → i < length xs → x ≡ get_or xs i x → rest_stores (drop i xs) ≡ rest_stores xs → stmt_stores e (statement_view x) ≡ true
+        → true ≡ rest_stores xs
+    stores_found x l is inv t =
+        sym (ap (λ (b : Bool). b || (not (stmt_must_assign (is_element e) (statement_view x)) && rest_stores (drop (i + 1) xs))) t) ∙ (sym (stores_at x l is) ∙ inv)
+
+    passes : (x : Statement) → i < length xs → x ≡ get_or xs i x → rest_stores (drop i xs) ≡ rest_stores xs → stmt_stores e (statement_view x) ≡ false
+        → (not (stmt_must_assign (is_element e) (statement_view x)) && rest_stores (drop (i + 1) xs)) ≡ rest_stores xs
+    passes x l is inv t =
+        sym (ap (λ (b : Bool). b || (not (stmt_must_assign (is_element e) (statement_view x)) && rest_stores (drop (i + 1) xs))) t) ∙ (sym (stores_at x l is) ∙ inv)
+
+    pub stores_ends : (x : Statement) → i < length xs → x ≡ get_or xs i x → rest_stores (drop i xs) ≡ rest_stores xs → stmt_stores e (statement_view x) ≡ false
+        → stmt_must_assign (is_element e) (statement_view x) ≡ true → false ≡ rest_stores xs
+    stores_ends x l is inv t a = sym (ap (λ (b : Bool). not b && rest_stores (drop (i + 1) xs)) a) ∙ passes x l is inv t
+
+    pub stores_goes : (x : Statement) → i < length xs → x ≡ get_or xs i x → rest_stores (drop i xs) ≡ rest_stores xs → stmt_stores e (statement_view x) ≡ false
+        → stmt_must_assign (is_element e) (statement_view x) ≡ false → rest_stores (drop (i + 1) xs) ≡ rest_stores xs
+    stores_goes x l is inv t a = sym (ap (λ (b : Bool). not b && rest_stores (drop (i + 1) xs)) a) ∙ passes x l is inv t
+
+    pub stores_end : length xs ≤ i → rest_stores (drop i xs) ≡ rest_stores xs → false ≡ rest_stores xs
+    stores_end l inv = sym (at_drop_all rest_stores xs i l) ∙ inv

@@ -1,0 +1,64 @@
+-- What the search for the first race keeps: the times at which no data input changes.
+use Rattle.std.specs.Prelude.{◌≡◌, IsTrue, if◌then◌else◌, nat_lt, length, slice_index, slice_index_or, ℕ, suc, ◌-◌, ◌<◌, ◌≤◌, List, Contains, Option, Some, None, IfSome}
+use Rattle.vhdl_values.specs.Edges.{has_edge}
+use Rattle.rtl_model.specs.simulation.Net.{Edge, Rising}
+use Rattle.rtl_stim_lines.specs.Times.{value_at}
+use Rattle.rtl_stim.specs.Stimuli.{StimulusView, code_at}
+
+-- the net is tested by none of these
+abbrev pub IsNoClock : (clocks : List (ℕ × Edge)) → (net : ℕ) → Type 0
+IsNoClock clocks n = (edge : Edge) → Contains clocks (n, edge) → ⊥
+
+-- of these nets, none that is no clock changes at the time
+abbrev pub IsQuietAt : StimulusView → (clocks : List (ℕ × Edge)) → (nets : List ℕ) → (t : ℕ) → Type 0
+IsQuietAt s clocks nets t = (n : ℕ) → Contains nets n → IsNoClock clocks n → code_at s (t - 1) n ≡ code_at s t n
+
+-- the time that was found, or the first one past the stop
+abbrev pub found_or_past : Option ℕ → (stop : ℕ) → ℕ
+found_or_past None stop = suc stop
+found_or_past (Some t) stop = t
+
+-- what was found is after now and not after the stop
+abbrev pub IsWithin : (now stop : ℕ) → Option ℕ → Type 0
+IsWithin now stop found = IfSome found (λ t. (now < t) × (t ≤ stop))
+
+abbrev pub earlier_of : Option ℕ → Option ℕ → Option ℕ
+earlier_of None b = b
+earlier_of (Some a) None = Some a
+earlier_of (Some a) (Some b) = if nat_lt b a then Some b else Some a
+
+-- ---- at a time
+
+-- the clock at a place, and its edge
+abbrev pub clock_at : (clocks : List (ℕ × Edge)) → (place : ℕ) → ℕ
+clock_at clocks k = (slice_index_or clocks k (0, Rising)).0
+
+abbrev pub edge_at : (clocks : List (ℕ × Edge)) → (place : ℕ) → Edge
+edge_at clocks k = (slice_index_or clocks k (0, Rising)).1
+
+-- the clock at a place has its edge
+abbrev pub IsActiveAt : StimulusView → (clocks : List (ℕ × Edge)) → (t place : ℕ) → Type 0
+IsActiveAt s clocks t k =
+    IsTrue (has_edge (edge_at clocks k) (value_at s.inputs s.schedule (clock_at clocks k) (t - 1)) (value_at s.inputs s.schedule (clock_at clocks k) t))
+
+-- a net that is no clock, and changes
+abbrev pub IsChangedAt : StimulusView → (clocks : List (ℕ × Edge)) → (t net : ℕ) → Type 0
+IsChangedAt s clocks t n = IsNoClock clocks n × (code_at s (t - 1) n ≡ code_at s t n → ⊥)
+
+-- the first of these inputs that changes, and the first clock that is active
+pub record IsRaceHere (s : StimulusView) (clocks : List (ℕ × Edge)) (inputs : List ℕ) (t input clock : ℕ) : Type 0 where
+  pub active_place : ℕ
+  pub active_there : active_place < length clocks
+  pub active : IsActiveAt s clocks t active_place
+  pub clock_is : clock_at clocks active_place ≡ clock
+  pub first_clock : (j : ℕ) → j < active_place → IsActiveAt s clocks t j → ⊥
+  pub place : ℕ
+  pub there : place < length inputs
+  pub input_is : slice_index inputs place ≡ input
+  pub changed : IsChangedAt s clocks t input
+  pub first_input : (j : ℕ) → j < place → IsChangedAt s clocks t (slice_index inputs j) → ⊥
+
+-- no input changes, or no clock is active
+abbrev pub HasNoneHere : StimulusView → (clocks : List (ℕ × Edge)) → (inputs : List ℕ) → (t : ℕ) → Type 0
+HasNoneHere s clocks inputs t =
+    (k j : ℕ) → k < length clocks → IsActiveAt s clocks t k → j < length inputs → IsChangedAt s clocks t (slice_index inputs j) → ⊥

@@ -1,0 +1,5 @@
+pub mod Named
+pub mod Saying
+pub mod Parts
+pub mod Clocks
+pub mod Lasts

@@ -1,0 +1,66 @@
+//! The inputs that a stimulus speaks of.
+
+ghost use Rattle.std.specs.Prelude.{◌≡◌, ◌≢◌, ◌<◌, ◌++◌, ◌∷◌, [], All, IfOk, OnOk, IfSome, length, option_map};
+ghost use Rattle.rtl_stim_lines.specs.Inputs as named;
+ghost use Rattle.rtl_stim_lines.specs.Inputs.{small, input_at};
+ghost use Rattle.rtl_stim_lines.specs.View.{inputs_view, named_input, IsElementsOf};
+
+use indexmap::IndexMap;
+use std::alloc::{AllocError, Global};
+use vhdl_values::Nine;
+
+/// An element of an in port: its net's number, and the value of its default.
+#[derive(Clone, Copy, Debug, PartialEq, Eq)]
+pub struct Element {
+    pub net: usize,
+    pub start: Nine,
+}
+
+/// An in port: whether it is a scalar, and its elements from the left.
+#[derive(Debug, Drop)]
+pub struct Input {
+    pub is_scalar: bool,
+    pub elements: Vec<Element>,
+}
+
+/// The top's in ports by their names in small letters, in order of declaration.
+pub type Inputs = IndexMap<Vec<u8>, Input>;
+
+/// Puts an input behind the others under its name, which may have capitals, and which no other has.
+pub fn add_input(
+    alloc: Global,
+    inputs: &mut Inputs,
+    name: &[u8],
+    input: Input,
+) -> Result<(), AllocError>
+    requires { All (λ other. other.name ≢ small name.now) (inputs_view inputs.old) }
+    ensures { OnOk result (inputs_view inputs.new ≡ inputs_view inputs.old ++ named_input (small name.now) input ∷ []) }
+{
+    let name = small_letters(alloc, name)?;
+    inputs.insert(name, input)?;
+    Ok(())
+}
+
+/// The input of a name, which may have capitals, and its place.
+pub fn input_named<'i>(
+    alloc: Global,
+    inputs: &'i Inputs,
+    name: &[u8],
+) -> Result<Option<(usize, &'i Input)>, AllocError>
+    ensures place { IfOk result (λ found. option_map (λ p. p.0) found ≡ named.input_named (inputs_view inputs.now) name.now) }
+    ensures within { IfOk result (λ found. IfSome found (λ p. p.0 < length (inputs_view inputs.now))) }
+    ensures input { IfOk result (λ found. IfSome found (λ p. IsElementsOf p.1.now (input_at (inputs_view inputs.now) p.0))) }
+{
+    let name = small_letters(alloc, name)?;
+    match inputs.get_full(name.as_slice()) {
+        None => Ok(None),
+        Some((place, _, input)) => Ok(Some((place, input))),
+    }
+}
+
+/// A name in small letters.
+fn small_letters(alloc: Global, name: &[u8]) -> Result<Vec<u8>, AllocError>
+    ensures { IfOk result (λ v. v.items ≡ small name.now) }
+{
+    name.iter().map(|b| b.to_ascii_lowercase()).collect(alloc)
+}

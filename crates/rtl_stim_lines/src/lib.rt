@@ -1,0 +1,22 @@
+//! Stimuli: which value each input of the top has at each time.
+//!
+//! `specs/Lines.antt`, `specs/Forms.antt` and `specs/Reading.antt` say which lines a stimulus has and which is the
+//! first bad one, `specs/Courses.antt` and `specs/Times.antt` the values and the moments, and `specs/Filling.antt`
+//! what waits in an agenda.
+#![tactic(auto)]
+
+mod courses;
+mod faults;
+mod forms;
+mod inputs;
+mod numbers;
+mod reading;
+mod schedule;
+mod values;
+mod words;
+
+pub use courses::Course;
+pub use faults::{StimFault, StimProblem};
+pub use inputs::{Element, Input, Inputs, add_input};
+pub use reading::read_schedule;
+pub use schedule::Schedule;

@@ -1,7 +1,0 @@
-use Rattle.std.proofs.Common.{◌≡◌, ℕ, ◌<◌, false, map, slice_index_or}
-use Rattle.rtl_tree.specs.Evaluations.{codes_of}
-use Rattle.rtl_tree.specs.Running.{chosen_by}
-use Rattle.rtl_tree.proofs.statements.first_chosen.Given as goal
-
-abbrev pub invariant-loop-at : goal.invariant-loop-at
-invariant-loop-at l = (k : ℕ) → k < l.at → slice_index_or (map (chosen_by (codes_of l.value)) l.alternatives) k false ≡ false

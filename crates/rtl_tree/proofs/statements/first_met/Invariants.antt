@@ -1,7 +1,0 @@
-use Rattle.std.proofs.Common.{◌≡◌, ℕ, ◌<◌, false, map, slice_index_or}
-use Rattle.rtl_tree.specs.Running.{met_by}
-use Rattle.rtl_tree.specs.Seeing.{seen_of}
-use Rattle.rtl_tree.proofs.statements.first_met.Given as goal
-
-abbrev pub invariant-loop-at : goal.invariant-loop-at
-invariant-loop-at l = (k : ℕ) → k < l.at → slice_index_or (map (met_by (seen_of l.seen)) l.branches) k false ≡ false

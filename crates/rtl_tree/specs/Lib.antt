@@ -1,5 +1,0 @@
-pub mod Evaluations
-pub mod Running
-pub mod Seeing
-pub mod Kept
-pub mod Trees

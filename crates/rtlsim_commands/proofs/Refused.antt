@@ -1,0 +1,95 @@
+-- What a source that is refused answers, and where faults are told.
+use Rattle.std.proofs.Common.{◌≡◌, ℕ, Bool, false, List, Result, Ok, Err, inl, inr, refl, ap}
+use Rattle.std.specs.Prelude.{IfErr, IsErrAnd}
+use Rattle.rtlsim_commands.specs.Faults.{of_source, has_names}
+use Rattle.rtl_check.specs.declared.checking.Verdict.{Verdict}
+use Rattle.rtlsim_commands.specs.Listed.{Writes, ListsNet, AnswersVerdict}
+use Rattle.rtlsim_commands.specs.Machine.{of_machine, as_answer}
+use Rattle.rtlsim_commands.specs.Opened.{Opens}
+use Rattle.rtlsim_commands.specs.Places.{IsTold}
+use Rattle.rtlsim_commands.specs.Simulated.{RunsEvents}
+use Rattle.rtlsim_commands.specs.declared.faults.Fault.{Fault}
+use Rattle.rtlsim_commands.specs.declared.faults.Fault.TheVariants.{Lex, Syntax, Name, Elab, Rejected, Stim, NoSettling, Memory, Output}
+use Rattle.rtl_machine.specs.declared.fault.MachineFault.{MachineFault}
+use Rattle.rtl_machine.specs.declared.fault.MachineFault.TheVariants as machine
+use Rattle.rtl_net.specs.Nets.{NetView}
+use Rattle.rtl_run.specs.declared.summary.Summary.{Summary}
+use Rattle.rtl_sink.specs.Written.{SinkState}
+use Rattle.vhdl_source_rules.specs.Faults.{LiesIn}
+use Rattle.vhdl_source_rules.specs.Refusals.{Refuses}
+use Rattle.vhdl_source_rules.specs.declared.fault.SourceFault.{SourceFault}
+use Rattle.vhdl_source_rules.specs.declared.fault.SourceFault.TheVariants as source
+
+pub opens_refused : {A : Type 0} (Does : NetView → Result A Fault → SinkState → SinkState → Type 0) (file top : List ℕ) (answer : Result A Fault) (fault : SourceFault) (old : SinkState)
+    → IsErrAnd answer (λ f. f ≡ of_source fault) → Refuses file top fault → Opens Does file top answer old old
+opens_refused Does file top (Ok x) fault old h r = absurd h
+opens_refused Does file top (Err f) fault old h r = inr (fault, ap (λ (x : Fault). Err x) h, r, refl)
+
+pub source_told : (size : ℕ) (fault : SourceFault) → LiesIn size fault → IsTold size (of_source fault)
+source_told size (source.Lex x) h = h
+source_told size (source.Syntax x) h = h
+source_told size (source.Name x) h = h
+source_told size (source.Elab x) h = h
+source_told size source.NoMemory h = tt
+
+pub refused_told : {A : Type 0} (answer : Result A Fault) (fault : SourceFault) (size : ℕ) → IsErrAnd answer (λ f. f ≡ of_source fault) → LiesIn size fault → IfErr answer (IsTold size)
+refused_told (Ok x) fault size h lies = absurd h
+refused_told (Err f) fault size h lies = rw h (source_told size fault lies)
+
+-- ---- faults that are none of a source are told at no byte
+
+pub writes_fault : (A : Type 0) (text : List ℕ) (fault : Fault) (size : ℕ) (old new : SinkState) → Writes {A = A} text (Err fault) old new → IsTold size fault
+writes_fault A text (Lex x) size old new h = absurd h
+writes_fault A text (Syntax x) size old new h = absurd h
+writes_fault A text (Name x) size old new h = absurd h
+writes_fault A text (Elab x) size old new h = absurd h
+writes_fault A text (Rejected x) size old new h = tt
+writes_fault A text (Stim x) size old new h = tt
+writes_fault A text (NoSettling x) size old new h = tt
+writes_fault A text Memory size old new h = tt
+writes_fault A text Output size old new h = tt
+
+pub lists_told : (net : NetView) (answer : Result (Unit {0}) Fault) (size : ℕ) (old new : SinkState) → ListsNet net answer old new → IfErr answer (IsTold size)
+lists_told net (Ok x) size old new h = tt
+lists_told net (Err fault) size old new h = writes_fault (Unit {0}) _ fault size old new h
+
+pub checks_told : (text_of : NetView → Verdict → List ℕ) (net : NetView) (answer : Result Bool Fault) (size : ℕ) (old new : SinkState) → AnswersVerdict text_of net answer old new
+    → IfErr answer (IsTold size)
+checks_told text_of net (Ok x) size old new h = tt
+checks_told text_of net (Err fault) size old new (inl w) = writes_fault Bool _ fault size old new w.written
+checks_told text_of net (Err fault) size old new (inr w) = rw w.0 tt
+
+pub runs_fault : (text : List ℕ) (net : NetView) (fault : Fault) (size : ℕ) (old new : SinkState) → RunsEvents text net (Err fault) old new → IsTold size fault
+runs_fault text net (Lex x) size old new h = absurd h
+runs_fault text net (Syntax x) size old new h = absurd h
+runs_fault text net (Name x) size old new h = absurd h
+runs_fault text net (Elab x) size old new h = absurd h
+runs_fault text net (Rejected x) size old new h = tt
+runs_fault text net (Stim x) size old new h = tt
+runs_fault text net (NoSettling x) size old new h = tt
+runs_fault text net Memory size old new h = tt
+runs_fault text net Output size old new h = tt
+
+pub runs_told : (text : List ℕ) (net : NetView) (answer : Result Summary Fault) (size : ℕ) (old new : SinkState) → RunsEvents text net answer old new → IfErr answer (IsTold size)
+runs_told text net (Ok x) size old new h = tt
+runs_told text net (Err fault) size old new h = runs_fault text net fault size old new h
+
+-- a source's fault has no names in its line
+pub nameless : (fault : SourceFault) → has_names (of_source fault) ≡ false
+nameless (source.Lex x) = refl
+nameless (source.Syntax x) = refl
+nameless (source.Name x) = refl
+nameless (source.Elab x) = refl
+nameless source.NoMemory = refl
+
+-- ---- of the synchronous machine
+
+machine_fault : (size : ℕ) (fault : MachineFault) → IsTold size (of_machine fault)
+machine_fault size (machine.Rejected faults) = tt
+machine_fault size (machine.Stim fault) = tt
+machine_fault size machine.Memory = tt
+machine_fault size machine.Output = tt
+
+pub machine_told : {A : Type 0} (given : Result A MachineFault) (answer : Result A Fault) (size : ℕ) → answer ≡ as_answer given → IfErr answer (IsTold size)
+machine_told (Ok x) answer size e = rw e tt
+machine_told (Err fault) answer size e = rw e (machine_fault size fault)

@@ -1,0 +1,47 @@
+-- What event-driven simulation answers, from the net and the text of the stimulus to the trace (IEEE 1076-2008, 14.7.5; IEEE
+-- 1364-2005, clause 18).
+use Rattle.std.specs.Prelude.{◌≡◌, ◌≢◌, ◌⊎◌, ℕ, List, [], map, Result, Ok, Err}
+use Rattle.rtl_check.specs.Views.{core, fault_view}
+use Rattle.rtlsim_commands.specs.declared.faults.Fault.{Fault}
+use Rattle.rtlsim_commands.specs.declared.faults.Fault.TheVariants.{Rejected, Stim, NoSettling, Memory, Output}
+use Rattle.rtl_model.specs.simulation.Faults.{AreStored}
+use Rattle.rtl_stim.specs.Ports.{inputs_of}
+use Rattle.rtl_stim.specs.Stimuli.{StimulusView, IsRead}
+use Rattle.rtl_net.specs.Nets.{NetView}
+use Rattle.rtl_run.specs.Answered.{Answers}
+use Rattle.rtl_run.specs.declared.summary.RunFault.{RunFault}
+use Rattle.rtl_run.specs.declared.summary.RunFault.TheVariants as run
+use Rattle.rtl_run.specs.declared.summary.Summary.{Summary}
+use Rattle.rtl_sink.specs.Written.{SinkState}
+use Rattle.rtl_stim_lines.specs.Reading.{schedule_of}
+use Rattle.rtl_stim_lines.specs.declared.faults.StimFault.TheVariants as stim
+
+-- the most delta cycles that a moment may take
+abbrev pub most_deltas : ℕ
+most_deltas = 1000
+
+-- no process keeps a variable's value from one run to the next
+abbrev pub HasNoneStored : NetView → Type 0
+HasNoneStored net = AreStored (core net) []
+
+-- The net is simulated under what the text says, within so many delta cycles at each moment, and the trace is written as
+-- `Answers` says: whole; up to the first moment that doesn't settle; or a beginning of it, where memory is refused or the
+-- sink fails.
+pub record Simulates (text : List ℕ) (net : NetView) (answer : Result Summary RunFault) (old new : SinkState) : Type 0 where
+  pub none_stored : HasNoneStored net
+  pub stimulus : StimulusView
+  pub said : IsRead net text (Ok stimulus)
+  pub answers : Answers net stimulus most_deltas old new answer
+
+abbrev pub RunsEvents : (text : List ℕ) → NetView → Result Summary Fault → (old new : SinkState) → Type 0
+RunsEvents text net (Ok summary) old new = Simulates text net (Ok summary) old new
+-- all variables that are stored
+RunsEvents text net (Err (Rejected faults)) old new = AreStored (core net) (map fault_view faults.items) × (faults.items ≢ []) × (new ≡ old)
+RunsEvents text net (Err (Stim stim.NoMemory)) old new = ⊥
+-- the first bad line of the stimulus, or that none says when to stop
+RunsEvents text net (Err (Stim fault)) old new = HasNoneStored net × (schedule_of (inputs_of net) text ≡ Err fault) × (new ≡ old)
+RunsEvents text net (Err (NoSettling time)) old new = Simulates text net (Err (run.NoSettling time)) old new
+RunsEvents text net (Err Output) old new = Simulates text net (Err run.Output) old new
+-- memory may be refused before the trace begins
+RunsEvents text net (Err Memory) old new = Simulates text net (Err run.Memory) old new ⊎ (new ≡ old)
+RunsEvents text net (Err _) old new = ⊥

@@ -1,0 +1,36 @@
+//! The commands: each opens a source, does its work on the net, and writes to a sink; and how their faults are told.
+//!
+//! Each call that opens a source has a type for its first parameter that does so, by the contract of `Front`.
+//!
+//! `specs/Opened.antt` says what a command answers that opens a source, `specs/Listed.antt` what `net` and `check` write,
+//! `specs/Simulated.antt` what `run --event` does, `specs/Machine.antt` what `run`, `run --levels` and `eval` do, and `specs/Told.antt` what is told of an answer.
+#![tactic(auto)]
+
+mod faults;
+mod lines;
+mod listing;
+mod machine;
+mod running;
+mod serving;
+mod status;
+
+pub use faults::Fault;
+pub use lines::{push_memory, tell_fault, tell_levels, tell_source_fault, tell_summary};
+pub use listing::{check_net, check_net_dot, list_net, show_check, show_check_dot, show_net};
+pub use machine::{eval, eval_net, run, run_levels, run_net, run_net_levels};
+pub use rtl_check::CheckFault;
+pub use rtl_kernel::{Forward, Pick, Reverse};
+pub use rtl_levelized::LevelSummary;
+pub use rtl_stim::StimFault;
+pub use rtl_net::Net;
+pub use rtl_run::Summary;
+pub use rtl_sink::Sink;
+pub use running::{MAX_DELTAS, run_event, run_events};
+pub use serving::{
+    ended_by_writes, serve_check, serve_check_dot, serve_eval, serve_net, serve_run,
+    serve_run_event, serve_run_levels,
+};
+pub use status::Status;
+pub use vhdl_source_rules::{Front, SourceFault};
+pub use vhdl_expand_rules::{ElabFault, ElabProblem};
+pub use vhdl_names_rules::{NameFault, NameProblem};

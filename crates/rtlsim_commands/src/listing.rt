@@ -1,0 +1,126 @@
+//! The lines of a net, and of the checker's verdict on it.
+
+ghost use Rattle.std.specs.Prelude.{◌≡◌, IfErr, length};
+ghost use Rattle.rtl_check.specs.Verdicts as verdicts;
+ghost use Rattle.rtl_sink.specs.Written.{IsIntact};
+ghost use Rattle.rtlsim_commands.specs.Listed.{ListsNet, ChecksNet, DrawsNet};
+ghost use Rattle.rtlsim_commands.specs.Opened.{Opens};
+ghost use Rattle.rtlsim_commands.specs.Places.{IsTold};
+
+use crate::faults::Fault;
+use rtl_check::{Verdict, check};
+use rtlsim_listing;
+use rtl_net::Net;
+use rtl_sink::Sink;
+use std::alloc::Global;
+use vhdl_source_rules::Front;
+
+/// Writes the lines of the net of a source: `source` has the bytes of the file, `top` the name of an entity in it, in letters of
+/// either case. It takes memory for the source's net, and then for one name at a time.
+///
+/// # Errors
+///
+/// - `Lex`, `Syntax`, `Name`, `Elab`: the source is refused, and nothing was written.
+/// - `Memory`: memory was refused. `Output`: `out` failed. In both a beginning of the lines was written.
+pub fn show_net<F: Front, S: Sink>(
+    alloc: Global,
+    source: &[u8],
+    top: &[u8],
+    out: &mut S,
+) -> Result<(), Fault>
+    requires intact { IsIntact (S.state out.old) }
+    ensures lists { Opens ListsNet source.now top.now result (S.state out.old) (S.state out.new) }
+    ensures told { IfErr result (IsTold (length source.now)) }
+{
+    let net = F::open(alloc, source, top)?;
+    list_net(&net, out)
+}
+
+/// Writes the lines of a net. It takes memory for one name at a time.
+///
+/// # Errors
+///
+/// `Memory` and `Output`, where a beginning of the lines was written.
+pub fn list_net<S: Sink>(net: &Net, out: &mut S) -> Result<(), Fault>
+    requires intact { IsIntact (S.state out.old) }
+    ensures { ListsNet net.now result (S.state out.old) (S.state out.new) }
+{
+    Ok(rtlsim_listing::show_net(net, out)?)
+}
+
+/// Checks the net of a source, writes the lines of the verdict, and answers whether it is yes: `source` has the bytes of the file,
+/// `top` the name of an entity in it, in letters of either case. It takes memory for the source's net, and in proportion to it.
+///
+/// # Errors
+///
+/// - `Lex`, `Syntax`, `Name`, `Elab`: the source is refused, and nothing was written.
+/// - `Memory`: memory was refused. `Output`: `out` failed. In both a beginning of the lines was written.
+pub fn show_check<F: Front, S: Sink>(
+    alloc: Global,
+    source: &[u8],
+    top: &[u8],
+    out: &mut S,
+) -> Result<bool, Fault>
+    requires intact { IsIntact (S.state out.old) }
+    ensures checks { Opens ChecksNet source.now top.now result (S.state out.old) (S.state out.new) }
+    ensures told { IfErr result (IsTold (length source.now)) }
+{
+    let net = F::open(alloc, source, top)?;
+    check_net(alloc, &net, out)
+}
+
+/// Checks a net, writes the lines of the verdict, and answers whether it is yes. It takes memory in proportion to the net.
+///
+/// # Errors
+///
+/// `Memory` and `Output`, where a beginning of the lines was written.
+pub fn check_net<S: Sink>(alloc: Global, net: &Net, out: &mut S) -> Result<bool, Fault>
+    requires intact { IsIntact (S.state out.old) }
+    ensures { ChecksNet net.now result (S.state out.old) (S.state out.new) }
+{
+    let verdict = check(alloc, net)?;
+    rtlsim_listing::show_check(alloc, net, &verdict, out)?;
+    Ok(is_yes(&verdict))
+}
+
+/// Checks the net of a source, draws its levels where the verdict is yes and writes its lines else, and answers whether it is yes: as
+/// `show_check` does, but for the graph.
+///
+/// # Errors
+///
+/// As `show_check`.
+pub fn show_check_dot<F: Front, S: Sink>(
+    alloc: Global,
+    source: &[u8],
+    top: &[u8],
+    out: &mut S,
+) -> Result<bool, Fault>
+    requires intact { IsIntact (S.state out.old) }
+    ensures checks { Opens DrawsNet source.now top.now result (S.state out.old) (S.state out.new) }
+    ensures told { IfErr result (IsTold (length source.now)) }
+{
+    let net = F::open(alloc, source, top)?;
+    check_net_dot(alloc, &net, out)
+}
+
+/// Checks a net, draws its levels where the verdict is yes and writes its lines else, and answers whether it is yes. It takes memory in
+/// proportion to the net.
+///
+/// # Errors
+///
+/// `Memory` and `Output`, where a beginning of the text was written.
+pub fn check_net_dot<S: Sink>(alloc: Global, net: &Net, out: &mut S) -> Result<bool, Fault>
+    requires intact { IsIntact (S.state out.old) }
+    ensures { DrawsNet net.now result (S.state out.old) (S.state out.new) }
+{
+    let verdict = check(alloc, net)?;
+    rtlsim_listing::show_dot(alloc, net, &verdict, out)?;
+    Ok(is_yes(&verdict))
+}
+
+/// Whether a verdict is yes.
+fn is_yes(verdict: &Verdict) -> bool
+    ensures { result ≡ verdicts.is_yes verdict.now }
+{
+    matches!(verdict, Verdict::Yes(_))
+}

@@ -1,0 +1,258 @@
+//! Commands with what is told of their answers.
+
+ghost use Rattle.std.specs.Prelude.{◌≡◌, map};
+ghost use Rattle.rtl_net.specs.Nets.{NetView};
+ghost use Rattle.rtl_sink.specs.Written.{IsIntact, Goes};
+ghost use Rattle.rtlsim_commands.specs.Faults.{of_source, status_of};
+ghost use Rattle.rtlsim_commands.specs.Lines.{fault_lines};
+ghost use Rattle.rtlsim_commands.specs.Listed.{ListsNet, ChecksNet, DrawsNet};
+ghost use Rattle.rtlsim_commands.specs.Machine.{RunsMachine, RunsMachineByLevels, EvaluatesMachine};
+ghost use Rattle.rtlsim_commands.specs.Served.{Serves, ended};
+ghost use Rattle.rtlsim_commands.specs.Simulated.{RunsEvents};
+ghost use Rattle.rtlsim_commands.specs.Told as told;
+
+use crate::faults::Fault;
+use crate::lines::{tell_fault, tell_levels, tell_source_fault, tell_summary};
+use crate::listing::{check_net, check_net_dot, list_net};
+use crate::machine::{eval_net, run_net, run_net_levels};
+use crate::running::run_events;
+use crate::status::Status;
+use rtl_kernel::Pick;
+use rtl_levelized::LevelSummary;
+use rtl_net::Net;
+use rtl_run::Summary;
+use rtl_sink::Sink;
+use std::alloc::Global;
+use vhdl_source_rules::{Front, SourceFault};
+
+/// Writes the lines of the net of a source to `out` and those of a fault to `err`, and answers the status.
+pub fn serve_net<F: Front, O: Sink, E: Sink>(
+    alloc: Global,
+    source: &[u8],
+    top: &[u8],
+    out: &mut O,
+    err: &mut E,
+) -> Status
+    requires out { IsIntact (O.state out.old) }
+    requires err { IsIntact (E.state err.old) }
+    ensures { Serves ListsNet told.quiet source.now top.now result
+        (record { out = O.state out.old; out_after = O.state out.new; err = E.state err.old; err_after = E.state err.new }) }
+{
+    let net = match F::open(alloc, source, top) {
+        Ok(net) => net,
+        Err(fault) => return refuse_source(fault, out, err),
+    };
+    match list_net(&net, out) {
+        Ok(()) => ended_by_writes(Status::Done, out, err),
+        Err(fault) => refuse_net(alloc, &net, &fault, out, err),
+    }
+}
+
+/// Checks the net of a source, writes the lines of the verdict to `out` and those of a fault to `err`, and answers the status.
+pub fn serve_check<F: Front, O: Sink, E: Sink>(
+    alloc: Global,
+    source: &[u8],
+    top: &[u8],
+    out: &mut O,
+    err: &mut E,
+) -> Status
+    requires out { IsIntact (O.state out.old) }
+    requires err { IsIntact (E.state err.old) }
+    ensures { Serves ChecksNet told.verdict source.now top.now result
+        (record { out = O.state out.old; out_after = O.state out.new; err = E.state err.old; err_after = E.state err.new }) }
+{
+    let net = match F::open(alloc, source, top) {
+        Ok(net) => net,
+        Err(fault) => return refuse_source(fault, out, err),
+    };
+    match check_net(alloc, &net, out) {
+        Ok(yes) => ended_by_writes(verdict_status(yes), out, err),
+        Err(fault) => refuse_net(alloc, &net, &fault, out, err),
+    }
+}
+
+/// Checks the net of a source, draws its levels to `out` where the verdict is yes and writes its lines there else, writes the lines of a
+/// fault to `err`, and answers the status.
+pub fn serve_check_dot<F: Front, O: Sink, E: Sink>(
+    alloc: Global,
+    source: &[u8],
+    top: &[u8],
+    out: &mut O,
+    err: &mut E,
+) -> Status
+    requires out { IsIntact (O.state out.old) }
+    requires err { IsIntact (E.state err.old) }
+    ensures { Serves DrawsNet told.verdict source.now top.now result
+        (record { out = O.state out.old; out_after = O.state out.new; err = E.state err.old; err_after = E.state err.new }) }
+{
+    let net = match F::open(alloc, source, top) {
+        Ok(net) => net,
+        Err(fault) => return refuse_source(fault, out, err),
+    };
+    match check_net_dot(alloc, &net, out) {
+        Ok(yes) => ended_by_writes(verdict_status(yes), out, err),
+        Err(fault) => refuse_net(alloc, &net, &fault, out, err),
+    }
+}
+
+/// Simulates the net of a source by events, writes the trace to `out`, the number of moments and of delta cycles or the lines of a
+/// fault to `err`, and answers the status.
+pub fn serve_run_event<F: Front, P: Pick, O: Sink, E: Sink>(
+    alloc: Global,
+    source: &[u8],
+    top: &[u8],
+    stimulus: &[u8],
+    pick: &mut P,
+    out: &mut O,
+    err: &mut E,
+) -> Status
+    requires out { IsIntact (O.state out.old) }
+    requires err { IsIntact (E.state err.old) }
+    ensures { Serves (RunsEvents stimulus.now) told.summary source.now top.now result
+        (record { out = O.state out.old; out_after = O.state out.new; err = E.state err.old; err_after = E.state err.new }) }
+{
+    let net = match F::open(alloc, source, top) {
+        Ok(net) => net,
+        Err(fault) => return refuse_source(fault, out, err),
+    };
+    match run_events(alloc, &net, stimulus, pick, out) {
+        Ok(summary) => end_run(summary, out, err),
+        Err(fault) => refuse_net(alloc, &net, &fault, out, err),
+    }
+}
+
+/// Simulates the net of a source as a synchronous machine, writes the trace to `out`, the number of moments and of delta cycles or
+/// the lines of a fault to `err`, and answers the status.
+pub fn serve_run<F: Front, P: Pick, O: Sink, E: Sink>(
+    alloc: Global,
+    source: &[u8],
+    top: &[u8],
+    stimulus: &[u8],
+    pick: &mut P,
+    out: &mut O,
+    err: &mut E,
+) -> Status
+    requires out { IsIntact (O.state out.old) }
+    requires err { IsIntact (E.state err.old) }
+    ensures { Serves (RunsMachine stimulus.now) told.summary source.now top.now result
+        (record { out = O.state out.old; out_after = O.state out.new; err = E.state err.old; err_after = E.state err.new }) }
+{
+    let net = match F::open(alloc, source, top) {
+        Ok(net) => net,
+        Err(fault) => return refuse_source(fault, out, err),
+    };
+    match run_net(alloc, &net, stimulus, pick, out) {
+        Ok(summary) => end_run(summary, out, err),
+        Err(fault) => refuse_net(alloc, &net, &fault, out, err),
+    }
+}
+
+/// Simulates the net of a source as a synchronous machine, each process run once a moment, writes the trace to `out`, the number of
+/// moments and the bound or the lines of a fault to `err`, and answers the status.
+pub fn serve_run_levels<F: Front, O: Sink, E: Sink>(
+    alloc: Global,
+    source: &[u8],
+    top: &[u8],
+    stimulus: &[u8],
+    out: &mut O,
+    err: &mut E,
+) -> Status
+    requires out { IsIntact (O.state out.old) }
+    requires err { IsIntact (E.state err.old) }
+    ensures { Serves (RunsMachineByLevels stimulus.now) told.levels source.now top.now result
+        (record { out = O.state out.old; out_after = O.state out.new; err = E.state err.old; err_after = E.state err.new }) }
+{
+    let net = match F::open(alloc, source, top) {
+        Ok(net) => net,
+        Err(fault) => return refuse_source(fault, out, err),
+    };
+    match run_net_levels(alloc, &net, stimulus, out) {
+        Ok(summary) => end_levels(summary, out, err),
+        Err(fault) => refuse_net(alloc, &net, &fault, out, err),
+    }
+}
+
+/// Writes the values of the out ports of the net of a source under these NAME=VALUE words to `out`, the lines of a fault to `err`,
+/// and answers the status.
+pub fn serve_eval<F: Front, O: Sink, E: Sink>(
+    alloc: Global,
+    source: &[u8],
+    top: &[u8],
+    sets: &[&[u8]],
+    out: &mut O,
+    err: &mut E,
+) -> Status
+    requires out { IsIntact (O.state out.old) }
+    requires err { IsIntact (E.state err.old) }
+    ensures { Serves (EvaluatesMachine (map (λ set. set.now) sets.now)) told.quiet source.now top.now result
+        (record { out = O.state out.old; out_after = O.state out.new; err = E.state err.old; err_after = E.state err.new }) }
+{
+    let net = match F::open(alloc, source, top) {
+        Ok(net) => net,
+        Err(fault) => return refuse_source(fault, out, err),
+    };
+    match eval_net(alloc, &net, sets, out) {
+        Ok(()) => ended_by_writes(Status::Done, out, err),
+        Err(fault) => refuse_net(alloc, &net, &fault, out, err),
+    }
+}
+
+/// Tells why a source is refused, and answers the status.
+fn refuse_source<O: Sink, E: Sink>(fault: SourceFault, out: &O, err: &mut E) -> Status
+    ensures told { (net : NetView) → Goes (E.state err.old) (E.state err.new) (fault_lines net (of_source fault)) }
+    ensures status { result ≡ ended (status_of (of_source fault)) (O.state out.now) (E.state err.new) }
+{
+    let said = tell_source_fault(fault, err);
+    ended_by_writes(said, out, err)
+}
+
+/// Tells a fault of a net with its names, and answers the status.
+fn refuse_net<O: Sink, E: Sink>(
+    alloc: Global,
+    net: &Net,
+    fault: &Fault,
+    out: &O,
+    err: &mut E,
+) -> Status
+    requires { IsIntact (E.state err.old) }
+    ensures { (said : Status) × told.TellsFault net.now fault.now (E.state err.old) (E.state err.new) said
+        × (result ≡ ended said (O.state out.now) (E.state err.new)) }
+{
+    let said = tell_fault(alloc, net, fault, err);
+    ended_by_writes(said, out, err)
+}
+
+/// Tells the numbers of a run that is done, and answers the status.
+fn end_run<O: Sink, E: Sink>(summary: Summary, out: &O, err: &mut E) -> Status
+    ensures told { Goes (E.state err.old) (E.state err.new) (told.summary_line summary) }
+    ensures status { result ≡ ended Status.Done (O.state out.now) (E.state err.new) }
+{
+    tell_summary(summary, err);
+    ended_by_writes(Status::Done, out, err)
+}
+
+/// Tells the numbers of a run by levels that is done, and answers the status.
+fn end_levels<O: Sink, E: Sink>(summary: LevelSummary, out: &O, err: &mut E) -> Status
+    ensures told { Goes (E.state err.old) (E.state err.new) (told.levels_line summary) }
+    ensures status { result ≡ ended Status.Done (O.state out.now) (E.state err.new) }
+{
+    tell_levels(summary, err);
+    ended_by_writes(Status::Done, out, err)
+}
+
+/// The status of the checker's verdict.
+fn verdict_status(yes: bool) -> Status
+    ensures { result ≡ told.verdict_status yes }
+{
+    if yes { Status::Done } else { Status::Rejected }
+}
+
+/// The status, where no write failed.
+pub fn ended_by_writes<O: Sink, E: Sink>(status: Status, out: &O, err: &E) -> Status
+    ensures { result ≡ ended status (O.state out.now) (E.state err.now) }
+{
+    if out.failed() || err.failed() {
+        return Status::Failed;
+    }
+    status
+}

@@ -1,0 +1,16 @@
+use Rattle.std.proofs.Common.{◌+◌, length, rules, arith}
+use Rattle.rtlsim_listing.specs.DotText.{process_lines}
+use Rattle.rtlsim_listing.specs.NetText.{lines}
+use Rattle.rtlsim_listing.proofs.Printing.{refused, part_of_line, next_line}
+use Rattle.rtlsim_listing.proofs.graph.push_processes.Goals as goal
+
+pub returns-in_err-push_process : goal.returns-in_err-push_process
+returns-in_err-push_process g c =
+    let line = process_lines c.args.net.now c.args.levels.now in
+    refused c.from_residual.result _ _ _ (lines line (length c.args.levels.now)) c.from_residual.ensures.1
+    (part_of_line _ _ _ line c.loop-number.number (length c.args.levels.now) (search (rules, arith)) c.loop-number.invariant c.in_err-push_process.ensures)
+
+pub loop-number-preserved : goal.loop-number-preserved
+loop-number-preserved g c =
+    next_line _ _ _ (process_lines c.args.net.now c.args.levels.now) c.loop-number.number (c.loop-number.number + 1) (omega arith) c.loop-number.invariant
+    c.in_ok-push_process.ensures

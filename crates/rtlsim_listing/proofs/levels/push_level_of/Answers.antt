@@ -1,0 +1,12 @@
+use Rattle.std.proofs.Common.{subst, ◌∙◌}
+use Rattle.rtl_sink.specs.Written.{Goes}
+use Rattle.rtl_sink.proofs.Writing.{Goes-append}
+use Rattle.rtlsim_listing.proofs.levels.push_level_of.Goals as goal
+
+pub returns : goal.returns
+returns g c =
+    let state = g.W.Sink.state in
+    let name = subst (λ text. Goes (state c.push_text-2.new.sink) (state c.push_text-3.new.sink) text) (c.deref.ensures.value ∙ c.in_ok-name.ensures) c.push_text-3.ensures in
+    let from = subst (λ text. Goes (state c.push_text-3.new.sink) (state c.push_text-4.new.sink) text) (c.deref-2.ensures.value ∙ c.in_ok-behind.ensures) c.push_text-4.ensures in
+    let level = Goes-append _ _ _ _ _ (Goes-append _ _ _ _ _ c.push_text.ensures c.push_number.ensures) c.push_text-2.ensures in
+    Goes-append _ _ _ _ _ (Goes-append _ _ _ _ _ (Goes-append _ _ _ _ _ level name) from) c.push_text-5.ensures

@@ -1,0 +1,105 @@
+//! The lines of a verdict.
+
+ghost use Rattle.rtl_sink.specs.Written.{IsIntact};
+ghost use Rattle.rtlsim_listing.specs.CheckText.{check_text, rejection_text};
+ghost use Rattle.rtlsim_listing.specs.DotText.{dot_text};
+ghost use Rattle.rtlsim_listing.specs.Printing.{Prints, IsListed};
+
+use crate::fault::ListingFault;
+use crate::graph::push_graph;
+use crate::levels::push_report;
+use crate::rejection::push_rejection;
+use rtl_check::{CheckFault, Verdict};
+use rtl_net::{Net, NoMemory};
+use rtl_sink::{Sink, finish};
+use std::alloc::Global;
+
+/// Writes the checker's verdict on a net: `yes` with the greatest level, the bound and the level of each combinational process,
+/// or `no` with a line for each fault. It takes the memory of a few names at a time. Where a verdict names what the net
+/// doesn't have, as one on another net may, nothing stands for the name.
+///
+/// # Errors
+///
+/// `Memory` where a name's memory was refused, and `Write` where the sink failed: what went out is a beginning of the text.
+pub fn show_check<W: Sink>(
+    alloc: Global,
+    net: &Net,
+    verdict: &Verdict,
+    out: &mut W,
+) -> Result<(), ListingFault>
+    requires intact { IsIntact (W.state out.old) }
+    ensures { IsListed result (W.state out.old) (W.state out.new) (check_text net.now verdict.now) }
+{
+    push_verdict(alloc, net, verdict, out)?;
+    finish(out)?;
+    Ok(())
+}
+
+/// Writes the levels of an accepted net as a graph in Graphviz's language, or as `show_check` does `no` with a line for each fault.
+/// It takes the memory of a few names at a time.
+///
+/// # Errors
+///
+/// As `show_check`.
+pub fn show_dot<W: Sink>(
+    alloc: Global,
+    net: &Net,
+    verdict: &Verdict,
+    out: &mut W,
+) -> Result<(), ListingFault>
+    requires intact { IsIntact (W.state out.old) }
+    ensures { IsListed result (W.state out.old) (W.state out.new) (dot_text net.now verdict.now) }
+{
+    push_drawn(alloc, net, verdict, out)?;
+    finish(out)?;
+    Ok(())
+}
+
+/// Writes the checker's no: `no`, and a line for each of these faults of a net, as `show_check` does.
+///
+/// # Errors
+///
+/// As `show_check`.
+pub fn show_faults<W: Sink>(
+    alloc: Global,
+    net: &Net,
+    faults: &[CheckFault],
+    out: &mut W,
+) -> Result<(), ListingFault>
+    requires intact { IsIntact (W.state out.old) }
+    ensures { IsListed result (W.state out.old) (W.state out.new) (rejection_text net.now faults.now) }
+{
+    push_rejection(alloc, net, faults, out)?;
+    finish(out)?;
+    Ok(())
+}
+
+/// The whole text.
+fn push_verdict<W: Sink>(
+    alloc: Global,
+    net: &Net,
+    verdict: &Verdict,
+    out: &mut W,
+) -> Result<(), NoMemory>
+    ensures { Prints result (W.state out.old) (W.state out.new) (check_text net.now verdict.now) }
+{
+    match verdict {
+        Verdict::Yes(report) => push_report(alloc, net, report, out),
+        Verdict::No(faults) => push_rejection(alloc, net, faults, out),
+    }
+}
+
+/// The whole text, with the graph of an accepted net.
+fn push_drawn<W: Sink>(
+    alloc: Global,
+    net: &Net,
+    verdict: &Verdict,
+    out: &mut W,
+) -> Result<(), NoMemory>
+    ensures { Prints result (W.state out.old) (W.state out.new) (dot_text net.now verdict.now) }
+{
+    match verdict {
+        Verdict::Yes(report) => push_graph(alloc, net, report, out),
+        Verdict::No(faults) => push_rejection(alloc, net, faults, out),
+    }
+}

@@ -1,0 +1,35 @@
+//! Why lines were not written whole.
+
+ghost use Rattle.std.specs.Prelude.{◌≡◌};
+ghost use Rattle.rtlsim_listing.specs.declared.fault.ListingFault.TheVariants.{Memory, Write};
+
+use rtl_net::NoMemory;
+use rtl_sink::WriteFailed;
+use thiserror::Error;
+
+/// Why lines were not written whole.
+#[derive(Clone, Copy, PartialEq, Eq, Debug, Error)]
+pub enum ListingFault {
+    /// Memory for a name was refused.
+    #[error("out of memory")]
+    Memory,
+    /// The sink took less than the whole text.
+    #[error("the output failed")]
+    Write,
+}
+
+impl From<NoMemory> for ListingFault {
+    ghost from_gives = { λ _ fault. fault ≡ Memory };
+
+    fn from(_refused: NoMemory) -> ListingFault {
+        ListingFault::Memory
+    }
+}
+
+impl From<WriteFailed> for ListingFault {
+    ghost from_gives = { λ _ fault. fault ≡ Write };
+
+    fn from(_failed: WriteFailed) -> ListingFault {
+        ListingFault::Write
+    }
+}

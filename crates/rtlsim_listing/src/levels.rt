@@ -1,0 +1,127 @@
+//! The checker's yes: the bound, and the levels of combinational processes.
+
+ghost use Rattle.std.specs.Prelude.{◌≡◌, ◌<◌, length, slice_index_or, None, IfOk};
+ghost use Rattle.rtl_sink.specs.Written.{Goes};
+ghost use Rattle.rtlsim_listing.specs.NetText.{lines};
+ghost use Rattle.rtlsim_listing.specs.CheckText as spec;
+ghost use Rattle.rtlsim_listing.specs.Printing.{Prints};
+
+use crate::names::process_name;
+use rtl_check::Report;
+use rtl_net::{Net, NoMemory};
+use rtl_sink::{Sink, push_number, push_text};
+use std::alloc::Global;
+
+/// The whole report.
+pub fn push_report<W: Sink>(
+    alloc: Global,
+    net: &Net,
+    report: &Report,
+    out: &mut W,
+) -> Result<(), NoMemory>
+    ensures { Prints result (W.state out.old) (W.state out.new) (spec.report_text net.now report.now) }
+{
+    push_bounds(greatest_level(&report.levels), report.bound, out);
+    push_levels(alloc, net, &report.levels, &report.from, out)
+}
+
+/// The greatest of the levels that there are, 0 without any.
+pub fn greatest_level(levels: &[Option<u32>]) -> u32
+    ensures { result ≡ spec.greatest_level levels.now }
+{
+    let mut greatest = 0;
+    for level in levels {
+        greatest = greatest.max(level.unwrap_or(0));
+    }
+    greatest
+}
+
+/// `yes`, the greatest level and the bound.
+fn push_bounds<W: Sink>(levels: u32, bound: u32, out: &mut W)
+    ensures { Goes (W.state out.old) (W.state out.new) (spec.bounds_text levels bound) }
+{
+    push_text(out, b"yes\nlevels ");
+    push_number(out, levels as u64);
+    push_text(out, b"\nbound ");
+    push_number(out, bound as u64);
+    push_text(out, b"\n");
+}
+
+/// The lines of all processes that have a level.
+fn push_levels<W: Sink>(
+    alloc: Global,
+    net: &Net,
+    levels: &[Option<u32>],
+    from: &[Option<usize>],
+    out: &mut W,
+) -> Result<(), NoMemory>
+    ensures { Prints result (W.state out.old) (W.state out.new) (lines (spec.level_line net.now levels.now from.now) (length levels.now)) }
+{
+    for number in 0..levels.len() {
+        push_level(alloc, net, levels, from, number, out)?;
+    }
+    Ok(())
+}
+
+/// The line of a process, if it has a level.
+fn push_level<W: Sink>(
+    alloc: Global,
+    net: &Net,
+    levels: &[Option<u32>],
+    from: &[Option<usize>],
+    number: usize,
+    out: &mut W,
+) -> Result<(), NoMemory>
+    requires there { number < length levels.now }
+    ensures { Prints result (W.state out.old) (W.state out.new) (spec.level_line net.now levels.now from.now number) }
+{
+    match levels[number] {
+        Some(level) => push_level_of(alloc, net, number, level, from_at(from, number), out),
+        None => Ok(()),
+    }
+}
+
+/// What a process's level comes from, if it is said.
+fn from_at(from: &[Option<usize>], number: usize) -> Option<usize>
+    ensures { result ≡ slice_index_or from.now number None }
+{
+    if number < from.len() {
+        from[number]
+    } else {
+        None
+    }
+}
+
+/// The line of a process of this level.
+fn push_level_of<W: Sink>(
+    alloc: Global,
+    net: &Net,
+    number: usize,
+    level: u32,
+    from: Option<usize>,
+    out: &mut W,
+) -> Result<(), NoMemory>
+    ensures { Prints result (W.state out.old) (W.state out.new) (spec.level_of net.now number level from) }
+{
+    let name = process_name(alloc, net, number)?;
+    let behind = from_text(alloc, net, from)?;
+    push_text(out, b"level ");
+    push_number(out, level as u64);
+    push_text(out, b" ");
+    push_text(out, &name);
+    push_text(out, &behind);
+    push_text(out, b"\n");
+    Ok(())
+}
+
+/// `from` and the name of a process, or nothing.
+fn from_text(alloc: Global, net: &Net, from: Option<usize>) -> Result<Vec<u8>, NoMemory>
+    ensures { IfOk result (λ text. text.items ≡ spec.from_text net.now from) }
+{
+    let mut text = Vec::new(alloc);
+    if let Some(process) = from {
+        text.extend_from_slice(b" from ")?;
+        text.extend_from_slice(&process_name(alloc, net, process)?)?;
+    }
+    Ok(text)
+}

@@ -1,9 +1,0 @@
-use Rattle.vhdl_tree.specs.View as tree
-use Rattle.vhdl_types.specs.Views.{sight_view}
-use Rattle.vhdl_units.specs.views.Concurrent.{one_process}
-use Rattle.vhdl_types.proofs.Along.{gives_along}
-use Rattle.vhdl_bodies.proofs.steps.Concurrent.{assignment_gives}
-use Rattle.vhdl_bodies.proofs.assignments.assignment.Goals as goal
-
-pub returns : goal.returns
-returns c = gives_along one_process _ _ _ (assignment_gives (sight_view c.args.sight.now) (tree.assignment_view c.args.assignment.now)) c.assignment_in_turn.ensures

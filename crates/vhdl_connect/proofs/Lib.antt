@@ -1,0 +1,10 @@
+pub mod Adding
+pub mod Uses
+mod Placing
+mod Walking
+pub mod Ready
+mod Zipped
+mod Seen
+mod Settling
+mod Shown
+mod Made

@@ -1,0 +1,9 @@
+pub mod Made
+pub mod Adding
+pub mod Placing
+pub mod Ready
+pub mod Walking
+pub mod Tables
+pub mod Wires
+pub mod Settled
+pub mod Wired

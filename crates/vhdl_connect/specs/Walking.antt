@@ -1,0 +1,16 @@
+-- Where the walk over the tree of instances stands.
+use Rattle.std.specs.Prelude.{◌≡◌, ℕ, List}
+use Rattle.vhdl_elab_rules.specs.Numbering as elab
+use Rattle.vhdl_elab_rules.specs.Numbering.{Placed}
+use Rattle.vhdl_elab_rules.specs.Wiring.{defaults_of}
+use Rattle.vhdl_connect_processes.specs.declared.process.Round.{Round}
+use Rattle.vhdl_connect.specs.declared.walk.Above.{Above}
+
+-- what an instance stands in whose path begins so
+abbrev pub above_at : Above → (path : List ℕ) → elab.Above
+above_at above path = record { parent = above.parent; path = path; nets = above.nets.now }
+
+-- processes and instances in this instance have its nets and its defaults
+pub record IsIn (p : Placed) (round : Round) : Type 0 where
+  pub nets : p.nets ≡ round.nets.now
+  pub defaults : defaults_of p.objects ≡ round.defaults.now

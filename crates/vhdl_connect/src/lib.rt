@@ -1,0 +1,19 @@
+//! The parts of the flat net of a design (IEEE 1076-2008, 6.4.2.3, 14.7.2, 14.7.3).
+#![tactic(auto)]
+
+mod connection;
+mod made;
+mod nets;
+mod objects;
+mod place;
+mod settled;
+mod tables;
+mod walk;
+mod wires;
+mod wiring;
+
+pub use connection::connect;
+pub use made::{Element, Made};
+pub use place::Place;
+pub use walk::number;
+pub use wiring::wire;

@@ -1,0 +1,37 @@
+use Rattle.std.proofs.Common.{map, ap, refl, sym, ◌∙◌, subst}
+use Rattle.std.specs.Prelude.{◌↔◌, Contains, option_map}
+use Rattle.std.proofs.lemmas.List.{with_items_is}
+use Rattle.rtl_model.specs.bodies.Reads.{reads}
+use Rattle.rtl_net.specs.Bodies.{statements_of}
+use Rattle.vhdl_elab_rules.specs.Bodies.{connected}
+use Rattle.vhdl_connect_bodies.proofs.Reading.{reads_connected}
+use Rattle.vhdl_expand_tree.specs.Views.{process_view, variable_view}
+use Rattle.vhdl_connect_processes.specs.Located.{driver_in, of_variable}
+use Rattle.vhdl_connect_processes.proofs.process.Round.process.Goals as goal
+
+pub returns : goal.returns
+returns c =
+    let nets = c.args.self.now.nets.now in
+    let drives = c.args.from.now.drives.items in
+    let old = statements_of c.args.from.now.body.items in
+    let same = with_items_is c.replace-body.result c.connect_body.new.body (c.connect_body.auto.body ∙ c.deref_mut.ensures.len) in
+    let made =
+    ap statements_of same ∙ c.in_ok-connect_body.ensures
+    ∙ (λ i. connected nets (c.deref.ensures.value i) (statements_of (c.deref_mut.ensures.value i)))
+    ∙ ap (λ v. connected nets drives (statements_of v.items)) c.replace-body.ensures.value in
+    let found = ap (λ xs. reads (statements_of xs)) c.deref-2.ensures.value ∙ ap reads made ∙ reads_connected nets drives old in
+    record {
+      drivers = c.in_ok-drives.ensures ∙ ap (map (driver_in nets c.args.self.now.defaults.now)) c.deref-4.ensures.value;
+      reads = record {
+        rise = c.in_ok-reads.ensures.rise;
+        all = λ n. subst (λ xs. Contains c.in_ok-reads.reads.items n ↔ Contains (reads (statements_of xs)) n) c.deref-2.ensures.value (c.in_ok-reads.ensures.all n);
+      };
+      wakes = c.in_ok-wakes.ensures (process_view c.args.from.now) refl
+          (λ n. subst (λ ns. Contains c.deref-3.result.now n ↔ Contains ns n) found
+          (subst (λ ms. Contains ms n ↔ Contains (reads (statements_of c.deref-2.result.now)) n) (sym c.deref-3.ensures.value) (c.in_ok-reads.ensures.all n)));
+      variables = c.in_ok-variables.ensures ∙ ap (λ vs. map of_variable (map variable_view vs)) c.deref_mut-2.ensures.value;
+      body = made;
+      scope_is = refl;
+      prefix = c.without_dot-generates.ensures ∙ ap (λ v. v.items) c.replace.ensures.value;
+      label = ap (option_map (λ l. l.items)) c.take.ensures.value;
+    }

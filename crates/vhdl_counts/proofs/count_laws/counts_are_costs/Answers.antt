@@ -1,5 +1,0 @@
-use Rattle.vhdl_counts.proofs.Counts.{each-design-costs-its-parts}
-use Rattle.vhdl_counts.proofs.count_laws.counts_are_costs.Goals as goal
-
-pub returns : goal.returns
-returns c = each-design-costs-its-parts

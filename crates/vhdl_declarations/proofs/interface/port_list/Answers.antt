@@ -1,9 +1,0 @@
-use Rattle.std.proofs.Common.{rules}
-use Rattle.vhdl_lexer.specs.declared.token.Kind.TheVariants as k
-use Rattle.vhdl_tree.specs.View.{port_view}
-use Rattle.vhdl_declarations.specs.reader.Declarations.{port}
-use Rattle.vhdl_expressions.proofs.Lists.{reads_separated}
-use Rattle.vhdl_declarations.proofs.interface.port_list.Goals as goal
-
-pub returns : goal.returns
-returns c = reads_separated port_view k.Semicolon (port c.args.levels) (λ ts r rest h. search rules) c.separated.ensures

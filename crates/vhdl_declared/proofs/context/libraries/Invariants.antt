@@ -1,9 +1,0 @@
-use Rattle.std.proofs.Common.{◌≡◌, map, drop}
-use Rattle.std.specs.List.{list_all}
-use Rattle.vhdl_names.specs.Packages.{is_library}
-use Rattle.vhdl_tree.specs.View.{ident_view}
-use Rattle.vhdl_declared.proofs.context.libraries.Given as goal
-
--- those that are left say whether all are libraries
-abbrev pub invariant-loop-name : goal.invariant-loop-name
-invariant-loop-name l = list_all is_library (map ident_view l.names) ≡ list_all is_library (map ident_view (drop l.name-index l.names))

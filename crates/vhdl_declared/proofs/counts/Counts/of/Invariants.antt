@@ -1,8 +1,0 @@
-use Rattle.std.proofs.Common.{take}
-use Rattle.vhdl_types.specs.Views.{region_view}
-use Rattle.vhdl_declared.specs.Counts.{AreCounts}
-use Rattle.vhdl_declared.proofs.counts.Counts.of.Given as goal
-
--- what stands before the place is counted
-abbrev pub invariant-loop-place : goal.invariant-loop-place
-invariant-loop-place l = AreCounts l.counts (take l.place (region_view l.region))

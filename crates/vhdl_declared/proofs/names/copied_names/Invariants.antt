@@ -1,7 +1,0 @@
-use Rattle.std.proofs.Common.{◌≡◌, map, take}
-use Rattle.vhdl_tree.specs.View.{ident_view, idents_view}
-use Rattle.vhdl_declared.proofs.names.copied_names.Given as goal
-
--- those so far are copied
-abbrev pub invariant-loop-name : goal.invariant-loop-name
-invariant-loop-name l = idents_view l.done ≡ map ident_view (take l.name-index l.names)

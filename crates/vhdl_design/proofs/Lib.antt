@@ -1,3 +1,0 @@
-pub mod Alike
-pub mod Charging
-pub mod Parts

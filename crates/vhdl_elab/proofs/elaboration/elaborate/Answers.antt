@@ -1,0 +1,59 @@
+use Rattle.std.proofs.Common.{rules, ◌≢◌, IsErr, ap, sym, ◌∙◌, subst, arith}
+use Rattle.std.proofs.lemmas.Grind.{common_steps}
+use Rattle.rtl_net.specs.Nets.{NetView}
+use Rattle.rtl_net.specs.Parts.{assembled}
+use Rattle.vhdl_names_units.specs.views.Units.{units_view}
+use Rattle.vhdl_expand_rules.specs.declared.fault.ElabFault.TheVariants.{NoMemory}
+use Rattle.vhdl_expand_rules.specs.Elab.{Elab}
+use Rattle.vhdl_expand_rules.proofs.Steps.{given}
+use Rattle.vhdl_expand_rules.proofs.laws.Trees.{each-tree-is-sound}
+use Rattle.vhdl_elab_rules.specs.Elaboration.{Elaborated, elaborated}
+use Rattle.vhdl_expand_tree.specs.Views.{design_view}
+use Rattle.vhdl_elab_laws.specs.Shown.{as_shown, net_shown}
+use Rattle.vhdl_elab_laws.proofs.Dotted.{each-tree-is-dotted}
+use Rattle.vhdl_elab.proofs.Joined.{was-expanded, is-within, elaborated-by, refused, connected-is-net}
+use Rattle.vhdl_connect.proofs.Ready.{is-ready}
+use Rattle.vhdl_elab.proofs.There.{nets-there}
+use Rattle.vhdl_elab.proofs.elaboration.elaborate.Goals as goal
+
+pub returns-in_err-design : goal.returns-in_err-design
+returns-in_err-design c =
+    let stopped : c.in_err-design.field-0.0 ≢ NoMemory → IsErr (as_shown (elaborated (units_view c.args.units.now) c.args.top.now)) =
+    λ n. refused (units_view c.args.units.now) c.args.top.now (c.in_err-design.ensures n) in
+    first_of (search rules, grind (arith, common_steps))
+
+pub connect-requires-clause-ready : goal.connect-requires-clause-ready
+connect-requires-clause-ready c =
+    let units = units_view c.args.units.now in
+    let design = design_view c.in_ok-design.design in
+    let expanded = was-expanded units c.args.top.now design c.in_ok-design.ensures in
+    is-ready design (each-tree-is-sound units c.args.top.now design c.requires.sound expanded) (each-tree-is-dotted units c.args.top.now design c.requires.named expanded)
+
+pub connect-requires-clause-there : goal.connect-requires-clause-there
+connect-requires-clause-there c =
+    let units = units_view c.args.units.now in
+    let design = design_view c.in_ok-design.design in
+    nets-there units c.args.top.now design c.requires.sound (was-expanded units c.args.top.now design c.in_ok-design.ensures)
+
+pub connect-requires-clause-within : goal.connect-requires-clause-within
+connect-requires-clause-within c = is-within (units_view c.args.units.now) c.args.top.now (design_view c.in_ok-design.design) c.in_ok-design.ensures
+
+pub returns-in_err-parts : goal.returns-in_err-parts
+returns-in_err-parts c =
+    let units = units_view c.args.units.now in
+    let design = design_view c.in_ok-design.design in
+    let stopped : c.in_err-parts.field-0.0 ≢ NoMemory → IsErr (as_shown (elaborated (units_view c.args.units.now) c.args.top.now)) =
+    λ n. subst (λ (r : Elab Elaborated). IsErr (as_shown r)) (sym (elaborated-by units c.args.top.now design c.in_ok-design.ensures)) (c.in_err-parts.ensures.given n) in
+    first_of (search rules, grind (arith, common_steps))
+
+pub new-requires-clause-elaborated : goal.new-requires-clause-elaborated
+new-requires-clause-elaborated c =
+    let units = units_view c.args.units.now in
+    let design = design_view c.in_ok-design.design in
+    connected-is-net units c.args.top.now design (assembled c.in_ok-parts.parts) c.requires.sound c.requires.named c.in_ok-design.ensures c.in_ok-parts.ensures.given c.in_ok-parts.ensures.reads
+
+pub returns : goal.returns
+returns c =
+    let units = units_view c.args.units.now in
+    let design = design_view c.in_ok-design.design in
+    ap as_shown (elaborated-by units c.args.top.now design c.in_ok-design.ensures) ∙ c.in_ok-parts.ensures.given ∙ ap (λ (n : NetView). given (net_shown n)) (sym c.in_ok-new.ensures)

@@ -1,5 +1,0 @@
-use Rattle.vhdl_elab.proofs.laws.Nets.{nets-are-as-said}
-use Rattle.vhdl_elab.proofs.elaboration_laws.nets_are_as_said.Goals as goal
-
-pub returns : goal.returns
-returns c = nets-are-as-said

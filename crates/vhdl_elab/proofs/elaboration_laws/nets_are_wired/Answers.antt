@@ -1,5 +1,0 @@
-use Rattle.vhdl_elab.proofs.laws.Wiring.{each-net-is-wired}
-use Rattle.vhdl_elab.proofs.elaboration_laws.nets_are_wired.Goals as goal
-
-pub returns : goal.returns
-returns c = each-net-is-wired

@@ -1,5 +1,0 @@
-use Rattle.vhdl_elab.proofs.laws.Names.{each-has-names}
-use Rattle.vhdl_elab.proofs.elaboration_laws.parts_have_names.Goals as goal
-
-pub returns : goal.returns
-returns c = each-has-names

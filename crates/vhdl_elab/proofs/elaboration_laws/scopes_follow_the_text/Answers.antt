@@ -1,5 +1,0 @@
-use Rattle.vhdl_elab.proofs.laws.Scopes.{each-scope-follows}
-use Rattle.vhdl_elab.proofs.elaboration_laws.scopes_follow_the_text.Goals as goal
-
-pub returns : goal.returns
-returns c = each-scope-follows

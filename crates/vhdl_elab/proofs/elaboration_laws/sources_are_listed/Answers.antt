@@ -1,8 +1,0 @@
-use Rattle.vhdl_elab.proofs.laws.Sources.{sources-are-listed, idle-ports-are-listed}
-use Rattle.vhdl_elab.proofs.elaboration_laws.sources_are_listed.Goals as goal
-
-pub returns-clause-drivers : goal.returns-clause-drivers
-returns-clause-drivers c = sources-are-listed
-
-pub returns-clause-idle : goal.returns-clause-idle
-returns-clause-idle c = idle-ports-are-listed

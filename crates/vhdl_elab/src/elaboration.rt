@@ -1,0 +1,29 @@
+//! Elaboration, from the name of the top on.
+
+ghost use Rattle.std.specs.Prelude.{IsTrue};
+ghost use Rattle.vhdl_names_rules.specs.sound.Units.{are_sound};
+ghost use Rattle.vhdl_names_rules.specs.sound.Named.{are_named};
+ghost use Rattle.vhdl_names_units.specs.views.Units.{units_view};
+ghost use Rattle.vhdl_expand_bodies.specs.Results.{Expands};
+ghost use Rattle.vhdl_elab_rules.specs.Elaboration.{elaborated};
+ghost use Rattle.vhdl_elab_laws.specs.Shown.{as_shown, net_shown};
+
+use rtl_net::Net;
+use std::alloc::Global;
+use vhdl_expand_rules::ElabFault;
+use vhdl_expand::expand;
+use vhdl_names_units::Units;
+use vhdl_connect::connect;
+
+/// Elaborates the design whose top is the entity of this name, in letters of either case. The generics of the top have their
+/// defaults, and its ports are joined to nothing. It takes the memory of the tree of instances and then of the net, within the
+/// limits of elaboration.
+pub fn elaborate(alloc: Global, units: &Units, top: &[u8]) -> Result<Net, ElabFault>
+    requires sound { IsTrue (are_sound (units_view units.now)) }
+    requires named { IsTrue (are_named (units_view units.now)) }
+    ensures { Expands net_shown (as_shown (elaborated (units_view units.now) top.now)) result }
+{
+    let design = expand(alloc, units, top)?;
+    let parts = connect(alloc, design)?;
+    Ok(Net::new(alloc, parts)?)
+}

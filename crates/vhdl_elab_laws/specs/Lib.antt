@@ -1,0 +1,5 @@
+pub mod Shown
+pub mod Nets
+pub mod Names
+pub mod Prefixes
+pub mod Ports

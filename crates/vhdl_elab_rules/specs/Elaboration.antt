@@ -1,0 +1,49 @@
+-- Elaboration of a design (IEEE 1076-2008, clause 14): its units and the name of its top are expanded, the instances, nets
+-- and processes are numbered, and the net is wired. It is refused where an expansion is, and where the design as a whole
+-- breaks a rule.
+use Rattle.std.specs.Prelude.{ℕ, not, List, map, flat_map, Ok}
+use Rattle.std.specs.List.{enumerate_from}
+use Rattle.rtl_model.specs.nets.FlatNet.{FlatNet}
+use Rattle.vhdl_names_rules.specs.units.Units.{Units}
+use Rattle.vhdl_expand_rules.specs.declared.fault.ElabProblem.TheVariants.{TwoUnresolved, ReadOfShared, TooMany}
+use Rattle.vhdl_expand_rules.specs.Elab.{Elab, ◌>>=◌, ◌>>◌, unless}
+use Rattle.vhdl_expand_rules.specs.Expansion.{Design, expanded}
+use Rattle.vhdl_elab_rules.specs.Numbering.{Numbered, numbered}
+use Rattle.vhdl_elab_rules.specs.Wiring.{flat_net}
+use Rattle.vhdl_elab_rules.specs.Limits.{counts, is_within_limits, has_two_unresolved, has_read_of_shared}
+use Rattle.vhdl_elab_rules.specs.Names.{Scope, scope_of, Signal, signals_of, NamedProcess, named_process, net_names, process_names}
+
+-- a flat net, and names beside it
+pub record Elaborated : Type 0 where
+  pub flat : FlatNet
+  -- the top first
+  pub scopes : List Scope
+  -- in order of the instances, and of declaration
+  pub signals : List Signal
+  pub processes : List NamedProcess
+  pub net_names : List (List ℕ)
+  pub process_names : List (List ℕ)
+
+abbrev pub net_of : Numbered → Elaborated
+net_of d = record {
+  flat = flat_net d;
+  scopes = map scope_of d.instances;
+  signals = flat_map signals_of (enumerate_from 0 d.instances);
+  processes = map named_process d.processes;
+  net_names = net_names d;
+  process_names = process_names d;
+}
+
+-- the net of a design, none of whose rules is broken
+unfoldable pub connected : Design → Elab Elaborated
+connected design = do
+  let d = numbered design
+  unless TooMany (is_within_limits (counts d))
+  unless TwoUnresolved (not (has_two_unresolved d))
+  unless ReadOfShared (not (has_read_of_shared d (flat_net d)))
+  Ok (net_of d)
+
+unfoldable pub elaborated : Units → (top : List ℕ) → Elab Elaborated
+elaborated units top = do
+  design ← expanded units top
+  connected design

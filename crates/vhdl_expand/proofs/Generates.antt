@@ -1,0 +1,200 @@
+-- Generates, behind what is made so far.
+use Rattle.std.proofs.Common.{◌≡◌, ℕ, zero, suc, ◌+◌, ◌<◌, ◌≤◌, Bool, true, false, if◌then◌else◌, List, [], ◌∷◌, ◌++◌, length, sum, drop, Ok, Err, refl, sym, ap, ◌∙◌, subst, arith}
+use Rattle.std.specs.Prelude.{ℤ, IsErr, fold, codes}
+use Rattle.std.specs.Fmt.{signed_decimal}
+use Rattle.std.proofs.lemmas.Int.{ints}
+use Rattle.vhdl_tree.specs.declared.operator.Direction.{Direction}
+use Rattle.vhdl_tree.specs.declared.operator.Direction.TheVariants.{To, Downto}
+use Rattle.vhdl_names_rules.specs.units.Expressions.{Range, StaticTest}
+use Rattle.vhdl_names_rules.specs.units.Units as u
+use Rattle.vhdl_names_rules.specs.units.Units.{Units}
+use Rattle.vhdl_expand_rules.specs.Elab.{Elab, ◌>>=◌, each}
+use Rattle.vhdl_expand_rules.specs.Integers.{turns, decision, counted, next}
+use Rattle.vhdl_expand_rules.specs.Tree.{Parts, no_parts, followed_by}
+use Rattle.vhdl_expand_rules.specs.Expansion as definition
+use Rattle.vhdl_expand_rules.specs.Expansion.{Spot, instance_of, in_branch, joined, dotted}
+use Rattle.vhdl_expand_rules.proofs.Steps.{given}
+use Rattle.vhdl_expand_tree.proofs.Alike.{Alike, alike_same, alike_after, alike_trans, both_refused}
+use Rattle.vhdl_expand.specs.Making as made
+use Rattle.vhdl_expand.specs.Making.{Made, Progress, and_then, adding, together, made_turns}
+use Rattle.vhdl_expand.specs.Spots.{within}
+use Rattle.vhdl_expand.specs.Turns.{parameter}
+use Rattle.vhdl_expand.proofs.Making.{in_turn, added_alike, goes, stops, ends, none_added}
+
+-- ---- the values of the parameter
+
+parameter-next : (direction : Direction) (x : ℤ) (k : ℕ) → parameter direction (next direction x) k ≡ parameter direction x (suc k)
+parameter-next To x k = omega (arith, ints)
+parameter-next Downto x k = omega (arith, ints)
+
+parameter-first : (direction : Direction) (x : ℤ) → x ≡ parameter direction x 0
+parameter-first To x = omega (arith, ints)
+parameter-first Downto x = omega (arith, ints)
+
+next-turn : (direction : Direction) (x : ℤ) (count k : ℕ) → k < count → drop k (counted direction x count) ≡ parameter direction x k ∷ drop (k + 1) (counted direction x count)
+next-turn direction x zero k h = absurd (omega arith)
+next-turn direction x (suc count) zero h = ap (λ j. j ∷ counted direction (next direction x) count) (parameter-first direction x)
+next-turn direction x (suc count) (suc k) h =
+    let e : suc (k + 1) ≡ suc k + 1 = omega arith in
+    next-turn direction (next direction x) count k (omega arith)
+    ∙ ap (λ j. j ∷ drop (k + 1) (counted direction (next direction x) count)) (parameter-next direction x k)
+    ∙ ap (λ m. parameter direction x (suc k) ∷ drop m (counted direction x (suc count))) e
+
+no-turn : (direction : Direction) (x : ℤ) (count k : ℕ) → count ≤ k → drop k (counted direction x count) ≡ []
+no-turn direction x zero zero h = refl
+no-turn direction x zero (suc k) h = refl
+no-turn direction x (suc count) zero h = absurd (omega arith)
+no-turn direction x (suc count) (suc k) h = no-turn direction (next direction x) count k (omega arith)
+
+counted-length : (direction : Direction) (x : ℤ) (count : ℕ) → length (counted direction x count) ≡ count
+counted-length direction x zero = refl
+counted-length direction x (suc count) = ap suc (counted-length direction (next direction x) count)
+
+-- ---- turns
+
+-- all turns and then their parts
+first-turns : (n : ℕ) (ps : Elab (List Parts)) (ns : Elab (List ℕ))
+    → Alike (together (ps >>= λ xs. given (joined xs)) (ns >>= λ ms. given (n + sum ms)))
+    (in_turn (given (made_turns n)) (together (ps >>= λ xs. given (joined xs)) (ns >>= λ ms. given (sum ms))))
+first-turns n (Ok xs) (Ok ms) = alike_same refl
+first-turns n (Ok xs) (Err problem) = both_refused refl
+first-turns n (Err problem) ns = both_refused refl
+
+sum-from : (n m : ℕ) (ns : List ℕ) → fold ◌+◌ (n + m) ns ≡ n + fold ◌+◌ m ns
+sum-from n m [] = refl
+sum-from n m (k ∷ ns) = ap (λ q. fold ◌+◌ q ns) (assoc n m k) ∙ sum-from n (m + k) ns
+  where
+    assoc : (a b c : ℕ) → a + b + c ≡ a + (b + c)
+    assoc a b c = omega arith
+
+no-first : (n : ℕ) → 0 + n ≡ n + 0
+no-first n = omega arith
+
+sum-more : (n : ℕ) (ns : List ℕ) → sum (n ∷ ns) ≡ n + sum ns
+sum-more n ns = ap (λ m. fold ◌+◌ m ns) (no-first n) ∙ sum-from n 0 ns
+
+-- a turn and then the others
+one-turn : (p : Elab Parts) (ps : Elab (List Parts)) (m : Elab ℕ) (ms : Elab (List ℕ))
+    → Alike (together ((p >>= λ x. ps >>= λ xs. given (x ∷ xs)) >>= λ xs. given (joined xs)) ((m >>= λ n. ms >>= λ ns. given (n ∷ ns)) >>= λ ns. given (sum ns)))
+    (in_turn (together p m) (together (ps >>= λ xs. given (joined xs)) (ms >>= λ ns. given (sum ns))))
+one-turn (Ok x) (Ok xs) (Ok n) (Ok ns) = alike_same (ap (λ m. given (record { parts = followed_by x (joined xs); turns = m })) (sum-more n ns))
+one-turn (Ok x) (Ok xs) (Ok n) (Err problem) = both_refused refl
+one-turn (Ok x) (Ok xs) (Err problem) ms = both_refused refl
+one-turn (Ok x) (Err problem) (Ok n) ms = both_refused refl
+one-turn (Ok x) (Err problem) (Err other) ms = both_refused refl
+one-turn (Err problem) ps m ms = both_refused refl
+
+module _ (units : Units) (levels : ℕ) (at : Spot) (label : List ℕ) (body : u.Concurrents) where
+  -- of a turn whose parameter has this value, and of several turns
+  abbrev pub turned : ℤ → Elab Made
+  turned i = made.concurrents units levels (definition.in_turn at label i) body
+
+  abbrev pub all_turned : List ℤ → Elab Made
+  all_turned is =
+      together (each (λ i. definition.concurrents units (instance_of units levels) (definition.in_turn at label i) body) is >>= λ ps. given (joined ps))
+      (each (λ i. definition.concurrents_turns (definition.in_turn at label i) body) is >>= λ ns. given (sum ns))
+
+  abbrev pub for_each : Range → Elab Made
+  for_each r = made.concurrent units levels at (u.generate_for label r body)
+
+  abbrev pub if_holding : StaticTest → Elab Made
+  if_holding test = made.concurrent units levels at (u.generate_if label test body)
+
+  -- the count is charged first
+  turns-begin : (r : Range) (is : List ℤ) (old now : Progress) → turns at.site.integers r ≡ Ok is → adding old (given (made_turns (length is))) ≡ Ok now
+      → Alike (adding old (for_each r)) (adding now (all_turned is))
+  unfolding definition.concurrent definition.concurrent_turns
+  turns-begin r is old now h k =
+      goes (adding old (for_each r)) old now (given (made_turns (length is))) (all_turned is) (alike_trans (alike_same (ap (λ q. adding old (by q)) h)) (added_alike old _ _ (first-turns (length is) _ _))) k
+    where
+      by : Elab (List ℤ) → Elab Made
+      by q =
+          together (q >>= λ is. each (λ i. definition.concurrents units (instance_of units levels) (definition.in_turn at label i) body) is >>= λ ps. given (joined ps))
+          (q >>= λ is. each (λ i. definition.concurrents_turns (definition.in_turn at label i) body) is >>= λ ns. given (length is + sum ns))
+
+  turns-refused : (r : Range) (is : List ℤ) (old : Progress) → turns at.site.integers r ≡ Ok is → IsErr (adding old (given (made_turns (length is))))
+      → IsErr (adding old (for_each r))
+  unfolding definition.concurrent definition.concurrent_turns
+  turns-refused r is old h k =
+      stops (adding old (for_each r)) old (given (made_turns (length is))) (all_turned is) (alike_trans (alike_same (ap (λ q. adding old (by q)) h)) (added_alike old _ _ (first-turns (length is) _ _))) k
+    where
+      by : Elab (List ℤ) → Elab Made
+      by q =
+          together (q >>= λ is. each (λ i. definition.concurrents units (instance_of units levels) (definition.in_turn at label i) body) is >>= λ ps. given (joined ps))
+          (q >>= λ is. each (λ i. definition.concurrents_turns (definition.in_turn at label i) body) is >>= λ ns. given (length is + sum ns))
+
+  pub turns_begin : (r : Range) (direction : Direction) (x : ℤ) (count : ℕ) (old now : Progress) → turns at.site.integers r ≡ Ok (counted direction x count)
+      → adding old (given (made_turns count)) ≡ Ok now → Alike (adding old (for_each r)) (adding now (all_turned (counted direction x count)))
+  turns_begin r direction x count old now h k =
+      turns-begin r (counted direction x count) old now h (ap (λ n. adding old (given (made_turns n))) (counted-length direction x count) ∙ k)
+
+  pub turns_refused : (r : Range) (direction : Direction) (x : ℤ) (count : ℕ) (old : Progress) → turns at.site.integers r ≡ Ok (counted direction x count)
+      → IsErr (adding old (given (made_turns count))) → IsErr (adding old (for_each r))
+  turns_refused r direction x count old h k =
+      turns-refused r (counted direction x count) old h (subst (λ n. IsErr (adding old (given (made_turns n)))) (sym (counted-length direction x count)) k)
+
+  pub no_turns : (r : Range) (old : Progress) → IsErr (turns at.site.integers r) → IsErr (adding old (for_each r))
+  unfolding definition.concurrent definition.concurrent_turns
+  no_turns r old h = go (turns at.site.integers r) h
+    where
+      by : Elab (List ℤ) → Elab Made
+      by q =
+          together (q >>= λ is. each (λ i. definition.concurrents units (instance_of units levels) (definition.in_turn at label i) body) is >>= λ ps. given (joined ps))
+          (q >>= λ is. each (λ i. definition.concurrents_turns (definition.in_turn at label i) body) is >>= λ ns. given (length is + sum ns))
+
+      go : (q : Elab (List ℤ)) → IsErr q → IsErr (adding old (by q))
+      go (Ok is) e = absurd cc
+      go (Err problem) e = refl
+
+  next-turned : (now : Progress) (direction : Direction) (x i : ℤ) (count k : ℕ) → k < count → i ≡ parameter direction x k
+      → Alike (adding now (all_turned (drop k (counted direction x count)))) (adding now (in_turn (turned i) (all_turned (drop (k + 1) (counted direction x count)))))
+  next-turned now direction x i count k below is =
+      alike_after (ap (λ js. adding now (all_turned js)) (next-turn direction x count k below ∙ ap (λ j. j ∷ drop (k + 1) (counted direction x count)) (sym is)))
+      (added_alike now _ _ (one-turn (definition.concurrents units (instance_of units levels) (definition.in_turn at label i) body) _ (definition.concurrents_turns (definition.in_turn at label i) body) _))
+
+  pub turns_go : (total : Elab Progress) (now new : Progress) (direction : Direction) (x i : ℤ) (count k : ℕ) → k < count → i ≡ parameter direction x k
+      → Alike total (adding now (all_turned (drop k (counted direction x count)))) → adding now (turned i) ≡ Ok new
+      → Alike total (adding new (all_turned (drop (k + 1) (counted direction x count))))
+  turns_go total now new direction x i count k below is so_far h =
+      goes total now new (turned i) (all_turned (drop (k + 1) (counted direction x count))) (alike_trans so_far (next-turned now direction x i count k below is)) h
+
+  pub turns_stop : (total : Elab Progress) (now : Progress) (direction : Direction) (x i : ℤ) (count k : ℕ) → k < count → i ≡ parameter direction x k
+      → Alike total (adding now (all_turned (drop k (counted direction x count)))) → IsErr (adding now (turned i)) → IsErr total
+  turns_stop total now direction x i count k below is so_far h =
+      stops total now (turned i) (all_turned (drop (k + 1) (counted direction x count))) (alike_trans so_far (next-turned now direction x i count k below is)) h
+
+  pub turns_end : (total : Elab Progress) (now : Progress) (direction : Direction) (x : ℤ) (count k : ℕ) → count ≤ k
+      → Alike total (adding now (all_turned (drop k (counted direction x count)))) → total ≡ Ok now
+  turns_end total now direction x count k h so_far = ends total now (alike_trans so_far (alike_same (ap (λ js. adding now (all_turned js)) (no-turn direction x count k h))))
+
+  -- the place in a turn, and in an if generate
+  pub turn_spot : (inner : Spot) (i : ℤ) (values : List ℤ) (prefix : List ℕ) → inner ≡ within at values prefix → values ≡ at.site.integers.generates ++ i ∷ []
+      → prefix ≡ at.prefix ++ dotted (label ++ (codes "(" ++ (signed_decimal i ++ codes ")"))) → definition.in_turn at label i ≡ inner
+  turn_spot inner i values prefix h v p = sym (h ∙ ap (λ vs. within at vs prefix) v ∙ ap (within at (at.site.integers.generates ++ i ∷ [])) p)
+
+  pub branch_spot : (inner : Spot) (prefix : List ℕ) → inner ≡ within at at.site.integers.generates prefix → prefix ≡ at.prefix ++ dotted label → in_branch at label ≡ inner
+  branch_spot inner prefix h p = sym (h ∙ ap (within at at.site.integers.generates) p)
+
+  -- ---- if generates
+
+  pub branch_taken : (test : StaticTest) → decision at.site.integers test ≡ Ok true → if_holding test ≡ made.concurrents units levels (in_branch at label) body
+  unfolding definition.concurrent definition.concurrent_turns
+  branch_taken test h =
+      ap (λ (q : Elab Bool). together (q >>= λ holds. if holds then definition.concurrents units (instance_of units levels) (in_branch at label) body else Ok no_parts)
+      (q >>= λ holds. if holds then definition.concurrents_turns (in_branch at label) body else Ok 0)) h
+
+  pub branch_left : (test : StaticTest) (old : Progress) → decision at.site.integers test ≡ Ok false → adding old (if_holding test) ≡ Ok old
+  unfolding definition.concurrent definition.concurrent_turns
+  branch_left test old h =
+      ap (λ (q : Elab Bool). adding old (together (q >>= λ holds. if holds then definition.concurrents units (instance_of units levels) (in_branch at label) body else Ok no_parts)
+      (q >>= λ holds. if holds then definition.concurrents_turns (in_branch at label) body else Ok 0))) h
+      ∙ none_added old
+
+  pub no_branch : (test : StaticTest) (old : Progress) → IsErr (decision at.site.integers test) → IsErr (adding old (if_holding test))
+  unfolding definition.concurrent definition.concurrent_turns
+  no_branch test old h = go (decision at.site.integers test) h
+    where
+      go : (q : Elab Bool) → IsErr q → IsErr (adding old (together (q >>= λ holds. if holds then definition.concurrents units (instance_of units levels) (in_branch at label) body else Ok no_parts)
+          (q >>= λ holds. if holds then definition.concurrents_turns (in_branch at label) body else Ok 0)))
+      go (Ok holds) e = absurd cc
+      go (Err problem) e = refl

@@ -1,0 +1,309 @@
+-- Instances in an instance, and the top.
+use Rattle.std.proofs.Common.{◌≡◌, ℕ, suc, ◌+◌, Bool, true, false, List, [], ◌++◌, ◌∷◌, Option, Some, None, Vec, Global, Ok, Err, refl, sym, ap, ◌∙◌, subst, arith}
+use Rattle.std.specs.Prelude.{IsErr, slice_get}
+use Rattle.vhdl_names_rules.specs.units.Units as u
+use Rattle.vhdl_names_rules.specs.units.Units.{Units, Entity, Architecture}
+use Rattle.vhdl_expand_rules.specs.declared.fault.ElabProblem.TheVariants.{NoTop, TooMany}
+use Rattle.vhdl_expand_rules.specs.Elab.{Elab, ◌>>=◌, ◌>>◌, unless, found}
+use Rattle.vhdl_expand_rules.specs.Tree as t
+use Rattle.vhdl_expand_rules.specs.Tree.{Parts, no_parts, followed_by, Object, Process, Instance, instance}
+use Rattle.vhdl_expand_rules.specs.Declarations.{Declared, declarations, interface, associations}
+use Rattle.vhdl_expand_rules.specs.Expansion as definition
+use Rattle.vhdl_expand_rules.specs.Expansion.{Spot, Design, instance_of, expanded, entity_named}
+use Rattle.vhdl_expand_rules.specs.Site.{no_integers}
+use Rattle.vhdl_expand_rules.proofs.Steps.{given}
+use Rattle.vhdl_expand_rules.proofs.Chains.{err_first}
+use Rattle.vhdl_elab_rules.specs.Limits.{Counts}
+use Rattle.vhdl_elab_rules.specs.Numbering.{own_sizes}
+use Rattle.vhdl_expand_tree.specs.declared.tree.Process as code
+use Rattle.vhdl_expand_tree.specs.declared.tree.Instance as code_instance
+use Rattle.vhdl_expand_tree.specs.declared.tree.Part.{Part}
+use Rattle.vhdl_expand_tree.specs.declared.tree.Part.TheVariants as p
+use Rattle.vhdl_expand_tree.specs.Views.{process_view, instance_view, parts_of}
+use Rattle.vhdl_expand_tree.proofs.Parts.{view_instance, parts_push}
+use Rattle.vhdl_expand_tree.specs.Costs.{no_costs, an_instance, nets, turns, plus, less, is_within, limits, spent, charged, process_costs, instance_costs, parts_costs}
+use Rattle.vhdl_expand_tree.proofs.Alike.{Alike, alike_same, alike_after, alike_trans, alike_then}
+use Rattle.vhdl_expand_tree.proofs.Charging.{left_with, charged_made}
+use Rattle.vhdl_expand.specs.Limits.{within_limits}
+use Rattle.vhdl_expand.specs.Making as made
+use Rattle.vhdl_expand.specs.Making.{Made, Progress, and_then, made_costs, made_process, made_instance, adding, together, nothing_yet}
+use Rattle.vhdl_expand_objects.specs.Associations.{associated}
+use Rattle.vhdl_expand.proofs.Making.{progress, one_added, charged_first, first_added}
+
+-- ---- what an instance costs
+
+nothing-apart : (c : ℕ) → 0 + c ≡ 0 + (0 + (0 + c))
+nothing-apart c = omega arith
+
+one-apart : (c : ℕ) → 1 + c ≡ 1 + (0 + (0 + c))
+one-apart c = omega arith
+
+nets-apart : (k c : ℕ) → k + c ≡ 0 + (k + (0 + c))
+nets-apart k c = omega arith
+
+turns-apart : (n c : ℕ) → n + c ≡ 0 + (0 + (n + c))
+turns-apart n c = omega arith
+
+abbrev made_of : List Object → Made → Instance
+made_of os m = instance os m.turns m.parts
+
+abbrev rest_costs : List Object → Made → Counts
+rest_costs os m = plus (nets (own_sizes os)) (made_costs m)
+
+instance-apart : (os : List Object) (m : Made) → instance_costs (made_of os m) ≡ plus an_instance (rest_costs os m)
+instance-apart os m =
+    let c = parts_costs m.parts in
+    λ i. record {
+      processes = nothing-apart c.processes i;
+      instances = one-apart c.instances i;
+      nets = nets-apart (own_sizes os) c.nets i;
+      turns = turns-apart m.turns c.turns i;
+      statements = nothing-apart c.statements i;
+      variable_elements = nothing-apart c.variable_elements i;
+    }
+
+-- ---- the body of an instance
+
+abbrev pub outermost : Declared → Spot
+outermost d = record { site = d.site; prefix = [] }
+
+-- its architecture and declarations are there
+instance-is : (units : Units) (n : ℕ) (unit : Entity) (d e : Declared) (a : Architecture) → unit.architecture ≡ Some a → declarations d a.declarations ≡ Ok e
+    → instance_of units (suc n) unit d ≡ (made.concurrents units n (outermost e) a.statements >>= λ m. given (made_of e.objects m))
+unfolding instance_of
+instance-is units n unit d e a h k =
+    ap (λ (o : Option Architecture). found NoTop o >>= λ a. declarations d a.declarations >>= λ e. body a e) h
+    ∙ ap (λ (r : Elab Declared). r >>= λ e. body a e) k
+    ∙ go (definition.concurrents units (instance_of units n) (outermost e) a.statements) (definition.concurrents_turns (outermost e) a.statements)
+  where
+    body : Architecture → Declared → Elab Instance
+    body a e =
+        definition.concurrents units (instance_of units n) (outermost e) a.statements >>= λ parts.
+        definition.concurrents_turns (outermost e) a.statements >>= λ turned. given (t.instance e.objects turned parts)
+
+    go : (p : Elab Parts) (m : Elab ℕ) → (p >>= λ parts. m >>= λ turned. given (t.instance e.objects turned parts)) ≡ (together p m >>= λ m. given (made_of e.objects m))
+    go (Ok ps) (Ok m) = refl
+    go (Ok ps) (Err problem) = refl
+    go (Err problem) m = refl
+
+-- an instance, then its nets, then what stands in it
+in-steps : (n : Counts) (os : List Object) (r : Elab Made)
+    → Alike (charged n instance_costs (r >>= λ m. given (made_of os m)))
+    (spent n an_instance >>= λ first. spent first (nets (own_sizes os)) >>= λ rest. adding (nothing_yet rest) r >>= λ p. left_with (made_of os p.made) p.left)
+in-steps n os r =
+    alike_after (charged_made (λ m. plus an_instance (rest_costs os m)) instance_costs (made_of os) (instance-apart os) n r)
+    (alike_trans (alike_then _ _ _ _ (charged_first an_instance (rest_costs os) (λ m. plus an_instance (rest_costs os m)) (λ m. refl) n r) (λ a. alike_same refl))
+    (first (spent n an_instance)))
+  where
+    last : (t : Elab (Made × Counts)) → (t >>= λ a. left_with (made_of os a.0) a.1) ≡ ((t >>= λ a. given (progress a.0 a.1)) >>= λ p. left_with (made_of os p.made) p.left)
+    last (Ok a) = refl
+    last (Err problem) = refl
+
+    second : (t : Elab Counts)
+        → ((t >>= λ rest. charged rest made_costs r) >>= λ a. left_with (made_of os a.0) a.1)
+        ≡ (t >>= λ rest. adding (nothing_yet rest) r >>= λ p. left_with (made_of os p.made) p.left)
+    second (Ok rest) = last (charged rest made_costs r) ∙ ap (λ (q : Elab Progress). q >>= λ p. left_with (made_of os p.made) p.left) (sym (first_added rest r))
+    second (Err problem) = refl
+
+    first : (t : Elab Counts)
+        → Alike ((t >>= λ left. charged left (rest_costs os) r) >>= λ a. left_with (made_of os a.0) a.1)
+        (t >>= λ first. spent first (nets (own_sizes os)) >>= λ rest. adding (nothing_yet rest) r >>= λ p. left_with (made_of os p.made) p.left)
+    first (Ok left) =
+        alike_trans (alike_then _ _ _ _ (charged_first (nets (own_sizes os)) made_costs (rest_costs os) (λ m. refl) left r) (λ a. alike_same refl))
+        (alike_same (second (spent left (nets (own_sizes os)))))
+    first (Err problem) = alike_same refl
+
+module _ (units : Units) (n : ℕ) (unit : Entity) (d : Declared) (before : Counts) where
+  abbrev whole : Elab (Instance × Counts)
+  whole = charged before instance_costs (instance_of units (suc n) unit d)
+
+  pub no_architecture : unit.architecture ≡ None → IsErr whole
+  unfolding instance_of
+  no_architecture h = err_first (instance_of units (suc n) unit d) _ (subst (λ (o : Option Architecture). IsErr (found NoTop o >>= λ a. declarations d a.declarations >>= λ e. rest a e)) (sym h) refl)
+    where
+      rest : Architecture → Declared → Elab Instance
+      rest a e =
+          definition.concurrents units (instance_of units n) (outermost e) a.statements >>= λ parts.
+          definition.concurrents_turns (outermost e) a.statements >>= λ turned. given (t.instance e.objects turned parts)
+
+  pub no_declarations : (a : Architecture) → unit.architecture ≡ Some a → IsErr (declarations d a.declarations) → IsErr whole
+  unfolding instance_of
+  no_declarations a h k =
+      err_first (instance_of units (suc n) unit d) _
+      (subst (λ (o : Option Architecture). IsErr (found NoTop o >>= λ a. declarations d a.declarations >>= λ e. rest a e)) (sym h) (err_first (declarations d a.declarations) (λ e. rest a e) k))
+    where
+      rest : Architecture → Declared → Elab Instance
+      rest a e =
+          definition.concurrents units (instance_of units n) (outermost e) a.statements >>= λ parts.
+          definition.concurrents_turns (outermost e) a.statements >>= λ turned. given (t.instance e.objects turned parts)
+
+  -- where no instance is left, each is refused
+  pub no_instance_left : IsErr (spent before an_instance) → IsErr whole
+  no_instance_left h = go (instance_of units (suc n) unit d)
+    where
+      go : (r : Elab Instance) → IsErr (charged before instance_costs r)
+      go (Ok (instance os m ps)) =
+          (in-steps before os (Ok (record { parts = ps; turns = m }))).stops (err_first (spent before an_instance) _ h)
+      go (Err problem) = refl
+
+  module _ (a : Architecture) (e : Declared) (there : unit.architecture ≡ Some a) (known : declarations d a.declarations ≡ Ok e) where
+    abbrev inside : Elab Made
+    inside = made.concurrents units n (outermost e) a.statements
+
+    stepwise : Alike whole (spent before an_instance >>= λ first. spent first (nets (own_sizes e.objects)) >>= λ rest. adding (nothing_yet rest) inside >>= λ p. left_with (made_of e.objects p.made) p.left)
+    stepwise = alike_after (ap (charged before instance_costs) (instance-is units n unit d e a there known)) (in-steps before e.objects inside)
+
+    pub no_nets_left : (first : Counts) → spent before an_instance ≡ Ok first → IsErr (spent first (nets (own_sizes e.objects))) → IsErr whole
+    no_nets_left first h k =
+        stepwise.stops
+        (subst (λ (r : Elab Counts). IsErr (r >>= λ first. spent first (nets (own_sizes e.objects)) >>= λ rest. adding (nothing_yet rest) inside >>= λ p. left_with (made_of e.objects p.made) p.left))
+        (sym h) (err_first (spent first (nets (own_sizes e.objects))) _ k))
+
+    reached : (first rest : Counts) → spent before an_instance ≡ Ok first → spent first (nets (own_sizes e.objects)) ≡ Ok rest
+        → (spent before an_instance >>= λ first. spent first (nets (own_sizes e.objects)) >>= λ rest. adding (nothing_yet rest) inside >>= λ p. left_with (made_of e.objects p.made) p.left)
+        ≡ (adding (nothing_yet rest) inside >>= λ p. left_with (made_of e.objects p.made) p.left)
+    reached first rest h k =
+        ap (λ (r : Elab Counts). r >>= λ first. spent first (nets (own_sizes e.objects)) >>= λ rest. adding (nothing_yet rest) inside >>= λ p. left_with (made_of e.objects p.made) p.left) h
+        ∙ ap (λ (r : Elab Counts). r >>= λ rest. adding (nothing_yet rest) inside >>= λ p. left_with (made_of e.objects p.made) p.left) k
+
+    pub not_inside : (first rest : Counts) → spent before an_instance ≡ Ok first → spent first (nets (own_sizes e.objects)) ≡ Ok rest
+        → IsErr (adding (nothing_yet rest) inside) → IsErr whole
+    not_inside first rest h k j = stepwise.stops (subst (λ (r : Elab (Instance × Counts)). IsErr r) (sym (reached first rest h k)) (err_first (adding (nothing_yet rest) inside) _ j))
+
+    pub instance_made : (first rest : Counts) (p : Progress) → spent before an_instance ≡ Ok first → spent first (nets (own_sizes e.objects)) ≡ Ok rest
+        → adding (nothing_yet rest) inside ≡ Ok p → whole ≡ Ok (made_of e.objects p.made, p.left)
+    instance_made first rest p h k j = stepwise.gives _ (reached first rest h k ∙ ap (λ (r : Elab Progress). r >>= λ p. left_with (made_of e.objects p.made) p.left) j)
+
+pub too_deep : (units : Units) (unit : Entity) (d : Declared) (before : Counts) → IsErr (charged before instance_costs (instance_of units 0 unit d))
+unfolding instance_of
+too_deep units unit d before = refl
+
+-- ---- processes and instances behind what is made so far
+
+none-more : (n : ℕ) → 0 + (n + 0) ≡ n
+none-more n = omega arith
+
+no-more : (n : ℕ) → n + 0 ≡ n
+no-more n = omega arith
+
+alone : (c : Counts) → plus (turns 0) (plus c no_costs) ≡ c
+alone c = λ i. record {
+  processes = none-more c.processes i;
+  instances = none-more c.instances i;
+  nets = none-more c.nets i;
+  turns = none-more c.turns i;
+  statements = none-more c.statements i;
+  variable_elements = none-more c.variable_elements i;
+}
+
+pub process_added : (p : Progress) (r : Elab Process)
+    → adding p (r >>= λ q. given (made_process q)) ≡ (charged p.left process_costs r >>= λ a. given (progress (and_then p.made (made_process a.0)) a.1))
+process_added p r = one_added process_costs made_process (λ q. alone (process_costs q)) p r
+
+pub instance_added : (label : List ℕ) (p : Progress) (r : Elab Instance)
+    → adding p (r >>= λ i. given (made_instance label i)) ≡ (charged p.left instance_costs r >>= λ a. given (progress (and_then p.made (made_instance label a.0)) a.1))
+instance_added label p r = one_added instance_costs (made_instance label) (λ i. alone (instance_costs i)) p r
+
+-- as the code puts them there
+pub process_behind : (xs ys : List Part) (x : code.Process) (n : ℕ) (before left : Counts) (r : Elab Process) → charged before process_costs r ≡ Ok (process_view x, left)
+    → ys ≡ xs ++ p.Process x ∷ []
+    → adding (progress (record { parts = parts_of xs; turns = n }) before) (r >>= λ q. given (made_process q)) ≡ Ok (progress (record { parts = parts_of ys; turns = n }) left)
+process_behind xs ys x n before left r h pushed =
+    process_added (progress (record { parts = parts_of xs; turns = n }) before) r
+    ∙ ap (λ (t : Elab (Process × Counts)). t >>= λ a. given (progress (and_then (record { parts = parts_of xs; turns = n }) (made_process a.0)) a.1)) h
+    ∙ (λ i. given (progress (record { parts = sym (parts_push xs ys (p.Process x) pushed) i; turns = no-more n i }) left))
+
+pub process_refused : (p : Progress) (r : Elab Process) → IsErr (charged p.left process_costs r) → IsErr (adding p (r >>= λ q. given (made_process q)))
+process_refused p r h = subst (λ (t : Elab Progress). IsErr t) (sym (process_added p r)) (err_first (charged p.left process_costs r) _ h)
+
+pub instance_behind : (xs ys : List Part) (label : Vec ℕ Global) (x : code_instance.Instance) (n : ℕ) (before left : Counts) (r s : Elab Instance) → r ≡ s
+    → charged before instance_costs s ≡ Ok (instance_view x, left) → ys ≡ xs ++ p.Instance label x ∷ []
+    → adding (progress (record { parts = parts_of xs; turns = n }) before) (r >>= λ i. given (made_instance label.items i)) ≡ Ok (progress (record { parts = parts_of ys; turns = n }) left)
+instance_behind xs ys label x n before left r s e h pushed =
+    instance_added label.items (progress (record { parts = parts_of xs; turns = n }) before) r
+    ∙ ap (λ (t : Elab (Instance × Counts)). t >>= λ a. given (progress (and_then (record { parts = parts_of xs; turns = n }) (made_instance label.items a.0)) a.1)) (ap (charged before instance_costs) e ∙ h)
+    ∙ (λ i. given (progress (record { parts = (ap (followed_by (parts_of xs)) (sym (view_instance no_parts label x.objects x.turns x.parts)) ∙ sym (parts_push xs ys (p.Instance label x) pushed)) i; turns = no-more n i }) left))
+
+pub instance_refused : (label : List ℕ) (p : Progress) (r : Elab Instance) → IsErr (charged p.left instance_costs r) → IsErr (adding p (r >>= λ i. given (made_instance label i)))
+instance_refused label p r h = subst (λ (t : Elab Progress). IsErr t) (sym (instance_added label p r)) (err_first (charged p.left instance_costs r) _ h)
+
+pub not_expanded : (label : List ℕ) (p : Progress) (r : Elab Instance) → IsErr r → IsErr (adding p (r >>= λ i. given (made_instance label i)))
+not_expanded label p (Ok i) h = absurd cc
+not_expanded label p (Err problem) h = refl
+
+module _ (units : Units) (n : ℕ) (at : Spot) (x : u.Instance) where
+  abbrev pub expanded_here : Elab Instance
+  expanded_here = definition.instance units (instance_of units n) at x
+
+  pub no_unit : slice_get units x.unit ≡ None → IsErr expanded_here
+  unfolding definition.instance
+  no_unit h = subst (λ (o : Option Entity). IsErr (found NoTop o >>= λ unit. interface at.site.integers x.generics unit >>= λ d. associations at.site unit.ports x.ports d.objects >>= λ os. instance_of units n unit (record d { objects = os }))) (sym h) refl
+
+  pub no_interface : (unit : Entity) → slice_get units x.unit ≡ Some unit → IsErr (interface at.site.integers x.generics unit) → IsErr expanded_here
+  unfolding definition.instance
+  no_interface unit h k =
+      subst (λ (o : Option Entity). IsErr (found NoTop o >>= λ unit. interface at.site.integers x.generics unit >>= λ d. associations at.site unit.ports x.ports d.objects >>= λ os. instance_of units n unit (record d { objects = os }))) (sym h)
+      (err_first (interface at.site.integers x.generics unit) _ k)
+
+  with-interface : (unit : Entity) (d : Declared) → slice_get units x.unit ≡ Some unit → interface at.site.integers x.generics unit ≡ Ok d
+      → expanded_here ≡ (associated at.site unit.ports x.ports d >>= λ e. instance_of units n unit e)
+  unfolding definition.instance
+  with-interface unit d h k =
+      ap (λ (o : Option Entity). found NoTop o >>= λ unit. interface at.site.integers x.generics unit >>= λ d. associations at.site unit.ports x.ports d.objects >>= λ os. instance_of units n unit (record d { objects = os })) h
+      ∙ ap (λ (r : Elab Declared). r >>= λ d. associations at.site unit.ports x.ports d.objects >>= λ os. instance_of units n unit (record d { objects = os })) k
+      ∙ go (associations at.site unit.ports x.ports d.objects)
+    where
+      go : (r : Elab (List Object)) → (r >>= λ os. instance_of units n unit (record d { objects = os })) ≡ ((r >>= λ os. given (record d { objects = os })) >>= λ e. instance_of units n unit e)
+      go (Ok os) = refl
+      go (Err problem) = refl
+
+  pub no_associations : (unit : Entity) (d : Declared) → slice_get units x.unit ≡ Some unit → interface at.site.integers x.generics unit ≡ Ok d
+      → IsErr (associated at.site unit.ports x.ports d) → IsErr expanded_here
+  no_associations unit d h k j = subst (λ (r : Elab Instance). IsErr r) (sym (with-interface unit d h k)) (err_first (associated at.site unit.ports x.ports d) _ j)
+
+  pub instance_here : (unit : Entity) (d e : Declared) → slice_get units x.unit ≡ Some unit → interface at.site.integers x.generics unit ≡ Ok d
+      → associated at.site unit.ports x.ports d ≡ Ok e → expanded_here ≡ instance_of units n unit e
+  instance_here unit d e h k j = with-interface unit d h k ∙ ap (λ (r : Elab Declared). r >>= λ e. instance_of units n unit e) j
+
+-- ---- the top
+
+abbrev designed : List ℕ → Elab Instance → Elab Design
+designed name r = r >>= λ i. given (record { name = name; top = i })
+
+module _ (units : Units) (top : List ℕ) where
+  pub no_top : entity_named units top ≡ None → IsErr (within_limits (expanded units top))
+  unfolding expanded
+  no_top h = subst (λ (o : Option Entity). IsErr (within_limits (found NoTop o >>= λ unit. interface no_integers [] unit >>= λ d. designed unit.name (instance_of units 32 unit d)))) (sym h) refl
+
+  pub no_top_interface : (unit : Entity) → entity_named units top ≡ Some unit → IsErr (interface no_integers [] unit) → IsErr (within_limits (expanded units top))
+  unfolding expanded
+  no_top_interface unit h k =
+      subst (λ (o : Option Entity). IsErr (within_limits (found NoTop o >>= λ unit. interface no_integers [] unit >>= λ d. designed unit.name (instance_of units 32 unit d)))) (sym h)
+      (err_first (interface no_integers [] unit >>= λ d. designed unit.name (instance_of units 32 unit d)) _ (err_first (interface no_integers [] unit) _ k))
+
+  module _ (unit : Entity) (d : Declared) (named : entity_named units top ≡ Some unit) (known : interface no_integers [] unit ≡ Ok d) where
+    from-top : expanded units top ≡ designed unit.name (instance_of units 32 unit d)
+    unfolding expanded
+    from-top =
+        ap (λ (o : Option Entity). found NoTop o >>= λ unit. interface no_integers [] unit >>= λ d. designed unit.name (instance_of units 32 unit d)) named
+        ∙ ap (λ (r : Elab Declared). r >>= λ d. designed unit.name (instance_of units 32 unit d)) known
+
+    limited : (r : Elab Instance) → within_limits (designed unit.name r) ≡ designed unit.name (charged limits instance_costs r >>= λ a. given a.0)
+    limited (Ok i) = go (is_within (instance_costs i) limits)
+      where
+        go : (w : Bool) → (unless TooMany w >> given (record { name = unit.name; top = i }))
+            ≡ designed unit.name (((unless TooMany w >> given (less limits (instance_costs i))) >>= λ s. left_with i s) >>= λ a. given a.0)
+        go true = refl
+        go false = refl
+    limited (Err problem) = refl
+
+    pub no_instance : IsErr (charged limits instance_costs (instance_of units 32 unit d)) → IsErr (within_limits (expanded units top))
+    no_instance h =
+        subst (λ (r : Elab Design). IsErr r) (sym (ap within_limits from-top ∙ limited (instance_of units 32 unit d)))
+        (err_first (charged limits instance_costs (instance_of units 32 unit d) >>= λ a. given a.0) _ (err_first (charged limits instance_costs (instance_of units 32 unit d)) _ h))
+
+    pub design_made : (i : Instance) (left : Counts) → charged limits instance_costs (instance_of units 32 unit d) ≡ Ok (i, left)
+        → within_limits (expanded units top) ≡ Ok (record { name = unit.name; top = i })
+    design_made i left h =
+        ap within_limits from-top ∙ limited (instance_of units 32 unit d)
+        ∙ ap (λ (r : Elab (Instance × Counts)). designed unit.name (r >>= λ a. given a.0)) h

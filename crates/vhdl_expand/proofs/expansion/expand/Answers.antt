@@ -1,0 +1,63 @@
+use Rattle.std.proofs.Common.{◌≡◌, map, None, ap, ◌∙◌, sym, subst, arith, rules}
+use Rattle.std.specs.Prelude.{◌≢◌, IsErr, find, bytes_eq}
+use Rattle.std.proofs.lemmas.Grind.{common_steps}
+use Rattle.vhdl_names_rules.specs.units.Units.{Entity}
+use Rattle.vhdl_names_units.specs.views.Units.{entity_view, units_view}
+use Rattle.vhdl_expand_rules.specs.declared.fault.ElabFault.TheVariants.{NoMemory}
+use Rattle.vhdl_expand_rules.specs.Expansion.{expanded, instance_of}
+use Rattle.vhdl_expand_rules.proofs.Steps.{given}
+use Rattle.vhdl_expand_tree.specs.Costs.{charged, instance_costs}
+use Rattle.vhdl_expand_tree.specs.Views.{budget_view, instance_view}
+use Rattle.vhdl_expand.specs.Limits.{within_limits}
+use Rattle.vhdl_expand_objects.specs.Views.{declared_view}
+use Rattle.vhdl_expand.proofs.Nested.{no_top, no_top_interface, no_instance, design_made}
+use Rattle.vhdl_expand.proofs.Heavier.{found_among}
+use Rattle.vhdl_expand.proofs.expansion.expand.Goals as goal
+
+pub returns-in_default : goal.returns-in_default
+returns-in_default c =
+    let us = units_view c.args.units.now in
+    let named = ap (λ n. find (λ (e : Entity). bytes_eq e.name n) us) (sym (c.deref-2.ensures.value ∙ c.in_ok-name.ensures))
+    ∙ ap (λ es. find (λ (e : Entity). bytes_eq e.name c.deref-2.result.now) (map entity_view es)) (sym c.deref.ensures.value) ∙ c.in_default.ensures in
+    let none : c.named.result ≡ None = first_of (search rules, grind (arith, common_steps)) in
+    λ _. no_top us c.args.top.now named
+
+pub returns-in_err-declared : goal.returns-in_err-declared
+returns-in_err-declared c =
+    let us = units_view c.args.units.now in
+    let named = ap (λ n. find (λ (e : Entity). bytes_eq e.name n) us) (sym (c.deref-2.ensures.value ∙ c.in_ok-name.ensures))
+    ∙ ap (λ es. find (λ (e : Entity). bytes_eq e.name c.deref-2.result.now) (map entity_view es)) (sym c.deref.ensures.value) ∙ c.in-Some.ensures in
+    let stopped : c.in_err-declared.field-0.0 ≢ NoMemory → IsErr (within_limits (expanded us c.args.top.now)) =
+    λ n. no_top_interface us c.args.top.now (entity_view c.in-Some.unit.now) named (c.in_err-declared.ensures n) in
+    first_of (search rules, grind (arith, common_steps))
+
+pub instance-requires : goal.instance-requires
+instance-requires c =
+    let here = ap (λ es. find (λ (e : Entity). bytes_eq e.name c.deref-2.result.now) (map entity_view es)) (c.deref-3.ensures.value ∙ sym c.deref.ensures.value) ∙ c.in-Some.ensures in
+    record { among = found_among (λ (e : Entity). bytes_eq e.name c.deref-2.result.now) (map entity_view c.deref-3.result.now) (entity_view c.in-Some.unit.now) here }
+
+pub returns-in_err-top : goal.returns-in_err-top
+returns-in_err-top c =
+    let us = units_view c.args.units.now in
+    let e = entity_view c.in-Some.unit.now in
+    let d = declared_view c.in_ok-declared.declared in
+    let named = ap (λ n. find (λ (e : Entity). bytes_eq e.name n) us) (sym (c.deref-2.ensures.value ∙ c.in_ok-name.ensures))
+    ∙ ap (λ es. find (λ (e : Entity). bytes_eq e.name c.deref-2.result.now) (map entity_view es)) (sym c.deref.ensures.value) ∙ c.in-Some.ensures in
+    let same = ap (λ b. charged b instance_costs (instance_of us 32 e d)) (sym c.whole-left.ensures)
+    ∙ ap (λ es. charged (budget_view c.whole-left.result) instance_costs (instance_of (map entity_view es) 32 e d)) (sym c.deref-3.ensures.value) in
+    let stopped : c.in_err-top.field-0.0 ≢ NoMemory → IsErr (within_limits (expanded us c.args.top.now)) =
+    λ n. no_instance us c.args.top.now e d named c.in_ok-declared.ensures (subst (λ r. IsErr r) (sym same) (c.in_err-top.ensures n)) in
+    first_of (search rules, grind (arith, common_steps))
+
+pub returns : goal.returns
+returns c =
+    let us = units_view c.args.units.now in
+    let e = entity_view c.in-Some.unit.now in
+    let d = declared_view c.in_ok-declared.declared in
+    let named = ap (λ n. find (λ (e : Entity). bytes_eq e.name n) us) (sym (c.deref-2.ensures.value ∙ c.in_ok-name.ensures))
+    ∙ ap (λ es. find (λ (e : Entity). bytes_eq e.name c.deref-2.result.now) (map entity_view es)) (sym c.deref.ensures.value) ∙ c.in-Some.ensures in
+    let same = ap (λ b. charged b instance_costs (instance_of us 32 e d)) (sym c.whole-left.ensures)
+    ∙ ap (λ es. charged (budget_view c.whole-left.result) instance_costs (instance_of (map entity_view es) 32 e d)) (sym c.deref-3.ensures.value) in
+    let name : c.in-Some.unit.now.name.text.items ≡ c.in_ok-name-2.name.items = first_of (search rules, grind (arith, common_steps)) in
+    design_made us c.args.top.now e d named c.in_ok-declared.ensures (instance_view c.in_ok-top.top) (budget_view c.instance.new.left) (same ∙ c.in_ok-top.ensures)
+    ∙ ap (λ n. given (record { name = n; top = instance_view c.in_ok-top.top })) name

@@ -1,0 +1,394 @@
+use mir.Syntax.{w32}
+use mir.Val.{SFits, to_z, of_z}
+use Rattle.std.proofs.lemmas.Int.{ints}
+use Rattle.std.proofs.Common.{◌≡◌, suc, ◌-◌, ◌<◌, true, false, [], ◌∷◌, ◌++◌, length, map, drop, ap, ◌∙◌, sym, subst, arith, rules, Ok, Some, None}
+use Rattle.std.specs.Prelude.{◌≢◌, IsErr}
+use Rattle.std.proofs.lemmas.Grind.{common_steps}
+use Rattle.std.specs.Prelude.{option_map, slice_get, flat_map, codes}
+use Rattle.std.specs.Fmt.{signed_decimal}
+use Rattle.std.proofs.lemmas.Option.{slice_get-map, slice_get_past}
+use Rattle.vhdl_names_rules.specs.views.Vectors.{place_view}
+use Rattle.vhdl_names_units.specs.views.Units.{entity_view, architecture_view}
+use Rattle.vhdl_names_units.specs.views.Declarations.{declaration_view}
+use Rattle.vhdl_expand_rules.specs.Declarations.{declarations, interface}
+use Rattle.vhdl_expand_rules.specs.Elab.{◌>>=◌}
+use Rattle.vhdl_expand_rules.specs.Expansion.{instance_of, dotted}
+use Rattle.vhdl_elab_rules.specs.Numbering.{own_sizes}
+use Rattle.vhdl_expand_tree.specs.Costs.{charged, spent, nets, instance_costs}
+use Rattle.vhdl_expand_tree.specs.Views.{budget_view, object_view, parts_of}
+use Rattle.vhdl_expand_bodies.proofs.Places.{there}
+use Rattle.vhdl_expand_objects.specs.Associations.{associated}
+use Rattle.vhdl_expand_objects.specs.Views.{declared_view}
+use Rattle.vhdl_expand.proofs.Nested.{outermost, too_deep, no_architecture, no_instance_left, no_declarations, no_nets_left, not_inside, instance_made, not_expanded, no_unit, no_interface, no_associations, instance_here, instance_refused, instance_behind, expanded_here}
+use Rattle.vhdl_names_rules.specs.views.Integers.{range_view, static_view}
+use Rattle.vhdl_names_rules.specs.views.Tests.{static_test_view}
+use Rattle.vhdl_names_units.specs.views.Concurrent as units
+use Rattle.vhdl_names_units.proofs.rows.Concurrent.{view_generate}
+use Rattle.vhdl_expand_rules.specs.declared.fault.ElabFault.TheVariants.{NoMemory}
+use Rattle.vhdl_expand_rules.proofs.Steps.{ok, given}
+use Rattle.vhdl_expand_bodies.proofs.Links.{expands_along}
+use Rattle.vhdl_expand.specs.Making as made
+use Rattle.vhdl_expand.specs.Making.{adding, progress_view, made_turns, made_instance, nothing_yet}
+use Rattle.vhdl_expand.specs.Spots.{spot_view}
+use Rattle.vhdl_expand.specs.Walks.{units_of}
+use Rattle.vhdl_expand.proofs.Weights.{weight, weights}
+use Rattle.vhdl_expand.proofs.Making.{turns_fit}
+use Rattle.vhdl_expand.proofs.Statements.{listed, list_goes, list_stops, list_ends, none_left, process_is, instance_is}
+use Rattle.vhdl_expand.proofs.Generates.{for_each, if_holding, turned, turns_begin, turns_refused, no_turns, turns_go, turns_stop, turns_end, turn_spot, branch_spot, branch_taken, branch_left, no_branch}
+use Rattle.vhdl_expand.proofs.Heavier.{lighter, generate_weight, level_lighter}
+use Rattle.vhdl_expand.proofs.walk.Walk.+concurrent.Goals as goal
+
+-- ---- statements one after another
+
+pub concurrents-loop-item-preserved : goal.concurrents-loop-item-preserved
+concurrents-loop-item-preserved t c =
+    let i = c.loop-item.item-index in
+    let at = spot_view c.args.spot.now in
+    let below : i < length c.args.list.now = first_of (search rules, omega arith) in
+    let fits = turns_fit (progress_view c.loop-item.so_far) (progress_view c.concurrent.new.so_far) (made.concurrent (units_of c.args.self.now) c.args.self.now.levels at (units.concurrent_view c.item-item.result)) c.in_ok-concurrent.ensures in
+    record {
+      leads = list_goes (units_of c.args.self.now) c.args.self.now.levels at _ (progress_view c.loop-item.so_far) (progress_view c.concurrent.new.so_far) c.args.list.now i c.item-item.result below c.item-item.is c.loop-item.invariant.leads c.in_ok-concurrent.ensures;
+      fits = omega (arith, fits, c.loop-item.invariant.fits);
+    }
+
+pub concurrents-returns : goal.concurrents-returns
+concurrents-returns t c =
+    let at = spot_view c.args.spot.now in
+    list_ends (units_of c.args.self.now) c.args.self.now.levels at _ (progress_view c.loop-item.so_far) (drop c.loop-item.item-index c.args.list.now)
+    (none_left c.args.list.now c.loop-item.item-index (omega arith)) c.loop-item.invariant.leads
+
+pub concurrents-returns-in_err-concurrent : goal.concurrents-returns-in_err-concurrent
+concurrents-returns-in_err-concurrent t c =
+    let i = c.loop-item.item-index in
+    let at = spot_view c.args.spot.now in
+    let below : i < length c.args.list.now = first_of (search rules, omega arith) in
+    let stopped : c.in_err-concurrent.field-0.0 ≢ NoMemory → IsErr (adding (progress_view c.args.so_far.now) (listed (units_of c.args.self.now) c.args.self.now.levels at c.args.list.now)) =
+    λ n. list_stops (units_of c.args.self.now) c.args.self.now.levels at _ (progress_view c.loop-item.so_far) c.args.list.now i c.item-item.result below c.item-item.is c.loop-item.invariant.leads (c.in_err-concurrent.ensures n) in
+    first_of (search rules, grind (arith, common_steps))
+
+pub concurrents-concurrent-requires : goal.concurrents-concurrent-requires
+concurrents-concurrent-requires t c = (
+  omega (arith, c.decreases, lighter c.args.list.now c.loop-item.item-index c.item-item.result c.loop-item-test.true c.item-item.is),
+  (c.requires.site, c.loop-item.invariant.fits),
+)
+
+-- ---- a statement
+
+pub concurrent-returns-in-Process : goal.concurrent-returns-in-Process
+concurrent-returns-in-Process t c =
+    let at = spot_view c.args.spot.now in
+    let h = ap (λ x. made.concurrent (units_of c.args.self.now) c.args.self.now.levels at (units.concurrent_view x)) c.in-Process.is
+    ∙ process_is (units_of c.args.self.now) c.args.self.now.levels at (units.process_view c.in-Process.written) in
+    expands_along _ _ _ _ (ap (adding (progress_view c.args.so_far.now)) h) c.add_process.ensures
+
+pub concurrent-returns-in-Instance : goal.concurrent-returns-in-Instance
+concurrent-returns-in-Instance t c =
+    let at = spot_view c.args.spot.now in
+    let h = ap (λ x. made.concurrent (units_of c.args.self.now) c.args.self.now.levels at (units.concurrent_view x)) c.in-Instance.is
+    ∙ instance_is (units_of c.args.self.now) c.args.self.now.levels at (units.instance_view c.in-Instance.written) in
+    expands_along _ _ _ _ (ap (adding (progress_view c.args.so_far.now)) h) c.add_instance.ensures
+
+pub concurrent-returns-in-Generate : goal.concurrent-returns-in-Generate
+concurrent-returns-in-Generate t c =
+    let at = spot_view c.args.spot.now in
+    let w = c.in-Generate.written in
+    let h = ap (λ x. made.concurrent (units_of c.args.self.now) c.args.self.now.levels at (units.concurrent_view x)) c.in-Generate.is
+    ∙ ap (made.concurrent (units_of c.args.self.now) c.args.self.now.levels at) (view_generate w.label w.at w.scheme w.statements) in
+    expands_along _ _ _ _ (ap (adding (progress_view c.args.so_far.now)) h) c.generate.ensures
+
+-- ---- a generate
+
+pub generate-returns-in-For : goal.generate-returns-in-For
+generate-returns-in-For t c =
+    let w = c.args.written.now in
+    expands_along _ _ _ _
+    (ap (λ s. adding (progress_view c.args.so_far.now) (made.concurrent (units_of c.args.self.now) c.args.self.now.levels (spot_view c.args.spot.now) (units.generated w.label.text.items (units.concurrents_of (units.concurrents_view w.statements)) s))) c.in-For.is)
+    c.turns.ensures
+
+pub generate-returns-in-If : goal.generate-returns-in-If
+generate-returns-in-If t c =
+    let w = c.args.written.now in
+    expands_along _ _ _ _
+    (ap (λ s. adding (progress_view c.args.so_far.now) (made.concurrent (units_of c.args.self.now) c.args.self.now.levels (spot_view c.args.spot.now) (units.generated w.label.text.items (units.concurrents_of (units.concurrents_view w.statements)) s))) c.in-If.is)
+    c.branch-self.ensures
+
+-- ---- turns
+
+pub turns-returns-in_err-turns : goal.turns-returns-in_err-turns
+turns-returns-in_err-turns t c =
+    let w = c.args.written.now in
+    let stopped : c.in_err-turns.field-0.0 ≢ NoMemory → IsErr (adding (progress_view c.args.so_far.now) (for_each (units_of c.args.self.now) c.args.self.now.levels (spot_view c.args.spot.now) w.label.text.items (units.concurrents_of (units.concurrents_view w.statements)) (range_view c.args.range.now))) =
+    λ n. no_turns (units_of c.args.self.now) c.args.self.now.levels (spot_view c.args.spot.now) w.label.text.items (units.concurrents_of (units.concurrents_view w.statements)) (range_view c.args.range.now) (progress_view c.args.so_far.now) c.in_err-turns.ensures in
+    first_of (search rules, grind (arith, common_steps))
+
+pub turns-returns-in_err-add_turns : goal.turns-returns-in_err-add_turns
+turns-returns-in_err-add_turns t c =
+    let w = c.args.written.now in
+    let r = c.in_ok-turns.turns in
+    let stopped : c.in_err-add_turns.field-0.0 ≢ NoMemory → IsErr (adding (progress_view c.args.so_far.now) (for_each (units_of c.args.self.now) c.args.self.now.levels (spot_view c.args.spot.now) w.label.text.items (units.concurrents_of (units.concurrents_view w.statements)) (range_view c.args.range.now))) =
+    λ n. turns_refused (units_of c.args.self.now) c.args.self.now.levels (spot_view c.args.spot.now) w.label.text.items (units.concurrents_of (units.concurrents_view w.statements)) (range_view c.args.range.now) r.direction r.first r.count (progress_view c.args.so_far.now) c.in_ok-turns.ensures (c.in_err-add_turns.ensures n) in
+    first_of (search rules, grind (arith, common_steps))
+
+pub turns-loop-turn-init : goal.turns-loop-turn-init
+turns-loop-turn-init t c =
+    let w = c.args.written.now in
+    let r = c.in_ok-turns.turns in
+    let fits = turns_fit (progress_view c.args.so_far.now) (progress_view c.add_turns.new.self) (Ok (made_turns r.count)) c.in_ok-add_turns.ensures in
+    record {
+      leads = turns_begin (units_of c.args.self.now) c.args.self.now.levels (spot_view c.args.spot.now) w.label.text.items (units.concurrents_of (units.concurrents_view w.statements)) (range_view c.args.range.now)
+          r.direction r.first r.count (progress_view c.args.so_far.now) (progress_view c.add_turns.new.self) c.in_ok-turns.ensures c.in_ok-add_turns.ensures;
+      fits = omega (arith, fits, c.requires.fits);
+    }
+
+pub turns-loop-turn-preserved : goal.turns-loop-turn-preserved
+turns-loop-turn-preserved t c =
+    let w = c.args.written.now in
+    let r = c.in_ok-turns.turns in
+    let body = units.concurrents_of (units.concurrents_view w.statements) in
+    let at = spot_view c.args.spot.now in
+    let now = progress_view c.loop-turn.so_far in
+    let same = sym (ok _ _ c.in_ok-parameter.ensures) in
+    let f : SFits w32 c.in_ok-parameter.parameter = search rules in
+    let fixed : to_z w32 (of_z w32 c.in_ok-parameter.parameter) ≡ c.in_ok-parameter.parameter = omega (arith, ints) in
+    let made = ap (λ j. adding now (turned (units_of c.args.self.now) c.args.self.now.levels at w.label.text.items body j)) (sym fixed) ∙ c.in_ok-turn.ensures in
+    let fits = turns_fit now (progress_view c.turn.new.so_far) (turned (units_of c.args.self.now) c.args.self.now.levels at w.label.text.items body c.in_ok-parameter.parameter) made in
+    record {
+      leads = turns_go (units_of c.args.self.now) c.args.self.now.levels at w.label.text.items body _ now (progress_view c.turn.new.so_far) r.direction r.first c.in_ok-parameter.parameter r.count c.loop-turn.turn c.loop-turn-test.true same c.loop-turn.invariant.leads made;
+      fits = omega (arith, fits, c.loop-turn.invariant.fits);
+    }
+
+pub turns-returns-in_err-turn : goal.turns-returns-in_err-turn
+turns-returns-in_err-turn t c =
+    let w = c.args.written.now in
+    let r = c.in_ok-turns.turns in
+    let body = units.concurrents_of (units.concurrents_view w.statements) in
+    let at = spot_view c.args.spot.now in
+    let now = progress_view c.loop-turn.so_far in
+    let same = sym (ok _ _ c.in_ok-parameter.ensures) in
+    let f : SFits w32 c.in_ok-parameter.parameter = search rules in
+    let fixed : to_z w32 (of_z w32 c.in_ok-parameter.parameter) ≡ c.in_ok-parameter.parameter = omega (arith, ints) in
+    let stopped : c.in_err-turn.field-0.0 ≢ NoMemory → IsErr (adding (progress_view c.args.so_far.now) (for_each (units_of c.args.self.now) c.args.self.now.levels (spot_view c.args.spot.now) w.label.text.items (units.concurrents_of (units.concurrents_view w.statements)) (range_view c.args.range.now))) =
+    λ n. turns_stop (units_of c.args.self.now) c.args.self.now.levels at w.label.text.items body _ now r.direction r.first c.in_ok-parameter.parameter r.count c.loop-turn.turn c.loop-turn-test.true same c.loop-turn.invariant.leads
+    (subst (λ j. IsErr (adding now (turned (units_of c.args.self.now) c.args.self.now.levels at w.label.text.items body j))) fixed (c.in_err-turn.ensures n)) in
+    first_of (search rules, grind (arith, common_steps))
+
+pub turns-returns : goal.turns-returns
+turns-returns t c =
+    let w = c.args.written.now in
+    let r = c.in_ok-turns.turns in
+    turns_end (units_of c.args.self.now) c.args.self.now.levels (spot_view c.args.spot.now) w.label.text.items (units.concurrents_of (units.concurrents_view w.statements)) _ (progress_view c.loop-turn.so_far) r.direction r.first r.count c.loop-turn.turn (omega arith) c.loop-turn.invariant.leads
+
+pub concurrent-generate-requires : goal.concurrent-generate-requires
+concurrent-generate-requires t c =
+    let w = c.in-Generate.written in
+    let is = ap (λ x. weight (units.concurrent_view x)) c.in-Generate.is ∙ ap weight (view_generate w.label w.at w.scheme w.statements)
+    ∙ generate_weight w.label.text.items (units.concurrents_of (units.concurrents_view w.statements)) w.scheme in
+    (omega (arith, c.decreases, is), (c.requires.site, c.requires.fits))
+
+pub turn-returns : goal.turn-returns
+turn-returns t c =
+    let w = c.args.written.now in
+    let at = spot_view c.args.spot.now in
+    let inner = spot_view c.within-inner.result in
+    let values : c.deref-2.result.now ≡ at.site.integers.generates ++ c.args.parameter ∷ [] = first_of (search rules, grind (arith, common_steps)) in
+    let prefix : c.deref-3.result.now ≡ at.prefix ++ dotted (w.label.text.items ++ (codes "(" ++ (signed_decimal c.args.parameter ++ codes ")"))) = first_of (search rules, grind (arith, common_steps)) in
+    let e = ap (λ s. adding (progress_view c.args.so_far.now) (made.concurrents (units_of c.args.self.now) c.args.self.now.levels s (units.concurrents_of (units.concurrents_view w.statements))))
+    (turn_spot (units_of c.args.self.now) c.args.self.now.levels (spot_view c.args.spot.now) w.label.text.items (units.concurrents_of (units.concurrents_view w.statements)) inner c.args.parameter c.deref-2.result.now c.deref-3.result.now c.within-inner.ensures.spot values prefix)
+    ∙ ap (λ xs. adding (progress_view c.args.so_far.now) (made.concurrents (units_of c.args.self.now) c.args.self.now.levels inner (units.concurrents_of (map units.concurrent_view xs)))) (sym c.deref-4.ensures.value) in
+    expands_along _ _ _ _ e c.concurrents-walked.ensures
+
+-- ---- an if generate
+
+pub branch-returns-in_err-decision : goal.branch-returns-in_err-decision
+branch-returns-in_err-decision t c =
+    let w = c.args.written.now in
+    let stopped : c.in_err-decision.field-0.0 ≢ NoMemory → IsErr (adding (progress_view c.args.so_far.now) (if_holding (units_of c.args.self.now) c.args.self.now.levels (spot_view c.args.spot.now) w.label.text.items (units.concurrents_of (units.concurrents_view w.statements)) (static_test_view c.args.test.now))) =
+    λ n. no_branch (units_of c.args.self.now) c.args.self.now.levels (spot_view c.args.spot.now) w.label.text.items (units.concurrents_of (units.concurrents_view w.statements)) (static_test_view c.args.test.now) (progress_view c.args.so_far.now) c.in_err-decision.ensures in
+    first_of (search rules, grind (arith, common_steps))
+
+pub branch-returns-then-not-branch : goal.branch-returns-then-not-branch
+branch-returns-then-not-branch t c =
+    let w = c.args.written.now in
+    let fails : c.in_ok-decision.field-0 ≡ false = first_of (search rules, grind (arith, common_steps)) in
+    branch_left (units_of c.args.self.now) c.args.self.now.levels (spot_view c.args.spot.now) w.label.text.items (units.concurrents_of (units.concurrents_view w.statements)) (static_test_view c.args.test.now) (progress_view c.args.so_far.now) (c.in_ok-decision.ensures ∙ ap given fails)
+
+pub branch-returns : goal.branch-returns
+branch-returns t c =
+    let w = c.args.written.now in
+    let at = spot_view c.args.spot.now in
+    let inner = spot_view c.within-inner.result in
+    let holds : c.in_ok-decision.field-0 ≡ true = first_of (search rules, grind (arith, common_steps)) in
+    let prefix : c.deref-2.result.now ≡ at.prefix ++ dotted w.label.text.items = first_of (search rules, grind (arith, common_steps)) in
+    let e = ap (adding (progress_view c.args.so_far.now)) (branch_taken (units_of c.args.self.now) c.args.self.now.levels (spot_view c.args.spot.now) w.label.text.items (units.concurrents_of (units.concurrents_view w.statements)) (static_test_view c.args.test.now) (c.in_ok-decision.ensures ∙ ap given holds))
+    ∙ ap (λ s. adding (progress_view c.args.so_far.now) (made.concurrents (units_of c.args.self.now) c.args.self.now.levels s (units.concurrents_of (units.concurrents_view w.statements))))
+    (branch_spot (units_of c.args.self.now) c.args.self.now.levels (spot_view c.args.spot.now) w.label.text.items (units.concurrents_of (units.concurrents_view w.statements)) inner c.deref-2.result.now c.within-inner.ensures.spot prefix)
+    ∙ ap (λ xs. adding (progress_view c.args.so_far.now) (made.concurrents (units_of c.args.self.now) c.args.self.now.levels inner (units.concurrents_of (map units.concurrent_view xs)))) (sym c.deref-3.ensures.value) in
+    expands_along _ _ _ _ e c.concurrents-walked.ensures
+
+-- ---- the body of an instance
+
+pub body-returns : goal.body-returns
+body-returns t c =
+    let d = declared_view c.args.declared.now in
+    let s = units.concurrents_of (map units.concurrent_view c.args.list.now) in
+    ap (λ ps. adding (record { made = record { parts = ps; turns = 0 }; left = budget_view c.args.left }) (made.concurrents (units_of c.args.self.now) c.args.self.now.levels (outermost d) s)) (sym (ap parts_of c.new.ensures.items))
+    ∙ ap (λ a. adding (record { made = record { parts = parts_of c.new.result.items; turns = 0 }; left = budget_view c.args.left }) (made.concurrents (units_of c.args.self.now) c.args.self.now.levels (record { site = a; prefix = [] }) s)) (sym c.site.ensures.seen)
+    ∙ c.in_ok-walked.ensures
+
+-- ---- an instance
+
+pub instance-returns-then-self-eq0 : goal.instance-returns-then-self-eq0
+instance-returns-then-self-eq0 t c =
+    let zero : c.args.self.now.levels ≡ 0 = omega (arith, c.if-self-eq0.true) in
+    λ _. subst (λ n. IsErr (charged (budget_view c.args.left.now) instance_costs (instance_of (units_of c.args.self.now) n (entity_view c.args.unit.now) (declared_view c.args.declared)))) (sym zero)
+    (too_deep (units_of c.args.self.now) (entity_view c.args.unit.now) (declared_view c.args.declared) (budget_view c.args.left.now))
+
+pub instance-returns-in_default : goal.instance-returns-in_default
+instance-returns-in_default t c =
+    let n = c.args.self.now.levels - 1 in
+    let level : c.args.self.now.levels ≡ suc n = omega (arith, c.if-self-eq0.false) in
+    let none : c.args.unit.now.architecture ≡ None = first_of (search rules, grind (arith, common_steps)) in
+    λ _. subst (λ m. IsErr (charged (budget_view c.args.left.now) instance_costs (instance_of (units_of c.args.self.now) m (entity_view c.args.unit.now) (declared_view c.args.declared)))) (sym level)
+    (no_architecture (units_of c.args.self.now) n (entity_view c.args.unit.now) (declared_view c.args.declared) (budget_view c.args.left.now) (ap (option_map architecture_view) none))
+
+pub instance-returns-in_err-charge_instance : goal.instance-returns-in_err-charge_instance
+instance-returns-in_err-charge_instance t c =
+    let n = c.args.self.now.levels - 1 in
+    let level : c.args.self.now.levels ≡ suc n = omega (arith, c.if-self-eq0.false) in
+    let stopped : IsErr (charged (budget_view c.args.left.now) instance_costs (instance_of (units_of c.args.self.now) c.args.self.now.levels (entity_view c.args.unit.now) (declared_view c.args.declared))) =
+    subst (λ m. IsErr (charged (budget_view c.args.left.now) instance_costs (instance_of (units_of c.args.self.now) m (entity_view c.args.unit.now) (declared_view c.args.declared)))) (sym level)
+    (no_instance_left (units_of c.args.self.now) n (entity_view c.args.unit.now) (declared_view c.args.declared) (budget_view c.args.left.now) c.in_err-charge_instance.ensures.spent) in
+    first_of (search rules, grind (arith, common_steps))
+
+pub instance-returns-in_err-declarations : goal.instance-returns-in_err-declarations
+instance-returns-in_err-declarations t c =
+    let n = c.args.self.now.levels - 1 in
+    let level : c.args.self.now.levels ≡ suc n = omega (arith, c.if-self-eq0.false) in
+    let a = architecture_view c.in-Some.architecture in
+    let stopped : c.in_err-declarations.field-0.0 ≢ NoMemory → IsErr (charged (budget_view c.args.left.now) instance_costs (instance_of (units_of c.args.self.now) c.args.self.now.levels (entity_view c.args.unit.now) (declared_view c.args.declared))) =
+    λ k. subst (λ m. IsErr (charged (budget_view c.args.left.now) instance_costs (instance_of (units_of c.args.self.now) m (entity_view c.args.unit.now) (declared_view c.args.declared)))) (sym level)
+    (no_declarations (units_of c.args.self.now) n (entity_view c.args.unit.now) (declared_view c.args.declared) (budget_view c.args.left.now) a (ap (option_map architecture_view) c.in-Some.is)
+    (subst (λ xs. IsErr (declarations (declared_view c.args.declared) (flat_map declaration_view xs))) c.deref.ensures.value (c.in_err-declarations.ensures k))) in
+    first_of (search rules, grind (arith, common_steps))
+
+pub instance-returns-in_err-charge_own_nets : goal.instance-returns-in_err-charge_own_nets
+instance-returns-in_err-charge_own_nets t c =
+    let n = c.args.self.now.levels - 1 in
+    let level : c.args.self.now.levels ≡ suc n = omega (arith, c.if-self-eq0.false) in
+    let a = architecture_view c.in-Some.architecture in
+    let e = declared_view c.declarations.new.declared in
+    let known = ap (λ xs. declarations (declared_view c.args.declared) (flat_map declaration_view xs)) (sym c.deref.ensures.value) ∙ c.in_ok-declarations.ensures in
+    let stopped : IsErr (charged (budget_view c.args.left.now) instance_costs (instance_of (units_of c.args.self.now) c.args.self.now.levels (entity_view c.args.unit.now) (declared_view c.args.declared))) =
+    subst (λ m. IsErr (charged (budget_view c.args.left.now) instance_costs (instance_of (units_of c.args.self.now) m (entity_view c.args.unit.now) (declared_view c.args.declared)))) (sym level)
+    (no_nets_left (units_of c.args.self.now) n (entity_view c.args.unit.now) (declared_view c.args.declared) (budget_view c.args.left.now) a e (ap (option_map architecture_view) c.in-Some.is) known (budget_view c.charge_instance.new.self)
+    c.in_ok-charge_instance.ensures.spent (subst (λ xs. IsErr (spent (budget_view c.charge_instance.new.self) (nets (own_sizes (map object_view xs))))) c.deref-2.ensures.value c.in_err-charge_own_nets.ensures)) in
+    first_of (search rules, grind (arith, common_steps))
+
+pub instance-body-requires : goal.instance-body-requires
+instance-body-requires t c =
+    let n = c.args.self.now.levels - 1 in
+    let level : c.args.self.now.levels ≡ suc n = omega (arith, c.if-self-eq0.false) in
+    let smaller = level_lighter (units_of c.args.self.now) (entity_view c.args.unit.now) (architecture_view c.in-Some.architecture) c.args.self.now.levels n c.requires.among (ap (option_map architecture_view) c.in-Some.is) level in
+    let same = ap (λ xs. weights (units.concurrents_of (map units.concurrent_view xs))) c.deref-3.ensures.value in
+    first_of (omega (arith, c.decreases, smaller, same), search (rules, arith, c.decreases, smaller, same))
+
+pub instance-returns-in_err-made : goal.instance-returns-in_err-made
+instance-returns-in_err-made t c =
+    let n = c.args.self.now.levels - 1 in
+    let level : c.args.self.now.levels ≡ suc n = omega (arith, c.if-self-eq0.false) in
+    let a = architecture_view c.in-Some.architecture in
+    let e = declared_view c.declarations.new.declared in
+    let known = ap (λ xs. declarations (declared_view c.args.declared) (flat_map declaration_view xs)) (sym c.deref.ensures.value) ∙ c.in_ok-declarations.ensures in
+    let stopped : c.in_err-made.field-0.0 ≢ NoMemory → IsErr (charged (budget_view c.args.left.now) instance_costs (instance_of (units_of c.args.self.now) c.args.self.now.levels (entity_view c.args.unit.now) (declared_view c.args.declared))) =
+    λ j. subst (λ m. IsErr (charged (budget_view c.args.left.now) instance_costs (instance_of (units_of c.args.self.now) m (entity_view c.args.unit.now) (declared_view c.args.declared)))) (sym level)
+    (not_inside (units_of c.args.self.now) n (entity_view c.args.unit.now) (declared_view c.args.declared) (budget_view c.args.left.now) a e (ap (option_map architecture_view) c.in-Some.is) known (budget_view c.charge_instance.new.self) (budget_view c.charge_own_nets.new.budget)
+    c.in_ok-charge_instance.ensures.spent (ap (λ xs. spent (budget_view c.charge_instance.new.self) (nets (own_sizes (map object_view xs)))) (sym c.deref-2.ensures.value) ∙ c.in_ok-charge_own_nets.ensures)
+    (subst (λ xs. IsErr (adding (nothing_yet (budget_view c.charge_own_nets.new.budget)) (made.concurrents (units_of c.args.self.now) n (outermost e) (units.concurrents_of (map units.concurrent_view xs))))) c.deref-3.ensures.value (c.in_err-made.ensures j))) in
+    first_of (search rules, grind (arith, common_steps))
+
+pub instance-returns : goal.instance-returns
+instance-returns t c =
+    let n = c.args.self.now.levels - 1 in
+    let level : c.args.self.now.levels ≡ suc n = omega (arith, c.if-self-eq0.false) in
+    let a = architecture_view c.in-Some.architecture in
+    let e = declared_view c.declarations.new.declared in
+    let known = ap (λ xs. declarations (declared_view c.args.declared) (flat_map declaration_view xs)) (sym c.deref.ensures.value) ∙ c.in_ok-declarations.ensures in
+    ap (λ m. charged (budget_view c.args.left.now) instance_costs (instance_of (units_of c.args.self.now) m (entity_view c.args.unit.now) (declared_view c.args.declared))) level
+    ∙ instance_made (units_of c.args.self.now) n (entity_view c.args.unit.now) (declared_view c.args.declared) (budget_view c.args.left.now) a e (ap (option_map architecture_view) c.in-Some.is) known (budget_view c.charge_instance.new.self) (budget_view c.charge_own_nets.new.budget)
+    (progress_view c.in_ok-made.made) c.in_ok-charge_instance.ensures.spent (ap (λ xs. spent (budget_view c.charge_instance.new.self) (nets (own_sizes (map object_view xs)))) (sym c.deref-2.ensures.value) ∙ c.in_ok-charge_own_nets.ensures)
+    (ap (λ xs. adding (nothing_yet (budget_view c.charge_own_nets.new.budget)) (made.concurrents (units_of c.args.self.now) n (outermost e) (units.concurrents_of (map units.concurrent_view xs)))) (sym c.deref-3.ensures.value) ∙ c.in_ok-made.ensures)
+
+-- ---- an instance statement
+
+pub add_instance-returns-in_default : goal.add_instance-returns-in_default
+add_instance-returns-in_default t c =
+    let x = units.instance_view c.args.written.now in
+    let at = spot_view c.args.spot.now in
+    let gone = slice_get_past c.args.self.now.units.now c.args.written.now.unit c.in_default.ensures.lookup.3 in
+    λ _. not_expanded (at.prefix ++ x.label) (progress_view c.args.so_far.now) _
+    (no_unit (units_of c.args.self.now) c.args.self.now.levels at x (slice_get-map entity_view c.args.self.now.units.now c.args.written.now.unit ∙ ap (option_map entity_view) gone))
+
+pub add_instance-returns-in_err-declared : goal.add_instance-returns-in_err-declared
+add_instance-returns-in_err-declared t c =
+    let x = units.instance_view c.args.written.now in
+    let at = spot_view c.args.spot.now in
+    let e = entity_view c.in-Some.unit.now in
+    let found : slice_get (units_of c.args.self.now) c.args.written.now.unit ≡ Some e =
+    slice_get-map entity_view c.args.self.now.units.now c.args.written.now.unit ∙ ap (option_map entity_view) (there c.args.self.now.units.now c.args.written.now.unit c.in-Some.unit.now c.in-Some.ensures.lookup.3.0 (c.in-Some.ensures.lookup.3.1 c.in-Some.unit.now)) in
+    let stopped : c.in_err-declared.field-0.0 ≢ NoMemory → IsErr (adding (progress_view c.args.so_far.now) (made.instance (units_of c.args.self.now) c.args.self.now.levels at x)) =
+    λ n. not_expanded (at.prefix ++ x.label) (progress_view c.args.so_far.now) _
+    (no_interface (units_of c.args.self.now) c.args.self.now.levels at x e found (subst (λ xs. IsErr (interface at.site.integers (map (option_map static_view) xs) e)) c.deref.ensures.value (c.in_err-declared.ensures n))) in
+    first_of (search rules, grind (arith, common_steps))
+
+pub add_instance-returns-in_err-associations : goal.add_instance-returns-in_err-associations
+add_instance-returns-in_err-associations t c =
+    let x = units.instance_view c.args.written.now in
+    let at = spot_view c.args.spot.now in
+    let e = entity_view c.in-Some.unit.now in
+    let found : slice_get (units_of c.args.self.now) c.args.written.now.unit ≡ Some e =
+    slice_get-map entity_view c.args.self.now.units.now c.args.written.now.unit ∙ ap (option_map entity_view) (there c.args.self.now.units.now c.args.written.now.unit c.in-Some.unit.now c.in-Some.ensures.lookup.3.0 (c.in-Some.ensures.lookup.3.1 c.in-Some.unit.now)) in
+    let known = ap (λ xs. interface at.site.integers (map (option_map static_view) xs) e) (sym c.deref.ensures.value) ∙ c.in_ok-declared.ensures in
+    let stopped : c.in_err-associations.field-0.0 ≢ NoMemory → IsErr (adding (progress_view c.args.so_far.now) (made.instance (units_of c.args.self.now) c.args.self.now.levels at x)) =
+    λ n. not_expanded (at.prefix ++ x.label) (progress_view c.args.so_far.now) _
+    (no_associations (units_of c.args.self.now) c.args.self.now.levels at x e (declared_view c.in_ok-declared.declared) found known
+    (subst (λ xs. IsErr (associated at.site e.ports (map (option_map place_view) xs) (declared_view c.in_ok-declared.declared))) c.deref-2.ensures.value (c.in_err-associations.ensures n))) in
+    first_of (search rules, grind (arith, common_steps))
+
+pub add_instance-instance-requires : goal.add_instance-instance-requires
+add_instance-instance-requires t c =
+    let e = entity_view c.in-Some.unit.now in
+    let found : slice_get (units_of c.args.self.now) c.args.written.now.unit ≡ Some e =
+    slice_get-map entity_view c.args.self.now.units.now c.args.written.now.unit ∙ ap (option_map entity_view) (there c.args.self.now.units.now c.args.written.now.unit c.in-Some.unit.now c.in-Some.ensures.lookup.3.0 (c.in-Some.ensures.lookup.3.1 c.in-Some.unit.now)) in
+    (omega (arith, c.decreases), (c.args.written.now.unit, found))
+
+pub add_instance-returns-in_err-instance : goal.add_instance-returns-in_err-instance
+add_instance-returns-in_err-instance t c =
+    let x = units.instance_view c.args.written.now in
+    let at = spot_view c.args.spot.now in
+    let e = entity_view c.in-Some.unit.now in
+    let found : slice_get (units_of c.args.self.now) c.args.written.now.unit ≡ Some e =
+    slice_get-map entity_view c.args.self.now.units.now c.args.written.now.unit ∙ ap (option_map entity_view) (there c.args.self.now.units.now c.args.written.now.unit c.in-Some.unit.now c.in-Some.ensures.lookup.3.0 (c.in-Some.ensures.lookup.3.1 c.in-Some.unit.now)) in
+    let known = ap (λ xs. interface at.site.integers (map (option_map static_view) xs) e) (sym c.deref.ensures.value) ∙ c.in_ok-declared.ensures in
+    let joined = ap (λ xs. associated at.site e.ports (map (option_map place_view) xs) (declared_view c.in_ok-declared.declared)) (sym c.deref-2.ensures.value) ∙ c.in_ok-associations.ensures in
+    let here = instance_here (units_of c.args.self.now) c.args.self.now.levels at x e (declared_view c.in_ok-declared.declared) (declared_view c.associations.new.declared) found known joined in
+    let stopped : c.in_err-instance.field-0.0 ≢ NoMemory → IsErr (adding (progress_view c.args.so_far.now) (made.instance (units_of c.args.self.now) c.args.self.now.levels at x)) =
+    λ n. instance_refused (at.prefix ++ x.label) (progress_view c.args.so_far.now) _
+    (subst (λ r. IsErr (charged (budget_view c.args.so_far.now.left) instance_costs r)) (sym here) (c.in_err-instance.ensures n)) in
+    first_of (search rules, grind (arith, common_steps))
+
+pub add_instance-returns : goal.add_instance-returns
+add_instance-returns t c =
+    let x = units.instance_view c.args.written.now in
+    let at = spot_view c.args.spot.now in
+    let e = entity_view c.in-Some.unit.now in
+    let found : slice_get (units_of c.args.self.now) c.args.written.now.unit ≡ Some e =
+    slice_get-map entity_view c.args.self.now.units.now c.args.written.now.unit ∙ ap (option_map entity_view) (there c.args.self.now.units.now c.args.written.now.unit c.in-Some.unit.now c.in-Some.ensures.lookup.3.0 (c.in-Some.ensures.lookup.3.1 c.in-Some.unit.now)) in
+    let known = ap (λ xs. interface at.site.integers (map (option_map static_view) xs) e) (sym c.deref.ensures.value) ∙ c.in_ok-declared.ensures in
+    let joined = ap (λ xs. associated at.site e.ports (map (option_map place_view) xs) (declared_view c.in_ok-declared.declared)) (sym c.deref-2.ensures.value) ∙ c.in_ok-associations.ensures in
+    let here = instance_here (units_of c.args.self.now) c.args.self.now.levels at x e (declared_view c.in_ok-declared.declared) (declared_view c.associations.new.declared) found known joined in
+    let label : c.in_ok-label.label.items ≡ at.prefix ++ x.label = c.in_ok-label.ensures ∙ ap (λ l. at.prefix ++ l) c.deref-3.ensures.value in
+    let r = expanded_here (units_of c.args.self.now) c.args.self.now.levels at x in
+    let s = instance_of (units_of c.args.self.now) c.args.self.now.levels e (declared_view c.associations.new.declared) in
+    ap (λ l. adding (progress_view c.args.so_far.now) (r >>= λ i. given (made_instance l i))) (sym label)
+    ∙ instance_behind c.args.so_far.now.parts.items c.push.new.self.items c.in_ok-label.label c.in_ok-instance.instance c.args.so_far.now.turns (budget_view c.args.so_far.now.left) (budget_view c.instance.new.left)
+    r s here c.in_ok-instance.ensures c.in_ok-push.ensures.items

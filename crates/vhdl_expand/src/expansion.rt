@@ -1,0 +1,84 @@
+//! The expansion of a design, from the name of its top on (IEEE 1076-2008, 14.2).
+
+ghost use Rattle.std.specs.Prelude.{◌≡◌, [], map, find, option_map, bytes_eq, IfOk};
+ghost use Rattle.std.specs.Char.{to_ascii_lowercase};
+ghost use Rattle.vhdl_names_rules.specs.units.Units as names;
+ghost use Rattle.vhdl_names_units.specs.views.Units.{entity_view, units_view};
+ghost use Rattle.vhdl_expand_rules.specs.Declarations as definition;
+ghost use Rattle.vhdl_expand_rules.specs.Expansion.{expanded};
+ghost use Rattle.vhdl_expand_rules.specs.Site.{no_integers};
+ghost use Rattle.vhdl_expand_bodies.specs.Results.{Expands};
+ghost use Rattle.vhdl_expand_tree.specs.Views.{design_view};
+ghost use Rattle.vhdl_expand.specs.Limits.{within_limits};
+ghost use Rattle.vhdl_expand_objects.specs.Views.{declared_view};
+
+use crate::walk::Walk;
+use std::alloc::{AllocError, Global};
+use vhdl_expand_tree::{Budget, Design};
+use vhdl_expand_rules::{ElabFault, ElabProblem, Integers};
+use vhdl_expand_objects::{Declared, interface};
+use vhdl_names_units::{Entity, Units};
+
+/// How many instances may be nested, the top among them.
+const LEVELS: u32 = 32;
+
+/// A text in small letters.
+fn small_letters(alloc: Global, text: &[u8]) -> Result<Vec<u8>, AllocError>
+    ensures { IfOk result (λ v. v.items ≡ map to_ascii_lowercase text.now) }
+{
+    text.iter().map(|b| b.to_ascii_lowercase()).collect(alloc)
+}
+
+/// The first entity of this name.
+fn named<'a>(units: &'a [Entity], name: &[u8]) -> Option<&'a Entity>
+    ensures { find (λ (e : names.Entity). bytes_eq e.name name.now) (map entity_view units.now) ≡ option_map (λ e. entity_view e.now) result }
+{
+    for unit in units {
+        if unit.name.text.as_slice() == name {
+            return Some(unit);
+        }
+    }
+    None
+}
+
+/// What is known of an instance that has no other round it, where its architecture begins.
+fn outermost(alloc: Global, unit: &Entity) -> Result<Declared, ElabFault>
+    ensures { Expands declared_view (definition.interface no_integers [] (entity_view unit.now)) result }
+{
+    let none = Integers {
+        generics: &[],
+        constants: &[],
+        generates: &[],
+        loops: &[],
+    };
+    let declared = interface(alloc, &none, &[], unit);
+    let Integers {
+        generics: _,
+        constants: _,
+        generates: _,
+        loops: _,
+    } = none;
+    declared
+}
+
+/// Expands the design whose top is the entity of this name, in letters of either case: the tree of its instances. The generics of
+/// the top have their defaults, and its ports are joined to nothing. A fault is any problem but TwoUnresolved and ReadOfShared, and
+/// nothing is made beyond the limits. It takes the memory of the tree.
+pub fn expand(alloc: Global, units: &Units, top: &[u8]) -> Result<Design, ElabFault>
+    ensures { Expands design_view (within_limits (expanded (units_view units.now) top.now)) result }
+{
+    let name = small_letters(alloc, top)?;
+    let Some(unit) = named(&units.entities, &name) else {
+        return Err(ElabProblem::NoTop.at(0));
+    };
+    let declared = outermost(alloc, unit)?;
+    let walk = Walk {
+        alloc,
+        units: &units.entities,
+        levels: LEVELS,
+    };
+    let mut left = Budget::whole();
+    let top = walk.instance(unit, declared, unit.name.at, &mut left)?;
+    let name = unit.name.text.to_vec(alloc)?;
+    Ok(Design { name, top })
+}

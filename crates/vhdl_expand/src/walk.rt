@@ -1,0 +1,304 @@
+//! Concurrent statements, and the instances that they make (IEEE 1076-2008, clause 11).
+
+ghost use Rattle.std.specs.Prelude.{[], map, Ok};
+ghost use Rattle.vhdl_names_rules.specs.units.Units.{generate_for, generate_if};
+ghost use Rattle.vhdl_names_rules.specs.views.Integers.{range_view};
+ghost use Rattle.vhdl_names_rules.specs.views.Tests.{static_test_view};
+ghost use Rattle.vhdl_names_units.specs.views.Concurrent as units;
+ghost use Rattle.vhdl_names_units.specs.views.Units.{entity_view};
+ghost use Rattle.vhdl_expand_rules.specs.Expansion.{in_turn, in_branch, instance_of};
+ghost use Rattle.vhdl_expand_bodies.specs.Results.{Expands};
+ghost use Rattle.vhdl_expand_bodies.specs.Sites.{IsSite};
+ghost use Rattle.vhdl_expand_tree.specs.Costs.{charged, instance_costs};
+ghost use Rattle.vhdl_expand_tree.specs.Views.{instance_view, budget_view};
+ghost use Rattle.vhdl_expand.specs.Making as made;
+ghost use Rattle.vhdl_expand.specs.Making.{TurnsFit, adding, nothing_yet, progress_view};
+ghost use Rattle.vhdl_expand.specs.Spots.{spot_view};
+ghost use Rattle.vhdl_expand_objects.specs.Views.{declared_view};
+ghost use Rattle.vhdl_expand.specs.Turns as generates;
+ghost use Rattle.vhdl_expand.specs.Walks.{units_of, IsAmong};
+
+use crate::prefix::{branch_prefix, labelled, turn_prefix};
+use crate::progress::Progress;
+use crate::spot::Spot;
+use std::alloc::Global;
+use vhdl_expand_tree::{Budget, Instance, Part};
+use vhdl_expand_rules::{ElabFault, ElabProblem, Turns};
+use vhdl_names_rules::{StaticRange, StaticTest};
+use vhdl_expand_objects::{Declared, associations, charge_own_nets, declarations, interface};
+use vhdl_tree::Direction;
+use vhdl_names_units as analysed;
+use vhdl_names_units::{Concurrent, Entity, Generate, Scheme};
+use vhdl_expand_processes::process;
+
+/// The units in which instances are made, of which so many may be nested from here on.
+#[derive(Clone, Copy)]
+pub(crate) struct Walk<'a> {
+    pub alloc: Global,
+    pub units: &'a [Entity],
+    pub levels: u32,
+}
+
+/// The value of a generate's parameter in the turn of this number, counted from 0. Memory would be refused beyond a word.
+fn parameter(turns: Turns, turn: u32) -> Result<i32, ElabFault>
+    ensures { Expands (λ i. i) (Ok (generates.parameter turns.direction turns.first turn)) result }
+{
+    let first = i64::from(turns.first);
+    let value = match turns.direction {
+        Direction::To => first + i64::from(turn),
+        Direction::Downto => first - i64::from(turn),
+    };
+    match i32::try_from(value) {
+        Ok(parameter) => Ok(parameter),
+        Err(_) => Err(ElabFault::NoMemory),
+    }
+}
+
+impl Walk<'_> {
+    /// Concurrent statements in order, behind what is made so far.
+    #[cycle(concurrent)]
+    fn concurrents(
+        &self,
+        spot: &Spot,
+        list: &[Concurrent],
+        so_far: &mut Progress,
+    ) -> Result<(), ElabFault>
+        requires site { IsSite spot.now.site }
+        requires fits { TurnsFit so_far.old }
+        ensures { Expands (λ _. progress_view so_far.new) (adding (progress_view so_far.old)
+            (made.concurrents (units_of self.now) self.now.levels (spot_view spot.now) (units.concurrents_of (map units.concurrent_view list.now)))) result }
+    {
+        for item in list {
+            self.concurrent(spot, item, so_far)?;
+        }
+        Ok(())
+    }
+
+    /// A concurrent statement, behind what is made so far.
+    #[cycle(concurrent)]
+    fn concurrent(
+        &self,
+        spot: &Spot,
+        item: &Concurrent,
+        so_far: &mut Progress,
+    ) -> Result<(), ElabFault>
+        requires site { IsSite spot.now.site }
+        requires fits { TurnsFit so_far.old }
+        ensures { Expands (λ _. progress_view so_far.new) (adding (progress_view so_far.old)
+            (made.concurrent (units_of self.now) self.now.levels (spot_view spot.now) (units.concurrent_view item.now))) result }
+    {
+        match item {
+            Concurrent::Process(written) => self.add_process(spot, written, so_far),
+            Concurrent::Instance(written) => self.add_instance(spot, written, so_far),
+            Concurrent::Generate(written) => self.generate(spot, written, so_far),
+        }
+    }
+
+    /// A process, behind what is made so far.
+    fn add_process(
+        &self,
+        spot: &Spot,
+        written: &analysed::Process,
+        so_far: &mut Progress,
+    ) -> Result<(), ElabFault>
+        requires site { IsSite spot.now.site }
+        ensures { Expands (λ _. progress_view so_far.new) (adding (progress_view so_far.old)
+            (made.process (units_of self.now) self.now.levels (spot_view spot.now) (units.process_view written.now))) result }
+    {
+        let made = process(
+            self.alloc,
+            &spot.site,
+            spot.prefix,
+            written,
+            &mut so_far.left,
+        )?;
+        so_far.parts.push(Part::Process(made))?;
+        Ok(())
+    }
+
+    /// An instance (11.7), behind what is made so far.
+    #[cycle(concurrent)]
+    fn add_instance(
+        &self,
+        spot: &Spot,
+        written: &analysed::Instance,
+        so_far: &mut Progress,
+    ) -> Result<(), ElabFault>
+        requires site { IsSite spot.now.site }
+        ensures { Expands (λ _. progress_view so_far.new) (adding (progress_view so_far.old)
+            (made.instance (units_of self.now) self.now.levels (spot_view spot.now) (units.instance_view written.now))) result }
+    {
+        let at = written.label.at;
+        let Some(unit) = self.units.get(written.unit) else {
+            return Err(ElabProblem::NoTop.at(at));
+        };
+        let mut declared = interface(self.alloc, &spot.site.integers, &written.generics, unit)?;
+        associations(
+            self.alloc,
+            &spot.site,
+            unit,
+            &written.ports,
+            &mut declared,
+            at,
+        )?;
+        let instance = self.instance(unit, declared, at, &mut so_far.left)?;
+        let label = labelled(self.alloc, spot.prefix, &written.label.text)?;
+        so_far.parts.push(Part::Instance { label, instance })?;
+        Ok(())
+    }
+
+    /// An instance of a unit whose generics and ports are declared; a fault that stands nowhere else stands at byte `at`.
+    #[cycle(concurrent)]
+    pub(crate) fn instance(
+        &self,
+        unit: &Entity,
+        mut declared: Declared,
+        at: usize,
+        left: &mut Budget,
+    ) -> Result<Instance, ElabFault>
+        requires among { IsAmong (units_of self.now) (entity_view unit.now) }
+        ensures { Expands (λ i. (instance_view i, budget_view left.new)) (charged (budget_view left.old) instance_costs
+            (instance_of (units_of self.now) self.now.levels (entity_view unit.now) (declared_view declared))) result }
+    {
+        if self.levels == 0 {
+            return Err(ElabProblem::TooDeep.at(at));
+        }
+        let Some(architecture) = &unit.architecture else {
+            return Err(ElabProblem::NoTop.at(at));
+        };
+        left.charge_instance(at)?;
+        declarations(self.alloc, &mut declared, &architecture.declarations)?;
+        charge_own_nets(&declared.objects, left)?;
+        let below = Walk {
+            alloc: self.alloc,
+            units: self.units,
+            levels: self.levels - 1,
+        };
+        let made = below.body(&declared, &architecture.statements, *left)?;
+        *left = made.left;
+        Ok(Instance {
+            objects: declared.objects,
+            turns: made.turns,
+            parts: made.parts,
+        })
+    }
+
+    /// The concurrent statements of an architecture with these declarations.
+    #[cycle(concurrent)]
+    fn body(
+        &self,
+        declared: &Declared,
+        list: &[Concurrent],
+        left: Budget,
+    ) -> Result<Progress, ElabFault>
+        ensures { Expands progress_view (adding (nothing_yet (budget_view left))
+            (made.concurrents (units_of self.now) self.now.levels (record { site = (declared_view declared.now).site; prefix = [] }) (units.concurrents_of (map units.concurrent_view list.now)))) result }
+    {
+        let mut made = Progress {
+            parts: Vec::new(self.alloc),
+            turns: 0,
+            left,
+        };
+        let spot = Spot {
+            site: declared.site(&[]),
+            prefix: &[],
+        };
+        let walked = self.concurrents(&spot, list, &mut made);
+        spot.end();
+        walked?;
+        Ok(made)
+    }
+
+    /// A generate (11.9), behind what is made so far.
+    #[cycle(concurrent)]
+    fn generate(
+        &self,
+        spot: &Spot,
+        written: &Generate,
+        so_far: &mut Progress,
+    ) -> Result<(), ElabFault>
+        requires site { IsSite spot.now.site }
+        requires fits { TurnsFit so_far.old }
+        ensures { Expands (λ _. progress_view so_far.new) (adding (progress_view so_far.old)
+            (made.concurrent (units_of self.now) self.now.levels (spot_view spot.now)
+            (units.generated written.now.label.text.items (units.concurrents_of (units.concurrents_view written.now.statements)) written.now.scheme))) result }
+    {
+        match &written.scheme {
+            Scheme::For(range) => self.turns(spot, written, range, so_far),
+            Scheme::If(test) => self.branch(spot, written, test, so_far),
+        }
+    }
+
+    /// The turns of a for generate, behind what is made so far.
+    #[cycle(concurrent)]
+    fn turns(
+        &self,
+        spot: &Spot,
+        written: &Generate,
+        range: &StaticRange,
+        so_far: &mut Progress,
+    ) -> Result<(), ElabFault>
+        requires site { IsSite spot.now.site }
+        requires fits { TurnsFit so_far.old }
+        ensures { Expands (λ _. progress_view so_far.new) (adding (progress_view so_far.old)
+            (made.concurrent (units_of self.now) self.now.levels (spot_view spot.now)
+            (generate_for written.now.label.text.items (range_view range.now) (units.concurrents_of (units.concurrents_view written.now.statements))))) result }
+    {
+        let turns = spot.site.integers.turns(range, written.at)?;
+        so_far.add_turns(turns.count, written.at)?;
+        for turn in 0..turns.count {
+            let parameter = parameter(turns, turn)?;
+            self.turn(spot, written, parameter, so_far)?;
+        }
+        Ok(())
+    }
+
+    /// A turn of a for generate, whose parameter has this value, behind what is made so far.
+    #[cycle(concurrent)]
+    fn turn(
+        &self,
+        spot: &Spot,
+        written: &Generate,
+        parameter: i32,
+        so_far: &mut Progress,
+    ) -> Result<(), ElabFault>
+        requires site { IsSite spot.now.site }
+        requires fits { TurnsFit so_far.old }
+        ensures { Expands (λ _. progress_view so_far.new) (adding (progress_view so_far.old)
+            (made.concurrents (units_of self.now) self.now.levels (in_turn (spot_view spot.now) written.now.label.text.items parameter)
+            (units.concurrents_of (units.concurrents_view written.now.statements)))) result }
+    {
+        let mut generates = spot.site.integers.generates.to_vec(self.alloc)?;
+        generates.push(parameter)?;
+        let prefix = turn_prefix(self.alloc, spot.prefix, &written.label.text, parameter)?;
+        let inner = (&*spot).within(&generates, &prefix);
+        let walked = self.concurrents(&inner, &written.statements, so_far);
+        inner.end();
+        walked
+    }
+
+    /// An if generate, behind what is made so far.
+    #[cycle(concurrent)]
+    fn branch(
+        &self,
+        spot: &Spot,
+        written: &Generate,
+        test: &StaticTest,
+        so_far: &mut Progress,
+    ) -> Result<(), ElabFault>
+        requires site { IsSite spot.now.site }
+        requires fits { TurnsFit so_far.old }
+        ensures { Expands (λ _. progress_view so_far.new) (adding (progress_view so_far.old)
+            (made.concurrent (units_of self.now) self.now.levels (spot_view spot.now)
+            (generate_if written.now.label.text.items (static_test_view test.now) (units.concurrents_of (units.concurrents_view written.now.statements))))) result }
+    {
+        if !spot.site.integers.decision(test, written.at)? {
+            return Ok(());
+        }
+        let prefix = branch_prefix(self.alloc, spot.prefix, &written.label.text)?;
+        let inner = (&*spot).within(spot.site.integers.generates, &prefix);
+        let walked = self.concurrents(&inner, &written.statements, so_far);
+        inner.end();
+        walked
+    }
+}

@@ -1,0 +1,256 @@
+-- The places of a part lie within what it is a part of.
+use Rattle.std.proofs.Common.{◌≡◌, ℕ, zero, suc, ◌+◌, ◌-◌, ◌<◌, ◌≤◌, Bool, true, false, not, cond, List, [], ◌∷◌, length, get_or, map, take, drop, drop-cons, add-one, Ok, Err, refl, sym, ap, ◌∙◌, arith}
+use Rattle.std.specs.Prelude.{◌&&◌, ℤ, pos, negsuc, ◌-ℤ◌, int_le, int_lt, nat_abs, nat_le, slice_get, slice_index_or, Some, option_map}
+use Rattle.std.specs.List.{range_with_len}
+use Rattle.std.proofs.lemmas.Int.{ints}
+use Rattle.std.proofs.lemmas.Bool.{leb-true}
+use Rattle.std.proofs.lemmas.Bool.Decides.{nat_tests}
+use Rattle.std.proofs.lemmas.List.FromFn.{length-range_with_len}
+use Rattle.std.proofs.lemmas.Option.{slice_get-map, slice_get-get_or}
+use Rattle.vhdl_values.specs.declared.scalar.Nine.{Nine}
+use Rattle.vhdl_values.specs.declared.scalar.Nine.TheVariants.{X}
+use Rattle.rtl_model.specs.bodies.Fits.{IsWidth}
+use Rattle.vhdl_tree.specs.declared.operator.Direction.{Direction}
+use Rattle.vhdl_tree.specs.declared.operator.Direction.TheVariants.{To, Downto}
+use Rattle.vhdl_names_rules.specs.units.Expressions as u
+use Rattle.vhdl_names_rules.specs.units.Expressions.{Static, Part}
+use Rattle.vhdl_expand_rules.specs.declared.fault.ElabProblem.TheVariants.{Index, TooWide}
+use Rattle.vhdl_expand_rules.specs.Elab.{◌>>=◌, unless}
+use Rattle.vhdl_expand_rules.specs.Integers.{Integers, integer, natural, is_null, extent}
+use Rattle.vhdl_expand_rules.specs.Kinds.{Kind, one, vector, enumeration, Bounds, bounds_size, size, is_within, place_of, slice_places, is_same_direction, places, size_of}
+use Rattle.vhdl_expand_rules.specs.Elab.{found as found_kind}
+use Rattle.vhdl_expand_rules.specs.Site.{Site, Constant, elements_count, part_elements, constant_values, the_element}
+use Rattle.vhdl_expand_rules.proofs.Steps.{given, ok, bound, kept}
+use Rattle.vhdl_expand_bodies.specs.declared.site.Placed.{Placed}
+use Rattle.vhdl_expand_bodies.specs.Sites.{IsPlaced, placed_kind}
+
+-- ---- distances
+
+up : (a b : ℕ) → a ≤ b → nat_abs (pos b -ℤ pos a) ≡ b - a
+up a b h = omega (arith, ints)
+
+down : (a b : ℕ) → a ≤ b → nat_abs (pos a -ℤ pos b) ≡ b - a
+down a b h = omega (arith, ints)
+
+-- ---- the place of an index
+
+record InRange (low high : ℕ) (i : ℤ) : Type 0 where
+  n : ℕ
+  is : i ≡ pos n
+  above : low ≤ n
+  below : n ≤ high
+
+in_range : (low high : ℕ) (i : ℤ) → (int_le (pos low) i && int_le i (pos high)) ≡ true → InRange low high i
+in_range low high (pos n) h = record { n = n; is = refl; above = grind (arith, nat_tests); below = grind (arith, nat_tests) }
+in_range low high (negsuc n) h = absurd (cc)
+
+-- this place of this index, by the test that finds it
+record Found (b : Bounds) (i : ℤ) (p : ℕ) : Type 0 where
+  within : is_within b i ≡ true
+  place : p ≡ nat_abs (i -ℤ pos b.left)
+
+found : (b : Bounds) (i : ℤ) (p : ℕ) → place_of b i ≡ Ok p → Found b i p
+found b i p h = go (is_within b i) refl h
+  where
+    go : (w : Bool) → is_within b i ≡ w → cond w (given (nat_abs (i -ℤ pos b.left))) (Err Index) ≡ Ok p → Found b i p
+    go true e k = record { within = e; place = sym (ok (nat_abs (i -ℤ pos b.left)) p k) }
+    go false e k = absurd cc
+
+element-short : (l r : ℕ) (d : Direction) (i : ℤ) (p : ℕ) → place_of (record { left = l; direction = d; right = r }) i ≡ Ok p → p + 1 ≤ extent d (pos l) (pos r)
+element-short l r To i p h =
+    let f = found (record { left = l; direction = To; right = r }) i p h in
+    let w = in_range l r i f.within in
+    let e : p ≡ w.n - l = f.place ∙ ap (λ j. nat_abs (j -ℤ pos l)) w.is ∙ up l w.n w.above in
+    let s : nat_abs (pos l -ℤ pos r) ≡ r - l = down l r (omega (arith, w.above, w.below)) in
+    grind (arith, nat_tests, w.above, w.below)
+element-short l r Downto i p h =
+    let f = found (record { left = l; direction = Downto; right = r }) i p h in
+    let w = in_range r l i f.within in
+    let e : p ≡ l - w.n = f.place ∙ ap (λ j. nat_abs (j -ℤ pos l)) w.is ∙ down w.n l w.below in
+    let s : nat_abs (pos l -ℤ pos r) ≡ l - r = up r l (omega (arith, w.above, w.below)) in
+    grind (arith, nat_tests, w.above, w.below)
+
+-- ---- slices
+
+record Sliced (b : Bounds) (direction : Direction) (x y : ℤ) (f len : ℕ) : Type 0 where
+  same : is_same_direction b.direction direction ≡ true
+  some : is_null direction x y ≡ false
+  last : ℕ
+  first_is : place_of b x ≡ Ok f
+  last_is : place_of b y ≡ Ok last
+  extent_is : len ≡ extent direction x y
+
+not-true : (b : Bool) → not b ≡ true → b ≡ false
+not-true true h = absurd cc
+not-true false h = refl
+
+extent-some : (direction : Direction) (x y : ℤ) → is_null direction x y ≡ false → extent direction x y ≡ nat_abs (x -ℤ y) + 1
+extent-some direction x y h = ap (λ b. cond b 0 (nat_abs (x -ℤ y) + 1)) h
+
+-- a range with a number in it is of one first number and one length
+range-first : (a n f len : ℕ) → range_with_len a (suc n) ≡ range_with_len f len → a ≡ f
+range-first a n f zero h = absurd cc
+range-first a n f (suc len) h = cc
+
+range-length : (a n f len : ℕ) → range_with_len a n ≡ range_with_len f len → n ≡ len
+range-length a n f len h = sym (length-range_with_len a n) ∙ ap length h ∙ length-range_with_len f len
+
+sliced : (b : Bounds) (direction : Direction) (x y : ℤ) (f len : ℕ) → slice_places b direction x y ≡ Ok (range_with_len f len) → Sliced b direction x y f len
+sliced b direction x y f len h =
+    let s = bound (unless Index (is_same_direction b.direction direction)) _ _ h in
+    let n = bound (unless Index (not (is_null direction x y))) _ _ s.then_gave in
+    let p = bound (place_of b x) _ _ n.then_gave in
+    let q = bound (place_of b y) _ _ p.then_gave in
+    let none = not-true (is_null direction x y) (kept Index (not (is_null direction x y)) n.x n.gave) in
+    let e = ok (range_with_len p.x (extent direction x y)) (range_with_len f len) q.then_gave in
+    let k = extent-some direction x y none in
+    record {
+      same = kept Index (is_same_direction b.direction direction) s.x s.gave;
+      some = none;
+      last = q.x;
+      first_is = p.gave ∙ ap given (range-first p.x (nat_abs (x -ℤ y)) f len (ap (range_with_len p.x) (suc-is (extent direction x y) (nat_abs (x -ℤ y)) k) ∙ e));
+      last_is = q.gave;
+      extent_is = sym (range-length p.x (extent direction x y) f len e);
+    }
+  where
+    suc-is : (m n : ℕ) → m ≡ n + 1 → suc n ≡ m
+    suc-is m n h = omega arith
+
+abbrev Fits : (f len most : ℕ) → Type 0
+Fits f len most = (1 ≤ len) × (f + len ≤ most)
+
+slice-to : (l r : ℕ) (x y : ℤ) (f len : ℕ) → Sliced (record { left = l; direction = To; right = r }) To x y f len → Fits f len (extent To (pos l) (pos r))
+slice-to l r x y f len s =
+    let b : Bounds = record { left = l; direction = To; right = r } in
+    let p = found b x f s.first_is in
+    let q = found b y s.last s.last_is in
+    let v = in_range l r x p.within in
+    let w = in_range l r y q.within in
+    let e : f ≡ v.n - l = p.place ∙ ap (λ j. nat_abs (j -ℤ pos l)) v.is ∙ up l v.n v.above in
+    let some : int_lt (pos w.n) (pos v.n) ≡ false = sym (ap (λ j. int_lt j (pos v.n)) w.is) ∙ sym (ap (int_lt y) v.is) ∙ s.some in
+    let up_to : v.n ≤ w.n = grind (arith, nat_tests) in
+    let n : len ≡ (w.n - v.n) + 1 = s.extent_is ∙ extent-some To x y s.some
+    ∙ ap (λ j. nat_abs (j -ℤ y) + 1) v.is ∙ ap (λ j. nat_abs (pos v.n -ℤ j) + 1) w.is ∙ ap (λ k. k + 1) (down v.n w.n up_to) in
+    let z : nat_abs (pos l -ℤ pos r) ≡ r - l = down l r (omega (arith, w.above, w.below)) in
+    (omega arith, grind (arith, nat_tests, v.above, v.below, w.above, w.below))
+
+slice-down : (l r : ℕ) (x y : ℤ) (f len : ℕ) → Sliced (record { left = l; direction = Downto; right = r }) Downto x y f len → Fits f len (extent Downto (pos l) (pos r))
+slice-down l r x y f len s =
+    let b : Bounds = record { left = l; direction = Downto; right = r } in
+    let p = found b x f s.first_is in
+    let q = found b y s.last s.last_is in
+    let v = in_range r l x p.within in
+    let w = in_range r l y q.within in
+    let e : f ≡ l - v.n = p.place ∙ ap (λ j. nat_abs (j -ℤ pos l)) v.is ∙ down v.n l v.below in
+    let some : int_lt (pos v.n) (pos w.n) ≡ false = sym (ap (λ j. int_lt j (pos w.n)) v.is) ∙ sym (ap (int_lt x) w.is) ∙ s.some in
+    let down_to : w.n ≤ v.n = grind (arith, nat_tests) in
+    let n : len ≡ (v.n - w.n) + 1 = s.extent_is ∙ extent-some Downto x y s.some
+    ∙ ap (λ j. nat_abs (j -ℤ y) + 1) v.is ∙ ap (λ j. nat_abs (pos v.n -ℤ j) + 1) w.is ∙ ap (λ k. k + 1) (up w.n v.n down_to) in
+    let z : nat_abs (pos l -ℤ pos r) ≡ l - r = up r l (omega (arith, w.above, w.below)) in
+    (omega arith, grind (arith, nat_tests, v.above, v.below, w.above, w.below))
+
+slice-short : (l r : ℕ) (d e : Direction) (x y : ℤ) (f len : ℕ) → Sliced (record { left = l; direction = d; right = r }) e x y f len → Fits f len (extent d (pos l) (pos r))
+slice-short l r To To x y f len s = slice-to l r x y f len s
+slice-short l r Downto Downto x y f len s = slice-down l r x y f len s
+slice-short l r To Downto x y f len s = absurd (let h = s.same in cc)
+slice-short l r Downto To x y f len s = absurd (let h = s.same in cc)
+
+-- ---- any part
+
+one-short : (p f len most : ℕ) → p + 1 ≤ most → p ∷ [] ≡ range_with_len f len → Fits f len most
+one-short p f len most h e =
+    let a = range-first p 0 f len e in
+    let b = range-length p 1 f len e in
+    (omega arith, omega arith)
+
+whole-short : (n f len : ℕ) → 1 ≤ n → range_with_len 0 n ≡ range_with_len f len → Fits f len n
+whole-short zero f len h e = absurd (omega arith)
+whole-short (suc n) f len h e =
+    let a = range-first 0 n f len e in
+    let b = range-length 0 (suc n) f len e in
+    (omega arith, omega arith)
+
+pub places-short : (at : Integers) (kind : Kind) (part : Part) (f len : ℕ) → 1 ≤ size kind → places at kind part ≡ Ok (range_with_len f len) → Fits f len (size kind)
+unfolding places
+places-short at kind u.whole f len h e = whole-short (size kind) f len h (ok (range_with_len 0 (size kind)) (range_with_len f len) e)
+places-short at (vector b) (u.Part.element s) f len h e =
+    let i = bound (integer at s) _ _ e in
+    let p = bound (place_of b i.x) _ _ i.then_gave in
+    one-short p.x f len (bounds_size b) (element-short b.left b.right b.direction i.x p.x p.gave) (ok (p.x ∷ []) (range_with_len f len) p.then_gave)
+places-short at (vector b) (u.slice r) f len h e =
+    let x = bound (integer at r.left) _ _ e in
+    let y = bound (integer at r.right) _ _ x.then_gave in
+    slice-short b.left b.right b.direction r.direction x.x y.x f len (sliced b r.direction x.x y.x f len y.then_gave)
+places-short at one (u.Part.element s) f len h e = absurd cc
+places-short at one (u.slice r) f len h e = absurd cc
+places-short at (enumeration count) (u.Part.element s) f len h e = absurd cc
+places-short at (enumeration count) (u.slice r) f len h e = absurd cc
+
+-- ---- of one thing among several
+
+map-add : (m f len : ℕ) → map (λ q. m + q) (range_with_len f len) ≡ range_with_len (m + f) len
+map-add m f zero = refl
+map-add m f (suc len) =
+    let e : m + (f + 1) ≡ m + f + 1 = omega arith in
+    ap (λ xs. (m + f) ∷ xs) (map-add m (f + 1) len ∙ ap (λ a. range_with_len a len) e)
+
+pub part-given : (at : Integers) (from : ℕ) (ps : List Placed) (k : ℕ) (part : Part) (p : Placed) (f len : ℕ) → slice_get ps k ≡ Some p
+    → IsPlaced (take k (map placed_kind ps)) p → places at (placed_kind p) part ≡ Ok (range_with_len f len)
+    → part_elements at from (map placed_kind ps) k part ≡ Ok (range_with_len (from + p.first + f) len)
+part-given at from ps k part p f len there placed h =
+    let kinds = map placed_kind ps in
+    ap (λ o. found_kind Index o >>= λ kind. places at kind part >>= λ xs. given (map (λ q. from + elements_count (take k kinds) + q) xs))
+    (slice_get-map placed_kind ps k ∙ ap (option_map placed_kind) there)
+    ∙ ap (λ r. r >>= λ xs. given (map (λ q. from + elements_count (take k kinds) + q) xs)) h
+    ∙ ap given (map-add (from + elements_count (take k kinds)) f len)
+    ∙ ap (λ m. given (range_with_len (from + m + f) len)) (sym placed.first)
+
+pub part-fits : (at : Integers) (ps : List Placed) (k : ℕ) (part : Part) (p : Placed) (f len : ℕ)
+    → IsPlaced (take k (map placed_kind ps)) p → places at (placed_kind p) part ≡ Ok (range_with_len f len) → IsWidth len × (f < 64)
+part-fits at ps k part p f len placed h =
+    let fits = places-short at (placed_kind p) part f len placed.width.0 h in
+    ((fits.0, omega (arith, fits.0, fits.1, placed.width.1)), omega (arith, fits.0, fits.1, placed.width.1))
+
+-- ---- the values of a constant
+
+values-there : (vs : List Nine) (f len : ℕ) → f + len ≤ length vs → map (λ p. slice_index_or vs p X) (range_with_len f len) ≡ take len (drop f vs)
+values-there vs f zero h = refl
+values-there vs f (suc len) h =
+    let here : f < length vs = omega arith in
+    ap (λ xs. slice_index_or vs f X ∷ xs) (values-there vs (f + 1) len (omega arith))
+    ∙ ap (λ j. slice_index_or vs f X ∷ take len (drop j vs)) (add-one f)
+    ∙ ap (take (suc len)) (sym (drop-cons vs f X here))
+
+pub constant-given : (at : Site) (k : ℕ) (part : Part) (c : Constant) (f len : ℕ) → slice_get at.constants k ≡ Some c → f + len ≤ length c.values
+    → places at.integers c.kind part ≡ Ok (range_with_len f len) → constant_values at k part ≡ Ok (take len (drop f c.values))
+unfolding constant_values
+constant-given at k part c f len there h e =
+    ap (λ o. found_kind Index o >>= λ c. places at.integers c.kind part >>= λ ps. given (map (λ p. slice_index_or c.values p X) ps)) there
+    ∙ ap (λ r. r >>= λ ps. given (map (λ p. slice_index_or c.values p X) ps)) e
+    ∙ ap given (values-there c.values f len h)
+
+-- ---- sizes
+
+pub size_fits : (at : Integers) (s : Static) (n : ℕ) → size_of at s ≡ Ok n → IsWidth n
+unfolding size_of
+size_fits at s n h =
+    let m = bound (natural at s) _ n h in
+    let some = bound (unless Index (nat_le 1 m.x)) _ n m.then_gave in
+    let room = bound (unless TooWide (nat_le m.x 64)) _ n some.then_gave in
+    let e : m.x ≡ n = ok m.x n room.then_gave in
+    let low : 1 ≤ m.x = leb-true 1 m.x (kept Index (nat_le 1 m.x) some.x some.gave) in
+    let high : m.x ≤ 64 = leb-true m.x 64 (kept TooWide (nat_le m.x 64) room.x room.gave) in
+    (omega arith, omega arith)
+
+pub elements-length : (f len : ℕ) (ns : List ℕ) → given (range_with_len f len) ≡ Ok ns → length ns ≡ len
+elements-length f len ns h = ap length (sym (ok (range_with_len f len) ns h)) ∙ length-range_with_len f len
+
+-- an element that was looked up
+pub there : {X : Type 0} (xs : List X) (k : ℕ) (x : X) → k < length xs → x ≡ get_or xs k x → slice_get xs k ≡ Some x
+there xs k x h e = slice_get-get_or xs k x h ∙ ap Some (sym e)
+
+-- ---- one element
+
+pub one_element : (f len : ℕ) → 1 ≤ len → the_element (given (range_with_len f len)) ≡ Ok f
+one_element f zero some = absurd (omega arith)
+one_element f (suc len) some = refl

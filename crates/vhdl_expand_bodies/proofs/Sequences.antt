@@ -1,0 +1,172 @@
+-- Statements behind one another, and lists whose elements come one after another.
+use Rattle.std.proofs.Common.{◌≡◌, ℕ, zero, suc, ◌+◌, ◌<◌, ◌≤◌, List, [], ◌∷◌, ◌++◌, length, map, get_or, drop, drop-cons, add-one, Ok, Err, refl, sym, ap, ◌∙◌, subst, arith}
+use Rattle.std.specs.Prelude.{ℤ, IsErr}
+use Rattle.std.proofs.lemmas.Int.{ints}
+use Rattle.std.proofs.lemmas.List.{append-nil, append_assoc}
+use Rattle.vhdl_tree.specs.declared.operator.Direction.{Direction}
+use Rattle.vhdl_tree.specs.declared.operator.Direction.TheVariants.{To, Downto}
+use Rattle.vhdl_names_rules.specs.units.Statements as u
+use Rattle.rtl_model.specs.bodies.Body as b
+use Rattle.rtl_net.specs.declared.body.Statement.{Statement}
+use Rattle.rtl_net.specs.Bodies as net
+use Rattle.vhdl_names_units.specs.views.Sequential as units
+use Rattle.vhdl_expand_rules.specs.Elab.{Elab, ◌>>=◌, each}
+use Rattle.vhdl_expand_rules.specs.Integers.{counted, next}
+use Rattle.vhdl_expand_rules.specs.Site.{Site, in_loop}
+use Rattle.vhdl_expand_rules.specs.Statements.{joined, one, statement, statements}
+use Rattle.vhdl_expand_rules.proofs.Steps.{given, ok}
+use Rattle.vhdl_expand_rules.proofs.Chains.{err_first}
+use Rattle.vhdl_expand_bodies.specs.steps.Statements as steps
+use Rattle.vhdl_expand_bodies.specs.steps.Statements.{after}
+
+pub followed_assoc : (x y z : b.Stmts) → b.followed_by (b.followed_by x y) z ≡ b.followed_by x (b.followed_by y z)
+followed_assoc b.done y z = refl
+followed_assoc (b.step s x) y z = ap (b.step s) (followed_assoc x y z)
+
+pub followed_done : (x : b.Stmts) → b.followed_by x b.done ≡ x
+followed_done b.done = refl
+followed_done (b.step s x) = ap (b.step s) (followed_done x)
+
+push : (xs : List Statement) (y : Statement) → net.statements_of (xs ++ y ∷ []) ≡ b.followed_by (net.statements_of xs) (one (net.statement_view y))
+push [] y = refl
+push (x ∷ xs) y = ap (b.step (net.statement_view x)) (push xs y)
+
+pub statements_push : (xs ys : List Statement) (y : Statement) → ys ≡ xs ++ y ∷ [] → net.statements_of ys ≡ b.followed_by (net.statements_of xs) (one (net.statement_view y))
+statements_push xs ys y h = ap net.statements_of h ∙ push xs y
+
+-- ---- statements behind others
+
+after_goes : (made new : b.Stmts) (r q : Elab b.Stmts) → after made r ≡ Ok new → after made (r >>= λ x. q >>= λ y. given (b.followed_by x y)) ≡ after new q
+after_goes made new (Ok x) (Ok y) h = ap given (sym (followed_assoc made x y) ∙ ap (λ z. b.followed_by z y) (ok (b.followed_by made x) new h))
+after_goes made new (Ok x) (Err p) h = refl
+after_goes made new (Err p) q h = absurd cc
+
+after_stops : (made : b.Stmts) (r q : Elab b.Stmts) → IsErr (after made r) → IsErr (after made (r >>= λ x. q >>= λ y. given (b.followed_by x y)))
+after_stops made (Ok x) q h = absurd cc
+after_stops made (Err p) q h = refl
+
+pub after_none : (r : Elab b.Stmts) → after b.done r ≡ r
+after_none (Ok x) = refl
+after_none (Err p) = refl
+
+next-left : {X : Type 0} (xs : List X) (i : ℕ) (x : X) → i < length xs → x ≡ get_or xs i x → drop i xs ≡ x ∷ drop (i + 1) xs
+next-left xs i x h e = drop-cons xs i x h ∙ ap (λ y. y ∷ drop (suc i) xs) (sym e) ∙ ap (λ j. x ∷ drop j xs) (sym (add-one i))
+
+parameter-next : (direction : Direction) (x : ℤ) (k : ℕ) → steps.parameter direction (next direction x) k ≡ steps.parameter direction x (suc k)
+parameter-next To x k = omega (arith, ints)
+parameter-next Downto x k = omega (arith, ints)
+
+parameter-first : (direction : Direction) (x : ℤ) → x ≡ steps.parameter direction x 0
+parameter-first To x = omega (arith, ints)
+parameter-first Downto x = omega (arith, ints)
+
+next-turn : (direction : Direction) (x : ℤ) (count k : ℕ) → k < count → drop k (counted direction x count) ≡ steps.parameter direction x k ∷ drop (k + 1) (counted direction x count)
+next-turn direction x zero k h = absurd (omega arith)
+next-turn direction x (suc count) zero h = ap (λ j. j ∷ counted direction (next direction x) count) (parameter-first direction x)
+next-turn direction x (suc count) (suc k) h =
+    let e : suc (k + 1) ≡ suc k + 1 = omega arith in
+    next-turn direction (next direction x) count k (omega arith)
+    ∙ ap (λ j. j ∷ drop (k + 1) (counted direction (next direction x) count)) (parameter-next direction x k)
+    ∙ ap (λ m. steps.parameter direction x (suc k) ∷ drop m (counted direction x (suc count))) e
+
+no-turn : (direction : Direction) (x : ℤ) (count k : ℕ) → count ≤ k → drop k (counted direction x count) ≡ []
+no-turn direction x zero zero h = refl
+no-turn direction x zero (suc k) h = refl
+no-turn direction x (suc count) zero h = absurd (omega arith)
+no-turn direction x (suc count) (suc k) h = no-turn direction (next direction x) count k (omega arith)
+
+module _ (at : Site) where
+  pub list_goes : {X : Type 0} (v : X → u.Statement) (total : Elab b.Stmts) (now new : b.Stmts) (xs : List X) (i : ℕ) (x : X) → i < length xs → x ≡ get_or xs i x
+      → total ≡ after now (statements at (units.statements_of (map v (drop i xs)))) → after now (statement at (v x)) ≡ Ok new
+      → total ≡ after new (statements at (units.statements_of (map v (drop (i + 1) xs))))
+  unfolding statements
+  list_goes v total now new xs i x below is so_far h =
+      so_far ∙ ap (λ ys. after now (statements at (units.statements_of (map v ys)))) (next-left xs i x below is)
+      ∙ after_goes now new (statement at (v x)) (statements at (units.statements_of (map v (drop (i + 1) xs)))) h
+
+  pub list_stops : {X : Type 0} (v : X → u.Statement) (total : Elab b.Stmts) (now : b.Stmts) (xs : List X) (i : ℕ) (x : X) → i < length xs → x ≡ get_or xs i x
+      → total ≡ after now (statements at (units.statements_of (map v (drop i xs)))) → IsErr (after now (statement at (v x))) → IsErr total
+  unfolding statements
+  list_stops v total now xs i x below is so_far h =
+      subst (λ (r : Elab b.Stmts). IsErr r)
+      (sym (so_far ∙ ap (λ ys. after now (statements at (units.statements_of (map v ys)))) (next-left xs i x below is)))
+      (after_stops now (statement at (v x)) (statements at (units.statements_of (map v (drop (i + 1) xs)))) h)
+
+  pub list_ends : {X : Type 0} (v : X → u.Statement) (total : Elab b.Stmts) (now : b.Stmts) (xs left : List X) → left ≡ []
+      → total ≡ after now (statements at (units.statements_of (map v left))) → total ≡ Ok now
+  unfolding statements
+  list_ends v total now xs left h so_far = so_far ∙ ap (λ ys. after now (statements at (units.statements_of (map v ys)))) h ∙ ap given (followed_done now)
+
+  -- ---- turns of a loop
+
+  turn-goes : (body : u.Statements) (now new : b.Stmts) (i : ℤ) (is : List ℤ) → after now (statements (in_loop at i) body) ≡ Ok new
+      → after now (steps.repeated at body (i ∷ is)) ≡ after new (steps.repeated at body is)
+  turn-goes body now new i is h = go (statements (in_loop at i) body) (each (λ j. statements (in_loop at j) body) is) h
+    where
+      go : (r : Elab b.Stmts) (q : Elab (List b.Stmts)) → after now r ≡ Ok new
+          → after now ((r >>= λ y. q >>= λ ys. given (y ∷ ys)) >>= λ ss. given (joined ss)) ≡ after new (q >>= λ ss. given (joined ss))
+      go (Ok x) (Ok ys) k = ap given (sym (followed_assoc now x (joined ys)) ∙ ap (λ z. b.followed_by z (joined ys)) (ok (b.followed_by now x) new k))
+      go (Ok x) (Err p) k = refl
+      go (Err p) q k = absurd cc
+
+  turn-stops : (body : u.Statements) (now : b.Stmts) (i : ℤ) (is : List ℤ) → IsErr (after now (statements (in_loop at i) body))
+      → IsErr (after now (steps.repeated at body (i ∷ is)))
+  turn-stops body now i is h = go (statements (in_loop at i) body) (each (λ j. statements (in_loop at j) body) is) h
+    where
+      go : (r : Elab b.Stmts) (q : Elab (List b.Stmts)) → IsErr (after now r) → IsErr (after now ((r >>= λ y. q >>= λ ys. given (y ∷ ys)) >>= λ ss. given (joined ss)))
+      go (Ok x) q k = absurd cc
+      go (Err p) q k = refl
+
+  pub turns_go : (body : u.Statements) (total : Elab b.Stmts) (now new : b.Stmts) (direction : Direction) (x i : ℤ) (count k : ℕ) → k < count
+      → total ≡ after now (steps.repeated at body (drop k (counted direction x count))) → i ≡ steps.parameter direction x k
+      → after now (statements (in_loop at i) body) ≡ Ok new
+      → total ≡ after new (steps.repeated at body (drop (k + 1) (counted direction x count)))
+  turns_go body total now new direction x i count k below so_far is h =
+      so_far ∙ ap (λ js. after now (steps.repeated at body js)) (next-turn direction x count k below ∙ ap (λ j. j ∷ drop (k + 1) (counted direction x count)) (sym is))
+      ∙ turn-goes body now new i (drop (k + 1) (counted direction x count)) h
+
+  pub turns_stop : (body : u.Statements) (total : Elab b.Stmts) (now : b.Stmts) (direction : Direction) (x i : ℤ) (count k : ℕ) → k < count
+      → total ≡ after now (steps.repeated at body (drop k (counted direction x count))) → i ≡ steps.parameter direction x k
+      → IsErr (after now (statements (in_loop at i) body)) → IsErr total
+  turns_stop body total now direction x i count k below so_far is h =
+      subst (λ (r : Elab b.Stmts). IsErr r)
+      (sym (so_far ∙ ap (λ js. after now (steps.repeated at body js)) (next-turn direction x count k below ∙ ap (λ j. j ∷ drop (k + 1) (counted direction x count)) (sym is))))
+      (turn-stops body now i (drop (k + 1) (counted direction x count)) h)
+
+  pub turns_end : (body : u.Statements) (total : Elab b.Stmts) (now : b.Stmts) (direction : Direction) (x : ℤ) (count k : ℕ) → count ≤ k
+      → total ≡ after now (steps.repeated at body (drop k (counted direction x count))) → total ≡ Ok now
+  turns_end body total now direction x count k h so_far =
+      so_far ∙ ap (λ js. after now (steps.repeated at body js)) (no-turn direction x count k h) ∙ ap given (followed_done now)
+
+-- ---- each of several things
+
+abbrev pub behind : {B : Type 0} → List B → Elab (List B) → Elab (List B)
+behind made more = more >>= λ ys. given (made ++ ys)
+
+module _ {A B X : Type 0} (f : A → Elab B) (v : X → A) where
+  pub each_begins : (xs : List X) → each f (map v xs) ≡ behind [] (each f (map v xs))
+  each_begins xs = go (each f (map v xs))
+    where
+      go : (r : Elab (List B)) → r ≡ behind [] r
+      go (Ok ys) = refl
+      go (Err p) = refl
+
+  pub each_goes : (total : Elab (List B)) (made more : List B) (xs : List X) (i : ℕ) (x : X) (y : B) → i < length xs → x ≡ get_or xs i x
+      → total ≡ behind made (each f (map v (drop i xs))) → f (v x) ≡ Ok y → more ≡ made ++ y ∷ [] → total ≡ behind more (each f (map v (drop (i + 1) xs)))
+  each_goes total made more xs i x y below is so_far h pushed =
+      so_far ∙ ap (λ zs. behind made (each f (map v zs))) (next-left xs i x below is)
+      ∙ ap (λ r. behind made (r >>= λ z. each f (map v (drop (i + 1) xs)) >>= λ zs. given (z ∷ zs))) h
+      ∙ go (each f (map v (drop (i + 1) xs))) ∙ ap (λ d. behind d (each f (map v (drop (i + 1) xs)))) (sym pushed)
+    where
+      go : (r : Elab (List B)) → behind made (r >>= λ zs. given (y ∷ zs)) ≡ behind (made ++ y ∷ []) r
+      go (Ok zs) = ap given (sym (append_assoc made (y ∷ []) zs))
+      go (Err p) = refl
+
+  pub each_stops : (total : Elab (List B)) (made : List B) (xs : List X) (i : ℕ) (x : X) → i < length xs → x ≡ get_or xs i x
+      → total ≡ behind made (each f (map v (drop i xs))) → IsErr (f (v x)) → IsErr total
+  each_stops total made xs i x below is so_far h =
+      subst (λ (r : Elab (List B)). IsErr r) (sym (so_far ∙ ap (λ zs. behind made (each f (map v zs))) (next-left xs i x below is)))
+      (err_first (f (v x) >>= λ z. each f (map v (drop (i + 1) xs)) >>= λ zs. given (z ∷ zs)) (λ ys. given (made ++ ys)) (err_first (f (v x)) _ h))
+
+  pub each_ends : (total : Elab (List B)) (made : List B) (left : List X) → left ≡ [] → total ≡ behind made (each f (map v left)) → total ≡ Ok made
+  each_ends total made left h so_far = so_far ∙ ap (λ zs. behind made (each f (map v zs))) h ∙ ap given (append-nil made)

@@ -1,0 +1,158 @@
+-- Conditions: what a chain of operators is not, levels, and chains of logical operators.
+use Rattle.std.proofs.Common.{◌≡◌, ℕ, zero, suc, ◌≤◌, ◌<◌, ◌+◌, Bool, List, [], ◌∷◌, ◌++◌, length, get_or, replicate, drop, drop-cons, add-one, None, Box, Vec, Global, Ok, Err, refl, sym, ap, ◌∙◌, subst, arith}
+use Rattle.std.specs.Prelude.{IsErr}
+use Rattle.std.specs.List.{range_with_len}
+use Rattle.vhdl_values.specs.declared.scalar.Nine.{Nine}
+use Rattle.rtl_model.specs.bodies.Body as b
+use Rattle.rtl_net.specs.declared.body.TestLink as m
+use Rattle.rtl_net.specs.Bodies as net
+use Rattle.rtl_net.specs.Bodies.{test_links_of}
+use Rattle.vhdl_names_rules.specs.declared.vector.Vector.TheVariants as v
+use Rattle.vhdl_names_rules.specs.declared.vector.VectorLink.{VectorLink}
+use Rattle.vhdl_names_rules.specs.declared.vector.VectorLink.TheVariants as l
+use Rattle.vhdl_names_rules.specs.declared.vector.VectorStart.{VectorStart}
+use Rattle.vhdl_names_rules.specs.declared.test.Test.{Test}
+use Rattle.vhdl_names_rules.specs.declared.test.Test.TheVariants as t
+use Rattle.vhdl_names_rules.specs.declared.test.TestLink.{TestLink}
+use Rattle.vhdl_names_rules.specs.declared.test.TestStart.{TestStart}
+use Rattle.vhdl_names_rules.specs.views.Vectors.{vector_view, linked, vector_chained}
+use Rattle.vhdl_names_rules.specs.views.Vectors as vectors
+use Rattle.vhdl_names_rules.specs.views.Tests.{test_view, start_view, test_chained}
+use Rattle.vhdl_names_rules.specs.units.Expressions as u
+use Rattle.vhdl_names_rules.proofs.rows.Vectors as rows
+use Rattle.vhdl_names_rules.proofs.rows.Tests.{view_chain}
+use Rattle.vhdl_expand_rules.specs.Elab.{Elab, ◌>>=◌}
+use Rattle.vhdl_expand_rules.specs.Site.{Site, signal_elements, the_element}
+use Rattle.vhdl_expand_rules.specs.Expressions.{levelled, test}
+use Rattle.vhdl_expand_rules.proofs.Chains.{bind-assoc, err_first}
+use Rattle.vhdl_expand_rules.proofs.Steps.{given, ok}
+use Rattle.vhdl_expand_bodies.specs.steps.Tests as steps
+use Rattle.vhdl_expand_bodies.specs.steps.Tests.{name_in, character_in}
+
+-- ---- a chain is no name and no literal
+
+linked-no_name : (x : u.Vector) (k : VectorLink) → name_in (linked x k) ≡ None
+linked-no_name x (l.Vector op pos y) = refl
+linked-no_name x (l.Integer op pos s) = refl
+
+chained-no_name : (x : u.Vector) (ls : List VectorLink) → name_in x ≡ None → name_in (vector_chained x ls) ≡ None
+chained-no_name x [] h = h
+chained-no_name x (k ∷ ls) h = chained-no_name (linked x k) ls (linked-no_name x k)
+
+pub chain_is_no_name : (start : Box VectorStart Global) (links : Vec VectorLink Global) → name_in (vector_view (v.Chain start links)) ≡ None
+chain_is_no_name start links = ap name_in (rows.view_chain start links)
+    ∙ chained-no_name (vectors.start_view start.value) links.items (linked-no_name (vector_view start.value.first) start.value.link)
+
+linked-no_character : (x : u.Vector) (k : VectorLink) → character_in (linked x k) ≡ None
+linked-no_character x (l.Vector op pos y) = refl
+linked-no_character x (l.Integer op pos s) = refl
+
+chained-no_character : (x : u.Vector) (ls : List VectorLink) → character_in x ≡ None → character_in (vector_chained x ls) ≡ None
+chained-no_character x [] h = h
+chained-no_character x (k ∷ ls) h = chained-no_character (linked x k) ls (linked-no_character x k)
+
+pub chain_is_no_character : (start : Box VectorStart Global) (links : Vec VectorLink Global) → character_in (vector_view (v.Chain start links)) ≡ None
+chain_is_no_character start links = ap character_in (rows.view_chain start links)
+    ∙ chained-no_character (vectors.start_view start.value) links.items (linked-no_character (vector_view start.value.first) start.value.link)
+
+-- ---- levels
+
+level-more : (plain : Bool) (f len : ℕ) (x : Nine) → 2 ≤ len
+    → levelled plain (range_with_len f len) x ≡ b.equal (b.elements (b.signal (range_with_len f len))) (b.elements (b.constant (x ∷ [])))
+level-more plain f zero x h = absurd (omega arith)
+level-more plain f (suc zero) x h = absurd (omega arith)
+level-more plain f (suc (suc len)) x h = refl
+
+-- ---- chains
+
+links-push : (left : b.Test) (xs : List m.TestLink) (y : m.TestLink) → test_links_of left (xs ++ y ∷ []) ≡ b.combined y.operator (test_links_of left xs) (net.test_view y.operand)
+links-push left [] y = refl
+links-push left (x ∷ xs) y = links-push (b.combined x.operator left (net.test_view x.operand)) xs y
+
+abbrev one_more : b.Test → Elab b.Test
+one_more t = Ok t
+
+pub level_one : (at : Site) (plain : Bool) (p : u.Place) (x : Nine) (f e : ℕ)
+    → signal_elements at p.signal p.part ≡ Ok (range_with_len f 1) → the_element (given (range_with_len f 1)) ≡ Ok e → steps.level at plain p x ≡ Ok (b.level plain e x)
+level_one at plain p x f e there same = ap (λ r. r >>= λ es. one_more (levelled plain es x)) there ∙ ap (λ n. one_more (b.level plain n x)) (ok f e same)
+
+pub level_given : (at : Site) (plain : Bool) (p : u.Place) (x : Nine) (f len : ℕ) (es : List ℕ) (vs : List Nine)
+    → signal_elements at p.signal p.part ≡ Ok (range_with_len f len) → 1 ≤ len → (len ≡ 1 → ⊥) → given (range_with_len f len) ≡ Ok es → vs ≡ replicate 1 x
+    → steps.level at plain p x ≡ Ok (b.equal (b.elements (b.signal es)) (b.elements (b.constant vs)))
+level_given at plain p x f len es vs there some several same value =
+    ap (λ r. r >>= λ es. one_more (levelled plain es x)) there
+    ∙ ap one_more (level-more plain f len x (omega arith))
+    ∙ ap (λ ms. one_more (b.equal (b.elements (b.signal ms)) (b.elements (b.constant (x ∷ []))))) (ok (range_with_len f len) es same)
+    ∙ ap (λ ws. one_more (b.equal (b.elements (b.signal es)) (b.elements (b.constant ws)))) (sym value)
+
+module _ (at : Site) where
+  next-left : (xs : List TestLink) (i : ℕ) (x : TestLink) → i < length xs → x ≡ get_or xs i x → drop i xs ≡ x ∷ drop (i + 1) xs
+  next-left xs i x h e = drop-cons xs i x h ∙ ap (λ y. y ∷ drop (suc i) xs) (sym e) ∙ ap (λ j. x ∷ drop j xs) (sym (add-one i))
+
+  -- one more
+  pub next_goes : (begun now new : b.Test) (ls : List TestLink) (i : ℕ) (k : TestLink) → i < length ls → k ≡ get_or ls i k
+      → steps.all_linked at begun ls ≡ steps.all_linked at now (drop i ls) → steps.linked at now k ≡ Ok new
+      → steps.all_linked at begun ls ≡ steps.all_linked at new (drop (i + 1) ls)
+  next_goes begun now new ls i k below is so_far h =
+      so_far ∙ ap (λ left. steps.all_linked at now left) (next-left ls i k below is)
+      ∙ ap (λ r. r >>= λ d. steps.all_linked at d (drop (i + 1) ls)) h
+
+  -- one that is refused
+  pub next_stops : (begun now : b.Test) (ls : List TestLink) (i : ℕ) (k : TestLink) → i < length ls → k ≡ get_or ls i k
+      → steps.all_linked at begun ls ≡ steps.all_linked at now (drop i ls) → IsErr (steps.linked at now k) → IsErr (steps.all_linked at begun ls)
+  next_stops begun now ls i k below is so_far h =
+      subst (λ (r : Elab b.Test). IsErr r)
+      (sym (so_far ∙ ap (λ left. steps.all_linked at now left) (next-left ls i k below is)))
+      (err_first (steps.linked at now k) _ h)
+
+  -- all
+  pub links_end : (begun now : b.Test) (ls left : List TestLink) → left ≡ [] → steps.all_linked at begun ls ≡ steps.all_linked at now left → steps.all_linked at begun ls ≡ Ok now
+  links_end begun now ls left h so_far = so_far ∙ ap (λ ks. steps.all_linked at now ks) h
+
+  -- an operator with its right operand, behind a chain
+  pub link_given : (first : b.Test) (rest more : List m.TestLink) (k : TestLink) (x : m.TestLink)
+      → test at (test_view k.operand) ≡ Ok (net.test_view x.operand) → x.operator ≡ k.operator → more ≡ rest ++ x ∷ []
+      → steps.linked at (test_links_of first rest) k ≡ Ok (test_links_of first more)
+  link_given first rest more k x h same pushed =
+      ap (λ r. r >>= λ d. one_more (b.combined k.operator (test_links_of first rest) d)) h
+      ∙ ap (λ op. one_more (b.combined op (test_links_of first rest) (net.test_view x.operand))) (sym same)
+      ∙ ap one_more (sym (ap (test_links_of first) pushed ∙ links-push first rest x))
+
+  linked-step : (c : u.Test) (k : TestLink) → test at (u.Test.both k.operator c (test_view k.operand)) ≡ (test at c >>= λ d. steps.linked at d k)
+  unfolding test
+  linked-step c k = refl
+
+  last-ok : (r : Elab b.Test) → r ≡ (r >>= λ d. Ok d)
+  last-ok (Ok x) = refl
+  last-ok (Err p) = refl
+
+  chained : (c : u.Test) (ls : List TestLink) → test at (test_chained c ls) ≡ (test at c >>= λ d. steps.all_linked at d ls)
+  chained c [] = last-ok (test at c)
+  chained c (k ∷ ls) = chained (u.Test.both k.operator c (test_view k.operand)) ls ∙ ap (λ r. r >>= λ d. steps.all_linked at d ls) (linked-step c k)
+      ∙ bind-assoc (test at c) (λ d. steps.linked at d k) (λ d. steps.all_linked at d ls)
+
+  chain_is : (e : Test) (start : Box TestStart Global) (links : Vec TestLink Global) (st : TestStart) (ls : List TestLink)
+      → e ≡ t.Chain start links → st ≡ start.value → ls ≡ links.items
+      → test at (test_view e) ≡ (steps.started at st >>= λ d. steps.all_linked at d ls)
+  chain_is e start links st ls h j k =
+      ap (λ (a : Test). test at (test_view a)) h ∙ ap (λ a. test at a) (view_chain start links)
+      ∙ ap (λ (a : TestStart). test at (test_chained (start_view a) links.items)) (sym j)
+      ∙ ap (λ xs. test at (test_chained (start_view st) xs)) (sym k)
+      ∙ chained (start_view st) ls
+      ∙ ap (λ r. r >>= λ d. steps.all_linked at d ls) (linked-step (test_view st.first) st.link)
+
+  pub chain_goes : (e : Test) (start : Box TestStart Global) (links : Vec TestLink Global) (st : TestStart) (ls : List TestLink) (d : b.Test)
+      → e ≡ t.Chain start links → st ≡ start.value → ls ≡ links.items → steps.started at st ≡ Ok d
+      → test at (test_view e) ≡ steps.all_linked at d ls
+  chain_goes e start links st ls d h j k given = chain_is e start links st ls h j k ∙ ap (λ r. r >>= λ d. steps.all_linked at d ls) given
+
+  pub chain_stops : (e : Test) (start : Box TestStart Global) (links : Vec TestLink Global) (st : TestStart)
+      → e ≡ t.Chain start links → st ≡ start.value → IsErr (steps.started at st) → IsErr (test at (test_view e))
+  chain_stops e start links st h j given =
+      subst (λ (r : Elab b.Test). IsErr r) (sym (chain_is e start links st links.items h j refl)) (err_first (steps.started at st) _ given)
+
+  pub more_stops : (e : Test) (start : Box TestStart Global) (links : Vec TestLink Global) (st : TestStart) (ls : List TestLink) (d : b.Test)
+      → e ≡ t.Chain start links → st ≡ start.value → ls ≡ links.items → steps.started at st ≡ Ok d
+      → IsErr (steps.all_linked at d ls) → IsErr (test at (test_view e))
+  more_stops e start links st ls d h j k given stopped =
+      subst (λ (r : Elab b.Test). IsErr r) (sym (chain_goes e start links st ls d h j k given)) stopped

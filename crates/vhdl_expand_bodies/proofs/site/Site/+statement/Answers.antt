@@ -1,0 +1,140 @@
+use mir.Syntax.{w32}
+use mir.Val.{SFits, to_z, of_z}
+use Rattle.std.proofs.lemmas.Int.{ints}
+use Rattle.std.proofs.Common.{◌≡◌, ◌<◌, length, map, ap, ◌∙◌, sym, subst, arith, rules}
+use Rattle.std.specs.Prelude.{◌≢◌, IsErr}
+use Rattle.std.proofs.lemmas.Grind.{common_steps}
+use Rattle.rtl_net.specs.Bodies.{statements_of}
+use Rattle.vhdl_names_rules.specs.views.Integers.{range_view}
+use Rattle.vhdl_names_units.specs.views.Sequential as analysed
+use Rattle.vhdl_expand_rules.specs.declared.fault.ElabFault.TheVariants.{NoMemory}
+use Rattle.vhdl_expand_rules.proofs.Steps.{ok}
+use Rattle.vhdl_expand_rules.specs.Statements as definition
+use Rattle.vhdl_expand_bodies.specs.Sites.{site_view}
+use Rattle.vhdl_expand_bodies.specs.steps.Statements as steps
+use Rattle.vhdl_expand_bodies.specs.steps.Statements.{after}
+use Rattle.vhdl_expand_bodies.proofs.Links.{expands_along}
+use Rattle.vhdl_expand_bodies.proofs.Parts.{add_gives, after_stops, none_left, null_one, assign_one, assign_none, set_one, set_none, if_one, if_none, case_one, case_none, loop_is, same_turn, turned_goes}
+use Rattle.vhdl_expand_bodies.proofs.Sequences.{list_goes, list_stops, list_ends, turns_go, turns_stop, turns_end}
+use Rattle.vhdl_expand_bodies.proofs.site.Site.+statement.Goals as goal
+
+pub add_statement-returns-in-Null : goal.add_statement-returns-in-Null
+add_statement-returns-in-Null t c =
+    let at = site_view c.args.self.now in
+    let h = ap (λ x. definition.statement at (analysed.statement_view x)) c.in-Null.is ∙ null_one at in
+    add_gives _ _ _ _ _ h c.add.ensures.added c.add.ensures.refused
+
+pub add_statement-returns-in_ok-assignment-in-Assign : goal.add_statement-returns-in_ok-assignment-in-Assign
+add_statement-returns-in_ok-assignment-in-Assign t c =
+    let at = site_view c.args.self.now in
+    let h = ap (λ x. definition.statement at (analysed.statement_view x)) c.in-Assign.is
+    ∙ assign_one at _ _ _ c.in_ok-assignment-in-Assign.ensures in
+    add_gives _ _ _ _ _ h c.add-in-Assign.ensures.added c.add-in-Assign.ensures.refused
+
+pub add_statement-returns-in_ok-assignment-in-Set : goal.add_statement-returns-in_ok-assignment-in-Set
+add_statement-returns-in_ok-assignment-in-Set t c =
+    let at = site_view c.args.self.now in
+    let h = ap (λ x. definition.statement at (analysed.statement_view x)) c.in-Set.is
+    ∙ set_one at _ _ _ _ c.in_ok-assignment-in-Set.ensures in
+    add_gives _ _ _ _ _ h c.add-in-Set.ensures.added c.add-in-Set.ensures.refused
+
+pub add_statement-returns-in_ok-made-in-If : goal.add_statement-returns-in_ok-made-in-If
+add_statement-returns-in_ok-made-in-If t c =
+    let at = site_view c.args.self.now in
+    let h = ap (λ x. definition.statement at (analysed.statement_view x)) c.in-If.is
+    ∙ if_one at c.in-If.conditional _ c.in_ok-made-in-If.ensures in
+    add_gives _ _ _ _ _ h c.add-in-If.ensures.added c.add-in-If.ensures.refused
+
+pub add_statement-returns-in_ok-made-in-Case : goal.add_statement-returns-in_ok-made-in-Case
+add_statement-returns-in_ok-made-in-Case t c =
+    let at = site_view c.args.self.now in
+    let h = ap (λ x. definition.statement at (analysed.statement_view x)) c.in-Case.is
+    ∙ case_one at c.in-Case.selection _ c.in_ok-made-in-Case.ensures in
+    add_gives _ _ _ _ _ h c.add-in-Case.ensures.added c.add-in-Case.ensures.refused
+
+pub add_statement-returns-in-Loop : goal.add_statement-returns-in-Loop
+add_statement-returns-in-Loop t c =
+    let at = site_view c.args.self.now in
+    let h = ap (λ x. definition.statement at (analysed.statement_view x)) c.in-Loop.is
+    ∙ loop_is at c.in-Loop.repeated in
+    expands_along _ _ _ _ (ap (after _) h) c.add_turns.ensures
+
+pub add_statements-loop-statement-preserved : goal.add_statements-loop-statement-preserved
+add_statements-loop-statement-preserved t c =
+    let i = c.loop-statement.statement-index in
+    let below : i < length c.args.list.now = first_of (search rules, omega arith) in
+    list_goes (site_view c.args.self.now) analysed.statement_view _ _ _ c.args.list.now i c.statement-item.result below c.statement-item.is
+    c.loop-statement.invariant c.in_ok-add_statement.ensures
+
+pub add_statements-returns : goal.add_statements-returns
+add_statements-returns t c =
+    list_ends (site_view c.args.self.now) analysed.statement_view _ _ c.args.list.now _ (none_left c.args.list.now c.loop-statement.statement-index (omega arith)) c.loop-statement.invariant
+
+pub add_statement-returns-in_err-assignment-in-Assign : goal.add_statement-returns-in_err-assignment-in-Assign
+add_statement-returns-in_err-assignment-in-Assign t c =
+    let at = site_view c.args.self.now in
+    let stopped : c.in_err-assignment-in-Assign.field-0.0 ≢ NoMemory → IsErr (after (statements_of c.args.body.now.items) (definition.statement at (analysed.statement_view c.args.statement.now))) =
+    λ n. after_stops _ _ (subst (λ x. IsErr (definition.statement at (analysed.statement_view x))) (sym c.in-Assign.is) (assign_none at _ _ (c.in_err-assignment-in-Assign.ensures n))) in
+    first_of (search rules, grind (arith, common_steps))
+
+pub add_statement-returns-in_err-assignment-in-Set : goal.add_statement-returns-in_err-assignment-in-Set
+add_statement-returns-in_err-assignment-in-Set t c =
+    let at = site_view c.args.self.now in
+    let stopped : c.in_err-assignment-in-Set.field-0.0 ≢ NoMemory → IsErr (after (statements_of c.args.body.now.items) (definition.statement at (analysed.statement_view c.args.statement.now))) =
+    λ n. after_stops _ _ (subst (λ x. IsErr (definition.statement at (analysed.statement_view x))) (sym c.in-Set.is) (set_none at _ _ _ (c.in_err-assignment-in-Set.ensures n))) in
+    first_of (search rules, grind (arith, common_steps))
+
+pub add_statement-returns-in_err-made-in-If : goal.add_statement-returns-in_err-made-in-If
+add_statement-returns-in_err-made-in-If t c =
+    let at = site_view c.args.self.now in
+    let stopped : c.in_err-made-in-If.field-0.0 ≢ NoMemory → IsErr (after (statements_of c.args.body.now.items) (definition.statement at (analysed.statement_view c.args.statement.now))) =
+    λ n. after_stops _ _ (subst (λ x. IsErr (definition.statement at (analysed.statement_view x))) (sym c.in-If.is) (if_none at c.in-If.conditional (c.in_err-made-in-If.ensures n))) in
+    first_of (search rules, grind (arith, common_steps))
+
+pub add_statement-returns-in_err-made-in-Case : goal.add_statement-returns-in_err-made-in-Case
+add_statement-returns-in_err-made-in-Case t c =
+    let at = site_view c.args.self.now in
+    let stopped : c.in_err-made-in-Case.field-0.0 ≢ NoMemory → IsErr (after (statements_of c.args.body.now.items) (definition.statement at (analysed.statement_view c.args.statement.now))) =
+    λ n. after_stops _ _ (subst (λ x. IsErr (definition.statement at (analysed.statement_view x))) (sym c.in-Case.is) (case_none at c.in-Case.selection (c.in_err-made-in-Case.ensures n))) in
+    first_of (search rules, grind (arith, common_steps))
+
+pub add_statements-returns-in_err-add_statement : goal.add_statements-returns-in_err-add_statement
+add_statements-returns-in_err-add_statement t c =
+    let at = site_view c.args.self.now in
+    let i = c.loop-statement.statement-index in
+    let below : i < length c.args.list.now = first_of (search rules, omega arith) in
+    let stopped : c.in_err-add_statement.field-0.0 ≢ NoMemory
+    → IsErr (after (statements_of c.args.body.now.items) (definition.statements at (analysed.statements_of (map analysed.statement_view c.args.list.now)))) =
+    λ n. list_stops at analysed.statement_view _ _ c.args.list.now i c.statement-item.result below c.statement-item.is c.loop-statement.invariant (c.in_err-add_statement.ensures n) in
+    first_of (search rules, grind (arith, common_steps))
+
+pub add_turns-returns-in_err-add_turn : goal.add_turns-returns-in_err-add_turn
+add_turns-returns-in_err-add_turn t c =
+    let at = site_view c.args.self.now in
+    let body = analysed.statements_of (analysed.statements_view c.args.repeated.now.statements) in
+    let same = sym (ok _ _ c.in_ok-parameter.ensures) in
+    let f : SFits w32 c.in_ok-parameter.parameter = search rules in
+    let fixed : to_z w32 (of_z w32 c.in_ok-parameter.parameter) ≡ c.in_ok-parameter.parameter = omega (arith, ints) in
+    let stopped : c.in_err-add_turn.field-0.0 ≢ NoMemory
+    → IsErr (after (statements_of c.args.body.now.items) (steps.turned at (range_view c.args.repeated.now.range) body)) =
+    λ n. subst (λ r. IsErr r) (sym (turned_goes at (range_view c.args.repeated.now.range) body _ (statements_of c.args.body.now.items) c.in_ok-turns.ensures))
+    (turns_stop at body _ (statements_of c.loop-turn.body.items) c.in_ok-turns.turns.direction c.in_ok-turns.turns.first c.in_ok-parameter.parameter c.in_ok-turns.turns.count c.loop-turn.turn c.loop-turn-test.true c.loop-turn.invariant same
+    (subst (λ r. IsErr r) (sym (same_turn at (statements_of c.loop-turn.body.items) _ _ _ _ fixed c.deref.ensures.value)) (c.in_err-add_turn.ensures n))) in
+    first_of (search rules, grind (arith, common_steps))
+
+pub add_turns-loop-turn-preserved : goal.add_turns-loop-turn-preserved
+add_turns-loop-turn-preserved t c =
+    let at = site_view c.args.self.now in
+    let body = analysed.statements_of (analysed.statements_view c.args.repeated.now.statements) in
+    let same = sym (ok _ _ c.in_ok-parameter.ensures) in
+    let f : SFits w32 c.in_ok-parameter.parameter = search rules in
+    let fixed : to_z w32 (of_z w32 c.in_ok-parameter.parameter) ≡ c.in_ok-parameter.parameter = omega (arith, ints) in
+    turns_go at body _ (statements_of c.loop-turn.body.items) _ c.in_ok-turns.turns.direction c.in_ok-turns.turns.first c.in_ok-parameter.parameter c.in_ok-turns.turns.count c.loop-turn.turn c.loop-turn-test.true c.loop-turn.invariant same
+    (same_turn at (statements_of c.loop-turn.body.items) _ _ _ _ fixed c.deref.ensures.value ∙ c.in_ok-add_turn.ensures)
+
+pub add_turns-returns : goal.add_turns-returns
+add_turns-returns t c =
+    let at = site_view c.args.self.now in
+    let body = analysed.statements_of (analysed.statements_view c.args.repeated.now.statements) in
+    turned_goes at (range_view c.args.repeated.now.range) body _ (statements_of c.args.body.now.items) c.in_ok-turns.ensures
+    ∙ turns_end at body _ _ c.in_ok-turns.turns.direction c.in_ok-turns.turns.first c.in_ok-turns.turns.count c.loop-turn.turn (omega arith) c.loop-turn.invariant

@@ -1,0 +1,24 @@
+use Rattle.std.proofs.Common.{arith, rules}
+use Rattle.std.specs.Prelude.{◌≢◌, IsErr}
+use Rattle.std.proofs.lemmas.Grind.{common_steps}
+use Rattle.rtl_net.specs.Indices.{numbers}
+use Rattle.rtl_net.specs.Bodies.{value_view}
+use Rattle.vhdl_names_rules.specs.views.Vectors.{place_view}
+use Rattle.vhdl_names_units.specs.views.Answers.{given_view}
+use Rattle.vhdl_expand_rules.specs.declared.fault.ElabFault.TheVariants.{NoMemory}
+use Rattle.vhdl_expand_bodies.specs.Sites.{site_view}
+use Rattle.vhdl_expand_bodies.specs.steps.Assignments as steps
+use Rattle.vhdl_expand_bodies.proofs.Assigned.{assign_gives, assign_stops}
+use Rattle.vhdl_expand_bodies.proofs.site.Site.assign.Goals as goal
+
+pub returns : goal.returns
+returns c =
+    assign_gives (site_view c.args.self.now) (place_view c.args.target.now) (given_view c.args.value.now)
+    c.in_ok-run.run'.first c.in_ok-run.run'.len (value_view c.in_ok-value.value) (numbers c.in_ok-places.places) c.in_ok-run.ensures.given c.in_ok-value.ensures c.in_ok-places.ensures
+
+pub returns-in_err-value : goal.returns-in_err-value
+returns-in_err-value c =
+    let stopped : c.in_err-value.field-0.0 ≢ NoMemory → IsErr (steps.assign (site_view c.args.self.now) (place_view c.args.target.now) (given_view c.args.value.now)) =
+    λ n. assign_stops (site_view c.args.self.now) (place_view c.args.target.now) (given_view c.args.value.now)
+    c.in_ok-run.run'.first c.in_ok-run.run'.len c.in_ok-run.ensures.given (c.in_err-value.ensures n) in
+    first_of (search rules, grind (arith, common_steps))

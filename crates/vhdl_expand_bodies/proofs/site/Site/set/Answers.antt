@@ -1,0 +1,24 @@
+use Rattle.std.proofs.Common.{arith, rules}
+use Rattle.std.specs.Prelude.{◌≢◌, IsErr}
+use Rattle.std.proofs.lemmas.Grind.{common_steps}
+use Rattle.rtl_net.specs.Indices.{numbers}
+use Rattle.rtl_net.specs.Bodies.{value_view}
+use Rattle.vhdl_names_rules.specs.views.Vectors.{part_view}
+use Rattle.vhdl_names_units.specs.views.Answers.{given_view}
+use Rattle.vhdl_expand_rules.specs.declared.fault.ElabFault.TheVariants.{NoMemory}
+use Rattle.vhdl_expand_bodies.specs.Sites.{site_view}
+use Rattle.vhdl_expand_bodies.specs.steps.Assignments as steps
+use Rattle.vhdl_expand_bodies.proofs.Assigned.{set_gives, set_stops}
+use Rattle.vhdl_expand_bodies.proofs.site.Site.set.Goals as goal
+
+pub returns : goal.returns
+returns c =
+    set_gives (site_view c.args.self.now) c.args.variable (part_view c.args.part.now) (given_view c.args.value.now)
+    c.in_ok-run.run'.first c.in_ok-run.run'.len (value_view c.in_ok-value.value) (numbers c.in_ok-elements.elements) c.in_ok-run.ensures.given c.in_ok-value.ensures c.in_ok-elements.ensures
+
+pub returns-in_err-value : goal.returns-in_err-value
+returns-in_err-value c =
+    let stopped : c.in_err-value.field-0.0 ≢ NoMemory → IsErr (steps.set (site_view c.args.self.now) c.args.variable (part_view c.args.part.now) (given_view c.args.value.now)) =
+    λ n. set_stops (site_view c.args.self.now) c.args.variable (part_view c.args.part.now) (given_view c.args.value.now)
+    c.in_ok-run.run'.first c.in_ok-run.run'.len c.in_ok-run.ensures.given (c.in_err-value.ensures n) in
+    first_of (search rules, grind (arith, common_steps))

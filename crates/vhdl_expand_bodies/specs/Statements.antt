@@ -1,0 +1,24 @@
+-- What contracts see of the parts of statements.
+use Rattle.std.specs.Prelude.{List, map, Option, option_map, Vec}
+use Rattle.std.specs.Global.{Global}
+use Rattle.rtl_model.specs.bodies.Body as b
+use Rattle.rtl_net.specs.declared.body.Statement.{Statement}
+use Rattle.rtl_net.specs.declared.body.Branch.{Branch}
+use Rattle.rtl_net.specs.declared.body.Alternative.{Alternative}
+use Rattle.rtl_net.specs.Bodies.{test_view, choice_view, statements_of, otherwise_of}
+use Rattle.vhdl_expand_bodies.specs.steps.Statements as steps
+
+abbrev pub branch_view : Branch → steps.Branch
+branch_view x = record { test = test_view x.test; statements = statements_of x.statements.items }
+
+abbrev pub branches_view : Vec Branch Global → List steps.Branch
+branches_view v = map branch_view v.items
+
+abbrev pub alternative_view : Alternative → steps.Alternative
+alternative_view x = record { choices = map choice_view x.choices.items; statements = statements_of x.statements.items }
+
+abbrev pub alternatives_view : Vec Alternative Global → List steps.Alternative
+alternatives_view v = map alternative_view v.items
+
+abbrev pub otherwise_view : Option (Vec Statement Global) → b.Branches
+otherwise_view o = otherwise_of (option_map (λ v. v.items) o)

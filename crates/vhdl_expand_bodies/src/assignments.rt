@@ -1,0 +1,111 @@
+//! Assignments and choices, expanded (IEEE 1076-2008, 10.5, 10.6, 10.9). Lengths agree, whether a statement is run or not.
+
+ghost use Rattle.std.specs.Prelude.{length};
+ghost use Rattle.rtl_net.specs.Bodies.{choice_view, statement_view, value_view};
+ghost use Rattle.vhdl_names_rules.specs.views.Vectors.{part_view, place_view};
+ghost use Rattle.vhdl_expand_rules.specs.Statements as definition;
+ghost use Rattle.vhdl_expand_bodies.specs.Results.{Expands};
+ghost use Rattle.vhdl_expand_bodies.specs.Sites.{IsSite, site_view};
+ghost use Rattle.vhdl_expand_bodies.specs.steps.Assignments as steps;
+ghost use Rattle.vhdl_names_units.specs.views.Answers as analysed;
+
+use crate::operand::Width;
+use crate::site::{Site, elements};
+use rtl_net::{Choice, Expr, Statement, Value};
+use std::alloc::Global;
+use vhdl_expand_rules::{ElabFault, ElabProblem};
+use vhdl_names_rules::{Part, Place};
+use vhdl_names_units as analysed;
+use vhdl_names_units::Given;
+use vhdl_values::Vec9;
+
+/// A choice of a case whose selector has so many elements; a fault is Length. Memory would be refused for a position beyond a
+/// byte: an enumeration has at most 256 literals.
+#[tactic(auto, unfolding(vhdl_expand_rules::specs::Statements::choice))]
+pub(crate) fn choice(len: Width, choice: &analysed::Choice, at: usize) -> Result<Choice, ElabFault>
+    ensures { Expands choice_view (definition.choice len.len (analysed.choice_view choice.now)) result }
+{
+    match choice {
+        analysed::Choice::Values(values) => {
+            if values.len() != len.len {
+                return Err(ElabProblem::Length.at(at));
+            }
+            Ok(Choice::Elements(Vec9::of(values)))
+        }
+        analysed::Choice::Position(number) => match u8::try_from(*number) {
+            Ok(position) => Ok(Choice::Position(position)),
+            Err(_) => Err(ElabFault::NoMemory),
+        },
+    }
+}
+
+impl Site<'_> {
+    /// What is assigned to so many elements; a fault is StaticError, Length, Index or TooWide.
+    #[tactic(auto, unfolding(vhdl_expand_rules::specs::Statements::given))]
+    fn assigned(
+        &self,
+        alloc: Global,
+        len: u32,
+        given: &Given,
+        at: usize,
+    ) -> Result<Value, ElabFault>
+        requires { IsSite self.now }
+        ensures { Expands value_view (definition.given (site_view self.now) len (analysed.given_view given.now)) result }
+    {
+        match given {
+            Given::Single(value) => {
+                let selected = self.expanded_value(alloc, value, at)?;
+                if selected.width.len != len as usize {
+                    drop(selected);
+                    return Err(ElabProblem::Length.at(at));
+                }
+                Ok(selected.value)
+            }
+            Given::Filled(element) => {
+                let operand = self.expanded(alloc, element)?;
+                if operand.width.len != 1 {
+                    drop(operand);
+                    return Err(ElabProblem::Length.at(at));
+                }
+                let element = Box::new(alloc, operand.expr)?;
+                Ok(Value::Elements(Expr::Filled { len, element }))
+            }
+        }
+    }
+
+    /// An assignment to a signal, by its elements; a fault is StaticError, Length, Index or TooWide.
+    pub(crate) fn assign(
+        &self,
+        alloc: Global,
+        target: &Place,
+        value: &Given,
+    ) -> Result<Statement, ElabFault>
+        requires { IsSite self.now }
+        ensures { Expands statement_view
+            (steps.assign (site_view self.now) (place_view target.now) (analysed.given_view value.now)) result }
+    {
+        let run = self.signal_elements(target.signal, &target.part, target.at)?;
+        let value = self.assigned(alloc, run.len as u32, value, target.at)?;
+        let places = elements(run)?;
+        Ok(Statement::Assign { places, value })
+    }
+
+    /// An assignment to a variable; a fault is StaticError, Length, Index or TooWide.
+    pub(crate) fn set(
+        &self,
+        alloc: Global,
+        variable: usize,
+        part: &Part,
+        value: &Given,
+        at: usize,
+    ) -> Result<Statement, ElabFault>
+        requires { IsSite self.now }
+        ensures { Expands statement_view
+            (steps.set (site_view self.now) variable (part_view part.now) (analysed.given_view value.now)) result }
+    {
+        let run = self.variable_elements(variable, part, at)?;
+        let value = self.assigned(alloc, run.len as u32, value, at)?;
+        let elements = elements(run)?;
+        Ok(Statement::Set { elements, value })
+    }
+}

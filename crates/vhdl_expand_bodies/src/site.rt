@@ -1,0 +1,175 @@
+//! What is known where a body stands, and the elements that its names mean (IEEE 1076-2008, 8.1 to 8.5).
+
+ghost use Rattle.std.specs.Prelude.{◌≡◌, ◌+◌, map, IfOk, Ok};
+ghost use Rattle.rtl_net.specs.Indices.{numbers};
+ghost use Rattle.vhdl_names_rules.specs.views.Vectors.{part_view, signal_view};
+ghost use Rattle.vhdl_expand_rules.specs.Site as definition;
+ghost use Rattle.vhdl_expand_rules.specs.Site.{the_element};
+ghost use Rattle.vhdl_expand_rules.specs.views.Integers.{integers_view};
+ghost use Rattle.vhdl_expand_rules.specs.views.Kinds.{run_view};
+ghost use Rattle.vhdl_expand_bodies.specs.Results.{Expands};
+ghost use Rattle.vhdl_expand_bodies.specs.Sites.{ArePlaced, IsSite, IsShort, placed_kind, site_view, with_loops};
+
+use crate::constant::Constant;
+use rtl_net::Indices;
+use vhdl_expand_rules::{ElabFault, ElabProblem, Integers, Kind, Run};
+use vhdl_names_rules::{Part, Signal};
+use vhdl_values::Vec9;
+
+/// A port, a signal or a variable, and the number of its first element among those of its class.
+#[derive(Clone, Copy)]
+pub struct Placed {
+    pub kind: Kind,
+    pub first: u32,
+}
+
+/// What is known where a body stands.
+pub struct Site<'a> {
+    pub integers: Integers<'a>,
+    pub constants: &'a [Constant],
+    pub ports: &'a [Placed],
+    /// How many elements the ports have together.
+    pub port_elements: u32,
+    pub signals: &'a [Placed],
+    /// Of the process.
+    pub variables: &'a [Placed],
+}
+
+/// Neighbouring elements, as bodies number them. Memory would be refused for numbers beyond a word.
+pub(crate) fn elements(run: Run) -> Result<Indices, ElabFault>
+    requires { IsShort run }
+    ensures { Expands numbers (Ok (run_view run)) result }
+{
+    match u32::try_from(run.first) {
+        Ok(first) => Ok(Indices::Run {
+            first,
+            len: run.len as u32,
+        }),
+        Err(_) => Err(ElabFault::NoMemory),
+    }
+}
+
+/// The only one of so many elements. Memory would be refused for a number beyond a word.
+#[tactic(auto, using(crate::proofs::Places::one_element))]
+pub(crate) fn element(run: Run) -> Result<u32, ElabFault>
+    requires { IsShort run }
+    ensures { Expands (λ n. n) (the_element (Ok (run_view run))) result }
+{
+    match u32::try_from(run.first) {
+        Ok(element) => Ok(element),
+        Err(_) => Err(ElabFault::NoMemory),
+    }
+}
+
+impl Site<'_> {
+    /// The elements of a part of the thing of this number, the first of all having the number `from`; a fault is StaticError
+    /// or Index.
+    fn part_elements(
+        &self,
+        from: u32,
+        things: &[Placed],
+        number: usize,
+        part: &Part,
+        at: usize,
+    ) -> Result<Run, ElabFault>
+        requires { ArePlaced things.now }
+        ensures given { Expands run_view (definition.part_elements (integers_view self.now.integers) from (map placed_kind things.now) number (part_view part.now)) result }
+        ensures short { IfOk result IsShort }
+    {
+        let Some(thing) = things.get(number) else {
+            return Err(ElabProblem::Index.at(at));
+        };
+        let places = self.integers.places(thing.kind, part, at)?;
+        let first = from as usize + thing.first as usize + places.first;
+        Ok(Run {
+            first,
+            len: places.len,
+        })
+    }
+
+    /// The elements of a part of a signal or port; a fault is StaticError or Index.
+    #[tactic(auto, unfolding(vhdl_expand_rules::specs::Site::signal_elements))]
+    pub fn signal_elements(&self, signal: Signal, part: &Part, at: usize) -> Result<Run, ElabFault>
+        requires { IsSite self.now }
+        ensures given { Expands run_view (definition.signal_elements (site_view self.now) (signal_view signal) (part_view part.now)) result }
+        ensures short { IfOk result IsShort }
+    {
+        match signal {
+            Signal::Port(number) => self.part_elements(0, self.ports, number, part, at),
+            Signal::Signal(number) => {
+                self.part_elements(self.port_elements, self.signals, number, part, at)
+            }
+        }
+    }
+
+    /// The elements of a part of a variable; a fault is StaticError or Index.
+    #[tactic(auto, unfolding(vhdl_expand_rules::specs::Site::variable_elements))]
+    pub(crate) fn variable_elements(
+        &self,
+        number: usize,
+        part: &Part,
+        at: usize,
+    ) -> Result<Run, ElabFault>
+        requires { IsSite self.now }
+        ensures given { Expands run_view (definition.variable_elements (site_view self.now) number (part_view part.now)) result }
+        ensures short { IfOk result IsShort }
+    {
+        self.part_elements(0, self.variables, number, part, at)
+    }
+
+    /// The values of a part of a constant; a fault is StaticError or Index.
+    #[tactic(auto, unfolding(vhdl_expand_rules::specs::Site::constant_values))]
+    pub(crate) fn constant_values(
+        &self,
+        number: usize,
+        part: &Part,
+        at: usize,
+    ) -> Result<Vec9, ElabFault>
+        ensures { Expands (λ values. values) (definition.constant_values (site_view self.now) number (part_view part.now)) result }
+    {
+        let Some(constant) = self.constants.get(number) else {
+            return Err(ElabProblem::Index.at(at));
+        };
+        let places = self.integers.places(constant.kind, part, at)?;
+        Ok(constant.values.slice(places.first, places.len))
+    }
+
+    /// This within loops whose parameters have these values.
+    pub(crate) fn within<'b>(&'b self, loops: &'b [i32]) -> Site<'b>
+        requires { IsSite self.now }
+        ensures site { IsSite result }
+        ensures loops { site_view result ≡ with_loops (site_view self.now) loops.now }
+    {
+        Site {
+            integers: Integers {
+                generics: self.integers.generics,
+                constants: self.integers.constants,
+                generates: self.integers.generates,
+                loops,
+            },
+            constants: self.constants,
+            ports: self.ports,
+            port_elements: self.port_elements,
+            signals: self.signals,
+            variables: self.variables,
+        }
+    }
+
+    /// Lets it go.
+    pub fn end(self) {
+        let Site {
+            integers,
+            constants: _,
+            ports: _,
+            port_elements: _,
+            signals: _,
+            variables: _,
+        } = self;
+        let Integers {
+            generics: _,
+            constants: _,
+            generates: _,
+            loops: _,
+        } = integers;
+    }
+}

@@ -1,0 +1,337 @@
+//! Statements, expanded (IEEE 1076-2008, clause 10): loops are the sequences of their turns.
+
+ghost use Rattle.std.specs.Prelude.{◌≡◌, ◌≢◌, map, option_map, IfErr, OnOk, Ok};
+ghost use Rattle.rtl_model.specs.bodies.Body as model;
+ghost use Rattle.rtl_net.specs.Bodies.{statement_view, statements_of, choice_view};
+ghost use Rattle.vhdl_names_rules.specs.units.Statements as units;
+ghost use Rattle.vhdl_expand_rules.specs.declared.fault.ElabFault.TheVariants.{NoMemory};
+ghost use Rattle.vhdl_expand_rules.specs.Elab.{each};
+ghost use Rattle.vhdl_expand_rules.specs.Site.{in_loop};
+ghost use Rattle.vhdl_expand_rules.specs.Statements as definition;
+ghost use Rattle.vhdl_expand_bodies.specs.Results.{Expands};
+ghost use Rattle.vhdl_expand_bodies.specs.Sites.{IsSite, site_view};
+ghost use Rattle.vhdl_expand_bodies.specs.Statements.{branch_view, branches_view, alternative_view, alternatives_view, otherwise_view};
+ghost use Rattle.vhdl_expand_bodies.specs.steps.Statements as steps;
+ghost use Rattle.vhdl_names_units.specs.declared.sequential.Case.{out-Case};
+ghost use Rattle.vhdl_names_units.specs.declared.sequential.If.{out-If};
+ghost use Rattle.vhdl_names_units.specs.views.Answers as answers;
+ghost use Rattle.vhdl_names_units.specs.views.Sequential as analysed;
+ghost use Rattle.vhdl_names_rules.specs.views.Integers.{range_view};
+ghost use Rattle.vhdl_names_rules.specs.views.Vectors.{value_view};
+
+use crate::assignments::choice;
+use crate::both::both;
+use crate::operand::Width;
+use crate::site::Site;
+use rtl_net::{Alternative, Branch, Choice, Statement};
+use std::alloc::Global;
+use vhdl_expand_rules::{ElabFault, Turns};
+use vhdl_tree::Direction;
+use vhdl_names_units as analysed;
+use vhdl_names_units::{Case, If, Loop};
+
+/// Puts a statement behind others.
+#[tactic(auto, using(crate::proofs::Sequences::statements_push))]
+fn add(body: &mut Vec<Statement>, statement: Statement) -> Result<(), ElabFault>
+    ensures added { OnOk result (statements_of body.new.items ≡ model.followed_by (statements_of body.old.items) (definition.one (statement_view statement))) }
+    ensures refused { IfErr result (λ fault. fault ≡ NoMemory) }
+{
+    body.push(statement)?;
+    Ok(())
+}
+
+/// The choices of an alternative whose selector has so many elements; a fault is Length.
+fn choices(
+    alloc: Global,
+    width: Width,
+    list: &[analysed::Choice],
+    at: usize,
+) -> Result<Vec<Choice>, ElabFault>
+    ensures { Expands (λ v. map choice_view v.items) (each (definition.choice width.len) (map answers.choice_view list.now)) result }
+{
+    let mut choices = Vec::new(alloc);
+    for item in list {
+        let next = choice(width, item, at)?;
+        choices.push(next)?;
+    }
+    Ok(choices)
+}
+
+/// The value of a loop's parameter in the turn of this number, counted from 0. Memory would be refused beyond a word.
+fn parameter(turns: Turns, turn: u32) -> Result<i32, ElabFault>
+    ensures { Expands (λ i. i) (Ok (steps.parameter turns.direction turns.first turn)) result }
+{
+    let first = i64::from(turns.first);
+    let value = match turns.direction {
+        Direction::To => first + i64::from(turn),
+        Direction::Downto => first - i64::from(turn),
+    };
+    match i32::try_from(value) {
+        Ok(parameter) => Ok(parameter),
+        Err(_) => Err(ElabFault::NoMemory),
+    }
+}
+
+impl Site<'_> {
+    /// A body, expanded: its statements in order, in which names and targets are elements; a fault is StaticError, Length, Index,
+    /// TooWide or TooMany. It takes the memory of the body.
+    #[cycle(statement)]
+    pub fn body(
+        &self,
+        alloc: Global,
+        statements: &[analysed::Statement],
+    ) -> Result<Vec<Statement>, ElabFault>
+        requires { IsSite self.now }
+        ensures { Expands (λ v. statements_of v.items)
+            (definition.statements (site_view self.now) (analysed.statements_of (map analysed.statement_view statements.now))) result }
+    {
+        let mut body = Vec::new(alloc);
+        self.add_statements(alloc, statements, &mut body)?;
+        Ok(body)
+    }
+
+    /// Puts statements behind others.
+    #[cycle(statement)]
+    fn add_statements(
+        &self,
+        alloc: Global,
+        list: &[analysed::Statement],
+        body: &mut Vec<Statement>,
+    ) -> Result<(), ElabFault>
+        requires { IsSite self.now }
+        ensures { Expands (λ _. statements_of body.new.items)
+            (steps.after (statements_of body.old.items)
+            (definition.statements (site_view self.now) (analysed.statements_of (map analysed.statement_view list.now)))) result }
+    {
+        for statement in list {
+            self.add_statement(alloc, statement, body)?;
+        }
+        Ok(())
+    }
+
+    /// Puts a statement behind others.
+    #[cycle(statement)]
+    fn add_statement(
+        &self,
+        alloc: Global,
+        statement: &analysed::Statement,
+        body: &mut Vec<Statement>,
+    ) -> Result<(), ElabFault>
+        requires { IsSite self.now }
+        ensures { Expands (λ _. statements_of body.new.items)
+            (steps.after (statements_of body.old.items)
+            (definition.statement (site_view self.now) (analysed.statement_view statement.now))) result }
+    {
+        match statement {
+            analysed::Statement::Null => add(body, Statement::Null),
+            analysed::Statement::Assign { target, value } => {
+                let assignment = self.assign(alloc, target, value)?;
+                add(body, assignment)
+            }
+            analysed::Statement::Set {
+                at,
+                variable,
+                part,
+                value,
+            } => {
+                let assignment = self.set(alloc, *variable, part, value, *at)?;
+                add(body, assignment)
+            }
+            analysed::Statement::If(conditional) => {
+                let made = self.conditional(alloc, conditional)?;
+                add(body, made)
+            }
+            analysed::Statement::Case(selection) => {
+                let made = self.selection(alloc, selection)?;
+                add(body, made)
+            }
+            analysed::Statement::Loop(repeated) => self.add_turns(alloc, repeated, body),
+        }
+    }
+
+    /// An if statement.
+    #[cycle(statement)]
+    #[tactic(auto, using(crate::proofs::Parts::if_made))]
+    fn conditional(&self, alloc: Global, conditional: &If) -> Result<Statement, ElabFault>
+        requires { IsSite self.now }
+        ensures { Expands statement_view
+            (steps.conditional (site_view self.now) (analysed.branches_view (out-If conditional.now).branches)
+            (analysed.last_of (analysed.option_statements_view (out-If conditional.now).otherwise))) result }
+    {
+        let branches = self.branches(alloc, &conditional.branches, conditional.at)?;
+        let (branches, otherwise) = both(branches, self.otherwise(alloc, conditional))?;
+        Ok(Statement::If {
+            branches,
+            otherwise,
+        })
+    }
+
+    /// The branches of an if statement.
+    #[cycle(statement)]
+    fn branches(
+        &self,
+        alloc: Global,
+        list: &[analysed::Branch],
+        at: usize,
+    ) -> Result<Vec<Branch>, ElabFault>
+        requires { IsSite self.now }
+        ensures { Expands branches_view
+            (each (steps.branch (site_view self.now)) (map analysed.branch_view list.now)) result }
+    {
+        let mut branches = Vec::new(alloc);
+        for item in list {
+            let next = self.branch(alloc, item, at)?;
+            branches.push(next)?;
+        }
+        Ok(branches)
+    }
+
+    /// A condition, and the statements that it guards.
+    #[cycle(statement)]
+    fn branch(
+        &self,
+        alloc: Global,
+        branch: &analysed::Branch,
+        at: usize,
+    ) -> Result<Branch, ElabFault>
+        requires { IsSite self.now }
+        ensures { Expands branch_view
+            (steps.branch (site_view self.now) (analysed.branch_view branch.now)) result }
+    {
+        let test = self.expanded_test(alloc, &branch.condition, at)?;
+        let (test, statements) = both(test, self.body(alloc, &branch.statements))?;
+        Ok(Branch { test, statements })
+    }
+
+    /// What an if statement does else.
+    #[cycle(statement)]
+    #[tactic(auto, unfolding(vhdl_expand_rules::specs::Statements::branches))]
+    fn otherwise(
+        &self,
+        alloc: Global,
+        conditional: &If,
+    ) -> Result<Option<Vec<Statement>>, ElabFault>
+        requires { IsSite self.now }
+        ensures { Expands otherwise_view
+            (definition.branches (site_view self.now)
+            (analysed.last_of (analysed.option_statements_view (out-If conditional.now).otherwise))) result }
+    {
+        match &conditional.otherwise {
+            None => Ok(None),
+            Some(list) => {
+                let statements = self.body(alloc, list)?;
+                Ok(Some(statements))
+            }
+        }
+    }
+
+    /// A case statement.
+    #[cycle(statement)]
+    #[tactic(auto, using(crate::proofs::Parts::case_made))]
+    fn selection(&self, alloc: Global, selection: &Case) -> Result<Statement, ElabFault>
+        requires { IsSite self.now }
+        ensures { Expands statement_view
+            (steps.selection (site_view self.now) (value_view (out-Case selection.now).selector)
+            (analysed.alternatives_view (out-Case selection.now).alternatives) (analysed.statements_of (analysed.statements_view (out-Case selection.now).others))) result }
+    {
+        let at = selection.at;
+        let selector = self.expanded_value(alloc, &selection.selector, at)?;
+        let width = selector.width;
+        let alternatives = self.alternatives(alloc, &selection.alternatives, width, at);
+        let (selector, alternatives) = both(selector, alternatives)?;
+        let others = both(alternatives, self.body(alloc, &selection.others));
+        let (selector, (alternatives, others)) = both(selector, others)?;
+        Ok(Statement::Case {
+            selector: selector.value,
+            alternatives,
+            others,
+        })
+    }
+
+    /// The alternatives of a case statement.
+    #[cycle(statement)]
+    fn alternatives(
+        &self,
+        alloc: Global,
+        list: &[analysed::Alternative],
+        width: Width,
+        at: usize,
+    ) -> Result<Vec<Alternative>, ElabFault>
+        requires { IsSite self.now }
+        ensures { Expands alternatives_view
+            (each (steps.alternative (site_view self.now) width.len) (map analysed.alternative_view list.now)) result }
+    {
+        let mut alternatives = Vec::new(alloc);
+        for item in list {
+            let next = self.alternative(alloc, item, width, at)?;
+            alternatives.push(next)?;
+        }
+        Ok(alternatives)
+    }
+
+    /// Choices, and the statements that they guard.
+    #[cycle(statement)]
+    fn alternative(
+        &self,
+        alloc: Global,
+        alternative: &analysed::Alternative,
+        width: Width,
+        at: usize,
+    ) -> Result<Alternative, ElabFault>
+        requires { IsSite self.now }
+        ensures { Expands alternative_view
+            (steps.alternative (site_view self.now) width.len (analysed.alternative_view alternative.now)) result }
+    {
+        let choices = choices(alloc, width, &alternative.choices, at)?;
+        let statements = self.body(alloc, &alternative.statements);
+        let (choices, statements) = both(choices, statements)?;
+        Ok(Alternative {
+            choices,
+            statements,
+        })
+    }
+
+    /// Puts the turns of a loop behind other statements.
+    #[cycle(statement)]
+    fn add_turns(
+        &self,
+        alloc: Global,
+        repeated: &Loop,
+        body: &mut Vec<Statement>,
+    ) -> Result<(), ElabFault>
+        requires { IsSite self.now }
+        ensures { Expands (λ _. statements_of body.new.items)
+            (steps.after (statements_of body.old.items)
+            (steps.turned (site_view self.now) (range_view repeated.now.range)
+            (analysed.statements_of (analysed.statements_view repeated.now.statements)))) result }
+    {
+        let turns = self.integers.turns(&repeated.range, repeated.at)?;
+        for turn in 0..turns.count {
+            let parameter = parameter(turns, turn)?;
+            self.add_turn(alloc, &repeated.statements, parameter, body)?;
+        }
+        Ok(())
+    }
+
+    /// Puts the statements of a loop, whose parameter has this value, behind others.
+    #[cycle(statement)]
+    fn add_turn(
+        &self,
+        alloc: Global,
+        list: &[analysed::Statement],
+        parameter: i32,
+        body: &mut Vec<Statement>,
+    ) -> Result<(), ElabFault>
+        requires { IsSite self.now }
+        ensures { Expands (λ _. statements_of body.new.items)
+            (steps.after (statements_of body.old.items)
+            (definition.statements (in_loop (site_view self.now) parameter) (analysed.statements_of (map analysed.statement_view list.now)))) result }
+    {
+        let mut loops = self.integers.loops.to_vec(alloc)?;
+        loops.push(parameter)?;
+        let site = (&*self).within(&loops);
+        let added = site.add_statements(alloc, list, body);
+        site.end();
+        added
+    }
+}

@@ -1,0 +1,86 @@
+//! Values, expanded (IEEE 1076-2008, clause 9).
+
+ghost use Rattle.std.specs.Prelude.{Ok};
+ghost use Rattle.rtl_model.specs.bodies.Body as body;
+ghost use Rattle.vhdl_names_rules.specs.views.Vectors as analysed;
+ghost use Rattle.vhdl_names_rules.specs.views.Vectors.{part_view, signal_view};
+ghost use Rattle.vhdl_expand_rules.specs.Expressions as definition;
+ghost use Rattle.vhdl_expand_rules.specs.Site.{signal_elements, the_element};
+ghost use Rattle.vhdl_expand_bodies.specs.Results.{Expands};
+ghost use Rattle.vhdl_expand_bodies.specs.Selecteds.{selected_view};
+ghost use Rattle.vhdl_expand_bodies.specs.Sites.{IsSite, site_view};
+
+use crate::operand::Width;
+use crate::selected::Selected;
+use crate::site::{Site, element};
+use std::alloc::Global;
+use vhdl_expand_rules::ElabFault;
+use vhdl_names_rules::{Part, Signal, Value};
+
+/// A value that an enumeration's literal is, by its position. Memory would be refused for a position beyond a byte: an
+/// enumeration has at most 256 literals.
+fn position(number: usize) -> Result<Selected, ElabFault>
+    ensures { Expands selected_view (Ok (body.position number)) result }
+{
+    match u8::try_from(number) {
+        Ok(position) => Ok(Selected {
+            value: rtl_net::Value::Position(position),
+            width: Width { len: 1 },
+        }),
+        Err(_) => Err(ElabFault::NoMemory),
+    }
+}
+
+impl Site<'_> {
+    /// The element that a signal or port, or part of one, is; a fault is StaticError or Index.
+    pub(crate) fn signal_element(
+        &self,
+        signal: Signal,
+        part: &Part,
+        at: usize,
+    ) -> Result<u32, ElabFault>
+        requires { IsSite self.now }
+        ensures { Expands (λ n. n) (the_element (signal_elements (site_view self.now) (signal_view signal) (part_view part.now))) result }
+    {
+        let run = self.signal_elements(signal, part, at)?;
+        element(run)
+    }
+
+    /// A value, expanded; a fault is StaticError, Length, Index or TooWide.
+    #[tactic(auto, unfolding(vhdl_expand_rules::specs::Expressions::value))]
+    pub(crate) fn expanded_value(
+        &self,
+        alloc: Global,
+        value: &Value,
+        at: usize,
+    ) -> Result<Selected, ElabFault>
+        requires { IsSite self.now }
+        ensures { Expands selected_view (definition.value (site_view self.now) (analysed.value_view value.now)) result }
+    {
+        match value {
+            Value::Elements(vector) => {
+                let operand = self.expanded(alloc, vector)?;
+                Ok(Selected {
+                    width: operand.width,
+                    value: rtl_net::Value::Elements(operand.expr),
+                })
+            }
+            Value::Position(number) => position(*number),
+            Value::StateOf(signal) => {
+                let element = self.signal_element(*signal, &Part::Whole, at)?;
+                Ok(Selected {
+                    value: rtl_net::Value::PositionOf(element),
+                    width: Width { len: 1 },
+                })
+            }
+            Value::StateOfVariable(number) => {
+                let run = self.variable_elements(*number, &Part::Whole, at)?;
+                let element = element(run)?;
+                Ok(Selected {
+                    value: rtl_net::Value::PositionIn(element),
+                    width: Width { len: 1 },
+                })
+            }
+        }
+    }
+}

@@ -1,0 +1,202 @@
+//! Elements and vectors of the nine values, expanded (IEEE 1076-2008, clause 9; numeric_std).
+
+ghost use Rattle.std.specs.Prelude.{◌≡◌, length};
+ghost use Rattle.vhdl_names_rules.specs.units.Expressions as units;
+ghost use Rattle.vhdl_names_rules.specs.views.Integers.{static_view};
+ghost use Rattle.vhdl_names_rules.specs.views.Vectors.{part_view, place_view, vector_view};
+ghost use Rattle.vhdl_expand_rules.specs.Expressions as definition;
+ghost use Rattle.vhdl_expand_bodies.specs.Results.{Expands};
+ghost use Rattle.vhdl_expand_bodies.specs.Sites.{IsSite, site_view};
+ghost use Rattle.vhdl_expand_bodies.specs.steps.Vectors as steps;
+ghost use Rattle.vhdl_expand_bodies.specs.Operands.{operand_view, chain_view};
+
+use crate::both::both;
+use crate::operand::{Chain, Operand, Width, numeric, operator};
+use crate::site::{Site, elements};
+use rtl_net::Expr;
+use std::alloc::Global;
+use vhdl_expand_rules::{ElabFault, ElabProblem};
+use vhdl_names_rules::{Numeric, Part, Place, Static, Vector, VectorLink, VectorStart};
+use vhdl_values::{Nine, Vec9};
+
+/// A string or bit string; a fault is Index or TooWide.
+fn literal(values: &[Nine], at: usize) -> Result<Operand, ElabFault>
+    ensures { Expands operand_view (steps.literal values.now) result }
+{
+    if values.is_empty() {
+        return Err(ElabProblem::Index.at(at));
+    }
+    if values.len() > 64 {
+        return Err(ElabProblem::TooWide.at(at));
+    }
+    Ok(Operand::constant(Vec9::of(values)))
+}
+
+impl Site<'_> {
+    /// A vector, expanded; a fault is StaticError, Length, Index or TooWide.
+    #[cycle(vector)]
+    #[tactic(auto, unfolding(vhdl_expand_rules::specs::Expressions::vector))]
+    pub(crate) fn expanded(&self, alloc: Global, vector: &Vector) -> Result<Operand, ElabFault>
+        requires { IsSite self.now }
+        ensures { Expands operand_view (definition.vector (site_view self.now) (vector_view vector.now)) result }
+    {
+        match vector {
+            Vector::Signal(place) => self.signal(place),
+            Vector::Variable(at, number, part) => self.variable(*number, part, *at),
+            Vector::Constant(at, number, part) => {
+                let values = self.constant_values(*number, part, *at)?;
+                Ok(Operand::constant(values))
+            }
+            Vector::Character(_, value) | Vector::EnclosedCharacter(_, value) => {
+                Ok(Operand::constant(Vec9::fill(*value, 1)))
+            }
+            Vector::Literal(at, values) => literal(values, *at),
+            Vector::Not(_, operand) => {
+                let operand = self.expanded(alloc, operand)?;
+                Ok(operand.inverse(alloc)?)
+            }
+            Vector::Chain(start, links) => {
+                let mut chain = self.started(alloc, start)?;
+                self.add_links(alloc, links, &mut chain)?;
+                Ok(chain.whole())
+            }
+            Vector::IntegerWith(operator, at, integer, operand) => {
+                self.integer_with(alloc, *operator, operand, integer, *at)
+            }
+            Vector::Encoded(at, number, size) => self.encoded(number, size, *at),
+            Vector::Resized(at, operand, size) => self.resized(alloc, operand, size, *at),
+            Vector::ShiftedLeft(at, operand, count) => {
+                let operand = self.expanded(alloc, operand)?;
+                let (operand, count) = both(operand, self.integers.natural(count, *at))?;
+                Ok(operand.shifted_left(alloc, count)?)
+            }
+            Vector::ShiftedRight(at, operand, count) => {
+                let operand = self.expanded(alloc, operand)?;
+                let (operand, count) = both(operand, self.integers.natural(count, *at))?;
+                Ok(operand.shifted_right(alloc, count)?)
+            }
+        }
+    }
+
+    /// A signal, port or part of one, by its elements.
+    fn signal(&self, place: &Place) -> Result<Operand, ElabFault>
+        requires { IsSite self.now }
+        ensures { Expands operand_view (steps.signal (site_view self.now) (place_view place.now)) result }
+    {
+        let run = self.signal_elements(place.signal, &place.part, place.at)?;
+        let elements = elements(run)?;
+        Ok(Operand {
+            expr: Expr::Signal(elements),
+            width: Width { len: run.len },
+        })
+    }
+
+    /// A variable or part of one, by its elements.
+    fn variable(&self, number: usize, part: &Part, at: usize) -> Result<Operand, ElabFault>
+        requires { IsSite self.now }
+        ensures { Expands operand_view (steps.variable (site_view self.now) number (part_view part.now)) result }
+    {
+        let run = self.variable_elements(number, part, at)?;
+        let elements = elements(run)?;
+        Ok(Operand {
+            expr: Expr::Variable(elements),
+            width: Width { len: run.len },
+        })
+    }
+
+    /// `to_unsigned`.
+    #[tactic(auto, using(crate::proofs::Places::size_fits))]
+    fn encoded(&self, number: &Static, size: &Static, at: usize) -> Result<Operand, ElabFault>
+        ensures { Expands operand_view (steps.encoded (site_view self.now) (static_view number.now) (static_view size.now)) result }
+    {
+        let number = self.integers.natural(number, at)?;
+        let len = self.integers.size_of(size, at)?;
+        Ok(Operand::constant(Vec9::of_nat(u64::from(number), len as usize)))
+    }
+
+    /// `resize`.
+    #[cycle(vector)]
+    #[tactic(auto, using(crate::proofs::Places::size_fits))]
+    fn resized(
+        &self,
+        alloc: Global,
+        operand: &Vector,
+        size: &Static,
+        at: usize,
+    ) -> Result<Operand, ElabFault>
+        requires { IsSite self.now }
+        ensures { Expands operand_view
+            (steps.resized (site_view self.now) (vector_view operand.now) (static_view size.now)) result }
+    {
+        let operand = self.expanded(alloc, operand)?;
+        let (operand, len) = both(operand, self.integers.size_of(size, at))?;
+        Ok(operand.resized(alloc, len)?)
+    }
+
+    /// A static integer, an operator and a vector: the integer stands for its last digits, as many as the vector has.
+    #[cycle(vector)]
+    fn integer_with(
+        &self,
+        alloc: Global,
+        operator: Numeric,
+        operand: &Vector,
+        integer: &Static,
+        at: usize,
+    ) -> Result<Operand, ElabFault>
+        requires { IsSite self.now }
+        ensures { Expands operand_view
+            (steps.integer_with (site_view self.now) operator (static_view integer.now) (vector_view operand.now)) result }
+    {
+        let number = self.integers.natural(integer, at)?;
+        let operand = self.expanded(alloc, operand)?;
+        operand.behind(alloc, number, numeric(operator), at)
+    }
+
+    /// The first operator of a chain.
+    #[cycle(vector)]
+    fn started(&self, alloc: Global, start: &VectorStart) -> Result<Chain, ElabFault>
+        requires { IsSite self.now }
+        ensures { Expands chain_view (steps.started (site_view self.now) start.now) result }
+    {
+        let first = self.expanded(alloc, &start.first)?;
+        let mut chain = first.begin(alloc)?;
+        self.add_link(alloc, &start.link, &mut chain)?;
+        Ok(chain)
+    }
+
+    /// Puts further operators behind a chain.
+    #[cycle(vector)]
+    fn add_links(
+        &self,
+        alloc: Global,
+        links: &[VectorLink],
+        chain: &mut Chain,
+    ) -> Result<(), ElabFault>
+        requires { IsSite self.now }
+        ensures { Expands (λ _. chain_view chain.new) (steps.all_linked (site_view self.now) (chain_view chain.old) links.now) result }
+    {
+        for link in links {
+            self.add_link(alloc, link, chain)?;
+        }
+        Ok(())
+    }
+
+    /// Puts an operator with its right operand behind a chain.
+    #[cycle(vector)]
+    fn add_link(&self, alloc: Global, link: &VectorLink, chain: &mut Chain) -> Result<(), ElabFault>
+        requires { IsSite self.now }
+        ensures { Expands (λ _. chain_view chain.new) (steps.linked (site_view self.now) (chain_view chain.old) link.now) result }
+    {
+        match link {
+            VectorLink::Vector(kind, at, operand) => {
+                let operand = self.expanded(alloc, operand)?;
+                chain.add(operator(*kind), operand, *at)
+            }
+            VectorLink::Integer(kind, at, integer) => {
+                let number = self.integers.natural(integer, *at)?;
+                let digits = Operand::constant(Vec9::of_nat(u64::from(number), chain.width.len));
+                chain.add(numeric(*kind), digits, *at)
+            }
+        }
+    }
+}

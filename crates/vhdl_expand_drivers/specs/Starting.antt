@@ -1,0 +1,24 @@
+-- What elements start with.
+use Rattle.std.specs.Prelude.{ℕ, List, map, Ok}
+use Rattle.vhdl_values.specs.declared.scalar.Nine.{Nine}
+use Rattle.vhdl_values.specs.Scalar.{code_of}
+use Rattle.vhdl_values.specs.Numbers.{digits_of}
+use Rattle.vhdl_names_rules.specs.units.Expressions.{Static}
+use Rattle.vhdl_expand_rules.specs.Declarations.{as_long_as}
+use Rattle.vhdl_expand_rules.specs.Elab.{Elab, ◌>>=◌}
+use Rattle.vhdl_expand_rules.specs.Integers.{natural}
+use Rattle.vhdl_expand_rules.specs.Kinds.{size_of}
+use Rattle.vhdl_expand_rules.specs.Site.{Site}
+
+-- the codes of these values
+abbrev pub codes_of : Elab (List Nine) → Elab (List ℕ)
+codes_of given = do
+  vs ← given
+  Ok (map code_of vs)
+
+-- a number's digits, of this size, which has to be as long
+abbrev pub encoded_as : Site → (len : ℕ) → Static → Static → Elab (List Nine)
+encoded_as at len s t = do
+  n ← natural at.integers s
+  m ← size_of at.integers t
+  as_long_as len (digits_of m n)

@@ -1,0 +1,74 @@
+-- Constants, one after another, and what is known of an instance where its architecture begins.
+use Rattle.std.proofs.Common.{◌≡◌, List, [], ◌∷◌, ◌++◌, map, Option, Ok, Err, refl, sym, ap, ◌∙◌, ℤ}
+use Rattle.std.specs.Prelude.{IsErr}
+use Rattle.std.proofs.lemmas.List.{map-append}
+use Rattle.vhdl_names_rules.specs.declared.operator.IntegerType.{IntegerType}
+use Rattle.vhdl_names_rules.specs.units.Expressions.{Static}
+use Rattle.vhdl_names_rules.specs.units.Units as u
+use Rattle.vhdl_names_rules.specs.units.Units.{Entity, Fixed, Form}
+use Rattle.vhdl_expand_rules.specs.Elab.{Elab, ◌>>=◌}
+use Rattle.vhdl_expand_rules.specs.Integers.{Integers, integer_of}
+use Rattle.vhdl_expand_rules.specs.Kinds.{kind_of, size}
+use Rattle.vhdl_expand_rules.specs.Site as definition
+use Rattle.vhdl_expand_rules.specs.Site.{Site, no_integers}
+use Rattle.vhdl_expand_rules.specs.Declarations.{Declared, declaration, fixed, generics, interface, ports, with_constant, with_integer}
+use Rattle.vhdl_expand_rules.proofs.Steps.{given, ok, bound}
+use Rattle.vhdl_expand_rules.proofs.Chains.{err_first}
+use Rattle.vhdl_expand_bodies.specs.declared.constant.Constant.{Constant}
+use Rattle.vhdl_expand_bodies.specs.Sites.{constant_view}
+use Rattle.vhdl_expand_objects.specs.Constants.{constant_of}
+use Rattle.vhdl_expand_objects.specs.Generics.{generics_alone}
+use Rattle.vhdl_expand_objects.specs.Objects.{of_generics}
+
+pub integer_step : (d : Declared) (type : IntegerType) (s : Static) (x : ℤ) (new : Declared) → integer_of type d.site.integers s ≡ Ok x
+    → new ≡ record d { site = with_integer d.site x } → declaration d (u.Declaration.integer type s) ≡ Ok new
+unfolding declaration
+integer_step d type s x new h e = ap (λ r. r >>= λ y. given (record d { site = with_integer d.site y })) h ∙ ap given (sym e)
+
+pub integer_refused : (d : Declared) (type : IntegerType) (s : Static) → IsErr (integer_of type d.site.integers s) → IsErr (declaration d (u.Declaration.integer type s))
+unfolding declaration
+integer_refused d type s h = err_first (integer_of type d.site.integers s) (λ y. given (record d { site = with_integer d.site y })) h
+
+pub constant_step : (d : Declared) (form : Form) (f : Fixed) (c : definition.Constant) (new : Declared) → constant_of d.site form f ≡ Ok c
+    → new ≡ record d { site = with_constant d.site c } → declaration d (u.Declaration.constant form f) ≡ Ok new
+unfolding declaration
+constant_step d form f c new h e =
+    let a = bound (kind_of d.site.integers form) _ c h in
+    let b = bound (fixed d.site (size a.x) f) _ c a.then_gave in
+    ap (λ r. r >>= λ kind. fixed d.site (size kind) f >>= λ vs. given (record d { site = with_constant d.site (record { kind = kind; values = vs }) })) a.gave
+    ∙ ap (λ r. r >>= λ vs. given (record d { site = with_constant d.site (record { kind = a.x; values = vs }) })) b.gave
+    ∙ ap (λ (k : definition.Constant). given (record d { site = with_constant d.site k })) (ok (record { kind = a.x; values = b.x }) c b.then_gave)
+    ∙ ap given (sym e)
+
+-- what is refused is so whatever is made of it
+refused : {A B C D : Type 0} (r : Elab A) (s : A → Elab B) (make : A → B → C) (other : A → B → D)
+    → IsErr (r >>= λ x. s x >>= λ y. given (make x y)) → IsErr (r >>= λ x. s x >>= λ y. given (other x y))
+refused {A} {B} {C} {D} (Ok x) s make other h = go (s x) h
+  where
+    go : (q : Elab B) → IsErr (q >>= λ y. given (make x y)) → IsErr (q >>= λ y. given (other x y))
+    go (Ok y) k = absurd cc
+    go (Err p) k = refl
+refused (Err p) s make other h = refl
+
+pub constant_refused : (d : Declared) (form : Form) (f : Fixed) → IsErr (constant_of d.site form f) → IsErr (declaration d (u.Declaration.constant form f))
+unfolding declaration
+constant_refused d form f h =
+    refused (kind_of d.site.integers form) (λ kind. fixed d.site (size kind) f) (λ kind vs. record { kind = kind; values = vs })
+    (λ kind vs. record d { site = with_constant d.site (record { kind = kind; values = vs }) }) h
+
+pub constant_pushed : (xs ys : List Constant) (x : Constant) → ys ≡ xs ++ x ∷ [] → map constant_view ys ≡ map constant_view xs ++ constant_view x ∷ []
+constant_pushed xs ys x h = ap (map constant_view) h ∙ map-append constant_view xs (x ∷ [])
+
+-- ---- where the architecture begins
+
+pub interface_goes : (above : Integers) (actuals : List (Option Static)) (unit : Entity) (values : List ℤ) (d : Declared)
+    → generics above no_integers actuals unit.generics ≡ Ok (generics_alone values) → d ≡ of_generics values → interface above actuals unit ≡ ports d unit.ports
+unfolding interface
+interface_goes above actuals unit values d h e =
+    ap (λ r. r >>= λ (i : Integers). ports (record { site = record definition.no_site { integers = i }; objects = [] }) unit.ports) h
+    ∙ ap (λ (x : Declared). ports x unit.ports) (sym e)
+
+pub interface_stops : (above : Integers) (actuals : List (Option Static)) (unit : Entity) → IsErr (generics above no_integers actuals unit.generics) → IsErr (interface above actuals unit)
+unfolding interface
+interface_stops above actuals unit h =
+    err_first (generics above no_integers actuals unit.generics) (λ (i : Integers). ports (record { site = record definition.no_site { integers = i }; objects = [] }) unit.ports) h

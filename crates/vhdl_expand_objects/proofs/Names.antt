@@ -1,0 +1,30 @@
+-- One thing for each name of a declaration, and actuals by their number.
+use Rattle.std.proofs.Common.{◌≡◌, ℕ, zero, suc, List, [], ◌∷◌, map, drop, Option, Some, None, option_map, refl, sym, ap, ◌∙◌}
+use Rattle.std.specs.Borrow.{Bor}
+use Rattle.std.specs.Prelude.{slice_get}
+use Rattle.vhdl_tree.specs.declared.expression.Identifier.{Identifier}
+use Rattle.vhdl_tree.specs.View.{ident_view}
+use Rattle.vhdl_names_rules.specs.Visibility.{Name, names_of}
+use Rattle.vhdl_expand_rules.specs.Declarations.{first_of}
+
+pub named : {A : Type 0} (f : Name → A) (ns : List Identifier) → map f (names_of (map ident_view ns)) ≡ map (λ n. f n.text.items) ns
+named f [] = refl
+named f (n ∷ ns) = ap (λ xs. f n.text.items ∷ xs) (named f ns)
+
+first-mapped : {A B : Type 0} (f : A → B) (n : ℕ) (xs : List (Option A)) → first_of (drop n (map (option_map f) xs)) ≡ option_map f (first_of (drop n xs))
+first-mapped f zero [] = refl
+first-mapped f zero (x ∷ xs) = refl
+first-mapped f (suc n) [] = refl
+first-mapped f (suc n) (x ∷ xs) = first-mapped f n xs
+
+behind-reference : {A B : Type 0} (f : A → B) (o : Option (Bor A)) → option_map (λ x. f x.now) o ≡ option_map f (option_map (λ x. x.now) o)
+behind-reference f None = refl
+behind-reference f (Some x) = refl
+
+pub actual_seen : {A B : Type 0} (f : A → B) (n : ℕ) (xs : List (Option A)) (o : Option (Bor A)) → option_map (λ x. x.now) o ≡ first_of (drop n xs)
+    → option_map (λ x. f x.now) o ≡ first_of (drop n (map (option_map f) xs))
+actual_seen f n xs o h = behind-reference f o ∙ ap (option_map f) h ∙ sym (first-mapped f n xs)
+
+pub no_names : {A : Type 0} (xs : List A) → slice_get xs 0 ≡ None → xs ≡ []
+no_names [] h = refl
+no_names (x ∷ xs) h = absurd cc

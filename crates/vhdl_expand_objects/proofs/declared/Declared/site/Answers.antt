@@ -1,0 +1,16 @@
+use Rattle.std.proofs.Common.{◌≡◌, List, map, sym, subst}
+use Rattle.vhdl_expand_rules.specs.Site.{elements_count}
+use Rattle.vhdl_expand_bodies.specs.declared.site.Placed.{Placed}
+use Rattle.vhdl_expand_bodies.specs.Sites.{ArePlaced, placed_kind}
+use Rattle.vhdl_expand_bodies.proofs.Placing.{nothing_placed}
+use Rattle.vhdl_expand_objects.proofs.declared.Declared.site.Goals as goal
+
+pub returns-clause-placed : goal.returns-clause-placed
+returns-clause-placed c =
+    let s = c.args.self.now in
+    record {
+      ports = subst (λ (ps : List Placed). ArePlaced ps) (sym c.deref-4.ensures.value) s.ports.are_placed;
+      port_elements = subst (λ (ps : List Placed). s.ports.elements ≡ elements_count (map placed_kind ps)) (sym c.deref-4.ensures.value) s.ports.all_counted;
+      signals = subst (λ (ps : List Placed). ArePlaced ps) (sym c.deref-5.ensures.value) s.signals.are_placed;
+      variables = nothing_placed;
+    }

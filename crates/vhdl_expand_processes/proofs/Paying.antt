@@ -1,0 +1,110 @@
+-- Costs that are paid one after another, and those of lists and of turns.
+use Rattle.std.proofs.Common.{◌≡◌, ℕ, zero, suc, ◌+◌, ◌<◌, ◌≤◌, List, [], ◌∷◌, length, map, get_or, drop, drop-cons, add-one, Result, Ok, Err, refl, sym, ap, ◌∙◌, arith}
+use Rattle.std.specs.Prelude.{ℤ, IsErr}
+use Rattle.std.proofs.lemmas.Int.{ints}
+use Rattle.vhdl_tree.specs.declared.operator.Direction.{Direction}
+use Rattle.vhdl_tree.specs.declared.operator.Direction.TheVariants.{To, Downto}
+use Rattle.vhdl_expand_rules.specs.declared.fault.ElabFault.{ElabFault}
+use Rattle.vhdl_expand_rules.specs.Elab.{Elab, ◌>>=◌}
+use Rattle.vhdl_expand_rules.specs.Integers.{counted, next}
+use Rattle.vhdl_expand_rules.proofs.Chains.{err_first}
+use Rattle.vhdl_expand_bodies.specs.Results.{Expands}
+use Rattle.vhdl_expand_bodies.specs.steps.Statements.{parameter}
+use Rattle.vhdl_elab_rules.specs.Limits.{Counts}
+use Rattle.vhdl_expand_tree.specs.Costs.{spent}
+use Rattle.vhdl_expand_tree.proofs.Alike.{Alike, wrong, alike_same, alike_trans, both_refused}
+use Rattle.vhdl_expand_tree.proofs.Charging.{spent-plus, spent-none}
+use Rattle.vhdl_expand_processes.specs.Unrolled.{both, together, paid}
+
+pub expands_alike : {X Y : Type 0} (view : X → Y) (p q : Elab Y) (r : Result X ElabFault) → Alike p q → Expands view q r → Expands view p r
+expands_alike view p q (Ok x) a h = a.gives (view x) h
+expands_alike view p q (Err fault) a h = λ n. a.stops (h n)
+
+-- ---- one after another
+
+pub paid_in_turn : (n : Counts) (p q : Elab Counts) → Alike (paid n (both p q)) (paid n p >>= λ m. paid m q)
+paid_in_turn n (Err problem) q = alike_same refl
+paid_in_turn n (Ok a) (Ok b) = alike_same (spent-plus a b n)
+paid_in_turn n (Ok a) (Err problem) = go (spent n a)
+  where
+    go : (r : Elab Counts) → Alike {A = Counts} (wrong problem) (r >>= λ m. wrong problem)
+    go (Ok m) = alike_same refl
+    go (Err other) = both_refused refl
+
+pub paid_go : (total : Elab Counts) (n m : Counts) (p q : Elab Counts) → Alike total (paid n (both p q)) → paid n p ≡ Ok m → Alike total (paid m q)
+paid_go total n m p q so_far h = alike_trans so_far (alike_trans (paid_in_turn n p q) (alike_same (ap (λ r. r >>= λ k. paid k q) h)))
+
+pub paid_stop : (total : Elab Counts) (n : Counts) (p q : Elab Counts) → Alike total (paid n (both p q)) → IsErr (paid n p) → IsErr total
+paid_stop total n p q so_far h = (alike_trans so_far (paid_in_turn n p q)).stops (err_first (paid n p) _ h)
+
+-- ---- of lists
+
+next-left : {X : Type 0} (xs : List X) (i : ℕ) (x : X) → i < length xs → x ≡ get_or xs i x → drop i xs ≡ x ∷ drop (i + 1) xs
+next-left xs i x h e = drop-cons xs i x h ∙ ap (λ y. y ∷ drop (suc i) xs) (sym e) ∙ ap (λ j. x ∷ drop j xs) (sym (add-one i))
+
+module _ {A X : Type 0} (f : A → Elab Counts) (v : X → A) where
+  pub list_go : (total : Elab Counts) (n m : Counts) (xs : List X) (i : ℕ) (x : X) → i < length xs → x ≡ get_or xs i x
+      → Alike total (paid n (together f (map v (drop i xs)))) → paid n (f (v x)) ≡ Ok m → Alike total (paid m (together f (map v (drop (i + 1) xs))))
+  list_go total n m xs i x below is so_far h =
+      paid_go total n m (f (v x)) (together f (map v (drop (i + 1) xs)))
+      (alike_trans so_far (alike_same (ap (λ ys. paid n (together f (map v ys))) (next-left xs i x below is)))) h
+
+  pub list_stop : (total : Elab Counts) (n : Counts) (xs : List X) (i : ℕ) (x : X) → i < length xs → x ≡ get_or xs i x
+      → Alike total (paid n (together f (map v (drop i xs)))) → IsErr (paid n (f (v x))) → IsErr total
+  list_stop total n xs i x below is so_far h =
+      paid_stop total n (f (v x)) (together f (map v (drop (i + 1) xs)))
+      (alike_trans so_far (alike_same (ap (λ ys. paid n (together f (map v ys))) (next-left xs i x below is)))) h
+
+  pub list_end : (total : Elab Counts) (n : Counts) (xs : List X) → xs ≡ [] → Alike total (paid n (together f (map v xs))) → total ≡ Ok n
+  list_end total n xs h so_far = so_far.gives n (ap (λ ys. paid n (together f (map v ys))) h ∙ spent-none n)
+
+pub none_left : {X : Type 0} (xs : List X) (i : ℕ) → length xs ≤ i → drop i xs ≡ []
+none_left [] zero h = refl
+none_left [] (suc i) h = refl
+none_left (x ∷ xs) zero h = absurd (omega arith)
+none_left (x ∷ xs) (suc i) h = none_left xs i (omega arith)
+
+-- ---- of turns
+
+parameter-next : (direction : Direction) (x : ℤ) (k : ℕ) → parameter direction (next direction x) k ≡ parameter direction x (suc k)
+parameter-next To x k = omega (arith, ints)
+parameter-next Downto x k = omega (arith, ints)
+
+parameter-first : (direction : Direction) (x : ℤ) → x ≡ parameter direction x 0
+parameter-first To x = omega (arith, ints)
+parameter-first Downto x = omega (arith, ints)
+
+next-turn : (direction : Direction) (x : ℤ) (count k : ℕ) → k < count → drop k (counted direction x count) ≡ parameter direction x k ∷ drop (k + 1) (counted direction x count)
+next-turn direction x zero k h = absurd (omega arith)
+next-turn direction x (suc count) zero h = ap (λ j. j ∷ counted direction (next direction x) count) (parameter-first direction x)
+next-turn direction x (suc count) (suc k) h =
+    let e : suc (k + 1) ≡ suc k + 1 = omega arith in
+    next-turn direction (next direction x) count k (omega arith)
+    ∙ ap (λ j. j ∷ drop (k + 1) (counted direction (next direction x) count)) (parameter-next direction x k)
+    ∙ ap (λ m. parameter direction x (suc k) ∷ drop m (counted direction x (suc count))) e
+
+no-turn : (direction : Direction) (x : ℤ) (count k : ℕ) → count ≤ k → drop k (counted direction x count) ≡ []
+no-turn direction x zero zero h = refl
+no-turn direction x zero (suc k) h = refl
+no-turn direction x (suc count) zero h = absurd (omega arith)
+no-turn direction x (suc count) (suc k) h = no-turn direction (next direction x) count k (omega arith)
+
+pub counted_length : (direction : Direction) (x : ℤ) (count : ℕ) → length (counted direction x count) ≡ count
+counted_length direction x zero = refl
+counted_length direction x (suc count) = ap suc (counted_length direction (next direction x) count)
+
+module _ (f : ℤ → Elab Counts) (direction : Direction) (x : ℤ) (count : ℕ) where
+  pub turns_go : (total : Elab Counts) (n m : Counts) (k : ℕ) (i : ℤ) → k < count → i ≡ parameter direction x k
+      → Alike total (paid n (together f (drop k (counted direction x count)))) → paid n (f i) ≡ Ok m → Alike total (paid m (together f (drop (k + 1) (counted direction x count))))
+  turns_go total n m k i below is so_far h =
+      paid_go total n m (f i) (together f (drop (k + 1) (counted direction x count)))
+      (alike_trans so_far (alike_same (ap (λ js. paid n (together f js)) (next-turn direction x count k below ∙ ap (λ j. j ∷ drop (k + 1) (counted direction x count)) (sym is))))) h
+
+  pub turns_stop : (total : Elab Counts) (n : Counts) (k : ℕ) (i : ℤ) → k < count → i ≡ parameter direction x k
+      → Alike total (paid n (together f (drop k (counted direction x count)))) → IsErr (paid n (f i)) → IsErr total
+  turns_stop total n k i below is so_far h =
+      paid_stop total n (f i) (together f (drop (k + 1) (counted direction x count)))
+      (alike_trans so_far (alike_same (ap (λ js. paid n (together f js)) (next-turn direction x count k below ∙ ap (λ j. j ∷ drop (k + 1) (counted direction x count)) (sym is))))) h
+
+  pub turns_end : (total : Elab Counts) (n : Counts) (k : ℕ) → count ≤ k → Alike total (paid n (together f (drop k (counted direction x count)))) → total ≡ Ok n
+  turns_end total n k h so_far = so_far.gives n (ap (λ js. paid n (together f js)) (no-turn direction x count k h) ∙ spent-none n)

@@ -1,0 +1,24 @@
+use Rattle.std.proofs.Common.{List, map, ap, sym, ◌∙◌, subst}
+use Rattle.vhdl_names_units.specs.views.Sequential as analysed
+use Rattle.vhdl_expand_rules.specs.Statements.{statements}
+use Rattle.vhdl_expand_bodies.specs.declared.site.Placed.{Placed}
+use Rattle.vhdl_expand_bodies.specs.Sites.{ArePlaced, placed_kind, site_view}
+use Rattle.vhdl_expand_tree.proofs.Alike.{alike_same}
+use Rattle.vhdl_expand_processes.proofs.Declaring.{kinds_seen}
+use Rattle.vhdl_expand_processes.proofs.Paying.{expands_alike}
+use Rattle.vhdl_expand_processes.proofs.variables.body.Goals as goal
+
+pub body-body-requires : goal.body-body-requires
+body-body-requires c = record {
+  ports = c.requires.site.ports;
+  port_elements = c.requires.site.port_elements;
+  signals = c.requires.site.signals;
+  variables = subst (λ (ps : List Placed). ArePlaced ps) (sym c.deref.ensures.value) c.in_ok-layout.layout.are_placed;
+}
+
+pub returns : goal.returns
+returns c =
+    let kinds = ap (map placed_kind) c.deref.ensures.value ∙ c.in_ok-layout.ensures ∙ kinds_seen c.args.variables.now in
+    expands_alike _ _ _ _
+    (alike_same (ap (λ ks. statements (record (site_view c.args.site.now) { variables = ks }) (analysed.statements_of (map analysed.statement_view c.args.list.now))) (sym kinds)))
+    c.body-body.ensures

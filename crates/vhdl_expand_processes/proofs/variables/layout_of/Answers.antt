@@ -1,0 +1,13 @@
+use Rattle.std.proofs.Common.{◌<◌, length, arith, rules}
+use Rattle.vhdl_expand_processes.specs.Variables.{variable_kind}
+use Rattle.vhdl_expand_processes.proofs.Declaring.{kinds_go, kinds_end}
+use Rattle.vhdl_expand_processes.proofs.Paying.{none_left}
+use Rattle.vhdl_expand_processes.proofs.variables.layout_of.Goals as goal
+
+pub loop-variable-preserved : goal.loop-variable-preserved
+loop-variable-preserved c =
+    let below : c.loop-variable.variable-index < length c.args.variables.now = first_of (search rules, omega arith) in
+    kinds_go variable_kind _ _ _ c.args.variables.now c.loop-variable.variable-index c.variable-item.result below c.variable-item.is c.loop-variable.invariant c.in_ok-add.ensures.ok
+
+pub returns : goal.returns
+returns c = kinds_end variable_kind _ _ _ (none_left c.args.variables.now c.loop-variable.variable-index (omega arith)) c.loop-variable.invariant

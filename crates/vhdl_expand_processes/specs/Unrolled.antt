@@ -1,0 +1,62 @@
+-- What a body costs when its loops are unrolled (IEEE 1076-2008, 10.10): each assignment, null, if and case is a statement, and a
+-- loop is its turns and the statements of each.
+use Rattle.std.specs.Prelude.{List, [], ◌∷◌, ◌++◌, length, ℤ, Ok}
+use Rattle.vhdl_names_rules.specs.units.Statements as u
+use Rattle.vhdl_names_units.specs.views.Sequential.{Guarded, Chosen, statements_of}
+use Rattle.vhdl_expand_rules.specs.Elab.{Elab, ◌>>=◌}
+use Rattle.vhdl_expand_rules.specs.Integers.{Integers, turns}
+use Rattle.vhdl_elab_rules.specs.Limits.{Counts}
+use Rattle.vhdl_expand_tree.specs.Costs as costs
+use Rattle.vhdl_expand_tree.specs.Costs.{no_costs, a_statement, plus, spent}
+
+-- where both are given
+abbrev pub both : Elab Counts → Elab Counts → Elab Counts
+both p q = do
+  a ← p
+  b ← q
+  Ok (plus a b)
+
+-- of several things, one after another
+abbrev pub together : {A : Type 0} → (A → Elab Counts) → List A → Elab Counts
+together f [] = Ok no_costs
+together f (x ∷ xs) = both (f x) (together f xs)
+
+-- within a turn of a loop
+abbrev pub in_turn : Integers → ℤ → Integers
+in_turn at i = record at { loops = at.loops ++ i ∷ [] }
+
+unfoldable mutual
+  pub statement_costs : Integers → u.Statement → Elab Counts
+  statement_costs at (u.choose bs) = both (Ok a_statement) (branches_costs at bs)
+  statement_costs at (u.select v alts) = both (Ok a_statement) (alternatives_costs at alts)
+  statement_costs at (u.loop r body) = do
+    is ← turns at r
+    both (Ok (costs.turns (length is))) (together (λ i. statements_costs (in_turn at i) body) is)
+  statement_costs at _ = Ok a_statement
+
+  pub statements_costs : Integers → u.Statements → Elab Counts
+  statements_costs at u.done = Ok no_costs
+  statements_costs at (u.step s rest) = both (statement_costs at s) (statements_costs at rest)
+
+  pub branches_costs : Integers → u.Branches → Elab Counts
+  branches_costs at u.no_else = Ok no_costs
+  branches_costs at (u.otherwise s) = statements_costs at s
+  branches_costs at (u.branch t s bs) = both (statements_costs at s) (branches_costs at bs)
+
+  pub alternatives_costs : Integers → u.Alternatives → Elab Counts
+  alternatives_costs at (u.others s) = statements_costs at s
+  alternatives_costs at (u.alternative choices s alts) = both (statements_costs at s) (alternatives_costs at alts)
+
+-- what is left of a budget when these costs are paid
+abbrev pub paid : (budget : Counts) → Elab Counts → Elab Counts
+paid budget given = do
+  c ← given
+  spent budget c
+
+-- ---- the same where branches and alternatives stand in lists
+
+abbrev pub guarded_costs : Integers → Guarded → Elab Counts
+guarded_costs at g = statements_costs at (statements_of g.statements)
+
+abbrev pub chosen_costs : Integers → Chosen → Elab Counts
+chosen_costs at g = statements_costs at (statements_of g.statements)

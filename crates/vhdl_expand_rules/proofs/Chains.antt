@@ -1,0 +1,102 @@
+-- The value of a chain of operators on static integers.
+use Rattle.std.proofs.Common.{◌≡◌, ℕ, suc, ◌<◌, List, [], ◌∷◌, length, get_or, drop, drop-cons, Result, Ok, Err, Box, Vec, Global, refl, sym, ap, ◌∙◌, subst, ℤ}
+use Rattle.std.specs.Prelude.{IsErr}
+use Rattle.vhdl_names_rules.specs.declared.operator.Arithmetic.{Arithmetic}
+use Rattle.vhdl_names_rules.specs.declared.integer.Static.TheVariants as s
+use Rattle.vhdl_names_rules.specs.declared.integer.Static.{Static}
+use Rattle.vhdl_names_rules.specs.declared.integer.StaticLink.{StaticLink}
+use Rattle.vhdl_names_rules.specs.declared.integer.StaticStart.{StaticStart}
+use Rattle.vhdl_names_rules.specs.views.Integers.{static_view, start_view, static_chained}
+use Rattle.vhdl_names_rules.specs.units.Expressions as u
+use Rattle.vhdl_names_rules.proofs.rows.Integers.{view_chain}
+use Rattle.vhdl_expand_rules.specs.declared.fault.ElabFault.{ElabFault}
+use Rattle.vhdl_expand_rules.specs.declared.fault.ElabProblem.{ElabProblem}
+use Rattle.vhdl_expand_rules.specs.Elab.{Elab, ◌>>=◌}
+use Rattle.vhdl_expand_rules.specs.Integers.{Integers, integer, operated}
+use Rattle.vhdl_expand_rules.specs.views.Integers.{Computes, all_operated}
+
+pub computes_along : (given given' : Elab ℤ) (r : Result ℤ ElabFault) → given ≡ given' → Computes given' r → Computes given r
+computes_along given given' r e h = subst (λ (x : Elab ℤ). Computes x r) (sym e) h
+
+pub bind-assoc : {A B C : Type 0} (r : Elab A) (f : A → Elab B) (g : B → Elab C) → ((r >>= f) >>= g) ≡ (r >>= λ x. f x >>= g)
+bind-assoc (Ok x) f g = refl
+bind-assoc (Err p) f g = refl
+
+pub err_first : {A B : Type 0} (r : Elab A) (f : A → Elab B) → IsErr r → IsErr (r >>= f)
+err_first (Ok x) f h = absurd cc
+err_first (Err p) f h = refl
+
+-- ---- a chain grouped from the left
+
+with_left : (at : Integers) (op : Arithmetic) (t v : u.Static) (x : ℤ) → integer at t ≡ Ok x → integer at (u.Static.binary op t v) ≡ (integer at v >>= λ y. operated op x y)
+unfolding integer
+with_left at op t v x h = ap (λ (r : Elab ℤ). r >>= λ a. integer at v >>= λ b. operated op a b) h
+
+left-err : (at : Integers) (op : Arithmetic) (t v : u.Static) → IsErr (integer at t) → IsErr (integer at (u.Static.binary op t v))
+unfolding integer
+left-err at op t v h = err_first (integer at t) (λ a. integer at v >>= λ b. operated op a b) h
+
+chained-err : (at : Integers) (t : u.Static) (ls : List StaticLink) → IsErr (integer at t) → IsErr (integer at (static_chained t ls))
+chained-err at t [] h = h
+chained-err at t (l ∷ ls) h = chained-err at (u.Static.binary l.operator t (static_view l.operand)) ls (left-err at l.operator t (static_view l.operand) h)
+
+chained-same_err : (at : Integers) (t : u.Static) (p : ElabProblem) (ls : List StaticLink) → integer at t ≡ Err p → integer at (static_chained t ls) ≡ Err p
+unfolding integer
+chained-same_err at t p [] h = h
+chained-same_err at t p (l ∷ ls) h =
+    chained-same_err at (u.Static.binary l.operator t (static_view l.operand)) p ls
+    (ap (λ (r : Elab ℤ). r >>= λ a. integer at (static_view l.operand) >>= λ b. operated l.operator a b) h)
+
+chained-by : (at : Integers) (t : u.Static) (ls : List StaticLink) → ((z : ℤ) → integer at t ≡ Ok z → integer at (static_chained t ls) ≡ all_operated at z ls)
+    → (r : Elab ℤ) → integer at t ≡ r → integer at (static_chained t ls) ≡ (r >>= λ z. all_operated at z ls)
+chained-by at t ls from (Ok z) h = from z h
+chained-by at t ls from (Err p) h = chained-same_err at t p ls h
+
+chained-from : (at : Integers) (t : u.Static) (x : ℤ) (ls : List StaticLink) → integer at t ≡ Ok x → integer at (static_chained t ls) ≡ all_operated at x ls
+chained-from at t x [] h = h
+chained-from at t x (l ∷ ls) h =
+    let v = static_view l.operand in
+    let t' = u.Static.binary l.operator t v in
+    chained-by at t' ls (λ z. chained-from at t' z ls) (integer at v >>= λ y. operated l.operator x y) (with_left at l.operator t v x h)
+    ∙ bind-assoc (integer at v) (λ y. operated l.operator x y) (λ z. all_operated at z ls)
+
+pub chain-value : (at : Integers) (e : Static) (start : Box StaticStart Global) (links : Vec StaticLink Global) (st : StaticStart) (ls : List StaticLink) (x : ℤ)
+    → e ≡ s.Chain start links → st ≡ start.value → ls ≡ links.items → integer at (start_view st) ≡ Ok x → integer at (static_view e) ≡ all_operated at x ls
+chain-value at e start links st ls x h j k given =
+    ap (λ (a : Static). integer at (static_view a)) h ∙ ap (integer at) (view_chain start links)
+    ∙ ap (λ (a : StaticStart). integer at (static_chained (start_view a) links.items)) (sym j)
+    ∙ chained-from at (start_view st) x links.items given ∙ ap (all_operated at x) (sym k)
+
+pub chain-err : (at : Integers) (e : Static) (start : Box StaticStart Global) (links : Vec StaticLink Global) (st : StaticStart)
+    → e ≡ s.Chain start links → st ≡ start.value → IsErr (integer at (start_view st)) → IsErr (integer at (static_view e))
+chain-err at e start links st h j given =
+    subst (λ (r : Elab ℤ). IsErr r)
+    (sym (ap (λ (a : Static). integer at (static_view a)) h ∙ ap (integer at) (view_chain start links) ∙ ap (λ (a : StaticStart). integer at (static_chained (start_view a) links.items)) (sym j)))
+    (chained-err at (start_view st) links.items given)
+
+-- ---- one operator after another
+
+next : (at : Integers) (value : ℤ) (ls : List StaticLink) (i : ℕ) (l : StaticLink) → i < length ls → l ≡ get_or ls i l
+    → all_operated at value (drop i ls) ≡ (integer at (static_view l.operand) >>= λ y. operated l.operator value y >>= λ z. all_operated at z (drop (suc i) ls))
+next at value ls i l h e = ap (all_operated at value) (drop-cons ls i l h)
+    ∙ ap (λ (k : StaticLink). all_operated at value (k ∷ drop (suc i) ls)) (sym e)
+
+pub goes_on : (at : Integers) (first value y z : ℤ) (ls : List StaticLink) (i : ℕ) (l : StaticLink) → i < length ls → l ≡ get_or ls i l
+    → all_operated at first ls ≡ all_operated at value (drop i ls) → integer at (static_view l.operand) ≡ Ok y → operated l.operator value y ≡ Ok z
+    → all_operated at first ls ≡ all_operated at z (drop (suc i) ls)
+goes_on at first value y z ls i l h e so_far given done = so_far ∙ next at value ls i l h e
+    ∙ ap (λ (r : Elab ℤ). r >>= λ a. operated l.operator value a >>= λ b. all_operated at b (drop (suc i) ls)) given
+    ∙ ap (λ (r : Elab ℤ). r >>= λ b. all_operated at b (drop (suc i) ls)) done
+
+pub operand_stops : (at : Integers) (first value : ℤ) (ls : List StaticLink) (i : ℕ) (l : StaticLink) → i < length ls → l ≡ get_or ls i l
+    → all_operated at first ls ≡ all_operated at value (drop i ls) → IsErr (integer at (static_view l.operand)) → IsErr (all_operated at first ls)
+operand_stops at first value ls i l h e so_far given =
+    subst (λ (r : Elab ℤ). IsErr r) (sym (so_far ∙ next at value ls i l h e)) (err_first (integer at (static_view l.operand)) _ given)
+
+pub operator_stops : (at : Integers) (first value y : ℤ) (ls : List StaticLink) (i : ℕ) (l : StaticLink) → i < length ls → l ≡ get_or ls i l
+    → all_operated at first ls ≡ all_operated at value (drop i ls) → integer at (static_view l.operand) ≡ Ok y → IsErr (operated l.operator value y)
+    → IsErr (all_operated at first ls)
+operator_stops at first value y ls i l h e so_far given stopped =
+    subst (λ (r : Elab ℤ). IsErr r)
+    (sym (so_far ∙ next at value ls i l h e ∙ ap (λ (r : Elab ℤ). r >>= λ a. operated l.operator value a >>= λ b. all_operated at b (drop (suc i) ls)) given))
+    (err_first (operated l.operator value y) _ stopped)

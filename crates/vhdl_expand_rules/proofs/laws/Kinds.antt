@@ -1,0 +1,129 @@
+-- Kinds are of their forms, and what objects start with is of their types.
+use Rattle.std.proofs.Common.{◌≡◌, ℕ, ◌+◌, ◌<◌, ◌≤◌, Bool, true, false, cond, not, List, [], ◌∷◌, map, replicate, Option, Some, None, Ok, All, refl, ap, subst, arith}
+use Rattle.std.specs.Prelude.{ℤ, pos, negsuc, ◌-ℤ◌, nat_abs, nat_le, nat_lt}
+use Rattle.std.proofs.lemmas.Bool.{leb-true, ltb-true, and_parts}
+use Rattle.std.proofs.lemmas.List.Elements.{All-cons, All-nil, All-replicate}
+use Rattle.vhdl_tree.specs.declared.operator.Direction.{Direction}
+use Rattle.vhdl_values.specs.declared.scalar.Nine.{Nine}
+use Rattle.vhdl_values.specs.Scalar.{code_of}
+use Rattle.vhdl_values.proofs.Codes.{code_of_below}
+use Rattle.rtl_model.specs.bodies.Types.{nine_valued, limit_of}
+use Rattle.rtl_model.specs.bodies.Fits.{IsWidth}
+use Rattle.vhdl_names_rules.specs.units.Expressions.{Range}
+use Rattle.vhdl_names_rules.specs.units.Units as u
+use Rattle.vhdl_names_rules.specs.units.Units.{Form, Fixed}
+use Rattle.vhdl_names_rules.specs.sound.Expressions.{Inside, shape_of, is_elements}
+use Rattle.vhdl_names_rules.specs.sound.Units.{form_fits, fixed_fits, default_fits, may_be_resolved}
+use Rattle.vhdl_expand_rules.specs.declared.fault.ElabProblem.TheVariants.{Index, TooWide}
+use Rattle.vhdl_expand_rules.specs.Elab.{unless}
+use Rattle.vhdl_expand_rules.specs.Integers.{Integers, integer, as_natural, is_null, extent}
+use Rattle.vhdl_expand_rules.specs.Kinds.{Bounds, Kind, one, vector, enumeration, bounds_size, size, element_type, declared_bounds, kind_of}
+use Rattle.vhdl_expand_rules.specs.Site.{Site}
+use Rattle.vhdl_expand_rules.specs.Declarations.{fixed, given_starts, starts}
+use Rattle.vhdl_expand_rules.specs.laws.Sites.{IsOf}
+use Rattle.vhdl_expand_rules.specs.laws.Trees.{IsKind}
+use Rattle.vhdl_expand_rules.proofs.Steps.{ok, bound, kept}
+
+-- ---- kinds
+
+some-extent : (d : Direction) (x y : ℤ) → not (is_null d x y) ≡ true → 1 ≤ extent d x y
+some-extent d x y h = by (is_null d x y) (nat_abs (x -ℤ y)) h
+  where
+    by : (t : Bool) (n : ℕ) → not t ≡ true → 1 ≤ cond t 0 (n + 1)
+    by true n h = absurd cc
+    by false n h = omega arith
+
+natural-is : (x : ℤ) (n : ℕ) → as_natural x ≡ Ok n → x ≡ pos n
+natural-is (pos m) n h = ap pos (ok m n h)
+natural-is (negsuc m) n h = absurd cc
+
+bounds-width : (at : Integers) (r : Range) (b : Bounds) → declared_bounds at r ≡ Ok b → IsWidth (bounds_size b)
+unfolding declared_bounds
+bounds-width at r b h =
+    let x = bound (integer at r.left) _ b h in
+    let y = bound (integer at r.right) _ b x.then_gave in
+    let some = bound (unless Index (not (is_null r.direction x.x y.x))) _ b y.then_gave in
+    let left = bound (as_natural x.x) _ b some.then_gave in
+    let right = bound (as_natural y.x) _ b left.then_gave in
+    let most = bound (unless TooWide (nat_le (extent r.direction x.x y.x) 64)) _ b right.then_gave in
+    let w : IsWidth (extent r.direction x.x y.x) = (
+      some-extent r.direction x.x y.x (kept Index (not (is_null r.direction x.x y.x)) some.x some.gave),
+      leb-true (extent r.direction x.x y.x) 64 (kept TooWide (nat_le (extent r.direction x.x y.x) 64) most.x most.gave),
+    ) in
+    subst (λ (c : Bounds). IsWidth (bounds_size c)) (ok (record { left = left.x; direction = r.direction; right = right.x }) b most.then_gave)
+    (subst (λ (z : ℤ). IsWidth (extent r.direction (pos left.x) z)) (natural-is y.x right.x right.gave)
+    (subst (λ (z : ℤ). IsWidth (extent r.direction z y.x)) (natural-is x.x left.x left.gave) w))
+
+pub kind_is_of : (i : Inside) (at : Integers) (f : Form) (k : Kind) → form_fits i f ≡ true → kind_of at f ≡ Ok k → IsOf f k
+unfolding kind_of
+kind_is_of i at u.element k h e = subst (IsOf u.element) (ok one k e) tt
+kind_is_of i at (u.vector r) k h e =
+    let b = bound (declared_bounds at r) _ k e in
+    subst (IsOf (u.vector r)) (ok (vector b.x) k b.then_gave) (bounds-width at r b.x b.gave)
+kind_is_of i at (u.enumeration count) k h e =
+    let both = and_parts (nat_lt 0 count) (nat_le count 256) h in
+    subst (IsOf (u.enumeration count)) (ok (enumeration count) k e) (refl, ltb-true 0 count both.0, leb-true count 256 both.1)
+
+pub is_kind : (f : Form) (k : Kind) → IsOf f k → IsKind k
+is_kind u.element one h = tt
+is_kind (u.vector r) (vector b) h = h
+is_kind (u.enumeration m) (enumeration n) h = (h.1, h.2)
+is_kind u.element (vector b) h = elim h [ ]
+is_kind u.element (enumeration n) h = elim h [ ]
+is_kind (u.vector r) one h = elim h [ ]
+is_kind (u.vector r) (enumeration n) h = elim h [ ]
+is_kind (u.enumeration m) one h = elim h [ ]
+is_kind (u.enumeration m) (vector b) h = elim h [ ]
+
+-- forms of elements are of the nine values, and so is what is resolved
+pub elements_kind : (f : Form) (k : Kind) → IsOf f k → is_elements (shape_of f) ≡ true → element_type k ≡ nine_valued
+elements_kind f one h e = refl
+elements_kind f (vector b) h e = refl
+elements_kind (u.enumeration m) (enumeration n) h e = absurd cc
+elements_kind u.element (enumeration n) h e = elim h [ ]
+elements_kind (u.vector r) (enumeration n) h e = elim h [ ]
+
+pub resolved_kind : (f : Form) (k : Kind) (resolved : Bool) → IsOf f k → may_be_resolved f resolved ≡ true → resolved ≡ true → element_type k ≡ nine_valued
+resolved_kind f one r h e g = refl
+resolved_kind f (vector b) r h e g = refl
+resolved_kind (u.enumeration m) (enumeration n) true h e g = absurd cc
+resolved_kind (u.enumeration m) (enumeration n) false h e g = absurd cc
+resolved_kind u.element (enumeration n) r h e g = elim h [ ]
+resolved_kind (u.vector r') (enumeration n) r h e g = elim h [ ]
+
+-- ---- what they start with
+
+abbrev Below : Kind → List ℕ → Type 0
+Below k vs = All (λ v. v < limit_of (element_type k)) vs
+
+pub codes_below : (vs : List Nine) → All (λ n. n < 9) (map code_of vs)
+codes_below [] = All-nil (λ n. n < 9)
+codes_below (v ∷ vs) = All-cons (λ n. n < 9) (code_of v) (map code_of vs) (code_of_below v) (codes_below vs)
+
+some-value : (k : Kind) → IsKind k → 0 < limit_of (element_type k)
+some-value one h = omega arith
+some-value (vector b) h = omega arith
+some-value (enumeration n) h = h.0
+
+given-below : (i : Inside) (at : Site) (f : Form) (k : Kind) (x : Fixed) (vs : List ℕ) → IsOf f k → fixed_fits i (shape_of f) x ≡ true → given_starts at k x ≡ Ok vs → Below k vs
+given-below i at f one x vs h e g =
+    let xs = bound (fixed at 1 x) _ vs g in
+    subst (Below one) (ok (map code_of xs.x) vs xs.then_gave) (codes_below xs.x)
+given-below i at f (vector b) x vs h e g =
+    let xs = bound (fixed at (size (vector b)) x) _ vs g in
+    subst (Below (vector b)) (ok (map code_of xs.x) vs xs.then_gave) (codes_below xs.x)
+given-below i at (u.enumeration m) (enumeration n) (u.Fixed.position p) vs h e g =
+    let p-below : p < n = subst (λ k. p < k) h.0 (ltb-true p m e) in
+    subst (Below (enumeration n)) (ok (p ∷ []) vs g) (All-cons (λ v. v < n) p [] p-below (All-nil (λ v. v < n)))
+given-below i at (u.enumeration m) (enumeration n) (u.Fixed.literal xs) vs h e g = absurd cc
+given-below i at (u.enumeration m) (enumeration n) (u.Fixed.constant j) vs h e g = absurd cc
+given-below i at (u.enumeration m) (enumeration n) (u.Fixed.encoded s t) vs h e g = absurd cc
+given-below i at (u.enumeration m) (enumeration n) (u.Fixed.filled v) vs h e g = absurd cc
+given-below i at u.element (enumeration n) x vs h e g = elim h [ ]
+given-below i at (u.vector r) (enumeration n) x vs h e g = elim h [ ]
+
+pub starts_below : (i : Inside) (at : Site) (f : Form) (k : Kind) (d : Option Fixed) (vs : List ℕ) → IsOf f k → default_fits i (shape_of f) d ≡ true → starts at k d ≡ Ok vs → Below k vs
+unfolding starts
+starts_below i at f k None vs h e g =
+    subst (Below k) (ok (replicate (size k) 0) vs g) (All-replicate (λ v. v < limit_of (element_type k)) (size k) 0 (some-value k (is_kind f k h)))
+starts_below i at f k (Some x) vs h e g = given-below i at f k x vs h e g

@@ -1,0 +1,216 @@
+-- Objects of an expanded tree are as long as what they start with, and as their actuals.
+use Rattle.std.proofs.Common.{◌≡◌, ℕ, zero, suc, Bool, true, false, cond, not, ◌||◌, ◌==◌, List, [], ◌∷◌, ◌++◌, length, map, replicate, Option, Some, None, Ok, All, refl, sym, ap, ◌∙◌, subst}
+use Rattle.std.specs.Prelude.{is_some, slice_get}
+use Rattle.std.proofs.lemmas.List.Elements.{All-append, All-cons, All-nil, All-head, All-tail}
+use Rattle.std.proofs.lemmas.Bool.{eqb-true}
+use Rattle.vhdl_values.specs.declared.scalar.Nine.{Nine}
+use Rattle.vhdl_values.specs.Scalar.{code_of}
+use Rattle.vhdl_values.specs.Numbers.{digits_of}
+use Rattle.vhdl_names_rules.specs.units.Expressions.{Static, Place}
+use Rattle.vhdl_names_rules.specs.units.Units as u
+use Rattle.vhdl_names_rules.specs.units.Units.{Fixed, Port, Declaration, Entity, Units}
+use Rattle.vhdl_expand_rules.specs.declared.fault.ElabProblem.TheVariants.{NoTop, Length, Index, Unassociated}
+use Rattle.vhdl_expand_rules.specs.Elab.{Elab, ◌>>=◌, unless, found, each}
+use Rattle.vhdl_expand_rules.specs.Integers.{Integers, natural, integer_of, decision, turns}
+use Rattle.vhdl_expand_rules.specs.Kinds.{Kind, one, vector, enumeration, size, size_of, kind_of}
+use Rattle.vhdl_expand_rules.specs.Site.{Site, no_integers, no_site, place_elements}
+use Rattle.vhdl_expand_rules.specs.Tree.{Role, internal, Object, Process, Instance, Parts, no_parts, inner, followed_by}
+use Rattle.vhdl_expand_rules.specs.Tree as t
+use Rattle.vhdl_expand_rules.specs.Declarations.{first_of, rest_of, generics, as_long_as, fixed, given_starts, starts, object, role_of, Declared, with_port, with_signal, ports, interface, declaration, declarations, is_input, association, associations}
+use Rattle.vhdl_expand_rules.specs.Expansion.{Spot, in_turn, in_branch, process, joined, instance, concurrent, concurrents, concurrents_turns, instance_of, entity_named, Design, expanded}
+use Rattle.vhdl_expand_rules.specs.laws.Lengths.{ObjectFits, InstanceFits, PartsFit, EachDesignFits}
+use Rattle.vhdl_expand_rules.proofs.Steps.{given, ok, bound, kept, each-all}
+use Rattle.std.proofs.lemmas.List.{length-map, length-replicate}
+
+-- ---- values
+
+as_long : (len : ℕ) (vs ws : List Nine) → as_long_as len vs ≡ Ok ws → length ws ≡ len
+as_long len vs ws h =
+    let x = bound (unless Length (length vs == len)) _ ws h in
+    subst (λ (xs : List Nine). length xs ≡ len) (ok vs ws x.then_gave) (eqb-true (length vs) len (kept Length (length vs == len) x.x x.gave))
+
+fixed-length : (at : Site) (len : ℕ) (f : Fixed) (vs : List Nine) → fixed at len f ≡ Ok vs → length vs ≡ len
+unfolding fixed
+fixed-length at len (u.Fixed.literal xs) vs h = as_long len xs vs h
+fixed-length at len (u.Fixed.constant k) vs h =
+    let c = bound (found Index (slice_get at.constants k)) _ vs h in
+    as_long len c.x.values vs c.then_gave
+fixed-length at len (u.Fixed.encoded s t) vs h =
+    let n = bound (natural at.integers s) _ vs h in
+    let m = bound (size_of at.integers t) _ vs n.then_gave in
+    as_long len (digits_of m.x n.x) vs m.then_gave
+fixed-length at len (u.filled v) vs h = subst (λ (xs : List Nine). length xs ≡ len) (ok (replicate len v) vs h) (length-replicate len v)
+fixed-length at len (u.Fixed.position n) vs h = absurd cc
+
+codes-length : (at : Site) (len : ℕ) (f : Fixed) (vs : List ℕ) → (fixed at len f >>= λ xs. given (map code_of xs)) ≡ Ok vs → length vs ≡ len
+codes-length at len f vs h =
+    let x = bound (fixed at len f) _ vs h in
+    subst (λ (ns : List ℕ). length ns ≡ len) (ok (map code_of x.x) vs x.then_gave) (length-map x.x code_of ∙ fixed-length at len f x.x x.gave)
+
+given-length : (at : Site) (kind : Kind) (f : Fixed) (vs : List ℕ) → given_starts at kind f ≡ Ok vs → length vs ≡ size kind
+given-length at one f vs h = codes-length at 1 f vs h
+given-length at (vector b) f vs h = codes-length at (size (vector b)) f vs h
+given-length at (enumeration count) (u.Fixed.position n) vs h = ap length (sym (ok (n ∷ []) vs h))
+given-length at (enumeration count) (u.Fixed.literal xs) vs h = codes-length at 1 (u.Fixed.literal xs) vs h
+given-length at (enumeration count) (u.Fixed.constant k) vs h = codes-length at 1 (u.Fixed.constant k) vs h
+given-length at (enumeration count) (u.Fixed.encoded s t) vs h = codes-length at 1 (u.Fixed.encoded s t) vs h
+given-length at (enumeration count) (u.filled v) vs h = codes-length at 1 (u.filled v) vs h
+
+pub starts-length : (at : Site) (kind : Kind) (d : Option Fixed) (vs : List ℕ) → starts at kind d ≡ Ok vs → length vs ≡ size kind
+unfolding starts
+starts-length at kind None vs h = subst (λ (ns : List ℕ). length ns ≡ size kind) (ok (replicate (size kind) 0) vs h) (length-replicate (size kind) 0)
+starts-length at kind (Some f) vs h = given-length at kind f vs h
+
+-- ---- objects
+
+-- as it is declared, with no actual
+record IsDeclared (o : Object) : Type 0 where
+  starts : length o.starts ≡ size o.kind
+  none : o.actual ≡ None
+
+object-declared : (at : Site) (role : Role) (o : u.Object) (x : Object) → object at role o ≡ Ok x → IsDeclared x
+unfolding object
+object-declared at role o x h =
+    let k = bound (kind_of at.integers o.form) _ x h in
+    let vs = bound (starts at k.x o.default) _ x k.then_gave in
+    subst IsDeclared (ok _ x vs.then_gave) (record { starts = starts-length at k.x o.default vs.x vs.gave; none = refl })
+
+fits : (o : Object) → IsDeclared o → ObjectFits o
+fits o d = record { starts = d.starts; actual = λ es h. absurd (let e = d.none in cc) }
+
+one_more : (os : List Object) (o : Object) → All ObjectFits os → ObjectFits o → All ObjectFits (os ++ o ∷ [])
+one_more os o h k = All-append ObjectFits os (o ∷ []) h (All-cons ObjectFits o [] k (All-nil ObjectFits))
+
+ports-fit : (ps : List Port) (d e : Declared) → All ObjectFits d.objects → ports d ps ≡ Ok e → All ObjectFits e.objects
+unfolding ports
+ports-fit [] d e h k = subst (λ (x : Declared). All ObjectFits x.objects) (ok d e k) h
+ports-fit (p ∷ ps) d e h k =
+    let o = bound (object d.site (role_of p.mode) p.object) _ e k in
+    ports-fit ps (with_port d o.x) e (one_more d.objects o.x h (fits o.x (object-declared d.site (role_of p.mode) p.object o.x o.gave))) o.then_gave
+
+interface-fits : (above : Integers) (actuals : List (Option Static)) (unit : Entity) (d : Declared) → interface above actuals unit ≡ Ok d → All ObjectFits d.objects
+unfolding interface
+interface-fits above actuals unit d h =
+    let i = bound (generics above no_integers actuals unit.generics) _ d h in
+    ports-fit unit.ports (record { site = record no_site { integers = i.x }; objects = [] }) d (All-nil ObjectFits) i.then_gave
+
+declaration-fits : (x : Declaration) (d e : Declared) → All ObjectFits d.objects → declaration d x ≡ Ok e → All ObjectFits e.objects
+unfolding declaration
+declaration-fits (u.integer type s) d e h k =
+    let x = bound (integer_of type d.site.integers s) _ e k in
+    subst (λ (y : Declared). All ObjectFits y.objects) (ok _ e x.then_gave) h
+declaration-fits (u.Declaration.constant form f) d e h k =
+    let x = bound (kind_of d.site.integers form) _ e k in
+    let vs = bound (fixed d.site (size x.x) f) _ e x.then_gave in
+    subst (λ (y : Declared). All ObjectFits y.objects) (ok _ e vs.then_gave) h
+declaration-fits (u.Declaration.signal o) d e h k =
+    let x = bound (object d.site internal o) _ e k in
+    subst (λ (y : Declared). All ObjectFits y.objects) (ok (with_signal d x.x) e x.then_gave) (one_more d.objects x.x h (fits x.x (object-declared d.site internal o x.x x.gave)))
+
+declarations-fit : (xs : List Declaration) (d e : Declared) → All ObjectFits d.objects → declarations d xs ≡ Ok e → All ObjectFits e.objects
+unfolding declarations
+declarations-fit [] d e h k = subst (λ (y : Declared). All ObjectFits y.objects) (ok d e k) h
+declarations-fit (x ∷ xs) d e h k =
+    let y = bound (declaration d x) _ e k in
+    declarations-fit xs y.x e (declaration-fits x d y.x h y.gave) y.then_gave
+
+association-fits : (above : Site) (p : Port) (actual : Option Place) (o x : Object) → ObjectFits o → association above p actual o ≡ Ok x → ObjectFits x
+unfolding association
+association-fits above p None o x h k =
+    let a = bound (unless Unassociated (not (is_input o.role) || is_some p.object.default)) _ x k in
+    subst ObjectFits (ok o x a.then_gave) h
+association-fits above p (Some place) o x h k =
+    let es = bound (place_elements above place) _ x k in
+    let a = bound (unless Length (length es.x == size o.kind)) _ x es.then_gave in
+    subst ObjectFits (ok (record o { actual = Some es.x }) x a.then_gave) (record {
+      starts = h.starts;
+      actual = λ fs e. ap length (some fs es.x e) ∙ eqb-true (length es.x) (size o.kind) (kept Length (length es.x == size o.kind) a.x a.gave);
+    })
+  where
+    some : (fs es : List ℕ) → Some es ≡ Some fs → fs ≡ es
+    some fs es e = cc
+
+associations-fit : (above : Site) (ps : List Port) (actuals : List (Option Place)) (os xs : List Object) → All ObjectFits os → associations above ps actuals os ≡ Ok xs → All ObjectFits xs
+unfolding associations
+associations-fit above [] actuals os xs h k = subst (λ (ys : List Object). All ObjectFits ys) (ok [] xs k) (All-nil ObjectFits)
+associations-fit above (p ∷ ps) actuals [] xs h k = subst (λ (ys : List Object). All ObjectFits ys) (ok [] xs k) (All-nil ObjectFits)
+associations-fit above (p ∷ ps) actuals (o ∷ os) xs h k =
+    let y = bound (association above p (first_of actuals) o) _ xs k in
+    let ys = bound (associations above ps (rest_of actuals) os) _ xs y.then_gave in
+    subst (λ (zs : List Object). All ObjectFits zs) (ok (y.x ∷ ys.x) xs ys.then_gave)
+    (All-cons ObjectFits y.x ys.x (association-fits above p (first_of actuals) o y.x (All-head ObjectFits o os h) y.gave) (associations-fit above ps (rest_of actuals) os ys.x (All-tail ObjectFits o os h) ys.gave))
+
+-- ---- concurrent statements
+
+followed_by-fits : (a b : Parts) → PartsFit a → PartsFit b → PartsFit (followed_by a b)
+followed_by-fits no_parts b h k = k
+followed_by-fits (t.process p rest) b h k = followed_by-fits rest b h k
+followed_by-fits (inner label i rest) b h k = (h.0, followed_by-fits rest b h.1 k)
+
+joined-fits : (ps : List Parts) → All PartsFit ps → PartsFit (joined ps)
+joined-fits [] h = tt
+joined-fits (p ∷ ps) h = followed_by-fits p (joined ps) (All-head PartsFit p ps h) (joined-fits ps (All-tail PartsFit p ps h))
+
+module _ (units : Units) (go : Entity → Declared → Elab Instance) (go-fits : (unit : Entity) (d : Declared) (i : Instance) → All ObjectFits d.objects → go unit d ≡ Ok i → InstanceFits i) where
+  instance-fits : (at : Spot) (x : u.Instance) (i : Instance) → instance units go at x ≡ Ok i → InstanceFits i
+  unfolding instance
+  instance-fits at x i h =
+      let unit = bound (found NoTop (slice_get units x.unit)) _ i h in
+      let d = bound (interface at.site.integers x.generics unit.x) _ i unit.then_gave in
+      let os = bound (associations at.site unit.x.ports x.ports d.x.objects) _ i d.then_gave in
+      go-fits unit.x (record d.x { objects = os.x }) i
+      (associations-fit at.site unit.x.ports x.ports d.x.objects os.x (interface-fits at.site.integers x.generics unit.x d.x d.gave) os.gave) os.then_gave
+
+  chosen-fits : (b : Bool) (r : Elab Parts) (ps : Parts) → ((qs : Parts) → r ≡ Ok qs → PartsFit qs) → cond b r (Ok no_parts) ≡ Ok ps → PartsFit ps
+  chosen-fits true r ps h k = h ps k
+  chosen-fits false r ps h k = subst PartsFit (ok no_parts ps k) tt
+
+  mutual
+    unfolding concurrent
+
+    concurrent-fits : (x : u.Concurrent) (at : Spot) (ps : Parts) → concurrent units go at x ≡ Ok ps → PartsFit ps
+    concurrent-fits (u.process p) at ps h =
+        let q = bound (process at p) _ ps h in
+        subst PartsFit (ok (t.process q.x no_parts) ps q.then_gave) tt
+    concurrent-fits (u.instance x) at ps h =
+        let i = bound (instance units go at x) _ ps h in
+        subst PartsFit (ok _ ps i.then_gave) (instance-fits at x i.x i.gave, tt)
+    concurrent-fits (u.generate_for label r body) at ps h =
+        let is = bound (turns at.site.integers r) _ ps h in
+        let qs = bound (each (λ i. concurrents units go (in_turn at label i) body) is.x) _ ps is.then_gave in
+        subst PartsFit (ok (joined qs.x) ps qs.then_gave)
+        (joined-fits qs.x (each-all PartsFit (λ i. concurrents units go (in_turn at label i) body) is.x qs.x (λ i q. concurrents-fit body (in_turn at label i) q) qs.gave))
+    concurrent-fits (u.generate_if label t body) at ps h =
+        let b = bound (decision at.site.integers t) _ ps h in
+        chosen-fits b.x (concurrents units go (in_branch at label) body) ps (λ qs. concurrents-fit body (in_branch at label) qs) b.then_gave
+
+    concurrents-fit : (xs : u.Concurrents) (at : Spot) (ps : Parts) → concurrents units go at xs ≡ Ok ps → PartsFit ps
+    concurrents-fit u.no_concurrents at ps h = subst PartsFit (ok no_parts ps h) tt
+    concurrents-fit (u.concurrent x rest) at ps h =
+        let a = bound (concurrent units go at x) _ ps h in
+        let b = bound (concurrents units go at rest) _ ps a.then_gave in
+        subst PartsFit (ok (followed_by a.x b.x) ps b.then_gave) (followed_by-fits a.x b.x (concurrent-fits x at a.x a.gave) (concurrents-fit rest at b.x b.gave))
+
+-- ---- instances
+
+instance_of-fits : (units : Units) (levels : ℕ) (unit : Entity) (d : Declared) (i : Instance) → All ObjectFits d.objects → instance_of units levels unit d ≡ Ok i → InstanceFits i
+unfolding instance_of
+instance_of-fits units zero unit d i h k = absurd cc
+instance_of-fits units (suc n) unit d i h k =
+    let a = bound (found NoTop unit.architecture) _ i k in
+    let e = bound (declarations d a.x.declarations) _ i a.then_gave in
+    let spot : Spot = record { site = e.x.site; prefix = [] } in
+    let ps = bound (concurrents units (instance_of units n) spot a.x.statements) _ i e.then_gave in
+    let ts = bound (concurrents_turns spot a.x.statements) _ i ps.then_gave in
+    subst InstanceFits (ok (t.instance e.x.objects ts.x ps.x) i ts.then_gave) (
+      declarations-fit a.x.declarations d e.x h e.gave,
+      concurrents-fit units (instance_of units n) (instance_of-fits units n) a.x.statements spot ps.x ps.gave,
+    )
+
+pub design-fits : EachDesignFits
+unfolding expanded
+design-fits units top design h =
+    let unit = bound (found NoTop (entity_named units top)) _ design h in
+    let d = bound (interface no_integers [] unit.x) _ design unit.then_gave in
+    let i = bound (instance_of units 32 unit.x d.x) _ design d.then_gave in
+    subst (λ (x : Design). InstanceFits x.top) (ok _ design i.then_gave) (instance_of-fits units 32 unit.x d.x i.x (interface-fits no_integers [] unit.x d.x d.gave) i.gave)

@@ -1,0 +1,227 @@
+-- What a body assigns is among the elements of the longest static prefixes of its targets.
+use Rattle.std.proofs.Common.{◌≡◌, ℕ, zero, suc, ◌+◌, ◌<◌, Bool, true, false, cond, ◌&&◌, ◌==◌, List, [], ◌∷◌, ◌++◌, length, Option, Ok, All, sym, ap, ◌∙◌, subst, arith, ◌⊎◌, inl, inr}
+use Rattle.std.specs.Prelude.{ℤ, Contains, filter, slice_index_or}
+use Rattle.std.specs.List.{list_any, list_all, range_with_len}
+use Rattle.std.proofs.lemmas.Bool.{eqb-true, eq-eqb, or_cases, or_left, or_right, and_parts}
+use Rattle.std.proofs.lemmas.List.Elements.{All-cons, All-nil, All-head, All-tail, All-append, All-weaker, All-contains, All-contains_itself, Contains-append_left, Contains-append_right, filter_passes}
+use Rattle.std.proofs.lemmas.List.FromFn.{length-range_with_len, get_or-range_with_len}
+use Rattle.rtl_model.specs.bodies.Body as b
+use Rattle.vhdl_names_rules.specs.units.Expressions.{Place}
+use Rattle.vhdl_names_rules.specs.units.Statements as s
+use Rattle.vhdl_names_rules.specs.sound.Expressions.{Inside, Shape, place_shape, value_shape, range_fits, test_fits}
+use Rattle.vhdl_names_rules.specs.sound.Statements.{given_fits_target, is_driven, within_loop, choice_fits, selector_fits, statement_fits, statements_fit, branches_fit, alternatives_fit}
+use Rattle.vhdl_expand_rules.specs.Elab.{Elab, each}
+use Rattle.vhdl_expand_rules.specs.Integers.{turns}
+use Rattle.vhdl_expand_rules.specs.Kinds.{Kind}
+use Rattle.vhdl_expand_rules.specs.Site.{Site, in_loop, place_elements, variable_elements}
+use Rattle.vhdl_expand_rules.specs.Expressions as x
+use Rattle.vhdl_expand_rules.specs.Statements.{given, choice, joined, one, statement, statements, branches, alternatives}
+use Rattle.vhdl_expand_rules.specs.Prefixes.{prefix, statement_targets, targets, branches_targets, alternatives_targets, concatenated, is_among, in_order}
+use Rattle.vhdl_expand_rules.specs.laws.Trees.{Assigns, BranchesAssign, AlternativesAssign}
+use Rattle.vhdl_expand_rules.proofs.Steps.{ok, bound, each-all}
+use Rattle.vhdl_expand_rules.proofs.laws.Prefixes.{within, name_in_prefix}
+use Rattle.rtl_model.specs.bodies.Fits.{value_width}
+
+-- ---- lists
+
+pub all_left : {A : Type 0} (P : A → Type 0) (xs ys : List A) → All P (xs ++ ys) → All P xs
+all_left P [] ys h = All-nil P
+all_left P (x ∷ xs) ys h = All-cons P x xs (All-head P x (xs ++ ys) h) (all_left P xs ys (All-tail P x (xs ++ ys) h))
+
+pub all_right : {A : Type 0} (P : A → Type 0) (xs ys : List A) → All P (xs ++ ys) → All P ys
+all_right P [] ys h = h
+all_right P (x ∷ xs) ys h = all_right P xs ys (All-tail P x (xs ++ ys) h)
+
+contains-cons : (y x : ℕ) (xs : List ℕ) → Contains xs x → Contains (y ∷ xs) x
+contains-cons y x xs h = let l : h.0 < length xs = h.1 in (suc h.0, omega (arith, l), h.2)
+
+contains-cond : (t : Bool) (y x : ℕ) (xs : List ℕ) → Contains xs x → Contains (cond t (y ∷ xs) xs) x
+contains-cond true y x xs h = contains-cons y x xs h
+contains-cond false y x xs h = h
+
+pub contains_filter : (p : ℕ → Bool) (xs : List ℕ) (x : ℕ) → Contains xs x → p x ≡ true → Contains (filter p xs) x
+contains_filter p [] x h e = absurd (let l : h.0 < 0 = h.1 in omega (arith, l))
+contains_filter p (y ∷ xs) x (zero, l, is) e =
+    subst (λ (t : Bool). Contains (cond t (y ∷ filter p xs) (filter p xs)) x) (sym (ap p is ∙ e)) (zero, omega arith, is)
+contains_filter p (y ∷ xs) x (suc k, l, is) e = contains-cond (p y) y x (filter p xs) (contains_filter p xs x (k, omega (arith, l), is) e)
+
+among-from : (ns : List ℕ) (k e : ℕ) → k < length ns → slice_index_or ns k e ≡ e → is_among ns e ≡ true
+among-from [] k e l h = absurd (omega (arith, l))
+among-from (n ∷ ns) zero e l h = or_left (n == e) (list_any (λ m. m == e) ns) (eq-eqb n e h)
+among-from (n ∷ ns) (suc k) e l h = or_right (n == e) (list_any (λ m. m == e) ns) (among-from ns k e (omega (arith, l)) h)
+
+among-all : (P : ℕ → Type 0) (ns : List ℕ) (e : ℕ) → All P ns → is_among ns e ≡ true → P e
+among-all P [] e h k = absurd cc
+among-all P (n ∷ ns) e h k = by (λ later. among-all P ns e (All-tail P n ns h) later) (or_cases (n == e) (list_any (λ m. m == e) ns) k)
+  where
+    by : (is_among ns e ≡ true → P e) → ((n == e) ≡ true) ⊎ (is_among ns e ≡ true) → P e
+    by go (inl same) = subst P (eqb-true n e same) (All-head P n ns h)
+    by go (inr later) = go later
+
+-- what is among these numbers is in order there, where it is below the bound
+pub in_order_has : (below : ℕ) (ns : List ℕ) (e : ℕ) → e < below → Contains ns e → Contains (in_order below ns) e
+unfolding in_order
+in_order_has below ns e l h =
+    contains_filter (is_among ns) (range_with_len 0 below) e
+    (e, subst (λ n. e < n) (sym (length-range_with_len 0 below)) l, get_or-range_with_len 0 below e e l ∙ (let z : 0 + e ≡ e = omega arith in z))
+    (among-from ns h.0 e h.1 h.2)
+
+pub in_order_all : (P : ℕ → Type 0) (below : ℕ) (ns : List ℕ) → All P ns → All P (in_order below ns)
+unfolding in_order
+in_order_all P below ns h =
+    All-weaker (λ e. is_among ns e ≡ true) P (λ e k. among-all P ns e h k) (filter (is_among ns) (range_with_len 0 below)) (filter_passes (is_among ns) (range_with_len 0 below))
+
+pub all_concatenated : (P : ℕ → Type 0) (xss : List (List ℕ)) → All (All P) xss → All P (concatenated xss)
+all_concatenated P [] h = All-nil P
+all_concatenated P (xs ∷ xss) h = All-append P xs (concatenated xss) (All-head (All P) xs xss h) (all_concatenated P xss (All-tail (All P) xs xss h))
+
+-- ---- what each of several names gave
+
+pub each_with : {A B : Type 0} (Q : A → Type 0) (P : B → Type 0) (f : A → Elab B) (xs : List A) (ys : List B)
+    → ((x : A) (y : B) → Q x → f x ≡ Ok y → P y) → All Q xs → each f xs ≡ Ok ys → All P ys
+each_with {A} {B} Q P f [] ys go h e = subst (λ (zs : List B). All P zs) (ok [] ys e) (All-nil P)
+each_with {A} {B} Q P f (x ∷ xs) ys go h e =
+    let y = bound (f x) _ ys e in
+    let zs = bound (each f xs) _ ys y.then_gave in
+    subst (λ (ws : List B). All P ws) (ok (y.x ∷ zs.x) ys zs.then_gave)
+    (All-cons P y.x zs.x (go x y.x (All-head Q x xs h) y.gave) (each_with Q P f xs zs.x go (All-tail Q x xs h) zs.gave))
+
+-- what a name gave is among what all gave
+abbrev GaveAmong : {A : Type 0} → (A → Elab (List ℕ)) → List ℕ → A → Type 0
+GaveAmong f all x = (es : List ℕ) × (f x ≡ Ok es) × All (Contains all) es
+
+each-among : {A : Type 0} (f : A → Elab (List ℕ)) (xs : List A) (ess : List (List ℕ)) → each f xs ≡ Ok ess → All (GaveAmong f (concatenated ess)) xs
+each-among {A} f [] ess h = All-nil (GaveAmong f (concatenated ess))
+each-among {A} f (x ∷ xs) ess h =
+    let es = bound (f x) _ ess h in
+    let rest = bound (each f xs) _ ess es.then_gave in
+    let all : List ℕ = es.x ++ concatenated rest.x in
+    subst (λ (zs : List (List ℕ)). All (GaveAmong f (concatenated zs)) (x ∷ xs)) (ok (es.x ∷ rest.x) ess rest.then_gave)
+    (All-cons (GaveAmong f all) x xs
+    (es.x, es.gave, All-weaker (Contains es.x) (Contains all) (λ e c. Contains-append_left es.x (concatenated rest.x) e c) es.x (All-contains_itself es.x))
+    (All-weaker (GaveAmong f (concatenated rest.x)) (GaveAmong f all)
+    (λ y g. (g.0, g.1, All-weaker (Contains (concatenated rest.x)) (Contains all) (λ e c. Contains-append_right es.x (concatenated rest.x) e c) g.0 g.2)) xs (each-among f xs rest.x rest.gave)))
+
+pub among_prefixes : (at : Site) (ps : List Place) (ess : List (List ℕ)) → each (λ p. place_elements at (prefix p)) ps ≡ Ok ess
+    → All (GaveAmong (λ p. place_elements at (prefix p)) (concatenated ess)) ps
+among_prefixes at ps ess h = each-among (λ p. place_elements at (prefix p)) ps ess h
+
+-- ---- what a body assigns
+
+module _ (at : Site) (vs : List Kind) (P : ℕ → Type 0) where
+  -- the longest static prefix of a name has only such elements
+  abbrev Driven : Place → Type 0
+  Driven p = (ds : List ℕ) × (place_elements at (prefix p) ≡ Ok ds) × All P ds
+
+  name-assigned : (loops : List ℤ) (p : Place) (es : List ℕ) → Driven p → place_elements (within at loops vs) p ≡ Ok es → All P es
+  name-assigned loops p es h g = All-weaker (Contains h.0) P (λ e c. All-contains P h.0 e h.2 c) es (name_in_prefix at loops vs p es h.0 g h.1)
+
+  followed-assigns : (a c : b.Stmts) → Assigns P a → Assigns P c → Assigns P (b.followed_by a c)
+  followed-assigns b.done c h k = k
+  followed-assigns (b.step y a) c h k = (h.0, followed-assigns a c h.1 k)
+
+  joined-assigns : (ss : List b.Stmts) → All (Assigns P) ss → Assigns P (joined ss)
+  joined-assigns [] h = tt
+  joined-assigns (y ∷ ss) h = followed-assigns y (joined ss) (All-head (Assigns P) y ss h) (joined-assigns ss (All-tail (Assigns P) y ss h))
+
+  mutual
+    unfolding statement
+
+    statement-assigns : (y : s.Statement) (loops : List ℤ) (body : b.Stmts) → All Driven (statement_targets y) → statement (within at loops vs) y ≡ Ok body → Assigns P body
+    statement-assigns s.nothing loops body h m = subst (Assigns P) (ok (one b.nothing) body m) (tt, tt)
+    statement-assigns (s.assign p g) loops body h m =
+        let es = bound (place_elements (within at loops vs) p) _ body m in
+        let v = bound (given (within at loops vs) (length es.x) g) _ body es.then_gave in
+        subst (Assigns P) (ok (one (b.assign es.x v.x)) body v.then_gave) (name-assigned loops p es.x (All-head Driven p [] h) es.gave, tt)
+    statement-assigns (s.set n part g) loops body h m =
+        let es = bound (variable_elements (within at loops vs) n part) _ body m in
+        let v = bound (given (within at loops vs) (length es.x) g) _ body es.then_gave in
+        subst (Assigns P) (ok (one (b.set es.x v.x)) body v.then_gave) (tt, tt)
+    statement-assigns (s.choose bs) loops body h m =
+        let cs = bound (branches (within at loops vs) bs) _ body m in
+        subst (Assigns P) (ok (one (b.if_of cs.x)) body cs.then_gave) (branches-assign bs loops cs.x h cs.gave, tt)
+    statement-assigns (s.select v alts) loops body h m =
+        let e = bound (x.value (within at loops vs) v) _ body m in
+        let cs = bound (alternatives (within at loops vs) (value_width e.x) alts) _ body e.then_gave in
+        subst (Assigns P) (ok (one (b.case_of e.x cs.x)) body cs.then_gave) (alternatives-assign alts loops (value_width e.x) cs.x h cs.gave, tt)
+    statement-assigns (s.loop r inner) loops body h m =
+        let is = bound (turns (within at loops vs).integers r) _ body m in
+        let ss = bound (each (λ j. statements (in_loop (within at loops vs) j) inner) is.x) _ body is.then_gave in
+        subst (Assigns P) (ok (joined ss.x) body ss.then_gave)
+        (joined-assigns ss.x (each-all (Assigns P) (λ j. statements (in_loop (within at loops vs) j) inner) is.x ss.x
+        (λ j y e. statements-assign inner (loops ++ j ∷ []) y h e) ss.gave))
+
+    statements-assign : (ys : s.Statements) (loops : List ℤ) (body : b.Stmts) → All Driven (targets ys) → statements (within at loops vs) ys ≡ Ok body → Assigns P body
+    statements-assign s.done loops body h m = subst (Assigns P) (ok b.done body m) tt
+    statements-assign (s.step y ys) loops body h m =
+        let a = bound (statement (within at loops vs) y) _ body m in
+        let c = bound (statements (within at loops vs) ys) _ body a.then_gave in
+        subst (Assigns P) (ok (b.followed_by a.x c.x) body c.then_gave)
+        (followed-assigns a.x c.x (statement-assigns y loops a.x (all_left Driven (statement_targets y) (targets ys) h) a.gave)
+        (statements-assign ys loops c.x (all_right Driven (statement_targets y) (targets ys) h) c.gave))
+
+    branches-assign : (bs : s.Branches) (loops : List ℤ) (cs : b.Branches) → All Driven (branches_targets bs) → branches (within at loops vs) bs ≡ Ok cs → BranchesAssign P cs
+    branches-assign s.no_else loops cs h m = subst (BranchesAssign P) (ok b.no_else cs m) tt
+    branches-assign (s.otherwise ys) loops cs h m =
+        let a = bound (statements (within at loops vs) ys) _ cs m in
+        subst (BranchesAssign P) (ok (b.otherwise a.x) cs a.then_gave) (statements-assign ys loops a.x h a.gave)
+    branches-assign (s.branch t ys bs) loops cs h m =
+        let c = bound (x.test (within at loops vs) t) _ cs m in
+        let a = bound (statements (within at loops vs) ys) _ cs c.then_gave in
+        let rest = bound (branches (within at loops vs) bs) _ cs a.then_gave in
+        subst (BranchesAssign P) (ok (b.branch c.x a.x rest.x) cs rest.then_gave)
+        (statements-assign ys loops a.x (all_left Driven (targets ys) (branches_targets bs) h) a.gave, branches-assign bs loops rest.x (all_right Driven (targets ys) (branches_targets bs) h) rest.gave)
+
+    alternatives-assign : (alts : s.Alternatives) (loops : List ℤ) (len : ℕ) (cs : b.Alternatives) → All Driven (alternatives_targets alts)
+        → alternatives (within at loops vs) len alts ≡ Ok cs → AlternativesAssign P cs
+    alternatives-assign (s.others ys) loops len cs h m =
+        let a = bound (statements (within at loops vs) ys) _ cs m in
+        subst (AlternativesAssign P) (ok (b.others a.x) cs a.then_gave) (statements-assign ys loops a.x h a.gave)
+    alternatives-assign (s.alternative choices ys alts) loops len cs h m =
+        let c = bound (each (choice len) choices) _ cs m in
+        let a = bound (statements (within at loops vs) ys) _ cs c.then_gave in
+        let rest = bound (alternatives (within at loops vs) len alts) _ cs a.then_gave in
+        subst (AlternativesAssign P) (ok (b.alternative c.x a.x rest.x) cs rest.then_gave)
+        (statements-assign ys loops a.x (all_left Driven (targets ys) (alternatives_targets alts) h) a.gave, alternatives-assign alts loops len rest.x (all_right Driven (targets ys) (alternatives_targets alts) h) rest.gave)
+
+pub body_assigns : (at : Site) (vs : List Kind) (P : ℕ → Type 0) (ys : s.Statements) (loops : List ℤ) (body : b.Stmts)
+    → All (λ (p : Place). (ds : List ℕ) × (place_elements at (prefix p) ≡ Ok ds) × All P ds) (targets ys) → statements (within at loops vs) ys ≡ Ok body → Assigns P body
+body_assigns at vs P ys loops body h m = statements-assign at vs P ys loops body h m
+
+-- ---- no target is an in port
+
+abbrev IsDriven : Inside → Place → Type 0
+IsDriven i p = is_driven i p.signal ≡ true
+
+mutual
+  unfolding statement_fits
+
+  statement-targets : (y : s.Statement) (i : Inside) → statement_fits i y ≡ true → All (IsDriven i) (statement_targets y)
+  statement-targets s.nothing i k = All-nil (IsDriven i)
+  statement-targets (s.assign p g) i k = All-cons (IsDriven i) p [] (and_parts (is_driven i p.signal) (given_fits_target i (place_shape i p) g) k).0 (All-nil (IsDriven i))
+  statement-targets (s.set n part g) i k = All-nil (IsDriven i)
+  statement-targets (s.choose bs) i k = branches-targets bs i k
+  statement-targets (s.select v alts) i k = alternatives-targets alts i (value_shape i v) (and_parts (selector_fits i v) (alternatives_fit i (value_shape i v) alts) k).1
+  statement-targets (s.loop r inner) i k = statements-targets inner (within_loop i) (and_parts (range_fits i r) (statements_fit (within_loop i) inner) k).1
+
+  statements-targets : (ys : s.Statements) (i : Inside) → statements_fit i ys ≡ true → All (IsDriven i) (targets ys)
+  statements-targets s.done i k = All-nil (IsDriven i)
+  statements-targets (s.step y ys) i k =
+      let both = and_parts (statement_fits i y) (statements_fit i ys) k in
+      All-append (IsDriven i) (statement_targets y) (targets ys) (statement-targets y i both.0) (statements-targets ys i both.1)
+
+  branches-targets : (bs : s.Branches) (i : Inside) → branches_fit i bs ≡ true → All (IsDriven i) (branches_targets bs)
+  branches-targets s.no_else i k = All-nil (IsDriven i)
+  branches-targets (s.otherwise ys) i k = statements-targets ys i k
+  branches-targets (s.branch t ys bs) i k =
+      let both = and_parts (test_fits i t && statements_fit i ys) (branches_fit i bs) k in
+      All-append (IsDriven i) (targets ys) (branches_targets bs) (statements-targets ys i (and_parts (test_fits i t) (statements_fit i ys) both.0).1) (branches-targets bs i both.1)
+
+  alternatives-targets : (alts : s.Alternatives) (i : Inside) (o : Option Shape) → alternatives_fit i o alts ≡ true → All (IsDriven i) (alternatives_targets alts)
+  alternatives-targets (s.others ys) i o k = statements-targets ys i k
+  alternatives-targets (s.alternative cs ys alts) i o k =
+      let both = and_parts (list_all (choice_fits o) cs && statements_fit i ys) (alternatives_fit i o alts) k in
+      All-append (IsDriven i) (targets ys) (alternatives_targets alts) (statements-targets ys i (and_parts (list_all (choice_fits o) cs) (statements_fit i ys) both.0).1) (alternatives-targets alts i o both.1)
+
+pub targets_are_driven : (ys : s.Statements) (i : Inside) → statements_fit i ys ≡ true → All (λ (p : Place). is_driven i p.signal ≡ true) (targets ys)
+targets_are_driven ys i k = statements-targets ys i k

@@ -1,0 +1,165 @@
+-- What an instance declares: the values of its generics and constants, its ports and signals with what they start with,
+-- and what its ports are associated with (IEEE 1076-2008, 6.4.2, 6.5.6, 6.5.7, 14.2 to 14.4).
+use Rattle.std.specs.Prelude.{ℕ, Bool, true, false, not, ◌==◌, ◌||◌, List, [], ◌∷◌, ◌++◌, length, map, replicate, slice_get, Option, Some, None}
+use Rattle.std.specs.Prelude.{is_some, ℤ, Ok, Err}
+use Rattle.vhdl_values.specs.declared.scalar.Nine.{Nine}
+use Rattle.vhdl_values.specs.Scalar.{code_of}
+use Rattle.vhdl_values.specs.Numbers.{digits_of}
+use Rattle.vhdl_tree.specs.declared.declaration.Mode.{Mode}
+use Rattle.vhdl_tree.specs.declared.declaration.Mode.TheVariants.{In, Out}
+use Rattle.vhdl_names_rules.specs.units.Expressions.{Static, Place}
+use Rattle.vhdl_names_rules.specs.units.Units as u
+use Rattle.vhdl_names_rules.specs.units.Units.{Fixed, Generic, Port, Declaration, Entity}
+use Rattle.vhdl_expand_rules.specs.declared.fault.ElabProblem.TheVariants.{NoGeneric, Length, Index, Unassociated}
+use Rattle.vhdl_expand_rules.specs.Elab.{Elab, ◌>>=◌, ◌>>◌, unless, found}
+use Rattle.vhdl_expand_rules.specs.Integers.{Integers, integer_of, natural}
+use Rattle.vhdl_expand_rules.specs.Kinds.{Kind, enumeration, size, kind_of, size_of}
+use Rattle.vhdl_expand_rules.specs.Site.{Site, no_integers, no_site, Constant, place_elements}
+use Rattle.vhdl_expand_rules.specs.Tree.{Role, input, output, internal, Object, Variable}
+
+-- ---- generics
+
+abbrev pub first_of : {A : Type 0} → List (Option A) → Option A
+first_of [] = None
+first_of (x ∷ xs) = x
+
+abbrev pub rest_of : {A : Type 0} → List A → List A
+rest_of [] = []
+rest_of (x ∷ xs) = xs
+
+-- A generic has the value of its actual, in the instance above, else of its default, which may name the generics before it.
+abbrev pub generic : (above own : Integers) → Option Static → Generic → Elab ℤ
+generic above own (Some actual) g = integer_of g.type above actual
+generic above own None g = do
+  default ← found NoGeneric g.default
+  integer_of g.type own default
+
+unfoldable pub generics : (above own : Integers) → List (Option Static) → List Generic → Elab Integers
+generics above own actuals [] = Ok own
+generics above own actuals (g ∷ gs) = do
+  x ← generic above own (first_of actuals) g
+  generics above (record own { generics = own.generics ++ x ∷ [] }) (rest_of actuals) gs
+
+-- ---- values of constants and defaults
+
+-- a value is as long as what has it
+abbrev pub as_long_as : (len : ℕ) → List Nine → Elab (List Nine)
+as_long_as len vs = do
+  unless Length (length vs == len)
+  Ok vs
+
+unfoldable pub fixed : Site → (len : ℕ) → Fixed → Elab (List Nine)
+fixed at len (u.Fixed.literal vs) = as_long_as len vs
+fixed at len (u.Fixed.constant k) = do
+  c ← found Index (slice_get at.constants k)
+  as_long_as len c.values
+fixed at len (u.Fixed.encoded s t) = do
+  n ← natural at.integers s
+  m ← size_of at.integers t
+  as_long_as len (digits_of m n)
+fixed at len (u.filled v) = Ok (replicate len v)
+-- an enumeration's literal is no vector, in units that names have passed
+fixed at len (u.Fixed.position n) = Err Length
+
+-- of an enumeration, by its position, or of elements
+abbrev pub given_starts : Site → Kind → Fixed → Elab (List ℕ)
+given_starts at (enumeration count) (u.Fixed.position n) = Ok (n ∷ [])
+given_starts at kind f = do
+  vs ← fixed at (size kind) f
+  Ok (map code_of vs)
+
+-- what the elements of this kind start with: U, or the first literal, without a default (6.4.2.3)
+unfoldable pub starts : Site → Kind → Option Fixed → Elab (List ℕ)
+starts at kind None = Ok (replicate (size kind) 0)
+starts at kind (Some f) = given_starts at kind f
+
+-- ---- ports, signals and variables
+
+unfoldable pub object : Site → Role → u.Object → Elab Object
+object at role o = do
+  kind ← kind_of at.integers o.form
+  vs ← starts at kind o.default
+  Ok (record { name = o.name; role = role; kind = kind; is_resolved = o.is_resolved; starts = vs; actual = None })
+
+abbrev pub role_of : Mode → Role
+role_of In = input
+role_of Out = output
+
+-- what is known of an instance, and its ports and signals so far
+pub record Declared : Type 0 where
+  pub site : Site
+  pub objects : List Object
+
+abbrev pub with_port : Declared → Object → Declared
+with_port d o = record { site = record d.site { ports = d.site.ports ++ o.kind ∷ [] }; objects = d.objects ++ o ∷ [] }
+
+abbrev pub with_signal : Declared → Object → Declared
+with_signal d o = record { site = record d.site { signals = d.site.signals ++ o.kind ∷ [] }; objects = d.objects ++ o ∷ [] }
+
+unfoldable pub ports : Declared → List Port → Elab Declared
+ports d [] = Ok d
+ports d (p ∷ ps) = do
+  o ← object d.site (role_of p.mode) p.object
+  ports (with_port d o) ps
+
+-- what is known of an instance where its architecture begins
+unfoldable pub interface : (above : Integers) → List (Option Static) → Entity → Elab Declared
+interface above actuals unit = do
+  integers ← generics above no_integers actuals unit.generics
+  ports (record { site = record no_site { integers = integers }; objects = [] }) unit.ports
+
+abbrev pub with_integer : Site → ℤ → Site
+with_integer at x = record at { integers = record at.integers { constants = at.integers.constants ++ x ∷ [] } }
+
+abbrev pub with_constant : Site → Constant → Site
+with_constant at c = record at { constants = at.constants ++ c ∷ [] }
+
+-- a declaration may name those before it
+unfoldable pub declaration : Declared → Declaration → Elab Declared
+declaration d (u.integer type s) = do
+  x ← integer_of type d.site.integers s
+  Ok (record d { site = with_integer d.site x })
+declaration d (u.Declaration.constant form f) = do
+  kind ← kind_of d.site.integers form
+  vs ← fixed d.site (size kind) f
+  Ok (record d { site = with_constant d.site (record { kind = kind; values = vs }) })
+declaration d (u.Declaration.signal o) = do
+  x ← object d.site internal o
+  Ok (with_signal d x)
+
+unfoldable pub declarations : Declared → List Declaration → Elab Declared
+declarations d [] = Ok d
+declarations d (x ∷ xs) = do
+  e ← declaration d x
+  declarations e xs
+
+unfoldable pub variable : Site → u.Object → Elab Variable
+variable at o = do
+  kind ← kind_of at.integers o.form
+  vs ← starts at kind o.default
+  Ok (record { name = o.name; kind = kind; starts = vs })
+
+-- ---- associations
+
+abbrev pub is_input : Role → Bool
+is_input input = true
+is_input output = false
+is_input internal = false
+
+-- A port has the elements of its actual, in the instance above, which are as many. An in port without an actual needs a
+-- default.
+unfoldable pub association : (above : Site) → Port → Option Place → Object → Elab Object
+association above p (Some place) o = do
+  es ← place_elements above place
+  unless Length (length es == size o.kind)
+  Ok (record o { actual = Some es })
+association above p None o = do
+  unless Unassociated (not (is_input o.role) || is_some p.object.default)
+  Ok o
+
+unfoldable pub associations : (above : Site) → List Port → List (Option Place) → List Object → Elab (List Object)
+associations above (p ∷ ps) actuals (o ∷ os) = do
+  x ← association above p (first_of actuals) o
+  xs ← associations above ps (rest_of actuals) os
+  Ok (x ∷ xs)
+associations above _ actuals _ = Ok []

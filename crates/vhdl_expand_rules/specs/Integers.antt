@@ -1,0 +1,145 @@
+-- Static integers, truths over them, and the turns of loops and generates (IEEE 1076-2008, 9.4, 9.2.3 to 9.2.8, 5.2.3,
+-- 10.10, 11.9).
+use Rattle.std.specs.Prelude.{ℕ, zero, suc, ◌+◌, Bool, true, not, ◌&&◌, ◌||◌, ◌==◌, nat_le, if◌then◌else◌, List, [], ◌∷◌, slice_get, ℤ, pos, negsuc}
+use Rattle.std.specs.Prelude.{◌+ℤ◌, ◌-ℤ◌, ◌*ℤ◌, neg_ℤ, int_div, int_rem, int_lt, int_le, nat_abs, Ok, Err}
+use Rattle.vhdl_values.specs.declared.kinds.Cmp.{Cmp}
+use Rattle.vhdl_values.specs.declared.kinds.Cmp.TheVariants.{Eq, Ne, Lt, Le, Gt, Ge}
+use Rattle.vhdl_tree.specs.declared.operator.Direction.{Direction}
+use Rattle.vhdl_tree.specs.declared.operator.Direction.TheVariants.{To, Downto}
+use Rattle.vhdl_names_rules.specs.declared.operator.Arithmetic.{Arithmetic}
+use Rattle.vhdl_names_rules.specs.declared.operator.Arithmetic.TheVariants.{Add, Subtract, Multiply, Divide, Modulo, Remainder}
+use Rattle.vhdl_names_rules.specs.declared.operator.IntegerType.{IntegerType}
+use Rattle.vhdl_names_rules.specs.declared.operator.IntegerType.TheVariants.{Integer, Natural, Positive}
+use Rattle.vhdl_names_rules.specs.units.Expressions as u
+use Rattle.vhdl_names_rules.specs.units.Expressions.{Static, Range, StaticTest}
+use Rattle.rtl_model.specs.bodies.Tests.{truth}
+use Rattle.vhdl_expand_rules.specs.declared.fault.ElabProblem.TheVariants.{GenericRange, StaticError, TooMany}
+use Rattle.vhdl_expand_rules.specs.Elab.{Elab, ◌>>=◌, ◌>>◌, unless, found}
+
+-- The integers that are known where an expression stands: of generics and constants by their numbers, and of the
+-- parameters of the generates and loops round it, the outermost first.
+pub record Integers : Type 0 where
+  pub generics : List ℤ
+  pub constants : List ℤ
+  pub generates : List ℤ
+  pub loops : List ℤ
+
+-- ---- values
+
+-- static integers lie in -2147483647 .. 2147483647
+abbrev pub checked : ℤ → Elab ℤ
+checked x = if nat_le (nat_abs x) 2147483647 then Ok x else Err StaticError
+
+abbrev pub is_negative : ℤ → Bool
+is_negative x = int_lt x (pos 0)
+
+-- whether one is above 0 and the other below
+abbrev pub are_opposite : ℤ → ℤ → Bool
+are_opposite x y = if is_negative y then int_lt (pos 0) x else is_negative x
+
+-- `mod` has the sign of the divisor, where `rem` has that of the dividend (9.2.7)
+abbrev pub modulus : ℤ → ℤ → ℤ
+modulus x y = let r = int_rem x y in if are_opposite r y then r +ℤ y else r
+
+-- there is no division by 0
+abbrev pub divided : (ℤ → ℤ → ℤ) → ℤ → ℤ → Elab ℤ
+divided by x y = if nat_abs y == 0 then Err StaticError else checked (by x y)
+
+abbrev pub operated : Arithmetic → ℤ → ℤ → Elab ℤ
+operated Add x y = checked (x +ℤ y)
+operated Subtract x y = checked (x -ℤ y)
+operated Multiply x y = checked (x *ℤ y)
+operated Divide x y = divided int_div x y
+operated Modulo x y = divided modulus x y
+operated Remainder x y = divided int_rem x y
+
+-- the integer of this number, which is there in units that names have passed
+abbrev pub known : List ℤ → ℕ → Elab ℤ
+known xs k = found StaticError (slice_get xs k)
+
+unfoldable pub integer : Integers → Static → Elab ℤ
+integer at (u.number n) = checked (pos n)
+integer at (u.generic k) = known at.generics k
+integer at (u.Static.constant k) = known at.constants k
+integer at (u.generate_parameter k) = known at.generates k
+integer at (u.loop_parameter k) = known at.loops k
+integer at (u.Static.negated s) = do
+  x ← integer at s
+  checked (neg_ℤ x)
+integer at (u.Static.binary op s t) = do
+  x ← integer at s
+  y ← integer at t
+  operated op x y
+
+-- where a natural number is needed
+abbrev pub as_natural : ℤ → Elab ℕ
+as_natural (pos n) = Ok n
+as_natural (negsuc n) = Err StaticError
+
+unfoldable pub natural : Integers → Static → Elab ℕ
+natural at s = do
+  x ← integer at s
+  as_natural x
+
+abbrev pub is_of : IntegerType → ℤ → Bool
+is_of Integer x = true
+is_of Natural x = int_le (pos 0) x
+is_of Positive x = int_lt (pos 0) x
+
+-- of a generic or a constant of this type
+unfoldable pub integer_of : IntegerType → Integers → Static → Elab ℤ
+integer_of type at s = do
+  x ← integer at s
+  unless GenericRange (is_of type x)
+  Ok x
+
+-- ---- truths
+
+abbrev pub compares_integers : Cmp → ℤ → ℤ → Bool
+compares_integers Eq x y = int_le x y && int_le y x
+compares_integers Ne x y = int_lt x y || int_lt y x
+compares_integers Lt x y = int_lt x y
+compares_integers Le x y = int_le x y
+compares_integers Gt x y = int_lt y x
+compares_integers Ge x y = int_le y x
+
+unfoldable pub decision : Integers → StaticTest → Elab Bool
+decision at (u.StaticTest.compared op s t) = do
+  x ← integer at s
+  y ← integer at t
+  Ok (compares_integers op x y)
+decision at (u.StaticTest.negated t) = do
+  b ← decision at t
+  Ok (not b)
+decision at (u.StaticTest.both op s t) = do
+  b ← decision at s
+  c ← decision at t
+  Ok (truth op b c)
+
+-- ---- turns
+
+-- whether a range has no number in it
+abbrev pub is_null : Direction → ℤ → ℤ → Bool
+is_null To x y = int_lt y x
+is_null Downto x y = int_lt x y
+
+-- how many numbers are in it
+abbrev pub extent : Direction → ℤ → ℤ → ℕ
+extent direction x y = if is_null direction x y then 0 else nat_abs (x -ℤ y) + 1
+
+abbrev pub next : Direction → ℤ → ℤ
+next To x = x +ℤ pos 1
+next Downto x = x -ℤ pos 1
+
+-- so many numbers, in this direction, this being the first
+abbrev pub counted : Direction → ℤ → ℕ → List ℤ
+counted direction x zero = []
+counted direction x (suc n) = x ∷ counted direction (next direction x) n
+
+-- the values that the parameter of a loop or generate takes, one a turn, in order: at most 4,096
+unfoldable pub turns : Integers → Range → Elab (List ℤ)
+turns at r = do
+  x ← integer at r.left
+  y ← integer at r.right
+  unless TooMany (nat_le (extent r.direction x y) 4096)
+  Ok (counted r.direction x (extent r.direction x y))

@@ -1,0 +1,113 @@
+-- What is declared: one element, a vector within its bounds, or a value of an enumeration; and the parts of it that
+-- indexed names and slices mean (IEEE 1076-2008, 5.3.2, 8.4, 8.5).
+use Rattle.std.specs.Prelude.{ℕ, Bool, true, false, not, ◌&&◌, nat_le, if◌then◌else◌, List, [], ◌∷◌, ℤ, pos, ◌-ℤ◌, int_le, nat_abs, Ok, Err}
+use Rattle.std.specs.List.{range_with_len}
+use Rattle.vhdl_tree.specs.declared.operator.Direction.{Direction}
+use Rattle.vhdl_tree.specs.declared.operator.Direction.TheVariants.{To, Downto}
+use Rattle.vhdl_names_rules.specs.units.Expressions as u
+use Rattle.vhdl_names_rules.specs.units.Expressions.{Static, Range, Part}
+use Rattle.vhdl_names_rules.specs.units.Units.{Form}
+use Rattle.vhdl_names_rules.specs.units.Units as units
+use Rattle.rtl_model.specs.bodies.Types.{ElementType}
+use Rattle.rtl_model.specs.bodies.Types as types
+use Rattle.vhdl_expand_rules.specs.declared.fault.ElabProblem.TheVariants.{Index, TooWide}
+use Rattle.vhdl_expand_rules.specs.Elab.{Elab, ◌>>=◌, ◌>>◌, unless}
+use Rattle.vhdl_expand_rules.specs.Integers.{Integers, integer, natural, as_natural, is_null, extent}
+
+-- the bounds of a vector, as they are declared
+pub record Bounds : Type 0 where
+  pub left : ℕ
+  pub direction : Direction
+  pub right : ℕ
+
+pub data Kind : Type 0 where
+  one : Kind
+  vector : Bounds → Kind
+  enumeration : (count : ℕ) → Kind
+
+-- how many elements it has
+abbrev pub bounds_size : Bounds → ℕ
+bounds_size b = extent b.direction (pos b.left) (pos b.right)
+
+abbrev pub size : Kind → ℕ
+size one = 1
+size (vector b) = bounds_size b
+size (enumeration count) = 1
+
+abbrev pub element_type : Kind → ElementType
+element_type one = types.nine_valued
+element_type (vector b) = types.nine_valued
+element_type (enumeration count) = types.enumeration count
+
+-- ---- declared
+
+-- Bounds are natural numbers, from 1 to 64 elements apart. A null range is refused whatever its bounds are.
+unfoldable pub declared_bounds : Integers → Range → Elab Bounds
+declared_bounds at r = do
+  x ← integer at r.left
+  y ← integer at r.right
+  unless Index (not (is_null r.direction x y))
+  left ← as_natural x
+  right ← as_natural y
+  unless TooWide (nat_le (extent r.direction x y) 64)
+  Ok (record { left = left; direction = r.direction; right = right })
+
+unfoldable pub kind_of : Integers → Form → Elab Kind
+kind_of at units.element = Ok one
+kind_of at (units.vector r) = do
+  b ← declared_bounds at r
+  Ok (vector b)
+kind_of at (units.enumeration count) = Ok (enumeration count)
+
+-- the size that a call asks for
+abbrev pub as_size : ℕ → Elab ℕ
+as_size n = do
+  unless Index (nat_le 1 n)
+  unless TooWide (nat_le n 64)
+  Ok n
+
+unfoldable pub size_of : Integers → Static → Elab ℕ
+size_of at s = do
+  n ← natural at s
+  as_size n
+
+-- ---- parts
+
+abbrev pub is_within : Bounds → ℤ → Bool
+is_within b i = range b.direction
+  where
+    range : Direction → Bool
+    range To = int_le (pos b.left) i && int_le i (pos b.right)
+    range Downto = int_le (pos b.right) i && int_le i (pos b.left)
+
+-- the place of an index, counted from the left
+abbrev pub place_of : Bounds → ℤ → Elab ℕ
+place_of b i = if is_within b i then Ok (nat_abs (i -ℤ pos b.left)) else Err Index
+
+abbrev pub is_same_direction : Direction → Direction → Bool
+is_same_direction To To = true
+is_same_direction Downto Downto = true
+is_same_direction _ _ = false
+
+-- a slice has the direction of the declaration, has an element, and lies within the bounds
+abbrev pub slice_places : Bounds → Direction → (left right : ℤ) → Elab (List ℕ)
+slice_places b direction x y = do
+  unless Index (is_same_direction b.direction direction)
+  unless Index (not (is_null direction x y))
+  first ← place_of b x
+  last ← place_of b y
+  Ok (range_with_len first (extent direction x y))
+
+-- the places of a part, from the left
+unfoldable pub places : Integers → Kind → Part → Elab (List ℕ)
+places at kind u.whole = Ok (range_with_len 0 (size kind))
+places at (vector b) (u.Part.element s) = do
+  i ← integer at s
+  p ← place_of b i
+  Ok (p ∷ [])
+places at (vector b) (u.slice r) = do
+  x ← integer at r.left
+  y ← integer at r.right
+  slice_places b r.direction x y
+-- of what is no vector there are no parts, in units that names have passed
+places at _ _ = Err Index

@@ -1,0 +1,77 @@
+-- What is known where an expression stands, and the elements that its names mean. The elements of a unit's ports and
+-- signals are numbered from 0 in order of declaration, ports before signals, and from the left; those of a process's
+-- variables in the same way (IEEE 1076-2008, 8.1 to 8.5).
+use Rattle.std.specs.Prelude.{ℕ, ◌+◌, List, [], ◌∷◌, ◌++◌, map, take, sum, slice_get, slice_index_or, ℤ, Ok}
+use Rattle.vhdl_values.specs.declared.scalar.Nine.{Nine}
+use Rattle.vhdl_values.specs.declared.scalar.Nine.TheVariants.{X}
+use Rattle.vhdl_names_rules.specs.units.Expressions as u
+use Rattle.vhdl_names_rules.specs.units.Expressions.{Signal, Part, Place}
+use Rattle.vhdl_expand_rules.specs.declared.fault.ElabProblem.TheVariants.{Index}
+use Rattle.vhdl_expand_rules.specs.Elab.{Elab, ◌>>=◌, found}
+use Rattle.vhdl_expand_rules.specs.Integers.{Integers}
+use Rattle.vhdl_expand_rules.specs.Kinds.{Kind, size, places}
+
+-- a constant that is no integer
+pub record Constant : Type 0 where
+  pub kind : Kind
+  pub values : List Nine
+
+pub record Site : Type 0 where
+  pub integers : Integers
+  pub constants : List Constant
+  pub ports : List Kind
+  pub signals : List Kind
+  -- of the process
+  pub variables : List Kind
+
+-- nothing is declared, as above the top
+abbrev pub no_integers : Integers
+no_integers = record { generics = []; constants = []; generates = []; loops = [] }
+
+abbrev pub no_site : Site
+no_site = record { integers = no_integers; constants = []; ports = []; signals = []; variables = [] }
+
+-- within a turn of a generate, and of a loop
+abbrev pub in_generate : Site → ℤ → Site
+in_generate at i = record at { integers = record at.integers { generates = at.integers.generates ++ i ∷ [] } }
+
+abbrev pub in_loop : Site → ℤ → Site
+in_loop at i = record at { integers = record at.integers { loops = at.integers.loops ++ i ∷ [] } }
+
+-- ---- elements
+
+-- how many elements things of these kinds have together
+abbrev pub elements_count : List Kind → ℕ
+elements_count kinds = sum (map size kinds)
+
+-- the elements of a part of the thing of this number, the first of all having the number `from`
+abbrev pub part_elements : Integers → (from : ℕ) → List Kind → ℕ → Part → Elab (List ℕ)
+part_elements at from kinds k part = do
+  kind ← found Index (slice_get kinds k)
+  ps ← places at kind part
+  Ok (map (λ p. from + elements_count (take k kinds) + p) ps)
+
+-- of a signal's or port's name
+unfoldable pub signal_elements : Site → Signal → Part → Elab (List ℕ)
+signal_elements at (u.port k) part = part_elements at.integers 0 at.ports k part
+signal_elements at (u.Signal.signal k) part = part_elements at.integers (elements_count at.ports) at.signals k part
+
+abbrev pub place_elements : Site → Place → Elab (List ℕ)
+place_elements at p = signal_elements at p.signal p.part
+
+-- of a variable's name
+unfoldable pub variable_elements : Site → ℕ → Part → Elab (List ℕ)
+variable_elements at k part = part_elements at.integers 0 at.variables k part
+
+-- the values of a part of a constant
+unfoldable pub constant_values : Site → ℕ → Part → Elab (List Nine)
+constant_values at k part = do
+  c ← found Index (slice_get at.constants k)
+  ps ← places at.integers c.kind part
+  Ok (map (λ p. slice_index_or c.values p X) ps)
+
+-- what has one element has this
+abbrev pub the_element : Elab (List ℕ) → Elab ℕ
+the_element named = do
+  es ← named
+  found Index (slice_get es 0)

@@ -1,0 +1,125 @@
+-- Expanded bodies: targets are elements, and a loop is the sequence of its turns (IEEE 1076-2008, clause 10). Lengths
+-- agree in each statement, run or not.
+use Rattle.std.specs.Prelude.{ℕ, ◌+◌, ◌==◌, List, [], ◌∷◌, length, map, sum, Ok}
+use Rattle.vhdl_values.specs.Scalar.{code_of}
+use Rattle.vhdl_names_rules.specs.units.Statements as u
+use Rattle.vhdl_names_rules.specs.units.Statements.{Given, Choice}
+use Rattle.rtl_model.specs.bodies.Body as b
+use Rattle.rtl_model.specs.bodies.Fits.{width, value_width}
+use Rattle.vhdl_expand_rules.specs.declared.fault.ElabProblem.TheVariants.{Length}
+use Rattle.vhdl_expand_rules.specs.Elab.{Elab, ◌>>=◌, ◌>>◌, unless, each}
+use Rattle.vhdl_expand_rules.specs.Integers.{turns}
+use Rattle.vhdl_expand_rules.specs.Site.{Site, in_loop, place_elements, variable_elements}
+use Rattle.vhdl_expand_rules.specs.Expressions.{vector, value, test}
+
+-- what is assigned to so many elements: a value with as many, or one element for each of them
+unfoldable pub given : Site → (len : ℕ) → Given → Elab b.Value
+given at len (u.single v) = do
+  e ← value at v
+  unless Length (value_width e == len)
+  Ok e
+given at len (u.filled x) = do
+  e ← vector at x
+  unless Length (width e == 1)
+  Ok (b.elements (b.filled len e))
+
+-- a choice has as many elements as what is selected by
+unfoldable pub choice : (len : ℕ) → Choice → Elab (List ℕ)
+choice len (u.values vs) = do
+  unless Length (length vs == len)
+  Ok (map code_of vs)
+choice len (u.position n) = Ok (n ∷ [])
+
+-- bodies, one after another
+abbrev pub joined : List b.Stmts → b.Stmts
+joined [] = b.done
+joined (s ∷ ss) = b.followed_by s (joined ss)
+
+-- a statement as the sequence that it is
+abbrev pub one : b.Stmt → b.Stmts
+one s = b.step s b.done
+
+unfoldable mutual
+  pub statement : Site → u.Statement → Elab b.Stmts
+  statement at u.nothing = Ok (one b.nothing)
+  statement at (u.assign p g) = do
+    es ← place_elements at p
+    v ← given at (length es) g
+    Ok (one (b.assign es v))
+  statement at (u.set k part g) = do
+    es ← variable_elements at k part
+    v ← given at (length es) g
+    Ok (one (b.set es v))
+  statement at (u.choose bs) = do
+    cs ← branches at bs
+    Ok (one (b.if_of cs))
+  statement at (u.select v alts) = do
+    e ← value at v
+    cs ← alternatives at (value_width e) alts
+    Ok (one (b.case_of e cs))
+  statement at (u.loop r body) = do
+    is ← turns at.integers r
+    ss ← each (λ i. statements (in_loop at i) body) is
+    Ok (joined ss)
+
+  pub statements : Site → u.Statements → Elab b.Stmts
+  statements at u.done = Ok b.done
+  statements at (u.step s rest) = do
+    x ← statement at s
+    y ← statements at rest
+    Ok (b.followed_by x y)
+
+  pub branches : Site → u.Branches → Elab b.Branches
+  branches at u.no_else = Ok b.no_else
+  branches at (u.otherwise s) = do
+    x ← statements at s
+    Ok (b.otherwise x)
+  branches at (u.branch t s bs) = do
+    c ← test at t
+    x ← statements at s
+    y ← branches at bs
+    Ok (b.branch c x y)
+
+  pub alternatives : Site → (len : ℕ) → u.Alternatives → Elab b.Alternatives
+  alternatives at len (u.others s) = do
+    x ← statements at s
+    Ok (b.others x)
+  alternatives at len (u.alternative choices s alts) = do
+    cs ← each (choice len) choices
+    x ← statements at s
+    y ← alternatives at len alts
+    Ok (b.alternative cs x y)
+
+-- ---- how many turns the loops of a body have together: each turn of an outer loop counts, and those inside it
+
+unfoldable mutual
+  pub statement_turns : Site → u.Statement → Elab ℕ
+  statement_turns at (u.choose bs) = branches_turns at bs
+  statement_turns at (u.select v alts) = alternatives_turns at alts
+  statement_turns at (u.loop r body) = do
+    is ← turns at.integers r
+    ns ← each (λ i. statements_turns (in_loop at i) body) is
+    Ok (length is + sum ns)
+  statement_turns at _ = Ok 0
+
+  pub statements_turns : Site → u.Statements → Elab ℕ
+  statements_turns at u.done = Ok 0
+  statements_turns at (u.step s rest) = do
+    m ← statement_turns at s
+    n ← statements_turns at rest
+    Ok (m + n)
+
+  pub branches_turns : Site → u.Branches → Elab ℕ
+  branches_turns at u.no_else = Ok 0
+  branches_turns at (u.otherwise s) = statements_turns at s
+  branches_turns at (u.branch t s bs) = do
+    m ← statements_turns at s
+    n ← branches_turns at bs
+    Ok (m + n)
+
+  pub alternatives_turns : Site → u.Alternatives → Elab ℕ
+  alternatives_turns at (u.others s) = statements_turns at s
+  alternatives_turns at (u.alternative choices s alts) = do
+    m ← statements_turns at s
+    n ← alternatives_turns at alts
+    Ok (m + n)

@@ -1,0 +1,74 @@
+-- The tree of instances: a design in which every static value is computed, generates have become their turns, and loops
+-- are unrolled. Nothing in it speaks of nets: names stand for the elements of the declarations of the instance that they
+-- stand in, numbered from 0 in order of declaration, ports before signals, and from the left (IEEE 1076-2008, 14.2 to
+-- 14.5).
+use Rattle.std.specs.Prelude.{ℕ, Bool, List, Option}
+use Rattle.rtl_model.specs.bodies.Body.{Stmts}
+use Rattle.vhdl_expand_rules.specs.Kinds.{Kind}
+
+-- ---- objects
+
+pub data Role : Type 0 where
+  input : Role
+  output : Role
+  internal : Role
+
+-- A port or a signal, and what each of its elements starts with. An associated port has the elements of the actual, in
+-- the instance above; any other object has none there.
+pub record Object : Type 0 where
+  pub name : List ℕ
+  pub role : Role
+  pub kind : Kind
+  pub is_resolved : Bool
+  pub starts : List ℕ
+  pub actual : Option (List ℕ)
+
+pub record Variable : Type 0 where
+  pub name : List ℕ
+  pub kind : Kind
+  pub starts : List ℕ
+
+-- ---- processes
+
+-- elements of names, from the left, in order of the names
+pub data Sensitivity : Type 0 where
+  -- of the names of a list
+  listed : List ℕ → Sensitivity
+  -- of the longest static prefixes of all names that it reads
+  every : List ℕ → Sensitivity
+  -- what it reads
+  as_read : Sensitivity
+
+pub record Process : Type 0 where
+  -- the labels of the generates round it, each with a dot behind it, and its own
+  pub prefix : List ℕ
+  pub label : Option (List ℕ)
+  -- the elements that it has a driver for, in order, each once
+  pub drives : List ℕ
+  pub sensitivity : Sensitivity
+  pub variables : List Variable
+  -- elements stand in it where a flat net's body has nets, and where it has places
+  pub body : Stmts
+  -- how many turns its loops have together
+  pub turns : ℕ
+
+-- ---- instances
+
+mutual
+  -- its ports and signals, how many turns its generates have together, and what stands in it
+  pub data Instance : Type 0 where
+    instance : (objects : List Object) → (turns : ℕ) → Parts → Instance
+
+  -- processes and instances, in order of the text; of an instance the labels of the generates round it and its own
+  pub data Parts : Type 0 where
+    no_parts : Parts
+    process : Process → Parts → Parts
+    inner : (label : List ℕ) → Instance → Parts → Parts
+
+abbrev pub followed_by : Parts → Parts → Parts
+followed_by no_parts rest = rest
+followed_by (process p more) rest = process p (followed_by more rest)
+followed_by (inner label i more) rest = inner label i (followed_by more rest)
+
+abbrev pub objects_of : Instance → List Object
+objects_of (instance objects turns parts) = objects

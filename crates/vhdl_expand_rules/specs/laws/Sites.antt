@@ -1,0 +1,40 @@
+-- A site whose declarations are as the units have them, and the types of their elements.
+use Rattle.std.specs.Prelude.{◌≡◌, ◌+◌, ◌≤◌, ⊤, List, [], ◌∷◌, ◌++◌, map, replicate}
+use Rattle.std.specs.List.{AllZip, range_with_len}
+use Rattle.rtl_model.specs.bodies.Types.{ElementType}
+use Rattle.rtl_model.specs.bodies.Fits.{Scope, IsWidth}
+use Rattle.vhdl_names_rules.specs.units.Units as u
+use Rattle.vhdl_names_rules.specs.units.Units.{Form}
+use Rattle.vhdl_names_rules.specs.sound.Expressions.{Inside, port_form}
+use Rattle.vhdl_expand_rules.specs.Kinds.{Kind, one, vector, enumeration, bounds_size, size, element_type}
+use Rattle.vhdl_expand_rules.specs.Site.{Constant, Site, elements_count}
+
+-- What a form has become: a vector has 1 to 64 elements, an enumeration 1 to 256 literals.
+abbrev pub IsOf : Form → Kind → Type 0
+IsOf u.element one = ⊤
+IsOf (u.vector r) (vector b) = IsWidth (bounds_size b)
+IsOf (u.enumeration m) (enumeration n) = (m ≡ n) × (1 ≤ n) × (n ≤ 256)
+IsOf _ _ = ⊥
+
+abbrev pub IsConstant : Form → Constant → Type 0
+IsConstant f c = IsOf f c.kind
+
+-- What stands in the text where this site is known has become what the site has.
+pub record IsSite (i : Inside) (at : Site) : Type 0 where
+  pub constants : AllZip IsConstant i.constants at.constants
+  pub ports : AllZip IsOf (map port_form i.ports) at.ports
+  pub signals : AllZip IsOf i.signals at.signals
+  pub variables : AllZip IsOf i.variables at.variables
+
+-- the types of the elements of things of these kinds, in order
+abbrev pub kinds_types : List Kind → List ElementType
+kinds_types [] = []
+kinds_types (k ∷ ks) = replicate (size k) (element_type k) ++ kinds_types ks
+
+-- In an expanded body an element of a port or signal stands where a flat net's body has a net, and each is its own target.
+abbrev pub scope_at : Site → Scope
+scope_at at = record {
+  nets = kinds_types at.ports ++ kinds_types at.signals;
+  variables = kinds_types at.variables;
+  targets = range_with_len 0 (elements_count at.ports + elements_count at.signals);
+}

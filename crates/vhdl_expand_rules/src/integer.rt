@@ -1,0 +1,188 @@
+//! The values of static integers (IEEE 1076-2008, 9.4 and 9.2).
+
+ghost use Rattle.std.specs.Prelude.{◌≡◌, pos, Ok};
+ghost use Rattle.vhdl_names_rules.specs.views.Integers.{static_view, start_view};
+ghost use Rattle.vhdl_names_rules.specs.declared.operator.Arithmetic.TheVariants.{Modulo, Remainder};
+ghost use Rattle.vhdl_expand_rules.specs.Integers as definition;
+ghost use Rattle.vhdl_expand_rules.specs.views.Integers.{integers_view, Computes, in_range, all_operated};
+
+use crate::fault::{ElabFault, ElabProblem};
+use vhdl_names_rules::{Arithmetic, IntegerType, Static, StaticLink, StaticStart};
+
+/// The integers that are known where an expression stands: of generics and constants by their
+/// numbers, and of the parameters of the generates and loops round it, the outermost first.
+pub struct Integers<'a> {
+    pub generics: &'a [i32],
+    pub constants: &'a [i32],
+    pub generates: &'a [i32],
+    pub loops: &'a [i32],
+}
+
+/// A value that has to lie in the range of static integers.
+fn checked(x: i32, at: usize) -> Result<i32, ElabFault>
+    ensures { Computes (definition.checked x) result }
+{
+    if x.unsigned_abs() <= 2_147_483_647 {
+        Ok(x)
+    } else {
+        Err(ElabProblem::StaticError.at(at))
+    }
+}
+
+/// The result of an operator, if there is one.
+fn within(x: Option<i32>, at: usize) -> Result<i32, ElabFault>
+    ensures { Computes (in_range x) result }
+{
+    match x {
+        Some(x) => checked(x, at),
+        None => Err(ElabProblem::StaticError.at(at)),
+    }
+}
+
+/// A literal.
+fn literal(n: u32, at: usize) -> Result<i32, ElabFault>
+    ensures { Computes (definition.checked (pos n)) result }
+{
+    match i32::try_from(n) {
+        Ok(x) => checked(x, at),
+        Err(_) => Err(ElabProblem::StaticError.at(at)),
+    }
+}
+
+/// An integer where a natural number is needed.
+pub fn as_natural(x: i32, at: usize) -> Result<u32, ElabFault>
+    ensures { Computes (definition.as_natural x) result }
+{
+    match u32::try_from(x) {
+        Ok(n) => Ok(n),
+        Err(_) => Err(ElabProblem::StaticError.at(at)),
+    }
+}
+
+/// The integer of this number.
+fn known(xs: &[i32], number: usize, at: usize) -> Result<i32, ElabFault>
+    ensures { Computes (definition.known xs.now number) result }
+{
+    match xs.get(number) {
+        Some(x) => Ok(*x),
+        None => Err(ElabProblem::StaticError.at(at)),
+    }
+}
+
+/// `left rem right`, which has the sign of the dividend.
+fn remainder(left: i32, right: i32, at: usize) -> Result<i32, ElabFault>
+    ensures { Computes (definition.operated Remainder left right) result }
+{
+    if right == -1 {
+        return Ok(0);
+    }
+    within(left.checked_rem(right), at)
+}
+
+/// `left mod right`, which has the sign of the divisor.
+fn modulus(left: i32, right: i32, at: usize) -> Result<i32, ElabFault>
+    ensures { Computes (definition.operated Modulo left right) result }
+{
+    let remainder = remainder(left, right, at)?;
+    let opposite = if right < 0 {
+        remainder > 0
+    } else {
+        remainder < 0
+    };
+    if opposite {
+        within(remainder.checked_add(right), at)
+    } else {
+        Ok(remainder)
+    }
+}
+
+/// An operator's result. `at` is the byte at which the operator starts.
+fn operated(operator: Arithmetic, left: i32, right: i32, at: usize) -> Result<i32, ElabFault>
+    ensures { Computes (definition.operated operator left right) result }
+{
+    match operator {
+        Arithmetic::Add => within(left.checked_add(right), at),
+        Arithmetic::Subtract => within(left.checked_sub(right), at),
+        Arithmetic::Multiply => within(left.checked_mul(right), at),
+        Arithmetic::Divide => within(left.checked_div(right), at),
+        Arithmetic::Modulo => modulus(left, right, at),
+        Arithmetic::Remainder => remainder(left, right, at),
+    }
+}
+
+impl Integers<'_> {
+    /// The value of a static integer; a fault is StaticError. `at` is the byte that a fault names
+    /// where no operator is to blame.
+    #[cycle(integer)]
+    #[tactic(auto, unfolding(crate::specs::Integers::integer))]
+    pub fn integer(&self, value: &Static, at: usize) -> Result<i32, ElabFault>
+        ensures { Computes (definition.integer (integers_view self.now) (static_view value.now)) result }
+    {
+        match value {
+            Static::Number(n) => literal(*n, at),
+            Static::Generic(number) => known(self.generics, *number, at),
+            Static::Constant(number) => known(self.constants, *number, at),
+            Static::GenerateParameter(number) => known(self.generates, *number, at),
+            Static::LoopParameter(number) => known(self.loops, *number, at),
+            Static::Negated(sign, operand) => {
+                let x = self.integer(operand, *sign)?;
+                within(x.checked_neg(), *sign)
+            }
+            Static::Chain(start, links) => {
+                let first = self.started(start)?;
+                self.continued(first, links)
+            }
+        }
+    }
+
+    /// The value of a static integer that has to be natural; a fault is StaticError.
+    #[tactic(auto, unfolding(crate::specs::Integers::natural))]
+    pub fn natural(&self, value: &Static, at: usize) -> Result<u32, ElabFault>
+        ensures { Computes (definition.natural (integers_view self.now) (static_view value.now)) result }
+    {
+        let x = self.integer(value, at)?;
+        as_natural(x, at)
+    }
+
+    /// The value of a generic or constant of a type of integers; a fault is StaticError or GenericRange.
+    #[tactic(auto, unfolding(crate::specs::Integers::integer_of))]
+    pub fn integer_of(&self, of: IntegerType, value: &Static, at: usize) -> Result<i32, ElabFault>
+        ensures { Computes (definition.integer_of of (integers_view self.now) (static_view value.now)) result }
+    {
+        let x = self.integer(value, at)?;
+        let fits = match of {
+            IntegerType::Integer => true,
+            IntegerType::Natural => 0 <= x,
+            IntegerType::Positive => 0 < x,
+        };
+        if !fits {
+            return Err(ElabProblem::GenericRange.at(at));
+        }
+        Ok(x)
+    }
+
+    /// The value of the first operator of a chain.
+    #[cycle(integer)]
+    #[tactic(auto, unfolding(crate::specs::Integers::integer))]
+    fn started(&self, start: &StaticStart) -> Result<i32, ElabFault>
+        ensures { Computes (definition.integer (integers_view self.now) (start_view start.now)) result }
+    {
+        let at = start.link.at;
+        let left = self.integer(&start.first, at)?;
+        let right = self.integer(&start.link.operand, at)?;
+        operated(start.link.operator, left, right, at)
+    }
+
+    /// The value of a chain's further operators, on the value of what stands before them.
+    #[cycle(integer)]
+    fn continued(&self, first: i32, links: &[StaticLink]) -> Result<i32, ElabFault>
+        ensures { Computes (all_operated (integers_view self.now) first links.now) result }
+    {
+        let mut value = first;
+        for link in links {
+            let operand = self.integer(&link.operand, link.at)?;
+            value = operated(link.operator, value, operand, link.at)?;
+        }
+        Ok(value)
+    }
+}

@@ -1,0 +1,17 @@
+//! Expansion of a design: from its units and its top to the tree of its instances, in which every static value is
+//! computed, generates have become their turns, and loops are unrolled (IEEE 1076-2008, clause 14). The definitions stand
+//! in `specs`.
+#![tactic(auto)]
+
+mod decision;
+pub mod expansion_laws;
+mod fault;
+mod integer;
+mod kind;
+mod prefix;
+
+pub use decision::Turns;
+pub use fault::{ElabFault, ElabProblem};
+pub use integer::Integers;
+pub use kind::{Bounds, Kind, Run};
+pub use prefix::{is_static, is_static_part};

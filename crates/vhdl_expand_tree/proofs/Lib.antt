@@ -1,0 +1,4 @@
+pub mod Alike
+pub mod Charging
+pub mod Parts
+pub mod Counts

@@ -1,0 +1,100 @@
+//! The tree: a design, its instances, and the objects and processes of these. Elements of an instance's ports and signals are
+//! numbered from 0 in order of declaration, ports before signals, and from the left; those of a process's variables in the
+//! same way.
+
+use rtl_net::Statement;
+use smallvec::SmallVec;
+use vhdl_expand_rules::Kind;
+
+/// What an object is to its instance.
+#[derive(Clone, Copy)]
+pub enum Role {
+    /// A port of mode in.
+    Input,
+    /// A port of mode out.
+    Output,
+    /// A signal.
+    Internal,
+}
+
+/// A port or a signal (6.4.2.3, 6.5.2).
+#[derive(Drop)]
+pub struct Object {
+    pub name: Vec<u8>,
+    pub role: Role,
+    pub kind: Kind,
+    /// Whether several sources of an element are resolved.
+    pub is_resolved: bool,
+    /// What its elements start with, from the left: codes of the nine values, or a position.
+    pub starts: SmallVec<u8, 8>,
+    /// Of an associated port, the elements of its actual in the instance above, from the left.
+    pub actual: Option<Vec<usize>>,
+    /// The byte of the source at which it is declared.
+    pub at: u32,
+}
+
+/// A variable of a process (6.4.2.4), and what its elements start with, from the left.
+#[derive(Drop)]
+pub struct Variable {
+    pub name: Vec<u8>,
+    pub kind: Kind,
+    pub starts: SmallVec<u8, 8>,
+}
+
+/// What resumes a process (11.3).
+#[derive(Drop)]
+pub enum Sensitivity {
+    /// These elements, which a list names.
+    Listed(Vec<usize>),
+    /// Those of `( all )`: of the longest static prefixes of all names that it reads.
+    Every(Vec<usize>),
+    /// What it reads.
+    AsRead,
+}
+
+/// A process, or the process that a concurrent assignment is (11.3, 11.6).
+#[derive(Drop)]
+pub struct Process {
+    /// The labels of the generates round it, each with a dot behind it.
+    pub prefix: Vec<u8>,
+    pub label: Option<Vec<u8>>,
+    /// The elements that it has a driver for, rising (14.7.2).
+    pub drives: Vec<usize>,
+    pub sensitivity: Sensitivity,
+    /// In order of declaration.
+    pub variables: Vec<Variable>,
+    /// Its statements, in which elements stand for nets and for places of drivers.
+    pub body: Vec<Statement>,
+    /// How many turns its loops have together.
+    pub turns: u32,
+    /// The byte of the source at which it starts.
+    pub at: u32,
+}
+
+/// An instance of an entity with its architecture (14.3).
+#[cycle(instance)]
+#[derive(Drop)]
+pub struct Instance {
+    /// Its ports and signals, in order of declaration.
+    pub objects: Vec<Object>,
+    /// How many turns its generates have together.
+    pub turns: u32,
+    /// In order of the text.
+    pub parts: Vec<Part>,
+}
+
+/// What stands in an instance.
+#[cycle(instance)]
+#[derive(Drop)]
+pub enum Part {
+    Process(Process),
+    /// The label has those of the generates round it before it, joined by dots.
+    Instance { label: Vec<u8>, instance: Instance },
+}
+
+/// A design: the name of its top's entity, and the top.
+#[derive(Drop)]
+pub struct Design {
+    pub name: Vec<u8>,
+    pub top: Instance,
+}

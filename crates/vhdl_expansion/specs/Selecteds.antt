@@ -1,7 +1,0 @@
--- What contracts see of expanded values.
-use Rattle.rtl_model.specs.bodies.Body as b
-use Rattle.rtl_net.specs.Bodies.{value_view}
-use Rattle.vhdl_expansion.specs.declared.selected.Selected.{Selected}
-
-abbrev pub selected_view : Selected → b.Value
-selected_view s = value_view s.value

@@ -1,6 +1,0 @@
-use Rattle.std.proofs.Common.{◌∙◌}
-use Rattle.vhdl_files.proofs.Describing.{returned, lent}
-use Rattle.vhdl_files.proofs.outline.architecture_of.Goals as goal
-
-pub returns : goal.returns
-returns c = returned c.get.result ∙ lent c.args.name.now c.args.outline.now.architectures.entries _ c.get.ensures.value

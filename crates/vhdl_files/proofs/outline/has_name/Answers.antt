@@ -1,6 +1,0 @@
-use Rattle.std.proofs.Common.{◌∙◌}
-use Rattle.vhdl_labels.proofs.Once.{contained}
-use Rattle.vhdl_files.proofs.outline.has_name.Goals as goal
-
-pub returns : goal.returns
-returns c = c.contains.ensures ∙ contained c.args.name.now c.args.names.now.keys

@@ -1,7 +1,0 @@
-use Rattle.std.proofs.Common.{◌≢◌}
-use Rattle.vhdl_names.specs.declared.fault.NameFault.TheVariants.{NoMemory}
-use Rattle.vhdl_files.proofs.refusal.entities_past_faults.Given as goal
-
--- want of memory stays told
-abbrev pub invariant-loop-unit : goal.invariant-loop-unit
-invariant-loop-unit l = l.told ≢ NoMemory → l.initial.told ≢ NoMemory

@@ -1,6 +1,0 @@
-pub mod Making
-pub mod Statements
-pub mod Generates
-pub mod Nested
-pub mod Weights
-pub mod Heavier

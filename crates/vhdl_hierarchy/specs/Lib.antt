@@ -1,5 +1,0 @@
-pub mod Limits
-pub mod Making
-pub mod Spots
-pub mod Walks
-pub mod Turns

@@ -1,8 +1,0 @@
-use Rattle.std.proofs.Common.{◌≡◌, [], drop}
-use Rattle.vhdl_types.specs.Views.{region_view}
-use Rattle.vhdl_declared.specs.Entered.{more}
-use Rattle.vhdl_interfaces.proofs.architecture.copied_region.Given as goal
-
--- what is left, behind the copy, gives the whole
-abbrev pub invariant-loop-place : goal.invariant-loop-place
-invariant-loop-place l = more [] (region_view l.region) ≡ more (region_view l.copy) (drop l.place (region_view l.region))

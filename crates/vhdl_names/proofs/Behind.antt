@@ -1,0 +1,135 @@
+-- An architecture, in the order of its parts.
+use Rattle.std.proofs.Common.{◌≡◌, ◌≢◌, Bool, true, false, List, [], ◌++◌, Option, Some, None, refl, ap, sym, ◌∙◌}
+use Rattle.vhdl_tree.specs.Tree as t
+use Rattle.vhdl_tree.specs.Tree.{ContextItem}
+use Rattle.vhdl_names_rules.specs.units.Units as u
+use Rattle.vhdl_names_rules.specs.declared.fault.NameFault.{NameFault}
+use Rattle.vhdl_names_rules.specs.declared.fault.NameFault.TheVariants.{NoMemory}
+use Rattle.vhdl_names_rules.specs.Rules.{◌>>=◌, ◌>>◌, met, if_any}
+use Rattle.vhdl_names_rules.specs.Visibility.{Name, Declared, Sight, Declares, are_distinct, ends, with_declared}
+use Rattle.vhdl_names_rules.specs.Packages.{Context, context, sight_of}
+use Rattle.vhdl_names_rules.specs.Declarations.{in_order}
+use Rattle.vhdl_names_rules.specs.Interfaces.{EntityView, declared_names}
+use Rattle.vhdl_names_rules.specs.Concurrent.{concurrents, concurrent_labels}
+use Rattle.vhdl_names_rules.specs.Files.{declaration, labelled, architecture}
+use Rattle.vhdl_names_labels.proofs.Lists.{bound, inner}
+use Rattle.vhdl_names_declarations.specs.Entered.{entered, entering, more}
+use Rattle.vhdl_names_declarations.proofs.Regions.{more_split}
+use Rattle.vhdl_names_interfaces.specs.Views.{sight_behind, named_view}
+use Rattle.vhdl_names_interfaces.specs.declared.interface.EntityInterface.{EntityInterface}
+use Rattle.vhdl_names_interfaces.specs.Views as i
+use Rattle.vhdl_names.specs.Views.{Keyed}
+use Rattle.vhdl_names.specs.steps.Outlines.{described_of}
+use Rattle.vhdl_names.specs.steps.Architectures as steps
+use Rattle.vhdl_names.specs.steps.Architectures.{with_region}
+
+-- an architecture is the same under another name of its entity
+pub whatever_name : (all : List EntityView) (n : Name) (e : EntityInterface) (items : List ContextItem) (a : t.Architecture)
+    → architecture all (named_view n e) items a ≡ architecture all (i.entity_view e) items a
+unfolding architecture
+whatever_name all n e items a = refl
+
+abbrev pair : {A B : Type 0} → A → B → A × B
+pair x y = (x, y)
+
+module _ (all : List EntityView) (e : EntityView) (items : List ContextItem) (a : t.Architecture) where
+  abbrev labels : List Declared
+  labels = labelled (concurrent_labels (t.concurrents_of a.statements))
+
+  -- what is made of the region, behind all declarations and labels
+  abbrev rest : Sight → List u.Declaration → Option (List Declared) → Option u.Architecture
+  rest s ds o = o >>= λ region. (concurrents all (with_region s region) (t.concurrents_of a.statements) >>= λ body. (met (ends a.name.text a.end_name) >>
+      Some (record { declarations = ds; statements = body })))
+
+  -- the rule of the whole region, and the region, are what its parts give one after another
+  by_parts : (s : Sight) (x : Declares u.Declaration)
+      → rest s x.analysed (more s.region (x.declared ++ labels)) ≡ (entered s x >>= λ w. steps.body all w.0 w.1 a)
+  by_parts s x = ap (rest s x.analysed) (more_split s.region x.declared labels) ∙ go (are_distinct (declared_names (s.region ++ x.declared)))
+    where
+      go : (b : Bool) → rest s x.analysed ((met b >>= λ _. Some (s.region ++ x.declared)) >>= λ r. more r labels)
+          ≡ ((met b >>= λ _. Some (pair (with_declared s x.declared) x.analysed)) >>= λ w. steps.body all w.0 w.1 a)
+      go true = refl
+      go false = refl
+
+  ruled : (s : Sight) (x : Declares u.Declaration) (region : List Declared)
+      → (met (are_distinct (declared_names region)) >> (concurrents all (with_region s region) (t.concurrents_of a.statements) >>= λ body.
+      (met (ends a.name.text a.end_name) >> let r : Option u.Architecture = Some (record { declarations = x.analysed; statements = body }) in r)))
+      ≡ rest s x.analysed (met (are_distinct (declared_names region)) >>= λ _. Some region)
+  ruled s x region = go (are_distinct (declared_names region))
+    where
+      go : (b : Bool) → (met b >> (concurrents all (with_region s region) (t.concurrents_of a.statements) >>= λ body.
+          (met (ends a.name.text a.end_name) >> let r : Option u.Architecture = Some (record { declarations = x.analysed; statements = body }) in r)))
+          ≡ rest s x.analysed (met b >>= λ _. Some region)
+      go true = refl
+      go false = refl
+
+  pub in_parts : architecture all e items a ≡ steps.architecture all e items a
+  unfolding architecture
+  in_parts =
+      bound (context e.context items) _ (λ c. entering (in_order with_declared (declaration all)) (sight_of c e.interface.declared) a.declarations >>= λ w. steps.body all w.0 w.1 a)
+      (λ c.
+      bound (in_order with_declared (declaration all) (sight_of c e.interface.declared) a.declarations) _
+      (λ x. entered (sight_of c e.interface.declared) x >>= λ w. steps.body all w.0 w.1 a)
+      (λ x. ruled (sight_of c e.interface.declared) x (e.interface.declared ++ (x.declared ++ labels)) ∙ by_parts (sight_of c e.interface.declared) x)
+      ∙ inner (in_order with_declared (declaration all) (sight_of c e.interface.declared) a.declarations) (entered (sight_of c e.interface.declared)) (λ w. steps.body all w.0 w.1 a))
+      ∙ inner (context e.context items) (λ c. Some (sight_of c e.interface.declared))
+      (λ s. entering (in_order with_declared (declaration all)) s a.declarations >>= λ w. steps.body all w.0 w.1 a)
+
+  abbrev behind : Option Sight → Option u.Architecture
+  behind o = o >>= λ s. (entering (in_order with_declared (declaration all)) s a.declarations >>= λ w. steps.body all w.0 w.1 a)
+
+  pub no_sight : (fault : NameFault) → (fault ≢ NoMemory → sight_behind e items ≡ None) → fault ≢ NoMemory → architecture all e items a ≡ None
+  no_sight fault h n = in_parts ∙ ap behind (h n)
+
+  pub no_declarations : (s : Sight) → sight_behind e items ≡ Some s → (fault : NameFault)
+      → (fault ≢ NoMemory → entering (in_order with_declared (declaration all)) s a.declarations ≡ None) → fault ≢ NoMemory → architecture all e items a ≡ None
+  no_declarations s h fault k n = in_parts ∙ ap behind h ∙ ap (λ o. o >>= λ w. steps.body all w.0 w.1 a) (k n)
+
+  pub then_body : (s w : Sight) (ds : List u.Declaration) → sight_behind e items ≡ Some s
+      → entering (in_order with_declared (declaration all)) s a.declarations ≡ Some (w, ds) → architecture all e items a ≡ steps.body all w ds a
+  then_body s w ds h k = in_parts ∙ ap behind h ∙ ap (λ o. o >>= λ w. steps.body all w.0 w.1 a) k
+
+-- ---- an entity's own architecture
+
+module _ (all : List EntityView) (as' : List Keyed) (n : Name) (e : EntityInterface) (p : List ContextItem × t.Architecture) (h : Some p ≡ described_of n as') where
+  abbrev of_any : Option (List ContextItem × t.Architecture) → Option (Option u.Architecture)
+  of_any = if_any (λ p. architecture all (named_view n e) p.0 p.1)
+
+  pub own_fails : (fault : NameFault) → (fault ≢ NoMemory → architecture all (i.entity_view e) p.0 p.1 ≡ None) → fault ≢ NoMemory
+      → steps.own all as' (named_view n e) ≡ None
+  own_fails fault k m =
+      ap of_any (sym h) ∙ ap (λ o. o >>= λ y. let r : Option (Option u.Architecture) = Some (Some y) in r) (whatever_name all n e p.0 p.1 ∙ k m)
+
+  pub own_goes : (x : u.Architecture) → architecture all (i.entity_view e) p.0 p.1 ≡ Some x → steps.own all as' (named_view n e) ≡ Some (Some x)
+  own_goes x k =
+      ap of_any (sym h) ∙ ap (λ o. o >>= λ y. let r : Option (Option u.Architecture) = Some (Some y) in r) (whatever_name all n e p.0 p.1 ∙ k)
+
+-- ---- declarations bring no variables in sight
+
+abbrev first : {A : Type 0} → Sight → Option (Sight × A) → Sight
+first s None = s
+first s (Some p) = p.0
+
+pub no_variables : {A B : Type 0} (declares : Sight → A → Option (Declares B)) (c : Context) (region : List Declared) (s w : Sight) (ds : A) (y : List B)
+    → Some (sight_of c region) ≡ Some s → entering declares s ds ≡ Some (w, y) → w.variables ≡ []
+no_variables {A} {B} declares c region s w ds y h k = go (declares s ds) k
+  where
+    empty : s.variables ≡ []
+    empty = let same : sight_of c region ≡ s = cc in ap (λ (s : Sight). s.variables) (sym same)
+
+    ruled : (x : Declares B) (b : Bool) → (met b >>= λ _. Some (pair (with_declared s x.declared) x.analysed)) ≡ Some (w, y) → w.variables ≡ []
+    ruled x true q = sym (ap (λ o. (first s o).variables) q) ∙ empty
+    ruled x false q = cc
+
+    go : (o : Option (Declares B)) → (o >>= entered s) ≡ Some (w, y) → w.variables ≡ []
+    go None q = cc
+    go (Some x) q = ruled x (are_distinct (declared_names (s.region ++ x.declared))) q
+
+-- where what is in sight behind context items is there
+pub none_behind : {A B : Type 0} (declares : Sight → A → Option (Declares B)) (e : EntityView) (items : List ContextItem) (s w : Sight) (ds : A) (y : List B)
+    → sight_behind e items ≡ Some s → entering declares s ds ≡ Some (w, y) → w.variables ≡ []
+none_behind declares e items s w ds y h k = go (context e.context items) h
+  where
+    go : (o : Option Context) → (o >>= λ c. let r : Option Sight = Some (sight_of c e.interface.declared) in r) ≡ Some s → w.variables ≡ []
+    go None q = cc
+    go (Some c) q = no_variables declares c e.interface.declared s w ds y q k

@@ -1,0 +1,45 @@
+use Rattle.std.proofs.Common.{map, ap, sym, ◌∙◌}
+use Rattle.vhdl_names_rules.specs.Visibility.{with_declared}
+use Rattle.vhdl_names_rules.specs.Declarations.{in_order}
+use Rattle.vhdl_names_rules.specs.Files.{declaration}
+use Rattle.vhdl_tree.specs.View as view
+use Rattle.vhdl_names_types.specs.Views.{sight_view}
+use Rattle.vhdl_names_types.proofs.Along.{gives_along}
+use Rattle.vhdl_names_units.specs.views.Declarations.{declarations_view}
+use Rattle.vhdl_names_units.specs.views.Units.{architecture_view}
+use Rattle.vhdl_names_declarations.specs.Entered.{entering}
+use Rattle.vhdl_names_interfaces.specs.Views.{entities_view, entity_view}
+use Rattle.vhdl_names_interfaces.proofs.Interfacing.{passed_on}
+use Rattle.vhdl_names.proofs.Behind.{no_sight, no_declarations, then_body}
+use Rattle.vhdl_names.proofs.architectures.architecture.Goals as goal
+
+pub returns-in_err-sight : goal.returns-in_err-sight
+returns-in_err-sight c =
+    let d = c.args.described.now in
+    passed_on architecture_view _ c.in_err-sight.field-0.0 _ c.from_residual.result c.from_residual.ensures.1 (λ e p. p)
+    (no_sight (entities_view c.args.entities.now) (entity_view c.args.entity.now) (map view.context_view d.items.now) (view.architecture_view d.tree.now)
+    c.in_err-sight.field-0.0 c.in_err-sight.ensures.given)
+
+pub returns-in_err-declarations : goal.returns-in_err-declarations
+returns-in_err-declarations c =
+    let d = c.args.described.now in
+    let es = entities_view c.args.entities.now in
+    let s = sight_view c.in_ok-sight.sight in
+    passed_on architecture_view _ c.in_err-declarations.field-0.0 _ c.from_residual-in_err-declarations.result c.from_residual-in_err-declarations.ensures.1 (λ e p. p)
+    (no_declarations es (entity_view c.args.entity.now) (map view.context_view d.items.now) (view.architecture_view d.tree.now) s c.in_ok-sight.ensures.given
+    c.in_err-declarations.field-0.0
+    (λ n. ap (λ l. entering (in_order with_declared (declaration es)) s (map view.declaration_view l)) (sym c.deref.ensures.value) ∙ c.in_err-declarations.ensures.given n))
+
+pub returns : goal.returns
+returns c =
+    let d = c.args.described.now in
+    let es = entities_view c.args.entities.now in
+    let s = sight_view c.in_ok-sight.sight in
+    gives_along architecture_view _ _ _
+    (then_body es (entity_view c.args.entity.now) (map view.context_view d.items.now) (view.architecture_view d.tree.now) s
+    (sight_view c.declarations.new.sight) (declarations_view c.in_ok-declarations.declarations) c.in_ok-sight.ensures.given
+    (ap (λ l. entering (in_order with_declared (declaration es)) s (map view.declaration_view l)) (sym c.deref.ensures.value) ∙ c.in_ok-declarations.ensures.given))
+    (c.body.ensures es c.requires.table)
+
+pub declarations-requires : goal.declarations-requires
+declarations-requires c = c.in_ok-sight.ensures.outermost

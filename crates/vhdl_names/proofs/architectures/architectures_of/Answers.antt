@@ -1,0 +1,45 @@
+use Rattle.std.proofs.Common.{◌≡◌, ◌≢◌, [], ◌∷◌, map, None, option_map, sym, ap, ◌∙◌}
+use Rattle.std.specs.Map.Iter.{deref_pair}
+use Rattle.std.proofs.lemmas.List.{map-append}
+use Rattle.vhdl_names_rules.specs.declared.fault.NameFault.TheVariants.{NoMemory}
+use Rattle.vhdl_names_rules.specs.Rules.{each}
+use Rattle.vhdl_names_units.specs.views.Units.{architecture_view}
+use Rattle.vhdl_names_labels.specs.Lists.{in_turn, one_more}
+use Rattle.vhdl_names_labels.proofs.Lists.{each_in_turn}
+use Rattle.vhdl_names_interfaces.specs.Views.{entities_view, named_view}
+use Rattle.vhdl_names_interfaces.proofs.Interfacing.{passed_on}
+use Rattle.vhdl_names.specs.Views.{architectures_view}
+use Rattle.vhdl_names.specs.steps.Architectures.{own, options_view}
+use Rattle.vhdl_names.proofs.Tabling.{entry_view}
+use Rattle.vhdl_names.proofs.Walking.{each_fails, each_goes}
+use Rattle.vhdl_names.proofs.architectures.architectures_of.Goals as goal
+
+pub loop-place-init : goal.loop-place-init
+loop-place-init c =
+    let es = entities_view c.args.entities.now in
+    let as' = architectures_view c.args.outline.now.architectures in
+    each_in_turn (own es as') es
+    ∙ ap (λ l. in_turn (one_more (own es as')) (map (option_map architecture_view) l) es) (sym c.new-all.ensures.items)
+
+pub returns-in_err-own : goal.returns-in_err-own
+returns-in_err-own c =
+    let es = entities_view c.args.entities.now in
+    let as' = architectures_view c.args.outline.now.architectures in
+    let at = sym c.get_index.ensures.entry ∙ ap (option_map deref_pair) c.unwrap.ensures in
+    let f : c.in_err-own.field-0.0 ≢ NoMemory
+    → each (own (entities_view c.args.entities.now) (architectures_view c.args.outline.now.architectures)) (entities_view c.args.entities.now) ≡ None =
+    λ n. c.loop-place.invariant
+    ∙ each_fails (own es as') entry_view (options_view c.loop-place.all) c.args.entities.now.entries c.loop-place.place (c.unwrap.result.0.now, c.unwrap.result.1.now) at
+    (ap (λ x. own es as' (named_view x c.unwrap.result.1.now)) (sym c.as_slice.ensures.value) ∙ c.in_err-own.ensures n) in
+    passed_on options_view _ c.in_err-own.field-0.0 _ c.from_residual.result c.from_residual.ensures.1 (λ e p. p) f
+
+pub loop-place-preserved : goal.loop-place-preserved
+loop-place-preserved c =
+    let es = entities_view c.args.entities.now in
+    let as' = architectures_view c.args.outline.now.architectures in
+    let at = sym c.get_index.ensures.entry ∙ ap (option_map deref_pair) c.unwrap.ensures in
+    c.loop-place.invariant
+    ∙ each_goes (own es as') entry_view (options_view c.loop-place.all) c.args.entities.now.entries c.loop-place.place (c.unwrap.result.0.now, c.unwrap.result.1.now) at
+    (option_map architecture_view c.in_ok-own.own) (options_view c.push.new.self)
+    (ap (λ x. own es as' (named_view x c.unwrap.result.1.now)) (sym c.as_slice.ensures.value) ∙ c.in_ok-own.ensures)
+    (ap (map (option_map architecture_view)) c.in_ok-push.ensures.items ∙ map-append (option_map architecture_view) c.loop-place.all.items (c.in_ok-own.own ∷ []))

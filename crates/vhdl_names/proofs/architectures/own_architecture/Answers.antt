@@ -1,0 +1,18 @@
+use Rattle.std.proofs.Common.{option_map}
+use Rattle.vhdl_names_units.specs.views.Units.{architecture_view}
+use Rattle.vhdl_names_interfaces.specs.Views.{entities_view}
+use Rattle.vhdl_names_interfaces.proofs.Interfacing.{passed_on}
+use Rattle.vhdl_names.specs.Views.{architectures_view, described_view}
+use Rattle.vhdl_names.proofs.Behind.{own_fails, own_goes}
+use Rattle.vhdl_names.proofs.architectures.own_architecture.Goals as goal
+
+pub returns-in_err-architecture-in-Some : goal.returns-in_err-architecture-in-Some
+returns-in_err-architecture-in-Some c =
+    passed_on (option_map architecture_view) _ c.in_err-architecture-in-Some.field-0.0 _ c.from_residual.result c.from_residual.ensures.1 (λ e p. p)
+    (own_fails (entities_view c.args.entities.now) (architectures_view c.args.outline.now.architectures) c.args.name.now c.args.entity.now
+    (described_view c.in-Some.described.now) c.in-Some.ensures c.in_err-architecture-in-Some.field-0.0 c.in_err-architecture-in-Some.ensures)
+
+pub returns-in_ok-architecture-in-Some : goal.returns-in_ok-architecture-in-Some
+returns-in_ok-architecture-in-Some c =
+    own_goes (entities_view c.args.entities.now) (architectures_view c.args.outline.now.architectures) c.args.name.now c.args.entity.now
+    (described_view c.in-Some.described.now) c.in-Some.ensures _ c.in_ok-architecture-in-Some.ensures

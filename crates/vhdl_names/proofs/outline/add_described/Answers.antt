@@ -1,0 +1,24 @@
+use Rattle.std.proofs.Common.{◌≡◌, false, None, sym, ap, ◌∙◌}
+use Rattle.std.specs.Prelude.{bytes_eq, is_some}
+use Rattle.std.specs.Map.{lookup}
+use Rattle.indexmap.proofs.CallerLemmas.{insert_entry-new}
+use Rattle.vhdl_names.specs.Views.{described_view}
+use Rattle.vhdl_names.proofs.Describing.{absent, refused, grown}
+use Rattle.vhdl_names.proofs.outline.add_described.Goals as goal
+
+pub returns-then-contains_key : goal.returns-then-contains_key
+returns-then-contains_key c = λ n.
+    let es = c.args.architectures.now.entries in
+    refused es (described_view c.args.described)
+    (ap (λ x. is_some (lookup (λ k. bytes_eq x k.items) es)) (sym c.as_slice.ensures.value) ∙ sym c.contains_key.ensures ∙ c.if-contains_key.true)
+
+pub returns : goal.returns
+returns c =
+    let es = c.args.architectures.now.entries in
+    let n = c.args.described.tree.now.entity.text.items in
+    let new : is_some (lookup (λ k. bytes_eq c.args.described.tree.now.entity.text.items k.items) es) ≡ false =
+    ap (λ x. is_some (lookup (λ k. bytes_eq x k.items) es)) (sym c.as_slice.ensures.value) ∙ sym c.contains_key.ensures ∙ c.if-contains_key.false in
+    let same : c.in_ok-key.key.items ≡ c.args.described.tree.now.entity.text.items = c.in_ok-key.ensures.items ∙ c.deref.ensures.value in
+    let gone : lookup (λ m. bytes_eq c.in_ok-key.key.items m.items) es ≡ None = ap (λ x. lookup (λ m. bytes_eq x m.items) es) same ∙ absent es n new in
+    grown es _ c.in_ok-key.key c.args.described new same
+    (c.in_ok-insert.ensures.entries ∙ insert_entry-new _ c.args.architectures.now c.in_ok-key.key c.args.described gone)

@@ -1,5 +1,0 @@
-use Rattle.vhdl_names.proofs.laws.Files as laws
-use Rattle.vhdl_names.proofs.rule_laws.entities_stand_in_order.Goals as goal
-
-pub returns : goal.returns
-returns c = laws.entities_stand_in_order

@@ -1,5 +1,0 @@
-use Rattle.vhdl_names.proofs.laws.Associations as laws
-use Rattle.vhdl_names.proofs.rule_laws.formals_have_actuals.Goals as goal
-
-pub returns : goal.returns
-returns c = laws.formals_have_actuals

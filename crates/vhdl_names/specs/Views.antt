@@ -1,0 +1,33 @@
+-- What contracts see of a file's entities and architectures before they are analysed.
+use Rattle.std.specs.Prelude.{ℕ, List, map, Vec}
+use Rattle.std.specs.Global.{Global}
+use Rattle.indexmap.specs.IndexMap.{IndexMap}
+use Rattle.vhdl_tree.specs.Tree as t
+use Rattle.vhdl_tree.specs.Tree.{ContextItem}
+use Rattle.vhdl_tree.specs.View as tree
+use Rattle.vhdl_names_rules.specs.Visibility.{Name}
+use Rattle.vhdl_names_labels.specs.Once.{names_view}
+use Rattle.vhdl_names.specs.declared.outline.Described.{Described}
+use Rattle.vhdl_names.specs.declared.outline.Outline.{Outline}
+
+-- an architecture behind its context items
+abbrev pub described_view : Described → List ContextItem × t.Architecture
+described_view d = (map tree.context_view d.items.now, tree.architecture_view d.tree.now)
+
+-- an architecture under the name of its entity
+pub record Keyed : Type 0 where
+  pub name : Name
+  pub unit : List ContextItem × t.Architecture
+
+abbrev pub keyed_view : Vec ℕ Global × Described → Keyed
+keyed_view e = record { name = e.0.items; unit = described_view e.1 }
+
+abbrev pub architectures_view : {S : Type 0} → IndexMap (Vec ℕ Global) Described S → List Keyed
+architectures_view m = map keyed_view m.entries
+
+pub record OutlineView : Type 0 where
+  pub entities : List Name
+  pub architectures : List Keyed
+
+abbrev pub outline_view : Outline → OutlineView
+outline_view o = record { entities = names_view o.entities; architectures = architectures_view o.architectures }

@@ -1,0 +1,76 @@
+//! The entities of a file (IEEE 1076-2008, 3.2 and 13.1).
+
+ghost use Rattle.std.specs.Prelude.{◌≡◌, [], map, option_map};
+ghost use Rattle.vhdl_names_labels.specs.Lists.{in_turn};
+ghost use Rattle.vhdl_names.specs.Views.{architectures_view};
+ghost use Rattle.vhdl_names.specs.steps.Entities as steps;
+ghost use Rattle.vhdl_names.specs.steps.Outlines.{described_of};
+ghost use Rattle.vhdl_names_interfaces.specs.Views.{entities_view};
+ghost use Rattle.vhdl_names_rules.specs.Gives.{Gives};
+ghost use Rattle.vhdl_tree.specs.View as view;
+
+use crate::outline::{Outline, architecture_of};
+use indexmap::IndexMap;
+use std::alloc::Global;
+use vhdl_names_interfaces::{Entities, add_entity, entity};
+use vhdl_names_rules::NameFault;
+use vhdl_tree::{ContextItem, DesignUnit, Entity, File, Identifier, LibraryUnit};
+
+/// The name of the architecture of the entity of a name, if the file has one.
+fn architecture_name<'a>(outline: &Outline<'a>, name: &[u8]) -> Option<&'a Identifier>
+    ensures { option_map (λ i. i.now.text.items) result
+        ≡ option_map (λ a. a.1.name.text) (described_of name.now (architectures_view outline.now.architectures)) }
+{
+    match architecture_of(outline, name) {
+        None => None,
+        Some(described) => Some(&described.tree.name),
+    }
+}
+
+/// One more entity behind its context items.
+fn add_viewed<'a>(
+    alloc: Global,
+    entities: &mut Entities<'a>,
+    outline: &Outline<'a>,
+    items: &[ContextItem],
+    tree: &'a Entity,
+) -> Result<(), NameFault>
+    ensures { Gives (λ _. entities_view entities.new) (steps.with_entity (architectures_view outline.now.architectures) (entities_view entities.old)
+        (map view.context_view items.now) (view.entity_view tree.now)) result }
+{
+    let architecture = architecture_name(outline, &tree.name.text);
+    let viewed = entity(alloc, items, tree, architecture)?;
+    add_entity(alloc, entities, viewed)
+}
+
+/// One more unit, which may be an entity.
+pub fn add_unit<'a>(
+    alloc: Global,
+    entities: &mut Entities<'a>,
+    outline: &Outline<'a>,
+    unit: &'a DesignUnit,
+) -> Result<(), NameFault>
+    ensures { Gives (λ _. entities_view entities.new)
+        (steps.with_unit (architectures_view outline.now.architectures) (entities_view entities.old) (view.unit_view unit.now)) result }
+{
+    match &unit.unit {
+        LibraryUnit::Entity(tree) => add_viewed(alloc, entities, outline, &unit.context, tree),
+        LibraryUnit::Architecture(_) => Ok(()),
+    }
+}
+
+/// The entities of a file in order of the text, each with the name of its architecture. It takes
+/// memory for what is declared in each and analysed of it.
+pub fn entities_of<'a>(
+    alloc: Global,
+    file: &'a File,
+    outline: &Outline<'a>,
+) -> Result<Entities<'a>, NameFault>
+    ensures { Gives entities_view (in_turn (steps.with_unit (architectures_view outline.now.architectures)) [] (view.units_view file.now.units)) result }
+{
+    let mut entities = IndexMap::new(alloc);
+    for unit in &file.units {
+        add_unit(alloc, &mut entities, outline, unit)?;
+    }
+    Ok(entities)
+}

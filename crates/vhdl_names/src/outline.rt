@@ -1,0 +1,125 @@
+//! The entities and architectures of a file, before they are analysed (IEEE 1076-2008, 3.2, 3.3 and 13.1).
+
+ghost use Rattle.std.specs.Prelude.{◌≡◌, map, option_map, bytes_eq, find};
+ghost use Rattle.vhdl_names_labels.specs.Lists.{in_turn};
+ghost use Rattle.vhdl_names_labels.specs.Once.{names_view};
+ghost use Rattle.vhdl_names.specs.Views.{described_view, outline_view, architectures_view};
+ghost use Rattle.vhdl_names.specs.steps.Outlines as steps;
+ghost use Rattle.vhdl_names_rules.specs.Gives.{Gives};
+ghost use Rattle.vhdl_names_rules.specs.Visibility.{is_among};
+ghost use Rattle.vhdl_tree.specs.View as view;
+
+use indexmap::{IndexMap, IndexSet};
+use std::alloc::Global;
+use vhdl_names_instances::{Names, add_name};
+use vhdl_names_rules::{NameFault, NameProblem};
+use vhdl_tree::{Architecture, ContextItem, DesignUnit, Entity, File, LibraryUnit};
+
+/// An architecture behind its context items.
+#[derive(Drop)]
+pub struct Described<'a> {
+    pub items: &'a [ContextItem],
+    pub tree: &'a Architecture,
+}
+
+/// Architectures in order of the text, by the names of their entities.
+pub type Architectures<'a> = IndexMap<Vec<u8>, Described<'a>>;
+
+/// The names of a file's entities, and its architectures.
+#[derive(Drop)]
+pub struct Outline<'a> {
+    pub entities: Names,
+    pub architectures: Architectures<'a>,
+}
+
+/// One more architecture, of an entity that none before it is of; else it is a SecondArchitecture.
+fn add_described<'a>(
+    alloc: Global,
+    architectures: &mut Architectures<'a>,
+    described: Described<'a>,
+) -> Result<(), NameFault>
+    ensures { Gives (λ _. architectures_view architectures.new) (steps.one_described (architectures_view architectures.old) (described_view described.entry)) result }
+{
+    let entity = &described.tree.entity;
+    if architectures.contains_key(entity.text.as_slice()) {
+        return Err(NameProblem::SecondArchitecture.at(entity.at));
+    }
+    let key = Vec::from_slice(alloc, &entity.text)?;
+    architectures.insert(key, described)?;
+    Ok(())
+}
+
+/// Whether a name is among some.
+fn has_name(names: &Names, name: &[u8]) -> bool
+    ensures { result ≡ is_among name.now (names_view names.now) }
+{
+    names.contains(name)
+}
+
+/// One more entity, whose name none before it has.
+fn add_entity(alloc: Global, outline: &mut Outline<'_>, tree: &Entity) -> Result<(), NameFault>
+    ensures { Gives (λ _. outline_view outline.new) (steps.with_entity (outline_view outline.old) (view.entity_view tree.now)) result }
+{
+    add_name(alloc, &mut outline.entities, &tree.name.text, tree.name.at)
+}
+
+/// One more architecture, whose entity is among those before it; else that is Undeclared.
+fn add_architecture<'a>(
+    alloc: Global,
+    outline: &mut Outline<'a>,
+    items: &'a [ContextItem],
+    tree: &'a Architecture,
+) -> Result<(), NameFault>
+    ensures { Gives (λ _. outline_view outline.new)
+        (steps.with_architecture (outline_view outline.old) (map view.context_view items.entry.now) (view.architecture_view tree.entry.now)) result }
+{
+    if !has_name(&outline.entities, &tree.entity.text) {
+        return Err(NameProblem::Undeclared.at(tree.entity.at));
+    }
+    add_described(alloc, &mut outline.architectures, Described { items, tree })
+}
+
+/// One more unit.
+pub fn add_unit<'a>(
+    alloc: Global,
+    outline: &mut Outline<'a>,
+    unit: &'a DesignUnit,
+) -> Result<(), NameFault>
+    ensures { Gives (λ _. outline_view outline.new) (steps.with_unit (outline_view outline.old) (view.unit_view unit.now)) result }
+{
+    match &unit.unit {
+        LibraryUnit::Entity(tree) => add_entity(alloc, outline, tree),
+        LibraryUnit::Architecture(tree) => add_architecture(alloc, outline, &unit.context, tree),
+    }
+}
+
+/// The units of a file one after another.
+fn outline_in_turn<'a>(alloc: Global, file: &'a File) -> Result<Outline<'a>, NameFault>
+    ensures { Gives outline_view (in_turn steps.with_unit steps.no_outline (view.units_view file.now.units)) result }
+{
+    let mut outline = Outline {
+        entities: IndexSet::new(alloc),
+        architectures: IndexMap::new(alloc),
+    };
+    for unit in &file.units {
+        add_unit(alloc, &mut outline, unit)?;
+    }
+    Ok(outline)
+}
+
+/// The entities and architectures of a file: no two entities have one name, no two architectures
+/// are of one entity, and each stands after its entity. It fails at the first unit where that does
+/// not hold. It takes the memory of the names.
+#[tactic(auto, using(crate::proofs::Outlining::outlined_in_turn))]
+pub fn outline_of<'a>(alloc: Global, file: &'a File) -> Result<Outline<'a>, NameFault>
+    ensures { Gives outline_view (steps.outlined (view.units_view file.now.units)) result }
+{
+    outline_in_turn(alloc, file)
+}
+
+/// The architecture of the entity of a name, if the file has one.
+pub fn architecture_of<'o, 'a>(outline: &'o Outline<'a>, name: &[u8]) -> Option<&'o Described<'a>>
+    ensures { option_map (λ d. described_view d.now) result ≡ steps.described_of name.now (architectures_view outline.now.architectures) }
+{
+    outline.architectures.get(name)
+}

@@ -1,0 +1,54 @@
+//! What instances see of the entities of a file (IEEE 1076-2008, 6.5.6 and 11.7).
+
+ghost use Rattle.std.specs.Prelude.{◌≡◌, Some};
+ghost use Rattle.vhdl_names.specs.steps.Tables as steps;
+ghost use Rattle.vhdl_names.specs.steps.Tables.{table_view};
+ghost use Rattle.vhdl_names_instances.specs.Table.{seen_view, seen};
+ghost use Rattle.vhdl_names_interfaces.specs.Views.{entity_view, entities_view, named_view};
+ghost use Rattle.vhdl_names_rules.specs.Gives.{Gives};
+
+use indexmap::IndexSet;
+use std::alloc::Global;
+use vhdl_names_instances::{Formals, add_name, formals_of};
+use vhdl_names_interfaces::{Entities, EntityInterface};
+use vhdl_names_rules::NameFault;
+
+/// What instances see of an entity.
+fn seen_of(alloc: Global, entity: &EntityInterface<'_>) -> Result<Formals, NameFault>
+    ensures { Gives seen_view (Some (seen (entity_view entity.now))) result }
+{
+    let _apart = entity.region.len();
+    formals_of(alloc, &entity.region, &entity.architecture)
+}
+
+/// One more entity, under a name that none before it has.
+fn add_seen(
+    alloc: Global,
+    table: &mut vhdl_names_instances::Entities,
+    name: &[u8],
+    entity: &EntityInterface<'_>,
+) -> Result<(), NameFault>
+    ensures { Gives (λ _. table_view table.new) (steps.with_seen (table_view table.old) (named_view name.now entity.now)) result }
+{
+    let formals = seen_of(alloc, entity)?;
+    add_name(alloc, &mut table.names, name, 0)?;
+    table.formals.push(formals)?;
+    Ok(())
+}
+
+/// The entities of a file as instances see them. It fails for want of memory alone, and takes that
+/// of their names and of the names of their generics and ports.
+pub fn table(alloc: Global, entities: &Entities<'_>) -> Result<vhdl_names_instances::Entities, NameFault>
+    ensures { Gives table_view (Some (steps.table_of (entities_view entities.now))) result }
+{
+    let _apart = entities.len();
+    let mut table = vhdl_names_instances::Entities {
+        names: IndexSet::new(alloc),
+        formals: Vec::new(alloc),
+    };
+    for place in 0..entities.len() {
+        let (name, entity) = entities.get_index(place).unwrap();
+        add_seen(alloc, &mut table, name.as_slice(), entity)?;
+    }
+    Ok(table)
+}

@@ -1,0 +1,21 @@
+use Rattle.std.proofs.Common.{◌≡◌, [], map}
+use Rattle.vhdl_names_rules.specs.Declarations.{in_order}
+use Rattle.vhdl_names_rules.specs.Files.{declaration}
+use Rattle.vhdl_names_rules.specs.Visibility.{with_declared}
+use Rattle.vhdl_tree.specs.View.{declaration_view}
+use Rattle.vhdl_names_types.specs.Views.{sight_view, region_view}
+use Rattle.vhdl_names_units.specs.views.Declarations.{declarations_view}
+use Rattle.vhdl_names_declarations.specs.Counts.{AreCounts}
+use Rattle.vhdl_names_declarations.specs.Entered.{entering}
+use Rattle.vhdl_names_declarations.proofs.Listed.{left}
+use Rattle.vhdl_names_interfaces.specs.Views.{entities_view}
+use Rattle.vhdl_names_components.proofs.architecture.declarations.Given as goal
+
+-- what is left, on what is done, gives the whole; what is in the region is counted; no region encloses it
+abbrev pub invariant-loop-one : goal.invariant-loop-one
+invariant-loop-one l =
+    let declares = declaration (entities_view l.entities) in
+    (entering (in_order with_declared declares) (sight_view l.initial.sight) (map declaration_view l.all)
+    ≡ left declares declaration_view (sight_view l.sight) (declarations_view l.done) l.all l.one-index)
+    × AreCounts l.counts (region_view l.sight.region)
+    × (region_view l.sight.enclosing ≡ [])

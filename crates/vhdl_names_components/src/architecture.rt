@@ -1,0 +1,100 @@
+//! The declarations of an architecture (IEEE 1076-2008, 3.3.2).
+
+ghost use Rattle.std.specs.Prelude.{◌≡◌, ◌++◌, [], map, OnOk};
+ghost use Rattle.vhdl_names_components.specs.Components.{analysed_view};
+ghost use Rattle.vhdl_names_declarations.specs.Counts.{AreCounts};
+ghost use Rattle.vhdl_names_declarations.specs.Entered.{entering};
+ghost use Rattle.vhdl_names_interfaces.specs.Views.{entities_view};
+ghost use Rattle.vhdl_names_rules.specs.Declarations.{in_order};
+ghost use Rattle.vhdl_names_rules.specs.Files as rules;
+ghost use Rattle.vhdl_names_rules.specs.Gives.{Gives};
+ghost use Rattle.vhdl_names_rules.specs.Visibility.{with_declared};
+ghost use Rattle.vhdl_tree.specs.View as tree;
+ghost use Rattle.vhdl_names_types.specs.Views.{region_view, sight_view};
+ghost use Rattle.vhdl_names_units.specs.views.Declarations.{declarations_view};
+
+use crate::components::component;
+use std::alloc::{AllocError, Global};
+use vhdl_names_declarations::Counts;
+use vhdl_names_declarations::constants::constants;
+use vhdl_names_declarations::enumeration::enumeration;
+use vhdl_names_declarations::objects::signals;
+use vhdl_names_interfaces::Entities;
+use vhdl_names_rules::NameFault;
+use vhdl_tree as syntax;
+use vhdl_names_types::Sight;
+use vhdl_names_units::Declaration;
+
+/// One declaration, whose objects are numbered from here on. Nothing is analysed of a type or a
+/// component.
+fn declaration(
+    alloc: Global,
+    entities: &Entities<'_>,
+    sight: &mut Sight,
+    counts: Counts,
+    one: &syntax::Declaration,
+) -> Result<Option<Declaration>, NameFault>
+    requires counts { AreCounts counts (sight_view sight.old).region }
+    requires outermost { region_view sight.old.enclosing ≡ [] }
+    ensures given { Gives (λ d. (sight_view sight.new, analysed_view d))
+        (entering (rules.declaration (entities_view entities.now)) (sight_view sight.old) (tree.declaration_view one.now)) result }
+    ensures outermost { OnOk result (region_view sight.new.enclosing ≡ []) }
+{
+    match one {
+        syntax::Declaration::Signals(one) => {
+            let done = signals(alloc, sight, counts.signals, one)?;
+            Ok(Some(done))
+        }
+        syntax::Declaration::Constants(one) => {
+            let done = constants(alloc, sight, counts.integers, counts.constants, one)?;
+            Ok(Some(done))
+        }
+        syntax::Declaration::Enumeration(one) => {
+            enumeration(alloc, sight, counts.enumerations, one)?;
+            Ok(None)
+        }
+        syntax::Declaration::Component(one) => {
+            component(alloc, entities, sight, one)?;
+            Ok(None)
+        }
+    }
+}
+
+/// One more, if there is one.
+#[tactic(auto, using(crate::proofs::Standing::none_more, crate::proofs::Standing::one_more))]
+fn push_if_any(done: &mut Vec<Declaration>, one: Option<Declaration>) -> Result<(), AllocError>
+    ensures { OnOk result (declarations_view done.new ≡ declarations_view done.old ++ analysed_view one) }
+{
+    match one {
+        None => Ok(()),
+        Some(one) => {
+            done.push(one)?;
+            Ok(())
+        }
+    }
+}
+
+/// The declarations of an architecture, which are in sight of what follows; no region encloses that
+/// of the sight. It takes memory for what is declared and analysed.
+pub fn declarations(
+    alloc: Global,
+    entities: &Entities<'_>,
+    sight: &mut Sight,
+    all: &[syntax::Declaration],
+) -> Result<Vec<Declaration>, NameFault>
+    requires { region_view sight.old.enclosing ≡ [] }
+    ensures given { Gives (λ v. (sight_view sight.new, declarations_view v))
+        (entering (in_order with_declared (rules.declaration (entities_view entities.now))) (sight_view sight.old) (map tree.declaration_view all.now)) result }
+    ensures outermost { OnOk result (region_view sight.new.enclosing ≡ []) }
+{
+    let mut done = Vec::new(alloc);
+    let _apart = sight.region.len();
+    let mut counts = Counts::NONE.of(&sight.region, 0);
+    for one in all {
+        let first = sight.region.len();
+        let next = declaration(alloc, entities, sight, counts, one)?;
+        push_if_any(&mut done, next)?;
+        counts = counts.of(&sight.region, first);
+    }
+    Ok(done)
+}

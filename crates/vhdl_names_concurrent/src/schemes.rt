@@ -1,0 +1,29 @@
+//! What generates go by (IEEE 1076-2008, 11.9).
+
+ghost use Rattle.std.specs.Prelude.{List, ℕ};
+ghost use Rattle.vhdl_names_rules.specs.Concurrent as rules;
+ghost use Rattle.vhdl_names_rules.specs.Gives.{Gives};
+ghost use Rattle.vhdl_names_rules.specs.units.Units as units;
+ghost use Rattle.vhdl_tree.specs.View.{scheme_view};
+ghost use Rattle.vhdl_names_types.specs.Views.{sight_view};
+ghost use Rattle.vhdl_names_units.specs.views.Concurrent.{generated};
+
+use std::alloc::Global;
+use vhdl_names_rules::NameFault;
+use vhdl_tree as syntax;
+use vhdl_names_types::Sight;
+use vhdl_names_expressions::{static_condition, static_range};
+use vhdl_names_units::Scheme;
+
+/// A parameter's range, or a condition over static integers.
+pub fn scheme(alloc: Global, sight: &Sight, scheme: &syntax::Scheme) -> Result<Scheme, NameFault>
+    ensures { (label : List ℕ) (body : units.Concurrents) → Gives (generated label body)
+        (rules.generated (sight_view sight.now) label (scheme_view scheme.now) body) result }
+{
+    match scheme {
+        syntax::Scheme::For { range, .. } => Ok(Scheme::For(static_range(alloc, sight, range)?)),
+        syntax::Scheme::If { condition } => {
+            Ok(Scheme::If(static_condition(alloc, sight, condition)?))
+        }
+    }
+}

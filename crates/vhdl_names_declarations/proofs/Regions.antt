@@ -1,0 +1,208 @@
+-- Names of a region, and declarations that enter it.
+use Rattle.std.proofs.Common.{◌≡◌, ℕ, zero, suc, ◌+◌, ◌<◌, ◌≤◌, Bool, true, false, cond, not, ◌&&◌, ◌||◌, List, [], ◌∷◌, ◌++◌, map, length, take, drop, get_or, Option, Some, None, Vec, Global, refl, sym, ap, ◌∙◌, true≢false, append_assoc, append-nil, arith}
+use Rattle.std.specs.Prelude.{option_map, bytes_eq, is_some}
+use Rattle.std.specs.List.{list_any, IsDistinct, AllByRecursion}
+use Rattle.std.specs.Map.{lookup, keys_of}
+use Rattle.std.proofs.lemmas.Map.Keys.{IsDistinct-head, IsDistinct-tail}
+use Rattle.std.proofs.Math.Seq.{drop-cons}
+use Rattle.std.proofs.lemmas.List.{map-append, length-map, drop_all}
+use Rattle.std.proofs.lemmas.Slice.Eq.{bytes_eq-Decides}
+use Rattle.vhdl_names_rules.specs.Rules.{◌>>=◌, met}
+use Rattle.vhdl_names_rules.specs.Visibility as v
+use Rattle.vhdl_tree.specs.declared.expression.Identifier.{Identifier}
+use Rattle.vhdl_tree.specs.View.{ident_view}
+use Rattle.vhdl_names_rules.specs.Visibility.{Name, names_of, Declared, Meaning, is_among, are_distinct, all_declared, numbered}
+use Rattle.vhdl_names_rules.specs.Interfaces.{declared_names}
+use Rattle.vhdl_names_types.specs.declared.meaning.Meaning.{Meaning as CodeMeaning}
+use Rattle.vhdl_names_types.specs.Views.{meaning_view, entry_view}
+use Rattle.vhdl_names_declarations.specs.Entered.{more}
+use Rattle.vhdl_names_declarations.specs.Settled.{settled}
+use Rattle.indexmap.specs.Layout.{set_value_at}
+
+-- ---- names
+
+pub names-append : (ds es : List Declared) → declared_names (ds ++ es) ≡ declared_names ds ++ declared_names es
+names-append [] es = refl
+names-append (d ∷ ds) es = ap (λ ns. d.name ∷ ns) (names-append ds es)
+
+pub names-numbered : (f : ℕ → Meaning) (k : ℕ) (ns : List Name) → declared_names (numbered f k ns) ≡ ns
+names-numbered f k [] = refl
+names-numbered f k (n ∷ ns) = ap (λ ns. n ∷ ns) (names-numbered f (suc k) ns)
+
+pub names-all : (m : Meaning) (ns : List Name) → declared_names (all_declared m ns) ≡ ns
+names-all m [] = refl
+names-all m (n ∷ ns) = ap (λ ns. n ∷ ns) (names-all m ns)
+
+among-append : (n : Name) (ms ns : List Name) → is_among n (ms ++ ns) ≡ is_among n ms || is_among n ns
+among-append n [] ns = refl
+among-append n (m ∷ ms) ns = go (bytes_eq n m) (among-append n ms ns)
+  where
+    go : (b : Bool) → is_among n (ms ++ ns) ≡ is_among n ms || is_among n ns → b || is_among n (ms ++ ns) ≡ (b || is_among n ms) || is_among n ns
+    go true h = refl
+    go false h = h
+
+-- names that are not distinct are not among more
+pub still_twice : (ms ns : List Name) → are_distinct ms ≡ false → are_distinct (ms ++ ns) ≡ false
+still_twice [] ns h = absurd (true≢false h)
+still_twice (m ∷ ms) ns h =
+    ap (λ b. not b && are_distinct (ms ++ ns)) (among-append m ms ns) ∙ go (is_among m ms) h (still_twice ms ns)
+  where
+    go : (b : Bool) → not b && are_distinct ms ≡ false → (are_distinct ms ≡ false → are_distinct (ms ++ ns) ≡ false)
+        → not (b || is_among m ns) && are_distinct (ms ++ ns) ≡ false
+    go true h more = refl
+    go false h more = after (is_among m ns) (more h)
+      where
+        after : (c : Bool) → are_distinct (ms ++ ns) ≡ false → not c && are_distinct (ms ++ ns) ≡ false
+        after true h = refl
+        after false h = h
+
+bytes_eq-sym : (m n : Name) → bytes_eq m n ≡ bytes_eq n m
+bytes_eq-sym m n = go (bytes_eq m n) refl (bytes_eq n m) refl
+  where
+    go : (b : Bool) → bytes_eq m n ≡ b → (c : Bool) → bytes_eq n m ≡ c → b ≡ c
+    go true p true q = refl
+    go true p false q = sym ((bytes_eq-Decides n m).1 (sym ((bytes_eq-Decides m n).0 p))) ∙ q
+    go false p true q = sym p ∙ (bytes_eq-Decides m n).1 (sym ((bytes_eq-Decides n m).0 q))
+    go false p false q = refl
+
+-- one name more
+distinct-last : (ms : List Name) (n : Name) → are_distinct (ms ++ n ∷ []) ≡ are_distinct ms && not (is_among n ms)
+distinct-last [] n = refl
+distinct-last (m ∷ ms) n =
+    ap (λ b. not b && are_distinct (ms ++ n ∷ [])) (among-append m ms (n ∷ []))
+    ∙ ap (λ b. not (is_among m ms || (b || false)) && are_distinct (ms ++ n ∷ [])) (bytes_eq-sym m n)
+    ∙ ap (λ b. not (is_among m ms || (bytes_eq n m || false)) && b) (distinct-last ms n)
+    ∙ go (is_among m ms) (bytes_eq n m) (are_distinct ms) (is_among n ms)
+  where
+    go : (a b c d : Bool) → not (a || (b || false)) && (c && not d) ≡ (not a && c) && not (b || d)
+    go true b c d = refl
+    go false true true d = refl
+    go false true false d = refl
+    go false false c d = refl
+
+-- ---- regions
+
+pub more_split : (ds es fs : List Declared) → more ds (es ++ fs) ≡ (more ds es >>= λ r. more r fs)
+more_split ds es fs =
+    ap (λ l. met (are_distinct (declared_names l)) >>= λ _. Some l) (sym (append_assoc ds es fs)) ∙ go (are_distinct (declared_names (ds ++ es))) refl
+  where
+    go : (b : Bool) → are_distinct (declared_names (ds ++ es)) ≡ b
+        → (met (are_distinct (declared_names ((ds ++ es) ++ fs))) >>= λ _. Some ((ds ++ es) ++ fs)) ≡ ((met b >>= λ _. Some (ds ++ es)) >>= λ r. more r fs)
+    go true h = refl
+    go false h =
+        ap (λ b. met b >>= λ _. Some ((ds ++ es) ++ fs))
+        (ap are_distinct (names-append (ds ++ es) fs) ∙ still_twice (declared_names (ds ++ es)) (declared_names fs) h)
+
+pub more_none : (ds : List Declared) → are_distinct (declared_names ds) ≡ true → more ds [] ≡ Some ds
+more_none ds h =
+    ap (λ l. met (are_distinct (declared_names l)) >>= λ _. Some l) (append-nil ds) ∙ ap (λ b. met b >>= λ _. Some ds) h
+
+more_last : (ds : List Declared) (d : Declared) → are_distinct (declared_names ds) ≡ true →
+    more ds (d ∷ []) ≡ (met (not (is_among d.name (declared_names ds))) >>= λ _. Some (ds ++ d ∷ []))
+more_last ds d h =
+    ap (λ b. met b >>= λ _. Some (ds ++ d ∷ []))
+    (ap are_distinct (names-append ds (d ∷ [])) ∙ distinct-last (declared_names ds) d.name ∙ ap (λ b. b && not (is_among d.name (declared_names ds))) h)
+
+-- ---- tables
+
+pub among_keys : (n : Name) (es : List (Vec ℕ Global × CodeMeaning)) → is_some (lookup (λ k. bytes_eq n k.items) es) ≡ is_among n (declared_names (map entry_view es))
+among_keys n [] = refl
+among_keys n (e ∷ es) = by (bytes_eq n e.0.items) (among_keys n es)
+  where
+    by : (b : Bool) → is_some (lookup (λ k. bytes_eq n k.items) es) ≡ is_among n (declared_names (map entry_view es))
+        → is_some (cond b (Some e.1) (lookup (λ k. bytes_eq n k.items) es)) ≡ b || is_among n (declared_names (map entry_view es))
+    by true h = refl
+    by false h = h
+
+none_among : (k : Vec ℕ Global) (es : List (Vec ℕ Global × CodeMeaning)) → AllByRecursion (λ y. bytes_eq k.items y.items ≡ false) (keys_of es)
+    → is_among k.items (declared_names (map entry_view es)) ≡ false
+none_among k [] h = refl
+none_among k (e ∷ es) h = ap (λ b. b || is_among k.items (declared_names (map entry_view es))) h.0 ∙ none_among k es h.1
+
+-- a table's names are distinct
+pub names_apart : (es : List (Vec ℕ Global × CodeMeaning)) → IsDistinct (λ a b. bytes_eq a.items b.items) (keys_of es)
+    → are_distinct (declared_names (map entry_view es)) ≡ true
+names_apart [] h = refl
+names_apart (e ∷ es) h =
+    ap (λ b. not b && are_distinct (declared_names (map entry_view es))) (none_among e.0 es (IsDistinct-head (λ a b. bytes_eq a.items b.items) e.0 (keys_of es) h))
+    ∙ names_apart es (IsDistinct-tail (λ a b. bytes_eq a.items b.items) e.0 (keys_of es) h)
+
+none_of : (o : Option CodeMeaning) → is_some o ≡ false → o ≡ None
+none_of None h = refl
+none_of (Some m) h = absurd (true≢false h)
+
+pub absent : (es : List (Vec ℕ Global × CodeMeaning)) (n : Name) → is_some (lookup (λ k. bytes_eq n k.items) es) ≡ false → lookup (λ k. bytes_eq n k.items) es ≡ None
+absent es n h = none_of (lookup (λ k. bytes_eq n k.items) es) h
+
+pub refused : (es : List (Vec ℕ Global × CodeMeaning)) (n : Name) (m : Meaning) → IsDistinct (λ a b. bytes_eq a.items b.items) (keys_of es)
+    → is_some (lookup (λ k. bytes_eq n k.items) es) ≡ true → more (map entry_view es) (v.declare n m ∷ []) ≡ None
+refused es n m apart there =
+    more_last (map entry_view es) (v.declare n m) (names_apart es apart)
+    ∙ ap (λ b. met (not b) >>= λ _. Some (map entry_view es ++ v.declare n m ∷ [])) (sym (among_keys n es) ∙ there)
+
+pub grown : (es es' : List (Vec ℕ Global × CodeMeaning)) (n : Name) (key : Vec ℕ Global) (m : CodeMeaning) → IsDistinct (λ a b. bytes_eq a.items b.items) (keys_of es)
+    → is_some (lookup (λ k. bytes_eq n k.items) es) ≡ false → key.items ≡ n → es' ≡ es ++ (key, m) ∷ []
+    → more (map entry_view es) (v.declare n (meaning_view m) ∷ []) ≡ Some (map entry_view es')
+grown es es' n key m apart new same e =
+    more_last (map entry_view es) (v.declare n (meaning_view m)) (names_apart es apart)
+    ∙ ap (λ b. met (not b) >>= λ _. Some (map entry_view es ++ v.declare n (meaning_view m) ∷ [])) (sym (among_keys n es) ∙ new)
+    ∙ ap (λ t. Some (map entry_view es ++ v.declare t (meaning_view m) ∷ [])) (sym same)
+    ∙ ap Some (sym (map-append entry_view es ((key, m) ∷ []))) ∙ ap (λ l. Some (map entry_view l)) (sym e)
+
+-- ---- names that are settled
+
+place_more : (f : ℕ → Meaning) (number place : ℕ) (es : List (Vec ℕ Global × CodeMeaning)) (m : CodeMeaning) → place < length es → meaning_view m ≡ f number →
+    settled f number place (map entry_view es) ≡ settled f (suc number) (suc place) (map entry_view (set_value_at es place m))
+place_more f number place [] m lt is = absurd (omega arith)
+place_more f number zero (e ∷ es) m lt is = ap (λ x. v.declare e.0.items x ∷ numbered f (suc number) (declared_names (map entry_view es))) (sym is)
+place_more f number (suc place) (e ∷ es) m lt is =
+    ap (λ ds. entry_view e ∷ ds) (place_more f number place es m (omega (arith, lt)) is)
+
+pub settled_more : (f : ℕ → Meaning) (number place place' : ℕ) (es : List (Vec ℕ Global × CodeMeaning)) (m : CodeMeaning) → place < length es → place' ≡ place + 1 → meaning_view m ≡ f number →
+    settled f number place (map entry_view es) ≡ settled f (number + 1) place' (map entry_view (set_value_at es place m))
+settled_more f number place place' es m lt next is =
+    let s : suc number ≡ number + 1 = omega arith in
+    let t : suc place ≡ place' = omega arith in
+    place_more f number place es m lt is
+    ∙ ap (λ k. settled f k (suc place) (map entry_view (set_value_at es place m))) s
+    ∙ ap (λ k. settled f (number + 1) k (map entry_view (set_value_at es place m))) t
+
+pub settled_all : (f : ℕ → Meaning) (number : ℕ) (ds : List Declared) → settled f number (length ds) ds ≡ ds
+settled_all f number [] = refl
+settled_all f number (d ∷ ds) = ap (λ l. d ∷ l) (settled_all f number ds)
+
+-- ---- names of one meaning
+
+abbrev pub all_of_names : Meaning → List Identifier → List Declared
+all_of_names m names = all_declared m (names_of (map ident_view names))
+
+pub next_name : (ds : List Declared) (m : Meaning) (names : List Identifier) (i : ℕ) (n : Identifier) → i < length names → n ≡ get_or names i n →
+    more ds (all_of_names m (drop i names)) ≡ (more ds (v.declare n.text.items m ∷ []) >>= λ r. more r (all_of_names m (drop (i + 1) names)))
+next_name ds m names i n lt is =
+    let s : suc i ≡ i + 1 = omega arith in
+    ap (λ l. more ds (all_of_names m l)) (drop-cons names i n lt)
+    ∙ ap (λ k. more ds (v.declare k.text.items m ∷ all_of_names m (drop (suc i) names))) (sym is)
+    ∙ more_split ds (v.declare n.text.items m ∷ []) (all_of_names m (drop (suc i) names))
+    ∙ ap (λ k. more ds (v.declare n.text.items m ∷ []) >>= λ r. more r (all_of_names m (drop k names))) s
+
+pub no_names : (es : List (Vec ℕ Global × CodeMeaning)) (m : Meaning) (names : List Identifier) (i : ℕ) → length names ≤ i → IsDistinct (λ a b. bytes_eq a.items b.items) (keys_of es) →
+    more (map entry_view es) (all_of_names m (drop i names)) ≡ Some (map entry_view es)
+no_names es m names i le apart = ap (λ l. more (map entry_view es) (all_of_names m l)) (drop_all i names le) ∙ more_none (map entry_view es) (names_apart es apart)
+
+pub settled_end : (f : ℕ → Meaning) (number place : ℕ) (es : List (Vec ℕ Global × CodeMeaning)) → place ≡ length es → settled f number place (map entry_view es) ≡ map entry_view es
+settled_end f number place es e =
+    ap (λ k. settled f number k (map entry_view es)) (e ∙ sym (length-map es entry_view)) ∙ settled_all f number (map entry_view es)
+
+-- ---- declarations one by one
+
+pub next_of : {X : Type 0} (view : X → Declared) (ds : List Declared) (xs : List X) (i : ℕ) (none : X) → i < length xs →
+    more ds (map view (drop i xs)) ≡ (more ds (view (get_or xs i none) ∷ []) >>= λ r. more r (map view (drop (i + 1) xs)))
+next_of view ds xs i none lt =
+    let s : suc i ≡ i + 1 = omega arith in
+    ap (λ l. more ds (map view l)) (drop-cons xs i none lt)
+    ∙ more_split ds (view (get_or xs i none) ∷ []) (map view (drop (suc i) xs))
+    ∙ ap (λ k. more ds (view (get_or xs i none) ∷ []) >>= λ r. more r (map view (drop k xs))) s
+
+pub none_left : {X : Type 0} (view : X → Declared) (es : List (Vec ℕ Global × CodeMeaning)) (xs : List X) (i : ℕ) → length xs ≤ i → IsDistinct (λ a b. bytes_eq a.items b.items) (keys_of es) →
+    more (map entry_view es) (map view (drop i xs)) ≡ Some (map entry_view es)
+none_left view es xs i le apart = ap (λ l. more (map entry_view es) (map view l)) (drop_all i xs le) ∙ more_none (map entry_view es) (names_apart es apart)

@@ -1,0 +1,57 @@
+use Rattle.std.proofs.Common.{rules, arith, ◌≡◌, ◌≢◌, ◌+◌, ◌<◌, ◌≤◌, List, [], ◌∷◌, length, map, Some, None, ap, ◌∙◌, sym}
+use Rattle.std.proofs.lemmas.Grind.{common_steps}
+use Rattle.std.proofs.lemmas.List.{length-map}
+use Rattle.vhdl_names_rules.specs.declared.fault.NameFault.TheVariants.{NoMemory}
+use Rattle.vhdl_names_rules.specs.Rules.{◌>>=◌}
+use Rattle.vhdl_names_rules.specs.Declarations as d
+use Rattle.vhdl_names_rules.specs.Visibility as m
+use Rattle.vhdl_names_rules.specs.Visibility.{names_of, declare, Declared}
+use Rattle.vhdl_tree.specs.View.{ident_view, enumeration_view}
+use Rattle.vhdl_names_types.specs.Views.{region_view, sight_view}
+use Rattle.vhdl_names_declarations.specs.Entered.{more, entering}
+use Rattle.vhdl_names_declarations.proofs.Declaring.{too_many, enumeration_is, in_region}
+use Rattle.vhdl_names_declarations.proofs.enumeration.enumeration.Goals as goal
+
+pub returns-then-count-gt256-clause-given : goal.returns-then-count-gt256-clause-given
+returns-then-count-gt256-clause-given c = λ n.
+    let size = length-map c.args.declaration.now.literals.items ident_view in
+    too_many (sight_view c.args.sight.now) (enumeration_view c.args.declaration.now) (omega (arith, size))
+
+pub returns-in_err-declare-clause-given : goal.returns-in_err-declare-clause-given
+returns-in_err-declare-clause-given c =
+    let s = sight_view c.args.sight.now in
+    let d' = enumeration_view c.args.declaration.now in
+    let size = length-map c.args.declaration.now.literals.items ident_view in
+    let count : c.len-count.result ≡ length (enumeration_view c.args.declaration.now).literals = omega (arith, size) in
+    let f : c.in_err-declare.field-0.0 ≢ NoMemory → entering d.enumeration (sight_view c.args.sight.now) (enumeration_view c.args.declaration.now) ≡ None =
+    λ n. enumeration_is s d' c.args.number c.len-count.result c.requires count (omega arith)
+    ∙ ap (λ o. (o >>= λ r. more r (d.literals c.args.number c.len-count.result 0 (names_of d'.literals))) >>= in_region s) (c.in_err-declare.ensures n) in
+    first_of (search rules, grind (arith, common_steps))
+
+pub returns-in_err-literals-clause-given : goal.returns-in_err-literals-clause-given
+returns-in_err-literals-clause-given c =
+    let s = sight_view c.args.sight.now in
+    let d' = enumeration_view c.args.declaration.now in
+    let size = length-map c.args.declaration.now.literals.items ident_view in
+    let count : c.len-count.result ≡ length (enumeration_view c.args.declaration.now).literals = omega (arith, size) in
+    let same : c.len-count.result ≡ length c.deref.result.now = omega (arith, c.deref.ensures.len) in
+    let f : c.in_err-literals.field-0.0 ≢ NoMemory → entering d.enumeration (sight_view c.args.sight.now) (enumeration_view c.args.declaration.now) ≡ None =
+    λ n. enumeration_is s d' c.args.number c.len-count.result c.requires count (omega arith)
+    ∙ ap (λ o. (o >>= λ r. more r (d.literals c.args.number c.len-count.result 0 (names_of d'.literals))) >>= in_region s) c.in_ok-declare.ensures
+    ∙ ap (λ k. more (region_view c.declare.new.region) (d.literals c.args.number k 0 (names_of d'.literals)) >>= in_region s) same
+    ∙ ap (λ l. more (region_view c.declare.new.region) (d.literals c.args.number (length c.deref.result.now) 0 (names_of (map ident_view l))) >>= in_region s) (sym c.deref.ensures.value)
+    ∙ ap (λ o. o >>= in_region s) (c.in_err-literals.ensures n) in
+    first_of (search rules, grind (arith, common_steps))
+
+pub returns-clause-given : goal.returns-clause-given
+returns-clause-given c =
+    let s = sight_view c.args.sight.now in
+    let d' = enumeration_view c.args.declaration.now in
+    let size = length-map c.args.declaration.now.literals.items ident_view in
+    let count : c.len-count.result ≡ length (enumeration_view c.args.declaration.now).literals = omega (arith, size) in
+    let same : c.len-count.result ≡ length c.deref.result.now = omega (arith, c.deref.ensures.len) in
+    enumeration_is s d' c.args.number c.len-count.result c.requires count (omega arith)
+    ∙ ap (λ o. (o >>= λ r. more r (d.literals c.args.number c.len-count.result 0 (names_of d'.literals))) >>= in_region s) c.in_ok-declare.ensures
+    ∙ ap (λ k. more (region_view c.declare.new.region) (d.literals c.args.number k 0 (names_of d'.literals)) >>= in_region s) same
+    ∙ ap (λ l. more (region_view c.declare.new.region) (d.literals c.args.number (length c.deref.result.now) 0 (names_of (map ident_view l))) >>= in_region s) (sym c.deref.ensures.value)
+    ∙ ap (λ o. o >>= in_region s) c.in_ok-literals.ensures

@@ -1,0 +1,22 @@
+use Rattle.std.proofs.Common.{rules, arith, ◌≡◌, ◌≢◌, [], map, Some, None, ap, ◌∙◌, sym}
+use Rattle.std.proofs.lemmas.Grind.{common_steps}
+use Rattle.vhdl_names_rules.specs.declared.fault.NameFault.TheVariants.{NoMemory}
+use Rattle.vhdl_names_rules.specs.Rules.{met}
+use Rattle.vhdl_names_rules.specs.Files.{labelled}
+use Rattle.vhdl_names_rules.specs.Visibility.{are_distinct}
+use Rattle.vhdl_names_types.specs.Views.{region_view, entry_view}
+use Rattle.vhdl_names_declarations.specs.Entered.{more}
+use Rattle.vhdl_names_declarations.proofs.Labelling.{labels_of, distinct_none, distinct_some}
+use Rattle.vhdl_names_declarations.proofs.labels.labels_are_distinct.Goals as goal
+
+pub returns-in_err-declare_labels : goal.returns-in_err-declare_labels
+returns-in_err-declare_labels c =
+    let ns = labels_of c.args.statements.now in
+    let f : c.in_err-declare_labels.field-0.0 ≢ NoMemory → met (are_distinct (labels_of c.args.statements.now)) ≡ None =
+    λ n. distinct_none ns (ap (λ es. more (map entry_view es) (labelled ns)) (sym c.new-region.ensures.empty) ∙ c.in_err-declare_labels.ensures n) in
+    first_of (search rules, grind (arith, common_steps))
+
+pub returns : goal.returns
+returns c =
+    let ns = labels_of c.args.statements.now in
+    distinct_some ns _ (ap (λ es. more (map entry_view es) (labelled ns)) (sym c.new-region.ensures.empty) ∙ c.in_ok-declare_labels.ensures)

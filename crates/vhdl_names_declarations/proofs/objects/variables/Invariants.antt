@@ -1,0 +1,16 @@
+use Rattle.std.proofs.Common.{◌≡◌, map}
+use Rattle.vhdl_names_rules.specs.Declarations.{in_order, variables}
+use Rattle.vhdl_names_rules.specs.Visibility.{with_variables}
+use Rattle.vhdl_tree.specs.View.{variables_view}
+use Rattle.vhdl_names_types.specs.Views.{sight_view, region_view}
+use Rattle.vhdl_names_units.specs.views.Declarations.{objects_view}
+use Rattle.vhdl_names_declarations.specs.Counts.{AreCounts}
+use Rattle.vhdl_names_declarations.specs.Entered.{entering_variables}
+use Rattle.vhdl_names_declarations.proofs.Listed.{left_variables}
+use Rattle.vhdl_names_declarations.proofs.objects.variables.Given as goal
+
+-- what is left_variables, on what is done, gives the whole; what is in the region is counted
+abbrev pub invariant-loop-one : goal.invariant-loop-one
+invariant-loop-one l =
+    (entering_variables (in_order with_variables variables) (sight_view l.initial.sight) (map variables_view l.all) ≡ left_variables variables variables_view (sight_view l.sight) (objects_view l.done) l.all l.one-index)
+    × AreCounts l.counts (region_view l.sight.variables)

@@ -1,0 +1,57 @@
+use Rattle.std.proofs.Common.{rules, arith, ◌≡◌, ◌≢◌, ◌+◌, ◌<◌, ◌≤◌, List, [], ◌∷◌, ◌++◌, length, map, option_map, Option, Some, None, ap, ◌∙◌, sym}
+use Rattle.std.proofs.lemmas.Grind.{common_steps}
+use Rattle.std.proofs.lemmas.List.{length-map}
+use Rattle.vhdl_names_rules.specs.declared.fault.NameFault.TheVariants.{NoMemory}
+use Rattle.vhdl_names_rules.specs.units.Units as u
+use Rattle.vhdl_names_rules.specs.units.Units.{Fixed}
+use Rattle.vhdl_names_rules.specs.Subtypes.{Subtype, object}
+use Rattle.vhdl_names_rules.specs.Declarations as d
+use Rattle.vhdl_names_rules.specs.Declarations.{for_each, within, within_variables, mode_of}
+use Rattle.vhdl_names_rules.specs.Visibility as m
+use Rattle.vhdl_names_rules.specs.Visibility.{names_of, all_declared, with_declared, with_variables}
+use Rattle.vhdl_tree.specs.View as tree
+use Rattle.vhdl_tree.specs.View.{ident_view}
+use Rattle.vhdl_names_types.specs.Views.{region_view, sight_view, entry_view}
+use Rattle.vhdl_names_units.specs.views.Answers.{subtype_view, fixed_view}
+use Rattle.vhdl_names_declarations.specs.Entered.{more, entering, entering_variables}
+use Rattle.vhdl_names_declarations.specs.Typed.{typed_object, typed_port}
+use Rattle.vhdl_names_declarations.proofs.Classes.{variables_is, variable_class, variables_of, map-map}
+use Rattle.vhdl_names_declarations.proofs.Turns.{refused, unknown, known, settled_region, grows_by, first_below, more_is}
+use Rattle.vhdl_names_declarations.proofs.objects.variables_of_one.Goals as goal
+
+pub returns-in_err-hide : goal.returns-in_err-hide
+returns-in_err-hide c =
+    let s = sight_view c.args.sight.now in
+    let g = tree.variables_view c.args.declaration.now in
+    let f : c.in_err-hide.field-0.0 ≢ NoMemory → entering_variables d.variables (sight_view c.args.sight.now) (tree.variables_view c.args.declaration.now) ≡ None =
+    λ n. variables_is s g c.args.number c.requires
+    ∙ refused (λ s. s.variables) with_variables s (names_of g.names) (λ x. c.args.number) variable_class (variables_of g)
+    (ap (λ l. more s.variables (all_declared m.unfinished (names_of (map ident_view l)))) (sym c.deref.ensures.value) ∙ c.in_err-hide.ensures n) (typed_object (within_variables s g.names) g.subtype g.default) in
+    first_of (search rules, grind (arith, common_steps))
+
+pub returns-in_err-subtype : goal.returns-in_err-subtype
+returns-in_err-subtype c =
+    let s = sight_view c.args.sight.now in
+    let g = tree.variables_view c.args.declaration.now in
+    let hid : more (sight_view c.args.sight.now).variables (all_declared m.unfinished (names_of (tree.variables_view c.args.declaration.now).names)) ≡ Some (region_view c.hide.new.region) =
+    ap (λ l. more (sight_view c.args.sight.now).variables (all_declared m.unfinished (names_of (map ident_view l)))) (sym c.deref.ensures.value) ∙ c.in_ok-hide.ensures in
+    let along = ap (λ r. typed_object (record s { variables = r }) g.subtype g.default) (more_is s.variables (all_declared m.unfinished (names_of g.names)) (region_view c.hide.new.region) hid) in
+    let f : c.in_err-subtype.field-0.0 ≢ NoMemory → entering_variables d.variables (sight_view c.args.sight.now) (tree.variables_view c.args.declaration.now) ≡ None =
+    λ n. variables_is s g c.args.number c.requires
+    ∙ unknown (λ s. s.variables) with_variables s (names_of g.names) (λ x. c.args.number) variable_class (variables_of g) (typed_object (within_variables s g.names) g.subtype g.default) (sym along ∙ c.in_err-subtype.ensures n) in
+    first_of (search rules, grind (arith, common_steps))
+
+pub returns : goal.returns
+returns c =
+    let s = sight_view c.args.sight.now in
+    let g = tree.variables_view c.args.declaration.now in
+    let hid : more (sight_view c.args.sight.now).variables (all_declared m.unfinished (names_of (tree.variables_view c.args.declaration.now).names)) ≡ Some (region_view c.hide.new.region) =
+    ap (λ l. more (sight_view c.args.sight.now).variables (all_declared m.unfinished (names_of (map ident_view l)))) (sym c.deref.ensures.value) ∙ c.in_ok-hide.ensures in
+    let along = ap (λ r. typed_object (record s { variables = r }) g.subtype g.default) (more_is s.variables (all_declared m.unfinished (names_of g.names)) (region_view c.hide.new.region) hid) in
+    let size : c.len-first.result ≡ length (region_view c.args.sight.now.variables) = c.len-first.ensures.len ∙ sym (length-map c.args.sight.now.variables.entries entry_view) in
+    let x : Subtype × Option Fixed = (subtype_view c.in_ok-subtype.subtype, option_map fixed_view c.in_ok-subtype.default) in
+    variables_is s g c.args.number c.requires
+    ∙ known (λ s. s.variables) with_variables s (names_of g.names) (λ x. c.args.number) variable_class (variables_of g) (region_view c.hide.new.region) hid (typed_object (within_variables s g.names) g.subtype g.default) x (sym along ∙ c.in_ok-subtype.ensures)
+    ∙ ap (λ r. Some (record s { variables = r }, (variables_of g) x)) (settled_region (variable_class x) c.args.number c.len-first.result s.variables (region_view c.hide.new.region) (region_view c.settle.new.region) (names_of g.names) size hid c.in_ok-settle.ensures)
+    ∙ ap (λ l. Some (record s { variables = region_view c.settle.new.region }, l))
+    (sym (c.in_ok-objects.ensures ∙ ap (λ l. for_each (object x.0 x.1) (map ident_view l)) c.deref-2.ensures.value))

@@ -1,0 +1,60 @@
+use Rattle.std.proofs.Common.{rules, arith, ◌≡◌, ◌≢◌, ◌+◌, ◌<◌, ◌≤◌, [], ◌++◌, map, flat_map, length, Some, None, refl, ap, sym, ◌∙◌}
+use Rattle.std.proofs.lemmas.Grind.{common_steps}
+use Rattle.std.proofs.lemmas.List.{length-map}
+use Rattle.vhdl_names_rules.specs.declared.fault.NameFault.TheVariants.{NoMemory}
+use Rattle.vhdl_names_rules.specs.Declarations.{in_order, port}
+use Rattle.vhdl_names_rules.specs.Visibility.{with_declared}
+use Rattle.vhdl_tree.specs.View.{port_view}
+use Rattle.vhdl_names_types.specs.declared.sight.Sight.{Sight}
+use Rattle.vhdl_names_types.specs.Views.{sight_view, region_view, entry_view}
+use Rattle.vhdl_names_units.specs.views.Declarations.{ports_view, all_ports_view}
+use Rattle.vhdl_names_declarations.specs.Entered.{entering}
+use Rattle.vhdl_names_declarations.proofs.Listed.{left, begins, fails, goes, ends, counts_before, place_within, all_more}
+use Rattle.vhdl_names_declarations.proofs.Regions.{names_apart}
+use Rattle.vhdl_names_declarations.proofs.ports.ports.Goals as goal
+
+pub loop-one-init : goal.loop-one-init
+loop-one-init c = (
+  begins port port_view (sight_view c.args.sight.now) c.args.all.now (names_apart c.args.sight.now.region.entries c.len-apart.ensures.unique)
+      ∙ ap (λ l. left port port_view (sight_view c.args.sight.now) (flat_map ports_view l) c.args.all.now 0) (sym c.new-done.ensures.items),
+  c.of-counts.ensures,
+  refl,
+)
+
+pub returns-in_err-next-clause-given : goal.returns-in_err-next-clause-given
+returns-in_err-next-clause-given c =
+    let lt : c.loop-one.one-index < length c.args.all.now = omega arith in
+    let f : c.in_err-next.field-0.0 ≢ NoMemory → entering (in_order with_declared port) (sight_view c.args.sight.now) (map port_view c.args.all.now) ≡ None =
+    λ n. c.loop-one.invariant.0
+    ∙ fails port port_view (sight_view c.loop-one.sight) (all_ports_view c.loop-one.done) c.args.all.now c.loop-one.one-index c.one-item.result lt c.one-item.is (c.in_err-next.ensures.given n) in
+    first_of (search rules, grind (arith, common_steps))
+
+pub of-counts-requires-in-loop-one-clause-place : goal.of-counts-requires-in-loop-one-clause-place
+of-counts-requires-in-loop-one-clause-place c =
+    let h = place_within port (sight_view c.loop-one.sight) (sight_view c.port.new.sight) (port_view c.one-item.result) (ports_view c.in_ok-next.next) c.in_ok-next.ensures.given in
+    let p = length-map c.loop-one.sight.region.entries entry_view in
+    let q = length-map c.port.new.sight.region.entries entry_view in
+    omega (arith, h, p, q, c.len-first.ensures.len)
+
+pub of-counts-requires-in-loop-one-clause-before : goal.of-counts-requires-in-loop-one-clause-before
+of-counts-requires-in-loop-one-clause-before c =
+    counts_before port c.loop-one.counts (sight_view c.loop-one.sight) (sight_view c.port.new.sight) (port_view c.one-item.result) (ports_view c.in_ok-next.next) c.len-first.result
+    c.in_ok-next.ensures.given (c.len-first.ensures.len ∙ sym (length-map c.loop-one.sight.region.entries entry_view)) c.loop-one.invariant.1
+
+pub loop-one-preserved : goal.loop-one-preserved
+loop-one-preserved c =
+    let lt : c.loop-one.one-index < length c.args.all.now = omega arith in (
+      c.loop-one.invariant.0
+          ∙ goes port port_view (sight_view c.loop-one.sight) (sight_view c.port.new.sight) (all_ports_view c.loop-one.done) (ports_view c.in_ok-next.next) (all_ports_view c.push.new.self)
+          c.args.all.now c.loop-one.one-index c.one-item.result lt c.one-item.is c.in_ok-next.ensures.given
+          (ap (flat_map ports_view) c.in_ok-push.ensures.items ∙ all_more ports_view c.loop-one.done.items c.in_ok-next.next),
+      c.of-counts-in-loop-one.ensures,
+      c.in_ok-next.ensures.kept ∙ ap (λ (s : Sight). record s { region = c.port.new.sight.region }) c.loop-one.invariant.2,
+    )
+
+pub returns-clause-kept : goal.returns-clause-kept
+returns-clause-kept c = c.loop-one.invariant.2
+
+pub returns-clause-given : goal.returns-clause-given
+returns-clause-given c =
+    c.loop-one.invariant.0 ∙ ends port port_view (sight_view c.loop-one.sight) (all_ports_view c.loop-one.done) c.args.all.now c.loop-one.one-index (omega arith)

@@ -1,0 +1,20 @@
+use Rattle.std.proofs.Common.{◌≡◌, ◌≢◌, true, false, None, Some, sym, ap, ◌∙◌}
+use Rattle.std.specs.Prelude.{bytes_eq, is_some}
+use Rattle.std.specs.Map.{lookup}
+use Rattle.indexmap.proofs.CallerLemmas.{insert_entry-new}
+use Rattle.vhdl_names_types.specs.Views.{meaning_view}
+use Rattle.vhdl_names_declarations.proofs.Regions.{absent, refused, grown}
+use Rattle.vhdl_names_declarations.proofs.region.declare_name.Goals as goal
+
+pub returns-then-contains_key : goal.returns-then-contains_key
+returns-then-contains_key c = λ n.
+    refused c.args.region.now.entries c.args.name.now (meaning_view c.args.meaning) c.len-apart.ensures.unique (sym c.contains_key.ensures ∙ c.if-contains_key.true)
+
+pub returns : goal.returns
+returns c =
+    let es = c.args.region.now.entries in
+    let new : is_some (lookup (λ k. bytes_eq c.args.name.now k.items) es) ≡ false = sym c.contains_key.ensures ∙ c.if-contains_key.false in
+    let same = c.in_ok-key.ensures.items in
+    let gone : lookup (λ m. bytes_eq c.in_ok-key.key.items m.items) es ≡ None = ap (λ x. lookup (λ m. bytes_eq x m.items) es) same ∙ absent es c.args.name.now new in
+    grown es _ c.args.name.now c.in_ok-key.key c.args.meaning c.len-apart.ensures.unique new same
+    (c.in_ok-insert.ensures.entries ∙ insert_entry-new _ c.args.region.now c.in_ok-key.key c.args.meaning gone)

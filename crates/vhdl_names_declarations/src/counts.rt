@@ -1,0 +1,113 @@
+//! How many declarations of each class a region has. Objects are numbered from 0 within their class.
+
+ghost use Rattle.std.specs.Prelude.{◌≡◌, ◌≤◌, ◌<◌, ◌+◌, ◌^◌, if◌then◌else◌, take};
+ghost use Rattle.indexmap.specs.IndexMap.{index_map_len};
+ghost use Rattle.vhdl_names_declarations.specs.Counts.{AreCounts, AreSmall, counted};
+ghost use Rattle.vhdl_names_rules.specs.Visibility as rules;
+ghost use Rattle.vhdl_names_types.specs.Views.{meaning_view, region_view};
+
+use vhdl_names_types::{Meaning, Region};
+
+/// How many declarations of each class there are.
+#[derive(Clone, Copy)]
+pub struct Counts {
+    pub generics: usize,
+    pub ports: usize,
+    pub integers: usize,
+    pub constants: usize,
+    pub signals: usize,
+    pub variables: usize,
+    pub enumerations: usize,
+}
+
+fn is_generic(meaning: &Meaning) -> bool
+    ensures { result ≡ rules.is_generic (meaning_view meaning.now) }
+{
+    matches!(meaning, Meaning::Generic(_))
+}
+
+fn is_port(meaning: &Meaning) -> bool
+    ensures { result ≡ rules.is_port (meaning_view meaning.now) }
+{
+    matches!(meaning, Meaning::Port(..))
+}
+
+fn is_integer_constant(meaning: &Meaning) -> bool
+    ensures { result ≡ rules.is_integer_constant (meaning_view meaning.now) }
+{
+    matches!(meaning, Meaning::IntegerConstant(_))
+}
+
+fn is_constant(meaning: &Meaning) -> bool
+    ensures { result ≡ rules.is_constant (meaning_view meaning.now) }
+{
+    matches!(meaning, Meaning::Constant(..))
+}
+
+fn is_signal(meaning: &Meaning) -> bool
+    ensures { result ≡ rules.is_signal (meaning_view meaning.now) }
+{
+    matches!(meaning, Meaning::Signal(..))
+}
+
+fn is_variable(meaning: &Meaning) -> bool
+    ensures { result ≡ rules.is_variable (meaning_view meaning.now) }
+{
+    matches!(meaning, Meaning::Variable(..))
+}
+
+fn is_enumeration_type(meaning: &Meaning) -> bool
+    ensures { result ≡ rules.is_enumeration_type (meaning_view meaning.now) }
+{
+    matches!(meaning, Meaning::EnumerationType { .. })
+}
+
+/// One more if it counts.
+fn with_one(count: usize, counts: bool) -> usize
+    requires { count < 2 ^ 63 }
+    ensures { result ≡ count + (if counts then 1 else 0) }
+{
+    if counts { count + 1 } else { count }
+}
+
+impl Counts {
+    /// Of no declarations.
+    pub const NONE: Counts = Counts {
+        generics: 0,
+        ports: 0,
+        integers: 0,
+        constants: 0,
+        signals: 0,
+        variables: 0,
+        enumerations: 0,
+    };
+
+    /// With one declaration more.
+    fn with(self, meaning: &Meaning) -> Counts
+        requires { AreSmall self }
+        ensures { result ≡ counted self (meaning_view meaning.now) }
+    {
+        Counts {
+            generics: with_one(self.generics, is_generic(meaning)),
+            ports: with_one(self.ports, is_port(meaning)),
+            integers: with_one(self.integers, is_integer_constant(meaning)),
+            constants: with_one(self.constants, is_constant(meaning)),
+            signals: with_one(self.signals, is_signal(meaning)),
+            variables: with_one(self.variables, is_variable(meaning)),
+            enumerations: with_one(self.enumerations, is_enumeration_type(meaning)),
+        }
+    }
+
+    /// The counts of a region, from those of what stands before a place in it.
+    pub fn of(self, region: &Region, first: usize) -> Counts
+        requires place { first ≤ index_map_len region.now }
+        requires before { AreCounts self (take first (region_view region.now)) }
+        ensures { AreCounts result (region_view region.now) }
+    {
+        let mut counts = self;
+        for place in first..region.len() {
+            counts = counts.with(&region[place]);
+        }
+        counts
+    }
+}

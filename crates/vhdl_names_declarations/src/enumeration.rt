@@ -1,0 +1,66 @@
+//! Enumeration types (IEEE 1076-2008, 5.2.2).
+
+ghost use Rattle.std.specs.Prelude.{◌≡◌, [], map, length, OnOk};
+ghost use Rattle.vhdl_names_declarations.specs.Entered.{more, entering};
+ghost use Rattle.vhdl_names_rules.specs.Declarations as rules;
+ghost use Rattle.vhdl_names_rules.specs.Gives.{Gives};
+ghost use Rattle.vhdl_names_rules.specs.Visibility.{count_of, names_of, is_enumeration_type};
+ghost use Rattle.vhdl_tree.specs.View.{ident_view, enumeration_view};
+ghost use Rattle.vhdl_names_types.specs.Views.{region_view, sight_view};
+
+use crate::region::declare;
+use std::alloc::Global;
+use vhdl_names_rules::{NameFault, NameProblem};
+use vhdl_tree::{Enumeration, Identifier};
+use vhdl_names_types::{Meaning, Region, Sight};
+
+/// The literals of an enumeration, by position.
+fn literals(
+    alloc: Global,
+    region: &mut Region,
+    number: usize,
+    literals: &[Identifier],
+) -> Result<(), NameFault>
+    ensures { Gives (λ _. region_view region.new)
+        (more (region_view region.old) (rules.literals number (length literals.now) 0 (names_of (map ident_view literals.now)))) result }
+{
+    let _apart = region.len();
+    let count = literals.len();
+    for (position, literal) in literals.iter().enumerate() {
+        let meaning = Meaning::Literal {
+            number,
+            count,
+            position,
+        };
+        declare(alloc, region, literal, meaning)?;
+    }
+    let _apart = region.len();
+    Ok(())
+}
+
+/// An enumeration type of a number, and its literals. More than 256 literals are left out. It takes
+/// the memory of the names and their entries.
+pub fn enumeration(
+    alloc: Global,
+    sight: &mut Sight,
+    number: usize,
+    declaration: &Enumeration,
+) -> Result<(), NameFault>
+    requires { number ≡ count_of is_enumeration_type (sight_view sight.old).region }
+    ensures given { Gives (λ _. (sight_view sight.new, []))
+        (entering rules.enumeration (sight_view sight.old) (enumeration_view declaration.now)) result }
+    ensures kept { OnOk result (sight.new ≡ record sight.old { region = sight.new.region }) }
+{
+    let count = declaration.literals.len();
+    if count > 256 {
+        return Err(NameProblem::LeftOut.at(declaration.name.at));
+    }
+    declare(
+        alloc,
+        &mut sight.region,
+        &declaration.name,
+        Meaning::EnumerationType { number, count },
+    )?;
+    literals(alloc, &mut sight.region, number, &declaration.literals)?;
+    Ok(())
+}

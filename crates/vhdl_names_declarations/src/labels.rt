@@ -1,0 +1,84 @@
+//! The labels that stand directly among concurrent statements (IEEE 1076-2008, 11.1 and 12.1).
+
+ghost use Rattle.std.specs.Prelude.{◌≡◌, map, option_map};
+ghost use Rattle.std.specs.Option.{option_copied};
+ghost use Rattle.vhdl_names_declarations.specs.Entered.{more};
+ghost use Rattle.vhdl_names_rules.specs.Concurrent as rules;
+ghost use Rattle.vhdl_names_rules.specs.Files.{labelled};
+ghost use Rattle.vhdl_names_rules.specs.Gives.{Gives};
+ghost use Rattle.vhdl_names_rules.specs.declared.fault.NameProblem.TheVariants.{Twice};
+ghost use Rattle.vhdl_names_rules.specs.Rules.{rule};
+ghost use Rattle.vhdl_names_rules.specs.Statements.{label_names};
+ghost use Rattle.vhdl_names_rules.specs.Visibility.{are_distinct};
+ghost use Rattle.vhdl_tree.specs.Tree.{concurrents_of};
+ghost use Rattle.vhdl_tree.specs.View.{ident_view, option_ident_view, concurrent_view};
+ghost use Rattle.vhdl_names_types.specs.Views.{region_view};
+
+use crate::region::declare;
+use indexmap::IndexMap;
+use std::alloc::Global;
+use vhdl_names_rules::NameFault;
+use vhdl_tree::{Concurrent, Identifier};
+use vhdl_names_types::{Meaning, Region};
+
+/// A label, if there is one.
+fn declare_if_any(
+    alloc: Global,
+    region: &mut Region,
+    label: &Option<Identifier>,
+) -> Result<(), NameFault>
+    ensures { Gives (λ _. region_view region.new) (more (region_view region.old) (labelled (label_names (option_ident_view label.now)))) result }
+{
+    let _apart = region.len();
+    match label {
+        None => Ok(()),
+        Some(label) => declare(alloc, region, label, Meaning::Label),
+    }
+}
+
+/// The label of a statement, if it has one.
+fn declare_label(
+    alloc: Global,
+    region: &mut Region,
+    statement: &Concurrent,
+) -> Result<(), NameFault>
+    ensures { Gives (λ _. region_view region.new) (more (region_view region.old) (labelled (rules.concurrent_label (concurrent_view statement.now)))) result }
+{
+    match statement {
+        Concurrent::Assignment(assignment) => declare_if_any(alloc, region, &assignment.label),
+        Concurrent::Selected { label, .. } => declare_if_any(alloc, region, label),
+        Concurrent::Process { label, .. } => declare_if_any(alloc, region, label),
+        Concurrent::Instance { label, .. } => declare(alloc, region, label, Meaning::Label),
+        Concurrent::Generate(generate) => {
+            declare(alloc, region, &generate.label, Meaning::Label)
+        }
+    }
+}
+
+/// The labels that stand directly among statements, declared in their region. It takes the memory of
+/// the labels and their entries.
+pub fn declare_labels(
+    alloc: Global,
+    region: &mut Region,
+    statements: &[Concurrent],
+) -> Result<(), NameFault>
+    ensures { Gives (λ _. region_view region.new)
+        (more (region_view region.old) (labelled (rules.concurrent_labels (concurrents_of (map concurrent_view statements.now))))) result }
+{
+    let _apart = region.len();
+    for statement in statements {
+        declare_label(alloc, region, statement)?;
+    }
+    let _apart = region.len();
+    Ok(())
+}
+
+/// No label stands twice directly among statements, as those of a generate; else it is Twice. It
+/// takes the memory of the labels and their entries.
+pub fn labels_are_distinct(alloc: Global, statements: &[Concurrent]) -> Result<(), NameFault>
+    ensures { Gives (λ x. x) (rule Twice (are_distinct (rules.concurrent_labels (concurrents_of (map concurrent_view statements.now))))) result }
+{
+    let mut region: Region = IndexMap::new(alloc);
+    declare_labels(alloc, &mut region, statements)?;
+    Ok(())
+}

@@ -1,0 +1,138 @@
+//! Objects of one type: signals of an architecture and variables of a process (IEEE 1076-2008, 6.4.2), and what ports share with
+//! them.
+
+ghost use Rattle.std.specs.Prelude.{◌≡◌, map, option_map, IfOk, OnOk};
+ghost use Rattle.vhdl_names_declarations.specs.Entered.{entering, entering_variables};
+ghost use Rattle.vhdl_names_declarations.specs.Typed.{typed_object};
+ghost use Rattle.vhdl_names_rules.specs.Declarations as rules;
+ghost use Rattle.vhdl_names_rules.specs.Gives.{Gives};
+ghost use Rattle.vhdl_names_rules.specs.Rules.{if_any};
+ghost use Rattle.vhdl_names_rules.specs.Subtypes as types;
+ghost use Rattle.vhdl_names_rules.specs.Visibility.{count_of, is_signal, is_variable, with_variables};
+ghost use Rattle.vhdl_tree.specs.View as tree;
+ghost use Rattle.vhdl_names_types.specs.Views.{sight_view};
+ghost use Rattle.vhdl_names_units.specs.views.Answers.{subtype_view, fixed_view};
+ghost use Rattle.vhdl_names_units.specs.views.Declarations.{declaration_view, object_view, objects_view};
+
+use crate::class::Class;
+use crate::counts::Counts;
+use crate::names::copied_names;
+use crate::region::{hide, settle};
+use std::alloc::{AllocError, Global};
+use vhdl_names_rules::{NameFault, ObjectType};
+use vhdl_tree::{Identifier, Signals, Subtype as TreeSubtype, Value, Variables};
+use vhdl_names_types::Sight;
+use vhdl_names_expressions::{fixed_value, subtype};
+use vhdl_names_units::{Declaration, Fixed, Objects, Subtype};
+
+/// A default for objects of a type, if there is one.
+pub fn fixed_if_any(
+    alloc: Global,
+    sight: &Sight,
+    object_type: ObjectType,
+    value: &Option<Value>,
+) -> Result<Option<Fixed>, NameFault>
+    ensures { Gives (option_map fixed_view) (if_any (types.fixed_value (sight_view sight.now) object_type) (tree.option_value_view value.now)) result }
+{
+    match value {
+        None => Ok(None),
+        Some(value) => Ok(Some(fixed_value(alloc, sight, object_type, value)?)),
+    }
+}
+
+/// The type of objects, and their default.
+pub fn object_type(
+    alloc: Global,
+    sight: &Sight,
+    indication: &TreeSubtype,
+    value: &Option<Value>,
+) -> Result<(Subtype, Option<Fixed>), NameFault>
+    ensures { Gives (λ x. (subtype_view x.0, option_map fixed_view x.1))
+        (typed_object (sight_view sight.now) (tree.subtype_view indication.now) (tree.option_value_view value.now)) result }
+{
+    let subtype = subtype(alloc, sight, indication)?;
+    let default = fixed_if_any(alloc, sight, subtype.object_type, value)?;
+    Ok((subtype, default))
+}
+
+/// Objects of these names.
+pub fn objects(
+    alloc: Global,
+    names: &[Identifier],
+    subtype: Subtype,
+    default: Option<Fixed>,
+) -> Result<Objects, AllocError>
+    ensures { IfOk result (λ o. object_view o
+        ≡ rules.for_each (types.object (subtype_view subtype) (option_map fixed_view default)) (map tree.ident_view names.now)) }
+{
+    let names = copied_names(alloc, names)?;
+    Ok(Objects {
+        names,
+        form: subtype.form,
+        is_resolved: subtype.is_resolved,
+        default,
+    })
+}
+
+/// Signals of one declaration, numbered from here on. Within it their names hide outer ones.
+pub fn signals(
+    alloc: Global,
+    sight: &mut Sight,
+    number: usize,
+    declaration: &Signals,
+) -> Result<Declaration, NameFault>
+    requires { number ≡ count_of is_signal (sight_view sight.old).region }
+    ensures given { Gives (λ o. (sight_view sight.new, declaration_view o))
+        (entering rules.signals (sight_view sight.old) (tree.signals_view declaration.now)) result }
+    ensures kept { OnOk result (sight.new ≡ record sight.old { region = sight.new.region }) }
+{
+    let first = sight.region.len();
+    hide(alloc, &mut sight.region, &declaration.names)?;
+    let (subtype, default) = object_type(alloc, sight, &declaration.subtype, &declaration.default)?;
+    let class = Class::Signal(subtype.object_type);
+    settle(alloc, &mut sight.region, first, number, &class)?;
+    let objects = objects(alloc, &declaration.names, subtype, default)?;
+    Ok(Declaration::Signals(objects))
+}
+
+/// Variables of one declaration, numbered from here on. Within it their names hide outer ones.
+fn variables_of_one(
+    alloc: Global,
+    sight: &mut Sight,
+    number: usize,
+    declaration: &Variables,
+) -> Result<Objects, NameFault>
+    requires { number ≡ count_of is_variable (sight_view sight.old).variables }
+    ensures { Gives (λ o. (sight_view sight.new, object_view o))
+        (entering_variables rules.variables (sight_view sight.old) (tree.variables_view declaration.now)) result }
+{
+    let first = sight.variables.len();
+    hide(alloc, &mut sight.variables, &declaration.names)?;
+    let (subtype, default) = object_type(alloc, sight, &declaration.subtype, &declaration.default)?;
+    let class = Class::Variable(subtype.object_type);
+    settle(alloc, &mut sight.variables, first, number, &class)?;
+    let objects = objects(alloc, &declaration.names, subtype, default)?;
+    Ok(objects)
+}
+
+/// The variables of a process, which are in sight of what follows. It takes memory for what is
+/// declared and analysed.
+pub fn variables(
+    alloc: Global,
+    sight: &mut Sight,
+    all: &[Variables],
+) -> Result<Vec<Objects>, NameFault>
+    ensures { Gives (λ v. (sight_view sight.new, objects_view v))
+        (entering_variables (rules.in_order with_variables rules.variables) (sight_view sight.old) (map tree.variables_view all.now)) result }
+{
+    let mut done = Vec::new(alloc);
+    let _apart = sight.variables.len();
+    let mut counts = Counts::NONE.of(&sight.variables, 0);
+    for one in all {
+        let first = sight.variables.len();
+        let next = variables_of_one(alloc, sight, counts.variables, one)?;
+        done.push(next)?;
+        counts = counts.of(&sight.variables, first);
+    }
+    Ok(done)
+}

@@ -1,0 +1,94 @@
+//! Ports of an interface (IEEE 1076-2008, 6.5.6.2).
+
+ghost use Rattle.std.specs.Prelude.{◌≡◌, map, option_map, OnOk};
+ghost use Rattle.vhdl_names_declarations.specs.Entered.{entering};
+ghost use Rattle.vhdl_names_declarations.specs.Typed.{typed_port};
+ghost use Rattle.vhdl_names_rules.specs.Declarations as rules;
+ghost use Rattle.vhdl_names_rules.specs.Gives.{Gives};
+ghost use Rattle.vhdl_names_rules.specs.Visibility.{count_of, is_port, with_declared};
+ghost use Rattle.vhdl_tree.specs.View as tree;
+ghost use Rattle.vhdl_names_types.specs.Views.{sight_view};
+ghost use Rattle.vhdl_names_units.specs.views.Answers.{subtype_view, fixed_view};
+ghost use Rattle.vhdl_names_units.specs.views.Declarations.{ports_view, all_ports_view};
+
+use crate::class::Class;
+use crate::counts::Counts;
+use crate::objects::{fixed_if_any, objects};
+use crate::region::{hide, settle};
+use std::alloc::Global;
+use vhdl_names_rules::{Kind, NameFault, NameProblem, ObjectType};
+use vhdl_tree::{Mode, Port};
+use vhdl_names_types::Sight;
+use vhdl_names_expressions::subtype;
+use vhdl_names_units::{Fixed, Ports, Subtype};
+
+/// A type of the nine values, whose mark is at byte `at`; ports and constants of an enumeration are
+/// left out.
+pub fn kind_of(object_type: ObjectType, at: usize) -> Result<Kind, NameFault>
+    ensures { Gives (λ k. k) (rules.as_kind object_type) result }
+{
+    match object_type {
+        ObjectType::Elements(kind) => Ok(kind),
+        ObjectType::Enumeration { .. } => Err(NameProblem::LeftOut.at(at)),
+    }
+}
+
+/// A port with no mode is an input.
+fn mode_of(mode: Option<Mode>) -> Mode
+    ensures { result ≡ rules.mode_of mode }
+{
+    match mode {
+        None => Mode::In,
+        Some(mode) => mode,
+    }
+}
+
+/// The type, kind and default of ports of one declaration.
+fn port_type(
+    alloc: Global,
+    sight: &Sight,
+    port: &Port,
+) -> Result<(Subtype, Kind, Option<Fixed>), NameFault>
+    ensures { Gives (λ x. (subtype_view x.0, x.1, option_map fixed_view x.2)) (typed_port (sight_view sight.now) (tree.port_view port.now)) result }
+{
+    let subtype = subtype(alloc, sight, &port.subtype)?;
+    let kind = kind_of(subtype.object_type, port.subtype.mark.at)?;
+    let default = fixed_if_any(alloc, sight, subtype.object_type, &port.default)?;
+    Ok((subtype, kind, default))
+}
+
+/// Ports of one declaration, numbered from here on. Their names are declared behind their type and
+/// default, which they do not hide.
+fn port(alloc: Global, sight: &mut Sight, number: usize, port: &Port) -> Result<Ports, NameFault>
+    requires { number ≡ count_of is_port (sight_view sight.old).region }
+    ensures given { Gives (λ p. (sight_view sight.new, ports_view p)) (entering rules.port (sight_view sight.old) (tree.port_view port.now)) result }
+    ensures kept { OnOk result (sight.new ≡ record sight.old { region = sight.new.region }) }
+{
+    let first = sight.region.len();
+    let typed = port_type(alloc, sight, port);
+    hide(alloc, &mut sight.region, &port.names)?;
+    let (subtype, kind, default) = typed?;
+    let mode = mode_of(port.mode);
+    let class = Class::Port(mode, kind);
+    settle(alloc, &mut sight.region, first, number, &class)?;
+    let objects = objects(alloc, &port.names, subtype, default)?;
+    Ok(Ports { mode, objects })
+}
+
+/// Ports of an interface. It takes memory for what is declared and analysed.
+pub fn ports(alloc: Global, sight: &mut Sight, all: &[Port]) -> Result<Vec<Ports>, NameFault>
+    ensures given { Gives (λ v. (sight_view sight.new, all_ports_view v))
+        (entering (rules.in_order with_declared rules.port) (sight_view sight.old) (map tree.port_view all.now)) result }
+    ensures kept { OnOk result (sight.new ≡ record sight.old { region = sight.new.region }) }
+{
+    let mut done = Vec::new(alloc);
+    let _apart = sight.region.len();
+    let mut counts = Counts::NONE.of(&sight.region, 0);
+    for one in all {
+        let first = sight.region.len();
+        let next = port(alloc, sight, counts.ports, one)?;
+        done.push(next)?;
+        counts = counts.of(&sight.region, first);
+    }
+    Ok(done)
+}

@@ -1,0 +1,78 @@
+-- What is asked of expressions and names, in the words of `typed`.
+use Rattle.std.proofs.Common.{◌≡◌, ℕ, Bool, true, false, true≢false, Option, Some, None, refl, ap}
+use Rattle.std.specs.Prelude.{not, is_none}
+use Rattle.vhdl_tree.specs.Tree as t
+use Rattle.vhdl_names_rules.specs.declared.kind.ObjectType.{ObjectType}
+use Rattle.vhdl_names_rules.specs.units.Expressions as u
+use Rattle.vhdl_names_rules.specs.views.Tests.{is_fixed}
+use Rattle.vhdl_names_rules.specs.Rules.{◌>>=◌, ◌>>◌, met, then_some}
+use Rattle.vhdl_names_rules.specs.Visibility.{Sight, Meaning, meaning}
+use Rattle.vhdl_names_rules.specs.Names.{Suffix}
+use Rattle.vhdl_names_rules.specs.Operators.{Typed, integer, elements, enumerated, truth}
+use Rattle.vhdl_names_rules.specs.declared.kind.Kind.{Kind}
+use Rattle.vhdl_names_rules.specs.declared.kind.Kind.TheVariants.{Element, LogicVector, Unsigned, OpenVector}
+use Rattle.vhdl_names_rules.specs.declared.kind.ObjectType.TheVariants.{Elements}
+use Rattle.vhdl_names_rules.specs.units.Statements.{filled}
+use Rattle.vhdl_names_rules.specs.Expressions.{typed, typed_suffix, condition, given, as_test, as_static_test, as_value, as_filled, is_vector}
+use Rattle.vhdl_names_rules.specs.Statements.{signal, target, variable, as_signal, as_variable, is_input}
+
+pub condition_is : (sight : Sight) (e : t.Expr) → condition sight e ≡ (typed sight e >>= as_test)
+unfolding condition
+condition_is sight e = refl
+
+pub given_single : (sight : Sight) (type : ObjectType) (e : t.Expr) → given sight type (t.single e) ≡ (typed sight e >>= as_value type)
+unfolding given
+given_single sight type e = refl
+
+pub given_others : (sight : Sight) (type : ObjectType) (at : ℕ) (e : t.Expr) → given sight type (t.others at e) ≡ (typed sight e >>= as_filled type)
+unfolding given
+given_others sight type at e = refl
+
+pub not_static : (x : u.Test) → is_fixed x ≡ false → as_static_test (truth x) ≡ None
+not_static (u.holds a) h = refl
+not_static (u.Test.fixed a) h = absurd (true≢false h)
+not_static (u.alike a b) h = refl
+not_static (u.unlike a b) h = refl
+not_static (u.Test.compared o a b) h = refl
+not_static (u.compared_to o a b) h = refl
+not_static (u.compared_with o a b) h = refl
+not_static (u.edge a b) h = refl
+not_static (u.event a) h = refl
+not_static (u.Test.negated a) h = refl
+not_static (u.Test.both o a b) h = refl
+
+-- the identifier first, and the attribute last
+turned : {A : Type 0} (b : Bool) (o : Option Suffix) (p : Option Meaning) (f : Meaning → Suffix → Option A) →
+    (met b >> (o >>= λ s. (p >>= λ d. f d s))) ≡ (p >>= λ d. (o >>= λ s. (met b >> f d s)))
+turned true None None f = refl
+turned true None (Some d) f = refl
+turned true (Some s) None f = refl
+turned true (Some s) (Some d) f = refl
+turned false None None f = refl
+turned false None (Some d) f = refl
+turned false (Some s) None f = refl
+turned false (Some s) (Some d) f = refl
+
+pub signal_in_turn : (sight : Sight) (n : t.Name) →
+    signal sight n ≡ (meaning sight n.identifier.text >>= λ d. (typed_suffix sight n.suffix >>= λ s. (met (is_none n.attribute) >> as_signal d s)))
+unfolding signal
+signal_in_turn sight n = turned (is_none n.attribute) (typed_suffix sight n.suffix) (meaning sight n.identifier.text) as_signal
+
+pub variable_in_turn : (sight : Sight) (n : t.Name) →
+    variable sight n ≡ (meaning sight n.identifier.text >>= λ d. (typed_suffix sight n.suffix >>= λ s. (met (is_none n.attribute) >> as_variable d s)))
+unfolding variable
+variable_in_turn sight n = turned (is_none n.attribute) (typed_suffix sight n.suffix) (meaning sight n.identifier.text) as_variable
+
+pub target_is : (sight : Sight) (n : t.Name) → target sight n ≡ (signal sight n >>= λ x. (met (not (is_input x.mode)) >> Some x))
+unfolding target
+target_is sight n = refl
+
+-- what is no vector is not filled
+pub no_filled : (k : Kind) (x : Typed) → is_vector k ≡ false → as_filled (Elements k) x ≡ None
+no_filled k (integer s) h = refl
+no_filled k (elements Element v) h = ap (λ b. then_some b (filled v)) h
+no_filled k (elements LogicVector v) h = refl
+no_filled k (elements Unsigned v) h = refl
+no_filled k (elements OpenVector v) h = refl
+no_filled k (enumerated e n v) h = refl
+no_filled k (truth v) h = refl

@@ -1,0 +1,187 @@
+-- The types of chains, names and arguments, each as the code comes to it.
+use Rattle.std.proofs.Common.{◌≡◌, ℕ, suc, ◌<◌, ◌≤◌, Bool, true, false, List, [], ◌∷◌, ◌++◌, map, length, get_or, drop, drop-cons, Option, Some, None, Vec, Box, Global, append_assoc, append-nil, refl, sym, ap, ◌∙◌}
+use Rattle.std.specs.Prelude.{option_map}
+use Rattle.std.proofs.lemmas.List.{drop_all}
+use Rattle.vhdl_tree.specs.Tree as t
+use Rattle.vhdl_tree.specs.Tree.{Ident, exprs_of}
+use Rattle.vhdl_tree.specs.View.{view, chain_view, pair_view, suffix_view}
+use Rattle.vhdl_tree.specs.declared.expression.Suffix as f
+use Rattle.vhdl_tree.specs.declared.expression.Suffix.TheVariants as s
+use Rattle.vhdl_tree.specs.declared.operator.Direction.{Direction}
+use Rattle.vhdl_tree.specs.declared.expression.Expr.{Expr}
+use Rattle.vhdl_tree.specs.declared.expression.Expr.TheVariants as x
+use Rattle.vhdl_tree.specs.declared.expression.Chain.{Chain, out-Chain}
+use Rattle.vhdl_tree.specs.declared.expression.Link.{Link}
+use Rattle.vhdl_tree.proofs.Rows.{chain_is, view_arguments}
+use Rattle.vhdl_names_rules.specs.Rules.{◌>>=◌}
+use Rattle.vhdl_names_rules.specs.Visibility as m
+use Rattle.vhdl_names_rules.specs.Visibility.{Sight}
+use Rattle.vhdl_names_rules.specs.Names.{Suffix, range, denoted, attributed}
+use Rattle.vhdl_names_rules.specs.units.Expressions as u
+use Rattle.vhdl_names_rules.specs.Operators.{Typed, operated}
+use Rattle.vhdl_names_rules.specs.Expressions.{typed, typed_suffix, typed_each, beside, static, static_range, as_integer}
+use Rattle.vhdl_names_expressions.specs.Chosen.{arguments_of, started, links_of}
+use Rattle.vhdl_names_expressions.specs.Steps.{is_parens, enclosed_if, linked, all_linked}
+
+-- ---- chains
+
+beside_if : (x : t.Expr) (y : Typed) → beside x y ≡ enclosed_if (is_parens x) y
+beside_if (t.integer at s) y = refl
+beside_if (t.character at s) y = refl
+beside_if (t.string at s) y = refl
+beside_if (t.bits at s) y = refl
+beside_if (t.named n s a) y = refl
+beside_if (t.parens at e) y = refl
+beside_if (t.negation at e) y = refl
+beside_if (t.signed sign at e) y = refl
+beside_if (t.binary b op at d e) y = refl
+
+linked_typed : (sight : Sight) (b : Bool) (x : t.Expr) (l : Link) →
+    typed sight (t.binary b l.operator l.at x (view l.operand)) ≡ linked sight (is_parens x) (typed sight x) l
+unfolding typed
+linked_typed sight b x l = go (typed sight x)
+  where
+    next : (v : Typed) (o : Option Typed) →
+        (o >>= λ y. operated sight.numbers l.operator v (beside x y)) ≡ (o >>= λ y. operated sight.numbers l.operator v (enclosed_if (is_parens x) y))
+    next v None = refl
+    next v (Some y) = ap (operated sight.numbers l.operator v) (beside_if x y)
+
+    go : (o : Option Typed) → (o >>= λ v. (typed sight (view l.operand) >>= λ y. operated sight.numbers l.operator v (beside x y))) ≡ linked sight (is_parens x) o l
+    go None = refl
+    go (Some v) = next v (typed sight (view l.operand))
+
+typed-joined : (sight : Sight) (x : t.Expr) (ls : List Link) → is_parens x ≡ false → typed sight (t.all_joined x (map pair_view ls)) ≡ all_linked sight (typed sight x) ls
+typed-joined sight x [] h = refl
+typed-joined sight x (l ∷ ls) h =
+    typed-joined sight (t.joined x (pair_view l)) ls refl
+    ∙ ap (λ o. all_linked sight o ls) (linked_typed sight false x l ∙ ap (λ b. linked sight b (typed sight x) l) h)
+
+pub all_linked_none : (sight : Sight) (ls : List Link) → all_linked sight None ls ≡ None
+all_linked_none sight [] = refl
+all_linked_none sight (l ∷ ls) = all_linked_none sight ls
+
+pub typed-chain : (sight : Sight) (chain : Chain) →
+    typed sight (chain_view chain)
+    ≡ all_linked sight (linked sight (is_parens (view (out-Chain chain).first)) (typed sight (view (out-Chain chain).first)) (out-Chain chain).second) (out-Chain chain).rest.items
+typed-chain sight chain =
+    let c = out-Chain chain in
+    ap (typed sight) (chain_is chain)
+    ∙ typed-joined sight (t.begun (view c.first) (pair_view c.second)) c.rest.items refl
+    ∙ ap (λ o. all_linked sight o c.rest.items) (linked_typed sight true (view c.first) c.second)
+
+-- a link that gives nothing leaves nothing
+pub link_fails : (sight : Sight) (whole : Option Typed) (v : Typed) (ls : List Link) (i : ℕ) (l : Link) → whole ≡ all_linked sight (Some v) (drop i ls) → i < length ls → l ≡ get_or ls i l →
+    linked sight false (Some v) l ≡ None → whole ≡ None
+link_fails sight whole v ls i l h lt e f =
+    h ∙ ap (all_linked sight (Some v)) (drop-cons ls i l lt) ∙ ap (λ k. all_linked sight (linked sight false (Some v) k) (drop (suc i) ls)) (sym e)
+    ∙ ap (λ o. all_linked sight o (drop (suc i) ls)) f ∙ all_linked_none sight (drop (suc i) ls)
+
+-- ---- names
+
+-- the identifier first
+pub named_in_turn : (sight : Sight) (n : Ident) (s : t.Suffix) (a : Option Ident) →
+    typed sight (t.named n s a) ≡ (m.meaning sight n.text >>= λ d. (typed_suffix sight s >>= λ x. (denoted d x >>= attributed a)))
+unfolding typed
+named_in_turn sight n s a = go (typed_suffix sight s) (m.meaning sight n.text)
+  where
+    go : (o : Option Suffix) (p : Option m.Meaning) →
+        (o >>= λ x. (p >>= λ d. (denoted d x >>= attributed a))) ≡ (p >>= λ d. (o >>= λ x. (denoted d x >>= attributed a)))
+    go None None = refl
+    go None (Some d) = refl
+    go (Some x) None = refl
+    go (Some x) (Some d) = refl
+
+-- ---- arguments
+
+-- what stands before others
+abbrev pub front : List Typed → Option (List Typed) → Option (List Typed)
+front xs None = None
+front xs (Some ys) = Some (xs ++ ys)
+
+abbrev taken : Option Typed → Option (List Typed) → Option (List Typed)
+taken o p = o >>= λ x. (p >>= λ xs. Some (x ∷ xs))
+
+each_step : (sight : Sight) (whole : Option (List Typed)) (xs : List Typed) (es : List Expr) (i : ℕ) (e : Expr) →
+    whole ≡ front xs (typed_each sight (exprs_of (map view (drop i es)))) → i < length es → e ≡ get_or es i e →
+    whole ≡ front xs (taken (typed sight (view e)) (typed_each sight (exprs_of (map view (drop (suc i) es)))))
+unfolding typed_each
+each_step sight whole xs es i e h lt is =
+    h ∙ ap (λ l. front xs (typed_each sight (exprs_of (map view l)))) (drop-cons es i e lt)
+    ∙ ap (λ k. front xs (taken (typed sight (view k)) (typed_each sight (exprs_of (map view (drop (suc i) es)))))) (sym is)
+
+pub each_fails : (sight : Sight) (whole : Option (List Typed)) (xs : List Typed) (es : List Expr) (i : ℕ) (e : Expr) →
+    whole ≡ front xs (typed_each sight (exprs_of (map view (drop i es)))) → i < length es → e ≡ get_or es i e → typed sight (view e) ≡ None → whole ≡ None
+each_fails sight whole xs es i e h lt is f =
+    each_step sight whole xs es i e h lt is ∙ ap (λ o. front xs (taken o (typed_each sight (exprs_of (map view (drop (suc i) es)))))) f
+
+pub each_goes : (sight : Sight) (whole : Option (List Typed)) (xs : List Typed) (es : List Expr) (i : ℕ) (e : Expr) (y : Typed) →
+    whole ≡ front xs (typed_each sight (exprs_of (map view (drop i es)))) → i < length es → e ≡ get_or es i e → typed sight (view e) ≡ Some y →
+    whole ≡ front (xs ++ y ∷ []) (typed_each sight (exprs_of (map view (drop (suc i) es))))
+each_goes sight whole xs es i e y h lt is f =
+    each_step sight whole xs es i e h lt is ∙ ap (λ o. front xs (taken o (typed_each sight (exprs_of (map view (drop (suc i) es)))))) f
+    ∙ go (typed_each sight (exprs_of (map view (drop (suc i) es))))
+  where
+    go : (o : Option (List Typed)) → front xs (taken (Some y) o) ≡ front (xs ++ y ∷ []) o
+    go None = refl
+    go (Some ys) = ap Some (sym (append_assoc xs (y ∷ []) ys))
+
+pub each_ends : (sight : Sight) (whole : Option (List Typed)) (xs : List Typed) (es : List Expr) (i : ℕ) →
+    whole ≡ front xs (typed_each sight (exprs_of (map view (drop i es)))) → length es ≤ i → whole ≡ Some xs
+unfolding typed_each
+each_ends sight whole xs es i h le = h ∙ ap (λ l. front xs (typed_each sight (exprs_of (map view l)))) (drop_all i es le) ∙ ap Some (append-nil xs)
+
+-- ---- what stands in parentheses
+
+pub static_is : (sight : Sight) (e : t.Expr) → static sight e ≡ (typed sight e >>= as_integer)
+unfolding static
+static_is sight e = refl
+
+pub arguments_whole : (sight : Sight) (x : f.Suffix) (all : Vec Expr Global) → x ≡ s.Arguments all →
+    typed_suffix sight (suffix_view x) ≡ arguments_of sight (exprs_of (map view all.items))
+unfolding typed_suffix
+arguments_whole sight x all is = ap (λ y. typed_suffix sight (suffix_view y)) is ∙ ap (typed_suffix sight) (view_arguments all)
+
+-- a slice is a range of static integers
+pub sliced_is : (sight : Sight) (d : t.Expr) (way : Direction) (e : t.Expr) →
+    typed_suffix sight (t.sliced d way e) ≡ option_map range (static_range sight (record { left = d; direction = way; right = e }))
+unfolding typed_suffix static
+sliced_is sight d way e = go (typed sight d)
+  where
+    made : u.Static → u.Static → u.Range
+    made l r = record { left = l; direction = way; right = r }
+
+    last : (l : u.Static) (o : Option Typed) →
+        (o >>= λ y. (as_integer y >>= λ r. Some (range (made l r)))) ≡ option_map range ((o >>= as_integer) >>= λ r. Some (made l r))
+    last l None = refl
+    last l (Some y) = end (as_integer y)
+      where
+        end : (o : Option u.Static) → (o >>= λ r. Some (range (made l r))) ≡ option_map range (o >>= λ r. Some (made l r))
+        end None = refl
+        end (Some r) = refl
+
+    next : (o : Option u.Static) →
+        (o >>= λ l. (typed sight e >>= λ y. (as_integer y >>= λ r. Some (range (made l r)))))
+        ≡ option_map range (o >>= λ l. ((typed sight e >>= as_integer) >>= λ r. Some (made l r)))
+    next None = refl
+    next (Some l) = last l (typed sight e)
+
+    go : (o : Option Typed) →
+        (o >>= λ x. (as_integer x >>= λ l. (typed sight e >>= λ y. (as_integer y >>= λ r. Some (range (made l r))))))
+        ≡ option_map range ((o >>= as_integer) >>= λ l. ((typed sight e >>= as_integer) >>= λ r. Some (made l r)))
+    go None = refl
+    go (Some x) = next (as_integer x)
+
+-- ---- a chain by its beginning and what follows
+
+pub started_is : (sight : Sight) (k : Chain) →
+    started sight k ≡ linked sight (is_parens (view (out-Chain k).first)) (typed sight (view (out-Chain k).first)) (out-Chain k).second
+unfolding started
+started_is sight k = refl
+
+pub chain_begun : (sight : Sight) (e : Expr) (box : Box Chain Global) (k1 k2 : Chain) → e ≡ x.Chain box → k1 ≡ box.value → k2 ≡ box.value →
+    typed sight (view e) ≡ all_linked sight (started sight k1) (links_of k2)
+chain_begun sight e box k1 k2 is e1 e2 =
+    ap (λ v. typed sight (view v)) is ∙ typed-chain sight box.value
+    ∙ ap (λ o. all_linked sight o (links_of box.value)) (sym (started_is sight box.value))
+    ∙ ap (λ k. all_linked sight (started sight k) (links_of box.value)) (sym e1)
+    ∙ ap (λ k. all_linked sight (started sight k1) (links_of k)) (sym e2)

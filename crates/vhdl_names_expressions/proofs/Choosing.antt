@@ -1,0 +1,211 @@
+-- What chains of operators are not: operands in parentheses, names and literals; and choices, name by name.
+use Rattle.std.proofs.Common.{◌≡◌, ℕ, Bool, true, false, true≢false, List, [], ◌∷◌, map, length, get_or, Option, Some, None, Box, Vec, Global, refl, sym, ap, ◌∙◌, arith}
+use Rattle.std.specs.Prelude.{option_map}
+use Rattle.vhdl_tree.specs.Tree as t
+use Rattle.vhdl_tree.specs.Tree.{Pair, exprs_of, all_joined}
+use Rattle.vhdl_tree.specs.View.{view, pair_view}
+use Rattle.vhdl_tree.specs.declared.expression.Expr.{Expr}
+use Rattle.vhdl_tree.specs.declared.expression.Expr.TheVariants as x
+use Rattle.vhdl_tree.specs.declared.expression.Chain.{Chain, out-Chain}
+use Rattle.vhdl_tree.specs.declared.operator.Operator.{Operator}
+use Rattle.vhdl_tree.proofs.Rows.{chain_is}
+use Rattle.vhdl_names_rules.specs.declared.kind.Kind.{Kind}
+use Rattle.vhdl_names_rules.specs.declared.kind.Kind.TheVariants.{Element, LogicVector, Unsigned, OpenVector}
+use Rattle.vhdl_names_rules.specs.Expressions.{is_one_name, is_vector}
+use Rattle.vhdl_tree.specs.declared.expression.Suffix as f
+use Rattle.vhdl_tree.specs.declared.expression.Suffix.TheVariants as s
+use Rattle.vhdl_tree.specs.View.{suffix_view, choice_view}
+use Rattle.vhdl_tree.specs.declared.expression.Choice as h
+use Rattle.vhdl_tree.proofs.Rows.{view_arguments}
+use Rattle.vhdl_names_rules.specs.declared.kind.ObjectType.{ObjectType}
+use Rattle.vhdl_names_rules.specs.declared.kind.ObjectType.TheVariants.{Elements, Enumeration}
+use Rattle.vhdl_names_rules.specs.units.Statements.{Choice}
+use Rattle.vhdl_names_rules.specs.Rules.{◌>>=◌, ◌>>◌, met, each}
+use Rattle.vhdl_names_rules.specs.Visibility as m
+use Rattle.vhdl_names_rules.specs.Visibility.{Sight}
+use Rattle.vhdl_names_rules.specs.Literals.{values_of_string, values_of_bits}
+use Rattle.vhdl_names_rules.specs.Subtypes.{literal_values}
+use Rattle.vhdl_names_rules.specs.Choices as c
+use Rattle.vhdl_names_expressions.specs.Chosen.{is_name, as_name, is_bare, is_literal, as_character, character_values}
+use Rattle.vhdl_names_expressions.specs.Steps.{is_parens}
+
+-- what holds of each binary operation holds of a chain
+chain_as : {A : Type 0} (f : t.Expr → A) (a : A) → ((b : Bool) (op : Operator) (at : ℕ) (d e : t.Expr) → f (t.binary b op at d e) ≡ a) →
+    (b : Bool) (op : Operator) (at : ℕ) (d e : t.Expr) (ps : List Pair) → f (all_joined (t.binary b op at d e) ps) ≡ a
+chain_as f a each b op at d e [] = each b op at d e
+chain_as f a each b op at d e (p ∷ ps) = chain_as f a each false p.operator p.at (t.binary b op at d e) p.operand ps
+
+chain_is_as : {A : Type 0} (f : t.Expr → A) (a : A) → ((b : Bool) (op : Operator) (at : ℕ) (d e : t.Expr) → f (t.binary b op at d e) ≡ a) →
+    (e : Expr) (chain : Box Chain Global) → e ≡ x.Chain chain → f (view e) ≡ a
+chain_is_as f a each e chain is =
+    let c = out-Chain chain.value in
+    ap (λ y. f (view y)) is ∙ ap f (chain_is chain.value)
+    ∙ chain_as f a each true c.second.operator c.second.at (view c.first) (view c.second.operand) (map pair_view c.rest.items)
+
+pub chain_is_no_parens : (e : Expr) (chain : Box Chain Global) → e ≡ x.Chain chain → is_parens (view e) ≡ false
+chain_is_no_parens = chain_is_as is_parens false (λ b op at d e. refl)
+
+pub chain_is_no_name : (e : Expr) (chain : Box Chain Global) → e ≡ x.Chain chain → is_name (view e) ≡ false
+chain_is_no_name = chain_is_as is_name false (λ b op at d e. refl)
+
+-- ---- arguments that are one name
+
+pub one_name : (e : t.Expr) → is_one_name (t.expr e t.no_exprs) ≡ is_name e
+one_name (t.integer at s) = refl
+one_name (t.character at s) = refl
+one_name (t.string at s) = refl
+one_name (t.bits at s) = refl
+one_name (t.named n s None) = refl
+one_name (t.named n s (Some a)) = refl
+one_name (t.parens at e) = refl
+one_name (t.negation at e) = refl
+one_name (t.signed sign at e) = refl
+one_name (t.binary b op at d e) = refl
+
+pub more_names : (d e : t.Expr) (es : t.Exprs) → is_one_name (t.expr d (t.expr e es)) ≡ false
+more_names (t.integer at s) e es = refl
+more_names (t.character at s) e es = refl
+more_names (t.string at s) e es = refl
+more_names (t.bits at s) e es = refl
+more_names (t.named n s None) e es = refl
+more_names (t.named n s (Some a)) e es = refl
+more_names (t.parens at d) e es = refl
+more_names (t.negation at d) e es = refl
+more_names (t.signed sign at d) e es = refl
+more_names (t.binary b op at d d') e es = refl
+
+-- arguments that are not one alone are not one name
+pub not_one : (es : List Expr) → (length es ≡ 1 → ⊥) → is_one_name (exprs_of (map view es)) ≡ false
+not_one [] h = refl
+not_one (d ∷ []) h = absurd (h refl)
+not_one (d ∷ e ∷ es) h = more_names (view d) (view e) (exprs_of (map view es))
+
+pub just_one : (es : List Expr) (e : Expr) → length es ≡ 1 → e ≡ get_or es 0 e → is_one_name (exprs_of (map view es)) ≡ is_name (view e)
+just_one [] e h is = absurd (omega arith)
+just_one (d ∷ []) e h is = one_name (view d) ∙ ap (λ y. is_name (view y)) (sym is)
+just_one (d ∷ d' ∷ es) e h is = absurd (omega arith)
+
+pub chain_has_no_name : (e : Expr) (chain : Box Chain Global) → e ≡ x.Chain chain → as_name (view e) ≡ None
+chain_has_no_name = chain_is_as as_name None (λ b op at d e. refl)
+
+pub chain_is_no_literal : (e : Expr) (chain : Box Chain Global) → e ≡ x.Chain chain → is_literal (view e) ≡ false
+chain_is_no_literal = chain_is_as is_literal false (λ b op at d e. refl)
+
+pub chain_is_no_character : (e : Expr) (chain : Box Chain Global) → e ≡ x.Chain chain → as_character (view e) ≡ None
+chain_is_no_character = chain_is_as as_character None (λ b op at d e. refl)
+
+-- ---- literals, kind by kind
+
+pub literal_character : (k : Kind) (at c : ℕ) → literal_values k (t.character at c) ≡ character_values k c
+literal_character Element at c = refl
+literal_character LogicVector at c = refl
+literal_character Unsigned at c = refl
+literal_character OpenVector at c = refl
+
+pub literal_string : (k : Kind) (at : ℕ) (text : List ℕ) → literal_values k (t.string at text) ≡ (met (is_vector k) >> values_of_string text)
+literal_string Element at text = refl
+literal_string LogicVector at text = refl
+literal_string Unsigned at text = refl
+literal_string OpenVector at text = refl
+
+pub literal_bits : (k : Kind) (at : ℕ) (text : List ℕ) → literal_values k (t.bits at text) ≡ (met (is_vector k) >> values_of_bits text)
+literal_bits Element at text = refl
+literal_bits LogicVector at text = refl
+literal_bits Unsigned at text = refl
+literal_bits OpenVector at text = refl
+
+pub no_literal : (k : Kind) (e : t.Expr) → is_literal e ≡ false → literal_values k e ≡ None
+no_literal Element (t.integer at s) h = refl
+no_literal LogicVector (t.integer at s) h = refl
+no_literal Unsigned (t.integer at s) h = refl
+no_literal OpenVector (t.integer at s) h = refl
+no_literal Element (t.named n s a) h = refl
+no_literal LogicVector (t.named n s a) h = refl
+no_literal Unsigned (t.named n s a) h = refl
+no_literal OpenVector (t.named n s a) h = refl
+no_literal Element (t.parens at e) h = refl
+no_literal LogicVector (t.parens at e) h = refl
+no_literal Unsigned (t.parens at e) h = refl
+no_literal OpenVector (t.parens at e) h = refl
+no_literal Element (t.negation at e) h = refl
+no_literal LogicVector (t.negation at e) h = refl
+no_literal Unsigned (t.negation at e) h = refl
+no_literal OpenVector (t.negation at e) h = refl
+no_literal Element (t.signed sign at e) h = refl
+no_literal LogicVector (t.signed sign at e) h = refl
+no_literal Unsigned (t.signed sign at e) h = refl
+no_literal OpenVector (t.signed sign at e) h = refl
+no_literal Element (t.binary b op at d e) h = refl
+no_literal LogicVector (t.binary b op at d e) h = refl
+no_literal Unsigned (t.binary b op at d e) h = refl
+no_literal OpenVector (t.binary b op at d e) h = refl
+no_literal k (t.character at c) h = absurd (true≢false h)
+no_literal k (t.string at s) h = absurd (true≢false h)
+no_literal k (t.bits at s) h = absurd (true≢false h)
+
+-- ---- names as choices
+
+pub arguments_not_bare : (y : f.Suffix) (all : Vec Expr Global) (a : Option t.Ident) → y ≡ s.Arguments all → is_bare (suffix_view y) a ≡ false
+arguments_not_bare y all a is = ap (λ z. is_bare (suffix_view z) a) is ∙ ap (λ z. is_bare z a) (view_arguments all)
+
+none_after : {A B : Type 0} (o : Option A) (f : A → Option B) → (o >>= λ d. (met false >> f d)) ≡ None
+none_after None f = refl
+none_after (Some d) f = refl
+
+-- a name is no literal
+name_unchosen : (type : ObjectType) (n : t.Ident) (y : t.Suffix) (a : Option t.Ident) → c.literal_choice type (t.named n y a) ≡ None
+name_unchosen (Elements k) n y a = ap (option_map Choice.values) (no_literal k (t.named n y a) refl)
+name_unchosen (Enumeration e count) n y a = refl
+
+-- a name whose identifier comes first
+pub chosen_named : (sight : Sight) (type : ObjectType) (n : t.Ident) (y : t.Suffix) (a : Option t.Ident) →
+    c.chosen sight type (t.named n y a) ≡ (m.meaning sight n.text >>= λ d. (met (is_bare y a) >> c.named_choice type d))
+chosen_named sight type n t.plain None = refl
+chosen_named sight type n t.plain (Some a) = name_unchosen type n t.plain (Some a) ∙ sym (none_after (m.meaning sight n.text) (c.named_choice type))
+chosen_named sight type n (t.arguments es) a = name_unchosen type n (t.arguments es) a ∙ sym (none_after (m.meaning sight n.text) (c.named_choice type))
+chosen_named sight type n (t.sliced d w e) a = name_unchosen type n (t.sliced d w e) a ∙ sym (none_after (m.meaning sight n.text) (c.named_choice type))
+
+abbrev pub chosen_by : Sight → ObjectType → Option t.Name → t.Expr → Option Choice
+chosen_by sight type (Some n) e = c.chosen sight type (t.named n.identifier n.suffix n.attribute)
+chosen_by sight type None e = c.literal_choice type e
+
+pub chosen_is : (sight : Sight) (type : ObjectType) (e : t.Expr) → c.chosen sight type e ≡ chosen_by sight type (as_name e) e
+chosen_is sight type (t.integer at s) = refl
+chosen_is sight type (t.character at s) = refl
+chosen_is sight type (t.string at s) = refl
+chosen_is sight type (t.bits at s) = refl
+chosen_is sight type (t.named n s a) = refl
+chosen_is sight type (t.parens at e) = refl
+chosen_is sight type (t.negation at e) = refl
+chosen_is sight type (t.signed sign at e) = refl
+chosen_is sight type (t.binary b op at d e) = refl
+
+-- ---- others
+
+more_choices : (x y : t.Choice) (cs : List t.Choice) → c.is_others (x ∷ y ∷ cs) ≡ false
+more_choices (t.chosen e) y cs = refl
+more_choices (t.otherwise at) y cs = refl
+
+pub not_others : (cs : List h.Choice) → (length cs ≡ 1 → ⊥) → c.is_others (map choice_view cs) ≡ false
+not_others [] h = refl
+not_others (x ∷ []) h = absurd (h refl)
+not_others (x ∷ y ∷ cs) h = more_choices (choice_view x) (choice_view y) (map choice_view cs)
+
+pub just_others : (cs : List h.Choice) (x : h.Choice) → length cs ≡ 1 → x ≡ get_or cs 0 x → c.is_others (map choice_view cs) ≡ c.is_others (choice_view x ∷ [])
+just_others [] x h is = absurd (omega arith)
+just_others (y ∷ []) x h is = ap (λ z. c.is_others (choice_view z ∷ [])) (sym is)
+just_others (y ∷ z ∷ cs) x h is = absurd (omega arith)
+
+pub choices_others : (sight : Sight) (type : ObjectType) (cs : List t.Choice) → c.is_others cs ≡ true → c.choices sight type cs ≡ Some []
+choices_others sight type [] h = absurd (true≢false (sym h))
+choices_others sight type (t.otherwise at ∷ []) h = refl
+choices_others sight type (t.otherwise at ∷ y ∷ cs) h = absurd (true≢false (sym h))
+choices_others sight type (t.chosen e ∷ []) h = absurd (true≢false (sym h))
+choices_others sight type (t.chosen e ∷ y ∷ cs) h = absurd (true≢false (sym h))
+
+pub choices_each : (sight : Sight) (type : ObjectType) (cs : List t.Choice) → c.is_others cs ≡ false → c.choices sight type cs ≡ each (c.choice sight type) cs
+choices_each sight type [] h = refl
+choices_each sight type (t.otherwise at ∷ []) h = absurd (true≢false h)
+choices_each sight type (t.otherwise at ∷ y ∷ cs) h = refl
+choices_each sight type (t.chosen e ∷ []) h = refl
+choices_each sight type (t.chosen e ∷ y ∷ cs) h = refl

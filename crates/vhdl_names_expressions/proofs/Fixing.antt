@@ -1,0 +1,170 @@
+-- Values of constants and defaults: names with their identifier first, and calls by their two arguments.
+use Rattle.std.proofs.Common.{◌≡◌, ℕ, true, false, List, [], ◌∷◌, map, Option, Some, None, refl, sym, ap, ◌∙◌}
+use Rattle.std.specs.Prelude.{option_map, is_none}
+use Rattle.vhdl_tree.specs.Tree as t
+use Rattle.vhdl_names_rules.specs.declared.kind.Function.TheVariants.{ToUnsigned}
+use Rattle.vhdl_names_rules.specs.declared.kind.Kind.TheVariants.{Unsigned}
+use Rattle.vhdl_names_rules.specs.declared.kind.ObjectType.{ObjectType}
+use Rattle.vhdl_names_rules.specs.declared.kind.ObjectType.TheVariants.{Elements, Enumeration}
+use Rattle.vhdl_names_rules.specs.units.Expressions as u
+use Rattle.vhdl_names_rules.specs.units.Units.{Fixed}
+use Rattle.vhdl_names_rules.specs.Rules.{◌>>=◌, ◌>>◌, met}
+use Rattle.vhdl_names_rules.specs.Visibility as m
+use Rattle.vhdl_names_rules.specs.Visibility.{Sight}
+use Rattle.vhdl_names_rules.specs.Names.{arguments, range}
+use Rattle.vhdl_names_rules.specs.Operators as o
+use Rattle.vhdl_names_rules.specs.Operators.{integer, elements, enumerated, truth}
+use Rattle.vhdl_names_rules.specs.Expressions.{typed, typed_each, typed_suffix, as_integer, is_one_name}
+use Rattle.vhdl_names_rules.specs.Subtypes as r
+use Rattle.vhdl_names_types.specs.declared.types.Typed.{Typed}
+use Rattle.vhdl_names_types.specs.Steps.{two}
+use Rattle.vhdl_names_types.specs.Views.{typed_view}
+use Rattle.vhdl_names_types.proofs.Meant.{both_views, two_map}
+use Rattle.vhdl_names_expressions.specs.Chosen.{as_name, as_character}
+use Rattle.vhdl_names_expressions.specs.Fixing.{encoded_fixed, suffixed_value, filled_with}
+use Rattle.vhdl_names_expressions.proofs.Choosing.{no_literal}
+
+-- ---- to_unsigned
+
+encode_two : (xs : List o.Typed) → r.encoded_value (Elements Unsigned) (m.function ToUnsigned) xs ≡ encoded_fixed (two xs)
+encode_two [] = refl
+encode_two (integer s ∷ []) = refl
+encode_two (integer s ∷ integer t ∷ []) = refl
+encode_two (integer s ∷ integer t ∷ z ∷ zs) = refl
+encode_two (integer s ∷ elements k y ∷ []) = refl
+encode_two (integer s ∷ elements k y ∷ z ∷ zs) = refl
+encode_two (integer s ∷ enumerated e n y ∷ []) = refl
+encode_two (integer s ∷ enumerated e n y ∷ z ∷ zs) = refl
+encode_two (integer s ∷ truth y ∷ []) = refl
+encode_two (integer s ∷ truth y ∷ z ∷ zs) = refl
+encode_two (elements j x ∷ []) = refl
+encode_two (elements j x ∷ integer t ∷ []) = refl
+encode_two (elements j x ∷ integer t ∷ z ∷ zs) = refl
+encode_two (elements j x ∷ elements k y ∷ []) = refl
+encode_two (elements j x ∷ elements k y ∷ z ∷ zs) = refl
+encode_two (elements j x ∷ enumerated e n y ∷ []) = refl
+encode_two (elements j x ∷ enumerated e n y ∷ z ∷ zs) = refl
+encode_two (elements j x ∷ truth y ∷ []) = refl
+encode_two (elements j x ∷ truth y ∷ z ∷ zs) = refl
+encode_two (enumerated d m x ∷ []) = refl
+encode_two (enumerated d m x ∷ integer t ∷ []) = refl
+encode_two (enumerated d m x ∷ integer t ∷ z ∷ zs) = refl
+encode_two (enumerated d m x ∷ elements k y ∷ []) = refl
+encode_two (enumerated d m x ∷ elements k y ∷ z ∷ zs) = refl
+encode_two (enumerated d m x ∷ enumerated e n y ∷ []) = refl
+encode_two (enumerated d m x ∷ enumerated e n y ∷ z ∷ zs) = refl
+encode_two (enumerated d m x ∷ truth y ∷ []) = refl
+encode_two (enumerated d m x ∷ truth y ∷ z ∷ zs) = refl
+encode_two (truth x ∷ []) = refl
+encode_two (truth x ∷ integer t ∷ []) = refl
+encode_two (truth x ∷ integer t ∷ z ∷ zs) = refl
+encode_two (truth x ∷ elements k y ∷ []) = refl
+encode_two (truth x ∷ elements k y ∷ z ∷ zs) = refl
+encode_two (truth x ∷ enumerated e n y ∷ []) = refl
+encode_two (truth x ∷ enumerated e n y ∷ z ∷ zs) = refl
+encode_two (truth x ∷ truth y ∷ []) = refl
+encode_two (truth x ∷ truth y ∷ z ∷ zs) = refl
+
+pub encoding_two : (xs : List Typed) →
+    r.encoded_value (Elements Unsigned) (m.function ToUnsigned) (map typed_view xs) ≡ encoded_fixed (option_map both_views (two xs))
+encoding_two xs = encode_two (map typed_view xs) ∙ ap encoded_fixed (two_map xs)
+
+-- ---- names
+
+-- a name is no literal
+name_unvalued : (type : ObjectType) (n : t.Ident) (y : t.Suffix) (a : Option t.Ident) → r.literal_value type (t.named n y a) ≡ None
+name_unvalued (Elements k) n y a = ap (option_map Fixed.literal) (no_literal k (t.named n y a) refl)
+name_unvalued (Enumeration e count) n y a = refl
+
+broken : {A B C : Type 0} (p : Option A) (q : Option B) (f : A → B → Option C) → (p >>= λ d. (q >>= λ s. (met false >> f d s))) ≡ None
+broken None q f = refl
+broken (Some d) None f = refl
+broken (Some d) (Some s) f = refl
+
+-- the identifier first, and the attribute last
+pub fixed_named : (sight : Sight) (type : ObjectType) (n : t.Ident) (y : t.Suffix) (a : Option t.Ident) →
+    r.fixed sight type (t.named n y a)
+    ≡ (m.meaning sight n.text >>= λ d. (typed_suffix sight y >>= λ s. (met (is_none a) >> suffixed_value type d s)))
+unfolding typed_suffix
+fixed_named sight type n t.plain None = go (m.meaning sight n.text)
+  where
+    go : (p : Option m.Meaning) → (p >>= r.named_value type) ≡ (p >>= λ d. r.named_value type d)
+    go None = refl
+    go (Some d) = refl
+fixed_named sight type n (t.arguments es) None = go (m.meaning sight n.text) (typed_each sight es)
+  where
+    go : (p : Option m.Meaning) (q : Option (List o.Typed)) →
+        (p >>= λ d. (q >>= λ xs. r.encoded_value type d xs))
+        ≡ (p >>= λ d. (option_map (arguments (is_one_name es)) q >>= λ s. (met true >> suffixed_value type d s)))
+    go None q = refl
+    go (Some d) None = refl
+    go (Some d) (Some xs) = refl
+fixed_named sight type n (t.sliced d w e) None = name_unvalued type n (t.sliced d w e) None ∙ sym (go (m.meaning sight n.text) (typed sight d))
+  where
+    last : (p : m.Meaning) (l : u.Static) (q : Option o.Typed) →
+        ((q >>= λ y. (as_integer y >>= λ r. Some (range (record { left = l; direction = w; right = r })))) >>= λ s. (met true >> suffixed_value type p s)) ≡ None
+    last p l None = refl
+    last p l (Some y) = end (as_integer y)
+      where
+        end : (q : Option u.Static) → ((q >>= λ r. Some (range (record { left = l; direction = w; right = r }))) >>= λ s. (met true >> suffixed_value type p s)) ≡ None
+        end None = refl
+        end (Some r) = refl
+
+    next : (p : m.Meaning) (q : Option u.Static) →
+        ((q >>= λ l. (typed sight e >>= λ y. (as_integer y >>= λ r. Some (range (record { left = l; direction = w; right = r }))))) >>= λ s. (met true >> suffixed_value type p s)) ≡ None
+    next p None = refl
+    next p (Some l) = last p l (typed sight e)
+
+    go : (p : Option m.Meaning) (q : Option o.Typed) →
+        (p >>= λ d. ((q >>= λ x. (as_integer x >>= λ l. (typed sight e >>= λ y. (as_integer y >>= λ r. Some (range (record { left = l; direction = w; right = r })))))) >>= λ s. (met true >> suffixed_value type d s))) ≡ None
+    go None q = refl
+    go (Some p) None = refl
+    go (Some p) (Some x) = next p (as_integer x)
+fixed_named sight type n t.plain (Some a) = name_unvalued type n t.plain (Some a) ∙ sym (broken (m.meaning sight n.text) (typed_suffix sight t.plain) (suffixed_value type))
+fixed_named sight type n (t.arguments es) (Some a) = name_unvalued type n (t.arguments es) (Some a) ∙ sym (broken (m.meaning sight n.text) (typed_suffix sight (t.arguments es)) (suffixed_value type))
+fixed_named sight type n (t.sliced d w e) (Some a) = name_unvalued type n (t.sliced d w e) (Some a) ∙ sym (broken (m.meaning sight n.text) (typed_suffix sight (t.sliced d w e)) (suffixed_value type))
+
+abbrev pub fixed_by : Sight → ObjectType → Option t.Name → t.Expr → Option Fixed
+fixed_by sight type (Some n) e = r.fixed sight type (t.named n.identifier n.suffix n.attribute)
+fixed_by sight type None e = r.literal_value type e
+
+pub fixed_is : (sight : Sight) (type : ObjectType) (e : t.Expr) → r.fixed sight type e ≡ fixed_by sight type (as_name e) e
+fixed_is sight type (t.integer at s) = refl
+fixed_is sight type (t.character at s) = refl
+fixed_is sight type (t.string at s) = refl
+fixed_is sight type (t.bits at s) = refl
+fixed_is sight type (t.named n s a) = refl
+fixed_is sight type (t.parens at e) = refl
+fixed_is sight type (t.negation at e) = refl
+fixed_is sight type (t.signed sign at e) = refl
+fixed_is sight type (t.binary b op at d e) = refl
+
+-- ---- values
+
+pub fixed_single : (sight : Sight) (type : ObjectType) (e : t.Expr) → r.fixed_value sight type (t.single e) ≡ r.fixed sight type e
+unfolding r.fixed_value
+fixed_single sight type e = refl
+
+filled_as : (type : ObjectType) (e : t.Expr) → r.filled_value type e ≡ filled_with type (as_character e)
+filled_as (Elements k) (t.integer at s) = refl
+filled_as (Enumeration k m) (t.integer at s) = refl
+filled_as (Elements k) (t.character at s) = refl
+filled_as (Enumeration k m) (t.character at s) = refl
+filled_as (Elements k) (t.string at s) = refl
+filled_as (Enumeration k m) (t.string at s) = refl
+filled_as (Elements k) (t.bits at s) = refl
+filled_as (Enumeration k m) (t.bits at s) = refl
+filled_as (Elements k) (t.named n s a) = refl
+filled_as (Enumeration k m) (t.named n s a) = refl
+filled_as (Elements k) (t.parens at e) = refl
+filled_as (Enumeration k m) (t.parens at e) = refl
+filled_as (Elements k) (t.negation at e) = refl
+filled_as (Enumeration k m) (t.negation at e) = refl
+filled_as (Elements k) (t.signed sign at e) = refl
+filled_as (Enumeration k m) (t.signed sign at e) = refl
+filled_as (Elements k) (t.binary b op at d e) = refl
+filled_as (Enumeration k m) (t.binary b op at d e) = refl
+
+pub fixed_others : (sight : Sight) (type : ObjectType) (at : ℕ) (e : t.Expr) → r.fixed_value sight type (t.others at e) ≡ filled_with type (as_character e)
+unfolding r.fixed_value
+fixed_others sight type at e = filled_as type e

@@ -1,0 +1,200 @@
+//! Choices of case statements and selected assignments (IEEE 1076-2008, 10.9, 11.6).
+
+ghost use Rattle.std.specs.Prelude.{◌≡◌, ◌∷◌, [], map};
+ghost use Rattle.vhdl_names_rules.specs.Choices as rules;
+ghost use Rattle.vhdl_names_rules.specs.Gives.{Gives};
+ghost use Rattle.vhdl_names_rules.specs.Rules.{each};
+ghost use Rattle.vhdl_names_rules.specs.declared.kind.ObjectType.TheVariants.{Elements, Enumeration};
+ghost use Rattle.vhdl_tree.specs.Tree as tree;
+ghost use Rattle.vhdl_tree.specs.View.{view, ident_view, suffix_view, option_ident_view, choice_view as tree_choice_view};
+ghost use Rattle.vhdl_names_types.specs.Views.{sight_view, meaning_view};
+ghost use Rattle.vhdl_names_expressions.specs.Chosen.{is_bare};
+ghost use Rattle.vhdl_names_units.specs.views.Answers.{choice_view, choices_view};
+
+use crate::expressions::start;
+use crate::literals::{literal_problem, literal_values, name_of};
+use std::alloc::Global;
+use vhdl_names_rules::{Kind, NameFault, NameProblem, ObjectType};
+use vhdl_tree::{Choice as TreeChoice, Expr, Name, Suffix};
+use vhdl_names_types::{Meaning, Sight, meaning_of};
+use vhdl_names_units::Choice;
+
+/// What is wrong with a name of this meaning as a choice.
+fn choice_problem(meaning: &Meaning) -> NameProblem {
+    match meaning {
+        Meaning::Unfinished => NameProblem::Undeclared,
+        Meaning::Literal { .. } | Meaning::Constant(_, _, Some(_)) => NameProblem::TypeMismatch,
+        Meaning::Label | Meaning::Component(_) => NameProblem::WrongKind,
+        _ => NameProblem::LeftOut,
+    }
+}
+
+/// The choice that a constant of this kind is, which a literal declares; its name is at byte `at`.
+fn constant_choice(kind: Kind, meaning: &Meaning, at: usize) -> Result<Choice, NameFault>
+    ensures { Gives choice_view (rules.named_choice (Elements kind) (meaning_view meaning.now)) result }
+{
+    match (kind, meaning) {
+        (Kind::Element, Meaning::Constant(_, Kind::Element, Some(values)))
+        | (Kind::LogicVector, Meaning::Constant(_, Kind::LogicVector, Some(values)))
+        | (Kind::Unsigned, Meaning::Constant(_, Kind::Unsigned, Some(values))) => {
+            Ok(Choice::Values(values.clone()?))
+        }
+        _ => Err(choice_problem(meaning).at(at)),
+    }
+}
+
+/// The choice that a literal of this enumeration is; its name is at byte `at`.
+fn position_choice(
+    number: usize,
+    count: usize,
+    meaning: &Meaning,
+    at: usize,
+) -> Result<Choice, NameFault>
+    ensures { Gives choice_view (rules.named_choice (Enumeration number count) (meaning_view meaning.now)) result }
+{
+    match meaning {
+        Meaning::Literal {
+            number: own,
+            position,
+            ..
+        } if *own == number => Ok(Choice::Position(*position)),
+        _ => Err(choice_problem(meaning).at(at)),
+    }
+}
+
+/// The choice that a literal of an enumeration is, or a constant that a literal declares; the name is
+/// at byte `at`.
+fn named_choice(object_type: ObjectType, meaning: &Meaning, at: usize) -> Result<Choice, NameFault>
+    ensures { Gives choice_view (rules.named_choice object_type (meaning_view meaning.now)) result }
+{
+    match object_type {
+        ObjectType::Elements(kind) => constant_choice(kind, meaning, at),
+        ObjectType::Enumeration { number, count } => position_choice(number, count, meaning, at),
+    }
+}
+
+/// Whether nothing stands behind a name's identifier.
+#[tactic(auto, using(crate::proofs::Choosing::arguments_not_bare))]
+fn is_bare_name(name: &Name) -> bool
+    ensures { result ≡ is_bare (suffix_view name.now.suffix) (option_ident_view name.now.attribute) }
+{
+    match name.suffix {
+        Suffix::Plain => match name.attribute {
+            None => true,
+            Some(_) => false,
+        },
+        Suffix::Arguments(_) => false,
+        Suffix::Range(_) => false,
+    }
+}
+
+/// A name as a choice, with nothing behind it.
+#[tactic(auto, using(crate::proofs::Choosing::chosen_named))]
+fn chosen_name(sight: &Sight, object_type: ObjectType, name: &Name) -> Result<Choice, NameFault>
+    ensures { Gives choice_view (rules.chosen (sight_view sight.now) object_type (tree.named (ident_view name.now.identifier) (suffix_view name.now.suffix) (option_ident_view name.now.attribute))) result }
+{
+    let meaning = meaning_of(sight, &name.identifier)?;
+    if !is_bare_name(name) {
+        return Err(NameProblem::LeftOut.at(name.identifier.at));
+    }
+    named_choice(object_type, meaning, name.identifier.at)
+}
+
+/// A literal as it stands, as a choice of a type.
+fn literal_choice(alloc: Global, object_type: ObjectType, e: &Expr) -> Result<Choice, NameFault>
+    ensures { Gives choice_view (rules.literal_choice object_type (view e.now)) result }
+{
+    match object_type {
+        ObjectType::Elements(kind) => {
+            let values = literal_values(alloc, kind, e)?;
+            Ok(Choice::Values(values))
+        }
+        ObjectType::Enumeration { .. } => Err(literal_problem(e).at(start(e))),
+    }
+}
+
+/// A literal as it stands, or a name with nothing behind it; no other expression is a choice.
+fn chosen(
+    alloc: Global,
+    sight: &Sight,
+    object_type: ObjectType,
+    e: &Expr,
+) -> Result<Choice, NameFault>
+    ensures { Gives choice_view (rules.chosen (sight_view sight.now) object_type (view e.now)) result }
+{
+    match name_of(e) {
+        Some(name) => chosen_name(sight, object_type, name),
+        None => literal_choice(alloc, object_type, e),
+    }
+}
+
+/// One choice that is not `others`.
+fn choice(
+    alloc: Global,
+    sight: &Sight,
+    object_type: ObjectType,
+    choice: &TreeChoice,
+) -> Result<Choice, NameFault>
+    ensures { Gives choice_view (rules.choice (sight_view sight.now) object_type (tree_choice_view choice.now)) result }
+{
+    match choice {
+        TreeChoice::Expr(e) => chosen(alloc, sight, object_type, e),
+        TreeChoice::Others { at } => Err(NameProblem::WrongKind.at(*at)),
+    }
+}
+
+/// Choices without `others`, in order.
+fn each_choice(
+    alloc: Global,
+    sight: &Sight,
+    object_type: ObjectType,
+    all: &[TreeChoice],
+) -> Result<Vec<Choice>, NameFault>
+    ensures { Gives choices_view (each (rules.choice (sight_view sight.now) object_type) (map tree_choice_view all.now)) result }
+{
+    let mut done = Vec::new(alloc);
+    for one in all {
+        let next = choice(alloc, sight, object_type, one)?;
+        done.push(next)?;
+    }
+    Ok(done)
+}
+
+/// Whether one choice, standing alone, is `others`.
+fn is_otherwise(choice: &TreeChoice) -> bool
+    ensures { result ≡ rules.is_others (tree_choice_view choice.now ∷ []) }
+{
+    match choice {
+        TreeChoice::Expr(_) => false,
+        TreeChoice::Others { .. } => true,
+    }
+}
+
+/// Whether choices are `others` alone.
+#[tactic(auto, using(crate::proofs::Choosing::just_others, crate::proofs::Choosing::not_others))]
+fn are_others(all: &[TreeChoice]) -> bool
+    ensures { result ≡ rules.is_others (map tree_choice_view all.now) }
+{
+    match all {
+        [only] => is_otherwise(only),
+        _ => false,
+    }
+}
+
+/// The choices of one alternative, none where it is `others`, which stands alone: literals as they
+/// stand, literals of an enumeration, and constants that a literal declares (10.9). It takes memory
+/// for what is analysed, and fails at the first byte where a rule is broken.
+#[tactic(auto, using(crate::proofs::Choosing::choices_others, crate::proofs::Choosing::choices_each))]
+pub fn choices(
+    alloc: Global,
+    sight: &Sight,
+    object_type: ObjectType,
+    all: &[TreeChoice],
+) -> Result<Vec<Choice>, NameFault>
+    ensures { Gives choices_view (rules.choices (sight_view sight.now) object_type (map tree_choice_view all.now)) result }
+{
+    if are_others(all) {
+        return Ok(Vec::new(alloc));
+    }
+    each_choice(alloc, sight, object_type, all)
+}

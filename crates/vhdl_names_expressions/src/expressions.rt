@@ -1,0 +1,313 @@
+//! The types of expressions (IEEE 1076-2008, clause 9). Faults are told in order of the text, those
+//! of operands before those of their operator.
+
+ghost use Rattle.std.specs.Prelude.{◌≡◌, ◌≢◌, Some, map, option_map};
+ghost use Rattle.vhdl_names_rules.specs.Expressions as rules;
+ghost use Rattle.vhdl_names_rules.specs.Gives.{Gives};
+ghost use Rattle.vhdl_names_rules.specs.Names.{denoted as denoted_of};
+ghost use Rattle.vhdl_names_rules.specs.declared.fault.NameFault.TheVariants.{NoMemory};
+ghost use Rattle.vhdl_names_rules.specs.views.Integers.{static_view, range_view};
+ghost use Rattle.vhdl_tree.specs.Tree as tree;
+ghost use Rattle.vhdl_tree.specs.View.{view, suffix_view, ident_view, range_view as tree_range_view};
+ghost use Rattle.vhdl_names_expressions.specs.Chosen.{is_name, arguments_of, started, links_of};
+ghost use Rattle.vhdl_names_expressions.specs.Steps.{is_parens, enclosed_if, linked, all_linked};
+ghost use Rattle.vhdl_names_types.specs.Views.{meaning_view, sight_view, typed_view, typed_suffix_view};
+
+use std::alloc::Global;
+use vhdl_names_rules::{NameFault, NameProblem, Static, StaticRange};
+use vhdl_tree::{Chain, Expr, Link, Name, Range, Suffix};
+use vhdl_names_types::{
+    Meaning, Sight, Typed, TypedSuffix, attributed, bit_string_literal, character_literal, denoted,
+    enclosed, integer_literal, inverse, meaning_of, operated, signed, string_literal,
+};
+
+/// The byte at which an expression starts.
+pub fn start(e: &Expr) -> usize {
+    match e {
+        Expr::Integer(literal) => literal.at,
+        Expr::Character { at, .. } => *at,
+        Expr::StringLiteral(literal) => literal.at,
+        Expr::BitString(literal) => literal.at,
+        Expr::Name(name) => name.identifier.at,
+        Expr::Parens { at, .. } => *at,
+        Expr::Not { at, .. } => *at,
+        Expr::Signed { at, .. } => *at,
+        Expr::Chain(chain) => start(&chain.first),
+    }
+}
+
+/// The static integer that an operand is, which starts at byte `at`.
+pub fn as_integer(operand: Typed, at: usize) -> Result<Static, NameFault>
+    ensures { Gives static_view (rules.as_integer (typed_view operand)) result }
+{
+    match operand {
+        Typed::Integer(integer) => Ok(integer),
+        _ => Err(NameProblem::TypeMismatch.at(at)),
+    }
+}
+
+/// An operand behind one that may stand in parentheses.
+fn beside(after_parens: bool, operand: Typed) -> Typed
+    ensures { typed_view result ≡ enclosed_if after_parens (typed_view operand) }
+{
+    if after_parens {
+        enclosed(operand)
+    } else {
+        operand
+    }
+}
+
+/// Whether an expression stands in parentheses.
+#[tactic(auto, using(crate::proofs::Choosing::chain_is_no_parens))]
+fn stands_in_parens(e: &Expr) -> bool
+    ensures { result ≡ is_parens (view e.now) }
+{
+    match e {
+        Expr::Parens { .. } => true,
+        Expr::Integer(_) => false,
+        Expr::Character { .. } => false,
+        Expr::StringLiteral(_) => false,
+        Expr::BitString(_) => false,
+        Expr::Name(_) => false,
+        Expr::Not { .. } => false,
+        Expr::Signed { .. } => false,
+        Expr::Chain(_) => false,
+    }
+}
+
+/// Whether an expression is a name with no attribute.
+#[tactic(auto, using(crate::proofs::Choosing::chain_is_no_name))]
+fn is_bare_name(e: &Expr) -> bool
+    ensures { result ≡ is_name (view e.now) }
+{
+    match e {
+        Expr::Name(name) => name.attribute.is_none(),
+        Expr::Integer(_) => false,
+        Expr::Character { .. } => false,
+        Expr::StringLiteral(_) => false,
+        Expr::BitString(_) => false,
+        Expr::Parens { .. } => false,
+        Expr::Not { .. } => false,
+        Expr::Signed { .. } => false,
+        Expr::Chain(_) => false,
+    }
+}
+
+/// Whether arguments are one name alone.
+#[tactic(auto, using(crate::proofs::Choosing::just_one, crate::proofs::Choosing::not_one))]
+fn is_one_name(arguments: &[Expr]) -> bool
+    ensures { result ≡ rules.is_one_name (tree.exprs_of (map view arguments.now)) }
+{
+    match arguments {
+        [only] => is_bare_name(only),
+        _ => false,
+    }
+}
+
+/// What an expression is, with its type, given the declarations in sight. It takes memory for what
+/// is analysed.
+#[cycle(typed)]
+#[tactic(auto, unfolding(vhdl_names_rules::specs::Expressions::typed))]
+pub fn typed(alloc: Global, sight: &Sight, e: &Expr) -> Result<Typed, NameFault>
+    ensures { Gives typed_view (rules.typed (sight_view sight.now) (view e.now)) result }
+{
+    match e {
+        Expr::Integer(literal) => integer_literal(literal),
+        Expr::Character { at, code } => character_literal(*code, *at),
+        Expr::StringLiteral(literal) => string_literal(alloc, literal),
+        Expr::BitString(literal) => bit_string_literal(alloc, literal),
+        Expr::Name(name) => named(alloc, sight, name),
+        Expr::Parens { inner, .. } => {
+            let operand = typed(alloc, sight, inner)?;
+            Ok(enclosed(operand))
+        }
+        Expr::Not { at, operand } => {
+            let operand = typed(alloc, sight, operand)?;
+            inverse(alloc, *at, operand)
+        }
+        Expr::Signed { sign, at, operand } => {
+            let operand = typed(alloc, sight, operand)?;
+            signed(alloc, *sign, operand, *at)
+        }
+        Expr::Chain(chain) => {
+            let begun = begun(alloc, sight, chain)?;
+            further(alloc, sight, chain, begun)
+        }
+    }
+}
+
+/// A chain's first operand and its first operator with the right operand.
+#[cycle(typed)]
+fn begun(alloc: Global, sight: &Sight, chain: &Chain) -> Result<Typed, NameFault>
+    ensures { Gives typed_view (started (sight_view sight.now) chain.now) result }
+{
+    let first = typed(alloc, sight, &chain.first)?;
+    let after_parens = stands_in_parens(&chain.first);
+    link(alloc, sight, &chain.second, after_parens, first)
+}
+
+/// A chain's further operators, on what stands before them.
+#[cycle(typed)]
+fn further(alloc: Global, sight: &Sight, chain: &Chain, before: Typed) -> Result<Typed, NameFault>
+    ensures { Gives typed_view (all_linked (sight_view sight.now) (Some (typed_view before)) (links_of chain.now)) result }
+{
+    links(alloc, sight, &chain.rest, before)
+}
+
+/// An operator and its right operand, behind a left one that may stand in parentheses.
+#[cycle(typed)]
+fn link(
+    alloc: Global,
+    sight: &Sight,
+    link: &Link,
+    after_parens: bool,
+    first: Typed,
+) -> Result<Typed, NameFault>
+    ensures { Gives typed_view (linked (sight_view sight.now) after_parens (Some (typed_view first)) link.now) result }
+{
+    let operand = typed(alloc, sight, &link.operand)?;
+    let operand = beside(after_parens, operand);
+    operated(
+        alloc,
+        sight.has_numbers,
+        link.operator,
+        link.at,
+        first,
+        operand,
+    )
+}
+
+/// A chain's further links, on what stands before them.
+#[cycle(typed)]
+#[tactic(auto, using(crate::proofs::Chains::all_linked_none))]
+fn links(alloc: Global, sight: &Sight, links: &[Link], first: Typed) -> Result<Typed, NameFault>
+    ensures { Gives typed_view (all_linked (sight_view sight.now) (Some (typed_view first)) links.now) result }
+{
+    let mut done = first;
+    for next in links {
+        done = link(alloc, sight, next, false, done)?;
+    }
+    Ok(done)
+}
+
+/// Whether a name of this meaning is a type's, a component's or a label's, with nothing behind it.
+fn is_no_value(meaning: &Meaning, suffix: &Suffix) -> bool {
+    match meaning {
+        Meaning::IntegerType(_) | Meaning::ElementType { .. } | Meaning::VectorType(..) => {
+            matches!(suffix, Suffix::Plain)
+        }
+        Meaning::EnumerationType { .. } | Meaning::Component(_) | Meaning::Label => {
+            matches!(suffix, Suffix::Plain)
+        }
+        _ => false,
+    }
+}
+
+/// What is told of a name that is no value: its attribute, if it has one, is left out, as each is but
+/// 'event.
+fn attribute_fault(meaning: &Meaning, name: &Name, fault: NameFault) -> NameFault
+    ensures { result ≢ NoMemory → fault ≢ NoMemory }
+{
+    match (fault, &name.attribute) {
+        (NameFault::At { .. }, Some(attribute)) => {
+            let is_event = attribute.text.as_slice() == b"event".as_slice();
+            if !is_event && is_no_value(meaning, &name.suffix) {
+                NameProblem::LeftOut.at(attribute.at)
+            } else {
+                fault
+            }
+        }
+        _ => fault,
+    }
+}
+
+/// What a name of this meaning is, with what follows its identifier but for an attribute.
+fn denoted_name(
+    alloc: Global,
+    meaning: &Meaning,
+    suffix: TypedSuffix,
+    name: &Name,
+) -> Result<Typed, NameFault>
+    ensures { Gives typed_view (denoted_of (meaning_view meaning.now) (typed_suffix_view suffix)) result }
+{
+    match denoted(alloc, meaning, suffix, name.identifier.at) {
+        Ok(value) => Ok(value),
+        Err(fault) => Err(attribute_fault(meaning, name, fault)),
+    }
+}
+
+/// What a name is, with what follows its identifier.
+#[cycle(typed)]
+#[tactic(auto, using(crate::proofs::Chains::named_in_turn))]
+fn named(alloc: Global, sight: &Sight, name: &Name) -> Result<Typed, NameFault>
+    ensures { Gives typed_view (rules.typed (sight_view sight.now) (tree.named (ident_view name.now.identifier) (suffix_view name.now.suffix) (option_map ident_view name.now.attribute))) result }
+{
+    let at = name.identifier.at;
+    let meaning = meaning_of(sight, &name.identifier)?;
+    let suffix = typed_suffix(alloc, sight, &name.suffix)?;
+    let value = denoted_name(alloc, meaning, suffix, name)?;
+    attributed(&name.attribute, value, at)
+}
+
+/// What stands in parentheses after an identifier, with its types. It takes memory for what is
+/// analysed.
+#[cycle(typed)]
+#[tactic(auto, using(crate::proofs::Chains::sliced_is), unfolding(vhdl_names_rules::specs::Expressions::typed_suffix))]
+pub fn typed_suffix(alloc: Global, sight: &Sight, suffix: &Suffix) -> Result<TypedSuffix, NameFault>
+    ensures { Gives typed_suffix_view (rules.typed_suffix (sight_view sight.now) (suffix_view suffix.now)) result }
+{
+    match suffix {
+        Suffix::Plain => Ok(TypedSuffix::Plain),
+        Suffix::Arguments(all) => arguments(alloc, sight, all),
+        Suffix::Range(range) => {
+            let range = static_range(alloc, sight, range)?;
+            Ok(TypedSuffix::Range(range))
+        }
+    }
+}
+
+/// Indices or arguments.
+#[cycle(typed)]
+fn arguments(alloc: Global, sight: &Sight, all: &[Expr]) -> Result<TypedSuffix, NameFault>
+    ensures { Gives typed_suffix_view (arguments_of (sight_view sight.now) (tree.exprs_of (map view all.now))) result }
+{
+    let typed = typed_each(alloc, sight, all)?;
+    Ok(TypedSuffix::Arguments(is_one_name(all), typed))
+}
+
+/// The static integer that an expression is. It takes memory for what is analysed.
+#[cycle(typed)]
+#[tactic(auto, using(crate::proofs::Chains::static_is))]
+pub fn static_integer(alloc: Global, sight: &Sight, e: &Expr) -> Result<Static, NameFault>
+    ensures { Gives static_view (rules.static (sight_view sight.now) (view e.now)) result }
+{
+    let value = typed(alloc, sight, e)?;
+    as_integer(value, start(e))
+}
+
+/// A range of static integers. It takes memory for what is analysed.
+#[cycle(typed)]
+pub fn static_range(alloc: Global, sight: &Sight, range: &Range) -> Result<StaticRange, NameFault>
+    ensures { Gives range_view (rules.static_range (sight_view sight.now) (tree_range_view range.now)) result }
+{
+    let left = static_integer(alloc, sight, &range.left)?;
+    let right = static_integer(alloc, sight, &range.right)?;
+    Ok(StaticRange {
+        left,
+        direction: range.direction,
+        right,
+    })
+}
+
+/// Arguments with their types. It takes memory for what is analysed.
+#[cycle(typed)]
+pub fn typed_each(alloc: Global, sight: &Sight, arguments: &[Expr]) -> Result<Vec<Typed>, NameFault>
+    ensures { Gives (λ v. map typed_view v.items) (rules.typed_each (sight_view sight.now) (tree.exprs_of (map view arguments.now))) result }
+{
+    let mut done = Vec::new(alloc);
+    for argument in arguments {
+        let value = typed(alloc, sight, argument)?;
+        done.push(value)?;
+    }
+    Ok(done)
+}

@@ -1,0 +1,224 @@
+//! The values of constants that are no integers, and of defaults (IEEE 1076-2008, 6.4.2.2, 9.4).
+
+ghost use Rattle.std.specs.Prelude.{◌≡◌, map, option_map};
+ghost use Rattle.vhdl_names_rules.specs.Gives.{Gives};
+ghost use Rattle.vhdl_names_rules.specs.Subtypes as rules;
+ghost use Rattle.vhdl_names_rules.specs.declared.kind.ObjectType.TheVariants.{Elements, Enumeration};
+ghost use Rattle.vhdl_tree.specs.Tree as tree;
+ghost use Rattle.vhdl_tree.specs.View.{view, ident_view, suffix_view, option_ident_view, value_view as tree_value_view};
+ghost use Rattle.vhdl_names_types.specs.Views.{sight_view, meaning_view, typed_view, typed_suffix_view};
+ghost use Rattle.vhdl_names_expressions.specs.Chosen.{as_character};
+ghost use Rattle.vhdl_names_expressions.specs.Fixing.{encoded_fixed, filled_with, suffixed_value};
+ghost use Rattle.vhdl_names_units.specs.views.Answers.{fixed_view};
+
+use crate::expressions::{start, typed_suffix};
+use crate::literals::{literal_problem, literal_values, name_of};
+use std::alloc::Global;
+use vhdl_names_rules::{Function, Kind, NameFault, NameProblem, ObjectType, nine_of};
+use vhdl_tree::{Expr, Name, Value as TreeValue};
+use vhdl_names_types::{Meaning, Sight, Typed, TypedSuffix, meaning_of, two_arguments};
+use vhdl_names_units::Fixed;
+
+/// What is wrong with a name of this meaning as the value of a constant.
+fn value_problem(meaning: &Meaning) -> NameProblem {
+    match meaning {
+        Meaning::Unfinished => NameProblem::Undeclared,
+        Meaning::Literal { .. } | Meaning::Constant(..) => NameProblem::TypeMismatch,
+        Meaning::Label | Meaning::Component(_) => NameProblem::WrongKind,
+        _ => NameProblem::LeftOut,
+    }
+}
+
+/// The value that a constant of this kind is; its name is at byte `at`.
+fn constant_value(kind: Kind, meaning: &Meaning, at: usize) -> Result<Fixed, NameFault>
+    ensures { Gives fixed_view (rules.named_value (Elements kind) (meaning_view meaning.now)) result }
+{
+    match (kind, meaning) {
+        (Kind::Element, Meaning::Constant(k, Kind::Element, _))
+        | (Kind::LogicVector, Meaning::Constant(k, Kind::LogicVector, _))
+        | (Kind::Unsigned, Meaning::Constant(k, Kind::Unsigned, _)) => Ok(Fixed::Constant(*k)),
+        _ => Err(value_problem(meaning).at(at)),
+    }
+}
+
+/// The value that a literal of this enumeration is; its name is at byte `at`.
+fn position_value(
+    number: usize,
+    count: usize,
+    meaning: &Meaning,
+    at: usize,
+) -> Result<Fixed, NameFault>
+    ensures { Gives fixed_view (rules.named_value (Enumeration number count) (meaning_view meaning.now)) result }
+{
+    match meaning {
+        Meaning::Literal {
+            number: own,
+            position,
+            ..
+        } if *own == number => Ok(Fixed::Position(*position)),
+        _ => Err(value_problem(meaning).at(at)),
+    }
+}
+
+/// The value that a constant or a literal of an enumeration is; its name is at byte `at`.
+fn named_value(object_type: ObjectType, meaning: &Meaning, at: usize) -> Result<Fixed, NameFault>
+    ensures { Gives fixed_view (rules.named_value object_type (meaning_view meaning.now)) result }
+{
+    match object_type {
+        ObjectType::Elements(kind) => constant_value(kind, meaning, at),
+        ObjectType::Enumeration { number, count } => position_value(number, count, meaning, at),
+    }
+}
+
+/// to_unsigned of a number and a size; its name is at byte `at`.
+fn encoded(arguments: Option<(Typed, Typed)>, at: usize) -> Result<Fixed, NameFault>
+    ensures { Gives fixed_view (encoded_fixed (option_map (λ p. (typed_view p.0, typed_view p.1)) arguments)) result }
+{
+    let Some((first, second)) = arguments else {
+        return Err(NameProblem::TypeMismatch.at(at));
+    };
+    match (first, second) {
+        (Typed::Integer(number), Typed::Integer(size)) => Ok(Fixed::Encoded(number, size)),
+        _ => Err(NameProblem::TypeMismatch.at(at)),
+    }
+}
+
+/// A call of to_unsigned of two static integers, for unsigned; its name is at byte `at`.
+#[tactic(auto, using(crate::proofs::Fixing::encoding_two))]
+fn encoded_value(
+    object_type: ObjectType,
+    meaning: &Meaning,
+    arguments: Vec<Typed>,
+    at: usize,
+) -> Result<Fixed, NameFault>
+    ensures { Gives fixed_view (rules.encoded_value object_type (meaning_view meaning.now) (map typed_view arguments.items)) result }
+{
+    match (object_type, meaning) {
+        (ObjectType::Elements(Kind::Unsigned), Meaning::Function(Function::ToUnsigned)) => {
+            encoded(two_arguments(arguments), at)
+        }
+        _ => Err(value_problem(meaning).at(at)),
+    }
+}
+
+/// The value that a name is, with what stands in parentheses behind it; it is at byte `at`.
+fn suffixed(
+    object_type: ObjectType,
+    meaning: &Meaning,
+    suffix: TypedSuffix,
+    at: usize,
+) -> Result<Fixed, NameFault>
+    ensures { Gives fixed_view (suffixed_value object_type (meaning_view meaning.now) (typed_suffix_view suffix)) result }
+{
+    match suffix {
+        TypedSuffix::Plain => named_value(object_type, meaning, at),
+        TypedSuffix::Arguments(_, arguments) => encoded_value(object_type, meaning, arguments, at),
+        TypedSuffix::Range(_) => Err(NameProblem::LeftOut.at(at)),
+    }
+}
+
+/// The value that a name or a call is.
+#[tactic(auto, using(crate::proofs::Fixing::fixed_named))]
+fn fixed_name(
+    alloc: Global,
+    sight: &Sight,
+    object_type: ObjectType,
+    name: &Name,
+) -> Result<Fixed, NameFault>
+    ensures { Gives fixed_view (rules.fixed (sight_view sight.now) object_type (tree.named (ident_view name.now.identifier) (suffix_view name.now.suffix) (option_ident_view name.now.attribute))) result }
+{
+    let meaning = meaning_of(sight, &name.identifier)?;
+    let suffix = typed_suffix(alloc, sight, &name.suffix)?;
+    if let Some(attribute) = &name.attribute {
+        return Err(NameProblem::LeftOut.at(attribute.at));
+    }
+    suffixed(object_type, meaning, suffix, name.identifier.at)
+}
+
+/// A literal as it stands, as the value of a type.
+fn literal_value(alloc: Global, object_type: ObjectType, e: &Expr) -> Result<Fixed, NameFault>
+    ensures { Gives fixed_view (rules.literal_value object_type (view e.now)) result }
+{
+    match object_type {
+        ObjectType::Elements(kind) => {
+            let values = literal_values(alloc, kind, e)?;
+            Ok(Fixed::Literal(values))
+        }
+        ObjectType::Enumeration { .. } => Err(literal_problem(e).at(start(e))),
+    }
+}
+
+/// A name, a call of to_unsigned, or a literal; no other expression is the value of a constant.
+fn fixed(
+    alloc: Global,
+    sight: &Sight,
+    object_type: ObjectType,
+    e: &Expr,
+) -> Result<Fixed, NameFault>
+    ensures { Gives fixed_view (rules.fixed (sight_view sight.now) object_type (view e.now)) result }
+{
+    match name_of(e) {
+        Some(name) => fixed_name(alloc, sight, object_type, name),
+        None => literal_value(alloc, object_type, e),
+    }
+}
+
+/// The character that an expression is.
+#[tactic(auto, using(crate::proofs::Choosing::chain_is_no_character))]
+fn character_of(e: &Expr) -> Option<u8>
+    ensures { as_character (view e.now) ≡ result }
+{
+    match e {
+        Expr::Character { code, .. } => Some(*code),
+        Expr::Integer(_) => None,
+        Expr::StringLiteral(_) => None,
+        Expr::BitString(_) => None,
+        Expr::Name(_) => None,
+        Expr::Parens { .. } => None,
+        Expr::Not { .. } => None,
+        Expr::Signed { .. } => None,
+        Expr::Chain(_) => None,
+    }
+}
+
+/// `(others => c)`, whose parenthesis is at byte `at`, for each element of a vector, where c, which
+/// starts at byte `element_at`, is a character literal.
+fn filled(
+    object_type: ObjectType,
+    code: Option<u8>,
+    at: usize,
+    element_at: usize,
+) -> Result<Fixed, NameFault>
+    ensures { Gives fixed_view (filled_with object_type code) result }
+{
+    let Some(code) = code else {
+        return Err(NameProblem::LeftOut.at(element_at));
+    };
+    match object_type {
+        ObjectType::Elements(kind) if kind.is_vector() => match nine_of(code) {
+            Some(value) => Ok(Fixed::Filled(value)),
+            None => Err(NameProblem::TypeMismatch.at(element_at)),
+        },
+        _ => Err(NameProblem::TypeMismatch.at(at)),
+    }
+}
+
+/// The value of a constant that is no integer, or a default, of a type: a constant, a literal, a call
+/// of to_unsigned, or `(others => c)`. It takes memory for what is analysed, and fails at the first
+/// byte where a rule is broken.
+#[tactic(auto, using(crate::proofs::Fixing::fixed_single, crate::proofs::Fixing::fixed_others))]
+pub fn fixed_value(
+    alloc: Global,
+    sight: &Sight,
+    object_type: ObjectType,
+    value: &TreeValue,
+) -> Result<Fixed, NameFault>
+    ensures { Gives fixed_view (rules.fixed_value (sight_view sight.now) object_type (tree_value_view value.now)) result }
+{
+    match value {
+        TreeValue::Expr(e) => fixed(alloc, sight, object_type, e),
+        TreeValue::Others { at, element } => {
+            filled(object_type, character_of(element), *at, start(element))
+        }
+    }
+}

@@ -1,0 +1,89 @@
+//! Literals as they stand, which constants, defaults and choices ask for (IEEE 1076-2008, 9.3.2), and
+//! expressions that are one name.
+
+ghost use Rattle.std.specs.Prelude.{◌≡◌, option_map, option_copied};
+ghost use Rattle.vhdl_names_rules.specs.Gives.{Gives};
+ghost use Rattle.vhdl_names_rules.specs.Subtypes as subtypes;
+ghost use Rattle.vhdl_tree.specs.View.{view, name_view};
+ghost use Rattle.vhdl_names_expressions.specs.Chosen.{as_name, character_values as character_values_of};
+
+use crate::expressions::start;
+use std::alloc::Global;
+use vhdl_names_rules::{Kind, NameFault, NameProblem, nine_of};
+use vhdl_tree::{Expr, Name};
+use vhdl_names_types::{bit_string_values, string_values};
+use vhdl_values::Nine;
+
+/// The name that an expression is.
+#[tactic(auto, using(crate::proofs::Choosing::chain_has_no_name))]
+pub(crate) fn name_of(e: &Expr) -> Option<&Name>
+    ensures { as_name (view e.now) ≡ option_map name_view (option_copied result) }
+{
+    match e {
+        Expr::Name(name) => Some(name),
+        Expr::Integer(_) => None,
+        Expr::Character { .. } => None,
+        Expr::StringLiteral(_) => None,
+        Expr::BitString(_) => None,
+        Expr::Parens { .. } => None,
+        Expr::Not { .. } => None,
+        Expr::Signed { .. } => None,
+        Expr::Chain(_) => None,
+    }
+}
+
+/// The values of a character literal at byte `at`, which is one element.
+fn character_values(alloc: Global, kind: Kind, code: u8, at: usize) -> Result<Vec<Nine>, NameFault>
+    ensures { Gives (λ v. v.items) (character_values_of kind code) result }
+{
+    match (kind, nine_of(code)) {
+        (Kind::Element, Some(value)) => {
+            let mut values = Vec::new(alloc);
+            values.push(value)?;
+            Ok(values)
+        }
+        _ => Err(NameProblem::TypeMismatch.at(at)),
+    }
+}
+
+/// What is wrong with an expression, which is no name, as a value of an enumeration: a literal is of
+/// another type, and any other form is left out.
+pub(crate) fn literal_problem(e: &Expr) -> NameProblem {
+    match e {
+        Expr::Character { .. } | Expr::StringLiteral(_) | Expr::BitString(_) => {
+            NameProblem::TypeMismatch
+        }
+        _ => NameProblem::LeftOut,
+    }
+}
+
+/// The values of a literal as it stands: a character for one element, a string or a bit string for a
+/// vector. It takes the memory of a list.
+#[tactic(auto, using(crate::proofs::Choosing::literal_character, crate::proofs::Choosing::literal_string, crate::proofs::Choosing::literal_bits, crate::proofs::Choosing::no_literal, crate::proofs::Choosing::chain_is_no_literal))]
+pub(crate) fn literal_values(alloc: Global, kind: Kind, e: &Expr) -> Result<Vec<Nine>, NameFault>
+    ensures { Gives (λ v. v.items) (subtypes.literal_values kind (view e.now)) result }
+{
+    match e {
+        Expr::Character { at, code } => character_values(alloc, kind, *code, *at),
+        Expr::StringLiteral(literal) => {
+            if kind.is_vector() {
+                string_values(alloc, literal)
+            } else {
+                Err(NameProblem::TypeMismatch.at(literal.at))
+            }
+        }
+        Expr::BitString(literal) => {
+            if kind.is_vector() {
+                bit_string_values(alloc, literal)
+            } else {
+                Err(NameProblem::TypeMismatch.at(literal.at))
+            }
+        }
+        Expr::Integer(literal) => Err(NameProblem::LeftOut.at(literal.at)),
+        Expr::Name(name) => Err(NameProblem::LeftOut.at(name.identifier.at)),
+        Expr::Parens { at, .. } => Err(NameProblem::LeftOut.at(*at)),
+        Expr::Not { at, .. } => Err(NameProblem::LeftOut.at(*at)),
+        Expr::Signed { at, .. } => Err(NameProblem::LeftOut.at(*at)),
+        Expr::Chain(_) => Err(NameProblem::LeftOut.at(start(e))),
+    }
+}

@@ -1,0 +1,99 @@
+//! Names of signals, targets and variables (IEEE 1076-2008, 8.1, 10.5, 10.6). Each takes memory for
+//! what is analysed.
+
+ghost use Rattle.std.specs.Prelude.{◌≡◌};
+ghost use Rattle.vhdl_names_rules.specs.Gives.{Gives};
+ghost use Rattle.vhdl_names_rules.specs.Statements as rules;
+ghost use Rattle.vhdl_tree.specs.View.{name_view};
+ghost use Rattle.vhdl_names_types.specs.Views.{sight_view, meaning_view, typed_suffix_view};
+ghost use Rattle.vhdl_names_units.specs.views.Answers.{signal_name_view, variable_name_view};
+
+use crate::expressions::typed_suffix;
+use std::alloc::Global;
+use vhdl_names_rules::{NameFault, NameProblem, ObjectType, Place, Signal};
+use vhdl_tree::{Mode, Name};
+use vhdl_names_types::{Meaning, Sight, TypedSuffix, meaning_of, part_of};
+use vhdl_names_units::{SignalName, VariableName};
+
+/// What is wrong with a name of this meaning where an object is wanted.
+fn object_problem(meaning: &Meaning) -> NameProblem {
+    match meaning {
+        Meaning::Unfinished => NameProblem::Undeclared,
+        _ => NameProblem::WrongKind,
+    }
+}
+
+/// The signal or port that a name at byte `at` is, or the part of one.
+fn as_signal(meaning: &Meaning, suffix: TypedSuffix, at: usize) -> Result<SignalName, NameFault>
+    ensures { Gives signal_name_view (rules.as_signal (meaning_view meaning.now) (typed_suffix_view suffix)) result }
+{
+    let (signal, mode, object_type) = match meaning {
+        Meaning::Port(k, mode, kind) => {
+            (Signal::Port(*k), Some(*mode), ObjectType::Elements(*kind))
+        }
+        Meaning::Signal(k, object_type) => (Signal::Signal(*k), None, *object_type),
+        _ => return Err(object_problem(meaning).at(at)),
+    };
+    let (part, object_type) = part_of(object_type, suffix, at)?;
+    Ok(SignalName {
+        place: Place { at, signal, part },
+        mode,
+        object_type,
+    })
+}
+
+/// The signal that a name is.
+#[tactic(auto, using(crate::proofs::Asking::signal_in_turn))]
+pub fn signal(alloc: Global, sight: &Sight, name: &Name) -> Result<SignalName, NameFault>
+    ensures { Gives signal_name_view (rules.signal (sight_view sight.now) (name_view name.now)) result }
+{
+    let meaning = meaning_of(sight, &name.identifier)?;
+    let suffix = typed_suffix(alloc, sight, &name.suffix)?;
+    if let Some(attribute) = &name.attribute {
+        return Err(NameProblem::LeftOut.at(attribute.at));
+    }
+    as_signal(meaning, suffix, name.identifier.at)
+}
+
+/// The target of a signal assignment: a signal that is no in port.
+#[tactic(auto, using(crate::proofs::Asking::target_is))]
+pub fn target(alloc: Global, sight: &Sight, name: &Name) -> Result<SignalName, NameFault>
+    ensures { Gives signal_name_view (rules.target (sight_view sight.now) (name_view name.now)) result }
+{
+    let target = signal(alloc, sight, name)?;
+    match target.mode {
+        Some(Mode::In) => Err(NameProblem::WriteOfIn.at(target.place.at)),
+        _ => Ok(target),
+    }
+}
+
+/// The variable that a name at byte `at` is, or the part of one.
+fn as_variable(meaning: &Meaning, suffix: TypedSuffix, at: usize) -> Result<VariableName, NameFault>
+    ensures { Gives variable_name_view (rules.as_variable (meaning_view meaning.now) (typed_suffix_view suffix)) result }
+{
+    match meaning {
+        Meaning::Variable(number, object_type) => {
+            let (part, object_type) = part_of(*object_type, suffix, at)?;
+            Ok(VariableName {
+                at,
+                number: *number,
+                part,
+                object_type,
+            })
+        }
+        _ => Err(object_problem(meaning).at(at)),
+    }
+}
+
+/// The target of a variable assignment: a variable.
+#[tactic(auto, using(crate::proofs::Asking::variable_in_turn))]
+pub fn variable(alloc: Global, sight: &Sight, name: &Name) -> Result<VariableName, NameFault>
+    ensures { Gives variable_name_view (rules.variable (sight_view sight.now) (name_view name.now)) result }
+{
+    let meaning = meaning_of(sight, &name.identifier)?;
+    let suffix = typed_suffix(alloc, sight, &name.suffix)?;
+    if let Some(attribute) = &name.attribute {
+        return Err(NameProblem::LeftOut.at(attribute.at));
+    }
+    as_variable(meaning, suffix, name.identifier.at)
+}

@@ -1,0 +1,36 @@
+-- What instances see of an entity, in the order in which the code comes to its declarations.
+use Rattle.std.specs.Prelude.{ℕ, List, [], ◌∷◌, ◌++◌, Option, Some, None, slice_get, if◌then◌else◌}
+use Rattle.vhdl_names_rules.specs.Rules.{◌>>=◌}
+use Rattle.vhdl_names_rules.specs.Visibility as m
+use Rattle.vhdl_names_rules.specs.Visibility.{Name, Meaning, Declared, is_generic}
+use Rattle.vhdl_names_labels.specs.Once.{one_name}
+use Rattle.vhdl_names_instances.specs.Table.{Seen}
+use Rattle.vhdl_names_instances.specs.declared.actuals.PortType.{PortType}
+
+abbrev pub port_type : Meaning → Option PortType
+port_type (m.port k mode kind) = Some (record { mode = mode; kind = kind })
+port_type _ = None
+
+abbrev pub with_generic : Seen → Name → Option Seen
+with_generic f n = one_name f.generics n >>= λ ns. Some (record f { generics = ns })
+
+abbrev pub with_port : Seen → Name → PortType → Option Seen
+with_port f n p = one_name f.ports n >>= λ ns. Some (record f { ports = ns; port_types = f.port_types ++ p ∷ [] })
+
+abbrev pub with_any : Seen → Name → Option PortType → Option Seen
+with_any f n None = Some f
+with_any f n (Some p) = with_port f n p
+
+abbrev pub with_declared : Seen → Declared → Option Seen
+with_declared f d = if is_generic d.meaning then with_generic f d.name else with_any f d.name (port_type d.meaning)
+
+abbrev pub with_entry : Seen → Option Declared → Option Seen
+with_entry f None = Some f
+with_entry f (Some d) = with_declared f d
+
+abbrev pub with_declared_at : Seen → List Declared → ℕ → Option Seen
+with_declared_at f ds i = with_entry f (slice_get ds i)
+
+-- before any declaration
+abbrev pub no_formals : Option Name → Seen
+no_formals architecture = record { architecture = architecture; generics = []; ports = []; port_types = [] }

@@ -1,0 +1,233 @@
+//! Instances (IEEE 1076-2008, 11.7).
+
+ghost use Rattle.std.specs.Prelude.{◌≡◌, List, bytes_eq, map, option_map, slice_get};
+ghost use Rattle.std.specs.List.{position_from};
+ghost use Rattle.vhdl_names_instances.specs.Table.{AreEntities, seen_view, seens_view};
+ghost use Rattle.vhdl_names_instances.specs.steps.Instances as steps;
+ghost use Rattle.vhdl_names_labels.specs.Once.{names_view};
+ghost use Rattle.vhdl_names_rules.specs.Gives.{Gives};
+ghost use Rattle.vhdl_names_rules.specs.Instances as rules;
+ghost use Rattle.vhdl_names_rules.specs.Interfaces.{EntityView};
+ghost use Rattle.vhdl_names_rules.specs.Rules.{all_of};
+ghost use Rattle.vhdl_tree.specs.View as tree;
+ghost use Rattle.vhdl_names_types.specs.Views.{sight_view, meaning_view};
+ghost use Rattle.vhdl_names_units.specs.views.Concurrent.{instance_view};
+
+use crate::actuals::{PortType, generic_actuals, port_actuals};
+use crate::associations::{Names, associated};
+use crate::maps::maps;
+use std::alloc::Global;
+use vhdl_names_labels::{copied, earlier_in, is_text};
+use vhdl_names_rules::{NameFault, NameProblem};
+use vhdl_tree as syntax;
+use vhdl_tree::{Association, Identifier, Instantiated};
+use vhdl_names_types::{Meaning, Sight, meaning_of};
+use vhdl_names_units::Instance;
+
+/// What instances see of an entity: the name of its architecture, if the file has one, its
+/// generics, and its ports with their types.
+#[derive(Drop)]
+pub struct Formals {
+    pub architecture: Option<Vec<u8>>,
+    pub generics: Names,
+    pub ports: Names,
+    pub port_types: Vec<PortType>,
+}
+
+/// The entities of a file in order of the text, by their names.
+#[derive(Drop)]
+pub struct Entities {
+    pub names: Names,
+    pub formals: Vec<Formals>,
+}
+
+/// The associations of a map, none where it is absent.
+pub(crate) fn listed(list: &Option<Vec<Association>>) -> &[Association]
+    ensures { map tree.association_view result.now ≡ all_of (option_map tree.associations_view list.now) }
+{
+    match list {
+        None => &[],
+        Some(list) => list.as_slice(),
+    }
+}
+
+/// Whether an architecture that is named is the one that an entity has.
+fn is_architecture(named: &Option<Identifier>, own: &Option<Vec<u8>>) -> bool
+    ensures { result ≡ rules.is_architecture (option_map tree.ident_view named.now) (option_map (λ n. n.items) own.now) }
+{
+    match (named, own) {
+        (None, _) => true,
+        (Some(_), None) => false,
+        (Some(named), Some(own)) => is_text(&named.text, own),
+    }
+}
+
+/// The number of the entity of a name, if there is one.
+fn number_of(entities: &Entities, name: &[u8]) -> Option<usize>
+    ensures { result ≡ position_from (bytes_eq name.now) 0 (names_view entities.now.names) }
+{
+    entities.names.get_index_of(name)
+}
+
+/// What instances see of the entity of a number, if there are so many.
+#[tactic(auto, using(crate::proofs::Instancing::formals_at))]
+fn formals_at(entities: &Entities, number: usize) -> Option<&Formals>
+    ensures { option_map (λ f. seen_view f.now) result ≡ slice_get (seens_view entities.now.formals) number }
+{
+    entities.formals.get(number)
+}
+
+/// The byte at which an architecture is named, or else the one at which its entity is.
+fn architecture_place(architecture: &Option<Identifier>, at: usize) -> usize {
+    match architecture {
+        Some(architecture) => architecture.at,
+        None => at,
+    }
+}
+
+/// The entity of a number, whose architecture may be named. The entity is named at byte `at`.
+#[tactic(auto, using(crate::proofs::Instancing::seen_at))]
+fn with_architecture(
+    entities: &Entities,
+    number: usize,
+    architecture: &Option<Identifier>,
+    at: usize,
+) -> Result<usize, NameFault>
+    ensures { Gives (λ k. k) (steps.with_architecture (seens_view entities.now.formals) (option_map tree.ident_view architecture.now) number) result }
+{
+    match formals_at(entities, number) {
+        None => Err(NameProblem::Undeclared.at(at)),
+        Some(formals) => {
+            if is_architecture(architecture, &formals.architecture) {
+                Ok(number)
+            } else {
+                Err(NameProblem::WrongKind.at(architecture_place(architecture, at)))
+            }
+        }
+    }
+}
+
+/// The entity of a name, which is of library work.
+fn entity_of(
+    entities: &Entities,
+    library: &Identifier,
+    name: &Identifier,
+    architecture: &Option<Identifier>,
+) -> Result<usize, NameFault>
+    ensures { Gives (λ k. k) (steps.entity_of (names_view entities.now.names) (seens_view entities.now.formals)
+        (tree.ident_view library.now) (tree.ident_view name.now) (option_map tree.ident_view architecture.now)) result }
+{
+    if !is_text(&library.text, b"work") {
+        return Err(NameProblem::Undeclared.at(library.at));
+    }
+    match number_of(entities, &name.text) {
+        None => Err(NameProblem::Undeclared.at(name.at)),
+        Some(number) => with_architecture(entities, number, architecture, name.at),
+    }
+}
+
+/// The entity that a component at byte `at` is.
+fn as_component(meaning: &Meaning, at: usize) -> Result<usize, NameFault>
+    ensures { Gives (λ k. k) (rules.as_component (meaning_view meaning.now)) result }
+{
+    match meaning {
+        Meaning::Component(number) => Ok(*number),
+        _ => Err(NameProblem::WrongKind.at(at)),
+    }
+}
+
+/// The number of the entity that is instantiated.
+fn instantiated(entities: &Entities, sight: &Sight, unit: &Instantiated) -> Result<usize, NameFault>
+    ensures { Gives (λ k. k) (steps.instantiated (names_view entities.now.names) (seens_view entities.now.formals)
+        (sight_view sight.now) (tree.instantiated_view unit.now)) result }
+{
+    match unit {
+        Instantiated::Entity {
+            library,
+            name,
+            architecture,
+        } => entity_of(entities, library, name, architecture),
+        Instantiated::Component { name, .. } => {
+            let meaning = meaning_of(sight, name)?;
+            as_component(meaning, name.at)
+        }
+    }
+}
+
+/// An instance of the entity of a number, whose actuals come in the order of its formals.
+fn by_formals(
+    alloc: Global,
+    sight: &Sight,
+    label: &Identifier,
+    unit: usize,
+    formals: &Formals,
+    instance: &syntax::Instance,
+) -> Result<Instance, NameFault>
+    ensures { Gives instance_view (steps.with_formals (sight_view sight.now) (tree.ident_view label.now) unit (seen_view formals.now)
+        (all_of (option_map tree.associations_view instance.now.generics)) (all_of (option_map tree.associations_view instance.now.ports))) result }
+{
+    let actuals = associated(alloc, &formals.generics, listed(&instance.generics))?;
+    let generics = generic_actuals(alloc, sight, &actuals)?;
+    let actuals = associated(alloc, &formals.ports, listed(&instance.ports))?;
+    let ports = port_actuals(alloc, sight, &formals.port_types, &actuals)?;
+    let label = copied(alloc, label)?;
+    Ok(Instance {
+        label,
+        unit,
+        generics,
+        ports,
+    })
+}
+
+/// An instance of the entity of a number, which has these formals. Of what is wrong with its maps the
+/// first in order of the text is told.
+fn with_formals(
+    alloc: Global,
+    sight: &Sight,
+    label: &Identifier,
+    unit: usize,
+    formals: &Formals,
+    instance: &syntax::Instance,
+) -> Result<Instance, NameFault>
+    ensures { Gives instance_view (steps.with_formals (sight_view sight.now) (tree.ident_view label.now) unit (seen_view formals.now)
+        (all_of (option_map tree.associations_view instance.now.generics)) (all_of (option_map tree.associations_view instance.now.ports))) result }
+{
+    match by_formals(alloc, sight, label, unit, formals, instance) {
+        Ok(instance) => Ok(instance),
+        Err(fault) => Err(earlier_in(fault, maps(alloc, sight, formals, instance))),
+    }
+}
+
+/// An instance behind its label, in the order of its parts.
+pub fn instance_in_turn(
+    alloc: Global,
+    entities: &Entities,
+    sight: &Sight,
+    label: &Identifier,
+    instance: &syntax::Instance,
+) -> Result<Instance, NameFault>
+    ensures { Gives instance_view (steps.instance (names_view entities.now.names) (seens_view entities.now.formals)
+        (sight_view sight.now) (tree.ident_view label.now) (tree.instance_view instance.now)) result }
+{
+    let unit = instantiated(entities, sight, &instance.unit)?;
+    match formals_at(entities, unit) {
+        None => Err(NameProblem::Undeclared.at(label.at)),
+        Some(formals) => with_formals(alloc, sight, label, unit, formals, instance),
+    }
+}
+
+/// An instance behind its label: its entity, which may be any of the file, the actual of each
+/// generic, a static integer, and that of each port, a signal or port of the port's kind. It fails
+/// at the first byte where a rule is broken, or where memory is refused.
+pub fn instance(
+    alloc: Global,
+    entities: &Entities,
+    sight: &Sight,
+    label: &Identifier,
+    instance: &syntax::Instance,
+) -> Result<Instance, NameFault>
+    ensures { (views : List EntityView) → AreEntities entities.now views
+        → Gives instance_view (rules.instance views (sight_view sight.now) (tree.ident_view label.now) (tree.instance_view instance.now)) result }
+{
+    instance_in_turn(alloc, entities, sight, label, instance)
+}

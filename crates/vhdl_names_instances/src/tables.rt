@@ -1,0 +1,116 @@
+//! What instances see of an entity, from its region (IEEE 1076-2008, 6.5.6).
+
+ghost use Rattle.std.specs.Prelude.{◌≡◌, IfOk, option_map};
+ghost use Rattle.vhdl_names_labels.specs.Lists.{in_turn};
+ghost use Rattle.vhdl_names_instances.specs.Table.{seen_view};
+ghost use Rattle.vhdl_names_instances.specs.steps.Tables as steps;
+ghost use Rattle.vhdl_names_rules.specs.Gives.{Gives};
+ghost use Rattle.vhdl_names_rules.specs.Visibility as rules;
+ghost use Rattle.vhdl_names_types.specs.Views.{meaning_view, region_view};
+
+use crate::actuals::PortType;
+use crate::associations::add_name;
+use crate::instances::Formals;
+use indexmap::IndexSet;
+use std::alloc::{AllocError, Global};
+use vhdl_names_rules::NameFault;
+use vhdl_tree::Identifier;
+use vhdl_names_types::{Meaning, Region};
+
+fn is_generic(meaning: &Meaning) -> bool
+    ensures { result ≡ rules.is_generic (meaning_view meaning.now) }
+{
+    matches!(meaning, Meaning::Generic(_))
+}
+
+/// The type of a port.
+fn port_type(meaning: &Meaning) -> Option<PortType>
+    ensures { result ≡ steps.port_type (meaning_view meaning.now) }
+{
+    match meaning {
+        Meaning::Port(_, mode, kind) => Some(PortType {
+            mode: *mode,
+            kind: *kind,
+        }),
+        _ => None,
+    }
+}
+
+/// One more port.
+fn add_port(
+    alloc: Global,
+    formals: &mut Formals,
+    name: &[u8],
+    port: PortType,
+) -> Result<(), NameFault>
+    ensures { Gives (λ _. seen_view formals.new) (steps.with_port (seen_view formals.old) name.now port) result }
+{
+    add_name(alloc, &mut formals.ports, name, 0)?;
+    formals.port_types.push(port)?;
+    Ok(())
+}
+
+/// One more declaration; a generic or port is a formal.
+fn add_declared(
+    alloc: Global,
+    formals: &mut Formals,
+    name: &[u8],
+    meaning: &Meaning,
+) -> Result<(), NameFault>
+    ensures { Gives (λ _. seen_view formals.new) (steps.with_declared (seen_view formals.old) (rules.declare name.now (meaning_view meaning.now))) result }
+{
+    if is_generic(meaning) {
+        return add_name(alloc, &mut formals.generics, name, 0);
+    }
+    match port_type(meaning) {
+        None => Ok(()),
+        Some(port) => add_port(alloc, formals, name, port),
+    }
+}
+
+/// The declaration at a place of a region, if there are so many.
+fn add_declared_at(
+    alloc: Global,
+    formals: &mut Formals,
+    region: &Region,
+    place: usize,
+) -> Result<(), NameFault>
+    ensures { Gives (λ _. seen_view formals.new) (steps.with_declared_at (seen_view formals.old) (region_view region.now) place) result }
+{
+    match region.get_index(place) {
+        None => Ok(()),
+        Some((name, meaning)) => add_declared(alloc, formals, name, meaning),
+    }
+}
+
+/// The name of an architecture, if there is one.
+fn name_if_any(alloc: Global, name: &Option<&Identifier>) -> Result<Option<Vec<u8>>, AllocError>
+    ensures { IfOk result (λ n. option_map (λ v. v.items) n ≡ option_map (λ i. i.now.text.items) name.now) }
+{
+    match name {
+        None => Ok(None),
+        Some(name) => Ok(Some(name.text.to_vec(alloc)?)),
+    }
+}
+
+/// What instances see of an entity with this region of generics and ports, and with this
+/// architecture, if the file has one. It takes the memory of the names.
+pub fn formals_of(
+    alloc: Global,
+    region: &Region,
+    architecture: &Option<&Identifier>,
+) -> Result<Formals, NameFault>
+    ensures { Gives seen_view (in_turn steps.with_declared (steps.no_formals (option_map (λ i. i.now.text.items) architecture.now)) (region_view region.now)) result }
+{
+    let architecture = name_if_any(alloc, architecture)?;
+    let mut formals = Formals {
+        architecture,
+        generics: IndexSet::new(alloc),
+        ports: IndexSet::new(alloc),
+        port_types: Vec::new(alloc),
+    };
+    for place in 0..region.len() {
+        add_declared_at(alloc, &mut formals, region, place)?;
+    }
+    Ok(formals)
+}

@@ -1,0 +1,115 @@
+//! Interfaces of entities and components (IEEE 1076-2008, 3.2, 6.5.6 and 6.8).
+
+ghost use Rattle.std.specs.Prelude.{◌≡◌, [], map, option_map, OnOk, IfOk};
+ghost use Rattle.vhdl_names_declarations.specs.Contexts.{context_view};
+ghost use Rattle.vhdl_names_declarations.specs.Entered.{entering};
+ghost use Rattle.vhdl_names_interfaces.specs.Views.{interface_in, entity_view};
+ghost use Rattle.vhdl_names_rules.specs.Declarations.{in_order, generic, port};
+ghost use Rattle.vhdl_names_rules.specs.Gives.{Gives};
+ghost use Rattle.vhdl_names_rules.specs.Interfaces as rules;
+ghost use Rattle.vhdl_names_rules.specs.Rules.{all_of};
+ghost use Rattle.vhdl_names_rules.specs.Visibility.{with_declared};
+ghost use Rattle.vhdl_tree.specs.View as view;
+ghost use Rattle.vhdl_names_types.specs.Views.{sight_view, region_view};
+ghost use Rattle.vhdl_names_units.specs.views.Declarations.{all_generics_view, all_ports_view};
+
+use indexmap::IndexMap;
+use std::alloc::Global;
+use vhdl_names_declarations::generics::generics;
+use vhdl_names_declarations::ports::ports;
+use vhdl_names_declarations::{Context, context_after, ends, sight_of};
+use vhdl_names_rules::NameFault;
+use vhdl_tree::{ContextItem, Entity, Generic, Identifier, Port};
+use vhdl_names_types::{Region, Sight};
+use vhdl_names_units::{Generics, Ports};
+
+/// An entity as its architecture and its instances see it.
+#[derive(Drop)]
+pub struct EntityInterface<'a> {
+    /// Its name, and its generics and ports as they stand.
+    pub tree: &'a Entity,
+    /// What its context clauses bring in sight.
+    pub context: Context,
+    /// Its generics and ports in order, by name.
+    pub region: Region,
+    pub generics: Vec<Generics>,
+    pub ports: Vec<Ports>,
+    /// The name of its architecture, if the file has one.
+    pub architecture: Option<&'a Identifier>,
+}
+
+/// Generics, if any stand there.
+fn generics_if_any(
+    alloc: Global,
+    sight: &mut Sight,
+    all: &Option<Vec<Generic>>,
+) -> Result<Vec<Generics>, NameFault>
+    ensures given { Gives (λ v. (sight_view sight.new, all_generics_view v))
+        (entering (in_order with_declared generic) (sight_view sight.old) (all_of (view.option_generics_view all.now))) result }
+    ensures kept { OnOk result (sight.new ≡ record sight.old { region = sight.new.region }) }
+{
+    match all {
+        Some(all) => generics(alloc, sight, all),
+        None => generics(alloc, sight, &[]),
+    }
+}
+
+/// Ports, if any stand there.
+fn ports_if_any(
+    alloc: Global,
+    sight: &mut Sight,
+    all: &Option<Vec<Port>>,
+) -> Result<Vec<Ports>, NameFault>
+    ensures given { Gives (λ v. (sight_view sight.new, all_ports_view v))
+        (entering (in_order with_declared port) (sight_view sight.old) (all_of (view.option_ports_view all.now))) result }
+    ensures kept { OnOk result (sight.new ≡ record sight.old { region = sight.new.region }) }
+{
+    match all {
+        Some(all) => ports(alloc, sight, all),
+        None => ports(alloc, sight, &[]),
+    }
+}
+
+/// Generics and ports, where nothing stands in their region yet; the ports have the generics in
+/// sight. They stand in the sight's region then. It takes memory for what is declared and analysed.
+#[tactic(auto, using(crate::proofs::Interfacing::interface_in_turn))]
+pub fn interface_of(
+    alloc: Global,
+    sight: &mut Sight,
+    generics: &Option<Vec<Generic>>,
+    ports: &Option<Vec<Port>>,
+) -> Result<(Vec<Generics>, Vec<Ports>), NameFault>
+    requires { (sight_view sight.old).region ≡ [] }
+    ensures given { Gives (λ x. interface_in (sight_view sight.new).region x)
+        (rules.interface (sight_view sight.old) (view.option_generics_view generics.now) (view.option_ports_view ports.now)) result }
+    ensures kept { OnOk result (sight.new ≡ record sight.old { region = sight.new.region }) }
+{
+    let generics = generics_if_any(alloc, sight, generics)?;
+    let ports = ports_if_any(alloc, sight, ports)?;
+    Ok((generics, ports))
+}
+
+/// An entity behind these context items, with the name of its architecture. It takes memory for what
+/// is declared and analysed.
+pub fn entity<'a>(
+    alloc: Global,
+    items: &[ContextItem],
+    tree: &'a Entity,
+    architecture: Option<&'a Identifier>,
+) -> Result<EntityInterface<'a>, NameFault>
+    ensures { Gives entity_view
+        (rules.entity (map view.context_view items.now) (view.entity_view tree.now) (option_map (λ i. i.now.text.items) architecture.entry)) result }
+{
+    let context = context_after(Context::NONE, items)?;
+    let mut sight = sight_of(alloc, context, IndexMap::new(alloc))?;
+    let (generics, ports) = interface_of(alloc, &mut sight, &tree.generics, &tree.ports)?;
+    ends(&tree.name, &tree.end_name)?;
+    Ok(EntityInterface {
+        tree,
+        context,
+        region: sight.region,
+        generics,
+        ports,
+        architecture,
+    })
+}

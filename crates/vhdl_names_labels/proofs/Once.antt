@@ -1,0 +1,148 @@
+-- Names that stand once, one after another, are distinct as a whole.
+use Rattle.std.proofs.Common.{◌≡◌, ℕ, Bool, true, false, not, List, [], ◌∷◌, ◌++◌, map, Some, None, Vec, Global, refl, ap, sym, ◌∙◌}
+use Rattle.std.specs.Prelude.{◌&&◌, ◌||◌, bytes_eq, if◌then◌else◌, nat_eq}
+use Rattle.std.specs.List.{list_any}
+use Rattle.std.proofs.lemmas.List.{append-nil, append_assoc, map-append}
+use Rattle.std.proofs.lemmas.Slice.Eq.{bytes_eq-Decides}
+use Rattle.vhdl_values.specs.declared.scalar.Nine.{Nine}
+use Rattle.vhdl_values.specs.declared.scalar.Nine.TheVariants.{U, X, Zero, One, Z, W, L, H, Dash}
+use Rattle.vhdl_values.specs.Scalar.{code_of}
+use Rattle.vhdl_names_rules.specs.units.Statements.{Choice, values, position}
+use Rattle.vhdl_names_rules.specs.Rules.{◌>>=◌, then_some}
+use Rattle.vhdl_names_rules.specs.Visibility.{Name, is_among, are_distinct}
+use Rattle.vhdl_names_rules.specs.Choices.{same_choice, are_distinct_choices}
+use Rattle.indexmap.specs.IndexSet.{insert_key}
+use Rattle.vhdl_names_labels.specs.Lists.{in_turn}
+use Rattle.vhdl_names_labels.specs.Once.{one_name, key_of}
+
+eq-sym : (a b : Name) → bytes_eq a b ≡ bytes_eq b a
+eq-sym a b = go (bytes_eq a b) refl (bytes_eq b a) refl
+  where
+    go : (x : Bool) → bytes_eq a b ≡ x → (y : Bool) → bytes_eq b a ≡ y → x ≡ y
+    go true e true f = refl
+    go false e false f = refl
+    go true e false f = sym ((bytes_eq-Decides b a).1 (sym ((bytes_eq-Decides a b).0 e))) ∙ f
+    go false e true f = sym e ∙ (bytes_eq-Decides a b).1 (sym ((bytes_eq-Decides b a).0 f))
+
+among-push : (n m : Name) (ns : List Name) → is_among n (ns ++ m ∷ []) ≡ (is_among n ns || bytes_eq n m)
+among-push n m [] = or_false (bytes_eq n m)
+  where
+    or_false : (b : Bool) → (b || false) ≡ b
+    or_false true = refl
+    or_false false = refl
+among-push n m (k ∷ ns) = ap (λ b. bytes_eq n k || b) (among-push n m ns) ∙ assoc (bytes_eq n k) (is_among n ns) (bytes_eq n m)
+  where
+    assoc : (a b c : Bool) → (a || (b || c)) ≡ ((a || b) || c)
+    assoc true b c = refl
+    assoc false b c = refl
+
+-- none of the names is among the others
+abbrev apart : List Name → List Name → Bool
+apart ns [] = true
+apart ns (m ∷ ms) = not (is_among m ns) && apart ns ms
+
+apart-push : (n : Name) (ns ms : List Name) → apart (ns ++ n ∷ []) ms ≡ (apart ns ms && not (is_among n ms))
+apart-push n ns [] = refl
+apart-push n ns (m ∷ ms) =
+    ap (λ b. not b && apart (ns ++ n ∷ []) ms) (among-push m n ns ∙ ap (λ b. is_among m ns || b) (eq-sym m n))
+    ∙ ap (λ b. not (is_among m ns || bytes_eq n m) && b) (apart-push n ns ms)
+    ∙ go (is_among m ns) (bytes_eq n m) (apart ns ms) (is_among n ms)
+  where
+    go : (a b c d : Bool) → (not (a || b) && (c && not d)) ≡ ((not a && c) && not (b || d))
+    go true b c d = refl
+    go false true true d = refl
+    go false true false d = refl
+    go false false true d = refl
+    go false false false d = refl
+
+turned : (ns ms : List Name) → in_turn one_name ns ms ≡ then_some (apart ns ms && are_distinct ms) (ns ++ ms)
+turned ns [] = ap Some (sym (append-nil ns))
+turned ns (m ∷ ms) = go (is_among m ns) (turned (ns ++ m ∷ []) ms) (apart-push m ns ms) (append_assoc ns (m ∷ []) ms)
+  where
+    order : (a b c : Bool) → ((a && b) && c) ≡ (a && (b && c))
+    order true b c = refl
+    order false b c = refl
+
+    go : (b : Bool) → in_turn one_name (ns ++ m ∷ []) ms ≡ then_some (apart (ns ++ m ∷ []) ms && are_distinct ms) ((ns ++ m ∷ []) ++ ms)
+        → apart (ns ++ m ∷ []) ms ≡ (apart ns ms && not (is_among m ms)) → (ns ++ m ∷ []) ++ ms ≡ ns ++ m ∷ ms
+        → (then_some (not b) (ns ++ m ∷ []) >>= λ z. in_turn one_name z ms)
+        ≡ then_some ((not b && apart ns ms) && (not (is_among m ms) && are_distinct ms)) (ns ++ m ∷ ms)
+    go true h e f = refl
+    go false h e f =
+        h ∙ ap (λ xs. then_some (apart (ns ++ m ∷ []) ms && are_distinct ms) xs) f
+        ∙ ap (λ b. then_some (b && are_distinct ms) (ns ++ m ∷ ms)) e
+        ∙ ap (λ b. then_some b (ns ++ m ∷ ms)) (order (apart ns ms) (not (is_among m ms)) (are_distinct ms))
+
+apart-none : (ms : List Name) → apart [] ms ≡ true
+apart-none [] = refl
+apart-none (m ∷ ms) = apart-none ms
+
+pub once : (ms : List Name) → in_turn one_name [] ms ≡ then_some (are_distinct ms) ms
+once ms = turned [] ms ∙ ap (λ b. then_some (b && are_distinct ms) ms) (apart-none ms)
+
+-- a key that is inserted
+abbrev items : Vec ℕ Global → List ℕ
+items v = v.items
+
+pub contained : (k : List ℕ) (ks : List (Vec ℕ Global)) → list_any (λ x. bytes_eq k x.items) ks ≡ is_among k (map items ks)
+contained k [] = refl
+contained k (x ∷ ks) = ap (λ b. bytes_eq k x.items || b) (contained k ks)
+
+pub inserted : (k : Vec ℕ Global) (ks ks' : List (Vec ℕ Global)) (new : Bool) → new ≡ not (list_any (λ x. bytes_eq k.items x.items) ks)
+    → ks' ≡ insert_key (λ a b. bytes_eq a.items b.items) ks k → new ≡ true → one_name (map items ks) k.items ≡ Some (map items ks')
+inserted k ks ks' new e h t =
+    ap (λ b. then_some b (map items ks ++ k.items ∷ [])) (ap not (sym (contained k.items ks)) ∙ sym e ∙ t)
+    ∙ ap Some (sym (map-append items ks (k ∷ []))) ∙ ap (λ xs. Some (map items xs)) (sym (h ∙ go (list_any (λ x. bytes_eq k.items x.items) ks) (sym e ∙ t)))
+  where
+    go : (b : Bool) → not b ≡ true → (if b then ks else ks ++ k ∷ []) ≡ ks ++ k ∷ []
+    go true q = cc
+    go false q = refl
+
+pub refused : (k : Vec ℕ Global) (ks : List (Vec ℕ Global)) (new : Bool) → new ≡ not (list_any (λ x. bytes_eq k.items x.items) ks)
+    → new ≡ false → one_name (map items ks) k.items ≡ None
+refused k ks new e t = ap (λ b. then_some b (map items ks ++ k.items ∷ [])) (ap not (sym (contained k.items ks)) ∙ sym e ∙ t)
+
+-- ---- choices
+
+not_nine : (v : Nine) → nat_eq (code_of v) 9 ≡ false
+not_nine U = refl
+not_nine X = refl
+not_nine Zero = refl
+not_nine One = refl
+not_nine Z = refl
+not_nine W = refl
+not_nine L = refl
+not_nine H = refl
+not_nine Dash = refl
+
+nine_not : (v : Nine) → nat_eq 9 (code_of v) ≡ false
+nine_not U = refl
+nine_not X = refl
+nine_not Zero = refl
+nine_not One = refl
+nine_not Z = refl
+nine_not W = refl
+nine_not L = refl
+nine_not H = refl
+nine_not Dash = refl
+
+pub same_key : (c d : Choice) → bytes_eq (key_of c) (key_of d) ≡ same_choice c d
+same_key (values vs) (values ws) = refl
+same_key (values []) (position p) = refl
+same_key (values (v ∷ vs)) (position p) = ap (λ b. b && bytes_eq (map code_of vs) (p ∷ [])) (not_nine v)
+same_key (position p) (values []) = refl
+same_key (position p) (values (v ∷ vs)) = ap (λ b. b && bytes_eq (p ∷ []) (map code_of vs)) (nine_not v)
+same_key (position p) (position q) = and_true (nat_eq p q)
+  where
+    and_true : (b : Bool) → (b && true) ≡ b
+    and_true true = refl
+    and_true false = refl
+
+pub among_keys : (c : Choice) (cs : List Choice) → is_among (key_of c) (map key_of cs) ≡ list_any (same_choice c) cs
+among_keys c [] = refl
+among_keys c (d ∷ cs) = ap (λ b. b || is_among (key_of c) (map key_of cs)) (same_key c d) ∙ ap (λ b. same_choice c d || b) (among_keys c cs)
+
+pub distinct_keys : (cs : List Choice) → are_distinct (map key_of cs) ≡ are_distinct_choices cs
+distinct_keys [] = refl
+distinct_keys (c ∷ cs) =
+    ap (λ b. not b && are_distinct (map key_of cs)) (among_keys c cs) ∙ ap (λ b. not (list_any (same_choice c) cs) && b) (distinct_keys cs)

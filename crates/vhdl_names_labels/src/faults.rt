@@ -1,0 +1,30 @@
+//! Which of several faults is told: the first in order of the text.
+
+ghost use Rattle.std.specs.Prelude.{◌≡◌, ◌≢◌};
+ghost use Rattle.vhdl_names_labels.specs.Faults as rules;
+ghost use Rattle.vhdl_names_rules.specs.declared.fault.NameFault.TheVariants.{NoMemory};
+
+use vhdl_names_rules::NameFault;
+
+/// The earlier of two faults, the first of two at one byte; want of memory comes before all.
+pub fn earlier(fault: NameFault, other: NameFault) -> NameFault
+    ensures told { result ≡ rules.earlier fault other }
+    ensures memory { result ≢ NoMemory → (fault ≢ NoMemory) × (other ≢ NoMemory) }
+{
+    match (fault, other) {
+        (NameFault::At { at, .. }, NameFault::At { at: place, .. }) => {
+            if place < at { other } else { fault }
+        }
+        _ => NameFault::NoMemory,
+    }
+}
+
+/// The earlier of a fault and that of an answer, if it is refused.
+pub fn earlier_in<T: Drop>(fault: NameFault, answer: Result<T, NameFault>) -> NameFault
+    ensures { result ≢ NoMemory → fault ≢ NoMemory }
+{
+    match answer {
+        Ok(_) => fault,
+        Err(other) => earlier(fault, other),
+    }
+}

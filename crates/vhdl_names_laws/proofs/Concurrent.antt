@@ -1,0 +1,104 @@
+-- Each concurrent statement fits where it stands (IEEE 1076-2008, clause 11).
+use Rattle.std.proofs.Common.{◌≡◌, suc, true, List, length, Some, refl, subst, arith}
+use Rattle.std.proofs.lemmas.Bool.{and_from, lt-ltb}
+use Rattle.vhdl_tree.specs.Tree as t
+use Rattle.vhdl_tree.specs.Tree.{Ident}
+use Rattle.vhdl_names_rules.specs.units.Units as u
+use Rattle.vhdl_names_rules.specs.units.Units.{Units}
+use Rattle.vhdl_names_rules.specs.Rules.{◌>>=◌}
+use Rattle.vhdl_names_rules.specs.Visibility as m
+use Rattle.vhdl_names_rules.specs.Visibility.{Name, Sight, are_distinct, ends}
+use Rattle.vhdl_names_rules.specs.Expressions.{typed, static_range, as_static_test}
+use Rattle.vhdl_names_rules.specs.Interfaces.{EntityView}
+use Rattle.vhdl_names_rules.specs.Instances.{instance}
+use Rattle.vhdl_names_rules.specs.Concurrent.{process, concurrent_labels, sight_within, generated, concurrent, concurrents}
+use Rattle.vhdl_names_rules.specs.sound.Expressions.{Inside, range_fits, static_test_fits}
+use Rattle.vhdl_names_rules.specs.sound.Units as w
+use Rattle.vhdl_names_rules.specs.sound.Units.{concurrent_fits, concurrents_fit}
+use Rattle.vhdl_names_laws.specs.Meanings.{Counts, IsInside}
+use Rattle.vhdl_names_laws.proofs.Statics.{some_same, HasMore, keeps_all, all_more}
+use Rattle.vhdl_names_laws.proofs.Operators.{mapped}
+use Rattle.vhdl_names_laws.proofs.Expressions.{typed_fits, static_range_fits}
+use Rattle.vhdl_names_laws.proofs.Values.{static_condition_fits}
+use Rattle.vhdl_names_laws.proofs.Processes.{IsOutside, process_is, assignment_is, selected_is}
+use Rattle.vhdl_names_laws.proofs.Instances.{AreUnits, instance_is}
+use Rattle.vhdl_names_rules.proofs.laws.Rules.{comes, kept}
+
+-- ---- generates
+
+-- what is inside a generate of a scheme
+abbrev inside_scheme : Inside → t.Scheme → Inside
+inside_scheme i (t.for_each n r) = w.within_generate i
+inside_scheme i (t.if_holds d) = i
+
+more_generates : (i : Inside) (counts : Counts) → HasMore i (w.within_generate i) counts counts
+more_generates i counts = record {
+  numbers = record { generics = omega arith; integers = omega arith; generates = omega arith; loops = omega arith };
+  constants = keeps_all i.constants;
+  ports = keeps_all i.ports;
+  signals = keeps_all i.signals;
+  variables = keeps_all i.variables;
+  counts = keeps_all counts;
+}
+
+inside_generate : (i : Inside) (counts : Counts) (sight : Sight) (n : Ident) → IsInside i counts sight → IsInside (w.within_generate i) counts (m.within_generate sight n)
+inside_generate i counts sight n h =
+    let same : length sight.generates ≡ i.generates = h.generate_count in
+    record {
+      loops = all_more i (w.within_generate i) counts counts (more_generates i counts) sight.loops h.loops;
+      variables = all_more i (w.within_generate i) counts counts (more_generates i counts) sight.variables h.variables;
+      generates = (lt-ltb (length sight.generates) (suc i.generates) (omega (arith, same)), all_more i (w.within_generate i) counts counts (more_generates i counts) sight.generates h.generates);
+      region = all_more i (w.within_generate i) counts counts (more_generates i counts) sight.region h.region;
+      outside = all_more i (w.within_generate i) counts counts (more_generates i counts) sight.outside h.outside;
+      loop_count = h.loop_count;
+      generate_count = omega (arith, same);
+    }
+
+outside_within : (i : Inside) (counts : Counts) (sight : Sight) (scheme : t.Scheme) → IsOutside i counts sight → IsOutside (inside_scheme i scheme) counts (sight_within sight scheme)
+outside_within i counts sight (t.for_each n r) h = record { inside = inside_generate i counts sight n h.inside; no_variables = h.no_variables; none_in_sight = h.none_in_sight }
+outside_within i counts sight (t.if_holds d) h = h
+
+generated_is : (units : Units) (i : Inside) (counts : Counts) (sight : Sight) (label : Name) (scheme : t.Scheme) (body : u.Concurrents) (x : u.Concurrent) → IsInside i counts sight
+    → concurrents_fit units (inside_scheme i scheme) body ≡ true → generated sight label scheme body ≡ Some x → concurrent_fits units i x ≡ true
+unfolding concurrent_fits
+generated_is units i counts sight label (t.for_each n r) body x h f q =
+    let a = mapped (λ range. u.generate_for label range body) (static_range sight r) x q in
+    subst (λ x. concurrent_fits units i x ≡ true) a.is
+    (and_from (range_fits i a.value) (concurrents_fit units (w.within_generate i) body) (static_range_fits i counts sight r a.value h a.from) f)
+generated_is units i counts sight label (t.if_holds d) body x h f q =
+    let a = mapped (λ test. u.generate_if label test body) (typed sight d >>= as_static_test) x q in
+    let b = comes (typed sight d) as_static_test a.value a.from in
+    subst (λ x. concurrent_fits units i x ≡ true) a.is
+    (and_from (static_test_fits i a.value) (concurrents_fit units i body) (static_condition_fits i counts b.value a.value (typed_fits d i counts sight b.value h b.is) b.rest) f)
+
+-- ---- all statements
+
+mutual
+  unfolding concurrent concurrent_fits
+
+  pub concurrent_is : (c : t.Concurrent) (units : Units) (entities : List EntityView) (i : Inside) (counts : Counts) (sight : Sight) (x : u.Concurrent) → AreUnits units entities
+      → IsOutside i counts sight → concurrent entities sight c ≡ Some x → concurrent_fits units i x ≡ true
+  concurrent_is (t.assignment a) units entities i counts sight x all h q = assignment_is units i counts sight a x h q
+  concurrent_is (t.selected label a) units entities i counts sight x all h q = selected_is units i counts sight label a x h q
+  concurrent_is (t.process label p) units entities i counts sight x all h q =
+      let a = mapped u.process (process sight label p) x q in
+      subst (λ x. concurrent_fits units i x ≡ true) a.is (process_is i counts sight label p a.value h a.from)
+  concurrent_is (t.instance label y) units entities i counts sight x all h q =
+      let a = mapped u.instance (instance entities sight label y) x q in
+      subst (λ x. concurrent_fits units i x ≡ true) a.is (instance_is units entities i counts sight label y a.value all h.inside a.from)
+  concurrent_is (t.generated label at scheme word cs end) units entities i counts sight x all h q =
+      let a = kept (ends label.text end) _ x q in
+      let b = kept (are_distinct (concurrent_labels cs)) _ x a.1 in
+      let body = comes (concurrents entities (sight_within sight scheme) cs) _ x b.1 in
+      generated_is units i counts sight label.text scheme body.value x h.inside
+      (concurrents_are cs units entities (inside_scheme i scheme) counts (sight_within sight scheme) body.value all (outside_within i counts sight scheme h) body.is) body.rest
+
+  pub concurrents_are : (cs : t.Concurrents) (units : Units) (entities : List EntityView) (i : Inside) (counts : Counts) (sight : Sight) (xs : u.Concurrents) → AreUnits units entities
+      → IsOutside i counts sight → concurrents entities sight cs ≡ Some xs → concurrents_fit units i xs ≡ true
+  concurrents_are t.no_concurrents units entities i counts sight xs all h q = subst (λ xs. concurrents_fit units i xs ≡ true) (some_same u.no_concurrents xs q) refl
+  concurrents_are (t.concurrent c cs) units entities i counts sight xs all h q =
+      let a = comes (concurrent entities sight c) _ xs q in
+      let b = comes (concurrents entities sight cs) _ xs a.rest in
+      subst (λ xs. concurrents_fit units i xs ≡ true) (some_same _ xs b.rest)
+      (and_from (concurrent_fits units i a.value) (concurrents_fit units i b.value) (concurrent_is c units entities i counts sight a.value all h a.is)
+      (concurrents_are cs units entities i counts sight b.value all h b.is))

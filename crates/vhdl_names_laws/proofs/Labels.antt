@@ -1,0 +1,142 @@
+-- The labels of concurrent statements are identifiers of the file.
+use Rattle.std.proofs.Common.{◌≡◌, true, ◌&&◌, List, [], ◌∷◌, ◌++◌, map, Option, Some, None, refl, ap, sym, ◌∙◌, subst}
+use Rattle.std.specs.List.{slice_get, filter_map, AllByRecursion}
+use Rattle.std.specs.Option.{option_map}
+use Rattle.std.proofs.lemmas.Bool.{and_from}
+use Rattle.vhdl_lexer.specs.declared.token.Kind.TheVariants as k
+use Rattle.vhdl_tree.specs.Tree as t
+use Rattle.vhdl_tree.specs.Tree.{Ident, File, DesignUnit, LibraryUnit, ContextItem}
+use Rattle.vhdl_tree.specs.Pieces as p
+use Rattle.vhdl_tree.specs.Pieces.{Piece, spell_word, spell_ident, spell_idents, spell_option, spell_each, spell_list}
+use Rattle.vhdl_tree.specs.grammar.Sequential.{spell_label}
+use Rattle.vhdl_tree.specs.grammar.Process.{spell_sensitivity, spell_variables}
+use Rattle.vhdl_tree.specs.grammar.Concurrent.{spell_scheme, spell_concurrent, spell_concurrents}
+use Rattle.vhdl_names_rules.specs.units.Statements as s
+use Rattle.vhdl_names_rules.specs.units.Units as u
+use Rattle.vhdl_names_rules.specs.units.Units.{Units}
+use Rattle.vhdl_names_rules.specs.Rules.{each, if_any, all_of}
+use Rattle.vhdl_names_rules.specs.Visibility.{Name, are_distinct, ends, label_ends, Sight, with_variables}
+use Rattle.vhdl_names_rules.specs.Expressions.{typed, static}
+use Rattle.vhdl_names_rules.specs.Choices.{covered, selector, arranged}
+use Rattle.vhdl_names_rules.specs.Statements.{target, statements, statement_labels}
+use Rattle.vhdl_names_rules.specs.Declarations.{in_order, variables}
+use Rattle.vhdl_names_rules.specs.Interfaces.{EntityView, declared_names}
+use Rattle.vhdl_names_rules.specs.Instances.{associated, instantiated, port_actuals, instance, generic_name, port_formal, Formal}
+use Rattle.vhdl_names_rules.specs.Concurrent.{label_of, assigning, assigned, alone, assignment_body, assignment, selected, sensitivity, process, concurrent_labels, sight_within, generated, concurrent, concurrents}
+use Rattle.vhdl_names_rules.specs.sound.Named.{has_text, label_is_named, objects_are_named, concurrent_is_named, concurrents_are_named}
+use Rattle.vhdl_names_laws.specs.Words.{AreWords}
+use Rattle.vhdl_names_laws.proofs.Statics.{some_same}
+use Rattle.vhdl_names_laws.proofs.Operators.{mapped}
+use Rattle.vhdl_names_rules.proofs.laws.Rules.{comes, kept}
+use Rattle.vhdl_names_laws.proofs.Words.{NamesAreWords, ObjectIsWord, all_in_order, each_piece, idents_are, left, objects_named, right, variables_named}
+
+-- ---- concurrent statements
+
+label_named : (label : Option Ident) (rest : List Piece) → AreWords (spell_option spell_label label ++ rest) → label_is_named (label_of label) ≡ true
+label_named None rest h = refl
+label_named (Some l) rest h = h.0.some
+
+-- a process of one statement has no variables
+assigning_named : (label : Option Ident) (rest : List Piece) (x : s.Statement) → AreWords (spell_option spell_label label ++ rest) → concurrent_is_named (assigning label x) ≡ true
+unfolding concurrent_is_named
+assigning_named label rest x h = and_from (label_is_named (label_of label)) true (label_named label rest h) refl
+
+assignment_named : (sight : Sight) (a : t.Assignment) (rest : List Piece) (x : u.Concurrent) → AreWords (spell_option spell_label a.label ++ rest) → assignment sight a ≡ Some x → concurrent_is_named x ≡ true
+unfolding assignment
+assignment_named sight a rest x h q =
+    let b = comes (target sight a.target) _ x q in
+    let c = comes (assignment_body sight b.value a.branches a.otherwise) _ x b.rest in
+    subst (λ x. concurrent_is_named x ≡ true) (some_same _ x c.rest) (assigning_named a.label rest c.value h)
+
+selected_named : (sight : Sight) (label : Option Ident) (a : t.SelectedAssignment) (rest : List Piece) (x : u.Concurrent) → AreWords (spell_option spell_label label ++ rest) → selected sight label a ≡ Some x
+    → concurrent_is_named x ≡ true
+unfolding selected
+selected_named sight label a rest x h q =
+    let e = comes (typed sight a.selector) _ x q in
+    let by = comes (selector e.value) _ x e.rest in
+    let to = comes (target sight a.target) _ x by.rest in
+    let css = comes (covered sight by.value.0 (map (λ (w : t.Waveform). w.choices) a.waveforms)) _ x to.rest in
+    let bodies = comes (each (λ (w : t.Waveform). option_map alone (assigned sight to.value w.value)) a.waveforms) _ x css.rest in
+    let all = comes (arranged css.value bodies.value) _ x bodies.rest in
+    subst (λ x. concurrent_is_named x ≡ true) (some_same _ x all.rest) (assigning_named label rest (s.select by.value.1 all.value) h)
+
+process_named : (sight : Sight) (label : Option Ident) (d : t.Process) (x : u.Process) → label_is_named (label_of label) ≡ true → AllByRecursion (λ (v : t.Variables). NamesAreWords v.names) d.variables
+    → process sight label d ≡ Some x → (label_is_named x.label && objects_are_named x.variables) ≡ true
+unfolding process
+process_named sight label d x h vars q =
+    let on = comes (sensitivity sight d.sensitivity) _ x q in
+    let vs = comes (in_order with_variables variables sight d.variables) _ x on.rest in
+    let a = kept (are_distinct (declared_names vs.value.declared)) _ x vs.rest in
+    let b = kept (are_distinct (statement_labels (t.statements_of d.statements))) _ x a.1 in
+    let body = comes (statements (with_variables sight vs.value.declared) (t.statements_of d.statements)) _ x b.1 in
+    let c = kept (label_ends label d.end_label) _ x body.rest in
+    subst (λ (x : u.Process). (label_is_named x.label && objects_are_named x.variables) ≡ true) (some_same _ x c.1)
+    (and_from (label_is_named (label_of label)) (objects_are_named vs.value.analysed) h
+    (objects_named vs.value.analysed
+    (all_in_order with_variables variables (λ (v : t.Variables). NamesAreWords v.names) ObjectIsWord (λ sight v y g e. variables_named sight v y g e) d.variables sight vs.value vars vs.is)))
+
+-- the variables of a process
+variables_words : (d : t.Process) (label rest : List Piece) → AreWords (label ++ p.one_at k.Process d.at ∷ (spell_sensitivity d.sensitivity ++ (spell_word k.Is d.is_word ++ (spell_each spell_variables d.variables ++ rest))))
+    → AllByRecursion (λ (v : t.Variables). NamesAreWords v.names) d.variables
+variables_words d label rest h =
+    let a = right label _ h in
+    let b = right (spell_sensitivity d.sensitivity) _ a.1 in
+    let c = right (spell_word k.Is d.is_word) _ b in
+    each_piece spell_variables (λ (v : t.Variables). NamesAreWords v.names) (λ v g. idents_are v.names (left (spell_idents v.names) _ g.1)) d.variables (left (spell_each spell_variables d.variables) rest c)
+
+instance_named : (entities : List EntityView) (sight : Sight) (label : Ident) (y : t.Instance) (x : u.Instance) → instance entities sight label y ≡ Some x → x.label ≡ label.text
+unfolding instance
+instance_named entities sight label y x q =
+    let c = comes (instantiated entities sight y.unit) _ x q in
+    let e = comes (slice_get entities c.value) _ x c.rest in
+    let gs = comes (associated (filter_map generic_name e.value.interface.declared) (all_of y.generics)) _ x e.rest in
+    let generics = comes (each (if_any (static sight)) gs.value) _ x gs.rest in
+    let ps = comes (associated (map (λ (f : Formal). f.name) (filter_map port_formal e.value.interface.declared)) (all_of y.ports)) _ x generics.rest in
+    let ports = comes (port_actuals sight (filter_map port_formal e.value.interface.declared) ps.value) _ x ps.rest in
+    ap (λ (x : u.Instance). x.label) (sym (some_same _ x ports.rest))
+
+generated_named : (sight : Sight) (label : Name) (scheme : t.Scheme) (body : u.Concurrents) (x : u.Concurrent) → has_text label ≡ true → concurrents_are_named body ≡ true
+    → generated sight label scheme body ≡ Some x → concurrent_is_named x ≡ true
+unfolding concurrent_is_named
+generated_named sight label (t.for_each n r) body x h f q =
+    let a = mapped _ _ x q in
+    subst (λ x. concurrent_is_named x ≡ true) a.is (and_from (has_text label) (concurrents_are_named body) h f)
+generated_named sight label (t.if_holds d) body x h f q =
+    let a = mapped _ _ x q in
+    subst (λ x. concurrent_is_named x ≡ true) a.is (and_from (has_text label) (concurrents_are_named body) h f)
+
+mutual
+  unfolding concurrent concurrent_is_named
+
+  concurrent_named : (c : t.Concurrent) (entities : List EntityView) (sight : Sight) (x : u.Concurrent) → AreWords (spell_concurrent c) → concurrent entities sight c ≡ Some x → concurrent_is_named x ≡ true
+  concurrent_named (t.assignment a) entities sight x h q = assignment_named sight a _ x h q
+  concurrent_named (t.selected label a) entities sight x h q = selected_named sight label a _ x h q
+  concurrent_named (t.process label d) entities sight x h q =
+      let a = mapped u.process (process sight label d) x q in
+      subst (λ x. concurrent_is_named x ≡ true) a.is
+      (process_named sight label d a.value (label_named label _ h) (variables_words d (spell_option spell_label label) _ h) a.from)
+  concurrent_named (t.instance label y) entities sight x h q =
+      let a = mapped u.instance (instance entities sight label y) x q in
+      subst (λ x. concurrent_is_named x ≡ true) a.is (ap has_text (instance_named entities sight label y a.value a.from) ∙ h.0.some)
+  concurrent_named (t.generated label at scheme word cs end) entities sight x h q =
+      let a = kept (ends label.text end) _ x q in
+      let b = kept (are_distinct (concurrent_labels cs)) _ x a.1 in
+      let body = comes (concurrents entities (sight_within sight scheme) cs) _ x b.1 in
+      let c = right (spell_scheme at scheme) _ h.1.1 in
+      let d = right (spell_word k.Begin word) _ c.1 in
+      generated_named sight label.text scheme body.value x h.0.some
+      (concurrents_named cs entities (sight_within sight scheme) body.value (left (spell_concurrents cs) _ d) body.is) body.rest
+
+  pub concurrents_named : (cs : t.Concurrents) (entities : List EntityView) (sight : Sight) (xs : u.Concurrents) → AreWords (spell_concurrents cs) → concurrents entities sight cs ≡ Some xs
+      → concurrents_are_named xs ≡ true
+  concurrents_named t.no_concurrents entities sight xs h q = subst (λ xs. concurrents_are_named xs ≡ true) (some_same u.no_concurrents xs q) refl
+  concurrents_named (t.concurrent c cs) entities sight xs h q =
+      let a = comes (concurrent entities sight c) _ xs q in
+      let b = comes (concurrents entities sight cs) _ xs a.rest in
+      subst (λ xs. concurrents_are_named xs ≡ true) (some_same _ xs b.rest)
+      (and_from (concurrent_is_named a.value) (concurrents_are_named b.value) (concurrent_named c entities sight a.value (left (spell_concurrent c) (spell_concurrents cs) h) a.is)
+      (concurrents_named cs entities sight b.value (right (spell_concurrent c) (spell_concurrents cs) h) b.is))
+
+pub spelled_alike : (cs : List t.Concurrent) → spell_each spell_concurrent cs ≡ spell_concurrents (t.concurrents_of cs)
+spelled_alike [] = refl
+spelled_alike (c ∷ cs) = ap (λ ps. spell_concurrent c ++ ps) (spelled_alike cs)

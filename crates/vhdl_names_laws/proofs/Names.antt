@@ -1,0 +1,321 @@
+-- What names denote is what their meanings say (IEEE 1076-2008, clause 8).
+use Rattle.std.proofs.Common.{◌≡◌, ℕ, Bool, true, false, not, List, [], ◌∷◌, Option, Some, None, refl, ap, sym, ◌∙◌, subst, cond}
+use Rattle.std.specs.Prelude.{codes}
+use Rattle.std.specs.List.{slice_get}
+use Rattle.std.specs.Option.{option_map}
+use Rattle.std.specs.Str.{bytes_eq}
+use Rattle.std.proofs.lemmas.Bool.{and_parts, and_from}
+use Rattle.std.proofs.lemmas.Option.{slice_get-map}
+use Rattle.vhdl_values.specs.declared.kinds.Edge.{Edge}
+use Rattle.vhdl_tree.specs.Tree.{Ident}
+use Rattle.vhdl_tree.specs.declared.declaration.Mode.{Mode}
+use Rattle.vhdl_names_rules.specs.declared.kind.Kind.{Kind}
+use Rattle.vhdl_names_rules.specs.declared.kind.Kind.TheVariants.{Element, LogicVector, Unsigned, OpenVector}
+use Rattle.vhdl_names_rules.specs.declared.kind.ObjectType.{ObjectType}
+use Rattle.vhdl_names_rules.specs.declared.kind.ObjectType.TheVariants.{Elements, Enumeration}
+use Rattle.vhdl_names_rules.specs.declared.kind.Function.{Function}
+use Rattle.vhdl_names_rules.specs.declared.kind.Function.TheVariants.{EdgeCall, Resize, ShiftLeft, ShiftRight, ToUnsigned}
+use Rattle.vhdl_names_rules.specs.units.Expressions as e
+use Rattle.vhdl_names_rules.specs.units.Expressions.{Static, Range, Part, Place, Signal, Vector}
+use Rattle.vhdl_names_rules.specs.units.Units as u
+use Rattle.vhdl_names_rules.specs.units.Units.{Form}
+use Rattle.vhdl_names_rules.specs.Rules.{◌>>=◌, then_some}
+use Rattle.vhdl_names_rules.specs.Visibility as m
+use Rattle.vhdl_names_rules.specs.Visibility.{Meaning}
+use Rattle.vhdl_names_rules.specs.Operators as o
+use Rattle.vhdl_names_rules.specs.Operators.{Typed}
+use Rattle.vhdl_names_rules.specs.Names as n
+use Rattle.vhdl_names_rules.specs.Names.{Suffix, part, part_of, place_of, if_plain, read_by, read_signal, converted, is_static, is_static_part, edge_signal, edge_of, counted, encoding, called, denoted, attributed}
+use Rattle.vhdl_names_rules.specs.sound.Expressions.{Inside, one, vector, state, shape_of, static_fits, range_fits, part_shape, port_form, signal_form, place_shape, is_elements, with_static, vector_shape, value_shape, state_shape, edge_fits}
+use Rattle.vhdl_names_laws.specs.Meanings.{Counts, kind_shape, type_shape, IsForm, IsCounted, IsPort, MeaningFits, TypedFits}
+use Rattle.vhdl_names_laws.proofs.Statics.{some_same}
+use Rattle.vhdl_names_laws.proofs.Operators.{given, mapped, shape_elements, fits_self}
+use Rattle.vhdl_names_rules.proofs.laws.Rules.{comes, kept}
+
+-- ---- suffixes
+
+-- each of several things
+abbrev pub EachFits : Inside → Counts → List Typed → Type 0
+EachFits i counts [] = Unit {0}
+EachFits i counts (x ∷ xs) = TypedFits i counts x × EachFits i counts xs
+
+abbrev pub SuffixFits : Inside → Counts → Suffix → Type 0
+SuffixFits i counts n.plain = Unit {0}
+SuffixFits i counts (n.arguments b xs) = EachFits i counts xs
+SuffixFits i counts (n.range r) = range_fits i r ≡ true
+
+-- ---- parts of an object
+
+-- a vector's form has a range
+vector_form : (i : Inside) (f : Form) (s : Static) → shape_of f ≡ vector → static_fits i s ≡ true → part_shape i f (e.Part.element s) ≡ Some one
+vector_form i u.element s h t = absurd cc
+vector_form i (u.vector r) s h t = ap (λ b. then_some b one) t
+vector_form i (u.enumeration c) s h t = absurd cc
+
+slice_form : (i : Inside) (f : Form) (r : Range) → shape_of f ≡ vector → range_fits i r ≡ true → part_shape i f (e.slice r) ≡ Some vector
+slice_form i u.element s h t = absurd cc
+slice_form i (u.vector r) s h t = ap (λ b. then_some b vector) t
+slice_form i (u.enumeration c) s h t = absurd cc
+
+module _ (i : Inside) (counts : Counts) where
+  -- a part of an object of a kind has the kind's shape
+  pub part_fits : (f : Form) (k : Kind) (s : Suffix) (p : Part × Kind) → shape_of f ≡ kind_shape k → SuffixFits i counts s → part k s ≡ Some p
+      → part_shape i f p.0 ≡ Some (kind_shape p.1)
+  part_fits f k s p h t g = by k s h t g
+    where
+      is : (q : Part × Kind) → Some q ≡ Some p → part_shape i f q.0 ≡ Some (kind_shape q.1) → part_shape i f p.0 ≡ Some (kind_shape p.1)
+      is q g h = subst (λ (q : Part × Kind). part_shape i f q.0 ≡ Some (kind_shape q.1)) (some_same q p g) h
+
+      element_of : (j : Kind) → kind_shape j ≡ vector → shape_of f ≡ kind_shape j → (s : Static) → static_fits i s ≡ true → Some (e.Part.element s, Element) ≡ Some p
+          → part_shape i f p.0 ≡ Some (kind_shape p.1)
+      element_of j v h s t g = is (e.Part.element s, Element) g (vector_form i f s (h ∙ v) t)
+
+      listed : (j : Kind) → kind_shape j ≡ vector → shape_of f ≡ kind_shape j → (b : Bool) (xs : List Typed) → EachFits i counts xs
+          → ((s : Static) → part j (n.arguments b (o.integer s ∷ [])) ≡ Some (e.Part.element s, Element)) → part j (n.arguments b xs) ≡ Some p
+          → part_shape i f p.0 ≡ Some (kind_shape p.1)
+      listed LogicVector v h b (o.integer s ∷ []) t c g = element_of LogicVector v h s t.0 g
+      listed Unsigned v h b (o.integer s ∷ []) t c g = element_of Unsigned v h s t.0 g
+      listed LogicVector v h b [] t c g = absurd cc
+      listed LogicVector v h b (o.elements j x ∷ xs) t c g = absurd cc
+      listed LogicVector v h b (o.enumerated d m x ∷ xs) t c g = absurd cc
+      listed LogicVector v h b (o.truth x ∷ xs) t c g = absurd cc
+      listed LogicVector v h b (o.integer s ∷ y ∷ xs) t c g = absurd cc
+      listed Unsigned v h b [] t c g = absurd cc
+      listed Unsigned v h b (o.elements j x ∷ xs) t c g = absurd cc
+      listed Unsigned v h b (o.enumerated d m x ∷ xs) t c g = absurd cc
+      listed Unsigned v h b (o.truth x ∷ xs) t c g = absurd cc
+      listed Unsigned v h b (o.integer s ∷ y ∷ xs) t c g = absurd cc
+      listed Element v h b xs t c g = absurd cc
+      listed OpenVector v h b xs t c g = absurd cc
+
+      by : (k : Kind) (s : Suffix) → shape_of f ≡ kind_shape k → SuffixFits i counts s → part k s ≡ Some p → part_shape i f p.0 ≡ Some (kind_shape p.1)
+      by k n.plain h t g = is (e.whole, k) g (ap Some h)
+      by LogicVector (n.arguments b xs) h t g = listed LogicVector refl h b xs t (λ s. refl) g
+      by Unsigned (n.arguments b xs) h t g = listed Unsigned refl h b xs t (λ s. refl) g
+      by LogicVector (n.range r) h t g = is (e.slice r, LogicVector) g (slice_form i f r h t)
+      by Unsigned (n.range r) h t g = is (e.slice r, Unsigned) g (slice_form i f r h t)
+      by Element (n.arguments b xs) h t g = absurd cc
+      by OpenVector (n.arguments b xs) h t g = absurd cc
+      by Element (n.range r) h t g = absurd cc
+      by OpenVector (n.range r) h t g = absurd cc
+
+  -- likewise of any object
+  pub part_of_fits : (f : Form) (type : ObjectType) (s : Suffix) (p : Part × ObjectType) → shape_of f ≡ type_shape type → IsCounted counts type → SuffixFits i counts s
+      → part_of type s ≡ Some p → (part_shape i f p.0 ≡ Some (type_shape p.1)) × IsCounted counts p.1
+  part_of_fits f (Elements k) s p h c t g =
+      let a = mapped (λ (q : Part × Kind). (q.0, Elements q.1)) (part k s) p g in
+      subst (λ (q : Part × ObjectType). (part_shape i f q.0 ≡ Some (type_shape q.1)) × IsCounted counts q.1) a.is (part_fits f k s a.value h t a.from, tt)
+  part_of_fits f (Enumeration d count) n.plain p h c t g =
+      subst (λ (q : Part × ObjectType). (part_shape i f q.0 ≡ Some (type_shape q.1)) × IsCounted counts q.1) (some_same (e.whole, Enumeration d count) p g) (ap Some h, c)
+  part_of_fits f (Enumeration d count) (n.arguments b xs) p h c t g = absurd cc
+  part_of_fits f (Enumeration d count) (n.range r) p h c t g = absurd cc
+
+  -- ---- objects that are read
+
+  -- what is read of an object of a form
+  read_fits : (object : Part → Vector) (f : Form) → ((p : Part) → vector_shape i (object p) ≡ (part_shape i f p >>= λ x. then_some (is_elements x) x))
+      → (k : Kind) → shape_of f ≡ kind_shape k → (s : Suffix) (x : Typed) → SuffixFits i counts s → read_by object k s ≡ Some x → TypedFits i counts x
+  read_fits object f c k h s x t g =
+      let a = mapped (λ (p : Part × Kind). o.elements p.1 (object p.0)) (part k s) x g in
+      subst (TypedFits i counts) a.is
+      (c a.value.0 ∙ ap (λ z. z >>= λ x. then_some (is_elements x) x) (part_fits f k s a.value h t a.from) ∙ ap (λ b. then_some b (kind_shape a.value.1)) (shape_elements a.value.1))
+
+  read_place : (z : Signal) (f : Form) → signal_form i z ≡ Some f → (p : Part) → vector_shape i (e.of_signal (place_of z p)) ≡ (part_shape i f p >>= λ x. then_some (is_elements x) x)
+  read_place z f h p = ap (λ w. (w >>= λ f. part_shape i f p) >>= λ x. then_some (is_elements x) x) h
+
+  pub port_form_is : (k : ℕ) (mode : Mode) (kind : Kind) (f : IsPort i.ports k mode kind) → signal_form i (e.port k) ≡ Some (port_form f.port)
+  port_form_is k mode kind f = slice_get-map port_form i.ports k ∙ ap (option_map port_form) f.at
+
+  -- an object's form
+  pub the_form : (type : ObjectType) (w : Option Form) → IsForm counts type w → (f : Form) × (w ≡ Some f) × (shape_of f ≡ type_shape type)
+  the_form type w h = by w h.shape
+    where
+      by : (w : Option Form) → option_map shape_of w ≡ Some (type_shape type) → (f : Form) × (w ≡ Some f) × (shape_of f ≡ type_shape type)
+      by None t = absurd cc
+      by (Some f) t = (f, refl, some_same (shape_of f) (type_shape type) t)
+
+  -- a signal or variable of an enumeration
+  state_is : (f : Form) (count : ℕ) → shape_of f ≡ state count → state_shape f ≡ Some (state count)
+  state_is f count h = ap (λ x. then_some (not (is_elements x)) x) h
+
+  plain_fits : (s : Suffix) (x y : Typed) → TypedFits i counts x → if_plain s x ≡ Some y → TypedFits i counts y
+  plain_fits n.plain x y h g = subst (TypedFits i counts) (some_same x y g) h
+  plain_fits (n.arguments b xs) x y h g = absurd cc
+  plain_fits (n.range r) x y h g = absurd cc
+
+  -- ---- conversions and calls
+
+  converted_fits : (k : Kind) (s : Suffix) (y : Typed) → kind_shape k ≡ vector → SuffixFits i counts s → converted k s ≡ Some y → TypedFits i counts y
+  converted_fits k n.plain y v t g = absurd cc
+  converted_fits k (n.range r) y v t g = absurd cc
+  converted_fits k (n.arguments b []) y v t g = absurd cc
+  converted_fits k (n.arguments b (o.elements LogicVector x ∷ [])) y v t g = subst (TypedFits i counts) (some_same (o.elements k x) y g) (t.0 ∙ ap Some (sym v))
+  converted_fits k (n.arguments b (o.elements Unsigned x ∷ [])) y v t g = subst (TypedFits i counts) (some_same (o.elements k x) y g) (t.0 ∙ ap Some (sym v))
+  converted_fits k (n.arguments b (o.elements OpenVector x ∷ [])) y v t g = subst (TypedFits i counts) (some_same (o.elements k x) y g) (t.0 ∙ ap Some (sym v))
+  converted_fits k (n.arguments b (o.elements Element x ∷ [])) y v t g = absurd cc
+  converted_fits k (n.arguments b (o.elements Element x ∷ z ∷ zs)) y v t g = absurd cc
+  converted_fits k (n.arguments b (o.elements LogicVector x ∷ z ∷ zs)) y v t g = absurd cc
+  converted_fits k (n.arguments b (o.elements Unsigned x ∷ z ∷ zs)) y v t g = absurd cc
+  converted_fits k (n.arguments b (o.elements OpenVector x ∷ z ∷ zs)) y v t g = absurd cc
+  converted_fits k (n.arguments b (o.integer x ∷ zs)) y v t g = absurd cc
+  converted_fits k (n.arguments b (o.enumerated d m x ∷ zs)) y v t g = absurd cc
+  converted_fits k (n.arguments b (o.truth x ∷ zs)) y v t g = absurd cc
+
+  counted_fits : (f : Vector → Static → Vector) → ((x : Vector) (s : Static) → vector_shape i (f x s) ≡ with_static i (vector_shape i x) s)
+      → (s : Suffix) (y : Typed) → SuffixFits i counts s → counted f s ≡ Some y → TypedFits i counts y
+  counted_fits f c n.plain y t g = absurd cc
+  counted_fits f c (n.range r) y t g = absurd cc
+  counted_fits f c (n.arguments b (o.elements Unsigned x ∷ o.integer s ∷ [])) y t g =
+      subst (TypedFits i counts) (some_same (o.elements Unsigned (f x s)) y g)
+      (c x s ∙ ap (λ z. with_static i z s) t.0 ∙ ap (λ b. then_some b vector) t.1.0)
+  counted_fits f c (n.arguments b []) y t g = absurd cc
+  counted_fits f c (n.arguments b (o.integer x ∷ zs)) y t g = absurd cc
+  counted_fits f c (n.arguments b (o.enumerated d m x ∷ zs)) y t g = absurd cc
+  counted_fits f c (n.arguments b (o.truth x ∷ zs)) y t g = absurd cc
+  counted_fits f c (n.arguments b (o.elements Element x ∷ zs)) y t g = absurd cc
+  counted_fits f c (n.arguments b (o.elements LogicVector x ∷ zs)) y t g = absurd cc
+  counted_fits f c (n.arguments b (o.elements OpenVector x ∷ zs)) y t g = absurd cc
+  counted_fits f c (n.arguments b (o.elements Unsigned x ∷ [])) y t g = absurd cc
+  counted_fits f c (n.arguments b (o.elements Unsigned x ∷ o.elements k z ∷ zs)) y t g = absurd cc
+  counted_fits f c (n.arguments b (o.elements Unsigned x ∷ o.enumerated d m z ∷ zs)) y t g = absurd cc
+  counted_fits f c (n.arguments b (o.elements Unsigned x ∷ o.truth z ∷ zs)) y t g = absurd cc
+  counted_fits f c (n.arguments b (o.elements Unsigned x ∷ o.integer s ∷ z ∷ zs)) y t g = absurd cc
+
+  encoding_fits : (s : Suffix) (y : Typed) → SuffixFits i counts s → encoding s ≡ Some y → TypedFits i counts y
+  encoding_fits n.plain y t g = absurd cc
+  encoding_fits (n.range r) y t g = absurd cc
+  encoding_fits (n.arguments b (o.integer s ∷ o.integer size ∷ [])) y t g =
+      subst (TypedFits i counts) (some_same (o.elements Unsigned (e.Vector.encoded s size)) y g)
+      (ap (λ b. then_some b vector) (and_from (static_fits i s) (static_fits i size) t.0 t.1.0))
+  encoding_fits (n.arguments b []) y t g = absurd cc
+  encoding_fits (n.arguments b (o.elements k x ∷ zs)) y t g = absurd cc
+  encoding_fits (n.arguments b (o.enumerated d m x ∷ zs)) y t g = absurd cc
+  encoding_fits (n.arguments b (o.truth x ∷ zs)) y t g = absurd cc
+  encoding_fits (n.arguments b (o.integer s ∷ [])) y t g = absurd cc
+  encoding_fits (n.arguments b (o.integer s ∷ o.elements k x ∷ zs)) y t g = absurd cc
+  encoding_fits (n.arguments b (o.integer s ∷ o.enumerated d m x ∷ zs)) y t g = absurd cc
+  encoding_fits (n.arguments b (o.integer s ∷ o.truth x ∷ zs)) y t g = absurd cc
+  encoding_fits (n.arguments b (o.integer s ∷ o.integer size ∷ z ∷ zs)) y t g = absurd cc
+
+  -- ---- edges
+
+  -- an integer in which no loop's parameter stands is there without the loops
+  outside_loops : (s : Static) → is_static s ≡ true → static_fits i s ≡ true → static_fits (record i { loops = 0 }) s ≡ true
+  outside_loops (e.number k) h t = refl
+  outside_loops (e.generic k) h t = t
+  outside_loops (e.Static.constant k) h t = t
+  outside_loops (e.generate_parameter k) h t = t
+  outside_loops (e.loop_parameter k) h t = absurd cc
+  outside_loops (e.Static.negated s) h t = outside_loops s h t
+  outside_loops (e.Static.binary by s r) h t =
+      let a = and_parts (is_static s) (is_static r) h in
+      let b = and_parts (static_fits i s) (static_fits i r) t in
+      and_from (static_fits (record i { loops = 0 }) s) (static_fits (record i { loops = 0 }) r) (outside_loops s a.0 b.0) (outside_loops r a.1 b.1)
+
+  part_outside : (f : Form) (p : Part) → is_static_part p ≡ true → part_shape i f p ≡ Some one → part_shape (record i { loops = 0 }) f p ≡ Some one
+  part_outside f e.whole h t = t
+  part_outside u.element (e.Part.element s) h t = absurd cc
+  part_outside (u.vector r) (e.Part.element s) h t =
+      let g = given (static_fits i s) one one t in
+      ap (λ b. then_some b one) (outside_loops s h g.holds)
+  part_outside (u.enumeration c) (e.Part.element s) h t = absurd cc
+  part_outside f (e.slice r) h t = absurd cc
+
+  same_signal : (z : Signal) → signal_form (record i { loops = 0 }) z ≡ signal_form i z
+  same_signal (e.port k) = refl
+  same_signal (e.Signal.signal k) = refl
+
+  place_outside : (p : Place) → is_static_part p.part ≡ true → place_shape i p ≡ Some one → place_shape (record i { loops = 0 }) p ≡ Some one
+  place_outside p h t =
+      let c = comes (signal_form i p.signal) (λ f. part_shape i f p.part) one t in
+      ap (λ w. w >>= λ f. part_shape (record i { loops = 0 }) f p.part) (same_signal p.signal ∙ c.is) ∙ part_outside c.value p.part h c.rest
+
+  edge_place : (x : Typed) (p : Place) → TypedFits i counts x → edge_signal x ≡ Some p → edge_fits i p ≡ true
+  edge_place (o.integer s) p t g = absurd cc
+  edge_place (o.enumerated d m x) p t g = absurd cc
+  edge_place (o.truth x) p t g = absurd cc
+  edge_place (o.elements LogicVector x) p t g = absurd cc
+  edge_place (o.elements Unsigned x) p t g = absurd cc
+  edge_place (o.elements OpenVector x) p t g = absurd cc
+  edge_place (o.elements Element (e.of_signal q)) p t g = by (is_static_part q.part) refl g
+    where
+      by : (b : Bool) → is_static_part q.part ≡ b → cond b (Some q) None ≡ Some p → edge_fits i p ≡ true
+      by true h g =
+          let c = comes (place_shape i q) (λ x. then_some (is_elements x) x) one t in
+          let d = given (is_elements c.value) c.value one c.rest in
+          subst (λ p. edge_fits i p ≡ true) (some_same q p g)
+          (fits_self one (place_shape (record i { loops = 0 }) q) (place_outside q h (c.is ∙ ap Some d.is)))
+      by false h g = absurd cc
+  edge_place (o.elements Element (e.of_variable k q)) p t g = absurd cc
+  edge_place (o.elements Element (e.of_constant k q)) p t g = absurd cc
+  edge_place (o.elements Element (e.character c)) p t g = absurd cc
+  edge_place (o.elements Element (e.enclosed_character c)) p t g = absurd cc
+  edge_place (o.elements Element (e.Vector.literal vs)) p t g = absurd cc
+  edge_place (o.elements Element (e.Vector.inverse x)) p t g = absurd cc
+  edge_place (o.elements Element (e.Vector.binary c x y)) p t g = absurd cc
+  edge_place (o.elements Element (e.with_integer c x y)) p t g = absurd cc
+  edge_place (o.elements Element (e.integer_with c x y)) p t g = absurd cc
+  edge_place (o.elements Element (e.Vector.encoded x y)) p t g = absurd cc
+  edge_place (o.elements Element (e.Vector.resized x y)) p t g = absurd cc
+  edge_place (o.elements Element (e.Vector.shifted_left x y)) p t g = absurd cc
+  edge_place (o.elements Element (e.Vector.shifted_right x y)) p t g = absurd cc
+
+  edge_call_fits : (edge : Edge) (s : Suffix) (y : Typed) → SuffixFits i counts s → edge_of edge s ≡ Some y → TypedFits i counts y
+  edge_call_fits edge n.plain y t g = absurd cc
+  edge_call_fits edge (n.range r) y t g = absurd cc
+  edge_call_fits edge (n.arguments false xs) y t g = absurd cc
+  edge_call_fits edge (n.arguments true []) y t g = absurd cc
+  edge_call_fits edge (n.arguments true (x ∷ [])) y t g =
+      let c = mapped (λ p. o.truth (e.edge edge p)) (edge_signal x) y g in
+      subst (TypedFits i counts) c.is (edge_place x c.value t.0 c.from)
+  edge_call_fits edge (n.arguments true (x ∷ z ∷ zs)) y t g = absurd cc
+
+  called_fits : (f : Function) (s : Suffix) (y : Typed) → SuffixFits i counts s → called f s ≡ Some y → TypedFits i counts y
+  called_fits (EdgeCall edge) s y t g = edge_call_fits edge s y t g
+  called_fits Resize s y t g = counted_fits e.Vector.resized (λ x s. refl) s y t g
+  called_fits ShiftLeft s y t g = counted_fits e.Vector.shifted_left (λ x s. refl) s y t g
+  called_fits ShiftRight s y t g = counted_fits e.Vector.shifted_right (λ x s. refl) s y t g
+  called_fits ToUnsigned s y t g = encoding_fits s y t g
+
+  -- ---- all names
+
+  pub denoted_fits : (d : Meaning) (s : Suffix) (y : Typed) → MeaningFits i counts d → SuffixFits i counts s → denoted d s ≡ Some y → TypedFits i counts y
+  denoted_fits (m.generic k) s y h t g = plain_fits s (o.integer (e.generic k)) y h g
+  denoted_fits (m.integer_constant k) s y h t g = plain_fits s (o.integer (e.Static.constant k)) y h g
+  denoted_fits (m.generate_parameter k) s y h t g = plain_fits s (o.integer (e.generate_parameter k)) y h g
+  denoted_fits (m.loop_parameter k) s y h t g = plain_fits s (o.integer (e.loop_parameter k)) y h g
+  denoted_fits (m.port k mode kind) s y h t g =
+      read_fits (λ p. e.of_signal (place_of (e.port k) p)) (port_form h.port) (read_place (e.port k) (port_form h.port) (port_form_is k mode kind h)) kind h.shape s y t g
+  denoted_fits (m.signal k (Elements kind)) s y h t g =
+      let f = the_form (Elements kind) (slice_get i.signals k) h in
+      read_fits (λ p. e.of_signal (place_of (e.Signal.signal k) p)) f.0 (read_place (e.Signal.signal k) f.0 f.1) kind f.2 s y t g
+  denoted_fits (m.signal k (Enumeration d count)) s y h t g =
+      let f = the_form (Enumeration d count) (slice_get i.signals k) h in
+      plain_fits s (o.enumerated d count (e.state_of (e.Signal.signal k))) y
+      (fits_self (state count) (value_shape i (e.state_of (e.Signal.signal k))) (ap (λ w. w >>= state_shape) f.1 ∙ state_is f.0 count f.2), h.counted) g
+  denoted_fits (m.variable k (Elements kind)) s y h t g =
+      let f = the_form (Elements kind) (slice_get i.variables k) h in
+      read_fits (e.of_variable k) f.0 (λ p. ap (λ w. w >>= λ f. part_shape i f p >>= λ x. then_some (is_elements x) x) f.1) kind f.2 s y t g
+  denoted_fits (m.variable k (Enumeration d count)) s y h t g =
+      let f = the_form (Enumeration d count) (slice_get i.variables k) h in
+      plain_fits s (o.enumerated d count (e.state_of_variable k)) y
+      (fits_self (state count) (value_shape i (e.state_of_variable k)) (ap (λ w. w >>= state_shape) f.1 ∙ state_is f.0 count f.2), h.counted) g
+  denoted_fits (m.constant k kind values) s y h t g =
+      let f = the_form (Elements kind) (slice_get i.constants k) h.0 in
+      read_fits (e.of_constant k) f.0 (λ p. ap (λ w. w >>= λ f. part_shape i f p >>= λ x. then_some (is_elements x) x) f.1) kind f.2 s y t g
+  denoted_fits (m.literal d count p) s y h t g = plain_fits s (o.enumerated d count (e.Value.position p)) y h g
+  denoted_fits (m.vector_type k r) s y h t g = converted_fits k s y h t g
+  denoted_fits (m.function f) s y h t g = called_fits f s y t g
+  denoted_fits (m.integer_type w) s y h t g = absurd cc
+  denoted_fits (m.element_type r) s y h t g = absurd cc
+  denoted_fits (m.enumeration_type d count) s y h t g = absurd cc
+  denoted_fits (m.component k) s y h t g = absurd cc
+  denoted_fits m.label s y h t g = absurd cc
+  denoted_fits m.unfinished s y h t g = absurd cc
+
+  pub attributed_fits : (a : Option Ident) (x y : Typed) → TypedFits i counts x → attributed a x ≡ Some y → TypedFits i counts y
+  attributed_fits None x y t g = subst (TypedFits i counts) (some_same x y g) t
+  attributed_fits (Some a) x y t g =
+      let k = kept (bytes_eq a.text (codes "event")) _ y g in
+      let c = comes (edge_signal x) (λ p. Some (o.truth (e.event p))) y k.1 in
+      subst (TypedFits i counts) (some_same (o.truth (e.event c.value)) y c.rest) (edge_place x c.value t c.is)

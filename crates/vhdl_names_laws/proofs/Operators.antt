@@ -1,0 +1,376 @@
+-- Operators make of operands that are what their types say such results (IEEE 1076-2008, 9.2).
+use Rattle.std.proofs.Common.{◌≡◌, ℕ, Bool, true, false, ◌&&◌, ◌==◌, Option, Some, None, refl, ap, sym, ◌∙◌, subst}
+use Rattle.std.specs.Prelude.{slice_get}
+use Rattle.std.specs.Option.{option_map}
+use Rattle.std.proofs.lemmas.Bool.{and_from, eqb-true, eq-eqb}
+use Rattle.vhdl_values.specs.declared.kinds.Logic.{Logic}
+use Rattle.vhdl_values.specs.declared.kinds.Cmp.{Cmp}
+use Rattle.vhdl_tree.specs.declared.operator.Operator.{Operator}
+use Rattle.vhdl_tree.specs.declared.operator.Operator.TheVariants as op
+use Rattle.vhdl_names_rules.specs.declared.kind.Kind.{Kind}
+use Rattle.vhdl_names_rules.specs.declared.kind.Kind.TheVariants.{Element, LogicVector, Unsigned, OpenVector}
+use Rattle.vhdl_names_rules.specs.declared.operator.Arithmetic.{Arithmetic}
+use Rattle.vhdl_names_rules.specs.declared.operator.Numeric.{Numeric}
+use Rattle.vhdl_names_rules.specs.declared.operator.VectorOperator.{VectorOperator}
+use Rattle.vhdl_names_rules.specs.declared.operator.VectorOperator.TheVariants as v
+use Rattle.vhdl_names_rules.specs.units.Expressions as e
+use Rattle.vhdl_names_rules.specs.units.Expressions.{Static, StaticTest, Vector, Value, Test}
+use Rattle.vhdl_names_rules.specs.Rules.{◌>>=◌, met, then_some}
+use Rattle.vhdl_names_rules.specs.Operators as o
+use Rattle.vhdl_names_rules.specs.Operators.{Typed, common_kind, joined_kind, is_number, are_numbers, binary, both, negated, logical, inverse, concatenated, integral, arithmetic, integers_compared, equal_by, equality, ordering, operated}
+use Rattle.vhdl_names_rules.specs.sound.Expressions.{Inside, Shape, one, vector, state, static_fits, static_test_fits, same_shape, is_elements, operated_shape, with_static, vector_shape, value_shape, fits_shape, value_fits, value_fits_beside, values_fit, test_fits}
+use Rattle.vhdl_names_laws.specs.Meanings.{Counts, kind_shape, TypedFits}
+use Rattle.vhdl_names_laws.proofs.Statics.{some_same}
+
+-- ---- options
+
+pub record Given {A : Type 0} (b : Bool) (x y : A) : Type 0 where
+  pub holds : b ≡ true
+  pub is : x ≡ y
+
+pub given : {A : Type 0} (b : Bool) (x y : A) → then_some b x ≡ Some y → Given b x y
+given true x y h = record { holds = refl; is = some_same x y h }
+given false x y h = absurd cc
+
+pub record Mapped {A B : Type 0} (f : A → B) (o : Option A) (y : B) : Type 0 where
+  pub value : A
+  pub from : o ≡ Some value
+  pub is : f value ≡ y
+
+pub mapped : {A B : Type 0} (f : A → B) (o : Option A) (y : B) → option_map f o ≡ Some y → Mapped f o y
+mapped f None y h = absurd cc
+mapped f (Some x) y h = record { value = x; from = refl; is = some_same (f x) y h }
+
+-- ---- shapes
+
+pub shape_elements : (k : Kind) → is_elements (kind_shape k) ≡ true
+shape_elements Element = refl
+shape_elements LogicVector = refl
+shape_elements Unsigned = refl
+shape_elements OpenVector = refl
+
+pub same_self : (x : Shape) → same_shape x x ≡ true
+same_self one = refl
+same_self vector = refl
+same_self (state n) = eq-eqb n n refl
+
+pub same_shapes : (x y : Shape) → same_shape x y ≡ true → x ≡ y
+same_shapes one one h = refl
+same_shapes one vector h = absurd cc
+same_shapes one (state n) h = absurd cc
+same_shapes vector one h = absurd cc
+same_shapes vector vector h = refl
+same_shapes vector (state n) h = absurd cc
+same_shapes (state m) one h = absurd cc
+same_shapes (state m) vector h = absurd cc
+same_shapes (state m) (state n) h = ap state (eqb-true m n h)
+
+pub fits_self : (x : Shape) (o : Option Shape) → o ≡ Some x → fits_shape x o ≡ true
+fits_self x o h = ap (fits_shape x) h ∙ same_self x
+
+-- a number is a vector
+number_shape : (k : Kind) → is_number k ≡ true → kind_shape k ≡ vector
+number_shape Element h = absurd cc
+number_shape LogicVector h = absurd cc
+number_shape Unsigned h = refl
+number_shape OpenVector h = refl
+
+numbers_shape : (j k : Kind) → are_numbers j k ≡ true → (kind_shape j ≡ vector) × (kind_shape k ≡ vector)
+numbers_shape Element k h = absurd cc
+numbers_shape LogicVector k h = absurd cc
+numbers_shape Unsigned k h = (refl, number_shape k h)
+numbers_shape OpenVector k h = (refl, number_shape k h)
+
+record Common (j k c : Kind) : Type 0 where
+  left : kind_shape j ≡ kind_shape c
+  right : kind_shape k ≡ kind_shape c
+
+common : (j k c : Kind) → common_kind j k ≡ Some c → Common j k c
+common j k c h = by j k h
+  where
+    same : (j k d : Kind) → Some d ≡ Some c → kind_shape j ≡ kind_shape d → kind_shape k ≡ kind_shape d → Common j k c
+    same j k d h l r = let g : d ≡ c = some_same d c h in record { left = l ∙ ap kind_shape g; right = r ∙ ap kind_shape g }
+
+    by : (j k : Kind) → common_kind j k ≡ Some c → Common j k c
+    by Element Element h = same Element Element Element h refl refl
+    by Element LogicVector h = absurd cc
+    by Element Unsigned h = absurd cc
+    by Element OpenVector h = absurd cc
+    by LogicVector Element h = absurd cc
+    by LogicVector LogicVector h = same LogicVector LogicVector LogicVector h refl refl
+    by LogicVector Unsigned h = absurd cc
+    by LogicVector OpenVector h = same LogicVector OpenVector LogicVector h refl refl
+    by Unsigned Element h = absurd cc
+    by Unsigned LogicVector h = absurd cc
+    by Unsigned Unsigned h = same Unsigned Unsigned Unsigned h refl refl
+    by Unsigned OpenVector h = same Unsigned OpenVector Unsigned h refl refl
+    by OpenVector Element h = absurd cc
+    by OpenVector LogicVector h = same OpenVector LogicVector LogicVector h refl refl
+    by OpenVector Unsigned h = same OpenVector Unsigned Unsigned h refl refl
+    by OpenVector OpenVector h = same OpenVector OpenVector OpenVector h refl refl
+
+-- a concatenation is a vector
+joined : (j k c : Kind) → joined_kind j k ≡ Some c → kind_shape c ≡ vector
+joined j k c h = by j k h
+  where
+    is : (d : Kind) → Some d ≡ Some c → kind_shape d ≡ vector → kind_shape c ≡ vector
+    is d h t = ap kind_shape (sym (some_same d c h)) ∙ t
+
+    by : (j k : Kind) → joined_kind j k ≡ Some c → kind_shape c ≡ vector
+    by Element Element h = is OpenVector h refl
+    by Element LogicVector h = is LogicVector h refl
+    by Element Unsigned h = is Unsigned h refl
+    by Element OpenVector h = is OpenVector h refl
+    by LogicVector Element h = is LogicVector h refl
+    by LogicVector LogicVector h = is LogicVector h refl
+    by LogicVector Unsigned h = absurd cc
+    by LogicVector OpenVector h = is LogicVector h refl
+    by Unsigned Element h = is Unsigned h refl
+    by Unsigned LogicVector h = absurd cc
+    by Unsigned Unsigned h = is Unsigned h refl
+    by Unsigned OpenVector h = is Unsigned h refl
+    by OpenVector Element h = is OpenVector h refl
+    by OpenVector LogicVector h = is LogicVector h refl
+    by OpenVector Unsigned h = is Unsigned h refl
+    by OpenVector OpenVector h = is OpenVector h refl
+
+-- ---- values of an enumeration
+
+-- beside a value of its shape another one fits
+beside : (i : Inside) (count : ℕ) (o : Option Shape) (y : Value) → fits_shape (state count) o ≡ true → value_fits i (state count) y ≡ true
+    → value_fits_beside i o y ≡ true
+beside i count None y h t = absurd cc
+beside i count (Some z) y h t = ap (λ z. value_fits i z y) (sym (same_shapes (state count) z h)) ∙ t
+
+pub states_fit : (i : Inside) (count : ℕ) (x y : Value) → value_fits i (state count) x ≡ true → value_fits i (state count) y ≡ true → values_fit i x y ≡ true
+states_fit i count (e.Value.position p) (e.Value.position q) h t = refl
+states_fit i count (e.Value.position p) (e.Value.elements y) h t = beside i count (value_shape i (e.Value.elements y)) (e.Value.position p) t h
+states_fit i count (e.Value.position p) (e.state_of y) h t = beside i count (value_shape i (e.state_of y)) (e.Value.position p) t h
+states_fit i count (e.Value.position p) (e.state_of_variable y) h t = beside i count (value_shape i (e.state_of_variable y)) (e.Value.position p) t h
+states_fit i count (e.Value.elements x) y h t = beside i count (value_shape i (e.Value.elements x)) y h t
+states_fit i count (e.state_of x) y h t = beside i count (value_shape i (e.state_of x)) y h t
+states_fit i count (e.state_of_variable x) y h t = beside i count (value_shape i (e.state_of_variable x)) y h t
+
+-- two of one shape
+pub elements_fit : (i : Inside) (x y : Vector) (z : Shape) → vector_shape i x ≡ Some z → vector_shape i y ≡ Some z
+    → values_fit i (e.Value.elements x) (e.Value.elements y) ≡ true
+elements_fit i x y z h t = ap (λ o. value_fits_beside i o (e.Value.elements y)) h ∙ fits_self z (vector_shape i y) t
+
+-- ---- operators
+
+module _ (i : Inside) (counts : Counts) where
+  -- the result fits, if what it is does
+  known : (x y : Typed) → Some x ≡ Some y → TypedFits i counts x → TypedFits i counts y
+  known x y h t = subst (TypedFits i counts) (some_same x y h) t
+
+  vector_is : (x : Vector) (k : Kind) → vector_shape i x ≡ Some (kind_shape k) → kind_shape k ≡ vector → vector_shape i x ≡ Some vector
+  vector_is x k h t = h ∙ ap Some t
+
+  with_static_is : (o : Option Shape) (n : Static) → o ≡ Some vector → static_fits i n ≡ true → with_static i o n ≡ Some vector
+  with_static_is o n h t = ap (λ o. with_static i o n) h ∙ ap (λ b. then_some b vector) t
+
+  two : (x y : Vector) (op : VectorOperator) (a b : Shape) → vector_shape i x ≡ Some a → vector_shape i y ≡ Some b
+      → vector_shape i (e.Vector.binary op x y) ≡ operated_shape op a b
+  two x y op a b h t = ap (λ o. o >>= λ a. vector_shape i y >>= λ b. operated_shape op a b) h ∙ ap (λ o. o >>= λ b. operated_shape op a b) t
+
+  pub both_fits : (op : Logic) (s t : Test) → test_fits i s ≡ true → test_fits i t ≡ true → test_fits i (both op s t) ≡ true
+  both_fits op (e.Test.fixed s) (e.Test.fixed t) h k = and_from (static_test_fits i s) (static_test_fits i t) h k
+  both_fits op (e.Test.fixed s) (e.holds x) h k = and_from (static_test_fits i s) _ h k
+  both_fits op (e.Test.fixed s) (e.alike x y) h k = and_from (static_test_fits i s) _ h k
+  both_fits op (e.Test.fixed s) (e.unlike x y) h k = and_from (static_test_fits i s) _ h k
+  both_fits op (e.Test.fixed s) (e.Test.compared c x y) h k = and_from (static_test_fits i s) _ h k
+  both_fits op (e.Test.fixed s) (e.compared_to c x y) h k = and_from (static_test_fits i s) _ h k
+  both_fits op (e.Test.fixed s) (e.compared_with c x y) h k = and_from (static_test_fits i s) _ h k
+  both_fits op (e.Test.fixed s) (e.edge c p) h k = and_from (static_test_fits i s) _ h k
+  both_fits op (e.Test.fixed s) (e.event p) h k = and_from (static_test_fits i s) _ h k
+  both_fits op (e.Test.fixed s) (e.Test.negated t) h k = and_from (static_test_fits i s) _ h k
+  both_fits op (e.Test.fixed s) (e.Test.both c t r) h k = and_from (static_test_fits i s) _ h k
+  both_fits op (e.holds x) t h k = and_from _ (test_fits i t) h k
+  both_fits op (e.alike x y) t h k = and_from _ (test_fits i t) h k
+  both_fits op (e.unlike x y) t h k = and_from _ (test_fits i t) h k
+  both_fits op (e.Test.compared c x y) t h k = and_from _ (test_fits i t) h k
+  both_fits op (e.compared_to c x y) t h k = and_from _ (test_fits i t) h k
+  both_fits op (e.compared_with c x y) t h k = and_from _ (test_fits i t) h k
+  both_fits op (e.edge c p) t h k = and_from _ (test_fits i t) h k
+  both_fits op (e.event p) t h k = and_from _ (test_fits i t) h k
+  both_fits op (e.Test.negated s) t h k = and_from _ (test_fits i t) h k
+  both_fits op (e.Test.both c s r) t h k = and_from _ (test_fits i t) h k
+
+  negated_fits : (t : Test) → test_fits i t ≡ true → test_fits i (negated t) ≡ true
+  negated_fits (e.Test.fixed t) h = h
+  negated_fits (e.holds x) h = h
+  negated_fits (e.alike x y) h = h
+  negated_fits (e.unlike x y) h = h
+  negated_fits (e.Test.compared c x y) h = h
+  negated_fits (e.compared_to c x y) h = h
+  negated_fits (e.compared_with c x y) h = h
+  negated_fits (e.edge c p) h = h
+  negated_fits (e.event p) h = h
+  negated_fits (e.Test.negated t) h = h
+  negated_fits (e.Test.both c t r) h = h
+
+  pub inverse_fits : (x y : Typed) → TypedFits i counts x → inverse x ≡ Some y → TypedFits i counts y
+  inverse_fits (o.integer s) y h t = absurd cc
+  inverse_fits (o.elements k x) y h t = known (o.elements k (e.Vector.inverse x)) y t h
+  inverse_fits (o.enumerated n c x) y h t = absurd cc
+  inverse_fits (o.truth s) y h t = known (o.truth (negated s)) y t (negated_fits s h)
+
+  logical_shape : (op : Logic) (a : Shape) → is_elements a ≡ true → operated_shape (v.Logical op) a a ≡ Some a
+  logical_shape op a h = ap (λ b. then_some b a) (and_from (same_shape a a) (is_elements a) (same_self a) h)
+
+  logical_fits : (op : Logic) (x y z : Typed) → TypedFits i counts x → TypedFits i counts y → logical op x y ≡ Some z → TypedFits i counts z
+  logical_fits op (o.elements j x) (o.elements k y) z h t g =
+      let c = mapped (binary (v.Logical op) x y) (common_kind j k) z g in
+      let s = common j k c.value c.from in
+      subst (TypedFits i counts) c.is
+      (two x y (v.Logical op) (kind_shape c.value) (kind_shape c.value) (h ∙ ap Some s.left) (t ∙ ap Some s.right) ∙ logical_shape op (kind_shape c.value) (shape_elements c.value))
+  logical_fits op (o.truth s) (o.truth r) z h t g = known (o.truth (both op s r)) z g (both_fits op s r h t)
+  logical_fits op (o.integer s) y z h t g = absurd cc
+  logical_fits op (o.enumerated n c s) y z h t g = absurd cc
+  logical_fits op (o.elements j x) (o.integer s) z h t g = absurd cc
+  logical_fits op (o.elements j x) (o.enumerated n c s) z h t g = absurd cc
+  logical_fits op (o.elements j x) (o.truth s) z h t g = absurd cc
+  logical_fits op (o.truth s) (o.integer r) z h t g = absurd cc
+  logical_fits op (o.truth s) (o.elements k r) z h t g = absurd cc
+  logical_fits op (o.truth s) (o.enumerated n c r) z h t g = absurd cc
+
+  concatenated_fits : (x y z : Typed) → TypedFits i counts x → TypedFits i counts y → concatenated x y ≡ Some z → TypedFits i counts z
+  concatenated_fits (o.elements j x) (o.elements k y) z h t g =
+      let c = mapped (binary v.Concatenate x y) (joined_kind j k) z g in
+      subst (TypedFits i counts) c.is
+      (two x y v.Concatenate (kind_shape j) (kind_shape k) h t
+      ∙ ap (λ b. then_some b vector) (and_from (is_elements (kind_shape j)) (is_elements (kind_shape k)) (shape_elements j) (shape_elements k))
+      ∙ ap Some (sym (joined j k c.value c.from)))
+  concatenated_fits (o.integer s) y z h t g = absurd cc
+  concatenated_fits (o.enumerated n c s) y z h t g = absurd cc
+  concatenated_fits (o.truth s) y z h t g = absurd cc
+  concatenated_fits (o.elements j x) (o.integer s) z h t g = absurd cc
+  concatenated_fits (o.elements j x) (o.enumerated n c s) z h t g = absurd cc
+  concatenated_fits (o.elements j x) (o.truth s) z h t g = absurd cc
+
+  integral_fits : (op : Arithmetic) (x y z : Typed) → TypedFits i counts x → TypedFits i counts y → integral op x y ≡ Some z → TypedFits i counts z
+  integral_fits op (o.integer s) (o.integer r) z h t g = known (o.integer (e.Static.binary op s r)) z g (and_from (static_fits i s) (static_fits i r) h t)
+  integral_fits op (o.integer s) (o.elements k y) z h t g = absurd cc
+  integral_fits op (o.integer s) (o.enumerated n c y) z h t g = absurd cc
+  integral_fits op (o.integer s) (o.truth y) z h t g = absurd cc
+  integral_fits op (o.elements j x) y z h t g = absurd cc
+  integral_fits op (o.enumerated n c x) y z h t g = absurd cc
+  integral_fits op (o.truth x) y z h t g = absurd cc
+
+  -- a result that is there where operators of numbers are in sight, and something holds
+  ruled : (numbers b : Bool) (x y : Typed) → (met numbers >>= λ _. then_some b x) ≡ Some y → Given b x y
+  ruled true b x y h = given b x y h
+  ruled false b x y h = absurd cc
+
+  arithmetic_fits : (numbers : Bool) (op : Arithmetic) (by : Numeric) (x y z : Typed) → TypedFits i counts x → TypedFits i counts y
+      → arithmetic numbers op by x y ≡ Some z → TypedFits i counts z
+  arithmetic_fits numbers op by (o.integer s) (o.integer r) z h t g = known (o.integer (e.Static.binary op s r)) z g (and_from (static_fits i s) (static_fits i r) h t)
+  arithmetic_fits numbers op by (o.elements j x) (o.elements k y) z h t g =
+      let c = ruled numbers (are_numbers j k) (o.elements Unsigned (e.Vector.binary (v.Arithmetic by) x y)) z g in
+      let s = numbers_shape j k c.holds in
+      subst (TypedFits i counts) c.is (two x y (v.Arithmetic by) vector vector (vector_is x j h s.0) (vector_is y k t s.1))
+  arithmetic_fits numbers op by (o.elements j x) (o.integer s) z h t g =
+      let c = ruled numbers (is_number j) (o.elements Unsigned (e.with_integer by x s)) z g in
+      subst (TypedFits i counts) c.is (with_static_is (vector_shape i x) s (vector_is x j h (number_shape j c.holds)) t)
+  arithmetic_fits numbers op by (o.integer s) (o.elements k y) z h t g =
+      let c = ruled numbers (is_number k) (o.elements Unsigned (e.integer_with by s y)) z g in
+      subst (TypedFits i counts) c.is (with_static_is (vector_shape i y) s (vector_is y k t (number_shape k c.holds)) h)
+  arithmetic_fits numbers op by (o.integer s) (o.enumerated n c y) z h t g = absurd cc
+  arithmetic_fits numbers op by (o.integer s) (o.truth y) z h t g = absurd cc
+  arithmetic_fits numbers op by (o.elements j x) (o.enumerated n c y) z h t g = absurd cc
+  arithmetic_fits numbers op by (o.elements j x) (o.truth y) z h t g = absurd cc
+  arithmetic_fits numbers op by (o.enumerated n c x) y z h t g = absurd cc
+  arithmetic_fits numbers op by (o.truth x) y z h t g = absurd cc
+
+  -- ---- relations
+
+  -- a test of two values, such as equality or its negation
+  abbrev Compares : (Value → Value → Test) → Type 0
+  Compares same = (x y : Value) → test_fits i (same x y) ≡ values_fit i x y
+
+  compared_fits : (x y : Vector) → vector_shape i x ≡ Some vector → vector_shape i y ≡ Some vector
+      → (fits_shape vector (vector_shape i x) && fits_shape vector (vector_shape i y)) ≡ true
+  compared_fits x y h t = and_from (fits_shape vector (vector_shape i x)) (fits_shape vector (vector_shape i y)) (fits_self vector (vector_shape i x) h) (fits_self vector (vector_shape i y) t)
+
+  equal_fits : (op : Cmp) (same : Value → Value → Test) → Compares same → (x y : Vector) (k : Kind) → vector_shape i x ≡ Some (kind_shape k) → vector_shape i y ≡ Some (kind_shape k)
+      → TypedFits i counts (equal_by op same x y k)
+  equal_fits op same c x y Unsigned h t = compared_fits x y h t
+  equal_fits op same c x y Element h t = c (e.Value.elements x) (e.Value.elements y) ∙ elements_fit i x y one h t
+  equal_fits op same c x y LogicVector h t = c (e.Value.elements x) (e.Value.elements y) ∙ elements_fit i x y vector h t
+  equal_fits op same c x y OpenVector h t = c (e.Value.elements x) (e.Value.elements y) ∙ elements_fit i x y vector h t
+
+  -- enumerations of one number have one count
+  counted : (d e m n : ℕ) → (d == e) ≡ true → slice_get counts d ≡ Some m → slice_get counts e ≡ Some n → m ≡ n
+  counted d e m n h s t = some_same m n (sym s ∙ (ap (slice_get counts) (eqb-true d e h) ∙ t))
+
+  equality_fits : (op : Cmp) (same : Value → Value → Test) → Compares same → (x y z : Typed) → TypedFits i counts x → TypedFits i counts y
+      → equality op same x y ≡ Some z → TypedFits i counts z
+  equality_fits op same c (o.integer s) (o.integer r) z h t g = known (integers_compared op s r) z g (and_from (static_fits i s) (static_fits i r) h t)
+  equality_fits op same c (o.elements j x) (o.elements k y) z h t g =
+      let f = mapped (equal_by op same x y) (common_kind j k) z g in
+      let s = common j k f.value f.from in
+      subst (TypedFits i counts) f.is (equal_fits op same c x y f.value (h ∙ ap Some s.left) (t ∙ ap Some s.right))
+  equality_fits op same c (o.elements Unsigned x) (o.integer s) z h t g =
+      known (o.truth (e.compared_to op x s)) z g (and_from (fits_shape vector (vector_shape i x)) (static_fits i s) (fits_self vector (vector_shape i x) h) t)
+  equality_fits op same c (o.elements Element x) (o.integer s) z h t g = absurd cc
+  equality_fits op same c (o.elements LogicVector x) (o.integer s) z h t g = absurd cc
+  equality_fits op same c (o.elements OpenVector x) (o.integer s) z h t g = absurd cc
+  equality_fits op same c (o.integer s) (o.elements Unsigned y) z h t g =
+      known (o.truth (e.compared_with op s y)) z g (and_from (static_fits i s) (fits_shape vector (vector_shape i y)) h (fits_self vector (vector_shape i y) t))
+  equality_fits op same c (o.integer s) (o.elements Element y) z h t g = absurd cc
+  equality_fits op same c (o.integer s) (o.elements LogicVector y) z h t g = absurd cc
+  equality_fits op same c (o.integer s) (o.elements OpenVector y) z h t g = absurd cc
+  equality_fits op same c (o.enumerated d m x) (o.enumerated e n y) z h t g =
+      let f = given (d == e) (o.truth (same x y)) z g in
+      let s = counted d e m n f.holds h.1 t.1 in
+      subst (TypedFits i counts) f.is (c x y ∙ states_fit i n x y (ap (λ m. value_fits i (state m) x) (sym s) ∙ h.0) t.0)
+  equality_fits op same c (o.integer s) (o.enumerated n d y) z h t g = absurd cc
+  equality_fits op same c (o.integer s) (o.truth y) z h t g = absurd cc
+  equality_fits op same c (o.elements j x) (o.enumerated n d y) z h t g = absurd cc
+  equality_fits op same c (o.elements j x) (o.truth y) z h t g = absurd cc
+  equality_fits op same c (o.enumerated n d x) (o.integer s) z h t g = absurd cc
+  equality_fits op same c (o.enumerated n d x) (o.elements k y) z h t g = absurd cc
+  equality_fits op same c (o.enumerated n d x) (o.truth y) z h t g = absurd cc
+  equality_fits op same c (o.truth x) y z h t g = absurd cc
+
+  ordering_fits : (numbers : Bool) (op : Cmp) (x y z : Typed) → TypedFits i counts x → TypedFits i counts y → ordering numbers op x y ≡ Some z → TypedFits i counts z
+  ordering_fits numbers op (o.integer s) (o.integer r) z h t g = known (integers_compared op s r) z g (and_from (static_fits i s) (static_fits i r) h t)
+  ordering_fits numbers op (o.elements j x) (o.elements k y) z h t g =
+      let c = ruled numbers (are_numbers j k) (o.truth (e.Test.compared op x y)) z g in
+      let s = numbers_shape j k c.holds in
+      subst (TypedFits i counts) c.is (compared_fits x y (vector_is x j h s.0) (vector_is y k t s.1))
+  ordering_fits numbers op (o.elements j x) (o.integer s) z h t g =
+      let c = ruled numbers (is_number j) (o.truth (e.compared_to op x s)) z g in
+      subst (TypedFits i counts) c.is
+      (and_from (fits_shape vector (vector_shape i x)) (static_fits i s) (fits_self vector (vector_shape i x) (vector_is x j h (number_shape j c.holds))) t)
+  ordering_fits numbers op (o.integer s) (o.elements k y) z h t g =
+      let c = ruled numbers (is_number k) (o.truth (e.compared_with op s y)) z g in
+      subst (TypedFits i counts) c.is
+      (and_from (static_fits i s) (fits_shape vector (vector_shape i y)) h (fits_self vector (vector_shape i y) (vector_is y k t (number_shape k c.holds))))
+  ordering_fits numbers op (o.integer s) (o.enumerated n d y) z h t g = absurd cc
+  ordering_fits numbers op (o.integer s) (o.truth y) z h t g = absurd cc
+  ordering_fits numbers op (o.elements j x) (o.enumerated n d y) z h t g = absurd cc
+  ordering_fits numbers op (o.elements j x) (o.truth y) z h t g = absurd cc
+  ordering_fits numbers op (o.enumerated n d x) y z h t g = absurd cc
+  ordering_fits numbers op (o.truth x) y z h t g = absurd cc
+
+  pub operated_fits : (numbers : Bool) (by : Operator) (x y z : Typed) → TypedFits i counts x → TypedFits i counts y → operated numbers by x y ≡ Some z → TypedFits i counts z
+  operated_fits numbers op.And x y z h t g = logical_fits _ x y z h t g
+  operated_fits numbers op.Or x y z h t g = logical_fits _ x y z h t g
+  operated_fits numbers op.Xor x y z h t g = logical_fits _ x y z h t g
+  operated_fits numbers op.Xnor x y z h t g = logical_fits _ x y z h t g
+  operated_fits numbers op.Nand x y z h t g = logical_fits _ x y z h t g
+  operated_fits numbers op.Nor x y z h t g = logical_fits _ x y z h t g
+  operated_fits numbers op.Equal x y z h t g = equality_fits _ e.alike (λ x y. refl) x y z h t g
+  operated_fits numbers op.NotEqual x y z h t g = equality_fits _ e.unlike (λ x y. refl) x y z h t g
+  operated_fits numbers op.Less x y z h t g = ordering_fits numbers _ x y z h t g
+  operated_fits numbers op.LessEqual x y z h t g = ordering_fits numbers _ x y z h t g
+  operated_fits numbers op.Greater x y z h t g = ordering_fits numbers _ x y z h t g
+  operated_fits numbers op.GreaterEqual x y z h t g = ordering_fits numbers _ x y z h t g
+  operated_fits numbers op.Add x y z h t g = arithmetic_fits numbers _ _ x y z h t g
+  operated_fits numbers op.Subtract x y z h t g = arithmetic_fits numbers _ _ x y z h t g
+  operated_fits numbers op.Concatenate x y z h t g = concatenated_fits x y z h t g
+  operated_fits numbers op.Multiply x y z h t g = arithmetic_fits numbers _ _ x y z h t g
+  operated_fits numbers op.Divide x y z h t g = integral_fits _ x y z h t g
+  operated_fits numbers op.Modulo x y z h t g = integral_fits _ x y z h t g
+  operated_fits numbers op.Remainder x y z h t g = integral_fits _ x y z h t g

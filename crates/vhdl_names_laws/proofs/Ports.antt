@@ -1,0 +1,143 @@
+-- Generics and ports fit with those before them in sight (IEEE 1076-2008, 6.5.2 and 6.5.6).
+use Rattle.std.proofs.Common.{◌≡◌, suc, Bool, true, ◌&&◌, [], ◌∷◌, ◌++◌, Some, refl, ap, sym, ◌∙◌, subst, arith}
+use Rattle.std.specs.List.{slice_get}
+use Rattle.std.proofs.lemmas.Bool.{and_from, lt-ltb}
+use Rattle.vhdl_tree.specs.Tree as t
+use Rattle.vhdl_tree.specs.Tree.{Ident}
+use Rattle.vhdl_tree.specs.declared.declaration.Mode.{Mode}
+use Rattle.vhdl_names_rules.specs.declared.kind.Kind.{Kind}
+use Rattle.vhdl_names_rules.specs.declared.kind.ObjectType.{ObjectType}
+use Rattle.vhdl_names_rules.specs.declared.kind.ObjectType.TheVariants.{Elements, Enumeration}
+use Rattle.vhdl_names_rules.specs.units.Units as u
+use Rattle.vhdl_names_rules.specs.units.Units.{Form, Fixed}
+use Rattle.vhdl_names_rules.specs.Rules.{if_any}
+use Rattle.vhdl_names_rules.specs.Visibility as m
+use Rattle.vhdl_names_rules.specs.Visibility.{Name, Meaning, Declared, declare, all_declared, numbered, names_of, count_of, Sight, meaning, with_declared, with_variables, Declares}
+use Rattle.vhdl_names_rules.specs.Expressions.{static}
+use Rattle.vhdl_names_rules.specs.Subtypes.{subtype, fixed_value, as_integer_type, object}
+use Rattle.vhdl_names_rules.specs.Declarations.{as_kind, mode_of, generic, port}
+use Rattle.vhdl_names_rules.specs.Visibility.{ends}
+use Rattle.vhdl_names_rules.specs.sound.Expressions.{Inside, shape_of, is_elements}
+use Rattle.vhdl_names_rules.specs.sound.Units.{object_fits, port_fits, static_default_fits}
+use Rattle.vhdl_names_laws.specs.Meanings.{Counts, kind_shape, type_shape}
+use Rattle.vhdl_names_laws.proofs.Statics.{some_same, get_last, HasMore, keeps_all, keeps_before}
+use Rattle.vhdl_names_laws.proofs.Operators.{shape_elements}
+use Rattle.vhdl_names_laws.proofs.Subtypes.{object_more, static_default_more, subtype_fits, any_static_fits, object_is}
+use Rattle.vhdl_names_laws.proofs.InOrder as r
+use Rattle.vhdl_names_laws.proofs.Formals.{same_names, same_formals, one_name, one_formal}
+use Rattle.vhdl_names_rules.proofs.laws.Rules.{comes}
+use Rattle.vhdl_names_laws.proofs.Known.{IsKnown, inside_more, inside_with, more_twice, none_more, nothing_more, one_longer, one_more}
+
+-- ---- generics
+
+abbrev pub with_generic : Inside → u.Generic → Inside
+with_generic i g = record i { generics = suc i.generics }
+
+abbrev pub generic_fits : Inside → u.Generic → Bool
+generic_fits i g = static_default_fits i g.default
+
+more_generics : (i : Inside) (counts : Counts) → HasMore i (record i { generics = suc i.generics }) counts counts
+more_generics i counts = record {
+  numbers = record { generics = omega arith; integers = omega arith; generates = omega arith; loops = omega arith };
+  constants = keeps_all i.constants;
+  ports = keeps_all i.ports;
+  signals = keeps_all i.signals;
+  variables = keeps_all i.variables;
+  counts = keeps_all counts;
+}
+
+pub generic_step : (i : Inside) (counts : Counts) (sight : Sight) (g : t.Generic) (x : Declares u.Generic) → IsKnown i counts sight → generic sight g ≡ Some x
+    → r.Step with_generic generic_fits with_declared IsKnown i sight x
+unfolding generic
+generic_step i counts sight g x h q =
+    let a = comes (meaning sight g.mark.text) _ x q in
+    let b = comes (as_integer_type a.value) _ x a.rest in
+    let c = comes (if_any (static sight) g.default) _ x b.rest in
+    let make : Name → u.Generic = λ n. record { type = b.value; default = c.value } in
+    subst (r.Step with_generic generic_fits with_declared IsKnown i sight) (some_same _ x c.rest)
+    (r.names_step with_generic generic_fits with_declared IsKnown nothing_more more_twice m.generic (λ (s : Sight). count_of m.is_generic s.region) make
+    (λ i counts. static_default_fits i c.value ≡ true)
+    (λ i counts sight n ok k. single i counts sight n k)
+    (λ i counts n ok. ok)
+    (λ i counts n ok. static_default_more i (record i { generics = suc i.generics }) (more_generics i counts).numbers c.value ok)
+    (λ sight n. one_more m.is_generic sight.region (declare n (m.generic (count_of m.is_generic sight.region))) refl)
+    (names_of g.names) i counts sight (any_static_fits i counts sight g.default c.value h.inside c.is) h)
+  where
+    single : (i : Inside) (counts : Counts) (sight : Sight) (n : Name) → IsKnown i counts sight
+        → IsKnown (record i { generics = suc i.generics }) counts (with_declared sight (declare n (m.generic (count_of m.is_generic sight.region)) ∷ []))
+    single i counts sight n k =
+        let d : Declared = declare n (m.generic (count_of m.is_generic sight.region)) in
+        let e : count_of m.is_generic sight.region ≡ i.generics = k.generics in
+        record {
+          inside =
+              inside_with (record i { generics = suc i.generics }) counts sight (d ∷ [])
+              (inside_more i (record i { generics = suc i.generics }) counts counts sight (more_generics i counts) refl refl k.inside)
+              (lt-ltb (count_of m.is_generic sight.region) (suc i.generics) (omega (arith, e)), tt);
+          generics = one_more m.is_generic sight.region d refl ∙ ap suc k.generics;
+          integers = none_more m.is_integer_constant sight.region d refl ∙ k.integers;
+          constants = none_more m.is_constant sight.region d refl ∙ k.constants;
+          ports = none_more m.is_port sight.region d refl ∙ k.ports;
+          signals = none_more m.is_signal sight.region d refl ∙ k.signals;
+          enumerations = none_more m.is_enumeration_type sight.region d refl ∙ k.enumerations;
+          generic_names = one_name sight.region n (count_of m.is_generic sight.region) i.generics k.generic_names;
+          formals = same_formals sight.region (d ∷ []) i.ports refl k.formals;
+        }
+
+-- ---- ports
+
+abbrev pub with_port : Inside → u.Port → Inside
+with_port i p = record i { ports = i.ports ++ p ∷ [] }
+
+abbrev pub port_is : Inside → u.Port → Bool
+port_is i p = object_fits i p.object && port_fits p
+
+more_ports : (i : Inside) (counts : Counts) (p : u.Port) → HasMore i (with_port i p) counts counts
+more_ports i counts p = record {
+  numbers = record { generics = omega arith; integers = omega arith; generates = omega arith; loops = omega arith };
+  constants = keeps_all i.constants;
+  ports = keeps_before i.ports (p ∷ []);
+  signals = keeps_all i.signals;
+  variables = keeps_all i.variables;
+  counts = keeps_all counts;
+}
+
+pub elements_kind : (type : ObjectType) (kind : Kind) → as_kind type ≡ Some kind → type_shape type ≡ kind_shape kind
+elements_kind (Elements k) kind q = ap kind_shape (some_same k kind q)
+elements_kind (Enumeration e count) kind q = absurd cc
+
+pub port_step : (i : Inside) (counts : Counts) (sight : Sight) (p : t.Port) (x : Declares u.Port) → IsKnown i counts sight → port sight p ≡ Some x
+    → r.Step with_port port_is with_declared IsKnown i sight x
+unfolding port
+port_step i counts sight p x h q =
+    let a = comes (subtype sight p.subtype) _ x q in
+    let b = comes (as_kind a.value.type) _ x a.rest in
+    let c = comes (if_any (fixed_value sight a.value.type) p.default) _ x b.rest in
+    let f = subtype_fits i counts sight p.subtype a.value h.inside a.is in
+    let shape = f.shape ∙ elements_kind a.value.type b.value b.is in
+    let make : Name → u.Port = λ n. record { mode = mode_of p.mode; object = object a.value c.value n } in
+    subst (r.Step with_port port_is with_declared IsKnown i sight) (some_same _ x c.rest)
+    (r.names_step with_port port_is with_declared IsKnown nothing_more more_twice (λ k. m.port k (mode_of p.mode) b.value) (λ (s : Sight). count_of m.is_port s.region) make
+    (λ i counts. object_fits i (object a.value c.value []) ≡ true)
+    (λ i counts sight n ok k. single i counts sight n (make n) (mode_of p.mode) b.value refl refl shape k)
+    (λ i counts n ok. and_from (object_fits i (object a.value c.value n)) (is_elements (shape_of a.value.form)) ok (ap is_elements shape ∙ shape_elements b.value))
+    (λ i counts n ok. object_more i (with_port i (make n)) (more_ports i counts (make n)).numbers (keeps_all i.constants) (object a.value c.value []) ok)
+    (λ sight n. one_more m.is_port sight.region (declare n (m.port (count_of m.is_port sight.region) (mode_of p.mode) b.value)) refl)
+    (names_of p.names) i counts sight (object_is i counts sight a.value p.default c.value h.inside f c.is) h)
+  where
+    single : (i : Inside) (counts : Counts) (sight : Sight) (n : Name) (p : u.Port) (mode : Mode) (kind : Kind) → p.object.name ≡ n → p.mode ≡ mode → shape_of p.object.form ≡ kind_shape kind → IsKnown i counts sight
+        → IsKnown (with_port i p) counts (with_declared sight (declare n (m.port (count_of m.is_port sight.region) mode kind) ∷ []))
+    single i counts sight n p mode kind same e s k =
+        let d : Declared = declare n (m.port (count_of m.is_port sight.region) mode kind) in
+        record {
+          inside =
+              inside_with (with_port i p) counts sight (d ∷ []) (inside_more i (with_port i p) counts counts sight (more_ports i counts p) refl refl k.inside)
+              (record { port = p; at = ap (slice_get (i.ports ++ p ∷ [])) k.ports ∙ get_last i.ports p; mode_is = e; shape = s }, tt);
+          generics = none_more m.is_generic sight.region d refl ∙ k.generics;
+          integers = none_more m.is_integer_constant sight.region d refl ∙ k.integers;
+          constants = none_more m.is_constant sight.region d refl ∙ k.constants;
+          ports = one_more m.is_port sight.region d refl ∙ (ap suc k.ports ∙ sym (one_longer i.ports p));
+          signals = none_more m.is_signal sight.region d refl ∙ k.signals;
+          enumerations = none_more m.is_enumeration_type sight.region d refl ∙ k.enumerations;
+          generic_names = same_names sight.region (d ∷ []) i.generics refl k.generic_names;
+          formals = one_formal sight.region d (record { name = n; mode = mode; kind = kind }) i.ports p refl k.formals (record { name = same; mode = e; shape = s });
+        }

@@ -1,0 +1,258 @@
+-- Each sequential statement fits where it stands (IEEE 1076-2008, clause 10).
+use Rattle.std.proofs.Common.{◌≡◌, ℕ, suc, true, false, ◌&&◌, not, List, [], ◌∷◌, length, Option, Some, None, refl, ap, ◌∙◌, subst, arith}
+use Rattle.std.specs.Prelude.{is_none}
+use Rattle.std.specs.List.{slice_get, list_all}
+use Rattle.std.proofs.lemmas.Bool.{and_from, lt-ltb}
+use Rattle.vhdl_tree.specs.declared.declaration.Mode.{Mode}
+use Rattle.vhdl_tree.specs.declared.declaration.Mode.TheVariants.{In, Out}
+use Rattle.vhdl_tree.specs.Tree as t
+use Rattle.vhdl_tree.specs.Tree.{Ident, Expr}
+use Rattle.vhdl_names_rules.specs.declared.kind.Kind.{Kind}
+use Rattle.vhdl_names_rules.specs.declared.kind.ObjectType.{ObjectType}
+use Rattle.vhdl_names_rules.specs.declared.kind.ObjectType.TheVariants.{Elements}
+use Rattle.vhdl_names_rules.specs.units.Expressions as e
+use Rattle.vhdl_names_rules.specs.units.Expressions.{Part, Place, Signal, Value}
+use Rattle.vhdl_names_rules.specs.units.Statements as s
+use Rattle.vhdl_names_rules.specs.Rules.{◌>>=◌}
+use Rattle.vhdl_names_rules.specs.Visibility as m
+use Rattle.vhdl_names_rules.specs.Visibility.{Meaning, Sight, meaning, label_ends}
+use Rattle.vhdl_names_rules.specs.Names.{Suffix, part_of}
+use Rattle.vhdl_names_rules.specs.Expressions.{typed, typed_suffix, static_range, condition, given}
+use Rattle.vhdl_names_rules.specs.Choices.{covered, selector, arranged}
+use Rattle.vhdl_names_rules.specs.Statements.{SignalName, named_part, as_signal, signal, is_input, target, VariableName, as_variable, variable, choice_lists, statement, statements, conditionals, otherwise, alternatives}
+use Rattle.vhdl_names_rules.specs.sound.Expressions.{Inside, Shape, range_fits, part_shape, port_form, place_shape, value_shape, test_fits}
+use Rattle.vhdl_names_rules.specs.sound.Statements as w
+use Rattle.vhdl_names_rules.specs.sound.Statements.{given_fits, given_fits_target, is_out, is_driven, choice_fits, selector_fits, statement_fits, statements_fit, branches_fit, alternatives_fit}
+use Rattle.vhdl_names_laws.specs.Meanings.{Counts, type_shape, IsCounted, IsPort, MeaningFits, IsInside}
+use Rattle.vhdl_names_laws.proofs.Statics.{some_same, HasMore, keeps_all, all_more, meant}
+use Rattle.vhdl_names_laws.proofs.Operators.{mapped}
+use Rattle.vhdl_names_laws.proofs.Names.{SuffixFits, part_of_fits, port_form_is, the_form}
+use Rattle.vhdl_names_laws.proofs.Expressions.{typed_fits, suffix_fits, static_range_fits}
+use Rattle.vhdl_names_laws.proofs.Values.{given_is, condition_fits}
+use Rattle.vhdl_names_laws.proofs.Choices.{selector_is, covered_fits, arranged_fits}
+use Rattle.vhdl_names_rules.proofs.laws.Rules.{comes, kept, not_true}
+
+-- ---- names of signals and variables
+
+-- a signal, or part of one: its place has its type's shape, and is driven unless it is an in port's
+pub record SignalFits (i : Inside) (counts : Counts) (x : SignalName) : Type 0 where
+  pub shape : place_shape i x.place ≡ Some (type_shape x.type)
+  pub counted : IsCounted counts x.type
+  pub driven : is_input x.mode ≡ false → is_driven i x.place.signal ≡ true
+
+out_port : (i : Inside) (k : ℕ) (mode : Mode) (kind : Kind) → IsPort i.ports k mode kind → is_input (Some mode) ≡ false → is_driven i (e.port k) ≡ true
+out_port i k In kind h n = absurd cc
+out_port i k Out kind h n =
+    ap is_out h.at ∙ ap (λ mode. is_out (Some (record { mode = mode; object = h.port.object }))) h.mode_is
+
+as_signal_fits : (i : Inside) (counts : Counts) (d : Meaning) (suffix : Suffix) (x : SignalName) → MeaningFits i counts d → SuffixFits i counts suffix
+    → as_signal d suffix ≡ Some x → SignalFits i counts x
+as_signal_fits i counts (m.port k mode kind) suffix x h f q =
+    let a = mapped (named_part (e.port k) (Some mode)) (part_of (Elements kind) suffix) x q in
+    let p = part_of_fits i counts (port_form h.port) (Elements kind) suffix a.value h.shape tt f a.from in
+    subst (SignalFits i counts) a.is (record {
+      shape = ap (λ w. w >>= λ f. part_shape i f a.value.0) (port_form_is i counts k mode kind h) ∙ p.0;
+      counted = p.1;
+      driven = λ n. out_port i k mode kind h n;
+    })
+as_signal_fits i counts (m.signal k type) suffix x h f q =
+    let a = mapped (named_part (e.Signal.signal k) None) (part_of type suffix) x q in
+    let g = the_form i counts type (slice_get i.signals k) h in
+    let p = part_of_fits i counts g.0 type suffix a.value g.2 h.counted f a.from in
+    subst (SignalFits i counts) a.is (record {
+      shape = ap (λ w. w >>= λ f. part_shape i f a.value.0) g.1 ∙ p.0;
+      counted = p.1;
+      driven = λ n. refl;
+    })
+as_signal_fits i counts (m.generic k) suffix x h f q = absurd cc
+as_signal_fits i counts (m.integer_constant k) suffix x h f q = absurd cc
+as_signal_fits i counts (m.generate_parameter k) suffix x h f q = absurd cc
+as_signal_fits i counts (m.loop_parameter k) suffix x h f q = absurd cc
+as_signal_fits i counts (m.variable k type) suffix x h f q = absurd cc
+as_signal_fits i counts (m.constant k kind vs) suffix x h f q = absurd cc
+as_signal_fits i counts (m.literal n count p) suffix x h f q = absurd cc
+as_signal_fits i counts (m.integer_type y) suffix x h f q = absurd cc
+as_signal_fits i counts (m.element_type y) suffix x h f q = absurd cc
+as_signal_fits i counts (m.vector_type k y) suffix x h f q = absurd cc
+as_signal_fits i counts (m.enumeration_type n count) suffix x h f q = absurd cc
+as_signal_fits i counts (m.function y) suffix x h f q = absurd cc
+as_signal_fits i counts (m.component k) suffix x h f q = absurd cc
+as_signal_fits i counts m.label suffix x h f q = absurd cc
+as_signal_fits i counts m.unfinished suffix x h f q = absurd cc
+
+pub signal_fits : (i : Inside) (counts : Counts) (sight : Sight) (n : t.Name) (x : SignalName) → IsInside i counts sight → signal sight n ≡ Some x → SignalFits i counts x
+unfolding signal
+signal_fits i counts sight n x h q =
+    let a = kept (is_none n.attribute) _ x q in
+    let b = comes (typed_suffix sight n.suffix) _ x a.1 in
+    let c = comes (meaning sight n.identifier.text) (λ d. as_signal d b.value) x b.rest in
+    as_signal_fits i counts c.value b.value x (meant i counts sight h n.identifier.text c.value c.is) (suffix_fits n.suffix i counts sight b.value h b.is) c.rest
+
+pub record TargetFits (i : Inside) (counts : Counts) (x : SignalName) : Type 0 where
+  pub fits : SignalFits i counts x
+  pub driven : is_driven i x.place.signal ≡ true
+
+pub target_fits : (i : Inside) (counts : Counts) (sight : Sight) (n : t.Name) (x : SignalName) → IsInside i counts sight → target sight n ≡ Some x → TargetFits i counts x
+unfolding target
+target_fits i counts sight n x h q =
+    let a = comes (signal sight n) _ x q in
+    let b = kept (not (is_input a.value.mode)) _ x a.rest in
+    let f = signal_fits i counts sight n a.value h a.is in
+    subst (TargetFits i counts) (some_same a.value x b.1) (record { fits = f; driven = f.driven (not_true (is_input a.value.mode) b.0) })
+
+pub record VariableFits (i : Inside) (counts : Counts) (x : VariableName) : Type 0 where
+  pub shape : (slice_get i.variables x.number >>= λ f. part_shape i f x.part) ≡ Some (type_shape x.type)
+  pub counted : IsCounted counts x.type
+
+as_variable_fits : (i : Inside) (counts : Counts) (d : Meaning) (suffix : Suffix) (x : VariableName) → MeaningFits i counts d → SuffixFits i counts suffix
+    → as_variable d suffix ≡ Some x → VariableFits i counts x
+as_variable_fits i counts (m.variable k type) suffix x h f q =
+    let make : Part × ObjectType → VariableName = λ p. record { number = k; part = p.0; type = p.1 } in
+    let a = mapped make (part_of type suffix) x q in
+    let g = the_form i counts type (slice_get i.variables k) h in
+    let p = part_of_fits i counts g.0 type suffix a.value g.2 h.counted f a.from in
+    subst (VariableFits i counts) a.is (record { shape = ap (λ w. w >>= λ f. part_shape i f a.value.0) g.1 ∙ p.0; counted = p.1 })
+as_variable_fits i counts (m.port k mode kind) suffix x h f q = absurd cc
+as_variable_fits i counts (m.signal k type) suffix x h f q = absurd cc
+as_variable_fits i counts (m.generic k) suffix x h f q = absurd cc
+as_variable_fits i counts (m.integer_constant k) suffix x h f q = absurd cc
+as_variable_fits i counts (m.generate_parameter k) suffix x h f q = absurd cc
+as_variable_fits i counts (m.loop_parameter k) suffix x h f q = absurd cc
+as_variable_fits i counts (m.constant k kind vs) suffix x h f q = absurd cc
+as_variable_fits i counts (m.literal n count p) suffix x h f q = absurd cc
+as_variable_fits i counts (m.integer_type y) suffix x h f q = absurd cc
+as_variable_fits i counts (m.element_type y) suffix x h f q = absurd cc
+as_variable_fits i counts (m.vector_type k y) suffix x h f q = absurd cc
+as_variable_fits i counts (m.enumeration_type n count) suffix x h f q = absurd cc
+as_variable_fits i counts (m.function y) suffix x h f q = absurd cc
+as_variable_fits i counts (m.component k) suffix x h f q = absurd cc
+as_variable_fits i counts m.label suffix x h f q = absurd cc
+as_variable_fits i counts m.unfinished suffix x h f q = absurd cc
+
+pub variable_fits : (i : Inside) (counts : Counts) (sight : Sight) (n : t.Name) (x : VariableName) → IsInside i counts sight → variable sight n ≡ Some x → VariableFits i counts x
+unfolding variable
+variable_fits i counts sight n x h q =
+    let a = kept (is_none n.attribute) _ x q in
+    let b = comes (typed_suffix sight n.suffix) _ x a.1 in
+    let c = comes (meaning sight n.identifier.text) (λ d. as_variable d b.value) x b.rest in
+    as_variable_fits i counts c.value b.value x (meant i counts sight h n.identifier.text c.value c.is) (suffix_fits n.suffix i counts sight b.value h b.is) c.rest
+
+-- ---- loops
+
+more_loops : (i : Inside) (counts : Counts) → HasMore i (w.within_loop i) counts counts
+more_loops i counts = record {
+  numbers = record { generics = omega arith; integers = omega arith; generates = omega arith; loops = omega arith };
+  constants = keeps_all i.constants;
+  ports = keeps_all i.ports;
+  signals = keeps_all i.signals;
+  variables = keeps_all i.variables;
+  counts = keeps_all counts;
+}
+
+inside_loop : (i : Inside) (counts : Counts) (sight : Sight) (n : Ident) → IsInside i counts sight → IsInside (w.within_loop i) counts (m.within_loop sight n)
+inside_loop i counts sight n h =
+    let same : length sight.loops ≡ i.loops = h.loop_count in
+    record {
+      loops = (lt-ltb (length sight.loops) (suc i.loops) (omega (arith, same)), all_more i (w.within_loop i) counts counts (more_loops i counts) sight.loops h.loops);
+      variables = all_more i (w.within_loop i) counts counts (more_loops i counts) sight.variables h.variables;
+      generates = all_more i (w.within_loop i) counts counts (more_loops i counts) sight.generates h.generates;
+      region = all_more i (w.within_loop i) counts counts (more_loops i counts) sight.region h.region;
+      outside = all_more i (w.within_loop i) counts counts (more_loops i counts) sight.outside h.outside;
+      loop_count = omega (arith, same);
+      generate_count = h.generate_count;
+    }
+
+-- ---- statements
+
+-- what is given to a target of a shape
+given_to : (i : Inside) (o : Option Shape) (z : Shape) (g : s.Given) → o ≡ Some z → given_fits i z g ≡ true → given_fits_target i o g ≡ true
+given_to i o z g h f = ap (λ o. given_fits_target i o g) h ∙ f
+
+pub assigned_fits : (i : Inside) (counts : Counts) (x : SignalName) (g : s.Given) → TargetFits i counts x → given_fits i (type_shape x.type) g ≡ true
+    → statement_fits i (s.assign x.place g) ≡ true
+unfolding statement_fits
+assigned_fits i counts x g h f =
+    and_from (is_driven i x.place.signal) (given_fits_target i (place_shape i x.place) g) h.driven
+    (given_to i (place_shape i x.place) (type_shape x.type) g h.fits.shape f)
+
+mutual
+  unfolding statement statement_fits
+
+  pub statement_is : (y : t.Statement) (i : Inside) (counts : Counts) (sight : Sight) (label : Option Ident) (x : s.Statement) → IsInside i counts sight
+      → statement sight label y ≡ Some x → statement_fits i x ≡ true
+  statement_is (t.nothing at) i counts sight label x h q = subst (λ x. statement_fits i x ≡ true) (some_same s.nothing x q) refl
+  statement_is (t.assigned n v) i counts sight label x h q =
+      let a = comes (target sight n) _ x q in
+      let g = comes (given sight a.value.type v) _ x a.rest in
+      let f = target_fits i counts sight n a.value h a.is in
+      subst (λ x. statement_fits i x ≡ true) (some_same _ x g.rest)
+      (assigned_fits i counts a.value g.value f (given_is i counts sight a.value.type v g.value h f.fits.counted g.is))
+  statement_is (t.variable_assigned n v) i counts sight label x h q =
+      let a = comes (variable sight n) _ x q in
+      let g = comes (given sight a.value.type v) _ x a.rest in
+      let f = variable_fits i counts sight n a.value h a.is in
+      subst (λ x. statement_fits i x ≡ true) (some_same _ x g.rest)
+      (given_to i (slice_get i.variables a.value.number >>= λ f. part_shape i f a.value.part) (type_shape a.value.type) g.value f.shape
+      (given_is i counts sight a.value.type v g.value h f.counted g.is))
+  statement_is (t.conditional at bs o end) i counts sight label x h q =
+      let a = kept (label_ends label end) _ x q in
+      let b = comes (otherwise sight o) _ x a.1 in
+      let c = comes (conditionals sight b.value bs) _ x b.rest in
+      subst (λ x. statement_fits i x ≡ true) (some_same _ x c.rest)
+      (conditionals_are bs i counts sight b.value c.value h (otherwise_is o i counts sight b.value h b.is) c.is)
+  statement_is (t.selection at d alts end) i counts sight label x h q =
+      let a = kept (label_ends label end) _ x q in
+      let b = comes (typed sight d) _ x a.1 in
+      let by = comes (selector b.value) _ x b.rest in
+      let css = comes (covered sight by.value.0 (choice_lists alts)) _ x by.rest in
+      let bodies = comes (alternatives sight alts) _ x css.rest in
+      let all = comes (arranged css.value bodies.value) _ x bodies.rest in
+      let f = selector_is i counts b.value by.value (typed_fits d i counts sight b.value h b.is) by.is in
+      subst (λ x. statement_fits i x ≡ true) (some_same _ x all.rest)
+      (and_from (selector_fits i by.value.1) (alternatives_fit i (value_shape i by.value.1) all.value) f.fits
+      (arranged_fits i (value_shape i by.value.1) css.value bodies.value all.value
+      (covered_fits i counts sight h (value_shape i by.value.1) by.value.0 f.selects f.counted (choice_lists alts) css.value css.is)
+      (alternatives_are alts i counts sight bodies.value h bodies.is) all.is))
+  statement_is (t.loop at n r body end) i counts sight label x h q =
+      let a = kept (label_ends label end) _ x q in
+      let b = comes (static_range sight r) _ x a.1 in
+      let c = comes (statements (m.within_loop sight n) body) _ x b.rest in
+      subst (λ x. statement_fits i x ≡ true) (some_same _ x c.rest)
+      (and_from (range_fits i b.value) (statements_fit (w.within_loop i) c.value) (static_range_fits i counts sight r b.value h b.is)
+      (statements_are body (w.within_loop i) counts (m.within_loop sight n) c.value (inside_loop i counts sight n h) c.is))
+
+  pub statements_are : (ys : t.Statements) (i : Inside) (counts : Counts) (sight : Sight) (xs : s.Statements) → IsInside i counts sight
+      → statements sight ys ≡ Some xs → statements_fit i xs ≡ true
+  statements_are t.no_statements i counts sight xs h q = subst (λ xs. statements_fit i xs ≡ true) (some_same s.done xs q) refl
+  statements_are (t.statement label y ys) i counts sight xs h q =
+      let a = comes (statement sight label y) _ xs q in
+      let b = comes (statements sight ys) _ xs a.rest in
+      subst (λ xs. statements_fit i xs ≡ true) (some_same _ xs b.rest)
+      (and_from (statement_fits i a.value) (statements_fit i b.value) (statement_is y i counts sight label a.value h a.is) (statements_are ys i counts sight b.value h b.is))
+
+  conditionals_are : (bs : t.Conditionals) (i : Inside) (counts : Counts) (sight : Sight) (last xs : s.Branches) → IsInside i counts sight → branches_fit i last ≡ true
+      → conditionals sight last bs ≡ Some xs → branches_fit i xs ≡ true
+  conditionals_are t.no_conditionals i counts sight last xs h f q = subst (λ xs. branches_fit i xs ≡ true) (some_same last xs q) f
+  conditionals_are (t.guarded d body bs) i counts sight last xs h f q =
+      let a = comes (condition sight d) _ xs q in
+      let b = comes (statements sight body) _ xs a.rest in
+      let c = comes (conditionals sight last bs) _ xs b.rest in
+      subst (λ xs. branches_fit i xs ≡ true) (some_same _ xs c.rest)
+      (and_from (test_fits i a.value && statements_fit i b.value) (branches_fit i c.value)
+      (and_from (test_fits i a.value) (statements_fit i b.value) (condition_fits i counts sight d a.value h a.is) (statements_are body i counts sight b.value h b.is))
+      (conditionals_are bs i counts sight last c.value h f c.is))
+
+  otherwise_is : (o : t.Otherwise) (i : Inside) (counts : Counts) (sight : Sight) (x : s.Branches) → IsInside i counts sight → otherwise sight o ≡ Some x → branches_fit i x ≡ true
+  otherwise_is t.no_else i counts sight x h q = subst (λ x. branches_fit i x ≡ true) (some_same s.no_else x q) refl
+  otherwise_is (t.else_do body) i counts sight x h q =
+      let a = mapped s.otherwise (statements sight body) x q in
+      subst (λ x. branches_fit i x ≡ true) a.is (statements_are body i counts sight a.value h a.from)
+
+  alternatives_are : (alts : t.Alternatives) (i : Inside) (counts : Counts) (sight : Sight) (xs : List s.Statements) → IsInside i counts sight
+      → alternatives sight alts ≡ Some xs → list_all (statements_fit i) xs ≡ true
+  alternatives_are t.no_alternatives i counts sight xs h q = subst (λ xs. list_all (statements_fit i) xs ≡ true) (some_same [] xs q) refl
+  alternatives_are (t.alternative cs body more) i counts sight xs h q =
+      let a = comes (statements sight body) _ xs q in
+      let b = comes (alternatives sight more) _ xs a.rest in
+      subst (λ xs. list_all (statements_fit i) xs ≡ true) (some_same (a.value ∷ b.value) xs b.rest)
+      (and_from (statements_fit i a.value) (list_all (statements_fit i) b.value) (statements_are body i counts sight a.value h a.is) (alternatives_are more i counts sight b.value h b.is))

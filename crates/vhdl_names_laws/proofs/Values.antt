@@ -1,0 +1,185 @@
+-- Values that are given, conditions, and literals as they stand (IEEE 1076-2008, 10.5, 10.8 and 9.3.2).
+use Rattle.std.proofs.Common.{◌≡◌, ℕ, true, ◌==◌, not, List, [], ◌∷◌, Some, refl, ap, sym, ◌∙◌, subst}
+use Rattle.std.specs.Prelude.{filter}
+use Rattle.std.specs.List.{slice_get}
+use Rattle.std.proofs.lemmas.Bool.{and_from, eqb-true}
+use Rattle.vhdl_values.specs.declared.scalar.Nine.{Nine}
+use Rattle.vhdl_lexer.specs.Words.{base_class}
+use Rattle.vhdl_lexer.specs.Bytes.{underscore}
+use Rattle.vhdl_tree.specs.Tree as t
+use Rattle.vhdl_tree.specs.Tree.{Expr}
+use Rattle.vhdl_names_rules.specs.declared.kind.Kind.{Kind}
+use Rattle.vhdl_names_rules.specs.declared.kind.Kind.TheVariants.{Element, LogicVector, Unsigned, OpenVector}
+use Rattle.vhdl_names_rules.specs.declared.kind.ObjectType.{ObjectType}
+use Rattle.vhdl_names_rules.specs.declared.kind.ObjectType.TheVariants.{Elements, Enumeration}
+use Rattle.vhdl_names_rules.specs.units.Expressions as e
+use Rattle.vhdl_names_rules.specs.units.Expressions.{Vector, Value, Test, StaticTest}
+use Rattle.vhdl_names_rules.specs.units.Statements as s
+use Rattle.vhdl_names_rules.specs.units.Statements.{Given, Choice, Statements, Alternatives}
+use Rattle.vhdl_names_rules.specs.units.Units as u
+use Rattle.vhdl_names_rules.specs.Rules.{each}
+use Rattle.vhdl_names_rules.specs.Visibility.{Sight}
+use Rattle.vhdl_names_rules.specs.Literals.{nine_of, values_of_string, values_of_bits, values_by, quoted, at_least_one}
+use Rattle.vhdl_names_rules.specs.Operators as o
+use Rattle.vhdl_names_rules.specs.Operators.{Typed}
+use Rattle.vhdl_names_rules.specs.Expressions as x
+use Rattle.vhdl_names_rules.specs.Expressions.{typed, fits, as_value, as_filled, given, as_test, condition, as_static_test}
+use Rattle.vhdl_names_rules.specs.Subtypes.{literal_values}
+use Rattle.vhdl_names_rules.specs.sound.Expressions.{Inside, one, vector, state, is_vector, vector_shape, fits_shape, value_fits, test_fits, static_test_fits}
+use Rattle.vhdl_names_rules.specs.sound.Statements.{given_fits}
+use Rattle.vhdl_names_rules.specs.sound.Units.{fixed_fits}
+use Rattle.vhdl_names_laws.specs.Meanings.{Counts, kind_shape, type_shape, IsCounted, IsInside, TypedFits}
+use Rattle.vhdl_names_laws.proofs.Statics.{some_same}
+use Rattle.vhdl_names_laws.proofs.Operators as p
+use Rattle.vhdl_names_laws.proofs.Operators.{Given as Holds, Mapped, mapped, same_shapes, fits_self}
+use Rattle.vhdl_names_laws.proofs.Expressions.{typed_fits}
+use Rattle.vhdl_names_rules.proofs.laws.Rules.{comes}
+
+-- ---- values of a type
+
+fitting_kinds : (k j : Kind) → fits k j ≡ true → kind_shape k ≡ kind_shape j
+fitting_kinds Element Element h = refl
+fitting_kinds Element LogicVector h = absurd cc
+fitting_kinds Element Unsigned h = absurd cc
+fitting_kinds Element OpenVector h = absurd cc
+fitting_kinds LogicVector Element h = absurd cc
+fitting_kinds LogicVector LogicVector h = refl
+fitting_kinds LogicVector Unsigned h = refl
+fitting_kinds LogicVector OpenVector h = refl
+fitting_kinds Unsigned Element h = absurd cc
+fitting_kinds Unsigned LogicVector h = refl
+fitting_kinds Unsigned Unsigned h = refl
+fitting_kinds Unsigned OpenVector h = refl
+fitting_kinds OpenVector Element h = absurd cc
+fitting_kinds OpenVector LogicVector h = refl
+fitting_kinds OpenVector Unsigned h = refl
+fitting_kinds OpenVector OpenVector h = refl
+
+pub kind_is_vector : (k : Kind) → x.is_vector k ≡ true → kind_shape k ≡ vector
+kind_is_vector Element h = absurd cc
+kind_is_vector LogicVector h = refl
+kind_is_vector Unsigned h = refl
+kind_is_vector OpenVector h = refl
+
+-- an enumeration of one number has one count
+pub same_count : (counts : Counts) (d e m n : ℕ) → (d == e) ≡ true → slice_get counts d ≡ Some m → slice_get counts e ≡ Some n → m ≡ n
+same_count counts d e m n h a b = some_same m n (sym a ∙ (ap (slice_get counts) (eqb-true d e h) ∙ b))
+
+as_value_fits : (i : Inside) (counts : Counts) (type : ObjectType) (y : Typed) (g : Given) → IsCounted counts type → TypedFits i counts y
+    → as_value type y ≡ Some g → given_fits i (type_shape type) g ≡ true
+as_value_fits i counts (Elements k) (o.elements j y) g c h q =
+    let a = p.given (fits k j) (s.single (e.Value.elements y)) g q in
+    subst (λ g. given_fits i (kind_shape k) g ≡ true) a.is (fits_self (kind_shape k) (vector_shape i y) (h ∙ ap Some (sym (fitting_kinds k j a.holds))))
+as_value_fits i counts (Enumeration n count) (o.enumerated d size y) g c h q =
+    let a = p.given (n == d) (s.single y) g q in
+    let b = same_count counts n d count size a.holds c h.1 in
+    subst (λ g. given_fits i (state count) g ≡ true) a.is (ap (λ m. value_fits i (state m) y) b ∙ h.0)
+as_value_fits i counts (Elements k) (o.integer y) g c h q = absurd cc
+as_value_fits i counts (Elements k) (o.enumerated d size y) g c h q = absurd cc
+as_value_fits i counts (Elements k) (o.truth y) g c h q = absurd cc
+as_value_fits i counts (Enumeration n count) (o.integer y) g c h q = absurd cc
+as_value_fits i counts (Enumeration n count) (o.elements j y) g c h q = absurd cc
+as_value_fits i counts (Enumeration n count) (o.truth y) g c h q = absurd cc
+
+as_filled_fits : (i : Inside) (counts : Counts) (type : ObjectType) (y : Typed) (g : Given) → TypedFits i counts y
+    → as_filled type y ≡ Some g → given_fits i (type_shape type) g ≡ true
+as_filled_fits i counts (Elements k) (o.elements Element y) g h q =
+    let a = p.given (x.is_vector k) (s.filled y) g q in
+    subst (λ g. given_fits i (kind_shape k) g ≡ true) a.is
+    (and_from (is_vector (kind_shape k)) (fits_shape one (vector_shape i y)) (ap is_vector (kind_is_vector k a.holds)) (fits_self one (vector_shape i y) h))
+as_filled_fits i counts (Elements k) (o.elements LogicVector y) g h q = absurd cc
+as_filled_fits i counts (Elements k) (o.elements Unsigned y) g h q = absurd cc
+as_filled_fits i counts (Elements k) (o.elements OpenVector y) g h q = absurd cc
+as_filled_fits i counts (Elements k) (o.integer y) g h q = absurd cc
+as_filled_fits i counts (Elements k) (o.enumerated d size y) g h q = absurd cc
+as_filled_fits i counts (Elements k) (o.truth y) g h q = absurd cc
+as_filled_fits i counts (Enumeration n count) y g h q = absurd cc
+
+pub given_is : (i : Inside) (counts : Counts) (sight : Sight) (type : ObjectType) (w : t.Value) (g : Given) → IsInside i counts sight → IsCounted counts type
+    → given sight type w ≡ Some g → given_fits i (type_shape type) g ≡ true
+unfolding given
+given_is i counts sight type (t.single d) g h c q =
+    let a = comes (typed sight d) (as_value type) g q in
+    as_value_fits i counts type a.value g c (typed_fits d i counts sight a.value h a.is) a.rest
+given_is i counts sight type (t.others at d) g h c q =
+    let a = comes (typed sight d) (as_filled type) g q in
+    as_filled_fits i counts type a.value g (typed_fits d i counts sight a.value h a.is) a.rest
+
+-- ---- conditions
+
+as_test_fits : (i : Inside) (counts : Counts) (y : Typed) (r : Test) → TypedFits i counts y → as_test y ≡ Some r → test_fits i r ≡ true
+as_test_fits i counts (o.truth t) r h q = subst (λ r. test_fits i r ≡ true) (some_same t r q) h
+as_test_fits i counts (o.elements Element y) r h q = subst (λ r. test_fits i r ≡ true) (some_same (e.holds y) r q) (fits_self one (vector_shape i y) h)
+as_test_fits i counts (o.elements LogicVector y) r h q = absurd cc
+as_test_fits i counts (o.elements Unsigned y) r h q = absurd cc
+as_test_fits i counts (o.elements OpenVector y) r h q = absurd cc
+as_test_fits i counts (o.integer y) r h q = absurd cc
+as_test_fits i counts (o.enumerated d m y) r h q = absurd cc
+
+pub condition_fits : (i : Inside) (counts : Counts) (sight : Sight) (d : Expr) (r : Test) → IsInside i counts sight → condition sight d ≡ Some r → test_fits i r ≡ true
+unfolding condition
+condition_fits i counts sight d r h q =
+    let a = comes (typed sight d) as_test r q in
+    as_test_fits i counts a.value r (typed_fits d i counts sight a.value h a.is) a.rest
+
+pub static_condition_fits : (i : Inside) (counts : Counts) (y : Typed) (r : StaticTest) → TypedFits i counts y → as_static_test y ≡ Some r → static_test_fits i r ≡ true
+static_condition_fits i counts (o.truth (e.Test.fixed t)) r h q = subst (λ r. static_test_fits i r ≡ true) (some_same t r q) h
+static_condition_fits i counts (o.truth (e.holds y)) r h q = absurd cc
+static_condition_fits i counts (o.truth (e.alike y z)) r h q = absurd cc
+static_condition_fits i counts (o.truth (e.unlike y z)) r h q = absurd cc
+static_condition_fits i counts (o.truth (e.Test.compared c y z)) r h q = absurd cc
+static_condition_fits i counts (o.truth (e.compared_to c y z)) r h q = absurd cc
+static_condition_fits i counts (o.truth (e.compared_with c y z)) r h q = absurd cc
+static_condition_fits i counts (o.truth (e.edge c z)) r h q = absurd cc
+static_condition_fits i counts (o.truth (e.event z)) r h q = absurd cc
+static_condition_fits i counts (o.truth (e.Test.negated z)) r h q = absurd cc
+static_condition_fits i counts (o.truth (e.Test.both c y z)) r h q = absurd cc
+static_condition_fits i counts (o.elements k y) r h q = absurd cc
+static_condition_fits i counts (o.integer y) r h q = absurd cc
+static_condition_fits i counts (o.enumerated d m y) r h q = absurd cc
+
+-- ---- literals as they stand
+
+at_least : (i : Inside) (ws vs : List Nine) → at_least_one ws ≡ Some vs → fixed_fits i vector (u.Fixed.literal vs) ≡ true
+at_least i [] vs q = absurd cc
+at_least i (w ∷ ws) vs q = subst (λ vs. fixed_fits i vector (u.Fixed.literal vs) ≡ true) (some_same (w ∷ ws) vs q) refl
+
+string_fits : (i : Inside) (text : List ℕ) (vs : List Nine) → values_of_string text ≡ Some vs → fixed_fits i vector (u.Fixed.literal vs) ≡ true
+string_fits i text vs q = let a = comes (each nine_of (quoted text)) at_least_one vs q in at_least i a.value vs a.rest
+
+bits_fit : (i : Inside) (text : List ℕ) (vs : List Nine) → values_of_bits text ≡ Some vs → fixed_fits i vector (u.Fixed.literal vs) ≡ true
+bits_fit i [] vs q = absurd cc
+bits_fit i (base ∷ text) vs q =
+    let a = comes (values_by (base_class base) (filter (λ b. not (b == underscore)) (quoted text))) at_least_one vs q in at_least i a.value vs a.rest
+
+pub literal_values_fit : (i : Inside) (k : Kind) (d : Expr) (vs : List Nine) → literal_values k d ≡ Some vs → fixed_fits i (kind_shape k) (u.Fixed.literal vs) ≡ true
+literal_values_fit i Element (t.character at c) vs q =
+    let a = mapped (λ v. v ∷ []) (nine_of c) vs q in
+    subst (λ vs. fixed_fits i one (u.Fixed.literal vs) ≡ true) a.is refl
+literal_values_fit i LogicVector (t.string at text) vs q = string_fits i text vs q
+literal_values_fit i LogicVector (t.bits at text) vs q = bits_fit i text vs q
+literal_values_fit i Unsigned (t.string at text) vs q = string_fits i text vs q
+literal_values_fit i Unsigned (t.bits at text) vs q = bits_fit i text vs q
+literal_values_fit i Element (t.integer at text) vs q = absurd cc
+literal_values_fit i Element (t.string at text) vs q = absurd cc
+literal_values_fit i Element (t.bits at text) vs q = absurd cc
+literal_values_fit i Element (t.named a b c) vs q = absurd cc
+literal_values_fit i Element (t.parens a b) vs q = absurd cc
+literal_values_fit i Element (t.negation a b) vs q = absurd cc
+literal_values_fit i Element (t.signed a b c) vs q = absurd cc
+literal_values_fit i Element (t.binary a b c d f) vs q = absurd cc
+literal_values_fit i LogicVector (t.integer at text) vs q = absurd cc
+literal_values_fit i LogicVector (t.character at c) vs q = absurd cc
+literal_values_fit i LogicVector (t.named a b c) vs q = absurd cc
+literal_values_fit i LogicVector (t.parens a b) vs q = absurd cc
+literal_values_fit i LogicVector (t.negation a b) vs q = absurd cc
+literal_values_fit i LogicVector (t.signed a b c) vs q = absurd cc
+literal_values_fit i LogicVector (t.binary a b c d f) vs q = absurd cc
+literal_values_fit i Unsigned (t.integer at text) vs q = absurd cc
+literal_values_fit i Unsigned (t.character at c) vs q = absurd cc
+literal_values_fit i Unsigned (t.named a b c) vs q = absurd cc
+literal_values_fit i Unsigned (t.parens a b) vs q = absurd cc
+literal_values_fit i Unsigned (t.negation a b) vs q = absurd cc
+literal_values_fit i Unsigned (t.signed a b c) vs q = absurd cc
+literal_values_fit i Unsigned (t.binary a b c d f) vs q = absurd cc
+literal_values_fit i OpenVector d vs q = absurd cc

@@ -1,0 +1,68 @@
+-- What names give is sound: what elaboration may take for granted of units that a file has.
+use Rattle.std.specs.Prelude.{◌≡◌, ℕ, Bool, List, [], map, Some, None, IsTrue}
+use Rattle.std.specs.List.{list_all}
+use Rattle.vhdl_lexer.specs.declared.token.Token.{Token}
+use Rattle.vhdl_lexer.specs.Cut.{Cuts, AreWithin}
+use Rattle.vhdl_tree.specs.Lexeme.{lexemes}
+use Rattle.vhdl_tree.specs.Pieces.{Spells}
+use Rattle.vhdl_tree.specs.Tree as t
+use Rattle.vhdl_tree.specs.Tree.{Expr, File}
+use Rattle.vhdl_tree.specs.grammar.Units.{spell_file, IsFile}
+use Rattle.vhdl_names_rules.specs.units.Units as u
+use Rattle.vhdl_names_rules.specs.units.Units.{Units}
+use Rattle.vhdl_names_rules.specs.Visibility.{Sight, Declares, are_distinct}
+use Rattle.vhdl_names_rules.specs.Operators.{Typed}
+use Rattle.vhdl_names_rules.specs.Expressions.{typed}
+use Rattle.vhdl_names_rules.specs.Statements.{statements}
+use Rattle.vhdl_names_rules.specs.units.Statements as s
+use Rattle.vhdl_names_rules.specs.sound.Expressions.{Inside}
+use Rattle.vhdl_names_rules.specs.sound.Statements.{statements_fit}
+use Rattle.vhdl_names_rules.specs.sound.Units.{are_sound}
+use Rattle.vhdl_names_rules.specs.Files.{units_of}
+use Rattle.vhdl_names_rules.specs.Interfaces.{EntityView, component}
+use Rattle.vhdl_names_rules.specs.sound.Named.{are_named}
+use Rattle.vhdl_names_laws.specs.Words.{small, HasWords}
+use Rattle.vhdl_names_laws.specs.Texts.{IsTextOfEntity}
+use Rattle.vhdl_names_laws.specs.Meanings.{Counts, IsInside, TypedFits}
+
+-- Each expression is what its type says, among what is declared inside.
+abbrev pub ExpressionsFit : Type 0
+ExpressionsFit = (i : Inside) (counts : Counts) (sight : Sight) → IsInside i counts sight
+    → (e : Expr) (x : Typed) → typed sight e ≡ Some x → TypedFits i counts x
+
+-- Each sequential statement fits.
+abbrev pub StatementsFit : Type 0
+StatementsFit = (i : Inside) (counts : Counts) (sight : Sight) → IsInside i counts sight
+    → (ys : t.Statements) (xs : s.Statements) → statements sight ys ≡ Some xs → IsTrue (statements_fit i xs)
+
+-- The units of a file that the parser gives are sound: each numbers what it names, and each value has the shape of its type.
+abbrev pub UnitsAreSound : Type 0
+UnitsAreSound = (f : File) (units : Units) → IsFile f → units_of f ≡ Some units → IsTrue (are_sound units)
+
+-- no two ports of an entity have one name
+abbrev pub ports_are_distinct : Units → Bool
+ports_are_distinct units = list_all (λ (x : u.Entity). are_distinct (map (λ (p : u.Port). p.object.name) x.ports)) units
+
+abbrev pub PortsAreDistinct : Type 0
+PortsAreDistinct = (f : File) (units : Units) → units_of f ≡ Some units → IsTrue (ports_are_distinct units)
+
+-- Where each identifier of the file is a word, each name and label of the units has a letter,
+abbrev pub UnitsAreNamed : Type 0
+UnitsAreNamed = (f : File) (units : Units) → HasWords f → units_of f ≡ Some units → IsTrue (are_named units)
+
+-- and no two ports of an entity have one name, whatever the case of its letters.
+abbrev pub small_ports_are_distinct : Units → Bool
+small_ports_are_distinct units = list_all (λ (x : u.Entity). are_distinct (map (λ (p : u.Port). small p.object.name) x.ports)) units
+
+abbrev pub SmallPortsAreDistinct : Type 0
+SmallPortsAreDistinct = (f : File) (units : Units) → HasWords f → units_of f ≡ Some units → IsTrue (small_ports_are_distinct units)
+
+-- In a file that the tokens of a text spell each identifier is a word.
+abbrev pub SpelledFilesHaveWords : Type 0
+SpelledFilesHaveWords = (source : List ℕ) (tokens : List Token) (f : File) → Cuts None 0 source tokens → AreWithin source tokens
+    → Spells (spell_file f) (lexemes source tokens) [] → HasWords f
+
+-- A component is the text of the entity of its name.
+abbrev pub ComponentsAreTexts : Type 0
+ComponentsAreTexts = (entities : List EntityView) (sight : Sight) (c : t.Component) (x : Declares u.Declaration)
+    → component entities sight c ≡ Some x → IsTextOfEntity entities c

@@ -1,0 +1,93 @@
+-- What the declarations in sight of a place are, among what is declared inside a unit there.
+use Rattle.std.specs.Prelude.{◌≡◌, ℕ, nat_lt, nat_le, ◌&&◌, List, length, slice_get, Option, Some, None, option_map, IsTrue}
+use Rattle.std.specs.List.{AllByRecursion}
+use Rattle.vhdl_values.specs.declared.scalar.Nine.{Nine}
+use Rattle.vhdl_tree.specs.declared.declaration.Mode.{Mode}
+use Rattle.vhdl_names_rules.specs.declared.kind.Kind.{Kind}
+use Rattle.vhdl_names_rules.specs.declared.kind.Kind.TheVariants.{Element, LogicVector, Unsigned, OpenVector}
+use Rattle.vhdl_names_rules.specs.declared.kind.ObjectType.{ObjectType}
+use Rattle.vhdl_names_rules.specs.declared.kind.ObjectType.TheVariants.{Elements, Enumeration}
+use Rattle.vhdl_names_rules.specs.units.Units as u
+use Rattle.vhdl_names_rules.specs.units.Units.{Form}
+use Rattle.vhdl_names_rules.specs.Visibility as m
+use Rattle.vhdl_names_rules.specs.Visibility.{Meaning, Declared, Sight}
+use Rattle.vhdl_names_rules.specs.Operators as o
+use Rattle.vhdl_names_rules.specs.Operators.{Typed}
+use Rattle.vhdl_names_rules.specs.sound.Expressions.{Inside, Shape, one, vector, state, shape_of, static_fits, vector_shape, value_fits, test_fits}
+use Rattle.vhdl_names_rules.specs.sound.Units.{fixed_fits}
+
+-- ---- types
+
+abbrev pub kind_shape : Kind → Shape
+kind_shape Element = one
+kind_shape LogicVector = vector
+kind_shape Unsigned = vector
+kind_shape OpenVector = vector
+
+abbrev pub type_shape : ObjectType → Shape
+type_shape (Elements k) = kind_shape k
+type_shape (Enumeration e count) = state count
+
+-- How many literals each enumeration has, by its number.
+abbrev pub Counts : Type 0
+Counts = List ℕ
+
+-- the enumeration of a type has as many literals as the type says
+abbrev pub IsCounted : Counts → ObjectType → Type 0
+IsCounted counts (Elements k) = Unit {0}
+IsCounted counts (Enumeration e count) = slice_get counts e ≡ Some count
+
+-- objects of this form are of this type
+pub record IsForm (counts : Counts) (type : ObjectType) (form : Option Form) : Type 0 where
+  pub shape : option_map shape_of form ≡ Some (type_shape type)
+  pub counted : IsCounted counts type
+
+-- ---- meanings
+
+-- the port of a number has this mode and kind
+pub record IsPort (ports : List u.Port) (k : ℕ) (mode : Mode) (kind : Kind) : Type 0 where
+  pub port : u.Port
+  pub at : slice_get ports k ≡ Some port
+  pub mode_is : port.mode ≡ mode
+  pub shape : shape_of port.object.form ≡ kind_shape kind
+
+-- the literal that declares a constant has its kind
+abbrev pub IsLiteralOf : Inside → Kind → Option (List Nine) → Type 0
+IsLiteralOf i kind None = Unit {0}
+IsLiteralOf i kind (Some values) = IsTrue (fixed_fits i (kind_shape kind) (u.Fixed.literal values))
+
+-- An object's number is below the count of its class, and the object of that number is of the type; an enumeration has literals.
+abbrev pub MeaningFits : Inside → Counts → Meaning → Type 0
+MeaningFits i counts (m.generic k) = IsTrue (nat_lt k i.generics)
+MeaningFits i counts (m.integer_constant k) = IsTrue (nat_lt k i.integers)
+MeaningFits i counts (m.generate_parameter k) = IsTrue (nat_lt k i.generates)
+MeaningFits i counts (m.loop_parameter k) = IsTrue (nat_lt k i.loops)
+MeaningFits i counts (m.port k mode kind) = IsPort i.ports k mode kind
+MeaningFits i counts (m.signal k type) = IsForm counts type (slice_get i.signals k)
+MeaningFits i counts (m.variable k type) = IsForm counts type (slice_get i.variables k)
+MeaningFits i counts (m.constant k kind values) = IsForm counts (Elements kind) (slice_get i.constants k) × IsLiteralOf i kind values
+MeaningFits i counts (m.literal e count p) = IsTrue (nat_lt p count) × (slice_get counts e ≡ Some count)
+MeaningFits i counts (m.vector_type kind is_resolved) = kind_shape kind ≡ vector
+MeaningFits i counts (m.enumeration_type e count) = IsTrue (nat_lt 0 count && nat_le count 256) × (slice_get counts e ≡ Some count)
+MeaningFits i counts _ = Unit {0}
+
+abbrev pub AllFit : Inside → Counts → List Declared → Type 0
+AllFit i counts = AllByRecursion (λ (d : Declared). MeaningFits i counts d.meaning)
+
+-- All that is in sight of a place is declared inside.
+pub record IsInside (i : Inside) (counts : Counts) (sight : Sight) : Type 0 where
+  pub loops : AllFit i counts sight.loops
+  pub variables : AllFit i counts sight.variables
+  pub generates : AllFit i counts sight.generates
+  pub region : AllFit i counts sight.region
+  pub outside : AllFit i counts sight.outside
+  pub loop_count : length sight.loops ≡ i.loops
+  pub generate_count : length sight.generates ≡ i.generates
+
+-- ---- what an expression is
+
+abbrev pub TypedFits : Inside → Counts → Typed → Type 0
+TypedFits i counts (o.integer s) = IsTrue (static_fits i s)
+TypedFits i counts (o.elements kind x) = vector_shape i x ≡ Some (kind_shape kind)
+TypedFits i counts (o.enumerated e count x) = IsTrue (value_fits i (state count) x) × (slice_get counts e ≡ Some count)
+TypedFits i counts (o.truth t) = IsTrue (test_fits i t)

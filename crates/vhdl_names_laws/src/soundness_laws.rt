@@ -1,0 +1,44 @@
+//! Laws of soundness (`specs/Laws`), each the contract of a function that does nothing.
+
+ghost use Rattle.vhdl_names_laws.specs.Laws.{ExpressionsFit, StatementsFit, UnitsAreSound, PortsAreDistinct, UnitsAreNamed, SmallPortsAreDistinct, SpelledFilesHaveWords, ComponentsAreTexts};
+
+/// Each expression is what its type says: integers are in range, vectors have the shape of their kind, literals of an
+/// enumeration are below its count, and tests compare values of one shape.
+pub fn expressions_are_sound()
+    ensures { ExpressionsFit }
+{}
+
+/// Each sequential statement fits: targets are driven and given values of their shape, selectors have the shape of their
+/// choices, and conditions and ranges fit.
+pub fn statements_are_sound()
+    ensures { StatementsFit }
+{}
+
+/// The units of a file are sound, where the file is well formed, as the parser gives it: an enumeration has a literal.
+pub fn units_are_sound()
+    ensures { UnitsAreSound }
+{}
+
+/// The ports of each entity have names of their own.
+pub fn ports_have_names_of_their_own()
+    ensures { PortsAreDistinct }
+{}
+
+/// Where each identifier of a file is a word, each name and label of its units has a letter, and no two ports of an entity
+/// have one name, whatever the case of its letters.
+pub fn units_are_named()
+    ensures named { UnitsAreNamed }
+    ensures ports { SmallPortsAreDistinct }
+{}
+
+/// Each identifier of a file that the tokens of a text spell, as the parser's do, is a word: it has a letter, and its letters
+/// are small.
+pub fn spelled_files_have_words()
+    ensures { SpelledFilesHaveWords }
+{}
+
+/// A component spells its entity's generics and ports, token for token apart from case: every optional word, default and bound
+/// stands in both.
+pub fn components_are_texts()
+    ensures { ComponentsAreTexts }
+{}

@@ -1,0 +1,207 @@
+-- An instance is of a unit of the file, and has an entry for each of its generics and ports.
+use Rattle.std.proofs.Common.{◌≡◌, ℕ, zero, suc, ◌+◌, true, false, List, [], ◌∷◌, ◌++◌, length, map, Option, Some, None, refl, ap, sym, ◌∙◌, subst, arith}
+use Rattle.std.specs.List.{slice_get, filter_map, cons_option}
+use Rattle.std.specs.Option.{is_some}
+use Rattle.std.proofs.lemmas.List.{length-map, length-append}
+use Rattle.vhdl_tree.specs.Tree as t
+use Rattle.vhdl_tree.specs.Tree.{Expr, Association, ContextItem}
+use Rattle.vhdl_names_rules.specs.units.Expressions.{Place}
+use Rattle.vhdl_names_rules.specs.units.Units as u
+use Rattle.vhdl_names_rules.specs.Rules.{◌>>=◌, each, if_any, all_of}
+use Rattle.vhdl_names_rules.specs.Visibility as m
+use Rattle.vhdl_names_rules.specs.Visibility.{Name, Meaning, Declared, declare, are_distinct, ends, names_of, numbered, Sight, meaning, with_declared, Declares, followed_by}
+use Rattle.vhdl_names_rules.specs.Packages.{context, no_context, sight_of}
+use Rattle.vhdl_names_rules.specs.Expressions.{static}
+use Rattle.vhdl_names_rules.specs.Subtypes.{subtype, as_integer_type, fixed_value}
+use Rattle.vhdl_names_rules.specs.Declarations.{in_order, as_kind, mode_of, generic, port}
+use Rattle.vhdl_names_rules.specs.Interfaces.{Interface, EntityView, declared_names, interface, entity}
+use Rattle.vhdl_names_rules.specs.Instances.{Formal, generic_name, port_formal, associated, port_actual, port_actuals, instantiated, instance}
+use Rattle.vhdl_names_rules.specs.Files.{entity_names, described_names, stand_after, entities_of, viewed, architecture, architecture_of, unit, units_of}
+use Rattle.vhdl_names_rules.specs.laws.Sound.{InstancesFitUnits}
+use Rattle.vhdl_names_rules.proofs.laws.Rules.{comes, kept, some_is, made}
+use Rattle.vhdl_names_rules.proofs.laws.Associations.{formals_have_actuals}
+
+-- ---- formals of an interface
+
+-- how many of some declarations are of a kind
+abbrev kinds : {C : Type 0} → (Declared → Option C) → List Declared → ℕ
+kinds pick ds = length (filter_map pick ds)
+
+kinds-append : {C : Type 0} (pick : Declared → Option C) (ds es : List Declared) → kinds pick (ds ++ es) ≡ kinds pick ds + kinds pick es
+kinds-append pick [] es = omega arith
+kinds-append {C} pick (d ∷ ds) es = go (pick d) (kinds-append pick ds es)
+  where
+    go : (o : Option C) → kinds pick (ds ++ es) ≡ kinds pick ds + kinds pick es
+        → length (cons_option o (filter_map pick (ds ++ es))) ≡ length (cons_option o (filter_map pick ds)) + kinds pick es
+    go None h = h
+    go (Some c) h = omega arith
+
+-- for each thing analysed so many declarations of the kind
+kinds_in_order : {A B C : Type 0} (times : ℕ → ℕ) (none : times 0 ≡ 0) (sum : (a b : ℕ) → times (a + b) ≡ times a + times b)
+    (pick : Declared → Option C) (declares : Sight → A → Option (Declares B))
+    → ((sight : Sight) (a : A) (x : Declares B) → declares sight a ≡ Some x → kinds pick x.declared ≡ times (length x.analysed))
+    → (as' : List A) (sight : Sight) (x : Declares B) → in_order with_declared declares sight as' ≡ Some x → kinds pick x.declared ≡ times (length x.analysed)
+kinds_in_order {A} {B} times none sum pick declares one [] sight x e =
+    let h = some_is _ x e in
+    ap (λ (x : Declares B). kinds pick x.declared) (sym h) ∙ sym none ∙ ap (λ (x : Declares B). times (length x.analysed)) h
+kinds_in_order {A} {B} times none sum pick declares one (a ∷ as') sight x e =
+    let c = comes (declares sight a) (λ x. in_order with_declared declares (with_declared sight x.declared) as' >>= λ xs. Some (followed_by x xs)) x e in
+    let d = comes (in_order with_declared declares (with_declared sight c.value.declared) as') (λ xs. Some (followed_by c.value xs)) x c.rest in
+    let h = some_is (followed_by c.value d.value) x d.rest in
+    let p = one sight a c.value c.is in
+    let q = kinds_in_order times none sum pick declares one as' (with_declared sight c.value.declared) d.value d.is in
+    ap (λ (x : Declares B). kinds pick x.declared) (sym h)
+    ∙ kinds-append pick c.value.declared d.value.declared
+    ∙ ap (λ n. n + kinds pick d.value.declared) p
+    ∙ ap (λ n. times (length c.value.analysed) + n) q
+    ∙ sym (sum (length c.value.analysed) (length d.value.analysed))
+    ∙ ap times (sym (length-append c.value.analysed d.value.analysed))
+    ∙ ap (λ (x : Declares B). times (length x.analysed)) h
+
+all_numbered : {B C : Type 0} (pick : Declared → Option C) (f : ℕ → Meaning) (g : Name → B)
+    → ((n : Name) (k : ℕ) → is_some (pick (declare n (f k))) ≡ true) → (k : ℕ) (ns : List Name) → kinds pick (numbered f k ns) ≡ length (map g ns)
+all_numbered pick f g picks k [] = refl
+all_numbered {B} {C} pick f g picks k (n ∷ ns) = go (pick (declare n (f k))) (picks n k) (all_numbered pick f g picks (suc k) ns)
+  where
+    go : (o : Option C) → is_some o ≡ true → kinds pick (numbered f (suc k) ns) ≡ length (map g ns)
+        → length (cons_option o (filter_map pick (numbered f (suc k) ns))) ≡ suc (length (map g ns))
+    go None y h = absurd (cc)
+    go (Some c) y h = ap suc h
+
+none_numbered : {C : Type 0} (pick : Declared → Option C) (f : ℕ → Meaning)
+    → ((n : Name) (k : ℕ) → is_some (pick (declare n (f k))) ≡ false) → (k : ℕ) (ns : List Name) → kinds pick (numbered f k ns) ≡ 0
+none_numbered pick f leaves k [] = refl
+none_numbered {C} pick f leaves k (n ∷ ns) = go (pick (declare n (f k))) (leaves n k) (none_numbered pick f leaves (suc k) ns)
+  where
+    go : (o : Option C) → is_some o ≡ false → kinds pick (numbered f (suc k) ns) ≡ 0
+        → length (cons_option o (filter_map pick (numbered f (suc k) ns))) ≡ 0
+    go None y h = h
+    go (Some c) y h = absurd (cc)
+
+record Kinds {B : Type 0} (generics ports : ℕ) (x : Declares B) : Type 0 where
+  generics_are : kinds generic_name x.declared ≡ generics
+  ports_are : kinds port_formal x.declared ≡ ports
+
+of_generic : (sight : Sight) (g : t.Generic) (x : Declares u.Generic) → generic sight g ≡ Some x → Kinds (length x.analysed) 0 x
+unfolding generic
+of_generic sight g x e =
+    let a = comes (meaning sight g.mark.text) _ x e in
+    let b = comes (as_integer_type a.value) _ x a.rest in
+    let c = comes (if_any (static sight) g.default) _ x b.rest in
+    let P : Declares u.Generic → Type 0 = λ x. Kinds (length x.analysed) 0 x in
+    subst P (some_is _ x c.rest) (record {
+      generics_are = all_numbered generic_name m.generic _ (λ n k. refl) _ (names_of g.names);
+      ports_are = none_numbered port_formal m.generic (λ n k. refl) _ (names_of g.names);
+    })
+
+of_port : (sight : Sight) (p : t.Port) (x : Declares u.Port) → port sight p ≡ Some x → Kinds 0 (length x.analysed) x
+unfolding port
+of_port sight p x e =
+    let a = comes (subtype sight p.subtype) _ x e in
+    let b = comes (as_kind a.value.type) _ x a.rest in
+    let c = comes (if_any (fixed_value sight a.value.type) p.default) _ x b.rest in
+    let P : Declares u.Port → Type 0 = λ x. Kinds 0 (length x.analysed) x in
+    subst P (some_is _ x c.rest) (record {
+      generics_are = none_numbered generic_name (λ k. m.port k (mode_of p.mode) b.value) (λ n k. refl) _ (names_of p.names);
+      ports_are = all_numbered port_formal (λ k. m.port k (mode_of p.mode) b.value) _ (λ n k. refl) _ (names_of p.names);
+    })
+
+-- as many formals as generics and ports
+record HasFormals (i : Interface) : Type 0 where
+  generics_are : kinds generic_name i.declared ≡ length i.generics
+  ports_are : kinds port_formal i.declared ≡ length i.ports
+
+has_formals : (sight : Sight) (gs : Option (List t.Generic)) (ps : Option (List t.Port)) (i : Interface) → interface sight gs ps ≡ Some i → HasFormals i
+unfolding interface
+has_formals sight gs ps i e =
+    let c = comes (in_order with_declared generic sight (all_of gs)) _ i e in
+    let d = comes (in_order with_declared port (with_declared sight c.value.declared) (all_of ps)) _ i c.rest in
+    let k = kept (are_distinct (declared_names (c.value.declared ++ d.value.declared))) _ i d.rest in
+    let gg = kinds_in_order (λ n. n) refl (λ a b. refl) generic_name generic (λ s a x h. (of_generic s a x h).generics_are) (all_of gs) sight c.value c.is in
+    let gp = kinds_in_order (λ n. 0) refl (λ a b. refl) port_formal generic (λ s a x h. (of_generic s a x h).ports_are) (all_of gs) sight c.value c.is in
+    let pg = kinds_in_order (λ n. 0) refl (λ a b. refl) generic_name port (λ s a x h. (of_port s a x h).generics_are) (all_of ps) (with_declared sight c.value.declared) d.value d.is in
+    let pp = kinds_in_order (λ n. n) refl (λ a b. refl) port_formal port (λ s a x h. (of_port s a x h).ports_are) (all_of ps) (with_declared sight c.value.declared) d.value d.is in
+    let g1 = kinds-append generic_name c.value.declared d.value.declared in
+    let p1 = kinds-append port_formal c.value.declared d.value.declared in
+    subst HasFormals (some_is _ i k.1) (record { generics_are = omega arith; ports_are = omega arith })
+
+entity_formals : (items : List ContextItem) (e : t.Entity) (architecture : Option Name) (v : EntityView) → entity items e architecture ≡ Some v → HasFormals v.interface
+unfolding entity
+entity_formals items e architecture v h =
+    let c = comes (context no_context items) _ v h in
+    let i = comes (interface (sight_of c.value []) e.generics e.ports) _ v c.rest in
+    let k = kept (ends e.name.text e.end_name) _ v i.rest in
+    let P : EntityView → Type 0 = λ v. HasFormals v.interface in
+    subst P (some_is _ v k.1) (has_formals (sight_of c.value []) e.generics e.ports i.value i.is)
+
+-- ---- lists of the same length
+
+each_length : {A B : Type 0} (f : A → Option B) (xs : List A) (ys : List B) → each f xs ≡ Some ys → length ys ≡ length xs
+each_length f [] ys e = ap length (sym (some_is _ ys e))
+each_length f (x ∷ xs) ys e =
+    let c = comes (f x) (λ y. each f xs >>= λ ys. Some (y ∷ ys)) ys e in
+    let d = comes (each f xs) (λ ys. Some (c.value ∷ ys)) ys c.rest in
+    ap length (sym (some_is _ ys d.rest)) ∙ ap suc (each_length f xs d.value d.is)
+
+ports_length : (sight : Sight) (fs : List Formal) (es : List (Option Expr)) (ps : List (Option Place)) → length fs ≡ length es
+    → port_actuals sight fs es ≡ Some ps → length ps ≡ length fs
+ports_length sight [] [] ps l e = ap length (sym (some_is _ ps e))
+ports_length sight [] (x ∷ es) ps l e = absurd (omega arith)
+ports_length sight (f ∷ fs) [] ps l e = absurd (omega arith)
+ports_length sight (f ∷ fs) (x ∷ es) ps l e =
+    let c = comes (if_any (port_actual sight f) x) (λ p. port_actuals sight fs es >>= λ ps. Some (p ∷ ps)) ps e in
+    let d = comes (port_actuals sight fs es) (λ ps. Some (c.value ∷ ps)) ps c.rest in
+    ap length (sym (some_is _ ps d.rest)) ∙ ap suc (ports_length sight fs es d.value (omega arith) d.is)
+
+each_gives : {A B : Type 0} (f : A → Option B) (P : B → Type 0) → ((x : A) (y : B) → f x ≡ Some y → P y)
+    → (xs : List A) (ys : List B) (k : ℕ) (y : B) → each f xs ≡ Some ys → slice_get ys k ≡ Some y → P y
+each_gives {A} {B} f P one [] ys k y e p =
+    let g : slice_get {X = B} [] k ≡ Some y = ap (λ ys. slice_get ys k) (some_is _ ys e) ∙ p in
+    absurd (cc)
+each_gives {A} {B} f P one (x ∷ xs) ys k y e p =
+    let c = comes (f x) (λ y. each f xs >>= λ ys. Some (y ∷ ys)) ys e in
+    let d = comes (each f xs) (λ ys. Some (c.value ∷ ys)) ys c.rest in
+    here c.value d.value (one x c.value c.is) (λ k p. each_gives f P one xs d.value k y d.is p) k
+    (ap (λ ys. slice_get ys k) (some_is _ ys d.rest) ∙ p)
+  where
+    here : (b : B) (bs : List B) → P b → ((k : ℕ) → slice_get bs k ≡ Some y → P y) → (k : ℕ) → slice_get (b ∷ bs) k ≡ Some y → P y
+    here b bs h more zero p = subst P (some_is b y p) h
+    here b bs h more (suc k) p = more k p
+
+-- ---- instances
+
+unit_lists : (entities : List EntityView) (ds : List t.DesignUnit) (e : EntityView) (x : u.Entity) → unit entities ds e ≡ Some x
+    → (x.generics ≡ e.interface.generics) × (x.ports ≡ e.interface.ports)
+unfolding unit
+unit_lists entities ds e x h =
+    let a = comes (if_any (λ (p : List ContextItem × t.Architecture). architecture entities e p.0 p.1) (architecture_of e.name ds)) _ x h in
+    let s = some_is _ x a.rest in
+    (ap (λ (x : u.Entity). x.generics) (sym s), ap (λ (x : u.Entity). x.ports) (sym s))
+
+pub instances_fit_units : InstancesFitUnits
+unfolding instance units_of
+instances_fit_units f units entities sight label i x whole viewed_are h =
+    let k = comes (instantiated entities sight i.unit) _ x h in
+    let e = comes (slice_get entities k.value) _ x k.rest in
+    let gs = comes (associated (filter_map generic_name e.value.interface.declared) (all_of i.generics)) _ x e.rest in
+    let g = comes (each (if_any (static sight)) gs.value) _ x gs.rest in
+    let ps = comes (associated (map (λ (f : Formal). f.name) (filter_map port_formal e.value.interface.declared)) (all_of i.ports)) _ x g.rest in
+    let p = comes (port_actuals sight (filter_map port_formal e.value.interface.declared) ps.value) _ x ps.rest in
+    let s = some_is _ x p.rest in
+    let a = kept (are_distinct (entity_names f.units)) _ units whole in
+    let b = kept (are_distinct (described_names f.units)) _ units a.1 in
+    let c = kept (stand_after f.units) _ units b.1 in
+    let v = comes (each (viewed f.units) (entities_of f.units)) _ units c.1 in
+    let same = some_is v.value entities (sym v.is ∙ viewed_are) in
+    let all : each (unit entities f.units) entities ≡ Some units = ap (λ es. each (unit es f.units) es) (sym same) ∙ v.rest in
+    let m = made (unit entities f.units) entities units k.value e.value all e.is in
+    let lists = unit_lists entities f.units e.value m.value m.is in
+    let has = each_gives (viewed f.units) (λ (v : EntityView). HasFormals v.interface) (λ e v h. entity_formals e.0 e.1 _ v h) (entities_of f.units) entities k.value e.value viewed_are e.is in
+    let generics = (formals_have_actuals (filter_map generic_name e.value.interface.declared) (all_of i.generics) gs.value gs.is).as_many in
+    let ports = (formals_have_actuals (map (λ (f : Formal). f.name) (filter_map port_formal e.value.interface.declared)) (all_of i.ports) ps.value ps.is).as_many
+    ∙ length-map (filter_map port_formal e.value.interface.declared) (λ (f : Formal). f.name) in (
+      m.value,
+      ap (λ (x : u.Instance). slice_get units x.unit) (sym s) ∙ m.at,
+      ap (λ (x : u.Instance). length x.generics) (sym s) ∙ each_length (if_any (static sight)) gs.value g.value g.is ∙ generics ∙ has.generics_are ∙ ap length (sym lists.0),
+      ap (λ (x : u.Instance). length x.ports) (sym s) ∙ ports_length sight (filter_map port_formal e.value.interface.declared) ps.value p.value (sym ports) p.is ∙ has.ports_are ∙ ap length (sym lists.1),
+    )

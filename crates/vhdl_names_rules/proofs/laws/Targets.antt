@@ -1,0 +1,69 @@
+-- No target is an in port, nor the actual of an out port.
+use Rattle.std.proofs.Common.{◌≡◌, true, false, not, Option, Some, None, refl, ap, sym, ◌∙◌, inl, inr}
+use Rattle.std.specs.Prelude.{is_none}
+use Rattle.std.specs.Option.{option_map}
+use Rattle.vhdl_tree.specs.declared.declaration.Mode.{Mode}
+use Rattle.vhdl_tree.specs.declared.declaration.Mode.TheVariants.{In, Out}
+use Rattle.vhdl_tree.specs.Tree as t
+use Rattle.vhdl_names_rules.specs.declared.kind.ObjectType.{ObjectType}
+use Rattle.vhdl_names_rules.specs.declared.kind.ObjectType.TheVariants.{Elements}
+use Rattle.vhdl_names_rules.specs.units.Expressions as e
+use Rattle.vhdl_names_rules.specs.units.Expressions.{Signal, Part, Place}
+use Rattle.vhdl_names_rules.specs.Visibility as m
+use Rattle.vhdl_names_rules.specs.Visibility.{Meaning, Sight, meaning}
+use Rattle.vhdl_names_rules.specs.Names.{Suffix, part_of}
+use Rattle.vhdl_names_rules.specs.Expressions.{typed_suffix}
+use Rattle.vhdl_names_rules.specs.Statements.{SignalName, named_part, as_signal, signal, is_input, target}
+use Rattle.vhdl_names_rules.specs.Instances.{as_name, is_kind, may_join, port_actual}
+use Rattle.vhdl_names_rules.specs.laws.Sound.{IsDriven, TargetsAreDriven, ActualsAreDriven}
+use Rattle.vhdl_names_rules.proofs.laws.Rules.{comes, kept, some_is, not_true}
+
+-- a signal that isn't an in port is driven
+driven_if : (o : Option (Part × ObjectType)) (s : Signal) (mode : Option Mode) (x : SignalName)
+    → option_map (named_part s mode) o ≡ Some x → (x.place.signal ≡ s) × (x.mode ≡ mode)
+driven_if None s mode x e = cc
+driven_if (Some p) s mode x e =
+    let h = some_is (named_part s mode p) x e in
+    (ap (λ (x : SignalName). x.place.signal) (sym h), ap (λ (x : SignalName). x.mode) (sym h))
+
+by_meaning : (d : Meaning) (suffix : Suffix) (x : SignalName) → as_signal d suffix ≡ Some x → is_input x.mode ≡ false → IsDriven (Some d) x.place.signal
+by_meaning (m.port k Out kind) suffix x h i =
+    let d = driven_if (part_of (Elements kind) suffix) (e.port k) (Some Out) x h in
+    inl (k, kind, refl, d.0)
+by_meaning (m.port k In kind) suffix x h i =
+    let d = driven_if (part_of (Elements kind) suffix) (e.port k) (Some In) x h in
+    let g : true ≡ is_input x.mode = ap is_input (sym d.1) in
+    absurd (cc)
+by_meaning (m.signal k type) suffix x h i =
+    let d = driven_if (part_of type suffix) (e.Signal.signal k) None x h in
+    inr (k, type, refl, d.0)
+by_meaning _ suffix x h i = absurd (cc)
+
+driven : (sight : Sight) (n : t.Name) (x : SignalName) → signal sight n ≡ Some x → is_input x.mode ≡ false → IsDriven (meaning sight n.identifier.text) x.place.signal
+unfolding signal
+driven sight n x h i =
+    let k = kept (is_none n.attribute) _ x h in
+    let s = comes (typed_suffix sight n.suffix) _ x k.1 in
+    let d = comes (meaning sight n.identifier.text) _ x s.rest in
+    rw d.is (by_meaning d.value s.value x d.rest i)
+
+pub targets_are_driven : TargetsAreDriven
+unfolding target
+targets_are_driven sight n x h =
+    let c = comes (signal sight n) _ x h in
+    let k = kept (not (is_input c.value.mode)) _ x c.rest in
+    let g = some_is c.value x k.1 in
+    driven sight n x (c.is ∙ ap Some g) (ap (λ (x : SignalName). is_input x.mode) (sym g) ∙ not_true (is_input c.value.mode) k.0)
+
+pub actuals_are_driven : ActualsAreDriven
+unfolding port_actual
+actuals_are_driven sight f n actual p out named h =
+    let c = comes (as_name actual) _ p h in
+    let same : c.value ≡ n = some_is c.value n (sym c.is ∙ named) in
+    let s = comes (signal sight c.value) _ p c.rest in
+    let k = kept (is_kind f.kind s.value.type) _ p s.rest in
+    let j = kept (may_join f.mode s.value.mode) _ p k.1 in
+    let g = some_is s.value.place p j.1 in
+    let i : not (is_input s.value.mode) ≡ true = ap (λ mode. may_join mode s.value.mode) (sym out) ∙ j.0 in
+    let d = driven sight n s.value (ap (signal sight) (sym same) ∙ s.is) (not_true (is_input s.value.mode) i) in
+    rw (← g) d

@@ -1,0 +1,24 @@
+-- The links of a vector in a `Vec`, as contracts see them.
+use Rattle.std.proofs.Common.{◌≡◌, List, [], ◌∷◌, ◌++◌, Vec, Box, Global, refl, ap, ◌∙◌}
+use mathlib.Core.Former.{Count}
+use Rattle.vhdl_names_rules.specs.declared.vector.Vector.TheVariants as v
+use Rattle.vhdl_names_rules.specs.declared.vector.Vector.TheBlock.{Row_of-VectorLink, end_of-VectorLink, more_of-VectorLink, items-the_row-VectorLink, hidden-the_row-VectorLink-0, items_hidden-the_row-VectorLink-0}
+use Rattle.vhdl_names_rules.specs.declared.vector.VectorLink.{VectorLink}
+use Rattle.vhdl_names_rules.specs.declared.vector.VectorStart.{VectorStart}
+use Rattle.vhdl_names_rules.specs.units.Expressions as u
+use Rattle.vhdl_names_rules.specs.views.Vectors.{vector_view, start_view, links_view, linked, vector_chained}
+
+links_row : (left : u.Vector) (n : Count) (row : Row_of-VectorLink n) → links_view left row ≡ vector_chained left (items-the_row-VectorLink n row)
+links_row left n end_of-VectorLink = refl
+links_row left n (more_of-VectorLink x rest) = links_row (linked left x) _ rest
+
+pub view_chain : (start : Box VectorStart Global) (rest : Vec VectorLink Global) → vector_view (v.Chain start rest) ≡ vector_chained (start_view start.value) rest.items
+view_chain start rest = links_row (start_view start.value) _ (hidden-the_row-VectorLink-0 rest) ∙ ap (vector_chained (start_view start.value)) (items_hidden-the_row-VectorLink-0 rest)
+
+vector_chained-push : (left : u.Vector) (xs : List VectorLink) (x : VectorLink) → vector_chained left (xs ++ x ∷ []) ≡ linked (vector_chained left xs) x
+vector_chained-push left [] x = refl
+vector_chained-push left (y ∷ xs) x = vector_chained-push (linked left y) xs x
+
+-- one more link
+pub chained-after : (left : u.Vector) (xs ys : List VectorLink) (x : VectorLink) → ys ≡ xs ++ x ∷ [] → vector_chained left ys ≡ linked (vector_chained left xs) x
+chained-after left xs ys x h = ap (vector_chained left) h ∙ vector_chained-push left xs x

@@ -1,0 +1,133 @@
+-- Concurrent statements (IEEE 1076-2008, clause 11), with the declarations in sight.
+use Rattle.std.specs.Prelude.{List, [], ◌∷◌, ◌++◌, map, Option, Some, None, option_map}
+use Rattle.vhdl_tree.specs.Tree as t
+use Rattle.vhdl_tree.specs.Tree.{Ident}
+use Rattle.vhdl_names_rules.specs.units.Statements as s
+use Rattle.vhdl_names_rules.specs.units.Units as u
+use Rattle.vhdl_names_rules.specs.declared.fault.NameProblem.TheVariants.{Twice, WrongKind}
+use Rattle.vhdl_names_rules.specs.Rules.{◌>>=◌, ◌>>◌, rule, each}
+use Rattle.vhdl_names_rules.specs.Visibility.{Name, Sight, are_distinct, ends, label_ends, within_generate, with_variables}
+use Rattle.vhdl_names_rules.specs.Expressions.{typed, static_range, condition, given, as_static_test}
+use Rattle.vhdl_names_rules.specs.Choices.{covered, selector, arranged}
+use Rattle.vhdl_names_rules.specs.Declarations.{in_order, variables}
+use Rattle.vhdl_names_rules.specs.Interfaces.{EntityView, declared_names}
+use Rattle.vhdl_names_rules.specs.Instances.{instance}
+use Rattle.vhdl_names_rules.specs.Statements.{SignalName, signal, target, statements, label_names, statement_labels}
+
+abbrev pub label_of : Option Ident → Option Name
+label_of = option_map (λ l. l.text)
+
+-- a concurrent assignment is a process that is sensitive to what it reads (11.6)
+abbrev pub assigning : Option Ident → s.Statement → u.Concurrent
+assigning label statement =
+    u.process (record { label = label_of label; variables = []; sensitivity = u.as_read; body = s.step statement s.done })
+
+-- ---- conditional and selected assignments (11.6)
+
+-- what a target of a type is given
+abbrev pub assigned : Sight → SignalName → t.Value → Option s.Statement
+assigned sight x v = do
+  g ← given sight x.type v
+  Some (s.assign x.place g)
+
+abbrev pub alone : s.Statement → s.Statements
+alone statement = s.step statement s.done
+
+-- value when condition else .., as an if; without a last else it has none
+abbrev pub last_branch : Sight → SignalName → Option t.Value → Option s.Branches
+last_branch sight x None = Some s.no_else
+last_branch sight x (Some v) = option_map (λ y. s.otherwise (alone y)) (assigned sight x v)
+
+abbrev pub branches : Sight → SignalName → List t.Branch → Option t.Value → Option s.Branches
+branches sight x [] o = last_branch sight x o
+branches sight x (b ∷ bs) o = do
+  y ← assigned sight x b.value
+  c ← condition sight b.condition
+  rest ← branches sight x bs o
+  Some (s.branch c (alone y) rest)
+
+-- a value alone is assigned as it is
+abbrev pub assignment_body : Sight → SignalName → List t.Branch → Option t.Value → Option s.Statement
+assignment_body sight x [] (Some v) = assigned sight x v
+assignment_body sight x bs o = option_map s.choose (branches sight x bs o)
+
+unfoldable pub assignment : Sight → t.Assignment → Option u.Concurrent
+assignment sight a = do
+  x ← target sight a.target
+  body ← assignment_body sight x a.branches a.otherwise
+  Some (assigning a.label body)
+
+-- with selector select target <= value when choices, .., as a case
+unfoldable pub selected : Sight → Option Ident → t.SelectedAssignment → Option u.Concurrent
+selected sight label a = do
+  e ← typed sight a.selector
+  by ← selector e
+  x ← target sight a.target
+  choices ← covered sight by.0 (map (λ w. w.choices) a.waveforms)
+  bodies ← each (λ w. option_map alone (assigned sight x w.value)) a.waveforms
+  all ← arranged choices bodies
+  Some (assigning label (s.select by.1 all))
+
+-- ---- processes (11.3)
+
+-- a process has a sensitivity list, whose names mean what they mean outside it
+abbrev pub sensitivity : Sight → t.Sensitivity → Option u.Sensitivity
+sensitivity sight t.absent = None
+sensitivity sight t.every = Some u.every
+sensitivity sight (t.listed ns) = option_map (λ xs. u.listed (map (λ x. x.place) xs)) (each (signal sight) ns)
+
+-- its variables are a region that hides outer names, and so are its labels, which hide none
+unfoldable pub process : Sight → Option Ident → t.Process → Option u.Process
+process sight label p = do
+  on ← sensitivity sight p.sensitivity
+  vs ← in_order with_variables variables sight p.variables
+  rule Twice (are_distinct (declared_names vs.declared))
+  rule Twice (are_distinct (statement_labels (t.statements_of p.statements)))
+  body ← statements (with_variables sight vs.declared) (t.statements_of p.statements)
+  rule WrongKind (label_ends label p.end_label)
+  Some (record { label = label_of label; variables = vs.analysed; sensitivity = on; body = body })
+
+-- ---- the labels that stand directly among concurrent statements
+
+abbrev pub concurrent_label : t.Concurrent → List Name
+concurrent_label (t.assignment a) = label_names a.label
+concurrent_label (t.selected label a) = label_names label
+concurrent_label (t.process label p) = label_names label
+concurrent_label (t.instance label i) = label.text ∷ []
+concurrent_label (t.generated label at scheme word cs end) = label.text ∷ []
+
+abbrev pub concurrent_labels : t.Concurrents → List Name
+concurrent_labels t.no_concurrents = []
+concurrent_labels (t.concurrent c cs) = concurrent_label c ++ concurrent_labels cs
+
+-- ---- all statements, with the entities of the file
+
+-- for-generate, whose parameter hides outer names, and if-generate, whose condition is over static integers (11.9)
+abbrev pub sight_within : Sight → t.Scheme → Sight
+sight_within sight (t.for_each n r) = within_generate sight n
+sight_within sight (t.if_holds e) = sight
+
+abbrev pub generated : Sight → Name → t.Scheme → u.Concurrents → Option u.Concurrent
+generated sight label (t.for_each n r) body = option_map (λ range. u.generate_for label range body) (static_range sight r)
+generated sight label (t.if_holds e) body =
+    option_map (λ test. u.generate_if label test body) (typed sight e >>= as_static_test)
+
+module _ (entities : List EntityView) where
+  unfoldable mutual
+    pub concurrent : Sight → t.Concurrent → Option u.Concurrent
+    concurrent sight (t.assignment a) = assignment sight a
+    concurrent sight (t.selected label a) = selected sight label a
+    concurrent sight (t.process label p) = option_map u.process (process sight label p)
+    concurrent sight (t.instance label i) = option_map u.instance (instance entities sight label i)
+    concurrent sight (t.generated label at scheme word cs end) = do
+      rule WrongKind (ends label.text end)
+      rule Twice (are_distinct (concurrent_labels cs))
+      body ← concurrents (sight_within sight scheme) cs
+      generated sight label.text scheme body
+
+    pub concurrents : Sight → t.Concurrents → Option u.Concurrents
+    concurrents sight t.no_concurrents = Some u.no_concurrents
+    concurrents sight (t.concurrent c cs) = do
+      x ← concurrent sight c
+      xs ← concurrents sight cs
+      Some (u.concurrent x xs)

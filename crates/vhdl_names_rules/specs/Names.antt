@@ -1,0 +1,131 @@
+-- What names in expressions are (IEEE 1076-2008, clause 8): objects with their indexed and slice names, conversions and calls of
+-- the packages' functions (9.3.4, 9.3.6), and the attribute 'event (16.2.4).
+use Rattle.std.specs.Prelude.{Bool, true, false, ◌&&◌, if◌then◌else◌, List, [], ◌∷◌, Option, Some, None, option_map, bytes_eq, codes}
+use Rattle.vhdl_values.specs.declared.kinds.Edge.{Edge}
+use Rattle.vhdl_tree.specs.Tree.{Ident}
+use Rattle.vhdl_names_rules.specs.declared.kind.Kind.{Kind}
+use Rattle.vhdl_names_rules.specs.declared.kind.Kind.TheVariants.{Element, LogicVector, Unsigned, OpenVector}
+use Rattle.vhdl_names_rules.specs.declared.kind.ObjectType.{ObjectType}
+use Rattle.vhdl_names_rules.specs.declared.kind.ObjectType.TheVariants.{Elements, Enumeration}
+use Rattle.vhdl_names_rules.specs.declared.kind.Function.{Function}
+use Rattle.vhdl_names_rules.specs.declared.kind.Function.TheVariants.{EdgeCall, Resize, ShiftLeft, ShiftRight, ToUnsigned}
+use Rattle.vhdl_names_rules.specs.units.Expressions as u
+use Rattle.vhdl_names_rules.specs.units.Expressions.{Static, Part, Place, Signal, Vector}
+use Rattle.vhdl_names_rules.specs.declared.fault.NameProblem.TheVariants.{LeftOut}
+use Rattle.vhdl_names_rules.specs.Rules.{◌>>=◌, ◌>>◌, rule}
+use Rattle.vhdl_names_rules.specs.Visibility as m
+use Rattle.vhdl_names_rules.specs.Visibility.{Meaning}
+use Rattle.vhdl_names_rules.specs.Operators.{Typed, integer, elements, enumerated, truth}
+
+-- ---- parts of an object
+
+-- what stands in parentheses after an identifier, with its types
+pub data Suffix : Type 0 where
+  plain : Suffix
+  -- whether it is one name alone, and what is there
+  arguments : (is_name : Bool) → List Typed → Suffix
+  range : u.Range → Suffix
+
+-- the whole; an element of a vector (8.4); a slice of a vector, which is of its kind (8.5)
+abbrev pub part : Kind → Suffix → Option (Part × Kind)
+part k plain = Some (u.whole, k)
+part LogicVector (arguments b (integer s ∷ [])) = Some (u.Part.element s, Element)
+part Unsigned (arguments b (integer s ∷ [])) = Some (u.Part.element s, Element)
+part LogicVector (range r) = Some (u.slice r, LogicVector)
+part Unsigned (range r) = Some (u.slice r, Unsigned)
+part _ _ = None
+
+-- an object of an enumeration has no parts
+abbrev pub part_of : ObjectType → Suffix → Option (Part × ObjectType)
+part_of (Elements k) s = option_map (λ p. (p.0, Elements p.1)) (part k s)
+part_of (Enumeration e count) plain = Some (u.whole, Enumeration e count)
+part_of (Enumeration e count) _ = None
+
+abbrev pub place_of : Signal → Part → Place
+place_of s p = record { signal = s; part = p }
+
+abbrev pub if_plain : Suffix → Typed → Option Typed
+if_plain plain t = Some t
+if_plain _ t = None
+
+-- elements of the nine values, by what they are part of
+abbrev pub read_by : (Part → Vector) → Kind → Suffix → Option Typed
+read_by object k s = option_map (λ p. elements p.1 (object p.0)) (part k s)
+
+abbrev pub read_signal : Signal → Kind → Suffix → Option Typed
+read_signal x k s = read_by (λ p. u.of_signal (place_of x p)) k s
+
+-- ---- conversions and calls
+
+-- unsigned(x), std_logic_vector(x), std_ulogic_vector(x): of any vector
+abbrev pub converted : Kind → Suffix → Option Typed
+converted k (arguments b (elements LogicVector x ∷ [])) = Some (elements k x)
+converted k (arguments b (elements Unsigned x ∷ [])) = Some (elements k x)
+converted k (arguments b (elements OpenVector x ∷ [])) = Some (elements k x)
+converted _ _ = None
+
+-- no loop's parameter stands in it
+abbrev pub is_static : Static → Bool
+is_static (u.loop_parameter k) = false
+is_static (u.Static.negated s) = is_static s
+is_static (u.Static.binary op s t) = is_static s && is_static t
+is_static _ = true
+
+-- a signal of one element, or an element of one at a static index (8.1)
+abbrev pub is_static_part : Part → Bool
+is_static_part u.whole = true
+is_static_part (u.Part.element s) = is_static s
+is_static_part (u.slice r) = false
+
+-- the signal that an edge call or 'event asks for
+abbrev pub edge_signal : Typed → Option Place
+edge_signal (elements Element (u.of_signal p)) = if is_static_part p.part then Some p else None
+edge_signal _ = None
+
+-- rising_edge(s), falling_edge(s): of a signal's name
+abbrev pub edge_of : Edge → Suffix → Option Typed
+edge_of e (arguments true (x ∷ [])) = option_map (λ p. truth (u.edge e p)) (edge_signal x)
+edge_of e _ = None
+
+-- a number by a count
+abbrev pub counted : (Vector → Static → Vector) → Suffix → Option Typed
+counted f (arguments b (elements Unsigned x ∷ integer n ∷ [])) = Some (elements Unsigned (f x n))
+counted f _ = None
+
+abbrev pub encoding : Suffix → Option Typed
+encoding (arguments b (integer n ∷ integer size ∷ [])) = Some (elements Unsigned (u.encoded n size))
+encoding _ = None
+
+abbrev pub called : Function → Suffix → Option Typed
+called (EdgeCall e) = edge_of e
+called Resize = counted u.resized
+called ShiftLeft = counted u.shifted_left
+called ShiftRight = counted u.shifted_right
+called ToUnsigned = encoding
+
+-- ---- all names
+
+-- what a name of this meaning is, with what follows it; types, components and labels are no values
+abbrev pub denoted : Meaning → Suffix → Option Typed
+denoted (m.generic k) s = if_plain s (integer (u.generic k))
+denoted (m.integer_constant k) s = if_plain s (integer (u.Static.constant k))
+denoted (m.generate_parameter k) s = if_plain s (integer (u.generate_parameter k))
+denoted (m.loop_parameter k) s = if_plain s (integer (u.loop_parameter k))
+denoted (m.port k mode kind) s = read_signal (u.port k) kind s
+denoted (m.signal k (Elements kind)) s = read_signal (u.Signal.signal k) kind s
+denoted (m.signal k (Enumeration e count)) s = if_plain s (enumerated e count (u.state_of (u.Signal.signal k)))
+denoted (m.variable k (Elements kind)) s = read_by (u.of_variable k) kind s
+denoted (m.variable k (Enumeration e count)) s = if_plain s (enumerated e count (u.state_of_variable k))
+denoted (m.constant k kind values) s = read_by (u.of_constant k) kind s
+denoted (m.literal e count p) s = if_plain s (enumerated e count (u.position p))
+denoted (m.vector_type k is_resolved) s = converted k s
+denoted (m.function f) s = called f s
+denoted _ s = None
+
+-- the attribute 'event; no other is offered
+abbrev pub attributed : Option Ident → Typed → Option Typed
+attributed None x = Some x
+attributed (Some a) x = do
+  rule LeftOut (bytes_eq a.text (codes "event"))
+  p ← edge_signal x
+  Some (truth (u.event p))

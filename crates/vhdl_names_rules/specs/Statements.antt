@@ -1,0 +1,174 @@
+-- Sequential statements (IEEE 1076-2008, clause 10), with the declarations in sight.
+use Rattle.std.specs.Prelude.{ℕ, Bool, true, false, not, List, [], ◌∷◌, ◌++◌, Option, Some, None, option_map, is_none}
+use Rattle.vhdl_tree.specs.declared.declaration.Mode.{Mode}
+use Rattle.vhdl_tree.specs.declared.declaration.Mode.TheVariants.{In, Out}
+use Rattle.vhdl_tree.specs.Tree as t
+use Rattle.vhdl_tree.specs.Tree.{Ident}
+use Rattle.vhdl_names_rules.specs.declared.kind.ObjectType.{ObjectType}
+use Rattle.vhdl_names_rules.specs.declared.kind.ObjectType.TheVariants.{Elements}
+use Rattle.vhdl_names_rules.specs.units.Expressions as u
+use Rattle.vhdl_names_rules.specs.units.Expressions.{Part, Place, Signal}
+use Rattle.vhdl_names_rules.specs.units.Statements as s
+use Rattle.vhdl_names_rules.specs.declared.fault.NameProblem.TheVariants.{WrongKind, WriteOfIn, LeftOut}
+use Rattle.vhdl_names_rules.specs.Rules.{◌>>=◌, ◌>>◌, rule}
+use Rattle.vhdl_names_rules.specs.Visibility as m
+use Rattle.vhdl_names_rules.specs.Visibility.{Name, Meaning, Sight, meaning, label_ends, within_loop}
+use Rattle.vhdl_names_rules.specs.Names.{Suffix, part_of, place_of}
+use Rattle.vhdl_names_rules.specs.Expressions.{typed, typed_suffix, static_range, condition, given}
+use Rattle.vhdl_names_rules.specs.Choices.{covered, selector, arranged}
+
+-- ---- names of signals and variables
+
+-- a signal, port, or part of one, with its mode if it is a port, and its type
+pub record SignalName : Type 0 where
+  pub place : Place
+  pub mode : Option Mode
+  pub type : ObjectType
+
+abbrev pub named_part : Signal → Option Mode → Part × ObjectType → SignalName
+named_part x mode p = record { place = place_of x p.0; mode = mode; type = p.1 }
+
+abbrev pub as_signal : Meaning → Suffix → Option SignalName
+as_signal (m.port k mode kind) suffix = option_map (named_part (u.port k) (Some mode)) (part_of (Elements kind) suffix)
+as_signal (m.signal k type) suffix = option_map (named_part (u.Signal.signal k) None) (part_of type suffix)
+as_signal _ suffix = None
+
+-- the signal that a name is
+unfoldable pub signal : Sight → t.Name → Option SignalName
+signal sight n = do
+  rule LeftOut (is_none n.attribute)
+  suffix ← typed_suffix sight n.suffix
+  d ← meaning sight n.identifier.text
+  as_signal d suffix
+
+-- an in port is never assigned (6.5.2)
+abbrev pub is_input : Option Mode → Bool
+is_input (Some In) = true
+is_input (Some Out) = false
+is_input None = false
+
+-- the target of a signal assignment (10.5)
+unfoldable pub target : Sight → t.Name → Option SignalName
+target sight n = do
+  x ← signal sight n
+  rule WriteOfIn (not (is_input x.mode))
+  Some x
+
+-- a variable, or part of one
+pub record VariableName : Type 0 where
+  pub number : ℕ
+  pub part : Part
+  pub type : ObjectType
+
+abbrev pub as_variable : Meaning → Suffix → Option VariableName
+as_variable (m.variable k type) suffix = option_map (λ p. record { number = k; part = p.0; type = p.1 }) (part_of type suffix)
+as_variable _ suffix = None
+
+-- the target of a variable assignment (10.6)
+unfoldable pub variable : Sight → t.Name → Option VariableName
+variable sight n = do
+  rule LeftOut (is_none n.attribute)
+  suffix ← typed_suffix sight n.suffix
+  d ← meaning sight n.identifier.text
+  as_variable d suffix
+
+-- ---- statements
+
+-- the choices of each alternative
+abbrev pub choice_lists : t.Alternatives → List (List t.Choice)
+choice_lists t.no_alternatives = []
+choice_lists (t.alternative cs body more) = cs ∷ choice_lists more
+
+unfoldable mutual
+  -- a statement behind its label
+  pub statement : Sight → Option Ident → t.Statement → Option s.Statement
+  -- null (10.14)
+  statement sight label (t.nothing at) = Some s.nothing
+  -- a signal assignment (10.5), and a variable assignment (10.6)
+  statement sight label (t.assigned n v) = do
+    x ← target sight n
+    g ← given sight x.type v
+    Some (s.assign x.place g)
+  statement sight label (t.variable_assigned n v) = do
+    x ← variable sight n
+    g ← given sight x.type v
+    Some (s.set x.number x.part g)
+  -- if (10.8)
+  statement sight label (t.conditional at bs o end) = do
+    rule WrongKind (label_ends label end)
+    last ← otherwise sight o
+    branches ← conditionals sight last bs
+    Some (s.choose branches)
+  -- case (10.9)
+  statement sight label (t.selection at e alts end) = do
+    rule WrongKind (label_ends label end)
+    x ← typed sight e
+    by ← selector x
+    choices ← covered sight by.0 (choice_lists alts)
+    bodies ← alternatives sight alts
+    all ← arranged choices bodies
+    Some (s.select by.1 all)
+  -- a for loop (10.10); its parameter's range has the outer names in sight
+  statement sight label (t.loop at n r body end) = do
+    rule WrongKind (label_ends label end)
+    range ← static_range sight r
+    turn ← statements (within_loop sight n) body
+    Some (s.loop range turn)
+
+  pub statements : Sight → t.Statements → Option s.Statements
+  statements sight t.no_statements = Some s.done
+  statements sight (t.statement label x xs) = do
+    y ← statement sight label x
+    ys ← statements sight xs
+    Some (s.step y ys)
+
+  pub conditionals : Sight → s.Branches → t.Conditionals → Option s.Branches
+  conditionals sight last t.no_conditionals = Some last
+  conditionals sight last (t.guarded e body bs) = do
+    c ← condition sight e
+    x ← statements sight body
+    rest ← conditionals sight last bs
+    Some (s.branch c x rest)
+
+  pub otherwise : Sight → t.Otherwise → Option s.Branches
+  otherwise sight t.no_else = Some s.no_else
+  otherwise sight (t.else_do body) = option_map s.otherwise (statements sight body)
+
+  -- what each alternative of a case does
+  pub alternatives : Sight → t.Alternatives → Option (List s.Statements)
+  alternatives sight t.no_alternatives = Some []
+  alternatives sight (t.alternative cs body more) = do
+    x ← statements sight body
+    xs ← alternatives sight more
+    Some (x ∷ xs)
+
+-- ---- the labels inside a process, however deep they stand
+
+abbrev pub label_names : Option Ident → List Name
+label_names None = []
+label_names (Some l) = l.text ∷ []
+
+abbrev mutual
+  pub inner_labels : t.Statement → List Name
+  inner_labels (t.nothing at) = []
+  inner_labels (t.assigned n v) = []
+  inner_labels (t.variable_assigned n v) = []
+  inner_labels (t.conditional at bs o end) = conditional_labels bs ++ otherwise_labels o
+  inner_labels (t.selection at e alts end) = alternative_labels alts
+  inner_labels (t.loop at n r body end) = statement_labels body
+
+  pub statement_labels : t.Statements → List Name
+  statement_labels t.no_statements = []
+  statement_labels (t.statement label x xs) = label_names label ++ (inner_labels x ++ statement_labels xs)
+
+  pub conditional_labels : t.Conditionals → List Name
+  conditional_labels t.no_conditionals = []
+  conditional_labels (t.guarded e body bs) = statement_labels body ++ conditional_labels bs
+
+  pub otherwise_labels : t.Otherwise → List Name
+  otherwise_labels t.no_else = []
+  otherwise_labels (t.else_do body) = statement_labels body
+
+  pub alternative_labels : t.Alternatives → List Name
+  alternative_labels t.no_alternatives = []
+  alternative_labels (t.alternative cs body more) = statement_labels body ++ alternative_labels more

@@ -1,0 +1,41 @@
+-- Laws of what elaboration may take for granted: what instances name and associate is there, and no in port is assigned.
+use Rattle.std.specs.Prelude.{◌≡◌, ℕ, ◌⊎◌, List, length, slice_get, Option, Some}
+use Rattle.vhdl_tree.specs.declared.declaration.Mode.TheVariants.{Out}
+use Rattle.vhdl_tree.specs.Tree as t
+use Rattle.vhdl_tree.specs.Tree.{File, Ident, Expr}
+use Rattle.vhdl_names_rules.specs.declared.kind.Kind.{Kind}
+use Rattle.vhdl_names_rules.specs.declared.kind.ObjectType.{ObjectType}
+use Rattle.vhdl_names_rules.specs.units.Expressions as e
+use Rattle.vhdl_names_rules.specs.units.Expressions.{Signal, Place}
+use Rattle.vhdl_names_rules.specs.units.Units as u
+use Rattle.vhdl_names_rules.specs.units.Units.{Units}
+use Rattle.vhdl_names_rules.specs.Rules.{each}
+use Rattle.vhdl_names_rules.specs.Visibility as m
+use Rattle.vhdl_names_rules.specs.Visibility.{Meaning, Sight, meaning}
+use Rattle.vhdl_names_rules.specs.Interfaces.{EntityView}
+use Rattle.vhdl_names_rules.specs.Statements.{SignalName, target}
+use Rattle.vhdl_names_rules.specs.Instances.{Formal, port_actual, as_name, instance}
+use Rattle.vhdl_names_rules.specs.Files.{entities_of, viewed, units_of}
+
+-- a name of this meaning is an out port, or a signal, of this number
+abbrev pub IsDriven : Option Meaning → Signal → Type 0
+IsDriven o x =
+    ((k : ℕ) × (kind : Kind) × (o ≡ Some (m.port k Out kind)) × (x ≡ e.port k))
+    ⊎ ((k : ℕ) × (type : ObjectType) × (o ≡ Some (m.signal k type)) × (x ≡ e.Signal.signal k))
+
+-- No target is an in port.
+abbrev pub TargetsAreDriven : Type 0
+TargetsAreDriven = (sight : Sight) (n : t.Name) (x : SignalName) → target sight n ≡ Some x
+    → IsDriven (meaning sight n.identifier.text) x.place.signal
+
+-- Nor is the actual of an out port.
+abbrev pub ActualsAreDriven : Type 0
+ActualsAreDriven = (sight : Sight) (f : Formal) (n : t.Name) (actual : Expr) (p : Place) → f.mode ≡ Out → as_name actual ≡ Some n
+    → port_actual sight f actual ≡ Some p → IsDriven (meaning sight n.identifier.text) p.signal
+
+-- An instance is of a unit of the file, and has an entry for each of its generics and ports.
+abbrev pub InstancesFitUnits : Type 0
+InstancesFitUnits = (f : File) (units : Units) (entities : List EntityView) (sight : Sight) (label : Ident) (i : t.Instance) (x : u.Instance)
+    → units_of f ≡ Some units → each (viewed f.units) (entities_of f.units) ≡ Some entities → instance entities sight label i ≡ Some x
+    → (unit : u.Entity) × (slice_get units x.unit ≡ Some unit)
+    × (length x.generics ≡ length unit.generics) × (length x.ports ≡ length unit.ports)

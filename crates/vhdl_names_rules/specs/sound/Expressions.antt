@@ -1,0 +1,186 @@
+-- What elaboration may take for granted of expressions: numbers are in range, parameters stand inside their generates and loops, and
+-- one element stands where one is asked for.
+use Rattle.std.specs.Prelude.{ℕ, ◌==◌, nat_lt, Bool, true, false, not, ◌&&◌, List, map, slice_get, Option, Some, None}
+use Rattle.vhdl_names_rules.specs.declared.operator.VectorOperator.{VectorOperator}
+use Rattle.vhdl_names_rules.specs.declared.operator.VectorOperator.TheVariants as v
+use Rattle.vhdl_names_rules.specs.units.Expressions as e
+use Rattle.vhdl_names_rules.specs.units.Expressions.{Static, Range, StaticTest, Signal, Part, Place, Vector, Value, Test}
+use Rattle.vhdl_names_rules.specs.units.Units as u
+use Rattle.vhdl_names_rules.specs.units.Units.{Form, Fixed, Units}
+use Rattle.vhdl_names_rules.specs.Rules.{◌>>=◌, then_some}
+
+-- ---- what is declared where an expression stands
+
+pub record Inside : Type 0 where
+  pub generics : ℕ
+  pub integers : ℕ
+  pub constants : List Form
+  pub ports : List u.Port
+  pub signals : List Form
+  pub variables : List Form
+  -- how many generates and loops with a parameter stand round the place
+  pub generates : ℕ
+  pub loops : ℕ
+
+-- ---- static integers
+
+abbrev pub static_fits : Inside → Static → Bool
+static_fits i (e.number n) = true
+static_fits i (e.generic k) = nat_lt k i.generics
+static_fits i (e.Static.constant k) = nat_lt k i.integers
+static_fits i (e.generate_parameter k) = nat_lt k i.generates
+static_fits i (e.loop_parameter k) = nat_lt k i.loops
+static_fits i (e.Static.negated x) = static_fits i x
+static_fits i (e.Static.binary op x y) = static_fits i x && static_fits i y
+
+abbrev pub range_fits : Inside → Range → Bool
+range_fits i r = static_fits i r.left && static_fits i r.right
+
+abbrev pub static_test_fits : Inside → StaticTest → Bool
+static_test_fits i (e.StaticTest.compared op x y) = static_fits i x && static_fits i y
+static_test_fits i (e.StaticTest.negated t) = static_test_fits i t
+static_test_fits i (e.StaticTest.both op t r) = static_test_fits i t && static_test_fits i r
+
+-- ---- shapes: one element, a vector, or a value of an enumeration of so many literals
+
+pub data Shape : Type 0 where
+  one : Shape
+  vector : Shape
+  state : (count : ℕ) → Shape
+
+abbrev pub shape_of : Form → Shape
+shape_of u.element = one
+shape_of (u.vector r) = vector
+shape_of (u.enumeration count) = state count
+
+-- a part of an object: elements and slices are parts of vectors
+abbrev pub part_shape : Inside → Form → Part → Option Shape
+part_shape i f e.whole = Some (shape_of f)
+part_shape i (u.vector r) (e.Part.element x) = then_some (static_fits i x) one
+part_shape i (u.vector r) (e.slice x) = then_some (range_fits i x) vector
+part_shape i _ _ = None
+
+abbrev pub port_form : u.Port → Form
+port_form p = p.object.form
+
+abbrev pub signal_form : Inside → Signal → Option Form
+signal_form i (e.port k) = slice_get (map port_form i.ports) k
+signal_form i (e.Signal.signal k) = slice_get i.signals k
+
+abbrev pub place_shape : Inside → Place → Option Shape
+place_shape i p = signal_form i p.signal >>= λ f. part_shape i f p.part
+
+-- ---- vectors and values
+
+-- both are elements, or both are vectors
+abbrev pub same_shape : Shape → Shape → Bool
+same_shape one one = true
+same_shape vector vector = true
+same_shape (state m) (state n) = m == n
+same_shape _ _ = false
+
+abbrev pub is_one : Shape → Bool
+is_one one = true
+is_one _ = false
+
+abbrev pub is_vector : Shape → Bool
+is_vector vector = true
+is_vector _ = false
+
+-- of the nine values
+abbrev pub is_elements : Shape → Bool
+is_elements (state count) = false
+is_elements _ = true
+
+-- what an operator makes: logical operators of two alike, `&` of any two, arithmetic of two vectors
+abbrev pub operated_shape : VectorOperator → Shape → Shape → Option Shape
+operated_shape (v.Logical op) x y = then_some (same_shape x y && is_elements x) x
+operated_shape v.Concatenate x y = then_some (is_elements x && is_elements y) vector
+operated_shape (v.Arithmetic op) x y = then_some (is_vector x && is_vector y) vector
+
+-- a vector and a static integer make a vector
+abbrev pub with_static : Inside → Option Shape → Static → Option Shape
+with_static i x n = do
+  y ← x
+  then_some (is_vector y && static_fits i n) vector
+
+abbrev pub vector_shape : Inside → Vector → Option Shape
+vector_shape i (e.of_signal p) = do
+  x ← place_shape i p
+  then_some (is_elements x) x
+vector_shape i (e.of_variable k p) = do
+  f ← slice_get i.variables k
+  x ← part_shape i f p
+  then_some (is_elements x) x
+vector_shape i (e.of_constant k p) = do
+  f ← slice_get i.constants k
+  x ← part_shape i f p
+  then_some (is_elements x) x
+vector_shape i (e.character x) = Some one
+vector_shape i (e.enclosed_character x) = Some one
+vector_shape i (e.Vector.literal xs) = Some vector
+vector_shape i (e.Vector.inverse x) = vector_shape i x
+vector_shape i (e.Vector.binary op x y) = do
+  a ← vector_shape i x
+  b ← vector_shape i y
+  operated_shape op a b
+vector_shape i (e.with_integer op x n) = with_static i (vector_shape i x) n
+vector_shape i (e.integer_with op n x) = with_static i (vector_shape i x) n
+vector_shape i (e.Vector.encoded n size) = then_some (static_fits i n && static_fits i size) vector
+vector_shape i (e.Vector.resized x n) = with_static i (vector_shape i x) n
+vector_shape i (e.Vector.shifted_left x n) = with_static i (vector_shape i x) n
+vector_shape i (e.Vector.shifted_right x n) = with_static i (vector_shape i x) n
+
+-- ---- values
+
+-- what is said to be of an enumeration is
+abbrev pub state_shape : Form → Option Shape
+state_shape f = then_some (not (is_elements (shape_of f))) (shape_of f)
+
+-- a literal of an enumeration has no shape of its own
+abbrev pub value_shape : Inside → Value → Option Shape
+value_shape i (e.Value.elements x) = vector_shape i x
+value_shape i (e.Value.position p) = None
+value_shape i (e.state_of x) = signal_form i x >>= state_shape
+value_shape i (e.state_of_variable k) = slice_get i.variables k >>= state_shape
+
+abbrev pub position_fits : Shape → ℕ → Bool
+position_fits (state count) p = nat_lt p count
+position_fits _ p = false
+
+abbrev pub fits_shape : Shape → Option Shape → Bool
+fits_shape x None = false
+fits_shape x (Some y) = same_shape x y
+
+-- a value where one of this shape is asked for
+abbrev pub value_fits : Inside → Shape → Value → Bool
+value_fits i x (e.Value.position p) = position_fits x p
+value_fits i x y = fits_shape x (value_shape i y)
+
+abbrev pub value_fits_beside : Inside → Option Shape → Value → Bool
+value_fits_beside i None y = false
+value_fits_beside i (Some x) y = value_fits i x y
+
+abbrev pub values_fit : Inside → Value → Value → Bool
+values_fit i (e.Value.position p) (e.Value.position q) = true
+values_fit i (e.Value.position p) y = value_fits_beside i (value_shape i y) (e.Value.position p)
+values_fit i x y = value_fits_beside i (value_shape i x) y
+
+-- ---- truths
+
+-- no loop's parameter stands in the place of an edge
+abbrev pub edge_fits : Inside → Place → Bool
+edge_fits i p = fits_shape one (place_shape (record i { loops = 0 }) p)
+
+abbrev pub test_fits : Inside → Test → Bool
+test_fits i (e.holds x) = fits_shape one (vector_shape i x)
+test_fits i (e.Test.fixed t) = static_test_fits i t
+test_fits i (e.alike x y) = values_fit i x y
+test_fits i (e.unlike x y) = values_fit i x y
+test_fits i (e.Test.compared op x y) = fits_shape vector (vector_shape i x) && fits_shape vector (vector_shape i y)
+test_fits i (e.compared_to op x n) = fits_shape vector (vector_shape i x) && static_fits i n
+test_fits i (e.compared_with op n x) = static_fits i n && fits_shape vector (vector_shape i x)
+test_fits i (e.edge kind p) = edge_fits i p
+test_fits i (e.event p) = edge_fits i p
+test_fits i (e.Test.negated t) = test_fits i t
+test_fits i (e.Test.both op t r) = test_fits i t && test_fits i r

@@ -1,0 +1,106 @@
+-- Analysed expressions (IEEE 1076-2008, clause 9): each name is the number of its declaration, each operator its kind, each
+-- literal its values. Integers, vectors and truths are three types of tree, so that no type is left to be looked up. Where an
+-- expression stands in the text, contracts leave out.
+use Rattle.std.specs.Prelude.{ℕ, List}
+use Rattle.vhdl_values.specs.declared.scalar.Nine.{Nine}
+use Rattle.vhdl_values.specs.declared.kinds.Logic.{Logic}
+use Rattle.vhdl_values.specs.declared.kinds.Cmp.{Cmp}
+use Rattle.vhdl_values.specs.declared.kinds.Edge.{Edge}
+use Rattle.vhdl_tree.specs.declared.operator.Direction.{Direction}
+use Rattle.vhdl_names_rules.specs.declared.operator.Arithmetic.{Arithmetic}
+use Rattle.vhdl_names_rules.specs.declared.operator.Numeric.{Numeric}
+use Rattle.vhdl_names_rules.specs.declared.operator.VectorOperator.{VectorOperator}
+
+-- ---- static integers
+
+-- declarations are numbered from 0 within their class and unit, in order of the text
+pub data Static : Type 0 where
+  number : ℕ → Static
+  generic : ℕ → Static
+  -- an integer constant
+  constant : ℕ → Static
+  -- the parameter of the generate, or of the loop, that has so many of its kind round it
+  generate_parameter : ℕ → Static
+  loop_parameter : ℕ → Static
+  negated : Static → Static
+  binary : Arithmetic → Static → Static → Static
+
+pub record Range : Type 0 where
+  pub left : Static
+  pub direction : Direction
+  pub right : Static
+
+-- truth over static integers alone
+pub data StaticTest : Type 0 where
+  compared : Cmp → Static → Static → StaticTest
+  negated : StaticTest → StaticTest
+  both : Logic → StaticTest → StaticTest → StaticTest
+
+-- ---- names
+
+-- a port or signal of the unit
+pub data Signal : Type 0 where
+  port : ℕ → Signal
+  signal : ℕ → Signal
+
+-- the whole of what is declared, one element of it, or a slice
+pub data Part : Type 0 where
+  whole : Part
+  element : Static → Part
+  slice : Range → Part
+
+pub record Place : Type 0 where
+  pub signal : Signal
+  pub part : Part
+
+-- ---- one element of the nine values, or a vector of them
+
+pub data Vector : Type 0 where
+  of_signal : Place → Vector
+  of_variable : ℕ → Part → Vector
+  of_constant : ℕ → Part → Vector
+  -- A character literal with no parentheses round it, nor round the operand on its left: an edge test is `event p` with
+  -- `alike (elements (of_signal p)) (elements (character v))`, v being '0' or '1'.
+  character : Nine → Vector
+  -- any other character literal
+  enclosed_character : Nine → Vector
+  -- a string or bit string
+  literal : List Nine → Vector
+  inverse : Vector → Vector
+  binary : VectorOperator → Vector → Vector → Vector
+  -- of a number and a static integer, and of a static integer and a number
+  with_integer : Numeric → Vector → Static → Vector
+  integer_with : Numeric → Static → Vector → Vector
+  -- to_unsigned, of a number and a size
+  encoded : Static → Static → Vector
+  resized : Vector → Static → Vector
+  shifted_left : Vector → Static → Vector
+  shifted_right : Vector → Static → Vector
+
+-- what is assigned, compared or selected by: elements of the nine values, or a value of an enumeration
+pub data Value : Type 0 where
+  elements : Vector → Value
+  -- an enumeration's literal, by its position
+  position : ℕ → Value
+  -- a signal or variable of an enumeration
+  state_of : Signal → Value
+  state_of_variable : ℕ → Value
+
+-- ---- truth
+
+pub data Test : Type 0 where
+  -- one element as a condition
+  holds : Vector → Test
+  fixed : StaticTest → Test
+  -- equality of the values, and its negation
+  alike : Value → Value → Test
+  unlike : Value → Value → Test
+  -- of two numbers; of a number and a static integer, and of a static integer and a number
+  compared : Cmp → Vector → Vector → Test
+  compared_to : Cmp → Vector → Static → Test
+  compared_with : Cmp → Static → Vector → Test
+  -- rising_edge and falling_edge
+  edge : Edge → Place → Test
+  event : Place → Test
+  negated : Test → Test
+  both : Logic → Test → Test → Test

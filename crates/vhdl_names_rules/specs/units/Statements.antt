@@ -1,0 +1,40 @@
+-- Analysed sequential statements (IEEE 1076-2008, clause 10).
+use Rattle.std.specs.Prelude.{ℕ, List}
+use Rattle.vhdl_values.specs.declared.scalar.Nine.{Nine}
+use Rattle.vhdl_names_rules.specs.units.Expressions.{Range, Part, Place, Vector, Value, Test}
+
+-- what is assigned: a value, or (others => e), one element for each of the target's
+pub data Given : Type 0 where
+  single : Value → Given
+  filled : Vector → Given
+
+-- a choice of a case: the values of a literal, or an enumeration's literal by its position
+pub data Choice : Type 0 where
+  values : List Nine → Choice
+  position : ℕ → Choice
+
+mutual
+  pub data Statement : Type 0 where
+    nothing : Statement
+    -- to a signal, and to the variable of this number
+    assign : Place → Given → Statement
+    set : ℕ → Part → Given → Statement
+    choose : Branches → Statement
+    select : Value → Alternatives → Statement
+    -- its parameter is the loop parameter with as many others round it as it has loops
+    loop : Range → Statements → Statement
+
+  pub data Statements : Type 0 where
+    done : Statements
+    step : Statement → Statements → Statements
+
+  pub data Branches : Type 0 where
+    no_else : Branches
+    otherwise : Statements → Branches
+    branch : Test → Statements → Branches → Branches
+
+  -- Last stands what is done otherwise. A case that names every literal of an enumeration and has no others does its last
+  -- alternative there.
+  pub data Alternatives : Type 0 where
+    others : Statements → Alternatives
+    alternative : List Choice → Statements → Alternatives → Alternatives

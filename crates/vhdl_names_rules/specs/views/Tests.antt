@@ -1,0 +1,67 @@
+-- Truths of the code, without places in the text, and with a chain of operators grouped from the left.
+use Rattle.std.specs.Prelude.{Bool, true, false, List, [], ◌∷◌}
+use Rattle.vhdl_names_rules.specs.declared.test.StaticTest.{StaticTest}
+use Rattle.vhdl_names_rules.specs.declared.test.StaticTest.TheVariants as s
+use Rattle.vhdl_names_rules.specs.declared.test.StaticTest.TheBlock.{Row_of-StaticTestLink, end_of-StaticTestLink, more_of-StaticTestLink}
+use Rattle.vhdl_names_rules.specs.declared.test.StaticTestLink.{StaticTestLink}
+use Rattle.vhdl_names_rules.specs.declared.test.Test.{Test}
+use Rattle.vhdl_names_rules.specs.declared.test.Test.TheVariants as t
+use Rattle.vhdl_names_rules.specs.declared.test.Test.TheBlock.{Row_of-TestLink, end_of-TestLink, more_of-TestLink}
+use Rattle.vhdl_names_rules.specs.declared.test.TestLink.{TestLink}
+use Rattle.vhdl_names_rules.specs.declared.test.StaticTestStart.{StaticTestStart}
+use Rattle.vhdl_names_rules.specs.declared.test.TestStart.{TestStart}
+use Rattle.vhdl_names_rules.specs.units.Expressions as u
+use Rattle.vhdl_names_rules.specs.views.Integers.{static_view}
+use Rattle.vhdl_names_rules.specs.views.Vectors.{place_view, vector_view, value_view}
+
+-- ---- over static integers
+
+abbrev mutual
+  pub static_test_view : StaticTest → u.StaticTest
+  static_test_view (s.Compared op at x y) = u.StaticTest.compared op (static_view x) (static_view y)
+  static_test_view (s.Not' b x) = u.StaticTest.negated (static_test_view x)
+  static_test_view (s.Chain' b first operator operand shape rest) =
+      static_links_view (u.StaticTest.both operator (static_test_view first) (static_test_view operand)) rest
+
+  pub static_links_view : {m : _} → u.StaticTest → Row_of-StaticTestLink m → u.StaticTest
+  static_links_view left end_of-StaticTestLink = left
+  static_links_view left (more_of-StaticTestLink operator operand rest) =
+      static_links_view (u.StaticTest.both operator left (static_test_view operand)) rest
+
+abbrev pub static_start_view : StaticTestStart → u.StaticTest
+static_start_view s = u.StaticTest.both s.link.operator (static_test_view s.first) (static_test_view s.link.operand)
+
+abbrev pub static_test_chained : u.StaticTest → List StaticTestLink → u.StaticTest
+static_test_chained left [] = left
+static_test_chained left (l ∷ ls) = static_test_chained (u.StaticTest.both l.operator left (static_test_view l.operand)) ls
+
+-- ---- any truth
+
+abbrev mutual
+  pub test_view : Test → u.Test
+  test_view (t.Holds x) = u.holds (vector_view x)
+  test_view (t.Fixed x) = u.Test.fixed (static_test_view x)
+  test_view (t.Alike at x y) = u.alike (value_view x) (value_view y)
+  test_view (t.Unlike at x y) = u.unlike (value_view x) (value_view y)
+  test_view (t.Compared op at x y) = u.Test.compared op (vector_view x) (vector_view y)
+  test_view (t.ComparedTo op at x s) = u.compared_to op (vector_view x) (static_view s)
+  test_view (t.ComparedWith op at s x) = u.compared_with op (static_view s) (vector_view x)
+  test_view (t.Edge e p) = u.edge e (place_view p)
+  test_view (t.Event p) = u.event (place_view p)
+  test_view (t.Not' b x) = u.Test.negated (test_view x)
+  test_view (t.Chain' b first operator operand shape rest) = links_view (u.Test.both operator (test_view first) (test_view operand)) rest
+
+  pub links_view : {m : _} → u.Test → Row_of-TestLink m → u.Test
+  links_view left end_of-TestLink = left
+  links_view left (more_of-TestLink operator operand rest) = links_view (u.Test.both operator left (test_view operand)) rest
+
+abbrev pub start_view : TestStart → u.Test
+start_view s = u.Test.both s.link.operator (test_view s.first) (test_view s.link.operand)
+
+abbrev pub test_chained : u.Test → List TestLink → u.Test
+test_chained left [] = left
+test_chained left (l ∷ ls) = test_chained (u.Test.both l.operator left (test_view l.operand)) ls
+
+abbrev pub is_fixed : u.Test → Bool
+is_fixed (u.Test.fixed x) = true
+is_fixed _ = false

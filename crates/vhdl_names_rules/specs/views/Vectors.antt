@@ -1,0 +1,67 @@
+-- Elements and vectors of the code, without places in the text, and with a chain of operators grouped from the left.
+use Rattle.std.specs.Prelude.{List, [], ◌∷◌}
+use Rattle.vhdl_names_rules.specs.declared.vector.Signal.{Signal}
+use Rattle.vhdl_names_rules.specs.declared.vector.Signal.TheVariants as g
+use Rattle.vhdl_names_rules.specs.declared.vector.Part.{Part}
+use Rattle.vhdl_names_rules.specs.declared.vector.Part.TheVariants as p
+use Rattle.vhdl_names_rules.specs.declared.vector.Place.{Place}
+use Rattle.vhdl_names_rules.specs.declared.vector.Vector.{Vector}
+use Rattle.vhdl_names_rules.specs.declared.vector.Vector.TheVariants as v
+use Rattle.vhdl_names_rules.specs.declared.vector.Vector.TheBlock.{Row_of-VectorLink, end_of-VectorLink, more_of-VectorLink}
+use Rattle.vhdl_names_rules.specs.declared.vector.VectorLink.{VectorLink}
+use Rattle.vhdl_names_rules.specs.declared.vector.VectorLink.TheVariants as l
+use Rattle.vhdl_names_rules.specs.declared.vector.VectorStart.{VectorStart}
+use Rattle.vhdl_names_rules.specs.declared.vector.Value.{Value}
+use Rattle.vhdl_names_rules.specs.declared.vector.Value.TheVariants as e
+use Rattle.vhdl_names_rules.specs.units.Expressions as u
+use Rattle.vhdl_names_rules.specs.views.Integers.{static_view, range_view}
+
+abbrev pub signal_view : Signal → u.Signal
+signal_view (g.Port k) = u.port k
+signal_view (g.Signal k) = u.Signal.signal k
+
+abbrev pub part_view : Part → u.Part
+part_view p.Whole = u.whole
+part_view (p.Element s) = u.Part.element (static_view s)
+part_view (p.Slice r) = u.slice (range_view r)
+
+abbrev pub place_view : Place → u.Place
+place_view x = record { signal = signal_view x.signal; part = part_view x.part }
+
+abbrev mutual
+  pub vector_view : Vector → u.Vector
+  vector_view (v.Signal x) = u.of_signal (place_view x)
+  vector_view (v.Variable at k x) = u.of_variable k (part_view x)
+  vector_view (v.Constant at k x) = u.of_constant k (part_view x)
+  vector_view (v.Character at x) = u.Vector.character x
+  vector_view (v.EnclosedCharacter at x) = u.Vector.enclosed_character x
+  vector_view (v.Literal at xs) = u.Vector.literal xs.items
+  vector_view (v.Not' at b x) = u.Vector.inverse (vector_view x)
+  vector_view (v.Chain' b first x shape rest) = links_view (linked (vector_view first) x) rest
+  vector_view (v.IntegerWith' op at s b x) = u.integer_with op (static_view s) (vector_view x)
+  vector_view (v.Encoded at s t) = u.Vector.encoded (static_view s) (static_view t)
+  vector_view (v.Resized' at b x s) = u.Vector.resized (vector_view x) (static_view s)
+  vector_view (v.ShiftedLeft' at b x s) = u.Vector.shifted_left (vector_view x) (static_view s)
+  vector_view (v.ShiftedRight' at b x s) = u.Vector.shifted_right (vector_view x) (static_view s)
+
+  pub links_view : {m : _} → u.Vector → Row_of-VectorLink m → u.Vector
+  links_view left end_of-VectorLink = left
+  links_view left (more_of-VectorLink x rest) = links_view (linked left x) rest
+
+  -- an operator with its right operand, after what stands before it
+  pub linked : u.Vector → VectorLink → u.Vector
+  linked left (l.Vector op at x) = u.Vector.binary op left (vector_view x)
+  linked left (l.Integer op at s) = u.with_integer op left (static_view s)
+
+abbrev pub start_view : VectorStart → u.Vector
+start_view s = linked (vector_view s.first) s.link
+
+abbrev pub vector_chained : u.Vector → List VectorLink → u.Vector
+vector_chained left [] = left
+vector_chained left (x ∷ xs) = vector_chained (linked left x) xs
+
+abbrev pub value_view : Value → u.Value
+value_view (e.Elements x) = u.Value.elements (vector_view x)
+value_view (e.Position n) = u.Value.position n
+value_view (e.StateOf x) = u.state_of (signal_view x)
+value_view (e.StateOfVariable k) = u.state_of_variable k

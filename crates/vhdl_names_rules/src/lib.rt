@@ -1,0 +1,20 @@
+//! Names and types of a file (IEEE 1076-2008, clauses 6 and 8 to 13). The definitions stand in `specs`: what an analysed
+//! file is (`units`), which file is well typed, one rule a line, and what follows of both.
+#![tactic(auto)]
+
+mod fault;
+mod integer;
+mod kind;
+mod literal;
+mod operator;
+pub mod rule_laws;
+mod test;
+mod vector;
+
+pub use fault::{NameFault, NameProblem};
+pub use integer::{Static, StaticLink, StaticRange, StaticStart};
+pub use kind::{Function, Kind, ObjectType};
+pub use literal::nine_of;
+pub use operator::{Arithmetic, IntegerType, Numeric, VectorOperator};
+pub use test::{StaticTest, StaticTestLink, StaticTestStart, Test, TestLink, TestStart};
+pub use vector::{Part, Place, Signal, Value, Vector, VectorLink, VectorStart};

@@ -1,0 +1,136 @@
+//! Elements and vectors of the nine values, and values, as they are analysed.
+
+ghost use Rattle.std.specs.Prelude.{◌≡◌, IfOk};
+ghost use Rattle.vhdl_names_rules.specs.units.Expressions as units;
+ghost use Rattle.vhdl_names_rules.specs.views.Integers.{static_view};
+ghost use Rattle.vhdl_names_rules.specs.views.Vectors.{vector_view, start_view, linked, vector_chained};
+
+use crate::integer::{Static, StaticRange};
+use crate::operator::{Numeric, VectorOperator};
+use std::alloc::{AllocError, Global};
+use vhdl_values::Nine;
+
+/// A port or signal of the unit, by its number.
+#[derive(Clone, Copy)]
+pub enum Signal {
+    Port(usize),
+    Signal(usize),
+}
+
+/// The whole of what is declared, one element of it, or a slice.
+#[derive(Drop)]
+pub enum Part {
+    Whole,
+    Element(Static),
+    Slice(StaticRange),
+}
+
+/// A signal or port or a part of one, and the byte at which its name starts.
+#[derive(Drop)]
+pub struct Place {
+    pub at: usize,
+    pub signal: Signal,
+    pub part: Part,
+}
+
+/// One element of the nine values, or a vector of them. Offsets are the bytes at which a name, a
+/// literal, a call or an operator starts.
+#[cycle(vector)]
+#[derive(Drop)]
+pub enum Vector {
+    Signal(Place),
+    /// The variable of this number, or a part of it.
+    Variable(usize, usize, Part),
+    /// The constant of this number that is no integer, or a part of it.
+    Constant(usize, usize, Part),
+    /// A character literal with no parentheses round it, nor round the operand on its left.
+    Character(usize, Nine),
+    /// Any other character literal.
+    EnclosedCharacter(usize, Nine),
+    /// A string or bit string.
+    Literal(usize, Vec<Nine>),
+    Not(usize, Box<Vector>),
+    /// Operators, grouped from the left: the first one, and those after it.
+    Chain(Box<VectorStart>, Vec<VectorLink>),
+    /// A static integer, an operator, and a number.
+    IntegerWith(Numeric, usize, Static, Box<Vector>),
+    /// `to_unsigned`, of a number and a size.
+    Encoded(usize, Static, Static),
+    Resized(usize, Box<Vector>, Static),
+    ShiftedLeft(usize, Box<Vector>, Static),
+    ShiftedRight(usize, Box<Vector>, Static),
+}
+
+/// An operator on vectors, the byte at which it starts, and its right operand.
+#[cycle(vector)]
+#[derive(Drop)]
+pub enum VectorLink {
+    Vector(VectorOperator, usize, Vector),
+    Integer(Numeric, usize, Static),
+}
+
+/// A first operand and the first operator after it, with its right operand.
+#[cycle(vector)]
+#[derive(Drop)]
+pub struct VectorStart {
+    pub first: Vector,
+    pub link: VectorLink,
+}
+
+/// What is assigned, compared or selected by.
+#[derive(Drop)]
+pub enum Value {
+    Elements(Vector),
+    /// An enumeration's literal, by its position.
+    Position(usize),
+    /// A signal, or the variable of this number, of an enumeration.
+    StateOf(Signal),
+    StateOfVariable(usize),
+}
+
+/// A first operand with its operator, and further operators with their right operands.
+#[tactic(auto, using(crate::proofs::rows::Vectors::view_chain))]
+fn chain(start: Box<VectorStart>, links: Vec<VectorLink>) -> Vector
+    ensures { vector_view result ≡ vector_chained (start_view start.value) links.items }
+{
+    Vector::Chain(start, links)
+}
+
+impl Vector {
+    /// This operand with one more operator and its right operand. A chain goes on, so that its
+    /// height doesn't grow. It takes the memory of a list.
+    pub fn with_link(self, alloc: Global, link: VectorLink) -> Result<Vector, AllocError>
+        ensures { IfOk result (λ v. vector_view v ≡ linked (vector_view self) link) }
+    {
+        match self {
+            Vector::Chain(start, mut links) => {
+                links.push(link)?;
+                Ok(chain(start, links))
+            }
+            first => {
+                let start = Box::new(alloc, VectorStart { first, link })?;
+                Ok(chain(start, Vec::new(alloc)))
+            }
+        }
+    }
+
+    /// `not operand`, whose `not` starts at byte `at`. It takes the memory of a box.
+    pub fn inverse(alloc: Global, at: usize, operand: Vector) -> Result<Vector, AllocError>
+        ensures { IfOk result (λ v. vector_view v ≡ units.Vector.inverse (vector_view operand)) }
+    {
+        Ok(Vector::Not(at, Box::new(alloc, operand)?))
+    }
+
+    /// An integer, an operator that starts at byte `at`, and a number. It takes the memory of a box.
+    pub fn integer_with(
+        alloc: Global,
+        operator: Numeric,
+        at: usize,
+        integer: Static,
+        number: Vector,
+    ) -> Result<Vector, AllocError>
+        ensures { IfOk result (λ v. vector_view v ≡ units.integer_with operator (static_view integer) (vector_view number)) }
+    {
+        Ok(Vector::IntegerWith(operator, at, integer, Box::new(alloc, number)?))
+    }
+}

@@ -1,0 +1,12 @@
+use Rattle.std.proofs.Common.{ap, map, [], ◌∷◌, ◌∙◌}
+use Rattle.std.proofs.lemmas.List.{map-append}
+use Rattle.vhdl_names_units.specs.views.Sequential.{alternative_view, alternatives_view}
+use Rattle.vhdl_names_statements.specs.steps.Cases.{but_last}
+use Rattle.vhdl_names_statements.proofs.steps.Cases.{but_last-push}
+use Rattle.vhdl_names_statements.proofs.choices.but_last.Goals as goal
+
+pub returns-in-Some : goal.returns-in-Some
+returns-in-Some c =
+    ap (λ xs. but_last (map alternative_view xs)) c.in-Some.ensures.items
+    ∙ ap but_last (map-append alternative_view c.pop.new.self.items (c.in-Some.last ∷ []))
+    ∙ but_last-push (alternatives_view c.pop.new.self) (alternative_view c.in-Some.last)

@@ -1,0 +1,309 @@
+-- The rules of case statements, in the order in which the code comes to their parts.
+use Rattle.std.proofs.Common.{◌≡◌, ℕ, suc, ◌+◌, ◌-◌, ◌<◌, arith, Bool, true, false, List, [], ◌∷◌, ◌++◌, map, Option, Some, None, refl, ap, sym, ◌∙◌}
+use Rattle.std.specs.Prelude.{option_map, not, ◌&&◌, ◌||◌}
+use Rattle.std.proofs.lemmas.List.{map-append}
+use Rattle.std.specs.List.{flat_map, list_all, list_any, range_with_len}
+use Rattle.std.specs.Borrow.{Bor}
+use Rattle.vhdl_tree.specs.declared.expression.Choice.{Choice}
+use Rattle.vhdl_tree.specs.Tree as t
+use Rattle.vhdl_tree.specs.Tree.{Ident}
+use Rattle.vhdl_tree.specs.View as tree
+use Rattle.vhdl_tree.specs.declared.sequential.Case.{Case, out-Case, roll-out-Case}
+use Rattle.vhdl_tree.proofs.RowsStatements.{view_case}
+use Rattle.vhdl_names_rules.specs.declared.kind.ObjectType.{ObjectType}
+use Rattle.vhdl_names_rules.specs.declared.kind.ObjectType.TheVariants.{Elements, Enumeration}
+use Rattle.vhdl_names_rules.specs.units.Expressions.{Value}
+use Rattle.vhdl_names_rules.specs.units.Statements as s
+use Rattle.vhdl_names_rules.specs.Rules.{◌>>=◌, ◌>>◌, met, each, then_some}
+use Rattle.vhdl_names_rules.specs.Visibility.{Name, Sight, label_ends, are_distinct, is_among}
+use Rattle.vhdl_names_rules.specs.Expressions.{typed}
+use Rattle.vhdl_names_rules.specs.Choices.{choices, covered, selector, arranged, only_last_others, is_last_others, is_others, are_distinct_choices, names_all, same_choice}
+use Rattle.vhdl_names_rules.specs.Statements.{statement, statements, alternatives, choice_lists}
+use Rattle.vhdl_names_expressions.specs.Asked.{selected_by}
+use Rattle.vhdl_names_units.specs.views.Sequential.{Chosen, chosen_by, statements_of, alternatives_of}
+use Rattle.vhdl_names_labels.specs.Lists.{in_turn}
+use Rattle.vhdl_names_labels.specs.Once.{one_name, key_of}
+use Rattle.vhdl_names_statements.specs.steps.Sequential.{all_labelled}
+use Rattle.vhdl_names_statements.specs.steps.Cases as steps
+use Rattle.vhdl_names_statements.specs.steps.Cases.{Divided, all_choices, chosen, cover, but_last, selection, with_choices, has_all, choice_list, all_lists}
+use Rattle.vhdl_names_labels.proofs.Lists.{bound, inner}
+use Rattle.vhdl_names_labels.proofs.Once.{once, among_keys, distinct_keys}
+use Rattle.vhdl_names_statements.proofs.steps.Sequential.{statements_each}
+
+-- ---- rules in another order
+
+late : {A B : Type 0} (b : Bool) (m : Option A) (f : A → Option B) → (met b >> (m >>= f)) ≡ (m >>= λ x. met b >> f x)
+late true m f = refl
+late false None f = refl
+late false (Some x) f = refl
+
+lost : {A B : Type 0} (m : Option A) → (m >>= λ x. None) ≡ let n : Option B = None in n
+lost None = refl
+lost (Some x) = refl
+
+-- ---- choices and what alternatives do
+
+abbrev pub choices_of : List Chosen → List (List s.Choice)
+choices_of all = map (λ (a : Chosen). a.choices) all
+
+abbrev pub bodies_of : List Chosen → List s.Statements
+bodies_of all = map (λ (a : Chosen). statements_of a.statements) all
+
+lists_each : (alts : List t.Alternative) → choice_lists (t.alternatives_of alts) ≡ steps.choice_lists alts
+lists_each [] = refl
+lists_each (a ∷ alts) = ap (λ xs. a.choices ∷ xs) (lists_each alts)
+
+-- the choices and the bodies are there where both are, alternative by alternative
+pub data Pairs (f : Option (List (List s.Choice))) (g : Option (List s.Statements)) (h : Option (List Chosen)) : Type 0 where
+  all_there : (all : List Chosen) → f ≡ Some (choices_of all) → g ≡ Some (bodies_of all) → h ≡ Some all → Pairs f g h
+  no_choices : f ≡ None → h ≡ None → Pairs f g h
+  no_bodies : g ≡ None → h ≡ None → Pairs f g h
+
+pub one_pair : (c : Option (List s.Choice)) (l : Option (List s.Statement)) (m : Option s.Statements) → m ≡ option_map statements_of l
+    → (f : Option (List (List s.Choice))) (g : Option (List s.Statements)) (h : Option (List Chosen)) → Pairs f g h
+    → Pairs (c >>= λ y. f >>= λ ys. Some (y ∷ ys)) (m >>= λ y. g >>= λ ys. Some (y ∷ ys))
+    ((c >>= λ cs. l >>= λ xs. Some (chosen_by cs xs)) >>= λ y. h >>= λ ys. Some (y ∷ ys))
+one_pair None l m e f g h p = no_choices refl refl
+one_pair (Some cs) None m e f g h p = no_bodies (ap (λ m. m >>= λ y. g >>= λ ys. Some (y ∷ ys)) e) refl
+one_pair (Some cs) (Some xs) m e f g h (all_there all p q r) =
+    all_there (chosen_by cs xs ∷ all) (ap (λ f. f >>= λ ys. Some (cs ∷ ys)) p)
+    (ap (λ m. m >>= λ y. g >>= λ ys. Some (y ∷ ys)) e ∙ ap (λ g. g >>= λ ys. Some (statements_of xs ∷ ys)) q)
+    (ap (λ h. h >>= λ ys. Some (chosen_by cs xs ∷ ys)) r)
+one_pair (Some cs) (Some xs) m e f g h (no_choices p r) =
+    no_choices (ap (λ f. f >>= λ ys. Some (cs ∷ ys)) p) (ap (λ h. h >>= λ ys. Some (chosen_by cs xs ∷ ys)) r)
+one_pair (Some cs) (Some xs) m e f g h (no_bodies q r) =
+    no_bodies (ap (λ m. m >>= λ y. g >>= λ ys. Some (y ∷ ys)) e ∙ ap (λ g. g >>= λ ys. Some (statements_of xs ∷ ys)) q)
+    (ap (λ h. h >>= λ ys. Some (chosen_by cs xs ∷ ys)) r)
+
+pairs : (sight : Sight) (type : ObjectType) (alts : List t.Alternative)
+    → Pairs (each (choices sight type) (steps.choice_lists alts)) (alternatives sight (t.alternatives_of alts)) (each (chosen sight type) alts)
+unfolding alternatives
+pairs sight type [] = all_there [] refl refl refl
+pairs sight type (a ∷ alts) =
+    one_pair (choices sight type a.choices) (all_labelled sight a.statements) (statements sight (t.statements_of a.statements)) (statements_each sight a.statements)
+    (each (choices sight type) (steps.choice_lists alts)) (alternatives sight (t.alternatives_of alts)) (each (chosen sight type) alts) (pairs sight type alts)
+
+-- ---- the last alternative is done otherwise
+
+abbrev pub put_together : Divided → s.Alternatives
+put_together d = alternatives_of d.alternatives (statements_of d.last)
+
+arranged_by : (all : List Chosen) → arranged (choices_of all) (bodies_of all) ≡ option_map put_together (but_last all)
+arranged_by [] = refl
+arranged_by (a ∷ []) = refl
+arranged_by (a ∷ b ∷ more) = ap (option_map (s.alternative a.choices (statements_of a.statements))) (arranged_by (b ∷ more)) ∙ go (but_last (b ∷ more))
+  where
+    go : (o : Option Divided) → option_map (s.alternative a.choices (statements_of a.statements)) (option_map put_together o)
+        ≡ option_map put_together (o >>= λ d. Some (record { alternatives = a ∷ d.alternatives; last = d.last }))
+    go None = refl
+    go (Some d) = refl
+
+flat_each : (all : List Chosen) → flat_map (λ (cs : List s.Choice). cs) (choices_of all) ≡ all_choices all
+flat_each [] = refl
+flat_each (a ∷ all) = ap (λ cs. a.choices ++ cs) (flat_each all)
+
+-- ---- the whole
+
+module _ (sight : Sight) (type : ObjectType) (value : Value) (l : Bool) (lists : List (List t.Choice)) where
+  abbrev pub by_rules : Option (List (List s.Choice)) → Option (List s.Statements) → Option s.Statement
+  by_rules f g = do
+    cs ← (do
+      met (only_last_others lists)
+      css ← f
+      met (are_distinct_choices (flat_map (λ cs. cs) css))
+      met (is_last_others lists || names_all type (flat_map (λ cs. cs) css))
+      Some css)
+    bodies ← g
+    all ← arranged cs bodies
+    Some (s.select value all)
+
+  abbrev pub by_steps : Option (List Chosen) → Option s.Statement
+  by_steps h = do
+    all ← h
+    cover type lists (all_choices all)
+    met l
+    d ← but_last all
+    Some (s.select value (put_together d))
+
+  -- the last alternative apart
+  apart : (h : Option (List Chosen)) → by_steps h
+      ≡ ((h >>= λ all. cover type lists (all_choices all) >>= λ _. met l >> but_last all) >>= λ d. Some (s.select value (put_together d)))
+  apart None = refl
+  apart (Some all) = go (cover type lists (all_choices all)) l (but_last all)
+    where
+      go : (c : Option (Unit {0})) (b : Bool) (u : Option Divided) → (c >>= λ _. met b >> (u >>= λ d. Some (s.select value (put_together d))))
+          ≡ ((c >>= λ _. met b >> u) >>= λ d. Some (s.select value (put_together d)))
+      go None b u = refl
+      go (Some _) true u = refl
+      go (Some _) false u = refl
+
+  fits : (o d n : Bool) (css : List (List s.Choice)) (bs : List s.Statements) (u : Option Divided) → arranged css bs ≡ option_map put_together u
+      → (met l >> ((met o >> (met d >> (met n >> Some css))) >>= λ cs. arranged cs bs >>= λ all. Some (s.select value all)))
+      ≡ ((met o >> (met d >> met n)) >>= λ _. met l >> (u >>= λ d. Some (s.select value (put_together d))))
+  fits o d n css bs u e = go l o d n u e
+    where
+      done : (u : Option Divided) → (option_map put_together u >>= λ all. Some (s.select value all)) ≡ (u >>= λ d. Some (s.select value (put_together d)))
+      done None = refl
+      done (Some d) = refl
+
+      go : (l o d n : Bool) (u : Option Divided) → arranged css bs ≡ option_map put_together u
+          → (met l >> ((met o >> (met d >> (met n >> Some css))) >>= λ cs. arranged cs bs >>= λ all. Some (s.select value all)))
+          ≡ ((met o >> (met d >> met n)) >>= λ _. met l >> (u >>= λ d. Some (s.select value (put_together d))))
+      go true true true true u e = ap (λ o. o >>= λ all. Some (s.select value all)) e ∙ done u
+      go false true true true u e = refl
+      go true false d n u e = refl
+      go false false d n u e = refl
+      go true true false n u e = refl
+      go false true false n u e = refl
+      go true true true false u e = refl
+      go false true true false u e = refl
+
+  pub same : (f : Option (List (List s.Choice))) (g : Option (List s.Statements)) (h : Option (List Chosen)) → Pairs f g h → (met l >> by_rules f g) ≡ by_steps h
+  same f g h (no_choices p r) = ap (λ f. met l >> by_rules f g) p ∙ none l (only_last_others lists) ∙ ap by_steps (sym r)
+    where
+      none : (l o : Bool) → (met l >> ((met o >> (None >>= λ css. met (are_distinct_choices (flat_map (λ cs. cs) css)) >> (met (is_last_others lists || names_all type (flat_map (λ cs. cs) css)) >> Some css)))
+          >>= λ cs. g >>= λ bodies. arranged cs bodies >>= λ all. Some (s.select value all))) ≡ None
+      none true true = refl
+      none true false = refl
+      none false true = refl
+      none false false = refl
+  same f g h (no_bodies q r) = ap (λ g. met l >> by_rules f g) q ∙ ap (λ o. met l >> o) (lost (met (only_last_others lists) >> (f >>= λ css. met (are_distinct_choices (flat_map (λ cs. cs) css)) >> (met (is_last_others lists || names_all type (flat_map (λ cs. cs) css)) >> Some css)))) ∙ none l ∙ ap by_steps (sym r)
+    where
+      none : (l : Bool) → (met l >> let n : Option s.Statement = None in n) ≡ None
+      none true = refl
+      none false = refl
+  same f g h (all_there all p q r) =
+      ap (λ f. met l >> by_rules f g) p ∙ ap (λ g. met l >> by_rules (Some (choices_of all)) g) q
+      ∙ fits (only_last_others lists) (are_distinct_choices (flat_map (λ cs. cs) (choices_of all)))
+      (is_last_others lists || names_all type (flat_map (λ cs. cs) (choices_of all))) (choices_of all) (bodies_of all) (but_last all) (arranged_by all)
+      ∙ ap (λ cs. (met (only_last_others lists) >> (met (are_distinct_choices cs) >> met (is_last_others lists || names_all type cs)))
+      >>= λ _. met l >> (but_last all >>= λ d. Some (s.select value (put_together d)))) (flat_each all)
+      ∙ ap (λ b. (met (only_last_others lists) >> (met b >> met (is_last_others lists || names_all type (all_choices all))))
+      >>= λ _. met l >> (but_last all >>= λ d. Some (s.select value (put_together d)))) (sym (distinct_keys (all_choices all)))
+      ∙ ap by_steps (sym r)
+
+selection_by : (sight : Sight) (label : Option Ident) (at : ℕ) (e : t.Expr) (alts : List t.Alternative) (end : Option Ident)
+    → statement sight label (t.selection at e (t.alternatives_of alts) end) ≡ selection sight label e alts end
+unfolding statement
+selection_by sight label at e alts end =
+    ap (λ lists. met (label_ends label end) >> (typed sight e >>= λ x. selector x >>= λ by. covered sight by.0 lists >>= λ cs. alternatives sight (t.alternatives_of alts)
+    >>= λ bodies. arranged cs bodies >>= λ all. Some (s.select by.1 all))) (lists_each alts)
+    ∙ ap (λ o. met (label_ends label end) >> o) (inner (typed sight e) selector body)
+    ∙ late (label_ends label end) (selected_by sight e) body
+    ∙ bound (selected_by sight e) (λ by. met (label_ends label end) >> body by)
+    (λ by. steps.parts sight by.0 label alts end >>= λ d. Some (s.select by.1 (put_together d)))
+    (λ by. same sight by.0 by.1 (label_ends label end) (steps.choice_lists alts) _ _ _ (pairs sight by.0 alts)
+    ∙ apart sight by.0 by.1 (label_ends label end) (steps.choice_lists alts) (each (chosen sight by.0) alts))
+  where
+    body : ObjectType × Value → Option s.Statement
+    body by = by_rules sight by.0 by.1 (label_ends label end) (steps.choice_lists alts) (each (choices sight by.0) (steps.choice_lists alts)) (alternatives sight (t.alternatives_of alts))
+
+pub case_is : (c : Case) → tree.case_view c
+    ≡ t.selection (out-Case c).at (tree.view (out-Case c).selector) (t.alternatives_of (tree.alternatives_view (out-Case c).alternatives)) (tree.option_ident_view (out-Case c).end_label)
+case_is c = ap tree.case_view (sym (roll-out-Case c)) ∙ view_case (out-Case c).at (out-Case c).selector (out-Case c).alternatives (out-Case c).end_label
+
+pub case_gives : (sight : Sight) (label : Option Ident) (c : Case) → statement sight label (tree.case_view c)
+    ≡ selection sight label (tree.view (out-Case c).selector) (tree.alternatives_view (out-Case c).alternatives) (tree.option_ident_view (out-Case c).end_label)
+case_gives sight label c =
+    ap (statement sight label) (case_is c)
+    ∙ selection_by sight label _ (tree.view (out-Case c).selector) (tree.alternatives_view (out-Case c).alternatives) (tree.option_ident_view (out-Case c).end_label)
+
+-- ---- tables of choices
+
+pub turned-append : (ks ms ns : List Name) → in_turn one_name ks (ms ++ ns) ≡ (in_turn one_name ks ms >>= λ z. in_turn one_name z ns)
+turned-append ks [] ns = refl
+turned-append ks (m ∷ ms) ns = go (one_name ks m) (λ z. turned-append z ms ns)
+  where
+    go : (o : Option (List Name)) → ((z : List Name) → in_turn one_name z (ms ++ ns) ≡ (in_turn one_name z ms >>= λ y. in_turn one_name y ns))
+        → (o >>= λ z. in_turn one_name z (ms ++ ns)) ≡ ((o >>= λ z. in_turn one_name z ms) >>= λ y. in_turn one_name y ns)
+    go None h = refl
+    go (Some z) h = h z
+
+turned_choices : (ks : List Name) (all : List Chosen) → in_turn with_choices ks all ≡ in_turn one_name ks (map key_of (all_choices all))
+turned_choices ks [] = refl
+turned_choices ks (a ∷ all) =
+    bound (with_choices ks a) (λ z. in_turn with_choices z all) (λ z. in_turn one_name z (map key_of (all_choices all))) (λ z. turned_choices z all)
+    ∙ sym (turned-append ks (map key_of a.choices) (map key_of (all_choices all)))
+    ∙ ap (in_turn one_name ks) (sym (map-append key_of a.choices (all_choices all)))
+
+-- choices that are told apart leave their keys
+pub told : (all : List Chosen) → in_turn with_choices [] all ≡ then_some (are_distinct (map key_of (all_choices all))) (map key_of (all_choices all))
+told all = turned_choices [] all ∙ once (map key_of (all_choices all))
+
+pub has_names : (type : ObjectType) (cs : List s.Choice) → has_all type (map key_of cs) ≡ names_all type cs
+has_names (Elements k) cs = refl
+has_names (Enumeration e count) cs = go (range_with_len 0 count)
+  where
+    go : (ps : List ℕ) → list_all (λ p. is_among (9 ∷ p ∷ []) (map key_of cs)) ps ≡ list_all (λ p. list_any (same_choice (s.Choice.position p)) cs) ps
+    go [] = refl
+    go (p ∷ ps) =
+        ap (λ b. b && list_all (λ p. is_among (9 ∷ p ∷ []) (map key_of cs)) ps) (among_keys (s.Choice.position p) cs)
+        ∙ ap (λ b. list_any (same_choice (s.Choice.position p)) cs && b) (go ps)
+
+-- what is asked, by a table of keys
+pub covered_by : (type : ObjectType) (lists : List (List t.Choice)) (all : List Chosen) → cover type lists (all_choices all)
+    ≡ (met (only_last_others lists) >> (in_turn with_choices [] all >>= λ keys. met (is_last_others lists || has_all type keys)))
+covered_by type lists all =
+    ap (λ o. met (only_last_others lists) >> o) (go (are_distinct (map key_of (all_choices all))))
+    ∙ ap (λ o. met (only_last_others lists) >> (o >>= λ keys. met (is_last_others lists || has_all type keys))) (sym (told all))
+  where
+    go : (b : Bool) → (met b >> met (is_last_others lists || names_all type (all_choices all)))
+        ≡ (then_some b (map key_of (all_choices all)) >>= λ keys. met (is_last_others lists || has_all type keys))
+    go true = ap (λ b. met (is_last_others lists || b)) (sym (has_names type (all_choices all)))
+    go false = refl
+
+-- others in no list but the last
+none_before : (lists : List (List t.Choice)) (last : List t.Choice) → only_last_others (lists ++ last ∷ []) ≡ not (list_any is_others lists)
+none_before [] last = refl
+none_before (cs ∷ []) last = go (is_others cs)
+  where
+    go : (b : Bool) → (not b && true) ≡ not (b || false)
+    go true = refl
+    go false = refl
+none_before (cs ∷ ds ∷ lists) last = ap (λ b. not (is_others cs) && b) (none_before (ds ∷ lists) last) ∙ go (is_others cs) (list_any is_others (ds ∷ lists))
+  where
+    go : (b c : Bool) → (not b && not c) ≡ not (b || c)
+    go true c = refl
+    go false c = refl
+
+any_of : (lists : List (Bor (List Choice))) → list_any is_others (all_lists lists) ≡ list_any (λ (b : Bor (List Choice)). is_others (choice_list b)) lists
+any_of [] = refl
+any_of (b ∷ lists) = ap (λ c. is_others (choice_list b) || c) (any_of lists)
+
+split : (bs before : List (Bor (List Choice))) (last : Bor (List Choice)) → bs ≡ before ++ last ∷ [] → all_lists bs ≡ all_lists before ++ choice_list last ∷ []
+split bs before last e = ap all_lists e ∙ map-append choice_list before (last ∷ [])
+
+pub others_in : (lists before : List (Bor (List Choice))) (last : Bor (List Choice)) → lists ≡ before ++ last ∷ []
+    → only_last_others (all_lists lists) ≡ not (list_any (λ (b : Bor (List Choice)). is_others (choice_list b)) before)
+others_in lists before last e = ap only_last_others (split lists before last e) ∙ none_before (all_lists before) (choice_list last) ∙ ap not (any_of before)
+
+last_is : (lists : List (List t.Choice)) (last : List t.Choice) → is_last_others (lists ++ last ∷ []) ≡ is_others last
+last_is [] last = refl
+last_is (cs ∷ []) last = refl
+last_is (cs ∷ ds ∷ lists) last = last_is (ds ∷ lists) last
+
+pub last_in : (lists before : List (Bor (List Choice))) (last : Bor (List Choice)) → lists ≡ before ++ last ∷ []
+    → is_last_others (all_lists lists) ≡ is_others (choice_list last)
+last_in lists before last e = ap is_last_others (split lists before last e) ∙ last_is (all_lists before) (choice_list last)
+
+-- the next of a range
+next : (p : ℕ → Bool) (i count : ℕ) → i < count → list_all p (range_with_len i (count - i)) ≡ (p i && list_all p (range_with_len (i + 1) (count - (i + 1))))
+next p i count lt =
+    let e : count - i ≡ suc (count - (i + 1)) = omega arith in
+    ap (λ n. list_all p (range_with_len i n)) e
+
+pub next_true : (p : ℕ → Bool) (i count : ℕ) → i < count → p i ≡ true → list_all p (range_with_len i (count - i)) ≡ list_all p (range_with_len (i + 1) (count - (i + 1)))
+next_true p i count lt e = next p i count lt ∙ ap (λ b. b && list_all p (range_with_len (i + 1) (count - (i + 1)))) e
+
+pub next_false : (p : ℕ → Bool) (i count : ℕ) → i < count → p i ≡ false → list_all p (range_with_len i (count - i)) ≡ false
+next_false p i count lt e = next p i count lt ∙ ap (λ b. b && list_all p (range_with_len (i + 1) (count - (i + 1)))) e
+
+pub not_told : (type : ObjectType) (lists : List (List t.Choice)) (all : List Chosen) → in_turn with_choices [] all ≡ None → cover type lists (all_choices all) ≡ None
+not_told type lists all e =
+    covered_by type lists all ∙ ap (λ o. met (only_last_others lists) >> (o >>= λ keys. met (is_last_others lists || has_all type keys))) e
+    ∙ lost (met (only_last_others lists))
+
+pub but_last-push : (all : List Chosen) (a : Chosen) → but_last (all ++ a ∷ []) ≡ Some (record { alternatives = all; last = a.statements })
+but_last-push [] a = refl
+but_last-push (b ∷ []) a = refl
+but_last-push (b ∷ c ∷ all) a = ap (λ o. o >>= λ d. Some (record { alternatives = b ∷ d.alternatives; last = d.last })) (but_last-push (c ∷ all) a)

@@ -1,0 +1,84 @@
+-- Case statements and selected assignments in the order in which the code comes to their parts.
+use Rattle.std.specs.Prelude.{Bool, false, List, [], ◌∷◌, map, flat_map, Option, Some, None, ◌||◌}
+use Rattle.std.specs.List.{list_all, range_with_len}
+use Rattle.std.specs.Borrow.{Bor}
+use Rattle.vhdl_tree.specs.declared.expression.Choice.{Choice}
+use Rattle.vhdl_tree.specs.View.{choice_view}
+use Rattle.vhdl_tree.specs.Tree as t
+use Rattle.vhdl_tree.specs.Tree.{Ident}
+use Rattle.vhdl_names_rules.specs.declared.kind.ObjectType.{ObjectType}
+use Rattle.vhdl_names_rules.specs.declared.kind.ObjectType.TheVariants.{Elements, Enumeration}
+use Rattle.vhdl_names_rules.specs.units.Statements as s
+use Rattle.vhdl_names_rules.specs.declared.fault.NameProblem.TheVariants.{WrongKind, NoOthers, ChoiceTwice}
+use Rattle.vhdl_names_rules.specs.Rules.{◌>>=◌, ◌>>◌, rule, each}
+use Rattle.vhdl_names_rules.specs.Visibility.{Name, Sight, label_ends, is_among, are_distinct}
+use Rattle.vhdl_names_rules.specs.Choices.{choices, only_last_others, is_last_others, names_all}
+use Rattle.vhdl_names_expressions.specs.Asked.{selected_by}
+use Rattle.vhdl_names_units.specs.views.Sequential.{Chosen, chosen_by, statements_of, alternatives_of}
+use Rattle.vhdl_names_labels.specs.Lists.{in_turn}
+use Rattle.vhdl_names_labels.specs.Once.{one_name, key_of}
+use Rattle.vhdl_names_statements.specs.steps.Sequential.{all_labelled}
+
+-- the choices of an alternative, and what it does
+abbrev pub chosen : Sight → ObjectType → t.Alternative → Option Chosen
+chosen sight type a = do
+  cs ← choices sight type a.choices
+  xs ← all_labelled sight a.statements
+  Some (chosen_by cs xs)
+
+abbrev pub all_choices : List Chosen → List s.Choice
+all_choices alts = flat_map (λ (a : Chosen). a.choices) alts
+
+-- what choices of all alternatives are asked
+abbrev pub cover : ObjectType → List (List t.Choice) → List s.Choice → Option (Unit {0})
+cover type lists cs = do
+  rule WrongKind (only_last_others lists)
+  rule ChoiceTwice (are_distinct (map key_of cs))
+  rule NoOthers (is_last_others lists || names_all type cs)
+
+-- alternatives but the last, which is done otherwise
+pub record Divided : Type 0 where
+  pub alternatives : List Chosen
+  pub last : List s.Statement
+
+abbrev pub but_last : List Chosen → Option Divided
+but_last [] = None
+but_last (a ∷ []) = Some (record { alternatives = []; last = a.statements })
+but_last (a ∷ b ∷ more) = but_last (b ∷ more) >>= λ d. Some (record { alternatives = a ∷ d.alternatives; last = d.last })
+
+abbrev pub choice_lists : List t.Alternative → List (List t.Choice)
+choice_lists = map (λ a. a.choices)
+
+-- what is done by a value of this type, the last alternative apart
+abbrev pub parts : Sight → ObjectType → Option Ident → List t.Alternative → Option Ident → Option Divided
+parts sight type label alts end = do
+  all ← each (chosen sight type) alts
+  cover type (choice_lists alts) (all_choices all)
+  rule WrongKind (label_ends label end)
+  but_last all
+
+abbrev pub selection : Sight → Option Ident → t.Expr → List t.Alternative → Option Ident → Option s.Statement
+selection sight label e alts end = do
+  by ← selected_by sight e
+  d ← parts sight by.0 label alts end
+  Some (s.select by.1 (alternatives_of d.alternatives (statements_of d.last)))
+
+-- ---- tables of choices
+
+-- the keys of one alternative's choices, after those before them
+abbrev pub with_choices : List Name → Chosen → Option (List Name)
+with_choices keys a = in_turn one_name keys (map key_of a.choices)
+
+-- each literal of an enumeration has its key
+abbrev pub has_all : ObjectType → List Name → Bool
+has_all (Elements k) keys = false
+has_all (Enumeration e count) keys = list_all (λ p. is_among (9 ∷ p ∷ []) keys) (range_with_len 0 count)
+
+abbrev pub choice_list : Bor (List Choice) → List t.Choice
+choice_list b = map choice_view b.now
+
+abbrev pub all_lists : List (Bor (List Choice)) → List (List t.Choice)
+all_lists = map choice_list
+
+abbrev pub divided : List Chosen → List s.Statement → Divided
+divided alternatives last = record { alternatives = alternatives; last = last }

@@ -1,0 +1,279 @@
+//! How concurrent assignments are analysed (IEEE 1076-2008, 11.6).
+
+ghost use Rattle.std.specs.Prelude.{◌≡◌, ◌∷◌, [], map, option_map, IfOk};
+ghost use Rattle.vhdl_names_rules.specs.Concurrent as rules;
+ghost use Rattle.vhdl_names_rules.specs.Rules.{each, if_any};
+ghost use Rattle.vhdl_names_rules.specs.Gives.{Gives};
+ghost use Rattle.vhdl_tree.specs.View as tree;
+ghost use Rattle.vhdl_names_types.specs.Views.{sight_view};
+ghost use Rattle.vhdl_names_statements.specs.steps.Cases as cases;
+ghost use Rattle.vhdl_names_statements.specs.steps.Concurrent as steps;
+ghost use Rattle.vhdl_names_statements.specs.steps.Sequential as sequential;
+ghost use Rattle.vhdl_names_units.specs.views.Concurrent.{one_process};
+ghost use Rattle.vhdl_names_units.specs.views.Sequential as views;
+
+use crate::choices::{but_last, covered, first_fault};
+use crate::statements::assigned;
+use std::alloc::{AllocError, Global};
+use vhdl_names_labels::copied_label;
+use vhdl_names_rules::{NameFault, ObjectType};
+use vhdl_tree as syntax;
+use vhdl_tree::Identifier;
+use vhdl_names_types::Sight;
+use vhdl_names_expressions::{choices, condition, selector, target};
+use vhdl_names_units::{Alternative, Branch, Process, Sensitivity, Statement};
+
+/// A statement alone.
+fn single(alloc: Global, statement: Statement) -> Result<Vec<Statement>, AllocError>
+    ensures { IfOk result (λ v. views.statements_view v ≡ views.statement_view statement ∷ []) }
+{
+    let mut statements = Vec::new(alloc);
+    statements.push(statement)?;
+    Ok(statements)
+}
+
+/// A process that assigns what it reads; it starts at byte `at`.
+fn assigning(
+    alloc: Global,
+    at: usize,
+    label: &Option<Identifier>,
+    statement: Statement,
+) -> Result<Process, AllocError>
+    ensures { IfOk result (λ p. one_process p ≡ rules.assigning (option_map tree.ident_view label.now) (views.statement_view statement)) }
+{
+    let statements = single(alloc, statement)?;
+    let label = copied_label(alloc, label)?;
+    Ok(Process {
+        at,
+        label,
+        variables: Vec::new(alloc),
+        sensitivity: Sensitivity::AsRead,
+        statements,
+    })
+}
+
+/// An assignment alone.
+fn alone(
+    alloc: Global,
+    sight: &Sight,
+    target: &syntax::Name,
+    value: &syntax::Value,
+) -> Result<Vec<Statement>, NameFault>
+    ensures { Gives views.statements_view (steps.alone (sight_view sight.now) (tree.name_view target.now) (tree.value_view value.now)) result }
+{
+    let statement = assigned(alloc, sight, target, value)?;
+    Ok(single(alloc, statement)?)
+}
+
+/// `value when condition`.
+fn waveform(
+    alloc: Global,
+    sight: &Sight,
+    target: &syntax::Name,
+    item: &syntax::Branch,
+) -> Result<Branch, NameFault>
+    ensures { Gives views.branch_view (steps.waveform (sight_view sight.now) (tree.name_view target.now) (tree.branch_view item.now)) result }
+{
+    let statements = alone(alloc, sight, target, &item.value)?;
+    let condition = condition(alloc, sight, &item.condition)?;
+    Ok(Branch::new(condition, statements))
+}
+
+/// Waveforms with conditions.
+#[tactic(auto, using(vhdl_names_labels::proofs::Lists::each_in_turn))]
+fn waveforms(
+    alloc: Global,
+    sight: &Sight,
+    target: &syntax::Name,
+    list: &[syntax::Branch],
+) -> Result<Vec<Branch>, NameFault>
+    ensures { Gives views.branches_view (each (steps.waveform (sight_view sight.now) (tree.name_view target.now)) (map tree.branch_view list.now)) result }
+{
+    let mut all = Vec::new(alloc);
+    for item in list {
+        let next = waveform(alloc, sight, target, item)?;
+        all.push(next)?;
+    }
+    Ok(all)
+}
+
+/// What is assigned where no condition holds.
+fn otherwise(
+    alloc: Global,
+    sight: &Sight,
+    target: &syntax::Name,
+    value: &Option<syntax::Value>,
+) -> Result<Option<Vec<Statement>>, NameFault>
+    ensures { Gives views.option_statements_view
+        (if_any (steps.alone (sight_view sight.now) (tree.name_view target.now)) (option_map tree.value_view value.now)) result }
+{
+    match value {
+        None => Ok(None),
+        Some(value) => Ok(Some(alone(alloc, sight, target, value)?)),
+    }
+}
+
+/// Values under conditions.
+fn conditional(
+    alloc: Global,
+    sight: &Sight,
+    target: &syntax::Name,
+    list: &[syntax::Branch],
+    value: &Option<syntax::Value>,
+) -> Result<Statement, NameFault>
+    ensures { Gives views.statement_view (steps.conditional (sight_view sight.now) (tree.name_view target.now)
+        (map tree.branch_view list.now) (option_map tree.value_view value.now)) result }
+{
+    let branches = waveforms(alloc, sight, target, list)?;
+    let otherwise = otherwise(alloc, sight, target, value)?;
+    Ok(Statement::conditional(target.identifier.at, branches, otherwise))
+}
+
+/// What an assignment does.
+fn body(
+    alloc: Global,
+    sight: &Sight,
+    target: &syntax::Name,
+    list: &[syntax::Branch],
+    value: &Option<syntax::Value>,
+) -> Result<Statement, NameFault>
+    ensures { Gives views.statement_view (steps.body (sight_view sight.now) (tree.name_view target.now)
+        (map tree.branch_view list.now) (option_map tree.value_view value.now)) result }
+{
+    match (list, value) {
+        ([], Some(value)) => assigned(alloc, sight, target, value),
+        _ => conditional(alloc, sight, target, list, value),
+    }
+}
+
+/// A conditional assignment, or one of a value alone, in the order of its parts.
+fn assignment_in_turn(
+    alloc: Global,
+    sight: &Sight,
+    assignment: &syntax::Assignment,
+) -> Result<Process, NameFault>
+    ensures { Gives one_process (steps.assignment (sight_view sight.now) (tree.assignment_view assignment.now)) result }
+{
+    let _ = target(alloc, sight, &assignment.target)?;
+    let statement = body(
+        alloc,
+        sight,
+        &assignment.target,
+        &assignment.branches,
+        &assignment.otherwise,
+    )?;
+    let at = assignment.target.identifier.at;
+    Ok(assigning(alloc, at, &assignment.label, statement)?)
+}
+
+/// `value when choices`.
+fn chosen(
+    alloc: Global,
+    sight: &Sight,
+    selected: ObjectType,
+    target: &syntax::Name,
+    item: &syntax::Waveform,
+) -> Result<Alternative, NameFault>
+    ensures { Gives views.alternative_view (steps.chosen (sight_view sight.now) selected (tree.name_view target.now) (tree.waveform_view item.now)) result }
+{
+    let statements = alone(alloc, sight, target, &item.value)?;
+    let choices = choices(alloc, sight, selected, &item.choices)?;
+    Ok(Alternative::new(choices, statements))
+}
+
+/// Waveforms with choices.
+#[tactic(auto, using(vhdl_names_labels::proofs::Lists::each_in_turn))]
+fn all_chosen(
+    alloc: Global,
+    sight: &Sight,
+    selected: ObjectType,
+    target: &syntax::Name,
+    list: &[syntax::Waveform],
+) -> Result<Vec<Alternative>, NameFault>
+    ensures { Gives views.alternatives_view
+        (each (steps.chosen (sight_view sight.now) selected (tree.name_view target.now)) (map tree.waveform_view list.now)) result }
+{
+    let mut all = Vec::new(alloc);
+    for item in list {
+        let next = chosen(alloc, sight, selected, target, item)?;
+        all.push(next)?;
+    }
+    Ok(all)
+}
+
+/// The choices of each waveform.
+fn choice_lists(
+    alloc: Global,
+    waveforms: &[syntax::Waveform],
+) -> Result<Vec<&[syntax::Choice]>, AllocError>
+    ensures { IfOk result (λ v. cases.all_lists v.items ≡ steps.choice_lists (map tree.waveform_view waveforms.now)) }
+{
+    let mut lists: Vec<&[syntax::Choice]> = Vec::new(alloc);
+    for waveform in waveforms {
+        lists.push(&waveform.choices)?;
+    }
+    Ok(lists)
+}
+
+/// What a selected assignment does by the value selected, the last alternative apart.
+fn selected_parts(
+    alloc: Global,
+    sight: &Sight,
+    by: ObjectType,
+    assignment: &syntax::SelectedAssignment,
+) -> Result<(Vec<Alternative>, Vec<Statement>), NameFault>
+    ensures { Gives (λ p. cases.divided (views.alternatives_view p.0) (views.statements_view p.1))
+        (steps.parts (sight_view sight.now) by (tree.selected_assignment_view assignment.now)) result }
+{
+    let _ = target(alloc, sight, &assignment.target)?;
+    let lists = choice_lists(alloc, &assignment.waveforms)?;
+    let all = match all_chosen(alloc, sight, by, &assignment.target, &assignment.waveforms) {
+        Ok(all) => covered(alloc, by, assignment.at, &lists, all)?,
+        Err(fault) => return Err(first_fault(alloc, sight, by, &lists, fault)),
+    };
+    but_last(assignment.at, all)
+}
+
+/// A selected assignment, in the order of its parts.
+fn selected_in_turn(
+    alloc: Global,
+    sight: &Sight,
+    label: &Option<Identifier>,
+    assignment: &syntax::SelectedAssignment,
+) -> Result<Process, NameFault>
+    ensures { Gives one_process
+        (steps.selected (sight_view sight.now) (option_map tree.ident_view label.now) (tree.selected_assignment_view assignment.now)) result }
+{
+    let (by, value) = selector(alloc, sight, &assignment.selector)?;
+    let (alternatives, others) = selected_parts(alloc, sight, by, assignment)?;
+    let statement = Statement::selection(assignment.at, value, alternatives, others);
+    Ok(assigning(alloc, assignment.at, label, statement)?)
+}
+
+/// What a conditional assignment, or one of a value alone, is analysed to: a process that is
+/// sensitive to what it reads. It fails at the first byte where a rule is broken, or where memory
+/// is refused.
+pub fn assignment(
+    alloc: Global,
+    sight: &Sight,
+    assignment: &syntax::Assignment,
+) -> Result<Process, NameFault>
+    ensures { Gives one_process (rules.assignment (sight_view sight.now) (tree.assignment_view assignment.now)) result }
+{
+    assignment_in_turn(alloc, sight, assignment)
+}
+
+/// What a selected assignment behind its label is analysed to: a process with a case that is
+/// sensitive to what it reads. It fails at the first byte where a rule is broken, or where memory
+/// is refused.
+pub fn selected(
+    alloc: Global,
+    sight: &Sight,
+    label: &Option<Identifier>,
+    assignment: &syntax::SelectedAssignment,
+) -> Result<Process, NameFault>
+    ensures { Gives one_process
+        (rules.selected (sight_view sight.now) (option_map tree.ident_view label.now) (tree.selected_assignment_view assignment.now)) result }
+{
+    selected_in_turn(alloc, sight, label, assignment)
+}

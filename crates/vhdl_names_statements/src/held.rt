@@ -1,0 +1,25 @@
+//! What was analysed, and the end label behind it. Where it is refused, what was analysed is let go here.
+
+ghost use Rattle.std.specs.Prelude.{◌≡◌, IfOk, option_map};
+ghost use Rattle.vhdl_names_rules.specs.declared.fault.NameProblem.TheVariants.{WrongKind};
+ghost use Rattle.vhdl_names_rules.specs.Rules.{rule};
+ghost use Rattle.vhdl_names_rules.specs.Visibility as rules;
+ghost use Rattle.vhdl_names_rules.specs.Gives.{Gives};
+ghost use Rattle.vhdl_tree.specs.View as tree;
+
+use vhdl_names_labels::label_ends;
+use vhdl_names_rules::NameFault;
+use vhdl_tree::Identifier;
+
+/// What was analysed, whose end label repeats its label.
+pub(crate) fn ended<T: Drop>(
+    label: &Option<Identifier>,
+    end: &Option<Identifier>,
+    found: T,
+) -> Result<T, NameFault>
+    ensures same { IfOk result (λ x. x ≡ found) }
+    ensures asked { Gives (λ _. tt) (rule WrongKind (rules.label_ends (option_map tree.ident_view label.now) (option_map tree.ident_view end.now))) result }
+{
+    label_ends(label, end)?;
+    Ok(found)
+}

@@ -1,0 +1,315 @@
+//! How sequential statements are analysed (IEEE 1076-2008, clause 10).
+
+ghost use Rattle.std.specs.Prelude.{◌≡◌, map, option_map, OnErr, Some};
+ghost use Rattle.vhdl_names_rules.specs.Rules.{each, if_any};
+ghost use Rattle.vhdl_names_rules.specs.Statements as rules;
+ghost use Rattle.vhdl_names_rules.specs.Visibility as visibility;
+ghost use Rattle.vhdl_names_rules.specs.Gives.{Gives};
+ghost use Rattle.vhdl_tree.specs.Tree as syntax;
+ghost use Rattle.vhdl_tree.specs.View as tree;
+ghost use Rattle.vhdl_tree.specs.declared.sequential.Case.{out-Case};
+ghost use Rattle.vhdl_tree.specs.declared.sequential.For.{out-For};
+ghost use Rattle.vhdl_tree.specs.declared.sequential.If.{out-If};
+ghost use Rattle.vhdl_names_types.specs.Views.{sight_view};
+ghost use Rattle.vhdl_names_units.specs.views.Sequential as views;
+ghost use Rattle.vhdl_names_statements.specs.steps.Cases as cases;
+ghost use Rattle.vhdl_names_statements.specs.steps.Sequential as steps;
+
+use crate::choices::{but_last, choice_lists, covered, first_fault};
+use crate::held::ended;
+use std::alloc::Global;
+use vhdl_names_rules::{NameFault, ObjectType};
+use vhdl_tree as syntax;
+use vhdl_tree::Identifier;
+use vhdl_names_types::{Declared, Meaning, Sight};
+use vhdl_names_expressions::{choices, condition, given, selector, static_range, target, variable};
+use vhdl_names_units::{Alternative, Branch, Statement};
+
+/// An assignment to a signal.
+pub(crate) fn assigned(
+    alloc: Global,
+    sight: &Sight,
+    name: &syntax::Name,
+    value: &syntax::Value,
+) -> Result<Statement, NameFault>
+    ensures { Gives views.statement_view (steps.assigned (sight_view sight.now) (tree.name_view name.now) (tree.value_view value.now)) result }
+{
+    let signal = target(alloc, sight, name)?;
+    let value = given(alloc, sight, signal.object_type, value)?;
+    Ok(Statement::Assign {
+        target: signal.place,
+        value,
+    })
+}
+
+/// An assignment to a variable.
+fn set(
+    alloc: Global,
+    sight: &Sight,
+    name: &syntax::Name,
+    value: &syntax::Value,
+) -> Result<Statement, NameFault>
+    ensures { Gives views.statement_view (steps.set (sight_view sight.now) (tree.name_view name.now) (tree.value_view value.now)) result }
+{
+    let variable = variable(alloc, sight, name)?;
+    let value = given(alloc, sight, variable.object_type, value)?;
+    Ok(Statement::Set {
+        at: variable.at,
+        variable: variable.number,
+        part: variable.part,
+        value,
+    })
+}
+
+/// The sight within a loop.
+fn enter_loop(alloc: Global, sight: &mut Sight, parameter: &Identifier) -> Result<(), NameFault>
+    ensures given { Gives (λ _. sight_view sight.new) (Some (visibility.within_loop (sight_view sight.old) (tree.ident_view parameter.now))) result }
+    ensures refused { OnErr result (sight_view sight.new ≡ sight_view sight.old) }
+{
+    let meaning = Meaning::LoopParameter(sight.loops.len());
+    let name = parameter.text.to_vec(alloc)?;
+    sight.loops.push(Declared { name, meaning })?;
+    Ok(())
+}
+
+/// The sight outside again.
+fn leave_loop(sight: &mut Sight)
+    ensures { (outer : visibility.Sight) (d : visibility.Declared) → sight_view sight.old ≡ steps.in_loop outer d → sight_view sight.new ≡ outer }
+{
+    sight.loops.pop();
+}
+
+/// What sequential statements one after another are analysed to; `sight` has the declarations in
+/// sight of them, and is as before afterwards. It fails at the first byte where a rule is broken,
+/// or where memory is refused.
+pub fn analysed(
+    alloc: Global,
+    sight: &mut Sight,
+    list: &[syntax::Sequential],
+) -> Result<Vec<Statement>, NameFault>
+    ensures given { Gives views.body_view (rules.statements (sight_view sight.old) (syntax.statements_of (map tree.sequential_view list.now))) result }
+    ensures kept { sight_view sight.new ≡ sight_view sight.old }
+{
+    statements(alloc, sight, list)
+}
+
+/// Statements one after another.
+#[cycle(statements)]
+#[tactic(auto, using(vhdl_names_labels::proofs::Lists::each_in_turn))]
+fn statements(
+    alloc: Global,
+    sight: &mut Sight,
+    list: &[syntax::Sequential],
+) -> Result<Vec<Statement>, NameFault>
+    ensures given { Gives views.statements_view (steps.all_labelled (sight_view sight.old) (map tree.sequential_view list.now)) result }
+    ensures kept { sight_view sight.new ≡ sight_view sight.old }
+{
+    let mut all = Vec::new(alloc);
+    for item in list {
+        let next = statement(alloc, sight, item)?;
+        all.push(next)?;
+    }
+    Ok(all)
+}
+
+/// A statement behind its label.
+#[cycle(statements)]
+#[tactic(auto, unfolding(vhdl_names_rules::specs::Statements::statement))]
+fn statement(
+    alloc: Global,
+    sight: &mut Sight,
+    item: &syntax::Sequential,
+) -> Result<Statement, NameFault>
+    ensures given { Gives views.statement_view (steps.labelled (sight_view sight.old) (tree.sequential_view item.now)) result }
+    ensures kept { sight_view sight.new ≡ sight_view sight.old }
+{
+    match &item.statement {
+        syntax::Statement::Null { .. } => Ok(Statement::Null),
+        syntax::Statement::SignalAssignment { target, value } => {
+            assigned(alloc, sight, target, value)
+        }
+        syntax::Statement::VariableAssignment { target, value } => set(alloc, sight, target, value),
+        syntax::Statement::If(conditional) => if_statement(alloc, sight, &item.label, conditional),
+        syntax::Statement::Case(case) => case_statement(alloc, sight, &item.label, case),
+        syntax::Statement::For(repeated) => for_loop(alloc, sight, &item.label, repeated),
+    }
+}
+
+/// An if statement (10.8).
+#[cycle(statements)]
+fn if_statement(
+    alloc: Global,
+    sight: &mut Sight,
+    label: &Option<Identifier>,
+    conditional: &syntax::If,
+) -> Result<Statement, NameFault>
+    ensures given { Gives views.statement_view
+        (steps.conditional (sight_view sight.old) (option_map tree.ident_view label.now) (tree.conditionals_view (out-If conditional.now).branches)
+        (tree.option_sequentials_view (out-If conditional.now).otherwise) (tree.option_ident_view (out-If conditional.now).end_label)) result }
+    ensures kept { sight_view sight.new ≡ sight_view sight.old }
+{
+    let branches = branches(alloc, sight, &conditional.branches)?;
+    let otherwise = otherwise(alloc, sight, conditional)?;
+    let (branches, otherwise) = ended(label, &conditional.end_label, (branches, otherwise))?;
+    Ok(Statement::conditional(conditional.at, branches, otherwise))
+}
+
+/// The branches of an if statement.
+#[cycle(statements)]
+#[tactic(auto, using(vhdl_names_labels::proofs::Lists::each_in_turn))]
+fn branches(
+    alloc: Global,
+    sight: &mut Sight,
+    list: &[syntax::Conditional],
+) -> Result<Vec<Branch>, NameFault>
+    ensures given { Gives views.branches_view (each (steps.guarded (sight_view sight.old)) (map tree.conditional_view list.now)) result }
+    ensures kept { sight_view sight.new ≡ sight_view sight.old }
+{
+    let mut all = Vec::new(alloc);
+    for item in list {
+        let next = branch(alloc, sight, item)?;
+        all.push(next)?;
+    }
+    Ok(all)
+}
+
+/// A condition, and the statements that it guards.
+#[cycle(statements)]
+fn branch(alloc: Global, sight: &mut Sight, item: &syntax::Conditional) -> Result<Branch, NameFault>
+    ensures given { Gives views.branch_view (steps.guarded (sight_view sight.old) (tree.conditional_view item.now)) result }
+    ensures kept { sight_view sight.new ≡ sight_view sight.old }
+{
+    let condition = condition(alloc, sight, &item.condition)?;
+    let statements = statements(alloc, sight, &item.statements)?;
+    Ok(Branch::new(condition, statements))
+}
+
+/// What an if statement does else.
+#[cycle(statements)]
+fn otherwise(
+    alloc: Global,
+    sight: &mut Sight,
+    conditional: &syntax::If,
+) -> Result<Option<Vec<Statement>>, NameFault>
+    ensures given { Gives views.option_statements_view
+        (if_any (steps.all_labelled (sight_view sight.old)) (tree.option_sequentials_view (out-If conditional.now).otherwise)) result }
+    ensures kept { sight_view sight.new ≡ sight_view sight.old }
+{
+    match &conditional.otherwise {
+        None => Ok(None),
+        Some(list) => Ok(Some(statements(alloc, sight, list)?)),
+    }
+}
+
+/// A case statement (10.9).
+#[cycle(statements)]
+fn case_statement(
+    alloc: Global,
+    sight: &mut Sight,
+    label: &Option<Identifier>,
+    case: &syntax::Case,
+) -> Result<Statement, NameFault>
+    ensures given { Gives views.statement_view
+        (cases.selection (sight_view sight.old) (option_map tree.ident_view label.now) (tree.view (out-Case case.now).selector)
+        (tree.alternatives_view (out-Case case.now).alternatives) (tree.option_ident_view (out-Case case.now).end_label)) result }
+    ensures kept { sight_view sight.new ≡ sight_view sight.old }
+{
+    let (selected, value) = selector(alloc, sight, &case.selector)?;
+    let (alternatives, others) = case_parts(alloc, sight, selected, label, case)?;
+    Ok(Statement::selection(case.at, value, alternatives, others))
+}
+
+/// What a case statement does by the value selected, the last alternative apart.
+#[cycle(statements)]
+fn case_parts(
+    alloc: Global,
+    sight: &mut Sight,
+    selected: ObjectType,
+    label: &Option<Identifier>,
+    case: &syntax::Case,
+) -> Result<(Vec<Alternative>, Vec<Statement>), NameFault>
+    ensures given { Gives (λ p. cases.divided (views.alternatives_view p.0) (views.statements_view p.1))
+        (cases.parts (sight_view sight.old) selected (option_map tree.ident_view label.now)
+        (tree.alternatives_view (out-Case case.now).alternatives) (tree.option_ident_view (out-Case case.now).end_label)) result }
+    ensures kept { sight_view sight.new ≡ sight_view sight.old }
+{
+    let lists = choice_lists(alloc, &case.alternatives)?;
+    let all = match alternatives(alloc, sight, selected, &case.alternatives) {
+        Ok(all) => covered(alloc, selected, case.at, &lists, all)?,
+        Err(fault) => return Err(first_fault(alloc, sight, selected, &lists, fault)),
+    };
+    let all = ended(label, &case.end_label, all)?;
+    but_last(case.at, all)
+}
+
+/// The alternatives of a case statement.
+#[cycle(statements)]
+#[tactic(auto, using(vhdl_names_labels::proofs::Lists::each_in_turn))]
+fn alternatives(
+    alloc: Global,
+    sight: &mut Sight,
+    selected: ObjectType,
+    list: &[syntax::Alternative],
+) -> Result<Vec<Alternative>, NameFault>
+    ensures given { Gives views.alternatives_view (each (cases.chosen (sight_view sight.old) selected) (map tree.alternative_view list.now)) result }
+    ensures kept { sight_view sight.new ≡ sight_view sight.old }
+{
+    let mut all = Vec::new(alloc);
+    for item in list {
+        let next = alternative(alloc, sight, selected, item)?;
+        all.push(next)?;
+    }
+    Ok(all)
+}
+
+/// Choices, and the statements that they guard.
+#[cycle(statements)]
+fn alternative(
+    alloc: Global,
+    sight: &mut Sight,
+    selected: ObjectType,
+    item: &syntax::Alternative,
+) -> Result<Alternative, NameFault>
+    ensures given { Gives views.alternative_view (cases.chosen (sight_view sight.old) selected (tree.alternative_view item.now)) result }
+    ensures kept { sight_view sight.new ≡ sight_view sight.old }
+{
+    let choices = choices(alloc, sight, selected, &item.choices)?;
+    let statements = statements(alloc, sight, &item.statements)?;
+    Ok(Alternative::new(choices, statements))
+}
+
+/// A for loop (10.10).
+#[cycle(statements)]
+fn for_loop(
+    alloc: Global,
+    sight: &mut Sight,
+    label: &Option<Identifier>,
+    repeated: &syntax::For,
+) -> Result<Statement, NameFault>
+    ensures given { Gives views.statement_view
+        (steps.repetition (sight_view sight.old) (option_map tree.ident_view label.now) (tree.ident_view (out-For repeated.now).parameter)
+        (tree.range_view (out-For repeated.now).range) (tree.sequentials_view (out-For repeated.now).statements) (tree.option_ident_view (out-For repeated.now).end_label)) result }
+    ensures kept { sight_view sight.new ≡ sight_view sight.old }
+{
+    let range = static_range(alloc, sight, &repeated.range)?;
+    let turn = turn(alloc, sight, repeated)?;
+    let (range, turn) = ended(label, &repeated.end_label, (range, turn))?;
+    Ok(Statement::repetition(repeated.at, range, turn))
+}
+
+/// What a for loop does in a turn.
+#[cycle(statements)]
+fn turn(
+    alloc: Global,
+    sight: &mut Sight,
+    repeated: &syntax::For,
+) -> Result<Vec<Statement>, NameFault>
+    ensures given { Gives views.statements_view
+        (steps.turn (sight_view sight.old) (tree.ident_view (out-For repeated.now).parameter) (tree.sequentials_view (out-For repeated.now).statements)) result }
+    ensures kept { sight_view sight.new ≡ sight_view sight.old }
+{
+    enter_loop(alloc, sight, &repeated.parameter)?;
+    let found = statements(alloc, sight, &repeated.statements);
+    leave_loop(sight);
+    found
+}

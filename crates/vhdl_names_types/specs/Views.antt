@@ -1,0 +1,72 @@
+-- What contracts see of declarations and types.
+use Rattle.std.specs.Prelude.{ℕ, List, ◌++◌, map, reverse, option_map, Vec}
+use Rattle.std.specs.Global.{Global}
+use Rattle.indexmap.specs.IndexMap.{IndexMap}
+use Rattle.vhdl_names_rules.specs.Visibility as v
+use Rattle.vhdl_names_rules.specs.Visibility.{declare}
+use Rattle.vhdl_names_rules.specs.Operators as o
+use Rattle.vhdl_names_rules.specs.Names as n
+use Rattle.vhdl_names_rules.specs.views.Integers.{static_view, range_view}
+use Rattle.vhdl_names_rules.specs.views.Vectors.{vector_view, value_view}
+use Rattle.vhdl_names_rules.specs.views.Tests.{test_view}
+use Rattle.vhdl_names_types.specs.declared.meaning.Meaning.{Meaning}
+use Rattle.vhdl_names_types.specs.declared.meaning.Meaning.TheVariants as m
+use Rattle.vhdl_names_types.specs.declared.meaning.Declared.{Declared}
+use Rattle.vhdl_names_types.specs.declared.sight.Sight.{Sight}
+use Rattle.vhdl_names_types.specs.declared.types.Typed.{Typed}
+use Rattle.vhdl_names_types.specs.declared.types.Typed.TheVariants as t
+use Rattle.vhdl_names_types.specs.declared.types.TypedSuffix.{TypedSuffix}
+use Rattle.vhdl_names_types.specs.declared.types.TypedSuffix.TheVariants as s
+
+-- ---- declarations
+
+abbrev pub meaning_view : Meaning → v.Meaning
+meaning_view (m.Generic k) = v.generic k
+meaning_view (m.IntegerConstant k) = v.integer_constant k
+meaning_view (m.GenerateParameter k) = v.generate_parameter k
+meaning_view (m.LoopParameter k) = v.loop_parameter k
+meaning_view (m.Port k mode kind) = v.port k mode kind
+meaning_view (m.Signal k type) = v.signal k type
+meaning_view (m.Variable k type) = v.variable k type
+meaning_view (m.Constant k kind values) = v.constant k kind (option_map (λ vs. vs.items) values)
+meaning_view (m.Literal number count position) = v.literal number count position
+meaning_view (m.IntegerType w) = v.integer_type w
+meaning_view (m.ElementType r) = v.element_type r
+meaning_view (m.VectorType kind r) = v.vector_type kind r
+meaning_view (m.EnumerationType number count) = v.enumeration_type number count
+meaning_view (m.Function f) = v.function f
+meaning_view (m.Component k) = v.component k
+meaning_view m.Label = v.label
+meaning_view m.Unfinished = v.unfinished
+
+abbrev pub declared_view : Declared → v.Declared
+declared_view d = declare d.name.items (meaning_view d.meaning)
+
+abbrev pub entry_view : Vec ℕ Global × Meaning → v.Declared
+entry_view e = declare e.0.items (meaning_view e.1)
+
+abbrev pub region_view : {S : Type 0} → IndexMap (Vec ℕ Global) Meaning S → List v.Declared
+region_view r = map entry_view r.entries
+
+abbrev pub sight_view : Sight → v.Sight
+sight_view s = record {
+  loops = reverse (map declared_view s.loops.items);
+  variables = region_view s.variables;
+  generates = reverse (map declared_view s.generates.items);
+  region = region_view s.region;
+  outside = region_view s.enclosing ++ region_view s.packages;
+  numbers = s.has_numbers;
+}
+
+-- ---- expressions
+
+abbrev pub typed_view : Typed → o.Typed
+typed_view (t.Integer s) = o.integer (static_view s)
+typed_view (t.Elements kind x) = o.elements kind (vector_view x)
+typed_view (t.Enumerated number count x) = o.enumerated number count (value_view x)
+typed_view (t.Truth x) = o.truth (test_view x)
+
+abbrev pub typed_suffix_view : TypedSuffix → n.Suffix
+typed_suffix_view s.Plain = n.plain
+typed_suffix_view (s.Arguments b xs) = n.arguments b (map typed_view xs.items)
+typed_suffix_view (s.Range r) = n.range (range_view r)

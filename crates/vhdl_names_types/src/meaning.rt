@@ -1,0 +1,48 @@
+//! What names are declared to be (IEEE 1076-2008, 6.1).
+
+use vhdl_names_rules::{Function, IntegerType, Kind, ObjectType};
+use vhdl_tree::Mode;
+use vhdl_values::Nine;
+
+/// What a name is declared to be. Objects are numbered from 0 within their class.
+#[derive(Drop)]
+pub enum Meaning {
+    Generic(usize),
+    IntegerConstant(usize),
+    GenerateParameter(usize),
+    LoopParameter(usize),
+    Port(usize, Mode, Kind),
+    Signal(usize, ObjectType),
+    Variable(usize, ObjectType),
+    /// A constant that is no integer, with the literal that declares it, if one does.
+    Constant(usize, Kind, Option<Vec<Nine>>),
+    /// A literal of the enumeration of this number, which has so many, at this position.
+    Literal {
+        number: usize,
+        count: usize,
+        position: usize,
+    },
+    IntegerType(IntegerType),
+    ElementType {
+        is_resolved: bool,
+    },
+    /// A type of vectors, and whether it is resolved.
+    VectorType(Kind, bool),
+    EnumerationType {
+        number: usize,
+        count: usize,
+    },
+    Function(Function),
+    /// A component, of the unit of this number.
+    Component(usize),
+    Label,
+    /// A name within its own declaration.
+    Unfinished,
+}
+
+/// A name, and what it is declared to be.
+#[derive(Drop)]
+pub struct Declared {
+    pub name: Vec<u8>,
+    pub meaning: Meaning,
+}

@@ -1,0 +1,325 @@
+//! Operators on typed operands (IEEE 1076-2008, 9.2; numeric_std for unsigned, 16.8). Each takes the
+//! memory of a list or a box.
+
+ghost use Rattle.std.specs.Prelude.{◌≡◌, ◌&&◌, true, false, IfOk, OnErr};
+ghost use Rattle.vhdl_names_rules.specs.Gives.{Gives};
+ghost use Rattle.vhdl_names_rules.specs.Operators as table;
+ghost use Rattle.vhdl_names_rules.specs.views.Integers.{static_view};
+ghost use Rattle.vhdl_names_rules.specs.views.Vectors.{value_view};
+ghost use Rattle.vhdl_names_types.specs.Steps.{same_by};
+ghost use Rattle.vhdl_names_types.specs.Views.{typed_view};
+
+use crate::types::Typed;
+use std::alloc::Global;
+use vhdl_names_rules::{
+    Arithmetic, Kind, NameFault, NameProblem, Numeric, Static, StaticTest, Test, Value, Vector,
+    VectorLink, VectorOperator,
+};
+use vhdl_tree::Operator;
+use vhdl_values::{Cmp, Logic};
+
+/// and or nand nor xor xnor, at byte `at`.
+fn logical(
+    alloc: Global,
+    at: usize,
+    operator: Logic,
+    operands: (Typed, Typed),
+) -> Result<Typed, NameFault>
+    ensures { Gives typed_view (table.logical operator (typed_view operands.0) (typed_view operands.1)) result }
+{
+    let (left, right) = operands;
+    let problem = NameProblem::TypeMismatch;
+    match left {
+        Typed::Elements(j, x) => match right {
+            Typed::Elements(k, y) => match j.common(k) {
+                None => Err(problem.at(at)),
+                Some(kind) => {
+                    let link = VectorLink::Vector(VectorOperator::Logical(operator), at, y);
+                    Ok(Typed::Elements(kind, x.with_link(alloc, link)?))
+                }
+            },
+            _right => Err(problem.at(at)),
+        },
+        Typed::Truth(x) => match right {
+            Typed::Truth(y) => Ok(Typed::Truth(x.both(alloc, operator, y)?)),
+            _right => Err(problem.at(at)),
+        },
+        _left => Err(problem.at(at)),
+    }
+}
+
+/// not, at byte `at`.
+pub fn inverse(alloc: Global, at: usize, operand: Typed) -> Result<Typed, NameFault>
+    ensures { Gives typed_view (table.inverse (typed_view operand)) result }
+{
+    match operand {
+        Typed::Elements(kind, x) => Ok(Typed::Elements(kind, Vector::inverse(alloc, at, x)?)),
+        Typed::Truth(x) => Ok(Typed::Truth(x.negated(alloc)?)),
+        _operand => Err(NameProblem::TypeMismatch.at(at)),
+    }
+}
+
+/// &, at byte `at`.
+fn concatenated(alloc: Global, at: usize, operands: (Typed, Typed)) -> Result<Typed, NameFault>
+    ensures { Gives typed_view (table.concatenated (typed_view operands.0) (typed_view operands.1)) result }
+{
+    let (left, right) = operands;
+    let problem = NameProblem::TypeMismatch;
+    match left {
+        Typed::Elements(j, x) => match right {
+            Typed::Elements(k, y) => match j.joined(k) {
+                None => Err(problem.at(at)),
+                Some(kind) => {
+                    let link = VectorLink::Vector(VectorOperator::Concatenate, at, y);
+                    Ok(Typed::Elements(kind, x.with_link(alloc, link)?))
+                }
+            },
+            _right => Err(problem.at(at)),
+        },
+        _left => Err(problem.at(at)),
+    }
+}
+
+/// / mod rem, at byte `at`.
+fn integral(
+    alloc: Global,
+    at: usize,
+    operator: Arithmetic,
+    operands: (Typed, Typed),
+) -> Result<Typed, NameFault>
+    ensures { Gives typed_view (table.integral operator (typed_view operands.0) (typed_view operands.1)) result }
+{
+    let (left, right) = operands;
+    let problem = NameProblem::TypeMismatch;
+    match left {
+        Typed::Integer(x) => match right {
+            Typed::Integer(y) => Ok(Typed::Integer(x.binary(alloc, operator, at, y)?)),
+            _right => Err(problem.at(at)),
+        },
+        _left => Err(problem.at(at)),
+    }
+}
+
+/// What an operator of numeric_std asks for: operands that it takes for numbers, else there is this
+/// problem, and its use clause.
+fn numeric(
+    numbers: bool,
+    are_numbers: bool,
+    problem: NameProblem,
+    at: usize,
+) -> Result<(), NameFault>
+    ensures visible { IfOk result (λ _. numbers ≡ true) }
+    ensures fitting { IfOk result (λ _. are_numbers ≡ true) }
+    ensures refused { OnErr result ((numbers && are_numbers) ≡ false) }
+{
+    if !are_numbers {
+        return Err(problem.at(at));
+    }
+    if !numbers {
+        return Err(NameProblem::NotVisible.at(at));
+    }
+    Ok(())
+}
+
+/// + - *, at byte `at`, on integers and on numbers.
+fn arithmetic(
+    alloc: Global,
+    numbers: bool,
+    at: usize,
+    operator: Arithmetic,
+    by: Numeric,
+    operands: (Typed, Typed),
+) -> Result<Typed, NameFault>
+    ensures { Gives typed_view (table.arithmetic numbers operator by (typed_view operands.0) (typed_view operands.1)) result }
+{
+    let (left, right) = operands;
+    let problem = NameProblem::TypeMismatch;
+    match left {
+        Typed::Integer(s) => match right {
+            Typed::Integer(t) => Ok(Typed::Integer(s.binary(alloc, operator, at, t)?)),
+            Typed::Elements(k, y) => {
+                numeric(numbers, k.is_number(), problem, at)?;
+                let made = Vector::integer_with(alloc, by, at, s, y)?;
+                Ok(Typed::Elements(Kind::Unsigned, made))
+            }
+            _right => Err(problem.at(at)),
+        },
+        Typed::Elements(j, x) => match right {
+            Typed::Elements(k, y) => {
+                numeric(numbers, j.is_number() && k.is_number(), problem, at)?;
+                let link = VectorLink::Vector(VectorOperator::Arithmetic(by), at, y);
+                Ok(Typed::Elements(Kind::Unsigned, x.with_link(alloc, link)?))
+            }
+            Typed::Integer(t) => {
+                numeric(numbers, j.is_number(), problem, at)?;
+                let link = VectorLink::Integer(by, at, t);
+                Ok(Typed::Elements(Kind::Unsigned, x.with_link(alloc, link)?))
+            }
+            _right => Err(problem.at(at)),
+        },
+        _left => Err(problem.at(at)),
+    }
+}
+
+/// A relation of two static integers.
+fn integers_compared(comparison: Cmp, at: usize, left: Static, right: Static) -> Typed
+    ensures { typed_view result ≡ table.integers_compared comparison (static_view left) (static_view right) }
+{
+    Typed::Truth(Test::Fixed(StaticTest::Compared(comparison, at, left, right)))
+}
+
+/// = or /= of two values, by equality.
+fn same(comparison: Cmp, at: usize, left: Value, right: Value) -> Typed
+    ensures { typed_view result ≡ table.truth (same_by comparison (value_view left) (value_view right)) }
+{
+    match comparison {
+        Cmp::Ne => Typed::Truth(Test::Unlike(at, left, right)),
+        _ => Typed::Truth(Test::Alike(at, left, right)),
+    }
+}
+
+/// = and /=, at byte `at`.
+fn equality(at: usize, comparison: Cmp, operands: (Typed, Typed)) -> Result<Typed, NameFault>
+    ensures { Gives typed_view (table.equality comparison (same_by comparison) (typed_view operands.0) (typed_view operands.1)) result }
+{
+    let (left, right) = operands;
+    let problem = NameProblem::TypeMismatch;
+    match left {
+        Typed::Integer(s) => match right {
+            Typed::Integer(t) => Ok(integers_compared(comparison, at, s, t)),
+            Typed::Elements(Kind::Unsigned, y) => {
+                Ok(Typed::Truth(Test::ComparedWith(comparison, at, s, y)))
+            }
+            _right => Err(problem.at(at)),
+        },
+        Typed::Elements(j, x) => match right {
+            Typed::Elements(k, y) => match j.common(k) {
+                None => Err(problem.at(at)),
+                Some(Kind::Unsigned) => Ok(Typed::Truth(Test::Compared(comparison, at, x, y))),
+                Some(_) => Ok(same(comparison, at, Value::Elements(x), Value::Elements(y))),
+            },
+            Typed::Integer(t) => match j {
+                Kind::Unsigned => Ok(Typed::Truth(Test::ComparedTo(comparison, at, x, t))),
+                _ => Err(problem.at(at)),
+            },
+            _right => Err(problem.at(at)),
+        },
+        Typed::Enumerated { number, value, .. } => match right {
+            Typed::Enumerated {
+                number: other,
+                value: beside,
+                ..
+            } if number == other => Ok(same(comparison, at, value, beside)),
+            _right => Err(problem.at(at)),
+        },
+        _left => Err(problem.at(at)),
+    }
+}
+
+/// Whether ordering it is left out: an element, a std_logic_vector and an enumeration.
+fn is_left_out(operand: &Typed) -> bool {
+    match operand {
+        Typed::Elements(kind, _) => !kind.is_number(),
+        Typed::Enumerated { .. } => true,
+        _ => false,
+    }
+}
+
+/// What is wrong with operands that are not ordered.
+fn order_problem(operands: &(Typed, Typed)) -> NameProblem {
+    if is_left_out(&operands.0) || is_left_out(&operands.1) {
+        NameProblem::LeftOut
+    } else {
+        NameProblem::TypeMismatch
+    }
+}
+
+/// < <= > >=, at byte `at`; where the operands are no numbers, there is this problem.
+fn ordered(
+    numbers: bool,
+    at: usize,
+    comparison: Cmp,
+    problem: NameProblem,
+    operands: (Typed, Typed),
+) -> Result<Typed, NameFault>
+    ensures { Gives typed_view (table.ordering numbers comparison (typed_view operands.0) (typed_view operands.1)) result }
+{
+    let (left, right) = operands;
+    match left {
+        Typed::Integer(s) => match right {
+            Typed::Integer(t) => Ok(integers_compared(comparison, at, s, t)),
+            Typed::Elements(k, y) => {
+                numeric(numbers, k.is_number(), problem, at)?;
+                Ok(Typed::Truth(Test::ComparedWith(comparison, at, s, y)))
+            }
+            _right => Err(problem.at(at)),
+        },
+        Typed::Elements(j, x) => match right {
+            Typed::Elements(k, y) => {
+                numeric(numbers, j.is_number() && k.is_number(), problem, at)?;
+                Ok(Typed::Truth(Test::Compared(comparison, at, x, y)))
+            }
+            Typed::Integer(t) => {
+                numeric(numbers, j.is_number(), problem, at)?;
+                Ok(Typed::Truth(Test::ComparedTo(comparison, at, x, t)))
+            }
+            _right => Err(problem.at(at)),
+        },
+        _left => Err(problem.at(at)),
+    }
+}
+
+/// < <= > >=, at byte `at`.
+fn ordering(
+    numbers: bool,
+    at: usize,
+    comparison: Cmp,
+    operands: (Typed, Typed),
+) -> Result<Typed, NameFault>
+    ensures { Gives typed_view (table.ordering numbers comparison (typed_view operands.0) (typed_view operands.1)) result }
+{
+    let problem = order_problem(&operands);
+    ordered(numbers, at, comparison, problem, operands)
+}
+
+/// A binary operator, at byte `at`, on typed operands; `numbers` says whether the operators of
+/// numeric_std are in sight.
+pub fn operated(
+    alloc: Global,
+    numbers: bool,
+    operator: Operator,
+    at: usize,
+    left: Typed,
+    right: Typed,
+) -> Result<Typed, NameFault>
+    ensures { Gives typed_view (table.operated numbers operator (typed_view left) (typed_view right)) result }
+{
+    let operands = (left, right);
+    match operator {
+        Operator::And => logical(alloc, at, Logic::And, operands),
+        Operator::Or => logical(alloc, at, Logic::Or, operands),
+        Operator::Xor => logical(alloc, at, Logic::Xor, operands),
+        Operator::Xnor => logical(alloc, at, Logic::Xnor, operands),
+        Operator::Nand => logical(alloc, at, Logic::Nand, operands),
+        Operator::Nor => logical(alloc, at, Logic::Nor, operands),
+        Operator::Equal => equality(at, Cmp::Eq, operands),
+        Operator::NotEqual => equality(at, Cmp::Ne, operands),
+        Operator::Less => ordering(numbers, at, Cmp::Lt, operands),
+        Operator::LessEqual => ordering(numbers, at, Cmp::Le, operands),
+        Operator::Greater => ordering(numbers, at, Cmp::Gt, operands),
+        Operator::GreaterEqual => ordering(numbers, at, Cmp::Ge, operands),
+        Operator::Add => arithmetic(alloc, numbers, at, Arithmetic::Add, Numeric::Add, operands),
+        Operator::Subtract => {
+            let by = Numeric::Subtract;
+            arithmetic(alloc, numbers, at, Arithmetic::Subtract, by, operands)
+        }
+        Operator::Concatenate => concatenated(alloc, at, operands),
+        Operator::Multiply => {
+            let by = Numeric::Multiply;
+            arithmetic(alloc, numbers, at, Arithmetic::Multiply, by, operands)
+        }
+        Operator::Divide => integral(alloc, at, Arithmetic::Divide, operands),
+        Operator::Modulo => integral(alloc, at, Arithmetic::Modulo, operands),
+        Operator::Remainder => integral(alloc, at, Arithmetic::Remainder, operands),
+    }
+}

@@ -1,0 +1,59 @@
+-- Names, values, choices and subtype indications of the code, without places in the text.
+use Rattle.std.specs.Prelude.{List, map, Vec}
+use Rattle.std.specs.Global.{Global}
+use Rattle.vhdl_names_rules.specs.views.Integers.{static_view, range_view}
+use Rattle.vhdl_names_rules.specs.views.Vectors.{vector_view, value_view, place_view, part_view}
+use Rattle.vhdl_names_rules.specs.declared.kind.ObjectType.{ObjectType}
+use Rattle.vhdl_names_rules.specs.declared.vector.Value.{Value}
+use Rattle.vhdl_names_rules.specs.units.Expressions as e
+use Rattle.vhdl_names_rules.specs.units.Statements as st
+use Rattle.vhdl_names_rules.specs.units.Units as u
+use Rattle.vhdl_names_rules.specs.Statements as q
+use Rattle.vhdl_names_rules.specs.Subtypes as p
+use Rattle.vhdl_names_units.specs.declared.answers.Given.{Given}
+use Rattle.vhdl_names_units.specs.declared.answers.Given.TheVariants as g
+use Rattle.vhdl_names_units.specs.declared.answers.Choice.{Choice}
+use Rattle.vhdl_names_units.specs.declared.answers.Choice.TheVariants as c
+use Rattle.vhdl_names_units.specs.declared.answers.SignalName.{SignalName}
+use Rattle.vhdl_names_units.specs.declared.answers.VariableName.{VariableName}
+use Rattle.vhdl_names_units.specs.declared.answers.Form.{Form}
+use Rattle.vhdl_names_units.specs.declared.answers.Form.TheVariants as f
+use Rattle.vhdl_names_units.specs.declared.answers.Fixed.{Fixed}
+use Rattle.vhdl_names_units.specs.declared.answers.Fixed.TheVariants as x
+use Rattle.vhdl_names_units.specs.declared.answers.Subtype.{Subtype}
+
+abbrev pub given_view : Given → st.Given
+given_view (g.Single x) = st.single (value_view x)
+given_view (g.Filled x) = st.filled (vector_view x)
+
+abbrev pub choice_view : Choice → st.Choice
+choice_view (c.Values vs) = st.values vs.items
+choice_view (c.Position p) = st.Choice.position p
+
+abbrev pub choices_view : Vec Choice Global → List st.Choice
+choices_view v = map choice_view v.items
+
+abbrev pub signal_name_view : SignalName → q.SignalName
+signal_name_view x = record { place = place_view x.place; mode = x.mode; type = x.object_type }
+
+abbrev pub variable_name_view : VariableName → q.VariableName
+variable_name_view x = record { number = x.number; part = part_view x.part; type = x.object_type }
+
+abbrev pub form_view : Form → u.Form
+form_view f.Element = u.element
+form_view (f.Vector r) = u.vector (range_view r)
+form_view (f.Enumeration k) = u.enumeration k
+
+abbrev pub fixed_view : Fixed → u.Fixed
+fixed_view (x.Literal vs) = u.Fixed.literal vs.items
+fixed_view (x.Position p) = u.Fixed.position p
+fixed_view (x.Constant k) = u.Fixed.constant k
+fixed_view (x.Encoded n size) = u.Fixed.encoded (static_view n) (static_view size)
+fixed_view (x.Filled y) = u.Fixed.filled y
+
+abbrev pub subtype_view : Subtype → p.Subtype
+subtype_view x = record { type = x.object_type; form = form_view x.form; is_resolved = x.is_resolved }
+
+-- the type and value of a selector
+abbrev pub selector_view : ObjectType × Value → ObjectType × e.Value
+selector_view x = (x.0, value_view x.1)

@@ -1,0 +1,68 @@
+-- Concurrent statements of the code, without places in the text.
+use Rattle.std.specs.Prelude.{ℕ, List, [], ◌∷◌, map, option_map, Vec}
+use Rattle.std.specs.Global.{Global}
+use Rattle.vhdl_tree.specs.declared.expression.Identifier.{Identifier}
+use Rattle.vhdl_names_rules.specs.units.Units as u
+use Rattle.vhdl_names_rules.specs.views.Integers.{static_view, range_view}
+use Rattle.vhdl_names_rules.specs.views.Vectors.{place_view}
+use Rattle.vhdl_names_rules.specs.views.Tests.{static_test_view}
+use Rattle.vhdl_names_units.specs.views.Sequential.{statements_of, statements_view}
+use Rattle.vhdl_names_units.specs.views.Declarations.{objects_view}
+use Rattle.vhdl_names_units.specs.declared.concurrent.Sensitivity.{Sensitivity}
+use Rattle.vhdl_names_units.specs.declared.concurrent.Sensitivity.TheVariants as e
+use Rattle.vhdl_names_units.specs.declared.concurrent.Process.{Process}
+use Rattle.vhdl_names_units.specs.declared.concurrent.Instance.{Instance}
+use Rattle.vhdl_names_units.specs.declared.concurrent.Scheme.{Scheme}
+use Rattle.vhdl_names_units.specs.declared.concurrent.Scheme.TheVariants as k
+use Rattle.vhdl_names_units.specs.declared.concurrent.Concurrent.{Concurrent}
+use Rattle.vhdl_names_units.specs.declared.concurrent.Concurrent.TheVariants as c
+use Rattle.vhdl_names_units.specs.declared.concurrent.Concurrent.TheBlock.{Row_of-Concurrent, end_of-Concurrent, more_of-Concurrent}
+
+abbrev pub text_of : Identifier → List ℕ
+text_of i = i.text.items
+
+abbrev pub sensitivity_view : Sensitivity → u.Sensitivity
+sensitivity_view (e.Listed ps) = u.listed (map place_view ps.items)
+sensitivity_view e.All = u.every
+sensitivity_view e.AsRead = u.as_read
+
+abbrev pub process_view : Process → u.Process
+process_view p = record {
+  label = option_map text_of p.label;
+  variables = objects_view p.variables;
+  sensitivity = sensitivity_view p.sensitivity;
+  body = statements_of (statements_view p.statements);
+}
+
+abbrev pub instance_view : Instance → u.Instance
+instance_view i = record {
+  label = i.label.text.items;
+  unit = i.unit;
+  generics = map (option_map static_view) i.generics.items;
+  ports = map (option_map place_view) i.ports.items;
+}
+
+-- a generate of this label and body
+abbrev pub generated : List ℕ → u.Concurrents → Scheme → u.Concurrent
+generated label body (k.For r) = u.generate_for label (range_view r) body
+generated label body (k.If t) = u.generate_if label (static_test_view t) body
+
+abbrev mutual
+  pub concurrent_view : Concurrent → u.Concurrent
+  concurrent_view (c.Process p) = u.process (process_view p)
+  concurrent_view (c.Instance i) = u.instance (instance_view i)
+  concurrent_view (c.Generate' label at scheme shape statements) = generated label.text.items (concurrents_row statements) scheme
+
+  pub concurrents_row : {m : _} → Row_of-Concurrent m → u.Concurrents
+  concurrents_row end_of-Concurrent = u.no_concurrents
+  concurrents_row (more_of-Concurrent x rest) = u.concurrent (concurrent_view x) (concurrents_row rest)
+
+abbrev pub concurrents_of : List u.Concurrent → u.Concurrents
+concurrents_of [] = u.no_concurrents
+concurrents_of (x ∷ xs) = u.concurrent x (concurrents_of xs)
+
+abbrev pub concurrents_view : Vec Concurrent Global → List u.Concurrent
+concurrents_view v = map concurrent_view v.items
+
+abbrev pub one_process : Process → u.Concurrent
+one_process p = u.process (process_view p)

@@ -1,0 +1,67 @@
+//! What is analysed of names, values, choices and subtype indications.
+
+use vhdl_names_rules::{ObjectType, Part, Place, Static, StaticRange, Value, Vector};
+use vhdl_tree::Mode;
+use vhdl_values::Nine;
+
+/// What is assigned: a value, or `(others => e)`, one element for each of the target's.
+#[derive(Drop)]
+pub enum Given {
+    Single(Value),
+    Filled(Vector),
+}
+
+/// A choice of a case: the values of a literal, or an enumeration's literal by its position.
+#[derive(Drop)]
+pub enum Choice {
+    Values(Vec<Nine>),
+    Position(usize),
+}
+
+/// A signal, port, or part of one, with its mode if it is a port, and its type.
+#[derive(Drop)]
+pub struct SignalName {
+    pub place: Place,
+    pub mode: Option<Mode>,
+    pub object_type: ObjectType,
+}
+
+/// A variable, or part of one, with its type, and the byte at which its name starts.
+#[derive(Drop)]
+pub struct VariableName {
+    pub at: usize,
+    pub number: usize,
+    pub part: Part,
+    pub object_type: ObjectType,
+}
+
+/// One element, a vector of this range, or an enumeration of so many literals.
+#[derive(Drop)]
+pub enum Form {
+    Element,
+    Vector(StaticRange),
+    Enumeration(usize),
+}
+
+/// The value of a constant, or a default.
+#[derive(Drop)]
+pub enum Fixed {
+    /// A character, string or bit string literal.
+    Literal(Vec<Nine>),
+    /// An enumeration's literal.
+    Position(usize),
+    /// The constant of this number that is no integer.
+    Constant(usize),
+    /// `to_unsigned`, of a number and a size.
+    Encoded(Static, Static),
+    /// `(others => c)`.
+    Filled(Nine),
+}
+
+/// A type mark with its range: what objects of it are.
+#[derive(Drop)]
+pub struct Subtype {
+    pub object_type: ObjectType,
+    pub form: Form,
+    pub is_resolved: bool,
+}

@@ -1,0 +1,15 @@
+//! The units of a file as they are analysed (IEEE 1076-2008, clauses 3, 6, 10, 11 and 13): declarations, statements, entities and
+//! architectures. `specs/views` says what contracts see of them: the units of vhdl_names_rules.
+#![tactic(auto)]
+
+mod answers;
+mod concurrent;
+mod declaration;
+mod sequential;
+mod unit;
+
+pub use answers::{Choice, Fixed, Form, Given, SignalName, Subtype, VariableName};
+pub use concurrent::{Concurrent, Generate, Instance, Process, Scheme, Sensitivity};
+pub use declaration::{Declaration, Generics, Objects, Ports};
+pub use sequential::{Alternative, Branch, Case, If, Loop, Statement};
+pub use unit::{Architecture, Entity, Units};

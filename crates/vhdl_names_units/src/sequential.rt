@@ -1,0 +1,151 @@
+//! Sequential statements as they are analysed (IEEE 1076-2008, clause 10).
+
+ghost use Rattle.std.specs.Prelude.{◌≡◌};
+ghost use Rattle.vhdl_names_rules.specs.units.Statements as units;
+ghost use Rattle.vhdl_names_rules.specs.views.Integers.{range_view};
+ghost use Rattle.vhdl_names_rules.specs.views.Tests.{test_view};
+ghost use Rattle.vhdl_names_rules.specs.views.Vectors.{value_view};
+ghost use Rattle.vhdl_names_units.specs.views.Answers.{choices_view};
+ghost use Rattle.vhdl_names_units.specs.views.Sequential as views;
+
+use crate::answers::{Choice, Given};
+use vhdl_names_rules::{Part, Place, StaticRange, Test, Value};
+
+/// A sequential statement.
+#[cycle(statement)]
+#[derive(Drop)]
+pub enum Statement {
+    Null,
+    /// To a signal (10.5).
+    Assign {
+        target: Place,
+        value: Given,
+    },
+    /// To the variable of this number (10.6), whose name starts at byte `at`.
+    Set {
+        at: usize,
+        variable: usize,
+        part: Part,
+        value: Given,
+    },
+    If(If),
+    Case(Case),
+    Loop(Loop),
+}
+
+/// An if statement, and the byte at which it starts.
+#[cycle(statement)]
+#[derive(Drop)]
+pub struct If {
+    pub at: usize,
+    pub branches: Vec<Branch>,
+    pub otherwise: Option<Vec<Statement>>,
+}
+
+/// A condition, and the statements that it guards.
+#[cycle(statement)]
+#[derive(Drop)]
+pub struct Branch {
+    pub condition: Test,
+    pub statements: Vec<Statement>,
+}
+
+/// A case statement, and the byte at which it starts. A case that names every literal of an
+/// enumeration and has no `others` does its last alternative there.
+#[cycle(statement)]
+#[derive(Drop)]
+pub struct Case {
+    pub at: usize,
+    pub selector: Value,
+    pub alternatives: Vec<Alternative>,
+    pub others: Vec<Statement>,
+}
+
+/// Choices, and the statements that they guard.
+#[cycle(statement)]
+#[derive(Drop)]
+pub struct Alternative {
+    pub choices: Vec<Choice>,
+    pub statements: Vec<Statement>,
+}
+
+/// A for loop, and the byte at which it starts. Its parameter is the loop parameter with as many
+/// others round it as it has loops.
+#[cycle(statement)]
+#[derive(Drop)]
+pub struct Loop {
+    pub at: usize,
+    pub range: StaticRange,
+    pub statements: Vec<Statement>,
+}
+
+impl Branch {
+    /// A condition, and the statements that it guards.
+    pub fn new(condition: Test, statements: Vec<Statement>) -> Branch
+        ensures { views.branch_view result ≡ views.guarded_by (test_view condition) (views.statements_view statements) }
+    {
+        Branch {
+            condition,
+            statements,
+        }
+    }
+}
+
+impl Alternative {
+    /// Choices, and the statements that they guard.
+    pub fn new(choices: Vec<Choice>, statements: Vec<Statement>) -> Alternative
+        ensures { views.alternative_view result ≡ views.chosen_by (choices_view choices) (views.statements_view statements) }
+    {
+        Alternative {
+            choices,
+            statements,
+        }
+    }
+}
+
+impl Statement {
+    /// An if statement, which starts at byte `at`.
+    pub fn conditional(
+        at: usize,
+        branches: Vec<Branch>,
+        otherwise: Option<Vec<Statement>>,
+    ) -> Statement
+        ensures { views.statement_view result
+            ≡ units.choose (views.branches_of (views.branches_view branches) (views.last_of (views.option_statements_view otherwise))) }
+    {
+        Statement::If(If {
+            at,
+            branches,
+            otherwise,
+        })
+    }
+
+    /// A case statement, which starts at byte `at`.
+    pub fn selection(
+        at: usize,
+        selector: Value,
+        alternatives: Vec<Alternative>,
+        others: Vec<Statement>,
+    ) -> Statement
+        ensures { views.statement_view result
+            ≡ units.select (value_view selector) (views.alternatives_of (views.alternatives_view alternatives) (views.statements_of (views.statements_view others))) }
+    {
+        Statement::Case(Case {
+            at,
+            selector,
+            alternatives,
+            others,
+        })
+    }
+
+    /// A for loop, which starts at byte `at`.
+    pub fn repetition(at: usize, range: StaticRange, statements: Vec<Statement>) -> Statement
+        ensures { views.statement_view result ≡ units.loop (range_view range) (views.statements_of (views.statements_view statements)) }
+    {
+        Statement::Loop(Loop {
+            at,
+            range,
+            statements,
+        })
+    }
+}

@@ -1,4 +1,0 @@
-pub mod Shown
-pub mod Nets
-pub mod Names
-pub mod Prefixes

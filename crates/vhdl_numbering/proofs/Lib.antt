@@ -1,3 +1,0 @@
-mod Placing
-mod Walking
-pub mod Ready

@@ -1,0 +1,51 @@
+-- How the parser reads instances.
+use Rattle.std.specs.Prelude.{ℕ, List}
+use Rattle.vhdl_lexer.specs.declared.token.Kind.{Kind}
+use Rattle.vhdl_lexer.specs.declared.token.Kind.TheVariants as k
+use Rattle.vhdl_tree.specs.Tree.{Ident, Association, Instantiated, entity_unit, component_unit, Instance}
+use Rattle.vhdl_parser_expressions.specs.reader.Input.{Parser, ◌>>=◌, ◌>>◌, pure, is_kind, test, expect, eat, identifier, optional, below}
+use Rattle.vhdl_parser_expressions.specs.reader.Expressions.{associations}
+
+unfoldable pub chosen : ℕ → Parser Ident
+chosen n = do
+  expect k.LeftParen
+  m ← below n
+  i ← identifier
+  expect k.RightParen
+  pure i
+
+unfoldable pub of_entity : ℕ → Parser Instantiated
+of_entity n = do
+  expect k.Entity
+  library ← identifier
+  expect k.Dot
+  name ← identifier
+  a ← optional (is_kind k.LeftParen) (chosen n)
+  pure (entity_unit library name a)
+
+unfoldable pub of_component : Parser Instantiated
+of_component = do
+  word ← eat k.Component
+  name ← identifier
+  pure (component_unit word name)
+
+unfoldable pub instantiated : ℕ → Parser Instantiated
+instantiated n = test (is_kind k.Entity) (of_entity n) of_component
+
+unfoldable pub map_of : ℕ → Kind → Parser (List Association)
+map_of n word = do
+  expect word
+  expect k.Map
+  expect k.LeftParen
+  m ← below n
+  all ← associations m
+  expect k.RightParen
+  pure all
+
+unfoldable pub instance : ℕ → Parser Instance
+instance n = do
+  u ← instantiated n
+  g ← optional (is_kind k.Generic) (map_of n k.Generic)
+  p ← optional (is_kind k.Port) (map_of n k.Port)
+  expect k.Semicolon
+  pure (record { unit = u; generics = g; ports = p })

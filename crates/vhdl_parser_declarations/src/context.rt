@@ -1,0 +1,78 @@
+//! Context clauses.
+
+ghost use Rattle.std.specs.Prelude.{◌≡◌};
+ghost use Rattle.vhdl_tree.specs.View.{selected_view, selecteds_view, context_view, contexts_view};
+ghost use Rattle.vhdl_parser_expressions.specs.reader.Input as input;
+ghost use Rattle.vhdl_parser_expressions.specs.reader.Input.{Reads};
+ghost use Rattle.vhdl_parser_declarations.specs.reader.Context as read;
+
+use vhdl_parser_expressions::{Parser, Stop, many, separated};
+use vhdl_lexer::Kind;
+use vhdl_parser_statements::identifiers;
+use vhdl_tree::{ContextItem, Selected};
+
+#[tactic(auto, unfolding(crate::specs::reader::Context::selected))]
+fn selected(parser: &mut Parser<'_>) -> Result<Selected, Stop>
+    ensures { Reads selected_view (read.selected parser.old) result parser.new }
+{
+    let library = parser.identifier()?;
+    parser.expect(Kind::Dot)?;
+    let name = parser.identifier()?;
+    parser.expect(Kind::Dot)?;
+    parser.expect(Kind::All)?;
+    Ok(Selected { library, name })
+}
+
+fn selecteds(parser: &mut Parser<'_>) -> Result<Vec<Selected>, Stop>
+    ensures { Reads selecteds_view (read.selecteds parser.old) result parser.new }
+{
+    separated(parser, Kind::Comma, selected)
+}
+
+#[tactic(auto, unfolding(crate::specs::reader::Context::library_clause))]
+fn library_clause(parser: &mut Parser<'_>) -> Result<ContextItem, Stop>
+    ensures { Reads context_view (read.library_clause parser.old) result parser.new }
+{
+    parser.expect(Kind::Library)?;
+    let names = identifiers(parser)?;
+    parser.expect(Kind::Semicolon)?;
+    Ok(ContextItem::Library(names))
+}
+
+#[tactic(auto, unfolding(crate::specs::reader::Context::use_clause))]
+fn use_clause(parser: &mut Parser<'_>) -> Result<ContextItem, Stop>
+    ensures { Reads context_view (read.use_clause parser.old) result parser.new }
+{
+    parser.expect(Kind::Use)?;
+    let all = selecteds(parser)?;
+    parser.expect(Kind::Semicolon)?;
+    Ok(ContextItem::Use(all))
+}
+
+#[tactic(auto, unfolding(crate::specs::reader::Context::context_item))]
+fn context_item(parser: &mut Parser<'_>) -> Result<ContextItem, Stop>
+    ensures { Reads context_view (read.context_item parser.old) result parser.new }
+{
+    if parser.sees(Kind::Library) {
+        library_clause(parser)
+    } else {
+        use_clause(parser)
+    }
+}
+
+fn begins_context(parser: &Parser<'_>) -> bool
+    ensures { result ≡ read.begins_context (input.next_kind parser.now) }
+{
+    match parser.peek() {
+        Some(Kind::Library) | Some(Kind::Use) => true,
+        _ => false,
+    }
+}
+
+/// The context clause of a unit (IEEE 1076-2008, 13.4), which may be empty.
+pub fn context_clause(parser: &mut Parser<'_>) -> Result<Vec<ContextItem>, Stop>
+    ensures { Reads contexts_view (read.context parser.old) result parser.new }
+{
+    let found = Vec::new(parser.alloc);
+    many(parser, begins_context, context_item, found)
+}

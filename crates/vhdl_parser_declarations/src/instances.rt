@@ -1,0 +1,109 @@
+//! Instances.
+
+ghost use Rattle.std.specs.Prelude.{◌≡◌, option_map};
+ghost use Rattle.vhdl_lexer.specs.declared.token.Kind.TheVariants as k;
+ghost use Rattle.vhdl_tree.specs.View.{ident_view, option_ident_view, associations_view, instantiated_view, instance_view};
+ghost use Rattle.vhdl_parser_expressions.specs.reader.Input as input;
+ghost use Rattle.vhdl_parser_expressions.specs.reader.Input.{Reads};
+ghost use Rattle.vhdl_parser_declarations.specs.reader.Instance as read;
+
+use vhdl_parser_expressions::{Parser, Stop, below};
+use vhdl_lexer::Kind;
+use vhdl_tree::{Association, Identifier, Instance, Instantiated};
+
+#[tactic(auto, unfolding(crate::specs::reader::Instance::chosen))]
+fn chosen_architecture(parser: &mut Parser<'_>, levels: usize) -> Result<Identifier, Stop>
+    ensures { Reads ident_view (read.chosen levels parser.old) result parser.new }
+{
+    parser.expect(Kind::LeftParen)?;
+    let _inner = below(levels)?;
+    let name = parser.identifier()?;
+    parser.expect(Kind::RightParen)?;
+    Ok(name)
+}
+
+#[tactic(auto, unfolding(vhdl_parser_expressions::specs::reader::Input::optional))]
+fn optional_architecture(parser: &mut Parser<'_>, levels: usize) -> Result<Option<Identifier>, Stop>
+    ensures { Reads option_ident_view (input.optional (input.is_kind k.LeftParen) (read.chosen levels) parser.old) result parser.new }
+{
+    if parser.sees(Kind::LeftParen) {
+        Ok(Some(chosen_architecture(parser, levels)?))
+    } else {
+        Ok(None)
+    }
+}
+
+#[tactic(auto, unfolding(crate::specs::reader::Instance::of_entity))]
+fn instantiated_entity(parser: &mut Parser<'_>, levels: usize) -> Result<Instantiated, Stop>
+    ensures { Reads instantiated_view (read.of_entity levels parser.old) result parser.new }
+{
+    parser.expect(Kind::Entity)?;
+    let library = parser.identifier()?;
+    parser.expect(Kind::Dot)?;
+    let name = parser.identifier()?;
+    let architecture = optional_architecture(parser, levels)?;
+    Ok(Instantiated::Entity {
+        library,
+        name,
+        architecture,
+    })
+}
+
+#[tactic(auto, unfolding(crate::specs::reader::Instance::instantiated, crate::specs::reader::Instance::of_component))]
+fn instantiated(parser: &mut Parser<'_>, levels: usize) -> Result<Instantiated, Stop>
+    ensures { Reads instantiated_view (read.instantiated levels parser.old) result parser.new }
+{
+    if parser.sees(Kind::Entity) {
+        return instantiated_entity(parser, levels);
+    }
+    let component_word = parser.eat(Kind::Component)?;
+    let name = parser.identifier()?;
+    Ok(Instantiated::Component {
+        component_word,
+        name,
+    })
+}
+
+#[tactic(auto, unfolding(crate::specs::reader::Instance::map_of))]
+fn map_of(parser: &mut Parser<'_>, levels: usize, word: Kind) -> Result<Vec<Association>, Stop>
+    ensures { Reads associations_view (read.map_of levels word parser.old) result parser.new }
+{
+    parser.expect(word)?;
+    parser.expect(Kind::Map)?;
+    parser.expect(Kind::LeftParen)?;
+    let inner = below(levels)?;
+    let all = parser.associations(inner)?;
+    parser.expect(Kind::RightParen)?;
+    Ok(all)
+}
+
+#[tactic(auto, unfolding(vhdl_parser_expressions::specs::reader::Input::optional))]
+fn optional_map(
+    parser: &mut Parser<'_>,
+    levels: usize,
+    word: Kind,
+) -> Result<Option<Vec<Association>>, Stop>
+    ensures { Reads (option_map associations_view) (input.optional (input.is_kind word) (read.map_of levels word) parser.old) result parser.new }
+{
+    if parser.sees(word) {
+        Ok(Some(map_of(parser, levels, word)?))
+    } else {
+        Ok(None)
+    }
+}
+
+/// An instance behind its label, in which so many levels may be opened.
+#[tactic(auto, unfolding(crate::specs::reader::Instance::instance))]
+pub fn instance(parser: &mut Parser<'_>, levels: usize) -> Result<Instance, Stop>
+    ensures { Reads instance_view (read.instance levels parser.old) result parser.new }
+{
+    let unit = instantiated(parser, levels)?;
+    let generics = optional_map(parser, levels, Kind::Generic)?;
+    let ports = optional_map(parser, levels, Kind::Port)?;
+    parser.expect(Kind::Semicolon)?;
+    Ok(Instance {
+        unit,
+        generics,
+        ports,
+    })
+}

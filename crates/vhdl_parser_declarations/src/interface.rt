@@ -1,0 +1,150 @@
+//! Generics and ports.
+
+ghost use Rattle.std.specs.Prelude.{◌≡◌};
+ghost use Rattle.vhdl_tree.specs.View.{view, option_expr_view, generic_view, generics_view, option_generics_view, port_view, ports_view, option_ports_view};
+ghost use Rattle.vhdl_parser_declarations.specs.reader.Declarations as read;
+ghost use Rattle.vhdl_parser_expressions.specs.reader.Input.{Reads};
+
+use vhdl_parser_expressions::{Parser, Stop, below, separated};
+use vhdl_lexer::Kind;
+use vhdl_parser_statements::{identifiers, optional_default, subtype};
+use vhdl_tree::{Expr, Generic, Mode, Port};
+
+#[tactic(auto, unfolding(crate::specs::reader::Declarations::generic_default))]
+fn generic_default(parser: &mut Parser<'_>, levels: usize) -> Result<Expr, Stop>
+    ensures { Reads view (read.generic_default levels parser.old) result parser.new }
+{
+    parser.expect(Kind::Assign)?;
+    parser.expr(levels)
+}
+
+#[tactic(auto, unfolding(crate::specs::reader::Declarations::optional_generic_default, vhdl_parser_expressions::specs::reader::Input::optional))]
+fn optional_generic_default(parser: &mut Parser<'_>, levels: usize) -> Result<Option<Expr>, Stop>
+    ensures { Reads option_expr_view (read.optional_generic_default levels parser.old) result parser.new }
+{
+    if parser.sees(Kind::Assign) {
+        Ok(Some(generic_default(parser, levels)?))
+    } else {
+        Ok(None)
+    }
+}
+
+#[tactic(auto, unfolding(crate::specs::reader::Declarations::generic))]
+fn generic(parser: &mut Parser<'_>, levels: usize) -> Result<Generic, Stop>
+    ensures { Reads generic_view (read.generic levels parser.old) result parser.new }
+{
+    let constant_word = parser.eat(Kind::Constant)?;
+    let names = identifiers(parser)?;
+    parser.expect(Kind::Colon)?;
+    let in_word = parser.eat(Kind::In)?;
+    let mark = parser.identifier()?;
+    let default = optional_generic_default(parser, levels)?;
+    Ok(Generic {
+        constant_word,
+        names,
+        in_word,
+        mark,
+        default,
+    })
+}
+
+fn generic_list(parser: &mut Parser<'_>, levels: usize) -> Result<Vec<Generic>, Stop>
+    ensures { Reads generics_view (read.generic_list levels parser.old) result parser.new }
+{
+    separated(parser, Kind::Semicolon, |parser| generic(parser, levels))
+}
+
+#[tactic(auto, unfolding(crate::specs::reader::Declarations::generics))]
+fn generics(parser: &mut Parser<'_>, levels: usize) -> Result<Vec<Generic>, Stop>
+    ensures { Reads generics_view (read.generics levels parser.old) result parser.new }
+{
+    parser.expect(Kind::Generic)?;
+    parser.expect(Kind::LeftParen)?;
+    let inner = below(levels)?;
+    let found = generic_list(parser, inner)?;
+    parser.expect(Kind::RightParen)?;
+    parser.expect(Kind::Semicolon)?;
+    Ok(found)
+}
+
+/// A generic clause, if one comes next, in which so many levels may be opened.
+#[tactic(auto, unfolding(crate::specs::reader::Declarations::optional_generics, vhdl_parser_expressions::specs::reader::Input::optional))]
+pub fn optional_generics(
+    parser: &mut Parser<'_>,
+    levels: usize,
+) -> Result<Option<Vec<Generic>>, Stop>
+    ensures { Reads option_generics_view (read.optional_generics levels parser.old) result parser.new }
+{
+    if parser.sees(Kind::Generic) {
+        Ok(Some(generics(parser, levels)?))
+    } else {
+        Ok(None)
+    }
+}
+
+#[tactic(auto, unfolding(crate::specs::reader::Declarations::mode))]
+fn mode(parser: &mut Parser<'_>) -> Result<Option<Mode>, Stop>
+    ensures { Reads (λ m. m) (read.mode parser.old) result parser.new }
+{
+    match parser.peek() {
+        Some(Kind::In) => {
+            parser.expect(Kind::In)?;
+            Ok(Some(Mode::In))
+        }
+        Some(Kind::Out) => {
+            parser.expect(Kind::Out)?;
+            Ok(Some(Mode::Out))
+        }
+        _ => Ok(None),
+    }
+}
+
+#[tactic(auto, unfolding(crate::specs::reader::Declarations::port))]
+fn port(parser: &mut Parser<'_>, levels: usize) -> Result<Port, Stop>
+    ensures { Reads port_view (read.port levels parser.old) result parser.new }
+{
+    let signal_word = parser.eat(Kind::Signal)?;
+    let names = identifiers(parser)?;
+    parser.expect(Kind::Colon)?;
+    let mode = mode(parser)?;
+    let subtype = subtype(parser, levels)?;
+    let default = optional_default(parser, levels)?;
+    Ok(Port {
+        signal_word,
+        names,
+        mode,
+        subtype,
+        default,
+    })
+}
+
+fn port_list(parser: &mut Parser<'_>, levels: usize) -> Result<Vec<Port>, Stop>
+    ensures { Reads ports_view (read.port_list levels parser.old) result parser.new }
+{
+    separated(parser, Kind::Semicolon, |parser| port(parser, levels))
+}
+
+#[tactic(auto, unfolding(crate::specs::reader::Declarations::ports))]
+fn ports(parser: &mut Parser<'_>, levels: usize) -> Result<Vec<Port>, Stop>
+    ensures { Reads ports_view (read.ports levels parser.old) result parser.new }
+{
+    parser.expect(Kind::Port)?;
+    parser.expect(Kind::LeftParen)?;
+    let inner = below(levels)?;
+    let found = port_list(parser, inner)?;
+    parser.expect(Kind::RightParen)?;
+    parser.expect(Kind::Semicolon)?;
+    Ok(found)
+}
+
+/// A port clause, if one comes next, in which so many levels may be opened.
+#[tactic(auto, unfolding(crate::specs::reader::Declarations::optional_ports, vhdl_parser_expressions::specs::reader::Input::optional))]
+pub fn optional_ports(parser: &mut Parser<'_>, levels: usize) -> Result<Option<Vec<Port>>, Stop>
+    ensures { Reads option_ports_view (read.optional_ports levels parser.old) result parser.new }
+{
+    if parser.sees(Kind::Port) {
+        Ok(Some(ports(parser, levels)?))
+    } else {
+        Ok(None)
+    }
+}

@@ -1,0 +1,349 @@
+-- Operators by level, and what may follow what.
+use Rattle.std.proofs.Common.{◌≡◌, ℕ, ◌≤◌, ◌<◌, Bool, true, false, cond, Option, Some, None, inl, inr, ⊎_elim, refl, sym, ap, ◌∙◌, subst, rules, arith}
+use denote.Enum.Bare.{same_true, true_same}
+use Rattle.vhdl_lexer.specs.declared.token.Kind.{Kind}
+use Rattle.vhdl_lexer.specs.declared.token.Kind.TheVariants as k
+use Rattle.vhdl_lexer.specs.contracts.token.Kind.{the_type}
+use Rattle.vhdl_tree.specs.declared.operator.Operator.{Operator}
+use Rattle.vhdl_tree.specs.declared.operator.Operator.TheVariants.{And, Or, Xor, Xnor, Nand, Nor, Equal, NotEqual, Less, LessEqual, Greater, GreaterEqual, Add, Subtract, Concatenate, Multiply, Divide, Modulo, Remainder}
+use Rattle.vhdl_parser_expressions.specs.declared.operator.Level.{Level}
+use Rattle.vhdl_parser_expressions.specs.declared.operator.Level.TheVariants.{Logical, Relation, Adding, Multiplying}
+use Rattle.vhdl_tree.specs.Lexeme.{same_kind}
+use Rattle.vhdl_tree.specs.Tree.{Expr, integer, character, string, bits, named, parens, negation, signed, binary}
+use Rattle.vhdl_tree.specs.grammar.Expressions.{kind_of, rank, repeats, binding, Chains, GoesOn, IsSigned, Leads}
+use Rattle.vhdl_parser_expressions.specs.reader.Input.{is_kind}
+use Rattle.vhdl_parser_expressions.specs.reader.Expressions.{logical_at, relation_at, adding_at, multiplying_at, operator_at, next_operator}
+
+abbrev pub level_rank : Level → ℕ
+level_rank Logical = 1
+level_rank Relation = 2
+level_rank Adding = 3
+level_rank Multiplying = 4
+
+-- How tightly a token goes on with the expression before it: not at all 0, as an operator by its rank, and as a name's suffix or attribute 7.
+abbrev pub grip : Option Kind → ℕ
+grip (Some k.And) = 1
+grip (Some k.Or) = 1
+grip (Some k.Xor) = 1
+grip (Some k.Xnor) = 1
+grip (Some k.Nand) = 1
+grip (Some k.Nor) = 1
+grip (Some k.Equal) = 2
+grip (Some k.NotEqual) = 2
+grip (Some k.Less) = 2
+grip (Some k.LessEqual) = 2
+grip (Some k.Greater) = 2
+grip (Some k.GreaterEqual) = 2
+grip (Some k.Plus) = 3
+grip (Some k.Minus) = 3
+grip (Some k.Ampersand) = 3
+grip (Some k.Star) = 4
+grip (Some k.Slash) = 4
+grip (Some k.Mod) = 4
+grip (Some k.Rem) = 4
+grip (Some k.LeftParen) = 7
+grip (Some k.Tick) = 7
+grip _ = 0
+
+pub grip-kind_of : (op : Operator) → grip (Some (kind_of op)) ≡ rank op
+grip-kind_of And = refl
+grip-kind_of Or = refl
+grip-kind_of Xor = refl
+grip-kind_of Xnor = refl
+grip-kind_of Nand = refl
+grip-kind_of Nor = refl
+grip-kind_of Equal = refl
+grip-kind_of NotEqual = refl
+grip-kind_of Less = refl
+grip-kind_of LessEqual = refl
+grip-kind_of Greater = refl
+grip-kind_of GreaterEqual = refl
+grip-kind_of Add = refl
+grip-kind_of Subtract = refl
+grip-kind_of Concatenate = refl
+grip-kind_of Multiply = refl
+grip-kind_of Divide = refl
+grip-kind_of Modulo = refl
+grip-kind_of Remainder = refl
+
+abbrev pub level_of : Operator → Level
+level_of And = Logical
+level_of Or = Logical
+level_of Xor = Logical
+level_of Xnor = Logical
+level_of Nand = Logical
+level_of Nor = Logical
+level_of Equal = Relation
+level_of NotEqual = Relation
+level_of Less = Relation
+level_of LessEqual = Relation
+level_of Greater = Relation
+level_of GreaterEqual = Relation
+level_of Add = Adding
+level_of Subtract = Adding
+level_of Concatenate = Adding
+level_of Multiply = Multiplying
+level_of Divide = Multiplying
+level_of Modulo = Multiplying
+level_of Remainder = Multiplying
+
+pub rank-level_of : (op : Operator) → rank op ≡ level_rank (level_of op)
+rank-level_of And = refl
+rank-level_of Or = refl
+rank-level_of Xor = refl
+rank-level_of Xnor = refl
+rank-level_of Nand = refl
+rank-level_of Nor = refl
+rank-level_of Equal = refl
+rank-level_of NotEqual = refl
+rank-level_of Less = refl
+rank-level_of LessEqual = refl
+rank-level_of Greater = refl
+rank-level_of GreaterEqual = refl
+rank-level_of Add = refl
+rank-level_of Subtract = refl
+rank-level_of Concatenate = refl
+rank-level_of Multiply = refl
+rank-level_of Divide = refl
+rank-level_of Modulo = refl
+rank-level_of Remainder = refl
+
+level_most : (level : Level) → level_rank level ≤ 4
+level_most Logical = omega arith
+level_most Relation = omega arith
+level_most Adding = omega arith
+level_most Multiplying = omega arith
+
+level_least : (level : Level) → 1 ≤ level_rank level
+level_least Logical = omega arith
+level_least Relation = omega arith
+level_least Adding = omega arith
+level_least Multiplying = omega arith
+
+pub rank_most : (op : Operator) → rank op ≤ 4
+rank_most op = omega (arith, rank-level_of op, level_most (level_of op))
+
+pub binding_least : (e : Expr) → 1 ≤ binding e
+binding_least (binary b op at left right) = omega (arith, rank-level_of op, level_least (level_of op))
+binding_least (signed sign at e) = omega arith
+binding_least (negation at e) = omega arith
+binding_least (integer at text) = omega arith
+binding_least (character at code) = omega arith
+binding_least (string at text) = omega arith
+binding_least (bits at text) = omega arith
+binding_least (named n s a) = omega arith
+binding_least (parens at e) = omega arith
+
+-- the token is this operator, which is of this level
+pub record At (level : Level) (next : Option Kind) (op : Operator) : Type 0 where
+  pub kind_is : next ≡ Some (kind_of op)
+  pub rank_is : rank op ≡ level_rank level
+
+row : (level : Level) (next : Option Kind) (found op : Operator) → ◌≡◌ {A = Option Operator} (Some found) (Some op) → next ≡ Some (kind_of found) → rank found ≡ level_rank level → At level next op
+row level next found op h e r = let same : found ≡ op = cc in subst (At level next) same (record { kind_is = e; rank_is = r })
+
+logical_is : (next : Option Kind) (op : Operator) → logical_at next ≡ Some op → At Logical next op
+logical_is (Some k.And) op h = row Logical _ And op h refl refl
+logical_is (Some k.Or) op h = row Logical _ Or op h refl refl
+logical_is (Some k.Xor) op h = row Logical _ Xor op h refl refl
+logical_is (Some k.Xnor) op h = row Logical _ Xnor op h refl refl
+logical_is (Some k.Nand) op h = row Logical _ Nand op h refl refl
+logical_is (Some k.Nor) op h = row Logical _ Nor op h refl refl
+logical_is _ op h = absurd (cc)
+
+relation_is : (next : Option Kind) (op : Operator) → relation_at next ≡ Some op → At Relation next op
+relation_is (Some k.Equal) op h = row Relation _ Equal op h refl refl
+relation_is (Some k.NotEqual) op h = row Relation _ NotEqual op h refl refl
+relation_is (Some k.Less) op h = row Relation _ Less op h refl refl
+relation_is (Some k.LessEqual) op h = row Relation _ LessEqual op h refl refl
+relation_is (Some k.Greater) op h = row Relation _ Greater op h refl refl
+relation_is (Some k.GreaterEqual) op h = row Relation _ GreaterEqual op h refl refl
+relation_is _ op h = absurd (cc)
+
+adding_is : (next : Option Kind) (op : Operator) → adding_at next ≡ Some op → At Adding next op
+adding_is (Some k.Plus) op h = row Adding _ Add op h refl refl
+adding_is (Some k.Minus) op h = row Adding _ Subtract op h refl refl
+adding_is (Some k.Ampersand) op h = row Adding _ Concatenate op h refl refl
+adding_is _ op h = absurd (cc)
+
+multiplying_is : (next : Option Kind) (op : Operator) → multiplying_at next ≡ Some op → At Multiplying next op
+multiplying_is (Some k.Star) op h = row Multiplying _ Multiply op h refl refl
+multiplying_is (Some k.Slash) op h = row Multiplying _ Divide op h refl refl
+multiplying_is (Some k.Mod) op h = row Multiplying _ Modulo op h refl refl
+multiplying_is (Some k.Rem) op h = row Multiplying _ Remainder op h refl refl
+multiplying_is _ op h = absurd (cc)
+
+-- an operator's token is read as that operator at its level
+pub reads_operator : (level : Level) (op : Operator) → rank op ≡ level_rank level → operator_at level (Some (kind_of op)) ≡ Some op
+reads_operator Logical And e = refl
+reads_operator Logical Or e = refl
+reads_operator Logical Xor e = refl
+reads_operator Logical Xnor e = refl
+reads_operator Logical Nand e = refl
+reads_operator Logical Nor e = refl
+reads_operator Relation Equal e = refl
+reads_operator Relation NotEqual e = refl
+reads_operator Relation Less e = refl
+reads_operator Relation LessEqual e = refl
+reads_operator Relation Greater e = refl
+reads_operator Relation GreaterEqual e = refl
+reads_operator Adding Add e = refl
+reads_operator Adding Subtract e = refl
+reads_operator Adding Concatenate e = refl
+reads_operator Multiplying Multiply e = refl
+reads_operator Multiplying Divide e = refl
+reads_operator Multiplying Modulo e = refl
+reads_operator Multiplying Remainder e = refl
+reads_operator _ _ e = absurd (omega arith)
+
+repeated_rank : (op : Operator) → repeats op ≡ true → rank op ≡ 1
+repeated_rank And e = refl
+repeated_rank Or e = refl
+repeated_rank Xor e = refl
+repeated_rank Xnor e = refl
+repeated_rank _ e = absurd (cc)
+
+same_here : (kind : Kind) → same_kind kind kind ≡ true
+unfolding same_kind
+same_here kind = true_same the_type kind kind refl
+
+pub is_here : (kind : Kind) (next : Option Kind) → is_kind kind next ≡ true → next ≡ Some kind
+unfolding same_kind
+is_here kind None h = absurd (cc)
+is_here kind (Some found) h = ap Some (same_true the_type (search rules) found kind h)
+
+-- what a chain begins with is an operator of its level
+pub first_is : (level : Level) (next : Option Kind) (op : Operator) → operator_at level next ≡ Some op → At level next op
+first_is Logical next op h = logical_is next op h
+first_is Relation next op h = relation_is next op h
+first_is Adding next op h = adding_is next op h
+first_is Multiplying next op h = multiplying_is next op h
+
+-- what it goes on with is one
+pub next_is : (level : Level) (last : Operator) (next : Option Kind) (op : Operator) → next_operator level last next ≡ Some op → At level next op
+unfolding next_operator
+next_is Logical last next op h = by_repeats (repeats last) refl h
+  where
+    by_kind : rank last ≡ 1 → (b : Bool) → is_kind (kind_of last) next ≡ b → ◌≡◌ {A = Option Operator} (cond b (Some last) None) (Some op) → At Logical next op
+    by_kind r true e g = row Logical next last op g (is_here (kind_of last) next e) r
+    by_kind r false e g = absurd (cc)
+
+    by_repeats : (b : Bool) → repeats last ≡ b → ◌≡◌ {A = Option Operator} (cond b (cond (is_kind (kind_of last) next) (Some last) None) None) (Some op) → At Logical next op
+    by_repeats true e g = by_kind (repeated_rank last e) (is_kind (kind_of last) next) refl g
+    by_repeats false e g = absurd (cc)
+next_is Relation last next op h = absurd (cc)
+next_is Adding last next op h = adding_is next op h
+next_is Multiplying last next op h = multiplying_is next op h
+
+-- nothing of this level follows where what comes next is looser
+none_at : (level : Level) (next : Option Kind) (o : Option Operator) → ((op : Operator) → o ≡ Some op → At level next op) → grip next < level_rank level → o ≡ None
+none_at level next None is s = refl
+none_at level next (Some op) is s =
+    let a = is op refl in
+    let g : grip next ≡ rank op = ap grip a.kind_is ∙ grip-kind_of op in
+    absurd (omega (arith, s, g, a.rank_is))
+
+pub first_none : (level : Level) (next : Option Kind) → grip next < level_rank level → operator_at level next ≡ None
+first_none level next s = none_at level next (operator_at level next) (first_is level next) s
+
+pub next_none : (level : Level) (last : Operator) (next : Option Kind) → grip next < level_rank level → next_operator level last next ≡ None
+next_none level last next s = none_at level next (next_operator level last next) (next_is level last next) s
+
+-- ---- what may follow a tree is read after it
+
+abbrev pub CanGo : Level → Operator → Expr → Type 0
+CanGo level last left = (op : Operator) → rank op ≡ level_rank level → GoesOn op left → next_operator level last (Some (kind_of op)) ≡ Some op
+
+repeated : (op next : Operator) → op ≡ next → repeats next ≡ true → next_operator Logical op (Some (kind_of next)) ≡ Some next
+unfolding next_operator
+repeated op next e r = rw (e, r, same_here (kind_of next))
+
+pub can_after : (level : Level) (b : Bool) (op : Operator) (at : ℕ) (left right : Expr) → rank op ≡ level_rank level → CanGo level op (binary b op at left right)
+unfolding next_operator
+can_after Logical b op at left right r next s chain =
+    ⊎_elim (λ great. absurd (omega (arith, great, s))) (λ again. repeated op next again.0 again.1) chain.1
+can_after Relation b op at left right r next s chain =
+    ⊎_elim (λ great. absurd (omega (arith, great, s))) (λ again. absurd (omega (arith, repeated_rank next again.1, s))) chain.1
+can_after Adding b op at left right r next s chain = reads_operator Adding next s
+can_after Multiplying b op at left right r next s chain = reads_operator Multiplying next s
+
+-- ---- a tree that no operator of the level goes on with
+
+abbrev pub Alone : Level → Expr → Type 0
+Alone level e = (op : Operator) → rank op ≡ level_rank level → GoesOn op e → ⊥
+
+pub tight_alone : (level : Level) (e : Expr) → level_rank level < binding e → Alone level e
+tight_alone level (binary b first at l r) h op s g = absurd (omega (arith, h, s, g.0))
+tight_alone level (signed sign at e) h op s g = g
+tight_alone level (negation at e) h op s g = g
+tight_alone level (integer at text) h op s g = g
+tight_alone level (character at code) h op s g = g
+tight_alone level (string at text) h op s g = g
+tight_alone level (bits at text) h op s g = g
+tight_alone level (named n x a) h op s g = g
+tight_alone level (parens at e) h op s g = g
+
+-- ---- what is read after a tree may follow it
+
+-- as the first operator of a chain
+abbrev pub Begins : Level → Expr → Type 0
+Begins level first = (op : Operator) → rank op ≡ level_rank level → Leads true op first
+
+pub begins_tight : (level : Level) (first : Expr) → level_rank level < binding first → Begins level first
+begins_tight level first b op r = inl (omega (arith, r, b))
+
+-- as a further one
+abbrev pub Fits : Level → Operator → Expr → Type 0
+Fits level last left = (next : Option Kind) (op : Operator) → next_operator level last next ≡ Some op → GoesOn op left
+
+pub fits_after : (level : Level) (b : Bool) (op : Operator) (at : ℕ) (left right : Expr) → rank op ≡ level_rank level → Fits level op (binary b op at left right)
+unfolding next_operator
+fits_after Logical b op at left right r next found h = by_repeats (repeats op) refl h
+  where
+    again : repeats op ≡ true → ◌≡◌ {A = Option Operator} (Some op) (Some found) → Chains op found
+    again e g =
+        let same : op ≡ found = cc in
+        (ap rank same, inr (same, sym (ap repeats same) ∙ e))
+
+    by_kind : repeats op ≡ true → (t : Bool) → ◌≡◌ {A = Option Operator} (cond t (Some op) None) (Some found) → Chains op found
+    by_kind e true g = again e g
+    by_kind e false g = absurd (cc)
+
+    by_repeats : (t : Bool) → repeats op ≡ t → ◌≡◌ {A = Option Operator} (cond t (cond (is_kind (kind_of op) next) (Some op) None) None) (Some found) → Chains op found
+    by_repeats true e g = by_kind e (is_kind (kind_of op) next) g
+    by_repeats false e g = absurd (cc)
+fits_after Relation b op at left right r next found h = absurd (cc)
+fits_after Adding b op at left right r next found h =
+    let a = next_is Adding op next found h in
+    (r ∙ sym a.rank_is, inl (omega (arith, a.rank_is)))
+fits_after Multiplying b op at left right r next found h =
+    let a = next_is Multiplying op next found h in
+    (r ∙ sym a.rank_is, inl (omega (arith, a.rank_is)))
+
+-- what stands before an operator binds as tightly at least
+pub goes_on_binding : (op : Operator) (left : Expr) → GoesOn op left → rank op ≤ binding left
+goes_on_binding op (binary b first at l r) g = omega (arith, g.0)
+goes_on_binding op (signed sign at e) g = absurd g
+goes_on_binding op (negation at e) g = absurd g
+goes_on_binding op (integer at text) g = absurd g
+goes_on_binding op (character at code) g = absurd g
+goes_on_binding op (string at text) g = absurd g
+goes_on_binding op (bits at text) g = absurd g
+goes_on_binding op (named n s a) g = absurd g
+goes_on_binding op (parens at e) g = absurd g
+
+signed_binding : (op : Operator) (left : Expr) → IsSigned op left → rank op ≤ binding left
+signed_binding op (signed sign at e) g = omega (arith, g)
+signed_binding op (binary b first at l r) g = absurd g
+signed_binding op (negation at e) g = absurd g
+signed_binding op (integer at text) g = absurd g
+signed_binding op (character at code) g = absurd g
+signed_binding op (string at text) g = absurd g
+signed_binding op (bits at text) g = absurd g
+signed_binding op (named n s a) g = absurd g
+signed_binding op (parens at e) g = absurd g
+
+pub leads_binding : (b : Bool) (op : Operator) (left : Expr) → Leads b op left → rank op ≤ binding left
+leads_binding true op left (inl b) = omega (arith, b)
+leads_binding true op left (inr g) = signed_binding op left g
+leads_binding false op left g = goes_on_binding op left g

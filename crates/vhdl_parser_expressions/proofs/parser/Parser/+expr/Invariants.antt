@@ -1,0 +1,81 @@
+use Rattle.std.proofs.Common.{ℕ, ◌≡◌, ◌+◌, ◌-◌, ◌*◌}
+use Rattle.vhdl_lexer.specs.declared.token.Kind.TheVariants as k
+use Rattle.vhdl_parser_expressions.specs.declared.operator.Level.{Level}
+use Rattle.vhdl_parser_expressions.specs.declared.operator.Level.TheVariants.{Logical, Relation, Adding, Multiplying}
+use Rattle.vhdl_tree.specs.Tree.{Expr, all_joined}
+use Rattle.vhdl_tree.specs.View.{exprs_view, pairs_view}
+use Rattle.vhdl_parser_expressions.specs.reader.Input.{is_kind, many, many_from}
+use Rattle.vhdl_parser_expressions.specs.reader.Expressions as read
+use Rattle.vhdl_parser_expressions.proofs.parser.Parser.+expr.Given as goal
+
+-- how far a level stands above the factors
+abbrev height : Level → ℕ
+height Logical = 4
+height Relation = 3
+height Adding = 2
+height Multiplying = 1
+
+-- each call goes down the grammar, and a parenthesis takes a level
+abbrev pub decreases-expr : goal.decreases-expr
+decreases-expr l = 50 * l.levels + 45
+
+abbrev pub decreases-chain : goal.decreases-chain
+decreases-chain l = 50 * l.levels + (10 + (6 * height l.level + 5))
+
+abbrev pub decreases-links : goal.decreases-links
+decreases-links l = 50 * l.levels + (10 + (6 * height l.level + 4))
+
+abbrev pub decreases-first : goal.decreases-first
+decreases-first l = 50 * l.levels + (10 + (6 * height l.level + 3))
+
+abbrev pub decreases-leading : goal.decreases-leading
+decreases-leading l = 50 * l.levels + 24
+
+abbrev pub decreases-link : goal.decreases-link
+decreases-link l = 50 * l.levels + (10 + (6 * height l.level + 1))
+
+abbrev pub decreases-operand : goal.decreases-operand
+decreases-operand l = 50 * l.levels + (10 + 6 * height l.level)
+
+abbrev pub decreases-factor : goal.decreases-factor
+decreases-factor l = 50 * l.levels + 9
+
+abbrev pub decreases-primary : goal.decreases-primary
+decreases-primary l = 50 * l.levels + 8
+
+abbrev pub decreases-name : goal.decreases-name
+decreases-name l = 50 * l.levels + 7
+
+abbrev pub decreases-optional_suffix : goal.decreases-optional_suffix
+decreases-optional_suffix l = 50 * l.levels + 6
+
+abbrev pub decreases-suffix : goal.decreases-suffix
+decreases-suffix l = 50 * l.levels + 5
+
+abbrev pub decreases-range_from : goal.decreases-range_from
+decreases-range_from l = 50 * l.levels + 4
+
+abbrev pub decreases-arguments_from : goal.decreases-arguments_from
+decreases-arguments_from l = 50 * l.levels + 4
+
+abbrev pub decreases-arguments : goal.decreases-arguments
+decreases-arguments l = 50 * l.levels + 3
+
+abbrev pub decreases-argument : goal.decreases-argument
+decreases-argument l = 50 * l.levels + 2
+
+abbrev pub decreases-parenthesis : goal.decreases-parenthesis
+decreases-parenthesis l = 50 * l.levels + 1
+
+abbrev pub decreases-inside : goal.decreases-inside
+decreases-inside l = 50 * l.levels
+
+-- what is still to be read gives what was to be read
+abbrev pub invariant-arguments-loop-turn : goal.invariant-arguments-loop-turn
+invariant-arguments-loop-turn l =
+    many (is_kind k.Comma) (read.argument (read.inside l.levels)) (exprs_view l.fn.found) l.fn.self ≡ many_from (is_kind k.Comma) (read.argument (read.inside l.levels)) (l._turn-end - l._turn) (exprs_view l.found) l.self
+
+abbrev pub invariant-links-loop-turn : goal.invariant-links-loop-turn
+invariant-links-loop-turn l = (left : Expr) →
+    let operand = read.operand_of (read.inside l.levels) l.level in
+    read.more operand l.level l.fn.last left l.fn.self ≡ read.more_from operand (l._turn-end - l._turn) l.level l.last (all_joined left (pairs_view l.found)) l.self

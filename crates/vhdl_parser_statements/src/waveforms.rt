@@ -1,0 +1,128 @@
+//! What concurrent assignments assign: conditional and selected waveforms (IEEE 1076-2008, 10.5, 11.6).
+
+ghost use Rattle.std.specs.Prelude.{◌≡◌};
+ghost use Rattle.vhdl_lexer.specs.declared.token.Kind.TheVariants as k;
+ghost use Rattle.vhdl_tree.specs.View.{view, option_expr_view, branches_view, waveform_view, waveforms_view, selected_assignment_view};
+ghost use Rattle.vhdl_parser_expressions.specs.reader.Input as input;
+ghost use Rattle.vhdl_parser_expressions.specs.reader.Input.{Reads};
+ghost use Rattle.vhdl_parser_statements.specs.reader.Waveforms as read;
+ghost use Rattle.vhdl_parser_statements.specs.reader.Waveforms.{part_view, conditional_view};
+
+use crate::behind::followed;
+use vhdl_parser_expressions::{Parser, Stop, separated};
+use vhdl_lexer::Kind;
+use vhdl_tree::{Branch, Expr, SelectedAssignment, Value, Waveform};
+
+#[tactic(auto, unfolding(crate::specs::reader::Waveforms::condition))]
+fn waveform_condition(parser: &mut Parser<'_>, levels: usize) -> Result<Expr, Stop>
+    ensures { Reads view (read.condition levels parser.old) result parser.new }
+{
+    parser.expect(Kind::When)?;
+    parser.expr(levels)
+}
+
+#[tactic(auto, unfolding(vhdl_parser_expressions::specs::reader::Input::optional))]
+fn optional_condition(parser: &mut Parser<'_>, levels: usize) -> Result<Option<Expr>, Stop>
+    ensures { Reads option_expr_view (input.optional (input.is_kind k.When) (read.condition levels) parser.old) result parser.new }
+{
+    if parser.sees(Kind::When) {
+        Ok(Some(waveform_condition(parser, levels)?))
+    } else {
+        Ok(None)
+    }
+}
+
+/// A value and the condition behind it, if there is one.
+#[tactic(auto, unfolding(crate::specs::reader::Waveforms::part))]
+fn part(parser: &mut Parser<'_>, levels: usize) -> Result<(Value, Option<Expr>), Stop>
+    ensures { Reads part_view (read.part levels parser.old) result parser.new }
+{
+    let value = parser.value(levels)?;
+    let condition = optional_condition(parser, levels)?;
+    Ok((value, condition))
+}
+
+#[tactic(auto, unfolding(crate::specs::reader::Waveforms::else_part))]
+fn else_part(parser: &mut Parser<'_>, levels: usize) -> Result<(Value, Option<Expr>), Stop>
+    ensures { Reads part_view (read.else_part levels parser.old) result parser.new }
+{
+    parser.expect(Kind::Else)?;
+    part(parser, levels)
+}
+
+/// The branches behind those found, and the last value.
+fn more_branches(
+    parser: &mut Parser<'_>,
+    levels: usize,
+    mut found: Vec<Branch>,
+) -> Result<(Vec<Branch>, Option<Value>), Stop>
+    ensures { Reads conditional_view (read.more_branches levels (branches_view found) parser.old) result parser.new }
+{
+    for _turn in 0..parser.left() {
+        if !parser.sees(Kind::Else) {
+            return Ok((found, None));
+        }
+        let (value, condition) = else_part(parser, levels)?;
+        let Some(condition) = condition else {
+            return Ok((found, Some(value)));
+        };
+        found.push(Branch { value, condition })?;
+    }
+    Ok((found, None))
+}
+
+/// What is assigned: the branches, and the value where none of them holds.
+#[tactic(auto, unfolding(crate::specs::reader::Waveforms::conditional_waveforms))]
+pub fn conditional_waveforms(
+    parser: &mut Parser<'_>,
+    levels: usize,
+) -> Result<(Vec<Branch>, Option<Value>), Stop>
+    ensures { Reads conditional_view (read.conditional_waveforms levels parser.old) result parser.new }
+{
+    let (value, condition) = part(parser, levels)?;
+    let mut found = Vec::new(parser.alloc);
+    let Some(condition) = condition else {
+        return Ok((found, Some(value)));
+    };
+    found.push(Branch { value, condition })?;
+    more_branches(parser, levels, found)
+}
+
+#[tactic(auto, unfolding(crate::specs::reader::Waveforms::waveform))]
+fn waveform(parser: &mut Parser<'_>, levels: usize) -> Result<Waveform, Stop>
+    ensures { Reads waveform_view (read.waveform levels parser.old) result parser.new }
+{
+    let value = parser.value(levels)?;
+    let value = followed(parser, value, Kind::When)?;
+    let choices = parser.choices(levels)?;
+    Ok(Waveform { value, choices })
+}
+
+fn waveforms(parser: &mut Parser<'_>, levels: usize) -> Result<Vec<Waveform>, Stop>
+    ensures { Reads waveforms_view (read.waveforms levels parser.old) result parser.new }
+{
+    separated(parser, Kind::Comma, |parser| waveform(parser, levels))
+}
+
+/// A selected assignment behind its label, in which so many levels may be opened.
+#[tactic(auto, unfolding(crate::specs::reader::Waveforms::selected))]
+pub fn selected_assignment(
+    parser: &mut Parser<'_>,
+    levels: usize,
+) -> Result<SelectedAssignment, Stop>
+    ensures { Reads selected_assignment_view (read.selected levels parser.old) result parser.new }
+{
+    let at = parser.expect(Kind::With)?;
+    let selector = parser.expr(levels)?;
+    let selector = followed(parser, selector, Kind::Select)?;
+    let target = parser.name(levels)?;
+    let parts = followed(parser, (selector, target), Kind::LessEqual)?;
+    let waveforms = waveforms(parser, levels)?;
+    let ((selector, target), waveforms) = followed(parser, (parts, waveforms), Kind::Semicolon)?;
+    Ok(SelectedAssignment {
+        at,
+        selector,
+        target,
+        waveforms,
+    })
+}

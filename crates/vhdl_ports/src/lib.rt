@@ -1,4 +1,0 @@
-//! The ports of an elaborated net's top, as a stimulus speaks of them.
-#![tactic(auto)]
-
-pub mod port_laws;

@@ -1,5 +1,0 @@
-use Rattle.vhdl_sound.proofs.Texts as laws
-use Rattle.vhdl_sound.proofs.soundness_laws.components_are_texts.Goals as goal
-
-pub returns : goal.returns
-returns c = laws.components_are_texts

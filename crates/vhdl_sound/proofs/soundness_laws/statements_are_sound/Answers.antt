@@ -1,5 +1,0 @@
-use Rattle.vhdl_sound.proofs.Statements as laws
-use Rattle.vhdl_sound.proofs.soundness_laws.statements_are_sound.Goals as goal
-
-pub returns : goal.returns
-returns c = λ i counts sight h ys xs q. laws.statements_are ys i counts sight xs h q

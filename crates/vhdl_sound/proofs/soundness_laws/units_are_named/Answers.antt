@@ -1,8 +1,0 @@
-use Rattle.vhdl_sound.proofs.Named as laws
-use Rattle.vhdl_sound.proofs.soundness_laws.units_are_named.Goals as goal
-
-pub returns-clause-named : goal.returns-clause-named
-returns-clause-named c = laws.units_are_named
-
-pub returns-clause-ports : goal.returns-clause-ports
-returns-clause-ports c = laws.small_ports_distinct

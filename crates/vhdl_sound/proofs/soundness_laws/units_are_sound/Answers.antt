@@ -1,5 +1,0 @@
-use Rattle.vhdl_sound.proofs.Units as laws
-use Rattle.vhdl_sound.proofs.soundness_laws.units_are_sound.Goals as goal
-
-pub returns : goal.returns
-returns c = laws.units_are_sound

@@ -1,0 +1,40 @@
+-- Why a source has no net under a top: the first layer that refuses, each where its own definition does.
+use Rattle.std.specs.Prelude.{◌≡◌, ℕ, List, None, IsErr}
+use Rattle.vhdl_elab_rules.specs.Elaboration.{elaborated}
+use Rattle.vhdl_expand_rules.specs.declared.fault.ElabFault.TheVariants as elab
+use Rattle.vhdl_lexer.specs.Fault.{HasFault}
+use Rattle.vhdl_lexer.specs.declared.fault.LexFault.TheVariants as lex
+use Rattle.vhdl_names_rules.specs.Files.{units_of}
+use Rattle.vhdl_names_rules.specs.declared.fault.NameFault.TheVariants as names
+use Rattle.vhdl_names_rules.specs.units.Units.{Units}
+use Rattle.vhdl_parser.specs.declared.fault.SyntaxFault.TheVariants as syntax
+use Rattle.vhdl_tree.specs.Tree.{File}
+use Rattle.vhdl_source_rules.specs.Designs.{HasUnits}
+use Rattle.vhdl_source_rules.specs.Sources.{IsFileOf, HasSyntaxFault}
+use Rattle.vhdl_source_rules.specs.declared.fault.SourceFault.{SourceFault}
+use Rattle.vhdl_source_rules.specs.declared.fault.SourceFault.TheVariants.{Lex, Syntax, Name, Elab, NoMemory}
+
+-- the source's one tree is a file that isn't well typed
+pub record HasNoUnits (source : List ℕ) : Type 0 where
+  pub file : File
+  pub read : IsFileOf source file
+  pub ill_typed : units_of file ≡ None
+
+-- the source's units have no design with this top
+pub record HasNoDesign (source top : List ℕ) : Type 0 where
+  pub units : Units
+  pub analysed : HasUnits source units
+  pub refused : IsErr (elaborated units top)
+
+-- A layer's want of memory is told as NoMemory alone. Which of the problems of names and of elaboration is told, no definition
+-- says, nor whether TooDeep or Unexpected is told of a source that has both.
+abbrev pub Refuses : (source top : List ℕ) → SourceFault → Type 0
+Refuses source top (Lex lex.NoMemory) = ⊥
+Refuses source top (Lex fault) = HasFault fault source
+Refuses source top (Syntax syntax.NoMemory) = ⊥
+Refuses source top (Syntax fault) = HasSyntaxFault fault source
+Refuses source top (Name names.NoMemory) = ⊥
+Refuses source top (Name fault) = HasNoUnits source
+Refuses source top (Elab elab.NoMemory) = ⊥
+Refuses source top (Elab fault) = HasNoDesign source top
+Refuses source top NoMemory = Unit {0}

@@ -1,5 +1,0 @@
-use Rattle.vhdl_types.proofs.Meant.{no_signal}
-use Rattle.vhdl_types.proofs.edges.as_place.Goals as goal
-
-pub returns-in_default-clause-other : goal.returns-in_default-clause-other
-returns-in_default-clause-other c = no_signal c.args.vector c.in_default.not-Signal

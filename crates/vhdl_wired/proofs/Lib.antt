@@ -1,5 +1,0 @@
-mod Zipped
-mod Seen
-mod Settling
-mod Shown
-mod Made

@@ -1,4 +1,0 @@
-pub mod Tables
-pub mod Wires
-pub mod Settled
-pub mod Wired
