@@ -1,4 +1,4 @@
-//! Rows of elaborated nets: reads the tables in `data/`, and prints for each row what its processes reach, what the checker
+//! Rows of elaborated netlists: reads the tables in `data/`, and prints for each row what its processes reach, what the checker
 //! reports and a second look lets stand, and what comes of a simulation. Then it prints what the kernel does step by step, with
 //! the processes in several orders, once for bodies as trees and once for bodies as codes; and what agendas give.
 //!

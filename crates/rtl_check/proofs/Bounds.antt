@@ -5,15 +5,15 @@ use Rattle.std.specs.Option.{is_some}
 use Rattle.std.specs.List.{list_any}
 use Rattle.std.proofs.lemmas.Bool.{ne_eqb}
 use Rattle.std.proofs.lemmas.List.{get_or_default}
-use Rattle.rtl_model.specs.nets.FlatNet.{flat_sources}
-use Rattle.rtl_model.specs.simulation.Net as m
-use Rattle.rtl_model.specs.simulation.Net.{Net, Process, Reset, Source, process, no_process, kind_reset, sources_of}
+use Rattle.rtl_model.specs.nets.FlatNetlist.{flat_sources}
+use Rattle.rtl_model.specs.simulation.Netlist as m
+use Rattle.rtl_model.specs.simulation.Netlist.{Netlist, Process, Reset, Source, process, no_process, kind_reset, sources_of}
 use Rattle.rtl_model.specs.simulation.Levels.{is_clocked, has_clocked, is_driver, has_late_reset}
 use Rattle.rtl_model.proofs.basics.Lists.{any_true, all_none, in_contains, contains_in, Contains-none, Contains-first}
 use Rattle.rtl_net.specs.declared.net.Source.{Source as Kept}
-use Rattle.rtl_net.specs.Nets.{NetView, flat, source_view}
-use Rattle.rtl_net_facts.specs.declared.kinds.Kind.{Kind}
-use Rattle.rtl_net_facts.specs.declared.kinds.Kind.TheVariants as k
+use Rattle.rtl_net.specs.Nets.{NetlistView, flat, source_view}
+use Rattle.rtl_net_facts.specs.declared.kinds.ProcessKind.{ProcessKind}
+use Rattle.rtl_net_facts.specs.declared.kinds.ProcessKind.TheVariants as k
 use Rattle.rtl_check.specs.Views.{core, IsKind, reset_net}
 use Rattle.rtl_check.specs.Rules.{AreClockNets}
 use Rattle.rtl_check.specs.Bounds as b
@@ -23,12 +23,12 @@ use Rattle.rtl_check.proofs.Rows.{any_map}
 
 -- ---- clocked processes
 
-pub unclocked : (kind : m.Kind) → ((n : ℕ) (edge : m.Edge) (reset : Option Reset) → kind ≡ m.Clocked n edge reset → ⊥) → is_clocked kind ≡ false
+pub unclocked : (kind : m.ProcessKind) → ((n : ℕ) (edge : m.Edge) (reset : Option Reset) → kind ≡ m.Clocked n edge reset → ⊥) → is_clocked kind ≡ false
 unclocked m.Combinational none = refl
 unclocked (m.Clocked n edge reset) none = absurd (none n edge reset refl)
 unclocked m.Mixed none = refl
 
-pub some_clocked : (net : Net) (clocks : List ℕ) → AreClockNets net clocks → not (length clocks == 0) ≡ has_clocked net
+pub some_clocked : (net : Netlist) (clocks : List ℕ) → AreClockNets net clocks → not (length clocks == 0) ≡ has_clocked net
 some_clocked net [] cs = sym (all_none (λ (q : Process). is_clocked q.kind) net.processes no_process each)
   where
     each : (p : ℕ) → p < length net.processes → is_clocked (process net p).kind ≡ false
@@ -48,15 +48,15 @@ is_some_map : (o : Option Reset) → is_some (option_map reset_net o) ≡ is_som
 is_some_map None = refl
 is_some_map (Some r) = refl
 
-pub resets_is : (q : Process) (kind : Kind) → IsKind q kind → b.resets kind ≡ is_some (kind_reset q.kind)
-resets_is q k.Combinational d = sym (ap (λ (x : m.Kind). is_some (kind_reset x)) d)
-resets_is q (k.Clocked c) d = ap is_some (sym d.reset_is) ∙ (is_some_map d.reset ∙ sym (ap (λ (x : m.Kind). is_some (kind_reset x)) d.kind))
-resets_is q k.Mixed d = sym (ap (λ (x : m.Kind). is_some (kind_reset x)) d)
+pub resets_is : (q : Process) (kind : ProcessKind) → IsKind q kind → b.resets kind ≡ is_some (kind_reset q.kind)
+resets_is q k.Combinational d = sym (ap (λ (x : m.ProcessKind). is_some (kind_reset x)) d)
+resets_is q (k.Clocked c) d = ap is_some (sym d.reset_is) ∙ (is_some_map d.reset ∙ sym (ap (λ (x : m.ProcessKind). is_some (kind_reset x)) d.kind))
+resets_is q k.Mixed d = sym (ap (λ (x : m.ProcessKind). is_some (kind_reset x)) d)
 
-pub late_here : (net : Net) (p : ℕ) → p < length net.processes → b.is_late net (process net p) ≡ true → has_late_reset net ≡ true
+pub late_here : (net : Netlist) (p : ℕ) → p < length net.processes → b.is_late net (process net p) ≡ true → has_late_reset net ≡ true
 late_here net p l t = any_true (b.is_late net) net.processes (process net p) (p, l, get_or_default net.processes p (process net p) no_process l) t
 
-pub none_late : (net : Net) → ((p : ℕ) → p < length net.processes → b.is_late net (process net p) ≡ false) → has_late_reset net ≡ false
+pub none_late : (net : Netlist) → ((p : ℕ) → p < length net.processes → b.is_late net (process net p) ≡ false) → has_late_reset net ≡ false
 none_late net each = all_none (b.is_late net) net.processes no_process each
 
 -- ---- drivers
@@ -64,6 +64,6 @@ none_late net each = all_none (b.is_late net) net.processes no_process each
 pub any_here : {X : Type 0} (f : X → Bool) (xs : List X) (i : ℕ) (d : X) → i < length xs → f (get_or xs i d) ≡ true → list_any f xs ≡ true
 any_here f xs i d l t = any_true f xs (get_or xs i d) (i, l, get_or_default xs i (get_or xs i d) d l) t
 
-pub driven_by : (net : NetView) (n : ℕ) (sources : List Kept) → n < length net.types → map source_view sources ≡ flat_sources (flat net) n
+pub driven_by : (net : NetlistView) (n : ℕ) (sources : List Kept) → n < length net.types → map source_view sources ≡ flat_sources (flat net) n
     → list_any (λ (s : Kept). is_driver (source_view s)) sources ≡ b.is_driven (core net) n
 driven_by net n sources l e = sym (any_map is_driver source_view sources) ∙ ap (list_any is_driver) (e ∙ sym (sources_there net n l))

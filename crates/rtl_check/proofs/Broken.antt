@@ -5,20 +5,20 @@ use Rattle.std.specs.Option.{option_to_list}
 use Rattle.std.proofs.lemmas.Bool.{cases_Bool, and_parts, and_from, or_cases, or_left, or_right, not-true, not_from_false, eqb-true, eq-eqb}
 use Rattle.rtl_model.specs.bodies.Reads.{reads}
 use Rattle.rtl_model.specs.bodies.Assigns.{of_drivers, must_assign}
-use Rattle.rtl_model.specs.nets.FlatNet.{FlatDriver}
-use Rattle.rtl_model.specs.nets.CoreNet.{core_process, drives_net}
-use Rattle.rtl_model.specs.simulation.Net as m
-use Rattle.rtl_model.specs.simulation.Net.{Edge, Reset, process, kind_reset}
+use Rattle.rtl_model.specs.nets.FlatNetlist.{FlatDriver}
+use Rattle.rtl_model.specs.nets.CoreNetlist.{core_process, drives_net}
+use Rattle.rtl_model.specs.simulation.Netlist as m
+use Rattle.rtl_model.specs.simulation.Netlist.{Edge, Reset, process, kind_reset}
 use Rattle.rtl_model.specs.simulation.Accepted as f
 use Rattle.rtl_model.specs.simulation.Accepted.{Fault, IsFault, IsClockOf, IsResetOf, IsClock}
 use Rattle.rtl_model.proofs.basics.Lists.{in_contains, contains_in}
 use Rattle.rtl_net.specs.declared.process.Driver.{Driver}
 use Rattle.rtl_net.specs.declared.process.Process.{Process}
-use Rattle.rtl_net.specs.Nets.{NetView, driver_view, process_view, body_of}
+use Rattle.rtl_net.specs.Nets.{NetlistView, driver_view, process_view, body_of}
 use Rattle.rtl_net.specs.Elaborated.{ReadsOfBody}
 use Rattle.rtl_net_facts.specs.declared.kinds.Clocking.{Clocking}
-use Rattle.rtl_net_facts.specs.declared.kinds.Kind.{Kind}
-use Rattle.rtl_net_facts.specs.declared.kinds.Kind.TheVariants as k
+use Rattle.rtl_net_facts.specs.declared.kinds.ProcessKind.{ProcessKind}
+use Rattle.rtl_net_facts.specs.declared.kinds.ProcessKind.TheVariants as k
 use Rattle.rtl_net_facts.specs.Reading.{is_in}
 use Rattle.rtl_net_facts.specs.Paths.{driven, to_net}
 use Rattle.rtl_net_facts.proofs.Members.{same_members}
@@ -47,7 +47,7 @@ reset_back n o r reset e is at =
     let h : r ≡ Some reset.net = sym e ∙ ap (option_map reset_net) is in
     ap (λ (x : Option ℕ). is_in n (option_to_list x)) h ∙ or_left (reset.net == n) false (eq-eqb reset.net n at)
 
-module _ (net : NetView) (clocks : List ℕ) (cs : AreClockNets (core net) clocks) (p : ℕ) (x : Process) (there : p < length net.processes) (at : x ≡ get_or net.processes p x)
+module _ (net : NetlistView) (clocks : List ℕ) (cs : AreClockNets (core net) clocks) (p : ℕ) (x : Process) (there : p < length net.processes) (at : x ≡ get_or net.processes p x)
     (listed : ReadsOfBody x) where
   is : process (core net) p ≡ core_process net.inputs (process_view x)
   is = process_is net p x there at
@@ -220,18 +220,18 @@ module _ (net : NetView) (clocks : List ℕ) (cs : AreClockNets (core net) clock
 
   -- ---- any process
 
-  pub breaks_to : (kind : Kind) → IsKind (process (core net) p) kind → (rule : Rule) (n : ℕ) → breaks net.inputs clocks x kind rule n ≡ true → IsFault (core net) (fault_of rule p n)
+  pub breaks_to : (kind : ProcessKind) → IsKind (process (core net) p) kind → (rule : Rule) (n : ℕ) → breaks net.inputs clocks x kind rule n ≡ true → IsFault (core net) (fault_of rule p n)
   breaks_to k.Combinational d rule n t = combinational_to rule n d t
   breaks_to (k.Clocked c) d rule n t = clocked_to c d rule n t
   breaks_to k.Mixed d rule n t = absurd cc
 
-  not_clock : (n : ℕ) (kind : m.Kind) → (process (core net) p).kind ≡ kind → ((clock : ℕ) (edge : Edge) (reset : Option Reset) → kind ≡ m.Clocked clock edge reset → ⊥) → IsClockOf (core net) p n → ⊥
+  not_clock : (n : ℕ) (kind : m.ProcessKind) → (process (core net) p).kind ≡ kind → ((clock : ℕ) (edge : Edge) (reset : Option Reset) → kind ≡ m.Clocked clock edge reset → ⊥) → IsClockOf (core net) p n → ⊥
   not_clock n kind e odd (edge, (reset, same)) = odd n edge reset (sym e ∙ same)
 
-  not_reset : (n : ℕ) (kind : m.Kind) → (process (core net) p).kind ≡ kind → kind_reset kind ≡ None → IsResetOf (core net) p n → ⊥
+  not_reset : (n : ℕ) (kind : m.ProcessKind) → (process (core net) p).kind ≡ kind → kind_reset kind ≡ None → IsResetOf (core net) p n → ⊥
   not_reset n kind e none (reset, has, l) = let h : Some reset ≡ None = sym has ∙ (ap kind_reset e ∙ none) in cc
 
-  untimed : (kind : m.Kind) → (process (core net) p).kind ≡ kind → ((clock : ℕ) (edge : Edge) (reset : Option Reset) → kind ≡ m.Clocked clock edge reset → ⊥) → kind_reset kind ≡ None
+  untimed : (kind : m.ProcessKind) → (process (core net) p).kind ≡ kind → ((clock : ℕ) (edge : Edge) (reset : Option Reset) → kind ≡ m.Clocked clock edge reset → ⊥) → kind_reset kind ≡ None
       → (rule : Rule) (n : ℕ) → (rule ≡ MissingSensitivity → ⊥) → (rule ≡ Latch → ⊥) → IsFault (core net) (fault_of rule p n) → ⊥
   untimed kind e odd none ClockNotInput n u v (k, w) = not_clock n kind e odd k
   untimed kind e odd none EdgeNotSensitive n u v (inl k, w) = not_clock n kind e odd k
@@ -241,7 +241,7 @@ module _ (net : NetView) (clocks : List ℕ) (cs : AreClockNets (core net) clock
   untimed kind e odd none MissingSensitivity n u v w = u refl
   untimed kind e odd none Latch n u v w = v refl
 
-  pub breaks_from : (kind : Kind) → IsKind (process (core net) p) kind → (rule : Rule) (n : ℕ) → IsFault (core net) (fault_of rule p n) → breaks net.inputs clocks x kind rule n ≡ true
+  pub breaks_from : (kind : ProcessKind) → IsKind (process (core net) p) kind → (rule : Rule) (n : ℕ) → IsFault (core net) (fault_of rule p n) → breaks net.inputs clocks x kind rule n ≡ true
   breaks_from k.Combinational d ClockNotInput n h = absurd (untimed m.Combinational d (λ clock edge reset e. cc) refl ClockNotInput n (λ e. cc) (λ e. cc) h)
   breaks_from k.Combinational d EdgeNotSensitive n h = absurd (untimed m.Combinational d (λ clock edge reset e. cc) refl EdgeNotSensitive n (λ e. cc) (λ e. cc) h)
   breaks_from k.Combinational d ClockAsData n h = absurd (untimed m.Combinational d (λ clock edge reset e. cc) refl ClockAsData n (λ e. cc) (λ e. cc) h)

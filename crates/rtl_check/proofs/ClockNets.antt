@@ -4,24 +4,24 @@ use Rattle.std.specs.List.{list_any}
 use Rattle.std.specs.List.Sorted.{IsStrictlyIncreasing}
 use Rattle.std.proofs.lemmas.Bool.{eqb-true, eq-eqb}
 use Rattle.std.proofs.lemmas.List.{get_or_default}
-use Rattle.rtl_model.specs.simulation.Net as m
-use Rattle.rtl_model.specs.simulation.Net.{Net, Edge, Reset, process}
+use Rattle.rtl_model.specs.simulation.Netlist as m
+use Rattle.rtl_model.specs.simulation.Netlist.{Netlist, Edge, Reset, process}
 use Rattle.rtl_model.specs.simulation.Accepted.{IsClock, IsClockOf}
 use Rattle.rtl_model.proofs.basics.Lists.{any_at, any_true}
-use Rattle.rtl_net_facts.specs.declared.kinds.Kind.{Kind}
-use Rattle.rtl_net_facts.specs.declared.kinds.Kind.TheVariants as k
+use Rattle.rtl_net_facts.specs.declared.kinds.ProcessKind.{ProcessKind}
+use Rattle.rtl_net_facts.specs.declared.kinds.ProcessKind.TheVariants as k
 use Rattle.rtl_net_facts.specs.Reading.{is_in}
 use Rattle.rtl_check.specs.Views.{IsKind, AreKinds}
 use Rattle.rtl_check.specs.Rules.{has_clock, AreClockNets}
 use Rattle.rtl_check.proofs.Processes.{clock_there}
 
-module _ (net : Net) (kinds : List Kind) (ks : AreKinds net kinds) where
-  clocked_kind : (p n : ℕ) (kind : Kind) → IsKind (process net p) kind → has_clock n kind ≡ true → IsClockOf net p n
+module _ (net : Netlist) (kinds : List ProcessKind) (ks : AreKinds net kinds) where
+  clocked_kind : (p n : ℕ) (kind : ProcessKind) → IsKind (process net p) kind → has_clock n kind ≡ true → IsClockOf net p n
   clocked_kind p n k.Combinational d t = absurd cc
   clocked_kind p n (k.Clocked c) d t = subst (IsClockOf net p) (eqb-true c.clock n t) (c.edge, (d.reset, d.kind))
   clocked_kind p n k.Mixed d t = absurd cc
 
-  kind_clocked : (p n : ℕ) (kind : Kind) → IsKind (process net p) kind → IsClockOf net p n → has_clock n kind ≡ true
+  kind_clocked : (p n : ℕ) (kind : ProcessKind) → IsKind (process net p) kind → IsClockOf net p n → has_clock n kind ≡ true
   kind_clocked p n k.Combinational d (edge, (reset, same)) = let z : m.Combinational ≡ m.Clocked n edge reset = sym d ∙ same in absurd cc
   kind_clocked p n (k.Clocked c) d (edge, (reset, same)) =
       let z : m.Clocked c.clock c.edge d.reset ≡ m.Clocked n edge reset = sym d.kind ∙ same in

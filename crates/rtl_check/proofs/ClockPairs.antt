@@ -7,12 +7,12 @@ use Rattle.std.proofs.lemmas.List.{get_or_default}
 use Rattle.std.proofs.lemmas.List.Elements.{Contains-append_left, Contains-append_right, Contains-append_cases}
 use Rattle.std.proofs.lemmas.List.Kept.{AllPairs-from_increasing}
 use Rattle.rtl_model.specs.basics.Lists.{IsLess, RisesBy}
-use Rattle.rtl_model.specs.simulation.Net as m
-use Rattle.rtl_model.specs.simulation.Net.{Net, Edge, IsClockedBy, process}
+use Rattle.rtl_model.specs.simulation.Netlist as m
+use Rattle.rtl_model.specs.simulation.Netlist.{Netlist, Edge, IsClockedBy, process}
 use Rattle.rtl_model.specs.simulation.Report.{edge_number, clock_key, AreClocks}
 use Rattle.rtl_model.proofs.basics.Lists.{any_at, any_true, in_contains, Contains-none, Contains-one}
-use Rattle.rtl_net_facts.specs.declared.kinds.Kind.{Kind}
-use Rattle.rtl_net_facts.specs.declared.kinds.Kind.TheVariants as k
+use Rattle.rtl_net_facts.specs.declared.kinds.ProcessKind.{ProcessKind}
+use Rattle.rtl_net_facts.specs.declared.kinds.ProcessKind.TheVariants as k
 use Rattle.rtl_net_facts.specs.Reading.{is_in}
 use Rattle.rtl_check.specs.Views.{IsKind, AreKinds}
 use Rattle.rtl_check.specs.Rules.{AreClockNets}
@@ -40,8 +40,8 @@ edge_same m.To0 m.To1 e = absurd cc
 
 -- ---- the nets of one edge
 
-module _ (net : Net) (edge : Edge) where
-  pub tests_to : (p n : ℕ) (kind : Kind) → IsKind (process net p) kind → tests edge n kind ≡ true → IsClockedBy net p n edge
+module _ (net : Netlist) (edge : Edge) where
+  pub tests_to : (p n : ℕ) (kind : ProcessKind) → IsKind (process net p) kind → tests edge n kind ≡ true → IsClockedBy net p n edge
   tests_to p n k.Combinational d t = absurd cc
   tests_to p n (k.Clocked c) d t =
       let (a, b) = and_parts (edge_number c.edge == edge_number edge) (c.clock == n) t in
@@ -50,7 +50,7 @@ module _ (net : Net) (edge : Edge) where
       (d.reset, subst (λ (i : ℕ). (process net p).kind ≡ m.Clocked i edge d.reset) is (subst (λ (x : Edge). (process net p).kind ≡ m.Clocked c.clock x d.reset) same d.kind))
   tests_to p n k.Mixed d t = absurd cc
 
-  pub tests_from : (p n : ℕ) (kind : Kind) → IsKind (process net p) kind → IsClockedBy net p n edge → tests edge n kind ≡ true
+  pub tests_from : (p n : ℕ) (kind : ProcessKind) → IsKind (process net p) kind → IsClockedBy net p n edge → tests edge n kind ≡ true
   tests_from p n k.Combinational d (reset, same) = let z : m.Combinational ≡ m.Clocked n edge reset = sym d ∙ same in absurd cc
   tests_from p n (k.Clocked c) d (reset, same) =
       let z : m.Clocked c.clock c.edge d.reset ≡ m.Clocked n edge reset = sym d.kind ∙ same in
@@ -59,7 +59,7 @@ module _ (net : Net) (edge : Edge) where
       and_from (edge_number c.edge == edge_number edge) (c.clock == n) (eq-eqb (edge_number c.edge) (edge_number edge) (ap edge_number g)) (eq-eqb c.clock n e)
   tests_from p n k.Mixed d (reset, same) = let z : m.Mixed ≡ m.Clocked n edge reset = sym d ∙ same in absurd cc
 
-module _ (net : Net) (kinds : List Kind) (ks : AreKinds net kinds) (edge : Edge) where
+module _ (net : Netlist) (kinds : List ProcessKind) (ks : AreKinds net kinds) (edge : Edge) where
   pub edge_nets_are : (nets : List ℕ) → IsStrictlyIncreasing nets → ((n : ℕ) → is_in n nets ≡ list_any (tests edge n) kinds) → AreEdgeNets net edge nets
   edge_nets_are nets rise same = record { rise = rise; are = λ n. (to n, from n) }
     where
@@ -197,7 +197,7 @@ module _ (nets : Edge → List ℕ) where
   pairs_push [] n = append-nil (edges_at nets n)
   pairs_push (o ∷ ns) n = ap (λ (xs : List (ℕ × Edge)). edges_at nets o ++ xs) (pairs_push ns n) ∙ sym (append_assoc (edges_at nets o) (pairs_of nets ns) (edges_at nets n))
 
-pub clocks_listed : (net : Net) (nets : Edge → List ℕ) (clocks : List ℕ) → AreClockNets net clocks → ((edge : Edge) → AreEdgeNets net edge (nets edge)) → AreClocks net (pairs_of nets clocks)
+pub clocks_listed : (net : Netlist) (nets : Edge → List ℕ) (clocks : List ℕ) → AreClockNets net clocks → ((edge : Edge) → AreEdgeNets net edge (nets edge)) → AreClocks net (pairs_of nets clocks)
 clocks_listed net nets clocks cs each = record { are = λ n edge. (to n edge, from n edge); rise = pairs_rise nets clocks (AllPairs-from_increasing clocks cs.rise) }
   where
     to : (n : ℕ) (edge : Edge) → Contains (pairs_of nets clocks) (n, edge) → (p : ℕ) × IsClockedBy net p n edge

@@ -4,10 +4,10 @@ use Rattle.std.specs.List.{range_with_len}
 use Rattle.std.proofs.lemmas.Bool.{cases_lt, lt-ltb, le-ltb}
 use Rattle.std.proofs.lemmas.List.{length-append}
 use Rattle.std.proofs.lemmas.List.FromFn.{get_or-map-range_with_len, length-map-range_with_len}
-use Rattle.rtl_model.specs.nets.CoreNet.{element_number, raised_by}
+use Rattle.rtl_model.specs.nets.CoreNetlist.{element_number, raised_by}
 use Rattle.rtl_net.specs.declared.process.Variable.{Variable}
 use Rattle.rtl_net.specs.Nets.{variable_view}
-use Rattle.rtl_check.specs.declared.variables.Place.{Place}
+use Rattle.rtl_check.specs.declared.variables.VariableElement.{VariableElement}
 use Rattle.rtl_check.specs.Places.{widths, place_in, places_from}
 
 -- the number of an element by widths alone
@@ -106,7 +106,7 @@ behind (x ∷ xs) ys k d = ap (λ (i : ℕ). get_or (x ∷ (xs ++ ys)) i d) (one
     one l k = omega arith
 
 -- its variable counts from the first
-pub place_at : (ws : List ℕ) (first e : ℕ) (d : Place) → e < length (places_from first ws)
+pub place_at : (ws : List ℕ) (first e : ℕ) (d : VariableElement) → e < length (places_from first ws)
     → (v : ℕ) × ((get_or (places_from first ws) e d).variable ≡ first + v) × (number_of ws v (get_or (places_from first ws) e d).place ≡ Some e)
 place_at [] first e d l = absurd (omega arith)
 place_at (w ∷ ws) first e d l = go (λ k m. place_at ws (suc first) k d m) (cases_lt e w)
@@ -120,8 +120,8 @@ place_at (w ∷ ws) first e d l = go (λ k m. place_at ws (suc first) k d m) (ca
         let at : get_or (places_from first (w ∷ ws)) e d ≡ place_in first e =
         in_front (map (place_in first) (range_with_len 0 w)) (places_from (suc first) ws) e d (rw many m) ∙ get_or-map-range_with_len (place_in first) 0 w e e d m (omega arith) in (
           0,
-          ap (λ (x : Place). x.variable) at ∙ omega arith,
-          ap (λ (x : Place). number_of (w ∷ ws) 0 x.place) at ∙ ap (λ (b : Bool). cond b (Some e) None) (lt-ltb e w m),
+          ap (λ (x : VariableElement). x.variable) at ∙ omega arith,
+          ap (λ (x : VariableElement). number_of (w ∷ ws) 0 x.place) at ∙ ap (λ (b : Bool). cond b (Some e) None) (lt-ltb e w m),
         )
     go more (inr m) = later (split e w m)
       where
@@ -137,8 +137,8 @@ place_at (w ∷ ws) first e d l = go (λ k m. place_at ws (suc first) k d m) (ca
             let n = length-append (map (place_in first) (range_with_len 0 w)) (places_from (suc first) ws) in
             let (v, var, number) = more k (omega (arith, many)) in (
               suc v,
-              ap (λ (x : Place). x.variable) at ∙ (var ∙ omega arith),
-              ap (λ (x : Place). raised_by w (number_of ws v x.place)) at ∙ (ap (raised_by w) number ∙ ap Some (sym is)),
+              ap (λ (x : VariableElement). x.variable) at ∙ (var ∙ omega arith),
+              ap (λ (x : VariableElement). raised_by w (number_of ws v x.place)) at ∙ (ap (raised_by w) number ∙ ap Some (sym is)),
             )
 
 -- ---- variables one after another
@@ -149,7 +149,7 @@ places_push [] first w = append-nil (map (place_in first) (range_with_len 0 w)) 
     none : (a : ℕ) → a ≡ a + 0
     none a = omega arith
 places_push (v ∷ ws) first w =
-    ap (λ (ps : List Place). map (place_in first) (range_with_len 0 v) ++ ps) (places_push ws (suc first) w ∙ ap (λ (i : ℕ). places_from (suc first) ws ++ map (place_in i) (range_with_len 0 w)) (one first (length ws)))
+    ap (λ (ps : List VariableElement). map (place_in first) (range_with_len 0 v) ++ ps) (places_push ws (suc first) w ∙ ap (λ (i : ℕ). places_from (suc first) ws ++ map (place_in i) (range_with_len 0 w)) (one first (length ws)))
     ∙ sym (append_assoc (map (place_in first) (range_with_len 0 v)) (places_from (suc first) ws) (map (place_in (first + suc (length ws))) (range_with_len 0 w)))
   where
     one : (a l : ℕ) → suc a + l ≡ a + suc l

@@ -5,18 +5,18 @@ use Rattle.std.proofs.lemmas.Bool.{cases_lt, eqb-true, eq-eqb}
 use Rattle.std.proofs.lemmas.List.{get_or_default}
 use Rattle.std.proofs.lemmas.List.FromFn.{get_or-map-range_with_len, length-map-range_with_len}
 use Rattle.std.proofs.Math.ListN.{get_or-eq_default}
-use Rattle.rtl_model.specs.nets.FlatNet.{flat_sources}
-use Rattle.rtl_model.specs.simulation.Net as m
-use Rattle.rtl_model.specs.simulation.Net.{Net, Kind, Mixed, process, sources_of}
+use Rattle.rtl_model.specs.nets.FlatNetlist.{flat_sources}
+use Rattle.rtl_model.specs.simulation.Netlist as m
+use Rattle.rtl_model.specs.simulation.Netlist.{Netlist, ProcessKind, Mixed, process, sources_of}
 use Rattle.rtl_model.specs.simulation.Accepted as f
 use Rattle.rtl_model.specs.simulation.Accepted.{Fault, IsFault}
 use Rattle.rtl_model.specs.simulation.Faults.{fault_number}
 use Rattle.rtl_net.specs.declared.net.Source.{Source}
-use Rattle.rtl_net.specs.Nets.{NetView, flat, source_view}
+use Rattle.rtl_net.specs.Nets.{NetlistView, flat, source_view}
 use Rattle.rtl_check.specs.declared.fault.CheckFault.{CheckFault}
 use Rattle.rtl_check.specs.declared.fault.CheckFault.TheVariants as c
 use Rattle.rtl_check.specs.Views.{core}
-use Rattle.rtl_check.specs.Listing.{first_named, one_place, Adds}
+use Rattle.rtl_check.specs.Listing.{first_named, one_place, AddsFaults}
 use Rattle.rtl_check.proofs.Joined.{adds_nothing, adds_one}
 
 -- ---- mixed processes
@@ -32,15 +32,15 @@ at_mixed p (f.Latch q n) e = absurd cc
 at_mixed p (f.Loop ps) e = absurd cc
 at_mixed p (f.StoredVariable q v t) e = absurd cc
 
-pub not_mixed : (net : Net) (p : ℕ) (old : List CheckFault) → ((process net p).kind ≡ Mixed → ⊥) → Adds net (one_place 2 p) old old
+pub not_mixed : (net : Netlist) (p : ℕ) (old : List CheckFault) → ((process net p).kind ≡ Mixed → ⊥) → AddsFaults net (one_place 2 p) old old
 not_mixed net p old odd = adds_nothing net (one_place 2 p) old (λ x is e. odd (subst (IsFault net) (at_mixed p x e) is))
 
-pub is_mixed : (net : Net) (p : ℕ) (old new : List CheckFault) → new ≡ old ++ c.Mixed p ∷ [] → (process net p).kind ≡ Mixed → Adds net (one_place 2 p) old new
+pub is_mixed : (net : Netlist) (p : ℕ) (old new : List CheckFault) → new ≡ old ++ c.Mixed p ∷ [] → (process net p).kind ≡ Mixed → AddsFaults net (one_place 2 p) old new
 is_mixed net p old new e is = adds_one net (one_place 2 p) old new (c.Mixed p) e is (eq-eqb p p refl) (λ y h t. at_mixed p y t)
 
 -- ---- two drivers
 
-module _ (net : NetView) where
+module _ (net : NetlistView) where
   pub sources_there : (n : ℕ) → n < length net.types → sources_of (core net) n ≡ flat_sources (flat net) n
   sources_there n l = get_or-map-range_with_len (flat_sources (flat net)) 0 (length net.types) n n [] l (omega arith)
 
@@ -83,14 +83,14 @@ module _ (net : NetView) where
   few n (a ∷ b ∷ rest) l e s t is = absurd (omega arith)
 
   pub not_driven : (n : ℕ) (sources : List Source) (old : List CheckFault) → n < length net.types → map source_view sources ≡ flat_sources (flat net) n → length sources < 2
-      → Adds (core net) (one_place 1 n) old old
+      → AddsFaults (core net) (one_place 1 n) old old
   not_driven n sources old l e short = adds_nothing (core net) (one_place 1 n) old none
     where
       none : (x : Fault) → IsFault (core net) x → one_place 1 n x ≡ true → ⊥
       none x is t = let (r, s, same) = at_driven n x t in few n sources short (listed n sources l e) r s (subst (IsFault (core net)) same is)
 
   pub is_driven : (n : ℕ) (sources : List Source) (first second : Source) (old new : List CheckFault) → n < length net.types → map source_view sources ≡ flat_sources (flat net) n
-      → 2 ≤ length sources → first ≡ get_or sources 0 first → second ≡ get_or sources 1 second → new ≡ old ++ c.TwoDrivers n first second ∷ [] → Adds (core net) (one_place 1 n) old new
+      → 2 ≤ length sources → first ≡ get_or sources 0 first → second ≡ get_or sources 1 second → new ≡ old ++ c.TwoDrivers n first second ∷ [] → AddsFaults (core net) (one_place 1 n) old new
   is_driven n [] first second old new l e long a b grown = absurd (omega arith)
   is_driven n (x ∷ []) first second old new l e long a b grown = absurd (omega arith)
   is_driven n (x ∷ y ∷ rest) first second old new l e long a b grown = adds_one (core net) (one_place 1 n) old new (c.TwoDrivers n first second) grown there (eq-eqb n n refl) only
@@ -113,7 +113,7 @@ module _ (net : NetView) where
               ap (λ (u : m.Source). f.TwoDrivers n u s) i ∙ ap (f.TwoDrivers n (source_view first)) j
 
   pub driven_pushed : (n : ℕ) (sources : List Source) (d e : Source) (old new : List CheckFault) → n < length net.types → map source_view sources ≡ flat_sources (flat net) n
-      → 2 ≤ length sources → new ≡ old ++ c.TwoDrivers n (get_or sources 0 d) (get_or sources 1 e) ∷ [] → Adds (core net) (one_place 1 n) old new
+      → 2 ≤ length sources → new ≡ old ++ c.TwoDrivers n (get_or sources 0 d) (get_or sources 1 e) ∷ [] → AddsFaults (core net) (one_place 1 n) old new
   driven_pushed n sources d e old new l is long grown =
       is_driven n sources (get_or sources 0 d) (get_or sources 1 e) old new l is long
       (get_or_default sources 0 d (get_or sources 0 d) (omega arith)) (get_or_default sources 1 e (get_or sources 1 e) (omega arith)) grown

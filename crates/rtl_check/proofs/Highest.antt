@@ -2,7 +2,7 @@
 use Rattle.std.proofs.Common.{◌≡◌, ℕ, zero, suc, ◌<◌, ◌≤◌, ◌==◌, ◌&&◌, nat_lt, Bool, true, false, List, [], ◌∷◌, refl, sym, ap, subst, ◌∙◌, arith, ◌⊎◌, inl, inr, Option, Some, None, Contains}
 use Rattle.std.specs.Prelude.{MatchOption, IfSome, if◌then◌else◌}
 use Rattle.std.proofs.lemmas.Bool.{cases_Bool, cases_lt, or_cases, or_parts, and_parts, and_from, ltb-true, lt-ltb, eqb-true, eq-eqb}
-use Rattle.rtl_model.specs.simulation.Net.{Net, Source, Driver, Idle, HasPlace, target, sources_of, process}
+use Rattle.rtl_model.specs.simulation.Netlist.{Netlist, Source, Driver, Idle, HasPlace, target, sources_of, process}
 use Rattle.rtl_model.specs.simulation.Elaborated.{IsWired}
 use Rattle.rtl_check.specs.declared.standing.Highest.{Highest}
 use Rattle.rtl_check.specs.Standing.{level_of, no_highest, is_below, gives_way, with_process, with_sources, with_nets, highest_of, IsHighest}
@@ -132,7 +132,7 @@ module _ (levels : List (Option ℕ)) where
       from p (inr (place, (zero, l, e))) = let g : Driver q first ≡ Driver p place = e in let s : q ≡ p = cc in inl (inr (sym s))
       from p (inr (place, (suc k, l, e))) = inr (place, (k, omega (arith, l), e))
 
-module _ (net : Net) (levels : List (Option ℕ)) where
+module _ (net : Netlist) (levels : List (Option ℕ)) where
   nets_highest : (ns : List ℕ) (P : ℕ → Type 0) (h : Highest) → IsHighest P levels h
       → IsHighest (λ p. P p ⊎ ((n : ℕ) × Contains ns n × ((place : ℕ) × Contains (sources_of net n) (Driver p place)))) levels (with_nets net levels h ns)
   nets_highest [] P h H = renamed levels P (λ p. P p ⊎ ((n : ℕ) × Contains [] n × ((place : ℕ) × Contains (sources_of net n) (Driver p place)))) h (λ p x. inl x) from H

@@ -6,14 +6,14 @@ use Rattle.std.proofs.lemmas.Bool.{cases_Bool, or_cases, and_parts, and_from, lt
 use Rattle.std.proofs.lemmas.List.{get_or_default, map-append}
 use Rattle.std.proofs.lemmas.List.Elements.{Contains-append_left, Contains-append_right, Contains-append_cases}
 use Rattle.rtl_model.specs.basics.Lists.{IsLess}
-use Rattle.rtl_model.specs.simulation.Net.{Net}
+use Rattle.rtl_model.specs.simulation.Netlist.{Netlist}
 use Rattle.rtl_model.specs.simulation.Accepted as f
 use Rattle.rtl_model.specs.simulation.Accepted.{Fault, IsFault}
 use Rattle.rtl_model.specs.simulation.Faults.{fault_number, fault_place, fault_key, is_no_loop, AreFaultsOf, AreFaultsButLoops}
 use Rattle.rtl_model.proofs.basics.Lists.{Contains-none}
 use Rattle.rtl_check.specs.declared.fault.CheckFault.{CheckFault}
 use Rattle.rtl_check.specs.Views.{fault_view}
-use Rattle.rtl_check.specs.Listing.{first_named, numbered, below_place, one_place, up_to, Adds}
+use Rattle.rtl_check.specs.Listing.{first_named, numbered, below_place, one_place, up_to, AddsFaults}
 
 -- ---- pairs of two lists
 
@@ -51,7 +51,7 @@ pairs_append {X} R xs ys a b across i j d l m = go (cases_lt j (length xs)) (cas
 
 -- ---- the faults of one kind, and behind them those of another
 
-module _ (net : Net) where
+module _ (net : Netlist) where
   pub joined : (a b c : Fault → Bool) (xs ys : List Fault) → AreFaultsOf net a xs → AreFaultsOf net b ys → ((x : Fault) → c x ≡ (a x || b x))
       → ((x y : Fault) → a x ≡ true → b y ≡ true → IsLess (fault_key x) (fault_key y)) → AreFaultsOf net c (xs ++ ys)
   joined a b c xs ys p q both less = record {
@@ -171,29 +171,29 @@ next_place k p x = ap (λ (b : Bool). numbered k x && b) (lt_next (first_named x
     spread true b c = refl
     spread false b c = refl
 
-pub adds_on : (net : Net) (a b c : Fault → Bool) (old mid new : List CheckFault) → Adds net a old mid → Adds net b mid new → ((x : Fault) → c x ≡ (a x || b x))
-    → ((x y : Fault) → a x ≡ true → b y ≡ true → IsLess (fault_key x) (fault_key y)) → Adds net c old new
+pub adds_on : (net : Netlist) (a b c : Fault → Bool) (old mid new : List CheckFault) → AddsFaults net a old mid → AddsFaults net b mid new → ((x : Fault) → c x ≡ (a x || b x))
+    → ((x y : Fault) → a x ≡ true → b y ≡ true → IsLess (fault_key x) (fault_key y)) → AddsFaults net c old new
 adds_on net a b c old mid new p q both less = record {
   added = p.added ++ q.added;
   is = q.is ∙ (ap (λ (xs : List CheckFault). xs ++ q.added) p.is ∙ append_assoc old p.added q.added);
   are = subst (AreFaultsOf net c) (sym (map-append fault_view p.added q.added)) (joined net a b c (map fault_view p.added) (map fault_view q.added) p.are q.are both less);
 }
 
-pub adds_place : (net : Net) (k p : ℕ) (old mid new : List CheckFault) → (k ≡ 8 → ⊥) → Adds net (below_place k p) old mid → Adds net (one_place k p) mid new → Adds net (below_place k (p + 1)) old new
+pub adds_place : (net : Netlist) (k p : ℕ) (old mid new : List CheckFault) → (k ≡ 8 → ⊥) → AddsFaults net (below_place k p) old mid → AddsFaults net (one_place k p) mid new → AddsFaults net (below_place k (p + 1)) old new
 adds_place net k p old mid new other a b = adds_on net (below_place k p) (one_place k p) (below_place k (p + 1)) old mid new a b (next_place k p) (below_then_at k p other)
 
 none_below : (k : ℕ) (x : Fault) → below_place k 0 x ≡ true → ⊥
 none_below k x e = let (a, b) = and_parts (numbered k x) (nat_lt (first_named x) 0) e in let l = ltb-true (first_named x) 0 b in omega arith
 
-pub adds_nothing : (net : Net) (a : Fault → Bool) (old : List CheckFault) → ((x : Fault) → IsFault net x → a x ≡ true → ⊥) → Adds net a old old
+pub adds_nothing : (net : Netlist) (a : Fault → Bool) (old : List CheckFault) → ((x : Fault) → IsFault net x → a x ≡ true → ⊥) → AddsFaults net a old old
 adds_nothing net a old none = record { added = []; is = sym (append-nil old); are = no_faults net a none }
 
-pub adds_first : (net : Net) (k : ℕ) (old : List CheckFault) → Adds net (below_place k 0) old old
+pub adds_first : (net : Netlist) (k : ℕ) (old : List CheckFault) → AddsFaults net (below_place k 0) old old
 adds_first net k old = adds_nothing net (below_place k 0) old (λ x is e. none_below k x e)
 
 -- all of a number, where none names more
-pub adds_all : (net : Net) (k p : ℕ) (old new : List CheckFault) → ((x : Fault) → IsFault net x → fault_number x ≡ k → first_named x < p)
-    → Adds net (below_place k p) old new → Adds net (numbered k) old new
+pub adds_all : (net : Netlist) (k p : ℕ) (old new : List CheckFault) → ((x : Fault) → IsFault net x → fault_number x ≡ k → first_named x < p)
+    → AddsFaults net (below_place k p) old new → AddsFaults net (numbered k) old new
 adds_all net k p old new bounded h = record { added = h.added; is = h.is; are = renamed net (below_place k p) (numbered k) (map fault_view h.added) same h.are }
   where
     same : (x : Fault) → IsFault net x → below_place k p x ≡ numbered k x
@@ -203,8 +203,8 @@ adds_all net k p old new bounded h = record { added = h.added; is = h.is; are = 
         go (inl e) = and_from (numbered k x) (nat_lt (first_named x) p) e (lt-ltb (first_named x) p (bounded x is (eqb-true (fault_number x) k e))) ∙ sym e
         go (inr e) = ap (λ (b : Bool). b && nat_lt (first_named x) p) e ∙ sym e
 
-pub adds_one : (net : Net) (a : Fault → Bool) (old new : List CheckFault) (x : CheckFault) → new ≡ old ++ x ∷ [] → IsFault net (fault_view x) → a (fault_view x) ≡ true
-    → ((y : Fault) → IsFault net y → a y ≡ true → y ≡ fault_view x) → Adds net a old new
+pub adds_one : (net : Netlist) (a : Fault → Bool) (old new : List CheckFault) (x : CheckFault) → new ≡ old ++ x ∷ [] → IsFault net (fault_view x) → a (fault_view x) ≡ true
+    → ((y : Fault) → IsFault net y → a y ≡ true → y ≡ fault_view x) → AddsFaults net a old new
 adds_one net a old new x e is t only = record { added = x ∷ []; is = e; are = one_fault net a (fault_view x) is t only }
 
 -- ---- one number after another
@@ -215,14 +215,14 @@ number_then j k l x y s t =
     let b = eqb-true (fault_number y) k t in
     inl (omega arith)
 
-pub adds_number : (net : Net) (j : ℕ) (old mid new : List CheckFault) → Adds net (up_to j) old mid → Adds net (numbered (suc j)) mid new → Adds net (up_to (suc j)) old new
+pub adds_number : (net : Netlist) (j : ℕ) (old mid new : List CheckFault) → AddsFaults net (up_to j) old mid → AddsFaults net (numbered (suc j)) mid new → AddsFaults net (up_to (suc j)) old new
 adds_number net j old mid new a b = adds_on net (up_to j) (numbered (suc j)) (up_to (suc j)) old mid new a b next (number_then j (suc j) (omega arith))
   where
     next : (x : Fault) → up_to (suc j) x ≡ (up_to j x || numbered (suc j) x)
     next x = le_next (fault_number x) j
 
 -- the faults but loops are those up to 7, and then those of 9
-pub all_but_loops : (net : Net) (mid new : List CheckFault) → Adds net (up_to 7) [] mid → Adds net (numbered 9) mid new → AreFaultsButLoops net (map fault_view new)
+pub all_but_loops : (net : Netlist) (mid new : List CheckFault) → AddsFaults net (up_to 7) [] mid → AddsFaults net (numbered 9) mid new → AreFaultsButLoops net (map fault_view new)
 all_but_loops net mid new a b = subst (λ (xs : List CheckFault). AreFaultsOf net is_no_loop (map fault_view xs)) (sym h.is) h.are
   where
     each : (x : Fault) → is_no_loop x ≡ (up_to 7 x || numbered 9 x)
@@ -236,10 +236,10 @@ all_but_loops net mid new a b = subst (λ (xs : List CheckFault). AreFaultsOf ne
     each (f.Loop ps) = refl
     each (f.StoredVariable p v e) = refl
 
-    h : Adds net is_no_loop [] new
+    h : AddsFaults net is_no_loop [] new
     h = adds_on net (up_to 7) (numbered 9) is_no_loop [] mid new a b each (number_then 7 9 (omega arith))
 
-pub none_up_to : (net : Net) → Adds net (up_to 0) [] []
+pub none_up_to : (net : Netlist) → AddsFaults net (up_to 0) [] []
 none_up_to net = adds_nothing net (up_to 0) [] none
   where
     none : (x : Fault) → IsFault net x → up_to 0 x ≡ true → ⊥

@@ -3,7 +3,7 @@ use Rattle.std.proofs.Common.{◌≡◌, ℕ, zero, suc, ◌+◌, ◌-◌, ◌<�
 use Rattle.std.proofs.lemmas.Bool.{cases_lt}
 use Rattle.std.proofs.lemmas.List.{get_or_default}
 use Rattle.rtl_model.specs.basics.Lists.{IsLess, RisesBy}
-use Rattle.rtl_model.specs.simulation.Net.{Edge}
+use Rattle.rtl_model.specs.simulation.Netlist.{Edge}
 use Rattle.rtl_model.specs.simulation.Report.{clock_key}
 
 -- one number more

@@ -8,10 +8,10 @@ use Rattle.std.specs.Option.{option_to_list}
 use Rattle.rtl_model.specs.bodies.Body.{Test, Stmts, branch, no_else}
 use Rattle.rtl_model.specs.bodies.Reads.{reads, events, test_reads, branches_reads}
 use Rattle.rtl_model.specs.bodies.Kinds as k
-use Rattle.rtl_model.specs.nets.FlatNet.{FlatProcess}
-use Rattle.rtl_model.specs.nets.CoreNet.{core_process, core_kind, core_reset, acting_branch}
-use Rattle.rtl_model.specs.simulation.Net as m
-use Rattle.rtl_model.specs.simulation.Net.{Net, Kind, Combinational, Clocked, Mixed, Edge, Reset, process, no_process}
+use Rattle.rtl_model.specs.nets.FlatNetlist.{FlatProcess}
+use Rattle.rtl_model.specs.nets.CoreNetlist.{core_process, core_kind, core_reset, acting_branch}
+use Rattle.rtl_model.specs.simulation.Netlist as m
+use Rattle.rtl_model.specs.simulation.Netlist.{Netlist, ProcessKind, Combinational, Clocked, Mixed, Edge, Reset, process, no_process}
 use Rattle.rtl_model.specs.simulation.Accepted as f
 use Rattle.rtl_model.specs.simulation.Accepted.{Fault, IsFault, IsClockOf, IsResetOf}
 use Rattle.rtl_model.specs.simulation.Faults.{fault_number}
@@ -19,18 +19,18 @@ use Rattle.rtl_model.proofs.basics.Lists.{get_or-map_within}
 use Rattle.rtl_model.proofs.bodies.Clocking.{clocked_is, resets_read_nothing}
 use Rattle.rtl_net_facts.proofs.NetsRead.{in_append}
 use Rattle.rtl_net.specs.declared.process.Process.{Process}
-use Rattle.rtl_net.specs.Nets.{NetView, process_view, body_of}
-use Rattle.rtl_net_facts.specs.declared.kinds.Kind as c
-use Rattle.rtl_net_facts.specs.declared.kinds.Kind.TheVariants as ck
+use Rattle.rtl_net.specs.Nets.{NetlistView, process_view, body_of}
+use Rattle.rtl_net_facts.specs.declared.kinds.ProcessKind as c
+use Rattle.rtl_net_facts.specs.declared.kinds.ProcessKind.TheVariants as ck
 use Rattle.rtl_net_facts.specs.Reading.{is_in}
 use Rattle.rtl_net_facts.specs.Timing.{part_net, kind_view}
 use Rattle.rtl_check.specs.Views.{core, reset_net, IsKind, AreKinds}
 use Rattle.rtl_check.specs.Listing.{first_named}
 
-pub many_processes : (net : NetView) → length (core net).processes ≡ length net.processes
+pub many_processes : (net : NetlistView) → length (core net).processes ≡ length net.processes
 many_processes net = length-map (map process_view net.processes) (core_process net.inputs) ∙ length-map net.processes process_view
 
-pub process_is : (net : NetView) (p : ℕ) (x : Process) → p < length net.processes → x ≡ get_or net.processes p x
+pub process_is : (net : NetlistView) (p : ℕ) (x : Process) → p < length net.processes → x ≡ get_or net.processes p x
     → process (core net) p ≡ core_process net.inputs (process_view x)
 process_is net p x l e =
     let there : p < length (map process_view net.processes) = rw (length-map net.processes process_view) l in
@@ -109,7 +109,7 @@ kind_is inputs x =
 
 -- ---- faults name processes that are there
 
-module _ (net : Net) where
+module _ (net : Netlist) where
   pub beyond : (p : ℕ) → length net.processes ≤ p → process net p ≡ no_process
   beyond p l = get_or-eq_default net.processes no_process l
 
@@ -154,13 +154,13 @@ get_or-push_below (y ∷ ys) x (suc p) d l = get_or-push_below ys x p d (omega a
 
 -- ---- kinds
 
-pub kind_at : (net : Net) (kinds : List c.Kind) → AreKinds net kinds → (p : ℕ) → p < length kinds → (d kind : c.Kind) → get_or kinds p d ≡ kind → IsKind (process net p) kind
+pub kind_at : (net : Netlist) (kinds : List c.Kind) → AreKinds net kinds → (p : ℕ) → p < length kinds → (d kind : c.Kind) → get_or kinds p d ≡ kind → IsKind (process net p) kind
 kind_at net kinds a p l d kind e =
     let there : p < length net.processes = rw (← a.each_process) l in
     subst (IsKind (process net p)) (get_or_default kinds p ck.Mixed d l ∙ e) (a.each p there)
 
 -- one kind more
-pub kinds_more : (net : Net) (kinds new : List c.Kind) (i : ℕ) (kind : c.Kind) → length kinds ≡ i → ((p : ℕ) → p < i → IsKind (process net p) (get_or kinds p ck.Mixed))
+pub kinds_more : (net : Netlist) (kinds new : List c.Kind) (i : ℕ) (kind : c.Kind) → length kinds ≡ i → ((p : ℕ) → p < i → IsKind (process net p) (get_or kinds p ck.Mixed))
     → new ≡ kinds ++ kind ∷ [] → IsKind (process net i) kind → (p : ℕ) → p < i + 1 → IsKind (process net p) (get_or new p ck.Mixed)
 kinds_more net kinds new i kind many so_far is now p l = subst (λ (ks : List c.Kind). IsKind (process net p) (get_or ks p ck.Mixed)) (sym is) (go (cases_lt p i))
   where

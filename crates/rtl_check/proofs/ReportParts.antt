@@ -2,7 +2,7 @@
 use Rattle.std.proofs.Common.{◌≡◌, ◌≢◌, ℕ, ◌+◌, ◌<◌, ◌≤◌, false, max, not, ◌==◌, List, [], ◌∷◌, length, refl, sym, ap, ◌∙◌, arith, ◌⊎◌, inl, inr, Option, Some, None}
 use Rattle.std.proofs.lemmas.Bool.{cases_lt, cases_eq, ne_eqb}
 use Rattle.std.proofs.lemmas.List.{get_or_past, get_or_default}
-use Rattle.rtl_model.specs.simulation.Net.{Net, Edge, Process, process, no_process}
+use Rattle.rtl_model.specs.simulation.Netlist.{Netlist, Edge, Process, process, no_process}
 use Rattle.rtl_model.specs.simulation.Levels.{bound, is_clocked, has_clocked}
 use Rattle.rtl_model.specs.simulation.Report.{AreClocks, ShowReport}
 use Rattle.rtl_model.proofs.basics.Lists.{any_true, all_none, Contains-none, Contains-first}
@@ -35,7 +35,7 @@ greater_on levels k g (Some v) is h = record {
         let (p, at) = h.met (λ z. some (sym e ∙ z)) in
         (p, at ∙ ap (λ (n : ℕ). Some n) e)
 
-module _ (net : Net) (levels from : List (Option ℕ)) (clocks : List (ℕ × Edge)) (most : ℕ) (R : ShowReport net levels from clocks most) where
+module _ (net : Netlist) (levels from : List (Option ℕ)) (clocks : List (ℕ × Edge)) (most : ℕ) (R : ShowReport net levels from clocks most) where
   pub froms : ShowFroms net levels from
   froms = record {
     shown = R.shown;
@@ -46,7 +46,7 @@ module _ (net : Net) (levels from : List (Option ℕ)) (clocks : List (ℕ × Ed
     from_lowest = R.from_lowest;
   }
 
-module _ (net : Net) (levels from : List (Option ℕ)) (clocks : List (ℕ × Edge)) (most : ℕ) (greatest : ℕ) (g : IsGreatestTo levels (length levels) greatest) where
+module _ (net : Netlist) (levels from : List (Option ℕ)) (clocks : List (ℕ × Edge)) (most : ℕ) (greatest : ℕ) (g : IsGreatestTo levels (length levels) greatest) where
   above : (p level : ℕ) → level_of levels p ≡ Some level → level ≤ greatest
   above p level e = go (cases_lt p (length levels))
     where
@@ -87,7 +87,7 @@ module _ (net : Net) (levels from : List (Option ℕ)) (clocks : List (ℕ × Ed
 
 -- ---- clocks
 
-pub some_listed : (net : Net) (clocks : List (ℕ × Edge)) → AreClocks net clocks → not (length clocks == 0) ≡ has_clocked net
+pub some_listed : (net : Netlist) (clocks : List (ℕ × Edge)) → AreClocks net clocks → not (length clocks == 0) ≡ has_clocked net
 some_listed net [] cs = sym (all_none (λ (q : Process). is_clocked q.kind) net.processes no_process each)
   where
     each : (p : ℕ) → p < length net.processes → is_clocked (process net p).kind ≡ false

@@ -5,19 +5,19 @@ use Rattle.std.specs.Global.{Vec}
 use Rattle.std.specs.List.{list_any}
 use Rattle.std.proofs.lemmas.Bool.{and_parts, and_from, cases_lt, eqb-true, eq-eqb}
 use Rattle.std.proofs.lemmas.List.{get_or_default, get_or_past, length-map}
-use Rattle.rtl_model.specs.nets.FlatNet.{flat_sources, ProcessInRange}
-use Rattle.rtl_model.specs.simulation.Net as m
-use Rattle.rtl_model.specs.simulation.Net.{Net, Source, Driver, Idle, IsCombinational, process, target, sources_of}
+use Rattle.rtl_model.specs.nets.FlatNetlist.{flat_sources, ProcessInRange}
+use Rattle.rtl_model.specs.simulation.Netlist as m
+use Rattle.rtl_model.specs.simulation.Netlist.{Netlist, Source, Driver, Idle, IsCombinational, process, target, sources_of}
 use Rattle.rtl_model.specs.simulation.Accepted as f
 use Rattle.rtl_model.specs.simulation.Elaborated.{IsWired}
 use Rattle.rtl_model.proofs.basics.Lists.{in_contains, contains_in, any_at, any_true, get_or-map_within}
 use Rattle.rtl_net.specs.declared.process.Process.{Process}
-use Rattle.rtl_net.specs.Nets.{NetView, flat, process_view}
+use Rattle.rtl_net.specs.Nets.{NetlistView, flat, process_view}
 use Rattle.rtl_net.specs.Elaborated.{IsNet}
 use Rattle.rtl_check_levels.specs.Feeding as t
 use Rattle.rtl_check_levels.specs.OfNets.{IsTableOf}
-use Rattle.rtl_net_facts.specs.declared.kinds.Kind.{Kind}
-use Rattle.rtl_net_facts.specs.declared.kinds.Kind.TheVariants as k
+use Rattle.rtl_net_facts.specs.declared.kinds.ProcessKind.{ProcessKind}
+use Rattle.rtl_net_facts.specs.declared.kinds.ProcessKind.TheVariants as k
 use Rattle.rtl_net_facts.specs.Reading.{is_in}
 use Rattle.rtl_check.specs.Views.{core, IsKind, AreKinds}
 use Rattle.rtl_check.specs.Feeders.{combinational_kind, combinational_at, feeds_by, IsRow}
@@ -28,19 +28,19 @@ pub any_map : {X Y : Type 0} (g : Y → Bool) (h : X → Y) (xs : List X) → li
 any_map g h [] = refl
 any_map g h (x ∷ xs) = ap (λ (b : Bool). g (h x) || b) (any_map g h xs)
 
-pub kind_there : (kinds : List Kind) (p : ℕ) (d kind : Kind) → p < length kinds → get_or kinds p d ≡ kind → combinational_kind kind ≡ combinational_at kinds p
+pub kind_there : (kinds : List ProcessKind) (p : ℕ) (d kind : ProcessKind) → p < length kinds → get_or kinds p d ≡ kind → combinational_kind kind ≡ combinational_at kinds p
 kind_there kinds p d kind l e = ap combinational_kind (sym e ∙ get_or_default kinds p d k.Mixed l)
 
-pub kind_past : (kinds : List Kind) (p : ℕ) → length kinds ≤ p → false ≡ combinational_at kinds p
+pub kind_past : (kinds : List ProcessKind) (p : ℕ) → length kinds ≤ p → false ≡ combinational_at kinds p
 kind_past kinds p l = sym (ap combinational_kind (get_or_past kinds p k.Mixed l))
 
-module _ (net : Net) (kinds : List Kind) (ks : AreKinds net kinds) where
-  by_kind : (p : ℕ) (kind : Kind) → IsKind (process net p) kind → combinational_kind kind ≡ true → (process net p).kind ≡ m.Combinational
+module _ (net : Netlist) (kinds : List ProcessKind) (ks : AreKinds net kinds) where
+  by_kind : (p : ℕ) (kind : ProcessKind) → IsKind (process net p) kind → combinational_kind kind ≡ true → (process net p).kind ≡ m.Combinational
   by_kind p k.Combinational d t = d
   by_kind p (k.Clocked c) d t = absurd cc
   by_kind p k.Mixed d t = absurd cc
 
-  has_kind : (p : ℕ) (kind : Kind) → IsKind (process net p) kind → (process net p).kind ≡ m.Combinational → combinational_kind kind ≡ true
+  has_kind : (p : ℕ) (kind : ProcessKind) → IsKind (process net p) kind → (process net p).kind ≡ m.Combinational → combinational_kind kind ≡ true
   has_kind p k.Combinational d e = refl
   has_kind p (k.Clocked c) d e = let h : m.Clocked c.clock c.edge d.reset ≡ m.Combinational = sym d.kind ∙ e in absurd cc
   has_kind p k.Mixed d e = let h : m.Mixed ≡ m.Combinational = sym d ∙ e in absurd cc
@@ -81,10 +81,10 @@ module _ (net : Net) (kinds : List Kind) (ks : AreKinds net kinds) where
 
 -- ---- a row
 
-pub row_none : (net : Net) (kinds : List Kind) → AreKinds net kinds → (q : ℕ) → combinational_at kinds q ≡ false → IsRow net q None
+pub row_none : (net : Netlist) (kinds : List ProcessKind) → AreKinds net kinds → (q : ℕ) → combinational_at kinds q ≡ false → IsRow net q None
 row_none net kinds ks q t c = let h : true ≡ false = sym (combinational_from net kinds ks q c) ∙ t in cc
 
-pub row_some : (net : NetView) (kinds : List Kind) → AreKinds (core net) kinds → IsWired (core net) → (q : ℕ) (x : Process) → q < length net.processes → x ≡ get_or net.processes q x
+pub row_some : (net : NetlistView) (kinds : List ProcessKind) → AreKinds (core net) kinds → IsWired (core net) → (q : ℕ) (x : Process) → q < length net.processes → x ≡ get_or net.processes q x
     → ((n : ℕ) → Contains x.wakes.items n → n < length net.types) → combinational_at kinds q ≡ true → (feeders : Vec ℕ)
     → ((p : ℕ) → is_in p feeders.items ≡ list_any (λ n. list_any (feeds_by kinds p) (flat_sources (flat net) n)) x.wakes.items) → IsRow (core net) q (Some feeders)
 row_some net kinds ks wired q x there at nets t feeders are = (c, λ p. (to p, from p))
@@ -119,7 +119,7 @@ get_or-push_below [] x p d l = absurd (omega arith)
 get_or-push_below (y ∷ ys) x zero d l = refl
 get_or-push_below (y ∷ ys) x (suc p) d l = get_or-push_below ys x p d (omega arith)
 
-pub rows_more : (net : Net) (table new : t.Table) (i : ℕ) (row : Option (Vec ℕ)) → length table ≡ i → ((q : ℕ) → q < i → IsRow net q (get_or table q None))
+pub rows_more : (net : Netlist) (table new : t.Table) (i : ℕ) (row : Option (Vec ℕ)) → length table ≡ i → ((q : ℕ) → q < i → IsRow net q (get_or table q None))
     → new ≡ table ++ row ∷ [] → IsRow net i row → (q : ℕ) → q < i + 1 → IsRow net q (get_or new q None)
 rows_more net table new i row many so_far is now q l = subst (λ (rs : t.Table). IsRow net q (get_or rs q None)) (sym is) (go (cases_lt q i))
   where
@@ -131,23 +131,23 @@ rows_more net table new i row many so_far is now q l = subst (λ (rs : t.Table).
         subst (λ (j : ℕ). IsRow net q (get_or (table ++ row ∷ []) j None)) (sym e)
         (subst (IsRow net q) (sym (get_or-push table row None)) (subst (λ (j : ℕ). IsRow net j row) g now))
 
-row_in : (net : Net) (q : ℕ) (o : Option (Vec ℕ)) → IsRow net q o → IsSome o → IsCombinational net q
+row_in : (net : Netlist) (q : ℕ) (o : Option (Vec ℕ)) → IsRow net q o → IsSome o → IsCombinational net q
 row_in net q None h s = absurd cc
 row_in net q (Some v) h s = h.0
 
-in_row : (net : Net) (q : ℕ) (o : Option (Vec ℕ)) → IsRow net q o → IsCombinational net q → IsSome o
+in_row : (net : Netlist) (q : ℕ) (o : Option (Vec ℕ)) → IsRow net q o → IsCombinational net q → IsSome o
 in_row net q None h c = absurd (h c)
 in_row net q (Some v) h c = refl
 
-row_feeds : (net : Net) (p q : ℕ) (o : Option (Vec ℕ)) → IsRow net q o → Contains (t.listed o) p → f.Feeds net p q
+row_feeds : (net : Netlist) (p q : ℕ) (o : Option (Vec ℕ)) → IsRow net q o → Contains (t.listed o) p → f.Feeds net p q
 row_feeds net p q None h (j, l, e) = absurd (omega arith)
 row_feeds net p q (Some v) h c = (h.1 p).0 c
 
-feeds_row : (net : Net) (p q : ℕ) (o : Option (Vec ℕ)) → IsRow net q o → f.Feeds net p q → Contains (t.listed o) p
+feeds_row : (net : Netlist) (p q : ℕ) (o : Option (Vec ℕ)) → IsRow net q o → f.Feeds net p q → Contains (t.listed o) p
 feeds_row net p q None h c = absurd (h c.fed)
 feeds_row net p q (Some v) h c = (h.1 p).1 c
 
-pub table_is : (net : Net) (table : t.Table) → length table ≡ length net.processes → ((q : ℕ) → q < length net.processes → IsRow net q (get_or table q None)) → IsTableOf net table
+pub table_is : (net : Netlist) (table : t.Table) → length table ≡ length net.processes → ((q : ℕ) → q < length net.processes → IsRow net q (get_or table q None)) → IsTableOf net table
 table_is net table many rows = record {
   each_process = many;
   combinational = λ q. (λ s. row_in net q (get_or table q None) (row q) s, λ c. in_row net q (get_or table q None) (row q) c);
@@ -162,7 +162,7 @@ table_is net table many rows = record {
         go (inr l) = subst (IsRow net q) (sym (get_or_past table q None (rw many l))) (λ c. let h = c.0 in omega arith)
 
 -- what a process is sensitive to is there
-pub nets_of_wakes : (net : NetView) → IsNet net → (p : ℕ) (x : Process) → p < length net.processes → x ≡ get_or net.processes p x
+pub nets_of_wakes : (net : NetlistView) → IsNet net → (p : ℕ) (x : Process) → p < length net.processes → x ≡ get_or net.processes p x
     → (k d : ℕ) → k < length x.wakes.items → get_or x.wakes.items k d < length net.types
 nets_of_wakes net elaborated p x there at k d l =
     let same : get_or (map process_view net.processes) p (process_view x) ≡ process_view x = get_or-map_within process_view net.processes p x (process_view x) there ∙ ap process_view (sym at) in

@@ -6,22 +6,22 @@ use Rattle.std.proofs.lemmas.Bool.{eqb-true, eq-eqb}
 use Rattle.std.proofs.lemmas.List.{length-map}
 use Rattle.std.proofs.lemmas.List.Kept.{AllPairs-from_increasing}
 use Rattle.rtl_model.specs.basics.Lists.{IsLess, RisesBy}
-use Rattle.rtl_model.specs.simulation.Net.{Net}
+use Rattle.rtl_model.specs.simulation.Netlist.{Netlist}
 use Rattle.rtl_model.specs.simulation.Accepted as f
 use Rattle.rtl_model.specs.simulation.Accepted.{Fault, IsFault}
 use Rattle.rtl_model.specs.simulation.Faults.{fault_key, AreFaultsOf}
 use Rattle.rtl_model.proofs.basics.Lists.{in_contains, contains_in, get_or-map_within}
 use Rattle.rtl_net_facts.specs.Reading.{is_in}
-use Rattle.rtl_model.specs.nets.FlatNet.{ProcessInRange}
+use Rattle.rtl_model.specs.nets.FlatNetlist.{ProcessInRange}
 use Rattle.rtl_net.specs.declared.process.Process.{Process}
-use Rattle.rtl_net.specs.Nets.{NetView, process_view}
+use Rattle.rtl_net.specs.Nets.{NetlistView, process_view}
 use Rattle.rtl_net.specs.Elaborated.{IsNet, ReadsOfBody}
-use Rattle.rtl_net_facts.specs.declared.kinds.Kind.{Kind}
+use Rattle.rtl_net_facts.specs.declared.kinds.ProcessKind.{ProcessKind}
 use Rattle.rtl_check.specs.declared.fault.CheckFault.{CheckFault}
 use Rattle.rtl_check.specs.declared.rule.Rule.{Rule}
 use Rattle.rtl_check.specs.declared.rule.Rule.TheVariants.{ClockNotInput, EdgeNotSensitive, ClockAsData, MissingSensitivity, Latch}
 use Rattle.rtl_check.specs.Views.{core, AreKinds}
-use Rattle.rtl_check.specs.Listing.{one_place, Adds}
+use Rattle.rtl_check.specs.Listing.{one_place, AddsFaults}
 use Rattle.rtl_check.specs.Rules.{fault_of, rule_number, breaks, AreClockNets, Pushes}
 use Rattle.rtl_check.proofs.Processes.{many_processes, kind_at}
 use Rattle.rtl_check.proofs.Broken.{breaks_to, breaks_from}
@@ -64,9 +64,9 @@ map_pairs g xs less rise i j d l m =
     subst (λ (x : Fault). IsLess (fault_key x) (fault_key (get_or (map g xs) j d))) (sym (get_or-map_within g xs i 0 d k))
     (subst (λ (y : Fault). IsLess (fault_key (g (get_or xs i 0))) (fault_key y)) (sym (get_or-map_within g xs j 0 d h)) (less (get_or xs i 0) (get_or xs j 0) order))
 
-pub rule_adds : (net : Net) (r : Rule) (p : ℕ) (nets : List ℕ) (old new : List CheckFault) → IsStrictlyIncreasing nets
+pub rule_adds : (net : Netlist) (r : Rule) (p : ℕ) (nets : List ℕ) (old new : List CheckFault) → IsStrictlyIncreasing nets
     → ((n : ℕ) → is_in n nets ≡ true → IsFault net (fault_of r p n)) → ((n : ℕ) → IsFault net (fault_of r p n) → is_in n nets ≡ true)
-    → Pushes r p nets old new → Adds net (one_place (rule_number r) p) old new
+    → Pushes r p nets old new → AddsFaults net (one_place (rule_number r) p) old new
 rule_adds net r p nets old new rise to from pushed = record {
   added = pushed.added;
   is = pushed.is;
@@ -92,7 +92,7 @@ pub if_done : {T E : Type 0} (P Q : Type 0) (r : Result T E) → (P → Q) → O
 if_done P Q (Ok v) on h = on h
 if_done P Q (Err e) on h = h
 
-module _ (net : NetView) (elaborated : IsNet net) (p : ℕ) (x : Process) (there : p < length net.processes) (at : x ≡ get_or net.processes p x) where
+module _ (net : NetlistView) (elaborated : IsNet net) (p : ℕ) (x : Process) (there : p < length net.processes) (at : x ≡ get_or net.processes p x) where
   pub reads_listed : ReadsOfBody x
   reads_listed = subst ReadsOfBody (sym at) (elaborated.reads p x there)
 
@@ -102,9 +102,9 @@ module _ (net : NetView) (elaborated : IsNet net) (p : ℕ) (x : Process) (there
       let in_range : ProcessInRange net.types (get_or (map process_view net.processes) p (process_view x)) = elaborated.in_range.processes p (process_view x) (rw (length-map net.processes process_view) there) in
       (subst (ProcessInRange net.types) same in_range).wakes_rise
 
-  pub rule_done : (kinds : List Kind) → AreKinds (core net) kinds → (clocks : List ℕ) → AreClockNets (core net) clocks → (d : Kind) (rule : Rule) (nets : List ℕ) (old new : List CheckFault)
+  pub rule_done : (kinds : List ProcessKind) → AreKinds (core net) kinds → (clocks : List ℕ) → AreClockNets (core net) clocks → (d : ProcessKind) (rule : Rule) (nets : List ℕ) (old new : List CheckFault)
       → IsStrictlyIncreasing nets → ((n : ℕ) → is_in n nets ≡ breaks net.inputs clocks x (get_or kinds p d) rule n) → Pushes rule p nets old new
-      → Adds (core net) (one_place (rule_number rule) p) old new
+      → AddsFaults (core net) (one_place (rule_number rule) p) old new
   rule_done kinds ks clocks cs d rule nets old new rise are pushed =
       let l : p < length kinds = rw (ks.each_process, many_processes net) there in
       let kind = kind_at (core net) kinds ks p l d (get_or kinds p d) refl in

@@ -3,8 +3,8 @@ use Rattle.std.proofs.Common.{◌≡◌, ℕ, zero, suc, ◌<◌, ◌≤◌, Lis
 use Rattle.std.specs.Prelude.{MatchOption, IfSome}
 use Rattle.std.proofs.lemmas.Bool.{cases_lt}
 use Rattle.std.proofs.lemmas.List.{get_or_past}
-use Rattle.rtl_model.specs.simulation.Net as m
-use Rattle.rtl_model.specs.simulation.Net.{Net, Edge, Reset, IsCombinational, IsClockedBy, process}
+use Rattle.rtl_model.specs.simulation.Netlist as m
+use Rattle.rtl_model.specs.simulation.Netlist.{Netlist, Edge, Reset, IsCombinational, IsClockedBy, process}
 use Rattle.rtl_model.specs.simulation.Accepted.{Feeds}
 use Rattle.rtl_model.specs.simulation.Elaborated.{IsWired}
 use Rattle.rtl_check.specs.declared.standing.Highest.{Highest}
@@ -12,11 +12,11 @@ use Rattle.rtl_check.specs.Standing.{level_of, highest_of, StandsAs, Stands, Sho
 use Rattle.rtl_check.proofs.Processes.{clock_there}
 use Rattle.rtl_check.proofs.Highest.{Reaches, highest_is}
 
-module _ (net : Net) (levels from : List (Option ℕ)) (wired : IsWired net) (clear : HasNoMixed net) where
+module _ (net : Netlist) (levels from : List (Option ℕ)) (wired : IsWired net) (clear : HasNoMixed net) where
   kinds : (p : ℕ) → p < length net.processes → IsCombinational net p ⊎ ((clock : ℕ) × ((edge : Edge) × IsClockedBy net p clock edge))
   kinds p l = go (process net p).kind refl
     where
-      go : (k : m.Kind) → (process net p).kind ≡ k → IsCombinational net p ⊎ ((clock : ℕ) × ((edge : Edge) × IsClockedBy net p clock edge))
+      go : (k : m.ProcessKind) → (process net p).kind ≡ k → IsCombinational net p ⊎ ((clock : ℕ) × ((edge : Edge) × IsClockedBy net p clock edge))
       go m.Combinational e = inl (l, e)
       go (m.Clocked clock edge reset) e = inr (clock, (edge, (reset, e)))
       go m.Mixed e = absurd (clear p e)
@@ -50,11 +50,11 @@ module _ (net : Net) (levels from : List (Option ℕ)) (wired : IsWired net) (cl
 
   module _ (many : length levels ≡ length net.processes) (many_from : length from ≡ length net.processes) (all : (q : ℕ) → q < length net.processes → Stands net levels from q) where
     combinational : (q : ℕ) → IsCombinational net q → (level_of levels q ≡ Some (suc (highest_of net levels q).level)) × (get_or from q None ≡ (highest_of net levels q).process)
-    combinational q c = subst (λ (k : m.Kind). StandsAs (highest_of net levels q) k (level_of levels q) (get_or from q None)) c.1 (all q c.0)
+    combinational q c = subst (λ (k : m.ProcessKind). StandsAs (highest_of net levels q) k (level_of levels q) (get_or from q None)) c.1 (all q c.0)
 
     clocked : (p clock : ℕ) (edge : Edge) → IsClockedBy net p clock edge → (level_of levels p ≡ None) × (get_or from p None ≡ None)
     clocked p clock edge (reset, is) =
-        subst (λ (k : m.Kind). StandsAs (highest_of net levels p) k (level_of levels p) (get_or from p None)) is (all p (clock_there net p clock (edge, (reset, is))))
+        subst (λ (k : m.ProcessKind). StandsAs (highest_of net levels p) k (level_of levels p) (get_or from p None)) is (all p (clock_there net p clock (edge, (reset, is))))
 
     placed : (p b : ℕ) → level_of levels p ≡ Some b → IsCombinational net p
     placed p b e = has_level many (λ q clock edge k. (clocked q clock edge k).0) p b e
@@ -168,11 +168,11 @@ module _ (net : Net) (levels from : List (Option ℕ)) (wired : IsWired net) (cl
       where
         go : IsCombinational net q ⊎ ((clock : ℕ) × ((edge : Edge) × IsClockedBy net q clock edge)) → Stands net levels from q
         go (inr (clock, (edge, (reset, is)))) =
-            subst (λ (k : m.Kind). StandsAs (highest_of net levels q) k (level_of levels q) (get_or from q None)) (sym is) (S.clocked q clock edge (reset, is))
+            subst (λ (k : m.ProcessKind). StandsAs (highest_of net levels q) k (level_of levels q) (get_or from q None)) (sym is) (S.clocked q clock edge (reset, is))
         go (inl c) =
             let (below, e) = S.shown.each q c in
             let a = not_above q c below e in
             let b = not_below q c below e in
             let up : (highest_of net levels q).level ≡ below = omega (arith, a, b) in
-            subst (λ (k : m.Kind). StandsAs (highest_of net levels q) k (level_of levels q) (get_or from q None)) (sym c.1)
+            subst (λ (k : m.ProcessKind). StandsAs (highest_of net levels q) k (level_of levels q) (get_or from q None)) (sym c.1)
             (e ∙ ap (λ (n : ℕ). Some (suc n)) (sym up), from_is q c below e up (highest_of net levels q).process refl)

@@ -4,19 +4,19 @@ use Rattle.std.specs.Prelude.{IsTrue}
 use Rattle.std.proofs.lemmas.Bool.{cases_Bool, and_parts, and_from, ltb-true, lt-ltb, eqb-true, eq-eqb}
 use Rattle.rtl_model.specs.basics.Lists.{IsLess}
 use Rattle.rtl_model.specs.bodies.Stored.{stores_element}
-use Rattle.rtl_model.specs.nets.CoreNet.{stores_one}
-use Rattle.rtl_model.specs.simulation.Net as m
-use Rattle.rtl_model.specs.simulation.Net.{process}
+use Rattle.rtl_model.specs.nets.CoreNetlist.{stores_one}
+use Rattle.rtl_model.specs.simulation.Netlist as m
+use Rattle.rtl_model.specs.simulation.Netlist.{process}
 use Rattle.rtl_model.specs.simulation.Accepted as f
 use Rattle.rtl_model.specs.simulation.Accepted.{Fault, IsFault}
 use Rattle.rtl_model.specs.simulation.Faults.{fault_key}
 use Rattle.rtl_net.specs.declared.process.Process.{Process}
-use Rattle.rtl_net.specs.Nets.{NetView, body_of}
+use Rattle.rtl_net.specs.Nets.{NetlistView, body_of}
 use Rattle.rtl_check.specs.declared.fault.CheckFault.{CheckFault}
 use Rattle.rtl_check.specs.declared.fault.CheckFault.TheVariants as c
-use Rattle.rtl_check.specs.declared.variables.Place.{Place}
+use Rattle.rtl_check.specs.declared.variables.VariableElement.{VariableElement}
 use Rattle.rtl_check.specs.Views.{core, fault_view}
-use Rattle.rtl_check.specs.Listing.{one_place, Adds}
+use Rattle.rtl_check.specs.Listing.{one_place, AddsFaults}
 use Rattle.rtl_check.specs.Places.{widths, places_from, added_if}
 use Rattle.rtl_check.proofs.Joined.{adds_on, adds_nothing, adds_one, lt_next, renamed}
 use Rattle.rtl_check.proofs.Processes.{process_is}
@@ -87,12 +87,12 @@ module _ (ws : List ℕ) (p : ℕ) where
       go v t v' t' (inl l) = inl l
       go v t v' t' (inr (e, l)) = inr (e, inl l)
 
-module _ (net : NetView) (p : ℕ) (x : Process) (there : p < length net.processes) (at : x ≡ get_or net.processes p x) where
+module _ (net : NetlistView) (p : ℕ) (x : Process) (there : p < length net.processes) (at : x ≡ get_or net.processes p x) where
   stores_are : (v t : ℕ) → (process (core net) p).stores v t ≡ stores_one (body_of x) (number_of (widths x.variables.items) v t)
   stores_are v t =
       ap (λ (q : m.Process). q.stores v t) (process_is net p x there at) ∙ ap (stores_one (body_of x)) (number_is x.variables.items v t)
 
-  pub elements_first : (old : List CheckFault) → Adds (core net) (elements_below (widths x.variables.items) p 0) old old
+  pub elements_first : (old : List CheckFault) → AddsFaults (core net) (elements_below (widths x.variables.items) p 0) old old
   elements_first old = adds_nothing (core net) (elements_below (widths x.variables.items) p 0) old none
     where
       none : (y : Fault) → IsFault (core net) y → elements_below (widths x.variables.items) p 0 y ≡ true → ⊥
@@ -109,16 +109,16 @@ module _ (net : NetView) (p : ℕ) (x : Process) (there : p < length net.process
       let stored : (process (core net) p).stores v place ≡ true = subst (IsFault (core net)) same is in
       sym (stores_are v place ∙ ap (stores_one (body_of x)) h) ∙ stored
 
-  pub element_skipped : (e : ℕ) (old new : List CheckFault) → stores_element e (body_of x) ≡ false → Adds (core net) (elements_below (widths x.variables.items) p e) old new
-      → Adds (core net) (elements_below (widths x.variables.items) p (e + 1)) old new
+  pub element_skipped : (e : ℕ) (old new : List CheckFault) → stores_element e (body_of x) ≡ false → AddsFaults (core net) (elements_below (widths x.variables.items) p e) old new
+      → AddsFaults (core net) (elements_below (widths x.variables.items) p (e + 1)) old new
   element_skipped e old new no_more h =
       adds_on (core net) (elements_below (widths x.variables.items) p e) (one_element (widths x.variables.items) p e) (elements_below (widths x.variables.items) p (e + 1)) old new new h
       (adds_nothing (core net) (one_element (widths x.variables.items) p e) new (λ y is t. let k : true ≡ false = sym (stored_number y e is t) ∙ no_more in cc))
       (next_element (widths x.variables.items) p e) (element_order (widths x.variables.items) p e)
 
-  pub element_stored : (e : ℕ) (d : Place) (old mid new : List CheckFault) → e < length (places_from 0 (widths x.variables.items)) → stores_element e (body_of x) ≡ true
+  pub element_stored : (e : ℕ) (d : VariableElement) (old mid new : List CheckFault) → e < length (places_from 0 (widths x.variables.items)) → stores_element e (body_of x) ≡ true
       → new ≡ mid ++ c.StoredVariable p (get_or (places_from 0 (widths x.variables.items)) e d).variable (get_or (places_from 0 (widths x.variables.items)) e d).place ∷ []
-      → Adds (core net) (elements_below (widths x.variables.items) p e) old mid → Adds (core net) (elements_below (widths x.variables.items) p (e + 1)) old new
+      → AddsFaults (core net) (elements_below (widths x.variables.items) p e) old mid → AddsFaults (core net) (elements_below (widths x.variables.items) p (e + 1)) old new
   element_stored e d old mid new l stored grown h =
       adds_on (core net) (elements_below ws p e) (one_element ws p e) (elements_below ws p (e + 1)) old mid new h
       (adds_one (core net) (one_element ws p e) mid new (c.StoredVariable p pl.variable pl.place) grown
@@ -130,7 +130,7 @@ module _ (net : NetView) (p : ℕ) (x : Process) (there : p < length net.process
       ws : List ℕ
       ws = widths x.variables.items
 
-      pl : Place
+      pl : VariableElement
       pl = get_or (places_from 0 (widths x.variables.items)) e d
 
       number : number_of ws pl.variable pl.place ≡ Some e
@@ -151,9 +151,9 @@ module _ (net : NetView) (p : ℕ) (x : Process) (there : p < length net.process
           same ∙ (ap (λ (k : ℕ). f.StoredVariable p k place) i ∙ ap (f.StoredVariable p pl.variable) j)
 
   -- an element more, stored or not
-  pub element_done : (e : ℕ) (d : Place) (old mid new : List CheckFault) → e < length (places_from 0 (widths x.variables.items))
+  pub element_done : (e : ℕ) (d : VariableElement) (old mid new : List CheckFault) → e < length (places_from 0 (widths x.variables.items))
       → new ≡ mid ++ added_if (stores_element e (body_of x)) (c.StoredVariable p (get_or (places_from 0 (widths x.variables.items)) e d).variable (get_or (places_from 0 (widths x.variables.items)) e d).place)
-      → Adds (core net) (elements_below (widths x.variables.items) p e) old mid → Adds (core net) (elements_below (widths x.variables.items) p (e + 1)) old new
+      → AddsFaults (core net) (elements_below (widths x.variables.items) p e) old mid → AddsFaults (core net) (elements_below (widths x.variables.items) p (e + 1)) old new
   element_done e d old mid new l grown h = go (cases_Bool (stores_element e (body_of x)))
     where
       ws : List ℕ
@@ -162,15 +162,15 @@ module _ (net : NetView) (p : ℕ) (x : Process) (there : p < length net.process
       fault : CheckFault
       fault = c.StoredVariable p (get_or (places_from 0 (widths x.variables.items)) e d).variable (get_or (places_from 0 (widths x.variables.items)) e d).place
 
-      go : (stores_element e (body_of x) ≡ true) ⊎ (stores_element e (body_of x) ≡ false) → Adds (core net) (elements_below ws p (e + 1)) old new
+      go : (stores_element e (body_of x) ≡ true) ⊎ (stores_element e (body_of x) ≡ false) → AddsFaults (core net) (elements_below ws p (e + 1)) old new
       go (inl t) = element_stored e d old mid new l t (grown ∙ ap (λ (b : Bool). mid ++ added_if b fault) t) h
       go (inr t) =
           let same : new ≡ mid = grown ∙ (ap (λ (b : Bool). mid ++ added_if b fault) t ∙ append-nil mid) in
-          subst (λ (xs : List CheckFault). Adds (core net) (elements_below ws p (e + 1)) old xs) (sym same) (element_skipped e old mid t h)
+          subst (λ (xs : List CheckFault). AddsFaults (core net) (elements_below ws p (e + 1)) old xs) (sym same) (element_skipped e old mid t h)
 
   -- all elements
-  pub elements_all : (e : ℕ) (old new : List CheckFault) → length (places_from 0 (widths x.variables.items)) ≤ e → Adds (core net) (elements_below (widths x.variables.items) p e) old new
-      → Adds (core net) (one_place 9 p) old new
+  pub elements_all : (e : ℕ) (old new : List CheckFault) → length (places_from 0 (widths x.variables.items)) ≤ e → AddsFaults (core net) (elements_below (widths x.variables.items) p e) old new
+      → AddsFaults (core net) (one_place 9 p) old new
   elements_all e old new l h = record { added = h.added; is = h.is; are = renamed (core net) (elements_below ws p e) (one_place 9 p) (map fault_view h.added) same h.are }
     where
       ws : List ℕ

@@ -2,7 +2,7 @@
 use Rattle.std.proofs.Common.{◌≡◌, ◌==◌, ℕ, zero, suc, true, false, List, [], ◌∷◌, ◌++◌, length, map, refl, sym, ap, subst, ◌∙◌, arith, inl, inr, Vec, Global, vec_len}
 use Rattle.std.specs.Prelude.{IsTrue, ◌↔◌}
 use Rattle.std.proofs.lemmas.Bool.{eqb-true}
-use Rattle.rtl_model.specs.simulation.Net.{Net}
+use Rattle.rtl_model.specs.simulation.Netlist.{Netlist}
 use Rattle.rtl_model.specs.simulation.Accepted as f
 use Rattle.rtl_model.specs.simulation.Faults.{AreFaults, AreFaultsButLoops}
 use Rattle.rtl_model.specs.simulation.Laws.{FaultsAreListed}
@@ -18,7 +18,7 @@ some_faults : (xs : List CheckFault) → (length xs == 0) ≡ false → map faul
 some_faults [] e h = cc
 some_faults (x ∷ xs) e h = cc
 
-pub faulty : (net : Net) (xs : Vec CheckFault Global) → (vec_len xs == 0) ≡ false → AreFaultsButLoops net (map fault_view xs.items) → AreFaults net (map fault_view xs.items)
+pub faulty : (net : Netlist) (xs : Vec CheckFault Global) → (vec_len xs == 0) ≡ false → AreFaultsButLoops net (map fault_view xs.items) → AreFaults net (map fault_view xs.items)
 faulty net xs e h = inl (h, λ none. some_faults xs.items (sym (ap (λ (n : ℕ). n == 0) xs.ok.0) ∙ e) none)
 
 no_items : (xs : List CheckFault) → (length xs == 0) ≡ true → xs ≡ []
@@ -28,7 +28,7 @@ no_items (x ∷ xs) e = let h = eqb-true (length (x ∷ xs)) 0 e in absurd (omeg
 pub none_of : (xs : Vec CheckFault Global) → (vec_len xs == 0) ≡ true → xs.items ≡ []
 none_of xs e = no_items xs.items (sym (ap (λ (n : ℕ). n == 0) xs.ok.0) ∙ e)
 
-pub looped : (net : Net) (old new : List CheckFault) (round : Vec ℕ Global) → old ≡ [] → AreFaultsButLoops net (map fault_view old) → new ≡ old ++ c.Loop round ∷ [] → f.IsLoop net round.items
+pub looped : (net : Netlist) (old new : List CheckFault) (round : Vec ℕ Global) → old ≡ [] → AreFaultsButLoops net (map fault_view old) → new ≡ old ++ c.Loop round ∷ [] → f.IsLoop net round.items
     → AreFaults net (map fault_view new)
 looped net old new round none h e loop = inr (record {
   processes = round.items;
@@ -37,11 +37,11 @@ looped net old new round none h e loop = inr (record {
   no_other = subst (λ (xs : List CheckFault). AreFaultsButLoops net (map fault_view xs)) none h;
 })
 
-pub closed : (net : Net) (table : t.Table) → IsTableOf net table → t.IsClosed table
+pub closed : (net : Netlist) (table : t.Table) → IsTableOf net table → t.IsClosed table
 closed net table h p q feeds = (h.combinational p).1 ((h.feeds p q).0 feeds).feeder
 
 -- a net with faults isn't accepted
-pub refused : (net : Net) (faults : List f.Fault) → FaultsAreListed net → AreFaults net faults → IsTrue false ↔ f.IsAccepted net
+pub refused : (net : Netlist) (faults : List f.Fault) → FaultsAreListed net → AreFaults net faults → IsTrue false ↔ f.IsAccepted net
 refused net faults laws h = (to, λ a. absurd (laws.none_if_accepted faults h a))
   where
     to : false ≡ true → f.IsAccepted net
@@ -50,7 +50,7 @@ refused net faults laws h = (to, λ a. absurd (laws.none_if_accepted faults h a)
 -- ---- loops are listed once
 
 -- no loop stands among the other faults
-pub none_once : (net : Net) (faults : List f.Fault) → AreFaultsButLoops net faults → AreLoopsOnce faults
+pub none_once : (net : Netlist) (faults : List f.Fault) → AreFaultsButLoops net faults → AreLoopsOnce faults
 none_once net faults h processes has = let no : false ≡ true = ((h.are (f.Loop processes)).0 has).1 in absurd cc
 
 same_loop : (round processes : List ℕ) → f.Loop round ≡ f.Loop processes → round ≡ processes

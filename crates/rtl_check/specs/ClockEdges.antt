@@ -1,22 +1,22 @@
 -- The pairs of net and edge that clocked processes test, by the nets of each edge.
 use Rattle.std.specs.Prelude.{◌↔◌, IsTrue, ℕ, Bool, true, false, ◌&&◌, ◌==◌, List, [], ◌∷◌, ◌++◌}
 use Rattle.std.specs.List.Sorted.{IsStrictlyIncreasing}
-use Rattle.rtl_model.specs.simulation.Net as m
-use Rattle.rtl_model.specs.simulation.Net.{Net, Edge, IsClockedBy}
+use Rattle.rtl_model.specs.simulation.Netlist as m
+use Rattle.rtl_model.specs.simulation.Netlist.{Netlist, Edge, IsClockedBy}
 use Rattle.rtl_model.specs.simulation.Report.{edge_number}
-use Rattle.rtl_net_facts.specs.declared.kinds.Kind.{Kind}
-use Rattle.rtl_net_facts.specs.declared.kinds.Kind.TheVariants as k
+use Rattle.rtl_net_facts.specs.declared.kinds.ProcessKind.{ProcessKind}
+use Rattle.rtl_net_facts.specs.declared.kinds.ProcessKind.TheVariants as k
 use Rattle.rtl_net_facts.specs.Reading.{is_in}
 use Rattle.rtl_check.specs.declared.clock_edges.EdgeNets.{EdgeNets}
 
 -- a process of this kind is clocked by this edge of the net
-abbrev pub tests : Edge → (net : ℕ) → Kind → Bool
+abbrev pub tests : Edge → (net : ℕ) → ProcessKind → Bool
 tests edge net k.Combinational = false
 tests edge net (k.Clocked c) = (edge_number c.edge == edge_number edge) && (c.clock == net)
 tests edge net k.Mixed = false
 
 -- the nets by this edge of which processes are clocked, rising
-pub record AreEdgeNets (net : Net) (edge : Edge) (nets : List ℕ) : Type 0 where
+pub record AreEdgeNets (net : Netlist) (edge : Edge) (nets : List ℕ) : Type 0 where
   pub rise : IsStrictlyIncreasing nets
   pub are : (n : ℕ) → IsTrue (is_in n nets) ↔ ((p : ℕ) × IsClockedBy net p n edge)
 
@@ -47,5 +47,5 @@ pairs_of nets (n ∷ ns) = edges_at nets n ++ pairs_of nets ns
 abbrev pub nets_by : EdgeNets → Edge → List ℕ
 nets_by e = by_edge e.rising.items e.falling.items e.to_one.items e.to_zero.items
 
-abbrev pub AreAllEdgeNets : Net → EdgeNets → Type 0
+abbrev pub AreAllEdgeNets : Netlist → EdgeNets → Type 0
 AreAllEdgeNets net e = (edge : Edge) → AreEdgeNets net edge (nets_by e edge)

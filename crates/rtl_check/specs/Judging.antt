@@ -1,6 +1,6 @@
 -- What is found of a net: faults, or levels.
 use Rattle.std.specs.Prelude.{⊤, [], map}
-use Rattle.rtl_model.specs.simulation.Net.{Net}
+use Rattle.rtl_model.specs.simulation.Netlist.{Netlist}
 use Rattle.rtl_model.specs.simulation.Faults.{AreFaults, AreFaultsButLoops}
 use Rattle.rtl_check_levels.specs.declared.order.Levels.{Levels}
 use Rattle.rtl_check_levels.specs.Feeding.{Table}
@@ -12,13 +12,13 @@ use Rattle.rtl_check.specs.Views.{fault_view}
 use Rattle.rtl_check.specs.Verdicts.{AreLoopsOnce}
 
 -- no fault is found before loops are looked for, and its combinational processes have levels
-pub record IsLeveled (net : Net) (levels : Levels) : Type 0 where
+pub record IsLeveled (net : Netlist) (levels : Levels) : Type 0 where
   pub no_fault : AreFaultsButLoops net []
   pub table : Table
   pub is_table : IsTableOf net table
   pub are_levels : l.AreLevels table levels.levels.items levels.from.items levels.greatest
 
-abbrev pub IsJudged : Net → Judged → Type 0
+abbrev pub IsJudged : Netlist → Judged → Type 0
 IsJudged net (Faulty faults) = AreFaults net (map fault_view faults.items)
 IsJudged net (Leveled levels) = IsLeveled net levels
 

@@ -1,6 +1,6 @@
 -- How lists of faults grow: by numbers, and of one number by the net or the process that they name first.
 use Rattle.std.specs.Prelude.{◌≡◌, ℕ, Bool, ◌&&◌, ◌==◌, nat_lt, nat_le, List, ◌++◌, map, slice_index}
-use Rattle.rtl_model.specs.simulation.Net.{Net}
+use Rattle.rtl_model.specs.simulation.Netlist.{Netlist}
 use Rattle.rtl_model.specs.simulation.Accepted.{Fault}
 use Rattle.rtl_model.specs.simulation.Faults.{fault_number, fault_place, AreFaultsOf}
 use Rattle.rtl_check.specs.declared.fault.CheckFault.{CheckFault}
@@ -24,7 +24,7 @@ abbrev pub up_to : ℕ → Fault → Bool
 up_to k fault = nat_le (fault_number fault) k
 
 -- the net's faults of some kind are appended
-pub record Adds (net : Net) (among : Fault → Bool) (old new : List CheckFault) : Type 0 where
+pub record AddsFaults (net : Netlist) (among : Fault → Bool) (old new : List CheckFault) : Type 0 where
   pub added : List CheckFault
   pub is : new ≡ old ++ added
   pub are : AreFaultsOf net among (map fault_view added)

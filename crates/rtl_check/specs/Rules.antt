@@ -2,14 +2,14 @@
 use Rattle.std.specs.Prelude.{◌≡◌, ◌↔◌, IsTrue, ◌++◌, map, ℕ, Bool, false, not, ◌&&◌, ◌||◌, ◌==◌, List, [], ◌∷◌}
 use Rattle.std.specs.Option.{option_to_list}
 use Rattle.std.specs.List.Sorted.{IsStrictlyIncreasing}
-use Rattle.rtl_model.specs.simulation.Net.{Net}
+use Rattle.rtl_model.specs.simulation.Netlist.{Netlist}
 use Rattle.rtl_model.specs.bodies.Assigns.{must_assign}
 use Rattle.rtl_model.specs.simulation.Accepted as f
 use Rattle.rtl_net.specs.declared.process.Process.{Process}
 use Rattle.rtl_net.specs.Nets.{body_of}
 use Rattle.rtl_net_facts.specs.declared.kinds.Clocking.{Clocking}
-use Rattle.rtl_net_facts.specs.declared.kinds.Kind.{Kind}
-use Rattle.rtl_net_facts.specs.declared.kinds.Kind.TheVariants as k
+use Rattle.rtl_net_facts.specs.declared.kinds.ProcessKind.{ProcessKind}
+use Rattle.rtl_net_facts.specs.declared.kinds.ProcessKind.TheVariants as k
 use Rattle.rtl_net_facts.specs.Reading.{is_in}
 use Rattle.rtl_net_facts.specs.Paths.{driven, to_net}
 use Rattle.rtl_check.specs.declared.fault.CheckFault.{CheckFault}
@@ -49,7 +49,7 @@ combinational_breaks p ClockAsData n = false
 combinational_breaks p MissingSensitivity n = is_in n p.reads.items && not (is_in n p.wakes.items)
 combinational_breaks p Latch n = is_in n (driven p.drives.items) && not (must_assign (to_net p.drives.items n) (body_of p))
 
-abbrev pub breaks : (inputs clocks : List ℕ) → Process → Kind → Rule → (net : ℕ) → Bool
+abbrev pub breaks : (inputs clocks : List ℕ) → Process → ProcessKind → Rule → (net : ℕ) → Bool
 breaks inputs clocks p k.Combinational rule n = combinational_breaks p rule n
 breaks inputs clocks p (k.Clocked c) rule n = clocked_breaks inputs clocks p c rule n
 breaks inputs clocks p k.Mixed rule n = false
@@ -57,7 +57,7 @@ breaks inputs clocks p k.Mixed rule n = false
 -- ---- lists
 
 -- the clocks of a net, rising
-pub record AreClockNets (net : Net) (clocks : List ℕ) : Type 0 where
+pub record AreClockNets (net : Netlist) (clocks : List ℕ) : Type 0 where
   pub rise : IsStrictlyIncreasing clocks
   pub are : (n : ℕ) → IsTrue (is_in n clocks) ↔ f.IsClock net n
 
@@ -68,7 +68,7 @@ pub record Pushes (rule : Rule) (process : ℕ) (nets : List ℕ) (old new : Lis
   pub are : map fault_view added ≡ map (fault_of rule process) nets
 
 -- a process of this kind is clocked by a net
-abbrev pub has_clock : (net : ℕ) → Kind → Bool
+abbrev pub has_clock : (net : ℕ) → ProcessKind → Bool
 has_clock net k.Combinational = false
 has_clock net (k.Clocked c) = c.clock == net
 has_clock net k.Mixed = false

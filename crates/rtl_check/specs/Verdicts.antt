@@ -1,6 +1,6 @@
 -- What the checker answers.
 use Rattle.std.specs.Prelude.{⊤, ℕ, Bool, true, false, List, map, Contains}
-use Rattle.rtl_model.specs.simulation.Net.{Net}
+use Rattle.rtl_model.specs.simulation.Netlist.{Netlist}
 use Rattle.rtl_model.specs.simulation.Accepted.{Fault, Loop, IsAccepted}
 use Rattle.rtl_model.specs.simulation.Faults.{AreFaults}
 use Rattle.rtl_model.specs.simulation.Report.{IsReport}
@@ -10,12 +10,12 @@ use Rattle.rtl_check.specs.declared.checking.Verdict.{Verdict}
 use Rattle.rtl_check.specs.declared.checking.Verdict.TheVariants.{Yes, No}
 use Rattle.rtl_check.specs.Views.{fault_view}
 
--- the report on the net: an accepted net has no other
-abbrev pub IsReportOf : Net → Report → Type 0
+-- the report on the net: an accepted netlist has no other
+abbrev pub IsReportOf : Netlist → Report → Type 0
 IsReportOf net r = IsReport net r.levels.items r.from.items r.clocks.items r.bound
 
-abbrev pub IsVerdict : Net → Verdict → Type 0
--- the net is accepted, and this is the report on it
+abbrev pub IsVerdict : Netlist → Verdict → Type 0
+-- the netlist is accepted, and this is the report on it
 IsVerdict net (Yes report) = IsAccepted net × IsReportOf net report
 -- it has these faults: all but loops, in order, or else one loop
 IsVerdict net (No faults) = AreFaults net (map fault_view faults.items)

@@ -1,20 +1,20 @@
 -- How the code's faults and kinds are seen.
 use Rattle.std.specs.Prelude.{◌≡◌, ℕ, ◌<◌, ◌||◌, List, ◌∷◌, length, slice_index_or, Option, option_map}
 use Rattle.std.specs.Option.{option_to_list}
-use Rattle.rtl_model.specs.nets.CoreNet.{core_net}
-use Rattle.rtl_model.specs.simulation.Net as m
+use Rattle.rtl_model.specs.nets.CoreNetlist.{core_netlist}
+use Rattle.rtl_model.specs.simulation.Netlist as m
 use Rattle.rtl_model.specs.simulation.Accepted as f
-use Rattle.rtl_net.specs.Nets.{NetView, flat, source_view}
+use Rattle.rtl_net.specs.Nets.{NetlistView, flat, source_view}
 use Rattle.rtl_net_facts.specs.declared.kinds.Clocking.{Clocking}
-use Rattle.rtl_net_facts.specs.declared.kinds.Kind.{Kind}
-use Rattle.rtl_net_facts.specs.declared.kinds.Kind.TheVariants as k
+use Rattle.rtl_net_facts.specs.declared.kinds.ProcessKind.{ProcessKind}
+use Rattle.rtl_net_facts.specs.declared.kinds.ProcessKind.TheVariants as k
 use Rattle.rtl_net_facts.specs.Reading.{is_in}
 use Rattle.rtl_check.specs.declared.fault.CheckFault.{CheckFault}
 use Rattle.rtl_check.specs.declared.fault.CheckFault.TheVariants as c
 
 -- the net as the theory of simulation has it
-abbrev pub core : NetView → m.Net
-core net = core_net (flat net)
+abbrev pub core : NetlistView → m.Netlist
+core net = core_netlist (flat net)
 
 abbrev pub fault_view : CheckFault → f.Fault
 fault_view (c.TwoDrivers net first second) = f.TwoDrivers net (source_view first) (source_view second)
@@ -45,12 +45,12 @@ pub record IsClocking (p : m.Process) (c : Clocking) : Type 0 where
   -- its body reads what its tests look at, and what the branch under its edge reads
   pub reads : (n : ℕ) → is_in n p.reads ≡ (is_in n (tested c) || is_in n p.acting_reads)
 
-abbrev pub IsKind : m.Process → Kind → Type 0
+abbrev pub IsKind : m.Process → ProcessKind → Type 0
 IsKind p k.Combinational = p.kind ≡ m.Combinational
 IsKind p (k.Clocked c) = IsClocking p c
 IsKind p k.Mixed = p.kind ≡ m.Mixed
 
 -- each process's kind
-pub record AreKinds (net : m.Net) (kinds : List Kind) : Type 0 where
+pub record AreKinds (net : m.Netlist) (kinds : List ProcessKind) : Type 0 where
   pub each_process : length kinds ≡ length net.processes
   pub each : (p : ℕ) → p < length net.processes → IsKind (m.process net p) (slice_index_or kinds p k.Mixed)

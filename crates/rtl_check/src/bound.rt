@@ -1,14 +1,14 @@
 //! The bound on delta cycles.
 
 ghost use Rattle.std.specs.Prelude.{◌≡◌, ◌<◌, ◌+◌, ◌^◌, length};
-ghost use Rattle.rtl_model.specs.simulation.Net as m;
+ghost use Rattle.rtl_model.specs.simulation.Netlist as m;
 ghost use Rattle.rtl_model.specs.simulation.Levels as l;
 ghost use Rattle.rtl_net.specs.Nets.{source_view};
 ghost use Rattle.rtl_check.specs.Views.{core, AreKinds};
 ghost use Rattle.rtl_check.specs.Rules.{AreClockNets};
 ghost use Rattle.rtl_check.specs.Bounds as b;
 
-use rtl_net_facts::Kind;
+use rtl_net_facts::ProcessKind;
 use rtl_net::{Net, Source};
 
 /// Whether a source is a driver.
@@ -52,18 +52,18 @@ pub fn follows_driver(net: &Net, process: usize) -> bool
 }
 
 /// Whether a process of this kind has a reset.
-pub fn resets(kind: Kind) -> bool
+pub fn resets(kind: ProcessKind) -> bool
     ensures { result ≡ b.resets kind }
 {
     match kind {
-        Kind::Combinational => false,
-        Kind::Clocked(clocking) => clocking.reset.is_some(),
-        Kind::Mixed => false,
+        ProcessKind::Combinational => false,
+        ProcessKind::Clocked(clocking) => clocking.reset.is_some(),
+        ProcessKind::Mixed => false,
     }
 }
 
 /// Whether a process has a reset and is sensitive to a net that a process drives.
-fn is_late(net: &Net, kinds: &[Kind], process: usize) -> bool
+fn is_late(net: &Net, kinds: &[ProcessKind], process: usize) -> bool
     requires kinds { AreKinds (core net.now) kinds.now }
     requires there { process < length kinds.now }
     ensures { result ≡ b.is_late (core net.now) (m.process (core net.now) process) }
@@ -72,7 +72,7 @@ fn is_late(net: &Net, kinds: &[Kind], process: usize) -> bool
 }
 
 /// Whether there is such a process.
-fn has_late_reset(net: &Net, kinds: &[Kind]) -> bool
+fn has_late_reset(net: &Net, kinds: &[ProcessKind]) -> bool
     requires { AreKinds (core net.now) kinds.now }
     ensures { result ≡ l.has_late_reset (core net.now) }
 {
@@ -92,7 +92,7 @@ pub fn one_if(so: bool) -> u32
 }
 
 /// The bound on delta cycles of a net with this greatest level.
-pub fn bound_of(net: &Net, kinds: &[Kind], clocks: &[usize], greatest: u32) -> u32
+pub fn bound_of(net: &Net, kinds: &[ProcessKind], clocks: &[usize], greatest: u32) -> u32
     requires kinds { AreKinds (core net.now) kinds.now }
     requires clocks { AreClockNets (core net.now) clocks.now }
     requires few { greatest + 2 < 2 ^ 32 }

@@ -11,7 +11,7 @@ ghost use Rattle.rtl_check.specs.Views.{tested};
 ghost use Rattle.rtl_check.specs.Rules.{is_data, clocked_breaks, combinational_breaks, breaks};
 
 use crate::rule::Rule;
-use rtl_net_facts::{Clocking, Kind, assigned_nets, contains_rising, sort_once};
+use rtl_net_facts::{Clocking, ProcessKind, assigned_nets, contains_rising, sort_once};
 use rtl_net::{Driver, NoMemory, Process};
 use std::alloc::Global;
 
@@ -147,7 +147,7 @@ pub fn breaking_nets(
     clocks: &[usize],
     rule: Rule,
     process: &Process,
-    kind: Kind,
+    kind: ProcessKind,
 ) -> Result<Vec<usize>, NoMemory>
     requires inputs { IsStrictlyIncreasing inputs.now }
     requires clocks { IsStrictlyIncreasing clocks.now }
@@ -157,8 +157,8 @@ pub fn breaking_nets(
     ensures are { IfOk result (λ v. (n : ℕ) → is_in n v.items ≡ breaks inputs.now clocks.now process.now kind rule n) }
 {
     match kind {
-        Kind::Combinational => combinational_nets(alloc, rule, process),
-        Kind::Clocked(clocking) => clocked_nets(alloc, inputs, clocks, rule, process, clocking),
-        Kind::Mixed => Ok(Vec::new(alloc)),
+        ProcessKind::Combinational => combinational_nets(alloc, rule, process),
+        ProcessKind::Clocked(clocking) => clocked_nets(alloc, inputs, clocks, rule, process, clocking),
+        ProcessKind::Mixed => Ok(Vec::new(alloc)),
     }
 }

@@ -1,4 +1,4 @@
-//! Whether a net is accepted.
+//! Whether a netlist is accepted.
 
 ghost use Rattle.std.specs.Prelude.{◌↔◌, IfOk, IsTrue};
 ghost use Rattle.rtl_model.specs.simulation.Accepted.{IsAccepted};
@@ -24,7 +24,7 @@ pub enum Verdict {
     No(Vec<CheckFault>),
 }
 
-/// Whether a net is accepted: yes, with the report on it, just where it has no fault; else no, with its faults. A loop is
+/// Whether a netlist is accepted: yes, with the report on it, just where it has no fault; else no, with its faults. A loop is
 /// looked for only where there is no other fault. It takes time in proportion to the net, but for the logarithms of sorted
 /// lists, and memory for the kinds of processes, for what feeds what, and for the answer.
 pub fn check(alloc: Global, net: &Net) -> Result<Verdict, NoMemory>

@@ -8,7 +8,7 @@ ghost use Rattle.rtl_check.specs.Views.{core, AreKinds};
 ghost use Rattle.rtl_check.specs.Rules.{AreClockNets};
 ghost use Rattle.rtl_check.specs.ClockEdges.{tests, pair_if, edges_at, nets_by, AreEdgeNets, AreAllEdgeNets};
 
-use rtl_net_facts::{Kind, contains_rising, sort_once};
+use rtl_net_facts::{ProcessKind, contains_rising, sort_once};
 use rtl_net::{Net, NoMemory};
 use std::alloc::Global;
 use vhdl_values::Edge;
@@ -35,18 +35,18 @@ pub fn edge_number(edge: Edge) -> u8
 }
 
 /// Appends the clock of a process of this kind, if it is clocked by this edge.
-fn push_tested(edge: Edge, kind: Kind, nets: &mut Vec<usize>) -> Result<(), NoMemory>
+fn push_tested(edge: Edge, kind: ProcessKind, nets: &mut Vec<usize>) -> Result<(), NoMemory>
     ensures { OnOk result ((n : ℕ) → is_in n nets.new.items ≡ (is_in n nets.old.items || tests edge n kind)) }
 {
     match kind {
-        Kind::Combinational => Ok(()),
-        Kind::Clocked(clocking) => {
+        ProcessKind::Combinational => Ok(()),
+        ProcessKind::Clocked(clocking) => {
             if edge_number(clocking.edge) == edge_number(edge) {
                 nets.push(clocking.clock)?;
             }
             Ok(())
         }
-        Kind::Mixed => Ok(()),
+        ProcessKind::Mixed => Ok(()),
     }
 }
 
@@ -54,7 +54,7 @@ fn push_tested(edge: Edge, kind: Kind, nets: &mut Vec<usize>) -> Result<(), NoMe
 fn nets_of_edge(
     alloc: Global,
     net: &Net,
-    kinds: &[Kind],
+    kinds: &[ProcessKind],
     edge: Edge,
 ) -> Result<Vec<usize>, NoMemory>
     requires { AreKinds (core net.now) kinds.now }
@@ -69,7 +69,7 @@ fn nets_of_edge(
 }
 
 /// The same of each edge.
-fn edge_nets(alloc: Global, net: &Net, kinds: &[Kind]) -> Result<EdgeNets, NoMemory>
+fn edge_nets(alloc: Global, net: &Net, kinds: &[ProcessKind]) -> Result<EdgeNets, NoMemory>
     requires { AreKinds (core net.now) kinds.now }
     ensures { IfOk result (AreAllEdgeNets (core net.now)) }
 {
@@ -115,7 +115,7 @@ fn push_edges(nets: &EdgeNets, net: usize, pairs: &mut Vec<(usize, Edge)>) -> Re
 pub fn clock_edges(
     alloc: Global,
     net: &Net,
-    kinds: &[Kind],
+    kinds: &[ProcessKind],
     clocks: &[usize],
 ) -> Result<Vec<(usize, Edge)>, NoMemory>
     requires kinds { AreKinds (core net.now) kinds.now }

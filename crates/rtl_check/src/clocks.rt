@@ -5,26 +5,26 @@ ghost use Rattle.rtl_net_facts.specs.Reading.{is_in};
 ghost use Rattle.rtl_check.specs.Views.{core, AreKinds};
 ghost use Rattle.rtl_check.specs.Rules.{AreClockNets, has_clock};
 
-use rtl_net_facts::{Kind, sort_once};
+use rtl_net_facts::{ProcessKind, sort_once};
 use rtl_net::{Net, NoMemory};
 use std::alloc::Global;
 
 /// Appends the clock of a process of this kind, if it has one.
-fn push_clock(kind: Kind, clocks: &mut Vec<usize>) -> Result<(), NoMemory>
+fn push_clock(kind: ProcessKind, clocks: &mut Vec<usize>) -> Result<(), NoMemory>
     ensures { OnOk result ((n : ℕ) → is_in n clocks.new.items ≡ (is_in n clocks.old.items || has_clock n kind)) }
 {
     match kind {
-        Kind::Combinational => Ok(()),
-        Kind::Clocked(clocking) => {
+        ProcessKind::Combinational => Ok(()),
+        ProcessKind::Clocked(clocking) => {
             clocks.push(clocking.clock)?;
             Ok(())
         }
-        Kind::Mixed => Ok(()),
+        ProcessKind::Mixed => Ok(()),
     }
 }
 
 /// The nets that clock some process, rising.
-pub fn clock_nets(alloc: Global, net: &Net, kinds: &[Kind]) -> Result<Vec<usize>, NoMemory>
+pub fn clock_nets(alloc: Global, net: &Net, kinds: &[ProcessKind]) -> Result<Vec<usize>, NoMemory>
     requires { AreKinds (core net.now) kinds.now }
     ensures { IfOk result (λ v. AreClockNets (core net.now) v.items) }
 {

@@ -10,7 +10,7 @@ use crate::listing::{mixed, two_drivers};
 use crate::rule::Rule;
 use crate::rules::by_rule;
 use crate::variables::stored_variables;
-use rtl_net_facts::Kind;
+use rtl_net_facts::ProcessKind;
 use rtl_net::{Net, NoMemory};
 use std::alloc::Global;
 
@@ -18,7 +18,7 @@ use std::alloc::Global;
 pub fn faults_of(
     alloc: Global,
     net: &Net,
-    kinds: &[Kind],
+    kinds: &[ProcessKind],
     clocks: &[usize],
 ) -> Result<Vec<CheckFault>, NoMemory>
     requires kinds { AreKinds (core net.now) kinds.now }

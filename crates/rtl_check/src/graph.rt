@@ -2,33 +2,33 @@
 
 ghost use Rattle.std.specs.Prelude.{◌≡◌, ◌||◌, ◌<◌, ℕ, length, IfOk, OnOk};
 ghost use Rattle.std.specs.List.{list_any};
-ghost use Rattle.rtl_model.specs.nets.FlatNet.{flat_sources};
+ghost use Rattle.rtl_model.specs.nets.FlatNetlist.{flat_sources};
 ghost use Rattle.rtl_net.specs.Nets.{flat, source_view};
 ghost use Rattle.rtl_check_levels.specs.OfNets.{IsTableOf};
 ghost use Rattle.rtl_net_facts.specs.Reading.{is_in};
 ghost use Rattle.rtl_check.specs.Views.{core, AreKinds};
 ghost use Rattle.rtl_check.specs.Feeders.{combinational_at, feeds_by, IsRow};
 
-use rtl_net_facts::Kind;
+use rtl_net_facts::ProcessKind;
 use rtl_net::{Net, NoMemory, Source, nets_meet_the_laws};
 use std::alloc::Global;
 
 /// Whether there is a process of this number that is combinational.
-fn is_combinational(kinds: &[Kind], process: usize) -> bool
+fn is_combinational(kinds: &[ProcessKind], process: usize) -> bool
     ensures { result ≡ combinational_at kinds.now process }
 {
     if process >= kinds.len() {
         return false;
     }
     match kinds[process] {
-        Kind::Combinational => true,
-        Kind::Clocked(_) => false,
-        Kind::Mixed => false,
+        ProcessKind::Combinational => true,
+        ProcessKind::Clocked(_) => false,
+        ProcessKind::Mixed => false,
     }
 }
 
 /// Appends the process of a driver, if it is combinational.
-fn push_feeder(kinds: &[Kind], source: Source, feeders: &mut Vec<usize>) -> Result<(), NoMemory>
+fn push_feeder(kinds: &[ProcessKind], source: Source, feeders: &mut Vec<usize>) -> Result<(), NoMemory>
     ensures { OnOk result ((p : ℕ) → is_in p feeders.new.items ≡ (is_in p feeders.old.items || feeds_by kinds.now p (source_view source))) }
 {
     match source {
@@ -46,7 +46,7 @@ fn push_feeder(kinds: &[Kind], source: Source, feeders: &mut Vec<usize>) -> Resu
 /// Appends the combinational processes that drive a net.
 fn push_feeders(
     net: &Net,
-    kinds: &[Kind],
+    kinds: &[ProcessKind],
     number: usize,
     feeders: &mut Vec<usize>,
 ) -> Result<(), NoMemory>
@@ -64,7 +64,7 @@ fn push_feeders(
 fn row_of(
     alloc: Global,
     net: &Net,
-    kinds: &[Kind],
+    kinds: &[ProcessKind],
     process: usize,
 ) -> Result<Option<Vec<usize>>, NoMemory>
     requires kinds { AreKinds (core net.now) kinds.now }
@@ -90,7 +90,7 @@ fn row_of(
 pub fn table_of(
     alloc: Global,
     net: &Net,
-    kinds: &[Kind],
+    kinds: &[ProcessKind],
 ) -> Result<Vec<Option<Vec<usize>>>, NoMemory>
     requires { AreKinds (core net.now) kinds.now }
     ensures { IfOk result (λ table. IsTableOf (core net.now) table.items) }

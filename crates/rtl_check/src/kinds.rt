@@ -1,15 +1,15 @@
 //! The kinds of all processes of a net.
 
 ghost use Rattle.std.specs.Prelude.{◌<◌, length, IfOk};
-ghost use Rattle.rtl_model.specs.simulation.Net as m;
+ghost use Rattle.rtl_model.specs.simulation.Netlist as m;
 ghost use Rattle.rtl_check.specs.Views.{core, AreKinds, IsKind};
 
-use rtl_net_facts::{Kind, kind_of};
+use rtl_net_facts::{ProcessKind, kind_of};
 use rtl_net::{Net, NoMemory};
 use std::alloc::Global;
 
 /// The kind of each process.
-pub fn kinds_of(alloc: Global, net: &Net) -> Result<Vec<Kind>, NoMemory>
+pub fn kinds_of(alloc: Global, net: &Net) -> Result<Vec<ProcessKind>, NoMemory>
     ensures { IfOk result (λ kinds. AreKinds (core net.now) kinds.items) }
 {
     let _nets = net.nets();
@@ -23,7 +23,7 @@ pub fn kinds_of(alloc: Global, net: &Net) -> Result<Vec<Kind>, NoMemory>
 }
 
 /// The kind of one process.
-pub fn kind_at(net: &Net, process: usize) -> Kind
+pub fn kind_at(net: &Net, process: usize) -> ProcessKind
     requires { process < length net.now.processes }
     ensures { IsKind (m.process (core net.now) process) result }
 {

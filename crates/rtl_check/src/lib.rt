@@ -1,4 +1,4 @@
-//! The checker: whether a net is accepted, with its report, or else which faults it has.
+//! The checker: whether a netlist is accepted, with its report, or else which faults it has.
 //!
 //! The definitions are those of rtl_model's `simulation/Accepted`, `Faults`, `Levels` and `Report`. `specs/Views.antt` says how
 //! the code's faults and reports are seen, and `specs/Listing.antt` how lists of faults grow.

@@ -2,7 +2,7 @@
 
 ghost use Rattle.std.specs.Prelude.{◌≡◌, ◌↔◌, ◌<◌, ℕ, Option, length, IsTrue, Contains};
 ghost use Rattle.rtl_model.specs.basics.Lists.{IsLess, RisesBy};
-ghost use Rattle.rtl_model.specs.simulation.Net as m;
+ghost use Rattle.rtl_model.specs.simulation.Netlist as m;
 ghost use Rattle.rtl_model.specs.simulation.Report.{clock_key, AreClocks};
 ghost use Rattle.rtl_check.specs.Views.{core, IsKind};
 ghost use Rattle.rtl_check.specs.ClockEdges as e;
@@ -10,7 +10,7 @@ ghost use Rattle.rtl_check.specs.ListedClocks as s;
 
 use crate::clock_edges::edge_number;
 use crate::kinds::kind_at;
-use rtl_net_facts::Kind;
+use rtl_net_facts::ProcessKind;
 use rtl_net::Net;
 use vhdl_values::Edge;
 
@@ -34,15 +34,15 @@ fn is_listed(clocks: &[(usize, Edge)], net: usize, edge: Edge) -> bool
 }
 
 /// Whether a process of this kind is clocked by this edge of a net.
-fn tests(edge: Edge, net: usize, kind: Kind) -> bool
+fn tests(edge: Edge, net: usize, kind: ProcessKind) -> bool
     ensures { result ≡ e.tests edge net kind }
 {
     match kind {
-        Kind::Combinational => false,
-        Kind::Clocked(clocking) => {
+        ProcessKind::Combinational => false,
+        ProcessKind::Clocked(clocking) => {
             edge_number(clocking.edge) == edge_number(edge) && clocking.clock == net
         }
-        Kind::Mixed => false,
+        ProcessKind::Mixed => false,
     }
 }
 
@@ -73,13 +73,13 @@ fn are_tested(net: &Net, clocks: &[(usize, Edge)]) -> bool
 }
 
 /// Whether the clock of a process of this kind is listed, if it has one.
-fn lists_clock(clocks: &[(usize, Edge)], kind: Kind) -> bool
+fn lists_clock(clocks: &[(usize, Edge)], kind: ProcessKind) -> bool
     ensures { (q : m.Process) → IsKind q kind → IsTrue result ↔ ((n : ℕ) (edge : m.Edge) (reset : Option m.Reset) → q.kind ≡ m.Clocked n edge reset → Contains clocks.now (n, edge)) }
 {
     match kind {
-        Kind::Combinational => true,
-        Kind::Clocked(clocking) => is_listed(clocks, clocking.clock, clocking.edge),
-        Kind::Mixed => true,
+        ProcessKind::Combinational => true,
+        ProcessKind::Clocked(clocking) => is_listed(clocks, clocking.clock, clocking.edge),
+        ProcessKind::Mixed => true,
     }
 }
 

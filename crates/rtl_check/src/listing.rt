@@ -2,16 +2,16 @@
 
 ghost use Rattle.std.specs.Prelude.{◌<◌, length, OnOk};
 ghost use Rattle.rtl_check.specs.Views.{core, AreKinds};
-ghost use Rattle.rtl_check.specs.Listing.{numbered, one_place, Adds};
+ghost use Rattle.rtl_check.specs.Listing.{numbered, one_place, AddsFaults};
 
 use crate::fault::CheckFault;
-use rtl_net_facts::Kind;
+use rtl_net_facts::ProcessKind;
 use rtl_net::{Net, NoMemory};
 
 /// Appends the fault of a net that has two sources or more.
 fn two_drivers_at(net: &Net, number: usize, faults: &mut Vec<CheckFault>) -> Result<(), NoMemory>
     requires { number < length net.now.types }
-    ensures { OnOk result (Adds (core net.now) (one_place 1 number) faults.old.items faults.new.items) }
+    ensures { OnOk result (AddsFaults (core net.now) (one_place 1 number) faults.old.items faults.new.items) }
 {
     let sources = net.sources(number);
     if sources.len() < 2 {
@@ -27,7 +27,7 @@ fn two_drivers_at(net: &Net, number: usize, faults: &mut Vec<CheckFault>) -> Res
 
 /// Appends the faults of nets that have two sources or more.
 pub fn two_drivers(net: &Net, faults: &mut Vec<CheckFault>) -> Result<(), NoMemory>
-    ensures { OnOk result (Adds (core net.now) (numbered 1) faults.old.items faults.new.items) }
+    ensures { OnOk result (AddsFaults (core net.now) (numbered 1) faults.old.items faults.new.items) }
 {
     for number in 0..net.nets() {
         two_drivers_at(net, number, faults)?;
@@ -38,18 +38,18 @@ pub fn two_drivers(net: &Net, faults: &mut Vec<CheckFault>) -> Result<(), NoMemo
 /// Appends the fault of a process that is neither clocked nor combinational.
 fn mixed_at(
     net: &Net,
-    kinds: &[Kind],
+    kinds: &[ProcessKind],
     process: usize,
     faults: &mut Vec<CheckFault>,
 ) -> Result<(), NoMemory>
     requires kinds { AreKinds (core net.now) kinds.now }
     requires there { process < length kinds.now }
-    ensures { OnOk result (Adds (core net.now) (one_place 2 process) faults.old.items faults.new.items) }
+    ensures { OnOk result (AddsFaults (core net.now) (one_place 2 process) faults.old.items faults.new.items) }
 {
     match kinds[process] {
-        Kind::Combinational => Ok(()),
-        Kind::Clocked(_) => Ok(()),
-        Kind::Mixed => {
+        ProcessKind::Combinational => Ok(()),
+        ProcessKind::Clocked(_) => Ok(()),
+        ProcessKind::Mixed => {
             faults.push(CheckFault::Mixed { process })?;
             Ok(())
         }
@@ -57,9 +57,9 @@ fn mixed_at(
 }
 
 /// Appends the faults of processes that are neither clocked nor combinational.
-pub fn mixed(net: &Net, kinds: &[Kind], faults: &mut Vec<CheckFault>) -> Result<(), NoMemory>
+pub fn mixed(net: &Net, kinds: &[ProcessKind], faults: &mut Vec<CheckFault>) -> Result<(), NoMemory>
     requires { AreKinds (core net.now) kinds.now }
-    ensures { OnOk result (Adds (core net.now) (numbered 2) faults.old.items faults.new.items) }
+    ensures { OnOk result (AddsFaults (core net.now) (numbered 2) faults.old.items faults.new.items) }
 {
     for process in 0..kinds.len() {
         mixed_at(net, kinds, process, faults)?;

@@ -1,7 +1,7 @@
 //! Whether a report is the report on a net, without memory.
 
 ghost use Rattle.std.specs.Prelude.{◌≡◌, ◌↔◌, ◌<◌, length, IsTrue};
-ghost use Rattle.rtl_model.specs.simulation.Net as m;
+ghost use Rattle.rtl_model.specs.simulation.Netlist as m;
 ghost use Rattle.rtl_model.specs.simulation.Levels as l;
 ghost use Rattle.rtl_model.specs.simulation.Report as r;
 ghost use Rattle.rtl_check.specs.Views.{core};

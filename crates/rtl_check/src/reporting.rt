@@ -1,4 +1,4 @@
-//! The report on an accepted net.
+//! The report on an accepted netlist.
 
 ghost use Rattle.std.specs.Prelude.{IfOk, OnOk};
 ghost use Rattle.rtl_model.specs.simulation.Accepted.{IsAccepted};
@@ -9,14 +9,14 @@ ghost use Rattle.rtl_check.specs.Verdicts.{IsReportOf};
 
 use crate::bound::bound_of;
 use crate::clock_edges::clock_edges;
-use rtl_net_facts::Kind;
+use rtl_net_facts::ProcessKind;
 use rtl_check_levels::{Levels, tables_are_of_nets};
 use rtl_model::simulation_laws;
 use rtl_net::{Net, NoMemory};
 use std::alloc::Global;
 use vhdl_values::Edge;
 
-/// What an accepted net's simulation keeps to.
+/// What an accepted netlist's simulation keeps to.
 #[derive(Drop)]
 pub struct Report {
     /// The level of each combinational process: the length of the longest chain that ends with it, each but the first
@@ -34,7 +34,7 @@ pub struct Report {
 pub fn report_of(
     alloc: Global,
     net: &Net,
-    kinds: &[Kind],
+    kinds: &[ProcessKind],
     clocks: &[usize],
     levels: Levels,
 ) -> Result<Report, NoMemory>

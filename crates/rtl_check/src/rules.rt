@@ -2,13 +2,13 @@
 
 ghost use Rattle.std.specs.Prelude.{◌<◌, length, OnOk};
 ghost use Rattle.rtl_check.specs.Views.{core, AreKinds};
-ghost use Rattle.rtl_check.specs.Listing.{numbered, one_place, Adds};
+ghost use Rattle.rtl_check.specs.Listing.{numbered, one_place, AddsFaults};
 ghost use Rattle.rtl_check.specs.Rules.{rule_number, Pushes, AreClockNets};
 
 use crate::breaking::breaking_nets;
 use crate::fault::CheckFault;
 use crate::rule::Rule;
-use rtl_net_facts::Kind;
+use rtl_net_facts::ProcessKind;
 use rtl_net::{Net, NoMemory};
 use std::alloc::Global;
 
@@ -31,7 +31,7 @@ fn push_faults(
 fn rule_at(
     alloc: Global,
     net: &Net,
-    kinds: &[Kind],
+    kinds: &[ProcessKind],
     clocks: &[usize],
     rule: Rule,
     process: usize,
@@ -40,7 +40,7 @@ fn rule_at(
     requires kinds { AreKinds (core net.now) kinds.now }
     requires clocks { AreClockNets (core net.now) clocks.now }
     requires there { process < length kinds.now }
-    ensures { OnOk result (Adds (core net.now) (one_place (rule_number rule) process) faults.old.items faults.new.items) }
+    ensures { OnOk result (AddsFaults (core net.now) (one_place (rule_number rule) process) faults.old.items faults.new.items) }
 {
     let _nets = net.nets();
     let inputs = net.inputs();
@@ -54,14 +54,14 @@ fn rule_at(
 pub fn by_rule(
     alloc: Global,
     net: &Net,
-    kinds: &[Kind],
+    kinds: &[ProcessKind],
     clocks: &[usize],
     rule: Rule,
     faults: &mut Vec<CheckFault>,
 ) -> Result<(), NoMemory>
     requires kinds { AreKinds (core net.now) kinds.now }
     requires clocks { AreClockNets (core net.now) clocks.now }
-    ensures { OnOk result (Adds (core net.now) (numbered (rule_number rule)) faults.old.items faults.new.items) }
+    ensures { OnOk result (AddsFaults (core net.now) (numbered (rule_number rule)) faults.old.items faults.new.items) }
 {
     for process in 0..kinds.len() {
         rule_at(alloc, net, kinds, clocks, rule, process, faults)?;

@@ -1,13 +1,13 @@
 //! Whether levels and froms are those of a net, by comparing each process with those that drive what it is sensitive to.
 
 ghost use Rattle.std.specs.Prelude.{◌≡◌, ◌<◌, ◌↔◌, length, slice_index_or, IsTrue, None};
-ghost use Rattle.rtl_model.specs.simulation.Net as m;
+ghost use Rattle.rtl_model.specs.simulation.Netlist as m;
 ghost use Rattle.rtl_net.specs.Nets.{source_view};
 ghost use Rattle.rtl_check.specs.Views.{core, IsKind};
 ghost use Rattle.rtl_check.specs.Standing as s;
 
 use crate::kinds::kind_at;
-use rtl_net_facts::Kind;
+use rtl_net_facts::ProcessKind;
 use rtl_net::{Net, Source, nets_meet_the_laws};
 
 /// The greatest level of some processes, and the lowest that has it; 0 and none where none has a level.
@@ -111,18 +111,18 @@ fn are_same(from: Option<usize>, other: Option<usize>) -> bool
 }
 
 /// Whether a level and a from are what a process of this kind has.
-fn stands_as(highest: Highest, kind: Kind, level: Option<u32>, from: Option<usize>) -> bool
+fn stands_as(highest: Highest, kind: ProcessKind, level: Option<u32>, from: Option<usize>) -> bool
     ensures { (q : m.Process) → IsKind q kind → IsTrue result ↔ s.StandsAs highest q.kind level from }
 {
     match kind {
-        Kind::Combinational => match level {
+        ProcessKind::Combinational => match level {
             None => false,
             Some(level) => level > 0
                 && level - 1 == highest.level
                 && are_same(from, highest.process),
         },
-        Kind::Clocked(_) => level.is_none() && from.is_none(),
-        Kind::Mixed => level.is_none() && from.is_none(),
+        ProcessKind::Clocked(_) => level.is_none() && from.is_none(),
+        ProcessKind::Mixed => level.is_none() && from.is_none(),
     }
 }
 

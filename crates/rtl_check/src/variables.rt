@@ -6,7 +6,7 @@ ghost use Rattle.rtl_model.specs.simulation.Faults.{AreStored};
 ghost use Rattle.rtl_model.specs.bodies.Stored.{stores_element};
 ghost use Rattle.rtl_net.specs.Bodies.{statements_of};
 ghost use Rattle.rtl_check.specs.Views.{core, fault_view};
-ghost use Rattle.rtl_check.specs.Listing.{numbered, one_place, Adds};
+ghost use Rattle.rtl_check.specs.Listing.{numbered, one_place, AddsFaults};
 ghost use Rattle.rtl_check.specs.Places.{place_in, places_from, widths, added_if};
 
 use crate::fault::CheckFault;
@@ -16,23 +16,23 @@ use std::alloc::Global;
 
 /// An element of a process's variables: the variable's number, and the element's place from the left.
 #[derive(Clone, Copy)]
-pub struct Place {
+pub struct VariableElement {
     pub variable: usize,
     pub place: usize,
 }
 
 /// Appends so many elements of a variable.
-fn push_places(variable: usize, len: usize, places: &mut Vec<Place>) -> Result<(), NoMemory>
+fn push_places(variable: usize, len: usize, places: &mut Vec<VariableElement>) -> Result<(), NoMemory>
     ensures { OnOk result (places.new.items ≡ places.old.items ++ map (place_in variable) (range_with_len 0 len)) }
 {
     for place in 0..len {
-        places.push(Place { variable, place })?;
+        places.push(VariableElement { variable, place })?;
     }
     Ok(())
 }
 
 /// The elements of some variables, in order of their numbers.
-fn places_of(alloc: Global, variables: &[Variable]) -> Result<Vec<Place>, NoMemory>
+fn places_of(alloc: Global, variables: &[Variable]) -> Result<Vec<VariableElement>, NoMemory>
     ensures { IfOk result (λ v. v.items ≡ places_from 0 (widths variables.now)) }
 {
     let mut places = Vec::new(alloc);
@@ -47,7 +47,7 @@ fn push_stored(
     body: &[Statement],
     process: usize,
     element: usize,
-    at: Place,
+    at: VariableElement,
     faults: &mut Vec<CheckFault>,
 ) -> Result<(), NoMemory>
     ensures { OnOk result (faults.new.items ≡ faults.old.items ++ added_if (stores_element element (statements_of body.now)) (CheckFault.StoredVariable process at.variable at.place)) }
@@ -70,7 +70,7 @@ fn stored_at(
     faults: &mut Vec<CheckFault>,
 ) -> Result<(), NoMemory>
     requires { process < length net.now.processes }
-    ensures { OnOk result (Adds (core net.now) (one_place 9 process) faults.old.items faults.new.items) }
+    ensures { OnOk result (AddsFaults (core net.now) (one_place 9 process) faults.old.items faults.new.items) }
 {
     let processes = net.processes();
     let each = &processes[process];
@@ -87,7 +87,7 @@ pub fn stored_variables(
     net: &Net,
     faults: &mut Vec<CheckFault>,
 ) -> Result<(), NoMemory>
-    ensures { OnOk result (Adds (core net.now) (numbered 9) faults.old.items faults.new.items) }
+    ensures { OnOk result (AddsFaults (core net.now) (numbered 9) faults.old.items faults.new.items) }
 {
     let processes = net.processes();
     for process in 0..processes.len() {

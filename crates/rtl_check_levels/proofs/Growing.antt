@@ -5,7 +5,7 @@ use Rattle.std.specs.Global.{Vec}
 use Rattle.rtl_check_levels.specs.Feeding.{Table, Feeds}
 use Rattle.rtl_check_levels.specs.Levels.{level_of}
 use Rattle.rtl_check_levels.specs.declared.finding.Finding.{Finding}
-use Rattle.rtl_check_levels.specs.Finding.{Grows, IsPlaced, AreReleased, waiters, work_left, open_count}
+use Rattle.rtl_check_levels.specs.Finding.{Grows, IsRanked, AreReleased, waiters, work_left, open_count}
 
 -- ---- options
 
@@ -40,7 +40,7 @@ grows_on a b c g h = record {
     le_on : {i j k : ℕ} → j ≤ i → k ≤ j → k ≤ i
     le_on x y = omega arith
 
-pub placed_grows : (table : Table) (a b : Finding) (q : ℕ) → Grows a b → IsPlaced table a q → IsPlaced table b q
+pub placed_grows : (table : Table) (a b : Finding) (q : ℕ) → Grows a b → IsRanked table a q → IsRanked table b q
 placed_grows table a b q g h inside unplaced = go (cases_of (level_of a.levels.items q))
   where
     go : (level_of a.levels.items q ≡ None) ⊎ ((x : ℕ) × (level_of a.levels.items q ≡ Some x)) → (p : ℕ) × Contains (waiters b.waiting.items p) q × Feeds table p q
@@ -50,11 +50,11 @@ placed_grows table a b q g h inside unplaced = go (cases_of (level_of a.levels.i
 -- ---- those that are released
 
 module _ (table : Table) (old mid new : Finding) (released : List ℕ) (r : ℕ) (a : AreReleased old mid released) (g : Grows mid new) where
-  pub released_placed : All (IsPlaced table new) released → IsPlaced table old r → IsPlaced table new r
+  pub released_placed : All (IsRanked table new) released → IsRanked table old r → IsRanked table new r
   released_placed all h inside unplaced = go (cases_of (level_of old.levels.items r))
     where
       listed : Contains released r → (p : ℕ) × Contains (waiters new.waiting.items p) r × Feeds table p r
-      listed (k, l, e) = subst (IsPlaced table new) e (all k r l) inside unplaced
+      listed (k, l, e) = subst (IsRanked table new) e (all k r l) inside unplaced
 
       moved : (p : ℕ) → Feeds table p r → Contains (waiters mid.waiting.items p) r ⊎ Contains released r → (p : ℕ) × Contains (waiters new.waiting.items p) r × Feeds table p r
       moved p k (inl c) = (p, g.waits p r c, k)
@@ -76,7 +76,7 @@ module _ (table : Table) (old mid new : Finding) (released : List ℕ) (r : ℕ)
       go : {o p q s t : ℕ} → p ≡ o → s < t → q ≤ 2 * p + s → q < 2 * o + t
       go e l m = omega arith
 
-pub same_placed : (table : Table) (old new : Finding) → new.levels ≡ old.levels → new.waiting ≡ old.waiting → (r : ℕ) → IsPlaced table old r → IsPlaced table new r
+pub same_placed : (table : Table) (old new : Finding) → new.levels ≡ old.levels → new.waiting ≡ old.waiting → (r : ℕ) → IsRanked table old r → IsRanked table new r
 same_placed table old new e f r h inside unplaced =
     let (p, c, k) = h inside (subst (λ (ls : Vec (Option ℕ)). level_of ls.items r ≡ None) e unplaced) in
     (p, subst (λ (ws : Vec (Vec ℕ)). Contains (waiters ws.items p) r) (sym f) c, k)

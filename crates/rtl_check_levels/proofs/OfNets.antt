@@ -1,7 +1,7 @@
 -- The levels of a table, in the words of nets.
 use Rattle.std.proofs.Common.{◌≡◌, ℕ, suc, ◌<◌, ◌≤◌, [], ◌∷◌, List, get_or, Option, Some, None, sym, ap, subst, refl, ◌∙◌, arith}
 use Rattle.std.specs.Prelude.{MatchOption, IfSome}
-use Rattle.rtl_model.specs.simulation.Net.{Net, Edge, Combinational, Clocked, IsCombinational, IsClockedBy}
+use Rattle.rtl_model.specs.simulation.Netlist.{Netlist, Edge, Combinational, Clocked, IsCombinational, IsClockedBy}
 use Rattle.rtl_model.specs.simulation.Accepted as net
 use Rattle.rtl_model.specs.simulation.Levels.{bound}
 use Rattle.rtl_model.specs.simulation.Report.{AreClocks, ShowReport}
@@ -16,7 +16,7 @@ some_same e = cc
 apart : {o : Option ℕ} {a : ℕ} → o ≡ None → o ≡ Some a → ⊥
 apart a b = cc
 
-module _ (n : Net) (table : Table) (levels from : List (Option ℕ)) (greatest : ℕ) (t : IsTableOf n table) (h : AreLevels table levels from greatest) where
+module _ (n : Netlist) (table : Table) (levels from : List (Option ℕ)) (greatest : ℕ) (t : IsTableOf n table) (h : AreLevels table levels from greatest) where
   -- what is known of a combinational process that has this level
   stands : (q below : ℕ) → IsCombinational n q → level_of levels q ≡ Some (suc below) → IsHighest (feeders_of table q) levels below (get_or from q None)
   stands q below c e =
@@ -89,7 +89,7 @@ module _ (n : Net) (table : Table) (levels from : List (Option ℕ)) (greatest :
 
 -- ---- loops
 
-pub loop_of : (n : Net) (table : Table) → IsTableOf n table → (round : List ℕ) → IsRound table round → net.IsLoop n round
+pub loop_of : (n : Netlist) (table : Table) → IsTableOf n table → (round : List ℕ) → IsRound table round → net.IsLoop n round
 loop_of n table t [] h = h
 loop_of n table t (p ∷ more) h = fed p more p h
   where

@@ -63,8 +63,8 @@ pub record Grows (old new : Finding) : Type 0 where
   pub less : work_left new ≤ work_left old
 
 -- q has its level or waits for it
-abbrev pub IsPlaced : Table → Finding → (q : ℕ) → Type 0
-IsPlaced table f q = IsIn table q → level_of f.levels.items q ≡ None → Waits table f.waiting.items q
+abbrev pub IsRanked : Table → Finding → (q : ℕ) → Type 0
+IsRanked table f q = IsIn table q → level_of f.levels.items q ≡ None → Waits table f.waiting.items q
 
 -- these are all that waited for a process that was ready
 pub record AreReleased (old new : Finding) (released : List ℕ) : Type 0 where

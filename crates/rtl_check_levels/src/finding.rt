@@ -3,7 +3,7 @@
 ghost use Rattle.std.specs.Prelude.{◌≡◌, ◌≢◌, ℕ, ◌+◌, ◌<◌, ◌^◌, List, [], ◌∷◌, ◌++◌, All, length, None, Some, IsSome, IfOk, OnOk, IfSome, IfNone};
 ghost use Rattle.rtl_check_levels.specs.Feeding.{IsClosed, IsIn, feeders_of};
 ghost use Rattle.rtl_check_levels.specs.Levels.{level_of};
-ghost use Rattle.rtl_check_levels.specs.Finding.{IsFinding, Grows, IsPlaced, AreReleased};
+ghost use Rattle.rtl_check_levels.specs.Finding.{IsFinding, Grows, IsRanked, AreReleased};
 
 use crate::highest::{first_open, highest_of};
 use std::alloc::{AllocError, Global};
@@ -80,7 +80,7 @@ impl Finding {
         requires there { q < length table.now }
         ensures sound { OnOk result (IsFinding table.now self.new) }
         ensures grows { OnOk result (Grows self.old self.new) }
-        ensures placed { OnOk result (IsPlaced table.now self.new q) }
+        ensures placed { OnOk result (IsRanked table.now self.new q) }
     {
         let Some(feeders) = &table[q] else {
             return Ok(());
@@ -109,7 +109,7 @@ impl Finding {
         requires there { All (λ q. q < length table.now) processes.now }
         ensures sound { OnOk result (IsFinding table.now self.new) }
         ensures grows { OnOk result (Grows self.old self.new) }
-        ensures placed { OnOk result (All (IsPlaced table.now self.new) processes.now) }
+        ensures placed { OnOk result (All (IsRanked table.now self.new) processes.now) }
     {
         for &q in processes {
             self.place(table, q)?;
@@ -135,7 +135,7 @@ pub fn find(alloc: Global, table: &[Option<Vec<usize>>]) -> Result<Finding, Allo
     requires few { length table.now < 2 ^ 32 }
     ensures sound { IfOk result (λ f. IsFinding table.now f) }
     ensures done { IfOk result (λ f. f.ready.items ≡ []) }
-    ensures placed { IfOk result (λ f. (q : ℕ) → IsPlaced table.now f q) }
+    ensures placed { IfOk result (λ f. (q : ℕ) → IsRanked table.now f q) }
 {
     let mut finding = Finding::new(alloc, table)?;
     for q in 0..table.len() {

@@ -1,6 +1,6 @@
 -- The parts of a statement are ready where it is, and what they do is what it does.
 use Rattle.std.proofs.Common.{◌≡◌, ℕ, ◌+◌, ◌<◌, Vec, Global, Option, Some, None, List, [], length, map, drop, get_or, sym, ap, ◌∙◌, subst, All}
-use Rattle.rtl_model.specs.bodies.Body as m
+use Rattle.rtl_model.specs.bodies.Body as bodies
 use Rattle.rtl_model.specs.bodies.Values.{Seen, value_of}
 use Rattle.rtl_model.specs.bodies.Effect.{effect, stmt_effect, branches_effect, alternatives_effect}
 use Rattle.rtl_model.specs.bodies.Variables.{variables_after, stmt_variables, branches_variables, alternatives_variables}
@@ -28,40 +28,40 @@ module _ (nets : Valuations) (o : Outcome) where
   abbrev DoesAll : List Statement → Outcome → Type 0
   DoesAll ss new = Does (effect seen (statements_of ss)) (variables_after seen (statements_of ss)) o new
 
-  abbrev DoesOne : m.Stmt → Outcome → Type 0
+  abbrev DoesOne : bodies.Stmt → Outcome → Type 0
   DoesOne x new = Does (stmt_effect seen x) (stmt_variables seen x) o new
 
-  abbrev DoesIf : m.Branches → Outcome → Type 0
+  abbrev DoesIf : bodies.Branches → Outcome → Type 0
   DoesIf bs new = Does (branches_effect seen bs) (branches_variables seen bs) o new
 
-  abbrev DoesCase : List ℕ → m.Alternatives → Outcome → Type 0
+  abbrev DoesCase : List ℕ → bodies.Alternatives → Outcome → Type 0
   DoesCase value alts new = Does (alternatives_effect seen value alts) (alternatives_variables seen value alts) o new
 
   -- ---- kinds of statements
 
-  pub part : (x : Statement) (v : m.Stmt) → IsReady nets o (λ scope. FitsStmt scope (statement_view x)) → statement_view x ≡ v → IsReady nets o (λ scope. FitsStmt scope v)
-  part x v w e = subst (λ (y : m.Stmt). IsReady nets o (λ scope. FitsStmt scope y)) e w
+  pub part : (x : Statement) (v : bodies.Stmt) → IsReady nets o (λ scope. FitsStmt scope (statement_view x)) → statement_view x ≡ v → IsReady nets o (λ scope. FitsStmt scope v)
+  part x v w e = subst (λ (y : bodies.Stmt). IsReady nets o (λ scope. FitsStmt scope y)) e w
 
-  pub whole : (x : Statement) (v : m.Stmt) (new : Outcome) → statement_view x ≡ v → DoesOne v new → DoesOne (statement_view x) new
-  whole x v new e d = subst (λ (y : m.Stmt). DoesOne y new) (sym e) d
+  pub whole : (x : Statement) (v : bodies.Stmt) (new : Outcome) → statement_view x ≡ v → DoesOne v new → DoesOne (statement_view x) new
+  whole x v new e d = subst (λ (y : bodies.Stmt). DoesOne y new) (sym e) d
 
   pub if_ready : (x : Statement) (branches : Vec Branch Global) (otherwise : Option (Vec Statement Global)) (bs : List Branch)
       → IsReady nets o (λ scope. FitsStmt scope (statement_view x)) → x ≡ s.If branches otherwise → bs ≡ branches.items → IsReady nets o (λ scope. FitsBranches scope (branches_of (else_of otherwise) bs))
   if_ready x branches otherwise bs w is e =
       subst (λ (ys : List Branch). IsReady nets o (λ scope. FitsBranches scope (branches_of (else_of otherwise) ys))) (sym e)
-      (part x (m.if_of (branches_of (else_of otherwise) branches.items)) w (ap statement_view is ∙ view_if branches otherwise))
+      (part x (bodies.if_of (branches_of (else_of otherwise) branches.items)) w (ap statement_view is ∙ view_if branches otherwise))
 
   pub if_done : (x : Statement) (branches : Vec Branch Global) (otherwise : Option (Vec Statement Global)) (bs : List Branch) (new : Outcome)
       → x ≡ s.If branches otherwise → bs ≡ branches.items → DoesIf (branches_of (else_of otherwise) bs) new → DoesOne (statement_view x) new
   if_done x branches otherwise bs new is e d =
-      whole x (m.if_of (branches_of (else_of otherwise) branches.items)) new (ap statement_view is ∙ view_if branches otherwise)
+      whole x (bodies.if_of (branches_of (else_of otherwise) branches.items)) new (ap statement_view is ∙ view_if branches otherwise)
       (subst (λ (ys : List Branch). DoesIf (branches_of (else_of otherwise) ys) new) e d)
 
   pub case_ready : (x : Statement) (selector : Value) (alternatives : Vec Alternative Global) (others : Vec Statement Global) (xs : List Alternative) (ss : List Statement)
       → IsReady nets o (λ scope. FitsStmt scope (statement_view x)) → x ≡ s.Case selector alternatives others → xs ≡ alternatives.items → ss ≡ others.items
       → IsReady nets o (λ scope. FitsSomehow scope (alternatives_of (statements_of ss) xs))
   case_ready x selector alternatives others xs ss w is e f =
-      let v = m.case_of (value_view selector) (alternatives_of (statements_of others.items) alternatives.items) in
+      let v = bodies.case_of (value_view selector) (alternatives_of (statements_of others.items) alternatives.items) in
       subst (λ (ys : List Alternative). IsReady nets o (λ scope. FitsSomehow scope (alternatives_of (statements_of ss) ys))) (sym e)
       (subst (λ (ts : List Statement). IsReady nets o (λ scope. FitsSomehow scope (alternatives_of (statements_of ts) alternatives.items))) (sym f)
       (within-map seen (λ scope. (length o.entries ≡ length scope.targets) × FitsStmt scope v)
@@ -72,7 +72,7 @@ module _ (nets : Valuations) (o : Outcome) where
       → x ≡ s.Case selector alternatives others → xs ≡ alternatives.items → ss ≡ others.items → value ≡ value_of seen (value_view selector)
       → DoesCase value (alternatives_of (statements_of ss) xs) new → DoesOne (statement_view x) new
   case_done x selector alternatives others xs ss value new is e f same d =
-      whole x (m.case_of (value_view selector) (alternatives_of (statements_of others.items) alternatives.items)) new (ap statement_view is ∙ view_case selector alternatives others)
+      whole x (bodies.case_of (value_view selector) (alternatives_of (statements_of others.items) alternatives.items)) new (ap statement_view is ∙ view_case selector alternatives others)
       (subst (λ (v : List ℕ). DoesCase v (alternatives_of (statements_of others.items) alternatives.items) new) same
       (subst (λ (ts : List Statement). DoesCase value (alternatives_of (statements_of ts) alternatives.items) new) f
       (subst (λ (ys : List Alternative). DoesCase value (alternatives_of (statements_of ss) ys) new) e d)))
@@ -80,15 +80,15 @@ module _ (nets : Valuations) (o : Outcome) where
   -- ---- a sequence
 
   module _ (ss : List Statement) (i : ℕ) (x : Statement) (l : i < length ss) (is : x ≡ get_or ss i x) where
-    abbrev rest : m.Stmts
+    abbrev rest : bodies.Stmts
     rest = statements_of (drop (i + 1) ss)
 
-    all_ready : IsReady nets o (λ scope. Fits scope (statements_of (drop i ss))) → IsReady nets o (λ scope. Fits scope (m.step (statement_view x) rest))
+    all_ready : IsReady nets o (λ scope. Fits scope (statements_of (drop i ss))) → IsReady nets o (λ scope. Fits scope (bodies.step (statement_view x) rest))
     all_ready w = subst (λ (ys : List Statement). IsReady nets o (λ scope. Fits scope (statements_of ys))) (rest_at ss i x l is) w
 
     pub first_ready : IsReady nets o (λ scope. Fits scope (statements_of (drop i ss))) → IsReady nets o (λ scope. FitsStmt scope (statement_view x))
     first_ready w =
-        within-map seen (λ scope. (length o.entries ≡ length scope.targets) × Fits scope (m.step (statement_view x) rest))
+        within-map seen (λ scope. (length o.entries ≡ length scope.targets) × Fits scope (bodies.step (statement_view x) rest))
         (λ scope. (length o.entries ≡ length scope.targets) × FitsStmt scope (statement_view x)) (λ scope h. (h.0, h.1.0)) (all_ready w)
 
     module _ (next : Outcome) (D : DoesOne (statement_view x) next) where
@@ -103,7 +103,7 @@ module _ (nets : Valuations) (o : Outcome) where
 
   -- ---- an if
 
-  module _ (last : m.Branches) (bs : List Branch) where
+  module _ (last : bodies.Branches) (bs : List Branch) where
     pub tests_ready : (sight : Seen) → sight ≡ seen → IsReady nets o (λ scope. FitsBranches scope (branches_of last bs)) → Within sight (λ scope. All (λ (b : Branch). FitsTest scope (test_view b.test)) bs)
     tests_ready sight e w =
         subst (λ (v : Seen). Within v (λ scope. All (λ (b : Branch). FitsTest scope (test_view b.test)) bs)) (sym e)
@@ -152,7 +152,7 @@ module _ (nets : Valuations) (o : Outcome) where
 
   -- ---- a case
 
-  module _ (last : m.Stmts) (xs : List Alternative) where
+  module _ (last : bodies.Stmts) (xs : List Alternative) where
     pub alternative_ready : (k : ℕ) (d : Alternative) (ss : List Statement) → k < length xs → ss ≡ (get_or xs k d).statements.items
         → IsReady nets o (λ scope. FitsSomehow scope (alternatives_of last xs)) → IsReady nets o (λ scope. Fits scope (statements_of ss))
     alternative_ready k d ss l e w =

@@ -1,7 +1,7 @@
 -- Which branch of an if is taken, and which alternative of a case.
 use Rattle.std.proofs.Common.{◌≡◌, ℕ, zero, suc, ◌<◌, Bool, true, false, cond, ◌||◌, List, [], ◌∷◌, length, map, get_or, refl, ap, ◌∙◌, arith, All}
 use Rattle.std.specs.List.{list_any}
-use Rattle.rtl_model.specs.bodies.Body as m
+use Rattle.rtl_model.specs.bodies.Body as bodies
 use Rattle.rtl_model.specs.bodies.Values.{Seen}
 use Rattle.rtl_model.specs.bodies.Tests.{same}
 use Rattle.rtl_model.specs.bodies.Effect.{Entries, effect, branches_effect, alternatives_effect, chosen}
@@ -30,20 +30,20 @@ none_later t tests h j l = h (suc j) (omega arith)
 -- ---- an if
 
 -- branches do what these do
-pub record Lead (seen : Seen) (bs : m.Branches) (e : Entries) (variables : List ℕ) : Type 0 where
+pub record Lead (seen : Seen) (bs : bodies.Branches) (e : Entries) (variables : List ℕ) : Type 0 where
   pub effect_is : branches_effect seen bs ≡ e
   pub variables_are : branches_variables seen bs ≡ variables
 
-module _ (seen : Seen) (last : m.Branches) where
-  met_first : (b : Branch) (bs : m.Branches) → met_by seen b ≡ true
-      → Lead seen (m.branch (test_view b.test) (statements_of b.statements.items) bs) (effect seen (statements_of b.statements.items)) (variables_after seen (statements_of b.statements.items))
+module _ (seen : Seen) (last : bodies.Branches) where
+  met_first : (b : Branch) (bs : bodies.Branches) → met_by seen b ≡ true
+      → Lead seen (bodies.branch (test_view b.test) (statements_of b.statements.items) bs) (effect seen (statements_of b.statements.items)) (variables_after seen (statements_of b.statements.items))
   met_first b bs h = record {
     effect_is = take_first (met_by seen b) (effect seen (statements_of b.statements.items)) (branches_effect seen bs) h;
     variables_are = ap (λ t. cond t (variables_after seen (statements_of b.statements.items)) (branches_variables seen bs)) h;
   }
 
-  met_later : (b : Branch) (bs : m.Branches) (e : Entries) (variables : List ℕ) → met_by seen b ≡ false → Lead seen bs e variables
-      → Lead seen (m.branch (test_view b.test) (statements_of b.statements.items) bs) e variables
+  met_later : (b : Branch) (bs : bodies.Branches) (e : Entries) (variables : List ℕ) → met_by seen b ≡ false → Lead seen bs e variables
+      → Lead seen (bodies.branch (test_view b.test) (statements_of b.statements.items) bs) e variables
   met_later b bs e variables h more = record {
     effect_is = take_later (met_by seen b) (effect seen (statements_of b.statements.items)) (branches_effect seen bs) h ∙ more.effect_is;
     variables_are = ap (λ t. cond t (variables_after seen (statements_of b.statements.items)) (branches_variables seen bs)) h ∙ more.variables_are;
@@ -60,7 +60,7 @@ module _ (seen : Seen) (last : m.Branches) where
   no_branch_taken [] h = record { effect_is = refl; variables_are = refl }
   no_branch_taken (b ∷ bs) h = met_later b (branches_of last bs) _ _ (h 0 (omega arith)) (no_branch_taken bs (none_later (met_by seen b) (map (met_by seen) bs) h))
 
-module _ (scope : Scope) (last : m.Branches) where
+module _ (scope : Scope) (last : bodies.Branches) where
   pub branch_fits : (bs : List Branch) (k : ℕ) (d : Branch) → k < length bs → FitsBranches scope (branches_of last bs)
       → FitsTest scope (test_view (get_or bs k d).test) × Fits scope (statements_of (get_or bs k d).statements.items)
   branch_fits [] k d l h = absurd (omega arith)
@@ -76,7 +76,7 @@ module _ (scope : Scope) (last : m.Branches) where
 
 -- ---- a case
 
-pub record Choose (seen : Seen) (value : List ℕ) (alts : m.Alternatives) (body : m.Stmts) : Type 0 where
+pub record Choose (seen : Seen) (value : List ℕ) (alts : bodies.Alternatives) (body : bodies.Stmts) : Type 0 where
   pub effect_is : alternatives_effect seen value alts ≡ effect seen body
   pub variables_are : alternatives_variables seen value alts ≡ variables_after seen body
 
@@ -84,9 +84,9 @@ any_map : {X Y : Type 0} (p : Y → Bool) (f : X → Y) (xs : List X) → list_a
 any_map p f [] = refl
 any_map p f (x ∷ xs) = ap (λ b. p (f x) || b) (any_map p f xs)
 
-module _ (seen : Seen) (value : List ℕ) (last : m.Stmts) where
-  choose_first : (a : Alternative) (alts : m.Alternatives) → chosen_by value a ≡ true
-      → Choose seen value (m.alternative (map choice_view a.choices.items) (statements_of a.statements.items) alts) (statements_of a.statements.items)
+module _ (seen : Seen) (value : List ℕ) (last : bodies.Stmts) where
+  choose_first : (a : Alternative) (alts : bodies.Alternatives) → chosen_by value a ≡ true
+      → Choose seen value (bodies.alternative (map choice_view a.choices.items) (statements_of a.statements.items) alts) (statements_of a.statements.items)
   choose_first a alts h =
       let t = any_map (same value) choice_view a.choices.items ∙ h in
       record {
@@ -94,8 +94,8 @@ module _ (seen : Seen) (value : List ℕ) (last : m.Stmts) where
         variables_are = ap (λ b. cond b (variables_after seen (statements_of a.statements.items)) (alternatives_variables seen value alts)) t;
       }
 
-  choose_later : (a : Alternative) (alts : m.Alternatives) (body : m.Stmts) → chosen_by value a ≡ false → Choose seen value alts body
-      → Choose seen value (m.alternative (map choice_view a.choices.items) (statements_of a.statements.items) alts) body
+  choose_later : (a : Alternative) (alts : bodies.Alternatives) (body : bodies.Stmts) → chosen_by value a ≡ false → Choose seen value alts body
+      → Choose seen value (bodies.alternative (map choice_view a.choices.items) (statements_of a.statements.items) alts) body
   choose_later a alts body h more =
       let t = any_map (same value) choice_view a.choices.items ∙ h in
       record {
@@ -114,7 +114,7 @@ module _ (seen : Seen) (value : List ℕ) (last : m.Stmts) where
   others_taken [] h = record { effect_is = refl; variables_are = refl }
   others_taken (a ∷ xs) h = choose_later a (alternatives_of last xs) _ (h 0 (omega arith)) (others_taken xs (none_later (chosen_by value a) (map (chosen_by value) xs) h))
 
-module _ (scope : Scope) (t : ElementType) (len : ℕ) (last : m.Stmts) where
+module _ (scope : Scope) (t : ElementType) (len : ℕ) (last : bodies.Stmts) where
   pub alternative_fits : (xs : List Alternative) (k : ℕ) (d : Alternative) → k < length xs → FitsAlternatives scope t len (alternatives_of last xs)
       → Fits scope (statements_of (get_or xs k d).statements.items)
   alternative_fits [] k d l h = absurd (omega arith)

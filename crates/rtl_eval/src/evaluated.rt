@@ -10,7 +10,7 @@ ghost use Rattle.rtl_eval.specs.Evaluations.{codes_of};
 ghost use Rattle.rtl_eval.specs.Seeing.{seen_of, Within, IsPosition, IsValue};
 
 use crate::expressions::value as elements;
-use crate::seen::Sight;
+use crate::seen::SeenValues;
 use rtl_net::{Choice, Value};
 use vhdl_values::Vec9;
 
@@ -22,7 +22,7 @@ pub enum Evaluated {
 }
 
 /// What a value is in a run.
-pub(crate) fn evaluate(value: &Value, seen: Sight<'_>) -> Evaluated
+pub(crate) fn evaluate(value: &Value, seen: SeenValues<'_>) -> Evaluated
     requires { Within (seen_of seen) (λ scope. IsValue scope (value_view value.now)) }
     ensures { codes_of result ≡ value_of (seen_of seen.entry) (value_view value.now) }
 {
@@ -33,7 +33,7 @@ pub(crate) fn evaluate(value: &Value, seen: Sight<'_>) -> Evaluated
 }
 
 /// The position of a value of an enumeration.
-fn position(value: &Value, seen: Sight<'_>) -> u8
+fn position(value: &Value, seen: SeenValues<'_>) -> u8
     requires { Within (seen_of seen) (λ scope. IsPosition scope (value_view value.now)) }
     ensures { value_of (seen_of seen.entry) (value_view value.now) ≡ result ∷ [] }
 {

@@ -2,8 +2,8 @@
 
 ghost use Rattle.std.specs.Prelude.{◌≡◌, ℕ, ◌≤◌, List, length};
 ghost use Rattle.rtl_model.specs.bodies.Types.{ElementType, KeepsTypes};
-ghost use Rattle.rtl_model.specs.nets.FlatNet.{FlatProcess};
-ghost use Rattle.rtl_model.specs.nets.CoreNet.{part_effect};
+ghost use Rattle.rtl_model.specs.nets.FlatNetlist.{FlatProcess};
+ghost use Rattle.rtl_model.specs.nets.CoreNetlist.{part_effect};
 ghost use Rattle.rtl_eval.specs.Runs.{IsOf, Leaves};
 
 use crate::drives::Drives;

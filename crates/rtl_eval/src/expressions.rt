@@ -1,20 +1,20 @@
 //! The values of expressions.
 
 ghost use Rattle.std.specs.Prelude.{◌≡◌, ℕ, ◌<◌, All, length, map, slice_index};
-ghost use Rattle.rtl_model.specs.bodies.Body as m;
+ghost use Rattle.rtl_model.specs.bodies.Body as bodies;
 ghost use Rattle.rtl_model.specs.bodies.Values.{element_at, operated, elements_of};
 ghost use Rattle.rtl_model.specs.bodies.Fits.{IsWidth, operated_width, FitsOperands, FitsExpr};
 ghost use Rattle.rtl_net.specs.Indices.{numbers};
 ghost use Rattle.rtl_net.specs.Bodies.{operator_view, expr_view, links_of};
 ghost use Rattle.rtl_eval.specs.Seeing.{seen_of, Within};
 
-use crate::seen::Sight;
+use crate::seen::SeenValues;
 use rtl_net::{Expr, Indices, Link, Operator};
 use vhdl_values::Vec9;
 
 /// The value of an expression.
 #[cycle(expression)]
-pub(crate) fn value(expr: &Expr, seen: Sight<'_>) -> Vec9
+pub(crate) fn value(expr: &Expr, seen: SeenValues<'_>) -> Vec9
     requires { Within (seen_of seen) (λ scope. FitsExpr scope (expr_view expr.now)) }
     ensures { result ≡ elements_of (seen_of seen.entry) (expr_view expr.now) }
 {
@@ -33,9 +33,9 @@ pub(crate) fn value(expr: &Expr, seen: Sight<'_>) -> Vec9
 
 /// The value of a chain behind its first operand's.
 #[cycle(expression)]
-fn chain(first: &Vec9, links: &[Link], seen: Sight<'_>) -> Vec9
-    requires { Within (seen_of seen) (λ scope. FitsExpr scope (links_of (m.constant first.now) links.now)) }
-    ensures { result ≡ elements_of (seen_of seen.entry) (links_of (m.constant first.now) links.now) }
+fn chain(first: &Vec9, links: &[Link], seen: SeenValues<'_>) -> Vec9
+    requires { Within (seen_of seen) (λ scope. FitsExpr scope (links_of (bodies.constant first.now) links.now)) }
+    ensures { result ≡ elements_of (seen_of seen.entry) (links_of (bodies.constant first.now) links.now) }
 {
     let mut left = *first;
     for link in links {

@@ -18,7 +18,7 @@ pub use drives::Drives;
 pub use evaluated::{Evaluated, are_same, is_chosen};
 pub use exec::Exec;
 pub use expressions::{gathered, operate};
-pub use seen::{Sight, Valuations, seeing};
+pub use seen::{SeenValues, Valuations, seeing};
 pub use spans::Span;
 pub use tests::{logical, nine};
 pub use tree::{Tree, trees};

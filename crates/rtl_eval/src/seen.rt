@@ -8,7 +8,7 @@ use crate::drives::Drives;
 
 /// The codes of all nets now and before the last update, and of the process's variable elements.
 #[derive(Clone, Copy)]
-pub struct Sight<'a> {
+pub struct SeenValues<'a> {
     pub current: &'a [u8],
     pub previous: &'a [u8],
     pub variables: &'a [u8],
@@ -22,10 +22,10 @@ pub struct Valuations<'a> {
 }
 
 /// What a run sees that has come this far.
-pub fn seeing<'a>(nets: Valuations<'a>, out: &'a Drives) -> Sight<'a>
+pub fn seeing<'a>(nets: Valuations<'a>, out: &'a Drives) -> SeenValues<'a>
     ensures { seen_of result ≡ seen_by nets.entry out.now }
 {
-    Sight {
+    SeenValues {
         current: nets.current,
         previous: nets.previous,
         variables: out.variables(),

@@ -10,7 +10,7 @@ ghost use Rattle.rtl_eval.specs.Seeing.{seen_of, Within};
 
 use crate::assigning::{assign, set};
 use crate::evaluated::{Evaluated, evaluate, is_chosen};
-use crate::seen::{Sight, Valuations, seeing};
+use crate::seen::{SeenValues, Valuations, seeing};
 use crate::tests::is_met;
 use crate::drives::Drives;
 use rtl_net::{Alternative, Branch, Statement};
@@ -97,7 +97,7 @@ fn run_case(
 }
 
 /// The place of the first branch whose test is met.
-fn first_met(branches: &[Branch], seen: Sight<'_>) -> Option<usize>
+fn first_met(branches: &[Branch], seen: SeenValues<'_>) -> Option<usize>
     requires { Within (seen_of seen) (λ scope. All (λ b. FitsTest scope (test_view b.test)) branches.now) }
     ensures { IsPlaceOfFirst result (map (met_by (seen_of seen.entry)) branches.now) }
 {

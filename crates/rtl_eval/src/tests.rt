@@ -2,7 +2,7 @@
 
 ghost use Rattle.std.specs.Prelude.{◌≡◌};
 ghost use Rattle.vhdl_values.specs.Scalar.{value_of_code};
-ghost use Rattle.rtl_model.specs.bodies.Body as m;
+ghost use Rattle.rtl_model.specs.bodies.Body as bodies;
 ghost use Rattle.rtl_model.specs.bodies.Values.{value_of};
 ghost use Rattle.rtl_model.specs.bodies.Tests as spec;
 ghost use Rattle.rtl_model.specs.bodies.Types.{nine_valued, HasType};
@@ -12,13 +12,13 @@ ghost use Rattle.rtl_eval.specs.Seeing.{seen_of, Within};
 
 use crate::evaluated::{are_same, evaluate};
 use crate::expressions::value;
-use crate::seen::Sight;
+use crate::seen::SeenValues;
 use rtl_net::{Test, TestLink, Value};
 use vhdl_values::{Edge, Logic, Nine, edge};
 
 /// Whether a test is met.
 #[cycle(condition)]
-pub(crate) fn is_met(test: &Test, seen: Sight<'_>) -> bool
+pub(crate) fn is_met(test: &Test, seen: SeenValues<'_>) -> bool
     requires { Within (seen_of seen) (λ scope. FitsTest scope (test_view test.now)) }
     ensures { result ≡ spec.is_met (seen_of seen.entry) (test_view test.now) }
 {
@@ -42,9 +42,9 @@ pub(crate) fn is_met(test: &Test, seen: Sight<'_>) -> bool
 
 /// Whether a chain is met, behind its first operand.
 #[cycle(condition)]
-fn chain(first: bool, links: &[TestLink], seen: Sight<'_>) -> bool
-    requires { Within (seen_of seen) (λ scope. FitsTest scope (test_links_of (m.decided first) links.now)) }
-    ensures { result ≡ spec.is_met (seen_of seen.entry) (test_links_of (m.decided first) links.now) }
+fn chain(first: bool, links: &[TestLink], seen: SeenValues<'_>) -> bool
+    requires { Within (seen_of seen) (λ scope. FitsTest scope (test_links_of (bodies.decided first) links.now)) }
+    ensures { result ≡ spec.is_met (seen_of seen.entry) (test_links_of (bodies.decided first) links.now) }
 {
     let mut left = first;
     for link in links {
@@ -68,7 +68,7 @@ pub fn logical(operator: Logic, left: bool, right: bool) -> bool
 }
 
 /// Whether a net of the nine values has an edge.
-fn has_edge(kind: Edge, net: u32, seen: Sight<'_>) -> bool
+fn has_edge(kind: Edge, net: u32, seen: SeenValues<'_>) -> bool
     requires { Within (seen_of seen) (λ scope. HasType scope.nets nine_valued net) }
     ensures { result ≡ spec.edge_at (seen_of seen.entry) kind net }
 {
@@ -87,7 +87,7 @@ pub fn nine(code: u8) -> Nine
 }
 
 /// Whether two values are equal.
-fn are_equal(left: &Value, right: &Value, seen: Sight<'_>) -> bool
+fn are_equal(left: &Value, right: &Value, seen: SeenValues<'_>) -> bool
     requires { Within (seen_of seen) (λ scope. FitBoth scope (value_view left.now) (value_view right.now)) }
     ensures { result ≡ spec.same (value_of (seen_of seen.entry) (value_view left.now)) (value_of (seen_of seen.entry) (value_view right.now)) }
 {

@@ -28,11 +28,11 @@ impl<'a> Model for Tree<'a> {
 
     ghost coded = { Prim.hlevel (codes, process_contract.the_row.coded) };
 
-    ghost use Rattle.rtl_eval.specs.Kept.{IsThere};
+    ghost use Rattle.rtl_eval.specs.Kept.{IsBodyThere};
 
     ghost view = { λ t. record { net = t.net.now; number = t.number } };
 
-    ghost invariant = { λ t. IsThere (record { net = t.net.now; number = t.number }) };
+    ghost invariant = { λ t. IsBodyThere (record { net = t.net.now; number = t.number }) };
 }
 
 impl<'a> Exec for Tree<'a> {

@@ -1,10 +1,10 @@
 -- Wrong definitions of what bodies do break the laws.
 use Rattle.std.proofs.Common.{◌≡◌, ℕ, List, get_or, refl, arith}
-use Rattle.rtl_model.specs.nets.CoreNet.{core_net}
+use Rattle.rtl_model.specs.nets.CoreNetlist.{core_netlist}
 use Rattle.rtl_model.specs.simulation.Machine.{Solves}
 use Rattle.rtl_examples.specs.BodyMistakes.{latch, LatchWouldPass, DefaultWouldStay, TestWouldBeRising}
 
-no_solution : (registers : ℕ → ℕ) (v : List ℕ) → Solves (core_net latch) (λ n. 2) registers v → ⊥
+no_solution : (registers : ℕ → ℕ) (v : List ℕ) → Solves (core_netlist latch) (λ n. 2) registers v → ⊥
 no_solution registers v s =
     let low : get_or v 1 0 ≡ 2 = s.on_inputs 1 refl in
     let e = s.on_combinational 0 0 (omega arith, refl) (omega arith) in

@@ -1,7 +1,7 @@
 -- The counter is in range, connected and accepted, and counts.
 use Rattle.std.proofs.Common.{refl}
 use Rattle.vhdl_values.specs.Numbers.{digits_of}
-use Rattle.rtl_model.specs.nets.CoreNet.{core_net}
+use Rattle.rtl_model.specs.nets.CoreNetlist.{core_netlist}
 use Rattle.rtl_model.specs.simulation.Cycle.{State}
 use Rattle.rtl_model.specs.simulation.Moments.{HasSettled}
 use Rattle.rtl_examples.specs.Counter.{counter, clock, CounterCounts}
@@ -10,32 +10,32 @@ use Rattle.rtl_examples.proofs.Computing.{first_cycle, next_cycle, starts_in, go
 use Rattle.rtl_examples.proofs.Sound.{sound_by}
 
 s0 : State
-s0 = after (core_net counter) 1 (first_cycle (core_net counter) (clock 0))
+s0 = after (core_netlist counter) 1 (first_cycle (core_netlist counter) (clock 0))
 
-settled0 : HasSettled (core_net counter) clock 0 1 s0
+settled0 : HasSettled (core_netlist counter) clock 0 1 s0
 unfolding s0 digits_of
-settled0 = starts_in (core_net counter) clock 1 refl
+settled0 = starts_in (core_netlist counter) clock 1 refl
 
 s1 : State
-s1 = after (core_net counter) 2 (next_cycle (core_net counter) (clock 1) s0)
+s1 = after (core_netlist counter) 2 (next_cycle (core_netlist counter) (clock 1) s0)
 
-settled1 : HasSettled (core_net counter) clock 1 2 s1
+settled1 : HasSettled (core_netlist counter) clock 1 2 s1
 unfolding s1 s0 digits_of
-settled1 = goes_on (core_net counter) clock 0 1 s0 2 settled0 refl
+settled1 = goes_on (core_netlist counter) clock 0 1 s0 2 settled0 refl
 
 s2 : State
-s2 = after (core_net counter) 0 (next_cycle (core_net counter) (clock 2) s1)
+s2 = after (core_netlist counter) 0 (next_cycle (core_netlist counter) (clock 2) s1)
 
-settled2 : HasSettled (core_net counter) clock 2 0 s2
+settled2 : HasSettled (core_netlist counter) clock 2 0 s2
 unfolding s2 s1 s0 digits_of
-settled2 = goes_on (core_net counter) clock 1 2 s1 0 settled1 refl
+settled2 = goes_on (core_netlist counter) clock 1 2 s1 0 settled1 refl
 
 s3 : State
-s3 = after (core_net counter) 2 (next_cycle (core_net counter) (clock 3) s2)
+s3 = after (core_netlist counter) 2 (next_cycle (core_netlist counter) (clock 3) s2)
 
-settled3 : HasSettled (core_net counter) clock 3 2 s3
+settled3 : HasSettled (core_netlist counter) clock 3 2 s3
 unfolding s3 s2 s1 s0 digits_of
-settled3 = goes_on (core_net counter) clock 2 0 s2 2 settled2 refl
+settled3 = goes_on (core_netlist counter) clock 2 0 s2 2 settled2 refl
 
 pub counter_counts : CounterCounts
 unfolding s3 s2 s1 s0 digits_of

@@ -5,7 +5,7 @@ use Rattle.std.proofs.lemmas.List.{get_or_past}
 use Rattle.std.proofs.lemmas.List.Elements.{Contains-get_or}
 use Rattle.std.proofs.lemmas.Bool.{and_parts, or_cases, not-true, eq-eqb, ltb-true, leb-true, cases_eq, cases_lt, and_from}
 use Rattle.rtl_model.proofs.basics.Lists.{Contains-none, any_true, is_in, in_contains, contains_in}
-use Rattle.rtl_model.specs.simulation.Net.{Net, Process, Reset, Kind, Combinational, Clocked, Mixed, Edge, no_process, kind_reset, process, sources_of, target, IsCombinational}
+use Rattle.rtl_model.specs.simulation.Netlist.{Netlist, Process, Reset, ProcessKind, Combinational, Clocked, Mixed, Edge, no_process, kind_reset, process, sources_of, target, IsCombinational}
 use Rattle.rtl_model.specs.simulation.Accepted.{IsAccepted, TwoDrivers, MixedProcess, ClockNotInput, EdgeNotSensitive, ClockAsData, MissingSensitivity, Latch, Loop, StoredVariable, Feeds, IsClock}
 use Rattle.rtl_model.proofs.simulation.Report.{no_loop}
 
@@ -34,27 +34,27 @@ contained f (y ∷ xs) x e (suc k, l, at) = contained f xs x (and_parts (f y) (a
 
 -- ---- acceptance, given a numbering that rises
 
-abbrev is_clocked_by : (n : ℕ) → Kind → Bool
+abbrev is_clocked_by : (n : ℕ) → ProcessKind → Bool
 is_clocked_by n (Clocked clock edge reset) = clock == n
 is_clocked_by n Combinational = false
 is_clocked_by n Mixed = false
 
-abbrev is_clock : Net → ℕ → Bool
+abbrev is_clock : Netlist → ℕ → Bool
 is_clock net n = list_any (λ p. is_clocked_by n p.kind) net.processes
 
-abbrev is_plain : Kind → Bool
+abbrev is_plain : ProcessKind → Bool
 is_plain Combinational = true
 is_plain (Clocked clock edge reset) = false
 is_plain Mixed = false
 
-abbrev is_fed : Net → (p q : ℕ) → Bool
+abbrev is_fed : Netlist → (p q : ℕ) → Bool
 is_fed net p q = is_plain (process net q).kind && list_any (is_in (process net q).wakes) (process net p).drives
 
-abbrev reset_fits : Net → ℕ → Option Reset → Bool
+abbrev reset_fits : Netlist → ℕ → Option Reset → Bool
 reset_fits net p None = true
 reset_fits net p (Some reset) = is_in (process net p).wakes reset.net && not (is_clock net reset.net)
 
-abbrev kind_fits : Net → (number : ℕ → ℕ) → ℕ → Kind → Bool
+abbrev kind_fits : Netlist → (number : ℕ → ℕ) → ℕ → ProcessKind → Bool
 kind_fits net number p Combinational =
     all_in (is_in (process net p).wakes) (process net p).reads
     && (all_in (process net p).assigns (process net p).drives && (nat_le 1 (number p) && all_below (λ q. not (is_fed net p q) || nat_lt (number p) (number q)) (length net.processes)))
@@ -62,23 +62,23 @@ kind_fits net number p (Clocked clock edge reset) =
     is_in net.inputs clock && (is_in (process net p).wakes clock && (all_in (λ n. not (is_clock net n)) (process net p).acting_reads && reset_fits net p reset))
 kind_fits net number p Mixed = false
 
-abbrev pub is_accepted : Net → (number : ℕ → ℕ) → Bool
+abbrev pub is_accepted : Netlist → (number : ℕ → ℕ) → Bool
 is_accepted net number = all_below (λ n. nat_le (length (sources_of net n)) 1) (length net.sources) && all_below (λ p. kind_fits net number p (process net p).kind) (length net.processes)
 
-module _ (net : Net) (number : ℕ → ℕ) (T : is_accepted net number ≡ true) where
+module _ (net : Netlist) (number : ℕ → ℕ) (T : is_accepted net number ≡ true) where
   halves : (all_below (λ n. nat_le (length (sources_of net n)) 1) (length net.sources) ≡ true) × (all_below (λ p. kind_fits net number p (process net p).kind) (length net.processes) ≡ true)
   halves = and_parts (all_below (λ n. nat_le (length (sources_of net n)) 1) (length net.sources)) (all_below (λ p. kind_fits net number p (process net p).kind) (length net.processes)) T
 
   -- what stands past the processes is combinational
-  kind_at : (p : ℕ) (k : Kind) → (process net p).kind ≡ k → (k ≡ Combinational → ⊥) → kind_fits net number p k ≡ true
+  kind_at : (p : ℕ) (k : ProcessKind) → (process net p).kind ≡ k → (k ≡ Combinational → ⊥) → kind_fits net number p k ≡ true
   kind_at p k e other = go (cases_lt p (length net.processes))
     where
       go : (p < length net.processes) ⊎ (length net.processes ≤ p) → kind_fits net number p k ≡ true
-      go (inl l) = ap (λ (x : Kind). kind_fits net number p x) (sym e) ∙ below (λ p. kind_fits net number p (process net p).kind) (length net.processes) p halves.1 l
+      go (inl l) = ap (λ (x : ProcessKind). kind_fits net number p x) (sym e) ∙ below (λ p. kind_fits net number p (process net p).kind) (length net.processes) p halves.1 l
       go (inr l) = absurd (other (sym e ∙ ap (λ (q : Process). q.kind) (get_or_past net.processes p no_process l)))
 
   plain_at : (p : ℕ) → IsCombinational net p → kind_fits net number p Combinational ≡ true
-  plain_at p (l, e) = ap (λ (x : Kind). kind_fits net number p x) (sym e) ∙ below (λ p. kind_fits net number p (process net p).kind) (length net.processes) p halves.1 l
+  plain_at p (l, e) = ap (λ (x : ProcessKind). kind_fits net number p x) (sym e) ∙ below (λ p. kind_fits net number p (process net p).kind) (length net.processes) p halves.1 l
 
   at_clock : (p clock : ℕ) (edge : Edge) (reset : Option Reset) → (process net p).kind ≡ Clocked clock edge reset
       → (is_in net.inputs clock ≡ true) × (is_in (process net p).wakes clock ≡ true) × (all_in (λ n. not (is_clock net n)) (process net p).acting_reads ≡ true) × (reset_fits net p reset ≡ true)
@@ -103,7 +103,7 @@ module _ (net : Net) (number : ℕ → ℕ) (T : is_accepted net number ≡ true
       go (inl l) = any_true (λ p. is_clocked_by n p.kind) net.processes (process net q) (Contains-get_or net.processes q no_process l) (ap (is_clocked_by n) e ∙ eq-eqb n n refl)
       go (inr l) = let h : Combinational ≡ Clocked n edge reset = sym (ap (λ (x : Process). x.kind) (get_or_past net.processes q no_process l)) ∙ e in cc
 
-  reset_is : (p : ℕ) (k : Kind) → (process net p).kind ≡ k → (reset : Reset) → kind_reset k ≡ Some reset → (is_in (process net p).wakes reset.net ≡ true) × (not (is_clock net reset.net) ≡ true)
+  reset_is : (p : ℕ) (k : ProcessKind) → (process net p).kind ≡ k → (reset : Reset) → kind_reset k ≡ Some reset → (is_in (process net p).wakes reset.net ≡ true) × (not (is_clock net reset.net) ≡ true)
   reset_is p Combinational e reset h = cc
   reset_is p Mixed e reset h = cc
   reset_is p (Clocked clock edge r) e reset h =

@@ -8,7 +8,7 @@ use Rattle.rtl_model.specs.bodies.Body.{inverse, filled, binary, resized, shifte
 use Rattle.rtl_model.specs.bodies.Body.{Value, elements, position, position_of, position_in}
 use Rattle.rtl_model.specs.bodies.Body.{Test, condition, decided, equal, unequal, level, compared, compared_to}
 use Rattle.rtl_model.specs.bodies.Body.{rising, falling, event, negated, combined}
-use Rattle.rtl_model.specs.bodies.Body.{Stmt, nothing, assign, set, if_of, case_of, Stmts, done, step}
+use Rattle.rtl_model.specs.bodies.Body.{Stmt, null_of, assign, set, if_of, case_of, Stmts, done, step}
 use Rattle.rtl_model.specs.bodies.Body.{Branches, no_else, otherwise, branch, Alternatives, others, alternative}
 use Rattle.rtl_model.specs.bodies.Types.{ElementType, nine_valued, enumeration, limit_of, HasType}
 use Rattle.rtl_model.specs.bodies.Fits.{operated_width, width, value_width, IsWidth, Scope, FitsExpr, FitsAs, FitBoth, FitsTest}
@@ -180,7 +180,7 @@ module _ (scope : Scope) where
 
   abbrev mutual
     stmt_fits : Stmt → Bool
-    stmt_fits nothing = true
+    stmt_fits null_of = true
     stmt_fits (assign places v) = target_fits drives_type places v
     stmt_fits (set es v) = target_fits (has_type scope.variables) es v
     stmt_fits (if_of bs) = branches_fit bs
@@ -201,7 +201,7 @@ module _ (scope : Scope) where
 
   mutual
     of_stmt : (s : Stmt) → stmt_fits s ≡ true → FitsStmt scope s
-    of_stmt nothing h = tt
+    of_stmt null_of h = tt
     of_stmt (assign places v) h = is_target (DrivesType scope) drives_type is_driven places v h
     of_stmt (set es v) h = is_target (HasType scope.variables) (has_type scope.variables) (is_of_type scope.variables) es v h
     of_stmt (if_of bs) h = of_branches bs h

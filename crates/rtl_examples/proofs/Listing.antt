@@ -2,11 +2,11 @@
 use Rattle.std.proofs.Common.{◌≡◌, ℕ, List, [], ◌∷◌, ◌++◌, refl, ap, ◌∙◌, sym, length}
 use Rattle.std.specs.Fmt.{digits}
 use Rattle.std.specs.Prelude.{Option, Some, None, codes, decimal, flat_map, slice_index, slice_index_or}
-use Rattle.rtl_model.specs.nets.FlatNet.{FlatNet, FlatProcess, flat_sources}
+use Rattle.rtl_model.specs.nets.FlatNetlist.{FlatNetlist, FlatProcess, flat_sources}
 use Rattle.rtl_model.specs.bodies.Types.{nine_valued}
 use Rattle.rtl_examples.specs.Counter as example
 use Rattle.rtl_net.specs.declared.process.Process.{Process}
-use Rattle.rtl_net.specs.Nets.{NetView, flat, process_view}
+use Rattle.rtl_net.specs.Nets.{NetlistView, flat, process_view}
 use Rattle.rtl_net.specs.Names.{net_name, name_of_process, generates_prefix}
 use Rattle.rtl_net_facts.specs.Reading.{is_in}
 use Rattle.rtl_check.specs.declared.reporting.Report.{Report}
@@ -20,7 +20,7 @@ unlabelled : (name generates : List ℕ) (p : Process) (k : ℕ) → IsUnlabelle
 unlabelled name generates p k is = rw (is.scope, is.generates_are, is.no_label) refl
 
 module _ (counting showing : Process) (c : IsBare counting example.counting) (s : IsBare showing example.showing) where
-  with_processes : FlatProcess → FlatProcess → FlatNet
+  with_processes : FlatProcess → FlatProcess → FlatNetlist
   with_processes p q = record {
     types = example.counter.types;
     start = example.counter.start;
@@ -41,8 +41,8 @@ module _ (counting showing : Process) (c : IsBare counting example.counting) (s 
   unfolding digits
   second = unlabelled (codes "cnt") [] showing 1 s.unlabelled
 
-  -- the text, by the flat net and the names of processes
-  text_by : FlatNet → (p q : List ℕ) → List ℕ
+  -- the text, by the flat netlist and the names of processes
+  text_by : FlatNetlist → (p q : List ℕ) → List ℕ
   text_by f p q =
       counts_text 5 2
       ++ lines (λ n. decimal n ++ codes " " ++ net_name (cnt counting showing) n ++ codes " "

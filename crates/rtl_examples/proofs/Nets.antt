@@ -1,8 +1,8 @@
 -- Faults, reports and races of small nets.
 use Rattle.std.proofs.Common.{◌≡◌, ℕ, zero, suc, ◌<◌, ◌≤◌, true, ◌==◌, [], ◌∷◌, None, refl, sym, ap, subst, arith, ◌⊎◌, inl, inr, Contains, if◌then◌else◌}
 use Rattle.vhdl_values.specs.Numbers.{digits_of}
-use Rattle.rtl_model.specs.nets.CoreNet.{core_net}
-use Rattle.rtl_model.specs.simulation.Net.{Edge, Rising, IsInput, IsClockedBy, HasPlace, process, target}
+use Rattle.rtl_model.specs.nets.CoreNetlist.{core_netlist}
+use Rattle.rtl_model.specs.simulation.Netlist.{Edge, Rising, IsInput, IsClockedBy, HasPlace, process, target}
 use Rattle.rtl_model.specs.simulation.Cycle.{State}
 use Rattle.rtl_model.specs.simulation.Moments.{HasSettled}
 use Rattle.rtl_model.specs.simulation.Accepted.{Feeds}
@@ -18,7 +18,7 @@ use Rattle.rtl_examples.proofs.Sound.{sound_by}
 
 -- ---- faults
 
-ring_feeds : Feeds (core_net ring) 2 0 × Feeds (core_net ring) 1 2 × Feeds (core_net ring) 0 1
+ring_feeds : Feeds (core_netlist ring) 2 0 × Feeds (core_netlist ring) 1 2 × Feeds (core_netlist ring) 0 1
 ring_feeds = (
   record { feeder = (omega arith, refl); fed = (omega arith, refl); place = 0; drives = omega arith; wakes = (0, omega arith, refl) },
   record { feeder = (omega arith, refl); fed = (omega arith, refl); place = 0; drives = omega arith; wakes = (0, omega arith, refl) },
@@ -26,10 +26,10 @@ ring_feeds = (
 )
 
 -- the second process doesn't feed the first
-ring_not : Feeds (core_net ring) 1 0 → ⊥
+ring_not : Feeds (core_netlist ring) 1 0 → ⊥
 ring_not f = go f.place f.drives f.wakes
   where
-    go : (place : ℕ) → HasPlace (core_net ring) 1 place → Contains (2 ∷ []) (target (core_net ring) 1 place) → ⊥
+    go : (place : ℕ) → HasPlace (core_netlist ring) 1 place → Contains (2 ∷ []) (target (core_netlist ring) 1 place) → ⊥
     go zero h (zero, l, e) = cc
     go zero h (suc k, l, e) = absurd (omega arith)
     go (suc place) h w = absurd (omega arith)
@@ -64,13 +64,13 @@ order_of_clocks = record {
 -- ---- reports
 
 -- what the first two processes drive wakes neither, and the third drives y
-join_fed : (p q : ℕ) → Feeds (core_net join) p q → (p < 2) × (q ≡ 2)
+join_fed : (p q : ℕ) → Feeds (core_netlist join) p q → (p < 2) × (q ≡ 2)
 join_fed p q f = go p q f.feeder.0 f.fed.0 f.place f.drives f.wakes
   where
-    go : (p q : ℕ) → p < 3 → q < 3 → (place : ℕ) → HasPlace (core_net join) p place → Contains (process (core_net join) q).wakes (target (core_net join) p place) → (p < 2) × (q ≡ 2)
+    go : (p q : ℕ) → p < 3 → q < 3 → (place : ℕ) → HasPlace (core_netlist join) p place → Contains (process (core_netlist join) q).wakes (target (core_netlist join) p place) → (p < 2) × (q ≡ 2)
     go p q l m (suc place) h w = absurd (not_two p l h)
       where
-        not_two : (p : ℕ) → p < 3 → HasPlace (core_net join) p (suc place) → ⊥
+        not_two : (p : ℕ) → p < 3 → HasPlace (core_netlist join) p (suc place) → ⊥
         not_two zero l h = omega arith
         not_two (suc zero) l h = omega arith
         not_two (suc (suc zero)) l h = omega arith
@@ -98,7 +98,7 @@ join_fed p q f = go p q f.feeder.0 f.fed.0 f.place f.drives f.wakes
     go (suc (suc zero)) (suc (suc (suc q))) l m zero h w = absurd (omega arith)
 
 -- a chain is no longer than two, and one that ends with neither of the last is of one
-join_chain : (q n : ℕ) → ChainTo (core_net join) q n → (n ≤ 2) × (q < 2 → n ≤ 1)
+join_chain : (q n : ℕ) → ChainTo (core_netlist join) q n → (n ≤ 2) × (q < 2 → n ≤ 1)
 join_chain q zero c = absurd c
 join_chain q (suc zero) c = (omega arith, λ l. omega arith)
 join_chain q (suc (suc n)) (p, c, f) =
@@ -107,16 +107,16 @@ join_chain q (suc (suc n)) (p, c, f) =
     let k = b l in
     (omega arith, λ m. absurd (omega arith))
 
-first_level : (p : ℕ) → p < 2 → (process (core_net join) p).kind ≡ (process (core_net join) 0).kind → IsLevel (core_net join) p 1
+first_level : (p : ℕ) → p < 2 → (process (core_netlist join) p).kind ≡ (process (core_netlist join) 0).kind → IsLevel (core_netlist join) p 1
 first_level p l e = record { reached = (omega arith, e); longest = λ n c. (join_chain p n c).1 l }
 
-feeds_last : (Feeds (core_net join) 0 2) × (Feeds (core_net join) 1 2)
+feeds_last : (Feeds (core_netlist join) 0 2) × (Feeds (core_netlist join) 1 2)
 feeds_last = (
   record { feeder = (omega arith, refl); fed = (omega arith, refl); place = 0; drives = omega arith; wakes = (0, omega arith, refl) },
   record { feeder = (omega arith, refl); fed = (omega arith, refl); place = 0; drives = omega arith; wakes = (1, omega arith, refl) },
 )
 
-last_level : IsLevel (core_net join) 2 2
+last_level : IsLevel (core_netlist join) 2 2
 last_level = record { reached = (0, (omega arith, refl), feeds_last.0); longest = λ n c. (join_chain 2 n c).0 }
 
 pub reports_of_nets : ReportsOfNets
@@ -128,7 +128,7 @@ reports_of_nets = record {
       let a = is.longest 2 last_level.reached in
       let b = last_level.longest (suc below) is.reached in
       let e : 1 ≡ below = omega arith in
-      lowest 0 (omega arith) (subst (λ (k : ℕ). IsLevel (core_net join) 0 k) e (first_level 0 (omega arith) refl)) feeds_last.0;
+      lowest 0 (omega arith) (subst (λ (k : ℕ). IsLevel (core_netlist join) 0 k) e (first_level 0 (omega arith) refl)) feeds_last.0;
   none_at_one = λ h. let e = h.1 in cc;
   idle_is_sound = sound_by wakes_on_idle (λ p. 1) refl;
   idle_bound = refl;
@@ -137,25 +137,25 @@ reports_of_nets = record {
 -- ---- resets
 
 rc_0 : State
-rc_0 = after (core_net rc) 2 (first_cycle (core_net rc) (released 0))
+rc_0 = after (core_netlist rc) 2 (first_cycle (core_netlist rc) (released 0))
 
-settled_0 : HasSettled (core_net rc) released 0 2 rc_0
+settled_0 : HasSettled (core_netlist rc) released 0 2 rc_0
 unfolding rc_0 digits_of
-settled_0 = starts_in (core_net rc) released 2 refl
+settled_0 = starts_in (core_netlist rc) released 2 refl
 
 rc_1 : State
-rc_1 = next_cycle (core_net rc) (released 1) rc_0
+rc_1 = next_cycle (core_netlist rc) (released 1) rc_0
 
-settled_1 : HasSettled (core_net rc) released 1 0 rc_1
+settled_1 : HasSettled (core_netlist rc) released 1 0 rc_1
 unfolding rc_1 rc_0 digits_of
-settled_1 = goes_on (core_net rc) released 0 2 rc_0 0 settled_0 refl
+settled_1 = goes_on (core_netlist rc) released 0 2 rc_0 0 settled_0 refl
 
 rc_2 : State
-rc_2 = after (core_net rc) 2 (next_cycle (core_net rc) (released 2) rc_1)
+rc_2 = after (core_netlist rc) 2 (next_cycle (core_netlist rc) (released 2) rc_1)
 
-settled_2 : HasSettled (core_net rc) released 2 2 rc_2
+settled_2 : HasSettled (core_netlist rc) released 2 2 rc_2
 unfolding rc_2 rc_1 rc_0 digits_of
-settled_2 = goes_on (core_net rc) released 1 0 rc_1 2 settled_1 refl
+settled_2 = goes_on (core_netlist rc) released 1 0 rc_1 2 settled_1 refl
 
 pub resets_of_nets : ResetsOfNets
 unfolding rc_2 rc_1 rc_0 digits_of
@@ -178,7 +178,7 @@ edge_would_win = record { right = refl; wrong = refl }
 
 pub reset_would_be_left_out : ResetWouldBeLeftOut
 reset_would_be_left_out = record {
-  simulated = (3, after (core_net (toggling true)) 3 (first_cycle (core_net (toggling true)) (one_edge true 0)), starts_in (core_net (toggling true)) (one_edge true) 3 refl, refl);
+  simulated = (3, after (core_netlist (toggling true)) 3 (first_cycle (core_netlist (toggling true)) (one_edge true 0)), starts_in (core_netlist (toggling true)) (one_edge true) 3 refl, refl);
   right = refl;
   wrong = refl;
 }
@@ -189,23 +189,23 @@ reset_would_read = record { of_one = refl; of_zero = refl }
 -- ---- states
 
 states_0 : State
-states_0 = after (core_net states) 1 (first_cycle (core_net states) (one_rise 0))
+states_0 = after (core_netlist states) 1 (first_cycle (core_netlist states) (one_rise 0))
 
-states_settled : HasSettled (core_net states) one_rise 0 1 states_0
+states_settled : HasSettled (core_netlist states) one_rise 0 1 states_0
 unfolding states_0
-states_settled = starts_in (core_net states) one_rise 1 refl
+states_settled = starts_in (core_netlist states) one_rise 1 refl
 
 pub states_of_nets : StatesOfNets
 unfolding states_0
 states_of_nets = record {
   sound = sound_by states (λ p. 1) refl;
   at_start = (1, states_0, states_settled, refl);
-  at_edge = (2, after (core_net states) 2 (next_cycle (core_net states) (one_rise 1) states_0), goes_on (core_net states) one_rise 0 1 states_0 2 states_settled refl, refl);
+  at_edge = (2, after (core_netlist states) 2 (next_cycle (core_netlist states) (one_rise 1) states_0), goes_on (core_netlist states) one_rise 0 1 states_0 2 states_settled refl, refl);
 }
 
 -- ---- races
 
-data_or_clock : (n : ℕ) → IsInput (core_net two_clocks) n → (values_of 2 2 n ≡ values_of 3 2 n → ⊥) → (n ≡ 0) ⊎ (n ≡ 1)
+data_or_clock : (n : ℕ) → IsInput (core_netlist two_clocks) n → (values_of 2 2 n ≡ values_of 3 2 n → ⊥) → (n ≡ 0) ⊎ (n ≡ 1)
 data_or_clock zero is h = inl refl
 data_or_clock (suc zero) is h = inr refl
 data_or_clock (suc (suc zero)) is h = absurd (h refl)
@@ -228,11 +228,11 @@ races_of_nets = record {
   not_highest = λ h. h.lowest_clock 0 (omega arith) (Rising, (0, omega arith, refl), refl);
 }
   where
-    no_race : (race : IsRace (core_net two_clocks) (values_of 2 2) (values_of 3 2)) → (race.input ≡ 0) ⊎ (race.input ≡ 1) → ⊥
-    no_race race (inl e) = race.no_clock (0, (Rising, subst (λ (n : ℕ). IsClockedBy (core_net two_clocks) 0 n Rising) (sym e) (None, refl)))
-    no_race race (inr e) = race.no_clock (1, (Rising, subst (λ (n : ℕ). IsClockedBy (core_net two_clocks) 1 n Rising) (sym e) (None, refl)))
+    no_race : (race : IsRace (core_netlist two_clocks) (values_of 2 2) (values_of 3 2)) → (race.input ≡ 0) ⊎ (race.input ≡ 1) → ⊥
+    no_race race (inl e) = race.no_clock (0, (Rising, subst (λ (n : ℕ). IsClockedBy (core_netlist two_clocks) 0 n Rising) (sym e) (None, refl)))
+    no_race race (inr e) = race.no_clock (1, (Rising, subst (λ (n : ℕ). IsClockedBy (core_netlist two_clocks) 1 n Rising) (sym e) (None, refl)))
 
-    below_two : (n : ℕ) → n < 2 → IsChangedData (core_net two_clocks) clocks_of_two (values_of 2 2) (values_of 3 3) n → ⊥
+    below_two : (n : ℕ) → n < 2 → IsChangedData (core_netlist two_clocks) clocks_of_two (values_of 2 2) (values_of 3 3) n → ⊥
     below_two zero l d = d.no_clock Rising (0, omega arith, refl)
     below_two (suc zero) l d = d.no_clock Rising (1, omega arith, refl)
     below_two (suc (suc n)) l d = absurd (omega arith)

@@ -1,8 +1,8 @@
 -- Where wrong definitions differ.
 use Rattle.std.proofs.Common.{◌≡◌, ℕ, ◌+◌, zero, suc, true, false, [], get_or, Option, Some, None, refl, sym, ap, arith, Contains}
 use Rattle.rtl_model.proofs.basics.Lists.{Contains-one}
-use Rattle.rtl_model.specs.nets.CoreNet.{core_net}
-use Rattle.rtl_model.specs.simulation.Net.{Edge, Falling, process, target, HasPlace, IsCombinational, IsClockedBy}
+use Rattle.rtl_model.specs.nets.CoreNetlist.{core_netlist}
+use Rattle.rtl_model.specs.simulation.Netlist.{Edge, Falling, process, target, HasPlace, IsCombinational, IsClockedBy}
 use Rattle.rtl_model.specs.simulation.Cycle.{State}
 use Rattle.rtl_model.specs.simulation.Moments.{HasSettled}
 use Rattle.rtl_examples.specs.Rows.{sibling}
@@ -32,23 +32,23 @@ pub bound_would_break : BoundWouldBreak
 bound_would_break = record { fit = sound false; levels = levels_are false; right = refl; takes = edge_takes_two; wrong = omega arith }
 
 -- both processes read net 0, and neither drives it
-reading_none : (p q : ℕ) → FeedsByReading (core_net sibling) p q → ⊥
+reading_none : (p q : ℕ) → FeedsByReading (core_netlist sibling) p q → ⊥
 reading_none p q f = go p q f.place f.drives f.fed f.reads
   where
-    read : (q n : ℕ) → IsCombinational (core_net sibling) q → Contains (process (core_net sibling) q).reads n → n ≡ 0
+    read : (q n : ℕ) → IsCombinational (core_netlist sibling) q → Contains (process (core_netlist sibling) q).reads n → n ≡ 0
     read zero n c r = sym (Contains-one 0 n r)
     read (suc zero) n c r = sym (Contains-one 0 n r)
     read (suc (suc q)) n c r = let l = c.0 in absurd (omega arith)
 
-    driven : (p place : ℕ) → HasPlace (core_net sibling) p place → target (core_net sibling) p place ≡ 0 → ⊥
+    driven : (p place : ℕ) → HasPlace (core_netlist sibling) p place → target (core_netlist sibling) p place ≡ 0 → ⊥
     driven zero zero h e = cc
     driven zero (suc place) h e = absurd (omega arith)
     driven (suc zero) zero h e = cc
     driven (suc zero) (suc place) h e = absurd (omega arith)
     driven (suc (suc p)) place h e = absurd (omega arith)
 
-    go : (p q place : ℕ) → HasPlace (core_net sibling) p place → IsCombinational (core_net sibling) q → Contains (process (core_net sibling) q).reads (target (core_net sibling) p place) → ⊥
-    go p q place h c r = driven p place h (read q (target (core_net sibling) p place) c r)
+    go : (p q place : ℕ) → HasPlace (core_netlist sibling) p place → IsCombinational (core_netlist sibling) q → Contains (process (core_netlist sibling) q).reads (target (core_netlist sibling) p place) → ⊥
+    go p q place h c r = driven p place h (read q (target (core_netlist sibling) p place) c r)
 
 pub levels_would_miss : LevelsWouldMiss
 levels_would_miss = record {
@@ -59,29 +59,29 @@ levels_would_miss = record {
 }
 
 -- the enabled register, moment by moment
-enabled_0 : HasSettled (core_net enabled) enable_drops 0 0 (first_cycle (core_net enabled) (enable_drops 0))
-enabled_0 = starts_in (core_net enabled) enable_drops 0 refl
+enabled_0 : HasSettled (core_netlist enabled) enable_drops 0 0 (first_cycle (core_netlist enabled) (enable_drops 0))
+enabled_0 = starts_in (core_netlist enabled) enable_drops 0 refl
 
 abbrev enabled_state_0 : State
-enabled_state_0 = first_cycle (core_net enabled) (enable_drops 0)
+enabled_state_0 = first_cycle (core_netlist enabled) (enable_drops 0)
 
 abbrev enabled_state_1 : State
-enabled_state_1 = after (core_net enabled) 1 (next_cycle (core_net enabled) (enable_drops 1) enabled_state_0)
+enabled_state_1 = after (core_netlist enabled) 1 (next_cycle (core_netlist enabled) (enable_drops 1) enabled_state_0)
 
 abbrev enabled_state_2 : State
-enabled_state_2 = next_cycle (core_net enabled) (enable_drops 2) enabled_state_1
+enabled_state_2 = next_cycle (core_netlist enabled) (enable_drops 2) enabled_state_1
 
 abbrev enabled_state_3 : State
-enabled_state_3 = next_cycle (core_net enabled) (enable_drops 3) enabled_state_2
+enabled_state_3 = next_cycle (core_netlist enabled) (enable_drops 3) enabled_state_2
 
-enabled_1 : HasSettled (core_net enabled) enable_drops 1 1 enabled_state_1
-enabled_1 = goes_on (core_net enabled) enable_drops 0 0 enabled_state_0 1 enabled_0 refl
+enabled_1 : HasSettled (core_netlist enabled) enable_drops 1 1 enabled_state_1
+enabled_1 = goes_on (core_netlist enabled) enable_drops 0 0 enabled_state_0 1 enabled_0 refl
 
-enabled_2 : HasSettled (core_net enabled) enable_drops 2 0 enabled_state_2
-enabled_2 = goes_on (core_net enabled) enable_drops 1 1 enabled_state_1 0 enabled_1 refl
+enabled_2 : HasSettled (core_netlist enabled) enable_drops 2 0 enabled_state_2
+enabled_2 = goes_on (core_netlist enabled) enable_drops 1 1 enabled_state_1 0 enabled_1 refl
 
-enabled_3 : HasSettled (core_net enabled) enable_drops 3 0 enabled_state_3
-enabled_3 = goes_on (core_net enabled) enable_drops 2 0 enabled_state_2 0 enabled_2 refl
+enabled_3 : HasSettled (core_netlist enabled) enable_drops 3 0 enabled_state_3
+enabled_3 = goes_on (core_netlist enabled) enable_drops 2 0 enabled_state_2 0 enabled_2 refl
 
 pub register_would_fall_back : RegisterWouldFallBack
 register_would_fall_back = record {
@@ -93,29 +93,29 @@ register_would_fall_back = record {
 }
 
 -- the two registers
-shift_0 : HasSettled (core_net shift) shift_edge 0 0 (first_cycle (core_net shift) (shift_edge 0))
-shift_0 = starts_in (core_net shift) shift_edge 0 refl
+shift_0 : HasSettled (core_netlist shift) shift_edge 0 0 (first_cycle (core_netlist shift) (shift_edge 0))
+shift_0 = starts_in (core_netlist shift) shift_edge 0 refl
 
-shift_1 : HasSettled (core_net shift) shift_edge 1 1 (after (core_net shift) 1 (next_cycle (core_net shift) (shift_edge 1) (first_cycle (core_net shift) (shift_edge 0))))
-shift_1 = goes_on (core_net shift) shift_edge 0 0 (first_cycle (core_net shift) (shift_edge 0)) 1 shift_0 refl
+shift_1 : HasSettled (core_netlist shift) shift_edge 1 1 (after (core_netlist shift) 1 (next_cycle (core_netlist shift) (shift_edge 1) (first_cycle (core_netlist shift) (shift_edge 0))))
+shift_1 = goes_on (core_netlist shift) shift_edge 0 0 (first_cycle (core_netlist shift) (shift_edge 0)) 1 shift_0 refl
 
 pub register_would_run_ahead : RegisterWouldRunAhead
 register_would_run_ahead = record {
   fit = sound_by shift (λ p. 1) refl;
-  earlier = (0, first_cycle (core_net shift) (shift_edge 0), shift_0, refl);
-  simulated = (1, after (core_net shift) 1 (next_cycle (core_net shift) (shift_edge 1) (first_cycle (core_net shift) (shift_edge 0))), shift_1, refl);
+  earlier = (0, first_cycle (core_netlist shift) (shift_edge 0), shift_0, refl);
+  simulated = (1, after (core_netlist shift) 1 (next_cycle (core_netlist shift) (shift_edge 1) (first_cycle (core_netlist shift) (shift_edge 0))), shift_1, refl);
   right = refl;
   wrong = refl;
 }
 
 -- the register at the falling edge
-falling_0 : HasSettled (core_net falls) both_change 0 0 (first_cycle (core_net falls) (both_change 0))
-falling_0 = starts_in (core_net falls) both_change 0 refl
+falling_0 : HasSettled (core_netlist falls) both_change 0 0 (first_cycle (core_netlist falls) (both_change 0))
+falling_0 = starts_in (core_netlist falls) both_change 0 refl
 
-falling_1 : HasSettled (core_net falls) both_change 1 1 (after (core_net falls) 1 (next_cycle (core_net falls) (both_change 1) (first_cycle (core_net falls) (both_change 0))))
-falling_1 = goes_on (core_net falls) both_change 0 0 (first_cycle (core_net falls) (both_change 0)) 1 falling_0 refl
+falling_1 : HasSettled (core_netlist falls) both_change 1 1 (after (core_netlist falls) 1 (next_cycle (core_netlist falls) (both_change 1) (first_cycle (core_netlist falls) (both_change 0))))
+falling_1 = goes_on (core_netlist falls) both_change 0 0 (first_cycle (core_netlist falls) (both_change 0)) 1 falling_0 refl
 
-falling_clock : (p clock : ℕ) (edge : Edge) → IsClockedBy (core_net falls) p clock edge → (clock ≡ 0) × (edge ≡ Falling)
+falling_clock : (p clock : ℕ) (edge : Edge) → IsClockedBy (core_netlist falls) p clock edge → (clock ≡ 0) × (edge ≡ Falling)
 falling_clock zero clock edge (reset, h) = (cc, cc)
 falling_clock (suc p) clock edge (reset, h) = cc
 
@@ -134,7 +134,7 @@ race_would_pass = record {
     changes = λ e. cc;
   };
   wrong = λ race. let (z, e) = falling_clock race.0.process race.0.clock race.0.edge race.0.clocked in let r = race.1 in cc;
-  earlier = (0, first_cycle (core_net falls) (both_change 0), falling_0, refl);
-  simulated = (1, after (core_net falls) 1 (next_cycle (core_net falls) (both_change 1) (first_cycle (core_net falls) (both_change 0))), falling_1, refl);
+  earlier = (0, first_cycle (core_netlist falls) (both_change 0), falling_0, refl);
+  simulated = (1, after (core_netlist falls) 1 (next_cycle (core_netlist falls) (both_change 1) (first_cycle (core_netlist falls) (both_change 0))), falling_1, refl);
   machine = refl;
 }

@@ -1,4 +1,4 @@
--- Tests of a flat net of which all is known: that it is in range, connected, and accepted.
+-- Tests of a flat netlist of which all is known: that it is in range, connected, and accepted.
 use Rattle.std.proofs.Common.{◌≡◌, ℕ, zero, suc, ◌+◌, ◌<◌, ◌≤◌, Bool, true, false, cond, not, ◌&&◌, ◌||◌, ◌==◌, nat_lt, nat_le, List, [], ◌∷◌, ◌++◌}
 use Rattle.std.proofs.Common.{length, map, slice_get, slice_index, slice_index_or, Option, Some, None, refl, sym, ap, ◌∙◌, subst, arith, ◌⊎◌, inl, inr, Contains, All, length-append}
 use Rattle.std.proofs.lemmas.Bool.{and_parts, or_cases, not-true, eqb-true, ltb-true, leb-true, cases_lt}
@@ -7,14 +7,14 @@ use Rattle.std.proofs.lemmas.Option.{slice_get_within}
 use Rattle.rtl_model.specs.basics.Lists.{is_empty}
 use Rattle.rtl_model.specs.bodies.Stored.{stores_element}
 use Rattle.rtl_model.specs.bodies.Types.{ElementType, nine_valued, enumeration, limit_of, IsByte, HasType}
-use Rattle.rtl_model.specs.nets.FlatNet as flat
-use Rattle.rtl_model.specs.nets.FlatNet.{FlatDriver, FlatVariable, FlatProcess, FlatNet, targets, starts, element_starts, scope_of, flat_sources}
-use Rattle.rtl_model.specs.nets.FlatNet.{DriverInRange, VariableInRange, ProcessInRange, IsInRange}
-use Rattle.rtl_model.specs.nets.CoreNet.{core_net, core_resolve, core_process, element_number, raised_by, stores_one}
+use Rattle.rtl_model.specs.nets.FlatNetlist as flat
+use Rattle.rtl_model.specs.nets.FlatNetlist.{FlatDriver, FlatVariable, FlatProcess, FlatNetlist, targets, starts, element_starts, scope_of, flat_sources}
+use Rattle.rtl_model.specs.nets.FlatNetlist.{DriverInRange, VariableInRange, ProcessInRange, IsInRange}
+use Rattle.rtl_model.specs.nets.CoreNetlist.{core_netlist, core_resolve, core_process, element_number, raised_by, stores_one}
 use Rattle.rtl_model.specs.nets.Wiring.{IsConnected}
 use Rattle.rtl_model.specs.nets.Laws.{IsSound}
-use Rattle.rtl_model.specs.simulation.Net as c
-use Rattle.rtl_model.specs.simulation.Net.{Source}
+use Rattle.rtl_model.specs.simulation.Netlist as c
+use Rattle.rtl_model.specs.simulation.Netlist.{Source}
 use Rattle.rtl_model.specs.simulation.Cycle.{source_value}
 use Rattle.rtl_model.proofs.basics.Lists.{Contains-none, Contains-first, is_nil}
 use Rattle.rtl_model.proofs.nets.Connected.{source_below}
@@ -98,15 +98,15 @@ is_process types p h =
 
 -- ---- nets
 
-abbrev net_fits : FlatNet → ℕ → Bool
+abbrev net_fits : FlatNetlist → ℕ → Bool
 net_fits net n = value_fits net.types n (slice_index net.start n) && all_in (value_fits net.types n) (slice_index_or net.idle n [])
 
-abbrev is_in_range : FlatNet → Bool
+abbrev is_in_range : FlatNetlist → Bool
 is_in_range net =
     ((length net.start == length net.types) && ((length net.idle == length net.types) && all_in is_byte net.types))
     && (all_below (net_fits net) (length net.types) && ((rises net.inputs && all_in (has_type net.types nine_valued) net.inputs) && all_in (process_fits net.types) net.processes))
 
-module _ (net : FlatNet) (h : is_in_range net ≡ true) where
+module _ (net : FlatNetlist) (h : is_in_range net ≡ true) where
   parts : ((length net.start == length net.types) && ((length net.idle == length net.types) && all_in is_byte net.types) ≡ true)
       × (all_below (net_fits net) (length net.types) && ((rises net.inputs && all_in (has_type net.types nine_valued) net.inputs) && all_in (process_fits net.types) net.processes) ≡ true)
   parts = and_parts ((length net.start == length net.types) && ((length net.idle == length net.types) && all_in is_byte net.types)) _ h
@@ -141,15 +141,15 @@ module _ (net : FlatNet) (h : is_in_range net ≡ true) where
         processes = all_of (ProcessInRange net.types) (process_fits net.types) (is_process net.types) net.processes g;
       }
 
-abbrev start_fits : FlatNet → ℕ → List Source → Bool
+abbrev start_fits : FlatNetlist → ℕ → List Source → Bool
 start_fits net n sources = is_empty sources || (slice_index net.start n == core_resolve (map (source_value (map starts net.processes)) sources))
 
-abbrev is_connected : FlatNet → Bool
+abbrev is_connected : FlatNetlist → Bool
 is_connected net =
     all_in (λ n. is_empty (flat_sources net n)) net.inputs
     && all_below (λ n. start_fits net n (flat_sources net n) && (nat_lt (length (flat_sources net n)) 2 || has_type net.types nine_valued n)) (length net.types)
 
-connected_by : (net : FlatNet) → IsInRange net → is_connected net ≡ true → IsConnected net
+connected_by : (net : FlatNetlist) → IsInRange net → is_connected net ≡ true → IsConnected net
 connected_by net in_range h =
     let (a, b) = and_parts (all_in (λ n. is_empty (flat_sources net n)) net.inputs) _ h in
     record {
@@ -214,27 +214,27 @@ forgets_all inputs p h which place s = go (element_number p.variables which plac
 
 -- ---- a sound net, given a numbering of its processes that rises
 
-abbrev is_sound : FlatNet → (number : ℕ → ℕ) → Bool
-is_sound net number = (is_in_range net && is_connected net) && (is_accepted (core_net net) number && all_in forgets net.processes)
+abbrev is_sound : FlatNetlist → (number : ℕ → ℕ) → Bool
+is_sound net number = (is_in_range net && is_connected net) && (is_accepted (core_netlist net) number && all_in forgets net.processes)
 
 -- a net that passes the first two, accepted or not
-pub fits_by : (net : FlatNet) → (is_in_range net && is_connected net) ≡ true → IsInRange net × IsConnected net
+pub fits_by : (net : FlatNetlist) → (is_in_range net && is_connected net) ≡ true → IsInRange net × IsConnected net
 fits_by net h =
     let (d, e) = and_parts (is_in_range net) (is_connected net) h in
     (in_range net d, connected_by net (in_range net d) e)
 
-pub sound_by : (net : FlatNet) (number : ℕ → ℕ) → is_sound net number ≡ true → IsSound net
+pub sound_by : (net : FlatNetlist) (number : ℕ → ℕ) → is_sound net number ≡ true → IsSound net
 sound_by net number h =
     let (a, b) = and_parts (is_in_range net && is_connected net) _ h in
     let (d, e) = and_parts (is_in_range net) (is_connected net) a in
-    let (f, g) = and_parts (is_accepted (core_net net) number) (all_in forgets net.processes) b in
+    let (f, g) = and_parts (is_accepted (core_netlist net) number) (all_in forgets net.processes) b in
     record {
       in_range = in_range net d;
       connected = connected_by net (in_range net d) e;
-      accepted = accepted_by (core_net net) number f (forgets_each g);
+      accepted = accepted_by (core_netlist net) number f (forgets_each g);
     }
   where
-    forgets_each : all_in forgets net.processes ≡ true → (p which place : ℕ) → (c.process (core_net net) p).stores which place ≡ true → ⊥
+    forgets_each : all_in forgets net.processes ≡ true → (p which place : ℕ) → (c.process (core_netlist net) p).stores which place ≡ true → ⊥
     forgets_each g p which place = rw (process-core_net net p) (λ s. forgets_all net.inputs (flat.process_at net p) (forgetting g p) which place s)
       where
         forgetting : all_in forgets net.processes ≡ true → (p : ℕ) → forgets (flat.process_at net p) ≡ true

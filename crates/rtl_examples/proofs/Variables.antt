@@ -1,6 +1,6 @@
 -- What processes with variables compute and store.
 use Rattle.std.proofs.Common.{[], ◌∷◌, refl, arith}
-use Rattle.rtl_model.specs.nets.CoreNet.{core_net}
+use Rattle.rtl_model.specs.nets.CoreNetlist.{core_netlist}
 use Rattle.rtl_examples.specs.Variables.{par, inputs_of, VariablesOfNets, VariableWouldBeKept, StoredWouldPass}
 use Rattle.rtl_model.proofs.simulation.Deltas.{after}
 use Rattle.rtl_examples.proofs.Computing.{first_cycle, starts_in}
@@ -9,8 +9,8 @@ use Rattle.rtl_examples.proofs.Sound.{sound_by}
 pub variables_of_nets : VariablesOfNets
 variables_of_nets = record {
   sound = sound_by par (λ p. 1) refl;
-  of_bits = (1, after (core_net par) 1 (first_cycle (core_net par) (inputs_of (3 ∷ 2 ∷ 3 ∷ 3 ∷ []) 0)), starts_in (core_net par) (inputs_of (3 ∷ 2 ∷ 3 ∷ 3 ∷ [])) 1 refl, refl);
-  of_unknown = (1, after (core_net par) 1 (first_cycle (core_net par) (inputs_of (3 ∷ 2 ∷ 1 ∷ 3 ∷ []) 0)), starts_in (core_net par) (inputs_of (3 ∷ 2 ∷ 1 ∷ 3 ∷ [])) 1 refl, refl);
+  of_bits = (1, after (core_netlist par) 1 (first_cycle (core_netlist par) (inputs_of (3 ∷ 2 ∷ 3 ∷ 3 ∷ []) 0)), starts_in (core_netlist par) (inputs_of (3 ∷ 2 ∷ 3 ∷ 3 ∷ [])) 1 refl, refl);
+  of_unknown = (1, after (core_netlist par) 1 (first_cycle (core_netlist par) (inputs_of (3 ∷ 2 ∷ 1 ∷ 3 ∷ []) 0)), starts_in (core_netlist par) (inputs_of (3 ∷ 2 ∷ 1 ∷ 3 ∷ [])) 1 refl, refl);
   without_first = refl;
   with_if = refl;
   of_vector = refl;

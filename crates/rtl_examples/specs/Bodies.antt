@@ -10,7 +10,7 @@ use Rattle.vhdl_values.specs.declared.kinds.Edge.TheVariants as v
 use Rattle.rtl_model.specs.bodies.Body.{logical, joined, plus, minus, times, Expr, signal, variable, constant}
 use Rattle.rtl_model.specs.bodies.Body.{inverse, filled, binary, resized, shifted_left, shifted_right, elements, position, position_of, position_in}
 use Rattle.rtl_model.specs.bodies.Body.{Test, condition, decided, equal, unequal, level, compared, compared_to, rising, falling, event}
-use Rattle.rtl_model.specs.bodies.Body.{negated, combined, Stmt, nothing, assign, set, if_of, case_of, Stmts, done, step}
+use Rattle.rtl_model.specs.bodies.Body.{negated, combined, Stmt, null_of, assign, set, if_of, case_of, Stmts, done, step}
 use Rattle.rtl_model.specs.bodies.Body.{no_else, otherwise, branch, others, alternative}
 use Rattle.rtl_model.specs.bodies.Values.{Seen, elements_of}
 use Rattle.rtl_model.specs.bodies.Tests.{is_met}
@@ -18,8 +18,8 @@ use Rattle.rtl_model.specs.bodies.Effect.{effect}
 use Rattle.rtl_model.specs.bodies.Reads.{reads, events}
 use Rattle.rtl_model.specs.bodies.Assigns.{of_drivers, must_assign}
 use Rattle.rtl_model.specs.bodies.Stored.{stores_element}
-use Rattle.rtl_model.specs.nets.CoreNet.{drives_net, core_process}
-use Rattle.rtl_model.specs.simulation.Net.{Kind, Combinational, Clocked, Mixed, Reset}
+use Rattle.rtl_model.specs.nets.CoreNetlist.{drives_net, core_process}
+use Rattle.rtl_model.specs.simulation.Netlist.{ProcessKind, Combinational, Clocked, Mixed, Reset}
 
 -- ---- words to write bodies with
 
@@ -70,7 +70,7 @@ abbrev pub rising_clk : Test
 rising_clk = rising 0
 
 -- the kind of a process with one driver
-abbrev pub kind_of : Stmts → Kind
+abbrev pub kind_of : Stmts → ProcessKind
 kind_of body = (core_process (0 ∷ 1 ∷ []) (record { drivers = record { net = 5; start = 0 } ∷ []; wakes = []; variables = []; body = body })).kind
 
 pub record KindsOfBodies : Type 0 where
@@ -95,9 +95,9 @@ pub record KindsOfBodies : Type 0 where
   pub named_constant : kind_of (on (combined And clk_event (equal (elements (one_signal 0)) (elements (text (One ∷ [])))))) ≡ Mixed
   pub level_reversed : kind_of (on (combined And clk_event (level false 0 One))) ≡ Mixed
   -- `else null;`, an elsif, a second statement, and an edge test within the branch
-  pub with_else : kind_of (step (if_of (branch rising_clk load (otherwise (step nothing done)))) done) ≡ Mixed
+  pub with_else : kind_of (step (if_of (branch rising_clk load (otherwise (step null_of done)))) done) ≡ Mixed
   pub with_elsif : kind_of (if_elsif rising_clk load (is_at 1 One) load) ≡ Mixed
-  pub with_more : kind_of (step (if_of (branch rising_clk load no_else)) (step nothing done)) ≡ Mixed
+  pub with_more : kind_of (step (if_of (branch rising_clk load no_else)) (step null_of done)) ≡ Mixed
   pub with_event : kind_of (if_only rising_clk (on clk_event)) ≡ Mixed
 
 -- a reset that holds at this value, with these entries
@@ -110,7 +110,7 @@ pub record KindsOfResets : Type 0 where
   -- `'0' = rst`, or a side in parentheses
   pub turned_round : kind_of (if_elsif (level false 1 Zero) low rising_clk load) ≡ Clocked 0 v.Rising (reset_at 2 (Some 2 ∷ []))
   -- `null; q <= (others => '0');`, and nothing
-  pub with_null : kind_of (if_elsif (is_at 1 One) (step nothing (assigned (filled 1 (text (Zero ∷ []))))) rising_clk load)
+  pub with_null : kind_of (if_elsif (is_at 1 One) (step null_of (assigned (filled 1 (text (Zero ∷ []))))) rising_clk load)
       ≡ Clocked 0 v.Rising (reset_at 3 (Some 2 ∷ []))
   pub of_nothing : kind_of (if_elsif (is_at 1 One) done rising_clk load) ≡ Clocked 0 v.Rising (reset_at 3 (None ∷ []))
   -- a net that is no input, a level of 'X', a declared constant, another test
@@ -239,10 +239,10 @@ pub record AssignsOfBodies : Type 0 where
   pub without_else : assigns 6 (if_only (is_at 1 One) (one_stmt (to_place 2))) ≡ false
   pub with_default : assigns 6 (step (to_place 2) (if_only (is_at 1 One) (one_stmt (to_place 2)))) ≡ true
   pub with_else : assigns 6 (one_stmt (if_else (to_place 2) (to_place 2))) ≡ true
-  pub with_null : assigns 6 (one_stmt (if_else (to_place 2) nothing)) ≡ false
+  pub with_null : assigns 6 (one_stmt (if_else (to_place 2) null_of)) ≡ false
   -- an else doesn't help where an elsif is left out
   pub elsif_left_out : assigns 6
-      (one_stmt (if_of (branch (is_at 1 One) (one_stmt (to_place 2)) (branch (is_at 0 One) (one_stmt nothing) (otherwise (one_stmt (to_place 2)))))))
+      (one_stmt (if_of (branch (is_at 1 One) (one_stmt (to_place 2)) (branch (is_at 0 One) (one_stmt null_of) (otherwise (one_stmt (to_place 2)))))))
       ≡ false
   -- one net under two names, each assigned in one branch
   pub two_names : assigns 5 (one_stmt (if_else (to_place 0) (to_place 1))) ≡ true
@@ -251,7 +251,7 @@ pub record AssignsOfBodies : Type 0 where
   pub each_alternative : assigns 6
       (one_stmt (case_of (elements (one_signal 1)) (alternative ((3 ∷ []) ∷ []) (one_stmt (to_place 2)) (others (one_stmt (to_place 2)))))) ≡ true
   pub no_alternative : assigns 6
-      (one_stmt (case_of (elements (one_signal 1)) (alternative ((3 ∷ []) ∷ []) (one_stmt (to_place 2)) (others (one_stmt nothing))))) ≡ false
+      (one_stmt (case_of (elements (one_signal 1)) (alternative ((3 ∷ []) ∷ []) (one_stmt (to_place 2)) (others (one_stmt null_of))))) ≡ false
 
 -- ---- variables: a is net 2, which has '1'; b net 1, which has 'X'; elements 0 and 1
 
@@ -334,7 +334,7 @@ of_each_form =
     branch (combined And (event 7) (level true 8 One)) (assigned (shifted_left 1 (one_signal 9))) (
     branch (compared Lt (one_signal 10) (one_signal 11)) (assigned (shifted_right 1 (one_signal 12))) (
     branch (negated (compared_to Eq (one_signal 13) 7)) (step (set_one 0 (one_signal 14)) done) (
-    otherwise (step nothing done)))))))) (
+    otherwise (step null_of done)))))))) (
     step (case_of (position_of 15) (alternative ((1 ∷ []) ∷ []) (on (rising 16)) (others (on (falling 17))))) (
     step (assign (0 ∷ 1 ∷ []) (elements (binary joined (binary plus (one_signal 18) (text (One ∷ []))) (signal (19 ∷ 20 ∷ []))))) (
     step (if_of (branch (combined And (decided true) (equal (position_in 0) (elements (variable (0 ∷ 1 ∷ []))))) done no_else)) done)))

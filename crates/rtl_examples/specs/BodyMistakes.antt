@@ -13,8 +13,8 @@ use Rattle.rtl_model.specs.bodies.Effect.{Entries, no_entries, later_over, stmt_
 use Rattle.rtl_model.specs.bodies.Assigns.{Target, of_drivers, must_assign, branches_must_assign}
 use Rattle.rtl_model.specs.bodies.Kinds.{edge_test}
 use Rattle.rtl_model.specs.bodies.Types.{nine_valued}
-use Rattle.rtl_model.specs.nets.FlatNet.{FlatNet}
-use Rattle.rtl_model.specs.nets.CoreNet.{core_net}
+use Rattle.rtl_model.specs.nets.FlatNetlist.{FlatNetlist}
+use Rattle.rtl_model.specs.nets.CoreNetlist.{core_netlist}
 use Rattle.rtl_model.specs.simulation.Accepted.{Latch, IsFault}
 use Rattle.rtl_model.specs.simulation.Machine.{Solves}
 use Rattle.rtl_examples.specs.Bodies.{one_signal, text, assigned, low, is_at, if_only, on, clk_event}
@@ -35,7 +35,7 @@ branches_assign_without_else these (branch t s bs) = must_assign these s && bran
 abbrev pub latch_branches : Branches
 latch_branches = branch (is_at 1 One) (assigned (one_signal 0)) no_else
 
-abbrev pub latch : FlatNet
+abbrev pub latch : FlatNetlist
 latch = record {
   types = nine_valued ∷ nine_valued ∷ nine_valued ∷ [];
   start = 0 ∷ 0 ∷ 0 ∷ [];
@@ -51,9 +51,9 @@ latch = record {
 pub record LatchWouldPass : Type 0 where
   pub right : branches_must_assign (of_drivers (λ place. place == 0)) latch_branches ≡ false
   pub wrong : branches_assign_without_else (of_drivers (λ place. place == 0)) latch_branches ≡ true
-  pub is_fault : IsFault (core_net latch) (Latch 0 2)
+  pub is_fault : IsFault (core_netlist latch) (Latch 0 2)
   pub no_entry : effect (sees (3 ∷ 2 ∷ 0 ∷ []) (3 ∷ 2 ∷ 0 ∷ [])) (if_only (is_at 1 One) (assigned (one_signal 0))) 0 ≡ None
-  pub no_solution : (registers : ℕ → ℕ) (v : List ℕ) → Solves (core_net latch) (λ n. 2) registers v → ⊥
+  pub no_solution : (registers : ℕ → ℕ) (v : List ℕ) → Solves (core_netlist latch) (λ n. 2) registers v → ⊥
 
 -- ---- a later assignment doesn't replace an earlier one
 

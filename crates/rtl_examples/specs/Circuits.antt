@@ -3,8 +3,8 @@
 use Rattle.std.specs.Prelude.{◌≡◌, ℕ, List, [], ◌∷◌, map}
 use Rattle.rtl_model.specs.bodies.Body.{Stmts}
 use Rattle.rtl_model.specs.bodies.Types.{nine_valued}
-use Rattle.rtl_model.specs.nets.FlatNet.{FlatProcess, FlatNet}
-use Rattle.rtl_model.specs.simulation.Net.{Net}
+use Rattle.rtl_model.specs.nets.FlatNetlist.{FlatProcess, FlatNetlist}
+use Rattle.rtl_model.specs.simulation.Netlist.{Netlist}
 use Rattle.rtl_model.specs.simulation.Cycle.{State}
 use Rattle.rtl_model.specs.simulation.Moments.{HasSettled}
 
@@ -13,7 +13,7 @@ abbrev pub drives_one : (target start : ℕ) → (wakes : List ℕ) → Stmts �
 drives_one target start wakes body = record { drivers = record { net = target; start = start } ∷ []; wakes = wakes; variables = []; body = body }
 
 -- without idle ports
-abbrev pub circuit : (inputs start : List ℕ) → List FlatProcess → FlatNet
+abbrev pub circuit : (inputs start : List ℕ) → List FlatProcess → FlatNetlist
 circuit inputs start processes = record {
   types = map (λ n. nine_valued) start;
   start = start;
@@ -23,5 +23,5 @@ circuit inputs start processes = record {
 }
 
 -- at the moment m the net settles in this valuation
-abbrev pub SettlesAs : Net → (stimulus : ℕ → ℕ → ℕ) → (m : ℕ) → (v : List ℕ) → Type 0
+abbrev pub SettlesAs : Netlist → (stimulus : ℕ → ℕ → ℕ) → (m : ℕ) → (v : List ℕ) → Type 0
 SettlesAs net stimulus m v = (k : ℕ) × (t : State) × HasSettled net stimulus m k t × (t.now ≡ v)

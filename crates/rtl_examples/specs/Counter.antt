@@ -1,4 +1,4 @@
--- A counter as a flat net: it is in range, connected and accepted, and its simulation counts.
+-- A counter as a flat netlist: it is in range, connected and accepted, and its simulation counts.
 --
 --     process (clk) begin if rising_edge(clk) then q <= q + 1; end if; end process;
 --     y <= std_logic_vector(q);
@@ -8,8 +8,8 @@ use Rattle.std.specs.Prelude.{ℕ, [], ◌∷◌, slice_index}
 use Rattle.vhdl_values.specs.declared.scalar.Nine.TheVariants.{Zero, One}
 use Rattle.rtl_model.specs.bodies.Body.{plus, Expr, constant, binary, elements, assign, Stmts, done, step}
 use Rattle.rtl_model.specs.bodies.Types.{nine_valued}
-use Rattle.rtl_model.specs.nets.FlatNet.{FlatDriver, FlatProcess, FlatNet}
-use Rattle.rtl_model.specs.nets.CoreNet.{core_net}
+use Rattle.rtl_model.specs.nets.FlatNetlist.{FlatDriver, FlatProcess, FlatNetlist}
+use Rattle.rtl_model.specs.nets.CoreNetlist.{core_netlist}
 use Rattle.rtl_model.specs.simulation.Moments.{Takes}
 use Rattle.rtl_model.specs.nets.Laws.{IsSound}
 use Rattle.rtl_examples.specs.Bodies.{pair, if_only, rising_clk}
@@ -33,7 +33,7 @@ counting = record {
 abbrev pub showing : FlatProcess
 showing = record { drivers = driver 1 0 ∷ driver 2 0 ∷ []; wakes = 3 ∷ 4 ∷ []; variables = []; body = assigned_pair (pair 3 4) }
 
-abbrev pub counter : FlatNet
+abbrev pub counter : FlatNetlist
 counter = record {
   types = nine_valued ∷ nine_valued ∷ nine_valued ∷ nine_valued ∷ nine_valued ∷ [];
   start = 0 ∷ 0 ∷ 0 ∷ 2 ∷ 2 ∷ [];
@@ -48,9 +48,9 @@ clock m n = slice_index (2 ∷ 3 ∷ 2 ∷ 3 ∷ []) m
 
 pub record CounterCounts : Type 0 where
   pub sound : IsSound counter
-  pub at_start : SettlesAs (core_net counter) clock 0 (2 ∷ 2 ∷ 2 ∷ 2 ∷ 2 ∷ [])
-  pub first_edge : SettlesAs (core_net counter) clock 1 (3 ∷ 2 ∷ 3 ∷ 2 ∷ 3 ∷ [])
-  pub no_edge : SettlesAs (core_net counter) clock 2 (2 ∷ 2 ∷ 3 ∷ 2 ∷ 3 ∷ [])
-  pub second_edge : SettlesAs (core_net counter) clock 3 (3 ∷ 3 ∷ 2 ∷ 3 ∷ 2 ∷ [])
+  pub at_start : SettlesAs (core_netlist counter) clock 0 (2 ∷ 2 ∷ 2 ∷ 2 ∷ 2 ∷ [])
+  pub first_edge : SettlesAs (core_netlist counter) clock 1 (3 ∷ 2 ∷ 3 ∷ 2 ∷ 3 ∷ [])
+  pub no_edge : SettlesAs (core_netlist counter) clock 2 (2 ∷ 2 ∷ 3 ∷ 2 ∷ 3 ∷ [])
+  pub second_edge : SettlesAs (core_netlist counter) clock 3 (3 ∷ 3 ∷ 2 ∷ 3 ∷ 2 ∷ [])
   -- one delta cycle for the register, and one for what follows it
-  pub edge_takes_two : Takes (core_net counter) clock 1 2
+  pub edge_takes_two : Takes (core_netlist counter) clock 1 2

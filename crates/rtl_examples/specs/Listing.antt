@@ -1,13 +1,13 @@
 -- What is printed of a counter (its top named cnt), and lines of other designs.
 use Rattle.std.specs.Prelude.{◌≡◌, ℕ, true, false, List, [], ◌∷◌, ◌++◌, Option, Some, None, codes}
-use Rattle.rtl_model.specs.nets.FlatNet.{FlatNet, FlatProcess}
+use Rattle.rtl_model.specs.nets.FlatNetlist.{FlatNetlist, FlatProcess}
 use Rattle.rtl_model.specs.bodies.Types.{nine_valued, enumeration}
-use Rattle.rtl_model.specs.simulation.Net.{Driver, Idle}
+use Rattle.rtl_model.specs.simulation.Netlist.{Driver, Idle}
 use Rattle.rtl_model.specs.simulation.Accepted.{TwoDrivers, MixedProcess, ClockNotInput, Loop}
 use Rattle.rtl_examples.specs.Counter as example
 use Rattle.rtl_net.specs.declared.process.Process.{Process}
 use Rattle.rtl_net.specs.declared.signal.SignalKind.TheVariants.{One, Vector}
-use Rattle.rtl_net.specs.Nets.{NetView, ScopeView, process_view}
+use Rattle.rtl_net.specs.Nets.{NetlistView, ScopeView, process_view}
 use Rattle.rtl_check.specs.declared.reporting.Report.{Report}
 use Rattle.rtlsim_listing.specs.NetText.{net_text, start_text, driven_text}
 use Rattle.rtlsim_listing.specs.CheckText.{report_text, level_of, line_of}
@@ -27,7 +27,7 @@ abbrev pub top : List ℕ → List ScopeView
 top name = record { label = name; parent = None } ∷ []
 
 -- `entity cnt`, with ports clk and y and the signal q
-abbrev pub cnt : (counting showing : Process) → NetView
+abbrev pub cnt : (counting showing : Process) → NetlistView
 cnt counting showing = record {
   types = nine_valued ∷ nine_valued ∷ nine_valued ∷ nine_valued ∷ nine_valued ∷ [];
   starts = 0 ∷ 0 ∷ 0 ∷ 2 ∷ 2 ∷ [];
@@ -56,7 +56,7 @@ CounterIsReported =
 -- ---- other designs
 
 -- a net of the top of this name with these processes and nothing else
-abbrev pub of_processes : (name : List ℕ) → List Process → NetView
+abbrev pub of_processes : (name : List ℕ) → List Process → NetlistView
 of_processes name processes = record {
   types = [];
   starts = [];
@@ -81,7 +81,7 @@ LevelIsListed =
 
 -- Faults of the counter, had it these; a net without a source, one with two drivers and an idle port, and what an
 -- enumeration starts with.
-pub record AreListed (net : NetView) : Type 0 where
+pub record AreListed (net : NetlistView) : Type 0 where
   pub two_drivers : line_of net (TwoDrivers 1 (Driver 1 0) (Idle 0)) ≡ codes "fault 1 TwoDrivers net cnt.y(1) by cnt.#1 and idle\n"
   pub mixed : line_of net (MixedProcess 0) ≡ codes "fault 2 Mixed cnt.#0\n"
   pub clock : line_of net (ClockNotInput 0 3) ≡ codes "fault 3 ClockNotInput cnt.#0 net cnt.q(1)\n"

@@ -8,10 +8,10 @@ use Rattle.rtl_model.specs.bodies.Body.{logical, plus, binary, equal, position, 
 use Rattle.rtl_model.specs.bodies.Body.{case_of, if_of, branch, otherwise, others, alternative}
 use Rattle.rtl_model.specs.bodies.Effect.{effect}
 use Rattle.rtl_model.specs.bodies.Types.{nine_valued, enumeration}
-use Rattle.rtl_model.specs.nets.FlatNet.{FlatNet, flat_sources}
-use Rattle.rtl_model.specs.nets.CoreNet.{core_net}
+use Rattle.rtl_model.specs.nets.FlatNetlist.{FlatNetlist, flat_sources}
+use Rattle.rtl_model.specs.nets.CoreNetlist.{core_netlist}
 use Rattle.rtl_model.specs.nets.Laws.{IsSound}
-use Rattle.rtl_model.specs.simulation.Net.{Driver, Idle, Edge, Rising, Falling, To1, To0}
+use Rattle.rtl_model.specs.simulation.Netlist.{Driver, Idle, Edge, Rising, Falling, To1, To0}
 use Rattle.rtl_model.specs.simulation.Moments.{Takes}
 use Rattle.rtl_model.specs.simulation.Accepted.{TwoDrivers, MixedProcess, EdgeNotSensitive, ClockAsData, MissingSensitivity}
 use Rattle.rtl_model.specs.simulation.Accepted.{Latch, Loop, StoredVariable, IsFault, IsLoop}
@@ -28,7 +28,7 @@ use Rattle.rtl_examples.specs.Toggling.{toggling, one_edge}
 -- ---- sources and loops
 
 -- two processes drive net 0, the first at places 0 and 1, and an idle port holds 'Z' there
-abbrev pub shared : FlatNet
+abbrev pub shared : FlatNetlist
 shared = record {
   types = nine_valued ∷ [];
   start = 0 ∷ [];
@@ -40,7 +40,7 @@ shared = record {
 }
 
 -- one driver and an idle port
-abbrev pub half_idle : FlatNet
+abbrev pub half_idle : FlatNetlist
 half_idle = record {
   types = nine_valued ∷ [];
   start = 0 ∷ [];
@@ -50,23 +50,23 @@ half_idle = record {
 }
 
 -- `x <= z; y <= x; z <= y;`
-abbrev pub ring : FlatNet
+abbrev pub ring : FlatNetlist
 ring = circuit [] (0 ∷ 0 ∷ 0 ∷ []) (
     drives_one 0 0 (2 ∷ []) (assigned (one_signal 2)) ∷ drives_one 1 0 (0 ∷ []) (assigned (one_signal 0)) ∷ drives_one 2 0 (1 ∷ [])
     (assigned (one_signal 1)) ∷ [])
 
 -- process 0 is clocked by c, net 0, and reset by r, net 1; process 1 is clocked by r
-abbrev pub reset_as_clock : FlatNet
+abbrev pub reset_as_clock : FlatNetlist
 reset_as_clock = circuit (0 ∷ 1 ∷ 2 ∷ []) (0 ∷ 0 ∷ 0 ∷ 0 ∷ 0 ∷ []) (
     drives_one 3 0 (0 ∷ 1 ∷ []) (if_elsif (is_at 1 One) low rising_clk load) ∷ drives_one 4 0 (1 ∷ []) (if_only (rising 1) load) ∷ [])
 
 pub record FaultsOfNets : Type 0 where
   pub in_order : flat_sources shared 0 ≡ Driver 0 0 ∷ Driver 0 1 ∷ Driver 1 0 ∷ Idle 4 ∷ []
-  pub first_two : IsFault (core_net shared) (TwoDrivers 0 (Driver 0 0) (Driver 0 1))
-  pub idle_last : IsFault (core_net half_idle) (TwoDrivers 0 (Driver 0 0) (Idle 4))
-  pub loop : IsFault (core_net ring) (Loop (0 ∷ 2 ∷ 1 ∷ []))
-  pub other_way : IsLoop (core_net ring) (0 ∷ 1 ∷ 2 ∷ []) → ⊥
-  pub reset_is_clock : IsFault (core_net reset_as_clock) (ClockAsData 0 1)
+  pub first_two : IsFault (core_netlist shared) (TwoDrivers 0 (Driver 0 0) (Driver 0 1))
+  pub idle_last : IsFault (core_netlist half_idle) (TwoDrivers 0 (Driver 0 0) (Idle 4))
+  pub loop : IsFault (core_netlist ring) (Loop (0 ∷ 2 ∷ 1 ∷ []))
+  pub other_way : IsLoop (core_netlist ring) (0 ∷ 1 ∷ 2 ∷ []) → ⊥
+  pub reset_is_clock : IsFault (core_netlist reset_as_clock) (ClockAsData 0 1)
 
 -- by number, and then by net, by process and net, or by process, variable and element; stored variables last
 pub record OrderOfFaults : Type 0 where
@@ -87,13 +87,13 @@ pub record OrderOfClocks : Type 0 where
 -- ---- reports
 
 -- `x <= a; z <= a; y <= x and z;`  the nets are a, x, z and y
-abbrev pub join : FlatNet
+abbrev pub join : FlatNetlist
 join = circuit (0 ∷ []) (0 ∷ 0 ∷ 0 ∷ 0 ∷ []) (
     drives_one 1 0 (0 ∷ []) (assigned (one_signal 0)) ∷ drives_one 2 0 (0 ∷ []) (assigned (one_signal 0))
     ∷ drives_one 3 0 (1 ∷ 2 ∷ []) (assigned (binary (logical And) (one_signal 1) (one_signal 2))) ∷ [])
 
 -- a register with a reset, which is sensitive to an idle port besides; the nets are clk, rst, the port's, and q
-abbrev pub wakes_on_idle : FlatNet
+abbrev pub wakes_on_idle : FlatNetlist
 wakes_on_idle = record {
   types = nine_valued ∷ nine_valued ∷ nine_valued ∷ nine_valued ∷ [];
   start = 0 ∷ 0 ∷ 4 ∷ 0 ∷ [];
@@ -105,21 +105,21 @@ wakes_on_idle = record {
 pub record ReportsOfNets : Type 0 where
   -- no register: the bound is the greatest level; and of two processes below, `from` is the lowest
   pub sound : IsSound join
-  pub of_levels : bound (core_net join) 2 ≡ 2
-  pub from_lowest : IsFrom (core_net join) 2 (Some 0)
-  pub not_from_other : IsFrom (core_net join) 2 (Some 1) → ⊥
+  pub of_levels : bound (core_netlist join) 2 ≡ 2
+  pub from_lowest : IsFrom (core_netlist join) 2 (Some 0)
+  pub not_from_other : IsFrom (core_netlist join) 2 (Some 1) → ⊥
   -- at level 1 there is no from
-  pub none_at_one : LeadsDown (core_net join) (Some 2 ∷ None ∷ Some 0 ∷ []) 0 1 → ⊥
+  pub none_at_one : LeadsDown (core_netlist join) (Some 2 ∷ None ∷ Some 0 ∷ []) 0 1 → ⊥
   -- an idle port doesn't wake
   pub idle_is_sound : IsSound wakes_on_idle
-  pub idle_bound : bound (core_net wakes_on_idle) 0 ≡ 1
+  pub idle_bound : bound (core_netlist wakes_on_idle) 0 ≡ 1
 
 -- ---- a counter with a reset: the nets are clk, rst, y(1), y(0), q(1) and q(0)
 
 abbrev pub counts : (of_reset : Stmts) → Stmts
 counts of_reset = if_elsif (is_at 1 One) of_reset rising_clk (assigned_pair (binary plus (pair 4 5) (text (Zero ∷ One ∷ []))))
 
-abbrev pub resetting : (wakes : List ℕ) → (of_reset : Stmts) → FlatNet
+abbrev pub resetting : (wakes : List ℕ) → (of_reset : Stmts) → FlatNetlist
 resetting wakes of_reset = record {
   types = nine_valued ∷ nine_valued ∷ nine_valued ∷ nine_valued ∷ nine_valued ∷ nine_valued ∷ [];
   start = 0 ∷ 0 ∷ 0 ∷ 0 ∷ 0 ∷ 0 ∷ [];
@@ -130,7 +130,7 @@ resetting wakes of_reset = record {
       ∷ record { drivers = driver 2 0 ∷ driver 3 0 ∷ []; wakes = 4 ∷ 5 ∷ []; variables = []; body = assigned_pair (pair 4 5) } ∷ [];
 }
 
-abbrev pub rc : FlatNet
+abbrev pub rc : FlatNetlist
 rc = resetting (0 ∷ 1 ∷ []) (assigned_pair (text (Zero ∷ Zero ∷ [])))
 
 -- rst is '1' at moment 0 and '0' at 1; clk rises at 2
@@ -140,13 +140,13 @@ released m n = if n == 0 then (if m == 2 then 3 else 2) else (if m == 0 then 3 e
 pub record ResetsOfNets : Type 0 where
   pub sound : IsSound rc
   -- no net that wakes the register is driven: one delta cycle for it, and one for what follows it
-  pub bound_is : bound (core_net rc) 1 ≡ 2
-  pub held : SettlesAs (core_net rc) released 0 (2 ∷ 3 ∷ 2 ∷ 2 ∷ 2 ∷ 2 ∷ [])
-  pub takes_two : Takes (core_net rc) released 0 2
-  pub one_counted : SettlesAs (core_net rc) released 2 (3 ∷ 2 ∷ 2 ∷ 3 ∷ 2 ∷ 3 ∷ [])
+  pub bound_is : bound (core_netlist rc) 1 ≡ 2
+  pub held : SettlesAs (core_netlist rc) released 0 (2 ∷ 3 ∷ 2 ∷ 2 ∷ 2 ∷ 2 ∷ [])
+  pub takes_two : Takes (core_netlist rc) released 0 2
+  pub one_counted : SettlesAs (core_netlist rc) released 2 (3 ∷ 2 ∷ 2 ∷ 3 ∷ 2 ∷ 3 ∷ [])
   -- not sensitive to its reset, and a reset's branch that reads a signal
-  pub not_sensitive : IsFault (core_net (resetting (0 ∷ []) (assigned_pair (text (Zero ∷ Zero ∷ []))))) (EdgeNotSensitive 0 1)
-  pub reads_signal : IsFault (core_net (resetting (0 ∷ 1 ∷ []) (assigned_pair (pair 4 5)))) (MixedProcess 0)
+  pub not_sensitive : IsFault (core_netlist (resetting (0 ∷ []) (assigned_pair (text (Zero ∷ Zero ∷ []))))) (EdgeNotSensitive 0 1)
+  pub reads_signal : IsFault (core_netlist (resetting (0 ∷ 1 ∷ []) (assigned_pair (pair 4 5)))) (MixedProcess 0)
 
 -- ---- wrong definitions of resets
 
@@ -161,9 +161,9 @@ pub record EdgeWouldWin : Type 0 where
 
 -- wrong: a register's first value without its reset
 pub record ResetWouldBeLeftOut : Type 0 where
-  pub simulated : SettlesAs (core_net (toggling true)) (one_edge true) 0 (2 ∷ 3 ∷ 2 ∷ 3 ∷ [])
-  pub right : register_first (core_net (toggling true)) 0 0 (one_edge true 0) ≡ 2
-  pub wrong : slice_index (core_net (toggling true)).start 2 ≡ 0
+  pub simulated : SettlesAs (core_netlist (toggling true)) (one_edge true) 0 (2 ∷ 3 ∷ 2 ∷ 3 ∷ [])
+  pub right : register_first (core_netlist (toggling true)) 0 0 (one_edge true 0) ≡ 2
+  pub wrong : slice_index (core_netlist (toggling true)).start 2 ≡ 0
 
 -- A reset's branch that reads d has one entry where d is '1' and another where it is '0', so it has none to be given once and
 -- for all.
@@ -173,7 +173,7 @@ pub record ResetWouldRead : Type 0 where
 
 -- ---- an enumeration: a machine of three states, and a process that reads the clock; the nets are clk, state, y and z
 
-abbrev pub states : FlatNet
+abbrev pub states : FlatNetlist
 states = record {
   types = nine_valued ∷ enumeration 3 ∷ nine_valued ∷ nine_valued ∷ [];
   start = 0 ∷ 0 ∷ 0 ∷ 0 ∷ [];
@@ -194,13 +194,13 @@ one_rise m n = if m == 0 then 2 else 3
 
 pub record StatesOfNets : Type 0 where
   pub sound : IsSound states
-  pub at_start : SettlesAs (core_net states) one_rise 0 (2 ∷ 0 ∷ 2 ∷ 2 ∷ [])
-  pub at_edge : SettlesAs (core_net states) one_rise 1 (3 ∷ 2 ∷ 3 ∷ 3 ∷ [])
+  pub at_start : SettlesAs (core_netlist states) one_rise 0 (2 ∷ 0 ∷ 2 ∷ 2 ∷ [])
+  pub at_edge : SettlesAs (core_netlist states) one_rise 1 (3 ∷ 2 ∷ 3 ∷ 3 ∷ [])
 
 -- ---- races
 
 -- two registers, of d and of e, at two clocks; the nets are c0, c1, d, e, q0 and q1
-abbrev pub two_clocks : FlatNet
+abbrev pub two_clocks : FlatNetlist
 two_clocks = circuit (0 ∷ 1 ∷ 2 ∷ 3 ∷ []) (0 ∷ 0 ∷ 0 ∷ 0 ∷ 0 ∷ 0 ∷ []) (
     drives_one 4 0 (0 ∷ []) (if_only (rising 0) (assigned (one_signal 2))) ∷ drives_one 5 0 (1 ∷ []) (if_only (rising 1) (assigned (one_signal 3))) ∷ [])
 
@@ -213,7 +213,7 @@ values_of of_clocks of_others n = slice_index (of_clocks ∷ of_clocks ∷ of_ot
 
 pub record RacesOfNets : Type 0 where
   -- two clocks that change at once are no race
-  pub clocks_alone : IsRace (core_net two_clocks) (values_of 2 2) (values_of 3 2) → ⊥
+  pub clocks_alone : IsRace (core_netlist two_clocks) (values_of 2 2) (values_of 3 2) → ⊥
   -- the lowest data input and the lowest clock
-  pub lowest : IsLowestRace (core_net two_clocks) clocks_of_two (values_of 2 2) (values_of 3 3) 2 0
-  pub not_highest : IsLowestRace (core_net two_clocks) clocks_of_two (values_of 2 2) (values_of 3 3) 3 1 → ⊥
+  pub lowest : IsLowestRace (core_netlist two_clocks) clocks_of_two (values_of 2 2) (values_of 3 3) 2 0
+  pub not_highest : IsLowestRace (core_netlist two_clocks) clocks_of_two (values_of 2 2) (values_of 3 3) 3 1 → ⊥

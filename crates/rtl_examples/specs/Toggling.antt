@@ -1,4 +1,4 @@
--- A register that toggles, with and without an asynchronous reset: an accepted net, so the laws' premises can be met; its
+-- A register that toggles, with and without an asynchronous reset: an accepted netlist, so the laws' premises can be met; its
 -- moments take as many delta cycles as the bound says.
 --
 --     process (clk) begin if rising_edge(clk) then q <= y; end if; end process;
@@ -10,10 +10,10 @@
 use Rattle.std.specs.Prelude.{ℕ, Bool, true, false, ◌==◌, List, [], ◌∷◌, Some, None, if◌then◌else◌}
 use Rattle.vhdl_values.specs.declared.scalar.Nine.TheVariants.{One}
 use Rattle.rtl_model.specs.bodies.Body.{inverse, Stmts}
-use Rattle.rtl_model.specs.nets.FlatNet.{FlatNet}
-use Rattle.rtl_model.specs.nets.CoreNet.{core_net}
+use Rattle.rtl_model.specs.nets.FlatNetlist.{FlatNetlist}
+use Rattle.rtl_model.specs.nets.CoreNetlist.{core_netlist}
 use Rattle.rtl_model.specs.nets.Laws.{IsSound}
-use Rattle.rtl_model.specs.simulation.Net.{Rising}
+use Rattle.rtl_model.specs.simulation.Netlist.{Rising}
 use Rattle.rtl_model.specs.simulation.Moments.{Takes}
 use Rattle.rtl_model.specs.simulation.Report.{IsReport}
 use Rattle.rtl_model.specs.simulation.Races.{HasNoRace}
@@ -35,7 +35,7 @@ abbrev pub start : (with_reset : Bool) → ℕ
 start false = 2
 start true = 0
 
-abbrev pub toggling : (with_reset : Bool) → FlatNet
+abbrev pub toggling : (with_reset : Bool) → FlatNetlist
 toggling with_reset =
     circuit (0 ∷ 1 ∷ []) (0 ∷ 0 ∷ start with_reset ∷ 0 ∷ [])
     (drives_one 2 (start with_reset) (sensitivity with_reset) (register with_reset) ∷ drives_one 3 0 (2 ∷ []) (assigned (inverse (one_signal 2))) ∷ [])
@@ -51,15 +51,15 @@ bound_of true = 3
 -- everything that the laws ask for
 pub record MeetsPremises (with_reset : Bool) : Type 0 where
   pub sound : IsSound (toggling with_reset)
-  pub inputs : (m : ℕ) → AreInputs (core_net (toggling with_reset)) (one_edge with_reset m)
-  pub no_race : (last : ℕ) → HasNoRace (core_net (toggling with_reset)) (one_edge with_reset) last
-  pub report : IsReport (core_net (toggling with_reset)) (None ∷ Some 1 ∷ []) (None ∷ None ∷ []) ((0, Rising) ∷ []) (bound_of with_reset)
+  pub inputs : (m : ℕ) → AreInputs (core_netlist (toggling with_reset)) (one_edge with_reset m)
+  pub no_race : (last : ℕ) → HasNoRace (core_netlist (toggling with_reset)) (one_edge with_reset) last
+  pub report : IsReport (core_netlist (toggling with_reset)) (None ∷ Some 1 ∷ []) (None ∷ None ∷ []) ((0, Rising) ∷ []) (bound_of with_reset)
 
 abbrev pub PremisesCanBeMet : Type 0
 PremisesCanBeMet = (with_reset : Bool) → MeetsPremises with_reset
 
 -- The start takes the greatest level, the edge the bound; with the reset the start takes the bound.
 pub record BoundsAreMet : Type 0 where
-  pub start_takes_one : Takes (core_net (toggling false)) (one_edge false) 0 1
-  pub edge_takes_two : Takes (core_net (toggling false)) (one_edge false) 1 2
-  pub reset_takes_three : Takes (core_net (toggling true)) (one_edge true) 0 3
+  pub start_takes_one : Takes (core_netlist (toggling false)) (one_edge false) 0 1
+  pub edge_takes_two : Takes (core_netlist (toggling false)) (one_edge false) 1 2
+  pub reset_takes_three : Takes (core_netlist (toggling true)) (one_edge true) 0 3

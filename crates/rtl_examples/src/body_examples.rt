@@ -32,7 +32,7 @@ pub fn reads_of_bodies()
     ensures { ReadsOfBodies }
 {}
 
-/// A counter as a flat net is in range, connected and accepted, and its simulation counts.
+/// A counter as a flat netlist is in range, connected and accepted, and its simulation counts.
 pub fn counter_counts()
     ensures { CounterCounts }
 {}

@@ -9,7 +9,7 @@ use Rattle.rtl_eval.specs.Runs.{Outcome}
 use Rattle.rtl_eval.specs.Tracked.{AreAssigned}
 use Rattle.rtl_model.proofs.basics.Lists.{all_none, any_true, Contains-none}
 use Rattle.rtl_kernel.specs.worklists.Numbers.{Numbers, IsWith}
-use Rattle.rtl_model.specs.simulation.Cycle.{driven_all}
+use Rattle.rtl_model.specs.simulation.Cycle.{all_driver_values}
 use Rattle.rtl_model.proofs.simulation.Rows.{driven_all_at, get_or-map, length-driven, none_pending_at}
 use Rattle.rtl_kernel.specs.drivers.Transactions.{IsActive, pending_of, transaction_at, without_entries}
 use Rattle.rtl_kernel.proofs.Updating.{pending_without}
@@ -114,7 +114,7 @@ none_active outcomes p (place, some) =
     let f = ap (λ (rows : List (List (Option ℕ))). is_some (get_or (get_or rows p []) place None)) (pending_without outcomes) in
     let g = sym f ∙ some in let h = ap is_some e in cc
 
-pub each_driver_taken : (outcomes : List Outcome) (old new : List (List ℕ)) → new ≡ driven_all (pending_of outcomes) old
+pub each_driver_taken : (outcomes : List Outcome) (old new : List (List ℕ)) → new ≡ all_driver_values (pending_of outcomes) old
     → ((p : ℕ) → length (get_or old p []) ≡ length (get_or (pending_of outcomes) p []))
     → (p : ℕ) → length (get_or new p []) ≡ length (get_or (pending_of (map without_entries outcomes)) p [])
 each_driver_taken outcomes old new is each p =
@@ -123,10 +123,10 @@ each_driver_taken outcomes old new is each p =
     ∙ sym (ap (λ (rows : List (List (Option ℕ))). length (get_or rows p [])) (pending_without outcomes)
     ∙ ap length (get_or-map (map {B = Option ℕ} (λ (x : Option ℕ). None)) (pending_of outcomes) p []) ∙ length-map (get_or (pending_of outcomes) p []) _)
 
-pub rows_taken : (outcomes : List Outcome) (old new : List (List ℕ)) → new ≡ driven_all (pending_of outcomes) old → length old ≡ length outcomes → length new ≡ length outcomes
+pub rows_taken : (outcomes : List Outcome) (old new : List (List ℕ)) → new ≡ all_driver_values (pending_of outcomes) old → length old ≡ length outcomes → length new ≡ length outcomes
 rows_taken outcomes old new is as_many = ap length is ∙ by (pending_of outcomes) old (length-map outcomes _ ∙ sym as_many) ∙ as_many
   where
-    by : (ps : List (List (Option ℕ))) (xs : List (List ℕ)) → length ps ≡ length xs → length (driven_all ps xs) ≡ length xs
+    by : (ps : List (List (Option ℕ))) (xs : List (List ℕ)) → length ps ≡ length xs → length (all_driver_values ps xs) ≡ length xs
     by [] xs l = refl
     by (p ∷ ps) [] l = absurd (omega arith)
     by (p ∷ ps) (x ∷ xs) l = ap suc (by ps xs (omega arith))

@@ -3,14 +3,14 @@ use Rattle.std.proofs.Common.{◌≡◌, ℕ, ◌+◌, ◌-◌, ◌<◌, ◌≤�
 use Rattle.std.proofs.lemmas.Bool.{cases_eq, cases_lt}
 use Rattle.std.proofs.lemmas.List.{get_or-set_same, get_or-set_other}
 use Rattle.rtl_net_layout.specs.Groups.{Grouping}
-use Rattle.rtl_model.specs.nets.FlatNet.{FlatNet}
+use Rattle.rtl_model.specs.nets.FlatNetlist.{FlatNetlist}
 use Rattle.rtl_net.specs.declared.process.Process.{Process}
 use Rattle.rtl_kernel.specs.drivers.Brought.{AreAloneAlike, BringsRun, at_once, later, IsDriver, IsBrought, is_noted, has_kept, has_value, IsBroughtByAll, all_noted, all_kept, all_value, Brings, BringsAll}
 use Rattle.rtl_kernel.specs.drivers.Transactions.{driver_at, targets_of}
 use Rattle.rtl_kernel.specs.values.TwoValues.{TwoValues, IsWritten, group_of}
 use Rattle.rtl_kernel.specs.worklists.Numbers.{Numbers}
 
-module _ (wiring : FlatNet) where
+module _ (wiring : FlatNetlist) where
   module _ (targets : List ℕ) where
     pub brings_none : (row : List ℕ) (nets : TwoValues) (noted : Numbers) → Brings wiring targets row row nets noted nets noted
     brings_none row nets noted = record {

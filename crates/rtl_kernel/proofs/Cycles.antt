@@ -5,10 +5,10 @@ use Rattle.std.proofs.lemmas.Bool.{cases_Bool, cases_lt}
 use Rattle.std.proofs.lemmas.List.{ext_get_or, length-map, nil_from_length}
 use Rattle.std.proofs.lemmas.List.FromFn.{length-map-range_with_len}
 use Rattle.rtl_model.specs.basics.Valuations.{has_event}
-use Rattle.rtl_model.specs.nets.FlatNet.{FlatNet, flat_sources}
-use Rattle.rtl_model.specs.simulation.Net.{Net, Process, Source, Driver, Idle, no_process, process, sources_of}
+use Rattle.rtl_model.specs.nets.FlatNetlist.{FlatNetlist, flat_sources}
+use Rattle.rtl_model.specs.simulation.Netlist.{Netlist, Process, Source, Driver, Idle, no_process, process, sources_of}
 use Rattle.rtl_net.specs.declared.process.Process as q
-use Rattle.rtl_model.specs.simulation.Cycle.{State, driven_all, net_value, resumed, source_value, updated}
+use Rattle.rtl_model.specs.simulation.Cycle.{State, all_driver_values, net_value, resumed_processes, source_value, after_update}
 use Rattle.rtl_model.specs.simulation.Elaborated.{IsWired}
 use Rattle.rtl_model.specs.simulation.Laws.{IsConsistent}
 use Rattle.rtl_model.proofs.basics.Lists.{any_at, any_true, Contains-first, Contains-none}
@@ -20,7 +20,7 @@ use Rattle.rtl_kernel.specs.drivers.Brought.{IsDriver, IsBroughtByAll, all_noted
 use Rattle.rtl_kernel.specs.drivers.Transactions.{driver_at, targets_of}
 use Rattle.rtl_kernel.specs.wakes.Woken.{IsIndex, AreWoken}
 
-module _ (net : Net) where
+module _ (net : Netlist) where
   abbrev pub wakes_of : List (List ℕ)
   wakes_of = map (λ (p : Process). p.wakes) net.processes
 
@@ -29,9 +29,9 @@ module _ (net : Net) where
 
   -- the processes that the index finds are those that are resumed
   pub woken_are_resumed : (before now : List ℕ) (index : List (List ℕ)) (waiting : List Bool) → length waiting ≡ length net.processes
-      → IsIndex wakes_of index → AreWoken index before now waiting → waiting ≡ resumed net before now
+      → IsIndex wakes_of index → AreWoken index before now waiting → waiting ≡ resumed_processes net before now
   woken_are_resumed before now index waiting as_many I W =
-      ext_get_or false waiting (resumed net before now) (as_many ∙ sym (length-map net.processes (λ (q : Process). list_any (has_event before now) q.wakes)))
+      ext_get_or false waiting (resumed_processes net before now) (as_many ∙ sym (length-map net.processes (λ (q : Process). list_any (has_event before now) q.wakes)))
       (λ p l. by p (cases_Bool (get_or waiting p false)) (cases_Bool (list_any (has_event before now) (process net p).wakes)) ∙ sym (resumed_at net before now p))
     where
       by : (p : ℕ) → (get_or waiting p false ≡ true) ⊎ (get_or waiting p false ≡ false)
@@ -48,24 +48,24 @@ module _ (net : Net) where
 
   -- a net whose sources have the values that they had keeps its own
   unmoved : (s : State) (n : ℕ) → IsConsistent net s → n < length net.start
-      → ((x : Source) → Contains (sources_of net n) x → source_value (driven_all s.pending s.drivers) x ≡ source_value s.drivers x)
-      → net_value net (driven_all s.pending s.drivers) (sources_of net n) (get_or s.now n 0) ≡ get_or s.now n 0
+      → ((x : Source) → Contains (sources_of net n) x → source_value (all_driver_values s.pending s.drivers) x ≡ source_value s.drivers x)
+      → net_value net (all_driver_values s.pending s.drivers) (sources_of net n) (get_or s.now n 0) ≡ get_or s.now n 0
   unmoved s n C l same = by (sources_of net n) refl
     where
-      same_values : (xs : List Source) → ((x : Source) → Contains xs x → source_value (driven_all s.pending s.drivers) x ≡ source_value s.drivers x)
-          → map (source_value (driven_all s.pending s.drivers)) xs ≡ map (source_value s.drivers) xs
+      same_values : (xs : List Source) → ((x : Source) → Contains xs x → source_value (all_driver_values s.pending s.drivers) x ≡ source_value s.drivers x)
+          → map (source_value (all_driver_values s.pending s.drivers)) xs ≡ map (source_value s.drivers) xs
       same_values [] h = refl
       same_values (x ∷ xs) h = λ i. h x (Contains-first x xs) i ∷ same_values xs (λ y (k, m, at). h y (suc k, omega arith, at)) i
 
-      by : (xs : List Source) → sources_of net n ≡ xs → net_value net (driven_all s.pending s.drivers) xs (get_or s.now n 0) ≡ get_or s.now n 0
+      by : (xs : List Source) → sources_of net n ≡ xs → net_value net (all_driver_values s.pending s.drivers) xs (get_or s.now n 0) ≡ get_or s.now n 0
       by [] e = refl
       by (x ∷ xs) e =
-          ap net.resolve (ap (map (source_value (driven_all s.pending s.drivers))) (sym e) ∙ same_values (sources_of net n) same)
+          ap net.resolve (ap (map (source_value (all_driver_values s.pending s.drivers))) (sym e) ∙ same_values (sources_of net n) same)
           ∙ sym (C n x l (subst (λ (ys : List Source). Contains ys x) (sym e) (Contains-first x xs)))
 
   -- Where the nets of drivers with new values have them at once, or are noted and then resolved, and the others are left, the
   -- nets are updated. A net is noted by its group.
-  module _ (one : (v : ℕ) → net.resolve (v ∷ []) ≡ v) (wiring : FlatNet) (of_net : List ℕ) (processes : List q.Process) (s : State) (noted : List ℕ) (W : IsWired net) (C : IsConsistent net s)
+  module _ (one : (v : ℕ) → net.resolve (v ∷ []) ≡ v) (wiring : FlatNetlist) (of_net : List ℕ) (processes : List q.Process) (s : State) (noted : List ℕ) (W : IsWired net) (C : IsConsistent net s)
       (as_many : length s.now ≡ length net.start) (sources : (n : ℕ) → n < length net.start → flat_sources wiring n ≡ sources_of net n)
       (targets : (p : ℕ) → targets_of processes p ≡ (process net p).drives) where
     abbrev pub IsNoted : ℕ → Type 0
@@ -82,24 +82,24 @@ module _ (net : Net) where
         let (l, e) = W.sources_are_drivers n p place h in
         record { there = subst (λ (ts : List ℕ). place < length ts) (sym (targets p)) l; is = subst (λ (ts : List ℕ). get_or ts place 0 ≡ n) (sym (targets p)) e }
 
-    left : (now : List ℕ) (n : ℕ) → sources_of net n ≡ [] → IsBroughtByAll wiring of_net processes s.drivers (driven_all s.pending s.drivers) s.now now noted n → get_or now n 0 ≡ get_or s.now n 0
+    left : (now : List ℕ) (n : ℕ) → sources_of net n ≡ [] → IsBroughtByAll wiring of_net processes s.drivers (all_driver_values s.pending s.drivers) s.now now noted n → get_or now n 0 ≡ get_or s.now n 0
     left now n none (all_noted p place D h) = absurd (Contains-none (Driver p place) (subst (λ (xs : List Source). Contains xs (Driver p place)) none (placed n p place D)))
     left now n none (all_kept same drivers) = same
     left now n none (all_value p place D alone is) = absurd (Contains-none (Driver p place) (subst (λ (xs : List Source). Contains xs (Driver p place)) none (placed n p place D)))
 
     -- where there are sources, the old value says nothing
-    either_way : (xs : List Source) (old old' : ℕ) → 0 < length xs → net_value net (driven_all s.pending s.drivers) xs old ≡ net_value net (driven_all s.pending s.drivers) xs old'
+    either_way : (xs : List Source) (old old' : ℕ) → 0 < length xs → net_value net (all_driver_values s.pending s.drivers) xs old ≡ net_value net (all_driver_values s.pending s.drivers) xs old'
     either_way [] old old' l = absurd (omega arith)
     either_way (x ∷ xs) old old' l = refl
 
-    again : (now : List ℕ) (n : ℕ) → IsBroughtByAll wiring of_net processes s.drivers (driven_all s.pending s.drivers) s.now now noted n
-        → net_value net (driven_all s.pending s.drivers) (sources_of net n) (get_or now n 0) ≡ net_value net (driven_all s.pending s.drivers) (sources_of net n) (get_or s.now n 0)
+    again : (now : List ℕ) (n : ℕ) → IsBroughtByAll wiring of_net processes s.drivers (all_driver_values s.pending s.drivers) s.now now noted n
+        → net_value net (all_driver_values s.pending s.drivers) (sources_of net n) (get_or now n 0) ≡ net_value net (all_driver_values s.pending s.drivers) (sources_of net n) (get_or s.now n 0)
     again now n B = by (cases_lt 0 (length (sources_of net n)))
       where
         by : (0 < length (sources_of net n)) ⊎ (length (sources_of net n) ≤ 0)
-            → net_value net (driven_all s.pending s.drivers) (sources_of net n) (get_or now n 0) ≡ net_value net (driven_all s.pending s.drivers) (sources_of net n) (get_or s.now n 0)
+            → net_value net (all_driver_values s.pending s.drivers) (sources_of net n) (get_or now n 0) ≡ net_value net (all_driver_values s.pending s.drivers) (sources_of net n) (get_or s.now n 0)
         by (inl l) = either_way (sources_of net n) (get_or now n 0) (get_or s.now n 0) l
-        by (inr l) = ap (net_value net (driven_all s.pending s.drivers) (sources_of net n)) (left now n (nil_from_length (sources_of net n) (omega arith)) B)
+        by (inr l) = ap (net_value net (all_driver_values s.pending s.drivers) (sources_of net n)) (left now n (nil_from_length (sources_of net n) (omega arith)) B)
 
     only : (xs : List Source) (x : Source) → length xs ≡ 1 → Contains xs x → xs ≡ x ∷ []
     only [] x l h = absurd (omega arith)
@@ -107,28 +107,28 @@ module _ (net : Net) where
     only (y ∷ []) x l (suc k, m, e) = absurd (omega arith)
     only (y ∷ z ∷ xs) x l h = absurd (omega arith)
 
-    of_one : (n : ℕ) (now : List ℕ) → n < length net.start → (IsNoted n → ⊥) → IsBroughtByAll wiring of_net processes s.drivers (driven_all s.pending s.drivers) s.now now noted n
-        → get_or now n 0 ≡ net_value net (driven_all s.pending s.drivers) (sources_of net n) (get_or s.now n 0)
+    of_one : (n : ℕ) (now : List ℕ) → n < length net.start → (IsNoted n → ⊥) → IsBroughtByAll wiring of_net processes s.drivers (all_driver_values s.pending s.drivers) s.now now noted n
+        → get_or now n 0 ≡ net_value net (all_driver_values s.pending s.drivers) (sources_of net n) (get_or s.now n 0)
     of_one n now l absent (all_noted p place D h) = absurd (absent h)
     of_one n now l absent (all_kept same drivers) = same ∙ sym (unmoved s n C l still)
       where
-        still : (x : Source) → Contains (sources_of net n) x → source_value (driven_all s.pending s.drivers) x ≡ source_value s.drivers x
+        still : (x : Source) → Contains (sources_of net n) x → source_value (all_driver_values s.pending s.drivers) x ≡ source_value s.drivers x
         still (Idle v) h = refl
         still (Driver p place) h = drivers p place (sourced n p place h)
     of_one n now l absent (all_value p place D alone is) =
         let single = only (sources_of net n) (Driver p place) (sym (ap length (sources n l)) ∙ alone) (placed n p place D) in
-        is ∙ sym (one (driver_at (driven_all s.pending s.drivers) p place)) ∙ sym (ap (λ (xs : List Source). net_value net (driven_all s.pending s.drivers) xs (get_or s.now n 0)) single)
+        is ∙ sym (one (driver_at (all_driver_values s.pending s.drivers) p place)) ∙ sym (ap (λ (xs : List Source). net_value net (all_driver_values s.pending s.drivers) xs (get_or s.now n 0)) single)
 
     pub brought_are_updated : (mid now : List ℕ) → length mid ≡ length s.now
-        → ((n : ℕ) → IsBroughtByAll wiring of_net processes s.drivers (driven_all s.pending s.drivers) s.now mid noted n)
-        → AreResolved net (driven_all s.pending s.drivers) IsNoted mid now → now ≡ (updated net s).now
+        → ((n : ℕ) → IsBroughtByAll wiring of_net processes s.drivers (all_driver_values s.pending s.drivers) s.now mid noted n)
+        → AreResolved net (all_driver_values s.pending s.drivers) IsNoted mid now → now ≡ (after_update net s).now
     brought_are_updated mid now many each R =
-        ext_get_or 0 now (updated net s).now (R.as_many ∙ many ∙ as_many ∙ sym (length-map-range_with_len _ 0 (length net.start)))
+        ext_get_or 0 now (after_update net s).now (R.as_many ∙ many ∙ as_many ∙ sym (length-map-range_with_len _ 0 (length net.start)))
         (λ n l. by n (omega (arith, l, R.as_many, many, as_many)) (omega (arith, l, R.as_many)) (is_contained noted (get_or of_net n 0)))
       where
-        at : (n : ℕ) → n < length net.start → get_or (updated net s).now n 0 ≡ net_value net (driven_all s.pending s.drivers) (sources_of net n) (get_or s.now n 0)
-        at n l = get_or-rows (λ m. net_value net (driven_all s.pending s.drivers) (sources_of net m) (get_or s.now m 0)) (length net.start) n 0 l
+        at : (n : ℕ) → n < length net.start → get_or (after_update net s).now n 0 ≡ net_value net (all_driver_values s.pending s.drivers) (sources_of net n) (get_or s.now n 0)
+        at n l = get_or-rows (λ m. net_value net (all_driver_values s.pending s.drivers) (sources_of net m) (get_or s.now m 0)) (length net.start) n 0 l
 
-        by : (n : ℕ) → n < length net.start → n < length mid → IsNoted n ⊎ (IsNoted n → ⊥) → get_or now n 0 ≡ get_or (updated net s).now n 0
+        by : (n : ℕ) → n < length net.start → n < length mid → IsNoted n ⊎ (IsNoted n → ⊥) → get_or now n 0 ≡ get_or (after_update net s).now n 0
         by n l m (inl there) = R.resolved n m there ∙ again mid n (each n) ∙ sym (at n l)
         by n l m (inr absent) = R.others n m absent ∙ of_one n mid l absent (each n) ∙ sym (at n l)

@@ -4,7 +4,7 @@ use Rattle.std.proofs.lemmas.Bool.{cases_eq, cases_lt, eq-eqb, eqb-true}
 use Rattle.std.proofs.lemmas.List.{get_or-map, get_or-set_same, get_or-set_other, get_or_past, length-map}
 use Rattle.std.proofs.lemmas.List.Elements.{All-contains}
 use Rattle.rtl_net_layout.specs.Groups.{Grouping, AreGroups}
-use Rattle.rtl_model.specs.nets.FlatNet.{FlatNet, flat_sources}
+use Rattle.rtl_model.specs.nets.FlatNetlist.{FlatNetlist, flat_sources}
 use Rattle.rtl_net.specs.Nets.{source_view}
 use Rattle.rtl_net.specs.declared.net.Source as r
 use Rattle.rtl_model.proofs.basics.Lists.{Contains-none}
@@ -34,7 +34,7 @@ module _ (groups : Grouping) where
       from n p h (inr l) = absurd (Contains-none p (subst (λ (xs : List ℕ). Contains xs p) (get_or_past (wakers_of groups) n [] (rw length-map l)) h))
 
   -- where the declarations of nets tell those with one source apart, so do the groups
-  pub alone_alike : (wiring : FlatNet) (declared : List ℕ) (wakes : List (List ℕ)) → AreGroups declared wakes groups → AreToldApart wiring declared → AreAloneAlike wiring groups.of_net
+  pub alone_alike : (wiring : FlatNetlist) (declared : List ℕ) (wakes : List (List ℕ)) → AreGroups declared wakes groups → AreToldApart wiring declared → AreAloneAlike wiring groups.of_net
   alone_alike wiring declared wakes G T m n l k same alone =
       let m' = rw (G.each_net) at l in
       let n' = rw (G.each_net) at k in
@@ -42,7 +42,7 @@ module _ (groups : Grouping) where
       (T n n').1 (ap (λ (d : ℕ). d % 2) (sym alike) ∙ (T m m').0 alone)
 
 -- one net more that is told apart
-pub told_more : (wiring : FlatNet) (numbers : List ℕ) (each x : ℕ) (sources : List r.Source) (b : Bool) → each < length numbers → map source_view sources ≡ flat_sources wiring each
+pub told_more : (wiring : FlatNetlist) (numbers : List ℕ) (each x : ℕ) (sources : List r.Source) (b : Bool) → each < length numbers → map source_view sources ≡ flat_sources wiring each
     → b ≡ (length sources == 1) → (b ≡ true) ↔ (x % 2 ≡ 1) → ((n : ℕ) → n < each → IsAlone wiring n ↔ (get_or numbers n 0 % 2 ≡ 1))
     → (n : ℕ) → n < each + 1 → IsAlone wiring n ↔ (get_or (set numbers each x) n 0 % 2 ≡ 1)
 told_more wiring numbers each x sources b there are test odd before n l = by (cases_eq n each)

@@ -5,28 +5,28 @@ use Rattle.std.proofs.lemmas.Option.{slice_get_within}
 use Rattle.vhdl_values.specs.declared.scalar.Nine.{Nine}
 use Rattle.vhdl_values.proofs.Codes.{code_of_below}
 use Rattle.rtl_model.specs.bodies.Types.{HasType, nine_valued}
-use Rattle.rtl_model.specs.nets.FlatNet.{FlatNet, IsInRange}
-use Rattle.rtl_model.specs.nets.CoreNet.{core_net}
-use Rattle.rtl_model.specs.simulation.Net.{IsInput}
-use Rattle.rtl_model.specs.simulation.Cycle.{changed}
+use Rattle.rtl_model.specs.nets.FlatNetlist.{FlatNetlist, IsInRange}
+use Rattle.rtl_model.specs.nets.CoreNetlist.{core_netlist}
+use Rattle.rtl_model.specs.simulation.Netlist.{IsInput}
+use Rattle.rtl_model.specs.simulation.Cycle.{with_changes}
 use Rattle.rtl_model.specs.simulation.Range.{AreInputs, IsValuation}
 use Rattle.rtl_model.proofs.basics.Lists.{in_contains, contains_in}
 use Rattle.rtl_model.proofs.nets.InRange.{limit-at}
 use Rattle.rtl_kernel.specs.kernel.Simulation.{change_of, changes_of}
 use Rattle.rtl_kernel.proofs.Changing.{changed_below}
 
-module _ (net : FlatNet) (R : IsInRange net) where
+module _ (net : FlatNetlist) (R : IsInRange net) where
   pub input_has : (n : ℕ) → Contains net.inputs n → HasType net.types nine_valued n
   input_has n h = All-contains (HasType net.types nine_valued) net.inputs n R.inputs h
 
   pub inputs_there : (cs : List (ℕ × Nine)) → All (λ (c : ℕ × Nine). Contains net.inputs c.0) cs → All (λ (c : ℕ × Nine). c.0 < length net.types) cs
   inputs_there cs h k d l = slice_get_within net.types _ nine_valued (input_has _ (h k d l))
 
-  pub named : (cs : List (ℕ × Nine)) → All (λ (c : ℕ × Nine). Contains net.inputs c.0) cs → (n value : ℕ) → Contains (changes_of cs) (n, value) → IsInput (core_net net) n
+  pub named : (cs : List (ℕ × Nine)) → All (λ (c : ℕ × Nine). Contains net.inputs c.0) cs → (n value : ℕ) → Contains (changes_of cs) (n, value) → IsInput (core_netlist net) n
   named cs h n value there =
       contains_in net.inputs n (All-contains (λ (c : ℕ × ℕ). Contains net.inputs c.0) (changes_of cs) (n, value) (All-map (λ (c : ℕ × ℕ). Contains net.inputs c.0) change_of cs h) there)
 
-  pub are_inputs : (cs : List (ℕ × Nine)) (old : List ℕ) → IsValuation (core_net net) old → AreInputs (core_net net) (changed (changes_of cs) old)
+  pub are_inputs : (cs : List (ℕ × Nine)) (old : List ℕ) → IsValuation (core_netlist net) old → AreInputs (core_netlist net) (with_changes (changes_of cs) old)
   are_inputs cs old V n is_input =
       let has = input_has n (in_contains net.inputs n is_input) in
       let limit = limit-at net.types n nine_valued has in

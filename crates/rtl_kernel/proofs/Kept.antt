@@ -2,20 +2,20 @@
 use Rattle.std.proofs.Common.{◌≡◌, ℕ, ◌<◌, ◌≤◌, Bool, true, false, List, [], length, get_or, set, map, refl, sym, ap, subst, ◌∙◌, Contains, All}
 use Rattle.std.proofs.lemmas.List.{length-map}
 use Rattle.rtl_model.specs.bodies.Types.{ElementType, KeepsTypes}
-use Rattle.rtl_model.specs.nets.FlatNet.{FlatProcess, process_at, flat_sources}
-use Rattle.rtl_model.specs.nets.CoreNet.{core_net, part_effect}
-use Rattle.rtl_model.specs.simulation.Net.{Source}
-use Rattle.rtl_model.specs.simulation.Cycle.{State, changed, driven_all, given, is_quiet, ran, resumed, updated}
+use Rattle.rtl_model.specs.nets.FlatNetlist.{FlatProcess, process_at, flat_sources}
+use Rattle.rtl_model.specs.nets.CoreNetlist.{core_netlist, part_effect}
+use Rattle.rtl_model.specs.simulation.Netlist.{Source}
+use Rattle.rtl_model.specs.simulation.Cycle.{State, with_changes, all_driver_values, after_inputs, is_quiet, after_run, resumed_processes, after_update}
 use Rattle.rtl_model.proofs.nets.Sources.{sources-core_net}
 use Rattle.rtl_model.proofs.simulation.Order.{waits_in}
 use Rattle.vhdl_values.specs.declared.scalar.Nine.{Nine}
 use Rattle.rtl_eval.specs.Runs.{IsOf}
 use Rattle.rtl_net_layout.specs.Cuts.{Cutting, AreCutsOf}
 use Rattle.rtl_net_layout.specs.Groups.{Grouping}
-use Rattle.rtl_net.specs.Nets.{NetView, flat}
+use Rattle.rtl_net.specs.Nets.{NetlistView, flat}
 use Rattle.rtl_net.specs.declared.process.Process.{Process}
 use Rattle.rtl_kernel.specs.drivers.Resolved.{AreResolved}
-use Rattle.rtl_kernel.specs.drivers.Rows.{IsThere}
+use Rattle.rtl_kernel.specs.drivers.Rows.{IsSourceThere}
 use Rattle.rtl_kernel.specs.drivers.Brought.{AreAloneAlike, IsBroughtByAll}
 use Rattle.rtl_kernel.specs.drivers.Transactions.{Transactions, IsActive, HasRunOf, all_targets, pending_of, without_entries, no_outcome}
 use Rattle.rtl_kernel.specs.kernel.Kept.{IsKernel, IsSound, state_of}
@@ -31,7 +31,7 @@ use Rattle.rtl_kernel.proofs.Running.{effect_length, room_ran, room_taken, state
 use Rattle.rtl_kernel.proofs.Steps.{keeps_types, sound_given, sound_ran, sound_updated, sources_there, wired}
 use Rattle.rtl_kernel.proofs.Wiring.{targets_are, wakes_are}
 
-module _ {E : Type 0} (process : E → FlatProcess) (types : E → List ElementType) (most : E → ℕ) (net : NetView) (bodies : List E) (cuts : Cutting)
+module _ {E : Type 0} (process : E → FlatProcess) (types : E → List ElementType) (most : E → ℕ) (net : NetlistView) (bodies : List E) (cuts : Cutting)
     (v : TwoValues) (t : Transactions) (r : ToRun) (noted : Numbers) (K : IsKernel process types most net bodies cuts v t r noted) where
   abbrev pub before_step : State
   before_step = state_of v t r
@@ -82,7 +82,7 @@ module _ {E : Type 0} (process : E → FlatProcess) (types : E → List ElementT
 
       module _ (t' : Transactions) (r' : ToRun) (drivers : t'.drivers ≡ t.drivers) (R : HasRunOf (part_effect (process e) (process e).body v.before v.current) p t.outcomes t'.outcomes)
           (waiting : r'.waiting ≡ set r.waiting p false) where
-        pub is_ran : state_of v t' r' ≡ ran (core_net (flat net)) p before_step
+        pub is_ran : state_of v t' r' ≡ after_run (core_netlist (flat net)) p before_step
         is_ran = state_ran (flat net) v t r t' r' p (process e) process_is in_outcomes own fresh drivers R waiting
 
         pub kept_ran : IsKernel process types most net bodies cuts v t' r' noted
@@ -103,38 +103,38 @@ module _ {E : Type 0} (process : E → FlatProcess) (types : E → List ElementT
   -- ---- an update
 
   wakes_same : (groups : Grouping) (before now : List ℕ) (waiting : List Bool) → groups ≡ v.groups → length waiting ≡ length r.waiting → AreWoken (wakers_of groups) before now waiting
-      → waiting ≡ resumed (core_net (flat net)) before now
+      → waiting ≡ resumed_processes (core_netlist (flat net)) before now
   wakes_same groups before now waiting same as_many W =
-      woken_are_resumed (core_net (flat net)) before now (wakers_of v.groups) waiting (as_many ∙ K.sound.each_process ∙ sym (length-map (flat net).processes _))
+      woken_are_resumed (core_netlist (flat net)) before now (wakers_of v.groups) waiting (as_many ∙ K.sound.each_process ∙ sym (length-map (flat net).processes _))
       (rw (← wakes_are net) K.is_index) (subst (λ (g : Grouping). AreWoken (wakers_of g) before now waiting) same W)
 
   rows_match : length (pending_of t.outcomes) ≡ length t.drivers
   rows_match = length-map t.outcomes _ ∙ K.room.as_many ∙ sym K.sound.each_row
 
-  pub sound_update : IsSound (flat net) (updated (core_net (flat net)) before_step)
+  pub sound_update : IsSound (flat net) (after_update (core_netlist (flat net)) before_step)
   sound_update = sound_updated (flat net) K.in_range K.connected before_step rows_match K.sound
 
   -- the sources stand in the drivers once these are updated
-  pub sources_stand : (drivers : List (List ℕ)) → drivers ≡ driven_all (pending_of t.outcomes) t.drivers
-      → (n : ℕ) (source : Source) → Contains (flat_sources (flat net) n) source → IsThere drivers source
+  pub sources_stand : (drivers : List (List ℕ)) → drivers ≡ all_driver_values (pending_of t.outcomes) t.drivers
+      → (n : ℕ) (source : Source) → Contains (flat_sources (flat net) n) source → IsSourceThere drivers source
   sources_stand drivers is n source h =
-      subst (λ (rows : List (List ℕ)). IsThere rows source) (sym is) (sources_there (flat net) K.in_range K.connected (updated (core_net (flat net)) before_step) sound_update n source h)
+      subst (λ (rows : List (List ℕ)). IsSourceThere rows source) (sym is) (sources_there (flat net) K.in_range K.connected (after_update (core_netlist (flat net)) before_step) sound_update n source h)
 
   module _ (mid v' : TwoValues) (t' : Transactions) (r' : ToRun) (nets : Numbers) (groups : v'.groups ≡ v.groups) (before : v'.before ≡ v.current)
-      (drivers : t'.drivers ≡ driven_all (pending_of t.outcomes) t.drivers) (outcomes : t'.outcomes ≡ map without_entries t.outcomes) (now : TwoValues)
+      (drivers : t'.drivers ≡ all_driver_values (pending_of t.outcomes) t.drivers) (outcomes : t'.outcomes ≡ map without_entries t.outcomes) (now : TwoValues)
       (now_is : now ≡ record v { before = v.current }) (many : length mid.current ≡ length now.current)
       (B : (n : ℕ) → IsBroughtByAll (flat net) now.groups.of_net net.processes t.drivers t'.drivers now.current mid.current nets.members n)
-      (R : AreResolved (core_net (flat net)) t'.drivers (λ n. Contains nets.members (get_or v.groups.of_net n 0)) mid.current v'.current)
+      (R : AreResolved (core_netlist (flat net)) t'.drivers (λ n. Contains nets.members (get_or v.groups.of_net n 0)) mid.current v'.current)
       (as_many : length r'.waiting ≡ length r.waiting) (W : AreWoken (wakers_of v'.groups) v'.before v'.current r'.waiting) where
-    pub is_updated : state_of v' t' r' ≡ updated (core_net (flat net)) before_step
+    pub is_updated : state_of v' t' r' ≡ after_update (core_netlist (flat net)) before_step
     is_updated =
         state_updated (flat net) v t r v' t' r' before
-        (brought_are_updated (core_net (flat net)) (λ n. refl) (flat net) v.groups.of_net net.processes before_step nets.members (wired (flat net) K.in_range K.connected) K.sound.consistent
+        (brought_are_updated (core_netlist (flat net)) (λ n. refl) (flat net) v.groups.of_net net.processes before_step nets.members (wired (flat net) K.in_range K.connected) K.sound.consistent
         K.sound.in_range.now.each_net (λ n l. sym (sources-core_net (flat net) n (rw (← K.in_range.each_starts) l))) (targets_are net)
         mid.current v'.current (many ∙ ap (λ (w : TwoValues). length w.current) now_is)
-        (λ n. subst (λ (w : TwoValues). IsBroughtByAll (flat net) w.groups.of_net net.processes t.drivers (driven_all (pending_of t.outcomes) t.drivers) w.current mid.current nets.members n) now_is
+        (λ n. subst (λ (w : TwoValues). IsBroughtByAll (flat net) w.groups.of_net net.processes t.drivers (all_driver_values (pending_of t.outcomes) t.drivers) w.current mid.current nets.members n) now_is
         (subst (λ (rows : List (List ℕ)). IsBroughtByAll (flat net) now.groups.of_net net.processes t.drivers rows now.current mid.current nets.members n) drivers (B n)))
-        (subst (λ (rows : List (List ℕ)). AreResolved (core_net (flat net)) rows (λ n. Contains nets.members (get_or v.groups.of_net n 0)) mid.current v'.current) drivers R))
+        (subst (λ (rows : List (List ℕ)). AreResolved (core_netlist (flat net)) rows (λ n. Contains nets.members (get_or v.groups.of_net n 0)) mid.current v'.current) drivers R))
         drivers outcomes (wakes_same v'.groups v'.before v'.current r'.waiting groups as_many W)
 
     pub kept_updated : (noted' : Numbers) → noted' ≡ record { bound = length v.groups.listed; members = [] } → IsKernel process types most net bodies cuts v' t' r' noted'
@@ -155,10 +155,10 @@ module _ {E : Type 0} (process : E → FlatProcess) (types : E → List ElementT
 
   module _ (cs : List (ℕ × Nine)) (inputs : All (λ (c : ℕ × Nine). Contains net.inputs c.0) cs) (v' : TwoValues) (r' : ToRun) (groups : v'.groups ≡ v.groups) (before : v'.before ≡ v.current)
       (C : AreChanged (changes_of cs) v.current v'.current) (as_many : length r'.waiting ≡ length r.waiting) (W : AreWoken (wakers_of v'.groups) v'.before v'.current r'.waiting) where
-    pub is_given : state_of v' t r' ≡ given (core_net (flat net)) (changed (changes_of cs) v.current) before_step
+    pub is_given : state_of v' t r' ≡ after_inputs (core_netlist (flat net)) (with_changes (changes_of cs) v.current) before_step
     is_given =
-        state_given (flat net) v t r v' r' (changed (changes_of cs) v.current) before
-        (given_values (core_net (flat net)) (changes_of cs) v.current v'.current K.sound.in_range.now.each_net C (named (flat net) K.in_range cs inputs))
+        state_given (flat net) v t r v' r' (with_changes (changes_of cs) v.current) before
+        (given_values (core_netlist (flat net)) (changes_of cs) v.current v'.current K.sound.in_range.now.each_net C (named (flat net) K.in_range cs inputs))
         (wakes_same v'.groups v'.before v'.current r'.waiting groups as_many W)
 
     pub kept_given : is_quiet before_step ≡ true → IsKernel process types most net bodies cuts v' t r' noted
@@ -168,7 +168,7 @@ module _ {E : Type 0} (process : E → FlatProcess) (types : E → List ElementT
       run_bodies = K.run_bodies;
       room = K.room;
       sound = subst (IsSound (flat net)) (sym is_given)
-          (sound_given (flat net) K.in_range K.connected (changed (changes_of cs) v.current) before_step (are_inputs (flat net) K.in_range cs v.current K.sound.in_range.now) quiet K.sound);
+          (sound_given (flat net) K.in_range K.connected (with_changes (changes_of cs) v.current) before_step (are_inputs (flat net) K.in_range cs v.current K.sound.in_range.now) quiet K.sound);
       is_index = subst (λ (g : Grouping). IsIndex (map (λ (p : Process). p.wakes.items) net.processes) (wakers_of g)) (sym groups) K.is_index;
       each_net = ap (λ (g : Grouping). length g.of_net) groups ∙ K.each_net;
       alike = subst (λ (g : Grouping). AreAloneAlike (flat net) g.of_net) (sym groups) K.alike;

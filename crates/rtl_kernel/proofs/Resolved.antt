@@ -3,9 +3,9 @@ use Rattle.std.proofs.Common.{◌≡◌, ℕ, ◌+◌, ◌<◌, ◌≤◌, List,
 use Rattle.std.proofs.lemmas.Bool.{cases_eq}
 use Rattle.std.proofs.lemmas.List.{length-map, take_more}
 use Rattle.std.proofs.lemmas.List.Elements.{Contains-push, Contains-append_left, Contains-push_cases}
-use Rattle.rtl_model.specs.nets.FlatNet.{FlatNet, flat_sources}
-use Rattle.rtl_model.specs.nets.CoreNet.{core_net, core_resolve}
-use Rattle.rtl_model.specs.simulation.Net.{Net, Source, sources_of}
+use Rattle.rtl_model.specs.nets.FlatNetlist.{FlatNetlist, flat_sources}
+use Rattle.rtl_model.specs.nets.CoreNetlist.{core_netlist, core_resolve}
+use Rattle.rtl_model.specs.simulation.Netlist.{Netlist, Source, sources_of}
 use Rattle.rtl_model.specs.simulation.Cycle.{net_value, source_value}
 use Rattle.rtl_model.proofs.basics.Lists.{get_or-map_within}
 use Rattle.rtl_model.proofs.nets.Sources.{sources-core_net}
@@ -14,7 +14,7 @@ use Rattle.rtl_net.specs.Nets.{source_view}
 use Rattle.rtl_net.specs.declared.net.Source as r
 use Rattle.rtl_kernel.specs.drivers.Resolved.{AreResolved}
 
-module _ (net : Net) (drivers : List (List ℕ)) where
+module _ (net : Netlist) (drivers : List (List ℕ)) where
   pub none_resolved : (is_one : ℕ → Type 0) (values : List ℕ) → ((n : ℕ) → is_one n → ⊥) → AreResolved net drivers is_one values values
   none_resolved is_one values none = record { as_many = refl; resolved = λ n l h. absurd (none n h); others = λ n l h. refl }
 
@@ -76,19 +76,19 @@ module _ (net : Net) (drivers : List (List ℕ)) where
       by n l (inr e) (inr ne) = absurd (ne (sym e))
 
 -- the resolution of a net's sources
-pub resolution_is : (net : FlatNet) (drivers : List (List ℕ)) (n old : ℕ) (sources : List r.Source) → n < length net.types → map source_view sources ≡ flat_sources net n
-    → 0 < length sources → core_resolve (map (λ (s : r.Source). source_value drivers (source_view s)) sources) ≡ net_value (core_net net) drivers (sources_of (core_net net) n) old
+pub resolution_is : (net : FlatNetlist) (drivers : List (List ℕ)) (n old : ℕ) (sources : List r.Source) → n < length net.types → map source_view sources ≡ flat_sources net n
+    → 0 < length sources → core_resolve (map (λ (s : r.Source). source_value drivers (source_view s)) sources) ≡ net_value (core_netlist net) drivers (sources_of (core_netlist net) n) old
 resolution_is net drivers n old [] there is some = absurd (omega arith)
 resolution_is net drivers n old (s ∷ ss) there is some =
-    sym (ap (λ (xs : List Source). net_value (core_net net) drivers xs old) (sources-core_net net n there ∙ sym is)
+    sym (ap (λ (xs : List Source). net_value (core_netlist net) drivers xs old) (sources-core_net net n there ∙ sym is)
     ∙ ap (λ (vs : List ℕ). core_resolve (source_value drivers (source_view s) ∷ vs)) (both ss))
   where
     both : (xs : List r.Source) → map (source_value drivers) (map source_view xs) ≡ map (λ (x : r.Source). source_value drivers (source_view x)) xs
     both [] = refl
     both (x ∷ xs) = ap (λ (vs : List ℕ). source_value drivers (source_view x) ∷ vs) (both xs)
 
-pub no_sources : (net : FlatNet) (n : ℕ) (sources : List r.Source) → n < length net.types → map source_view sources ≡ flat_sources net n → length sources ≡ 0
-    → sources_of (core_net net) n ≡ []
+pub no_sources : (net : FlatNetlist) (n : ℕ) (sources : List r.Source) → n < length net.types → map source_view sources ≡ flat_sources net n → length sources ≡ 0
+    → sources_of (core_netlist net) n ≡ []
 no_sources net n [] there is none = sources-core_net net n there ∙ sym is
 no_sources net n (s ∷ ss) there is none = absurd (omega arith)
 

@@ -3,10 +3,10 @@ use Rattle.std.proofs.Common.{◌≡◌, ℕ, zero, suc, ◌<◌, ◌≤◌, fal
 use Rattle.std.proofs.lemmas.Bool.{cases_eq}
 use Rattle.std.proofs.lemmas.List.{get_or-set_same, get_or-set_other, length-set, length-map, length-replicate, map-set}
 use Rattle.std.proofs.lemmas.List.FromFn.{length-map-range_with_len}
-use Rattle.rtl_model.specs.nets.FlatNet.{FlatNet, FlatProcess, process_at}
-use Rattle.rtl_model.specs.nets.CoreNet.{core_net, part_effect}
-use Rattle.rtl_model.specs.simulation.Net.{Process, process}
-use Rattle.rtl_model.specs.simulation.Cycle.{State, over, driven_all, resumed, updated, given, with_inputs, ran}
+use Rattle.rtl_model.specs.nets.FlatNetlist.{FlatNetlist, FlatProcess, process_at}
+use Rattle.rtl_model.specs.nets.CoreNetlist.{core_netlist, part_effect}
+use Rattle.rtl_model.specs.simulation.Netlist.{Process, process}
+use Rattle.rtl_model.specs.simulation.Cycle.{State, over, all_driver_values, resumed_processes, after_update, after_inputs, with_inputs, after_run}
 use Rattle.rtl_model.proofs.basics.Lists.{get_or-map_within}
 use Rattle.rtl_model.proofs.nets.Processes.{process-core_net}
 use Rattle.rtl_eval.specs.Runs.{Outcome, IsOf, Leaves}
@@ -24,7 +24,7 @@ own_ran q entries old new many own L = record {
   each_element = L.starts_stay ∙ own.each_element;
 }
 
-module _ {E : Type 0} (most : E → ℕ) (net : FlatNet) (bodies : List E) where
+module _ {E : Type 0} (most : E → ℕ) (net : FlatNetlist) (bodies : List E) where
   pub room_ran : (p : ℕ) (entries : List (Option ℕ)) (old new : List Outcome) → length entries ≡ length (process_at net p).drivers → p < length old
       → HasRunOf entries p old new → HaveRoom most net bodies old → HaveRoom most net bodies new
   room_ran p entries old new many there R H = rw R.is (record {
@@ -56,11 +56,11 @@ module _ {E : Type 0} (most : E → ℕ) (net : FlatNet) (bodies : List E) where
     room = λ q e l. rw (get_or-taken old q) (H.room q e l);
   })
 
-module _ (net : FlatNet) (v : TwoValues) (t : Transactions) (r : ToRun) where
+module _ (net : FlatNetlist) (v : TwoValues) (t : Transactions) (r : ToRun) where
   abbrev state : State
   state = state_of v t r
 
-  pub effect_is : (p : ℕ) (q : FlatProcess) → q ≡ process_at net p → part_effect q q.body v.before v.current ≡ (process (core_net net) p).effect v.before v.current
+  pub effect_is : (p : ℕ) (q : FlatProcess) → q ≡ process_at net p → part_effect q q.body v.before v.current ≡ (process (core_netlist net) p).effect v.before v.current
   effect_is p q is =
       ap (λ (x : FlatProcess). part_effect x x.body v.before v.current) is
       ∙ sym (ap (λ (x : Process). x.effect v.before v.current) (process-core_net net p))
@@ -70,27 +70,27 @@ module _ (net : FlatNet) (v : TwoValues) (t : Transactions) (r : ToRun) where
 
   pub state_ran : (t' : Transactions) (r' : ToRun) (p : ℕ) (q : FlatProcess) → q ≡ process_at net p → p < length t.outcomes → IsOf q (get_or t.outcomes p no_outcome)
       → (IsActive (pending_of t.outcomes) p → ⊥) → t'.drivers ≡ t.drivers → HasRunOf (part_effect q q.body v.before v.current) p t.outcomes t'.outcomes
-      → r'.waiting ≡ set r.waiting p false → state_of v t' r' ≡ ran (core_net net) p state
+      → r'.waiting ≡ set r.waiting p false → state_of v t' r' ≡ after_run (core_netlist net) p state
   state_ran t' r' p q q_is there own fresh drivers R waiting =
       let effect = part_effect q q.body v.before v.current in
       let row = get_or-map_within (λ (x : Outcome). x.entries) t.outcomes p no_outcome [] there in
       let short = ap length row ∙ own.each_driver ∙ sym (effect_length q) in
       let over_row = over_fresh effect (get_or (pending_of t.outcomes) p []) (omega (arith, short)) (λ place some. fresh (place, some)) in
-      let pending : pending_of t'.outcomes ≡ set (pending_of t.outcomes) p (over ((process (core_net net) p).effect v.before v.current) (get_or (pending_of t.outcomes) p [])) =
+      let pending : pending_of t'.outcomes ≡ set (pending_of t.outcomes) p (over ((process (core_netlist net) p).effect v.before v.current) (get_or (pending_of t.outcomes) p [])) =
       ap pending_of R.is ∙ map-set (λ (x : Outcome). x.entries) t.outcomes p R.outcome ∙ ap (set (pending_of t.outcomes) p) (R.leaves.entries_are ∙ sym over_row)
       ∙ ap (λ (e : List (Option ℕ)). set (pending_of t.outcomes) p (over e (get_or (pending_of t.outcomes) p []))) (effect_is p q q_is) in
       λ i. record { before = v.before; now = v.current; drivers = drivers i; pending = pending i; waiting = waiting i }
 
-  pub state_updated : (v' : TwoValues) (t' : Transactions) (r' : ToRun) → v'.before ≡ v.current → v'.current ≡ (updated (core_net net) state).now
-      → t'.drivers ≡ driven_all (pending_of t.outcomes) t.drivers → t'.outcomes ≡ map without_entries t.outcomes
-      → r'.waiting ≡ resumed (core_net net) v'.before v'.current → state_of v' t' r' ≡ updated (core_net net) state
+  pub state_updated : (v' : TwoValues) (t' : Transactions) (r' : ToRun) → v'.before ≡ v.current → v'.current ≡ (after_update (core_netlist net) state).now
+      → t'.drivers ≡ all_driver_values (pending_of t.outcomes) t.drivers → t'.outcomes ≡ map without_entries t.outcomes
+      → r'.waiting ≡ resumed_processes (core_netlist net) v'.before v'.current → state_of v' t' r' ≡ after_update (core_netlist net) state
   state_updated v' t' r' before now drivers outcomes waiting =
       let pending = ap pending_of outcomes ∙ pending_without t.outcomes in
-      let wakes = waiting ∙ ap (λ (b : List ℕ). resumed (core_net net) b v'.current) before ∙ ap (resumed (core_net net) v.current) now in
+      let wakes = waiting ∙ ap (λ (b : List ℕ). resumed_processes (core_netlist net) b v'.current) before ∙ ap (resumed_processes (core_netlist net) v.current) now in
       λ i. record { before = before i; now = now i; drivers = drivers i; pending = pending i; waiting = wakes i }
 
-  pub state_given : (v' : TwoValues) (r' : ToRun) (inputs : ℕ → ℕ) → v'.before ≡ v.current → v'.current ≡ with_inputs (core_net net) inputs v.current
-      → r'.waiting ≡ resumed (core_net net) v'.before v'.current → state_of v' t r' ≡ given (core_net net) inputs state
+  pub state_given : (v' : TwoValues) (r' : ToRun) (inputs : ℕ → ℕ) → v'.before ≡ v.current → v'.current ≡ with_inputs (core_netlist net) inputs v.current
+      → r'.waiting ≡ resumed_processes (core_netlist net) v'.before v'.current → state_of v' t r' ≡ after_inputs (core_netlist net) inputs state
   state_given v' r' inputs before now waiting =
-      let wakes = waiting ∙ ap (λ (b : List ℕ). resumed (core_net net) b v'.current) before ∙ ap (resumed (core_net net) v.current) now in
+      let wakes = waiting ∙ ap (λ (b : List ℕ). resumed_processes (core_netlist net) b v'.current) before ∙ ap (resumed_processes (core_netlist net) v.current) now in
       λ i. record { before = before i; now = now i; drivers = t.drivers; pending = pending_of t.outcomes; waiting = wakes i }

@@ -1,12 +1,12 @@
 -- Delta cycles, counted.
 use Rattle.std.proofs.Common.{add-one, ◌≡◌, ℕ, ◌+◌, true, false, List}
-use Rattle.rtl_model.specs.simulation.Net.{Net}
+use Rattle.rtl_model.specs.simulation.Netlist.{Netlist}
 use Rattle.rtl_model.specs.simulation.Cycle.{State, is_quiet}
 use Rattle.rtl_model.specs.simulation.Moments.{Delta, HasDeltas, HasNoneToRun, IsUnsettled, SettlesTo}
 use Rattle.rtl_model.specs.simulation.Laws.{IsBusyBefore}
 use Rattle.rtl_model.proofs.simulation.Shown.{each_run_shows}
 
-module _ (net : Net) (s : State) where
+module _ (net : Netlist) (s : State) where
   pub no_delta : HasDeltas net 0 s s
   no_delta = (each_run_shows net s).none_yet.0
 

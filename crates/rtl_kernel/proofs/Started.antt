@@ -7,18 +7,18 @@ use Rattle.vhdl_values.specs.declared.scalar.Nine.{Nine}
 use Rattle.vhdl_values.specs.Scalar.{code_of}
 use Rattle.vhdl_values.proofs.Codes.{code_of_below}
 use Rattle.rtl_model.specs.bodies.Types.{ElementType, nine_valued}
-use Rattle.rtl_model.specs.nets.FlatNet.{FlatProcess, FlatVariable, FlatDriver, IsInRange, element_starts, no_flat_process}
-use Rattle.rtl_model.specs.nets.CoreNet.{core_net, core_process}
+use Rattle.rtl_model.specs.nets.FlatNetlist.{FlatProcess, FlatVariable, FlatDriver, IsInRange, element_starts, no_flat_process}
+use Rattle.rtl_model.specs.nets.CoreNetlist.{core_netlist, core_process}
 use Rattle.rtl_model.specs.nets.Wiring.{IsConnected}
-use Rattle.rtl_model.specs.simulation.Net.{Process}
-use Rattle.rtl_model.specs.simulation.Cycle.{started, with_inputs}
+use Rattle.rtl_model.specs.simulation.Netlist.{Process}
+use Rattle.rtl_model.specs.simulation.Cycle.{start_state, with_inputs}
 use Rattle.rtl_model.specs.simulation.Laws.{IsConsistent}
 use Rattle.rtl_model.specs.simulation.Range.{AreInputs, StateInRange}
 use Rattle.rtl_model.proofs.basics.Lists.{contains_in, in_contains, get_or-map_within}
 use Rattle.rtl_model.proofs.nets.InRange.{keeps_range, limit-at}
 use Rattle.rtl_eval.specs.Runs.{Outcome}
 use Rattle.rtl_net_layout.specs.Cuts.{Cutting, AreCutsOf}
-use Rattle.rtl_net.specs.Nets.{NetView, flat, driver_view, process_view}
+use Rattle.rtl_net.specs.Nets.{NetlistView, flat, driver_view, process_view}
 use Rattle.rtl_net.specs.declared.process.Driver as r
 use Rattle.rtl_net.specs.declared.process.Process as q
 use Rattle.rtl_kernel.specs.drivers.Starts.{AreFresh, elements_of, no_entries, start_row, starts_of}
@@ -107,19 +107,19 @@ length-given (n ∷ ns) (v ∷ vs) e = ap suc (length-given ns vs (omega arith))
 
 -- ---- the kernel
 
-module _ {E : Type 0} (process : E → FlatProcess) (types : E → List ElementType) (most : E → ℕ) (net : NetView) (bodies : List E)
+module _ {E : Type 0} (process : E → FlatProcess) (types : E → List ElementType) (most : E → ℕ) (net : NetlistView) (bodies : List E)
     (v : TwoValues) (t : Transactions) (r : ToRun) (initial : List Nine) (R : IsInRange (flat net)) (C : IsConnected (flat net)) (B : RunBodies process types (flat net) bodies)
     (before : v.before ≡ v.current) (A : AreChanged (each_given net.inputs initial) net.starts v.current) (drivers : t.drivers ≡ map start_row net.processes)
     (F : AreFresh most net.processes bodies t.outcomes) (waiting : r.waiting ≡ replicate (length net.processes) true) where
   abbrev inputs : ℕ → ℕ
   inputs = initial_inputs (flat net) initial
 
-  current_is : v.current ≡ with_inputs (core_net (flat net)) inputs net.starts
+  current_is : v.current ≡ with_inputs (core_netlist (flat net)) inputs net.starts
   current_is =
-      given_values (core_net (flat net)) (each_given net.inputs initial) net.starts v.current refl A
+      given_values (core_netlist (flat net)) (each_given net.inputs initial) net.starts v.current refl A
       (λ n value h. contains_in net.inputs n (given_named net.inputs initial n value h))
 
-  pub is_started : state_of v t r ≡ started (core_net (flat net)) inputs
+  pub is_started : state_of v t r ≡ start_state (core_netlist (flat net)) inputs
   is_started =
       let first = before ∙ current_is in
       let rows = drivers ∙ drivers_are net.inputs net.processes in
@@ -127,7 +127,7 @@ module _ {E : Type 0} (process : E → FlatProcess) (types : E → List ElementT
       let waits = waiting ∙ waiting_are net.inputs net.processes in
       λ i. record { before = first i; now = current_is i; drivers = rows i; pending = pending i; waiting = waits i }
 
-  are_inputs : AreInputs (core_net (flat net)) inputs
+  are_inputs : AreInputs (core_netlist (flat net)) inputs
   are_inputs n is_input =
       let has = input_has (flat net) R n (in_contains net.inputs n is_input) in
       let limit = limit-at net.types n nine_valued has in
@@ -153,8 +153,8 @@ module _ {E : Type 0} (process : E → FlatProcess) (types : E → List ElementT
   sound = record {
     each_process = ap length waiting ∙ length-replicate (length net.processes) true ∙ sym (length-map net.processes process_view);
     each_row = ap length drivers ∙ length-map net.processes start_row ∙ sym (length-map net.processes process_view);
-    in_range = subst (StateInRange (core_net (flat net))) (sym is_started) ((keeps (flat net) R C).starts inputs are_inputs);
-    consistent = subst (IsConsistent (core_net (flat net))) (sym is_started) ((stays (flat net) R C).starts inputs);
+    in_range = subst (StateInRange (core_netlist (flat net))) (sym is_started) ((keeps (flat net) R C).starts inputs are_inputs);
+    consistent = subst (IsConsistent (core_netlist (flat net))) (sym is_started) ((stays (flat net) R C).starts inputs);
     fresh = λ p waits a. none_fresh net.processes p (subst (λ (rows : List (List (Option ℕ))). (place : ℕ) × IsSome (get_or (get_or rows p []) place None)) F.entries a);
   }
 

@@ -9,8 +9,8 @@ use Rattle.rtl_eval.specs.Spans.{places_of}
 use Rattle.rtl_eval.specs.Tracked.{AreAssigned}
 use Rattle.rtl_eval.proofs.Assigned.{no_entry}
 use Rattle.rtl_eval.proofs.Places.{left_of, none_behind}
-use Rattle.rtl_model.specs.nets.FlatNet.{FlatNet}
-use Rattle.rtl_model.specs.simulation.Cycle.{driven, driven_all, none_pending}
+use Rattle.rtl_model.specs.nets.FlatNetlist.{FlatNetlist}
+use Rattle.rtl_model.specs.simulation.Cycle.{driver_values, all_driver_values, none_pending}
 use Rattle.rtl_model.specs.simulation.Machine.{entry_or}
 use Rattle.rtl_model.proofs.basics.Lists.{get_or-map_within}
 use Rattle.rtl_model.proofs.simulation.Rows.{driven_all_at, driven_at, length-driven}
@@ -21,13 +21,13 @@ use Rattle.rtl_kernel.specs.values.TwoValues.{TwoValues, IsWritten}
 use Rattle.rtl_kernel.specs.worklists.Numbers.{Numbers}
 use Rattle.rtl_kernel.specs.drivers.Brought.{Brings}
 use Rattle.rtl_kernel.specs.drivers.Transactions.{IsActive, nets_of, targets_of, pending_of, without_entries}
-use Rattle.rtl_kernel.specs.drivers.Updates.{Takes, IsTaken, IsUpdating}
+use Rattle.rtl_kernel.specs.drivers.Updates.{TakesEntries, IsTaken, IsUpdating}
 use Rattle.rtl_kernel.proofs.Brought.{brings_none, brings_then, brings_all_none, brings_all_more}
 
 -- ---- one row
 
 -- no transaction changes nothing
-pub driven_none : (a : List (Option ℕ)) (xs : List ℕ) → length a ≡ length xs → ((place : ℕ) → IsSome (get_or a place None) → ⊥) → driven a xs ≡ xs
+pub driven_none : (a : List (Option ℕ)) (xs : List ℕ) → length a ≡ length xs → ((place : ℕ) → IsSome (get_or a place None) → ⊥) → driver_values a xs ≡ xs
 driven_none [] xs l h = refl
 driven_none (o ∷ a) [] l h = absurd (omega arith)
 driven_none (None ∷ a) (x ∷ xs) l h = ap (λ ys. x ∷ ys) (driven_none a xs (omega arith) (λ place. h (suc place)))
@@ -38,7 +38,7 @@ none_in_replicate zero place h = absurd cc
 none_in_replicate (suc n) zero h = absurd cc
 none_in_replicate (suc n) (suc place) h = none_in_replicate n place h
 
-pub driven_cleared : (n : ℕ) (xs : List ℕ) → n ≡ length xs → driven (replicate {A = Option ℕ} n None) xs ≡ xs
+pub driven_cleared : (n : ℕ) (xs : List ℕ) → n ≡ length xs → driver_values (replicate {A = Option ℕ} n None) xs ≡ xs
 driven_cleared zero xs l = refl
 driven_cleared (suc n) [] l = absurd (omega arith)
 driven_cleared (suc n) (x ∷ xs) l = ap (λ ys. x ∷ ys) (driven_cleared n xs (omega arith))
@@ -46,9 +46,9 @@ driven_cleared (suc n) (x ∷ xs) l = ap (λ ys. x ∷ ys) (driven_cleared n xs 
 -- each driver has its transaction's value, and where there is none its own
 pub driven_from : (entries : List (Option ℕ)) (old new : List ℕ) → length new ≡ length old
     → ((q : ℕ) → get_or entries q None ≡ None → get_or new q 0 ≡ get_or old q 0)
-    → ((q v : ℕ) → get_or entries q None ≡ Some v → get_or new q 0 ≡ v) → new ≡ driven entries old
+    → ((q v : ℕ) → get_or entries q None ≡ Some v → get_or new q 0 ≡ v) → new ≡ driver_values entries old
 driven_from entries old new as_many unassigned assigned =
-    ext_get_or 0 new (driven entries old) (as_many ∙ sym (length-driven entries old))
+    ext_get_or 0 new (driver_values entries old) (as_many ∙ sym (length-driven entries old))
     (λ q l. by q (get_or entries q None) refl ∙ sym (driven_at entries old q (omega arith)))
   where
     by : (q : ℕ) → (o : Option ℕ) → get_or entries q None ≡ o → get_or new q 0 ≡ entry_or (get_or entries q None) (get_or old q 0)
@@ -59,12 +59,12 @@ driven_from entries old new as_many unassigned assigned =
 
 -- without an active driver the rows are those that they drive
 pub all_driven : (pending : List (List (Option ℕ))) (drivers new : List (List ℕ)) → length new ≡ length drivers → length pending ≡ length drivers
-    → ((p : ℕ) → get_or new p [] ≡ driven (get_or pending p []) (get_or drivers p [])) → new ≡ driven_all pending drivers
+    → ((p : ℕ) → get_or new p [] ≡ driver_values (get_or pending p []) (get_or drivers p [])) → new ≡ all_driver_values pending drivers
 all_driven pending drivers new as_many rows_too each =
-    ext_get_or [] new (driven_all pending drivers) (as_many ∙ sym (length-driven_all pending drivers rows_too))
+    ext_get_or [] new (all_driver_values pending drivers) (as_many ∙ sym (length-driven_all pending drivers rows_too))
     (λ p l. each p ∙ sym (driven_all_at pending drivers p))
   where
-    length-driven_all : (ps : List (List (Option ℕ))) (xs : List (List ℕ)) → length ps ≡ length xs → length (driven_all ps xs) ≡ length xs
+    length-driven_all : (ps : List (List (Option ℕ))) (xs : List (List ℕ)) → length ps ≡ length xs → length (all_driver_values ps xs) ≡ length xs
     length-driven_all [] xs l = refl
     length-driven_all (p ∷ ps) [] l = absurd (omega arith)
     length-driven_all (p ∷ ps) (x ∷ xs) l = ap suc (length-driven_all ps xs (omega arith))
@@ -91,8 +91,8 @@ pending_without (o ∷ outcomes) = let rest = pending_without outcomes in λ i. 
 pub net_at : (ds : List net.Driver) (k : ℕ) (d : net.Driver) → k < length ds → get_or (nets_of ds) k 0 ≡ (get_or ds k d).net
 net_at ds k d within = get_or-map_within (λ (d : net.Driver). d.net) ds k d 0 within
 
-module _ (wiring : FlatNet) (targets : List ℕ) (entries : List (Option ℕ)) where
-  pub takes_none : (old : List ℕ) (nets : TwoValues) (noted : Numbers) → Takes wiring targets entries old nets noted old nets noted
+module _ (wiring : FlatNetlist) (targets : List ℕ) (entries : List (Option ℕ)) where
+  pub takes_none : (old : List ℕ) (nets : TwoValues) (noted : Numbers) → TakesEntries wiring targets entries old nets noted old nets noted
   takes_none old nets noted = record {
     as_many = refl;
     unassigned = λ q e. refl;
@@ -103,7 +103,7 @@ module _ (wiring : FlatNet) (targets : List ℕ) (entries : List (Option ℕ)) w
   -- the places from one on, whose transactions are these, are taken together
   pub takes_run : (old new : List ℕ) (nets nets' : TwoValues) (noted noted' : Numbers) (place : ℕ) (values : List ℕ)
       → ((k : ℕ) → k < length values → get_or entries (place + k) None ≡ Some (get_or values k 0)) → IsWritten place values old new
-      → Brings wiring targets old new nets noted nets' noted' → Takes wiring targets entries old nets noted new nets' noted'
+      → Brings wiring targets old new nets noted nets' noted' → TakesEntries wiring targets entries old nets noted new nets' noted'
   takes_run old new nets nets' noted noted' place values are W B = record {
     as_many = W.as_many;
     unassigned = λ q e. unassigned q e (cases_lt q place) (cases_lt q (place + length values));
@@ -131,8 +131,8 @@ module _ (wiring : FlatNet) (targets : List ℕ) (entries : List (Option ℕ)) w
           let has = ap (λ (p : ℕ). get_or entries p None) (sym at) ∙ e in
           ap (λ (p : ℕ). get_or new p 0) at ∙ W.written (q - place) within ∙ (let is : get_or values (q - place) 0 ≡ w = cc in is)
 
-  pub takes_then : (old mid new : List ℕ) (nets nets' nets'' : TwoValues) (noted noted' noted'' : Numbers) → Takes wiring targets entries old nets noted mid nets' noted'
-      → Takes wiring targets entries mid nets' noted' new nets'' noted'' → Takes wiring targets entries old nets noted new nets'' noted''
+  pub takes_then : (old mid new : List ℕ) (nets nets' nets'' : TwoValues) (noted noted' noted'' : Numbers) → TakesEntries wiring targets entries old nets noted mid nets' noted'
+      → TakesEntries wiring targets entries mid nets' noted' new nets'' noted'' → TakesEntries wiring targets entries old nets noted new nets'' noted''
   takes_then old mid new nets nets' nets'' noted noted' noted'' A B = record {
     as_many = B.as_many ∙ A.as_many;
     unassigned = λ q e. B.unassigned q e ∙ A.unassigned q e;
@@ -141,8 +141,8 @@ module _ (wiring : FlatNet) (targets : List ℕ) (entries : List (Option ℕ)) w
   }
 
   -- where all are taken, they have what they are driven to
-  pub taken_values : (old : List ℕ) (nets : TwoValues) (noted : Numbers) (new : List ℕ) (nets' : TwoValues) (noted' : Numbers) → Takes wiring targets entries old nets noted new nets' noted'
-      → ((q : ℕ) → IsTaken entries new q) → new ≡ driven entries old
+  pub taken_values : (old : List ℕ) (nets : TwoValues) (noted : Numbers) (new : List ℕ) (nets' : TwoValues) (noted' : Numbers) → TakesEntries wiring targets entries old nets noted new nets' noted'
+      → ((q : ℕ) → IsTaken entries new q) → new ≡ driver_values entries old
   taken_values old nets noted new nets' noted' T taken = driven_from entries old new T.as_many T.unassigned taken
 
 module _ (entries : List (Option ℕ)) where
@@ -200,7 +200,7 @@ module _ (entries : List (Option ℕ)) where
 length-cleared : (o : Outcome) → without_entries (without_entries o) ≡ without_entries o
 length-cleared o = ap (λ (n : ℕ). record { entries = replicate {A = Option ℕ} n None; starts = o.starts; variables = o.variables; room = o.room; laid = o.laid; bits = o.bits }) (length-replicate (length o.entries) None)
 
-module _ (wiring : FlatNet) (active : List ℕ) (processes : List Process) (outcomes : List Outcome) (drivers : List (List ℕ)) (nets : TwoValues) (noted : Numbers) where
+module _ (wiring : FlatNetlist) (active : List ℕ) (processes : List Process) (outcomes : List Outcome) (drivers : List (List ℕ)) (nets : TwoValues) (noted : Numbers) where
   pub updating_none_yet : ((p : ℕ) → IsActive (pending_of outcomes) p → Contains active p)
       → IsUpdating wiring active 0 processes outcomes drivers nets noted outcomes drivers nets noted
   updating_none_yet all_active = record {
@@ -216,7 +216,7 @@ module _ (wiring : FlatNet) (active : List ℕ) (processes : List Process) (outc
 
   module _ (i : ℕ) (outcomes' : List Outcome) (drivers' : List (List ℕ)) (nets' : TwoValues) (noted' : Numbers) (I : IsUpdating wiring active i processes outcomes drivers nets noted outcomes' drivers' nets' noted') where
     module _ (p : ℕ) (o cleared : Outcome) (row : List ℕ) (nets'' : TwoValues) (noted'' : Numbers) (is : get_or active i 0 ≡ p) (there : p < length outcomes') (there_too : p < length drivers')
-        (o_is : get_or outcomes' p o ≡ o) (cleared_is : cleared ≡ without_entries o) (row_is : row ≡ driven o.entries (get_or drivers' p []))
+        (o_is : get_or outcomes' p o ≡ o) (cleared_is : cleared ≡ without_entries o) (row_is : row ≡ driver_values o.entries (get_or drivers' p []))
         (as_many : length (get_or drivers' p []) ≡ length o.entries) (T : Brings wiring (targets_of processes p) (get_or drivers' p []) row nets' noted' nets'' noted'') where
       abbrev nones : List (Option ℕ)
       nones = replicate (length o.entries) None
@@ -259,14 +259,14 @@ module _ (wiring : FlatNet) (active : List ℕ) (processes : List Process) (outc
           value q (inl e) = rw e (ap length row_at_p ∙ row_length ∙ sym as_many ∙ I.each_value p)
           value q (inr n) = ap length (get_or-set_other drivers' p q row [] n) ∙ I.each_value q
 
-          driven_too : (q : ℕ) → (q ≡ p) ⊎ (q ≡ p → ⊥) → driven (get_or (pending_of (set outcomes' p cleared)) q []) (get_or (set drivers' p row) q [])
-              ≡ driven (get_or (pending_of outcomes) q []) (get_or drivers q [])
+          driven_too : (q : ℕ) → (q ≡ p) ⊎ (q ≡ p → ⊥) → driver_values (get_or (pending_of (set outcomes' p cleared)) q []) (get_or (set drivers' p row) q [])
+              ≡ driver_values (get_or (pending_of outcomes) q []) (get_or drivers q [])
           driven_too q (inl e) =
-              rw e (ap (λ (a : List (Option ℕ)). driven a (get_or (set drivers' p row) p [])) at_p ∙ ap (driven nones) row_at_p
-              ∙ driven_cleared (length o.entries) row (sym row_length) ∙ row_is ∙ ap (λ (a : List (Option ℕ)). driven a (get_or drivers' p [])) (sym entries_at) ∙ I.driven_stay p)
+              rw e (ap (λ (a : List (Option ℕ)). driver_values a (get_or (set drivers' p row) p [])) at_p ∙ ap (driver_values nones) row_at_p
+              ∙ driven_cleared (length o.entries) row (sym row_length) ∙ row_is ∙ ap (λ (a : List (Option ℕ)). driver_values a (get_or drivers' p [])) (sym entries_at) ∙ I.driven_stay p)
           driven_too q (inr n) =
-              ap (λ (a : List (Option ℕ)). driven a (get_or (set drivers' p row) q [])) (at_other q n)
-              ∙ ap (driven (get_or (pending_of outcomes') q [])) (get_or-set_other drivers' p q row [] n) ∙ I.driven_stay q
+              ap (λ (a : List (Option ℕ)). driver_values a (get_or (set drivers' p row) q [])) (at_other q n)
+              ∙ ap (driver_values (get_or (pending_of outcomes') q [])) (get_or-set_other drivers' p q row [] n) ∙ I.driven_stay q
 
           left : (q : ℕ) → IsActive (pending_of (set outcomes' p cleared)) q → (q ≡ p) ⊎ (q ≡ p → ⊥) → (k : ℕ) × (i + 1 ≤ k) × (k < length active) × (get_or active k 0 ≡ q)
           left q (place, some) (inl e) = absurd (none_in_replicate (length o.entries) place
@@ -284,7 +284,7 @@ module _ (wiring : FlatNet) (active : List ℕ) (processes : List Process) (outc
       updated_outcomes = sym (none_to_take outcomes' none_left_active) ∙ I.outcomes_stay
 
       pub updated_drivers : length drivers ≡ length outcomes → ((p : ℕ) → length (get_or drivers p []) ≡ length (get_or (pending_of outcomes) p []))
-          → drivers' ≡ driven_all (pending_of outcomes) drivers
+          → drivers' ≡ all_driver_values (pending_of outcomes) drivers
       updated_drivers as_many each =
           all_driven (pending_of outcomes) drivers drivers' I.each_row (length-map outcomes _ ∙ sym as_many)
           (λ p. sym (driven_none (get_or (pending_of outcomes') p []) (get_or drivers' p []) (I.each_entry p ∙ sym (each p) ∙ sym (I.each_value p))

@@ -8,7 +8,7 @@ use Rattle.rtl_model.specs.basics.Valuations.{has_event}
 use Rattle.rtl_model.proofs.basics.Lists.{Contains-none}
 use Rattle.rtl_net_layout.specs.Groups.{Grouping}
 use Rattle.rtl_kernel.specs.values.TwoValues.{CoverEvents}
-use Rattle.rtl_kernel.specs.wakes.Woken.{Adds, AreDifferent, AreWoken, AreWokenBy, wakers_of}
+use Rattle.rtl_kernel.specs.wakes.Woken.{AddsPlaces, AreDifferent, AreWoken, AreWokenBy, wakers_of}
 use Rattle.rtl_kernel.proofs.Grouped.{wakers_at}
 
 -- ---- numbers that stand once
@@ -28,11 +28,11 @@ differ_more xs x D new j k j_in k_in e =
 
 -- ---- marks
 
-pub adds_none : (marks : List Bool) → Adds [] marks marks
+pub adds_none : (marks : List Bool) → AddsPlaces [] marks marks
 adds_none marks = record { kept = λ p h. h; added = λ p h. absurd (Contains-none p h); no_other = λ p h. inl h }
 
 -- a mark is set
-pub adds_set : (marks : List Bool) (x : ℕ) → x < length marks → Adds (x ∷ []) marks (set marks x true)
+pub adds_set : (marks : List Bool) (x : ℕ) → x < length marks → AddsPlaces (x ∷ []) marks (set marks x true)
 adds_set marks x within = record { kept = λ p h. kept p h (cases_eq p x); added = λ p (k, l, e). added p k l e; no_other = λ p h. other p h (cases_eq p x) }
   where
     marked : get_or (set marks x true) x false ≡ true
@@ -51,7 +51,7 @@ adds_set marks x within = record { kept = λ p h. kept p h (cases_eq p x); added
     other p h (inr n) = inl (sym (get_or-set_other marks x p true false n) ∙ h)
 
 -- or was there
-pub adds_again : (marks : List Bool) (x : ℕ) → get_or marks x false ≡ true → Adds (x ∷ []) marks marks
+pub adds_again : (marks : List Bool) (x : ℕ) → get_or marks x false ≡ true → AddsPlaces (x ∷ []) marks marks
 adds_again marks x marked = record { kept = λ p h. h; added = λ p (k, l, e). added p k l e; no_other = λ p h. inl h }
   where
     added : (p k : ℕ) → k < 1 → get_or (x ∷ []) k p ≡ p → get_or marks p false ≡ true
@@ -59,8 +59,8 @@ adds_again marks x marked = record { kept = λ p h. h; added = λ p (k, l, e). a
     added p (suc k) l e = absurd (omega arith)
 
 -- marks of a list, and of one more
-pub adds_more : (xs : List ℕ) (i : ℕ) (x : ℕ) (old mid new : List Bool) → i < length xs → get_or xs i 0 ≡ x → Adds (take i xs) old mid → Adds (x ∷ []) mid new
-    → Adds (take (i + 1) xs) old new
+pub adds_more : (xs : List ℕ) (i : ℕ) (x : ℕ) (old mid new : List Bool) → i < length xs → get_or xs i 0 ≡ x → AddsPlaces (take i xs) old mid → AddsPlaces (x ∷ []) mid new
+    → AddsPlaces (take (i + 1) xs) old new
 adds_more xs i x old mid new within is A B = rw (take_more xs i 0 within, is) (record {
   kept = λ p h. B.kept p (A.kept p h);
   added = λ p h. added p (Contains-push_cases (take i xs) x p h);
@@ -105,7 +105,7 @@ module _ (groups : Grouping) (before current : List ℕ) where
 
     -- and one with an event those that it is listed for
     pub woken_with : (new : List Bool) (n : ℕ) → n < length groups.of_net → get_or groups.of_net n 0 ≡ g → has_event before current n ≡ true
-        → Adds (get_or groups.listed g []) old new → AreWokenBy (take (i + 1) changed) groups before current new
+        → AddsPlaces (get_or groups.listed g []) old new → AreWokenBy (take (i + 1) changed) groups before current new
     woken_with new n there own event B = rw (take_more changed i 0 within, is) (record {
       all_wait = λ m p l h. wait m p l (Contains-push_cases (take i changed) g (get_or groups.of_net m 0) h);
       no_other = λ p h. other p (B.no_other p h);

@@ -4,14 +4,14 @@ use Rattle.std.proofs.lemmas.Bool.{cases_lt}
 use Rattle.std.proofs.lemmas.List.{get_or_past, length-map}
 use Rattle.std.proofs.lemmas.List.Elements.{All-map}
 use Rattle.std.proofs.lemmas.Option.{slice_get_within}
-use Rattle.rtl_model.specs.nets.FlatNet.{FlatProcess, FlatDriver, DriverInRange, IsInRange, process_at, no_flat_process, targets}
-use Rattle.rtl_model.specs.nets.CoreNet.{core_net, core_process}
-use Rattle.rtl_model.specs.simulation.Net.{Process, process}
+use Rattle.rtl_model.specs.nets.FlatNetlist.{FlatProcess, FlatDriver, DriverInRange, IsInRange, process_at, no_flat_process, targets}
+use Rattle.rtl_model.specs.nets.CoreNetlist.{core_netlist, core_process}
+use Rattle.rtl_model.specs.simulation.Netlist.{Process, process}
 use Rattle.rtl_model.proofs.basics.Lists.{Contains-none, get_or-map_within}
 use Rattle.rtl_model.proofs.nets.InRange.{process_in_range}
 use Rattle.rtl_model.proofs.nets.Processes.{process-core_net}
 use Rattle.rtl_eval.specs.Runs.{Outcome}
-use Rattle.rtl_net.specs.Nets.{NetView, flat, driver_view, process_view}
+use Rattle.rtl_net.specs.Nets.{NetlistView, flat, driver_view, process_view}
 use Rattle.rtl_net.specs.declared.process.Driver as r
 use Rattle.rtl_net.specs.declared.process.Process as q
 use Rattle.rtl_kernel.specs.drivers.Transactions.{nets_of, no_outcome, pending_of, targets_of}
@@ -29,8 +29,8 @@ rows_are [] p = refl
 rows_are (x ∷ ps) zero = nets_are x.drives.items
 rows_are (x ∷ ps) (suc p) = rows_are ps p
 
-module _ (net : NetView) where
-  pub targets_are : (p : ℕ) → targets_of net.processes p ≡ (process (core_net (flat net)) p).drives
+module _ (net : NetlistView) where
+  pub targets_are : (p : ℕ) → targets_of net.processes p ≡ (process (core_netlist (flat net)) p).drives
   targets_are p = rows_are net.processes p ∙ sym (ap (λ (x : Process). x.drives) (process-core_net (flat net) p))
 
   pub each_target : {E : Type 0} (most : E → ℕ) (bodies : List E) (outcomes : List Outcome) → HaveRoom most (flat net) bodies outcomes
@@ -68,7 +68,7 @@ module _ (net : NetView) where
   pub lists_there : IsInRange (flat net) → All (λ (nets : List ℕ). All (λ n. n < length net.types) nets) (map (λ (p : q.Process). p.wakes.items) net.processes)
   lists_there R = All-map (λ (nets : List ℕ). All (λ n. n < length net.types) nets) (λ (p : q.Process). p.wakes.items) net.processes (wakes_there R)
 
-  pub wakes_are : map (λ (p : q.Process). p.wakes.items) net.processes ≡ wakes_of (core_net (flat net))
+  pub wakes_are : map (λ (p : q.Process). p.wakes.items) net.processes ≡ wakes_of (core_netlist (flat net))
   wakes_are = by net.processes
     where
       by : (ps : List q.Process) → map (λ (p : q.Process). p.wakes.items) ps ≡ map (λ (p : Process). p.wakes) (map (core_process net.inputs) (map process_view ps))

@@ -4,8 +4,8 @@ ghost use Rattle.std.specs.Prelude.{◌≡◌, ◌+◌, ◌<◌, ◌≤◌, ℕ,
 ghost use Rattle.std.specs.List.{list_any};
 ghost use Rattle.std.specs.Option.{is_some};
 ghost use Rattle.rtl_model.specs.bodies.Types.{KeepsTypes};
-ghost use Rattle.rtl_model.specs.nets.CoreNet.{part_effect};
-ghost use Rattle.rtl_model.specs.simulation.Cycle.{driven, driven_all};
+ghost use Rattle.rtl_model.specs.nets.CoreNetlist.{part_effect};
+ghost use Rattle.rtl_model.specs.simulation.Cycle.{driver_values, all_driver_values};
 ghost use Rattle.rtl_eval.specs.Runs.{Outcome, IsOf, Leaves};
 ghost use Rattle.rtl_net.specs.declared.process.Driver as net;
 ghost use Rattle.rtl_net.specs.declared.process.Process.{Process};
@@ -14,7 +14,7 @@ ghost use Rattle.rtl_kernel.specs.drivers.Rows.{rows};
 ghost use Rattle.rtl_kernel.specs.drivers.Starts.{AreFresh, start_row};
 ghost use Rattle.rtl_kernel.specs.drivers.Transactions.{IsActive, HasRunOf, all_targets, nets_of, targets_of, pending_of, without_entries, no_outcome};
 ghost use Rattle.rtl_kernel.specs.drivers.Brought.{AreAloneAlike, BringsRun, Brings, BringsAll};
-ghost use Rattle.rtl_kernel.specs.drivers.Updates.{Takes, IsTaken};
+ghost use Rattle.rtl_kernel.specs.drivers.Updates.{TakesEntries, IsTaken};
 ghost use Rattle.rtl_kernel.specs.values.TwoValues.{group_of};
 ghost use Rattle.rtl_net_layout.specs.Cuts.{AreCuts, AreCutsOf};
 
@@ -102,7 +102,7 @@ impl Drivers {
         requires grouped { length nets.old.groups.of_net ≡ length wiring.now.types }
         requires alike { AreAloneAlike (flat wiring.now) nets.old.groups.of_net }
         requires bound { noted.old.bound ≡ length nets.old.groups.listed }
-        ensures drivers { self.new.drivers ≡ driven_all (pending_of self.old.outcomes) self.old.drivers }
+        ensures drivers { self.new.drivers ≡ all_driver_values (pending_of self.old.outcomes) self.old.drivers }
         ensures outcomes { self.new.outcomes ≡ map without_entries self.old.outcomes }
         ensures brings { BringsAll (flat wiring.now) wiring.now.processes self.old.drivers self.new.drivers nets.old noted.old nets.new noted.new }
     {
@@ -168,7 +168,7 @@ fn update_rows(
     requires grouped { length nets.old.groups.of_net ≡ length wiring.now.types }
     requires alike { AreAloneAlike (flat wiring.now) nets.old.groups.of_net }
     requires bound { noted.old.bound ≡ length nets.old.groups.listed }
-    ensures drivers { rows drivers.new.items ≡ driven_all (pending_of outcomes.old.items) (rows drivers.old.items) }
+    ensures drivers { rows drivers.new.items ≡ all_driver_values (pending_of outcomes.old.items) (rows drivers.old.items) }
     ensures outcomes { outcomes.new.items ≡ map without_entries outcomes.old.items }
     ensures brings { BringsAll (flat wiring.now) wiring.now.processes (rows drivers.old.items) (rows drivers.new.items) nets.old noted.old nets.new noted.new }
 {
@@ -202,7 +202,7 @@ fn update_row(
     requires grouped { length nets.old.groups.of_net ≡ length wiring.now.types }
     requires alike { AreAloneAlike (flat wiring.now) nets.old.groups.of_net }
     requires bound { noted.old.bound ≡ length nets.old.groups.listed }
-    ensures values { values.new.items ≡ driven outcome.now.entries values.old.items }
+    ensures values { values.new.items ≡ driver_values outcome.now.entries values.old.items }
     ensures brings { Brings (flat wiring.now) (nets_of row.entry.drives.now) values.old.items values.new.items nets.old noted.old nets.new noted.new }
 {
     for span in outcome.assigned() {
@@ -230,7 +230,7 @@ fn update_span(
     requires grouped { length nets.old.groups.of_net ≡ length wiring.now.types }
     requires alike { AreAloneAlike (flat wiring.now) nets.old.groups.of_net }
     requires bound { noted.old.bound ≡ length nets.old.groups.listed }
-    ensures takes { Takes (flat wiring.now) (nets_of row.entry.drives.now) outcome.now.entries values.old nets.old noted.old values.new nets.new noted.new }
+    ensures takes { TakesEntries (flat wiring.now) (nets_of row.entry.drives.now) outcome.now.entries values.old nets.old noted.old values.new nets.new noted.new }
     ensures taken { (k : ℕ) → k < span.len → IsTaken outcome.now.entries values.new (span.first + k) }
 {
     let end = span.first + span.len;

@@ -2,8 +2,8 @@
 
 ghost use Rattle.std.specs.Prelude.{◌≡◌, ◌<◌, ◌≤◌, ℕ, List, All, length, slice_index, Contains, IfOk, MatchResult, IsTrue};
 ghost use Rattle.std.specs.List.{count_by};
-ghost use Rattle.rtl_model.specs.nets.CoreNet.{core_net};
-ghost use Rattle.rtl_model.specs.simulation.Cycle.{started, given, updated, ran, changed, is_quiet};
+ghost use Rattle.rtl_model.specs.nets.CoreNetlist.{core_netlist};
+ghost use Rattle.rtl_model.specs.simulation.Cycle.{start_state, after_inputs, after_update, after_run, with_changes, is_quiet};
 ghost use Rattle.rtl_model.specs.simulation.Moments.{HasNoneToRun, HasRun, Delta, SettlesTo, IsUnsettled};
 ghost use Rattle.rtl_net.specs.Nets.{flat};
 ghost use Rattle.rtl_kernel.specs.kernel.Simulation.{changes_of, initial_inputs};
@@ -74,7 +74,7 @@ impl<'a, E: Exec> Kernel<'a, E> {
         requires initial { length initial.now ≡ length net.now.inputs }
         ensures { IfOk result (λ k. k ≡ record {
           net = net.now;
-          state = started (core_net (flat net.now)) (initial_inputs (flat net.now) initial.now);
+          state = start_state (core_netlist (flat net.now)) (initial_inputs (flat net.now) initial.now);
         }) }
     {
         let _nets = net.nets();
@@ -124,8 +124,8 @@ impl<'a, E: Exec> Kernel<'a, E> {
     /// Initialization: runs each process once (IEEE 1076-2008, 14.7.5.2), in the order that the picker answers.
     pub fn start<P: Pick>(&mut self, pick: &mut P)
         ensures net { self.new.net ≡ self.old.net }
-        ensures ran { HasRun (core_net (flat self.old.net)) self.old.state self.new.state }
-        ensures picked { HasRunAsPicked P.picks (core_net (flat self.old.net)) pick.old pick.new self.old.state self.new.state }
+        ensures ran { HasRun (core_netlist (flat self.old.net)) self.old.state self.new.state }
+        ensures picked { HasRunAsPicked P.picks (core_netlist (flat self.old.net)) pick.old pick.new self.old.state self.new.state }
     {
         self.run_all(pick);
     }
@@ -136,8 +136,8 @@ impl<'a, E: Exec> Kernel<'a, E> {
         requires ready { HasNoneToRun self.old.state }
         requires quiet { IsTrue (is_quiet self.old.state) }
         ensures net { self.new.net ≡ self.old.net }
-        ensures ran { HasRun (core_net (flat self.old.net)) (given (core_net (flat self.old.net)) (changed (changes_of changes.now) self.old.state.now) self.old.state) self.new.state }
-        ensures picked { HasRunAsPicked P.picks (core_net (flat self.old.net)) pick.old pick.new (given (core_net (flat self.old.net)) (changed (changes_of changes.now) self.old.state.now) self.old.state) self.new.state }
+        ensures ran { HasRun (core_netlist (flat self.old.net)) (after_inputs (core_netlist (flat self.old.net)) (with_changes (changes_of changes.now) self.old.state.now) self.old.state) self.new.state }
+        ensures picked { HasRunAsPicked P.picks (core_netlist (flat self.old.net)) pick.old pick.new (after_inputs (core_netlist (flat self.old.net)) (with_changes (changes_of changes.now) self.old.state.now) self.old.state) self.new.state }
     {
         self.change(changes);
         self.run_all(pick);
@@ -147,9 +147,9 @@ impl<'a, E: Exec> Kernel<'a, E> {
     pub fn cycle<P: Pick>(&mut self, pick: &mut P)
         requires ready { HasNoneToRun self.old.state }
         ensures net { self.new.net ≡ self.old.net }
-        ensures delta { (order : List ℕ) × Delta (core_net (flat self.old.net)) order self.old.state self.new.state }
+        ensures delta { (order : List ℕ) × Delta (core_netlist (flat self.old.net)) order self.old.state self.new.state }
         ensures ready { HasNoneToRun self.new.state }
-        ensures picked { HasRunAsPicked P.picks (core_net (flat self.old.net)) pick.old pick.new (updated (core_net (flat self.old.net)) self.old.state) self.new.state }
+        ensures picked { HasRunAsPicked P.picks (core_netlist (flat self.old.net)) pick.old pick.new (after_update (core_netlist (flat self.old.net)) self.old.state) self.new.state }
     {
         self.update();
         self.run_all(pick);
@@ -162,11 +162,11 @@ impl<'a, E: Exec> Kernel<'a, E> {
         ensures net { self.new.net ≡ self.old.net }
         ensures ready { HasNoneToRun self.new.state }
         ensures settled { MatchResult result
-            (λ deltas. SettlesTo (core_net (flat self.old.net)) self.old.state deltas self.new.state × (deltas ≤ limit))
-            (λ _. IsUnsettled (core_net (flat self.old.net)) self.old.state limit self.new.state) }
+            (λ deltas. SettlesTo (core_netlist (flat self.old.net)) self.old.state deltas self.new.state × (deltas ≤ limit))
+            (λ _. IsUnsettled (core_netlist (flat self.old.net)) self.old.state limit self.new.state) }
         ensures picked { MatchResult result
-            (λ deltas. HasDeltasAsPicked P.picks (core_net (flat self.old.net)) deltas pick.old pick.new self.old.state self.new.state)
-            (λ _. HasDeltasAsPicked P.picks (core_net (flat self.old.net)) limit pick.old pick.new self.old.state self.new.state) }
+            (λ deltas. HasDeltasAsPicked P.picks (core_netlist (flat self.old.net)) deltas pick.old pick.new self.old.state self.new.state)
+            (λ _. HasDeltasAsPicked P.picks (core_netlist (flat self.old.net)) limit pick.old pick.new self.old.state self.new.state) }
     {
         for deltas in 0..limit {
             if self.is_quiet() {
@@ -193,7 +193,7 @@ impl<'a, E: Exec> Kernel<'a, E> {
     fn run_one(&mut self, place: usize)
         requires { place < count_by (λ b. b) self.old.state.waiting }
         ensures net { self.new.net ≡ self.old.net }
-        ensures ran { (process : ℕ) × IsAt self.old.state.waiting place process × (self.new.state ≡ ran (core_net (flat self.old.net)) process self.old.state) }
+        ensures ran { (process : ℕ) × IsAt self.old.state.waiting place process × (self.new.state ≡ after_run (core_netlist (flat self.old.net)) process self.old.state) }
     {
         let process = self.resumed.take(place);
         let bodies = self.bodies;
@@ -208,8 +208,8 @@ impl<'a, E: Exec> Kernel<'a, E> {
     /// Runs all processes that are to run.
     fn run_all<P: Pick>(&mut self, pick: &mut P)
         ensures net { self.new.net ≡ self.old.net }
-        ensures ran { HasRun (core_net (flat self.old.net)) self.old.state self.new.state }
-        ensures picked { HasRunAsPicked P.picks (core_net (flat self.old.net)) pick.old pick.new self.old.state self.new.state }
+        ensures ran { HasRun (core_netlist (flat self.old.net)) self.old.state self.new.state }
+        ensures picked { HasRunAsPicked P.picks (core_netlist (flat self.old.net)) pick.old pick.new self.old.state self.new.state }
     {
         let mut left = self.to_run();
         while left > 0 {
@@ -223,7 +223,7 @@ impl<'a, E: Exec> Kernel<'a, E> {
     fn update(&mut self)
         requires ready { HasNoneToRun self.old.state }
         ensures net { self.new.net ≡ self.old.net }
-        ensures state { self.new.state ≡ updated (core_net (flat self.old.net)) self.old.state }
+        ensures state { self.new.state ≡ after_update (core_netlist (flat self.old.net)) self.old.state }
     {
         let net = self.net;
         self.values.begin();
@@ -245,7 +245,7 @@ impl<'a, E: Exec> Kernel<'a, E> {
         requires ready { HasNoneToRun self.old.state }
         requires quiet { IsTrue (is_quiet self.old.state) }
         ensures net { self.new.net ≡ self.old.net }
-        ensures state { self.new.state ≡ given (core_net (flat self.old.net)) (changed (changes_of changes.now) self.old.state.now) self.old.state }
+        ensures state { self.new.state ≡ after_inputs (core_netlist (flat self.old.net)) (with_changes (changes_of changes.now) self.old.state.now) self.old.state }
     {
         self.values.begin();
         self.values.set_all(changes);

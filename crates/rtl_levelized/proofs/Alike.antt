@@ -1,7 +1,7 @@
--- What the run of an accepted net writes is one text.
+-- What the run of an accepted netlist writes is one text.
 use Rattle.std.proofs.Common.{◌≡◌, ℕ, ◌≤◌, List, length, Ok, inl, inr, sym, ap, subst, ◌∙◌}
 use Rattle.rtl_model.specs.simulation.Laws.{OneMachineRun, OneReport}
-use Rattle.rtl_net.specs.Nets.{NetView}
+use Rattle.rtl_net.specs.Nets.{NetlistView}
 use Rattle.rtl_net.specs.Elaborated.{IsNet}
 use Rattle.rtl_net.specs.Laws.{EachNetMeetsTheLaws}
 use Rattle.rtl_check.specs.Views.{core}
@@ -12,7 +12,7 @@ use Rattle.rtl_stim.specs.Stimuli.{StimulusView, moments, inputs_at}
 use Rattle.rtl_run.specs.declared.summary.Summary.{Summary}
 use Rattle.rtl_machine.specs.Traced.{machine_text, IsTrace, Traces}
 use Rattle.rtl_machine.specs.Admitted.{IsAdmitted}
-use Rattle.rtl_machine.specs.Answered.{Admits, Runs}
+use Rattle.rtl_machine.specs.Answered.{Admits, RunsNet}
 use Rattle.rtl_levelized.specs.declared.summary.LevelSummary.{LevelSummary}
 use Rattle.rtl_levelized.specs.Answered.{RunsLevels, TracesLevels}
 use Rattle.rtl_levelized.specs.Laws.{EachTraceIsTheOne, EachRunIsWrittenAlike, AreAlike}
@@ -25,7 +25,7 @@ each_trace_is_the_one meets one net s is_net accepted bound other_bound text oth
 -- ---- both commands
 
 -- a text says one stimulus of a net
-same_stimulus : (net : NetView) (text : List ℕ) (a b : ℕ) (s t : StimulusView) → IsAdmitted net text a s → IsAdmitted net text b t → s ≡ t
+same_stimulus : (net : NetlistView) (text : List ℕ) (a b : ℕ) (s t : StimulusView) → IsAdmitted net text a s → IsAdmitted net text b t → s ≡ t
 same_stimulus net text a b s t A B = λ i. record { inputs = (A.says.0 ∙ sym B.says.0) i; schedule = same_schedule i }
   where
     same_ok : (x y : Schedule) → schedule_of (inputs_of net) text ≡ Ok x → schedule_of (inputs_of net) text ≡ Ok y → x ≡ y
@@ -34,7 +34,7 @@ same_stimulus net text a b s t A B = λ i. record { inputs = (A.says.0 ∙ sym B
     same_schedule : s.schedule ≡ t.schedule
     same_schedule = same_ok s.schedule t.schedule A.says.1 B.says.1
 
-module _ (one : EachTraceIsTheOne) (reports : OneReport) (net : NetView) (text : List ℕ) (is_net : IsNet net) (old left right : SinkState) (summary : Summary) (levels : LevelSummary) where
+module _ (one : EachTraceIsTheOne) (reports : OneReport) (net : NetlistView) (text : List ℕ) (is_net : IsNet net) (old left right : SinkState) (summary : Summary) (levels : LevelSummary) where
   both : (A : Admits net text (λ s bound. Traces net s bound old left (Ok summary))) (B : Admits net text (λ s bound. TracesLevels net s bound old right (Ok levels)))
       → AreAlike old left right summary levels
   both A B = record {
@@ -59,7 +59,7 @@ module _ (one : EachTraceIsTheOne) (reports : OneReport) (net : NetView) (text :
           let also = B.admitted.accepted in
           (reports (core net) yes.accepted yes.levels also.levels yes.from also.from yes.clocks also.clocks A.bound B.bound yes.report also.report).3
 
-  pub alike : Runs net text old left (Ok summary) → RunsLevels net text old right (Ok levels) → AreAlike old left right summary levels
+  pub alike : RunsNet net text old left (Ok summary) → RunsLevels net text old right (Ok levels) → AreAlike old left right summary levels
   alike (inl A) (inl B) = both A B
   alike (inl A) (inr R) = let is = R.is in cc
   alike (inr R) either = let is = R.is in cc

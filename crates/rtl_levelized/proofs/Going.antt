@@ -2,7 +2,7 @@
 use Rattle.std.proofs.Common.{◌≡◌, ℕ, zero, suc, ◌+◌, ◌<◌, ◌≤◌, Bool, List, [], ◌∷◌, ◌++◌, length, get_or, inl, inr, refl, sym, ap, subst, ◌∙◌, append-nil, arith}
 use Rattle.std.specs.Prelude.{if◌then◌else◌}
 use Rattle.std.proofs.KnownBytes.{Appends-nil}
-use Rattle.rtl_net.specs.Nets.{NetView}
+use Rattle.rtl_net.specs.Nets.{NetlistView}
 use Rattle.rtl_check.specs.Views.{core}
 use Rattle.rtl_sink.specs.Written.{SinkState, IsIntact, Goes, TakesBeginning}
 use Rattle.rtl_sink.proofs.Writing.{Goes-append}
@@ -40,7 +40,7 @@ of_run_more run [] y of_run same (suc m) x is = cc
 of_run_more run (z ∷ xs) y of_run same zero x is = of_run 0 x is
 of_run_more run (z ∷ xs) y of_run same (suc m) x is = of_run_more (λ k. run (suc k)) xs y (λ k w there. of_run (suc k) w there) same m x is
 
-module _ (net : NetView) (s : StimulusView) (bound : ℕ) (run : ℕ → List ℕ) (synchronous : IsSynchronous (core net) bound (inputs_at s) run) where
+module _ (net : NetlistView) (s : StimulusView) (bound : ℕ) (run : ℕ → List ℕ) (synchronous : IsSynchronous (core net) bound (inputs_at s) run) where
   is_trace : IsTrace net s bound (machine_text net s run)
   is_trace = record { run = run; synchronous = synchronous; is = refl }
 
@@ -171,7 +171,7 @@ module _ (net : NetView) (s : StimulusView) (bound : ℕ) (run : ℕ → List �
           beginning (C.first ∷ C.rest) (whole_text net s (C.first ∷ C.rest)) start new (let there = C.there in omega (arith, there)) C.of_run (inr (all, refl)) (whole_goes.beginning intact)
 
 -- the last moment so far
-pub is_at_last : (net : NetView) (s : StimulusView) (run : ℕ → List ℕ) (start mid : SinkState) (p : Progress) → HasCome net s run start mid p → (m : ℕ) → suc m ≡ p.moments
+pub is_at_last : (net : NetlistView) (s : StimulusView) (run : ℕ → List ℕ) (start mid : SinkState) (p : Progress) → HasCome net s run start mid p → (m : ℕ) → suc m ≡ p.moments
     → (get_or (moments s) m 0 ≡ p.now) × (m < length (moments s))
 is_at_last net s run start mid p C m count =
     let last : length C.rest ≡ m = omega (arith, count, C.count) in

@@ -1,14 +1,14 @@
 -- One turn of a run: what the agenda gives next is the next moment, and the machine steps to it.
 use Rattle.std.proofs.Common.{◌≡◌, ℕ, zero, suc, ◌<◌, ◌≤◌, List, ◌∷◌, length, sym, ap, subst, ◌∙◌, arith}
 use Rattle.std.specs.Prelude.{All, Contains, IsTrue, slice_index}
-use Rattle.rtl_model.specs.simulation.Net.{Net, IsInput}
+use Rattle.rtl_model.specs.simulation.Netlist.{Netlist, IsInput}
 use Rattle.rtl_model.specs.simulation.Accepted.{IsAccepted}
-use Rattle.rtl_model.specs.simulation.Cycle.{changed}
+use Rattle.rtl_model.specs.simulation.Cycle.{with_changes}
 use Rattle.rtl_model.specs.simulation.Machine.{IsFirst, IsStep, Solves, IsMachineRun}
 use Rattle.rtl_model.specs.simulation.Races.{IsRace}
 use Rattle.rtl_model.proofs.nets.Connected.{connected_is_elaborated}
 use Rattle.rtl_model.proofs.simulation.Faultless.{faultless}
-use Rattle.rtl_net.specs.Nets.{NetView, flat}
+use Rattle.rtl_net.specs.Nets.{NetlistView, flat}
 use Rattle.rtl_net.specs.Elaborated.{IsNet}
 use Rattle.rtl_kernel.specs.kernel.Simulation.{changes_of, initial_inputs}
 use Rattle.rtl_agenda.specs.Agenda.{AgendaState, Change, IsOrderly}
@@ -46,12 +46,12 @@ comes_next s is_stimulus p m is_last there at agenda orderly waits time behind l
     }
 
 -- a valuation of a run solves the equations of its moment
-solves_at : (net : Net) (stimulus : ℕ → ℕ → ℕ) (run : ℕ → List ℕ) → IsMachineRun net stimulus run → (m : ℕ) → (registers : ℕ → ℕ) × Solves net (stimulus m) registers (run m)
+solves_at : (net : Netlist) (stimulus : ℕ → ℕ → ℕ) (run : ℕ → List ℕ) → IsMachineRun net stimulus run → (m : ℕ) → (registers : ℕ → ℕ) × Solves net (stimulus m) registers (run m)
 solves_at net stimulus run R zero = (R.first.registers, R.first.solves)
 solves_at net stimulus run R (suc m) = ((R.step m).registers, (R.step m).solves)
 
 -- only inputs are looked at
-race_alike : (net : Net) → IsAccepted net → (before now was is : ℕ → ℕ) → ((n : ℕ) → IsInput net n → before n ≡ was n) → ((n : ℕ) → IsInput net n → now n ≡ is n)
+race_alike : (net : Netlist) → IsAccepted net → (before now was is : ℕ → ℕ) → ((n : ℕ) → IsInput net n → before n ≡ was n) → ((n : ℕ) → IsInput net n → now n ≡ is n)
     → IsRace net before now → IsRace net was is
 race_alike net accepted before now was is same_before same_now R =
     let clock = (faultless net accepted).clock_is_input R.process R.clock R.edge R.clocked in
@@ -68,7 +68,7 @@ race_alike net accepted before now was is same_before same_now R =
       changes = λ e. R.changes (same_before R.input R.is_input ∙ e ∙ sym (same_now R.input R.is_input));
     }
 
-module _ (alike : EachMachineGoesOnAlike) (net : NetView) (is_net : IsNet net) (accepted : IsAccepted (core net)) (s : StimulusView) (ports : HasOwnPorts net) (inputs : s.inputs ≡ inputs_of net)
+module _ (alike : EachMachineGoesOnAlike) (net : NetlistView) (is_net : IsNet net) (accepted : IsAccepted (core net)) (s : StimulusView) (ports : HasOwnPorts net) (inputs : s.inputs ≡ inputs_of net)
     (bound : ℕ) (run : ℕ → List ℕ) (synchronous : IsSynchronous (core net) bound (inputs_at s) run) where
   -- the machine begins as its run does
   pub first_is : (values : List ℕ) → IsFirst (core net) (initial_inputs (flat net) (initial_values s)) values → values ≡ run 0
@@ -82,41 +82,41 @@ module _ (alike : EachMachineGoesOnAlike) (net : NetView) (is_net : IsNet net) (
         let at = solves_at (core net) (inputs_at s) run synchronous.machine m in
         (at.0, subst (λ (v : List ℕ). Solves (core net) (inputs_at s m) at.0 v) (sym same) at.1)
 
-    lead : (n : ℕ) → IsInput (core net) n → changed (changes_of taken) values n ≡ inputs_at s (suc m) n
+    lead : (n : ℕ) → IsInput (core net) n → with_changes (changes_of taken) values n ≡ inputs_at s (suc m) n
     lead = leads net is_net s ports inputs m time taken values (solves.1.each_net ∙ is_net.in_range.each_starts) solves.1.on_inputs next
 
-    no_race : IsRaceless (core net) (inputs_at s) → IsRace (core net) (slice_index values) (changed (changes_of taken) values) → ⊥
+    no_race : IsRaceless (core net) (inputs_at s) → IsRace (core net) (slice_index values) (with_changes (changes_of taken) values) → ⊥
     no_race raceless race =
         raceless (suc m) (suc m) (omega arith)
-        (race_alike (core net) accepted (slice_index values) (changed (changes_of taken) values) (inputs_at s m) (inputs_at s (suc m)) solves.1.on_inputs lead race)
+        (race_alike (core net) accepted (slice_index values) (with_changes (changes_of taken) values) (inputs_at s m) (inputs_at s (suc m)) solves.1.on_inputs lead race)
 
     -- and goes on as it does
-    next_is : (new : List ℕ) → IsStep (core net) values (changed (changes_of taken) values) new → new ≡ run (suc m)
+    next_is : (new : List ℕ) → IsStep (core net) values (with_changes (changes_of taken) values) new → new ≡ run (suc m)
     next_is new step =
         (alike (core net) (connected_is_elaborated (flat net) is_net.in_range is_net.connected) accepted (inputs_at s) run synchronous.machine).step m
-        (changed (changes_of taken) values) new lead (subst (λ (v : List ℕ). IsStep (core net) v (changed (changes_of taken) values) new) same step)
+        (with_changes (changes_of taken) values) new lead (subst (λ (v : List ℕ). IsStep (core net) v (with_changes (changes_of taken) values) new) same step)
 
     -- ---- of a machine of this net, given these changes
 
-    module _ (machine_net : NetView) (is_same : machine_net ≡ net) (changes : List Change) (are : changes ≡ taken) where
+    module _ (machine_net : NetlistView) (is_same : machine_net ≡ net) (changes : List Change) (are : changes ≡ taken) where
       pub changes_inputs : All (λ change. Contains machine_net.inputs change.0) changes
       changes_inputs =
           let all = of_inputs net is_net s ports inputs m time taken next in
-          subst (λ (n : NetView). All (λ change. Contains n.inputs change.0) changes) (sym is_same)
+          subst (λ (n : NetlistView). All (λ change. Contains n.inputs change.0) changes) (sym is_same)
           (subst (λ (cs : List Change). All (λ change. Contains net.inputs change.0) cs) (sym are) all)
 
-      pub changes_race : IsRaceless (core net) (inputs_at s) → IsRace (core machine_net) (slice_index values) (changed (changes_of changes) values) → ⊥
+      pub changes_race : IsRaceless (core net) (inputs_at s) → IsRace (core machine_net) (slice_index values) (with_changes (changes_of changes) values) → ⊥
       changes_race raceless =
-          subst (λ (n : NetView). IsRace (core n) (slice_index values) (changed (changes_of changes) values) → ⊥) (sym is_same)
-          (subst (λ (cs : List Change). IsRace (core net) (slice_index values) (changed (changes_of cs) values) → ⊥) (sym are) (no_race raceless))
+          subst (λ (n : NetlistView). IsRace (core n) (slice_index values) (with_changes (changes_of changes) values) → ⊥) (sym is_same)
+          (subst (λ (cs : List Change). IsRace (core net) (slice_index values) (with_changes (changes_of cs) values) → ⊥) (sym are) (no_race raceless))
 
-      pub steps_to : (new : List ℕ) → IsStep (core machine_net) values (changed (changes_of changes) values) new → new ≡ run (suc m)
+      pub steps_to : (new : List ℕ) → IsStep (core machine_net) values (with_changes (changes_of changes) values) new → new ≡ run (suc m)
       steps_to new step =
-          next_is new (subst (λ (cs : List Change). IsStep (core net) values (changed (changes_of cs) values) new) are
-          (subst (λ (n : NetView). IsStep (core n) values (changed (changes_of changes) values) new) is_same step))
+          next_is new (subst (λ (cs : List Change). IsStep (core net) values (with_changes (changes_of cs) values) new) are
+          (subst (λ (n : NetlistView). IsStep (core n) values (with_changes (changes_of changes) values) new) is_same step))
 
 -- with these the machine has the run's next valuation
-pub is_next : (net : NetView) (s : StimulusView) (run : ℕ → List ℕ) (p : Progress) (m time : ℕ) (taken : List Change) → ComesNext s p m time taken
+pub is_next : (net : NetlistView) (s : StimulusView) (run : ℕ → List ℕ) (p : Progress) (m time : ℕ) (taken : List Change) → ComesNext s p m time taken
     → (new : List ℕ) → new ≡ run (suc m) → IsNext net s run p time new
 is_next net s run p m time taken turn new same = record {
   there = let more = turn.next.there in omega (arith, more, turn.is_last);

@@ -1,16 +1,16 @@
 -- What `run_levels` answers on a net. It refuses what `run` refuses, for the same reasons and in the same order (`IsRefused`), and
 -- writes the trace that `run` writes: the same definition of the machine's trace (`IsTrace`).
 use Rattle.std.specs.Prelude.{◌≡◌, ℕ, ◌⊎◌, List, length, Result, Ok, Err}
-use Rattle.rtl_net.specs.Nets.{NetView}
+use Rattle.rtl_net.specs.Nets.{NetlistView}
 use Rattle.rtl_sink.specs.Written.{SinkState, IsIntact, HasFailed, TakesAll}
 use Rattle.rtl_stim.specs.Stimuli.{StimulusView, moments}
 use Rattle.rtl_machine.specs.declared.fault.MachineFault.{MachineFault}
 use Rattle.rtl_machine.specs.declared.fault.MachineFault.TheVariants.{Memory, Output}
 use Rattle.rtl_machine.specs.Traced.{IsTrace, TracesBeginning}
-use Rattle.rtl_machine.specs.Answered.{Admits, IsRefused}
+use Rattle.rtl_machine.specs.Answered.{Admits, IsNetRefused}
 use Rattle.rtl_levelized.specs.declared.summary.LevelSummary.{LevelSummary}
 
-module _ (net : NetView) (s : StimulusView) (bound : ℕ) where
+module _ (net : NetlistView) (s : StimulusView) (bound : ℕ) where
   -- The whole trace of the machine's run went out. The summary tells how many moments there were, and the bound of the checker's
   -- report, which no moment's delta cycles pass where one simulates by events.
   pub record TracesAllMoments (old new : SinkState) (summary : LevelSummary) : Type 0 where
@@ -30,5 +30,5 @@ module _ (net : NetView) (s : StimulusView) (bound : ℕ) where
 
 -- Where the checker says yes with a bound and the stimulus has no race, the trace of the synchronous machine's run is written. Else
 -- the refusal says why, and nothing is written.
-abbrev pub RunsLevels : NetView → (text : List ℕ) → (old new : SinkState) → Result LevelSummary MachineFault → Type 0
-RunsLevels net text old new answer = Admits net text (λ s bound. TracesLevels net s bound old new answer) ⊎ IsRefused net text old new answer
+abbrev pub RunsLevels : NetlistView → (text : List ℕ) → (old new : SinkState) → Result LevelSummary MachineFault → Type 0
+RunsLevels net text old new answer = Admits net text (λ s bound. TracesLevels net s bound old new answer) ⊎ IsNetRefused net text old new answer

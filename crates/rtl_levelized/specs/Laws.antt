@@ -1,21 +1,21 @@
 -- `run` and `run_levels` write the same.
 use Rattle.std.specs.Prelude.{◌≡◌, ℕ, ◌≤◌, List, Ok}
 use Rattle.rtl_model.specs.simulation.Accepted.{IsAccepted}
-use Rattle.rtl_net.specs.Nets.{NetView}
+use Rattle.rtl_net.specs.Nets.{NetlistView}
 use Rattle.rtl_net.specs.Elaborated.{IsNet}
 use Rattle.rtl_sink.specs.Written.{SinkState, TakesAll}
 use Rattle.rtl_stim.specs.Stimuli.{StimulusView}
 use Rattle.rtl_check.specs.Views.{core}
 use Rattle.rtl_run.specs.declared.summary.Summary.{Summary}
 use Rattle.rtl_machine.specs.Traced.{IsTrace}
-use Rattle.rtl_machine.specs.Answered.{Runs}
+use Rattle.rtl_machine.specs.Answered.{RunsNet}
 use Rattle.rtl_levelized.specs.declared.summary.LevelSummary.{LevelSummary}
 use Rattle.rtl_levelized.specs.Answered.{RunsLevels}
 
--- an accepted net has one trace under a stimulus
+-- an accepted netlist has one trace under a stimulus
 abbrev pub EachTraceIsTheOne : Type 0
 EachTraceIsTheOne =
-    (net : NetView) (s : StimulusView) → IsNet net → IsAccepted (core net) → (bound other_bound : ℕ) (text other : List ℕ)
+    (net : NetlistView) (s : StimulusView) → IsNet net → IsAccepted (core net) → (bound other_bound : ℕ) (text other : List ℕ)
     → IsTrace net s bound text → IsTrace net s other_bound other → text ≡ other
 
 -- Both sinks took one text. Both answers tell the same number of moments, and the bound that one tells is none below the greatest
@@ -31,5 +31,5 @@ pub record AreAlike (old one other : SinkState) (summary : Summary) (levels : Le
 -- the same bytes.
 abbrev pub EachRunIsWrittenAlike : Type 0
 EachRunIsWrittenAlike =
-    (net : NetView) (text : List ℕ) → IsNet net → (old one other : SinkState) (summary : Summary) (levels : LevelSummary)
-    → Runs net text old one (Ok summary) → RunsLevels net text old other (Ok levels) → AreAlike old one other summary levels
+    (net : NetlistView) (text : List ℕ) → IsNet net → (old one other : SinkState) (summary : Summary) (levels : LevelSummary)
+    → RunsNet net text old one (Ok summary) → RunsLevels net text old other (Ok levels) → AreAlike old one other summary levels

@@ -1,6 +1,6 @@
 -- How far a run of the machine has come, moment by moment.
 use Rattle.std.specs.Prelude.{◌≡◌, ℕ, suc, ◌<◌, List, ◌∷◌, length, slice_get, slice_index, Some, Result, Ok, Err}
-use Rattle.rtl_net.specs.Nets.{NetView}
+use Rattle.rtl_net.specs.Nets.{NetlistView}
 use Rattle.rtl_sink.specs.Written.{SinkState, IsIntact, Goes}
 use Rattle.rtl_stim.specs.Stimuli.{StimulusView, moments}
 use Rattle.rtl_run.specs.Simulated.{Settled}
@@ -14,7 +14,7 @@ use Rattle.rtl_levelized.specs.Answered.{TracesLevels}
 abbrev pub AreOfRun : (run : ℕ → List ℕ) → List Settled → Type 0
 AreOfRun run valuations = (m : ℕ) (x : Settled) → slice_get valuations m ≡ Some x → x.values ≡ run m
 
-module _ (net : NetView) (s : StimulusView) (run : ℕ → List ℕ) where
+module _ (net : NetlistView) (s : StimulusView) (run : ℕ → List ℕ) where
   -- The trace of the run's moments so far went out, the last one's among them.
   pub record HasCome (old new : SinkState) (p : Progress) : Type 0 where
     pub first : Settled

@@ -1,4 +1,4 @@
-//! Levelized simulation: the run of an accepted net as the synchronous machine that it is, without delta cycles, with the trace
+//! Levelized simulation: the run of an accepted netlist as the synchronous machine that it is, without delta cycles, with the trace
 //! that an event-driven simulation writes.
 //!
 //! `specs/Answered.antt` says what `run_levels` answers, and `specs/Laws.antt` that it writes what `run` of rtl_machine writes.

@@ -24,7 +24,7 @@ use rtl_synchronous::{Machine, laws};
 use rtl_vcd::{Blocks, end, first, header};
 use std::alloc::Global;
 
-/// What is simulated: an accepted net, whose k-th process the k-th body runs and the k-th level is of, under a stimulus without a race,
+/// What is simulated: an accepted netlist, whose k-th process the k-th body runs and the k-th level is of, under a stimulus without a race,
 /// with the bound of its report.
 #[derive_where(Clone, Copy)]
 pub struct Stepping<'a, E: Exec> {

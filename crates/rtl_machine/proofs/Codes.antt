@@ -2,7 +2,7 @@
 use Rattle.std.proofs.Common.{◌≡◌, ℕ, ◌<◌, List, length, map, get_or, sym, ap, ◌∙◌, arith}
 use Rattle.std.proofs.lemmas.List.{get_or-map, length-map}
 use Rattle.std.proofs.lemmas.List.FromFn.{length-map-range_with_len, get_or-map-range_with_len}
-use Rattle.rtl_net.specs.Nets.{NetView, flat, process_view}
+use Rattle.rtl_net.specs.Nets.{NetlistView, flat, process_view}
 use Rattle.rtl_kernel.specs.kernel.Kept.{RunBodies}
 use Rattle.rtl_eval.specs.Trees.{ProcessOf, process_of as run_by, processes_of}
 use Rattle.rtl_eval_code.specs.Codes.{CodeOf, process_of}
@@ -10,10 +10,10 @@ use Rattle.rtl_eval_code.specs.Codes.{CodeOf, process_of}
 abbrev pub run_of : CodeOf → ProcessOf
 run_of code = code.process
 
-abbrev of_number : NetView → ℕ → ProcessOf
+abbrev of_number : NetlistView → ℕ → ProcessOf
 of_number net number = record { net = net; number = number }
 
-module _ (net : NetView) (codes : List CodeOf) (are : map run_of codes ≡ processes_of net) where
+module _ (net : NetlistView) (codes : List CodeOf) (are : map run_of codes ≡ processes_of net) where
   many : length codes ≡ length net.processes
   many = sym (length-map codes run_of) ∙ ap length are ∙ length-map-range_with_len (of_number net) 0 (length net.processes)
 

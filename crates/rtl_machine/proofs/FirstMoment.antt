@@ -1,14 +1,14 @@
--- The first moment of an accepted net's simulation.
+-- The first moment of an accepted netlist's simulation.
 use Rattle.std.proofs.Common.{◌≡◌, ℕ, List, ◌∙◌}
 use Rattle.rtl_model.specs.simulation.Cycle.{State}
 use Rattle.rtl_model.specs.simulation.Moments.{Begun, SettlesTo, IsUnsettled}
-use Rattle.rtl_net.specs.Nets.{NetView}
+use Rattle.rtl_net.specs.Nets.{NetlistView}
 use Rattle.rtl_check.specs.Views.{core}
 use Rattle.rtl_stim.specs.Stimuli.{StimulusView, inputs_at}
 use Rattle.rtl_machine.specs.Synchronous.{IsSynchronous}
 use Rattle.rtl_machine.specs.Evaluated.{IsFirstOf}
 
-module _ (net : NetView) (s : StimulusView) (bound : ℕ) (run : ℕ → List ℕ) (synchronous : IsSynchronous (core net) bound (inputs_at s) run)
+module _ (net : NetlistView) (s : StimulusView) (bound : ℕ) (run : ℕ → List ℕ) (synchronous : IsSynchronous (core net) bound (inputs_at s) run)
     (begun : State) (is_begun : Begun (core net) (inputs_at s) 0 begun) where
   -- it settles within the bound,
   pub never_unsettled : (state : State) → IsUnsettled (core net) begun bound state → ⊥

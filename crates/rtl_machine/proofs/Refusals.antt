@@ -2,7 +2,7 @@
 use Rattle.std.proofs.Common.{◌≡◌, ℕ, List, Result, Ok, Err, refl, sym, ap, subst}
 use Rattle.std.specs.Prelude.{IsErrAnd}
 use Rattle.rtl_model.specs.simulation.Accepted.{IsAccepted}
-use Rattle.rtl_net.specs.Nets.{NetView}
+use Rattle.rtl_net.specs.Nets.{NetlistView}
 use Rattle.rtl_check.specs.Views.{core}
 use Rattle.rtl_stim_lines.specs.declared.faults.StimFault.{StimFault}
 use Rattle.rtl_stim_lines.specs.declared.faults.StimFault.TheVariants.{InLine, NoStop, Race, NoMemory}
@@ -11,8 +11,8 @@ use Rattle.rtl_stim.specs.Stimuli.{IsRead}
 use Rattle.rtl_machine.specs.declared.fault.MachineFault.{MachineFault}
 use Rattle.rtl_machine.specs.Faults.{of_stim}
 use Rattle.rtl_sink.specs.Written.{SinkState}
-use Rattle.rtl_machine.specs.Admitted.{Refuses}
-use Rattle.rtl_machine.specs.Answered.{IsRefused}
+use Rattle.rtl_machine.specs.Admitted.{RefusesNet}
+use Rattle.rtl_machine.specs.Answered.{IsNetRefused}
 use Rattle.rtl_machine.proofs.BadLines.{never_race}
 
 -- an answer that is this fault
@@ -21,7 +21,7 @@ err_with P (Ok x) fault is p = absurd is
 err_with P (Err f) fault is p = subst (λ (g : MachineFault). P (Err g)) (sym is) p
 
 -- the text is refused
-pub refused_text : (net : NetView) (text : List ℕ) (fault : StimFault) → IsAccepted (core net) → IsRead net text (Err fault) → Refuses net text (of_stim fault)
+pub refused_text : (net : NetlistView) (text : List ℕ) (fault : StimFault) → IsAccepted (core net) → IsRead net text (Err fault) → RefusesNet net text (of_stim fault)
 refused_text net text NoMemory accepted read = tt
 refused_text net text (InLine problem line) accepted read = (accepted, read (λ e. cc))
 refused_text net text NoStop accepted read = (accepted, read (λ e. cc))
@@ -32,6 +32,6 @@ err_is (Ok x) fault is = absurd is
 err_is (Err f) fault is = ap (λ (g : MachineFault). Err g) is
 
 -- nothing is written, and the answer is this fault
-pub refused : {A : Type 0} (net : NetView) (text : List ℕ) (sink : SinkState) (answer : Result A MachineFault) (fault : MachineFault)
-    → IsErrAnd answer (λ f. f ≡ fault) → Refuses net text fault → IsRefused net text sink sink answer
+pub refused : {A : Type 0} (net : NetlistView) (text : List ℕ) (sink : SinkState) (answer : Result A MachineFault) (fault : MachineFault)
+    → IsErrAnd answer (λ f. f ≡ fault) → RefusesNet net text fault → IsNetRefused net text sink sink answer
 refused net text sink answer fault is why = record { fault = fault; is = err_is answer fault is; why = why; nothing = refl }

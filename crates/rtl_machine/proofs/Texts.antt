@@ -3,7 +3,7 @@ use Rattle.std.proofs.Common.{◌≡◌, ℕ, suc, ◌≤◌, ◌<◌, List, [],
 use Rattle.std.specs.Prelude.{slice_get, if◌then◌else◌}
 use Rattle.rtl_model.specs.simulation.Cycle.{State}
 use Rattle.rtl_model.specs.simulation.Moments.{HasSettled}
-use Rattle.rtl_net.specs.Nets.{NetView, SignalView}
+use Rattle.rtl_net.specs.Nets.{NetlistView, SignalView}
 use Rattle.rtl_check.specs.Views.{core}
 use Rattle.rtl_sink.specs.Written.{SinkState, TakesBeginning}
 use Rattle.rtl_sink.proofs.Writing.{TakesBeginning-append}
@@ -19,7 +19,7 @@ use Rattle.rtl_machine.specs.Traced.{run_at, machine_text}
 abbrev pub AreOfRun : (run : ℕ → List ℕ) → List Settled → Type 0
 AreOfRun run xs = (m : ℕ) (x : Settled) → slice_get xs m ≡ Some x → x.values ≡ run m
 
-pub are_of_run : (net : NetView) (s : StimulusView) (limit : ℕ) (run : ℕ → List ℕ) (xs : List Settled)
+pub are_of_run : (net : NetlistView) (s : StimulusView) (limit : ℕ) (run : ℕ → List ℕ) (xs : List Settled)
     → ((m deltas : ℕ) (settled : State) → HasSettled (core net) (inputs_at s) m deltas settled → settled.now ≡ run m)
     → AreMoments net s limit xs → AreOfRun run xs
 are_of_run net s limit run xs is_machine are m x is =
@@ -42,7 +42,7 @@ long_behind : (ts : List ℕ) (n : ℕ) → suc n ≡ length ts → n ≡ length
 long_behind [] n long = absurd (omega (arith, long))
 long_behind (t ∷ ts) n long = omega (arith, long)
 
-pub whole_is : (net : NetView) (s : StimulusView) (run : ℕ → List ℕ) (xs : List Settled) → 0 < length (moments s) → length xs ≡ length (moments s) → AreOfRun run xs
+pub whole_is : (net : NetlistView) (s : StimulusView) (run : ℕ → List ℕ) (xs : List Settled) → 0 < length (moments s) → length xs ≡ length (moments s) → AreOfRun run xs
     → whole_text net s xs ≡ machine_text net s run
 whole_is net s run [] some long of_run = absurd (omega (arith, some, long))
 whole_is net s run (x ∷ xs) some long of_run =
@@ -77,7 +77,7 @@ short_behind : (ts : List ℕ) (n : ℕ) → suc n ≤ length ts → n ≤ lengt
 short_behind [] n less = absurd (omega (arith, less))
 short_behind (t ∷ ts) n less = omega (arith, less)
 
-so_far_begins : (net : NetView) (s : StimulusView) (run : ℕ → List ℕ) (xs : List Settled) → length xs ≤ length (moments s) → AreOfRun run xs
+so_far_begins : (net : NetlistView) (s : StimulusView) (run : ℕ → List ℕ) (xs : List Settled) → length xs ≤ length (moments s) → AreOfRun run xs
     → Begins (text_so_far net s xs) (machine_text net s run)
 so_far_begins net s run [] less of_run =
     let first = first_text net.signals (run 0) in
@@ -90,14 +90,14 @@ so_far_begins net s run (x ∷ xs) less of_run =
     subst (λ (v : List ℕ). Begins (head ++ first_text net.signals v ++ changes_text net.signals v (at_times xs times)) (machine_text net s run)) (sym (of_run 0 x refl))
     (begins_more (head ++ first_text net.signals (run 0)) (changes_text net.signals (run 0) (at_times xs times)) (moments_text net.signals 0 (run 0) (run_at (λ m. run (suc m)) times) s.schedule.stop) more)
 
-text_begins : (net : NetView) (s : StimulusView) (run : ℕ → List ℕ) (xs : List Settled) (text : List ℕ) → 0 < length (moments s) → length xs ≤ length (moments s) → AreOfRun run xs
+text_begins : (net : NetlistView) (s : StimulusView) (run : ℕ → List ℕ) (xs : List Settled) (text : List ℕ) → 0 < length (moments s) → length xs ≤ length (moments s) → AreOfRun run xs
     → IsTextOf net s xs text → Begins text (machine_text net s run)
 text_begins net s run xs text some less of_run is =
     ⊎_elim (λ so_far. subst (λ (t : List ℕ). Begins t (machine_text net s run)) (sym so_far) (so_far_begins net s run xs less of_run))
     (λ all. record { rest = []; is = sym (whole_is net s run xs some all.0 of_run) ∙ sym all.1 ∙ sym (append-nil text) }) is
 
 -- a beginning of the trace of some moments is one of the whole
-pub beginning_is : (net : NetView) (s : StimulusView) (run : ℕ → List ℕ) (xs : List Settled) (text : List ℕ) (old new : SinkState)
+pub beginning_is : (net : NetlistView) (s : StimulusView) (run : ℕ → List ℕ) (xs : List Settled) (text : List ℕ) (old new : SinkState)
     → 0 < length (moments s) → length xs ≤ length (moments s) → AreOfRun run xs
     → IsTextOf net s xs text → TakesBeginning old new text → TakesBeginning old new (machine_text net s run)
 beginning_is net s run xs text old new some less of_run is taken =

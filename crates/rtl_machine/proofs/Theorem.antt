@@ -1,8 +1,8 @@
--- The settling theorem, from rtl_model's of sound flat nets.
+-- The settling theorem, from rtl_model's of sound flat netlists.
 use Rattle.std.proofs.Common.{◌≡◌, ℕ, ◌≤◌, List, [], ◌∷◌, length, refl, sym, subst, arith}
-use Rattle.rtl_model.specs.nets.CoreNet.{core_net}
+use Rattle.rtl_model.specs.nets.CoreNetlist.{core_netlist}
 use Rattle.rtl_model.specs.nets.Laws.{EachSimulatesTheMachine, EachHasOneSolution}
-use Rattle.rtl_model.specs.simulation.Net.{Net, Source, sources_of}
+use Rattle.rtl_model.specs.simulation.Netlist.{Netlist, Source, sources_of}
 use Rattle.rtl_model.specs.simulation.Moments.{HasDeltas}
 use Rattle.rtl_model.specs.simulation.Accepted.{IsAccepted, TwoDrivers}
 use Rattle.rtl_model.proofs.simulation.Orders.{one_number}
@@ -10,7 +10,7 @@ use Rattle.rtl_net.specs.Nets.{flat}
 use Rattle.rtl_net.specs.Laws.{EachNetMeetsTheLaws}
 use Rattle.rtl_machine.specs.Synchronous.{EachAcceptedIsSynchronous}
 
-at_most_one : (net : Net) → IsAccepted net → (n : ℕ) → length (sources_of net n) ≤ 1
+at_most_one : (net : Netlist) → IsAccepted net → (n : ℕ) → length (sources_of net n) ≤ 1
 at_most_one net accepted n = by (sources_of net n) refl
   where
     by : (sources : List Source) → sources_of net n ≡ sources → length sources ≤ 1
@@ -20,7 +20,7 @@ at_most_one net accepted n = by (sources_of net n) refl
 
 pub is_synchronous : EachNetMeetsTheLaws → EachSimulatesTheMachine → EachHasOneSolution → EachAcceptedIsSynchronous
 is_synchronous meets simulates solves net most stimulus is_net said raceless =
-    let core = core_net (flat net) in
+    let core = core_netlist (flat net) in
     let sound = (meets net is_net).sound said.accepted in
     let all = simulates (flat net) sound stimulus in (
       all.one_run.0,

@@ -1,8 +1,8 @@
--- What a simulation answers, of an accepted net under a stimulus without a race.
+-- What a simulation answers, of an accepted netlist under a stimulus without a race.
 use Rattle.std.proofs.Common.{◌≡◌, ℕ, pred, ◌≤◌, List, length, refl, sym, ap, subst, ◌∙◌}
 use Rattle.rtl_model.specs.simulation.Moments.{IsMost}
 use Rattle.rtl_model.specs.simulation.Laws.{OneGreatestCount}
-use Rattle.rtl_net.specs.Nets.{NetView, flat}
+use Rattle.rtl_net.specs.Nets.{NetlistView, flat}
 use Rattle.rtl_net.specs.Elaborated.{IsNet}
 use Rattle.rtl_check.specs.Views.{core}
 use Rattle.rtl_sink.specs.Written.{SinkState, TakesAll}
@@ -15,7 +15,7 @@ use Rattle.rtl_machine.specs.Synchronous.{SaysYes, IsSynchronous}
 use Rattle.rtl_machine.specs.Traced.{machine_text, IsTrace, TracesAll, TracesBeginning}
 use Rattle.rtl_machine.proofs.Texts.{are_of_run, whole_is, beginning_is}
 
-module _ (net : NetView) (s : StimulusView) (limit : ℕ) (run : ℕ → List ℕ) (synchronous : IsSynchronous (core net) limit (inputs_at s) run) where
+module _ (net : NetlistView) (s : StimulusView) (limit : ℕ) (run : ℕ → List ℕ) (synchronous : IsSynchronous (core net) limit (inputs_at s) run) where
   is_trace : IsTrace net s limit (machine_text net s run)
   is_trace = record { run = run; synchronous = synchronous; is = refl }
 

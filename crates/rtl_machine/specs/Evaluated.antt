@@ -2,7 +2,7 @@
 -- valuation of the synchronous machine under the stimulus that the words say.
 use Rattle.std.specs.Prelude.{◌≡◌, ℕ, ◌==◌, ◌&&◌, ◌⊎◌, Bool, not, if◌then◌else◌, List, [], ◌++◌, map, flat_map, slice_index, codes, Result, Ok, Err}
 use Rattle.vhdl_values.specs.Scalar.{letter_of, value_of_code}
-use Rattle.rtl_net.specs.Nets.{NetView, SignalView}
+use Rattle.rtl_net.specs.Nets.{NetlistView, SignalView}
 use Rattle.rtl_sink.specs.Written.{SinkState, IsIntact, HasFailed, TakesAll, TakesBeginning}
 use Rattle.rtl_stim.specs.Ports.{is_input}
 use Rattle.rtl_stim.specs.Stimuli.{StimulusView, inputs_at}
@@ -10,11 +10,11 @@ use Rattle.rtl_check.specs.Views.{core}
 use Rattle.rtl_machine.specs.declared.fault.MachineFault.{MachineFault}
 use Rattle.rtl_machine.specs.declared.fault.MachineFault.TheVariants.{Output}
 use Rattle.rtl_machine.specs.Synchronous.{IsSynchronous}
-use Rattle.rtl_machine.specs.Answered.{Admits, IsRefused}
+use Rattle.rtl_machine.specs.Answered.{Admits, IsNetRefused}
 use Rattle.rtl_machine.specs.Words.{words_text}
 
 -- a port of the top that isn't an input
-abbrev pub is_out_port : NetView → SignalView → Bool
+abbrev pub is_out_port : NetlistView → SignalView → Bool
 is_out_port net s = s.scope == 0 && (s.port && not (is_input net (slice_index s.nets 0)))
 
 -- the characters of the elements, from the left
@@ -25,13 +25,13 @@ abbrev pub port_line : SignalView → (valuation : List ℕ) → List ℕ
 port_line s valuation = s.name ++ codes "=" ++ letters valuation s.nets ++ codes "\n"
 
 -- a signal's line if it is an out port
-abbrev pub port_text : NetView → (valuation : List ℕ) → SignalView → List ℕ
+abbrev pub port_text : NetlistView → (valuation : List ℕ) → SignalView → List ℕ
 port_text net valuation s = if is_out_port net s then port_line s valuation else []
 
-abbrev pub port_lines : NetView → (valuation : List ℕ) → List ℕ
+abbrev pub port_lines : NetlistView → (valuation : List ℕ) → List ℕ
 port_lines net valuation = flat_map (port_text net valuation) net.signals
 
-module _ (net : NetView) (s : StimulusView) (bound : ℕ) where
+module _ (net : NetlistView) (s : StimulusView) (bound : ℕ) where
   -- the net is a synchronous machine under the stimulus, and this is the first valuation of its run
   pub record IsFirstOf (valuation : List ℕ) : Type 0 where
     pub run : ℕ → List ℕ
@@ -51,6 +51,6 @@ module _ (net : NetView) (s : StimulusView) (bound : ℕ) where
   Prints old new (Err _) = ⊥
 
 -- `eval` refuses what `run` refuses under the stimulus that the words say.
-abbrev pub Evaluates : NetView → (words : List (List ℕ)) → (old new : SinkState) → Result (Unit {0}) MachineFault → Type 0
+abbrev pub Evaluates : NetlistView → (words : List (List ℕ)) → (old new : SinkState) → Result (Unit {0}) MachineFault → Type 0
 Evaluates net words old new answer =
-    Admits net (words_text words) (λ s bound. Prints net s bound old new answer) ⊎ IsRefused net (words_text words) old new answer
+    Admits net (words_text words) (λ s bound. Prints net s bound old new answer) ⊎ IsNetRefused net (words_text words) old new answer

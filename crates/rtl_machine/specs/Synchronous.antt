@@ -1,18 +1,18 @@
--- The settling theorem: an accepted net is, under a stimulus without a race, a synchronous machine.
+-- The settling theorem: an accepted netlist is, under a stimulus without a race, a synchronous machine.
 use Rattle.std.specs.Prelude.{◌≡◌, ℕ, ◌≤◌, List, length, Option}
-use Rattle.rtl_model.specs.simulation.Net.{Net, Edge, sources_of}
+use Rattle.rtl_model.specs.simulation.Netlist.{Netlist, Edge, sources_of}
 use Rattle.rtl_model.specs.simulation.Cycle.{State}
 use Rattle.rtl_model.specs.simulation.Moments.{Begun, SettlesIn, HasSettled}
 use Rattle.rtl_model.specs.simulation.Accepted.{IsAccepted}
 use Rattle.rtl_model.specs.simulation.Report.{IsReport}
 use Rattle.rtl_model.specs.simulation.Races.{HasNoRace}
 use Rattle.rtl_model.specs.simulation.Machine.{Solves, IsMachineRun}
-use Rattle.rtl_net.specs.Nets.{NetView}
+use Rattle.rtl_net.specs.Nets.{NetlistView}
 use Rattle.rtl_net.specs.Elaborated.{IsNet}
 use Rattle.rtl_check.specs.Views.{core}
 
 -- The checker says yes with this bound: the net has no fault, and the bound is its report's.
-pub record SaysYes (net : Net) (bound : ℕ) : Type 0 where
+pub record SaysYes (net : Netlist) (bound : ℕ) : Type 0 where
   pub accepted : IsAccepted net
   pub levels : List (Option ℕ)
   pub from : List (Option ℕ)
@@ -20,18 +20,18 @@ pub record SaysYes (net : Net) (bound : ℕ) : Type 0 where
   pub report : IsReport net levels from clocks bound
 
 -- no data input changes at an active clock edge, at any moment
-abbrev pub IsRaceless : Net → (stimulus : ℕ → ℕ → ℕ) → Type 0
+abbrev pub IsRaceless : Netlist → (stimulus : ℕ → ℕ → ℕ) → Type 0
 IsRaceless net stimulus = (last : ℕ) → HasNoRace net stimulus last
 
 -- for these inputs and registers one valuation solves the net's equations, and no other
-abbrev pub HasOneSolution : Net → (inputs registers : ℕ → ℕ) → Type 0
+abbrev pub HasOneSolution : Netlist → (inputs registers : ℕ → ℕ) → Type 0
 HasOneSolution net inputs registers =
     (v : List ℕ) × Solves net inputs registers v × ((w : List ℕ) → Solves net inputs registers w → w ≡ v)
 
 -- Under this stimulus the event-driven simulation of the net is the synchronous machine with this run, whose m-th
 -- valuation is the one at moment m. Orders of processes are all those that the standard leaves open
 -- (IEEE 1076-2008, 14.7.5.3): the simulation may be in a state by any of them.
-pub record IsSynchronous (net : Net) (bound : ℕ) (stimulus : ℕ → ℕ → ℕ) (run : ℕ → List ℕ) : Type 0 where
+pub record IsSynchronous (net : Netlist) (bound : ℕ) (stimulus : ℕ → ℕ → ℕ) (run : ℕ → List ℕ) : Type 0 where
   -- no net has two drivers, nor a driver and an idle port
   pub one_source : (n : ℕ) → length (sources_of net n) ≤ 1
   -- each moment comes, and whatever the orders so far, it settles within the bound
@@ -47,5 +47,5 @@ pub record IsSynchronous (net : Net) (bound : ℕ) (stimulus : ℕ → ℕ → �
 -- Where the checker says yes with a bound, then for every stimulus without a race the simulation is a synchronous machine.
 abbrev pub EachAcceptedIsSynchronous : Type 0
 EachAcceptedIsSynchronous =
-    (net : NetView) (bound : ℕ) (stimulus : ℕ → ℕ → ℕ) → IsNet net → SaysYes (core net) bound → IsRaceless (core net) stimulus
+    (net : NetlistView) (bound : ℕ) (stimulus : ℕ → ℕ → ℕ) → IsNet net → SaysYes (core net) bound → IsRaceless (core net) stimulus
     → (run : ℕ → List ℕ) × IsSynchronous (core net) bound stimulus run

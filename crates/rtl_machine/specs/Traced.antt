@@ -1,7 +1,7 @@
--- What a simulation of an accepted net under a stimulus without a race answers, and what it has written by then.
+-- What a simulation of an accepted netlist under a stimulus without a race answers, and what it has written by then.
 use Rattle.std.specs.Prelude.{◌≡◌, ℕ, suc, pred, ◌≤◌, List, [], ◌∷◌, length, Result, Ok, Err}
 use Rattle.rtl_model.specs.simulation.Moments.{IsMost}
-use Rattle.rtl_net.specs.Nets.{NetView}
+use Rattle.rtl_net.specs.Nets.{NetlistView}
 use Rattle.rtl_sink.specs.Written.{SinkState, IsIntact, HasFailed, TakesAll, TakesBeginning}
 use Rattle.rtl_vcd.specs.Trace.{Moment, trace_text}
 use Rattle.rtl_stim.specs.Stimuli.{StimulusView, moments, inputs_at}
@@ -18,10 +18,10 @@ run_at run [] = []
 run_at run (t ∷ times) = record { time = t; values = run 0 } ∷ run_at (λ m. run (suc m)) times
 
 -- the whole trace of a machine's run under a stimulus (IEEE 1364-2005, clause 18)
-abbrev pub machine_text : NetView → StimulusView → (run : ℕ → List ℕ) → List ℕ
+abbrev pub machine_text : NetlistView → StimulusView → (run : ℕ → List ℕ) → List ℕ
 machine_text net s run = trace_text net.scopes net.signals (run 0) (run_at (λ m. run (suc m)) (behind_first (moments s))) s.schedule.stop
 
-module _ (net : NetView) (s : StimulusView) (bound : ℕ) where
+module _ (net : NetlistView) (s : StimulusView) (bound : ℕ) where
   -- the net is a synchronous machine under the stimulus, and this is the trace of its run
   pub record IsTrace (text : List ℕ) : Type 0 where
     pub run : ℕ → List ℕ

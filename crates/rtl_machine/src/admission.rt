@@ -6,7 +6,7 @@ ghost use Rattle.rtl_model.specs.simulation.Levels.{AreLevels};
 ghost use Rattle.rtl_check.specs.Verdicts.{IsReportOf};
 ghost use Rattle.rtl_stim.specs.Ports.{HasOwnPorts};
 ghost use Rattle.rtl_check.specs.Views.{core};
-ghost use Rattle.rtl_machine.specs.Admitted.{IsAdmitted, Refuses};
+ghost use Rattle.rtl_machine.specs.Admitted.{IsAdmitted, RefusesNet};
 
 use crate::fault::MachineFault;
 use rtl_check::{Report, Verdict, check};
@@ -14,7 +14,7 @@ use rtl_stim::{StimFault, Stimulus, first_race};
 use rtl_net::Net;
 use std::alloc::Global;
 
-/// A stimulus without a race, of an accepted net, whose processes have these levels and whose moments settle within the bound.
+/// A stimulus without a race, of an accepted netlist, whose processes have these levels and whose moments settle within the bound.
 #[derive(Drop)]
 pub struct Admitted {
     pub stimulus: Stimulus,
@@ -33,7 +33,7 @@ pub fn admit(alloc: Global, net: &Net, text: &[u8]) -> Result<Admitted, MachineF
     requires { HasOwnPorts net.now }
     ensures admitted { IfOk result (λ a. IsAdmitted net.now text.now a.bound a.stimulus) }
     ensures levels { IfOk result (λ a. (greatest : ℕ) × AreLevels (core net.now) a.levels.items greatest) }
-    ensures refused { IfErr result (Refuses net.now text.now) }
+    ensures refused { IfErr result (RefusesNet net.now text.now) }
 {
     let report = accept(alloc, net)?;
     let stimulus = Stimulus::read(alloc, net, text)?;
@@ -55,7 +55,7 @@ pub fn admit(alloc: Global, net: &Net, text: &[u8]) -> Result<Admitted, MachineF
 fn accept(alloc: Global, net: &Net) -> Result<Report, MachineFault>
     ensures accepted { IfOk result (λ report. IsAccepted (core net.now)) }
     ensures report { IfOk result (IsReportOf (core net.now)) }
-    ensures refused { (text : List ℕ) → IfErr result (Refuses net.now text) }
+    ensures refused { (text : List ℕ) → IfErr result (RefusesNet net.now text) }
 {
     match check(alloc, net)? {
         Verdict::Yes(report) => Ok(report),

@@ -9,7 +9,7 @@ ghost use Rattle.rtl_check.specs.Views.{core};
 ghost use Rattle.rtl_sink.specs.Written.{IsIntact};
 ghost use Rattle.rtl_machine.specs.Synchronous.{SaysYes, IsRaceless};
 ghost use Rattle.rtl_machine.specs.Traced.{Traces};
-ghost use Rattle.rtl_machine.specs.Answered.{Runs};
+ghost use Rattle.rtl_machine.specs.Answered.{RunsNet};
 
 use crate::admission::admit;
 use crate::fault::MachineFault;
@@ -46,7 +46,7 @@ pub fn run<P: Pick, W: Sink>(
 ) -> Result<Summary, MachineFault>
     requires ports { HasOwnPorts net.now }
     requires intact { IsIntact (W.state out.old) }
-    ensures { Runs net.now text.now (W.state out.old) (W.state out.new) result }
+    ensures { RunsNet net.now text.now (W.state out.old) (W.state out.new) result }
 {
     let _count = net.nets();
     let admitted = admit(alloc, net, text)?;
@@ -63,7 +63,7 @@ pub fn run<P: Pick, W: Sink>(
     trace(alloc, &simulation, &mut agenda, pick, out)
 }
 
-/// Simulates an accepted net under a stimulus without a race, with the bound of its report as the limit, and writes the trace.
+/// Simulates an accepted netlist under a stimulus without a race, with the bound of its report as the limit, and writes the trace.
 /// The agenda is new: nothing waits in it.
 ///
 /// It takes the simulation's memory.

@@ -1,4 +1,4 @@
--- Proofs about flat nets: what is asked of them follows from their bodies and their wiring.
+-- Proofs about flat netlists: what is asked of them follows from their bodies and their wiring.
 pub mod Processes
 pub mod Values
 pub mod InRange

@@ -1,6 +1,6 @@
 -- Flat nets: the wiring of a design and the bodies of its processes, as contracts see them, and what such a net is to a
 -- simulation. In order of reading:
-pub mod FlatNet
-pub mod CoreNet
+pub mod FlatNetlist
+pub mod CoreNetlist
 pub mod Wiring
 pub mod Laws

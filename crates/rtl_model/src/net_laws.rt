@@ -1,4 +1,4 @@
-//! What flat nets are to the laws of simulation, over `specs/nets`.
+//! What flat netlists are to the laws of simulation, over `specs/nets`.
 
 ghost use Rattle.rtl_model.specs.nets.Laws.{EachHasValues, EachHasBodies, EachKindIsOfBody, EachForgets, InRangeIsSafe, EachKeepsRange, EachIsElaborated, EachSourceKeepsRange, EachStateIsInRange, EachSimulatesTheMachine, EachHasOneSolution};
 

@@ -23,7 +23,7 @@ pub fn one_report()
     ensures { OneReport }
 {}
 
-/// For given inputs and registers one valuation solves an accepted net, and no other.
+/// For given inputs and registers one valuation solves an accepted netlist, and no other.
 pub fn one_solution()
     ensures { OneSolution }
 {}
@@ -33,7 +33,7 @@ pub fn solutions_in_range()
     ensures { SolutionsInRange }
 {}
 
-/// Under each stimulus the synchronous machine of an accepted net has one run.
+/// Under each stimulus the synchronous machine of an accepted netlist has one run.
 pub fn one_machine_run()
     ensures { OneMachineRun }
 {}
@@ -43,23 +43,23 @@ pub fn runs_in_range()
     ensures { RunsInRange }
 {}
 
-/// Each moment of an accepted net's simulation is reached, and settles.
+/// Each moment of an accepted netlist's simulation is reached, and settles.
 pub fn each_moment_comes()
     ensures { EachMomentComes }
 {}
 
-/// Whatever the orders, each moment of an accepted net's simulation settles within the bound, and the first within the
+/// Whatever the orders, each moment of an accepted netlist's simulation settles within the bound, and the first within the
 /// greatest level where no process has a reset.
 pub fn settles_in_bound()
     ensures { SettlesInBound }
 {}
 
-/// There is one greatest number of delta cycles of an accepted net's moments up to a last one, and it is within the bound.
+/// There is one greatest number of delta cycles of an accepted netlist's moments up to a last one, and it is within the bound.
 pub fn one_greatest_count()
     ensures { OneGreatestCount }
 {}
 
-/// What an accepted net has settled in at a moment is the valuation of the machine's run, whatever the orders, where no
+/// What an accepted netlist has settled in at a moment is the valuation of the machine's run, whatever the orders, where no
 /// moment so far has a race.
 pub fn is_the_machine()
     ensures { IsTheMachine }

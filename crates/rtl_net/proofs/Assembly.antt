@@ -3,9 +3,9 @@ use Rattle.std.proofs.Common.{◌≡◌, ℕ, ◌<◌, List, [], ◌++◌, lengt
 use Rattle.std.proofs.lemmas.List.{length-map, get_or-map, ext_get_or}
 use Rattle.std.proofs.lemmas.List.FromFn.{length-map-range_with_len, get_or-map-range_with_len}
 use Rattle.smallvec.specs.SmallVec.{SmallVec}
-use Rattle.rtl_model.specs.simulation.Net.{Idle}
+use Rattle.rtl_model.specs.simulation.Netlist.{Idle}
 use Rattle.std.proofs.lemmas.Option.{slice_get_within}
-use Rattle.rtl_model.specs.nets.FlatNet.{ProcessInRange, DriverInRange, all_drivers_of, flat_sources}
+use Rattle.rtl_model.specs.nets.FlatNetlist.{ProcessInRange, DriverInRange, all_drivers_of, flat_sources}
 use Rattle.rtl_net.specs.declared.process.Process.{Process}
 use Rattle.rtl_net.specs.declared.process.Driver.{Driver}
 use Rattle.rtl_net.specs.declared.signal.Signal.{Signal}
@@ -13,7 +13,7 @@ use Rattle.rtl_net.specs.declared.net.Source.{Source}
 use Rattle.rtl_net.specs.declared.net.Owner.{Owner}
 use Rattle.rtl_net.specs.declared.net.Net.TheInside.{Inside}
 use Rattle.rtl_net.specs.declared.building.Parts.{Parts}
-use Rattle.rtl_net.specs.Nets.{NetView, flat, type_of, element_type, driver_view, process_view, signal_view}
+use Rattle.rtl_net.specs.Nets.{NetlistView, flat, type_of, element_type, driver_view, process_view, signal_view}
 use Rattle.rtl_net.specs.Names.{Element, element_of}
 use Rattle.rtl_net.specs.Elaborated.{IsNet, SignalInRange}
 use Rattle.rtl_net.specs.NetOf.{idle_values, owner_view, net_of, tabled, IsKept}
@@ -22,7 +22,7 @@ use Rattle.rtl_net.specs.steps.Tables.{shown, sources_at, owner_at}
 use Rattle.rtl_net.proofs.Filling.{idle-sources}
 
 -- the nets of drivers and signals are there
-pub drivers-there : (net : NetView) → IsNet net → (k : ℕ) (p : Process) → k < length net.processes → (i : ℕ) (d : Driver) → i < length (slice_index_or net.processes k p).drives.items
+pub drivers-there : (net : NetlistView) → IsNet net → (k : ℕ) (p : Process) → k < length net.processes → (i : ℕ) (d : Driver) → i < length (slice_index_or net.processes k p).drives.items
     → (slice_index_or (slice_index_or net.processes k p).drives.items i d).net < length net.types
 drivers-there net is_net k p l i d m =
     let q = slice_index_or net.processes k p in

@@ -4,9 +4,9 @@ use Rattle.std.specs.Prelude.{option_map}
 use Rattle.std.proofs.lemmas.List.{append_assoc, append-nil, length-map, map-set}
 use Rattle.std.proofs.lemmas.Bool.{cases_eq}
 use Rattle.smallvec.specs.SmallVec.{SmallVec}
-use Rattle.rtl_model.specs.simulation.Net as core
-use Rattle.rtl_model.specs.simulation.Net.{Driver, Idle}
-use Rattle.rtl_model.specs.nets.FlatNet.{FlatProcess, targets, drivers_of, all_drivers_of}
+use Rattle.rtl_model.specs.simulation.Netlist as core
+use Rattle.rtl_model.specs.simulation.Netlist.{Driver, Idle}
+use Rattle.rtl_model.specs.nets.FlatNetlist.{FlatProcess, targets, drivers_of, all_drivers_of}
 use Rattle.rtl_net.specs.declared.net.Source.{Source}
 use Rattle.rtl_net.specs.declared.net.Source.TheVariants as s
 use Rattle.rtl_net.specs.declared.net.Owner.{Owner}
@@ -15,7 +15,7 @@ use Rattle.rtl_net.specs.Nets.{SignalView, source_view}
 use Rattle.rtl_net.specs.NetOf.{idle_values, owner_view}
 use Rattle.rtl_net.specs.Names.{Element, place_in, element_or, element_from}
 use Rattle.rtl_net.specs.Parts.{idle_at}
-use Rattle.rtl_net.specs.steps.Tables.{shown, sources_at, Adds, owner_or, owner_at, Owns, element_at}
+use Rattle.rtl_net.specs.steps.Tables.{shown, sources_at, AddsSources, owner_or, owner_at, Owns, element_at}
 use Rattle.rtl_net.proofs.Naming.{some-same}
 
 -- ---- writes
@@ -38,20 +38,20 @@ seen-set f xs k n x d l = ap (λ ys. slice_index_or ys n d) (map-set f xs k x) �
 abbrev pub one_at : (k : ℕ) → core.Source → (n : ℕ) → List core.Source
 one_at k x n = if k == n then x ∷ [] else []
 
-pub adds-none : (table : List (SmallVec Source)) → Adds (λ n. []) table table
+pub adds-none : (table : List (SmallVec Source)) → AddsSources (λ n. []) table table
 adds-none table = record { as_many = refl; each = λ n l. sym (append-nil (sources_at table n)) }
 
-pub adds-then : (f g : ℕ → List core.Source) (old mid new : List (SmallVec Source)) → Adds f old mid → Adds g mid new → Adds (λ n. f n ++ g n) old new
+pub adds-then : (f g : ℕ → List core.Source) (old mid new : List (SmallVec Source)) → AddsSources f old mid → AddsSources g mid new → AddsSources (λ n. f n ++ g n) old new
 adds-then f g old mid new a b = record {
   as_many = b.as_many ∙ a.as_many;
   each = λ n l. b.each n (omega (arith, l, a.as_many)) ∙ ap (λ xs. xs ++ g n) (a.each n l) ∙ append_assoc (sources_at old n) (f n) (g n);
 }
 
-pub adds-same : (f g : ℕ → List core.Source) (old new : List (SmallVec Source)) → ((n : ℕ) → f n ≡ g n) → Adds f old new → Adds g old new
+pub adds-same : (f g : ℕ → List core.Source) (old new : List (SmallVec Source)) → ((n : ℕ) → f n ≡ g n) → AddsSources f old new → AddsSources g old new
 adds-same f g old new e a = record { as_many = a.as_many; each = λ n l. a.each n l ∙ ap (λ xs. sources_at old n ++ xs) (e n) }
 
 pub adds-one : (old : List (SmallVec Source)) (k : ℕ) (v : SmallVec Source) (x : core.Source) → k < length old
-    → shown v ≡ sources_at old k ++ x ∷ [] → Adds (one_at k x) old (set old k v)
+    → shown v ≡ sources_at old k ++ x ∷ [] → AddsSources (one_at k x) old (set old k v)
 adds-one old k v x l e = record { as_many = length-set old k v; each = λ n m. seen-set shown old k n v [] l ∙ go n (cases_eq k n) }
   where
     go : (n : ℕ) → (k ≡ n) ⊎ (k ≡ n → ⊥) → (if k == n then shown v else sources_at old n) ≡ sources_at old n ++ one_at k x n

@@ -12,7 +12,7 @@ use Rattle.rtl_net.specs.declared.net.Net.TheInside.{Inside}
 use Rattle.rtl_net.specs.Nets.{type_of}
 use Rattle.rtl_net.specs.NetOf.{net_of, owner_view, IsKept}
 use Rattle.rtl_net.proofs.Tables.{tabled-at}
-use Rattle.rtl_net.specs.Nets.{NetView, signal_view}
+use Rattle.rtl_net.specs.Nets.{NetlistView, signal_view}
 use Rattle.rtl_net.specs.Names.{element_of}
 use Rattle.rtl_net.specs.Elaborated.{AreScopes, IsNet, SignalInRange, width_of}
 
@@ -122,14 +122,14 @@ element-there number (s ∷ ss) n e h = go (place_in s.nets n) refl (λ g. eleme
         }
 
 -- the signal that a net was declared as, and the place of its element
-pub record IsOwner (net : NetView) (e : Element) : Type 0 where
+pub record IsOwner (net : NetlistView) (e : Element) : Type 0 where
   pub there : e.signal < length net.signals
   pub signal : SignalView
   pub is : slice_get net.signals e.signal ≡ Some signal
   pub within : e.place < width_of signal.kind
   pub scope : signal.scope < length net.scopes
 
-pub owner-sound : (net : NetView) → IsNet net → (n : ℕ) (e : Element) → element_of net n ≡ Some e → IsOwner net e
+pub owner-sound : (net : NetlistView) → IsNet net → (n : ℕ) (e : Element) → element_of net n ≡ Some e → IsOwner net e
 owner-sound net is_net n e h =
     let found = element-there 0 net.signals n e h in
     let place : e.signal - 0 ≡ e.signal = omega arith in

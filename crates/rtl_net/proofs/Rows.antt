@@ -2,7 +2,7 @@
 use Rattle.std.proofs.Common.{◌≡◌, map, Vec, Option, Some, None, Global, refl, ap, sym, ◌∙◌}
 use Rattle.std.specs.Prelude.{option_map}
 use mathlib.Core.Former.{Count}
-use Rattle.rtl_model.specs.bodies.Body as m
+use Rattle.rtl_model.specs.bodies.Body as bodies
 use Rattle.rtl_net.specs.declared.body.Expr.TheVariants as e
 use Rattle.rtl_net.specs.declared.body.Expr.TheBlock.{Row_of-Link, end_of-Link, more_of-Link, items-the_row-Link, hidden-the_row-Link-0, items_hidden-the_row-Link-0}
 use Rattle.rtl_net.specs.declared.body.Link.{Link}
@@ -21,47 +21,47 @@ use Rattle.rtl_net.specs.Bodies.{operator_view, expr_view, links_view, links_of,
 
 -- ---- expressions
 
-links-row : (left : m.Expr) (n : Count) (row : Row_of-Link n) → links_view left row ≡ links_of left (items-the_row-Link n row)
+links-row : (left : bodies.Expr) (n : Count) (row : Row_of-Link n) → links_view left row ≡ links_of left (items-the_row-Link n row)
 links-row left n end_of-Link = refl
-links-row left n (more_of-Link operator operand rest) = links-row (m.binary (operator_view operator) left (expr_view operand)) _ rest
+links-row left n (more_of-Link operator operand rest) = links-row (bodies.binary (operator_view operator) left (expr_view operand)) _ rest
 
-links-hidden : (left : m.Expr) (v : Vec Link Global) → links_view left (hidden-the_row-Link-0 v) ≡ links_of left v.items
+links-hidden : (left : bodies.Expr) (v : Vec Link Global) → links_view left (hidden-the_row-Link-0 v) ≡ links_of left v.items
 links-hidden left v = links-row left _ (hidden-the_row-Link-0 v) ∙ ap (links_of left) (items_hidden-the_row-Link-0 v)
 
 -- ---- tests
 
-test_links-row : (left : m.Test) (n : Count) (row : Row_of-TestLink n) → test_links_view left row ≡ test_links_of left (items-the_row-TestLink n row)
+test_links-row : (left : bodies.Test) (n : Count) (row : Row_of-TestLink n) → test_links_view left row ≡ test_links_of left (items-the_row-TestLink n row)
 test_links-row left n end_of-TestLink = refl
-test_links-row left n (more_of-TestLink operator operand rest) = test_links-row (m.combined operator left (test_view operand)) _ rest
+test_links-row left n (more_of-TestLink operator operand rest) = test_links-row (bodies.combined operator left (test_view operand)) _ rest
 
-test_links-hidden : (left : m.Test) (v : Vec TestLink Global) → test_links_view left (hidden-the_row-TestLink-0 v) ≡ test_links_of left v.items
+test_links-hidden : (left : bodies.Test) (v : Vec TestLink Global) → test_links_view left (hidden-the_row-TestLink-0 v) ≡ test_links_of left v.items
 test_links-hidden left v = test_links-row left _ (hidden-the_row-TestLink-0 v) ∙ ap (test_links_of left) (items_hidden-the_row-TestLink-0 v)
 
 -- ---- statements
 
 statements-row : (n : Count) (row : Row_of-Statement n) → statements_row row ≡ statements_of (items-the_row-Statement n row)
 statements-row n end_of-Statement = refl
-statements-row n (more_of-Statement x rest) = ap (m.step (statement_view x)) (statements-row _ rest)
+statements-row n (more_of-Statement x rest) = ap (bodies.step (statement_view x)) (statements-row _ rest)
 
 statements-hidden : (v : Vec Statement Global) → statements_row (hidden-the_row-Statement-0 v) ≡ statements_of v.items
 statements-hidden v = statements-row _ (hidden-the_row-Statement-0 v) ∙ ap statements_of (items_hidden-the_row-Statement-0 v)
 
-branches-row : (last : m.Branches) (n : Count) (row : Row_of-Branch n) → branches_row last row ≡ branches_of last (items-the_row-Branch n row)
+branches-row : (last : bodies.Branches) (n : Count) (row : Row_of-Branch n) → branches_row last row ≡ branches_of last (items-the_row-Branch n row)
 branches-row last n end_of-Branch = refl
 branches-row last n (more_of-Branch test shape x rest) =
     let p : statements_row x ≡ statements_of (shown-the_row-Statement-0 shape x).items = statements-row _ x ∙ ap statements_of (sym (items_shown-the_row-Statement-0 shape x)) in
-    λ i. m.branch (test_view test) (p i) (branches-row last _ rest i)
+    λ i. bodies.branch (test_view test) (p i) (branches-row last _ rest i)
 
-branches-hidden : (last : m.Branches) (v : Vec Branch Global) → branches_row last (hidden-the_row-Branch-1 v) ≡ branches_of last v.items
+branches-hidden : (last : bodies.Branches) (v : Vec Branch Global) → branches_row last (hidden-the_row-Branch-1 v) ≡ branches_of last v.items
 branches-hidden last v = branches-row last _ (hidden-the_row-Branch-1 v) ∙ ap (branches_of last) (items_hidden-the_row-Branch-1 v)
 
-alternatives-row : (last : m.Stmts) (n : Count) (row : Row_of-Alternative n) → alternatives_row last row ≡ alternatives_of last (items-the_row-Alternative n row)
+alternatives-row : (last : bodies.Stmts) (n : Count) (row : Row_of-Alternative n) → alternatives_row last row ≡ alternatives_of last (items-the_row-Alternative n row)
 alternatives-row last n end_of-Alternative = refl
 alternatives-row last n (more_of-Alternative choices shape x rest) =
     let p : statements_row x ≡ statements_of (shown-the_row-Statement-0 shape x).items = statements-row _ x ∙ ap statements_of (sym (items_shown-the_row-Statement-0 shape x)) in
-    λ i. m.alternative (map choice_view choices.items) (p i) (alternatives-row last _ rest i)
+    λ i. bodies.alternative (map choice_view choices.items) (p i) (alternatives-row last _ rest i)
 
-alternatives-hidden : (last : m.Stmts) (v : Vec Alternative Global) → alternatives_row last (hidden-the_row-Alternative-2 v) ≡ alternatives_of last v.items
+alternatives-hidden : (last : bodies.Stmts) (v : Vec Alternative Global) → alternatives_row last (hidden-the_row-Alternative-2 v) ≡ alternatives_of last v.items
 alternatives-hidden last v = alternatives-row last _ (hidden-the_row-Alternative-2 v) ∙ ap (alternatives_of last) (items_hidden-the_row-Alternative-2 v)
 
 -- ---- the nodes with lists
@@ -73,13 +73,13 @@ pub view_combined : (first : _) (rest : Vec TestLink Global) → test_view (t.Co
 view_combined first rest = test_links-hidden (test_view first.value) rest
 
 pub view_if : (branches : Vec Branch Global) (otherwise : Option (Vec Statement Global)) →
-    statement_view (s.If branches otherwise) ≡ m.if_of (branches_of (otherwise_of (option_map (λ v. v.items) otherwise)) branches.items)
-view_if branches None = ap m.if_of (branches-hidden m.no_else branches)
+    statement_view (s.If branches otherwise) ≡ bodies.if_of (branches_of (otherwise_of (option_map (λ v. v.items) otherwise)) branches.items)
+view_if branches None = ap bodies.if_of (branches-hidden bodies.no_else branches)
 view_if branches (Some v) =
-    ap (λ x. m.if_of (branches_row (m.otherwise x) (hidden-the_row-Branch-1 branches))) (statements-hidden v) ∙ ap m.if_of (branches-hidden (m.otherwise (statements_of v.items)) branches)
+    ap (λ x. bodies.if_of (branches_row (bodies.otherwise x) (hidden-the_row-Branch-1 branches))) (statements-hidden v) ∙ ap bodies.if_of (branches-hidden (bodies.otherwise (statements_of v.items)) branches)
 
 pub view_case : (selector : Value) (alternatives : Vec Alternative Global) (others : Vec Statement Global) →
-    statement_view (s.Case selector alternatives others) ≡ m.case_of (value_view selector) (alternatives_of (statements_of others.items) alternatives.items)
+    statement_view (s.Case selector alternatives others) ≡ bodies.case_of (value_view selector) (alternatives_of (statements_of others.items) alternatives.items)
 view_case selector alternatives others =
-    ap (λ x. m.case_of (value_view selector) (alternatives_row x (hidden-the_row-Alternative-2 alternatives))) (statements-hidden others)
-    ∙ ap (m.case_of (value_view selector)) (alternatives-hidden (statements_of others.items) alternatives)
+    ap (λ x. bodies.case_of (value_view selector) (alternatives_row x (hidden-the_row-Alternative-2 alternatives))) (statements-hidden others)
+    ∙ ap (bodies.case_of (value_view selector)) (alternatives-hidden (statements_of others.items) alternatives)

@@ -2,8 +2,8 @@
 use Rattle.std.proofs.Common.{◌≡◌, ℕ, suc, ◌+◌, ◌<◌, ◌≤◌, List, [], ◌∷◌, ◌++◌, length, map, set, take, drop, slice_index_or, Some, refl, sym, ap, ◌∙◌, arith, subst, drop-cons}
 use Rattle.std.proofs.lemmas.List.{map-append, length-map, get_or-map, take_more, length-take-le}
 use Rattle.smallvec.specs.SmallVec.{SmallVec}
-use Rattle.rtl_model.specs.simulation.Net.{Driver, Idle}
-use Rattle.rtl_model.specs.nets.FlatNet.{FlatDriver, drivers_of, all_drivers_of}
+use Rattle.rtl_model.specs.simulation.Netlist.{Driver, Idle}
+use Rattle.rtl_model.specs.nets.FlatNetlist.{FlatDriver, drivers_of, all_drivers_of}
 use Rattle.rtl_net.specs.declared.net.Source.{Source}
 use Rattle.rtl_net.specs.declared.net.Source.TheVariants as s
 use Rattle.rtl_net.specs.declared.net.Owner.{Owner}
@@ -14,7 +14,7 @@ use Rattle.rtl_net.specs.declared.building.IdlePort.{IdlePort}
 use Rattle.rtl_net.specs.Nets.{source_view, driver_view, process_view, signal_view}
 use Rattle.rtl_net.specs.Names.{Element, place_in, element_from}
 use Rattle.rtl_net.specs.Parts.{idle_at}
-use Rattle.rtl_net.specs.steps.Tables.{nets_of, shown, sources_at, Adds, owner_at, Owns, element_at}
+use Rattle.rtl_net.specs.steps.Tables.{nets_of, shown, sources_at, AddsSources, owner_at, Owns, element_at}
 use Rattle.rtl_net.proofs.Filling.{one_at, adds-then, adds-same, adds-one, drivers-push, idle-push, all_drivers-push, from_place, owns-one, owns-signal}
 
 -- the list at a net, with one source more
@@ -35,8 +35,8 @@ as_many drives = length-map (map driver_view drives) (λ (x : FlatDriver). x.net
 pub add-driver : (process : ℕ) (drives : List d.Driver) (place : ℕ) (e : d.Driver) (start table : List (SmallVec Source)) (v listed : SmallVec Source)
     → place < length drives → (slice_index_or drives place e).net < length table
     → listed ≡ slice_index_or table (slice_index_or drives place e).net listed → v.items ≡ listed.items ++ s.Driven process place ∷ []
-    → Adds (λ n. drivers_of n process 0 (take place (nets_of drives))) start table
-    → Adds (λ n. drivers_of n process 0 (take (place + 1) (nets_of drives))) start (set table (slice_index_or drives place e).net v)
+    → AddsSources (λ n. drivers_of n process 0 (take place (nets_of drives))) start table
+    → AddsSources (λ n. drivers_of n process 0 (take (place + 1) (nets_of drives))) start (set table (slice_index_or drives place e).net v)
 add-driver process drives place e start table v listed l there at gave before =
     let k = (slice_index_or drives place e).net in
     let counted : 0 + length (take place (nets_of drives)) ≡ place = omega (arith, length-take-le place (nets_of drives) (omega (arith, l, as_many drives))) in
@@ -52,8 +52,8 @@ add-driver process drives place e start table v listed l there at gave before =
 pub add-idle : (ports : List IdlePort) (i : ℕ) (e : IdlePort) (start table : List (SmallVec Source)) (v listed : SmallVec Source)
     → i < length ports → (slice_index_or ports i e).net < length table
     → listed ≡ slice_index_or table (slice_index_or ports i e).net listed → v.items ≡ listed.items ++ s.Idle (slice_index_or ports i e).start ∷ []
-    → Adds (λ n. map Idle (idle_at (take i ports) n)) start table
-    → Adds (λ n. map Idle (idle_at (take (i + 1) ports) n)) start (set table (slice_index_or ports i e).net v)
+    → AddsSources (λ n. map Idle (idle_at (take i ports) n)) start table
+    → AddsSources (λ n. map Idle (idle_at (take (i + 1) ports) n)) start (set table (slice_index_or ports i e).net v)
 add-idle ports i e start table v listed l there at gave before =
     let p = slice_index_or ports i e in
     adds-same _ _ start (set table p.net v) (λ n. sym (idle-push n (take i ports) p) ∙ ap (λ qs. map Idle (idle_at qs n)) (sym (take_more ports i e l)))

@@ -6,13 +6,13 @@ use Rattle.std.specs.List.Sorted.{IsStrictlyIncreasing}
 use Rattle.rtl_model.specs.bodies.Reads.{reads}
 use Rattle.rtl_model.specs.bodies.Types.{ElementType, HasType}
 use Rattle.rtl_model.specs.bodies.Fits.{IsWidth}
-use Rattle.rtl_model.specs.nets.FlatNet.{IsInRange}
+use Rattle.rtl_model.specs.nets.FlatNetlist.{IsInRange}
 use Rattle.rtl_model.specs.nets.Wiring.{IsConnected}
 use Rattle.rtl_net.specs.declared.process.Variable.{Variable}
 use Rattle.rtl_net.specs.declared.process.Process.{Process}
 use Rattle.rtl_net.specs.declared.signal.SignalKind.{SignalKind}
 use Rattle.rtl_net.specs.declared.signal.SignalKind.TheVariants as g
-use Rattle.rtl_net.specs.Nets.{ScopeView, SignalView, NetView, flat, body_of, element_type, parent_of}
+use Rattle.rtl_net.specs.Nets.{ScopeView, SignalView, NetlistView, flat, body_of, element_type, parent_of}
 use Rattle.rtl_net.specs.Names.{Element, element_of}
 
 -- how many elements a signal or variable has: a vector those from one bound to the other (IEEE 1076-2008, 5.3.2.2)
@@ -88,7 +88,7 @@ pub record IsOfPort (signals : List SignalView) (n : ℕ) : Type 0 where
 
 -- ---- the net
 
-pub record IsNet (net : NetView) : Type 0 where
+pub record IsNet (net : NetlistView) : Type 0 where
   pub in_range : IsInRange (flat net)
   pub connected : IsConnected (flat net)
   -- the limits of elaboration

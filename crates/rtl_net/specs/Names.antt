@@ -3,7 +3,7 @@ use Rattle.std.specs.Prelude.{ℕ, zero, suc, ◌+◌, ◌-◌, nat_le, ◌==◌
 use Rattle.rtl_net.specs.declared.process.Process.{Process}
 use Rattle.rtl_net.specs.declared.signal.SignalKind.{SignalKind}
 use Rattle.rtl_net.specs.declared.signal.SignalKind.TheVariants as g
-use Rattle.rtl_net.specs.Nets.{NetView, ScopeView, SignalView, label_at, parent_of}
+use Rattle.rtl_net.specs.Nets.{NetlistView, ScopeView, SignalView, label_at, parent_of}
 
 -- ---- the declaration that a net comes from
 
@@ -28,7 +28,7 @@ element_from number (s ∷ ss) net = element_or number (place_in s.nets net) (el
 
 -- The element that a net was declared as. A port of an instance comes after its actual, so it is never that of the
 -- actual's net.
-abbrev pub element_of : NetView → (net : ℕ) → Option Element
+abbrev pub element_of : NetlistView → (net : ℕ) → Option Element
 element_of net n = element_from 0 net.signals n
 
 -- ---- names
@@ -64,12 +64,12 @@ abbrev pub signal_name : List ScopeView → (place : ℕ) → Option SignalView 
 signal_name scopes place None = []
 signal_name scopes place (Some s) = name_of_element scopes s place
 
-abbrev pub element_name : NetView → Option Element → List ℕ
+abbrev pub element_name : NetlistView → Option Element → List ℕ
 element_name net None = []
 element_name net (Some e) = signal_name net.scopes e.place (slice_get net.signals e.signal)
 
 -- `path.name`, or `path.name(i)`
-abbrev pub net_name : NetView → (n : ℕ) → List ℕ
+abbrev pub net_name : NetlistView → (n : ℕ) → List ℕ
 net_name net n = element_name net (element_of net n)
 
 -- the labels of the generates, each before a dot
@@ -87,7 +87,7 @@ name_of_process scopes process p =
     path scopes process.scope ++ codes "." ++ generates_prefix process.generates.items ++ label_or_number p (option_map (λ l. l.items) process.label)
 
 -- `path.label`, or `path.#K`, the labels of generates between
-abbrev pub process_name : NetView → (p : ℕ) → List ℕ
+abbrev pub process_name : NetlistView → (p : ℕ) → List ℕ
 process_name net p = named (slice_get net.processes p)
   where
     named : Option Process → List ℕ

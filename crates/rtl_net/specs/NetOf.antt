@@ -1,12 +1,12 @@
 -- How a net is kept, and what holds of its tables.
 use Rattle.std.specs.Prelude.{◌≡◌, ℕ, List, [], ◌∷◌, length, map, Some}
 use Rattle.std.specs.List.{range_with_len}
-use Rattle.rtl_model.specs.nets.FlatNet.{flat_sources}
+use Rattle.rtl_model.specs.nets.FlatNetlist.{flat_sources}
 use Rattle.rtl_net.specs.declared.net.Source.{Source}
 use Rattle.rtl_net.specs.declared.net.Source.TheVariants as s
 use Rattle.rtl_net.specs.declared.net.Owner.{Owner}
 use Rattle.rtl_net.specs.declared.net.Net.TheInside.{Inside}
-use Rattle.rtl_net.specs.Nets.{NetView, flat, type_of, source_view, scope_view, signal_view}
+use Rattle.rtl_net.specs.Nets.{NetlistView, flat, type_of, source_view, scope_view, signal_view}
 use Rattle.rtl_net.specs.Names.{Element, element_of}
 use Rattle.rtl_net.specs.Elaborated.{IsNet}
 
@@ -19,7 +19,7 @@ idle_values (s.Idle start ∷ rest) = start ∷ idle_values rest
 abbrev pub owner_view : Owner → Element
 owner_view o = record { signal = o.signal; place = o.place }
 
-abbrev pub net_of : Inside → NetView
+abbrev pub net_of : Inside → NetlistView
 net_of n = record {
   types = map type_of n.kinds.items;
   starts = n.starts.items;

@@ -1,9 +1,9 @@
--- What contracts see of a net: the flat net of rtl_model, and beside it the names of its parts.
+-- What contracts see of a net: the flat netlist of rtl_model, and beside it the names of its parts.
 use Rattle.std.specs.Prelude.{ℕ, Bool, List, [], map, slice_index_or, Option, None}
 use Rattle.rtl_model.specs.bodies.Body.{Stmts}
 use Rattle.rtl_model.specs.bodies.Types.{ElementType, nine_valued, enumeration}
-use Rattle.rtl_model.specs.nets.FlatNet as m
-use Rattle.rtl_model.specs.simulation.Net as core
+use Rattle.rtl_model.specs.nets.FlatNetlist as m
+use Rattle.rtl_model.specs.simulation.Netlist as core
 use Rattle.rtl_net.specs.declared.net.NetKind.{NetKind}
 use Rattle.rtl_net.specs.declared.net.NetKind.TheVariants as k
 use Rattle.rtl_net.specs.declared.net.Source.{Source}
@@ -37,7 +37,7 @@ pub record SignalView : Type 0 where
   pub nets : List ℕ
 
 -- Nets, processes, scopes and signals are numbered by their places in these lists.
-pub record NetView : Type 0 where
+pub record NetlistView : Type 0 where
   -- the type of each net, what it starts with, and the values that its idle ports hold
   pub types : List ElementType
   pub starts : List ℕ
@@ -87,9 +87,9 @@ scope_view s = record { label = s.label.items; parent = s.parent }
 abbrev pub signal_view : Signal → SignalView
 signal_view s = record { scope = s.scope; name = s.name.items; port = s.port; kind = s.kind; nets = s.nets.items }
 
--- ---- the flat net
+-- ---- the flat netlist
 
-abbrev pub flat : NetView → m.FlatNet
+abbrev pub flat : NetlistView → m.FlatNetlist
 flat net = record {
   types = net.types;
   start = net.starts;

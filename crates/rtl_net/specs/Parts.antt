@@ -3,14 +3,14 @@ use Rattle.std.specs.Prelude.{ℕ, ◌<◌, ◌==◌, if◌then◌else◌, All, 
 use Rattle.std.specs.List.{range_with_len}
 use Rattle.rtl_net.specs.declared.building.IdlePort.{IdlePort}
 use Rattle.rtl_net.specs.declared.building.Parts.{Parts}
-use Rattle.rtl_net.specs.Nets.{NetView, type_of, scope_view, signal_view}
+use Rattle.rtl_net.specs.Nets.{NetlistView, type_of, scope_view, signal_view}
 
 -- what the idle ports of a net hold, in order
 abbrev pub idle_at : List IdlePort → (net : ℕ) → List ℕ
 idle_at [] n = []
 idle_at (port ∷ ports) n = if port.net == n then port.start ∷ idle_at ports n else idle_at ports n
 
-abbrev pub assembled : Parts → NetView
+abbrev pub assembled : Parts → NetlistView
 assembled parts = record {
   types = map type_of parts.kinds.items;
   starts = parts.starts.items;

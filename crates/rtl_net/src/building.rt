@@ -1,15 +1,15 @@
 //! A net of its parts, with the tables that `Net` keeps beside them.
 
 ghost use Rattle.std.specs.Prelude.{◌≡◌, ℕ, ◌<◌, ◌++◌, [], All, length, map, Some, IfOk, OnOk};
-ghost use Rattle.rtl_model.specs.nets.FlatNet.{drivers_of, all_drivers_of};
-ghost use Rattle.rtl_model.specs.simulation.Net.{Idle};
+ghost use Rattle.rtl_model.specs.nets.FlatNetlist.{drivers_of, all_drivers_of};
+ghost use Rattle.rtl_model.specs.simulation.Netlist.{Idle};
 ghost use Rattle.rtl_net.specs.declared.process.Driver.{Driver};
 ghost use Rattle.rtl_net.specs.declared.process.Process.{Process};
 ghost use Rattle.rtl_net.specs.Nets.{driver_view, process_view, signal_view};
 ghost use Rattle.rtl_net.specs.Names.{Element, place_in, element_from};
 ghost use Rattle.rtl_net.specs.Elaborated.{IsNet};
 ghost use Rattle.rtl_net.specs.Parts.{assembled, idle_at, IdleAreThere};
-ghost use Rattle.rtl_net.specs.steps.Tables.{nets_of, sources_at, owner_at, Adds, Owns, element_at};
+ghost use Rattle.rtl_net.specs.steps.Tables.{nets_of, sources_at, owner_at, AddsSources, Owns, element_at};
 
 use crate::net::{Net, NetKind, NoMemory, Owner, Source};
 use crate::process::{Driver, Process};
@@ -106,7 +106,7 @@ fn add_drivers(
     drives: &[Driver],
 ) -> Result<(), NoMemory>
     requires { All (λ (d : Driver). d.net < length table.old.items) drives.now }
-    ensures { OnOk result (Adds (λ n. drivers_of n process 0 (nets_of drives.now)) table.old.items table.new.items) }
+    ensures { OnOk result (AddsSources (λ n. drivers_of n process 0 (nets_of drives.now)) table.old.items table.new.items) }
 {
     for place in 0..drives.len() {
         let net = drives[place].net;
@@ -118,7 +118,7 @@ fn add_drivers(
 /// Adds the idle ports to the sources of their nets.
 fn add_idle(table: &mut Vec<SmallVec<Source, 1>>, idle: &[IdlePort]) -> Result<(), NoMemory>
     requires { All (λ (p : IdlePort). p.net < length table.old.items) idle.now }
-    ensures { OnOk result (Adds (λ n. map Idle (idle_at idle.now n)) table.old.items table.new.items) }
+    ensures { OnOk result (AddsSources (λ n. map Idle (idle_at idle.now n)) table.old.items table.new.items) }
 {
     for port in idle {
         table[port.net].push(Source::Idle { start: port.start })?;

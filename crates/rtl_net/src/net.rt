@@ -1,7 +1,7 @@
 //! Nets.
 
 ghost use Rattle.std.specs.Prelude.{◌≡◌, ◌<◌, length, map, slice_get, slice_index, Some};
-ghost use Rattle.rtl_model.specs.nets.FlatNet.{flat_sources};
+ghost use Rattle.rtl_model.specs.nets.FlatNetlist.{flat_sources};
 ghost use Rattle.rtl_net.specs.Nets.{flat, type_of, source_view, scope_view, signal_view};
 ghost use Rattle.rtl_net.specs.Elaborated.{IsNet};
 
@@ -61,11 +61,11 @@ pub struct Net {
 }
 
 impl Model for Net {
-    ghost use Rattle.rtl_net.specs.Nets.{NetView};
+    ghost use Rattle.rtl_net.specs.Nets.{NetlistView};
     ghost use Rattle.rtl_net.specs.contracts.process.Process as process_contract;
     ghost use Rattle.std.specs.Coded.{codes};
 
-    ghost Value = { NetView };
+    ghost Value = { NetlistView };
 
     ghost coded = { Prim.hlevel (codes, process_contract.the_row.coded) };
 

@@ -13,7 +13,7 @@ use Rattle.rtl_net.specs.declared.body.Alternative.{Alternative}
 use Rattle.rtl_net.specs.Indices.{numbers}
 use Rattle.rtl_net.specs.Bodies.{value_view, statement_view, statements_of, branches_of, alternatives_of}
 use Rattle.rtl_net.proofs.Rows.{view_if, view_case}
-use Rattle.rtl_model.specs.bodies.Body as m
+use Rattle.rtl_model.specs.bodies.Body as bodies
 use Rattle.rtl_model.specs.bodies.Assigns.{must_assign, stmt_must_assign, branches_must_assign, alternatives_must_assign}
 use Rattle.rtl_net_facts.specs.Reading.{is_in}
 use Rattle.rtl_net_facts.specs.Paths.{driven, covers, to_net, statement_covers, branch_covers, alternative_covers}
@@ -103,13 +103,13 @@ module _ (drives : List Driver) (n : ℕ) where
   covers_sequence [] = refl
   covers_sequence (x ∷ xs) = ap (λ (b : Bool). statement_covers drives n x || b) (covers_sequence xs)
 
-  branches_all : (last : m.Branches) (bs : List Branch)
+  branches_all : (last : bodies.Branches) (bs : List Branch)
       → branches_must_assign (to_net drives n) (branches_of last bs) ≡ (list_all (branch_covers drives n) bs && branches_must_assign (to_net drives n) last)
   branches_all last [] = refl
   branches_all last (b ∷ bs) = ap (λ (c : Bool). branch_covers drives n b && c) (branches_all last bs)
       ∙ sym (and_assoc (branch_covers drives n b) (list_all (branch_covers drives n) bs) (branches_must_assign (to_net drives n) last))
 
-  alternatives_all : (last : m.Stmts) (bs : List Alternative)
+  alternatives_all : (last : bodies.Stmts) (bs : List Alternative)
       → alternatives_must_assign (to_net drives n) (alternatives_of last bs) ≡ (list_all (alternative_covers drives n) bs && must_assign (to_net drives n) last)
   alternatives_all last [] = refl
   alternatives_all last (b ∷ bs) = ap (λ (c : Bool). alternative_covers drives n b && c) (alternatives_all last bs)
@@ -126,12 +126,12 @@ module _ (drives : List Driver) (n : ℕ) where
       → statement_covers drives n x ≡ (list_all (branch_covers drives n) branches.items && must_assign (to_net drives n) (statements_of v.items))
   if_covers x branches v is =
       ap (statement_covers drives n) is
-      ∙ (ap (stmt_must_assign (to_net drives n)) (view_if branches (Some v)) ∙ branches_all (m.otherwise (statements_of v.items)) branches.items)
+      ∙ (ap (stmt_must_assign (to_net drives n)) (view_if branches (Some v)) ∙ branches_all (bodies.otherwise (statements_of v.items)) branches.items)
 
   pub if_alone_covers : (x : Statement) (branches : Vec Branch Global) → x ≡ vs.If branches None → statement_covers drives n x ≡ false
   if_alone_covers x branches is =
       ap (statement_covers drives n) is
-      ∙ (ap (stmt_must_assign (to_net drives n)) (view_if branches None) ∙ (branches_all m.no_else branches.items ∙ sym (and_not (list_all (branch_covers drives n) branches.items))))
+      ∙ (ap (stmt_must_assign (to_net drives n)) (view_if branches None) ∙ (branches_all bodies.no_else branches.items ∙ sym (and_not (list_all (branch_covers drives n) branches.items))))
 
   pub case_covers : (x : Statement) (selector : Value) (alternatives : Vec Alternative Global) (others : Vec Statement Global) → x ≡ vs.Case selector alternatives others
       → statement_covers drives n x ≡ (list_all (alternative_covers drives n) alternatives.items && must_assign (to_net drives n) (statements_of others.items))

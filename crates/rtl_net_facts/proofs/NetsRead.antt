@@ -14,7 +14,7 @@ use Rattle.rtl_net.specs.declared.body.Branch.{Branch}
 use Rattle.rtl_net.specs.declared.body.Alternative.{Alternative}
 use Rattle.rtl_net.specs.Bodies.{operator_view, expr_view, links_of, value_view, test_view, test_links_of, statement_view, statements_of, branches_of, alternatives_of}
 use Rattle.rtl_net.proofs.Rows.{view_chain, view_combined, view_if, view_case}
-use Rattle.rtl_model.specs.bodies.Body as m
+use Rattle.rtl_model.specs.bodies.Body as bodies
 use Rattle.rtl_model.specs.bodies.Reads.{expr_reads, value_reads, test_reads, stmt_reads, reads, branches_reads, alternatives_reads}
 use Rattle.rtl_net_facts.specs.Reading.{is_in, link_reads, test_link_reads, statement_reads, branch_reads, alternative_reads}
 use Rattle.rtl_net_facts.proofs.Anys.{or_assoc, or_none}
@@ -24,15 +24,15 @@ in_append n [] ys = refl
 in_append n (x ∷ xs) ys = ap (λ (b : Bool). (x == n) || b) (in_append n xs ys) ∙ sym (or_assoc (x == n) (is_in n xs) (is_in n ys))
 
 module _ (n : ℕ) where
-  pub reads_links : (left : m.Expr) (ls : List Link) → is_in n (expr_reads (links_of left ls)) ≡ (is_in n (expr_reads left) || list_any (link_reads n) ls)
+  pub reads_links : (left : bodies.Expr) (ls : List Link) → is_in n (expr_reads (links_of left ls)) ≡ (is_in n (expr_reads left) || list_any (link_reads n) ls)
   reads_links left [] = or_none (is_in n (expr_reads left))
-  reads_links left (l ∷ ls) = reads_links (m.binary (operator_view l.operator) left (expr_view l.operand)) ls
+  reads_links left (l ∷ ls) = reads_links (bodies.binary (operator_view l.operator) left (expr_view l.operand)) ls
       ∙ (ap (λ (b : Bool). b || list_any (link_reads n) ls) (in_append n (expr_reads left) (expr_reads (expr_view l.operand)))
       ∙ or_assoc (is_in n (expr_reads left)) (link_reads n l) (list_any (link_reads n) ls))
 
-  pub reads_test_links : (left : m.Test) (ls : List TestLink) → is_in n (test_reads (test_links_of left ls)) ≡ (is_in n (test_reads left) || list_any (test_link_reads n) ls)
+  pub reads_test_links : (left : bodies.Test) (ls : List TestLink) → is_in n (test_reads (test_links_of left ls)) ≡ (is_in n (test_reads left) || list_any (test_link_reads n) ls)
   reads_test_links left [] = or_none (is_in n (test_reads left))
-  reads_test_links left (l ∷ ls) = reads_test_links (m.combined l.operator left (test_view l.operand)) ls
+  reads_test_links left (l ∷ ls) = reads_test_links (bodies.combined l.operator left (test_view l.operand)) ls
       ∙ (ap (λ (b : Bool). b || list_any (test_link_reads n) ls) (in_append n (test_reads left) (test_reads (test_view l.operand)))
       ∙ or_assoc (is_in n (test_reads left)) (test_link_reads n l) (list_any (test_link_reads n) ls))
 
@@ -40,7 +40,7 @@ module _ (n : ℕ) where
   reads_are_any [] = refl
   reads_are_any (x ∷ xs) = in_append n (stmt_reads (statement_view x)) (reads (statements_of xs)) ∙ ap (λ (b : Bool). statement_reads n x || b) (reads_are_any xs)
 
-  branches_any : (last : m.Branches) (bs : List Branch)
+  branches_any : (last : bodies.Branches) (bs : List Branch)
       → is_in n (branches_reads (branches_of last bs)) ≡ (list_any (branch_reads n) bs || is_in n (branches_reads last))
   branches_any last [] = refl
   branches_any last (b ∷ bs) =
@@ -52,7 +52,7 @@ module _ (n : ℕ) where
       ∙ (sym (or_assoc (is_in n t) (is_in n s) (list_any (branch_reads n) bs || is_in n (branches_reads last)))
       ∙ sym (or_assoc (is_in n t || is_in n s) (list_any (branch_reads n) bs) (is_in n (branches_reads last)))))
 
-  alternatives_any : (last : m.Stmts) (bs : List Alternative)
+  alternatives_any : (last : bodies.Stmts) (bs : List Alternative)
       → is_in n (alternatives_reads (alternatives_of last bs)) ≡ (list_any (alternative_reads n) bs || is_in n (reads last))
   alternatives_any last [] = refl
   alternatives_any last (b ∷ bs) =
@@ -66,32 +66,32 @@ module _ (n : ℕ) where
       → is_in n (expr_reads (expr_view x)) ≡ (is_in n (expr_reads (expr_view first.value)) || list_any (link_reads n) rest.items)
   chain_reads x first rest is =
       ap (λ (y : Expr). is_in n (expr_reads (expr_view y))) is
-      ∙ (ap (λ (y : m.Expr). is_in n (expr_reads y)) (view_chain first rest) ∙ reads_links (expr_view first.value) rest.items)
+      ∙ (ap (λ (y : bodies.Expr). is_in n (expr_reads y)) (view_chain first rest) ∙ reads_links (expr_view first.value) rest.items)
 
   pub combined_reads : (x : Test) (first : _) (rest : Vec TestLink Global) → x ≡ vt.Combined first rest
       → is_in n (test_reads (test_view x)) ≡ (is_in n (test_reads (test_view first.value)) || list_any (test_link_reads n) rest.items)
   combined_reads x first rest is =
       ap (λ (y : Test). is_in n (test_reads (test_view y))) is
-      ∙ (ap (λ (y : m.Test). is_in n (test_reads y)) (view_combined first rest) ∙ reads_test_links (test_view first.value) rest.items)
+      ∙ (ap (λ (y : bodies.Test). is_in n (test_reads y)) (view_combined first rest) ∙ reads_test_links (test_view first.value) rest.items)
 
   pub if_reads : (x : Statement) (branches : Vec Branch Global) (v : Vec Statement Global) → x ≡ vs.If branches (Some v)
       → is_in n (stmt_reads (statement_view x)) ≡ (list_any (branch_reads n) branches.items || is_in n (reads (statements_of v.items)))
   if_reads x branches v is =
       ap (λ (y : Statement). is_in n (stmt_reads (statement_view y))) is
-      ∙ (ap (λ (y : m.Stmt). is_in n (stmt_reads y)) (view_if branches (Some v)) ∙ branches_any (m.otherwise (statements_of v.items)) branches.items)
+      ∙ (ap (λ (y : bodies.Stmt). is_in n (stmt_reads y)) (view_if branches (Some v)) ∙ branches_any (bodies.otherwise (statements_of v.items)) branches.items)
 
   pub if_alone_reads : (x : Statement) (branches : Vec Branch Global) → x ≡ vs.If branches None
       → is_in n (stmt_reads (statement_view x)) ≡ list_any (branch_reads n) branches.items
   if_alone_reads x branches is =
       ap (λ (y : Statement). is_in n (stmt_reads (statement_view y))) is
-      ∙ (ap (λ (y : m.Stmt). is_in n (stmt_reads y)) (view_if branches None)
-      ∙ (branches_any m.no_else branches.items ∙ sym (or_none (list_any (branch_reads n) branches.items))))
+      ∙ (ap (λ (y : bodies.Stmt). is_in n (stmt_reads y)) (view_if branches None)
+      ∙ (branches_any bodies.no_else branches.items ∙ sym (or_none (list_any (branch_reads n) branches.items))))
 
   pub case_reads : (x : Statement) (selector : Value) (alternatives : Vec Alternative Global) (others : Vec Statement Global) → x ≡ vs.Case selector alternatives others
       → is_in n (stmt_reads (statement_view x))
       ≡ (is_in n (value_reads (value_view selector)) || (list_any (alternative_reads n) alternatives.items || is_in n (reads (statements_of others.items))))
   case_reads x selector alternatives others is =
       ap (λ (y : Statement). is_in n (stmt_reads (statement_view y))) is
-      ∙ (ap (λ (y : m.Stmt). is_in n (stmt_reads y)) (view_case selector alternatives others)
+      ∙ (ap (λ (y : bodies.Stmt). is_in n (stmt_reads y)) (view_case selector alternatives others)
       ∙ (in_append n (value_reads (value_view selector)) (alternatives_reads (alternatives_of (statements_of others.items) alternatives.items))
       ∙ ap (λ (b : Bool). is_in n (value_reads (value_view selector)) || b) (alternatives_any (statements_of others.items) alternatives.items)))

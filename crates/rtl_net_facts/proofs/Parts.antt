@@ -16,40 +16,40 @@ use Rattle.rtl_net.specs.declared.body.Statement.{Statement}
 use Rattle.rtl_net.specs.declared.body.Branch.{Branch}
 use Rattle.rtl_net.specs.declared.body.Alternative.{Alternative}
 use Rattle.rtl_net.specs.Bodies.{operator_view, expr_view, value_view, links_of, test_view, test_links_of, statement_view, statements_of, branches_of, alternatives_of}
-use Rattle.rtl_model.specs.bodies.Body as m
+use Rattle.rtl_model.specs.bodies.Body as bodies
 use Rattle.rtl_model.specs.bodies.Assigns.{must_assign, stmt_must_assign, is_element, branches_must_assign, alternatives_must_assign}
 use Rattle.rtl_model.specs.bodies.Stored.{expr_looks_at, value_looks_at, test_looks_at, stmt_stores, stores_element, branches_store, alternatives_store}
 use Rattle.rtl_net_facts.specs.Looks.{link_looks, test_link_looks, statement_assigned, branch_assigns, alternative_assigns, branch_stores, alternative_stores}
 use Rattle.rtl_net_facts.proofs.Anys.{or_assoc, or_none, and_assoc, and_not}
 
 module _ (e : ℕ) where
-  pub looks_links : (left : m.Expr) (ls : List Link) → expr_looks_at e (links_of left ls) ≡ (expr_looks_at e left || list_any (link_looks e) ls)
+  pub looks_links : (left : bodies.Expr) (ls : List Link) → expr_looks_at e (links_of left ls) ≡ (expr_looks_at e left || list_any (link_looks e) ls)
   looks_links left [] = or_none (expr_looks_at e left)
-  looks_links left (l ∷ ls) = looks_links (m.binary (operator_view l.operator) left (expr_view l.operand)) ls
+  looks_links left (l ∷ ls) = looks_links (bodies.binary (operator_view l.operator) left (expr_view l.operand)) ls
       ∙ or_assoc (expr_looks_at e left) (expr_looks_at e (expr_view l.operand)) (list_any (link_looks e) ls)
 
-  pub looks_test_links : (left : m.Test) (ls : List TestLink) → test_looks_at e (test_links_of left ls) ≡ (test_looks_at e left || list_any (test_link_looks e) ls)
+  pub looks_test_links : (left : bodies.Test) (ls : List TestLink) → test_looks_at e (test_links_of left ls) ≡ (test_looks_at e left || list_any (test_link_looks e) ls)
   looks_test_links left [] = or_none (test_looks_at e left)
-  looks_test_links left (l ∷ ls) = looks_test_links (m.combined l.operator left (test_view l.operand)) ls
+  looks_test_links left (l ∷ ls) = looks_test_links (bodies.combined l.operator left (test_view l.operand)) ls
       ∙ or_assoc (test_looks_at e left) (test_looks_at e (test_view l.operand)) (list_any (test_link_looks e) ls)
 
   pub must_is_any : (xs : List Statement) → must_assign (is_element e) (statements_of xs) ≡ list_any (statement_assigned e) xs
   must_is_any [] = refl
   must_is_any (x ∷ xs) = ap (λ (b : Bool). stmt_must_assign (is_element e) (statement_view x) || b) (must_is_any xs)
 
-  pub branches_all : (last : m.Branches) (bs : List Branch)
+  pub branches_all : (last : bodies.Branches) (bs : List Branch)
       → branches_must_assign (is_element e) (branches_of last bs) ≡ (list_all (branch_assigns e) bs && branches_must_assign (is_element e) last)
   branches_all last [] = refl
   branches_all last (b ∷ bs) = ap (λ (c : Bool). branch_assigns e b && c) (branches_all last bs)
       ∙ sym (and_assoc (branch_assigns e b) (list_all (branch_assigns e) bs) (branches_must_assign (is_element e) last))
 
-  pub alternatives_all : (last : m.Stmts) (bs : List Alternative)
+  pub alternatives_all : (last : bodies.Stmts) (bs : List Alternative)
       → alternatives_must_assign (is_element e) (alternatives_of last bs) ≡ (list_all (alternative_assigns e) bs && must_assign (is_element e) last)
   alternatives_all last [] = refl
   alternatives_all last (b ∷ bs) = ap (λ (c : Bool). alternative_assigns e b && c) (alternatives_all last bs)
       ∙ sym (and_assoc (alternative_assigns e b) (list_all (alternative_assigns e) bs) (must_assign (is_element e) last))
 
-  pub branches_any : (last : m.Branches) (bs : List Branch) → branches_store e (branches_of last bs) ≡ (list_any (branch_stores e) bs || branches_store e last)
+  pub branches_any : (last : bodies.Branches) (bs : List Branch) → branches_store e (branches_of last bs) ≡ (list_any (branch_stores e) bs || branches_store e last)
   branches_any last [] = refl
   branches_any last (b ∷ bs) =
       let t = test_looks_at e (test_view b.test) in
@@ -57,7 +57,7 @@ module _ (e : ℕ) where
       ap (λ (c : Bool). t || (s || c)) (branches_any last bs)
       ∙ (sym (or_assoc t s (list_any (branch_stores e) bs || branches_store e last)) ∙ sym (or_assoc (t || s) (list_any (branch_stores e) bs) (branches_store e last)))
 
-  pub alternatives_any : (last : m.Stmts) (bs : List Alternative)
+  pub alternatives_any : (last : bodies.Stmts) (bs : List Alternative)
       → alternatives_store e (alternatives_of last bs) ≡ (list_any (alternative_stores e) bs || stores_element e last)
   alternatives_any last [] = refl
   alternatives_any last (b ∷ bs) = ap (λ (c : Bool). alternative_stores e b || c) (alternatives_any last bs)
@@ -86,12 +86,12 @@ module _ (e : ℕ) where
       → stmt_must_assign (is_element e) (statement_view x) ≡ (list_all (branch_assigns e) branches.items && must_assign (is_element e) (statements_of v.items))
   if_assigns x branches v is =
       ap (λ (y : Statement). stmt_must_assign (is_element e) (statement_view y)) is
-      ∙ (ap (stmt_must_assign (is_element e)) (view_if branches (Some v)) ∙ branches_all (m.otherwise (statements_of v.items)) branches.items)
+      ∙ (ap (stmt_must_assign (is_element e)) (view_if branches (Some v)) ∙ branches_all (bodies.otherwise (statements_of v.items)) branches.items)
 
   pub if_alone_assigns : (x : Statement) (branches : Vec Branch Global) → x ≡ vs.If branches None → stmt_must_assign (is_element e) (statement_view x) ≡ false
   if_alone_assigns x branches is =
       ap (λ (y : Statement). stmt_must_assign (is_element e) (statement_view y)) is
-      ∙ (ap (stmt_must_assign (is_element e)) (view_if branches None) ∙ (branches_all m.no_else branches.items ∙ sym (and_not (list_all (branch_assigns e) branches.items))))
+      ∙ (ap (stmt_must_assign (is_element e)) (view_if branches None) ∙ (branches_all bodies.no_else branches.items ∙ sym (and_not (list_all (branch_assigns e) branches.items))))
 
   pub case_assigns : (x : Statement) (selector : Value) (alternatives : Vec Alternative Global) (others : Vec Statement Global) → x ≡ vs.Case selector alternatives others
       → stmt_must_assign (is_element e) (statement_view x) ≡ (list_all (alternative_assigns e) alternatives.items && must_assign (is_element e) (statements_of others.items))
@@ -103,13 +103,13 @@ module _ (e : ℕ) where
       → stmt_stores e (statement_view x) ≡ (list_any (branch_stores e) branches.items || stores_element e (statements_of v.items))
   if_stores x branches v is =
       ap (λ (y : Statement). stmt_stores e (statement_view y)) is
-      ∙ (ap (stmt_stores e) (view_if branches (Some v)) ∙ branches_any (m.otherwise (statements_of v.items)) branches.items)
+      ∙ (ap (stmt_stores e) (view_if branches (Some v)) ∙ branches_any (bodies.otherwise (statements_of v.items)) branches.items)
 
   pub if_alone_stores : (x : Statement) (branches : Vec Branch Global) → x ≡ vs.If branches None
       → stmt_stores e (statement_view x) ≡ list_any (branch_stores e) branches.items
   if_alone_stores x branches is =
       ap (λ (y : Statement). stmt_stores e (statement_view y)) is
-      ∙ (ap (stmt_stores e) (view_if branches None) ∙ (branches_any m.no_else branches.items ∙ sym (or_none (list_any (branch_stores e) branches.items))))
+      ∙ (ap (stmt_stores e) (view_if branches None) ∙ (branches_any bodies.no_else branches.items ∙ sym (or_none (list_any (branch_stores e) branches.items))))
 
   pub case_stores : (x : Statement) (selector : Value) (alternatives : Vec Alternative Global) (others : Vec Statement Global) → x ≡ vs.Case selector alternatives others
       → stmt_stores e (statement_view x)

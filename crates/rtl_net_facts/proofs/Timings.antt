@@ -15,14 +15,14 @@ use Rattle.rtl_net.specs.declared.body.Statement.TheVariants as vs
 use Rattle.rtl_net.specs.Bodies.{test_view, test_links_of, statement_view, statements_of, branches_of}
 use Rattle.rtl_net.proofs.Rows.{view_combined, view_if, view_case}
 use Rattle.rtl_model.specs.basics.Lists.{is_empty}
-use Rattle.rtl_model.specs.bodies.Body as m
+use Rattle.rtl_model.specs.bodies.Body as bodies
 use Rattle.rtl_model.specs.bodies.Reads.{events}
 use Rattle.rtl_model.specs.bodies.Kinds as k
 use Rattle.rtl_net_facts.specs.declared.kinds.EdgeTest.{EdgeTest}
 use Rattle.rtl_net_facts.specs.declared.kinds.Clocking.{Clocking}
 use Rattle.rtl_net_facts.specs.declared.kinds.Atom.{Atom}
 use Rattle.rtl_net_facts.specs.declared.kinds.Atom.TheVariants as a
-use Rattle.rtl_net_facts.specs.declared.kinds.Kind.TheVariants as d
+use Rattle.rtl_net_facts.specs.declared.kinds.ProcessKind.TheVariants as d
 use Rattle.rtl_net_facts.specs.Occurring.{some}
 use Rattle.rtl_net_facts.specs.Constants.{assigns_constant}
 use Rattle.rtl_net_facts.specs.Timing.{edge_test_view, atom_of, edge_pair, reset_net, part_net, atom_reset, clocking_view, clocked_branch, kind_view}
@@ -33,32 +33,32 @@ pub combined_is : (x : Test) (first : _) (rest : Vec TestLink Global) → x ≡ 
     → test_view x ≡ test_links_of (test_view first.value) rest.items
 combined_is x first rest is = ap test_view is ∙ view_combined first rest
 
-atom_long : (o : Logic) (s t : m.Test) (ls : List TestLink) → atom_of (test_links_of (m.combined o s t) ls) ≡ a.Other
+atom_long : (o : Logic) (s t : bodies.Test) (ls : List TestLink) → atom_of (test_links_of (bodies.combined o s t) ls) ≡ a.Other
 atom_long o s t [] = refl
-atom_long o s t (l ∷ ls) = atom_long l.operator (m.combined o s t) (test_view l.operand) ls
+atom_long o s t (l ∷ ls) = atom_long l.operator (bodies.combined o s t) (test_view l.operand) ls
 
-pub atom_more : (s : m.Test) (l : TestLink) (ls : List TestLink) → atom_of (test_links_of s (l ∷ ls)) ≡ a.Other
+pub atom_more : (s : bodies.Test) (l : TestLink) (ls : List TestLink) → atom_of (test_links_of s (l ∷ ls)) ≡ a.Other
 atom_more s l ls = atom_long l.operator s (test_view l.operand) ls
 
-edge_of_two : (o p : Logic) (r s t : m.Test) → k.edge_test (m.combined o (m.combined p r s) t) ≡ None
+edge_of_two : (o p : Logic) (r s t : bodies.Test) → k.edge_test (bodies.combined o (bodies.combined p r s) t) ≡ None
 edge_of_two op.And p r s t = refl
 edge_of_two _ p r s t = refl
 
-edge_long : (o p : Logic) (r s t : m.Test) (ls : List TestLink) → k.edge_test (test_links_of (m.combined o (m.combined p r s) t) ls) ≡ None
+edge_long : (o p : Logic) (r s t : bodies.Test) (ls : List TestLink) → k.edge_test (test_links_of (bodies.combined o (bodies.combined p r s) t) ls) ≡ None
 edge_long o p r s t [] = edge_of_two o p r s t
-edge_long o p r s t (l ∷ ls) = edge_long l.operator o (m.combined p r s) t (test_view l.operand) ls
+edge_long o p r s t (l ∷ ls) = edge_long l.operator o (bodies.combined p r s) t (test_view l.operand) ls
 
-pub edge_more : (s : m.Test) (l j : TestLink) (ls : List TestLink) → k.edge_test (test_links_of s (l ∷ j ∷ ls)) ≡ None
+pub edge_more : (s : bodies.Test) (l j : TestLink) (ls : List TestLink) → k.edge_test (test_links_of s (l ∷ j ∷ ls)) ≡ None
 edge_more s l j ls = edge_long j.operator l.operator s (test_view l.operand) (test_view j.operand) ls
 
-pub pair_is : (s t : m.Test) → option_map edge_test_view (k.edge_test (m.combined op.And s t)) ≡ edge_pair (atom_of s) (atom_of t)
-pair_is (m.event n) (m.level true o v) = refl
-pair_is (m.level true o v) (m.event n) = refl
+pub pair_is : (s t : bodies.Test) → option_map edge_test_view (k.edge_test (bodies.combined op.And s t)) ≡ edge_pair (atom_of s) (atom_of t)
+pair_is (bodies.event n) (bodies.level true o v) = refl
+pair_is (bodies.level true o v) (bodies.event n) = refl
 pair_is _ _ = refl
 
 -- ---- nodes
 
-abbrev pub edge_seen : m.Test → Option EdgeTest
+abbrev pub edge_seen : bodies.Test → Option EdgeTest
 edge_seen t = option_map edge_test_view (k.edge_test t)
 
 one_item : {X : Type 0} (xs : List X) (x : X) → length xs ≡ 1 → x ≡ get_or xs 0 x → xs ≡ x ∷ []
@@ -66,19 +66,19 @@ one_item [] x l e = absurd (omega arith)
 one_item (y ∷ []) x l e = ap (λ z. z ∷ []) (sym e)
 one_item (y ∷ z ∷ zs) x l e = absurd (omega arith)
 
-top_none : (s : m.Test) (ls : List TestLink) → (length ls == 0) ≡ true → atom_of (test_links_of s ls) ≡ atom_of s
+top_none : (s : bodies.Test) (ls : List TestLink) → (length ls == 0) ≡ true → atom_of (test_links_of s ls) ≡ atom_of s
 top_none s [] e = refl
 top_none s (l ∷ ls) e = let k = eqb-true (length (l ∷ ls)) 0 e in absurd (omega arith)
 
-top_some : (s : m.Test) (ls : List TestLink) → (length ls == 0) ≡ false → atom_of (test_links_of s ls) ≡ a.Other
+top_some : (s : bodies.Test) (ls : List TestLink) → (length ls == 0) ≡ false → atom_of (test_links_of s ls) ≡ a.Other
 top_some s [] e = absurd cc
 top_some s (l ∷ ls) e = atom_more s l ls
 
-edge_none : (s : m.Test) (ls : List TestLink) → (length ls == 0) ≡ true → edge_seen (test_links_of s ls) ≡ edge_seen s
+edge_none : (s : bodies.Test) (ls : List TestLink) → (length ls == 0) ≡ true → edge_seen (test_links_of s ls) ≡ edge_seen s
 edge_none s [] e = refl
 edge_none s (l ∷ ls) e = let k = eqb-true (length (l ∷ ls)) 0 e in absurd (omega arith)
 
-edge_many : (s : m.Test) (ls : List TestLink) → (length ls == 0) ≡ false → (length ls ≡ 1 → ⊥) → edge_seen (test_links_of s ls) ≡ None
+edge_many : (s : bodies.Test) (ls : List TestLink) → (length ls == 0) ≡ false → (length ls ≡ 1 → ⊥) → edge_seen (test_links_of s ls) ≡ None
 edge_many s [] e n = absurd cc
 edge_many s (l ∷ []) e n = absurd (n refl)
 edge_many s (l ∷ j ∷ ls) e n = ap (option_map edge_test_view) (edge_more s l j ls)
@@ -97,22 +97,22 @@ module _ (x : Test) (first : _) (rest : Vec TestLink Global) (is : x ≡ vt.Comb
   edge_chain e n = sym (ap edge_seen (combined_is x first rest is) ∙ edge_many (test_view first.value) rest.items (sym (ap (λ (n : ℕ). n == 0) rest.ok.0) ∙ e) (λ k. n (rest.ok.0 ∙ k)))
 
   pub edge_two : (l : TestLink) (o : Logic) → vec_len rest ≡ 1 → l ≡ get_or rest.items 0 l → l.operator ≡ o
-      → edge_seen (m.combined o (test_view first.value) (test_view l.operand)) ≡ edge_seen (test_view x)
+      → edge_seen (bodies.combined o (test_view first.value) (test_view l.operand)) ≡ edge_seen (test_view x)
   edge_two l o e at f =
       sym (ap edge_seen (combined_is x first rest is)
       ∙ (ap (λ (ls : List TestLink). edge_seen (test_links_of (test_view first.value) ls)) (one_item rest.items l (sym rest.ok.0 ∙ e) at)
-      ∙ ap (λ (p : Logic). edge_seen (m.combined p (test_view first.value) (test_view l.operand))) f))
+      ∙ ap (λ (p : Logic). edge_seen (bodies.combined p (test_view first.value) (test_view l.operand))) f))
 
 -- ---- resets
 
-pub reset_is : (inputs : List ℕ) (t : m.Test) → option_map reset_net (k.reset_test inputs t) ≡ atom_reset inputs (atom_of t)
-reset_is inputs (m.level plain net v) = refl
+pub reset_is : (inputs : List ℕ) (t : bodies.Test) → option_map reset_net (k.reset_test inputs t) ≡ atom_reset inputs (atom_of t)
+reset_is inputs (bodies.level plain net v) = refl
 reset_is inputs _ = refl
 
 -- ---- bodies
 
-pub alone_is : (inputs : List ℕ) (t : m.Test) (s : m.Stmts)
-    → clocked_branch (k.edge_test t) s None ≡ option_map clocking_view (k.clocking inputs (m.step (m.if_of (m.branch t s m.no_else)) m.done))
+pub alone_is : (inputs : List ℕ) (t : bodies.Test) (s : bodies.Stmts)
+    → clocked_branch (k.edge_test t) s None ≡ option_map clocking_view (k.clocking inputs (bodies.step (bodies.if_of (bodies.branch t s bodies.no_else)) bodies.done))
 alone_is inputs t s = go (k.edge_test t) (is_empty (events s)) refl
   where
     go : (e : Option k.EdgeTest) (b : Bool) → is_empty (events s) ≡ b → clocked_branch e s None ≡ option_map clocking_view (k.clocking_of true (is_empty (events s)) e s None)
@@ -126,9 +126,9 @@ alone_is inputs t s = go (k.edge_test t) (is_empty (events s)) refl
 abbrev pub constant_from : List Statement → Bool
 constant_from xs = k.assigns_constants (statements_of xs)
 
-constants_step : (s : m.Stmt) (rest : m.Stmts) → k.assigns_constants (m.step s rest) ≡ (assigns_constant s && k.assigns_constants rest)
-constants_step m.nothing rest = refl
-constants_step (m.assign places v) rest = refl
+constants_step : (s : bodies.Stmt) (rest : bodies.Stmts) → k.assigns_constants (bodies.step s rest) ≡ (assigns_constant s && k.assigns_constants rest)
+constants_step bodies.null_of rest = refl
+constants_step (bodies.assign places v) rest = refl
 constants_step _ rest = refl
 
 module _ (xs : List Statement) (i : ℕ) where
@@ -151,13 +151,13 @@ module _ (xs : List Statement) (i : ℕ) where
 
 -- ---- ifs with no else
 
-abbrev pub if_alone : List Branch → m.Stmts
-if_alone bs = m.step (m.if_of (branches_of m.no_else bs)) m.done
+abbrev pub if_alone : List Branch → bodies.Stmts
+if_alone bs = bodies.step (bodies.if_of (branches_of bodies.no_else bs)) bodies.done
 
-abbrev pub clocked : List ℕ → m.Stmts → Option Clocking
+abbrev pub clocked : List ℕ → bodies.Stmts → Option Clocking
 clocked inputs body = option_map clocking_view (k.clocking inputs body)
 
-abbrev pub branch_body : Branch → m.Stmts
+abbrev pub branch_body : Branch → bodies.Stmts
 branch_body b = statements_of b.statements.items
 
 abbrev pub branch_edge : Branch → Option k.EdgeTest
@@ -179,17 +179,17 @@ two_items (a ∷ []) x y l e f = absurd (omega arith)
 two_items (a ∷ b ∷ []) x y l e f = ap (λ z. z ∷ b ∷ []) (sym e) ∙ ap (λ z. x ∷ z ∷ []) (sym f)
 two_items (a ∷ b ∷ d ∷ xs) x y l e f = absurd (omega arith)
 
-no_reset : (o : Option k.ResetTest) (constants ne : Bool) (e : Option k.EdgeTest) (s t : m.Stmts)
+no_reset : (o : Option k.ResetTest) (constants ne : Bool) (e : Option k.EdgeTest) (s t : bodies.Stmts)
     → option_map reset_net o ≡ None → None ≡ option_map clocking_view (k.with_reset o constants ne e s t)
 no_reset None constants ne e s t h = refl
 no_reset (Some r) constants ne e s t h = absurd cc
 
-no_constants : (o : Option k.ResetTest) (ne : Bool) (e : Option k.EdgeTest) (s t : m.Stmts)
+no_constants : (o : Option k.ResetTest) (ne : Bool) (e : Option k.EdgeTest) (s t : bodies.Stmts)
     → None ≡ option_map clocking_view (k.with_reset o false ne e s t)
 no_constants None ne e s t = refl
 no_constants (Some r) ne e s t = refl
 
-with_both : (o : Option k.ResetTest) (n : ℕ) (e : Option k.EdgeTest) (s t : m.Stmts) → option_map reset_net o ≡ Some n
+with_both : (o : Option k.ResetTest) (n : ℕ) (e : Option k.EdgeTest) (s t : bodies.Stmts) → option_map reset_net o ≡ Some n
     → clocked_branch e t (Some n) ≡ option_map clocking_view (k.with_reset o true (is_empty (events t)) e s t)
 with_both None n e s t h = absurd cc
 with_both (Some r) n e s t h = go e (is_empty (events t)) refl
@@ -225,9 +225,9 @@ module _ (inputs : List ℕ) (bs : List Branch) (b d : Branch) (two : length bs 
 
 -- ---- bodies
 
-two_statements : (inputs : List ℕ) (s t : m.Stmt) (rest : m.Stmts) → k.clocking inputs (m.step s (m.step t rest)) ≡ None
-two_statements inputs (m.if_of (m.branch t s m.no_else)) u rest = refl
-two_statements inputs (m.if_of (m.branch r a (m.branch t s m.no_else))) u rest = refl
+two_statements : (inputs : List ℕ) (s t : bodies.Stmt) (rest : bodies.Stmts) → k.clocking inputs (bodies.step s (bodies.step t rest)) ≡ None
+two_statements inputs (bodies.if_of (bodies.branch t s bodies.no_else)) u rest = refl
+two_statements inputs (bodies.if_of (bodies.branch r a (bodies.branch t s bodies.no_else))) u rest = refl
 two_statements inputs _ u rest = refl
 
 pub not_one : (inputs : List ℕ) (body : List Statement) → (length body ≡ 1 → ⊥) → None ≡ clocked inputs (statements_of body)
@@ -235,26 +235,26 @@ not_one inputs [] n = refl
 not_one inputs (x ∷ []) n = absurd (n refl)
 not_one inputs (x ∷ y ∷ ys) n = ap (option_map clocking_view) (sym (two_statements inputs (statement_view x) (statement_view y) (statements_of ys)))
 
-if_else : (inputs : List ℕ) (last : m.Stmts) (bs : List Branch) → k.clocking inputs (m.step (m.if_of (branches_of (m.otherwise last) bs)) m.done) ≡ None
+if_else : (inputs : List ℕ) (last : bodies.Stmts) (bs : List Branch) → k.clocking inputs (bodies.step (bodies.if_of (branches_of (bodies.otherwise last) bs)) bodies.done) ≡ None
 if_else inputs last [] = refl
 if_else inputs last (b ∷ []) = refl
 if_else inputs last (b ∷ d ∷ []) = refl
 if_else inputs last (b ∷ d ∷ e ∷ bs) = refl
 
 module _ (inputs : List ℕ) (body : List Statement) (x : Statement) (one : length body ≡ 1) (only : x ≡ get_or body 0 x) where
-  single : clocked inputs (statements_of body) ≡ clocked inputs (m.step (statement_view x) m.done)
+  single : clocked inputs (statements_of body) ≡ clocked inputs (bodies.step (statement_view x) bodies.done)
   single = ap (λ (xs : List Statement). clocked inputs (statements_of xs)) (one_item body x one only)
 
   pub with_else : (branches : Vec Branch Global) (v : Vec Statement Global) → x ≡ vs.If branches (Some v) → None ≡ clocked inputs (statements_of body)
   with_else branches v is =
-      sym (single ∙ (ap (λ (y : Statement). clocked inputs (m.step (statement_view y) m.done)) is
-      ∙ (ap (λ (y : m.Stmt). clocked inputs (m.step y m.done)) (view_if branches (Some v))
+      sym (single ∙ (ap (λ (y : Statement). clocked inputs (bodies.step (statement_view y) bodies.done)) is
+      ∙ (ap (λ (y : bodies.Stmt). clocked inputs (bodies.step y bodies.done)) (view_if branches (Some v))
       ∙ ap (option_map clocking_view) (if_else inputs (statements_of v.items) branches.items))))
 
   pub without_else : (branches : Vec Branch Global) → x ≡ vs.If branches None → clocked inputs (if_alone branches.items) ≡ clocked inputs (statements_of body)
   without_else branches is =
-      sym (single ∙ (ap (λ (y : Statement). clocked inputs (m.step (statement_view y) m.done)) is
-      ∙ ap (λ (y : m.Stmt). clocked inputs (m.step y m.done)) (view_if branches None)))
+      sym (single ∙ (ap (λ (y : Statement). clocked inputs (bodies.step (statement_view y) bodies.done)) is
+      ∙ ap (λ (y : bodies.Stmt). clocked inputs (bodies.step y bodies.done)) (view_if branches None)))
 
 -- ---- kinds
 

@@ -3,7 +3,7 @@ use Rattle.std.specs.Prelude.{Bool, true, false}
 use Rattle.rtl_net.specs.declared.body.Link.{Link}
 use Rattle.rtl_net.specs.Bodies.{expr_view}
 use Rattle.rtl_model.specs.basics.Lists.{is_empty}
-use Rattle.rtl_model.specs.bodies.Body.{Stmt, nothing, assign, set, if_of, case_of}
+use Rattle.rtl_model.specs.bodies.Body.{Stmt, null_of, assign, set, if_of, case_of}
 use Rattle.rtl_model.specs.bodies.Reads.{expr_reads, value_reads}
 use Rattle.rtl_net_facts.specs.Occurring.{some}
 
@@ -12,7 +12,7 @@ link_signal l = some (expr_reads (expr_view l.operand))
 
 -- a statement that assigns a constant to signals, or nothing
 abbrev pub assigns_constant : Stmt → Bool
-assigns_constant nothing = true
+assigns_constant null_of = true
 assigns_constant (assign places v) = is_empty (value_reads v)
 assigns_constant (set es v) = false
 assigns_constant (if_of bs) = false

@@ -6,7 +6,7 @@ use Rattle.rtl_net.specs.declared.body.Branch.{Branch}
 use Rattle.rtl_net.specs.declared.body.Alternative.{Alternative}
 use Rattle.rtl_net.specs.Bodies.{statement_view, statements_of}
 use Rattle.rtl_model.specs.bodies.Assigns.{Target, of_drivers, must_assign, stmt_must_assign}
-use Rattle.rtl_model.specs.nets.CoreNet.{drives_net}
+use Rattle.rtl_model.specs.nets.CoreNetlist.{drives_net}
 
 -- the nets of these drivers
 abbrev pub driven : List Driver → List ℕ

@@ -2,13 +2,13 @@
 use Rattle.std.specs.Prelude.{ℕ, Bool, true, false, ◌==◌, if◌then◌else◌, List, [], ◌∷◌, Option, Some, None, option_map}
 use Rattle.vhdl_values.specs.declared.scalar.Nine.{Nine}
 use Rattle.rtl_model.specs.basics.Lists.{is_empty}
-use Rattle.rtl_model.specs.bodies.Body as m
+use Rattle.rtl_model.specs.bodies.Body as bodies
 use Rattle.rtl_model.specs.bodies.Reads.{reads, events}
 use Rattle.rtl_model.specs.bodies.Kinds as k
 use Rattle.rtl_net_facts.specs.declared.kinds.EdgeTest.{EdgeTest}
 use Rattle.rtl_net_facts.specs.declared.kinds.Clocking.{Clocking}
-use Rattle.rtl_net_facts.specs.declared.kinds.Kind.{Kind}
-use Rattle.rtl_net_facts.specs.declared.kinds.Kind.TheVariants.{Combinational, Clocked, Mixed}
+use Rattle.rtl_net_facts.specs.declared.kinds.ProcessKind.{ProcessKind}
+use Rattle.rtl_net_facts.specs.declared.kinds.ProcessKind.TheVariants.{Combinational, Clocked, Mixed}
 use Rattle.rtl_net_facts.specs.declared.kinds.Atom.{Atom}
 use Rattle.rtl_net_facts.specs.declared.kinds.Atom.TheVariants as a
 use Rattle.rtl_net_facts.specs.Reading.{is_in}
@@ -18,11 +18,11 @@ edge_test_view t = record { clock = t.clock; edge = t.edge }
 
 -- ---- tests
 
-abbrev pub atom_of : m.Test → Atom
-atom_of (m.rising net) = a.Rising net
-atom_of (m.falling net) = a.Falling net
-atom_of (m.event net) = a.Event net
-atom_of (m.level plain net v) = a.Level plain net v
+abbrev pub atom_of : bodies.Test → Atom
+atom_of (bodies.rising net) = a.Rising net
+atom_of (bodies.falling net) = a.Falling net
+atom_of (bodies.event net) = a.Event net
+atom_of (bodies.level plain net v) = a.Level plain net v
 atom_of _ = a.Other
 
 -- the edge that the two sides of `and` test
@@ -53,7 +53,7 @@ clocking_view c = record {
 }
 
 -- what a branch under an edge test, if it is one, makes of a process with this reset
-abbrev pub clocked_branch : Option k.EdgeTest → m.Stmts → (reset : Option ℕ) → Option Clocking
+abbrev pub clocked_branch : Option k.EdgeTest → bodies.Stmts → (reset : Option ℕ) → Option Clocking
 clocked_branch None branch reset = None
 clocked_branch (Some t) branch reset =
     if is_empty (events branch)
@@ -61,7 +61,7 @@ clocked_branch (Some t) branch reset =
     else None
 
 -- clocked; else combinational, where no edge test and no `'event` stands in the body; else mixed
-abbrev pub kind_view : Option k.Clocking → (events : List ℕ) → Kind
+abbrev pub kind_view : Option k.Clocking → (events : List ℕ) → ProcessKind
 kind_view (Some c) ns = Clocked (clocking_view c)
 kind_view None [] = Combinational
 kind_view None (n ∷ ns) = Mixed

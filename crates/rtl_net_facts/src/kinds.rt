@@ -35,7 +35,7 @@ pub struct Clocking {
 
 /// What kind of process it is.
 #[derive(Clone, Copy)]
-pub enum Kind {
+pub enum ProcessKind {
     Combinational,
     Clocked(Clocking),
     /// Neither.
@@ -283,17 +283,17 @@ fn clocking_of(inputs: &[usize], body: &[Statement]) -> Option<Clocking>
 }
 
 /// The kind of a process with this body, where the inputs of the top rise.
-pub fn kind_of(inputs: &[usize], body: &[Statement]) -> Kind
+pub fn kind_of(inputs: &[usize], body: &[Statement]) -> ProcessKind
     requires { IsStrictlyIncreasing inputs.now }
     ensures { result ≡ kind_view (m.clocking inputs.now (statements_of body.now)) (events (statements_of body.now)) }
 {
     match clocking_of(inputs, body) {
-        Some(clocking) => Kind::Clocked(clocking),
+        Some(clocking) => ProcessKind::Clocked(clocking),
         None => {
             if body_has_event(body) {
-                return Kind::Mixed;
+                return ProcessKind::Mixed;
             }
-            Kind::Combinational
+            ProcessKind::Combinational
         }
     }
 }

@@ -17,7 +17,7 @@ mod stores;
 
 pub use assigned::all_assign;
 pub use events::{body_has_event, test_has_event};
-pub use kinds::{Clocking, Kind, kind_of};
+pub use kinds::{Clocking, ProcessKind, kind_of};
 pub use paths::assigned_nets;
 pub use reading::body_reads;
 pub use rising::{contains_rising, sort_once};

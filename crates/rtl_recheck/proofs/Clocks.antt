@@ -6,7 +6,7 @@ use Rattle.std.proofs.lemmas.Bool.{or_cases, and_from, eqb-true, lt-ltb}
 use Rattle.std.proofs.lemmas.List.{length-map, get_or_default}
 use Rattle.std.proofs.lemmas.List.Kept.{IsStrictlyIncreasing-filter}
 use Rattle.rtl_model.specs.basics.Lists.{IsLess, RisesBy}
-use Rattle.rtl_model.specs.simulation.Net.{Net, Edge, Rising}
+use Rattle.rtl_model.specs.simulation.Netlist.{Netlist, Edge, Rising}
 use Rattle.rtl_model.specs.simulation.Accepted.{IsClock}
 use Rattle.rtl_model.specs.simulation.Report.{clock_key, AreClocks}
 use Rattle.rtl_model.proofs.basics.Lists.{in_contains, contains_in, get_or-map_within}
@@ -76,7 +76,7 @@ pub net_of_pair : (xs : List (ℕ × Edge)) (n : ℕ) (edge : Edge) → Contains
 net_of_pair xs n edge (i, l, e) =
     contains_in (clock_nets xs) n (i, rw (length-map xs (λ (x : ℕ × Edge). x.0)) l, get_or-map_within (λ (x : ℕ × Edge). x.0) xs i (n, edge) n l ∙ ap (λ (x : ℕ × Edge). x.0) e)
 
-pub clocks_are : (net : Net) (clocks : List (ℕ × Edge)) → AreClocks net clocks → AreClockNets net (sorted_clocks (clock_nets clocks))
+pub clocks_are : (net : Netlist) (clocks : List (ℕ × Edge)) → AreClocks net clocks → AreClockNets net (sorted_clocks (clock_nets clocks))
 unfolding sorted_clocks
 clocks_are net clocks A = record {
   rise = IsStrictlyIncreasing-filter (λ n. is_in n (clock_nets clocks)) (range_with_len 0 (above (clock_nets clocks))) (range_rises (above (clock_nets clocks)));

@@ -2,17 +2,17 @@
 use Rattle.std.proofs.Common.{◌≡◌, ℕ, ◌<◌, Bool, true, false, not, ◌&&◌, ◌==◌, List, [], ◌∷◌, length, get_or, refl, sym, ap, subst, ◌∙◌, ◌⊎◌, inl, inr, arith}
 use Rattle.std.proofs.lemmas.Bool.{cases_Bool, or_cases, or_left, and_parts, and_from, not-true, not_from_false, eqb-true, eq-eqb}
 use Rattle.rtl_model.specs.bodies.Assigns.{must_assign}
-use Rattle.rtl_model.specs.simulation.Net as m
-use Rattle.rtl_model.specs.simulation.Net.{Net, Edge, process}
+use Rattle.rtl_model.specs.simulation.Netlist as m
+use Rattle.rtl_model.specs.simulation.Netlist.{Netlist, Edge, process}
 use Rattle.rtl_model.specs.simulation.Accepted as f
 use Rattle.rtl_model.specs.simulation.Accepted.{Fault, IsFault, IsAccepted, HasNoLoop}
 use Rattle.rtl_model.specs.simulation.Report.{AreClocks}
 use Rattle.rtl_net.specs.declared.process.Process.{Process}
-use Rattle.rtl_net.specs.Nets.{NetView, body_of}
+use Rattle.rtl_net.specs.Nets.{NetlistView, body_of}
 use Rattle.rtl_net.specs.Elaborated.{ReadsOfBody}
 use Rattle.rtl_net_facts.specs.declared.kinds.Clocking.{Clocking}
-use Rattle.rtl_net_facts.specs.declared.kinds.Kind.{Kind}
-use Rattle.rtl_net_facts.specs.declared.kinds.Kind.TheVariants as k
+use Rattle.rtl_net_facts.specs.declared.kinds.ProcessKind.{ProcessKind}
+use Rattle.rtl_net_facts.specs.declared.kinds.ProcessKind.TheVariants as k
 use Rattle.rtl_net_facts.specs.Reading.{is_in}
 use Rattle.rtl_net_facts.specs.Paths.{driven, to_net}
 use Rattle.rtl_check.specs.declared.rule.Rule.{Rule}
@@ -26,7 +26,7 @@ use Rattle.rtl_recheck.specs.Kept.{clock_nets, AreWithin, ClockedKeeps, HasNoLat
 use Rattle.rtl_recheck.proofs.Clocks.{sorted_clocks, same_clocks, clocks_are}
 
 -- no net breaks a rule
-abbrev pub BreaksNone : (inputs clocks : List ℕ) → Process → Kind → Type 0
+abbrev pub BreaksNone : (inputs clocks : List ℕ) → Process → ProcessKind → Type 0
 BreaksNone inputs clocks x kind = (rule : Rule) (n : ℕ) → breaks inputs clocks x kind rule n ≡ true → ⊥
 
 clash : (b : Bool) → b ≡ true → b ≡ false → ⊥
@@ -95,18 +95,18 @@ module _ (inputs clocks : List ℕ) (x : Process) where
     no_clock_read = λ n a. false_from (is_in n clocks && is_data c n) (λ b. none ClockAsData n (and_from (is_in n x.reads.items) (is_in n clocks && is_data c n) a b));
   }
 
-  keeps_to : (kind : Kind) → KeepsBy inputs clocks x kind → BreaksNone inputs clocks x kind
+  keeps_to : (kind : ProcessKind) → KeepsBy inputs clocks x kind → BreaksNone inputs clocks x kind
   keeps_to k.Combinational h rule n t = combinational_to h rule n t
   keeps_to (k.Clocked c) h rule n t = clocked_to c h rule n t
   keeps_to k.Mixed h rule n t = cc
 
-  keeps_from : (kind : Kind) → BreaksNone inputs clocks x kind → KeepsBy inputs clocks x kind
+  keeps_from : (kind : ProcessKind) → BreaksNone inputs clocks x kind → KeepsBy inputs clocks x kind
   keeps_from k.Combinational none = combinational_from none
   keeps_from (k.Clocked c) none = clocked_from c none
   keeps_from k.Mixed none = tt
 
 -- the same clocks in another order
-same_breaks : (inputs xs ys : List ℕ) (x : Process) (kind : Kind) (rule : Rule) (n : ℕ) → is_in n xs ≡ is_in n ys → breaks inputs xs x kind rule n ≡ breaks inputs ys x kind rule n
+same_breaks : (inputs xs ys : List ℕ) (x : Process) (kind : ProcessKind) (rule : Rule) (n : ℕ) → is_in n xs ≡ is_in n ys → breaks inputs xs x kind rule n ≡ breaks inputs ys x kind rule n
 same_breaks inputs xs ys x k.Combinational rule n e = refl
 same_breaks inputs xs ys x (k.Clocked c) ClockNotInput n e = refl
 same_breaks inputs xs ys x (k.Clocked c) EdgeNotSensitive n e = refl
@@ -115,8 +115,8 @@ same_breaks inputs xs ys x (k.Clocked c) MissingSensitivity n e = refl
 same_breaks inputs xs ys x (k.Clocked c) Latch n e = refl
 same_breaks inputs xs ys x k.Mixed rule n e = refl
 
-module _ (net : NetView) (clocks : List (ℕ × Edge)) (A : AreClocks (core net) clocks) (p : ℕ) (x : Process) (there : p < length net.processes) (at : x ≡ get_or net.processes p x)
-    (listed : ReadsOfBody x) (kind : Kind) (d : IsKind (process (core net) p) kind) where
+module _ (net : NetlistView) (clocks : List (ℕ × Edge)) (A : AreClocks (core net) clocks) (p : ℕ) (x : Process) (there : p < length net.processes) (at : x ≡ get_or net.processes p x)
+    (listed : ReadsOfBody x) (kind : ProcessKind) (d : IsKind (process (core net) p) kind) where
   pub rules_to : KeepsBy net.inputs (clock_nets clocks) x kind → KeepsRules (core net) p
   rules_to h rule n is =
       keeps_to net.inputs (clock_nets clocks) x kind h rule n
@@ -133,7 +133,7 @@ module _ (net : NetView) (clocks : List (ℕ × Edge)) (A : AreClocks (core net)
 
 -- ---- of all processes
 
-module _ (net : Net) where
+module _ (net : Netlist) where
   differ : {a b : ℕ} → a ≡ b → (a < b) ⊎ (b < a) → ⊥
   differ e (inl l) = omega (arith, e, l)
   differ e (inr l) = omega (arith, e, l)

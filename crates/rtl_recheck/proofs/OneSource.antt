@@ -1,15 +1,15 @@
 -- The sources of a net, and whether it has two.
 use Rattle.std.proofs.Common.{◌≡◌, ℕ, ◌<◌, true, nat_lt, List, [], ◌∷◌, length, map, refl, sym, ◌∙◌, arith}
 use Rattle.std.proofs.lemmas.Bool.{ltb-true}
-use Rattle.rtl_model.specs.nets.FlatNet.{flat_sources}
-use Rattle.rtl_model.specs.simulation.Net.{sources_of}
+use Rattle.rtl_model.specs.nets.FlatNetlist.{flat_sources}
+use Rattle.rtl_model.specs.simulation.Netlist.{sources_of}
 use Rattle.rtl_net.specs.declared.net.Source.{Source}
-use Rattle.rtl_net.specs.Nets.{NetView, flat, source_view}
+use Rattle.rtl_net.specs.Nets.{NetlistView, flat, source_view}
 use Rattle.rtl_check.specs.Views.{core}
 use Rattle.rtl_check.proofs.Firsts.{sources_there}
 use Rattle.rtl_recheck.specs.Kept.{HasOneSource}
 
-module _ (net : NetView) (n : ℕ) (l : n < length net.types) where
+module _ (net : NetlistView) (n : ℕ) (l : n < length net.types) where
   listed : (xs : List Source) → map source_view xs ≡ flat_sources (flat net) n → map source_view xs ≡ sources_of (core net) n
   listed xs e = e ∙ sym (sources_there net n l)
 

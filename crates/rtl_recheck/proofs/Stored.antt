@@ -5,16 +5,16 @@ use Rattle.std.proofs.lemmas.Bool.{cases_Bool}
 use Rattle.std.proofs.lemmas.List.{length-append, length-map, map-append, take_more}
 use Rattle.std.proofs.lemmas.List.FromFn.{length-map-range_with_len}
 use Rattle.rtl_model.specs.bodies.Stored.{stores_element}
-use Rattle.rtl_model.specs.nets.CoreNet.{stores_one}
-use Rattle.rtl_model.specs.simulation.Net as m
+use Rattle.rtl_model.specs.nets.CoreNetlist.{stores_one}
+use Rattle.rtl_model.specs.simulation.Netlist as m
 use Rattle.rtl_net.specs.declared.process.Process.{Process}
 use Rattle.rtl_net.specs.declared.process.Variable.{Variable}
-use Rattle.rtl_net.specs.Nets.{NetView, process_view, variable_view, body_of}
+use Rattle.rtl_net.specs.Nets.{NetlistView, process_view, variable_view, body_of}
 use Rattle.rtl_net.specs.Elaborated.{IsNet}
-use Rattle.rtl_model.specs.nets.FlatNet.{ProcessInRange, VariableInRange}
+use Rattle.rtl_model.specs.nets.FlatNetlist.{ProcessInRange, VariableInRange}
 use Rattle.rtl_model.proofs.basics.Lists.{get_or-map_within}
 use Rattle.std.specs.Prelude.{All}
-use Rattle.rtl_check.specs.declared.variables.Place.{Place}
+use Rattle.rtl_check.specs.declared.variables.VariableElement.{VariableElement}
 use Rattle.rtl_check.specs.Views.{core}
 use Rattle.rtl_check.specs.Places.{widths, place_in, places_from}
 use Rattle.rtl_check.proofs.Processes.{process_is}
@@ -40,7 +40,7 @@ variable_more vs i x l e =
     ∙ (ap (λ (ws : List ℕ). length (places_from 0 ws)) (map-append (λ (v : Variable). length v.starts.items) (take i vs) (x ∷ []))
     ∙ places_more 0 (widths (take i vs)) (length x.starts.items))
 
-module _ (net : NetView) (p : ℕ) (x : Process) (there : p < length net.processes) (at : x ≡ get_or net.processes p x) where
+module _ (net : NetlistView) (p : ℕ) (x : Process) (there : p < length net.processes) (at : x ≡ get_or net.processes p x) where
   stores_are : (v t : ℕ) → (m.process (core net) p).stores v t ≡ stores_one (body_of x) (number_of (widths x.variables.items) v t)
   stores_are v t =
       ap (λ (q : m.Process). q.stores v t) (process_is net p x there at) ∙ ap (stores_one (body_of x)) (number_is x.variables.items v t)
@@ -55,7 +55,7 @@ module _ (net : NetView) (p : ℕ) (x : Process) (there : p < length net.process
   pub none_from : StoresNothing (core net) p → StoresNone (body_of x) (length (places_from 0 (widths x.variables.items)))
   none_from none e l = go (cases_Bool (stores_element e (body_of x))) (place_at (widths x.variables.items) 0 e first l)
     where
-      first : Place
+      first : VariableElement
       first = place_in 0 0
 
       go : (stores_element e (body_of x) ≡ true) ⊎ (stores_element e (body_of x) ≡ false)

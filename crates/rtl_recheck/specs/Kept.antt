@@ -1,16 +1,16 @@
--- What an accepted net's processes and nets keep to, by what is kept of each of them.
+-- What an accepted netlist's processes and nets keep to, by what is kept of each of them.
 use Rattle.std.specs.Prelude.{◌≡◌, ℕ, ◌<◌, ◌≤◌, Bool, true, false, ◌&&◌, ⊤, List, length, map, slice_index_or}
 use Rattle.rtl_model.specs.bodies.Body.{Stmts}
 use Rattle.rtl_model.specs.bodies.Assigns.{must_assign}
 use Rattle.rtl_model.specs.bodies.Stored.{stores_element}
-use Rattle.rtl_model.specs.simulation.Net.{Net, Edge, Source}
+use Rattle.rtl_model.specs.simulation.Netlist.{Netlist, Edge, Source}
 use Rattle.rtl_model.specs.simulation.Accepted.{IsFault, TwoDrivers, StoredVariable}
 use Rattle.rtl_net.specs.declared.process.Process.{Process}
 use Rattle.rtl_net.specs.declared.process.Variable.{Variable}
 use Rattle.rtl_net.specs.Nets.{body_of}
 use Rattle.rtl_net_facts.specs.declared.kinds.Clocking.{Clocking}
-use Rattle.rtl_net_facts.specs.declared.kinds.Kind.{Kind}
-use Rattle.rtl_net_facts.specs.declared.kinds.Kind.TheVariants as k
+use Rattle.rtl_net_facts.specs.declared.kinds.ProcessKind.{ProcessKind}
+use Rattle.rtl_net_facts.specs.declared.kinds.ProcessKind.TheVariants as k
 use Rattle.rtl_net_facts.specs.Reading.{is_in}
 use Rattle.rtl_net_facts.specs.Paths.{driven, to_net}
 use Rattle.rtl_check.specs.declared.rule.Rule.{Rule}
@@ -52,12 +52,12 @@ pub record CombinationalKeeps (p : Process) : Type 0 where
   pub awake : AreWithin p.reads.items p.wakes.items
   pub assigns : HasNoLatch p
 
-abbrev pub KeepsBy : (inputs clocks : List ℕ) → Process → Kind → Type 0
+abbrev pub KeepsBy : (inputs clocks : List ℕ) → Process → ProcessKind → Type 0
 KeepsBy inputs clocks p k.Combinational = CombinationalKeeps p
 KeepsBy inputs clocks p (k.Clocked c) = ClockedKeeps inputs clocks p c
 KeepsBy inputs clocks p k.Mixed = ⊤
 
-abbrev pub is_plain : Kind → Bool
+abbrev pub is_plain : ProcessKind → Bool
 is_plain k.Combinational = true
 is_plain (k.Clocked c) = true
 is_plain k.Mixed = false
@@ -73,18 +73,18 @@ StoresNone body elements = (e : ℕ) → e < elements → stores_element e body 
 -- ---- parts of a net
 
 -- a net has no two sources
-abbrev pub HasOneSource : Net → (n : ℕ) → Type 0
+abbrev pub HasOneSource : Netlist → (n : ℕ) → Type 0
 HasOneSource net n = (first second : Source) → IsFault net (TwoDrivers n first second) → ⊥
 
-abbrev pub HaveOneSource : Net → Type 0
+abbrev pub HaveOneSource : Netlist → Type 0
 HaveOneSource net = (n : ℕ) → HasOneSource net n
 
 -- process p breaks no rule, and stores no variable
-abbrev pub KeepsRules : Net → (p : ℕ) → Type 0
+abbrev pub KeepsRules : Netlist → (p : ℕ) → Type 0
 KeepsRules net p = (rule : Rule) (n : ℕ) → IsFault net (fault_of rule p n) → ⊥
 
-abbrev pub StoresNothing : Net → (p : ℕ) → Type 0
+abbrev pub StoresNothing : Netlist → (p : ℕ) → Type 0
 StoresNothing net p = (variable place : ℕ) → IsFault net (StoredVariable p variable place) → ⊥
 
-abbrev pub AllKeep : Net → Type 0
+abbrev pub AllKeep : Netlist → Type 0
 AllKeep net = (p : ℕ) → KeepsRules net p × StoresNothing net p

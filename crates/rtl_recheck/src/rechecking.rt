@@ -11,7 +11,7 @@ use rtl_check::{Report, is_report};
 use rtl_model::simulation_laws;
 use rtl_net::Net;
 
-/// Whether a net is accepted and this is the report on it, in its levels, its froms, its clocks and its bound. It searches for
+/// Whether a netlist is accepted and this is the report on it, in its levels, its froms, its clocks and its bound. It searches for
 /// no loop: levels and froms that agree process by process show that there is none.
 ///
 /// It takes no memory. Its time is in proportion to the net, but for the product of clocks and processes, and in each process

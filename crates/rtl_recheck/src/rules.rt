@@ -12,7 +12,7 @@ use crate::clocked::{are_within, clocked_keeps};
 use crate::paths::covers;
 use crate::variables::stores_nothing;
 use rtl_check::kind_at;
-use rtl_net_facts::Kind;
+use rtl_net_facts::ProcessKind;
 use rtl_net::{Net, Process};
 use vhdl_values::Edge;
 
@@ -40,16 +40,16 @@ fn combinational_keeps(process: &Process) -> bool
 }
 
 /// Whether a process of this kind breaks no rule.
-fn keeps_by(inputs: &[usize], clocks: &[(usize, Edge)], process: &Process, kind: Kind) -> bool
+fn keeps_by(inputs: &[usize], clocks: &[(usize, Edge)], process: &Process, kind: ProcessKind) -> bool
     requires inputs { IsStrictlyIncreasing inputs.now }
     requires clocks { RisesBy clock_key clocks.now }
     requires wakes { IsStrictlyIncreasing process.now.wakes.items }
     ensures { IsTrue result ↔ KeepsBy inputs.now (clock_nets clocks.now) process.now kind }
 {
     match kind {
-        Kind::Combinational => combinational_keeps(process),
-        Kind::Clocked(clocking) => clocked_keeps(inputs, clocks, process, clocking),
-        Kind::Mixed => true,
+        ProcessKind::Combinational => combinational_keeps(process),
+        ProcessKind::Clocked(clocking) => clocked_keeps(inputs, clocks, process, clocking),
+        ProcessKind::Mixed => true,
     }
 }
 
@@ -83,13 +83,13 @@ pub fn all_keep(net: &Net, clocks: &[(usize, Edge)]) -> bool
 }
 
 /// Whether a process of this kind is clocked or combinational.
-fn is_not_mixed(kind: Kind) -> bool
+fn is_not_mixed(kind: ProcessKind) -> bool
     ensures { result ≡ is_plain kind }
 {
     match kind {
-        Kind::Combinational => true,
-        Kind::Clocked(_) => true,
-        Kind::Mixed => false,
+        ProcessKind::Combinational => true,
+        ProcessKind::Clocked(_) => true,
+        ProcessKind::Mixed => false,
     }
 }
 

@@ -7,7 +7,7 @@ use Rattle.rtl_run.specs.declared.summary.Summary.{Summary}
 use Rattle.rtl_run.specs.Running.{IsGreatest}
 use Rattle.rtl_model.specs.simulation.Cycle.{State, is_quiet}
 use Rattle.rtl_model.specs.simulation.Moments.{Begun, SettlesTo, IsUnsettled}
-use Rattle.rtl_net.specs.Nets.{NetView}
+use Rattle.rtl_net.specs.Nets.{NetlistView}
 use Rattle.rtl_sink.specs.Written.{SinkState, IsIntact, Goes}
 use Rattle.rtl_sink.proofs.Writing.{Goes-append}
 use Rattle.rtl_vcd.specs.Header.{header_text}
@@ -19,7 +19,7 @@ use Rattle.rtl_run.specs.declared.summary.RunFault.{RunFault}
 use Rattle.rtl_run.specs.Simulated.{Settled, core, AreMoments}
 use Rattle.rtl_run.specs.Traced.{text_so_far, whole_text}
 use Rattle.rtl_run.specs.Answered.{IsWhole, StopsAt, LeavesBeginning, Answers}
-use Rattle.rtl_run.specs.Running.{last_values, last_printed_of, HasBegun, HasCome, HasSettledIn, IsNext}
+use Rattle.rtl_run.specs.Running.{last_values, last_printed_of, HasBegun, HasCome, HasSettledIn, IsNextMoment}
 use Rattle.rtl_run.proofs.Texts.{text_more, last_more, text_end, values_more}
 use Rattle.rtl_run.proofs.Moments.{one_more, greatest_one, greatest_more, are_more, are_none, is_most}
 
@@ -28,7 +28,7 @@ pub err_with : {X : Type 0} (P : Result X RunFault → Type 0) (answer : Result 
 err_with P (Ok x) fault is p = absurd is
 err_with P (Err f) fault is p = subst (λ (g : RunFault). P (Err g)) (sym is) p
 
-module _ (net : NetView) (s : StimulusView) (limit : ℕ) (start : SinkState) where
+module _ (net : NetlistView) (s : StimulusView) (limit : ℕ) (start : SinkState) where
   abbrev Answer : SinkState → Result Summary RunFault → Type 0
   Answer new = Answers net s limit start new
 
@@ -88,7 +88,7 @@ module _ (net : NetView) (s : StimulusView) (limit : ℕ) (start : SinkState) wh
 
   -- ---- the next moment
 
-  module _ (mid new : SinkState) (p : Progress) (time : ℕ) (begun : State) (C : HasCome net s limit start mid p) (N : IsNext net s limit p time begun) where
+  module _ (mid new : SinkState) (p : Progress) (time : ℕ) (begun : State) (C : HasCome net s limit start mid p) (N : IsNextMoment net s limit p time begun) where
     there : length (C.first ∷ C.rest) < length (moments s)
     there = let more = N.there in omega (arith, more, C.count)
 
@@ -202,12 +202,12 @@ module _ (net : NetView) (s : StimulusView) (limit : ℕ) (start : SinkState) wh
   nothing_leaves = record { settled = []; are = are_none net s limit; text = _; is = inl refl; taken = (0, Appends-nil start.taken) }
 
 -- the last moment so far
-pub at_last : (net : NetView) (s : StimulusView) (limit : ℕ) (start mid : SinkState) (p : Progress) → HasCome net s limit start mid p → (m : ℕ) → suc m ≡ p.summary.moments
+pub at_last : (net : NetlistView) (s : StimulusView) (limit : ℕ) (start mid : SinkState) (p : Progress) → HasCome net s limit start mid p → (m : ℕ) → suc m ≡ p.summary.moments
     → (get_or (moments s) m 0 ≡ p.now) × (m < length (moments s))
 at_last net s limit start mid p C m count =
     let last : length C.rest ≡ m = omega (arith, count, C.count) in
     (subst (λ (k : ℕ). get_or (moments s) k 0 ≡ p.now) last C.time, omega (arith, last, C.are.there))
 
 -- the state in which a moment has settled has no active driver
-pub settled_quiet : (net : NetView) (s : StimulusView) (limit m : ℕ) (state : State) → HasSettledIn net s limit m state → IsTrue (is_quiet state)
+pub settled_quiet : (net : NetlistView) (s : StimulusView) (limit m : ℕ) (state : State) → HasSettledIn net s limit m state → IsTrue (is_quiet state)
 settled_quiet net s limit m state has = has.settled.2.0.settled state has.settled.2.1

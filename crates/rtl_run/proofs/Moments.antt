@@ -5,7 +5,7 @@ use Rattle.std.proofs.lemmas.Option.{slice_get-get_or, slice_get_within}
 use Rattle.std.proofs.lemmas.Bool.{cases_lt}
 use Rattle.rtl_model.specs.simulation.Moments.{HasSettled, IsMost, Takes}
 use Rattle.rtl_model.proofs.simulation.Orders.{every_order_is_one}
-use Rattle.rtl_net.specs.Nets.{NetView}
+use Rattle.rtl_net.specs.Nets.{NetlistView}
 use Rattle.rtl_stim.specs.Stimuli.{StimulusView, moments, inputs_at}
 use Rattle.rtl_run.specs.Simulated.{Settled, core, SettlesAs, AreMoments}
 use Rattle.rtl_run.specs.Running.{IsGreatest}
@@ -55,7 +55,7 @@ greatest_more most xs y G = by (cases_lt most y.deltas)
 abbrev no_moment : List Settled
 no_moment = []
 
-module _ (net : NetView) (s : StimulusView) (limit : ℕ) where
+module _ (net : NetlistView) (s : StimulusView) (limit : ℕ) where
   pub are_more : (xs : List Settled) (y : Settled) → AreMoments net s limit xs → length xs < length (moments s) → SettlesAs net s (length xs) y → y.deltas ≤ limit
       → AreMoments net s limit (xs ++ y ∷ [])
   are_more xs y A more settles within = record {

@@ -8,14 +8,14 @@ use Rattle.std.proofs.lemmas.Bool.{cases_eq}
 use Rattle.std.proofs.lemmas.Bool.Decides.{nat_tests}
 use Rattle.vhdl_values.specs.declared.scalar.Nine.{Nine}
 use Rattle.vhdl_values.specs.Scalar.{code_of}
-use Rattle.rtl_model.specs.simulation.Net.{IsInput}
-use Rattle.rtl_model.specs.simulation.Cycle.{State, started, given, changed}
+use Rattle.rtl_model.specs.simulation.Netlist.{IsInput}
+use Rattle.rtl_model.specs.simulation.Cycle.{State, start_state, after_inputs, with_changes}
 use Rattle.rtl_model.specs.simulation.Elaborated.{IsWired}
 use Rattle.rtl_model.specs.simulation.Moments.{Begun, HasRun}
 use Rattle.rtl_model.proofs.nets.Connected.{connected_is_elaborated}
 use Rattle.rtl_model.proofs.simulation.Consistent.{takes_inputs_alone, each_input_holds}
 use Rattle.rtl_model.proofs.simulation.Past.{ends_at_last}
-use Rattle.rtl_net.specs.Nets.{NetView, flat}
+use Rattle.rtl_net.specs.Nets.{NetlistView, flat}
 use Rattle.rtl_net.specs.Elaborated.{IsNet}
 use Rattle.rtl_kernel.specs.kernel.Simulation.{changes_of, each_given, initial_inputs}
 use Rattle.rtl_agenda.specs.Agenda.{Change}
@@ -39,7 +39,7 @@ is_same m n e = grind (arith, nat_tests)
 -- a value for each of these nets, which may be given several times
 module _ (f : ℕ → Nine) where
   given_is : (ns : List ℕ) (old : List ℕ) (n : ℕ) → n < length old → Contains ns n ⊎ (slice_index old n ≡ code_of (f n))
-      → changed (each_given ns (map f ns)) old n ≡ code_of (f n)
+      → with_changes (each_given ns (map f ns)) old n ≡ code_of (f n)
   given_is [] old n within either = ⊎_elim (λ there. absurd (omega (arith, there.1))) (λ is. is) either
   given_is (m ∷ ns) old n within either =
       ⊎_elim (λ same. given_is ns (slice_set old m (code_of (f m))) n inside (inr (here same)))
@@ -54,7 +54,7 @@ module _ (f : ℕ → Nine) where
       kept : m ≢ n → slice_index old n ≡ code_of (f n) → slice_index (slice_set old m (code_of (f m))) n ≡ code_of (f n)
       kept differ is = get_or-set_other old m n (code_of (f m)) 0 (λ e. differ (sym e)) ∙ is
 
-module _ (net : NetView) (is_net : IsNet net) (s : StimulusView) (ports : HasOwnPorts net) (inputs : s.inputs ≡ inputs_of net) where
+module _ (net : NetlistView) (is_net : IsNet net) (s : StimulusView) (ports : HasOwnPorts net) (inputs : s.inputs ≡ inputs_of net) where
   own : all_nets s.inputs ≡ net.inputs
   own = ap all_nets inputs ∙ ports.elements
 
@@ -73,11 +73,11 @@ module _ (net : NetView) (is_net : IsNet net) (s : StimulusView) (ports : HasOwn
       let begins = each_begins_at_zero s in
       let at = ap (λ (v : ℕ → ℕ). v n) ((ends_at_last (core net) (moments s) (code_at s)).is_at 0 begins.0) in
       let f = λ (m : ℕ). value_at s.inputs s.schedule m 0 in
-      let given = given_is f net.inputs net.starts n (let less = below n is in omega (arith, less, is_net.in_range.each_starts)) (inl (contained n is)) in
-      subst (λ (ns : List ℕ). changed (each_given net.inputs (map f ns)) net.starts n ≡ code_of (f n)) (sym own) given
+      let after_inputs = given_is f net.inputs net.starts n (let less = below n is in omega (arith, less, is_net.in_range.each_starts)) (inl (contained n is)) in
+      subst (λ (ns : List ℕ). with_changes (each_given net.inputs (map f ns)) net.starts n ≡ code_of (f n)) (sym own) after_inputs
       ∙ sym (at ∙ ap (λ (t : ℕ). code_at s t n) begins.1)
 
-  pub first_begun : (state : State) → HasRun (core net) (started (core net) (initial_inputs (flat net) (initial_values s))) state
+  pub first_begun : (state : State) → HasRun (core net) (start_state (core net) (initial_inputs (flat net) (initial_values s))) state
       → Begun (core net) (inputs_at s) 0 state
   first_begun state run =
       subst (λ (from : State). HasRun (core net) from state) (takes_inputs_alone (core net) _ (inputs_at s 0) first_inputs).starts run
@@ -88,17 +88,17 @@ module _ (net : NetView) (is_net : IsNet net) (s : StimulusView) (ports : HasOwn
   -- the changes that come next lead from the inputs at the moment m to those at the next
   pub leads : (m t : ℕ) (changes : List Change) (values : List ℕ) → length values ≡ length net.types
       → ((n : ℕ) → IsInput (core net) n → slice_index values n ≡ inputs_at s m n) → GivesNext s m t changes
-      → (n : ℕ) → IsInput (core net) n → changed (changes_of changes) values n ≡ inputs_at s (suc m) n
+      → (n : ℕ) → IsInput (core net) n → with_changes (changes_of changes) values n ≡ inputs_at s (suc m) n
   leads m t changes values as_many holds next n is =
       next.lead values n (let less = below n is in omega (arith, less, as_many)) (subst (λ (ns : List ℕ). Contains ns n) (sym own) (contained n is)) (holds n is)
 
   next_inputs : (m t : ℕ) (changes : List Change) (quiet : State) → length quiet.now ≡ length net.types → HasSettledIn net s 0 m quiet → GivesNext s m t changes
-      → (n : ℕ) → IsInput (core net) n → changed (changes_of changes) quiet.now n ≡ inputs_at s (suc m) n
+      → (n : ℕ) → IsInput (core net) n → with_changes (changes_of changes) quiet.now n ≡ inputs_at s (suc m) n
   next_inputs m t changes quiet as_many has next =
       leads m t changes quiet.now as_many (λ n is. (each_input_holds (core net) wired (inputs_at s) m n is).settled has.deltas quiet has.settled) next
 
   pub next_begun : (limit m t : ℕ) (changes : List Change) (quiet state : State) → length quiet.now ≡ length net.types → HasSettledIn net s limit m quiet → GivesNext s m t changes
-      → HasRun (core net) (given (core net) (changed (changes_of changes) quiet.now) quiet) state → Begun (core net) (inputs_at s) (suc m) state
+      → HasRun (core net) (after_inputs (core net) (with_changes (changes_of changes) quiet.now) quiet) state → Begun (core net) (inputs_at s) (suc m) state
   next_begun limit m t changes quiet state as_many has next run =
       let own_inputs = next_inputs m t changes quiet as_many (record { deltas = has.deltas; settled = has.settled }) next in
       let at = (takes_inputs_alone (core net) _ (inputs_at s (suc m)) own_inputs).gives quiet in (

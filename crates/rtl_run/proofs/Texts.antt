@@ -1,7 +1,7 @@
 -- The trace of one more moment, and the end of the whole.
 use Rattle.std.proofs.Common.{◌≡◌, ℕ, suc, ◌<◌, List, [], ◌∷◌, ◌++◌, length, get_or, refl, sym, ap, subst, ◌∙◌, append-nil, append_assoc, arith}
 use Rattle.std.specs.Prelude.{if◌then◌else◌}
-use Rattle.rtl_net.specs.Nets.{NetView, SignalView}
+use Rattle.rtl_net.specs.Nets.{NetlistView, SignalView}
 use Rattle.rtl_vcd.specs.Header.{header_text}
 use Rattle.rtl_vcd.specs.Trace.{Moment, first_text, moment_text, moments_text, end_text, are_some, changes}
 use Rattle.rtl_stim.specs.Stimuli.{StimulusView, moments}
@@ -51,7 +51,7 @@ pub values_more : (before : List ℕ) (xs : List Settled) (y : Settled) → last
 values_more before [] y = refl
 values_more before (x ∷ xs) y = values_more x.values xs y
 
-module _ (net : NetView) (s : StimulusView) where
+module _ (net : NetlistView) (s : StimulusView) where
   pub text_more : (x : Settled) (xs : List Settled) (y : Settled) → suc (length xs) < length (moments s)
       → text_so_far net s (x ∷ (xs ++ y ∷ []))
       ≡ text_so_far net s (x ∷ xs) ++ moment_text net.signals (get_or (moments s) (suc (length xs)) 0) (last_values x.values xs) y.values

@@ -1,10 +1,10 @@
 -- One turn of a simulation: what the agenda gives next is the next moment, and the kernel begins it.
 use Rattle.std.proofs.Common.{◌≡◌, ℕ, suc, ◌<◌, ◌≤◌, List, ◌∷◌, length, sym, subst, arith}
 use Rattle.std.specs.Prelude.{All, Contains, slice_index}
-use Rattle.rtl_model.specs.nets.CoreNet.{core_net}
-use Rattle.rtl_model.specs.simulation.Cycle.{State, given, changed}
+use Rattle.rtl_model.specs.nets.CoreNetlist.{core_netlist}
+use Rattle.rtl_model.specs.simulation.Cycle.{State, after_inputs, with_changes}
 use Rattle.rtl_model.specs.simulation.Moments.{HasRun, Begun}
-use Rattle.rtl_net.specs.Nets.{NetView, flat}
+use Rattle.rtl_net.specs.Nets.{NetlistView, flat}
 use Rattle.rtl_net.specs.Elaborated.{IsNet}
 use Rattle.rtl_kernel.specs.kernel.Simulation.{changes_of}
 use Rattle.rtl_agenda.specs.Agenda.{AgendaState, Change, IsOrderly}
@@ -14,7 +14,7 @@ use Rattle.rtl_stim.specs.Ports.{HasOwnPorts, inputs_of}
 use Rattle.rtl_stim.specs.Stimuli.{StimulusView, moments, inputs_at}
 use Rattle.rtl_run.specs.declared.progress.Progress.{Progress}
 use Rattle.rtl_run.specs.Simulated.{core}
-use Rattle.rtl_run.specs.Running.{IsNext, HasSettledIn}
+use Rattle.rtl_run.specs.Running.{IsNextMoment, HasSettledIn}
 use Rattle.rtl_run.proofs.Steps.{of_inputs, next_begun, next_moment, later, within_stop, few}
 
 -- At this time, which comes next, these changes are taken, and the moment behind m, the last one so far, begins.
@@ -39,21 +39,21 @@ comes_next s is_stimulus p m is_last there at agenda orderly waits time behind l
       few = let most = few s in let more = next.there in omega (arith, most, more, is_last);
     }
 
-module _ (s : StimulusView) (p : Progress) (m time : ℕ) (taken : List Change) (turn : ComesNext s p m time taken) (net : NetView) (is_net : IsNet net) (ports : HasOwnPorts net)
-    (inputs : s.inputs ≡ inputs_of net) (kernel_net : NetView) (same : kernel_net ≡ net) (changes : List Change) (are : changes ≡ taken) where
+module _ (s : StimulusView) (p : Progress) (m time : ℕ) (taken : List Change) (turn : ComesNext s p m time taken) (net : NetlistView) (is_net : IsNet net) (ports : HasOwnPorts net)
+    (inputs : s.inputs ≡ inputs_of net) (kernel_net : NetlistView) (same : kernel_net ≡ net) (changes : List Change) (are : changes ≡ taken) where
   -- what waited for the time are changes of inputs
   pub changes_inputs : All (λ change. Contains kernel_net.inputs change.0) changes
   changes_inputs =
       let all = of_inputs net is_net s ports inputs m time taken turn.next in
-      subst (λ (n : NetView). All (λ change. Contains n.inputs change.0) changes) (sym same)
+      subst (λ (n : NetlistView). All (λ change. Contains n.inputs change.0) changes) (sym same)
       (subst (λ (cs : List Change). All (λ change. Contains net.inputs change.0) cs) (sym are) all)
 
   -- with these the kernel begins the moment
   pub begins_next : (limit : ℕ) (state applied : State) → length state.now ≡ length net.types → HasSettledIn net s limit m state
-      → HasRun (core_net (flat kernel_net)) (given (core_net (flat kernel_net)) (changed (changes_of changes) state.now) state) applied → IsNext net s limit p time applied
+      → HasRun (core_netlist (flat kernel_net)) (after_inputs (core_netlist (flat kernel_net)) (with_changes (changes_of changes) state.now) state) applied → IsNextMoment net s limit p time applied
   begins_next limit state applied as_many settled ran =
-      let ran_taken = subst (λ (cs : List Change). HasRun (core_net (flat kernel_net)) (given (core_net (flat kernel_net)) (changed (changes_of cs) state.now) state) applied) are ran in
-      let run = subst (λ (n : NetView). HasRun (core n) (given (core n) (changed (changes_of taken) state.now) state) applied) same ran_taken in
+      let ran_taken = subst (λ (cs : List Change). HasRun (core_netlist (flat kernel_net)) (after_inputs (core_netlist (flat kernel_net)) (with_changes (changes_of cs) state.now) state) applied) are ran in
+      let run = subst (λ (n : NetlistView). HasRun (core n) (after_inputs (core n) (with_changes (changes_of taken) state.now) state) applied) same ran_taken in
       let begun = next_begun net is_net s ports inputs limit m time taken state applied as_many settled turn.next run in
       record {
         there = let more = turn.next.there in omega (arith, more, turn.is_last);

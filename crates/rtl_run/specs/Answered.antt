@@ -1,7 +1,7 @@
 -- What a simulation answers, and what it has written by then.
 use Rattle.std.specs.Prelude.{◌≡◌, ℕ, pred, ◌<◌, ◌⊎◌, List, length, slice_index, Result, Ok, Err}
 use Rattle.rtl_model.specs.simulation.Moments.{IsMost}
-use Rattle.rtl_net.specs.Nets.{NetView}
+use Rattle.rtl_net.specs.Nets.{NetlistView}
 use Rattle.rtl_sink.specs.Written.{SinkState, IsIntact, HasFailed, Goes, TakesBeginning}
 use Rattle.rtl_stim.specs.Stimuli.{StimulusView, moments, inputs_at}
 use Rattle.rtl_run.specs.declared.summary.Summary.{Summary}
@@ -11,11 +11,11 @@ use Rattle.rtl_run.specs.Simulated.{Settled, core, AreMoments, NeverSettles}
 use Rattle.rtl_run.specs.Traced.{text_so_far, whole_text}
 
 -- the trace of these moments, or the whole where they are all
-abbrev pub IsTextOf : NetView → StimulusView → List Settled → (text : List ℕ) → Type 0
+abbrev pub IsTextOf : NetlistView → StimulusView → List Settled → (text : List ℕ) → Type 0
 IsTextOf net s settled text =
     (text ≡ text_so_far net s settled) ⊎ ((length settled ≡ length (moments s)) × (text ≡ whole_text net s settled))
 
-module _ (net : NetView) (s : StimulusView) (limit : ℕ) (old new : SinkState) where
+module _ (net : NetlistView) (s : StimulusView) (limit : ℕ) (old new : SinkState) where
   -- Each moment settles within the limit, the whole trace went out, and the summary tells the number of moments and the
   -- greatest number of delta cycles that one takes.
   pub record IsWhole (summary : Summary) : Type 0 where

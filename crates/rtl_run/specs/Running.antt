@@ -2,7 +2,7 @@
 use Rattle.std.specs.Prelude.{◌≡◌, ℕ, suc, ◌<◌, ◌≤◌, if◌then◌else◌, List, [], ◌∷◌, length, slice_get, slice_index, Some, Result, Ok, Err}
 use Rattle.rtl_model.specs.simulation.Cycle.{State}
 use Rattle.rtl_model.specs.simulation.Moments.{Begun, HasSettled}
-use Rattle.rtl_net.specs.Nets.{NetView, SignalView}
+use Rattle.rtl_net.specs.Nets.{NetlistView, SignalView}
 use Rattle.rtl_sink.specs.Written.{SinkState, IsIntact, Goes}
 use Rattle.rtl_vcd.specs.Header.{header_text}
 use Rattle.rtl_vcd.specs.Trace.{Moment, are_some, changes}
@@ -24,7 +24,7 @@ last_printed signals last before [] = last
 last_printed signals last before (m ∷ ms) =
     last_printed signals (if are_some (changes signals before m.values) then m.time else last) m.values ms
 
-abbrev pub last_printed_of : NetView → StimulusView → List Settled → ℕ
+abbrev pub last_printed_of : NetlistView → StimulusView → List Settled → ℕ
 last_printed_of net s [] = 0
 last_printed_of net s (x ∷ xs) = last_printed net.signals 0 x.values (at_times xs (behind_first (moments s)))
 
@@ -36,7 +36,7 @@ pub record IsGreatest (most : ℕ) (settled : List Settled) : Type 0 where
   pub there : slice_get settled place ≡ Some one
   pub is : one.deltas ≡ most
 
-module _ (net : NetView) (s : StimulusView) (limit : ℕ) where
+module _ (net : NetlistView) (s : StimulusView) (limit : ℕ) where
   -- The moments so far, the last one's among them, settle as was told, and their trace went out.
   pub record HasCome (old new : SinkState) (p : Progress) : Type 0 where
     pub first : Settled
@@ -67,7 +67,7 @@ module _ (net : NetView) (s : StimulusView) (limit : ℕ) where
   Begins old new state (Err fault) = Answers net s limit old new (Err fault)
 
   -- behind the moments so far, the moment at this time is to settle from this state
-  pub record IsNext (p : Progress) (time : ℕ) (state : State) : Type 0 where
+  pub record IsNextMoment (p : Progress) (time : ℕ) (state : State) : Type 0 where
     pub there : p.summary.moments < length (moments s)
     pub is : slice_index (moments s) p.summary.moments ≡ time
     pub begun : Begun (core net) (inputs_at s) p.summary.moments state

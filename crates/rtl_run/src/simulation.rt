@@ -12,7 +12,7 @@ ghost use Rattle.rtl_stim.specs.Ports.{HasOwnPorts, inputs_of};
 ghost use Rattle.rtl_stim.specs.Stimuli.{inputs_at, moments};
 ghost use Rattle.rtl_run.specs.declared.summary.RunFault.TheVariants.{NoSettling};
 ghost use Rattle.rtl_run.specs.Answered.{Answers};
-ghost use Rattle.rtl_run.specs.Running.{HasBegun, Begins, HasCome, IsNext, GoesOn};
+ghost use Rattle.rtl_run.specs.Running.{HasBegun, Begins, HasCome, IsNextMoment, GoesOn};
 ghost use Rattle.rtl_run.specs.Simulated.{core};
 
 use crate::progress::Progress;
@@ -150,7 +150,7 @@ impl<E: Exec> Simulation<'_, E> {
         ensures ready { HasNoneToRun kernel.new.state }
         ensures as_many { length progress.new.values.items ≡ length self.now.net.now.types }
         ensures goes_on { (start : SinkState) → HasCome self.now.net.now self.now.stimulus.now self.now.limit start (W.state out.old) progress.old
-            → IsNext self.now.net.now self.now.stimulus.now self.now.limit progress.old time kernel.old.state
+            → IsNextMoment self.now.net.now self.now.stimulus.now self.now.limit progress.old time kernel.old.state
             → GoesOn self.now.net.now self.now.stimulus.now self.now.limit start (W.state out.new) progress.old time progress.new kernel.new.state result }
     {
         let deltas = settle(kernel, self.limit, time, pick)?;

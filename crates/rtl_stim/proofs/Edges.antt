@@ -5,7 +5,7 @@ use Rattle.std.specs.List.{list_any, range_with_len}
 use Rattle.std.proofs.lemmas.Bool.{cases_lt}
 use Rattle.std.proofs.Math.Nat.{eq-or-lt_of_le}
 use Rattle.vhdl_values.specs.Scalar.{code_of}
-use Rattle.rtl_model.specs.simulation.Net.{Net}
+use Rattle.rtl_model.specs.simulation.Netlist.{Netlist}
 use Rattle.rtl_model.specs.simulation.Races.{IsRace, IsRaceAt}
 use Rattle.rtl_stim_lines.specs.Inputs.{Input, Element}
 use Rattle.rtl_stim_lines.specs.Courses.{Course, course_value, is_busy}
@@ -110,15 +110,15 @@ module _ (s : StimulusView) where
       by true is = let at = place_of_time t within is in inr (previous at.0 at.1 at.2)
       by false is = inl (sym (codes_stay (t - 1) t (omega arith) (λ b l w. let e : b ≡ t = omega (arith, l, w, later) in ap (is_moment s.schedule) e ∙ is)))
 
-  pub race_has_time : (net : Net) (m : ℕ) → suc m < length (moments s) → IsRaceAt net (inputs_at s) (suc m) → HasRaceAtTime net s (slice_index (moments s) (suc m))
+  pub race_has_time : (net : Netlist) (m : ℕ) → suc m < length (moments s) → IsRaceAt net (inputs_at s) (suc m) → HasRaceAtTime net s (slice_index (moments s) (suc m))
   race_has_time net m there race =
       let at = each_moment m there in
       record { later = at.later; within = at.within; race = subst (λ v. IsRace net v (code_at s (slice_index (moments s) (suc m)))) at.before (subst (IsRace net (inputs_at s m)) at.now race) }
 
-  no_change : (net : Net) (v w : ℕ → ℕ) → v ≡ w → IsRace net v w → ⊥
+  no_change : (net : Netlist) (v w : ℕ → ℕ) → v ≡ w → IsRace net v w → ⊥
   no_change net v w same race = race.changes (ap (λ f. f race.input) same)
 
-  time_has_race : (net : Net) (t : ℕ) → HasRaceAtTime net s t → (m : ℕ) × (suc m < length (moments s)) × (slice_index (moments s) (suc m) ≡ t) × IsRaceAt net (inputs_at s) (suc m)
+  time_has_race : (net : Netlist) (t : ℕ) → HasRaceAtTime net s t → (m : ℕ) × (suc m < length (moments s)) × (slice_index (moments s) (suc m) ≡ t) × IsRaceAt net (inputs_at s) (suc m)
   time_has_race net t h =
       ⊎_elim (λ same. absurd (no_change net (code_at s (t - 1)) (code_at s t) same h.race))
       (λ at.
@@ -128,7 +128,7 @@ module _ (s : StimulusView) where
       (at.0, at.1, at.2, subst (λ v. IsRace net v (inputs_at s (suc at.0))) (sym before) (subst (IsRace net (code_at s (t - 1))) (sym now) h.race)))
       (other_times t h.later h.within)
 
-  none_at : (net : Net) → ((t : ℕ) → HasRaceAtTime net s t → ⊥) → (m : ℕ) → IsRaceAt net (inputs_at s) m → ⊥
+  none_at : (net : Netlist) → ((t : ℕ) → HasRaceAtTime net s t → ⊥) → (m : ℕ) → IsRaceAt net (inputs_at s) m → ⊥
   none_at net none zero race = race
   none_at net none (suc m) race =
       ⊎_elim (λ there. none (slice_index (moments s) (suc m)) (race_has_time net m there race))

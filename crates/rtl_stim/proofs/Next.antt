@@ -19,7 +19,7 @@ use Rattle.std.proofs.lemmas.Map.Entries.{lookup_head}
 use Rattle.vhdl_values.specs.declared.scalar.Nine.{Nine}
 use Rattle.vhdl_values.specs.declared.scalar.Nine.TheVariants.{U}
 use Rattle.vhdl_values.specs.Scalar.{code_of}
-use Rattle.rtl_model.specs.simulation.Cycle.{changed}
+use Rattle.rtl_model.specs.simulation.Cycle.{with_changes}
 use Rattle.rtl_agenda.specs.Agenda.{Change, changes_at}
 use Rattle.rtl_stim_lines.specs.Inputs.{Input, Element, input_at, no_input}
 use Rattle.rtl_stim_lines.specs.Courses.{Course, Sets, is_busy}
@@ -70,7 +70,7 @@ busy_moment schedule t busy = by (t == 0)
 
 -- a net whose changes all have one value gets it, or has it where there is no change
 changed_is : (cs : List (ℕ × ℕ)) (old : List ℕ) (n w : ℕ) → n < length old → ((x : ℕ) → Contains cs (n, x) → x ≡ w)
-    → ((x : ℕ) × Contains cs (n, x)) ⊎ (slice_index old n ≡ w) → changed cs old n ≡ w
+    → ((x : ℕ) × Contains cs (n, x)) ⊎ (slice_index old n ≡ w) → with_changes cs old n ≡ w
 changed_is [] old n w within same either = ⊎_elim (λ there. absurd (omega (arith, there.1.1))) (λ h. h) either
 changed_is ((k, v) ∷ cs) old n w within same either =
     ⊎_elim (λ e. changed_is cs (slice_set old k v) n w inside rest (inr (there_same e))) (λ differ. changed_is cs (slice_set old k v) n w inside rest (there_other differ)) (cases_eq k n)
@@ -263,7 +263,7 @@ module _ (inputs : List Input) (schedule : Schedule) (own : HaveOwnNets inputs) 
             ⊎_elim (λ here. (0, omega arith, here)) (λ others. let h = place_among inputs n others in (suc h.0, omega (arith, h.1), h.2)) (Contains-append_cases (nets_of x) (all_nets inputs) n there)
 
     pub lead : (values : List ℕ) (n : ℕ) → n < length values → Contains (all_nets inputs) n → slice_index values n ≡ code_of (value_at inputs schedule n now)
-        → changed (coded taken) values n ≡ code_of (value_at inputs schedule n t)
+        → with_changes (coded taken) values n ≡ code_of (value_at inputs schedule n t)
     lead values n inside among same =
         changed_is (coded taken) values n (code_of (value_at inputs schedule n t)) inside
         (λ x there. let c = coded_from taken n x there in c.2 ∙ ap code_of (change_is (n, c.0) c.1).5)

@@ -6,7 +6,7 @@ use Rattle.std.proofs.lemmas.List.Elements.{All-get_or, All-weaker, All-map, All
 use Rattle.std.proofs.lemmas.List.Kept.{AllPairs-from_increasing}
 use Rattle.std.proofs.lemmas.Option.{slice_get_within}
 use Rattle.rtl_net.specs.declared.signal.Signal.{Signal}
-use Rattle.rtl_net.specs.Nets.{NetView, SignalView, signal_view, element_type}
+use Rattle.rtl_net.specs.Nets.{NetlistView, SignalView, signal_view, element_type}
 use Rattle.rtl_net.specs.Elaborated.{IsNet, SignalInRange}
 use Rattle.rtl_model.specs.bodies.Types.{HasType}
 use Rattle.rtl_stim_lines.specs.Inputs.{Input}
@@ -17,7 +17,7 @@ use Rattle.rtl_stim.proofs.Inputs.{all_before, split_filter}
 
 -- ---- a signal at its place
 
-module _ (net : NetView) (elaborated : IsNet net) (signals : List Signal) (views : map signal_view signals ≡ net.signals)
+module _ (net : NetlistView) (elaborated : IsNet net) (signals : List Signal) (views : map signal_view signals ≡ net.signals)
     (i : ℕ) (s : Signal) (within : i < length signals) (is : s ≡ get_or signals i s) where
   pub view_there : get_or net.signals i (signal_view s) ≡ signal_view s
   view_there =
@@ -75,7 +75,7 @@ module _ (net : NetView) (elaborated : IsNet net) (signals : List Signal) (views
 
 -- ---- all of them
 
-pub are_vectors : (net : NetView) → IsNet net → AreVectors (inputs_of net)
+pub are_vectors : (net : NetlistView) → IsNet net → AreVectors (inputs_of net)
 are_vectors net elaborated =
     let P : Input → Type 0 = λ input. IsVector input.elements in
     let wide : (s : SignalView) → SignalInRange net.types (length net.scopes) s → P (input_of net s) =
@@ -84,7 +84,7 @@ are_vectors net elaborated =
     (All-filter (is_in_port net) (λ s. P (input_of net s)) net.signals
     (All-weaker (SignalInRange net.types (length net.scopes)) (λ s. P (input_of net s)) wide net.signals elaborated.signals))
 
-pub have_own_nets : (net : NetView) → IsNet net → HasOwnPorts net → HaveOwnNets (inputs_of net)
+pub have_own_nets : (net : NetlistView) → IsNet net → HasOwnPorts net → HaveOwnNets (inputs_of net)
 have_own_nets net elaborated own =
     subst (λ ns. AllPairs (λ n m. n ≢ m) ns) (sym own.elements)
     (λ i j d before there same. let h = AllPairs-from_increasing net.inputs elaborated.in_range.inputs_rise i j d before there in omega (arith, h, same))

@@ -5,7 +5,7 @@ use Rattle.std.proofs.lemmas.Bool.Decides.{nat_tests}
 use Rattle.std.proofs.lemmas.List.{take_more}
 use Rattle.std.proofs.lemmas.List.Elements.{Contains-append_cases, All-contains, All-map}
 use Rattle.vhdl_values.specs.Scalar.{code_of}
-use Rattle.rtl_model.specs.simulation.Net.{Edge}
+use Rattle.rtl_model.specs.simulation.Netlist.{Edge}
 use Rattle.rtl_stim_lines.specs.declared.inputs.Element.{Element as KeptElement}
 use Rattle.rtl_stim_lines.specs.Inputs.{input_at, no_input}
 use Rattle.rtl_stim_lines.specs.Courses.{is_busy}

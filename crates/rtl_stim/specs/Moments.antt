@@ -2,7 +2,7 @@
 -- at the next.
 use Rattle.std.specs.Prelude.{◌≡◌, ℕ, suc, ◌<◌, ◌≤◌, List, [], ◌∷◌, All, Contains, length, map, slice_index}
 use Rattle.vhdl_values.specs.Scalar.{code_of}
-use Rattle.rtl_model.specs.simulation.Cycle.{changed}
+use Rattle.rtl_model.specs.simulation.Cycle.{with_changes}
 use Rattle.rtl_agenda.specs.Agenda.{AgendaState, Change, IsOrderly}
 use Rattle.rtl_stim_lines.specs.Times.{all_nets}
 use Rattle.rtl_stim_lines.specs.Filling.{HaveOwnNets, Waits}
@@ -26,7 +26,7 @@ pub record GivesNext (s : StimulusView) (m t : ℕ) (changes : List Change) : Ty
   -- the changes are of inputs, and give each the value that it has then
   pub of_inputs : All (λ c. Contains (all_nets s.inputs) c.0) changes
   pub lead : (values : List ℕ) (n : ℕ) → n < length values → Contains (all_nets s.inputs) n → slice_index values n ≡ inputs_at s m n
-      → changed (coded changes) values n ≡ inputs_at s (suc m) n
+      → with_changes (coded changes) values n ≡ inputs_at s (suc m) n
 
 -- Of an agenda that is filled for the moment m: the least time is the next moment, and where no time waits, m is the last.
 pub record FollowsMoment (s : StimulusView) (m : ℕ) (waiting : List (ℕ × List Change)) : Type 0 where

@@ -4,15 +4,15 @@ use Rattle.std.specs.List.{list_any}
 use Rattle.vhdl_values.specs.Scalar.{value_of_code}
 use Rattle.rtl_net.specs.declared.signal.SignalKind.{SignalKind}
 use Rattle.rtl_net.specs.declared.signal.SignalKind.TheVariants.{One, Vector, Enumeration}
-use Rattle.rtl_net.specs.Nets.{NetView, SignalView}
+use Rattle.rtl_net.specs.Nets.{NetlistView, SignalView}
 use Rattle.rtl_stim_lines.specs.Inputs.{Input, Element, small}
 use Rattle.rtl_stim_lines.specs.Times.{all_nets}
 
-abbrev pub is_input : NetView → (net : ℕ) → Bool
+abbrev pub is_input : NetlistView → (net : ℕ) → Bool
 is_input net n = list_any (λ m. m == n) net.inputs
 
 -- The nets of a port of the top are inputs, all or none.
-abbrev pub is_in_port : NetView → SignalView → Bool
+abbrev pub is_in_port : NetlistView → SignalView → Bool
 is_in_port net s = s.scope == 0 && (s.port && is_input net (slice_index s.nets 0))
 
 abbrev pub is_one : SignalKind → Bool
@@ -21,18 +21,18 @@ is_one (Vector left right) = false
 is_one (Enumeration count) = false
 
 -- an element with this net, whose default the net starts with
-abbrev pub element_on : NetView → (net : ℕ) → Element
+abbrev pub element_on : NetlistView → (net : ℕ) → Element
 element_on net n = record { net = n; start = value_of_code (slice_index net.starts n) }
 
-abbrev pub input_of : NetView → SignalView → Input
+abbrev pub input_of : NetlistView → SignalView → Input
 input_of net s = record { name = small s.name; is_scalar = is_one s.kind; elements = map (element_on net) s.nets }
 
 -- in order of declaration
-abbrev pub inputs_of : NetView → List Input
+abbrev pub inputs_of : NetlistView → List Input
 inputs_of net = map (input_of net) (filter (is_in_port net) net.signals)
 
 -- What an elaborated design has beside what holds of every `Net`: the ports of the top have names of their own, and the
 -- elements of its in ports are the inputs, in their order.
-pub record HasOwnPorts (net : NetView) : Type 0 where
+pub record HasOwnPorts (net : NetlistView) : Type 0 where
   pub names : AllPairs (λ i j. i.name ≢ j.name) (inputs_of net)
   pub elements : all_nets (inputs_of net) ≡ net.inputs

@@ -1,7 +1,7 @@
 -- What the search for the first race keeps: the times at which no data input changes.
 use Rattle.std.specs.Prelude.{◌≡◌, IsTrue, if◌then◌else◌, nat_lt, length, slice_index, slice_index_or, ℕ, suc, ◌-◌, ◌<◌, ◌≤◌, List, Contains, Option, Some, None, IfSome}
 use Rattle.vhdl_values.specs.Edges.{has_edge}
-use Rattle.rtl_model.specs.simulation.Net.{Edge, Rising}
+use Rattle.rtl_model.specs.simulation.Netlist.{Edge, Rising}
 use Rattle.rtl_stim_lines.specs.Times.{value_at}
 use Rattle.rtl_stim.specs.Stimuli.{StimulusView, code_at}
 

@@ -3,7 +3,7 @@ use Rattle.std.specs.Prelude.{◌≡◌, ◌≢◌, ℕ, List, map, Result, Ok, 
 use Rattle.vhdl_values.specs.declared.scalar.Nine.{Nine}
 use Rattle.vhdl_values.specs.Scalar.{code_of}
 use Rattle.rtl_model.specs.simulation.Moments.{at_moments}
-use Rattle.rtl_net.specs.Nets.{NetView}
+use Rattle.rtl_net.specs.Nets.{NetlistView}
 use Rattle.rtl_stim_lines.specs.declared.faults.StimFault.{StimFault}
 use Rattle.rtl_stim_lines.specs.declared.faults.StimFault.TheVariants.{NoMemory}
 use Rattle.rtl_stim_lines.specs.Inputs.{Input}
@@ -33,6 +33,6 @@ abbrev pub inputs_at : StimulusView → (m net : ℕ) → ℕ
 inputs_at s = at_moments (moments s) (code_at s)
 
 -- A stimulus is what the text says of the net's inputs. It is refused for want of memory, or with the text's fault.
-abbrev pub IsRead : NetView → (text : List ℕ) → Result StimulusView StimFault → Type 0
+abbrev pub IsRead : NetlistView → (text : List ℕ) → Result StimulusView StimFault → Type 0
 IsRead net text (Ok s) = (s.inputs ≡ inputs_of net) × (schedule_of (inputs_of net) text ≡ Ok s.schedule)
 IsRead net text (Err fault) = fault ≢ NoMemory → schedule_of (inputs_of net) text ≡ Err fault

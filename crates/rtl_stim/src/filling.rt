@@ -15,7 +15,7 @@ ghost use Rattle.rtl_stim.specs.Quiet.{IsWithin, found_or_past};
 use crate::ports::elements_at;
 use crate::stimulus::Stimulus;
 use rtl_agenda::{Agenda, NoMemory};
-use rtl_stim_lines::{Course, Element, Inputs, Schedule};
+use rtl_stim_lines::{Course, Element, InputTable, Schedule};
 use std::collections::BTreeMap;
 use vhdl_values::Vec9;
 
@@ -59,7 +59,7 @@ impl Stimulus {
 /// Pushes what comes first of the input at a place after now.
 fn push_due<A: Agenda>(
     agenda: &mut A,
-    inputs: &Inputs,
+    inputs: &InputTable,
     schedule: &Schedule,
     place: usize,
     now: u64,

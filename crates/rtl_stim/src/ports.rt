@@ -9,12 +9,12 @@ ghost use Rattle.rtl_stim.specs.Ports.{HasOwnPorts, element_on, input_of};
 
 use indexmap::IndexMap;
 use rtl_net::{Net, Signal, SignalKind};
-use rtl_stim_lines::{Element, Input, Inputs, add_input};
+use rtl_stim_lines::{Element, Input, InputTable, add_input};
 use std::alloc::{AllocError, Global};
 use vhdl_values::Nine;
 
 /// The in ports of the top, in order of declaration. It takes memory for each.
-pub fn inputs_of(alloc: Global, net: &Net) -> Result<Inputs, AllocError>
+pub fn inputs_of(alloc: Global, net: &Net) -> Result<InputTable, AllocError>
     requires { HasOwnPorts net.now }
     ensures { IfOk result (λ inputs. kept.inputs_view inputs ≡ ports.inputs_of net.now) }
 {
@@ -77,7 +77,7 @@ fn elements_of(alloc: Global, net: &Net, nets: &[usize]) -> Result<Vec<Element>,
 }
 
 /// The elements of the input at a place, from the left.
-pub fn elements_at(inputs: &Inputs, place: usize) -> &[Element]
+pub fn elements_at(inputs: &InputTable, place: usize) -> &[Element]
     requires { place < length (kept.inputs_view inputs.now) }
     ensures { option_map (λ input. input.elements) (slice_get (kept.inputs_view inputs.now) place) ≡ Some (map kept.element_view result.now) }
 {

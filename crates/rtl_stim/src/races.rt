@@ -1,7 +1,7 @@
 //! The first race under a stimulus.
 
 ghost use Rattle.std.specs.Prelude.{◌≡◌, false, ℕ, suc, ◌<◌, ◌≤◌, All, Contains, IsTrue, Some, None, IfSome, IfNone, length, map, pred, slice_index, vec_len};
-ghost use Rattle.rtl_model.specs.nets.CoreNet.{core_net};
+ghost use Rattle.rtl_model.specs.nets.CoreNetlist.{core_netlist};
 ghost use Rattle.rtl_model.specs.simulation.Races.{HasNoRace, IsFirstRace};
 ghost use Rattle.rtl_model.specs.simulation.Report as report;
 ghost use Rattle.rtl_net.specs.Nets.{flat};
@@ -142,12 +142,12 @@ fn race_at(
 /// active edge; `None` exactly where no moment up to the stop has one. It takes no memory, and passes over the edges of
 /// clocks at which no other input may change.
 pub fn first_race(net: &Net, clocks: &[(usize, Edge)], stimulus: &Stimulus) -> Option<Race>
-    requires clocks { report.AreClocks (core_net (flat net.now)) clocks.now }
+    requires clocks { report.AreClocks (core_netlist (flat net.now)) clocks.now }
     requires inputs { all_nets stimulus.now.inputs ≡ net.now.inputs }
     ensures found { IfSome result (λ race. (m : ℕ) × (suc m < length (moments stimulus.now))
         × (slice_index (moments stimulus.now) (suc m) ≡ race.time)
-        × IsFirstRace (core_net (flat net.now)) clocks.now (inputs_at stimulus.now) m race.input race.clock) }
-    ensures none { IfNone result ((last : ℕ) → HasNoRace (core_net (flat net.now)) (inputs_at stimulus.now) last) }
+        × IsFirstRace (core_netlist (flat net.now)) clocks.now (inputs_at stimulus.now) m race.input race.clock) }
+    ensures none { IfNone result ((last : ℕ) → HasNoRace (core_netlist (flat net.now)) (inputs_at stimulus.now) last) }
 {
     let _count = net.nets();
     let mut now = 0;

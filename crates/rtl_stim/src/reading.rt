@@ -11,7 +11,7 @@ ghost use Rattle.rtl_stim.specs.Kept.{element_values};
 use crate::ports::{elements_at, inputs_of};
 use crate::stimulus::Stimulus;
 use rtl_net::Net;
-use rtl_stim_lines::{Element, Inputs, Schedule, StimFault, read_schedule};
+use rtl_stim_lines::{Element, InputTable, Schedule, StimFault, read_schedule};
 use std::alloc::{AllocError, Global};
 use vhdl_values::Nine;
 
@@ -42,7 +42,7 @@ impl Stimulus {
 /// The value of each input's element at 0.
 fn initial_values(
     alloc: Global,
-    inputs: &Inputs,
+    inputs: &InputTable,
     schedule: &Schedule,
 ) -> Result<Vec<Nine>, AllocError>
     requires own { HaveOwnNets (inputs_view inputs.now) }

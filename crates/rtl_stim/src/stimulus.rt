@@ -8,14 +8,14 @@ ghost use Rattle.rtl_stim.specs.Stimuli.{initial_values};
 ghost use Rattle.rtl_stim.specs.Moments.{IsStimulus};
 
 use crate::ports::elements_at;
-use rtl_stim_lines::{Element, Inputs, Schedule};
+use rtl_stim_lines::{Element, InputTable, Schedule};
 use std::marker::Model;
 use vhdl_values::Nine;
 
 /// A stimulus of a net: the value of each input at each time, in ns, up to a stop.
 #[derive(Drop)]
 pub struct Stimulus {
-    pub(crate) inputs: Inputs,
+    pub(crate) inputs: InputTable,
     pub(crate) schedule: Schedule,
     pub(crate) initial: Vec<Nine>,
 }

@@ -24,12 +24,12 @@ pub struct Input {
 }
 
 /// The top's in ports by their names in small letters, in order of declaration.
-pub type Inputs = IndexMap<Vec<u8>, Input>;
+pub type InputTable = IndexMap<Vec<u8>, Input>;
 
 /// Puts an input behind the others under its name, which may have capitals, and which no other has.
 pub fn add_input(
     alloc: Global,
-    inputs: &mut Inputs,
+    inputs: &mut InputTable,
     name: &[u8],
     input: Input,
 ) -> Result<(), AllocError>
@@ -44,7 +44,7 @@ pub fn add_input(
 /// The input of a name, which may have capitals, and its place.
 pub fn input_named<'i>(
     alloc: Global,
-    inputs: &'i Inputs,
+    inputs: &'i InputTable,
     name: &[u8],
 ) -> Result<Option<(usize, &'i Input)>, AllocError>
     ensures place { IfOk result (λ found. option_map (λ p. p.0) found ≡ named.input_named (inputs_view inputs.now) name.now) }

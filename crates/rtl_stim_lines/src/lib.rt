@@ -17,6 +17,6 @@ mod words;
 
 pub use courses::Course;
 pub use faults::{StimFault, StimProblem};
-pub use inputs::{Element, Input, Inputs, add_input};
+pub use inputs::{Element, Input, InputTable, add_input};
 pub use reading::read_schedule;
 pub use schedule::Schedule;

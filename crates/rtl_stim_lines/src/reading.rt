@@ -11,7 +11,7 @@ ghost use Rattle.rtl_stim_lines.specs.View.{inputs_view, said_view, AreVectors, 
 use crate::courses::Course;
 use crate::faults::{StimFault, StimProblem};
 use crate::forms::{Form, form_of};
-use crate::inputs::{Inputs, input_named};
+use crate::inputs::{InputTable, input_named};
 use crate::numbers::Time;
 use crate::schedule::Schedule;
 use crate::values::values_for;
@@ -28,7 +28,7 @@ pub struct Said {
 }
 
 /// Reads the lines of a stimulus of these inputs.
-pub fn read_schedule(alloc: Global, text: &[u8], inputs: &Inputs) -> Result<Schedule, StimFault>
+pub fn read_schedule(alloc: Global, text: &[u8], inputs: &InputTable) -> Result<Schedule, StimFault>
     requires { AreVectors (inputs_view inputs.now) }
     ensures given { IsGiven (schedule_of (inputs_view inputs.now) text.now) result }
     ensures each { IfOk result (λ schedule. vec_len schedule.courses ≡ length (inputs_view inputs.now)) }
@@ -54,7 +54,7 @@ fn line_end(text: &[u8]) -> Option<usize>
 
 impl Said {
     /// Nothing is said of these inputs.
-    fn new(alloc: Global, inputs: &Inputs) -> Result<Said, AllocError>
+    fn new(alloc: Global, inputs: &InputTable) -> Result<Said, AllocError>
         ensures said { IfOk result (λ said. said_view said ≡ nothing_said (inputs_view inputs.now)) }
         ensures each { IfOk result (λ said. vec_len said.courses ≡ length (inputs_view inputs.now)) }
     {
@@ -69,7 +69,7 @@ impl Said {
     }
 
     /// Takes in the lines of a text.
-    fn read_lines(&mut self, alloc: Global, inputs: &Inputs, text: &[u8]) -> Result<(), StimFault>
+    fn read_lines(&mut self, alloc: Global, inputs: &InputTable, text: &[u8]) -> Result<(), StimFault>
         requires vectors { AreVectors (inputs_view inputs.now) }
         requires each { vec_len self.old.courses ≡ length (inputs_view inputs.now) }
         ensures said { Leads (after_lines (inputs_view inputs.now) 1 (lines_of text.now) (Ok (said_view self.old))) (said_view self.new) result }
@@ -89,7 +89,7 @@ impl Said {
     fn read_line(
         &mut self,
         alloc: Global,
-        inputs: &Inputs,
+        inputs: &InputTable,
         number: usize,
         line: &[u8],
     ) -> Result<(), StimFault>
@@ -112,7 +112,7 @@ impl Said {
     fn read_form(
         &mut self,
         alloc: Global,
-        inputs: &Inputs,
+        inputs: &InputTable,
         line: usize,
         form: Form,
     ) -> Result<(), StimFault>
@@ -139,7 +139,7 @@ impl Said {
     fn read_set(
         &mut self,
         alloc: Global,
-        inputs: &Inputs,
+        inputs: &InputTable,
         line: usize,
         time: u64,
         name: &[u8],
@@ -164,7 +164,7 @@ impl Said {
     fn read_clock(
         &mut self,
         alloc: Global,
-        inputs: &Inputs,
+        inputs: &InputTable,
         line: usize,
         name: &[u8],
         first: u64,

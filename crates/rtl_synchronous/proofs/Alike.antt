@@ -1,7 +1,7 @@
 -- What goes on as the machine does is its run.
 use Rattle.std.proofs.Common.{◌≡◌, ℕ, suc, Bool, false, List, get_or, Option, Some, None, refl, ap, ◌∙◌, ◌==◌}
 use Rattle.rtl_model.specs.basics.Valuations.{clocked_entry}
-use Rattle.rtl_model.specs.simulation.Net.{Edge, IsClockedBy, Net, process, Reset, reset_entry, reset_of, resets, target}
+use Rattle.rtl_model.specs.simulation.Netlist.{Edge, IsClockedBy, Netlist, process, Reset, reset_entry, reset_of, resets, target}
 use Rattle.rtl_model.specs.simulation.Elaborated.{IsElaborated}
 use Rattle.rtl_model.specs.simulation.Machine.{entry_or, IsFirst, IsStep, register_next, Solves}
 use Rattle.rtl_model.proofs.simulation.Faultless.{Faultless, faultless}
@@ -9,7 +9,7 @@ use Rattle.rtl_model.proofs.simulation.Runs.{Machine-run, run_is}
 use Rattle.rtl_synchronous.specs.Laws.{AgreeOnInputs, EachMachineGoesOnAlike}
 
 -- the inputs alone are looked at
-module _ (net : Net) (E : IsElaborated net) (A : Faultless net) (inputs other : ℕ → ℕ) (agree : AgreeOnInputs net inputs other) where
+module _ (net : Netlist) (E : IsElaborated net) (A : Faultless net) (inputs other : ℕ → ℕ) (agree : AgreeOnInputs net inputs other) where
   same_reset : (p : ℕ) → resets (reset_of net p) inputs ≡ resets (reset_of net p) other
   same_reset p = go (reset_of net p) refl
     where

@@ -10,9 +10,9 @@ use Rattle.rtl_model.specs.bodies.Types.{nine_valued}
 use Rattle.rtl_model.specs.nets.Wiring.{IsConnected}
 use Rattle.rtl_model.proofs.basics.Lists.{contains_in, in_contains}
 use Rattle.rtl_model.proofs.nets.InRange.{keeps_range, limit-at}
-use Rattle.rtl_model.specs.nets.FlatNet.{FlatNet, IsInRange}
-use Rattle.rtl_model.specs.nets.CoreNet.{core_net}
-use Rattle.rtl_model.specs.simulation.Cycle.{changed, with_inputs}
+use Rattle.rtl_model.specs.nets.FlatNetlist.{FlatNetlist, IsInRange}
+use Rattle.rtl_model.specs.nets.CoreNetlist.{core_netlist}
+use Rattle.rtl_model.specs.simulation.Cycle.{with_changes, with_inputs}
 use Rattle.rtl_model.specs.simulation.Range.{AreInputs, IsValuation, limit}
 use Rattle.rtl_model.proofs.simulation.Consistent.{each_change_is_made}
 use Rattle.rtl_kernel.specs.kernel.Simulation.{changes_of, each_given, initial_inputs}
@@ -22,7 +22,7 @@ use Rattle.rtl_kernel.proofs.Inputs.{are_inputs, input_has, named}
 use Rattle.rtl_kernel.proofs.Steps.{keeps}
 
 -- the same changes give a net the same, where it had the same
-pub changed_alike : (cs : List (ℕ × ℕ)) (v w : List ℕ) (n : ℕ) → length v ≡ length w → get_or v n 0 ≡ get_or w n 0 → changed cs v n ≡ changed cs w n
+pub changed_alike : (cs : List (ℕ × ℕ)) (v w : List ℕ) (n : ℕ) → length v ≡ length w → get_or v n 0 ≡ get_or w n 0 → with_changes cs v n ≡ with_changes cs w n
 changed_alike [] v w n many same = same
 changed_alike (c ∷ cs) v w n many same =
     changed_alike cs (set v c.0 c.1) (set w c.0 c.1) n (length-set v c.0 c.1 ∙ many ∙ sym (length-set w c.0 c.1)) (by (cases_eq n c.0) (cases_lt c.0 (length v)))
@@ -32,11 +32,11 @@ changed_alike (c ∷ cs) v w n many same =
     by (inl e) (inr l) = rw e (get_or_past (set v c.0 c.1) c.0 0 (rw length-set l) ∙ sym (get_or_past (set w c.0 c.1) c.0 0 (rw (length-set, ← many) l)))
     by (inr ne) _ = get_or-set_other v c.0 n c.1 0 ne ∙ same ∙ sym (get_or-set_other w c.0 n c.1 0 ne)
 
-module _ (net : FlatNet) (R : IsInRange net) (cs : List (ℕ × Nine)) (inputs : All (λ (c : ℕ × Nine). Contains net.inputs c.0) cs) where
-  pub changed_in_range : (old new : List ℕ) → IsValuation (core_net net) old → AreChanged (changes_of cs) old new → IsValuation (core_net net) new
+module _ (net : FlatNetlist) (R : IsInRange net) (cs : List (ℕ × Nine)) (inputs : All (λ (c : ℕ × Nine). Contains net.inputs c.0) cs) where
+  pub changed_in_range : (old new : List ℕ) → IsValuation (core_netlist net) old → AreChanged (changes_of cs) old new → IsValuation (core_netlist net) new
   changed_in_range old new V A = record { each_net = A.as_many ∙ V.each_net; in_range = λ n l. rw (A.each n) (by n l (cases_Bool (list_any (λ m. m == n) net.inputs))) }
     where
-      by : (n : ℕ) → n < length net.start → (list_any (λ m. m == n) net.inputs ≡ true) ⊎ (list_any (λ m. m == n) net.inputs ≡ false) → changed (changes_of cs) old n < limit (core_net net) n
+      by : (n : ℕ) → n < length net.start → (list_any (λ m. m == n) net.inputs ≡ true) ⊎ (list_any (λ m. m == n) net.inputs ≡ false) → with_changes (changes_of cs) old n < limit (core_netlist net) n
       by n l (inl is) = are_inputs net R cs old V n is
       by n l (inr none) = rw ((each_change_is_made (changes_of cs) old).kept n (λ value there. let h = named net R cs inputs n value there in cc)) (V.in_range n l)
 
@@ -54,16 +54,16 @@ given_below (m ∷ ns) [] k d l = absurd (omega arith)
 given_below (m ∷ ns) (v ∷ vs) zero d l = code_of_below v
 given_below (m ∷ ns) (v ∷ vs) (suc k) d l = given_below ns vs k d (omega arith)
 
-module _ (net : FlatNet) (R : IsInRange net) (C : IsConnected net) (initial : List Nine) (now : List ℕ) (A : AreChanged (each_given net.inputs initial) net.start now) where
-  pub first_is : now ≡ with_inputs (core_net net) (initial_inputs net initial) net.start
-  first_is = given_values (core_net net) (each_given net.inputs initial) net.start now refl A (λ n value h. contains_in net.inputs n (given_named net.inputs initial n value h))
+module _ (net : FlatNetlist) (R : IsInRange net) (C : IsConnected net) (initial : List Nine) (now : List ℕ) (A : AreChanged (each_given net.inputs initial) net.start now) where
+  pub first_is : now ≡ with_inputs (core_netlist net) (initial_inputs net initial) net.start
+  first_is = given_values (core_netlist net) (each_given net.inputs initial) net.start now refl A (λ n value h. contains_in net.inputs n (given_named net.inputs initial n value h))
 
-  first_inputs : AreInputs (core_net net) (initial_inputs net initial)
+  first_inputs : AreInputs (core_netlist net) (initial_inputs net initial)
   first_inputs n is_input =
       let has = input_has net R n (in_contains net.inputs n is_input) in
       let limit_is = limit-at net.types n nine_valued has in
       let there : n < length net.start = rw (R.each_starts) (slice_get_within net.types n nine_valued has) in
       rw limit_is (changed_below (each_given net.inputs initial) net.start n 9 (given_below net.inputs initial) (rw limit_is at ((keeps_range net R).starts_in_range.in_range n there)))
 
-  pub first_in_range : IsValuation (core_net net) now
-  first_in_range = subst (λ (v : List ℕ). IsValuation (core_net net) v) (sym first_is) ((keeps net R C).starts (initial_inputs net initial) first_inputs).now
+  pub first_in_range : IsValuation (core_netlist net) now
+  first_in_range = subst (λ (v : List ℕ). IsValuation (core_netlist net) v) (sym first_is) ((keeps net R C).starts (initial_inputs net initial) first_inputs).now

@@ -3,7 +3,7 @@ use Rattle.std.proofs.Common.{◌≡◌, ℕ, Bool, true, false, List, length, g
 use Rattle.std.specs.List.{list_any}
 use Rattle.std.proofs.lemmas.Bool.{cases_Bool, cases_eq}
 use Rattle.rtl_model.specs.basics.Valuations.{AgreeOn, clocked_entry}
-use Rattle.rtl_model.specs.simulation.Net.{Edge, HasPlace, HasReset, IsClockedBy, IsInput, Net, process, Reset, reset_entry, reset_of, resets, target}
+use Rattle.rtl_model.specs.simulation.Netlist.{Edge, HasPlace, HasReset, IsClockedBy, IsInput, Netlist, process, Reset, reset_entry, reset_of, resets, target}
 use Rattle.rtl_model.specs.simulation.Cycle.{with_inputs}
 use Rattle.rtl_model.specs.simulation.Accepted.{IsClock}
 use Rattle.rtl_model.specs.simulation.Races.{IsRace}
@@ -25,7 +25,7 @@ kept_entry : (o : Option ℕ) (old : ℕ) → ((x : ℕ) → o ≡ Some x → ol
 kept_entry None old h = refl
 kept_entry (Some x) old h = sym (h x refl)
 
-module _ (net : Net) (L : Leveled net) where
+module _ (net : Netlist) (L : Leveled net) where
   -- from a valuation with new inputs
   module _ (v : List ℕ) (each_net : length v ≡ length net.start) (inputs : ℕ → ℕ) (no_race : IsRace net (λ n. get_or v n 0) inputs → ⊥) (p clock : ℕ) (edge : Edge) (is : IsClockedBy net p clock edge) where
     abbrev now : List ℕ

@@ -1,6 +1,6 @@
 -- What reads a net is above what drives it.
 use Rattle.std.proofs.Common.{◌≡◌, ℕ, zero, suc, ◌<◌, Some, sym, ◌∙◌, arith}
-use Rattle.rtl_model.specs.simulation.Net.{Net, target}
+use Rattle.rtl_model.specs.simulation.Netlist.{Netlist, target}
 use Rattle.rtl_model.specs.simulation.Accepted.{Feeds}
 use Rattle.rtl_model.specs.simulation.Levels.{IsLevel}
 use Rattle.rtl_model.proofs.simulation.Faultless.{faultless}
@@ -9,7 +9,7 @@ use Rattle.rtl_synchronous.specs.Laws.{EachReaderIsLater}
 some_same : {a b : ℕ} → Some a ≡ Some b → a ≡ b
 some_same e = cc
 
-pub level_above : (net : Net) (p q a b : ℕ) → Feeds net p q → IsLevel net p a → IsLevel net q b → a < b
+pub level_above : (net : Netlist) (p q a b : ℕ) → Feeds net p q → IsLevel net p a → IsLevel net q b → a < b
 level_above net p q zero b f x y = absurd x.reached
 level_above net p q (suc n) b f x y = let h = y.longest (suc (suc n)) (p, x.reached, f) in omega arith
 

@@ -5,10 +5,10 @@ use Rattle.std.proofs.lemmas.Bool.{cases_lt}
 use Rattle.std.proofs.lemmas.List.{get_or_past, length-map}
 use Rattle.vhdl_values.specs.declared.scalar.Nine.{Nine}
 use Rattle.rtl_model.specs.bodies.Types.{ElementType}
-use Rattle.rtl_model.specs.nets.FlatNet.{FlatProcess}
+use Rattle.rtl_model.specs.nets.FlatNetlist.{FlatProcess}
 use Rattle.rtl_model.specs.simulation.Levels.{AreLevels}
-use Rattle.rtl_model.specs.simulation.Net.{Net, Edge, Process, no_process, target, IsClockedBy, IsCombinational}
-use Rattle.rtl_model.specs.simulation.Cycle.{changed, with_inputs}
+use Rattle.rtl_model.specs.simulation.Netlist.{Netlist, Edge, Process, no_process, target, IsClockedBy, IsCombinational}
+use Rattle.rtl_model.specs.simulation.Cycle.{with_changes, with_inputs}
 use Rattle.rtl_model.specs.simulation.Elaborated.{IsElaborated}
 use Rattle.rtl_model.specs.simulation.Machine.{IsFirst, IsStep}
 use Rattle.rtl_model.specs.simulation.Races.{IsRace}
@@ -22,7 +22,7 @@ use Rattle.rtl_kernel.specs.kernel.Simulation.{changes_of}
 use Rattle.rtl_kernel.specs.values.TwoValues.{AreChanged}
 use Rattle.rtl_kernel.proofs.Changing.{given_values}
 use Rattle.rtl_kernel.proofs.Inputs.{inputs_there, named}
-use Rattle.rtl_net.specs.Nets.{NetView, flat}
+use Rattle.rtl_net.specs.Nets.{NetlistView, flat}
 use Rattle.rtl_synchronous.specs.Kept.{IsMachine, MayRun, core}
 use Rattle.rtl_synchronous.specs.Marks.{AreBelow, Marks, HasNoMark}
 use Rattle.rtl_synchronous.specs.Running.{IsSettled}
@@ -36,16 +36,16 @@ use Rattle.rtl_synchronous.proofs.Sweeping.{at_rank, reads_agree}
 use Rattle.rtl_synchronous.proofs.Wired.{elaborated}
 
 -- who follows a net among the clocked processes is a process
-pub clocked_below : (net : Net) (order : List ℕ) (readers clocked : List (List ℕ)) → IsSchedule net order readers clocked → (many : ℕ) → many ≡ length net.processes → AreBelow clocked many
+pub clocked_below : (net : Netlist) (order : List ℕ) (readers clocked : List (List ℕ)) → IsSchedule net order readers clocked → (many : ℕ) → many ≡ length net.processes → AreBelow clocked many
 clocked_below net order readers clocked S many is n p f = by (cases_lt p (length net.processes))
   where
     by : (p < length net.processes) ⊎ (length net.processes ≤ p) → p < many
     by (inl l) = rw is l
     by (inr l) = absurd (Contains-none n (subst (λ (xs : List ℕ). Contains xs n) (get_or_past (map clocked_wakes net.processes) p [] (rw length-map l)) (S.clocked_are.no_other n p f)))
 
-module _ {E : Type 0} (process : E → FlatProcess) (types : E → List ElementType) (most : E → ℕ) (net : NetView) (bodies : List E) (order : List ℕ) (readers clocked : List (List ℕ))
+module _ {E : Type 0} (process : E → FlatProcess) (types : E → List ElementType) (most : E → ℕ) (net : NetlistView) (bodies : List E) (order : List ℕ) (readers clocked : List (List ℕ))
     (before v : List ℕ) (runs : List Outcome) (dirty woken : List Bool) (K : IsMachine process types most net bodies order readers clocked before v runs dirty woken) where
-  abbrev pub the_net : Net
+  abbrev pub the_net : Netlist
   the_net = core net
 
   pub is_elaborated : IsElaborated the_net
@@ -59,7 +59,7 @@ module _ {E : Type 0} (process : E → FlatProcess) (types : E → List ElementT
     changes_there u many = λ k d l. rw many (inputs_there (flat net) K.may_run.in_range cs inputs k d l)
 
     abbrev pub given : ℕ → ℕ
-    given = changed (changes_of cs) v
+    given = with_changes (changes_of cs) v
 
     module _ (now : List ℕ) (A : AreChanged (changes_of cs) v now) where
       pub now_is : now ≡ with_inputs the_net given v
@@ -123,7 +123,7 @@ module _ {E : Type 0} (process : E → FlatProcess) (types : E → List ElementT
 -- ---- the first moment
 
 -- the marks of the processes that have no level
-module _ (net : Net) (levels : List (Option ℕ)) (greatest : ℕ) (V : AreLevels net levels greatest) where
+module _ (net : Netlist) (levels : List (Option ℕ)) (greatest : ℕ) (V : AreLevels net levels greatest) where
   pub clocked_marked : (p clock : ℕ) (edge : Edge) → IsClockedBy net p clock edge → get_or (map without_level levels) p false ≡ true
   clocked_marked p clock edge (reset, is) = by (cases_lt p (length net.processes))
     where
@@ -143,7 +143,7 @@ all_marked zero k l = absurd (omega arith)
 all_marked (suc n) zero l = refl
 all_marked (suc n) (suc k) l = all_marked n k (omega arith)
 
-module _ {E : Type 0} (process : E → FlatProcess) (types : E → List ElementType) (most : E → ℕ) (net : NetView) (bodies : List E) (order : List ℕ) (readers clocked : List (List ℕ))
+module _ {E : Type 0} (process : E → FlatProcess) (types : E → List ElementType) (most : E → ℕ) (net : NetlistView) (bodies : List E) (order : List ℕ) (readers clocked : List (List ℕ))
     (runs : List Outcome) (may : MayRun process types most net bodies runs) (S : IsSchedule (core net) order readers clocked)
     (given : ℕ → ℕ) (now w : List ℕ) (now_is : now ≡ with_inputs (core net) given (core net).start) (now_in_range : IsValuation (core net) now)
     (woken : List Bool) (F : IsFirst (core net) given w) (C : ComesToRest (core net) woken now now w) where

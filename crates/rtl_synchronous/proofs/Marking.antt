@@ -2,7 +2,7 @@
 use Rattle.std.proofs.Common.{◌≡◌, ℕ, ◌+◌, ◌-◌, ◌<◌, ◌≤◌, Bool, true, false, List, [], length, get_or, set, refl, sym, ap, subst, ◌∙◌, arith, ◌⊎◌, inl, inr, Contains}
 use Rattle.std.proofs.lemmas.Bool.{cases_eq, cases_lt}
 use Rattle.std.proofs.lemmas.List.{get_or-set_same, get_or-set_other}
-use Rattle.rtl_kernel.specs.wakes.Woken.{Adds}
+use Rattle.rtl_kernel.specs.wakes.Woken.{AddsPlaces}
 use Rattle.rtl_kernel.specs.values.TwoValues.{IsWritten}
 use Rattle.rtl_synchronous.specs.Marks.{Marks, IsOfRun, Follows}
 
@@ -36,7 +36,7 @@ module _ (index : List (List ℕ)) where
       other k (inr (net, among, f)) = inr (net, wider net among, f)
 
   -- the followers of one net
-  pub marks_one : (v : List ℕ) (net value : ℕ) (a b : List Bool) → length b ≡ length a → Adds (get_or index net []) a b → Marks index (λ n. n ≡ net) v (set v net value) a b
+  pub marks_one : (v : List ℕ) (net value : ℕ) (a b : List Bool) → length b ≡ length a → AddsPlaces (get_or index net []) a b → Marks index (λ n. n ≡ net) v (set v net value) a b
   marks_one v net value a b many A = record {
     as_many = many;
     kept = A.kept;
@@ -54,7 +54,7 @@ module _ (index : List (List ℕ)) where
 
   -- the followers of a run of nets, which have the same
   pub marks_run : (v w : List ℕ) (first : ℕ) (given : List ℕ) (a b : List Bool) → 0 < length given → ((k : ℕ) → k < length given → get_or index (first + k) [] ≡ get_or index first [])
-      → IsWritten first given v w → length b ≡ length a → Adds (get_or index first []) a b → Marks index (IsOfRun first (length given)) v w a b
+      → IsWritten first given v w → length b ≡ length a → AddsPlaces (get_or index first []) a b → Marks index (IsOfRun first (length given)) v w a b
   marks_run v w first given a b some together W many A = record {
     as_many = many;
     kept = A.kept;

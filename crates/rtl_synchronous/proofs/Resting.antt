@@ -1,7 +1,7 @@
 -- Clocked processes that run together, and a sweep behind them, bring the values to rest.
 use Rattle.std.proofs.Common.{◌≡◌, ℕ, ◌<◌, Bool, true, false, List, length, get_or, Option, None, sym, ap, subst, ◌∙◌, ◌⊎◌, inl, inr}
 use Rattle.std.proofs.lemmas.Bool.{cases_Bool}
-use Rattle.rtl_model.specs.simulation.Net.{Net, process, target, HasPlace, IsCombinational}
+use Rattle.rtl_model.specs.simulation.Netlist.{Netlist, process, target, HasPlace, IsCombinational}
 use Rattle.rtl_model.specs.simulation.Elaborated.{IsElaborated}
 use Rattle.rtl_model.specs.simulation.Accepted.{IsAccepted}
 use Rattle.rtl_model.specs.simulation.Machine.{entry_or}
@@ -14,7 +14,7 @@ use Rattle.rtl_synchronous.specs.Steps.{AllTakeOver, IsSwept, ComesToRest, IsCom
 use Rattle.rtl_synchronous.proofs.Settling.{each_stays_settled, one_process}
 use Rattle.rtl_synchronous.proofs.Sweeping.{at, at_rank, reads_agree}
 
-module _ (net : Net) (E : IsElaborated net) (A : IsAccepted net) (marked : List Bool) (clocked_alone : (p : ℕ) → get_or marked p false ≡ true → IsCombinational net p → ⊥)
+module _ (net : Netlist) (E : IsElaborated net) (A : IsAccepted net) (marked : List Bool) (clocked_alone : (p : ℕ) → get_or marked p false ≡ true → IsCombinational net p → ⊥)
     (entries : ℕ → List (Option ℕ)) (v w : List ℕ) (T : AllTakeOver net marked entries v w) where
   -- a combinational process's nets are no marked one's
   pub not_marked : (p place : ℕ) → IsCombinational net p → HasPlace net p place → IsDrivenByMarked net marked (target net p place) → ⊥

@@ -3,18 +3,18 @@ use Rattle.std.proofs.Common.{◌≡◌, ℕ, ◌+◌, ◌<◌, ◌≤◌, List,
 use Rattle.std.proofs.lemmas.Bool.{cases_lt}
 use Rattle.std.proofs.lemmas.List.{get_or_append_left}
 use Rattle.std.proofs.Math.Seq.{get_or-append_seam}
-use Rattle.rtl_model.specs.nets.FlatNet.{FlatNet, process_at}
+use Rattle.rtl_model.specs.nets.FlatNetlist.{FlatNetlist, process_at}
 use Rattle.rtl_eval.specs.Runs.{IsOf, Outcome}
 use Rattle.rtl_kernel.specs.drivers.Transactions.{no_outcome}
 use Rattle.rtl_kernel.specs.kernel.Kept.{HaveRoom}
 
 -- the first processes have the room that their bodies' runs want
-pub record HaveRoomTo {E : Type 0} (most : E → ℕ) (net : FlatNet) (bodies : List E) (many : ℕ) (outcomes : List Outcome) : Type 0 where
+pub record HaveRoomTo {E : Type 0} (most : E → ℕ) (net : FlatNetlist) (bodies : List E) (many : ℕ) (outcomes : List Outcome) : Type 0 where
   pub as_many : length outcomes ≡ many
   pub own : (p : ℕ) → p < many → IsOf (process_at net p) (get_or outcomes p no_outcome)
   pub room : (p : ℕ) (e : E) → p < many → most (get_or bodies p e) ≤ (get_or outcomes p no_outcome).room
 
-module _ {E : Type 0} (most : E → ℕ) (net : FlatNet) (bodies : List E) where
+module _ {E : Type 0} (most : E → ℕ) (net : FlatNetlist) (bodies : List E) where
   pub room_none : HaveRoomTo most net bodies 0 []
   room_none = record { as_many = refl; own = λ p l. absurd (omega arith); room = λ p e l. absurd (omega arith) }
 

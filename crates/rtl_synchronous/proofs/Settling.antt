@@ -3,7 +3,7 @@ use Rattle.std.proofs.Common.{◌≡◌, ℕ, List, [], ◌∷◌, get_or, Optio
 use Rattle.std.proofs.lemmas.Bool.{cases_eq}
 use Rattle.rtl_model.specs.basics.Valuations.{AgreeOn}
 use Rattle.rtl_model.proofs.basics.Lists.{Contains-one}
-use Rattle.rtl_model.specs.simulation.Net.{Driver, HasPlace, IsCombinational, Net, process, Source, sources_of, target}
+use Rattle.rtl_model.specs.simulation.Netlist.{Driver, HasPlace, IsCombinational, Netlist, process, Source, sources_of, target}
 use Rattle.rtl_model.specs.simulation.Accepted.{Feeds}
 use Rattle.rtl_model.specs.simulation.Machine.{entry_or}
 use Rattle.rtl_model.proofs.simulation.Faultless.{faultless}
@@ -22,7 +22,7 @@ each_stays_settled net E p v w c settled agree same place h =
     ∙ settled place h
     ∙ ap (λ (x : ℕ). Some x) (sym (same place h))
 
-module _ (net : Net) (L : Leveled net) where
+module _ (net : Netlist) (L : Leveled net) where
   -- a net has one driver's process
   pub one_process : (p q at place : ℕ) → HasPlace net p at → HasPlace net q place → target net p at ≡ target net q place → q ≡ p
   one_process p q at place has h t =

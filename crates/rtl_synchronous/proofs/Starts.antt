@@ -1,7 +1,7 @@
 -- A run of a clocked process gives what its registers start with.
 use Rattle.std.proofs.Common.{◌≡◌, ℕ, Bool, true, false, get_or, Option, None, refl, ap, ◌∙◌}
 use Rattle.rtl_model.specs.basics.Valuations.{clocked_entry}
-use Rattle.rtl_model.specs.simulation.Net.{reset_entry, reset_of, target}
+use Rattle.rtl_model.specs.simulation.Netlist.{reset_entry, reset_of, target}
 use Rattle.rtl_model.specs.simulation.Cycle.{with_inputs}
 use Rattle.rtl_model.specs.simulation.Machine.{entry_or}
 use Rattle.rtl_model.proofs.simulation.Faultless.{faultless}

@@ -3,7 +3,7 @@ use Rattle.std.proofs.Common.{◌≡◌, ℕ, ◌<◌, Bool, true, false, List, 
 use Rattle.std.specs.Prelude.{⊤}
 use Rattle.std.proofs.lemmas.Bool.{cases_Bool, cases_eq}
 use Rattle.rtl_model.proofs.basics.Lists.{get_or-map_within}
-use Rattle.rtl_model.specs.simulation.Net.{Net, Edge, process, no_process, target, HasPlace, IsCombinational, IsClockedBy, IsInput}
+use Rattle.rtl_model.specs.simulation.Netlist.{Netlist, Edge, process, no_process, target, HasPlace, IsCombinational, IsClockedBy, IsInput}
 use Rattle.rtl_model.specs.simulation.Cycle.{with_inputs}
 use Rattle.rtl_model.specs.simulation.Elaborated.{IsElaborated}
 use Rattle.rtl_model.specs.simulation.Accepted.{IsAccepted}
@@ -24,7 +24,7 @@ use Rattle.rtl_synchronous.proofs.Edges as edges
 use Rattle.rtl_synchronous.proofs.Settling.{one_process}
 use Rattle.rtl_synchronous.proofs.Starts.{each_start_is_taken}
 
-module _ (net : Net) (E : IsElaborated net) (A : IsAccepted net) where
+module _ (net : Netlist) (E : IsElaborated net) (A : IsAccepted net) where
   abbrev L : Leveled net
   L = leveled net E (faultless net A)
 

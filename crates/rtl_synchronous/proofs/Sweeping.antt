@@ -4,7 +4,7 @@ use Rattle.std.proofs.lemmas.Bool.{cases_Bool, cases_eq, cases_lt}
 use Rattle.std.proofs.lemmas.List.{get_or-set_same, get_or-set_other, get_or_past, get_or_default, length-map, length-set}
 use Rattle.rtl_model.specs.basics.Valuations.{AgreeOn}
 use Rattle.rtl_model.proofs.basics.Lists.{Contains-none, get_or-map_within}
-use Rattle.rtl_model.specs.simulation.Net.{Net, process, target, IsCombinational}
+use Rattle.rtl_model.specs.simulation.Netlist.{Netlist, process, target, IsCombinational}
 use Rattle.rtl_model.specs.simulation.Elaborated.{IsElaborated}
 use Rattle.rtl_model.specs.simulation.Accepted.{IsAccepted, Feeds}
 use Rattle.rtl_model.proofs.simulation.Faultless.{faultless}
@@ -15,14 +15,14 @@ use Rattle.rtl_synchronous.specs.Steps.{IsSwept, IsCombinationallyDriven}
 use Rattle.rtl_synchronous.proofs.Settling.{each_run_settles}
 
 -- Of the ranks those below `from` are done: what isn't marked is settled, and nothing below is marked.
-pub record IsSweeping (net : Net) (order : List ℕ) (from : ℕ) (v w : List ℕ) (dirty : List Bool) : Type 0 where
+pub record IsSweeping (net : Netlist) (order : List ℕ) (from : ℕ) (v w : List ℕ) (dirty : List Bool) : Type 0 where
   pub each_net : length w ≡ length v
   pub each_rank : length dirty ≡ length order
   pub clean : (k : ℕ) → k < length order → get_or dirty k false ≡ false → IsSettled net w (get_or order k 0)
   pub ahead : (k : ℕ) → get_or dirty k false ≡ true → from ≤ k
   pub on_others : (n : ℕ) → (IsCombinationallyDriven net n → ⊥) → get_or w n 0 ≡ get_or v n 0
 
-module _ (net : Net) (order : List ℕ) (readers clocked : List (List ℕ)) (S : IsSchedule net order readers clocked) where
+module _ (net : Netlist) (order : List ℕ) (readers clocked : List (List ℕ)) (S : IsSchedule net order readers clocked) where
   abbrev pub at : ℕ → ℕ
   at rank = get_or order rank 0
 

@@ -4,7 +4,7 @@ use Rattle.std.specs.List.{list_any}
 use Rattle.std.proofs.lemmas.Bool.{cases_lt, cases_Bool}
 use Rattle.std.proofs.lemmas.List.{get_or_past, get_or_default}
 use Rattle.rtl_model.proofs.basics.Lists.{contains_in, in_contains}
-use Rattle.rtl_model.specs.simulation.Net.{Net, process, target, HasPlace}
+use Rattle.rtl_model.specs.simulation.Netlist.{Netlist, process, target, HasPlace}
 use Rattle.rtl_model.specs.simulation.Machine.{entry_or}
 use Rattle.rtl_model.specs.simulation.Range.{IsValuation, limit}
 use Rattle.rtl_model.proofs.simulation.Leveled.{Leveled}
@@ -14,13 +14,13 @@ use Rattle.rtl_synchronous.specs.Steps.{AllTakeOver}
 use Rattle.rtl_synchronous.proofs.Settling.{one_process}
 
 -- of the marked processes those before the i-th are done
-pub record AreTaking (net : Net) (marked : List Bool) (entries : ℕ → List (Option ℕ)) (i : ℕ) (v w : List ℕ) : Type 0 where
+pub record AreTaking (net : Netlist) (marked : List Bool) (entries : ℕ → List (Option ℕ)) (i : ℕ) (v w : List ℕ) : Type 0 where
   pub each_net : length w ≡ length v
   pub taken : (p place : ℕ) → p < i → get_or marked p false ≡ true → HasPlace net p place
       → get_or w (target net p place) 0 ≡ entry_or (get_or (entries p) place None) (get_or v (target net p place) 0)
   pub others : (n : ℕ) → ((p place : ℕ) → p < i → get_or marked p false ≡ true → HasPlace net p place → target net p place ≡ n → ⊥) → get_or w n 0 ≡ get_or v n 0
 
-module _ (net : Net) (L : Leveled net) (marked : List Bool) (entries : ℕ → List (Option ℕ)) where
+module _ (net : Netlist) (L : Leveled net) (marked : List Bool) (entries : ℕ → List (Option ℕ)) where
   pub none_taken : (v : List ℕ) → AreTaking net marked entries 0 v v
   none_taken v = record { each_net = refl; taken = λ p place l. absurd (omega arith); others = λ n h. refl }
 
@@ -71,7 +71,7 @@ module _ (net : Net) (L : Leveled net) (marked : List Bool) (entries : ℕ → L
             by (inr l) = let f = get_or_past marked p false l in cc
 
 -- what is taken over is in range where the entries are
-pub taken_in_range : (net : Net) (p : ℕ) (entries : List (Option ℕ)) (v w : List ℕ) → TakesOver (process net p).drives entries v w → IsValuation net v
+pub taken_in_range : (net : Netlist) (p : ℕ) (entries : List (Option ℕ)) (v w : List ℕ) → TakesOver (process net p).drives entries v w → IsValuation net v
     → ((place x : ℕ) → HasPlace net p place → get_or entries place None ≡ Some x → x < limit net (target net p place)) → IsValuation net w
 taken_in_range net p entries v w O V below =
     record { each_net = O.each_net ∙ V.each_net; in_range = λ n l. by n l (cases_Bool (list_any (λ m. m == n) (process net p).drives)) }

@@ -4,12 +4,12 @@ use Rattle.std.proofs.lemmas.Bool.{cases_Bool, cases_lt}
 use Rattle.std.proofs.lemmas.List.Elements.{All-map}
 use Rattle.std.proofs.lemmas.List.{get_or-set_other, get_or-set_same, get_or_default, get_or_past, length-map}
 use Rattle.rtl_model.specs.bodies.Types.{ElementType}
-use Rattle.rtl_model.specs.nets.CoreNet.{core_process}
-use Rattle.rtl_model.specs.nets.FlatNet.{FlatProcess, IsInRange, element_starts, no_flat_process, process_at}
+use Rattle.rtl_model.specs.nets.CoreNetlist.{core_process}
+use Rattle.rtl_model.specs.nets.FlatNetlist.{FlatProcess, IsInRange, element_starts, no_flat_process, process_at}
 use Rattle.rtl_model.specs.simulation.Levels.{is_clocked}
 use Rattle.rtl_model.proofs.nets.InRange.{process_in_range}
-use Rattle.rtl_model.specs.simulation.Net as m
-use Rattle.rtl_model.specs.simulation.Net.{process, IsCombinational}
+use Rattle.rtl_model.specs.simulation.Netlist as m
+use Rattle.rtl_model.specs.simulation.Netlist.{process, IsCombinational}
 use Rattle.rtl_model.specs.simulation.Elaborated.{IsElaborated}
 use Rattle.rtl_model.proofs.basics.Lists.{get_or-map_within}
 use Rattle.rtl_model.proofs.nets.Processes.{process-core_net}
@@ -21,7 +21,7 @@ use Rattle.rtl_kernel.specs.drivers.Transactions.{HasRunOf, all_targets, nets_of
 use Rattle.rtl_kernel.specs.wakes.Woken.{AreDifferent}
 use Rattle.rtl_kernel.proofs.Wiring.{nets_there, targets_are}
 use Rattle.rtl_net_layout.specs.Cuts.{AreCuts, AreCutsOf, Cutting}
-use Rattle.rtl_net.specs.Nets.{NetView, flat, process_view, variable_view}
+use Rattle.rtl_net.specs.Nets.{NetlistView, flat, process_view, variable_view}
 use Rattle.rtl_net.specs.declared.process.Process.{Process}
 use Rattle.rtl_synchronous.specs.Kept.{MayRun, core}
 use Rattle.rtl_synchronous.specs.Scheduled.{clocked_wakes, wakes_by_rank}
@@ -37,7 +37,7 @@ module _ (entries : List (Option ℕ)) (p : ℕ) (old new : List Outcome) (R : H
   pub ran_others : (q : ℕ) → (q ≡ p → ⊥) → get_or new q no_outcome ≡ get_or old q no_outcome
   ran_others q ne = ap (λ (os : List Outcome). get_or os q no_outcome) R.is ∙ get_or-set_other old p q R.outcome no_outcome ne
 
-module _ (net : NetView) where
+module _ (net : NetlistView) where
   pub wakes_there : IsInRange (flat net) → (p : ℕ) → All (λ n. n < length net.types) (process (core net) p).wakes
   wakes_there R p = by (cases_lt p (length (flat net).processes))
     where
@@ -96,7 +96,7 @@ module _ (net : NetView) where
         ∙ sym (ap (λ (x : FlatProcess). x.wakes) (get_or-map_within process_view net.processes p q no_flat_process there))
         ∙ sym (ap (λ (x : m.Process). x.wakes) (process-core_net (flat net) p))
 
-module _ {E : Type 0} (process_of : E → FlatProcess) (types : E → List ElementType) (most : E → ℕ) (net : NetView) (bodies : List E) (runs : List Outcome)
+module _ {E : Type 0} (process_of : E → FlatProcess) (types : E → List ElementType) (most : E → ℕ) (net : NetlistView) (bodies : List E) (runs : List Outcome)
     (M : MayRun process_of types most net bodies runs) where
   pub elaborated : IsElaborated (core net)
   elaborated = connected_is_elaborated (flat net) M.in_range M.connected
@@ -113,7 +113,7 @@ module _ {E : Type 0} (process_of : E → FlatProcess) (types : E → List Eleme
   pub bodies_many : length bodies ≡ length net.processes
   bodies_many = M.run_bodies.as_many ∙ length-map net.processes process_view
 
-module _ (net : NetView) (L : Leveled (core net)) (p : ℕ) (q : Process) (there : p < length net.processes) (is : q ≡ get_or net.processes p q) where
+module _ (net : NetlistView) (L : Leveled (core net)) (p : ℕ) (q : Process) (there : p < length net.processes) (is : q ≡ get_or net.processes p q) where
   pub targets_differ : AreDifferent (nets_of q.drives.items)
   targets_differ = subst AreDifferent (sym (drives_are net p q there is)) (λ j k l m e. one_place (core net) L p j k l m e)
 

@@ -1,10 +1,10 @@
 -- What holds of every machine.
 use Rattle.std.specs.Prelude.{◌≡◌, ℕ, Bool, List, length, slice_index}
 use Rattle.rtl_model.specs.bodies.Types.{ElementType}
-use Rattle.rtl_model.specs.nets.FlatNet.{FlatProcess, IsInRange}
-use Rattle.rtl_model.specs.nets.CoreNet.{core_net}
+use Rattle.rtl_model.specs.nets.FlatNetlist.{FlatProcess, IsInRange}
+use Rattle.rtl_model.specs.nets.CoreNetlist.{core_netlist}
 use Rattle.rtl_model.specs.nets.Wiring.{IsConnected}
-use Rattle.rtl_model.specs.simulation.Net.{Net, IsInput}
+use Rattle.rtl_model.specs.simulation.Netlist.{Netlist, IsInput}
 use Rattle.rtl_model.specs.simulation.Accepted.{IsAccepted}
 use Rattle.rtl_model.specs.simulation.Machine.{Solves}
 use Rattle.rtl_model.specs.simulation.Range.{IsValuation}
@@ -12,18 +12,18 @@ use Rattle.rtl_eval.specs.Runs.{Outcome}
 use Rattle.rtl_kernel.specs.kernel.Kept.{RunBodies, HaveRoom}
 use Rattle.rtl_kernel.specs.drivers.Transactions.{all_targets}
 use Rattle.rtl_net_layout.specs.Cuts.{AreCutsOf}
-use Rattle.rtl_net.specs.Nets.{NetView, flat}
+use Rattle.rtl_net.specs.Nets.{NetlistView, flat}
 use Rattle.rtl_synchronous.specs.declared.schedule.Schedule.{Schedule}
 use Rattle.rtl_synchronous.specs.Running.{KeepsResets}
 use Rattle.rtl_synchronous.specs.Marks.{HasNoMark}
 use Rattle.rtl_synchronous.specs.Scheduled.{IsSchedule}
 
-abbrev pub core : NetView → Net
-core net = core_net (flat net)
+abbrev pub core : NetlistView → Netlist
+core net = core_netlist (flat net)
 
--- Each process of an accepted net may be run: the k-th body is that of the k-th process, and the k-th run has its room.
+-- Each process of an accepted netlist may be run: the k-th body is that of the k-th process, and the k-th run has its room.
 pub record MayRun {E : Type 0} (process : E → FlatProcess) (types : E → List ElementType) (most : E → ℕ)
-    (net : NetView) (bodies : List E) (runs : List Outcome) : Type 0 where
+    (net : NetlistView) (bodies : List E) (runs : List Outcome) : Type 0 where
   pub in_range : IsInRange (flat net)
   pub connected : IsConnected (flat net)
   pub accepted : IsAccepted (core net)
@@ -31,11 +31,11 @@ pub record MayRun {E : Type 0} (process : E → FlatProcess) (types : E → List
   pub room : HaveRoom most (flat net) bodies runs
 
 -- each process's drivers are cut over the nets that the same combinational processes are sensitive to
-abbrev pub HasCuts : NetView → Schedule → Type 0
+abbrev pub HasCuts : NetlistView → Schedule → Type 0
 HasCuts net schedule = AreCutsOf schedule.readers.of_net (all_targets net.processes) schedule.cuts
 
 -- the values have settled, for some inputs and registers
-pub record IsAtRest (net : Net) (before values : List ℕ) : Type 0 where
+pub record IsAtRest (net : Netlist) (before values : List ℕ) : Type 0 where
   pub inputs : ℕ → ℕ
   pub registers : ℕ → ℕ
   pub solves : Solves net inputs registers values
@@ -47,7 +47,7 @@ pub record IsAtRest (net : Net) (before values : List ℕ) : Type 0 where
 
 -- Between the steps of a machine its values have settled, and no process is to run.
 pub record IsMachine {E : Type 0} (process : E → FlatProcess) (types : E → List ElementType) (most : E → ℕ)
-    (net : NetView) (bodies : List E) (order : List ℕ) (readers clocked : List (List ℕ)) (before values : List ℕ) (runs : List Outcome)
+    (net : NetlistView) (bodies : List E) (order : List ℕ) (readers clocked : List (List ℕ)) (before values : List ℕ) (runs : List Outcome)
     (dirty woken : List Bool) : Type 0 where
   pub may_run : MayRun process types most net bodies runs
   pub schedule : IsSchedule (core net) order readers clocked

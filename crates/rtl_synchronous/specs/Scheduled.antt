@@ -1,19 +1,19 @@
 -- The order in which a moment's processes are run, and who is sensitive to which net (IEEE 1076-2008, 14.7.5.3).
 use Rattle.std.specs.Option.{is_some}
 use Rattle.std.specs.Prelude.{◌≡◌, ℕ, ◌<◌, ◌≤◌, Bool, not, All, List, [], length, map, slice_index, slice_index_or, Contains, Option, Some, None, IsSome, if◌then◌else◌}
-use Rattle.rtl_model.specs.simulation.Net.{Net, Process, process, IsCombinational}
+use Rattle.rtl_model.specs.simulation.Netlist.{Netlist, Process, process, IsCombinational}
 use Rattle.rtl_model.specs.simulation.Accepted.{Feeds}
 use Rattle.rtl_model.specs.simulation.Levels.{is_clocked}
 use Rattle.rtl_kernel.specs.wakes.Woken.{IsIndex}
 
 -- the combinational processes, each behind those that feed it; a process's place here is its rank
-pub record IsOrder (net : Net) (order : List ℕ) : Type 0 where
+pub record IsOrder (net : Netlist) (order : List ℕ) : Type 0 where
   pub combinational : All (IsCombinational net) order
   pub each : (p : ℕ) → IsCombinational net p → Contains order p
   pub feeders_first : (j k : ℕ) → j < length order → k < length order → Feeds net (slice_index order j) (slice_index order k) → j < k
 
 -- of each rank the nets that its process is sensitive to
-abbrev pub wakes_by_rank : Net → (order : List ℕ) → List (List ℕ)
+abbrev pub wakes_by_rank : Netlist → (order : List ℕ) → List (List ℕ)
 wakes_by_rank net order = map (λ (p : ℕ). (process net p).wakes) order
 
 -- of each process the same, where it is clocked
@@ -22,7 +22,7 @@ clocked_wakes p = if is_clocked p.kind then p.wakes else []
 
 -- For each net, `readers` has the ranks of the combinational processes that are sensitive to it, and `clocked` the clocked
 -- processes.
-pub record IsSchedule (net : Net) (order : List ℕ) (readers clocked : List (List ℕ)) : Type 0 where
+pub record IsSchedule (net : Netlist) (order : List ℕ) (readers clocked : List (List ℕ)) : Type 0 where
   pub order_is : IsOrder net order
   pub readers_are : IsIndex (wakes_by_rank net order) readers
   pub clocked_are : IsIndex (map clocked_wakes net.processes) clocked

@@ -1,34 +1,34 @@
 -- What the parts of a moment do to the values of the nets.
 use Rattle.std.specs.Prelude.{◌≡◌, ℕ, Bool, false, List, length, slice_index, slice_index_or, Option, None, IsTrue}
-use Rattle.rtl_model.specs.simulation.Net.{Net, process, target, HasPlace, IsCombinational}
+use Rattle.rtl_model.specs.simulation.Netlist.{Netlist, process, target, HasPlace, IsCombinational}
 use Rattle.rtl_model.specs.simulation.Machine.{entry_or}
 use Rattle.rtl_synchronous.specs.Running.{IsSettled}
 
 -- a marked process drives n
-abbrev pub IsDrivenByMarked : Net → List Bool → (n : ℕ) → Type 0
+abbrev pub IsDrivenByMarked : Netlist → List Bool → (n : ℕ) → Type 0
 IsDrivenByMarked net marked n =
     (p : ℕ) × (place : ℕ) × IsTrue (slice_index_or marked p false) × HasPlace net p place × (target net p place ≡ n)
 
 -- a combinational process drives n
-abbrev pub IsCombinationallyDriven : Net → (n : ℕ) → Type 0
+abbrev pub IsCombinationallyDriven : Netlist → (n : ℕ) → Type 0
 IsCombinationallyDriven net n = (p : ℕ) × (place : ℕ) × IsCombinational net p × HasPlace net p place × (target net p place ≡ n)
 
 -- The marked processes' entries, taken over together.
-pub record AllTakeOver (net : Net) (marked : List Bool) (entries : ℕ → List (Option ℕ)) (v w : List ℕ) : Type 0 where
+pub record AllTakeOver (net : Netlist) (marked : List Bool) (entries : ℕ → List (Option ℕ)) (v w : List ℕ) : Type 0 where
   pub each_net : length w ≡ length v
   pub on_targets : (p place : ℕ) → IsTrue (slice_index_or marked p false) → HasPlace net p place
       → slice_index w (target net p place) ≡ entry_or (slice_index_or (entries p) place None) (slice_index v (target net p place))
   pub on_others : (n : ℕ) → (IsDrivenByMarked net marked n → ⊥) → slice_index w n ≡ slice_index v n
 
 -- In w every combinational process is settled, and nothing but what they drive differs from v.
-pub record IsSwept (net : Net) (v w : List ℕ) : Type 0 where
+pub record IsSwept (net : Netlist) (v w : List ℕ) : Type 0 where
   pub each_net : length w ≡ length v
   pub settled : (p : ℕ) → IsCombinational net p → IsSettled net w p
   pub on_others : (n : ℕ) → (IsCombinationallyDriven net n → ⊥) → slice_index w n ≡ slice_index v n
 
 -- The marked processes, which are to be clocked, have run together from the values before and v, and with what they assigned
 -- all combinational ones have settled in w.
-pub record ComesToRest (net : Net) (marked : List Bool) (before v w : List ℕ) : Type 0 where
+pub record ComesToRest (net : Netlist) (marked : List Bool) (before v w : List ℕ) : Type 0 where
   pub each_net : length w ≡ length v
   pub on_marked : (p place : ℕ) → IsTrue (slice_index_or marked p false) → HasPlace net p place
       → slice_index w (target net p place) ≡ entry_or (slice_index_or ((process net p).effect before v) place None) (slice_index v (target net p place))

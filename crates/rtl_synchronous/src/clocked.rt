@@ -1,10 +1,10 @@
 //! The clocked processes of a moment.
 
 ghost use Rattle.std.specs.Prelude.{◌≡◌, ℕ, ◌<◌, ⊤, false, length, slice_index_or, IsTrue, Some, None};
-ghost use Rattle.rtl_model.specs.nets.FlatNet.{process_at};
+ghost use Rattle.rtl_model.specs.nets.FlatNetlist.{process_at};
 ghost use Rattle.rtl_model.specs.simulation.Accepted.{IsAccepted};
 ghost use Rattle.rtl_model.specs.simulation.Elaborated.{IsElaborated};
-ghost use Rattle.rtl_model.specs.simulation.Net.{process, target, HasPlace};
+ghost use Rattle.rtl_model.specs.simulation.Netlist.{process, target, HasPlace};
 ghost use Rattle.rtl_model.specs.simulation.Range.{IsValuation, limit};
 ghost use Rattle.rtl_eval.specs.Runs.{IsOf};
 ghost use Rattle.rtl_kernel.specs.drivers.Transactions.{no_outcome};

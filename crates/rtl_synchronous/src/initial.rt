@@ -1,7 +1,7 @@
 //! What nets and variables start with.
 
 ghost use Rattle.std.specs.Prelude.{◌≡◌, map, IfOk};
-ghost use Rattle.rtl_model.specs.nets.FlatNet.{element_starts};
+ghost use Rattle.rtl_model.specs.nets.FlatNetlist.{element_starts};
 ghost use Rattle.rtl_net.specs.Nets.{variable_view};
 
 use rtl_net::{Net, Variable};

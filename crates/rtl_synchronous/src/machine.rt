@@ -2,10 +2,10 @@
 
 ghost use Rattle.std.specs.Prelude.{◌≡◌, ℕ, ◌<◌, false, All, length, map, slice_index, slice_index_or, Contains, IfOk, IsTrue};
 ghost use Rattle.rtl_model.specs.simulation.Accepted.{IsAccepted};
-ghost use Rattle.rtl_model.specs.simulation.Cycle.{changed};
+ghost use Rattle.rtl_model.specs.simulation.Cycle.{with_changes};
 ghost use Rattle.rtl_model.specs.simulation.Levels.{AreLevels};
 ghost use Rattle.rtl_model.specs.simulation.Machine.{IsFirst, IsStep};
-ghost use Rattle.rtl_model.specs.simulation.Net.{IsCombinational};
+ghost use Rattle.rtl_model.specs.simulation.Netlist.{IsCombinational};
 ghost use Rattle.rtl_model.specs.simulation.Races.{IsRace};
 ghost use Rattle.rtl_model.specs.simulation.Range.{IsValuation};
 ghost use Rattle.rtl_kernel.specs.kernel.Kept.{RunBodies};
@@ -30,7 +30,7 @@ use std::alloc::{AllocError, Global};
 use std::marker::Model;
 use vhdl_values::Nine;
 
-/// The synchronous machine of an accepted net, at a moment at which it has settled. A step runs the clocked processes that are
+/// The synchronous machine of an accepted netlist, at a moment at which it has settled. A step runs the clocked processes that are
 /// sensitive to what changes, with the new inputs and before anything else changes, and then each combinational process of
 /// which something that it is sensitive to changes, in order of level. `new` takes all memory, and no other call takes any.
 #[derive(Drop)]
@@ -66,7 +66,7 @@ impl<'a, E: Exec> Model for Machine<'a, E> {
 }
 
 impl<'a, E: Exec> Machine<'a, E> {
-    /// The machine of an accepted net at its first moment. The k-th body runs the k-th process, and the k-th level is its level;
+    /// The machine of an accepted netlist at its first moment. The k-th body runs the k-th process, and the k-th level is its level;
     /// there is a value for each of the net's inputs, in their order.
     pub fn new(
         alloc: Global,
@@ -123,9 +123,9 @@ impl<'a, E: Exec> Machine<'a, E> {
     /// The next moment, at which inputs get new values. It asks that no data input changes at an active clock edge.
     pub fn step(&mut self, changes: &[(usize, Nine)])
         requires inputs { All (λ c. Contains self.old.net.inputs c.0) changes.now }
-        requires raceless { IsRace (core self.old.net) (slice_index self.old.values) (changed (changes_of changes.now) self.old.values) → ⊥ }
+        requires raceless { IsRace (core self.old.net) (slice_index self.old.values) (with_changes (changes_of changes.now) self.old.values) → ⊥ }
         ensures net { self.new.net ≡ self.old.net }
-        ensures step { IsStep (core self.old.net) self.old.values (changed (changes_of changes.now) self.old.values) self.new.values }
+        ensures step { IsStep (core self.old.net) self.old.values (with_changes (changes_of changes.now) self.old.values) self.new.values }
     {
         take_inputs(
             &self.schedule,

@@ -2,7 +2,7 @@
 
 ghost use Rattle.std.specs.Prelude.{◌≡◌, ℕ, ◌+◌, ◌<◌, ◌≤◌, length, slice_index, slice_set, All};
 ghost use Rattle.rtl_kernel.specs.values.TwoValues.{IsWritten as HasRun};
-ghost use Rattle.rtl_kernel.specs.wakes.Woken.{Adds, wakers_of};
+ghost use Rattle.rtl_kernel.specs.wakes.Woken.{AddsPlaces, wakers_of};
 ghost use Rattle.rtl_synchronous.specs.Marks.{AreBelow, IsOfRun, Marks};
 
 use crate::slices::{differ, write};
@@ -12,7 +12,7 @@ use rtl_net_layout::Groups;
 fn mark(marks: &mut Vec<bool>, numbers: &[usize])
     requires there { All (λ k. k < length marks.old.items) numbers.now }
     ensures as_many { length marks.new.items ≡ length marks.old.items }
-    ensures marks { Adds numbers.now marks.old.items marks.new.items }
+    ensures marks { AddsPlaces numbers.now marks.old.items marks.new.items }
 {
     for number in numbers {
         marks[*number] = true;

@@ -1,7 +1,7 @@
 //! Runs of single processes.
 
 ghost use Rattle.std.specs.Prelude.{◌≡◌, ℕ, ◌+◌, ◌<◌, ◌≤◌, length, slice_index_or, All, Contains, None, IsSome};
-ghost use Rattle.rtl_model.specs.simulation.Net.{process, IsCombinational};
+ghost use Rattle.rtl_model.specs.simulation.Netlist.{process, IsCombinational};
 ghost use Rattle.rtl_model.specs.simulation.Range.{IsValuation};
 ghost use Rattle.rtl_kernel.specs.drivers.Transactions.{HasRunOf, nets_of};
 ghost use Rattle.rtl_kernel.specs.drivers.Updates.{IsTaken};

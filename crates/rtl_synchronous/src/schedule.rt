@@ -24,7 +24,7 @@ pub struct Schedule {
 }
 
 impl Schedule {
-    /// The schedule of an accepted net, whose processes have these levels.
+    /// The schedule of an accepted netlist, whose processes have these levels.
     pub fn new(alloc: Global, net: &Net, levels: &[Option<u32>]) -> Result<Schedule, AllocError>
         requires accepted { IsAccepted (core net.now) }
         requires levels { (greatest : ℕ) × AreLevels (core net.now) levels.now greatest }

@@ -4,7 +4,7 @@ use Rattle.std.proofs.lemmas.List.{take_more, map-append, length-map, length-tak
 use Rattle.std.proofs.lemmas.List.Elements.{All-get_or, All-weaker, All-take, All-drop}
 use Rattle.std.proofs.lemmas.Option.{slice_get_within}
 use Rattle.rtl_net.specs.declared.signal.Signal.{Signal}
-use Rattle.rtl_net.specs.Nets.{SignalView, NetView, signal_view, element_type}
+use Rattle.rtl_net.specs.Nets.{SignalView, NetlistView, signal_view, element_type}
 use Rattle.rtl_net.specs.Elaborated.{IsNet, SignalInRange}
 use Rattle.rtl_model.specs.bodies.Types.{HasType}
 use Rattle.rtl_vcd.specs.Values.{numbered}
@@ -60,13 +60,13 @@ shown_at nets signals i s lt is all =
     (All-get_or (IsShown nets) (map signal_view signals) i (signal_view s) within all)
 
 -- each name of a net is shown
-pub all_shown : (net : NetView) → IsNet net → All (IsShown (length net.types)) net.signals
+pub all_shown : (net : NetlistView) → IsNet net → All (IsShown (length net.types)) net.signals
 all_shown net is =
     All-weaker (SignalInRange net.types (length net.scopes)) (IsShown (length net.types))
     (λ s h. record { width = h.width; there = All-weaker (HasType net.types (element_type s.kind)) (λ n. n < length net.types) (λ n t. slice_get_within net.types n (element_type s.kind) t) s.nets h.nets })
     net.signals is.signals
 
-pub shown_of_net : (net : NetView) → IsNet net → (signals : List Signal) → map signal_view signals ≡ net.signals → (i : ℕ) (s : Signal) → i < length signals
+pub shown_of_net : (net : NetlistView) → IsNet net → (signals : List Signal) → map signal_view signals ≡ net.signals → (i : ℕ) (s : Signal) → i < length signals
     → s ≡ get_or signals i s → IsShown (length net.types) (signal_view s)
 shown_of_net net is signals e i s lt at = shown_at (length net.types) signals i s lt at (subst (All (IsShown (length net.types))) (sym e) (all_shown net is))
 
@@ -88,7 +88,7 @@ part_of_names signals first n =
     ap (λ k. map signal_view (take k (drop first signals))) e ∙ sym (take-map signal_view n (drop first signals)) ∙ ap (take n) (sym (drop-map signal_view first signals))
 
 -- they are shown too
-pub part_shown : (net : NetView) → IsNet net → (signals : List Signal) → map signal_view signals ≡ net.signals → (nets first n : ℕ) → nets ≡ length net.types
+pub part_shown : (net : NetlistView) → IsNet net → (signals : List Signal) → map signal_view signals ≡ net.signals → (nets first n : ℕ) → nets ≡ length net.types
     → All (IsShown nets) (map signal_view (take (first + n - first) (drop first signals)))
 part_shown net is signals e nets first n as_many =
     subst (All (IsShown nets)) (sym (part_of_names signals first n))

@@ -29,11 +29,11 @@ pub struct Blocks<'a> {
 }
 
 impl<'a> Model for Blocks<'a> {
-    ghost use Rattle.rtl_net.specs.Nets.{NetView};
+    ghost use Rattle.rtl_net.specs.Nets.{NetlistView};
     ghost use Rattle.rtl_net.specs.contracts.process.Process as process_contract;
     ghost use Rattle.std.specs.Coded.{codes};
 
-    ghost Value = { NetView };
+    ghost Value = { NetlistView };
 
     ghost coded = { Prim.hlevel (codes, process_contract.the_row.coded) };
 

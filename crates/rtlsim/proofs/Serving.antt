@@ -6,7 +6,7 @@ use Rattle.rtlsim_commands.specs.Served.{Outputs}
 use Rattle.rtlsim_commands.specs.declared.status.Status.{Status}
 use Rattle.rtl_sink.specs.Read.{ReaderState}
 use Rattle.rtlsim.specs.Inputs.{Reading}
-use Rattle.rtlsim.specs.Tools.{Serves, ServesFirstLine, ServesWords}
+use Rattle.rtlsim.specs.Tools.{ServesCall, ServesFirstLine, ServesWords}
 
 -- a test of a length
 pub is_none : (n : ℕ) (b : Bool) → b ≡ (n == 0) → b ≡ true → n ≡ 0
@@ -26,6 +26,6 @@ module _ {A : Type 0} (text : A → List ℕ) (Gives : Reading) (old new : Reade
   serves_none [] empty s = s
   serves_none (x ∷ xs) empty s = absurd (cc)
 
-  pub serves_some : (xs : List A) → (length xs ≡ 0 → ⊥) → Serves Gives (map text xs) old new outcome o → ServesWords Gives (map text xs) old new outcome o
+  pub serves_some : (xs : List A) → (length xs ≡ 0 → ⊥) → ServesCall Gives (map text xs) old new outcome o → ServesWords Gives (map text xs) old new outcome o
   serves_some [] some s = absurd (some refl)
   serves_some (x ∷ xs) some s = s

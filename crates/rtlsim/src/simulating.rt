@@ -5,7 +5,7 @@ ghost use Rattle.rtlsim_commands.specs.Served.{Outputs, Serves as ServesSource};
 ghost use Rattle.rtlsim_commands.specs.Told.{levels};
 ghost use Rattle.rtl_sink.specs.Written.{IsIntact};
 ghost use Rattle.rtlsim.specs.Inputs.{GivesBoth};
-ghost use Rattle.rtlsim.specs.Tools.{Reads, Simulates};
+ghost use Rattle.rtlsim.specs.Tools.{ReadsInputs, SimulatesWords};
 
 use crate::files::read_both;
 use crate::inputs::Inputs;
@@ -62,8 +62,8 @@ pub(crate) fn perform_run<F: Front, I: Inputs, O: Sink, E: Sink>(
     requires out { IsIntact (O.state out.old) }
     requires err { IsIntact (E.state err.old) }
     ensures { let o : Outputs = record { out = O.state out.old; out_after = O.state out.new; err = E.state err.old; err_after = E.state err.new } in
-        Reads (GivesBoth I.gives names.now.file.now names.now.stimulus.now (I.state inputs.old) (I.state inputs.new))
-        (λ both. Simulates is_event both.1 both.0 names.now.top.now result o) result o }
+        ReadsInputs (GivesBoth I.gives names.now.file.now names.now.stimulus.now (I.state inputs.old) (I.state inputs.new))
+        (λ both. SimulatesWords is_event both.1 both.0 names.now.top.now result o) result o }
 {
     match read_both(alloc, inputs, names.file, names.stimulus) {
         Ok(both) => {
@@ -90,7 +90,7 @@ pub(crate) fn perform_levels<F: Front, I: Inputs, O: Sink, E: Sink>(
     requires out { IsIntact (O.state out.old) }
     requires err { IsIntact (E.state err.old) }
     ensures { let o : Outputs = record { out = O.state out.old; out_after = O.state out.new; err = E.state err.old; err_after = E.state err.new } in
-        Reads (GivesBoth I.gives names.now.file.now names.now.stimulus.now (I.state inputs.old) (I.state inputs.new))
+        ReadsInputs (GivesBoth I.gives names.now.file.now names.now.stimulus.now (I.state inputs.old) (I.state inputs.new))
         (λ both. ServesSource (RunsMachineByLevels both.1) levels both.0 names.now.top.now result o) result o }
 {
     match read_both(alloc, inputs, names.file, names.stimulus) {
@@ -113,7 +113,7 @@ fn simulate<F: Front, O: Sink, E: Sink>(
 ) -> Status
     requires out { IsIntact (O.state out.old) }
     requires err { IsIntact (E.state err.old) }
-    ensures { Simulates is_event texts.now.stimulus.now texts.now.source.now texts.now.top.now result
+    ensures { SimulatesWords is_event texts.now.stimulus.now texts.now.source.now texts.now.top.now result
         (record { out = O.state out.old; out_after = O.state out.new; err = E.state err.old; err_after = E.state err.new }) }
 {
     match order {
@@ -133,7 +133,7 @@ fn simulate_by<F: Front, P: Pick, O: Sink, E: Sink>(
 ) -> Status
     requires out { IsIntact (O.state out.old) }
     requires err { IsIntact (E.state err.old) }
-    ensures { Simulates is_event texts.now.stimulus.now texts.now.source.now texts.now.top.now result
+    ensures { SimulatesWords is_event texts.now.stimulus.now texts.now.source.now texts.now.top.now result
         (record { out = O.state out.old; out_after = O.state out.new; err = E.state err.old; err_after = E.state err.new }) }
 {
     if is_event {

@@ -5,7 +5,7 @@ ghost use Rattle.rtlsim_commands.specs.Status.{code_of};
 ghost use Rattle.rtlsim_commands.specs.declared.status.Status.{Status};
 ghost use Rattle.rtl_sink.specs.Written.{IsIntact};
 ghost use Rattle.rtlsim.specs.Inputs.{GivesStandardAlone};
-ghost use Rattle.rtlsim.specs.Tools.{Performs, Serves, ServesWords};
+ghost use Rattle.rtlsim.specs.Tools.{Performs, ServesCall, ServesWords};
 
 use crate::files::read_eval;
 use crate::first_line::serve_reader_line;
@@ -50,7 +50,7 @@ pub fn tool_with<F: Front, I: Inputs, O: Sink, E: Sink>(
 ) -> Status
     requires out { IsIntact (O.state out.old) }
     requires err { IsIntact (E.state err.old) }
-    ensures { Serves I.gives (map (λ word. word.now) words.now) (I.state inputs.old) (I.state inputs.new) result
+    ensures { ServesCall I.gives (map (λ word. word.now) words.now) (I.state inputs.old) (I.state inputs.new) result
         (record { out = O.state out.old; out_after = O.state out.new; err = E.state err.old; err_after = E.state err.new }) }
 {
     match parse_words(alloc, words) {

@@ -12,7 +12,7 @@ use Rattle.rtlsim_commands.specs.declared.faults.Fault.{Fault}
 use Rattle.rtlsim_commands.specs.declared.faults.Fault.TheVariants.{Lex, Syntax, Name, Elab, Rejected, Stim, NoSettling, Memory, Output}
 use Rattle.rtl_machine.specs.declared.fault.MachineFault.{MachineFault}
 use Rattle.rtl_machine.specs.declared.fault.MachineFault.TheVariants as machine
-use Rattle.rtl_net.specs.Nets.{NetView}
+use Rattle.rtl_net.specs.Nets.{NetlistView}
 use Rattle.rtl_run.specs.declared.summary.Summary.{Summary}
 use Rattle.rtl_sink.specs.Written.{SinkState}
 use Rattle.vhdl_source_rules.specs.Faults.{LiesIn}
@@ -20,7 +20,7 @@ use Rattle.vhdl_source_rules.specs.Refusals.{Refuses}
 use Rattle.vhdl_source_rules.specs.declared.fault.SourceFault.{SourceFault}
 use Rattle.vhdl_source_rules.specs.declared.fault.SourceFault.TheVariants as source
 
-pub opens_refused : {A : Type 0} (Does : NetView → Result A Fault → SinkState → SinkState → Type 0) (file top : List ℕ) (answer : Result A Fault) (fault : SourceFault) (old : SinkState)
+pub opens_refused : {A : Type 0} (Does : NetlistView → Result A Fault → SinkState → SinkState → Type 0) (file top : List ℕ) (answer : Result A Fault) (fault : SourceFault) (old : SinkState)
     → IsErrAnd answer (λ f. f ≡ of_source fault) → Refuses file top fault → Opens Does file top answer old old
 opens_refused Does file top (Ok x) fault old h r = absurd h
 opens_refused Does file top (Err f) fault old h r = inr (fault, ap (λ (x : Fault). Err x) h, r, refl)
@@ -49,17 +49,17 @@ writes_fault A text (NoSettling x) size old new h = tt
 writes_fault A text Memory size old new h = tt
 writes_fault A text Output size old new h = tt
 
-pub lists_told : (net : NetView) (answer : Result (Unit {0}) Fault) (size : ℕ) (old new : SinkState) → ListsNet net answer old new → IfErr answer (IsTold size)
+pub lists_told : (net : NetlistView) (answer : Result (Unit {0}) Fault) (size : ℕ) (old new : SinkState) → ListsNet net answer old new → IfErr answer (IsTold size)
 lists_told net (Ok x) size old new h = tt
 lists_told net (Err fault) size old new h = writes_fault (Unit {0}) _ fault size old new h
 
-pub checks_told : (text_of : NetView → Verdict → List ℕ) (net : NetView) (answer : Result Bool Fault) (size : ℕ) (old new : SinkState) → AnswersVerdict text_of net answer old new
+pub checks_told : (text_of : NetlistView → Verdict → List ℕ) (net : NetlistView) (answer : Result Bool Fault) (size : ℕ) (old new : SinkState) → AnswersVerdict text_of net answer old new
     → IfErr answer (IsTold size)
 checks_told text_of net (Ok x) size old new h = tt
 checks_told text_of net (Err fault) size old new (inl w) = writes_fault Bool _ fault size old new w.written
 checks_told text_of net (Err fault) size old new (inr w) = rw w.0 tt
 
-pub runs_fault : (text : List ℕ) (net : NetView) (fault : Fault) (size : ℕ) (old new : SinkState) → RunsEvents text net (Err fault) old new → IsTold size fault
+pub runs_fault : (text : List ℕ) (net : NetlistView) (fault : Fault) (size : ℕ) (old new : SinkState) → RunsEvents text net (Err fault) old new → IsTold size fault
 runs_fault text net (Lex x) size old new h = absurd h
 runs_fault text net (Syntax x) size old new h = absurd h
 runs_fault text net (Name x) size old new h = absurd h
@@ -70,7 +70,7 @@ runs_fault text net (NoSettling x) size old new h = tt
 runs_fault text net Memory size old new h = tt
 runs_fault text net Output size old new h = tt
 
-pub runs_told : (text : List ℕ) (net : NetView) (answer : Result Summary Fault) (size : ℕ) (old new : SinkState) → RunsEvents text net answer old new → IfErr answer (IsTold size)
+pub runs_told : (text : List ℕ) (net : NetlistView) (answer : Result Summary Fault) (size : ℕ) (old new : SinkState) → RunsEvents text net answer old new → IfErr answer (IsTold size)
 runs_told text net (Ok x) size old new h = tt
 runs_told text net (Err fault) size old new h = runs_fault text net fault size old new h
 

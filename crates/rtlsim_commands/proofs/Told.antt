@@ -13,7 +13,7 @@ use Rattle.rtlsim_commands.proofs.Refused.{nameless, source_told}
 use Rattle.rtlsim_listing.specs.Printing.{IsListed}
 use Rattle.rtlsim_listing.specs.declared.fault.ListingFault.{ListingFault}
 use Rattle.rtlsim_listing.specs.declared.fault.ListingFault.TheVariants as listing
-use Rattle.rtl_net.specs.Nets.{NetView}
+use Rattle.rtl_net.specs.Nets.{NetlistView}
 use Rattle.rtl_sink.specs.Written.{SinkState, IsIntact, HasFailed, TakesAll, TakesBeginning, Goes}
 use Rattle.vhdl_source_rules.specs.Designs.{IsNetOf}
 use Rattle.vhdl_source_rules.specs.Faults.{LiesIn}
@@ -48,13 +48,13 @@ listed_failed (Err f) old new text h failed part = rw h (failed, part)
 
 -- ---- commands
 
-no_net : NetView
+no_net : NetlistView
 no_net = record { types = []; starts = []; idle = []; inputs = []; processes = []; scopes = []; signals = [] }
 
-module _ {A : Type 0} (Does : NetView → Result A Fault → SinkState → SinkState → Type 0) (done : Done A) (source top : List ℕ) (outcome : Status) (o : Outputs) where
+module _ {A : Type 0} (Does : NetlistView → Result A Fault → SinkState → SinkState → Type 0) (done : Done A) (source top : List ℕ) (outcome : Status) (o : Outputs) where
   -- the source is refused
   pub serves_refused : (fault : SourceFault) → Refuses source top fault → LiesIn (length source) fault → o.out_after ≡ o.out
-      → ((net : NetView) → Goes o.err o.err_after (fault_lines net (of_source fault))) → outcome ≡ ended (status_of (of_source fault)) o.out_after o.err_after
+      → ((net : NetlistView) → Goes o.err o.err_after (fault_lines net (of_source fault))) → outcome ≡ ended (status_of (of_source fault)) o.out_after o.err_after
       → Serves Does done source top outcome o
   serves_refused fault refuses lies same goes ends = record {
     answer = Err (of_source fault);
@@ -66,7 +66,7 @@ module _ {A : Type 0} (Does : NetView → Result A Fault → SinkState → SinkS
   }
 
   -- the command refuses
-  pub serves_failed : (net : NetView) (fault : Fault) (said : Status) → IsNetOf source top net → Does net (Err fault) o.out o.out_after → IsTold (length source) fault
+  pub serves_failed : (net : NetlistView) (fault : Fault) (said : Status) → IsNetOf source top net → Does net (Err fault) o.out o.out_after → IsTold (length source) fault
       → TellsFault net fault o.err o.err_after said → outcome ≡ ended said o.out_after o.err_after → Serves Does done source top outcome o
   serves_failed net fault said is does placed tells ends = record {
     answer = Err fault;
@@ -78,7 +78,7 @@ module _ {A : Type 0} (Does : NetView → Result A Fault → SinkState → SinkS
   }
 
   -- the command has done its work
-  pub serves_done : (net : NetView) (x : A) → IsNetOf source top net → Does net (Ok x) o.out o.out_after → TellsText (done.text x) o.err o.err_after
+  pub serves_done : (net : NetlistView) (x : A) → IsNetOf source top net → Does net (Ok x) o.out o.out_after → TellsText (done.text x) o.err o.err_after
       → outcome ≡ ended (done.status x) o.out_after o.err_after → Serves Does done source top outcome o
   serves_done net x is does tells ends = record {
     answer = Ok x;

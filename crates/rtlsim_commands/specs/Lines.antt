@@ -3,16 +3,16 @@ use Rattle.std.specs.Prelude.{ℕ, List, [], Option, Some, None, ◌++◌, codes
 use Rattle.rtlsim_commands.specs.Notices.{Entry, entry, lex_entry, syntax_entry, names_entry, elab_entry, stim_entry}
 use Rattle.rtlsim_commands.specs.declared.faults.Fault.{Fault}
 use Rattle.rtlsim_commands.specs.declared.faults.Fault.TheVariants.{Lex, Syntax, Name, Elab, Rejected, Stim, NoSettling, Memory, Output}
-use Rattle.rtlsim_commands.specs.declared.faults.notice.Place.{Place}
-use Rattle.rtlsim_commands.specs.declared.faults.notice.Place.TheVariants.{Nowhere, Byte, Line, Time}
+use Rattle.rtlsim_commands.specs.declared.faults.notice.FaultPlace.{FaultPlace}
+use Rattle.rtlsim_commands.specs.declared.faults.notice.FaultPlace.TheVariants.{Nowhere, Byte, Line, Time}
 use Rattle.rtlsim_listing.specs.CheckText.{rejection_text}
 use Rattle.rtl_net.specs.Names.{net_name}
-use Rattle.rtl_net.specs.Nets.{NetView}
+use Rattle.rtl_net.specs.Nets.{NetlistView}
 use Rattle.rtl_stim_lines.specs.declared.faults.StimFault.{StimFault}
 use Rattle.rtl_stim_lines.specs.declared.faults.StimFault.TheVariants.{Race}
 
 -- where a fault is found
-abbrev pub place_text : Place → List ℕ
+abbrev pub place_text : FaultPlace → List ℕ
 place_text Nowhere = []
 place_text (Byte at) = codes " at " ++ decimal at
 place_text (Line line) = codes " line " ++ decimal line
@@ -37,16 +37,16 @@ abbrev pub output_line : List ℕ
 output_line = codes "rtlsim: output\n"
 
 -- the data input that changes, and then the clock
-abbrev pub race_line : NetView → (time input clock : ℕ) → List ℕ
+abbrev pub race_line : NetlistView → (time input clock : ℕ) → List ℕ
 race_line net time input clock =
     codes "rtlsim: stim 8 Race " ++ decimal time ++ codes " " ++ net_name net input ++ codes " " ++ net_name net clock ++ codes "\n"
 
-abbrev pub stim_line : NetView → StimFault → List ℕ
+abbrev pub stim_line : NetlistView → StimFault → List ℕ
 stim_line net (Race time input clock) = race_line net time input clock
 stim_line net fault = told_line (stim_entry fault)
 
 -- what tells a fault, with the names of the net that has it
-abbrev pub fault_lines : NetView → Fault → List ℕ
+abbrev pub fault_lines : NetlistView → Fault → List ℕ
 fault_lines net (Lex fault) = told_line (lex_entry fault)
 fault_lines net (Syntax fault) = told_line (syntax_entry fault)
 fault_lines net (Name fault) = told_line (names_entry fault)

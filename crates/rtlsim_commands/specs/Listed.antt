@@ -8,7 +8,7 @@ use Rattle.rtlsim_commands.specs.declared.faults.Fault.TheVariants.{Memory, Outp
 use Rattle.rtlsim_listing.specs.CheckText.{check_text}
 use Rattle.rtlsim_listing.specs.DotText.{dot_text}
 use Rattle.rtlsim_listing.specs.NetText.{net_text}
-use Rattle.rtl_net.specs.Nets.{NetView}
+use Rattle.rtl_net.specs.Nets.{NetlistView}
 use Rattle.rtl_sink.specs.Written.{SinkState, IsIntact, HasFailed, TakesAll, TakesBeginning}
 
 -- The text went out; or a beginning of it, since the sink has failed, or since memory was refused.
@@ -19,25 +19,25 @@ Writes text (Err Memory) old new = TakesBeginning old new text
 Writes text (Err _) old new = ⊥
 
 -- the lines of the net
-abbrev pub ListsNet : NetView → Result (Unit {0}) Fault → (old new : SinkState) → Type 0
+abbrev pub ListsNet : NetlistView → Result (Unit {0}) Fault → (old new : SinkState) → Type 0
 ListsNet net answer old new = Writes (net_text net) answer old new
 
 -- the text of the checker's verdict on the net, in which a loop stands once round
-pub record WritesVerdict (text_of : NetView → Verdict → List ℕ) (net : NetView) (answer : Result Bool Fault) (old new : SinkState) : Type 0 where
+pub record WritesVerdict (text_of : NetlistView → Verdict → List ℕ) (net : NetlistView) (answer : Result Bool Fault) (old new : SinkState) : Type 0 where
   pub verdict : Verdict
   pub is : IsVerdict (core net) verdict
   pub once : ListsLoopsOnce verdict
   pub written : Writes (text_of net verdict) answer old new
 
 -- it answers whether the verdict is yes; memory may also be refused before there is one
-abbrev pub AnswersVerdict : (text_of : NetView → Verdict → List ℕ) → NetView → Result Bool Fault → (old new : SinkState) → Type 0
+abbrev pub AnswersVerdict : (text_of : NetlistView → Verdict → List ℕ) → NetlistView → Result Bool Fault → (old new : SinkState) → Type 0
 AnswersVerdict text_of net (Ok passed) old new = (w : WritesVerdict text_of net (Ok passed) old new) × (is_yes w.verdict ≡ passed)
 AnswersVerdict text_of net (Err fault) old new = WritesVerdict text_of net (Err fault) old new ⊎ ((fault ≡ Memory) × (new ≡ old))
 
 -- the lines of the verdict
-abbrev pub ChecksNet : NetView → Result Bool Fault → (old new : SinkState) → Type 0
+abbrev pub ChecksNet : NetlistView → Result Bool Fault → (old new : SinkState) → Type 0
 ChecksNet net answer old new = AnswersVerdict check_text net answer old new
 
--- the graph of an accepted net's levels, or the lines of another verdict
-abbrev pub DrawsNet : NetView → Result Bool Fault → (old new : SinkState) → Type 0
+-- the graph of an accepted netlist's levels, or the lines of another verdict
+abbrev pub DrawsNet : NetlistView → Result Bool Fault → (old new : SinkState) → Type 0
 DrawsNet net answer old new = AnswersVerdict dot_text net answer old new

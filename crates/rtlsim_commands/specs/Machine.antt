@@ -5,11 +5,11 @@ use Rattle.rtlsim_commands.specs.declared.faults.Fault.{Fault}
 use Rattle.rtlsim_commands.specs.declared.faults.Fault.TheVariants.{Rejected, Stim, Memory, Output}
 use Rattle.rtl_levelized.specs.Answered.{RunsLevels}
 use Rattle.rtl_levelized.specs.declared.summary.LevelSummary.{LevelSummary}
-use Rattle.rtl_machine.specs.Answered.{Runs}
+use Rattle.rtl_machine.specs.Answered.{RunsNet}
 use Rattle.rtl_machine.specs.Evaluated.{Evaluates}
 use Rattle.rtl_machine.specs.declared.fault.MachineFault.{MachineFault}
 use Rattle.rtl_machine.specs.declared.fault.MachineFault.TheVariants as machine
-use Rattle.rtl_net.specs.Nets.{NetView}
+use Rattle.rtl_net.specs.Nets.{NetlistView}
 use Rattle.rtl_run.specs.declared.summary.Summary.{Summary}
 use Rattle.rtl_sink.specs.Written.{SinkState}
 
@@ -24,14 +24,14 @@ as_answer (Ok x) = Ok x
 as_answer (Err fault) = Err (of_machine fault)
 
 -- The trace of the synchronous machine's run under the stimulus that the text says, or why there is none.
-abbrev pub RunsMachine : (text : List ℕ) → NetView → Result Summary Fault → (old new : SinkState) → Type 0
-RunsMachine text net answer old new = (given : Result Summary MachineFault) × (answer ≡ as_answer given) × Runs net text old new given
+abbrev pub RunsMachine : (text : List ℕ) → NetlistView → Result Summary Fault → (old new : SinkState) → Type 0
+RunsMachine text net answer old new = (given : Result Summary MachineFault) × (answer ≡ as_answer given) × RunsNet net text old new given
 
 -- The same trace, each process run once a moment in order of level, or why there is none.
-abbrev pub RunsMachineByLevels : (text : List ℕ) → NetView → Result LevelSummary Fault → (old new : SinkState) → Type 0
+abbrev pub RunsMachineByLevels : (text : List ℕ) → NetlistView → Result LevelSummary Fault → (old new : SinkState) → Type 0
 RunsMachineByLevels text net answer old new =
     (given : Result LevelSummary MachineFault) × (answer ≡ as_answer given) × RunsLevels net text old new given
 
 -- The out ports' values in the machine's first valuation under NAME=VALUE words, or why there are none.
-abbrev pub EvaluatesMachine : (words : List (List ℕ)) → NetView → Result (Unit {0}) Fault → (old new : SinkState) → Type 0
+abbrev pub EvaluatesMachine : (words : List (List ℕ)) → NetlistView → Result (Unit {0}) Fault → (old new : SinkState) → Type 0
 EvaluatesMachine words net answer old new = (given : Result (Unit {0}) MachineFault) × (answer ≡ as_answer given) × Evaluates net words old new given

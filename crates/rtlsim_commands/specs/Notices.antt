@@ -1,7 +1,7 @@
 -- What the printed line of a fault tells: its layer, number, name and place.
 use Rattle.std.specs.Prelude.{ℕ, List, Option, Some, None, codes}
-use Rattle.rtlsim_commands.specs.declared.faults.notice.Place.{Place}
-use Rattle.rtlsim_commands.specs.declared.faults.notice.Place.TheVariants.{Nowhere, Byte, Line, Time}
+use Rattle.rtlsim_commands.specs.declared.faults.notice.FaultPlace.{FaultPlace}
+use Rattle.rtlsim_commands.specs.declared.faults.notice.FaultPlace.TheVariants.{Nowhere, Byte, Line, Time}
 use Rattle.rtlsim_commands.specs.declared.faults.notice.Notice.{Notice}
 use Rattle.vhdl_lexer.specs.Fault as lexer
 use Rattle.vhdl_lexer.specs.declared.fault.LexFault.{LexFault}
@@ -22,12 +22,12 @@ pub record Entry : Type 0 where
   pub layer : List ℕ
   pub number : ℕ
   pub name : List ℕ
-  pub place : Place
+  pub place : FaultPlace
 
-abbrev pub entry : List ℕ → ℕ → List ℕ → Place → Entry
+abbrev pub entry : List ℕ → ℕ → List ℕ → FaultPlace → Entry
 entry layer number name place = record { layer = layer; number = number; name = name; place = place }
 
-abbrev pub some_entry : List ℕ → ℕ → List ℕ → Place → Option Entry
+abbrev pub some_entry : List ℕ → ℕ → List ℕ → FaultPlace → Option Entry
 some_entry layer number name place = Some (entry layer number name place)
 
 -- what a notice holds

@@ -6,7 +6,7 @@ use Rattle.rtlsim_commands.specs.Told.{Done, Tells}
 use Rattle.rtlsim_commands.specs.declared.faults.Fault.{Fault}
 use Rattle.rtlsim_commands.specs.declared.status.Status.{Status}
 use Rattle.rtlsim_commands.specs.declared.status.Status.TheVariants as status
-use Rattle.rtl_net.specs.Nets.{NetView}
+use Rattle.rtl_net.specs.Nets.{NetlistView}
 use Rattle.rtl_sink.specs.Written.{SinkState}
 
 -- both outputs before a call and after it
@@ -25,7 +25,7 @@ abbrev pub ended : Status → (out err : SinkState) → Status
 ended outcome out err = ended_by (out.failed || err.failed) outcome
 
 -- The command answers on the source; what is told of the answer goes to the standard error, and decides the status.
-pub record Serves {A : Type 0} (Does : NetView → Result A Fault → SinkState → SinkState → Type 0) (done : Done A) (source top : List ℕ)
+pub record Serves {A : Type 0} (Does : NetlistView → Result A Fault → SinkState → SinkState → Type 0) (done : Done A) (source top : List ℕ)
     (outcome : Status) (o : Outputs) : Type 0 where
   pub answer : Result A Fault
   pub output : Opens Does source top answer o.out o.out_after

@@ -7,7 +7,7 @@ use Rattle.rtlsim_commands.specs.declared.faults.Fault.TheVariants.{Rejected, St
 use Rattle.rtl_model.specs.simulation.Faults.{AreStored}
 use Rattle.rtl_stim.specs.Ports.{inputs_of}
 use Rattle.rtl_stim.specs.Stimuli.{StimulusView, IsRead}
-use Rattle.rtl_net.specs.Nets.{NetView}
+use Rattle.rtl_net.specs.Nets.{NetlistView}
 use Rattle.rtl_run.specs.Answered.{Answers}
 use Rattle.rtl_run.specs.declared.summary.RunFault.{RunFault}
 use Rattle.rtl_run.specs.declared.summary.RunFault.TheVariants as run
@@ -21,19 +21,19 @@ abbrev pub most_deltas : ℕ
 most_deltas = 1000
 
 -- no process keeps a variable's value from one run to the next
-abbrev pub HasNoneStored : NetView → Type 0
+abbrev pub HasNoneStored : NetlistView → Type 0
 HasNoneStored net = AreStored (core net) []
 
 -- The net is simulated under what the text says, within so many delta cycles at each moment, and the trace is written as
 -- `Answers` says: whole; up to the first moment that doesn't settle; or a beginning of it, where memory is refused or the
 -- sink fails.
-pub record Simulates (text : List ℕ) (net : NetView) (answer : Result Summary RunFault) (old new : SinkState) : Type 0 where
+pub record Simulates (text : List ℕ) (net : NetlistView) (answer : Result Summary RunFault) (old new : SinkState) : Type 0 where
   pub none_stored : HasNoneStored net
   pub stimulus : StimulusView
   pub said : IsRead net text (Ok stimulus)
   pub answers : Answers net stimulus most_deltas old new answer
 
-abbrev pub RunsEvents : (text : List ℕ) → NetView → Result Summary Fault → (old new : SinkState) → Type 0
+abbrev pub RunsEvents : (text : List ℕ) → NetlistView → Result Summary Fault → (old new : SinkState) → Type 0
 RunsEvents text net (Ok summary) old new = Simulates text net (Ok summary) old new
 -- all variables that are stored
 RunsEvents text net (Err (Rejected faults)) old new = AreStored (core net) (map fault_view faults.items) × (faults.items ≢ []) × (new ≡ old)

@@ -6,25 +6,25 @@ use Rattle.rtlsim_commands.specs.declared.faults.Fault.{Fault}
 use Rattle.rtlsim_commands.specs.declared.status.Status.{Status}
 use Rattle.rtlsim_commands.specs.declared.status.Status.TheVariants as status
 use Rattle.rtl_levelized.specs.declared.summary.LevelSummary.{LevelSummary}
-use Rattle.rtl_net.specs.Nets.{NetView}
+use Rattle.rtl_net.specs.Nets.{NetlistView}
 use Rattle.rtl_run.specs.declared.summary.Summary.{Summary}
 use Rattle.rtl_sink.specs.Written.{SinkState, TakesBeginning, Goes}
 use Rattle.vhdl_source_rules.specs.Designs.{IsNetOf}
 
 -- The lines of the fault are told, with the net's names; or, where memory for its names is refused, a beginning of them, and
 -- then that.
-pub record TellsInPart (net : NetView) (fault : Fault) (old new : SinkState) : Type 0 where
+pub record TellsInPart (net : NetlistView) (fault : Fault) (old new : SinkState) : Type 0 where
   pub named : has_names fault ≡ true
   pub between : SinkState
   pub part : TakesBeginning old between (fault_lines net fault)
   pub memory : Goes between new memory_line
 
-abbrev pub TellsFault : NetView → Fault → (old new : SinkState) → (outcome : Status) → Type 0
+abbrev pub TellsFault : NetlistView → Fault → (old new : SinkState) → (outcome : Status) → Type 0
 TellsFault net fault old new outcome =
     (Goes old new (fault_lines net fault) × (outcome ≡ status_of fault)) ⊎ (TellsInPart net fault old new × (outcome ≡ status.Memory))
 
 -- a fault whose lines have names is one of the source's net
-abbrev pub HasNet : (source top : List ℕ) → Fault → NetView → Type 0
+abbrev pub HasNet : (source top : List ℕ) → Fault → NetlistView → Type 0
 HasNet source top fault net = has_names fault ≡ true → IsNetOf source top net
 
 -- the text is told, and where there is none, nothing is done
@@ -39,7 +39,7 @@ pub record Done (A : Type 0) : Type 0 where
 
 abbrev pub Tells : {A : Type 0} → Done A → (source top : List ℕ) → Result A Fault → (old new : SinkState) → (outcome : Status) → Type 0
 Tells done source top (Ok x) old new outcome = TellsText (done.text x) old new × (outcome ≡ done.status x)
-Tells done source top (Err fault) old new outcome = (net : NetView) × HasNet source top fault net × TellsFault net fault old new outcome
+Tells done source top (Err fault) old new outcome = (net : NetlistView) × HasNet source top fault net × TellsFault net fault old new outcome
 
 -- ---- of each command
 

@@ -11,7 +11,7 @@ mod titles;
 
 use crate::status::Status;
 pub(crate) use layers::{elab_notice, lex_notice, name_notice, stim_notice, syntax_notice};
-pub(crate) use notice::{Notice, Place};
+pub(crate) use notice::{Notice, FaultPlace};
 use rtl_check::CheckFault;
 use rtlsim_listing::ListingFault;
 use rtl_machine::MachineFault;

@@ -4,7 +4,7 @@ ghost use Rattle.std.specs.Prelude.{◌≡◌, ◌++◌, codes, decimal, true, f
 ghost use Rattle.std.specs.Option.{option_map};
 ghost use Rattle.rtlsim_listing.specs.Printing.{IsListed};
 ghost use Rattle.rtlsim_listing.specs.declared.fault.ListingFault.TheVariants.{Memory};
-ghost use Rattle.rtl_net.specs.Nets.{NetView};
+ghost use Rattle.rtl_net.specs.Nets.{NetlistView};
 ghost use Rattle.rtl_sink.specs.Written.{Goes, IsIntact};
 ghost use Rattle.rtlsim_commands.specs.Faults.{has_names, of_source};
 ghost use Rattle.rtlsim_commands.specs.Lines.{place_text, notice_text, told_line, race_line, stim_line, fault_lines, memory_line};
@@ -13,7 +13,7 @@ ghost use Rattle.rtlsim_commands.specs.Told.{TellsFault, summary_line, levels_li
 ghost use Rattle.rtlsim_commands.specs.Faults as faults;
 
 use crate::faults::{
-    Fault, Notice, Place, elab_notice, lex_notice, name_notice, stim_notice, syntax_notice,
+    Fault, Notice, FaultPlace, elab_notice, lex_notice, name_notice, stim_notice, syntax_notice,
 };
 use crate::status::Status;
 use rtl_levelized::LevelSummary;
@@ -43,7 +43,7 @@ pub fn tell_fault<E: Sink>(alloc: Global, net: &Net, fault: &Fault, err: &mut E)
 
 /// Writes the line that tells why a source is refused, and answers the status.
 pub fn tell_source_fault<E: Sink>(fault: SourceFault, err: &mut E) -> Status
-    ensures told { (net : NetView) → Goes (E.state err.old) (E.state err.new) (fault_lines net (of_source fault)) }
+    ensures told { (net : NetlistView) → Goes (E.state err.old) (E.state err.new) (fault_lines net (of_source fault)) }
     ensures status { result ≡ faults.status_of (of_source fault) }
 {
     let fault = Fault::from(fault);
@@ -145,7 +145,7 @@ fn push_race<S: Sink>(
 /// Writes what tells a fault whose line has no names.
 fn push_nameless<S: Sink>(sink: &mut S, fault: &Fault)
     requires nameless { has_names fault.now ≡ false }
-    ensures { (net : NetView) → Goes (S.state sink.old) (S.state sink.new) (fault_lines net fault.now) }
+    ensures { (net : NetlistView) → Goes (S.state sink.old) (S.state sink.new) (fault_lines net fault.now) }
 {
     match fault {
         Fault::Lex(lex) => push_notice(sink, lex_notice(lex)),
@@ -154,7 +154,7 @@ fn push_nameless<S: Sink>(sink: &mut S, fault: &Fault)
         Fault::Elab(elab) => push_notice(sink, elab_notice(elab)),
         Fault::Stim(stim) => push_notice(sink, stim_notice(stim)),
         Fault::NoSettling { time } => {
-            let notice = Notice::some("settle", 1, "NoSettling", Place::Time(*time));
+            let notice = Notice::some("settle", 1, "NoSettling", FaultPlace::Time(*time));
             push_notice(sink, notice)
         }
         Fault::Output => push_text(sink, b"rtlsim: output\n"),
@@ -189,14 +189,14 @@ fn push_told<S: Sink>(sink: &mut S, notice: &Notice)
 }
 
 /// Writes where a fault is found.
-fn push_place<S: Sink>(sink: &mut S, place: Place)
+fn push_place<S: Sink>(sink: &mut S, place: FaultPlace)
     ensures { Goes (S.state sink.old) (S.state sink.new) (place_text place) }
 {
     match place {
-        Place::Nowhere => {}
-        Place::Byte(at) => push_counted(sink, b" at ", at as u64),
-        Place::Line(line) => push_counted(sink, b" line ", line as u64),
-        Place::Time(time) => push_counted(sink, b" ", time),
+        FaultPlace::Nowhere => {}
+        FaultPlace::Byte(at) => push_counted(sink, b" at ", at as u64),
+        FaultPlace::Line(line) => push_counted(sink, b" line ", line as u64),
+        FaultPlace::Time(time) => push_counted(sink, b" ", time),
     }
 }
 

@@ -15,7 +15,7 @@ use rtl_sink::Sink;
 use std::alloc::Global;
 use vhdl_source_rules::Front;
 
-/// Writes the lines of the net of a source: `source` has the bytes of the file, `top` the name of an entity in it, in letters of
+/// Writes the lines of the netlist of a source: `source` has the bytes of the file, `top` the name of an entity in it, in letters of
 /// either case. It takes memory for the source's net, and then for one name at a time.
 ///
 /// # Errors
@@ -48,7 +48,7 @@ pub fn list_net<S: Sink>(net: &Net, out: &mut S) -> Result<(), Fault>
     Ok(rtlsim_listing::show_net(net, out)?)
 }
 
-/// Checks the net of a source, writes the lines of the verdict, and answers whether it is yes: `source` has the bytes of the file,
+/// Checks the netlist of a source, writes the lines of the verdict, and answers whether it is yes: `source` has the bytes of the file,
 /// `top` the name of an entity in it, in letters of either case. It takes memory for the source's net, and in proportion to it.
 ///
 /// # Errors
@@ -83,7 +83,7 @@ pub fn check_net<S: Sink>(alloc: Global, net: &Net, out: &mut S) -> Result<bool,
     Ok(is_yes(&verdict))
 }
 
-/// Checks the net of a source, draws its levels where the verdict is yes and writes its lines else, and answers whether it is yes: as
+/// Checks the netlist of a source, draws its levels where the verdict is yes and writes its lines else, and answers whether it is yes: as
 /// `show_check` does, but for the graph.
 ///
 /// # Errors

@@ -1,4 +1,4 @@
-//! Simulation of accepted nets as synchronous machines, from the source and the stimulus on.
+//! Simulation of accepted netlists as synchronous machines, from the source and the stimulus on.
 
 ghost use Rattle.std.specs.Prelude.{IfErr, length, map};
 ghost use Rattle.rtl_stim.specs.Ports.{HasOwnPorts};
@@ -18,7 +18,7 @@ use rtl_sink::Sink;
 use std::alloc::Global;
 use vhdl_source_rules::Front;
 
-/// Simulates the net of a source under a stimulus, where the checker accepts the net and the stimulus has no race, and writes the
+/// Simulates the netlist of a source under a stimulus, where the checker accepts the net and the stimulus has no race, and writes the
 /// trace: that of the synchronous machine. `source` has the bytes of the file, `top` the name of an entity in it, in letters of
 /// either case, `stimulus` the lines of the stimulus, with times in ns; `pick` chooses the order of processes within a cycle. It
 /// answers the number of moments and the greatest number of delta cycles of one, which is the checker's bound at most. It takes
@@ -45,7 +45,7 @@ pub fn run<F: Front, P: Pick, S: Sink>(
     run_net(alloc, &net, stimulus, pick, out)
 }
 
-/// Simulates a net under a stimulus, as `run` does the net of a source.
+/// Simulates a net under a stimulus, as `run` does the netlist of a source.
 ///
 /// # Errors
 ///
@@ -67,7 +67,7 @@ pub fn run_net<P: Pick, S: Sink>(
     }
 }
 
-/// Simulates the net of a source under a stimulus, where `run` does, and writes the trace that it writes: at each moment the clocked
+/// Simulates the netlist of a source under a stimulus, where `run` does, and writes the trace that it writes: at each moment the clocked
 /// processes that an input wakes run once, and then the combinational ones in order of level. `source` has the bytes of the file,
 /// `top` the name of an entity in it, in letters of either case, `stimulus` the lines of the stimulus, with times in ns. It answers
 /// the number of moments, and the checker's bound. It takes memory for the source's net, for the stimulus and for the values of the
@@ -91,7 +91,7 @@ pub fn run_levels<F: Front, S: Sink>(
     run_net_levels(alloc, &net, stimulus, out)
 }
 
-/// Simulates a net under a stimulus, as `run_levels` does the net of a source.
+/// Simulates a net under a stimulus, as `run_levels` does the netlist of a source.
 ///
 /// # Errors
 ///
@@ -136,7 +136,7 @@ pub fn eval<F: Front, S: Sink>(
     eval_net(alloc, &net, sets, out)
 }
 
-/// Evaluates a net, as `eval` does the net of a source.
+/// Evaluates a net, as `eval` does the netlist of a source.
 ///
 /// # Errors
 ///

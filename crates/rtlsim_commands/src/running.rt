@@ -22,7 +22,7 @@ use vhdl_source_rules::Front;
 /// The most delta cycles that a moment may take.
 pub const MAX_DELTAS: u32 = 1000;
 
-/// Simulates the net of a source under a stimulus, by events, and writes the trace: `source` has the bytes of the file, `top` the
+/// Simulates the netlist of a source under a stimulus, by events, and writes the trace: `source` has the bytes of the file, `top` the
 /// name of an entity in it, in letters of either case, `stimulus` the lines of the stimulus, with times in ns; `pick` chooses the
 /// order of processes within a cycle. It answers the number of moments and the greatest number of delta cycles of one, each of
 /// which takes 1,000 at most. Neither checker nor races are asked. It takes memory for the source's net, for the stimulus and for
@@ -51,7 +51,7 @@ pub fn run_event<F: Front, P: Pick, S: Sink>(
     run_events(alloc, &net, stimulus, pick, out)
 }
 
-/// Simulates a net under a stimulus, by events, and writes the trace, as `run_event` does for the net of a source.
+/// Simulates a net under a stimulus, by events, and writes the trace, as `run_event` does for the netlist of a source.
 ///
 /// # Errors
 ///

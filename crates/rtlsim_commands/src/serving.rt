@@ -1,7 +1,7 @@
 //! Commands with what is told of their answers.
 
 ghost use Rattle.std.specs.Prelude.{◌≡◌, map};
-ghost use Rattle.rtl_net.specs.Nets.{NetView};
+ghost use Rattle.rtl_net.specs.Nets.{NetlistView};
 ghost use Rattle.rtl_sink.specs.Written.{IsIntact, Goes};
 ghost use Rattle.rtlsim_commands.specs.Faults.{of_source, status_of};
 ghost use Rattle.rtlsim_commands.specs.Lines.{fault_lines};
@@ -25,7 +25,7 @@ use rtl_sink::Sink;
 use std::alloc::Global;
 use vhdl_source_rules::{Front, SourceFault};
 
-/// Writes the lines of the net of a source to `out` and those of a fault to `err`, and answers the status.
+/// Writes the lines of the netlist of a source to `out` and those of a fault to `err`, and answers the status.
 pub fn serve_net<F: Front, O: Sink, E: Sink>(
     alloc: Global,
     source: &[u8],
@@ -48,7 +48,7 @@ pub fn serve_net<F: Front, O: Sink, E: Sink>(
     }
 }
 
-/// Checks the net of a source, writes the lines of the verdict to `out` and those of a fault to `err`, and answers the status.
+/// Checks the netlist of a source, writes the lines of the verdict to `out` and those of a fault to `err`, and answers the status.
 pub fn serve_check<F: Front, O: Sink, E: Sink>(
     alloc: Global,
     source: &[u8],
@@ -71,7 +71,7 @@ pub fn serve_check<F: Front, O: Sink, E: Sink>(
     }
 }
 
-/// Checks the net of a source, draws its levels to `out` where the verdict is yes and writes its lines there else, writes the lines of a
+/// Checks the netlist of a source, draws its levels to `out` where the verdict is yes and writes its lines there else, writes the lines of a
 /// fault to `err`, and answers the status.
 pub fn serve_check_dot<F: Front, O: Sink, E: Sink>(
     alloc: Global,
@@ -95,7 +95,7 @@ pub fn serve_check_dot<F: Front, O: Sink, E: Sink>(
     }
 }
 
-/// Simulates the net of a source by events, writes the trace to `out`, the number of moments and of delta cycles or the lines of a
+/// Simulates the netlist of a source by events, writes the trace to `out`, the number of moments and of delta cycles or the lines of a
 /// fault to `err`, and answers the status.
 pub fn serve_run_event<F: Front, P: Pick, O: Sink, E: Sink>(
     alloc: Global,
@@ -121,7 +121,7 @@ pub fn serve_run_event<F: Front, P: Pick, O: Sink, E: Sink>(
     }
 }
 
-/// Simulates the net of a source as a synchronous machine, writes the trace to `out`, the number of moments and of delta cycles or
+/// Simulates the netlist of a source as a synchronous machine, writes the trace to `out`, the number of moments and of delta cycles or
 /// the lines of a fault to `err`, and answers the status.
 pub fn serve_run<F: Front, P: Pick, O: Sink, E: Sink>(
     alloc: Global,
@@ -147,7 +147,7 @@ pub fn serve_run<F: Front, P: Pick, O: Sink, E: Sink>(
     }
 }
 
-/// Simulates the net of a source as a synchronous machine, each process run once a moment, writes the trace to `out`, the number of
+/// Simulates the netlist of a source as a synchronous machine, each process run once a moment, writes the trace to `out`, the number of
 /// moments and the bound or the lines of a fault to `err`, and answers the status.
 pub fn serve_run_levels<F: Front, O: Sink, E: Sink>(
     alloc: Global,
@@ -172,7 +172,7 @@ pub fn serve_run_levels<F: Front, O: Sink, E: Sink>(
     }
 }
 
-/// Writes the values of the out ports of the net of a source under these NAME=VALUE words to `out`, the lines of a fault to `err`,
+/// Writes the values of the out ports of the netlist of a source under these NAME=VALUE words to `out`, the lines of a fault to `err`,
 /// and answers the status.
 pub fn serve_eval<F: Front, O: Sink, E: Sink>(
     alloc: Global,
@@ -199,7 +199,7 @@ pub fn serve_eval<F: Front, O: Sink, E: Sink>(
 
 /// Tells why a source is refused, and answers the status.
 fn refuse_source<O: Sink, E: Sink>(fault: SourceFault, out: &O, err: &mut E) -> Status
-    ensures told { (net : NetView) → Goes (E.state err.old) (E.state err.new) (fault_lines net (of_source fault)) }
+    ensures told { (net : NetlistView) → Goes (E.state err.old) (E.state err.new) (fault_lines net (of_source fault)) }
     ensures status { result ≡ ended (status_of (of_source fault)) (O.state out.now) (E.state err.new) }
 {
     let said = tell_source_fault(fault, err);

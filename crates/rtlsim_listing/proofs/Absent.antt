@@ -4,7 +4,7 @@ use Rattle.std.specs.Prelude.{Some, None, option_map}
 use Rattle.std.proofs.lemmas.Option.{slice_get_within}
 use Rattle.std.proofs.lemmas.Bool.Decides.{nat_tests}
 use Rattle.rtl_model.specs.bodies.Types.{ElementType, HasType}
-use Rattle.rtl_net.specs.Nets.{NetView, SignalView, element_type}
+use Rattle.rtl_net.specs.Nets.{NetlistView, SignalView, element_type}
 use Rattle.rtl_net.specs.Names.{place_in, element_or, element_from, element_name, net_name}
 use Rattle.rtl_net.specs.Elaborated.{IsNet, SignalInRange}
 
@@ -24,5 +24,5 @@ no_element types scopes number (s ∷ ss) n there le =
     ap (λ p. element_or number p (element_from (suc number) ss n)) (no_place types (element_type s.kind) s.nets n first.nets le)
     ∙ no_element types scopes (suc number) ss n (λ k d lt. there (suc k) d (omega (arith, lt))) le
 
-pub no_net : (net : NetView) → IsNet net → (n : ℕ) → length net.types ≤ n → net_name net n ≡ []
+pub no_net : (net : NetlistView) → IsNet net → (n : ℕ) → length net.types ≤ n → net_name net n ≡ []
 no_net net is n le = ap (element_name net) (no_element net.types (length net.scopes) 0 net.signals n is.signals le)

@@ -6,7 +6,7 @@ use Rattle.std.proofs.lemmas.Option.{slice_get_within, slice_get-get_or, get_or_
 use Rattle.rtl_check.proofs.Rows.{nets_of_wakes}
 use Rattle.rtl_net.specs.declared.process.Process.{Process}
 use Rattle.rtl_net.specs.Elaborated.{IsNet}
-use Rattle.rtl_net.specs.Nets.{NetView}
+use Rattle.rtl_net.specs.Nets.{NetlistView}
 use Rattle.rtl_sink.specs.Written.{SinkState, Goes}
 use Rattle.rtlsim_listing.specs.DotText.{is_index, without_index, arrow_by, arrow_before}
 
@@ -14,7 +14,7 @@ use Rattle.rtlsim_listing.specs.DotText.{is_index, without_index, arrow_by, arro
 pub process_there : {A : Type 0} (xs : List A) (i : ℕ) (x : A) → i < length xs → x ≡ get_or xs i x → slice_get xs i ≡ Some x
 process_there xs i x lt at = slice_get-get_or xs i x lt ∙ ap (λ y. Some y) (sym at)
 
-pub wakes_there : (net : NetView) → IsNet net → (p : ℕ) (x : Process) → slice_get net.processes p ≡ Some x → All (λ n. n < length net.types) x.wakes.items
+pub wakes_there : (net : NetlistView) → IsNet net → (p : ℕ) (x : Process) → slice_get net.processes p ≡ Some x → All (λ n. n < length net.types) x.wakes.items
 wakes_there net is p x at k d lt =
     nets_of_wakes net is p x (slice_get_within net.processes p x at) (sym (get_or_from_slice_get net.processes p x x at)) k d lt
 
@@ -41,5 +41,5 @@ pub unless_again : (old new : SinkState) (line before arrow last : List ℕ) →
 unless_again old new line before arrow last e f goes = rw (← e, ← f) goes
 
 -- what is before the next place is what stands at this one
-pub before_next : (net : NetView) (to : ℕ) (nets : List ℕ) (place next : ℕ) → next ≡ suc place → arrow_before net to nets next ≡ arrow_by net to (slice_index nets place)
+pub before_next : (net : NetlistView) (to : ℕ) (nets : List ℕ) (place next : ℕ) → next ≡ suc place → arrow_before net to nets next ≡ arrow_by net to (slice_index nets place)
 before_next net to nets place next e = rw e refl

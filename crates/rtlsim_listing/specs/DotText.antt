@@ -1,4 +1,4 @@
--- The levels of an accepted net as a graph in Graphviz's language: a column for each level, with its combinational processes; the
+-- The levels of an accepted netlist as a graph in Graphviz's language: a column for each level, with its combinational processes; the
 -- registers in a column of their own before them; and an arrow to each combinational process from each that drives what it is sensitive
 -- to, with the signal's name. Names stand between quotes as they are: none has a quote or a backslash in it.
 use Rattle.std.specs.Prelude.{ℕ, zero, suc, ◌+◌, ◌==◌, ◌&&◌, Bool, false, if◌then◌else◌, List, [], ◌∷◌, ◌++◌, length, position, bytes_eq, slice_get, slice_index, slice_index_or, Option, Some, None, codes, decimal}
@@ -7,11 +7,11 @@ use Rattle.rtl_check.specs.declared.checking.Verdict.{Verdict}
 use Rattle.rtl_check.specs.declared.checking.Verdict.TheVariants.{Yes, No}
 use Rattle.rtlsim_listing.specs.CheckText.{greatest_level, rejection_text}
 use Rattle.rtlsim_listing.specs.NetText.{lines}
-use Rattle.rtl_model.specs.nets.FlatNet.{flat_sources}
-use Rattle.rtl_model.specs.simulation.Net.{Source, Driver, Idle}
+use Rattle.rtl_model.specs.nets.FlatNetlist.{flat_sources}
+use Rattle.rtl_model.specs.simulation.Netlist.{Source, Driver, Idle}
 use Rattle.rtl_net.specs.declared.process.Process.{Process}
 use Rattle.rtl_net.specs.Names.{net_name, process_name}
-use Rattle.rtl_net.specs.Nets.{NetView, flat}
+use Rattle.rtl_net.specs.Nets.{NetlistView, flat}
 
 -- ---- the name of a vector's elements
 
@@ -34,7 +34,7 @@ without_index (byte ∷ bytes) = if is_index (byte ∷ bytes) then [] else byte 
 
 -- ---- arrows
 
-abbrev pub arrow : NetView → (from to n : ℕ) → List ℕ
+abbrev pub arrow : NetlistView → (from to n : ℕ) → List ℕ
 arrow net from to n =
     codes "    \"" ++ process_name net from ++ codes "\" -> \"" ++ process_name net to ++ codes "\" [label=\"" ++ without_index (net_name net n)
     ++ codes "\"];\n"
@@ -48,25 +48,25 @@ abbrev pub driver_of : List Source → Option ℕ
 driver_of [] = None
 driver_of (source ∷ sources) = process_of source
 
-abbrev pub arrow_from : NetView → (from : Option ℕ) → (to n : ℕ) → List ℕ
+abbrev pub arrow_from : NetlistView → (from : Option ℕ) → (to n : ℕ) → List ℕ
 arrow_from net None to n = []
 arrow_from net (Some from) to n = arrow net from to n
 
 -- to a process by a net: from the one that drives the net, if there is one
-abbrev pub arrow_by : NetView → (to n : ℕ) → List ℕ
+abbrev pub arrow_by : NetlistView → (to n : ℕ) → List ℕ
 arrow_by net to n = arrow_from net (driver_of (flat_sources (flat net) n)) to n
 
 -- by the net before this place among these
-abbrev pub arrow_before : NetView → (to : ℕ) → (nets : List ℕ) → (place : ℕ) → List ℕ
+abbrev pub arrow_before : NetlistView → (to : ℕ) → (nets : List ℕ) → (place : ℕ) → List ℕ
 arrow_before net to nets zero = []
 arrow_before net to nets (suc place) = arrow_by net to (slice_index nets place)
 
 -- by the net at this place, unless it is the same line again
-abbrev pub next_arrow : NetView → (to : ℕ) → (nets : List ℕ) → (place : ℕ) → List ℕ
+abbrev pub next_arrow : NetlistView → (to : ℕ) → (nets : List ℕ) → (place : ℕ) → List ℕ
 next_arrow net to nets place =
     if bytes_eq (arrow_by net to (slice_index nets place)) (arrow_before net to nets place) then [] else arrow_by net to (slice_index nets place)
 
-abbrev pub arrows_by : NetView → (to : ℕ) → (nets : List ℕ) → List ℕ
+abbrev pub arrows_by : NetlistView → (to : ℕ) → (nets : List ℕ) → List ℕ
 arrows_by net to nets = lines (next_arrow net to nets) (length nets)
 
 -- the nets that a process is sensitive to
@@ -74,27 +74,27 @@ abbrev pub wakes_of : Option Process → List ℕ
 wakes_of None = []
 wakes_of (Some process) = process.wakes.items
 
-abbrev pub arrows_to : NetView → (to : ℕ) → List ℕ
+abbrev pub arrows_to : NetlistView → (to : ℕ) → List ℕ
 arrows_to net to = arrows_by net to (wakes_of (slice_get net.processes to))
 
 -- ---- processes
 
-abbrev pub register_text : NetView → (p : ℕ) → List ℕ
+abbrev pub register_text : NetlistView → (p : ℕ) → List ℕ
 register_text net p = codes "    { rank=source; \"" ++ process_name net p ++ codes "\" [peripheries=2]; }\n"
 
-abbrev pub node_text : NetView → (p level : ℕ) → List ℕ
+abbrev pub node_text : NetlistView → (p level : ℕ) → List ℕ
 node_text net p level = codes "    { rank=same; \"level " ++ decimal level ++ codes "\"; \"" ++ process_name net p ++ codes "\"; }\n"
 
 -- in the column of its level, with the arrows to it
-abbrev pub combinational_text : NetView → (p level : ℕ) → List ℕ
+abbrev pub combinational_text : NetlistView → (p level : ℕ) → List ℕ
 combinational_text net p level = node_text net p level ++ arrows_to net p
 
 -- a register has no level
-abbrev pub process_text : NetView → (p : ℕ) → (level : Option ℕ) → List ℕ
+abbrev pub process_text : NetlistView → (p : ℕ) → (level : Option ℕ) → List ℕ
 process_text net p None = register_text net p
 process_text net p (Some level) = combinational_text net p level
 
-abbrev pub process_lines : NetView → (levels : List (Option ℕ)) → (p : ℕ) → List ℕ
+abbrev pub process_lines : NetlistView → (levels : List (Option ℕ)) → (p : ℕ) → List ℕ
 process_lines net levels p = process_text net p (slice_index_or levels p None)
 
 -- ---- the graph
@@ -115,11 +115,11 @@ graph_middle = codes "    node [shape=box];\n    edge [style=solid, fontname=Hel
 abbrev pub columns_text : (levels : ℕ) → List ℕ
 columns_text levels = graph_begin ++ lines column_text levels ++ graph_middle
 
-abbrev pub graph_text : NetView → Report → List ℕ
+abbrev pub graph_text : NetlistView → Report → List ℕ
 graph_text net r =
     columns_text (greatest_level r.levels.items) ++ lines (process_lines net r.levels.items) (length r.levels.items) ++ codes "}\n"
 
 -- the graph of a net that the checker accepts, and the faults of another
-abbrev pub dot_text : NetView → Verdict → List ℕ
+abbrev pub dot_text : NetlistView → Verdict → List ℕ
 dot_text net (Yes report) = graph_text net report
 dot_text net (No faults) = rejection_text net faults.items

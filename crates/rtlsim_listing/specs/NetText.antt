@@ -3,10 +3,10 @@ use Rattle.std.specs.Prelude.{ℕ, Bool, true, false, List, [], ◌∷◌, ◌++
 use Rattle.std.specs.List.{range_with_len}
 use Rattle.vhdl_values.specs.Scalar.{letter_of, value_of_code}
 use Rattle.rtl_model.specs.bodies.Types.{ElementType, nine_valued, enumeration}
-use Rattle.rtl_model.specs.nets.FlatNet.{flat_sources}
-use Rattle.rtl_model.specs.simulation.Net.{Source, Driver, Idle}
+use Rattle.rtl_model.specs.nets.FlatNetlist.{flat_sources}
+use Rattle.rtl_model.specs.simulation.Netlist.{Source, Driver, Idle}
 use Rattle.rtl_net_facts.specs.Reading.{is_in}
-use Rattle.rtl_net.specs.Nets.{NetView, flat}
+use Rattle.rtl_net.specs.Nets.{NetlistView, flat}
 use Rattle.rtl_net.specs.Names.{net_name, process_name}
 
 -- the lines of so many numbers, from 0
@@ -35,7 +35,7 @@ sources_text true sources = codes "in"
 sources_text false sources = driven_text sources
 
 -- its number, its name, what it starts with, and its sources
-abbrev pub net_line : NetView → (n : ℕ) → List ℕ
+abbrev pub net_line : NetlistView → (n : ℕ) → List ℕ
 net_line net n =
     decimal n ++ codes " " ++ net_name net n ++ codes " "
     ++ start_text (slice_index_or net.types n nine_valued) (slice_index net.starts n) ++ codes " "
@@ -43,7 +43,7 @@ net_line net n =
 
 -- ---- processes
 
-abbrev pub process_line : NetView → (p : ℕ) → List ℕ
+abbrev pub process_line : NetlistView → (p : ℕ) → List ℕ
 process_line net p = codes "process " ++ decimal p ++ codes " " ++ process_name net p ++ codes "\n"
 
 -- ---- the net
@@ -51,7 +51,7 @@ process_line net p = codes "process " ++ decimal p ++ codes " " ++ process_name 
 abbrev pub counts_text : (nets processes : ℕ) → List ℕ
 counts_text nets processes = codes "nets " ++ decimal nets ++ codes "\nprocesses " ++ decimal processes ++ codes "\n"
 
-abbrev pub net_text : NetView → List ℕ
+abbrev pub net_text : NetlistView → List ℕ
 net_text net =
     counts_text (length net.types) (length net.processes)
     ++ lines (net_line net) (length net.types) ++ lines (process_line net) (length net.processes)

@@ -35,7 +35,7 @@ pub fn show_check<W: Sink>(
     Ok(())
 }
 
-/// Writes the levels of an accepted net as a graph in Graphviz's language, or as `show_check` does `no` with a line for each fault.
+/// Writes the levels of an accepted netlist as a graph in Graphviz's language, or as `show_check` does `no` with a line for each fault.
 /// It takes the memory of a few names at a time.
 ///
 /// # Errors
@@ -89,7 +89,7 @@ fn push_verdict<W: Sink>(
     }
 }
 
-/// The whole text, with the graph of an accepted net.
+/// The whole text, with the graph of an accepted netlist.
 fn push_drawn<W: Sink>(
     alloc: Global,
     net: &Net,

@@ -1,4 +1,4 @@
-//! The levels of an accepted net as a graph in Graphviz's language.
+//! The levels of an accepted netlist as a graph in Graphviz's language.
 
 ghost use Rattle.std.specs.Prelude.{◌<◌, length};
 ghost use Rattle.rtl_sink.specs.Written.{Goes};

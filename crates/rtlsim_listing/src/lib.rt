@@ -1,6 +1,6 @@
 //! What is printed of a net and of the checker's verdict on it, in lines.
 //!
-//! `specs/NetText.antt` and `specs/CheckText.antt` define the lines, `specs/DotText.antt` the graph of an accepted net's levels, and
+//! `specs/NetText.antt` and `specs/CheckText.antt` define the lines, `specs/DotText.antt` the graph of an accepted netlist's levels, and
 //! `specs/Printing.antt` says what goes out of them where the sink fails or memory is refused.
 #![tactic(auto)]
 

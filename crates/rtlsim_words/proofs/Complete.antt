@@ -9,14 +9,14 @@ use Rattle.rtlsim_words.specs.declared.request.Order.TheVariants.{Forward, Rever
 use Rattle.rtlsim_words.specs.declared.request.Request.{Request}
 use Rattle.rtlsim_words.specs.declared.arguments.Flag.{Flag}
 use Rattle.rtlsim_words.specs.declared.arguments.Flag.TheVariants.{Event, Levels, Dot}
-use Rattle.rtlsim_words.specs.declared.arguments.Kind.{Kind}
-use Rattle.rtlsim_words.specs.declared.arguments.Kind.TheVariants.{Operand, Dashes, FlagIs, OrderNext, OrderIs, Unknown}
+use Rattle.rtlsim_words.specs.declared.arguments.WordKind.{WordKind}
+use Rattle.rtlsim_words.specs.declared.arguments.WordKind.TheVariants.{Operand, Dashes, FlagIs, OrderNext, OrderIs, Unknown}
 use Rattle.rtlsim_words.specs.Words.{Word, is_option, flag_name, order_name, Mixes, Orders, Asks, SayNothing}
 use Rattle.rtlsim_words.specs.Reading.{Given, Onward, option_kind, kind_of, order_named, takes, takes_flag, takes_order, reads, reads_named}
 
 -- ---- what a word's kind says
 
-abbrev Means : Kind → Word → Type 0
+abbrev Means : WordKind → Word → Type 0
 Means Operand word = is_option word ≡ false
 Means Dashes word = word ≡ codes "--"
 Means (FlagIs flag) word = word ≡ flag_name flag
@@ -26,7 +26,7 @@ Means (OrderIs Reverse) word = word ≡ codes "--order=reverse"
 Means Unknown word = Unit {0}
 
 -- a test that holds, or another value that does
-tested : (b : Bool) (word text : Word) → bytes_eq word text ≡ b → (k rest : Kind) → (word ≡ text → Means k word) → Means rest word → Means (if b then k else rest) word
+tested : (b : Bool) (word text : Word) → bytes_eq word text ≡ b → (k rest : WordKind) → (word ≡ text → Means k word) → Means rest word → Means (if b then k else rest) word
 tested true word text e k rest then_k else_k = then_k ((bytes_eq-Decides word text).0 e)
 tested false word text e k rest then_k else_k = else_k
 
@@ -166,7 +166,7 @@ sound_order M N named more onward ih flag None operands total h =
       is = r.is;
     }
 
-sound_as : (k : Kind) (word : Word) (words : List Word) → Means k word → (onward named : Onward) → Sound onward (λ f o ws. Mixes f o ws words) → Sound named (λ f o ws. Orders f o ws words)
+sound_as : (k : WordKind) (word : Word) (words : List Word) → Means k word → (onward named : Onward) → Sound onward (λ f o ws. Mixes f o ws words) → Sound named (λ f o ws. Orders f o ws words)
     → Sound (λ flag order operands. takes k flag order operands word words onward (named flag order operands)) (λ f o ws. Mixes f o ws (word ∷ words))
 sound_as Operand word words m onward named ih ih_named = sound_operand word words m onward ih
 sound_as Dashes word words m onward named ih ih_named = sound_dashes word words m
@@ -211,7 +211,7 @@ complete_flag : (given : Flag) (o : Option Order) (ws : List Word) (onward : Onw
 complete_flag given o ws onward ih (Some before) order operands once one = absurd (true≢false once)
 complete_flag given o ws onward ih None order operands once one = ih (Some given) order operands refl one
 
-as_kind : (k : Kind) (word : Word) → kind_of word ≡ k → (words : List Word) (flag : Option Flag) (order : Option Order) (operands : List Word)
+as_kind : (k : WordKind) (word : Word) → kind_of word ≡ k → (words : List Word) (flag : Option Flag) (order : Option Order) (operands : List Word)
     → reads flag order operands (word ∷ words) ≡ takes k flag order operands word words (λ f o ws. reads f o ws words) (reads_named flag order operands words)
 as_kind k word is words flag order operands =
     ap (λ k. takes k flag order operands word words (λ f o ws. reads f o ws words) (reads_named flag order operands words)) is

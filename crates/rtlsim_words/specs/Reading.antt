@@ -6,10 +6,10 @@ use Rattle.rtlsim_words.specs.declared.request.Order.TheVariants.{Forward, Rever
 use Rattle.rtlsim_words.specs.declared.arguments.Arguments.{Arguments}
 use Rattle.rtlsim_words.specs.declared.arguments.Flag.{Flag}
 use Rattle.rtlsim_words.specs.declared.arguments.Flag.TheVariants.{Event, Levels, Dot}
-use Rattle.rtlsim_words.specs.declared.arguments.Kind.{Kind}
-use Rattle.rtlsim_words.specs.declared.arguments.Kind.TheVariants.{Operand, Dashes, FlagIs, OrderNext, OrderIs, Unknown}
+use Rattle.rtlsim_words.specs.declared.arguments.WordKind.{WordKind}
+use Rattle.rtlsim_words.specs.declared.arguments.WordKind.TheVariants.{Operand, Dashes, FlagIs, OrderNext, OrderIs, Unknown}
 
-abbrev pub option_kind : Word → Kind
+abbrev pub option_kind : Word → WordKind
 option_kind word =
     if bytes_eq word (codes "--") then Dashes
     else (if bytes_eq word (codes "--event") then FlagIs Event
@@ -20,7 +20,7 @@ option_kind word =
     else (if bytes_eq word (codes "--order=reverse") then OrderIs Reverse else Unknown))))))
 
 -- what a word is, by itself
-abbrev pub kind_of : Word → Kind
+abbrev pub kind_of : Word → WordKind
 kind_of word = if not (is_option word) then Operand else option_kind word
 
 abbrev pub order_named : Word → Option Order
@@ -46,7 +46,7 @@ takes_order (Some named) flag (Some before) operands onward = None
 takes_order (Some named) flag None operands onward = onward flag (Some named) operands
 
 -- what a word of this kind does to what was given: the words behind it are read by `onward`, or else by `named`
-abbrev pub takes : Kind → Option Flag → Option Order → List Word → Word → List Word → (onward : Onward) → (named : Option Given) → Option Given
+abbrev pub takes : WordKind → Option Flag → Option Order → List Word → Word → List Word → (onward : Onward) → (named : Option Given) → Option Given
 takes Operand flag order operands word words onward named = onward flag order (operands ++ word ∷ [])
 takes Dashes flag order operands word words onward named = Some (flag, order, operands ++ words)
 takes (FlagIs given) flag order operands word words onward named = takes_flag given flag order operands onward

@@ -26,7 +26,7 @@ pub struct Arguments<'a> {
 
 /// What a word is, by itself.
 #[derive(Clone, Copy)]
-pub enum Kind {
+pub enum WordKind {
     Operand,
     Dashes,
     FlagIs(Flag),
@@ -71,17 +71,17 @@ impl<'a> Arguments<'a> {
         ensures within { IfOk result (λ taken. IfSome taken (λ count. count ≤ length others.now)) }
     {
         match kind_of(word) {
-            Kind::Operand => {
+            WordKind::Operand => {
                 self.operands.push(word)?;
                 Ok(Some(0))
             }
-            Kind::Dashes => {
+            WordKind::Dashes => {
                 self.operands.extend_from_slice(others)?;
                 Ok(Some(others.len()))
             }
-            Kind::FlagIs(flag) if self.take_flag(flag) => Ok(Some(0)),
-            Kind::OrderNext => Ok(self.take_order_named(others)),
-            Kind::OrderIs(order) if self.take_order(order) => Ok(Some(0)),
+            WordKind::FlagIs(flag) if self.take_flag(flag) => Ok(Some(0)),
+            WordKind::OrderNext => Ok(self.take_order_named(others)),
+            WordKind::OrderIs(order) if self.take_order(order) => Ok(Some(0)),
             _ => Ok(None),
         }
     }
@@ -126,34 +126,34 @@ impl<'a> Arguments<'a> {
 }
 
 /// What a word is.
-fn kind_of(word: &str) -> Kind
+fn kind_of(word: &str) -> WordKind
     ensures { result ≡ kind_of word.now }
 {
     if !is_option(word) {
-        return Kind::Operand;
+        return WordKind::Operand;
     }
     if word == "--" {
-        return Kind::Dashes;
+        return WordKind::Dashes;
     }
     if word == "--event" {
-        return Kind::FlagIs(Flag::Event);
+        return WordKind::FlagIs(Flag::Event);
     }
     if word == "--levels" {
-        return Kind::FlagIs(Flag::Levels);
+        return WordKind::FlagIs(Flag::Levels);
     }
     if word == "--dot" {
-        return Kind::FlagIs(Flag::Dot);
+        return WordKind::FlagIs(Flag::Dot);
     }
     if word == "--order" {
-        return Kind::OrderNext;
+        return WordKind::OrderNext;
     }
     if word == "--order=forward" {
-        return Kind::OrderIs(Order::Forward);
+        return WordKind::OrderIs(Order::Forward);
     }
     if word == "--order=reverse" {
-        return Kind::OrderIs(Order::Reverse);
+        return WordKind::OrderIs(Order::Reverse);
     }
-    Kind::Unknown
+    WordKind::Unknown
 }
 
 /// The order of this name.

@@ -10,7 +10,7 @@ use Rattle.vhdl_expand_rules.specs.Tree as tree
 use Rattle.vhdl_elab_rules.specs.Names.{signals_from}
 use Rattle.vhdl_elab_laws.specs.Shown.{signal_shown}
 use Rattle.vhdl_connect.specs.declared.made.Made.{Made}
-use Rattle.vhdl_connect.specs.declared.place.Place.{Place}
+use Rattle.vhdl_connect.specs.declared.place.InstancePlace.{InstancePlace}
 use Rattle.vhdl_connect.specs.Made.{element_view}
 use Rattle.vhdl_connect.specs.Adding.{if_own, own_types, own_starts, object_statics, statics_from, Declares}
 
@@ -54,7 +54,7 @@ none_dropped [] (suc i) l = refl
 none_dropped (x ∷ xs) zero l = absurd (omega (arith, l))
 none_dropped (x ∷ xs) (suc i) l = none_dropped xs i (omega (arith, l))
 
-pub declares_next : (place : Place) (first : ℕ) (o : tree.Object) (os : List tree.Object) (a m b : Made)
+pub declares_next : (place : InstancePlace) (first : ℕ) (o : tree.Object) (os : List tree.Object) (a m b : Made)
     → Declares place first (o ∷ []) a m → Declares place (first + size o.kind) os m b → Declares place first (o ∷ os) a b
 declares_next place first o os a m b h k = record {
   scopes = k.scopes ∙ h.scopes;
@@ -74,7 +74,7 @@ declares_next place first o os a m b h k = record {
     behind : {X : Type 0} (xs ys zs : List X) → (xs ++ (ys ++ [])) ++ zs ≡ xs ++ (ys ++ zs)
     behind xs ys zs = ap (λ ws. (xs ++ ws) ++ zs) (append-nil ys) ∙ append_assoc xs ys zs
 
-pub declares_none : (place : Place) (first : ℕ) (os : List tree.Object) (m : Made) → os ≡ [] → Declares place first os m m
+pub declares_none : (place : InstancePlace) (first : ℕ) (os : List tree.Object) (m : Made) → os ≡ [] → Declares place first os m m
 declares_none place first os m h = subst (λ xs. Declares place first xs m m) (sym h) (record {
   scopes = refl;
   signals = sym (append-nil (map signal_view m.signals.items));

@@ -1,4 +1,4 @@
--- Located processes as processes of the flat net.
+-- Located processes as processes of the flat netlist.
 use Rattle.std.proofs.Common.{◌≡◌, ℕ, zero, suc, ◌+◌, ◌<◌, ◌≤◌, ◌⊎◌, inl, inr, List, [], ◌∷◌, length, get_or, set, map, All, refl, sym, ap, ◌∙◌, subst, arith, get_or-set_same, get_or-set_other, length-set}
 use Rattle.std.specs.Prelude.{slice_index}
 use Rattle.std.specs.List.{AllZip}
@@ -6,7 +6,7 @@ use Rattle.std.proofs.lemmas.Bool.{cases_eq}
 use Rattle.std.proofs.lemmas.List.Elements.{All-map}
 use Rattle.rtl_net.specs.declared.process.Variable.{Variable}
 use Rattle.rtl_net.specs.declared.process.Process.{Process}
-use Rattle.rtl_model.specs.nets.FlatNet.{FlatVariable}
+use Rattle.rtl_model.specs.nets.FlatNetlist.{FlatVariable}
 use Rattle.rtl_net.specs.declared.signal.SignalKind.{SignalKind}
 use Rattle.rtl_net.specs.Nets as nets
 use Rattle.rtl_net.specs.Nets.{driver_view, process_view}
@@ -39,7 +39,7 @@ flat_of v = record { type_of = nets.element_type v.kind; starts = v.starts }
 abbrev named_of : VariableView → List ℕ × SignalKind
 named_of v = (v.name, v.kind)
 
-same-type : (q : kinds.Kind) → nets.element_type (kind_view q) ≡ kinds.element_type q
+same-type : (q : kinds.ObjectKind) → nets.element_type (kind_view q) ≡ kinds.element_type q
 same-type kinds.one = refl
 same-type (kinds.vector b) = refl
 same-type (kinds.enumeration n) = refl

@@ -5,7 +5,7 @@ use Rattle.std.specs.List.{AllZip, AllByRecursion, list_any, range_with_len, enu
 use Rattle.std.proofs.lemmas.List.{length-map}
 use Rattle.std.proofs.lemmas.List.Elements.{All-nil, All-cons, All-weaker}
 use Rattle.smallvec.specs.SmallVec.{SmallVec}
-use Rattle.rtl_model.specs.nets.FlatNet.{FlatNet, flat_sources, starts}
+use Rattle.rtl_model.specs.nets.FlatNetlist.{FlatNetlist, flat_sources, starts}
 use Rattle.rtl_model.specs.simulation.Cycle.{source_value}
 use Rattle.rtl_net.specs.declared.building.Parts.{Parts}
 use Rattle.rtl_net.specs.declared.process.Process.{Process}
@@ -80,7 +80,7 @@ module _ (d : Numbered) (m : Made) (h : IsTold d m) (same : length m.kinds.items
   idle-is : map (idle_at (idle_in (used m))) (range_with_len 0 d.nets) ≡ map (idle_values d) (range_with_len 0 d.nets)
   idle-is = map-run (idle_at (idle_in (used m))) (idle_values d) 0 d.nets d.nets (omega arith) (λ n l. idle-are d.instances m.elements.items m.uses.items h.elements h.uses n)
 
-  -- the flat net by the tables
+  -- the flat netlist by the tables
   flat-is : held.with_defaults (map type_of m.kinds.items) (inputs_in m.elements.items) m.defaults.items (idle_in (used m)) m.processes.items ≡ wiring.with_defaults d
   flat-is = λ i. record {
     types = h.kinds i;
@@ -101,7 +101,7 @@ module _ (d : Numbered) (m : Made) (h : IsTold d m) (same : length m.kinds.items
         ∙ map-run (λ k. start_with (slice_index m.defaults.items k) (items_at table k)) (start_of (wiring.with_defaults d)) 0 d.nets d.nets (omega arith)
         (λ k l. ap (start_with (slice_index m.defaults.items k)) (held-there k l)
         ∙ sym (nets_start (map type_of m.kinds.items) (inputs_in m.elements.items) m.defaults.items (idle_in (used m)) m.processes.items k (omega (arith, l, many)))
-        ∙ ap (λ (net : FlatNet). start_of net k) flat-is)
+        ∙ ap (λ (net : FlatNetlist). start_of net k) flat-is)
 
     shared-is : (n : ℕ) → n < d.nets → nat_le 2 (length (items_at table n)) ≡ is_shared (flat_net d) n
     unfolding flat_net
@@ -109,7 +109,7 @@ module _ (d : Numbered) (m : Made) (h : IsTold d m) (same : length m.kinds.items
         let net = held.with_defaults (map type_of m.kinds.items) (inputs_in m.elements.items) m.defaults.items (idle_in (used m)) m.processes.items in
         ap (λ vs. nat_le 2 (length vs)) (held-there n l ∙ sym (sources_hold (map type_of m.kinds.items) (inputs_in m.elements.items) m.defaults.items (idle_in (used m)) m.processes.items n (omega (arith, l, many))))
         ∙ ap (nat_le 2) (length-map (flat_sources net n) (source_value (map starts (map process_view m.processes.items))))
-        ∙ ap (λ (f : FlatNet). nat_le 2 (length (flat_sources f n))) flat-is
+        ∙ ap (λ (f : FlatNetlist). nat_le 2 (length (flat_sources f n))) flat-is
 
     reads-are : NetsAreThere d → list_any (is_read_of_shared table) (used m) ≡ has_read_of_shared d (flat_net d)
     reads-are there =

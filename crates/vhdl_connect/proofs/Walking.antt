@@ -16,14 +16,14 @@ use Rattle.vhdl_elab_rules.specs.laws.Scopes.{scope_views}
 use Rattle.vhdl_elab_laws.specs.Shown.{signal_shown}
 use Rattle.vhdl_expand_tree.specs.declared.tree.Object.{Object}
 use Rattle.vhdl_expand_tree.specs.declared.tree.Process.{Process}
-use Rattle.vhdl_expand_tree.specs.declared.tree.Part.{Part}
-use Rattle.vhdl_expand_tree.specs.declared.tree.Part.TheVariants as p
+use Rattle.vhdl_expand_tree.specs.declared.tree.InstancePart.{InstancePart}
+use Rattle.vhdl_expand_tree.specs.declared.tree.InstancePart.TheVariants as p
 use Rattle.vhdl_expand_tree.specs.Views.{objects_view, process_view, part_before, parts_of, parts_view}
 use Rattle.vhdl_expand_tree.proofs.Parts.{view_instance}
 use Rattle.vhdl_connect_processes.specs.Located.{IsOf}
 use Rattle.vhdl_connect_processes.specs.declared.process.Round.{Round}
 use Rattle.vhdl_connect.specs.declared.made.Made.{Made}
-use Rattle.vhdl_connect.specs.declared.place.Place.{Place}
+use Rattle.vhdl_connect.specs.declared.place.InstancePlace.{InstancePlace}
 use Rattle.vhdl_connect.specs.Made.{element_view, IsLocated, IsMade}
 use Rattle.vhdl_connect.specs.Adding.{statics_from}
 use Rattle.vhdl_connect.specs.Placing.{AddsPlaced}
@@ -34,27 +34,27 @@ use Rattle.vhdl_connect.proofs.Placing.{placed_made}
 
 -- ---- parts
 
-abbrev pub alone : Part → Parts
+abbrev pub alone : InstancePart → Parts
 alone x = part_before no_parts x
 
-parts-before : (n : ℕ) (r : Placed) (x : Part) (rest : Parts) (d : Numbered) → with_parts n r (part_before rest x) d ≡ with_parts n r rest (with_parts n r (alone x) d)
+parts-before : (n : ℕ) (r : Placed) (x : InstancePart) (rest : Parts) (d : Numbered) → with_parts n r (part_before rest x) d ≡ with_parts n r rest (with_parts n r (alone x) d)
 parts-before n r (p.Process q) rest d = refl
 parts-before n r (p.Instance' label objects turns shape parts) rest d = refl
 
-ready-before : (x : Part) (rest : Parts) → PartsAreReady (part_before rest x) → PartsAreReady (alone x) × PartsAreReady rest
+ready-before : (x : InstancePart) (rest : Parts) → PartsAreReady (part_before rest x) → PartsAreReady (alone x) × PartsAreReady rest
 ready-before (p.Process q) rest h = ((h.0, tt), h.1)
 ready-before (p.Instance' label objects turns shape parts) rest h = ((h.0, tt), h.1)
 
 -- the part that is next, and those behind it, which a change of it leaves alone
-pub dropped : (xs : List Part) (i : ℕ) (d new : Part) → i < length xs → parts_of (drop i xs) ≡ part_before (parts_of (drop (i + 1) (set xs i new))) (get_or xs i d)
+pub dropped : (xs : List InstancePart) (i : ℕ) (d new : InstancePart) → i < length xs → parts_of (drop i xs) ≡ part_before (parts_of (drop (i + 1) (set xs i new))) (get_or xs i d)
 dropped xs i d new l = go i xs l ∙ ap (λ n. part_before (parts_of (drop n (set xs i new))) (get_or xs i d)) (let e : suc i ≡ i + 1 = omega arith in e)
   where
-    go : (j : ℕ) (ys : List Part) → j < length ys → parts_of (drop j ys) ≡ part_before (parts_of (drop (suc j) (set ys j new))) (get_or ys j d)
+    go : (j : ℕ) (ys : List InstancePart) → j < length ys → parts_of (drop j ys) ≡ part_before (parts_of (drop (suc j) (set ys j new))) (get_or ys j d)
     go j [] m = absurd (omega (arith, m))
     go zero (z ∷ zs) m = refl
     go (suc j) (z ∷ zs) m = go j zs (omega (arith, m))
 
-pub none_left : (xs : List Part) (i : ℕ) → length xs ≤ i → parts_of (drop i xs) ≡ no_parts
+pub none_left : (xs : List InstancePart) (i : ℕ) → length xs ≤ i → parts_of (drop i xs) ≡ no_parts
 none_left [] zero l = refl
 none_left [] (suc i) l = refl
 none_left (x ∷ xs) zero l = absurd (omega (arith, l))
@@ -71,11 +71,11 @@ abbrev mutual
   weights (process p rest) = 1 + weights rest
   weights (inner label i rest) = 1 + (weight i + weights rest)
 
-pub weights_before : (x : Part) (rest : Parts) → weights (part_before rest x) ≡ weights (alone x) + weights rest
+pub weights_before : (x : InstancePart) (rest : Parts) → weights (part_before rest x) ≡ weights (alone x) + weights rest
 weights_before (p.Process q) rest = omega arith
 weights_before (p.Instance' label objects turns shape parts) rest = omega arith
 
-pub next_lighter : (rest more : Parts) (x : Part) → rest ≡ part_before more x → weights rest ≡ weights (alone x) + weights more
+pub next_lighter : (rest more : Parts) (x : InstancePart) → rest ≡ part_before more x → weights rest ≡ weights (alone x) + weights more
 next_lighter rest more x h = ap weights h ∙ weights_before x more
 
 -- ---- so far
@@ -89,7 +89,7 @@ pub record SoFar (n : ℕ) (r : Placed) (all rest : Parts) (d : Numbered) (m : M
 pub so_far_begins : (n : ℕ) (r : Placed) (all : Parts) (d : Numbered) (m : Made) → IsMade d m → SoFar n r all all d m
 so_far_begins n r all d m k = record { now = d; made = k; same = refl }
 
-pub so_far_next : (n : ℕ) (r : Placed) (all rest more : Parts) (x : Part) (d : Numbered) (m new : Made) → rest ≡ part_before more x
+pub so_far_next : (n : ℕ) (r : Placed) (all rest more : Parts) (x : InstancePart) (d : Numbered) (m new : Made) → rest ≡ part_before more x
     → ((e : Numbered) → IsMade e m → IsMade (with_parts n r (alone x) e) new) → SoFar n r all rest d m → SoFar n r all more d new
 so_far_next n r all rest more x d m new h k s = record {
   now = with_parts n r (alone x) s.now;
@@ -100,15 +100,15 @@ so_far_next n r all rest more x d m new h k s = record {
 pub so_far_ends : (n : ℕ) (r : Placed) (all rest : Parts) (d : Numbered) (m : Made) → rest ≡ no_parts → SoFar n r all rest d m → IsMade (with_parts n r all d) m
 so_far_ends n r all rest d m h s = subst (λ e. IsMade e m) (sym (s.same ∙ ap (λ ps. with_parts n r ps s.now) h)) s.made
 
-pub next_ready : (rest more : Parts) (x : Part) → rest ≡ part_before more x → PartsAreReady rest → PartsAreReady (alone x)
+pub next_ready : (rest more : Parts) (x : InstancePart) → rest ≡ part_before more x → PartsAreReady rest → PartsAreReady (alone x)
 next_ready rest more x h k = (ready-before x more (subst PartsAreReady h k)).0
 
-pub others_ready : (rest more : Parts) (x : Part) → rest ≡ part_before more x → PartsAreReady rest → PartsAreReady more
+pub others_ready : (rest more : Parts) (x : InstancePart) → rest ≡ part_before more x → PartsAreReady rest → PartsAreReady more
 others_ready rest more x h k = (ready-before x more (subst PartsAreReady h k)).1
 
 -- ---- a process
 
-pub process_ready : (x : Part) (q : Process) → x ≡ p.Process q → PartsAreReady (alone x) → ProcessIsReady (process_view q)
+pub process_ready : (x : InstancePart) (q : Process) → x ≡ p.Process q → PartsAreReady (alone x) → ProcessIsReady (process_view q)
 process_ready x q is h = (subst (λ y. PartsAreReady (alone y)) is h).0
 
 zip-push : {A B : Type 0} (R : A → B → Type 0) (xs : List A) (ys : List B) (x : A) (y : B) → AllZip R xs ys → R x y → AllZip R (xs ++ x ∷ []) (ys ++ y ∷ [])
@@ -118,7 +118,7 @@ zip-push R (a ∷ xs) [] x y h k = absurd h
 zip-push R (a ∷ xs) (b ∷ bs) x y h k = (h.0, zip-push R xs bs x y h.1 k)
 
 -- new is m with a process of a part, which stands in the instance r
-pub process_made : (round : Round) (r : Placed) (x : Part) (q : Process) (d : Numbered) (m : Made) (ps : Vec net.Process Global) (made : net.Process)
+pub process_made : (round : Round) (r : Placed) (x : InstancePart) (q : Process) (d : Numbered) (m : Made) (ps : Vec net.Process Global) (made : net.Process)
     → x ≡ p.Process q → IsIn r round → IsMade d m
     → IsOf round.scope round.nets.now round.defaults.now (process_view q) made → ps.items ≡ m.processes.items ++ made ∷ []
     → IsMade (with_parts round.scope r (alone x) d) (record m { processes = ps })
@@ -138,16 +138,16 @@ process_made round r x q d m ps made is at h k e =
 
 -- ---- an instance
 
-pub inner_lighter : (x : Part) (label : Vec ℕ Global) (objects : Vec Object Global) (turns : ℕ) (parts : Vec Part Global)
+pub inner_lighter : (x : InstancePart) (label : Vec ℕ Global) (objects : Vec Object Global) (turns : ℕ) (parts : Vec InstancePart Global)
     → x ≡ p.Instance label (record { objects = objects; turns = turns; parts = parts }) → weights (alone x) ≡ 3 + weights (parts_view parts)
 inner_lighter x label objects turns parts is = ap weights (ap alone is ∙ view_instance no_parts label objects turns parts) ∙ (let e : 1 + (2 + weights (parts_view parts) + 0) ≡ 3 + weights (parts_view parts) = omega arith in e)
 
-pub inner_ready : (x : Part) (label : Vec ℕ Global) (objects : Vec Object Global) (turns : ℕ) (parts : Vec Part Global)
+pub inner_ready : (x : InstancePart) (label : Vec ℕ Global) (objects : Vec Object Global) (turns : ℕ) (parts : Vec InstancePart Global)
     → x ≡ p.Instance label (record { objects = objects; turns = turns; parts = parts }) → PartsAreReady (alone x) → PartsAreReady (parts_view parts)
 inner_ready x label objects turns parts is h = (subst PartsAreReady (ap alone is ∙ view_instance no_parts label objects turns parts) h).0
 
 -- an instance that stands in the instance r
-pub inner_made : {E : Type 0} (round : Round) (above : Above) (r : Placed) (x : Part) (label : Vec ℕ Global) (objects : Vec Object Global) (turns : ℕ) (parts : Vec Part Global) (d : Numbered) (result : Result Unit E) (new : Made)
+pub inner_made : {E : Type 0} (round : Round) (above : Above) (r : Placed) (x : InstancePart) (label : Vec ℕ Global) (objects : Vec Object Global) (turns : ℕ) (parts : Vec InstancePart Global) (d : Numbered) (result : Result Unit E) (new : Made)
     → x ≡ p.Instance label (record { objects = objects; turns = turns; parts = parts }) → IsIn r round → above.parent ≡ Some round.scope → above.nets.now ≡ round.nets.now
     → OnOk result (IsMade (with_instance (above_at above (r.path ++ codes ".")) label.items (instance (objects_view objects) turns (parts_view parts)) d) new)
     → OnOk result (IsMade (with_parts round.scope r (alone x) d) new)
@@ -164,7 +164,7 @@ scopes-count d m h =
     ∙ length-map (map scope_of d.instances) (λ s. record { label = s.label; parent = s.parent }) ∙ length-map d.instances scope_of
 
 -- where an instance stands: its scope is the next one, and its own nets begin with the next one
-pub record StandsAt (above : elab.Above) (label : List ℕ) (objects : List tree.Object) (a : Made) (scope : Scope) (place : Place) : Type 0 where
+pub record StandsAt (above : elab.Above) (label : List ℕ) (objects : List tree.Object) (a : Made) (scope : Scope) (place : InstancePlace) : Type 0 where
   pub number : place.scope ≡ length a.scopes.items
   pub top : place.is_top ≡ is_none above.parent
   pub nets : place.nets.now ≡ element_nets above.nets (length a.kinds.items) objects
@@ -172,7 +172,7 @@ pub record StandsAt (above : elab.Above) (label : List ℕ) (objects : List tree
   pub parent_is : scope.parent ≡ above.parent
 
 -- what an instance adds before what stands in it
-instance-placed : (above : elab.Above) (label : List ℕ) (objects : List tree.Object) (turns : ℕ) (parts : Parts) (scope : Scope) (place : Place) (d : Numbered) (a b : Made)
+instance-placed : (above : elab.Above) (label : List ℕ) (objects : List tree.Object) (turns : ℕ) (parts : Parts) (scope : Scope) (place : InstancePlace) (d : Numbered) (a b : Made)
     → IsMade d a → StandsAt above label objects a scope place → AddsPlaced place scope (instance objects turns parts) a b
     → IsMade (with_placed (placed above label d.nets (instance objects turns parts)) d) b
 instance-placed above label objects turns parts scope place d a b h at k =
@@ -188,7 +188,7 @@ instance-placed above label objects turns parts scope place d a b h at k =
     k.uses
 
 -- an instance, and what stands in it behind it
-pub instance_made : {E : Type 0} (above : elab.Above) (label : List ℕ) (objects : List tree.Object) (turns : ℕ) (parts left : Parts) (scope : Scope) (place : Place) (round : Round)
+pub instance_made : {E : Type 0} (above : elab.Above) (label : List ℕ) (objects : List tree.Object) (turns : ℕ) (parts left : Parts) (scope : Scope) (place : InstancePlace) (round : Round)
     (d : Numbered) (a b new : Made) (result : Result Unit E)
     → IsMade d a → StandsAt above label objects a scope place → AddsPlaced place scope (instance objects turns parts) a b
     → round.scope ≡ place.scope → round.nets.now ≡ place.nets.now → round.defaults.now ≡ defaults_of objects → left ≡ parts

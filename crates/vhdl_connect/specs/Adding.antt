@@ -8,7 +8,7 @@ use Rattle.vhdl_expand_rules.specs.Tree.{Object}
 use Rattle.vhdl_elab_rules.specs.Names.{Signal, is_port_role, signals_from}
 use Rattle.vhdl_elab_laws.specs.Shown.{signal_shown}
 use Rattle.vhdl_connect.specs.declared.made.Made.{Made}
-use Rattle.vhdl_connect.specs.declared.place.Place.{Place}
+use Rattle.vhdl_connect.specs.declared.place.InstancePlace.{InstancePlace}
 use Rattle.vhdl_connect.specs.Made.{Static, element_view}
 
 -- how many elements objects have
@@ -67,7 +67,7 @@ own_starts o = if_own o (map (slice_index o.starts) (range_with_len 0 (size o.ki
 -- ---- all
 
 -- new is old with what these objects add, which stand in this place, the first element of them having this number
-pub record Declares (place : Place) (first : ℕ) (os : List Object) (old new : Made) : Type 0 where
+pub record Declares (place : InstancePlace) (first : ℕ) (os : List Object) (old new : Made) : Type 0 where
   pub scopes : new.scopes ≡ old.scopes
   pub signals : map signal_view new.signals.items ≡ map signal_view old.signals.items ++ map signal_shown (signals_from place.scope place.nets.now first os)
   pub processes : new.processes ≡ old.processes

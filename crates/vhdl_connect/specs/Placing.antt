@@ -10,7 +10,7 @@ use Rattle.vhdl_elab_laws.specs.Shown.{signal_shown}
 use Rattle.vhdl_connect_processes.specs.declared.uses.Use.{Use}
 use Rattle.vhdl_connect_processes.specs.Uses as uses
 use Rattle.vhdl_connect.specs.declared.made.Made.{Made}
-use Rattle.vhdl_connect.specs.declared.place.Place.{Place}
+use Rattle.vhdl_connect.specs.declared.place.InstancePlace.{InstancePlace}
 use Rattle.vhdl_connect.specs.Made.{element_view}
 use Rattle.vhdl_connect.specs.Adding.{elements_count, statics_from, own_types, own_starts}
 
@@ -22,7 +22,7 @@ abbrev pub uses_within : Instance → List Use
 uses_within i = map (uses.use_of (driven_in (parts_in i)) (read_in (parts_in i))) (range_with_len 0 (elements_count (objects_of i)))
 
 -- new is old with an instance in this place, without what stands in it
-pub record AddsPlaced (place : Place) (scope : Scope) (i : Instance) (old new : Made) : Type 0 where
+pub record AddsPlaced (place : InstancePlace) (scope : Scope) (i : Instance) (old new : Made) : Type 0 where
   pub scopes : new.scopes.items ≡ old.scopes.items ++ scope ∷ []
   pub signals : map signal_view new.signals.items ≡ map signal_view old.signals.items ++ map signal_shown (signals_from place.scope place.nets.now 0 (objects_of i))
   pub processes : new.processes ≡ old.processes

@@ -1,4 +1,4 @@
--- A process of the flat net of so many nets, and a numbered process that it is.
+-- A process of the flat netlist of so many nets, and a numbered process that it is.
 use Rattle.std.specs.Prelude.{◌≡◌, ℕ, ◌<◌, All, List}
 use Rattle.std.specs.List.{AllByRecursion}
 use Rattle.rtl_net.specs.declared.process.Process.{Process}

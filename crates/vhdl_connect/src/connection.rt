@@ -1,4 +1,4 @@
-//! The parts of the flat net of a design.
+//! The parts of the flat netlist of a design.
 
 ghost use Rattle.std.specs.Prelude.{◌≡◌, true, All, IfOk};
 ghost use Rattle.rtl_net.specs.Elaborated.{ReadsOfBody};
@@ -6,7 +6,7 @@ ghost use Rattle.rtl_net.specs.Parts.{assembled, IdleAreThere};
 ghost use Rattle.vhdl_expand_tree.specs.Views.{design_view};
 ghost use Rattle.vhdl_elab_rules.specs.Elaboration.{connected};
 ghost use Rattle.vhdl_elab_rules.specs.Limits.{counts, is_within_limits};
-ghost use Rattle.vhdl_elab_rules.specs.Numbering.{numbered};
+ghost use Rattle.vhdl_elab_rules.specs.Numbering.{numbered_design};
 ghost use Rattle.vhdl_expand_bodies.specs.Results.{Expands};
 ghost use Rattle.vhdl_elab_laws.specs.Shown.{as_shown, net_shown};
 ghost use Rattle.vhdl_connect.specs.Ready.{InstanceIsReady};
@@ -19,13 +19,13 @@ use vhdl_expand_tree::Design;
 use vhdl_expand_rules::ElabFault;
 use crate::walk::number;
 
-/// The parts of the flat net of a design within the limits, where it breaks no rule of a design as a whole (IEEE 1076-2008,
+/// The parts of the flat netlist of a design within the limits, where it breaks no rule of a design as a whole (IEEE 1076-2008,
 /// 6.4.2.3, 14.7.2, 14.7.3): its instances, nets and processes are numbered and its nets are wired. It takes the memory of the
 /// net's parts, and for a while that of a table of elements and one of what the sources of nets hold.
 pub fn connect(alloc: Global, design: Design) -> Result<Parts, ElabFault>
     requires ready { InstanceIsReady (design_view design).top }
-    requires there { NetsAreThere (numbered (design_view design)) }
-    requires within { is_within_limits (counts (numbered (design_view design))) ≡ true }
+    requires there { NetsAreThere (numbered_design (design_view design)) }
+    requires within { is_within_limits (counts (numbered_design (design_view design))) ≡ true }
     ensures given { Expands (λ p. net_shown (assembled p)) (as_shown (connected (design_view design))) result }
     ensures reads { IfOk result (λ p. All ReadsOfBody p.processes.items) }
     ensures idle { IfOk result IdleAreThere }

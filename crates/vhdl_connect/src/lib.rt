@@ -1,4 +1,4 @@
-//! The parts of the flat net of a design (IEEE 1076-2008, 6.4.2.3, 14.7.2, 14.7.3).
+//! The parts of the flat netlist of a design (IEEE 1076-2008, 6.4.2.3, 14.7.2, 14.7.3).
 #![tactic(auto)]
 
 mod connection;
@@ -14,6 +14,6 @@ mod wiring;
 
 pub use connection::connect;
 pub use made::{Element, Made};
-pub use place::Place;
+pub use place::InstancePlace;
 pub use walk::number;
 pub use wiring::wire;

@@ -11,7 +11,7 @@ ghost use Rattle.vhdl_connect.specs.Adding.{own_starts, own_types};
 use rtl_net::NetKind;
 use std::alloc::AllocError;
 use vhdl_expand_tree::Object;
-use vhdl_expand_rules::Kind;
+use vhdl_expand_rules::ObjectKind;
 
 /// What an element starts with.
 pub(crate) fn start_at(starts: &[u8], element: usize) -> u8
@@ -24,13 +24,13 @@ pub(crate) fn start_at(starts: &[u8], element: usize) -> u8
 }
 
 /// The type of the nets of an object of this kind. Memory would be refused for a count of literals beyond a word.
-fn net_kind(kind: Kind) -> Result<NetKind, AllocError>
+fn net_kind(kind: ObjectKind) -> Result<NetKind, AllocError>
     ensures { IfOk result (λ k. type_of k ≡ element_type (kind_view kind)) }
 {
     match kind {
-        Kind::One => Ok(NetKind::Nine),
-        Kind::Vector(_) => Ok(NetKind::Nine),
-        Kind::Enumeration(count) => match u32::try_from(count) {
+        ObjectKind::One => Ok(NetKind::Nine),
+        ObjectKind::Vector(_) => Ok(NetKind::Nine),
+        ObjectKind::Enumeration(count) => match u32::try_from(count) {
             Ok(count) => Ok(NetKind::Enumeration { count }),
             Err(_) => Err(AllocError),
         },
@@ -38,7 +38,7 @@ fn net_kind(kind: Kind) -> Result<NetKind, AllocError>
 }
 
 /// Puts the types of the nets of an object of this kind behind others.
-fn push_kinds(kinds: &mut Vec<NetKind>, kind: Kind) -> Result<(), AllocError>
+fn push_kinds(kinds: &mut Vec<NetKind>, kind: ObjectKind) -> Result<(), AllocError>
     ensures { OnOk result (map type_of kinds.new.items ≡ map type_of kinds.old.items ++ replicate (size (kind_view kind)) (element_type (kind_view kind))) }
 {
     let net = net_kind(kind)?;

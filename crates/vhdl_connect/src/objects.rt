@@ -10,7 +10,7 @@ ghost use Rattle.vhdl_connect.specs.Placing.{AddsPlaced};
 
 use crate::made::Made;
 use crate::nets::{push_own_defaults, push_own_kinds};
-use crate::place::Place;
+use crate::place::InstancePlace;
 use rtl_net::Scope;
 use std::alloc::AllocError;
 use vhdl_connect_processes::uses_in;
@@ -21,7 +21,7 @@ impl Made {
     /// is taken out of the tree.
     fn object(
         &mut self,
-        place: &Place,
+        place: &InstancePlace,
         first: usize,
         object: &mut Object,
     ) -> Result<usize, AllocError>
@@ -39,7 +39,7 @@ impl Made {
     }
 
     /// Adds the objects of an instance, and gives the number of their elements. Their names are taken out of the tree.
-    fn objects(&mut self, place: &Place, objects: &mut [Object]) -> Result<usize, AllocError>
+    fn objects(&mut self, place: &InstancePlace, objects: &mut [Object]) -> Result<usize, AllocError>
         ensures count { IfOk result (λ n. n ≡ elements_count (map object_view objects.old)) }
         ensures made { OnOk result (Declares place.now 0 (map object_view objects.old) self.old self.new) }
     {
@@ -55,7 +55,7 @@ impl Made {
     /// element, and time to sort what each process in it reads. After a fault the tables may have a part of it.
     pub fn declare(
         &mut self,
-        place: &Place,
+        place: &InstancePlace,
         scope: Scope,
         from: &mut Instance,
     ) -> Result<(), AllocError>

@@ -21,7 +21,7 @@ use vhdl_expand_tree::{Object, Role};
 
 /// The place of an instance: its number, whether it is the top, and the nets of its elements, in order of declaration.
 #[derive(Clone, Copy)]
-pub struct Place<'a> {
+pub struct InstancePlace<'a> {
     pub alloc: Global,
     pub scope: usize,
     pub is_top: bool,
@@ -49,7 +49,7 @@ fn is_port(role: Role) -> bool
     }
 }
 
-impl Place<'_> {
+impl InstancePlace<'_> {
     /// Puts the elements of an object behind others, where its first element has this number.
     pub(crate) fn push_elements(
         &self,

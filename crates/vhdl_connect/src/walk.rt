@@ -2,7 +2,7 @@
 
 ghost use Rattle.std.specs.Prelude.{◌≡◌, ℕ, List, IfOk, OnOk};
 ghost use Rattle.vhdl_expand_rules.specs.Tree.{no_parts};
-ghost use Rattle.vhdl_elab_rules.specs.Numbering.{Numbered, Placed, numbered, with_instance, with_parts};
+ghost use Rattle.vhdl_elab_rules.specs.Numbering.{Numbered, Placed, numbered_design, with_instance, with_parts};
 ghost use Rattle.vhdl_expand_tree.specs.Views.{design_view, instance_view, part_before, parts_of};
 ghost use Rattle.vhdl_connect.specs.Made.{IsMade};
 ghost use Rattle.vhdl_connect.specs.Ready.{InstanceIsReady, PartsAreReady};
@@ -12,9 +12,9 @@ use rtl_net::Scope;
 use std::alloc::{AllocError, Global};
 use std::mem;
 use vhdl_connect_processes::{Round, defaults_of, element_nets};
-use vhdl_expand_tree::{Design, Instance, Part};
+use vhdl_expand_tree::{Design, Instance, InstancePart};
 use crate::made::Made;
-use crate::place::Place;
+use crate::place::InstancePlace;
 
 /// What an instance stands in: the number of the instance, and the nets of that one's elements.
 #[derive(Clone, Copy)]
@@ -39,7 +39,7 @@ fn instance(
     let nets = element_nets(alloc, above.nets, made.kinds.len(), &from.objects)?;
     let defaults = defaults_of(alloc, &from.objects)?;
     let scope = made.scopes.len();
-    let place = Place {
+    let place = InstancePlace {
         alloc,
         scope,
         is_top: above.parent.is_none(),
@@ -58,7 +58,7 @@ fn instance(
 
 /// Adds what stands in an instance, in order of the text, behind what is made already. It is taken apart.
 #[cycle(instance)]
-fn parts(round: &Round, list: &mut [Part], made: &mut Made) -> Result<(), AllocError>
+fn parts(round: &Round, list: &mut [InstancePart], made: &mut Made) -> Result<(), AllocError>
     requires { PartsAreReady (parts_of list.old) }
     ensures { (d : Numbered) (p : Placed) → IsIn p round.now → IsMade d made.old
         → OnOk result (IsMade (with_parts round.now.scope p (parts_of list.old) d) made.new) }
@@ -71,17 +71,17 @@ fn parts(round: &Round, list: &mut [Part], made: &mut Made) -> Result<(), AllocE
 
 /// Adds a process or an instance that stands in an instance, behind what is made already. It is taken apart.
 #[cycle(instance)]
-fn part(round: &Round, from: &mut Part, made: &mut Made) -> Result<(), AllocError>
+fn part(round: &Round, from: &mut InstancePart, made: &mut Made) -> Result<(), AllocError>
     requires { PartsAreReady (part_before no_parts from.old) }
     ensures { (d : Numbered) (p : Placed) → IsIn p round.now → IsMade d made.old
         → OnOk result (IsMade (with_parts round.now.scope p (part_before no_parts from.old) d) made.new) }
 {
     match from {
-        Part::Process(process) => {
+        InstancePart::Process(process) => {
             made.processes.push(round.process(process)?)?;
             Ok(())
         }
-        Part::Instance {
+        InstancePart::Instance {
             label,
             instance: inner,
         } => {
@@ -100,7 +100,7 @@ fn part(round: &Round, from: &mut Part, made: &mut Made) -> Result<(), AllocErro
 /// and defaults of one.
 pub fn number(alloc: Global, mut design: Design) -> Result<Made, AllocError>
     requires { InstanceIsReady (design_view design).top }
-    ensures { IfOk result (λ m. IsMade (numbered (design_view design)) m) }
+    ensures { IfOk result (λ m. IsMade (numbered_design (design_view design)) m) }
 {
     let mut made = Made::nothing(alloc);
     let name = mem::replace(&mut design.name, Vec::new(alloc));

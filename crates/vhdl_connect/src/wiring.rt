@@ -1,4 +1,4 @@
-//! The parts of the flat net of a numbered design.
+//! The parts of the flat netlist of a numbered design.
 
 ghost use Rattle.std.specs.Prelude.{◌≡◌, All, length, IfOk};
 ghost use Rattle.rtl_net.specs.Elaborated.{ReadsOfBody};
@@ -16,7 +16,7 @@ use std::alloc::Global;
 use vhdl_expand_rules::ElabFault;
 use crate::made::Made;
 
-/// The parts of the flat net of the numbered design that these tables are made of, where it breaks no rule of a design as a
+/// The parts of the flat netlist of the numbered design that these tables are made of, where it breaks no rule of a design as a
 /// whole: an unresolved element with two sources, and an out port with several sources that is read. It takes the memory of a
 /// table of what the sources of nets hold.
 pub fn wire(alloc: Global, made: Made) -> Result<Parts, ElabFault>

@@ -3,7 +3,7 @@ use Rattle.std.proofs.Common.{◌≡◌, List, [], ◌∷◌, length, map, Optio
 use Rattle.std.specs.Prelude.{OnOk, option_map}
 use Rattle.std.specs.Vec.{with_items}
 use Rattle.std.proofs.lemmas.List.{with_items_is}
-use Rattle.rtl_model.specs.bodies.Body as m
+use Rattle.rtl_model.specs.bodies.Body as bodies
 use Rattle.rtl_net.specs.declared.body.Expr.{Expr}
 use Rattle.rtl_net.specs.declared.body.Expr.TheVariants as ve
 use Rattle.rtl_net.specs.declared.body.Link.{Link}
@@ -24,102 +24,102 @@ use Rattle.vhdl_connect_bodies.specs.Connected.{BranchView, branch_view, branch_
 
 -- ---- lists of parts, by their views
 
-linked : m.Expr → List LinkView → m.Expr
+linked : bodies.Expr → List LinkView → bodies.Expr
 linked left [] = left
-linked left (l ∷ ls) = linked (m.binary l.operator left l.operand) ls
+linked left (l ∷ ls) = linked (bodies.binary l.operator left l.operand) ls
 
-links-linked : (left : m.Expr) (ls : List Link) → links_of left ls ≡ linked left (map link_view ls)
+links-linked : (left : bodies.Expr) (ls : List Link) → links_of left ls ≡ linked left (map link_view ls)
 unfolding linked
 links-linked left [] = refl
-links-linked left (l ∷ ls) = links-linked (m.Expr.binary (operator_view l.operator) left (expr_view l.operand)) ls
+links-linked left (l ∷ ls) = links-linked (bodies.Expr.binary (operator_view l.operator) left (expr_view l.operand)) ls
 
-combined : m.Test → List TestLinkView → m.Test
+combined : bodies.Test → List TestLinkView → bodies.Test
 combined left [] = left
-combined left (l ∷ ls) = combined (m.combined l.operator left l.operand) ls
+combined left (l ∷ ls) = combined (bodies.combined l.operator left l.operand) ls
 
-links-combined : (left : m.Test) (ls : List TestLink) → test_links_of left ls ≡ combined left (map test_link_view ls)
+links-combined : (left : bodies.Test) (ls : List TestLink) → test_links_of left ls ≡ combined left (map test_link_view ls)
 unfolding combined
 links-combined left [] = refl
-links-combined left (l ∷ ls) = links-combined (m.combined l.operator left (test_view l.operand)) ls
+links-combined left (l ∷ ls) = links-combined (bodies.combined l.operator left (test_view l.operand)) ls
 
-sequence : List m.Stmt → m.Stmts
-sequence [] = m.done
-sequence (x ∷ xs) = m.step x (sequence xs)
+sequence : List bodies.Stmt → bodies.Stmts
+sequence [] = bodies.done
+sequence (x ∷ xs) = bodies.step x (sequence xs)
 
 in-sequence : (xs : List Statement) → statements_of xs ≡ sequence (map statement_view xs)
 unfolding sequence
 in-sequence [] = refl
-in-sequence (x ∷ xs) = ap (m.step (statement_view x)) (in-sequence xs)
+in-sequence (x ∷ xs) = ap (bodies.step (statement_view x)) (in-sequence xs)
 
-branched : m.Branches → List BranchView → m.Branches
+branched : bodies.Branches → List BranchView → bodies.Branches
 branched last [] = last
-branched last (b ∷ bs) = m.branch b.test b.statements (branched last bs)
+branched last (b ∷ bs) = bodies.branch b.test b.statements (branched last bs)
 
-in-branches : (last : m.Branches) (bs : List Branch) → branches_of last bs ≡ branched last (map branch_view bs)
+in-branches : (last : bodies.Branches) (bs : List Branch) → branches_of last bs ≡ branched last (map branch_view bs)
 unfolding branched
 in-branches last [] = refl
-in-branches last (b ∷ bs) = ap (m.branch (test_view b.test) (statements_of b.statements.items)) (in-branches last bs)
+in-branches last (b ∷ bs) = ap (bodies.branch (test_view b.test) (statements_of b.statements.items)) (in-branches last bs)
 
-selected : m.Stmts → List AlternativeView → m.Alternatives
-selected last [] = m.others last
-selected last (a ∷ as') = m.alternative a.choices a.statements (selected last as')
+selected : bodies.Stmts → List AlternativeView → bodies.Alternatives
+selected last [] = bodies.others last
+selected last (a ∷ as') = bodies.alternative a.choices a.statements (selected last as')
 
-in-alternatives : (last : m.Stmts) (as' : List Alternative) → alternatives_of last as' ≡ selected last (map alternative_view as')
+in-alternatives : (last : bodies.Stmts) (as' : List Alternative) → alternatives_of last as' ≡ selected last (map alternative_view as')
 unfolding selected
 in-alternatives last [] = refl
-in-alternatives last (a ∷ as') = ap (m.alternative (alternative_view a).choices (statements_of a.statements.items)) (in-alternatives last as')
+in-alternatives last (a ∷ as') = ap (bodies.alternative (alternative_view a).choices (statements_of a.statements.items)) (in-alternatives last as')
 
 module _ (c : Connection) where
   -- ---- what is made of them
 
-  linked-in : (left : m.Expr) (ls : List LinkView) → expr_in c (linked left ls) ≡ linked (expr_in c left) (map (link_in c) ls)
+  linked-in : (left : bodies.Expr) (ls : List LinkView) → expr_in c (linked left ls) ≡ linked (expr_in c left) (map (link_in c) ls)
   unfolding linked
   linked-in left [] = refl
-  linked-in left (l ∷ ls) = linked-in (m.Expr.binary l.operator left l.operand) ls
+  linked-in left (l ∷ ls) = linked-in (bodies.Expr.binary l.operator left l.operand) ls
 
-  links-in : (left : m.Expr) (old new : List Link) → Became link_view (link_in c) old new → links_of (expr_in c left) new ≡ expr_in c (links_of left old)
+  links-in : (left : bodies.Expr) (old new : List Link) → Became link_view (link_in c) old new → links_of (expr_in c left) new ≡ expr_in c (links_of left old)
   links-in left old new h =
       links-linked (expr_in c left) new ∙ ap (linked (expr_in c left)) h ∙ sym (linked-in left (map link_view old)) ∙ ap (expr_in c) (sym (links-linked left old))
 
-  combined-in : (left : m.Test) (ls : List TestLinkView) → test_in c (combined left ls) ≡ combined (test_in c left) (map (test_link_in c) ls)
+  combined-in : (left : bodies.Test) (ls : List TestLinkView) → test_in c (combined left ls) ≡ combined (test_in c left) (map (test_link_in c) ls)
   unfolding combined
   combined-in left [] = refl
-  combined-in left (l ∷ ls) = combined-in (m.combined l.operator left l.operand) ls
+  combined-in left (l ∷ ls) = combined-in (bodies.combined l.operator left l.operand) ls
 
-  tests-in : (left : m.Test) (old new : List TestLink) → Became test_link_view (test_link_in c) old new → test_links_of (test_in c left) new ≡ test_in c (test_links_of left old)
+  tests-in : (left : bodies.Test) (old new : List TestLink) → Became test_link_view (test_link_in c) old new → test_links_of (test_in c left) new ≡ test_in c (test_links_of left old)
   tests-in left old new h =
       links-combined (test_in c left) new ∙ ap (combined (test_in c left)) h ∙ sym (combined-in left (map test_link_view old)) ∙ ap (test_in c) (sym (links-combined left old))
 
-  sequence-in : (xs : List m.Stmt) → body_in c (sequence xs) ≡ sequence (map (statement_in c) xs)
+  sequence-in : (xs : List bodies.Stmt) → body_in c (sequence xs) ≡ sequence (map (statement_in c) xs)
   unfolding sequence
   sequence-in [] = refl
-  sequence-in (x ∷ xs) = ap (m.step (statement_in c x)) (sequence-in xs)
+  sequence-in (x ∷ xs) = ap (bodies.step (statement_in c x)) (sequence-in xs)
 
   -- a body, by its statements
   body_becomes : (old new : List Statement) → Became statement_view (statement_in c) old new → statements_of new ≡ body_in c (statements_of old)
   body_becomes old new h = in-sequence new ∙ ap sequence h ∙ sym (sequence-in (map statement_view old)) ∙ ap (body_in c) (sym (in-sequence old))
 
-  abbrev branches-made : m.Branches → m.Branches
+  abbrev branches-made : bodies.Branches → bodies.Branches
   branches-made = connected_branches c.nets.now c.drives.now
 
-  abbrev alternatives-made : m.Alternatives → m.Alternatives
+  abbrev alternatives-made : bodies.Alternatives → bodies.Alternatives
   alternatives-made = connected_alternatives c.nets.now c.drives.now
 
-  branched-in : (last : m.Branches) (bs : List BranchView) → branches-made (branched last bs) ≡ branched (branches-made last) (map (branch_in c) bs)
+  branched-in : (last : bodies.Branches) (bs : List BranchView) → branches-made (branched last bs) ≡ branched (branches-made last) (map (branch_in c) bs)
   unfolding branched
   branched-in last [] = refl
-  branched-in last (b ∷ bs) = ap (m.branch (test_in c b.test) (body_in c b.statements)) (branched-in last bs)
+  branched-in last (b ∷ bs) = ap (bodies.branch (test_in c b.test) (body_in c b.statements)) (branched-in last bs)
 
-  branches-in : (last : m.Branches) (old new : List Branch) → Became branch_view (branch_in c) old new → branches_of (branches-made last) new ≡ branches-made (branches_of last old)
+  branches-in : (last : bodies.Branches) (old new : List Branch) → Became branch_view (branch_in c) old new → branches_of (branches-made last) new ≡ branches-made (branches_of last old)
   branches-in last old new h =
       in-branches (branches-made last) new ∙ ap (branched (branches-made last)) h ∙ sym (branched-in last (map branch_view old)) ∙ ap branches-made (sym (in-branches last old))
 
-  selected-in : (last : m.Stmts) (as' : List AlternativeView) → alternatives-made (selected last as') ≡ selected (body_in c last) (map (alternative_in c) as')
+  selected-in : (last : bodies.Stmts) (as' : List AlternativeView) → alternatives-made (selected last as') ≡ selected (body_in c last) (map (alternative_in c) as')
   unfolding selected
   selected-in last [] = refl
-  selected-in last (a ∷ as') = ap (m.alternative a.choices (body_in c a.statements)) (selected-in last as')
+  selected-in last (a ∷ as') = ap (bodies.alternative a.choices (body_in c a.statements)) (selected-in last as')
 
-  alternatives-in : (last : m.Stmts) (old new : List Alternative) → Became alternative_view (alternative_in c) old new
+  alternatives-in : (last : bodies.Stmts) (old new : List Alternative) → Became alternative_view (alternative_in c) old new
       → alternatives_of (body_in c last) new ≡ alternatives-made (alternatives_of last old)
   alternatives-in last old new h =
       in-alternatives (body_in c last) new ∙ ap (selected (body_in c last)) h ∙ sym (selected-in last (map alternative_view old))
@@ -155,8 +155,8 @@ module _ (c : Connection) where
       → Became branch_view (branch_in c) branches.items more → otherwise_of (items-of p) ≡ branches-made (otherwise_of (items-of o))
       → statement_view (vs.If (with_items over more) p) ≡ statement_in c (statement_view (vs.If branches o))
   if-becomes branches over more o p n h e =
-      view_if (with_items over more) p ∙ ap (λ bs. m.if_of (branches_of (otherwise_of (items-of p)) bs)) (with_items_is over more n)
-      ∙ ap (λ last. m.if_of (branches_of last more)) e ∙ ap m.if_of (branches-in (otherwise_of (items-of o)) branches.items more h)
+      view_if (with_items over more) p ∙ ap (λ bs. bodies.if_of (branches_of (otherwise_of (items-of p)) bs)) (with_items_is over more n)
+      ∙ ap (λ last. bodies.if_of (branches_of last more)) e ∙ ap bodies.if_of (branches-in (otherwise_of (items-of o)) branches.items more h)
       ∙ ap (statement_in c) (sym (view_if branches o))
 
   pub if_alone : (x : Statement) (branches over : Vec Branch Global) (o p : Option (Vec Statement Global)) (bs more : List Branch)
@@ -174,8 +174,8 @@ module _ (c : Connection) where
         → OnOk r (statement_view (vs.If (with_items over more) (Some (with_items under tail))) ≡ statement_in c (statement_view x))
     if_with_else (Ok y) x branches over o p last under bs more ls tail h same some j n l k z w =
         if-becomes branches over more (Some last) (Some (with_items under tail)) n (l ∙ ap (λ xs. map (branch_in c) (map branch_view xs)) j)
-        (ap (λ xs. m.otherwise (statements_of xs)) (with_items_is under tail z)
-        ∙ ap m.otherwise (body_becomes last.items tail (w ∙ ap (λ xs. map (statement_in c) (map statement_view xs)) k)))
+        (ap (λ xs. bodies.otherwise (statements_of xs)) (with_items_is under tail z)
+        ∙ ap bodies.otherwise (body_becomes last.items tail (w ∙ ap (λ xs. map (statement_in c) (map statement_view xs)) k)))
         ∙ ap (λ q. statement_in c (statement_view (vs.If branches q))) (sym some ∙ same) ∙ ap (λ v. statement_in c (statement_view v)) (sym h)
     if_with_else (Err e) x branches over o p last under bs more ls tail h same some j n l k z w = tt
 
@@ -186,11 +186,11 @@ module _ (c : Connection) where
         → OnOk r (statement_view (vs.Case new (with_items over more) (with_items under tail)) ≡ statement_in c (statement_view x))
     case_becomes (Ok y) x selector from new alternatives over others under as' more os tail h same v j n l k z w =
         view_case new (with_items over more) (with_items under tail)
-        ∙ ap (λ e. m.case_of e (alternatives_of (statements_of (with_items under tail).items) (with_items over more).items)) (v ∙ ap (λ e. value_in c (value_view e)) same)
-        ∙ ap (λ xs. m.case_of (value_in c (value_view selector)) (alternatives_of (statements_of xs) (with_items over more).items)) (with_items_is under tail z)
-        ∙ ap (λ xs. m.case_of (value_in c (value_view selector)) (alternatives_of (statements_of tail) xs)) (with_items_is over more n)
-        ∙ ap (λ last. m.case_of (value_in c (value_view selector)) (alternatives_of last more)) (body_becomes others.items tail (w ∙ ap (λ xs. map (statement_in c) (map statement_view xs)) k))
-        ∙ ap (m.case_of (value_in c (value_view selector))) (alternatives-in (statements_of others.items) alternatives.items more (l ∙ ap (λ xs. map (alternative_in c) (map alternative_view xs)) j))
+        ∙ ap (λ e. bodies.case_of e (alternatives_of (statements_of (with_items under tail).items) (with_items over more).items)) (v ∙ ap (λ e. value_in c (value_view e)) same)
+        ∙ ap (λ xs. bodies.case_of (value_in c (value_view selector)) (alternatives_of (statements_of xs) (with_items over more).items)) (with_items_is under tail z)
+        ∙ ap (λ xs. bodies.case_of (value_in c (value_view selector)) (alternatives_of (statements_of tail) xs)) (with_items_is over more n)
+        ∙ ap (λ last. bodies.case_of (value_in c (value_view selector)) (alternatives_of last more)) (body_becomes others.items tail (w ∙ ap (λ xs. map (statement_in c) (map statement_view xs)) k))
+        ∙ ap (bodies.case_of (value_in c (value_view selector))) (alternatives-in (statements_of others.items) alternatives.items more (l ∙ ap (λ xs. map (alternative_in c) (map alternative_view xs)) j))
         ∙ ap (statement_in c) (sym (view_case selector alternatives others)) ∙ ap (λ u. statement_in c (statement_view u)) (sym h)
     case_becomes (Err e) x selector from new alternatives over others under as' more os tail h same v j n l k z w = tt
 

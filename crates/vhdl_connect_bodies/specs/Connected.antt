@@ -1,13 +1,13 @@
--- Bodies in place, as contracts see them: of each part of a body what stands for it in the flat net.
+-- Bodies in place, as contracts see them: of each part of a body what stands for it in the flat netlist.
 use Rattle.std.specs.Prelude.{◌≡◌, ℕ, ◌+◌, ◌-◌, ◌<◌, ◌≤◌, List, length, map, slice_index}
-use Rattle.rtl_model.specs.bodies.Body as m
+use Rattle.rtl_model.specs.bodies.Body as bodies
 use Rattle.rtl_net.specs.Bodies.{operator_view, expr_view, test_view, statements_of, choice_view}
 use Rattle.rtl_net.specs.declared.body.Link.{Link}
 use Rattle.rtl_net.specs.declared.body.TestLink.{TestLink}
 use Rattle.rtl_net.specs.declared.body.Branch.{Branch}
 use Rattle.rtl_net.specs.declared.body.Alternative.{Alternative}
 use Rattle.vhdl_values.specs.declared.kinds.Logic.{Logic}
-use Rattle.vhdl_elab_rules.specs.Bodies.{net_of, connected_expr, connected_value, connected_test, connected_stmt, connected}
+use Rattle.vhdl_elab_rules.specs.Bodies.{net_of, connected_expr, connected_value, connected_test, connected_stmt, connected_body}
 use Rattle.vhdl_connect_bodies.specs.declared.connection.Connection.{Connection}
 
 -- ---- what a connection makes of the parts of a body
@@ -15,27 +15,27 @@ use Rattle.vhdl_connect_bodies.specs.declared.connection.Connection.{Connection}
 abbrev pub net_in : Connection → ℕ → ℕ
 net_in c = net_of c.nets.now c.drives.now
 
-abbrev pub expr_in : Connection → m.Expr → m.Expr
+abbrev pub expr_in : Connection → bodies.Expr → bodies.Expr
 expr_in c = connected_expr c.nets.now c.drives.now
 
-abbrev pub value_in : Connection → m.Value → m.Value
+abbrev pub value_in : Connection → bodies.Value → bodies.Value
 value_in c = connected_value c.nets.now c.drives.now
 
-abbrev pub test_in : Connection → m.Test → m.Test
+abbrev pub test_in : Connection → bodies.Test → bodies.Test
 test_in c = connected_test c.nets.now c.drives.now
 
-abbrev pub statement_in : Connection → m.Stmt → m.Stmt
+abbrev pub statement_in : Connection → bodies.Stmt → bodies.Stmt
 statement_in c = connected_stmt c.nets.now c.drives.now
 
-abbrev pub body_in : Connection → m.Stmts → m.Stmts
-body_in c = connected c.nets.now c.drives.now
+abbrev pub body_in : Connection → bodies.Stmts → bodies.Stmts
+body_in c = connected_body c.nets.now c.drives.now
 
 -- ---- lists of parts
 
 -- a further operator of a chain
 pub record LinkView : Type 0 where
-  pub operator : m.Operator
-  pub operand : m.Expr
+  pub operator : bodies.Operator
+  pub operand : bodies.Expr
 
 abbrev pub link_view : Link → LinkView
 link_view l = record { operator = operator_view l.operator; operand = expr_view l.operand }
@@ -46,7 +46,7 @@ link_in c l = record l { operand = expr_in c l.operand }
 -- a further condition of a chain
 pub record TestLinkView : Type 0 where
   pub operator : Logic
-  pub operand : m.Test
+  pub operand : bodies.Test
 
 abbrev pub test_link_view : TestLink → TestLinkView
 test_link_view l = record { operator = l.operator; operand = test_view l.operand }
@@ -56,8 +56,8 @@ test_link_in c l = record l { operand = test_in c l.operand }
 
 -- a branch of an if
 pub record BranchView : Type 0 where
-  pub test : m.Test
-  pub statements : m.Stmts
+  pub test : bodies.Test
+  pub statements : bodies.Stmts
 
 abbrev pub branch_view : Branch → BranchView
 branch_view b = record { test = test_view b.test; statements = statements_of b.statements.items }
@@ -68,7 +68,7 @@ branch_in c b = record { test = test_in c b.test; statements = body_in c b.state
 -- an alternative of a case
 pub record AlternativeView : Type 0 where
   pub choices : List (List ℕ)
-  pub statements : m.Stmts
+  pub statements : bodies.Stmts
 
 abbrev pub alternative_view : Alternative → AlternativeView
 alternative_view a = record { choices = map choice_view a.choices.items; statements = statements_of a.statements.items }

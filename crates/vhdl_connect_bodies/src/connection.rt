@@ -1,4 +1,4 @@
-//! What stands for the elements of an instance in the flat net (IEEE 1076-2008, 14.7.2).
+//! What stands for the elements of an instance in the flat netlist (IEEE 1076-2008, 14.7.2).
 
 ghost use Rattle.std.specs.Prelude.{◌≡◌, map, slice_index, IsTrue, IfOk, OnOk};
 ghost use Rattle.std.specs.List.{range_with_len};

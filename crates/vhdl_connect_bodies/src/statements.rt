@@ -2,7 +2,7 @@
 
 ghost use Rattle.std.specs.Prelude.{◌≡◌, OnOk};
 ghost use Rattle.rtl_net.specs.Bodies.{statement_view, statements_of};
-ghost use Rattle.vhdl_elab_rules.specs.Bodies.{connected};
+ghost use Rattle.vhdl_elab_rules.specs.Bodies.{connected_body};
 ghost use Rattle.vhdl_connect_bodies.specs.Connected.{Became, IsRising, statement_in, branch_view, branch_in, alternative_view, alternative_in};
 
 use crate::connection::Connection;
@@ -14,7 +14,7 @@ impl Connection<'_> {
     /// the memory of lists of them, and time for each name in the body.
     pub fn connect_body(&self, body: &mut [Statement]) -> Result<(), AllocError>
         requires { IsRising self.now.drives.now }
-        ensures { OnOk result (statements_of body.new ≡ connected self.now.nets.now self.now.drives.now (statements_of body.old)) }
+        ensures { OnOk result (statements_of body.new ≡ connected_body self.now.nets.now self.now.drives.now (statements_of body.old)) }
     {
         self.connect_statements(body)
     }

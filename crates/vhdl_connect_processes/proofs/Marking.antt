@@ -14,8 +14,8 @@ use Rattle.vhdl_expand_rules.specs.Tree.{Role, input, output, internal, Object}
 use Rattle.vhdl_elab_rules.specs.Numbering.{actuals_of, process_reads, driven_in, read_in}
 use Rattle.vhdl_expand_tree.specs.declared.tree.Object as t
 use Rattle.vhdl_expand_tree.specs.declared.tree.Process as q
-use Rattle.vhdl_expand_tree.specs.declared.tree.Part.{Part}
-use Rattle.vhdl_expand_tree.specs.declared.tree.Part.TheVariants as p
+use Rattle.vhdl_expand_tree.specs.declared.tree.InstancePart.{InstancePart}
+use Rattle.vhdl_expand_tree.specs.declared.tree.InstancePart.TheVariants as p
 use Rattle.vhdl_expand_tree.proofs.Parts.{view_instance}
 use Rattle.vhdl_expand_tree.specs.Views.{object_view, process_view, part_before, parts_of}
 use Rattle.vhdl_connect_processes.specs.declared.uses.Sources.{Sources}
@@ -243,50 +243,50 @@ module _ (o : Object) (driven read : List ℕ) (us : List Use) where
 
 -- ---- parts, one after another
 
-abbrev pub driven_by : Part → List ℕ
+abbrev pub driven_by : InstancePart → List ℕ
 driven_by x = driven_in (part_before tree.no_parts x)
 
-abbrev pub read_by : Part → List ℕ
+abbrev pub read_by : InstancePart → List ℕ
 read_by x = read_in (part_before tree.no_parts x)
 
-driven-before : (x : Part) (rest : tree.Parts) → driven_in (part_before rest x) ≡ driven_by x ++ driven_in rest
+driven-before : (x : InstancePart) (rest : tree.Parts) → driven_in (part_before rest x) ≡ driven_by x ++ driven_in rest
 driven-before (p.Process q) rest = ap (λ es. es ++ driven_in rest) (sym (append-nil (process_view q).drives))
 driven-before (p.Instance' label objects turns shape parts) rest = ap (λ es. es ++ driven_in rest) (sym (append-nil (actuals_of output (map object_view objects.items))))
 
-read-before : (x : Part) (rest : tree.Parts) → read_in (part_before rest x) ≡ read_by x ++ read_in rest
+read-before : (x : InstancePart) (rest : tree.Parts) → read_in (part_before rest x) ≡ read_by x ++ read_in rest
 read-before (p.Process q) rest = ap (λ es. es ++ read_in rest) (sym (append-nil (process_reads (process_view q))))
 read-before (p.Instance' label objects turns shape parts) rest = ap (λ es. es ++ read_in rest) (sym (append-nil (actuals_of input (map object_view objects.items))))
 
-pub all_driven : (xs : List Part) → flat_map driven_by xs ≡ driven_in (parts_of xs)
+pub all_driven : (xs : List InstancePart) → flat_map driven_by xs ≡ driven_in (parts_of xs)
 all_driven [] = refl
 all_driven (x ∷ xs) = ap (λ es. driven_by x ++ es) (all_driven xs) ∙ sym (driven-before x (parts_of xs))
 
-pub all_read : (xs : List Part) → flat_map read_by xs ≡ read_in (parts_of xs)
+pub all_read : (xs : List InstancePart) → flat_map read_by xs ≡ read_in (parts_of xs)
 all_read [] = refl
 all_read (x ∷ xs) = ap (λ es. read_by x ++ es) (all_read xs) ∙ sym (read-before x (parts_of xs))
 
-module _ (xs : List Part) (i : ℕ) (x : Part) (l : i < length xs) (is : x ≡ get_or xs i x) where
-  flat-more : (f : Part → List ℕ) → flat_map f (take (i + 1) xs) ≡ flat_map f (take i xs) ++ f x
+module _ (xs : List InstancePart) (i : ℕ) (x : InstancePart) (l : i < length xs) (is : x ≡ get_or xs i x) where
+  flat-more : (f : InstancePart → List ℕ) → flat_map f (take (i + 1) xs) ≡ flat_map f (take i xs) ++ f x
   flat-more f = ap (flat_map f) (take_more xs i x l ∙ ap (λ y. take i xs ++ y ∷ []) (sym is)) ∙ sym (flat_map_more f [] (take i xs) x)
 
   pub parts_next : (us : List Use) → AreUses (flat_map driven_by (take i xs) ++ driven_by x) (flat_map read_by (take i xs) ++ read_by x) us
       → AreUses (flat_map driven_by (take (i + 1) xs)) (flat_map read_by (take (i + 1) xs)) us
   parts_next us h = uses_whole _ _ _ _ us (sym (flat-more driven_by)) (sym (flat-more read_by)) h
 
-pub parts_all : (xs : List Part) (i : ℕ) (us : List Use) → length xs ≤ i → AreUses (flat_map driven_by (take i xs)) (flat_map read_by (take i xs)) us
+pub parts_all : (xs : List InstancePart) (i : ℕ) (us : List Use) → length xs ≤ i → AreUses (flat_map driven_by (take i xs)) (flat_map read_by (take i xs)) us
     → AreUses (driven_in (parts_of xs)) (read_in (parts_of xs)) us
 parts_all xs i us l h =
     let e = take_whole xs i l in
     uses_whole _ _ _ _ us (ap (flat_map driven_by) e ∙ all_driven xs) (ap (flat_map read_by) e ∙ all_read xs) h
 
-process_part : (x : Part) (q : q.Process) → x ≡ p.Process q → (driven read : List ℕ) (us : List Use)
+process_part : (x : InstancePart) (q : q.Process) → x ≡ p.Process q → (driven read : List ℕ) (us : List Use)
     → AreUses (driven ++ q.drives.items) (read ++ process_reads (process_view q)) us → AreUses (driven ++ driven_by x) (read ++ read_by x) us
 process_part x q e driven read us h =
     uses_whole _ _ _ _ us
     (ap (λ es. driven ++ es) (sym (append-nil q.drives.items) ∙ ap driven_by (sym e)))
     (ap (λ es. read ++ es) (sym (append-nil (process_reads (process_view q))) ∙ ap read_by (sym e))) h
 
-pub instance_part : (x : Part) (label : Vec ℕ Global) (objects : Vec t.Object Global) (turns : ℕ) (parts : Vec Part Global)
+pub instance_part : (x : InstancePart) (label : Vec ℕ Global) (objects : Vec t.Object Global) (turns : ℕ) (parts : Vec InstancePart Global)
     → x ≡ p.Instance label (record { objects = objects; turns = turns; parts = parts }) → (driven read : List ℕ) (us : List Use)
     → AreUses (driven ++ actuals_of output (map object_view objects.items)) (read ++ actuals_of input (map object_view objects.items)) us
     → AreUses (driven ++ driven_by x) (read ++ read_by x) us
@@ -310,7 +310,7 @@ unused_more us h = record { each = go us h.each }
     go (x ∷ xs) k zero d l = k 0 d (omega arith)
     go (x ∷ xs) k (suc e) d l = go xs (λ j c m. k (suc j) c (omega (arith, m))) e d (omega (arith, l))
 
-pub process_if : {A E : Type 0} (r : Result A E) (x : Part) (q : q.Process) (old new : List Use) → x ≡ p.Process q
+pub process_if : {A E : Type 0} (r : Result A E) (x : InstancePart) (q : q.Process) (old new : List Use) → x ≡ p.Process q
     → OnOk r ((driven read : List ℕ) → AreUses driven read old → AreUses (driven ++ q.drives.items) (read ++ process_reads (process_view q)) new)
     → OnOk r ((driven read : List ℕ) → AreUses driven read old → AreUses (driven ++ driven_by x) (read ++ read_by x) new)
 process_if (Ok y) x q old new e h = λ driven read k. process_part x q e driven read new (h driven read k)

@@ -6,7 +6,7 @@ use Rattle.std.proofs.lemmas.List.FromFn.{map-range_with_len_more}
 use Rattle.vhdl_values.specs.declared.scalar.Nine.{Nine}
 use Rattle.vhdl_values.specs.Scalar.{code_of, value_of_code}
 use Rattle.vhdl_values.specs.Resolution.{resolved}
-use Rattle.rtl_model.specs.nets.CoreNet.{core_resolve}
+use Rattle.rtl_model.specs.nets.CoreNetlist.{core_resolve}
 use Rattle.smallvec.specs.SmallVec.{SmallVec}
 use Rattle.vhdl_connect_processes.specs.Held.{items_at, start_with}
 use Rattle.vhdl_connect_processes.proofs.Holding.{shown_there}

@@ -1,11 +1,11 @@
--- What the table of values holds is what the sources of a flat net start with.
+-- What the table of values holds is what the sources of a flat netlist start with.
 use Rattle.std.proofs.Common.{◌≡◌, ℕ, suc, ◌<◌, Bool, true, false, ◌==◌, if◌then◌else◌, List, [], ◌∷◌, ◌++◌, length, map, refl, sym, ap, ◌∙◌, arith}
 use Rattle.std.specs.Prelude.{slice_index, slice_index_or}
 use Rattle.std.proofs.lemmas.List.{append_assoc, map-append}
 use Rattle.std.proofs.lemmas.List.FromFn.{get_or-map-range_with_len}
 use Rattle.rtl_model.specs.bodies.Types.{ElementType}
-use Rattle.rtl_model.specs.nets.FlatNet.{FlatDriver, FlatNet, starts, drivers_of, all_drivers_of, flat_sources}
-use Rattle.rtl_model.specs.simulation.Net.{Source, Driver, Idle}
+use Rattle.rtl_model.specs.nets.FlatNetlist.{FlatDriver, FlatNetlist, starts, drivers_of, all_drivers_of, flat_sources}
+use Rattle.rtl_model.specs.simulation.Netlist.{Source, Driver, Idle}
 use Rattle.rtl_model.specs.simulation.Cycle.{source_value}
 use Rattle.rtl_net.specs.declared.building.IdlePort.{IdlePort}
 use Rattle.rtl_net.specs.declared.process.Driver as d
@@ -79,7 +79,7 @@ idle-values all (v ∷ vs) = ap (λ us. v ∷ us) (idle-values all vs)
 
 -- ---- nets
 
-start-held : (net : FlatNet) (default : ℕ) (ss : List Source) → start_by net default ss ≡ start_with default (map (source_value (map starts net.processes)) ss)
+start-held : (net : FlatNetlist) (default : ℕ) (ss : List Source) → start_by net default ss ≡ start_with default (map (source_value (map starts net.processes)) ss)
 start-held net default [] = refl
 start-held net default (s ∷ ss) = refl
 

@@ -3,8 +3,8 @@ use Rattle.std.specs.Prelude.{◌≡◌, ℕ, ◌<◌, ◌==◌, if◌then◌els
 use Rattle.std.specs.List.{range_with_len}
 use Rattle.smallvec.specs.SmallVec.{SmallVec}
 use Rattle.rtl_model.specs.bodies.Types.{ElementType}
-use Rattle.rtl_model.specs.nets.FlatNet.{FlatNet}
-use Rattle.rtl_model.specs.nets.CoreNet.{core_resolve}
+use Rattle.rtl_model.specs.nets.FlatNetlist.{FlatNetlist}
+use Rattle.rtl_model.specs.nets.CoreNetlist.{core_resolve}
 use Rattle.rtl_net.specs.declared.building.IdlePort.{IdlePort}
 use Rattle.rtl_net.specs.declared.process.Driver.{Driver}
 use Rattle.rtl_net.specs.declared.process.Process.{Process}
@@ -37,8 +37,8 @@ abbrev pub start_with : (default : ℕ) → List ℕ → ℕ
 start_with default [] = default
 start_with default (v ∷ vs) = core_resolve (v ∷ vs)
 
--- a flat net, with the defaults of the nets' own names in place of what they start with
-abbrev pub with_defaults : (types : List ElementType) (inputs defaults : List ℕ) → List IdlePort → List Process → FlatNet
+-- a flat netlist, with the defaults of the nets' own names in place of what they start with
+abbrev pub with_defaults : (types : List ElementType) (inputs defaults : List ℕ) → List IdlePort → List Process → FlatNetlist
 with_defaults types inputs defaults idle processes = record {
   types = types;
   start = defaults;

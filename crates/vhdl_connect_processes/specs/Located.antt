@@ -1,6 +1,6 @@
--- A process of the flat net, and the process of the tree that it is.
+-- A process of the flat netlist, and the process of the tree that it is.
 use Rattle.std.specs.Prelude.{◌≡◌, ℕ, List, map, slice_index, option_map}
-use Rattle.rtl_model.specs.nets.FlatNet.{FlatDriver}
+use Rattle.rtl_model.specs.nets.FlatNetlist.{FlatDriver}
 use Rattle.rtl_net.specs.declared.process.Process.{Process}
 use Rattle.rtl_net.specs.declared.process.Variable.{Variable}
 use Rattle.rtl_net.specs.declared.signal.SignalKind.{SignalKind}
@@ -8,7 +8,7 @@ use Rattle.rtl_net.specs.Nets.{driver_view, body_of}
 use Rattle.rtl_net.specs.Names.{generates_prefix}
 use Rattle.rtl_net.specs.Elaborated.{ReadsOfBody}
 use Rattle.vhdl_expand_rules.specs.Tree as tree
-use Rattle.vhdl_elab_rules.specs.Bodies.{connected}
+use Rattle.vhdl_elab_rules.specs.Bodies.{connected_body}
 use Rattle.vhdl_elab_rules.specs.Wiring.{sensitive_to}
 use Rattle.vhdl_elab_rules.specs.laws.Signals as elab
 use Rattle.vhdl_connect_processes.specs.Woken.{IsInOrder}
@@ -43,7 +43,7 @@ pub record IsOf (scope : ℕ) (nets defaults : List ℕ) (x : tree.Process) (p :
   pub reads : ReadsOfBody p
   pub wakes : IsInOrder (map (slice_index nets) (sensitive_to x)) p.wakes.items
   pub variables : map net_variable p.variables.items ≡ map of_variable x.variables
-  pub body : body_of p ≡ connected nets x.drives x.body
+  pub body : body_of p ≡ connected_body nets x.drives x.body
   pub scope_is : p.scope ≡ scope
   pub prefix : generates_prefix p.generates.items ≡ x.prefix
   pub label : option_map (λ l. l.items) p.label ≡ x.label

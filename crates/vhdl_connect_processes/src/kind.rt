@@ -6,19 +6,19 @@ ghost use Rattle.vhdl_elab_rules.specs.laws.Signals as elab;
 
 use rtl_net::SignalKind;
 use std::alloc::AllocError;
-use vhdl_expand_rules::Kind;
+use vhdl_expand_rules::ObjectKind;
 
 /// A kind as nets have it. Memory would be refused for a count of literals beyond a word.
-pub fn signal_kind(kind: Kind) -> Result<SignalKind, AllocError>
+pub fn signal_kind(kind: ObjectKind) -> Result<SignalKind, AllocError>
     ensures { IfOk result (λ k. k ≡ elab.kind_view (kind_view kind)) }
 {
     match kind {
-        Kind::One => Ok(SignalKind::One),
-        Kind::Vector(bounds) => Ok(SignalKind::Vector {
+        ObjectKind::One => Ok(SignalKind::One),
+        ObjectKind::Vector(bounds) => Ok(SignalKind::Vector {
             left: bounds.left,
             right: bounds.right,
         }),
-        Kind::Enumeration(count) => match u32::try_from(count) {
+        ObjectKind::Enumeration(count) => match u32::try_from(count) {
             Ok(count) => Ok(SignalKind::Enumeration { count }),
             Err(_) => Err(AllocError),
         },

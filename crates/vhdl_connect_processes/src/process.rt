@@ -1,4 +1,4 @@
-//! Processes of the flat net (IEEE 1076-2008, 14.7.2).
+//! Processes of the flat netlist (IEEE 1076-2008, 14.7.2).
 
 ghost use Rattle.std.specs.Prelude.{◌≡◌, map, slice_index, IfOk};
 ghost use Rattle.rtl_net.specs.Nets.{driver_view};

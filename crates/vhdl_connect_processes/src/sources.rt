@@ -3,7 +3,7 @@
 ghost use Rattle.std.specs.Prelude.{◌≡◌, ℕ, ◌<◌, ◌++◌, List, [], length, map, slice_index, IfOk, OnOk};
 ghost use Rattle.std.specs.List.{range_with_len};
 ghost use Rattle.vhdl_values.specs.Scalar.{value_of_code};
-ghost use Rattle.rtl_model.specs.nets.CoreNet.{core_resolve};
+ghost use Rattle.rtl_model.specs.nets.CoreNetlist.{core_resolve};
 ghost use Rattle.vhdl_connect_processes.specs.Held.{Holds, at_net, drivers_hold, processes_hold, idle_hold, items_at, start_with};
 
 use rtl_net::{Driver, IdlePort, Process};

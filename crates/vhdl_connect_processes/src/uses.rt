@@ -8,7 +8,7 @@ ghost use Rattle.vhdl_expand_tree.specs.Views.{object_view, part_before, parts_o
 ghost use Rattle.vhdl_connect_processes.specs.Uses.{AreUses, one_more, listed_by};
 
 use std::alloc::{AllocError, Global};
-use vhdl_expand_tree::{Object, Part, Process, Role, Sensitivity};
+use vhdl_expand_tree::{Object, InstancePart, Process, Role, Sensitivity};
 use vhdl_expand_drivers::read_of;
 
 /// How many sources an element has of its own.
@@ -137,13 +137,13 @@ fn mark_port(uses: &mut [Use], object: &Object)
 
 /// Marks what a part of an instance drives and reads in it. It takes the memory of a list of what a body reads, and time to sort
 /// it.
-fn mark_part(alloc: Global, uses: &mut [Use], part: &Part) -> Result<(), AllocError>
+fn mark_part(alloc: Global, uses: &mut [Use], part: &InstancePart) -> Result<(), AllocError>
     ensures { OnOk result ((driven read : List ℕ) → AreUses driven read uses.old
         → AreUses (driven ++ driven_in (part_before no_parts part.now)) (read ++ read_in (part_before no_parts part.now)) uses.new) }
 {
     match part {
-        Part::Process(process) => mark_process(alloc, uses, process),
-        Part::Instance { instance, .. } => {
+        InstancePart::Process(process) => mark_process(alloc, uses, process),
+        InstancePart::Instance { instance, .. } => {
             mark_ports(uses, &instance.objects);
             Ok(())
         }
@@ -167,7 +167,7 @@ fn unused(alloc: Global, elements: usize) -> Result<Vec<Use>, AllocError>
 
 /// What the parts of an instance do with its first so many elements. It takes the memory of the list and of lists of what bodies
 /// read, and time to sort these.
-pub fn uses_in(alloc: Global, parts: &[Part], elements: usize) -> Result<Vec<Use>, AllocError>
+pub fn uses_in(alloc: Global, parts: &[InstancePart], elements: usize) -> Result<Vec<Use>, AllocError>
     ensures length { IfOk result (λ uses. length uses.items ≡ elements) }
     ensures each { IfOk result (λ uses. AreUses (driven_in (parts_of parts.now)) (read_in (parts_of parts.now)) uses.items) }
 {

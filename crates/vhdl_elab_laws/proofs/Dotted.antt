@@ -16,10 +16,10 @@ use Rattle.vhdl_expand_rules.specs.Integers.{decision, turns}
 use Rattle.vhdl_expand_rules.specs.Site.{no_integers}
 use Rattle.vhdl_expand_rules.specs.Statements.{statements, statements_turns}
 use Rattle.vhdl_expand_rules.specs.Prefixes.{targets, prefixes_elements}
-use Rattle.vhdl_expand_rules.specs.Declarations.{Declared, interface, declarations, variable, associations}
+use Rattle.vhdl_expand_rules.specs.Declarations.{InstanceObjects, interface, declarations, variable, associations}
 use Rattle.vhdl_expand_rules.specs.Tree.{Instance, Parts, no_parts, inner, followed_by}
 use Rattle.vhdl_expand_rules.specs.Tree as t
-use Rattle.vhdl_expand_rules.specs.Expansion.{Spot, dotted, in_turn, in_branch, sensitivity, with_variables, process, joined, instance, concurrent, concurrents, concurrents_turns, instance_of, entity_named, Design, expanded}
+use Rattle.vhdl_expand_rules.specs.Expansion.{Spot, dotted, in_turn, in_branch, sensitivity, with_variables, process, joined, instance, concurrent, concurrents, concurrents_turns, instance_of, entity_named, Design, expanded_design}
 use Rattle.vhdl_expand_rules.proofs.Steps.{ok, bound, each-all}
 use Rattle.vhdl_expand_rules.proofs.laws.Names.{was_found}
 use Rattle.vhdl_elab_laws.specs.Prefixes.{IsDotted, InstanceIsDotted, PartsAreDotted, EachTreeIsDotted}
@@ -70,8 +70,8 @@ named-unit [] n unit h e = absurd cc
 named-unit (x ∷ units) zero unit h e = subst (λ (y : Entity). entity_is_named y ≡ true) (same_Some x unit e) (and_parts (entity_is_named x) (list_all entity_is_named units) h).0
 named-unit (x ∷ units) (suc n) unit h e = named-unit units n unit (and_parts (entity_is_named x) (list_all entity_is_named units) h).1 e
 
-module _ (units : Units) (named : list_all entity_is_named units ≡ true) (go : Entity → Declared → Elab Instance)
-    (go-dotted : (unit : Entity) (d : Declared) (i : Instance) → entity_is_named unit ≡ true → go unit d ≡ Ok i → InstanceIsDotted i) where
+module _ (units : Units) (named : list_all entity_is_named units ≡ true) (go : Entity → InstanceObjects → Elab Instance)
+    (go-dotted : (unit : Entity) (d : InstanceObjects) (i : Instance) → entity_is_named unit ≡ true → go unit d ≡ Ok i → InstanceIsDotted i) where
   instance-dotted : (at : Spot) (x : u.Instance) (i : Instance) → instance units go at x ≡ Ok i → InstanceIsDotted i
   unfolding instance
   instance-dotted at x i h =
@@ -119,7 +119,7 @@ module _ (units : Units) (named : list_all entity_is_named units ≡ true) (go :
 architecture-named : (unit : Entity) → entity_is_named unit ≡ true → architecture_is_named unit.architecture ≡ true
 architecture-named unit h = (and_parts (has_text unit.name && objects_are_named (map (λ (p : Port). p.object) unit.ports)) (architecture_is_named unit.architecture) h).1
 
-instance_of-dotted : (units : Units) (levels : ℕ) → list_all entity_is_named units ≡ true → (unit : Entity) (d : Declared) (i : Instance) → entity_is_named unit ≡ true → instance_of units levels unit d ≡ Ok i
+instance_of-dotted : (units : Units) (levels : ℕ) → list_all entity_is_named units ≡ true → (unit : Entity) (d : InstanceObjects) (i : Instance) → entity_is_named unit ≡ true → instance_of units levels unit d ≡ Ok i
     → InstanceIsDotted i
 unfolding instance_of
 instance_of-dotted units zero named unit d i n k = absurd cc
@@ -146,7 +146,7 @@ found-named f (x ∷ units) unit h e = by (f x) e (λ later. found-named f units
     by false e go = go e
 
 pub each-tree-is-dotted : EachTreeIsDotted
-unfolding expanded are_named
+unfolding expanded_design are_named
 each-tree-is-dotted units top design h e =
     let named : list_all entity_is_named units ≡ true = h in
     let unit = bound (found NoTop (entity_named units top)) _ design e in

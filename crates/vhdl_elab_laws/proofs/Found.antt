@@ -6,10 +6,10 @@ use Rattle.std.proofs.lemmas.Bool.{cases_lt, eqb-true, eq-eqb, le-leb, lt-leb, l
 use Rattle.std.proofs.lemmas.List.Elements.{All-head, All-tail, All-weaker}
 use Rattle.vhdl_tree.specs.declared.operator.Direction.{Direction}
 use Rattle.vhdl_tree.specs.declared.operator.Direction.TheVariants.{To, Downto}
-use Rattle.rtl_net.specs.Nets.{ScopeView, SignalView, NetView}
+use Rattle.rtl_net.specs.Nets.{ScopeView, SignalView, NetlistView}
 use Rattle.rtl_net.specs.Names.{Element, place_in, element_or, element_from, path, index_at, index_suffix, name_of_element, signal_name, element_name, net_name}
 use Rattle.vhdl_expand_rules.specs.Integers.{extent}
-use Rattle.vhdl_expand_rules.specs.Kinds.{Kind, one, vector, enumeration, size}
+use Rattle.vhdl_expand_rules.specs.Kinds.{ObjectKind, one, vector, enumeration, size}
 use Rattle.vhdl_expand_rules.specs.Tree.{Object}
 use Rattle.vhdl_expand_rules.specs.laws.Trees.{IsKind}
 use Rattle.vhdl_expand_rules.proofs.laws.Places.{extent-downto}
@@ -79,7 +79,7 @@ module _ (scopes : List ScopeView) where
 pub found-element : (scopes : List ScopeView) (ss : List SignalView) (n : ℕ) (name : List ℕ) → FoundAs scopes ss n name → (e : Element) × (element_from 0 ss n ≡ Some e)
 found-element scopes ss n name h = let e = element-is scopes ss 0 n name h in (record { signal = 0 + e.nth; place = e.place }, e.is)
 
-pub found-name : (net : NetView) (n : ℕ) (name : List ℕ) → FoundAs net.scopes net.signals n name → net_name net n ≡ name
+pub found-name : (net : NetlistView) (n : ℕ) (name : List ℕ) → FoundAs net.scopes net.signals n name → net_name net n ≡ name
 found-name net n name h =
     let e = element-is net.scopes net.signals 0 n name h in
     ap (element_name net) e.is ∙ ap (signal_name net.scopes e.place) (ap (slice_get net.signals) (none e.nth) ∙ e.at) ∙ e.named
@@ -162,7 +162,7 @@ same-index : (l : ℕ) (d : Direction) (r k : ℕ) → 1 ≤ extent d (pos l) (p
 same-index l To r k some below = ap (λ n. codes "(" ++ (decimal n ++ codes ")")) (index-to l r k some)
 same-index l Downto r k some below = ap (λ n. codes "(" ++ (decimal n ++ codes ")")) (index-downto l r k some below)
 
-pub same-suffix : (q : Kind) (k : ℕ) → IsKind q → k < size q → index_suffix (kind_view q) k ≡ element_text q k
+pub same-suffix : (q : ObjectKind) (k : ℕ) → IsKind q → k < size q → index_suffix (kind_view q) k ≡ element_text q k
 same-suffix one k h l = refl
 same-suffix (vector b) k h l = same-index b.left b.direction b.right k h.0 l
 same-suffix (enumeration count) k h l = refl

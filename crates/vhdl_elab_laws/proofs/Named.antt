@@ -5,7 +5,7 @@ use Rattle.std.specs.List.{AllZip, range_with_len, enumerate_from}
 use Rattle.std.proofs.lemmas.List.{length-append}
 use Rattle.std.proofs.lemmas.List.Elements.{All-head, All-tail}
 use Rattle.rtl_net.specs.declared.process.Process.{Process}
-use Rattle.rtl_net.specs.Nets.{ScopeView, NetView}
+use Rattle.rtl_net.specs.Nets.{ScopeView, NetlistView}
 use Rattle.rtl_net.specs.Names.{path, net_name, process_name, label_or_number, name_of_process}
 use Rattle.vhdl_elab_rules.specs.Numbering.{Located, Numbered}
 use Rattle.vhdl_elab_rules.specs.Names.{named_process, label_text, net_names}
@@ -18,13 +18,13 @@ use Rattle.vhdl_elab_laws.proofs.Paths.{views, nets-found}
 
 -- ---- nets
 
-names-from : (net : NetView) (ns : List ℕ) (names : List (List ℕ)) → AllZip (FoundAs net.scopes net.signals) ns names → map (net_name net) ns ≡ names
+names-from : (net : NetlistView) (ns : List ℕ) (names : List (List ℕ)) → AllZip (FoundAs net.scopes net.signals) ns names → map (net_name net) ns ≡ names
 names-from net [] [] h = refl
 names-from net [] (y ∷ ys) h = elim h [ ]
 names-from net (n ∷ ns) [] h = elim h [ ]
 names-from net (n ∷ ns) (y ∷ ys) h = ap (λ (t : List ℕ). t ∷ map (net_name net) ns) (found-name net n y h.0) ∙ ap (λ (ts : List (List ℕ)). y ∷ ts) (names-from net ns ys h.1)
 
-pub net-names : (net : NetView) (d : Numbered) → Follow [] 0 d.instances d.nets → net.scopes ≡ views d.instances → net.signals ≡ all_signals 0 d.instances → map (net_name net) (range_with_len 0 d.nets) ≡ net_names d
+pub net-names : (net : NetlistView) (d : Numbered) → Follow [] 0 d.instances d.nets → net.scopes ≡ views d.instances → net.signals ≡ all_signals 0 d.instances → map (net_name net) (range_with_len 0 d.nets) ≡ net_names d
 net-names net d h scopes signals =
     names-from net (range_with_len 0 d.nets) (net_names d)
     (subst (λ (ss : List ScopeView). AllZip (FoundAs ss net.signals) (range_with_len 0 d.nets) (net_names d)) (sym scopes)
@@ -49,14 +49,14 @@ get-behind [] ps p (suc n) l = absurd (omega (arith, l))
 get-behind (q ∷ front) ps p zero l = absurd (omega (arith, l))
 get-behind (q ∷ front) ps p (suc n) l = get-behind front ps p n (omega (arith, l))
 
-process-at : (net : NetView) (n : ℕ) (p : Process) → slice_get net.processes n ≡ Some p → process_name net n ≡ name_of_process net.scopes p n
+process-at : (net : NetlistView) (n : ℕ) (p : Process) → slice_get net.processes n ≡ Some p → process_name net n ≡ name_of_process net.scopes p n
 process-at net n p e = rw e refl
 
 -- as many, and alike
 abbrev pub Alike : Process → Located → Type 0
 Alike p x = net_process_shown p ≡ process_shown (named_process x)
 
-pub process-names : (net : NetView) (front ps : List Process) (xs : List Located) (n : ℕ) → net.processes ≡ front ++ ps → length front ≡ n → AllZip Alike ps xs → All (λ (x : Located). path net.scopes x.scope ≡ x.round.path) xs
+pub process-names : (net : NetlistView) (front ps : List Process) (xs : List Located) (n : ℕ) → net.processes ≡ front ++ ps → length front ≡ n → AllZip Alike ps xs → All (λ (x : Located). path net.scopes x.scope ≡ x.round.path) xs
     → map (process_name net) (range_with_len n (length ps)) ≡ map v.process_name (enumerate_from n xs)
 process-names net front [] [] n e l h g = refl
 process-names net front [] (x ∷ xs) n e l h g = elim h [ ]

@@ -4,7 +4,7 @@ use Rattle.std.specs.Prelude.{◌≢◌, IsTrue, IfSome, option_map}
 use Rattle.std.specs.List.{AllZip, range_with_len}
 use Rattle.std.proofs.lemmas.List.{length-map}
 use Rattle.std.proofs.lemmas.List.Elements.{All-nil, All-cons, All-head, All-tail, All-map, All-weaker}
-use Rattle.rtl_model.specs.nets.FlatNet.{FlatNet, FlatVariable, FlatProcess, IsInRange}
+use Rattle.rtl_model.specs.nets.FlatNetlist.{FlatNetlist, FlatVariable, FlatProcess, IsInRange}
 use Rattle.rtl_model.specs.nets.Wiring.{IsConnected}
 use Rattle.rtl_model.specs.bodies.Types.{ElementType, HasType}
 use Rattle.rtl_net.specs.declared.process.Variable.{Variable}
@@ -15,17 +15,17 @@ use Rattle.rtl_net.specs.Names.{Element, element_from, path, net_name}
 use Rattle.rtl_net.specs.Elaborated.{width_of, VariableIsNamed, ProcessIsNamed, AreScopes, SignalInRange, ComesBefore, IsInOrOut, IsOfPort}
 use Rattle.vhdl_names_rules.specs.units.Units.{Units}
 use Rattle.vhdl_names_rules.specs.sound.Units.{are_sound}
-use Rattle.vhdl_expand_rules.specs.Kinds.{Kind, one, vector, enumeration}
+use Rattle.vhdl_expand_rules.specs.Kinds.{ObjectKind, one, vector, enumeration}
 use Rattle.vhdl_expand_rules.specs.Kinds as k
-use Rattle.vhdl_expand_rules.specs.Expansion.{Design, expanded}
+use Rattle.vhdl_expand_rules.specs.Expansion.{Design, expanded_design}
 use Rattle.vhdl_expand_rules.specs.Tree.{Object, objects_of}
 use Rattle.vhdl_expand_rules.proofs.Steps.{bound}
 use Rattle.vhdl_expand_rules.proofs.laws.Lengths.{design-fits}
 use Rattle.vhdl_expand_rules.proofs.laws.Trees.{each-tree-is-sound}
-use Rattle.vhdl_elab_rules.specs.Numbering.{Placed, Located, Numbered, numbered}
+use Rattle.vhdl_elab_rules.specs.Numbering.{Placed, Located, Numbered, numbered_design}
 use Rattle.vhdl_elab_rules.specs.Wiring.{flat_net, inputs_of}
 use Rattle.vhdl_elab_rules.specs.Names.{Scope, Signal, NamedVariable, NamedProcess, net_names}
-use Rattle.vhdl_elab_rules.specs.Elaboration.{Elaborated, net_of, elaborated}
+use Rattle.vhdl_elab_rules.specs.Elaboration.{Elaborated, net_of, elaborated_net}
 use Rattle.vhdl_elab_rules.specs.laws.Names.{ProcessHasName}
 use Rattle.vhdl_elab_rules.specs.laws.Scopes.{scope_views}
 use Rattle.vhdl_elab_rules.specs.laws.Signals.{kind_view, SignalFits, VariableFits, VariablesFit}
@@ -48,17 +48,17 @@ use Rattle.vhdl_elab_laws.proofs.Named.{alike, net-names, process-names, same-pa
 
 -- ---- the design behind a net
 
--- how the instances of an elaborated net stand
+-- how the instances of an elaborated netlist stand
 pub record Behind (units : Units) (top : List ℕ) (x : Elaborated) : Type 0 where
   pub design : Design
-  pub gave : expanded units top ≡ Ok design
-  pub is : net_of (numbered design) ≡ x
-  pub walked : Walked (objects_of design.top) (numbered design)
+  pub gave : expanded_design units top ≡ Ok design
+  pub is : net_of (numbered_design design) ≡ x
+  pub walked : Walked (objects_of design.top) (numbered_design design)
 
-pub behind : (units : Units) (top : List ℕ) (x : Elaborated) → IsTrue (are_sound units) → elaborated units top ≡ Ok x → Behind units top x
-unfolding elaborated numbered
+pub behind : (units : Units) (top : List ℕ) (x : Elaborated) → IsTrue (are_sound units) → elaborated_net units top ≡ Ok x → Behind units top x
+unfolding elaborated_net numbered_design
 behind units top x sound e =
-    let design = bound (expanded units top) _ x e in
+    let design = bound (expanded_design units top) _ x e in
     let w = accepted design.x x design.then_gave in
     let tree = each-tree-is-sound units top design.x sound design.gave in
     record {
@@ -108,7 +108,7 @@ processes-named scopes (x ∷ xs) (f ∷ fs) (p ∷ ps) e g fit named =
 
 -- ---- signals
 
-same-type : (q : Kind) → element_type (kind_view q) ≡ k.element_type q
+same-type : (q : ObjectKind) → element_type (kind_view q) ≡ k.element_type q
 same-type one = refl
 same-type (vector b) = refl
 same-type (enumeration n) = refl
@@ -178,7 +178,7 @@ inputs-in d = refl
 pub each-elaborated-is-net : EachElaboratedIsNet
 each-elaborated-is-net units top x net sound named e shows reads =
     let b = behind units top x sound e in
-    let d : Numbered = numbered b.design in
+    let d : Numbered = numbered_design b.design in
     let t = told (objects_of b.design.top) d b.walked in
     let laws = each-net-is-sound units top x sound e in
     let limits = each-net-is-within-limits units top x e in
@@ -189,19 +189,19 @@ each-elaborated-is-net units top x net sound named e shows reads =
     let same_scopes : net.scopes ≡ scope_views x.scopes = ap (λ (s : Shown). s.scopes) shows in
     let same_signals : net.signals ≡ map signal_shown x.signals = ap (λ (s : Shown). s.signals) shows in
     let many : length net.scopes ≡ length x.scopes = ap length same_scopes ∙ length-map x.scopes (λ (s : Scope). record { label = s.label; parent = s.parent }) in
-    let types : net.types ≡ x.flat.types = ap (λ (f : FlatNet). f.types) same_flat in
-    let inputs : net.inputs ≡ inputs_of d = ap (λ (f : FlatNet). f.inputs) same_flat ∙ ap (λ (y : Elaborated). y.flat.inputs) (sym b.is) ∙ inputs-in d in
+    let types : net.types ≡ x.flat.types = ap (λ (f : FlatNetlist). f.types) same_flat in
+    let inputs : net.inputs ≡ inputs_of d = ap (λ (f : FlatNetlist). f.inputs) same_flat ∙ ap (λ (y : Elaborated). y.flat.inputs) (sym b.is) ∙ inputs-in d in
     let signals : net.signals ≡ all_signals 0 d.instances = same_signals ∙ ap (λ (y : Elaborated). map signal_shown y.signals) (sym b.is) in
     let nets : length net.types ≡ d.nets = ap length types ∙ ap (λ (y : Elaborated). length y.flat.types) (sym b.is) ∙ shape.types in
     record {
       in_range = subst IsInRange (sym same_flat) laws.0;
       connected = subst IsConnected (sym same_flat) laws.1;
       nets_limit = subst (λ (ts : List ElementType). length ts ≤ 1048576) (sym types) limits.nets;
-      processes_limit = subst (λ n. n ≤ 65536) (sym (ap (λ (f : FlatNet). length f.processes) same_flat) ∙ length-map net.processes process_view) limits.processes;
+      processes_limit = subst (λ n. n ≤ 65536) (sym (ap (λ (f : FlatNetlist). length f.processes) same_flat) ∙ length-map net.processes process_view) limits.processes;
       scopes_limit = subst (λ n. n ≤ 65536) (sym many) limits.scopes;
       reads = reads;
       processes = subst (λ n. All (ProcessIsNamed n) net.processes) (sym many)
-          (processes-named (length x.scopes) x.processes x.flat.processes net.processes (ap (λ (s : Shown). s.processes) shows) (ap (λ (f : FlatNet). f.processes) same_flat) (each-variable-fits units top x sound e) names.processes);
+          (processes-named (length x.scopes) x.processes x.flat.processes net.processes (ap (λ (s : Shown). s.processes) shows) (ap (λ (f : FlatNetlist). f.processes) same_flat) (each-variable-fits units top x sound e) names.processes);
       scopes = subst AreScopes (sym same_scopes) (record {
         some = text.some;
         labels = All-map (λ (s : ScopeView). s.label ≢ []) (λ (s : Scope). record { label = s.label; parent = s.parent }) x.scopes names.scopes;
@@ -223,7 +223,7 @@ located-paths d h g = All-weaker (LocatedAt d.instances) (λ (x : Located). path
 pub each-has-its-names : EachHasItsNames
 each-has-its-names units top x net sound e shows =
     let b = behind units top x sound e in
-    let d : Numbered = numbered b.design in
+    let d : Numbered = numbered_design b.design in
     let follow = b.walked.so_far.follow in
     let shape = each-has-shape units top b.design b.gave in
     let shows' : net_shown net ≡ shown (net_of d) = subst (λ (y : Elaborated). net_shown net ≡ shown y) (sym b.is) shows in

@@ -5,7 +5,7 @@ use Rattle.std.specs.List.{AllZip}
 use Rattle.std.proofs.lemmas.List.Elements.{All-append, All-cons, All-nil, All-head, All-tail}
 use Rattle.vhdl_tree.specs.declared.declaration.Mode.{Mode}
 use Rattle.vhdl_tree.specs.declared.declaration.Mode.TheVariants.{In, Out}
-use Rattle.vhdl_names_rules.specs.units.Expressions.{Static, Place}
+use Rattle.vhdl_names_rules.specs.units.Expressions.{Static, SignalPart}
 use Rattle.vhdl_names_rules.specs.units.Units as u
 use Rattle.vhdl_names_rules.specs.units.Units.{Port, Declaration, Entity, Units}
 use Rattle.vhdl_expand_rules.specs.declared.fault.ElabProblem.TheVariants.{NoTop, Length, Unassociated}
@@ -15,8 +15,8 @@ use Rattle.vhdl_expand_rules.specs.Kinds.{size, kind_of}
 use Rattle.vhdl_expand_rules.specs.Site.{Site, no_integers, no_site, place_elements}
 use Rattle.vhdl_expand_rules.specs.Tree.{Role, input, output, internal, Object, Instance, Parts, no_parts, inner, followed_by, objects_of}
 use Rattle.vhdl_expand_rules.specs.Tree as t
-use Rattle.vhdl_expand_rules.specs.Declarations.{first_of, rest_of, generics, fixed, starts, object, role_of, Declared, with_port, with_signal, ports, interface, declaration, declarations, is_input, association, associations}
-use Rattle.vhdl_expand_rules.specs.Expansion.{Spot, in_turn, in_branch, process, joined, instance, concurrent, concurrents, concurrents_turns, instance_of, entity_named, Design, expanded}
+use Rattle.vhdl_expand_rules.specs.Declarations.{first_of, rest_of, generics, fixed, starts, object, role_of, InstanceObjects, with_port, with_signal, ports, interface, declaration, declarations, is_input, association, associations}
+use Rattle.vhdl_expand_rules.specs.Expansion.{Spot, in_turn, in_branch, process, joined, instance, concurrent, concurrents, concurrents_turns, instance_of, entity_named, Design, expanded_design}
 use Rattle.vhdl_expand_rules.specs.laws.Trees.{is_port}
 use Rattle.vhdl_expand_rules.proofs.Steps.{ok, bound, each-all}
 use Rattle.vhdl_expand_rules.proofs.laws.Names.{was_found}
@@ -54,21 +54,21 @@ zip-more {A} {B} R [] (y ∷ ys) vs ws h g = elim h [ ]
 zip-more {A} {B} R (x ∷ xs) [] vs ws h g = elim h [ ]
 zip-more {A} {B} R (x ∷ xs) (y ∷ ys) vs ws h g = (h.0, zip-more R xs ys vs ws h.1 g)
 
-ports-are : (before ps : List Port) (d e : Declared) → AllZip PortOf before d.objects → ports d ps ≡ Ok e → AllZip PortOf (before ++ ps) e.objects
+ports-are : (before ps : List Port) (d e : InstanceObjects) → AllZip PortOf before d.objects → ports d ps ≡ Ok e → AllZip PortOf (before ++ ps) e.objects
 unfolding ports
-ports-are before [] d e h k = subst (λ (x : Declared). AllZip PortOf (before ++ []) x.objects) (ok d e k) (subst (λ (fs : List Port). AllZip PortOf fs d.objects) (sym (append-nil before)) h)
+ports-are before [] d e h k = subst (λ (x : InstanceObjects). AllZip PortOf (before ++ []) x.objects) (ok d e k) (subst (λ (fs : List Port). AllZip PortOf fs d.objects) (sym (append-nil before)) h)
 ports-are before (p ∷ ps) d e h k =
     let o = bound (object d.site (role_of p.mode) p.object) _ e k in
     subst (λ (fs : List Port). AllZip PortOf fs e.objects) (append_assoc before (p ∷ []) ps)
     (ports-are (before ++ p ∷ []) ps (with_port d o.x) e (zip-more PortOf before d.objects (p ∷ []) (o.x ∷ []) h (object-is d.site (role_of p.mode) p.object o.x o.gave, tt)) o.then_gave)
 
-pub interface-is : (above : Integers) (actuals : List (Option Static)) (unit : Entity) (d : Declared) → interface above actuals unit ≡ Ok d → AllZip PortOf unit.ports d.objects
+pub interface-is : (above : Integers) (actuals : List (Option Static)) (unit : Entity) (d : InstanceObjects) → interface above actuals unit ≡ Ok d → AllZip PortOf unit.ports d.objects
 unfolding interface
 interface-is above actuals unit d h =
     let i = bound (generics above no_integers actuals unit.generics) _ d h in
     ports-are [] unit.ports (record { site = record no_site { integers = i.x }; objects = [] }) d tt i.then_gave
 
-association-is : (above : Site) (p : Port) (actual : Option Place) (o x : Object) → PortOf p o → association above p actual o ≡ Ok x → PortOf p x
+association-is : (above : Site) (p : Port) (actual : Option SignalPart) (o x : Object) → PortOf p o → association above p actual o ≡ Ok x → PortOf p x
 unfolding association
 association-is above p None o x h k =
     let a = bound (unless Unassociated (not (is_input o.role) || is_some p.object.default)) _ x k in
@@ -78,7 +78,7 @@ association-is above p (Some place) o x h k =
     let a = bound (unless Length (length es.x == size o.kind)) _ x es.then_gave in
     subst (PortOf p) (ok (record o { actual = Some es.x }) x a.then_gave) h
 
-associations-are : (above : Site) (ps : List Port) (actuals : List (Option Place)) (os xs : List Object) → AllZip PortOf ps os → associations above ps actuals os ≡ Ok xs → AllZip PortOf ps xs
+associations-are : (above : Site) (ps : List Port) (actuals : List (Option SignalPart)) (os xs : List Object) → AllZip PortOf ps os → associations above ps actuals os ≡ Ok xs → AllZip PortOf ps xs
 unfolding associations
 associations-are above [] actuals [] xs h k = subst (λ (ys : List Object). AllZip PortOf [] ys) (ok [] xs k) tt
 associations-are above [] actuals (o ∷ os) xs h k = elim h [ ]
@@ -98,26 +98,26 @@ record WithSignals (before after : List Object) : Type 0 where
 no-signals : (os : List Object) → WithSignals os os
 no-signals os = record { signals = []; are = sym (append-nil os); are_signals = All-nil IsSignal }
 
-declaration-adds : (x : Declaration) (d e : Declared) → declaration d x ≡ Ok e → WithSignals d.objects e.objects
+declaration-adds : (x : Declaration) (d e : InstanceObjects) → declaration d x ≡ Ok e → WithSignals d.objects e.objects
 unfolding declaration
 declaration-adds (u.integer type s) d e k =
     let x = bound (integer_of type d.site.integers s) _ e k in
-    subst (λ (y : Declared). WithSignals d.objects y.objects) (ok _ e x.then_gave) (no-signals d.objects)
+    subst (λ (y : InstanceObjects). WithSignals d.objects y.objects) (ok _ e x.then_gave) (no-signals d.objects)
 declaration-adds (u.Declaration.constant form f) d e k =
     let x = bound (kind_of d.site.integers form) _ e k in
     let vs = bound (fixed d.site (size x.x) f) _ e x.then_gave in
-    subst (λ (y : Declared). WithSignals d.objects y.objects) (ok _ e vs.then_gave) (no-signals d.objects)
+    subst (λ (y : InstanceObjects). WithSignals d.objects y.objects) (ok _ e vs.then_gave) (no-signals d.objects)
 declaration-adds (u.Declaration.signal o) d e k =
     let x = bound (object d.site internal o) _ e k in
-    subst (λ (y : Declared). WithSignals d.objects y.objects) (ok (with_signal d x.x) e x.then_gave) (record {
+    subst (λ (y : InstanceObjects). WithSignals d.objects y.objects) (ok (with_signal d x.x) e x.then_gave) (record {
       signals = x.x ∷ [];
       are = refl;
       are_signals = All-cons IsSignal x.x [] (ap is_port (object-is d.site internal o x.x x.gave).0) (All-nil IsSignal);
     })
 
-declarations-add : (xs : List Declaration) (d e : Declared) → declarations d xs ≡ Ok e → WithSignals d.objects e.objects
+declarations-add : (xs : List Declaration) (d e : InstanceObjects) → declarations d xs ≡ Ok e → WithSignals d.objects e.objects
 unfolding declarations
-declarations-add [] d e k = subst (λ (y : Declared). WithSignals d.objects y.objects) (ok d e k) (no-signals d.objects)
+declarations-add [] d e k = subst (λ (y : InstanceObjects). WithSignals d.objects y.objects) (ok d e k) (no-signals d.objects)
 declarations-add (x ∷ xs) d e k =
     let y = bound (declaration d x) _ e k in
     let a = declaration-adds x d y.x y.gave in
@@ -161,7 +161,7 @@ joined-ordered : (ps : List Parts) → All PartsAreOrdered ps → PartsAreOrdere
 joined-ordered [] h = tt
 joined-ordered (p ∷ ps) h = followed-ordered p (joined ps) (All-head PartsAreOrdered p ps h) (joined-ordered ps (All-tail PartsAreOrdered p ps h))
 
-module _ (units : Units) (go : Entity → Declared → Elab Instance) (go-ordered : (unit : Entity) (d : Declared) (i : Instance) → All IsPort d.objects → go unit d ≡ Ok i → InstanceIsOrdered i) where
+module _ (units : Units) (go : Entity → InstanceObjects → Elab Instance) (go-ordered : (unit : Entity) (d : InstanceObjects) (i : Instance) → All IsPort d.objects → go unit d ≡ Ok i → InstanceIsOrdered i) where
   instance-ordered : (at : Spot) (x : u.Instance) (i : Instance) → instance units go at x ≡ Ok i → InstanceIsOrdered i
   unfolding instance
   instance-ordered at x i h =
@@ -201,7 +201,7 @@ module _ (units : Units) (go : Entity → Declared → Elab Instance) (go-ordere
         let b = bound (concurrents units go at rest) _ ps a.then_gave in
         subst PartsAreOrdered (ok (followed_by a.x b.x) ps b.then_gave) (followed-ordered a.x b.x (concurrent-ordered x at a.x a.gave) (concurrents-ordered rest at b.x b.gave))
 
-instance_of-ordered : (units : Units) (levels : ℕ) (unit : Entity) (d : Declared) (i : Instance) → All IsPort d.objects → instance_of units levels unit d ≡ Ok i → InstanceIsOrdered i × WithSignals d.objects (objects_of i)
+instance_of-ordered : (units : Units) (levels : ℕ) (unit : Entity) (d : InstanceObjects) (i : Instance) → All IsPort d.objects → instance_of units levels unit d ≡ Ok i → InstanceIsOrdered i × WithSignals d.objects (objects_of i)
 unfolding instance_of
 instance_of-ordered units zero unit d i h k = absurd cc
 instance_of-ordered units (suc n) unit d i h k =
@@ -233,8 +233,8 @@ pub record IsOrdered (units : Units) (top : List ℕ) (design : Design) : Type 0
   pub are_ports : AllZip PortOf unit.ports ports
   pub are_signals : All IsSignal signals
 
-pub is-ordered : (units : Units) (top : List ℕ) (design : Design) → expanded units top ≡ Ok design → IsOrdered units top design
-unfolding expanded
+pub is-ordered : (units : Units) (top : List ℕ) (design : Design) → expanded_design units top ≡ Ok design → IsOrdered units top design
+unfolding expanded_design
 is-ordered units top design h =
     let unit = bound (found NoTop (entity_named units top)) _ design h in
     let d = bound (interface no_integers [] unit.x) _ design unit.then_gave in

@@ -7,7 +7,7 @@ use Rattle.std.proofs.lemmas.Bool.{and_parts, not-true, or_parts}
 use Rattle.std.proofs.lemmas.Option.{same_Some}
 use Rattle.std.proofs.lemmas.Slice.Eq.{bytes_eq-Decides}
 use Rattle.std.proofs.lemmas.List.Elements.{All-nil, All-cons, All-head, All-tail, filter-append}
-use Rattle.rtl_net.specs.Nets.{SignalView, NetView}
+use Rattle.rtl_net.specs.Nets.{SignalView, NetlistView}
 use Rattle.rtl_stim_lines.specs.Inputs.{Input, small}
 use Rattle.rtl_stim_lines.specs.Inputs as stim
 use Rattle.rtl_stim_lines.specs.Times.{nets_of, all_nets}
@@ -16,7 +16,7 @@ use Rattle.vhdl_names_rules.specs.Visibility.{is_among, are_distinct}
 use Rattle.vhdl_names_rules.specs.units.Units.{Port, Entity, Units}
 use Rattle.vhdl_expand_rules.specs.Tree.{Role, input, output, internal, Object}
 use Rattle.vhdl_expand_rules.specs.laws.Trees.{is_port}
-use Rattle.vhdl_elab_rules.specs.Numbering.{Placed, Numbered, numbered}
+use Rattle.vhdl_elab_rules.specs.Numbering.{Placed, Numbered, numbered_design}
 use Rattle.vhdl_elab_rules.specs.Wiring.{is_input}
 use Rattle.vhdl_elab_rules.specs.Elaboration.{Elaborated, net_of}
 use Rattle.vhdl_elab_laws.specs.Shown.{Shown, shown, net_shown}
@@ -119,18 +119,18 @@ inputs-differ ports signals ps zip none h =
 
 -- ---- inputs
 
-nets-of-input : (net : NetView) (s : SignalView) → nets_of (input_of net s) ≡ s.nets
+nets-of-input : (net : NetlistView) (s : SignalView) → nets_of (input_of net s) ≡ s.nets
 nets-of-input net s = go s.nets
   where
     go : (ns : List ℕ) → map (λ (e : stim.Element). e.net) (map (element_on net) ns) ≡ ns
     go [] = refl
     go (n ∷ ns) = ap (λ (ms : List ℕ). n ∷ ms) (go ns)
 
-nets-of-all : (net : NetView) (ss : List SignalView) → all_nets (map (input_of net) ss) ≡ flat_map (λ (s : SignalView). s.nets) ss
+nets-of-all : (net : NetlistView) (ss : List SignalView) → all_nets (map (input_of net) ss) ≡ flat_map (λ (s : SignalView). s.nets) ss
 nets-of-all net [] = refl
 nets-of-all net (s ∷ ss) = ap (λ (ns : List ℕ). ns ++ all_nets (map (input_of net) ss)) (nets-of-input net s) ∙ ap (λ (ns : List ℕ). s.nets ++ ns) (nets-of-all net ss)
 
-names-of-all : (net : NetView) (ss : List SignalView) → map (λ (i : Input). i.name) (map (input_of net) ss) ≡ map (λ (s : SignalView). small s.name) ss
+names-of-all : (net : NetlistView) (ss : List SignalView) → map (λ (i : Input). i.name) (map (input_of net) ss) ≡ map (λ (s : SignalView). small s.name) ss
 names-of-all net [] = refl
 names-of-all net (s ∷ ss) = ap (λ (ts : List (List ℕ)). small s.name ∷ ts) (names-of-all net ss)
 
@@ -139,7 +139,7 @@ names-of-all net (s ∷ ss) = ap (λ (ts : List (List ℕ)). small s.name ∷ ts
 pub each-has-own-ports : EachHasOwnPorts
 each-has-own-ports units top x net sound distinct e shows =
     let b = behind units top x sound e in
-    let d : Numbered = numbered b.design in
+    let d : Numbered = numbered_design b.design in
     let walked = b.walked in
     let h : Follow [] 0 (walked.top ∷ walked.others) d.nets = subst (λ (ps : List Placed). Follow [] 0 ps d.nets) walked.instances walked.so_far.follow in
     let shows' : net_shown net ≡ shown (net_of d) = subst (λ (y : Elaborated). net_shown net ≡ shown y) (sym b.is) shows in

@@ -5,7 +5,7 @@ use Rattle.rtl_net.specs.Names.{generates_prefix}
 use Rattle.vhdl_names_rules.specs.units.Units.{Units}
 use Rattle.vhdl_names_rules.specs.sound.Named.{are_named}
 use Rattle.vhdl_expand_rules.specs.Tree.{Instance, instance, Parts, no_parts, process, inner}
-use Rattle.vhdl_expand_rules.specs.Expansion.{Design, expanded}
+use Rattle.vhdl_expand_rules.specs.Expansion.{Design, expanded_design}
 
 -- labels joined by dots, and a dot behind them, or none
 abbrev pub IsDotted : List ℕ → Type 0
@@ -21,4 +21,4 @@ abbrev mutual
   PartsAreDotted (inner label i rest) = InstanceIsDotted i × PartsAreDotted rest
 
 abbrev pub EachTreeIsDotted : Type 0
-EachTreeIsDotted = (units : Units) (top : List ℕ) (design : Design) → IsTrue (are_named units) → expanded units top ≡ Ok design → InstanceIsDotted design.top
+EachTreeIsDotted = (units : Units) (top : List ℕ) (design : Design) → IsTrue (are_named units) → expanded_design units top ≡ Ok design → InstanceIsDotted design.top

@@ -1,11 +1,11 @@
--- What an elaborated net and a `Net` of the code have in common: a flat net, and beside it scopes, signals, and the names of
+-- What an elaborated netlist and a `Net` of the code have in common: a flat netlist, and beside it scopes, signals, and the names of
 -- processes and their variables. The one shows the other where these are the same.
 use Rattle.std.specs.Prelude.{◌≡◌, ℕ, List, map, Option, option_map, Ok}
-use Rattle.rtl_model.specs.nets.FlatNet.{FlatNet}
+use Rattle.rtl_model.specs.nets.FlatNetlist.{FlatNetlist}
 use Rattle.rtl_net.specs.declared.process.Variable.{Variable}
 use Rattle.rtl_net.specs.declared.process.Process.{Process}
 use Rattle.rtl_net.specs.declared.signal.SignalKind.{SignalKind}
-use Rattle.rtl_net.specs.Nets.{ScopeView, SignalView, NetView, flat}
+use Rattle.rtl_net.specs.Nets.{ScopeView, SignalView, NetlistView, flat}
 use Rattle.rtl_net.specs.Names.{generates_prefix}
 use Rattle.vhdl_expand_rules.specs.Elab.{Elab, ◌>>=◌}
 use Rattle.vhdl_elab_rules.specs.Names.{Signal, NamedVariable, NamedProcess}
@@ -22,12 +22,12 @@ pub record ShownProcess : Type 0 where
   pub variables : List (List ℕ × SignalKind)
 
 pub record Shown : Type 0 where
-  pub flat : FlatNet
+  pub flat : FlatNetlist
   pub scopes : List ScopeView
   pub signals : List SignalView
   pub processes : List ShownProcess
 
--- ---- of an elaborated net
+-- ---- of an elaborated netlist
 
 abbrev pub signal_shown : Signal → SignalView
 signal_shown s = record { scope = s.scope; name = s.name; port = s.is_port; kind = kind_view s.kind; nets = s.nets }
@@ -70,7 +70,7 @@ net_process_shown p = record {
   variables = map net_variable_shown p.variables.items;
 }
 
-abbrev pub net_shown : NetView → Shown
+abbrev pub net_shown : NetlistView → Shown
 net_shown net = record {
   flat = flat net;
   scopes = net.scopes;
@@ -78,5 +78,5 @@ net_shown net = record {
   processes = map net_process_shown net.processes;
 }
 
-abbrev pub Shows : Elaborated → NetView → Type 0
+abbrev pub Shows : Elaborated → NetlistView → Type 0
 Shows x net = net_shown net ≡ shown x

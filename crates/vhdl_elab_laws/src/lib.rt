@@ -1,4 +1,4 @@
-//! The ports of an elaborated net's top, as a stimulus speaks of them.
+//! The ports of an elaborated netlist's top, as a stimulus speaks of them.
 #![tactic(auto)]
 
 pub mod net_laws;

@@ -1,4 +1,4 @@
-//! Laws of elaborated nets in the words of rtl_net (`specs`), each the contract of a function that does nothing.
+//! Laws of elaborated netlists in the words of rtl_net (`specs`), each the contract of a function that does nothing.
 
 ghost use Rattle.vhdl_elab_laws.specs.Names.{EachHasItsNames};
 ghost use Rattle.vhdl_elab_laws.specs.Nets.{EachElaboratedIsNet};

@@ -1,11 +1,11 @@
--- The body of a process in the flat net: where the expanded body has an element, a net stands, and where it assigns an
+-- The body of a process in the flat netlist: where the expanded body has an element, a net stands, and where it assigns an
 -- element, the place of that element's driver (IEEE 1076-2008, 14.7.2).
 use Rattle.std.specs.Prelude.{ℕ, suc, ◌==◌, if◌then◌else◌, List, [], ◌∷◌, map, slice_index}
 use Rattle.rtl_model.specs.bodies.Body.{Expr, signal, variable, constant, inverse, filled, binary, resized, shifted_left}
 use Rattle.rtl_model.specs.bodies.Body.{shifted_right, Value, elements, position, position_of, position_in}
 use Rattle.rtl_model.specs.bodies.Body.{Test, condition, decided, equal, unequal, level, compared, compared_to}
 use Rattle.rtl_model.specs.bodies.Body.{rising, falling, event, negated, combined}
-use Rattle.rtl_model.specs.bodies.Body.{Stmt, nothing, assign, set, if_of, case_of, Stmts, done, step}
+use Rattle.rtl_model.specs.bodies.Body.{Stmt, null_of, assign, set, if_of, case_of, Stmts, done, step}
 use Rattle.rtl_model.specs.bodies.Body.{Branches, no_else, otherwise, branch, Alternatives, others, alternative}
 
 -- where this element stands in a list
@@ -54,21 +54,21 @@ module _ (nets drives : List ℕ) where
 
   abbrev mutual
     pub connected_stmt : Stmt → Stmt
-    connected_stmt nothing = nothing
+    connected_stmt null_of = null_of
     connected_stmt (assign es v) = assign (map (place_in drives) es) (connected_value v)
     connected_stmt (set es v) = set es (connected_value v)
     connected_stmt (if_of bs) = if_of (connected_branches bs)
     connected_stmt (case_of v alts) = case_of (connected_value v) (connected_alternatives alts)
 
-    pub connected : Stmts → Stmts
-    connected done = done
-    connected (step s rest) = step (connected_stmt s) (connected rest)
+    pub connected_body : Stmts → Stmts
+    connected_body done = done
+    connected_body (step s rest) = step (connected_stmt s) (connected_body rest)
 
     pub connected_branches : Branches → Branches
     connected_branches no_else = no_else
-    connected_branches (otherwise s) = otherwise (connected s)
-    connected_branches (branch t s bs) = branch (connected_test t) (connected s) (connected_branches bs)
+    connected_branches (otherwise s) = otherwise (connected_body s)
+    connected_branches (branch t s bs) = branch (connected_test t) (connected_body s) (connected_branches bs)
 
     pub connected_alternatives : Alternatives → Alternatives
-    connected_alternatives (others s) = others (connected s)
-    connected_alternatives (alternative choices s alts) = alternative choices (connected s) (connected_alternatives alts)
+    connected_alternatives (others s) = others (connected_body s)
+    connected_alternatives (alternative choices s alts) = alternative choices (connected_body s) (connected_alternatives alts)

@@ -3,19 +3,19 @@
 -- breaks a rule.
 use Rattle.std.specs.Prelude.{ℕ, not, List, map, flat_map, Ok}
 use Rattle.std.specs.List.{enumerate_from}
-use Rattle.rtl_model.specs.nets.FlatNet.{FlatNet}
+use Rattle.rtl_model.specs.nets.FlatNetlist.{FlatNetlist}
 use Rattle.vhdl_names_rules.specs.units.Units.{Units}
 use Rattle.vhdl_expand_rules.specs.declared.fault.ElabProblem.TheVariants.{TwoUnresolved, ReadOfShared, TooMany}
 use Rattle.vhdl_expand_rules.specs.Elab.{Elab, ◌>>=◌, ◌>>◌, unless}
-use Rattle.vhdl_expand_rules.specs.Expansion.{Design, expanded}
-use Rattle.vhdl_elab_rules.specs.Numbering.{Numbered, numbered}
+use Rattle.vhdl_expand_rules.specs.Expansion.{Design, expanded_design}
+use Rattle.vhdl_elab_rules.specs.Numbering.{Numbered, numbered_design}
 use Rattle.vhdl_elab_rules.specs.Wiring.{flat_net}
 use Rattle.vhdl_elab_rules.specs.Limits.{counts, is_within_limits, has_two_unresolved, has_read_of_shared}
 use Rattle.vhdl_elab_rules.specs.Names.{Scope, scope_of, Signal, signals_of, NamedProcess, named_process, net_names, process_names}
 
--- a flat net, and names beside it
+-- a flat netlist, and names beside it
 pub record Elaborated : Type 0 where
-  pub flat : FlatNet
+  pub flat : FlatNetlist
   -- the top first
   pub scopes : List Scope
   -- in order of the instances, and of declaration
@@ -37,13 +37,13 @@ net_of d = record {
 -- the net of a design, none of whose rules is broken
 unfoldable pub connected : Design → Elab Elaborated
 connected design = do
-  let d = numbered design
+  let d = numbered_design design
   unless TooMany (is_within_limits (counts d))
   unless TwoUnresolved (not (has_two_unresolved d))
   unless ReadOfShared (not (has_read_of_shared d (flat_net d)))
   Ok (net_of d)
 
-unfoldable pub elaborated : Units → (top : List ℕ) → Elab Elaborated
-elaborated units top = do
-  design ← expanded units top
+unfoldable pub elaborated_net : Units → (top : List ℕ) → Elab Elaborated
+elaborated_net units top = do
+  design ← expanded_design units top
   connected design

@@ -2,9 +2,9 @@
 -- read, and more parts than the limits (IEEE 1076-2008, 6.4.2.3, 4.6, 6.5.6.3).
 use Rattle.std.specs.Prelude.{ℕ, ◌+◌, Bool, not, ◌&&◌, nat_le, List, length, map, sum, flat_map}
 use Rattle.std.specs.List.{list_any}
-use Rattle.rtl_model.specs.bodies.Body.{Stmt, nothing, assign, set, if_of, case_of, Stmts, done, step}
+use Rattle.rtl_model.specs.bodies.Body.{Stmt, null_of, assign, set, if_of, case_of, Stmts, done, step}
 use Rattle.rtl_model.specs.bodies.Body.{Branches, no_else, otherwise, branch, Alternatives, others, alternative}
-use Rattle.rtl_model.specs.nets.FlatNet.{FlatNet, flat_sources}
+use Rattle.rtl_model.specs.nets.FlatNetlist.{FlatNetlist, flat_sources}
 use Rattle.vhdl_expand_rules.specs.Tree.{Variable}
 use Rattle.vhdl_elab_rules.specs.Numbering.{Placed, Located, Numbered}
 use Rattle.vhdl_elab_rules.specs.Wiring.{Element, elements_of, is_output}
@@ -18,11 +18,11 @@ elements d = flat_map elements_of d.instances
 abbrev pub has_two_unresolved : Numbered → Bool
 has_two_unresolved d = list_any (λ (e : Element). not e.is_resolved && nat_le 2 e.sources) (elements d)
 
-abbrev pub is_shared : FlatNet → ℕ → Bool
+abbrev pub is_shared : FlatNetlist → ℕ → Bool
 is_shared net n = nat_le 2 (length (flat_sources net n))
 
 -- an element of an out port is read in its instance, and its net has several sources
-abbrev pub has_read_of_shared : Numbered → FlatNet → Bool
+abbrev pub has_read_of_shared : Numbered → FlatNetlist → Bool
 has_read_of_shared d net = list_any (λ (e : Element). is_output e.role && e.is_read && is_shared net e.net) (elements d)
 
 -- ---- counts
@@ -30,7 +30,7 @@ has_read_of_shared d net = list_any (λ (e : Element). is_output e.role && e.is_
 -- each assignment, null, if and case of an unrolled body is a statement
 abbrev mutual
   pub stmt_count : Stmt → ℕ
-  stmt_count nothing = 1
+  stmt_count null_of = 1
   stmt_count (assign places v) = 1
   stmt_count (set es v) = 1
   stmt_count (if_of bs) = 1 + branches_count bs

@@ -1,11 +1,11 @@
--- Names beside a flat net (IEEE 1076-2008, 16.2.5): instances with their labels, signals with their nets, and processes.
+-- Names beside a flat netlist (IEEE 1076-2008, 16.2.5): instances with their labels, signals with their nets, and processes.
 -- A path is the top's name and the labels below it, joined by dots.
 use Rattle.std.specs.Prelude.{ℕ, ◌+◌, ◌-◌, Bool, true, false, List, [], ◌∷◌, ◌++◌, map, filter, flat_map, slice_range, decimal, codes, Option, Some}
 use Rattle.std.specs.Prelude.{None, is_none}
 use Rattle.std.specs.List.{range_with_len, enumerate_from}
 use Rattle.vhdl_tree.specs.declared.operator.Direction.{Direction}
 use Rattle.vhdl_tree.specs.declared.operator.Direction.TheVariants.{To, Downto}
-use Rattle.vhdl_expand_rules.specs.Kinds.{Kind, one, vector, enumeration, Bounds, size}
+use Rattle.vhdl_expand_rules.specs.Kinds.{ObjectKind, one, vector, enumeration, Bounds, size}
 use Rattle.vhdl_expand_rules.specs.Tree.{Role, input, output, internal, Object, Variable}
 use Rattle.vhdl_elab_rules.specs.Numbering.{Placed, Located, Numbered}
 
@@ -25,7 +25,7 @@ pub record Signal : Type 0 where
   pub scope : ℕ
   pub name : List ℕ
   pub is_port : Bool
-  pub kind : Kind
+  pub kind : ObjectKind
   pub nets : List ℕ
 
 abbrev pub is_port_role : Role → Bool
@@ -52,7 +52,7 @@ signals_of x = signals_from x.0 x.1.nets 0 x.1.objects
 
 pub record NamedVariable : Type 0 where
   pub name : List ℕ
-  pub kind : Kind
+  pub kind : ObjectKind
 
 pub record NamedProcess : Type 0 where
   pub scope : ℕ
@@ -82,7 +82,7 @@ index_text b place = codes "(" ++ (decimal (index b.direction) ++ codes ")")
     index To = b.left + place
     index Downto = b.left - place
 
-abbrev pub element_text : Kind → (place : ℕ) → List ℕ
+abbrev pub element_text : ObjectKind → (place : ℕ) → List ℕ
 element_text (vector b) place = index_text b place
 element_text one place = []
 element_text (enumeration count) place = []

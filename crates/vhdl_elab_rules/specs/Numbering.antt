@@ -143,5 +143,5 @@ abbrev mutual
   with_parts number round (inner label i rest) d = with_parts number round rest (with_instance (above_parts number round) label i d)
 
 -- a design, whose top stands in no instance
-unfoldable pub numbered : Design → Numbered
-numbered design = with_instance above_top design.name design.top nothing_numbered
+unfoldable pub numbered_design : Design → Numbered
+numbered_design design = with_instance above_top design.name design.top nothing_numbered

@@ -3,14 +3,14 @@ use Rattle.std.specs.Prelude.{ℕ, ◌+◌, Bool, true, false, not, ◌&&◌, �
 use Rattle.std.specs.List.{range_with_len}
 use Rattle.rtl_model.specs.bodies.Types.{ElementType}
 use Rattle.rtl_model.specs.bodies.Reads.{reads}
-use Rattle.rtl_model.specs.nets.FlatNet.{FlatDriver, FlatVariable, FlatProcess, FlatNet, starts, flat_sources}
-use Rattle.rtl_model.specs.nets.CoreNet.{core_resolve}
-use Rattle.rtl_model.specs.simulation.Net.{Source}
+use Rattle.rtl_model.specs.nets.FlatNetlist.{FlatDriver, FlatVariable, FlatProcess, FlatNetlist, starts, flat_sources}
+use Rattle.rtl_model.specs.nets.CoreNetlist.{core_resolve}
+use Rattle.rtl_model.specs.simulation.Netlist.{Source}
 use Rattle.rtl_model.specs.simulation.Cycle.{source_value}
 use Rattle.vhdl_expand_rules.specs.Kinds.{size, element_type}
 use Rattle.vhdl_expand_rules.specs.Tree.{Role, input, output, internal, Object, Variable, Sensitivity, listed, every, as_read, Process}
 use Rattle.vhdl_expand_rules.specs.Prefixes.{is_among, in_order}
-use Rattle.vhdl_elab_rules.specs.Bodies.{connected}
+use Rattle.vhdl_elab_rules.specs.Bodies.{connected_body}
 use Rattle.vhdl_elab_rules.specs.Numbering.{Placed, Located, Numbered}
 
 -- ---- the elements of the declarations of an instance
@@ -113,13 +113,13 @@ flat_process count x = record {
   drivers = map (driver_of x.round) x.process.drives;
   wakes = in_order count (map (slice_index x.round.nets) (sensitive_to x.process));
   variables = map flat_variable x.process.variables;
-  body = connected x.round.nets x.process.drives x.process.body;
+  body = connected_body x.round.nets x.process.drives x.process.body;
 }
 
 -- ---- the net
 
 -- with the defaults of the nets' own names in place of what they start with
-abbrev pub with_defaults : Numbered → FlatNet
+abbrev pub with_defaults : Numbered → FlatNetlist
 with_defaults d = record {
   types = map (λ (e : Element). e.type) (own_elements d);
   start = map (λ (e : Element). e.start) (own_elements d);
@@ -129,12 +129,12 @@ with_defaults d = record {
 }
 
 -- a net with sources starts with the resolution of what they start with, any other with its default
-abbrev pub start_by : FlatNet → (default : ℕ) → List Source → ℕ
+abbrev pub start_by : FlatNetlist → (default : ℕ) → List Source → ℕ
 start_by net default [] = default
 start_by net default (s ∷ ss) = core_resolve (map (source_value (map starts net.processes)) (s ∷ ss))
 
-abbrev pub start_of : FlatNet → (n : ℕ) → ℕ
+abbrev pub start_of : FlatNetlist → (n : ℕ) → ℕ
 start_of net n = start_by net (slice_index net.start n) (flat_sources net n)
 
-unfoldable pub flat_net : Numbered → FlatNet
+unfoldable pub flat_net : Numbered → FlatNetlist
 flat_net d = record (with_defaults d) { start = map (start_of (with_defaults d)) (range_with_len 0 d.nets) }

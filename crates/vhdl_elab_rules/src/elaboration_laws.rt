@@ -28,7 +28,7 @@ pub fn lists_have_their_lengths()
     ensures { EachHasShape }
 {}
 
-/// A body that fits its instance's elements is connected to one that fits the flat net.
+/// A body that fits its instance's elements is connected to one that fits the flat netlist.
 pub fn bodies_fit_the_net()
     ensures { EachBodyIsConnected }
 {}

@@ -7,9 +7,9 @@ use Rattle.vhdl_expand_rules.specs.declared.fault.ElabProblem.TheVariants.{NoTop
 use Rattle.vhdl_expand_rules.specs.Elab.{Elab, ◌>>=◌, ◌>>◌, unless, found}
 use Rattle.vhdl_expand_rules.specs.Tree as t
 use Rattle.vhdl_expand_rules.specs.Tree.{Parts, no_parts, followed_by, Object, Process, Instance, instance}
-use Rattle.vhdl_expand_rules.specs.Declarations.{Declared, declarations, interface, associations}
+use Rattle.vhdl_expand_rules.specs.Declarations.{InstanceObjects, declarations, interface, associations}
 use Rattle.vhdl_expand_rules.specs.Expansion as definition
-use Rattle.vhdl_expand_rules.specs.Expansion.{Spot, Design, instance_of, expanded, entity_named}
+use Rattle.vhdl_expand_rules.specs.Expansion.{Spot, Design, instance_of, expanded_design, entity_named}
 use Rattle.vhdl_expand_rules.specs.Site.{no_integers}
 use Rattle.vhdl_expand_rules.proofs.Steps.{given}
 use Rattle.vhdl_expand_rules.proofs.Chains.{err_first}
@@ -17,8 +17,8 @@ use Rattle.vhdl_elab_rules.specs.Limits.{Counts}
 use Rattle.vhdl_elab_rules.specs.Numbering.{own_sizes}
 use Rattle.vhdl_expand_tree.specs.declared.tree.Process as code
 use Rattle.vhdl_expand_tree.specs.declared.tree.Instance as code_instance
-use Rattle.vhdl_expand_tree.specs.declared.tree.Part.{Part}
-use Rattle.vhdl_expand_tree.specs.declared.tree.Part.TheVariants as p
+use Rattle.vhdl_expand_tree.specs.declared.tree.InstancePart.{InstancePart}
+use Rattle.vhdl_expand_tree.specs.declared.tree.InstancePart.TheVariants as p
 use Rattle.vhdl_expand_tree.specs.Views.{process_view, instance_view, parts_of}
 use Rattle.vhdl_expand_tree.proofs.Parts.{view_instance, parts_push}
 use Rattle.vhdl_expand_tree.specs.Costs.{no_costs, an_instance, nets, turns, plus, less, is_within, limits, spent, charged, process_costs, instance_costs, parts_costs}
@@ -64,19 +64,19 @@ instance-apart os m =
 
 -- ---- the body of an instance
 
-abbrev pub outermost : Declared → Spot
+abbrev pub outermost : InstanceObjects → Spot
 outermost d = record { site = d.site; prefix = [] }
 
 -- its architecture and declarations are there
-instance-is : (units : Units) (n : ℕ) (unit : Entity) (d e : Declared) (a : Architecture) → unit.architecture ≡ Some a → declarations d a.declarations ≡ Ok e
+instance-is : (units : Units) (n : ℕ) (unit : Entity) (d e : InstanceObjects) (a : Architecture) → unit.architecture ≡ Some a → declarations d a.declarations ≡ Ok e
     → instance_of units (suc n) unit d ≡ (made.concurrents units n (outermost e) a.statements >>= λ m. given (made_of e.objects m))
 unfolding instance_of
 instance-is units n unit d e a h k =
     ap (λ (o : Option Architecture). found NoTop o >>= λ a. declarations d a.declarations >>= λ e. body a e) h
-    ∙ ap (λ (r : Elab Declared). r >>= λ e. body a e) k
+    ∙ ap (λ (r : Elab InstanceObjects). r >>= λ e. body a e) k
     ∙ go (definition.concurrents units (instance_of units n) (outermost e) a.statements) (definition.concurrents_turns (outermost e) a.statements)
   where
-    body : Architecture → Declared → Elab Instance
+    body : Architecture → InstanceObjects → Elab Instance
     body a e =
         definition.concurrents units (instance_of units n) (outermost e) a.statements >>= λ parts.
         definition.concurrents_turns (outermost e) a.statements >>= λ turned. given (t.instance e.objects turned parts)
@@ -113,7 +113,7 @@ in-steps n os r =
         (alike_same (second (spent left (nets (own_sizes os)))))
     first (Err problem) = alike_same refl
 
-module _ (units : Units) (n : ℕ) (unit : Entity) (d : Declared) (before : Counts) where
+module _ (units : Units) (n : ℕ) (unit : Entity) (d : InstanceObjects) (before : Counts) where
   abbrev whole : Elab (Instance × Counts)
   whole = charged before instance_costs (instance_of units (suc n) unit d)
 
@@ -121,7 +121,7 @@ module _ (units : Units) (n : ℕ) (unit : Entity) (d : Declared) (before : Coun
   unfolding instance_of
   no_architecture h = err_first (instance_of units (suc n) unit d) _ (subst (λ (o : Option Architecture). IsErr (found NoTop o >>= λ a. declarations d a.declarations >>= λ e. rest a e)) (sym h) refl)
     where
-      rest : Architecture → Declared → Elab Instance
+      rest : Architecture → InstanceObjects → Elab Instance
       rest a e =
           definition.concurrents units (instance_of units n) (outermost e) a.statements >>= λ parts.
           definition.concurrents_turns (outermost e) a.statements >>= λ turned. given (t.instance e.objects turned parts)
@@ -132,7 +132,7 @@ module _ (units : Units) (n : ℕ) (unit : Entity) (d : Declared) (before : Coun
       err_first (instance_of units (suc n) unit d) _
       (subst (λ (o : Option Architecture). IsErr (found NoTop o >>= λ a. declarations d a.declarations >>= λ e. rest a e)) (sym h) (err_first (declarations d a.declarations) (λ e. rest a e) k))
     where
-      rest : Architecture → Declared → Elab Instance
+      rest : Architecture → InstanceObjects → Elab Instance
       rest a e =
           definition.concurrents units (instance_of units n) (outermost e) a.statements >>= λ parts.
           definition.concurrents_turns (outermost e) a.statements >>= λ turned. given (t.instance e.objects turned parts)
@@ -146,7 +146,7 @@ module _ (units : Units) (n : ℕ) (unit : Entity) (d : Declared) (before : Coun
           (in-steps before os (Ok (record { parts = ps; turns = m }))).stops (err_first (spent before an_instance) _ h)
       go (Err problem) = refl
 
-  module _ (a : Architecture) (e : Declared) (there : unit.architecture ≡ Some a) (known : declarations d a.declarations ≡ Ok e) where
+  module _ (a : Architecture) (e : InstanceObjects) (there : unit.architecture ≡ Some a) (known : declarations d a.declarations ≡ Ok e) where
     abbrev inside : Elab Made
     inside = made.concurrents units n (outermost e) a.statements
 
@@ -174,7 +174,7 @@ module _ (units : Units) (n : ℕ) (unit : Entity) (d : Declared) (before : Coun
         → adding (nothing_yet rest) inside ≡ Ok p → whole ≡ Ok (made_of e.objects p.made, p.left)
     instance_made first rest p h k j = stepwise.gives _ (reached first rest h k ∙ ap (λ (r : Elab Progress). r >>= λ p. left_with (made_of e.objects p.made) p.left) j)
 
-pub too_deep : (units : Units) (unit : Entity) (d : Declared) (before : Counts) → IsErr (charged before instance_costs (instance_of units 0 unit d))
+pub too_deep : (units : Units) (unit : Entity) (d : InstanceObjects) (before : Counts) → IsErr (charged before instance_costs (instance_of units 0 unit d))
 unfolding instance_of
 too_deep units unit d before = refl
 
@@ -205,7 +205,7 @@ pub instance_added : (label : List ℕ) (p : Progress) (r : Elab Instance)
 instance_added label p r = one_added instance_costs (made_instance label) (λ i. alone (instance_costs i)) p r
 
 -- as the code puts them there
-pub process_behind : (xs ys : List Part) (x : code.Process) (n : ℕ) (before left : Counts) (r : Elab Process) → charged before process_costs r ≡ Ok (process_view x, left)
+pub process_behind : (xs ys : List InstancePart) (x : code.Process) (n : ℕ) (before left : Counts) (r : Elab Process) → charged before process_costs r ≡ Ok (process_view x, left)
     → ys ≡ xs ++ p.Process x ∷ []
     → adding (progress (record { parts = parts_of xs; turns = n }) before) (r >>= λ q. given (made_process q)) ≡ Ok (progress (record { parts = parts_of ys; turns = n }) left)
 process_behind xs ys x n before left r h pushed =
@@ -216,7 +216,7 @@ process_behind xs ys x n before left r h pushed =
 pub process_refused : (p : Progress) (r : Elab Process) → IsErr (charged p.left process_costs r) → IsErr (adding p (r >>= λ q. given (made_process q)))
 process_refused p r h = subst (λ (t : Elab Progress). IsErr t) (sym (process_added p r)) (err_first (charged p.left process_costs r) _ h)
 
-pub instance_behind : (xs ys : List Part) (label : Vec ℕ Global) (x : code_instance.Instance) (n : ℕ) (before left : Counts) (r s : Elab Instance) → r ≡ s
+pub instance_behind : (xs ys : List InstancePart) (label : Vec ℕ Global) (x : code_instance.Instance) (n : ℕ) (before left : Counts) (r s : Elab Instance) → r ≡ s
     → charged before instance_costs s ≡ Ok (instance_view x, left) → ys ≡ xs ++ p.Instance label x ∷ []
     → adding (progress (record { parts = parts_of xs; turns = n }) before) (r >>= λ i. given (made_instance label.items i)) ≡ Ok (progress (record { parts = parts_of ys; turns = n }) left)
 instance_behind xs ys label x n before left r s e h pushed =
@@ -245,25 +245,25 @@ module _ (units : Units) (n : ℕ) (at : Spot) (x : u.Instance) where
       subst (λ (o : Option Entity). IsErr (found NoTop o >>= λ unit. interface at.site.integers x.generics unit >>= λ d. associations at.site unit.ports x.ports d.objects >>= λ os. instance_of units n unit (record d { objects = os }))) (sym h)
       (err_first (interface at.site.integers x.generics unit) _ k)
 
-  with-interface : (unit : Entity) (d : Declared) → slice_get units x.unit ≡ Some unit → interface at.site.integers x.generics unit ≡ Ok d
+  with-interface : (unit : Entity) (d : InstanceObjects) → slice_get units x.unit ≡ Some unit → interface at.site.integers x.generics unit ≡ Ok d
       → expanded_here ≡ (associated at.site unit.ports x.ports d >>= λ e. instance_of units n unit e)
   unfolding definition.instance
   with-interface unit d h k =
       ap (λ (o : Option Entity). found NoTop o >>= λ unit. interface at.site.integers x.generics unit >>= λ d. associations at.site unit.ports x.ports d.objects >>= λ os. instance_of units n unit (record d { objects = os })) h
-      ∙ ap (λ (r : Elab Declared). r >>= λ d. associations at.site unit.ports x.ports d.objects >>= λ os. instance_of units n unit (record d { objects = os })) k
+      ∙ ap (λ (r : Elab InstanceObjects). r >>= λ d. associations at.site unit.ports x.ports d.objects >>= λ os. instance_of units n unit (record d { objects = os })) k
       ∙ go (associations at.site unit.ports x.ports d.objects)
     where
       go : (r : Elab (List Object)) → (r >>= λ os. instance_of units n unit (record d { objects = os })) ≡ ((r >>= λ os. given (record d { objects = os })) >>= λ e. instance_of units n unit e)
       go (Ok os) = refl
       go (Err problem) = refl
 
-  pub no_associations : (unit : Entity) (d : Declared) → slice_get units x.unit ≡ Some unit → interface at.site.integers x.generics unit ≡ Ok d
+  pub no_associations : (unit : Entity) (d : InstanceObjects) → slice_get units x.unit ≡ Some unit → interface at.site.integers x.generics unit ≡ Ok d
       → IsErr (associated at.site unit.ports x.ports d) → IsErr expanded_here
   no_associations unit d h k j = subst (λ (r : Elab Instance). IsErr r) (sym (with-interface unit d h k)) (err_first (associated at.site unit.ports x.ports d) _ j)
 
-  pub instance_here : (unit : Entity) (d e : Declared) → slice_get units x.unit ≡ Some unit → interface at.site.integers x.generics unit ≡ Ok d
+  pub instance_here : (unit : Entity) (d e : InstanceObjects) → slice_get units x.unit ≡ Some unit → interface at.site.integers x.generics unit ≡ Ok d
       → associated at.site unit.ports x.ports d ≡ Ok e → expanded_here ≡ instance_of units n unit e
-  instance_here unit d e h k j = with-interface unit d h k ∙ ap (λ (r : Elab Declared). r >>= λ e. instance_of units n unit e) j
+  instance_here unit d e h k j = with-interface unit d h k ∙ ap (λ (r : Elab InstanceObjects). r >>= λ e. instance_of units n unit e) j
 
 -- ---- the top
 
@@ -271,22 +271,22 @@ abbrev designed : List ℕ → Elab Instance → Elab Design
 designed name r = r >>= λ i. given (record { name = name; top = i })
 
 module _ (units : Units) (top : List ℕ) where
-  pub no_top : entity_named units top ≡ None → IsErr (within_limits (expanded units top))
-  unfolding expanded
+  pub no_top : entity_named units top ≡ None → IsErr (within_limits (expanded_design units top))
+  unfolding expanded_design
   no_top h = subst (λ (o : Option Entity). IsErr (within_limits (found NoTop o >>= λ unit. interface no_integers [] unit >>= λ d. designed unit.name (instance_of units 32 unit d)))) (sym h) refl
 
-  pub no_top_interface : (unit : Entity) → entity_named units top ≡ Some unit → IsErr (interface no_integers [] unit) → IsErr (within_limits (expanded units top))
-  unfolding expanded
+  pub no_top_interface : (unit : Entity) → entity_named units top ≡ Some unit → IsErr (interface no_integers [] unit) → IsErr (within_limits (expanded_design units top))
+  unfolding expanded_design
   no_top_interface unit h k =
       subst (λ (o : Option Entity). IsErr (within_limits (found NoTop o >>= λ unit. interface no_integers [] unit >>= λ d. designed unit.name (instance_of units 32 unit d)))) (sym h)
       (err_first (interface no_integers [] unit >>= λ d. designed unit.name (instance_of units 32 unit d)) _ (err_first (interface no_integers [] unit) _ k))
 
-  module _ (unit : Entity) (d : Declared) (named : entity_named units top ≡ Some unit) (known : interface no_integers [] unit ≡ Ok d) where
-    from-top : expanded units top ≡ designed unit.name (instance_of units 32 unit d)
-    unfolding expanded
+  module _ (unit : Entity) (d : InstanceObjects) (named : entity_named units top ≡ Some unit) (known : interface no_integers [] unit ≡ Ok d) where
+    from-top : expanded_design units top ≡ designed unit.name (instance_of units 32 unit d)
+    unfolding expanded_design
     from-top =
         ap (λ (o : Option Entity). found NoTop o >>= λ unit. interface no_integers [] unit >>= λ d. designed unit.name (instance_of units 32 unit d)) named
-        ∙ ap (λ (r : Elab Declared). r >>= λ d. designed unit.name (instance_of units 32 unit d)) known
+        ∙ ap (λ (r : Elab InstanceObjects). r >>= λ d. designed unit.name (instance_of units 32 unit d)) known
 
     limited : (r : Elab Instance) → within_limits (designed unit.name r) ≡ designed unit.name (charged limits instance_costs r >>= λ a. given a.0)
     limited (Ok i) = go (is_within (instance_costs i) limits)
@@ -297,13 +297,13 @@ module _ (units : Units) (top : List ℕ) where
         go false = refl
     limited (Err problem) = refl
 
-    pub no_instance : IsErr (charged limits instance_costs (instance_of units 32 unit d)) → IsErr (within_limits (expanded units top))
+    pub no_instance : IsErr (charged limits instance_costs (instance_of units 32 unit d)) → IsErr (within_limits (expanded_design units top))
     no_instance h =
         subst (λ (r : Elab Design). IsErr r) (sym (ap within_limits from-top ∙ limited (instance_of units 32 unit d)))
         (err_first (charged limits instance_costs (instance_of units 32 unit d) >>= λ a. given a.0) _ (err_first (charged limits instance_costs (instance_of units 32 unit d)) _ h))
 
     pub design_made : (i : Instance) (left : Counts) → charged limits instance_costs (instance_of units 32 unit d) ≡ Ok (i, left)
-        → within_limits (expanded units top) ≡ Ok (record { name = unit.name; top = i })
+        → within_limits (expanded_design units top) ≡ Ok (record { name = unit.name; top = i })
     design_made i left h =
         ap within_limits from-top ∙ limited (instance_of units 32 unit d)
         ∙ ap (λ (r : Elab (Instance × Counts)). designed unit.name (r >>= λ a. given a.0)) h

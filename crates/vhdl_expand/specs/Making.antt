@@ -10,7 +10,7 @@ use Rattle.vhdl_expand_rules.specs.Expansion.{Spot, instance_of}
 use Rattle.vhdl_elab_rules.specs.Limits.{Counts}
 use Rattle.vhdl_expand_tree.specs.Costs.{plus, turns, parts_costs, charged}
 use Rattle.vhdl_expand_tree.specs.Views.{parts_of, budget_view}
-use Rattle.vhdl_expand.specs.declared.progress.Progress as code
+use Rattle.vhdl_expand.specs.declared.progress.TreeProgress as code
 
 -- parts, and how many turns generates have
 pub record Made : Type 0 where

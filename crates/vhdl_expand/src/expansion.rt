@@ -2,10 +2,10 @@
 
 ghost use Rattle.std.specs.Prelude.{◌≡◌, [], map, find, option_map, bytes_eq, IfOk};
 ghost use Rattle.std.specs.Char.{to_ascii_lowercase};
-ghost use Rattle.vhdl_names_rules.specs.units.Units as names;
+ghost use Rattle.vhdl_names_rules.specs.units.Units as u;
 ghost use Rattle.vhdl_names_units.specs.views.Units.{entity_view, units_view};
 ghost use Rattle.vhdl_expand_rules.specs.Declarations as definition;
-ghost use Rattle.vhdl_expand_rules.specs.Expansion.{expanded};
+ghost use Rattle.vhdl_expand_rules.specs.Expansion.{expanded_design};
 ghost use Rattle.vhdl_expand_rules.specs.Site.{no_integers};
 ghost use Rattle.vhdl_expand_bodies.specs.Results.{Expands};
 ghost use Rattle.vhdl_expand_tree.specs.Views.{design_view};
@@ -16,7 +16,7 @@ use crate::walk::Walk;
 use std::alloc::{AllocError, Global};
 use vhdl_expand_tree::{Budget, Design};
 use vhdl_expand_rules::{ElabFault, ElabProblem, Integers};
-use vhdl_expand_objects::{Declared, interface};
+use vhdl_expand_objects::{InstanceObjects, interface};
 use vhdl_names_units::{Entity, Units};
 
 /// How many instances may be nested, the top among them.
@@ -31,7 +31,7 @@ fn small_letters(alloc: Global, text: &[u8]) -> Result<Vec<u8>, AllocError>
 
 /// The first entity of this name.
 fn named<'a>(units: &'a [Entity], name: &[u8]) -> Option<&'a Entity>
-    ensures { find (λ (e : names.Entity). bytes_eq e.name name.now) (map entity_view units.now) ≡ option_map (λ e. entity_view e.now) result }
+    ensures { find (λ (e : u.Entity). bytes_eq e.name name.now) (map entity_view units.now) ≡ option_map (λ e. entity_view e.now) result }
 {
     for unit in units {
         if unit.name.text.as_slice() == name {
@@ -42,7 +42,7 @@ fn named<'a>(units: &'a [Entity], name: &[u8]) -> Option<&'a Entity>
 }
 
 /// What is known of an instance that has no other round it, where its architecture begins.
-fn outermost(alloc: Global, unit: &Entity) -> Result<Declared, ElabFault>
+fn outermost(alloc: Global, unit: &Entity) -> Result<InstanceObjects, ElabFault>
     ensures { Expands declared_view (definition.interface no_integers [] (entity_view unit.now)) result }
 {
     let none = Integers {
@@ -65,7 +65,7 @@ fn outermost(alloc: Global, unit: &Entity) -> Result<Declared, ElabFault>
 /// the top have their defaults, and its ports are joined to nothing. A fault is any problem but TwoUnresolved and ReadOfShared, and
 /// nothing is made beyond the limits. It takes the memory of the tree.
 pub fn expand(alloc: Global, units: &Units, top: &[u8]) -> Result<Design, ElabFault>
-    ensures { Expands design_view (within_limits (expanded (units_view units.now) top.now)) result }
+    ensures { Expands design_view (within_limits (expanded_design (units_view units.now) top.now)) result }
 {
     let name = small_letters(alloc, top)?;
     let Some(unit) = named(&units.entities, &name) else {

@@ -4,19 +4,19 @@ ghost use Rattle.std.specs.Prelude.{Ok};
 ghost use Rattle.vhdl_expand_bodies.specs.Results.{Expands};
 ghost use Rattle.vhdl_expand.specs.Making.{TurnsFit, progress_view, adding, made_turns};
 
-use vhdl_expand_tree::{Budget, Part};
+use vhdl_expand_tree::{Budget, InstancePart};
 use vhdl_expand_rules::ElabFault;
 
 /// What is made of an instance so far: its parts, in order of the text, and how many turns its generates have; and what is left
 /// of the limits.
 #[derive(Drop)]
-pub(crate) struct Progress {
-    pub parts: Vec<Part>,
+pub(crate) struct TreeProgress {
+    pub parts: Vec<InstancePart>,
     pub turns: u32,
     pub left: Budget,
 }
 
-impl Progress {
+impl TreeProgress {
     /// Counts turns of a generate, whose range starts at byte `at`; a fault is TooMany.
     pub(crate) fn add_turns(&mut self, count: u32, at: usize) -> Result<(), ElabFault>
         requires fits { TurnsFit self.old }

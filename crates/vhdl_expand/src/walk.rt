@@ -19,13 +19,13 @@ ghost use Rattle.vhdl_expand.specs.Turns as generates;
 ghost use Rattle.vhdl_expand.specs.Walks.{units_of, IsAmong};
 
 use crate::prefix::{branch_prefix, labelled, turn_prefix};
-use crate::progress::Progress;
+use crate::progress::TreeProgress;
 use crate::spot::Spot;
 use std::alloc::Global;
-use vhdl_expand_tree::{Budget, Instance, Part};
+use vhdl_expand_tree::{Budget, Instance, InstancePart};
 use vhdl_expand_rules::{ElabFault, ElabProblem, Turns};
 use vhdl_names_rules::{StaticRange, StaticTest};
-use vhdl_expand_objects::{Declared, associations, charge_own_nets, declarations, interface};
+use vhdl_expand_objects::{InstanceObjects, associations, charge_own_nets, declarations, interface};
 use vhdl_tree::Direction;
 use vhdl_names_units as analysed;
 use vhdl_names_units::{Concurrent, Entity, Generate, Scheme};
@@ -61,7 +61,7 @@ impl Walk<'_> {
         &self,
         spot: &Spot,
         list: &[Concurrent],
-        so_far: &mut Progress,
+        so_far: &mut TreeProgress,
     ) -> Result<(), ElabFault>
         requires site { IsSite spot.now.site }
         requires fits { TurnsFit so_far.old }
@@ -80,7 +80,7 @@ impl Walk<'_> {
         &self,
         spot: &Spot,
         item: &Concurrent,
-        so_far: &mut Progress,
+        so_far: &mut TreeProgress,
     ) -> Result<(), ElabFault>
         requires site { IsSite spot.now.site }
         requires fits { TurnsFit so_far.old }
@@ -99,7 +99,7 @@ impl Walk<'_> {
         &self,
         spot: &Spot,
         written: &analysed::Process,
-        so_far: &mut Progress,
+        so_far: &mut TreeProgress,
     ) -> Result<(), ElabFault>
         requires site { IsSite spot.now.site }
         ensures { Expands (λ _. progress_view so_far.new) (adding (progress_view so_far.old)
@@ -112,7 +112,7 @@ impl Walk<'_> {
             written,
             &mut so_far.left,
         )?;
-        so_far.parts.push(Part::Process(made))?;
+        so_far.parts.push(InstancePart::Process(made))?;
         Ok(())
     }
 
@@ -122,7 +122,7 @@ impl Walk<'_> {
         &self,
         spot: &Spot,
         written: &analysed::Instance,
-        so_far: &mut Progress,
+        so_far: &mut TreeProgress,
     ) -> Result<(), ElabFault>
         requires site { IsSite spot.now.site }
         ensures { Expands (λ _. progress_view so_far.new) (adding (progress_view so_far.old)
@@ -143,7 +143,7 @@ impl Walk<'_> {
         )?;
         let instance = self.instance(unit, declared, at, &mut so_far.left)?;
         let label = labelled(self.alloc, spot.prefix, &written.label.text)?;
-        so_far.parts.push(Part::Instance { label, instance })?;
+        so_far.parts.push(InstancePart::Instance { label, instance })?;
         Ok(())
     }
 
@@ -152,7 +152,7 @@ impl Walk<'_> {
     pub(crate) fn instance(
         &self,
         unit: &Entity,
-        mut declared: Declared,
+        mut declared: InstanceObjects,
         at: usize,
         left: &mut Budget,
     ) -> Result<Instance, ElabFault>
@@ -187,14 +187,14 @@ impl Walk<'_> {
     #[cycle(concurrent)]
     fn body(
         &self,
-        declared: &Declared,
+        declared: &InstanceObjects,
         list: &[Concurrent],
         left: Budget,
-    ) -> Result<Progress, ElabFault>
+    ) -> Result<TreeProgress, ElabFault>
         ensures { Expands progress_view (adding (nothing_yet (budget_view left))
             (made.concurrents (units_of self.now) self.now.levels (record { site = (declared_view declared.now).site; prefix = [] }) (units.concurrents_of (map units.concurrent_view list.now)))) result }
     {
-        let mut made = Progress {
+        let mut made = TreeProgress {
             parts: Vec::new(self.alloc),
             turns: 0,
             left,
@@ -215,7 +215,7 @@ impl Walk<'_> {
         &self,
         spot: &Spot,
         written: &Generate,
-        so_far: &mut Progress,
+        so_far: &mut TreeProgress,
     ) -> Result<(), ElabFault>
         requires site { IsSite spot.now.site }
         requires fits { TurnsFit so_far.old }
@@ -236,7 +236,7 @@ impl Walk<'_> {
         spot: &Spot,
         written: &Generate,
         range: &StaticRange,
-        so_far: &mut Progress,
+        so_far: &mut TreeProgress,
     ) -> Result<(), ElabFault>
         requires site { IsSite spot.now.site }
         requires fits { TurnsFit so_far.old }
@@ -260,7 +260,7 @@ impl Walk<'_> {
         spot: &Spot,
         written: &Generate,
         parameter: i32,
-        so_far: &mut Progress,
+        so_far: &mut TreeProgress,
     ) -> Result<(), ElabFault>
         requires site { IsSite spot.now.site }
         requires fits { TurnsFit so_far.old }
@@ -284,7 +284,7 @@ impl Walk<'_> {
         spot: &Spot,
         written: &Generate,
         test: &StaticTest,
-        so_far: &mut Progress,
+        so_far: &mut TreeProgress,
     ) -> Result<(), ElabFault>
         requires site { IsSite spot.now.site }
         requires fits { TurnsFit so_far.old }

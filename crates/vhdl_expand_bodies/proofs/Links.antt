@@ -1,7 +1,7 @@
 -- A chain of operators on vectors, one operator after another.
 use Rattle.std.proofs.Common.{◌≡◌, ℕ, suc, ◌<◌, List, [], ◌∷◌, ◌++◌, length, get_or, drop, drop-cons, add-one, ◌+◌, Box, Vec, Global, Result, Ok, Err, refl, sym, ap, ◌∙◌, subst}
 use Rattle.std.specs.Prelude.{IsErr}
-use Rattle.rtl_model.specs.bodies.Body as b
+use Rattle.rtl_model.specs.bodies.Body as bodies
 use Rattle.rtl_model.specs.bodies.Fits.{width}
 use Rattle.rtl_net.specs.declared.body.Link.{Link}
 use Rattle.rtl_net.specs.Bodies.{expr_view, operator_view, links_of}
@@ -26,20 +26,20 @@ use Rattle.vhdl_expand_bodies.specs.steps.Vectors as steps
 pub expands_along : {X Y : Type 0} (view : X → Y) (given given' : Elab Y) (r : Result X ElabFault) → given ≡ given' → Expands view given' r → Expands view given r
 expands_along view given given' r e h = subst (λ x. Expands view x r) (sym e) h
 
-push : (left : b.Expr) (xs : List Link) (y : Link) → links_of left (xs ++ y ∷ []) ≡ b.Expr.binary (operator_view y.operator) (links_of left xs) (expr_view y.operand)
+push : (left : bodies.Expr) (xs : List Link) (y : Link) → links_of left (xs ++ y ∷ []) ≡ bodies.Expr.binary (operator_view y.operator) (links_of left xs) (expr_view y.operand)
 push left [] y = refl
-push left (x ∷ xs) y = push (b.Expr.binary (operator_view x.operator) left (expr_view x.operand)) xs y
+push left (x ∷ xs) y = push (bodies.Expr.binary (operator_view x.operator) left (expr_view x.operand)) xs y
 
-pub links_push : (left : b.Expr) (xs ys : List Link) (y : Link) → ys ≡ xs ++ y ∷ [] → links_of left ys ≡ b.Expr.binary (operator_view y.operator) (links_of left xs) (expr_view y.operand)
+pub links_push : (left : bodies.Expr) (xs ys : List Link) (y : Link) → ys ≡ xs ++ y ∷ [] → links_of left ys ≡ bodies.Expr.binary (operator_view y.operator) (links_of left xs) (expr_view y.operand)
 links_push left xs ys y h = ap (links_of left) h ∙ push left xs y
 
 -- an operator on operands of so many elements
-pub operated_gives : (op : b.Operator) (d e whole : b.Expr) (m n : ℕ) → width d ≡ m → width e ≡ n → operands_fit op m n ≡ Ok tt → whole ≡ b.Expr.binary op d e
+pub operated_gives : (op : bodies.Operator) (d e whole : bodies.Expr) (m n : ℕ) → width d ≡ m → width e ≡ n → operands_fit op m n ≡ Ok tt → whole ≡ bodies.Expr.binary op d e
     → operated op d e ≡ Ok whole
 operated_gives op d e whole m n h k fit same =
-    ap (λ i. operands_fit op i (width e) >>= λ _. given (b.Expr.binary op d e)) h
-    ∙ ap (λ j. operands_fit op m j >>= λ _. given (b.Expr.binary op d e)) k
-    ∙ ap (λ r. r >>= λ _. given (b.Expr.binary op d e)) fit
+    ap (λ i. operands_fit op i (width e) >>= λ _. given (bodies.Expr.binary op d e)) h
+    ∙ ap (λ j. operands_fit op m j >>= λ _. given (bodies.Expr.binary op d e)) k
+    ∙ ap (λ r. r >>= λ _. given (bodies.Expr.binary op d e)) fit
     ∙ ap given (sym same)
 
 module _ (at : Site) where
@@ -47,7 +47,7 @@ module _ (at : Site) where
   next-left xs i x h e = drop-cons xs i x h ∙ ap (λ y. y ∷ drop (suc i) xs) (sym e) ∙ ap (λ j. x ∷ drop j xs) (sym (add-one i))
 
   -- one more
-  pub next_goes : (begun now new : b.Expr) (ls : List VectorLink) (i : ℕ) (k : VectorLink) → i < length ls → k ≡ get_or ls i k
+  pub next_goes : (begun now new : bodies.Expr) (ls : List VectorLink) (i : ℕ) (k : VectorLink) → i < length ls → k ≡ get_or ls i k
       → steps.all_linked at begun ls ≡ steps.all_linked at now (drop i ls) → steps.linked at now k ≡ Ok new
       → steps.all_linked at begun ls ≡ steps.all_linked at new (drop (i + 1) ls)
   next_goes begun now new ls i k below is so_far h =
@@ -55,15 +55,15 @@ module _ (at : Site) where
       ∙ ap (λ r. r >>= λ d. steps.all_linked at d (drop (i + 1) ls)) h
 
   -- one that is refused
-  pub next_stops : (begun now : b.Expr) (ls : List VectorLink) (i : ℕ) (k : VectorLink) → i < length ls → k ≡ get_or ls i k
+  pub next_stops : (begun now : bodies.Expr) (ls : List VectorLink) (i : ℕ) (k : VectorLink) → i < length ls → k ≡ get_or ls i k
       → steps.all_linked at begun ls ≡ steps.all_linked at now (drop i ls) → IsErr (steps.linked at now k) → IsErr (steps.all_linked at begun ls)
   next_stops begun now ls i k below is so_far h =
-      subst (λ (r : Elab b.Expr). IsErr r)
+      subst (λ (r : Elab bodies.Expr). IsErr r)
       (sym (so_far ∙ ap (λ left. steps.all_linked at now left) (next-left ls i k below is)))
       (err_first (steps.linked at now k) _ h)
 
   -- all
-  pub links_end : (begun now : b.Expr) (ls left : List VectorLink) → left ≡ [] → steps.all_linked at begun ls ≡ steps.all_linked at now left → steps.all_linked at begun ls ≡ Ok now
+  pub links_end : (begun now : bodies.Expr) (ls left : List VectorLink) → left ≡ [] → steps.all_linked at begun ls ≡ steps.all_linked at now left → steps.all_linked at begun ls ≡ Ok now
   links_end begun now ls left h so_far = so_far ∙ ap (λ ks. steps.all_linked at now ks) h
 
   -- ---- a chain grouped from the left
@@ -73,7 +73,7 @@ module _ (at : Site) where
   linked-step t (l.Vector op pos x) = refl
   linked-step t (l.Integer op pos s) = refl
 
-  last-ok : (r : Elab b.Expr) → r ≡ (r >>= λ d. Ok d)
+  last-ok : (r : Elab bodies.Expr) → r ≡ (r >>= λ d. Ok d)
   last-ok (Ok x) = refl
   last-ok (Err p) = refl
 
@@ -92,7 +92,7 @@ module _ (at : Site) where
       ∙ chained (start_view st) ls
       ∙ ap (λ r. r >>= λ d. steps.all_linked at d ls) (linked-step (vector_view st.first) st.link)
 
-  pub chain_goes : (e : Vector) (start : Box VectorStart Global) (links : Vec VectorLink Global) (st : VectorStart) (ls : List VectorLink) (d : b.Expr)
+  pub chain_goes : (e : Vector) (start : Box VectorStart Global) (links : Vec VectorLink Global) (st : VectorStart) (ls : List VectorLink) (d : bodies.Expr)
       → e ≡ v.Chain start links → st ≡ start.value → ls ≡ links.items → steps.started at st ≡ Ok d
       → vector at (vector_view e) ≡ steps.all_linked at d ls
   chain_goes e start links st ls d h j k given = chain_is e start links st ls h j k ∙ ap (λ r. r >>= λ d. steps.all_linked at d ls) given
@@ -100,10 +100,10 @@ module _ (at : Site) where
   pub chain_stops : (e : Vector) (start : Box VectorStart Global) (links : Vec VectorLink Global) (st : VectorStart)
       → e ≡ v.Chain start links → st ≡ start.value → IsErr (steps.started at st) → IsErr (vector at (vector_view e))
   chain_stops e start links st h j given =
-      subst (λ (r : Elab b.Expr). IsErr r) (sym (chain_is e start links st links.items h j refl)) (err_first (steps.started at st) _ given)
+      subst (λ (r : Elab bodies.Expr). IsErr r) (sym (chain_is e start links st links.items h j refl)) (err_first (steps.started at st) _ given)
 
-  pub more_stops : (e : Vector) (start : Box VectorStart Global) (links : Vec VectorLink Global) (st : VectorStart) (ls : List VectorLink) (d : b.Expr)
+  pub more_stops : (e : Vector) (start : Box VectorStart Global) (links : Vec VectorLink Global) (st : VectorStart) (ls : List VectorLink) (d : bodies.Expr)
       → e ≡ v.Chain start links → st ≡ start.value → ls ≡ links.items → steps.started at st ≡ Ok d
       → IsErr (steps.all_linked at d ls) → IsErr (vector at (vector_view e))
   more_stops e start links st ls d h j k given stopped =
-      subst (λ (r : Elab b.Expr). IsErr r) (sym (chain_goes e start links st ls d h j k given)) stopped
+      subst (λ (r : Elab bodies.Expr). IsErr r) (sym (chain_goes e start links st ls d h j k given)) stopped

@@ -1,12 +1,12 @@
 -- Statements by their parts, in the order in which the code comes to them.
 use Rattle.std.proofs.Common.{◌≡◌, ℕ, zero, suc, ◌≤◌, List, [], ◌∷◌, length, map, drop, Option, Vec, Global, Result, Ok, Err, refl, sym, ap, ◌∙◌, subst, arith}
 use Rattle.std.specs.Prelude.{ℤ, IsErr, OnOk, IfErr}
-use Rattle.vhdl_names_rules.specs.units.Expressions.{Part, Place, Range}
+use Rattle.vhdl_names_rules.specs.units.Expressions.{Part, SignalPart, Range}
 use Rattle.vhdl_names_rules.specs.units.Statements as u
 use Rattle.vhdl_names_rules.specs.units.Statements.{Given}
 use Rattle.vhdl_names_rules.specs.views.Integers.{range_view}
 use Rattle.vhdl_names_rules.specs.views.Vectors as analysed
-use Rattle.rtl_model.specs.bodies.Body as b
+use Rattle.rtl_model.specs.bodies.Body as bodies
 use Rattle.rtl_model.specs.bodies.Fits.{value_width}
 use Rattle.rtl_net.specs.declared.body.Branch.{Branch}
 use Rattle.rtl_net.specs.declared.body.Alternative.{Alternative}
@@ -40,12 +40,12 @@ use Rattle.vhdl_expand_bodies.specs.steps.Statements as steps
 use Rattle.vhdl_expand_bodies.specs.steps.Statements.{after}
 
 -- one more statement
-pub add_gives : (view : Unit {0} → b.Stmts) (now : b.Stmts) (made : Elab b.Stmts) (x : b.Stmt) (r : Result (Unit {0}) ElabFault) → made ≡ Ok (one x)
-    → OnOk r (view tt ≡ b.followed_by now (one x)) → IfErr r (λ fault. fault ≡ NoMemory) → Expands view (after now made) r
+pub add_gives : (view : Unit {0} → bodies.Stmts) (now : bodies.Stmts) (made : Elab bodies.Stmts) (x : bodies.Stmt) (r : Result (Unit {0}) ElabFault) → made ≡ Ok (one x)
+    → OnOk r (view tt ≡ bodies.followed_by now (one x)) → IfErr r (λ fault. fault ≡ NoMemory) → Expands view (after now made) r
 add_gives view now made x (Ok u) h added refused = ap (after now) h ∙ ap given (sym added)
 add_gives view now made x (Err fault) h added refused = λ n. absurd (n refused)
 
-pub after_stops : (now : b.Stmts) (r : Elab b.Stmts) → IsErr r → IsErr (after now r)
+pub after_stops : (now : bodies.Stmts) (r : Elab bodies.Stmts) → IsErr r → IsErr (after now r)
 after_stops now r h = err_first r _ h
 
 pub none_left : {X : Type 0} (xs : List X) (i : ℕ) → length xs ≤ i → drop i xs ≡ []
@@ -54,53 +54,53 @@ none_left [] (suc i) h = refl
 none_left (x ∷ xs) zero h = absurd (omega arith)
 none_left (x ∷ xs) (suc i) h = none_left xs i (omega arith)
 
-abbrev branch_of : b.Test → b.Stmts → Elab steps.Branch
+abbrev branch_of : bodies.Test → bodies.Stmts → Elab steps.Branch
 branch_of c x = Ok (record { test = c; statements = x })
 
-abbrev alternative_of : List (List ℕ) → b.Stmts → Elab steps.Alternative
+abbrev alternative_of : List (List ℕ) → bodies.Stmts → Elab steps.Alternative
 alternative_of c x = Ok (record { choices = c; statements = x })
 
-case_of_each : (w : b.Value) (n : Elab (List steps.Alternative)) (l : Elab b.Stmts) → ((n >>= λ bs. l >>= λ y. given (steps.alternatives_before y bs)) >>= λ cs. given (one (b.case_of w cs)))
-    ≡ ((n >>= λ bs. l >>= λ y. given (b.case_of w (steps.alternatives_before y bs))) >>= λ y. given (one y))
+case_of_each : (w : bodies.Value) (n : Elab (List steps.Alternative)) (l : Elab bodies.Stmts) → ((n >>= λ bs. l >>= λ y. given (steps.alternatives_before y bs)) >>= λ cs. given (one (bodies.case_of w cs)))
+    ≡ ((n >>= λ bs. l >>= λ y. given (bodies.case_of w (steps.alternatives_before y bs))) >>= λ y. given (one y))
 case_of_each w (Ok bs) (Ok y) = refl
 case_of_each w (Ok bs) (Err p) = refl
 case_of_each w (Err p) l = refl
 
 -- an assignment is one statement
-as_one : {A B : Type 0} (r : Elab A) (f : A → Elab B) (g : A → B → b.Stmt) → (r >>= λ x. f x >>= λ y. given (one (g x y))) ≡ ((r >>= λ x. f x >>= λ y. given (g x y)) >>= λ s. given (one s))
+as_one : {A B : Type 0} (r : Elab A) (f : A → Elab B) (g : A → B → bodies.Stmt) → (r >>= λ x. f x >>= λ y. given (one (g x y))) ≡ ((r >>= λ x. f x >>= λ y. given (g x y)) >>= λ s. given (one s))
 as_one (Err p) f g = refl
 as_one (Ok x) f g = inner (f x) (g x)
   where
-    inner : {B : Type 0} (q : Elab B) (k : B → b.Stmt) → (q >>= λ y. given (one (k y))) ≡ ((q >>= λ y. given (k y)) >>= λ s. given (one s))
+    inner : {B : Type 0} (q : Elab B) (k : B → bodies.Stmt) → (q >>= λ y. given (one (k y))) ≡ ((q >>= λ y. given (k y)) >>= λ s. given (one s))
     inner (Ok y) k = refl
     inner (Err p) k = refl
 
 module _ (at : Site) where
   -- ---- one statement each
 
-  pub null_one : definition.statement at u.nothing ≡ Ok (one b.nothing)
+  pub null_one : definition.statement at u.null_of ≡ Ok (one bodies.null_of)
   unfolding definition.statement
   null_one = refl
 
-  assign-by : (p : Place) (g : Given) → definition.statement at (u.assign p g) ≡ (assign at p g >>= λ s. given (one s))
+  assign-by : (p : SignalPart) (g : Given) → definition.statement at (u.assign p g) ≡ (assign at p g >>= λ s. given (one s))
   unfolding definition.statement
-  assign-by p g = as_one (place_elements at p) (λ es. definition.given at (length es) g) b.assign
+  assign-by p g = as_one (place_elements at p) (λ es. definition.value_given at (length es) g) bodies.assign
 
-  pub assign_one : (p : Place) (g : Given) (x : b.Stmt) → assign at p g ≡ Ok x → definition.statement at (u.assign p g) ≡ Ok (one x)
+  pub assign_one : (p : SignalPart) (g : Given) (x : bodies.Stmt) → assign at p g ≡ Ok x → definition.statement at (u.assign p g) ≡ Ok (one x)
   assign_one p g x h = assign-by p g ∙ ap (λ r. r >>= λ y. given (one y)) h
 
-  pub assign_none : (p : Place) (g : Given) → IsErr (assign at p g) → IsErr (definition.statement at (u.assign p g))
-  assign_none p g h = subst (λ (r : Elab b.Stmts). IsErr r) (sym (assign-by p g)) (err_first (assign at p g) _ h)
+  pub assign_none : (p : SignalPart) (g : Given) → IsErr (assign at p g) → IsErr (definition.statement at (u.assign p g))
+  assign_none p g h = subst (λ (r : Elab bodies.Stmts). IsErr r) (sym (assign-by p g)) (err_first (assign at p g) _ h)
 
   set-by : (k : ℕ) (part : Part) (g : Given) → definition.statement at (u.set k part g) ≡ (set at k part g >>= λ s. given (one s))
   unfolding definition.statement
-  set-by k part g = as_one (variable_elements at k part) (λ es. definition.given at (length es) g) b.set
+  set-by k part g = as_one (variable_elements at k part) (λ es. definition.value_given at (length es) g) bodies.set
 
-  pub set_one : (k : ℕ) (part : Part) (g : Given) (x : b.Stmt) → set at k part g ≡ Ok x → definition.statement at (u.set k part g) ≡ Ok (one x)
+  pub set_one : (k : ℕ) (part : Part) (g : Given) (x : bodies.Stmt) → set at k part g ≡ Ok x → definition.statement at (u.set k part g) ≡ Ok (one x)
   set_one k part g x h = set-by k part g ∙ ap (λ r. r >>= λ y. given (one y)) h
 
   pub set_none : (k : ℕ) (part : Part) (g : Given) → IsErr (set at k part g) → IsErr (definition.statement at (u.set k part g))
-  set_none k part g h = subst (λ (r : Elab b.Stmts). IsErr r) (sym (set-by k part g)) (err_first (set at k part g) _ h)
+  set_none k part g h = subst (λ (r : Elab bodies.Stmts). IsErr r) (sym (set-by k part g)) (err_first (set at k part g) _ h)
 
   -- ---- if
 
@@ -109,23 +109,23 @@ module _ (at : Site) where
   unfolding definition.branches
   branches-each [] last = go (definition.branches at last)
     where
-      go : (r : Elab b.Branches) → r ≡ (r >>= λ y. given y)
+      go : (r : Elab bodies.Branches) → r ≡ (r >>= λ y. given y)
       go (Ok y) = refl
       go (Err p) = refl
   branches-each (g ∷ gs) last =
       go (test at g.condition) (definition.statements at (units.statements_of g.statements)) (definition.branches at (units.branches_of gs last))
       (each (steps.branch at) gs) (definition.branches at last) (branches-each gs last)
     where
-      go : (c : Elab b.Test) (x : Elab b.Stmts) (q : Elab b.Branches) (m : Elab (List steps.Branch)) (l : Elab b.Branches) → q ≡ (m >>= λ bs. l >>= λ y. given (steps.branches_before y bs))
-          → (c >>= λ c. x >>= λ x. q >>= λ y. given (b.branch c x y))
+      go : (c : Elab bodies.Test) (x : Elab bodies.Stmts) (q : Elab bodies.Branches) (m : Elab (List steps.Branch)) (l : Elab bodies.Branches) → q ≡ (m >>= λ bs. l >>= λ y. given (steps.branches_before y bs))
+          → (c >>= λ c. x >>= λ x. q >>= λ y. given (bodies.branch c x y))
           ≡ (((c >>= λ c. x >>= λ x. branch_of c x) >>= λ z. m >>= λ zs. given (z ∷ zs)) >>= λ bs. l >>= λ y. given (steps.branches_before y bs))
       go (Err p) x q m l h = refl
       go (Ok c) (Err p) q m l h = refl
-      go (Ok c) (Ok x) q (Err p) l h = ap (λ r. r >>= λ y. given (b.branch c x y)) h
-      go (Ok c) (Ok x) q (Ok bs) (Err p) h = ap (λ r. r >>= λ y. given (b.branch c x y)) h
-      go (Ok c) (Ok x) q (Ok bs) (Ok y) h = ap (λ r. r >>= λ y. given (b.branch c x y)) h
+      go (Ok c) (Ok x) q (Err p) l h = ap (λ r. r >>= λ y. given (bodies.branch c x y)) h
+      go (Ok c) (Ok x) q (Ok bs) (Err p) h = ap (λ r. r >>= λ y. given (bodies.branch c x y)) h
+      go (Ok c) (Ok x) q (Ok bs) (Ok y) h = ap (λ r. r >>= λ y. given (bodies.branch c x y)) h
 
-  if-is : (x : If) → units.statement_view (t.If x) ≡ u.choose (units.branches_of (units.branches_view (out-If x).branches) (units.last_of (units.option_statements_view (out-If x).otherwise)))
+  if-is : (x : If) → units.statement_view (t.If x) ≡ u.if_of (units.branches_of (units.branches_view (out-If x).branches) (units.last_of (units.option_statements_view (out-If x).otherwise)))
   if-is x = ap (λ y. units.statement_view (t.If y)) (sym (roll-out-If x)) ∙ rows.view_if (out-If x).at (out-If x).branches (out-If x).otherwise
 
   if-by : (x : If) → definition.statement at (units.statement_view (t.If x))
@@ -135,22 +135,22 @@ module _ (at : Site) where
       let gs = units.branches_view (out-If x).branches in
       let last = units.last_of (units.option_statements_view (out-If x).otherwise) in
       ap (definition.statement at) (if-is x)
-      ∙ ap (λ r. r >>= λ cs. given (one (b.if_of cs))) (branches-each gs last)
+      ∙ ap (λ r. r >>= λ cs. given (one (bodies.if_of cs))) (branches-each gs last)
       ∙ go (each (steps.branch at) gs) (definition.branches at last)
     where
-      go : (m : Elab (List steps.Branch)) (l : Elab b.Branches)
-          → ((m >>= λ bs. l >>= λ y. given (steps.branches_before y bs)) >>= λ cs. given (one (b.if_of cs))) ≡ ((m >>= λ bs. l >>= λ y. given (b.if_of (steps.branches_before y bs))) >>= λ y. given (one y))
+      go : (m : Elab (List steps.Branch)) (l : Elab bodies.Branches)
+          → ((m >>= λ bs. l >>= λ y. given (steps.branches_before y bs)) >>= λ cs. given (one (bodies.if_of cs))) ≡ ((m >>= λ bs. l >>= λ y. given (bodies.if_of (steps.branches_before y bs))) >>= λ y. given (one y))
       go (Ok bs) (Ok y) = refl
       go (Ok bs) (Err p) = refl
       go (Err p) l = refl
 
-  pub if_one : (x : If) (y : b.Stmt) → steps.conditional at (units.branches_view (out-If x).branches) (units.last_of (units.option_statements_view (out-If x).otherwise)) ≡ Ok y
+  pub if_one : (x : If) (y : bodies.Stmt) → steps.conditional at (units.branches_view (out-If x).branches) (units.last_of (units.option_statements_view (out-If x).otherwise)) ≡ Ok y
       → definition.statement at (units.statement_view (t.If x)) ≡ Ok (one y)
   if_one x y h = if-by x ∙ ap (λ r. r >>= λ y. given (one y)) h
 
   pub if_none : (x : If) → IsErr (steps.conditional at (units.branches_view (out-If x).branches) (units.last_of (units.option_statements_view (out-If x).otherwise)))
       → IsErr (definition.statement at (units.statement_view (t.If x)))
-  if_none x h = subst (λ (r : Elab b.Stmts). IsErr r) (sym (if-by x)) (err_first (steps.conditional at _ _) _ h)
+  if_none x h = subst (λ (r : Elab bodies.Stmts). IsErr r) (sym (if-by x)) (err_first (steps.conditional at _ _) _ h)
 
   -- ---- case
 
@@ -162,20 +162,20 @@ module _ (at : Site) where
       go (each (choice len) g.choices) (definition.statements at (units.statements_of g.statements)) (definition.alternatives at len (units.alternatives_of gs last))
       (each (steps.alternative at len) gs) (definition.statements at last) (alternatives-each len gs last)
     where
-      go : (c : Elab (List (List ℕ))) (x : Elab b.Stmts) (q : Elab b.Alternatives) (m : Elab (List steps.Alternative)) (l : Elab b.Stmts) → q ≡ (m >>= λ bs. l >>= λ y. given (steps.alternatives_before y bs))
-          → (c >>= λ c. x >>= λ x. q >>= λ y. given (b.alternative c x y))
+      go : (c : Elab (List (List ℕ))) (x : Elab bodies.Stmts) (q : Elab bodies.Alternatives) (m : Elab (List steps.Alternative)) (l : Elab bodies.Stmts) → q ≡ (m >>= λ bs. l >>= λ y. given (steps.alternatives_before y bs))
+          → (c >>= λ c. x >>= λ x. q >>= λ y. given (bodies.alternative c x y))
           ≡ (((c >>= λ c. x >>= λ x. alternative_of c x) >>= λ z. m >>= λ zs. given (z ∷ zs)) >>= λ bs. l >>= λ y. given (steps.alternatives_before y bs))
       go (Err p) x q m l h = refl
       go (Ok c) (Err p) q m l h = refl
-      go (Ok c) (Ok x) q (Err p) l h = ap (λ r. r >>= λ y. given (b.alternative c x y)) h
-      go (Ok c) (Ok x) q (Ok bs) (Err p) h = ap (λ r. r >>= λ y. given (b.alternative c x y)) h
-      go (Ok c) (Ok x) q (Ok bs) (Ok y) h = ap (λ r. r >>= λ y. given (b.alternative c x y)) h
+      go (Ok c) (Ok x) q (Err p) l h = ap (λ r. r >>= λ y. given (bodies.alternative c x y)) h
+      go (Ok c) (Ok x) q (Ok bs) (Err p) h = ap (λ r. r >>= λ y. given (bodies.alternative c x y)) h
+      go (Ok c) (Ok x) q (Ok bs) (Ok y) h = ap (λ r. r >>= λ y. given (bodies.alternative c x y)) h
 
   case-is : (x : Case) → units.statement_view (t.Case x)
-      ≡ u.select (analysed.value_view (out-Case x).selector) (units.alternatives_of (units.alternatives_view (out-Case x).alternatives) (units.statements_of (units.statements_view (out-Case x).others)))
+      ≡ u.case_of (analysed.value_view (out-Case x).selector) (units.alternatives_of (units.alternatives_view (out-Case x).alternatives) (units.statements_of (units.statements_view (out-Case x).others)))
   case-is x = ap (λ y. units.statement_view (t.Case y)) (sym (roll-out-Case x)) ∙ rows.view_case (out-Case x).at (out-Case x).selector (out-Case x).alternatives (out-Case x).others
 
-  abbrev selected : Case → Elab b.Stmt
+  abbrev selected : Case → Elab bodies.Stmt
   selected x = steps.selection at (analysed.value_view (out-Case x).selector) (units.alternatives_view (out-Case x).alternatives) (units.statements_of (units.statements_view (out-Case x).others))
 
   case-by : (x : Case) → definition.statement at (units.statement_view (t.Case x)) ≡ (selected x >>= λ y. given (one y))
@@ -187,17 +187,17 @@ module _ (at : Site) where
       ∙ go (value at (analysed.value_view (out-Case x).selector)) (λ len. definition.alternatives at len (units.alternatives_of gs last)) (λ len. each (steps.alternative at len) gs)
       (definition.statements at last) (λ len. alternatives-each len gs last)
     where
-      go : (v : Elab b.Value) (q : ℕ → Elab b.Alternatives) (m : ℕ → Elab (List steps.Alternative)) (l : Elab b.Stmts) → ((len : ℕ) → q len ≡ (m len >>= λ bs. l >>= λ y. given (steps.alternatives_before y bs)))
-          → (v >>= λ w. q (value_width w) >>= λ cs. given (one (b.case_of w cs)))
-          ≡ ((v >>= λ w. m (value_width w) >>= λ bs. l >>= λ y. given (b.case_of w (steps.alternatives_before y bs))) >>= λ y. given (one y))
+      go : (v : Elab bodies.Value) (q : ℕ → Elab bodies.Alternatives) (m : ℕ → Elab (List steps.Alternative)) (l : Elab bodies.Stmts) → ((len : ℕ) → q len ≡ (m len >>= λ bs. l >>= λ y. given (steps.alternatives_before y bs)))
+          → (v >>= λ w. q (value_width w) >>= λ cs. given (one (bodies.case_of w cs)))
+          ≡ ((v >>= λ w. m (value_width w) >>= λ bs. l >>= λ y. given (bodies.case_of w (steps.alternatives_before y bs))) >>= λ y. given (one y))
       go (Err p) q m l h = refl
-      go (Ok w) q m l h = ap (λ r. r >>= λ cs. given (one (b.case_of w cs))) (h (value_width w)) ∙ case_of_each w (m (value_width w)) l
+      go (Ok w) q m l h = ap (λ r. r >>= λ cs. given (one (bodies.case_of w cs))) (h (value_width w)) ∙ case_of_each w (m (value_width w)) l
 
-  pub case_one : (x : Case) (y : b.Stmt) → selected x ≡ Ok y → definition.statement at (units.statement_view (t.Case x)) ≡ Ok (one y)
+  pub case_one : (x : Case) (y : bodies.Stmt) → selected x ≡ Ok y → definition.statement at (units.statement_view (t.Case x)) ≡ Ok (one y)
   case_one x y h = case-by x ∙ ap (λ r. r >>= λ y. given (one y)) h
 
   pub case_none : (x : Case) → IsErr (selected x) → IsErr (definition.statement at (units.statement_view (t.Case x)))
-  case_none x h = subst (λ (r : Elab b.Stmts). IsErr r) (sym (case-by x)) (err_first (selected x) _ h)
+  case_none x h = subst (λ (r : Elab bodies.Stmts). IsErr r) (sym (case-by x)) (err_first (selected x) _ h)
 
   -- ---- loop
 
@@ -207,30 +207,30 @@ module _ (at : Site) where
 
 -- ---- what is made of the parts
 
-branches-made : (last : b.Branches) (bs : List Branch) → net.branches_of last bs ≡ steps.branches_before last (map branch_view bs)
+branches-made : (last : bodies.Branches) (bs : List Branch) → net.branches_of last bs ≡ steps.branches_before last (map branch_view bs)
 branches-made last [] = refl
-branches-made last (x ∷ xs) = ap (b.branch (net.test_view x.test) (net.statements_of x.statements.items)) (branches-made last xs)
+branches-made last (x ∷ xs) = ap (bodies.branch (net.test_view x.test) (net.statements_of x.statements.items)) (branches-made last xs)
 
-alternatives-made : (last : b.Stmts) (bs : List Alternative) → net.alternatives_of last bs ≡ steps.alternatives_before last (map alternative_view bs)
+alternatives-made : (last : bodies.Stmts) (bs : List Alternative) → net.alternatives_of last bs ≡ steps.alternatives_before last (map alternative_view bs)
 alternatives-made last [] = refl
-alternatives-made last (x ∷ xs) = ap (b.alternative (map net.choice_view x.choices.items) (net.statements_of x.statements.items)) (alternatives-made last xs)
+alternatives-made last (x ∷ xs) = ap (bodies.alternative (map net.choice_view x.choices.items) (net.statements_of x.statements.items)) (alternatives-made last xs)
 
-pub if_made : (branches : Vec Branch Global) (otherwise : Option (Vec Statement Global)) → net.statement_view (s.If branches otherwise) ≡ b.if_of (steps.branches_before (otherwise_view otherwise) (branches_view branches))
-if_made branches otherwise = view_if branches otherwise ∙ ap b.if_of (branches-made (otherwise_view otherwise) branches.items)
+pub if_made : (branches : Vec Branch Global) (otherwise : Option (Vec Statement Global)) → net.statement_view (s.If branches otherwise) ≡ bodies.if_of (steps.branches_before (otherwise_view otherwise) (branches_view branches))
+if_made branches otherwise = view_if branches otherwise ∙ ap bodies.if_of (branches-made (otherwise_view otherwise) branches.items)
 
 pub case_made : (v : Value) (alternatives : Vec Alternative Global) (others : Vec Statement Global)
-    → net.statement_view (s.Case v alternatives others) ≡ b.case_of (net.value_view v) (steps.alternatives_before (net.statements_of others.items) (alternatives_view alternatives))
-case_made v alternatives others = view_case v alternatives others ∙ ap (b.case_of (net.value_view v)) (alternatives-made (net.statements_of others.items) alternatives.items)
+    → net.statement_view (s.Case v alternatives others) ≡ bodies.case_of (net.value_view v) (steps.alternatives_before (net.statements_of others.items) (alternatives_view alternatives))
+case_made v alternatives others = view_case v alternatives others ∙ ap (bodies.case_of (net.value_view v)) (alternatives-made (net.statements_of others.items) alternatives.items)
 
 module _ (at : Site) where
   -- a turn of the same value, with the same statements
-  pub same_turn : (now : b.Stmts) (i j : ℤ) (xs ys : List analysed_statement.Statement) → i ≡ j → xs ≡ ys
+  pub same_turn : (now : bodies.Stmts) (i j : ℤ) (xs ys : List analysed_statement.Statement) → i ≡ j → xs ≡ ys
       → after now (definition.statements (in_loop at j) (units.statements_of (map units.statement_view ys)))
       ≡ after now (definition.statements (in_loop at i) (units.statements_of (map units.statement_view xs)))
   same_turn now i j xs ys h k =
       ap (λ m. after now (definition.statements (in_loop at m) (units.statements_of (map units.statement_view ys)))) (sym h)
       ∙ ap (λ zs. after now (definition.statements (in_loop at i) (units.statements_of (map units.statement_view zs)))) (sym k)
 
-  pub turned_goes : (r : Range) (body : u.Statements) (is : List ℤ) (now : b.Stmts) → turns at.integers r ≡ Ok is
+  pub turned_goes : (r : Range) (body : u.Statements) (is : List ℤ) (now : bodies.Stmts) → turns at.integers r ≡ Ok is
       → after now (steps.turned at r body) ≡ after now (steps.repeated at body is)
   turned_goes r body is now h = ap (λ q. after now (q >>= λ is. steps.repeated at body is)) h

@@ -17,12 +17,12 @@ use Rattle.vhdl_names_rules.specs.units.Expressions.{Static, Part}
 use Rattle.vhdl_expand_rules.specs.declared.fault.ElabProblem.TheVariants.{Index, TooWide}
 use Rattle.vhdl_expand_rules.specs.Elab.{◌>>=◌, unless}
 use Rattle.vhdl_expand_rules.specs.Integers.{Integers, integer, natural, is_null, extent}
-use Rattle.vhdl_expand_rules.specs.Kinds.{Kind, one, vector, enumeration, Bounds, bounds_size, size, is_within, place_of, slice_places, is_same_direction, places, size_of}
+use Rattle.vhdl_expand_rules.specs.Kinds.{ObjectKind, one, vector, enumeration, Bounds, bounds_size, size, is_within, place_of, slice_places, is_same_direction, places, size_of}
 use Rattle.vhdl_expand_rules.specs.Elab.{found as found_kind}
 use Rattle.vhdl_expand_rules.specs.Site.{Site, Constant, elements_count, part_elements, constant_values, the_element}
 use Rattle.vhdl_expand_rules.proofs.Steps.{given, ok, bound, kept}
 use Rattle.vhdl_expand_bodies.specs.declared.site.Placed.{Placed}
-use Rattle.vhdl_expand_bodies.specs.Sites.{IsPlaced, placed_kind}
+use Rattle.vhdl_expand_bodies.specs.Sites.{IsSitePlaced, placed_kind}
 
 -- ---- distances
 
@@ -170,7 +170,7 @@ whole-short (suc n) f len h e =
     let b = range-length 0 (suc n) f len e in
     (omega arith, omega arith)
 
-pub places-short : (at : Integers) (kind : Kind) (part : Part) (f len : ℕ) → 1 ≤ size kind → places at kind part ≡ Ok (range_with_len f len) → Fits f len (size kind)
+pub places-short : (at : Integers) (kind : ObjectKind) (part : Part) (f len : ℕ) → 1 ≤ size kind → places at kind part ≡ Ok (range_with_len f len) → Fits f len (size kind)
 unfolding places
 places-short at kind u.whole f len h e = whole-short (size kind) f len h (ok (range_with_len 0 (size kind)) (range_with_len f len) e)
 places-short at (vector b) (u.Part.element s) f len h e =
@@ -195,7 +195,7 @@ map-add m f (suc len) =
     ap (λ xs. (m + f) ∷ xs) (map-add m (f + 1) len ∙ ap (λ a. range_with_len a len) e)
 
 pub part-given : (at : Integers) (from : ℕ) (ps : List Placed) (k : ℕ) (part : Part) (p : Placed) (f len : ℕ) → slice_get ps k ≡ Some p
-    → IsPlaced (take k (map placed_kind ps)) p → places at (placed_kind p) part ≡ Ok (range_with_len f len)
+    → IsSitePlaced (take k (map placed_kind ps)) p → places at (placed_kind p) part ≡ Ok (range_with_len f len)
     → part_elements at from (map placed_kind ps) k part ≡ Ok (range_with_len (from + p.first + f) len)
 part-given at from ps k part p f len there placed h =
     let kinds = map placed_kind ps in
@@ -206,7 +206,7 @@ part-given at from ps k part p f len there placed h =
     ∙ ap (λ m. given (range_with_len (from + m + f) len)) (sym placed.first)
 
 pub part-fits : (at : Integers) (ps : List Placed) (k : ℕ) (part : Part) (p : Placed) (f len : ℕ)
-    → IsPlaced (take k (map placed_kind ps)) p → places at (placed_kind p) part ≡ Ok (range_with_len f len) → IsWidth len × (f < 64)
+    → IsSitePlaced (take k (map placed_kind ps)) p → places at (placed_kind p) part ≡ Ok (range_with_len f len) → IsWidth len × (f < 64)
 part-fits at ps k part p f len placed h =
     let fits = places-short at (placed_kind p) part f len placed.width.0 h in
     ((fits.0, omega (arith, fits.0, fits.1, placed.width.1)), omega (arith, fits.0, fits.1, placed.width.1))

@@ -6,7 +6,7 @@ use Rattle.vhdl_expand_rules.specs.Kinds.{size}
 use Rattle.vhdl_expand_rules.specs.Site.{elements_count}
 use Rattle.vhdl_expand_rules.proofs.laws.Names.{count-cons}
 use Rattle.vhdl_expand_bodies.specs.declared.site.Placed.{Placed}
-use Rattle.vhdl_expand_bodies.specs.Sites.{ArePlaced, IsPlaced, placed_kind}
+use Rattle.vhdl_expand_bodies.specs.Sites.{ArePlaced, IsSitePlaced, placed_kind}
 
 -- what holds of each thing and those before it holds with one more, if it holds of that one
 one-more : {A B : Type 0} (f : A → B) (P : List B → A → Type 0) (xs : List A) (x : A)
@@ -17,8 +17,8 @@ one-more f P [] x each last (suc k) y h = absurd cc
 one-more f P (z ∷ xs) x each last zero y h = each zero y h
 one-more f P (z ∷ xs) x each last (suc k) y h = one-more f (λ before w. P (f z ∷ before) w) xs x (λ j w g. each (suc j) w g) last k y h
 
-pub placed_more : (ps qs : List Placed) (p : Placed) → qs ≡ ps ++ p ∷ [] → ArePlaced ps → IsPlaced (map placed_kind ps) p → ArePlaced qs
-placed_more ps qs p e each last = subst (λ (rs : List Placed). ArePlaced rs) (sym e) (one-more placed_kind IsPlaced ps p each last)
+pub placed_more : (ps qs : List Placed) (p : Placed) → qs ≡ ps ++ p ∷ [] → ArePlaced ps → IsSitePlaced (map placed_kind ps) p → ArePlaced qs
+placed_more ps qs p e each last = subst (λ (rs : List Placed). ArePlaced rs) (sym e) (one-more placed_kind IsSitePlaced ps p each last)
 
 counted : (ps : List Placed) (p : Placed) → elements_count (map placed_kind (ps ++ p ∷ [])) ≡ elements_count (map placed_kind ps) + size (placed_kind p)
 counted [] p = let e : elements_count (placed_kind p ∷ []) ≡ size (placed_kind p) + 0 = count-cons (placed_kind p) [] in omega arith

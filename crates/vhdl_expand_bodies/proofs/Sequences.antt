@@ -6,46 +6,46 @@ use Rattle.std.proofs.lemmas.List.{append-nil, append_assoc}
 use Rattle.vhdl_tree.specs.declared.operator.Direction.{Direction}
 use Rattle.vhdl_tree.specs.declared.operator.Direction.TheVariants.{To, Downto}
 use Rattle.vhdl_names_rules.specs.units.Statements as u
-use Rattle.rtl_model.specs.bodies.Body as b
+use Rattle.rtl_model.specs.bodies.Body as bodies
 use Rattle.rtl_net.specs.declared.body.Statement.{Statement}
 use Rattle.rtl_net.specs.Bodies as net
 use Rattle.vhdl_names_units.specs.views.Sequential as units
 use Rattle.vhdl_expand_rules.specs.Elab.{Elab, ◌>>=◌, each}
 use Rattle.vhdl_expand_rules.specs.Integers.{counted, next}
 use Rattle.vhdl_expand_rules.specs.Site.{Site, in_loop}
-use Rattle.vhdl_expand_rules.specs.Statements.{joined, one, statement, statements}
+use Rattle.vhdl_expand_rules.specs.Statements.{joined_bodies, one, statement, statements}
 use Rattle.vhdl_expand_rules.proofs.Steps.{given, ok}
 use Rattle.vhdl_expand_rules.proofs.Chains.{err_first}
 use Rattle.vhdl_expand_bodies.specs.steps.Statements as steps
 use Rattle.vhdl_expand_bodies.specs.steps.Statements.{after}
 
-pub followed_assoc : (x y z : b.Stmts) → b.followed_by (b.followed_by x y) z ≡ b.followed_by x (b.followed_by y z)
-followed_assoc b.done y z = refl
-followed_assoc (b.step s x) y z = ap (b.step s) (followed_assoc x y z)
+pub followed_assoc : (x y z : bodies.Stmts) → bodies.followed_by (bodies.followed_by x y) z ≡ bodies.followed_by x (bodies.followed_by y z)
+followed_assoc bodies.done y z = refl
+followed_assoc (bodies.step s x) y z = ap (bodies.step s) (followed_assoc x y z)
 
-pub followed_done : (x : b.Stmts) → b.followed_by x b.done ≡ x
-followed_done b.done = refl
-followed_done (b.step s x) = ap (b.step s) (followed_done x)
+pub followed_done : (x : bodies.Stmts) → bodies.followed_by x bodies.done ≡ x
+followed_done bodies.done = refl
+followed_done (bodies.step s x) = ap (bodies.step s) (followed_done x)
 
-push : (xs : List Statement) (y : Statement) → net.statements_of (xs ++ y ∷ []) ≡ b.followed_by (net.statements_of xs) (one (net.statement_view y))
+push : (xs : List Statement) (y : Statement) → net.statements_of (xs ++ y ∷ []) ≡ bodies.followed_by (net.statements_of xs) (one (net.statement_view y))
 push [] y = refl
-push (x ∷ xs) y = ap (b.step (net.statement_view x)) (push xs y)
+push (x ∷ xs) y = ap (bodies.step (net.statement_view x)) (push xs y)
 
-pub statements_push : (xs ys : List Statement) (y : Statement) → ys ≡ xs ++ y ∷ [] → net.statements_of ys ≡ b.followed_by (net.statements_of xs) (one (net.statement_view y))
+pub statements_push : (xs ys : List Statement) (y : Statement) → ys ≡ xs ++ y ∷ [] → net.statements_of ys ≡ bodies.followed_by (net.statements_of xs) (one (net.statement_view y))
 statements_push xs ys y h = ap net.statements_of h ∙ push xs y
 
 -- ---- statements behind others
 
-after_goes : (made new : b.Stmts) (r q : Elab b.Stmts) → after made r ≡ Ok new → after made (r >>= λ x. q >>= λ y. given (b.followed_by x y)) ≡ after new q
-after_goes made new (Ok x) (Ok y) h = ap given (sym (followed_assoc made x y) ∙ ap (λ z. b.followed_by z y) (ok (b.followed_by made x) new h))
+after_goes : (made new : bodies.Stmts) (r q : Elab bodies.Stmts) → after made r ≡ Ok new → after made (r >>= λ x. q >>= λ y. given (bodies.followed_by x y)) ≡ after new q
+after_goes made new (Ok x) (Ok y) h = ap given (sym (followed_assoc made x y) ∙ ap (λ z. bodies.followed_by z y) (ok (bodies.followed_by made x) new h))
 after_goes made new (Ok x) (Err p) h = refl
 after_goes made new (Err p) q h = absurd cc
 
-after_stops : (made : b.Stmts) (r q : Elab b.Stmts) → IsErr (after made r) → IsErr (after made (r >>= λ x. q >>= λ y. given (b.followed_by x y)))
+after_stops : (made : bodies.Stmts) (r q : Elab bodies.Stmts) → IsErr (after made r) → IsErr (after made (r >>= λ x. q >>= λ y. given (bodies.followed_by x y)))
 after_stops made (Ok x) q h = absurd cc
 after_stops made (Err p) q h = refl
 
-pub after_none : (r : Elab b.Stmts) → after b.done r ≡ r
+pub after_none : (r : Elab bodies.Stmts) → after bodies.done r ≡ r
 after_none (Ok x) = refl
 after_none (Err p) = refl
 
@@ -76,7 +76,7 @@ no-turn direction x (suc count) zero h = absurd (omega arith)
 no-turn direction x (suc count) (suc k) h = no-turn direction (next direction x) count k (omega arith)
 
 module _ (at : Site) where
-  pub list_goes : {X : Type 0} (v : X → u.Statement) (total : Elab b.Stmts) (now new : b.Stmts) (xs : List X) (i : ℕ) (x : X) → i < length xs → x ≡ get_or xs i x
+  pub list_goes : {X : Type 0} (v : X → u.Statement) (total : Elab bodies.Stmts) (now new : bodies.Stmts) (xs : List X) (i : ℕ) (x : X) → i < length xs → x ≡ get_or xs i x
       → total ≡ after now (statements at (units.statements_of (map v (drop i xs)))) → after now (statement at (v x)) ≡ Ok new
       → total ≡ after new (statements at (units.statements_of (map v (drop (i + 1) xs))))
   unfolding statements
@@ -84,40 +84,40 @@ module _ (at : Site) where
       so_far ∙ ap (λ ys. after now (statements at (units.statements_of (map v ys)))) (next-left xs i x below is)
       ∙ after_goes now new (statement at (v x)) (statements at (units.statements_of (map v (drop (i + 1) xs)))) h
 
-  pub list_stops : {X : Type 0} (v : X → u.Statement) (total : Elab b.Stmts) (now : b.Stmts) (xs : List X) (i : ℕ) (x : X) → i < length xs → x ≡ get_or xs i x
+  pub list_stops : {X : Type 0} (v : X → u.Statement) (total : Elab bodies.Stmts) (now : bodies.Stmts) (xs : List X) (i : ℕ) (x : X) → i < length xs → x ≡ get_or xs i x
       → total ≡ after now (statements at (units.statements_of (map v (drop i xs)))) → IsErr (after now (statement at (v x))) → IsErr total
   unfolding statements
   list_stops v total now xs i x below is so_far h =
-      subst (λ (r : Elab b.Stmts). IsErr r)
+      subst (λ (r : Elab bodies.Stmts). IsErr r)
       (sym (so_far ∙ ap (λ ys. after now (statements at (units.statements_of (map v ys)))) (next-left xs i x below is)))
       (after_stops now (statement at (v x)) (statements at (units.statements_of (map v (drop (i + 1) xs)))) h)
 
-  pub list_ends : {X : Type 0} (v : X → u.Statement) (total : Elab b.Stmts) (now : b.Stmts) (xs left : List X) → left ≡ []
+  pub list_ends : {X : Type 0} (v : X → u.Statement) (total : Elab bodies.Stmts) (now : bodies.Stmts) (xs left : List X) → left ≡ []
       → total ≡ after now (statements at (units.statements_of (map v left))) → total ≡ Ok now
   unfolding statements
   list_ends v total now xs left h so_far = so_far ∙ ap (λ ys. after now (statements at (units.statements_of (map v ys)))) h ∙ ap given (followed_done now)
 
   -- ---- turns of a loop
 
-  turn-goes : (body : u.Statements) (now new : b.Stmts) (i : ℤ) (is : List ℤ) → after now (statements (in_loop at i) body) ≡ Ok new
+  turn-goes : (body : u.Statements) (now new : bodies.Stmts) (i : ℤ) (is : List ℤ) → after now (statements (in_loop at i) body) ≡ Ok new
       → after now (steps.repeated at body (i ∷ is)) ≡ after new (steps.repeated at body is)
   turn-goes body now new i is h = go (statements (in_loop at i) body) (each (λ j. statements (in_loop at j) body) is) h
     where
-      go : (r : Elab b.Stmts) (q : Elab (List b.Stmts)) → after now r ≡ Ok new
-          → after now ((r >>= λ y. q >>= λ ys. given (y ∷ ys)) >>= λ ss. given (joined ss)) ≡ after new (q >>= λ ss. given (joined ss))
-      go (Ok x) (Ok ys) k = ap given (sym (followed_assoc now x (joined ys)) ∙ ap (λ z. b.followed_by z (joined ys)) (ok (b.followed_by now x) new k))
+      go : (r : Elab bodies.Stmts) (q : Elab (List bodies.Stmts)) → after now r ≡ Ok new
+          → after now ((r >>= λ y. q >>= λ ys. given (y ∷ ys)) >>= λ ss. given (joined_bodies ss)) ≡ after new (q >>= λ ss. given (joined_bodies ss))
+      go (Ok x) (Ok ys) k = ap given (sym (followed_assoc now x (joined_bodies ys)) ∙ ap (λ z. bodies.followed_by z (joined_bodies ys)) (ok (bodies.followed_by now x) new k))
       go (Ok x) (Err p) k = refl
       go (Err p) q k = absurd cc
 
-  turn-stops : (body : u.Statements) (now : b.Stmts) (i : ℤ) (is : List ℤ) → IsErr (after now (statements (in_loop at i) body))
+  turn-stops : (body : u.Statements) (now : bodies.Stmts) (i : ℤ) (is : List ℤ) → IsErr (after now (statements (in_loop at i) body))
       → IsErr (after now (steps.repeated at body (i ∷ is)))
   turn-stops body now i is h = go (statements (in_loop at i) body) (each (λ j. statements (in_loop at j) body) is) h
     where
-      go : (r : Elab b.Stmts) (q : Elab (List b.Stmts)) → IsErr (after now r) → IsErr (after now ((r >>= λ y. q >>= λ ys. given (y ∷ ys)) >>= λ ss. given (joined ss)))
+      go : (r : Elab bodies.Stmts) (q : Elab (List bodies.Stmts)) → IsErr (after now r) → IsErr (after now ((r >>= λ y. q >>= λ ys. given (y ∷ ys)) >>= λ ss. given (joined_bodies ss)))
       go (Ok x) q k = absurd cc
       go (Err p) q k = refl
 
-  pub turns_go : (body : u.Statements) (total : Elab b.Stmts) (now new : b.Stmts) (direction : Direction) (x i : ℤ) (count k : ℕ) → k < count
+  pub turns_go : (body : u.Statements) (total : Elab bodies.Stmts) (now new : bodies.Stmts) (direction : Direction) (x i : ℤ) (count k : ℕ) → k < count
       → total ≡ after now (steps.repeated at body (drop k (counted direction x count))) → i ≡ steps.parameter direction x k
       → after now (statements (in_loop at i) body) ≡ Ok new
       → total ≡ after new (steps.repeated at body (drop (k + 1) (counted direction x count)))
@@ -125,15 +125,15 @@ module _ (at : Site) where
       so_far ∙ ap (λ js. after now (steps.repeated at body js)) (next-turn direction x count k below ∙ ap (λ j. j ∷ drop (k + 1) (counted direction x count)) (sym is))
       ∙ turn-goes body now new i (drop (k + 1) (counted direction x count)) h
 
-  pub turns_stop : (body : u.Statements) (total : Elab b.Stmts) (now : b.Stmts) (direction : Direction) (x i : ℤ) (count k : ℕ) → k < count
+  pub turns_stop : (body : u.Statements) (total : Elab bodies.Stmts) (now : bodies.Stmts) (direction : Direction) (x i : ℤ) (count k : ℕ) → k < count
       → total ≡ after now (steps.repeated at body (drop k (counted direction x count))) → i ≡ steps.parameter direction x k
       → IsErr (after now (statements (in_loop at i) body)) → IsErr total
   turns_stop body total now direction x i count k below so_far is h =
-      subst (λ (r : Elab b.Stmts). IsErr r)
+      subst (λ (r : Elab bodies.Stmts). IsErr r)
       (sym (so_far ∙ ap (λ js. after now (steps.repeated at body js)) (next-turn direction x count k below ∙ ap (λ j. j ∷ drop (k + 1) (counted direction x count)) (sym is))))
       (turn-stops body now i (drop (k + 1) (counted direction x count)) h)
 
-  pub turns_end : (body : u.Statements) (total : Elab b.Stmts) (now : b.Stmts) (direction : Direction) (x : ℤ) (count k : ℕ) → count ≤ k
+  pub turns_end : (body : u.Statements) (total : Elab bodies.Stmts) (now : bodies.Stmts) (direction : Direction) (x : ℤ) (count k : ℕ) → count ≤ k
       → total ≡ after now (steps.repeated at body (drop k (counted direction x count))) → total ≡ Ok now
   turns_end body total now direction x count k h so_far =
       so_far ∙ ap (λ js. after now (steps.repeated at body js)) (no-turn direction x count k h) ∙ ap given (followed_done now)

@@ -3,7 +3,7 @@ use Rattle.std.proofs.Common.{◌≡◌, ℕ, zero, suc, ◌≤◌, ◌<◌, ◌
 use Rattle.std.specs.Prelude.{IsErr}
 use Rattle.std.specs.List.{range_with_len}
 use Rattle.vhdl_values.specs.declared.scalar.Nine.{Nine}
-use Rattle.rtl_model.specs.bodies.Body as b
+use Rattle.rtl_model.specs.bodies.Body as bodies
 use Rattle.rtl_net.specs.declared.body.TestLink as m
 use Rattle.rtl_net.specs.Bodies as net
 use Rattle.rtl_net.specs.Bodies.{test_links_of}
@@ -58,39 +58,39 @@ chain_is_no_character start links = ap character_in (rows.view_chain start links
 -- ---- levels
 
 level-more : (plain : Bool) (f len : ℕ) (x : Nine) → 2 ≤ len
-    → levelled plain (range_with_len f len) x ≡ b.equal (b.elements (b.signal (range_with_len f len))) (b.elements (b.constant (x ∷ [])))
+    → levelled plain (range_with_len f len) x ≡ bodies.equal (bodies.elements (bodies.signal (range_with_len f len))) (bodies.elements (bodies.constant (x ∷ [])))
 level-more plain f zero x h = absurd (omega arith)
 level-more plain f (suc zero) x h = absurd (omega arith)
 level-more plain f (suc (suc len)) x h = refl
 
 -- ---- chains
 
-links-push : (left : b.Test) (xs : List m.TestLink) (y : m.TestLink) → test_links_of left (xs ++ y ∷ []) ≡ b.combined y.operator (test_links_of left xs) (net.test_view y.operand)
+links-push : (left : bodies.Test) (xs : List m.TestLink) (y : m.TestLink) → test_links_of left (xs ++ y ∷ []) ≡ bodies.combined y.operator (test_links_of left xs) (net.test_view y.operand)
 links-push left [] y = refl
-links-push left (x ∷ xs) y = links-push (b.combined x.operator left (net.test_view x.operand)) xs y
+links-push left (x ∷ xs) y = links-push (bodies.combined x.operator left (net.test_view x.operand)) xs y
 
-abbrev one_more : b.Test → Elab b.Test
+abbrev one_more : bodies.Test → Elab bodies.Test
 one_more t = Ok t
 
-pub level_one : (at : Site) (plain : Bool) (p : u.Place) (x : Nine) (f e : ℕ)
-    → signal_elements at p.signal p.part ≡ Ok (range_with_len f 1) → the_element (given (range_with_len f 1)) ≡ Ok e → steps.level at plain p x ≡ Ok (b.level plain e x)
-level_one at plain p x f e there same = ap (λ r. r >>= λ es. one_more (levelled plain es x)) there ∙ ap (λ n. one_more (b.level plain n x)) (ok f e same)
+pub level_one : (at : Site) (plain : Bool) (p : u.SignalPart) (x : Nine) (f e : ℕ)
+    → signal_elements at p.signal p.part ≡ Ok (range_with_len f 1) → the_element (given (range_with_len f 1)) ≡ Ok e → steps.level at plain p x ≡ Ok (bodies.level plain e x)
+level_one at plain p x f e there same = ap (λ r. r >>= λ es. one_more (levelled plain es x)) there ∙ ap (λ n. one_more (bodies.level plain n x)) (ok f e same)
 
-pub level_given : (at : Site) (plain : Bool) (p : u.Place) (x : Nine) (f len : ℕ) (es : List ℕ) (vs : List Nine)
+pub level_given : (at : Site) (plain : Bool) (p : u.SignalPart) (x : Nine) (f len : ℕ) (es : List ℕ) (vs : List Nine)
     → signal_elements at p.signal p.part ≡ Ok (range_with_len f len) → 1 ≤ len → (len ≡ 1 → ⊥) → given (range_with_len f len) ≡ Ok es → vs ≡ replicate 1 x
-    → steps.level at plain p x ≡ Ok (b.equal (b.elements (b.signal es)) (b.elements (b.constant vs)))
+    → steps.level at plain p x ≡ Ok (bodies.equal (bodies.elements (bodies.signal es)) (bodies.elements (bodies.constant vs)))
 level_given at plain p x f len es vs there some several same value =
     ap (λ r. r >>= λ es. one_more (levelled plain es x)) there
     ∙ ap one_more (level-more plain f len x (omega arith))
-    ∙ ap (λ ms. one_more (b.equal (b.elements (b.signal ms)) (b.elements (b.constant (x ∷ []))))) (ok (range_with_len f len) es same)
-    ∙ ap (λ ws. one_more (b.equal (b.elements (b.signal es)) (b.elements (b.constant ws)))) (sym value)
+    ∙ ap (λ ms. one_more (bodies.equal (bodies.elements (bodies.signal ms)) (bodies.elements (bodies.constant (x ∷ []))))) (ok (range_with_len f len) es same)
+    ∙ ap (λ ws. one_more (bodies.equal (bodies.elements (bodies.signal es)) (bodies.elements (bodies.constant ws)))) (sym value)
 
 module _ (at : Site) where
   next-left : (xs : List TestLink) (i : ℕ) (x : TestLink) → i < length xs → x ≡ get_or xs i x → drop i xs ≡ x ∷ drop (i + 1) xs
   next-left xs i x h e = drop-cons xs i x h ∙ ap (λ y. y ∷ drop (suc i) xs) (sym e) ∙ ap (λ j. x ∷ drop j xs) (sym (add-one i))
 
   -- one more
-  pub next_goes : (begun now new : b.Test) (ls : List TestLink) (i : ℕ) (k : TestLink) → i < length ls → k ≡ get_or ls i k
+  pub next_goes : (begun now new : bodies.Test) (ls : List TestLink) (i : ℕ) (k : TestLink) → i < length ls → k ≡ get_or ls i k
       → steps.all_linked at begun ls ≡ steps.all_linked at now (drop i ls) → steps.linked at now k ≡ Ok new
       → steps.all_linked at begun ls ≡ steps.all_linked at new (drop (i + 1) ls)
   next_goes begun now new ls i k below is so_far h =
@@ -98,31 +98,31 @@ module _ (at : Site) where
       ∙ ap (λ r. r >>= λ d. steps.all_linked at d (drop (i + 1) ls)) h
 
   -- one that is refused
-  pub next_stops : (begun now : b.Test) (ls : List TestLink) (i : ℕ) (k : TestLink) → i < length ls → k ≡ get_or ls i k
+  pub next_stops : (begun now : bodies.Test) (ls : List TestLink) (i : ℕ) (k : TestLink) → i < length ls → k ≡ get_or ls i k
       → steps.all_linked at begun ls ≡ steps.all_linked at now (drop i ls) → IsErr (steps.linked at now k) → IsErr (steps.all_linked at begun ls)
   next_stops begun now ls i k below is so_far h =
-      subst (λ (r : Elab b.Test). IsErr r)
+      subst (λ (r : Elab bodies.Test). IsErr r)
       (sym (so_far ∙ ap (λ left. steps.all_linked at now left) (next-left ls i k below is)))
       (err_first (steps.linked at now k) _ h)
 
   -- all
-  pub links_end : (begun now : b.Test) (ls left : List TestLink) → left ≡ [] → steps.all_linked at begun ls ≡ steps.all_linked at now left → steps.all_linked at begun ls ≡ Ok now
+  pub links_end : (begun now : bodies.Test) (ls left : List TestLink) → left ≡ [] → steps.all_linked at begun ls ≡ steps.all_linked at now left → steps.all_linked at begun ls ≡ Ok now
   links_end begun now ls left h so_far = so_far ∙ ap (λ ks. steps.all_linked at now ks) h
 
   -- an operator with its right operand, behind a chain
-  pub link_given : (first : b.Test) (rest more : List m.TestLink) (k : TestLink) (x : m.TestLink)
+  pub link_given : (first : bodies.Test) (rest more : List m.TestLink) (k : TestLink) (x : m.TestLink)
       → test at (test_view k.operand) ≡ Ok (net.test_view x.operand) → x.operator ≡ k.operator → more ≡ rest ++ x ∷ []
       → steps.linked at (test_links_of first rest) k ≡ Ok (test_links_of first more)
   link_given first rest more k x h same pushed =
-      ap (λ r. r >>= λ d. one_more (b.combined k.operator (test_links_of first rest) d)) h
-      ∙ ap (λ op. one_more (b.combined op (test_links_of first rest) (net.test_view x.operand))) (sym same)
+      ap (λ r. r >>= λ d. one_more (bodies.combined k.operator (test_links_of first rest) d)) h
+      ∙ ap (λ op. one_more (bodies.combined op (test_links_of first rest) (net.test_view x.operand))) (sym same)
       ∙ ap one_more (sym (ap (test_links_of first) pushed ∙ links-push first rest x))
 
   linked-step : (c : u.Test) (k : TestLink) → test at (u.Test.both k.operator c (test_view k.operand)) ≡ (test at c >>= λ d. steps.linked at d k)
   unfolding test
   linked-step c k = refl
 
-  last-ok : (r : Elab b.Test) → r ≡ (r >>= λ d. Ok d)
+  last-ok : (r : Elab bodies.Test) → r ≡ (r >>= λ d. Ok d)
   last-ok (Ok x) = refl
   last-ok (Err p) = refl
 
@@ -141,7 +141,7 @@ module _ (at : Site) where
       ∙ chained (start_view st) ls
       ∙ ap (λ r. r >>= λ d. steps.all_linked at d ls) (linked-step (test_view st.first) st.link)
 
-  pub chain_goes : (e : Test) (start : Box TestStart Global) (links : Vec TestLink Global) (st : TestStart) (ls : List TestLink) (d : b.Test)
+  pub chain_goes : (e : Test) (start : Box TestStart Global) (links : Vec TestLink Global) (st : TestStart) (ls : List TestLink) (d : bodies.Test)
       → e ≡ t.Chain start links → st ≡ start.value → ls ≡ links.items → steps.started at st ≡ Ok d
       → test at (test_view e) ≡ steps.all_linked at d ls
   chain_goes e start links st ls d h j k given = chain_is e start links st ls h j k ∙ ap (λ r. r >>= λ d. steps.all_linked at d ls) given
@@ -149,10 +149,10 @@ module _ (at : Site) where
   pub chain_stops : (e : Test) (start : Box TestStart Global) (links : Vec TestLink Global) (st : TestStart)
       → e ≡ t.Chain start links → st ≡ start.value → IsErr (steps.started at st) → IsErr (test at (test_view e))
   chain_stops e start links st h j given =
-      subst (λ (r : Elab b.Test). IsErr r) (sym (chain_is e start links st links.items h j refl)) (err_first (steps.started at st) _ given)
+      subst (λ (r : Elab bodies.Test). IsErr r) (sym (chain_is e start links st links.items h j refl)) (err_first (steps.started at st) _ given)
 
-  pub more_stops : (e : Test) (start : Box TestStart Global) (links : Vec TestLink Global) (st : TestStart) (ls : List TestLink) (d : b.Test)
+  pub more_stops : (e : Test) (start : Box TestStart Global) (links : Vec TestLink Global) (st : TestStart) (ls : List TestLink) (d : bodies.Test)
       → e ≡ t.Chain start links → st ≡ start.value → ls ≡ links.items → steps.started at st ≡ Ok d
       → IsErr (steps.all_linked at d ls) → IsErr (test at (test_view e))
   more_stops e start links st ls d h j k given stopped =
-      subst (λ (r : Elab b.Test). IsErr r) (sym (chain_goes e start links st ls d h j k given)) stopped
+      subst (λ (r : Elab bodies.Test). IsErr r) (sym (chain_goes e start links st ls d h j k given)) stopped

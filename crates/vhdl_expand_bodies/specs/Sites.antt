@@ -12,7 +12,7 @@ use Rattle.vhdl_expand_bodies.specs.declared.site.Placed.{Placed}
 use Rattle.vhdl_expand_bodies.specs.declared.constant.Constant.{Constant}
 use Rattle.vhdl_expand_bodies.specs.declared.site.Site.{Site}
 
-abbrev pub placed_kind : Placed → kinds.Kind
+abbrev pub placed_kind : Placed → kinds.ObjectKind
 placed_kind p = kind_view p.kind
 
 abbrev pub constant_view : Constant → definition.Constant
@@ -28,12 +28,12 @@ site_view s = record {
 }
 
 -- this thing, before which so many others stand, begins behind the elements of those, and has from 1 to 64 elements
-pub record IsPlaced (before : List kinds.Kind) (p : Placed) : Type 0 where
+pub record IsSitePlaced (before : List kinds.ObjectKind) (p : Placed) : Type 0 where
   pub first : p.first ≡ elements_count before
   pub width : IsWidth (size (placed_kind p))
 
 abbrev pub ArePlaced : List Placed → Type 0
-ArePlaced ps = (k : ℕ) (p : Placed) → slice_get ps k ≡ Some p → IsPlaced (take k (map placed_kind ps)) p
+ArePlaced ps = (k : ℕ) (p : Placed) → slice_get ps k ≡ Some p → IsSitePlaced (take k (map placed_kind ps)) p
 
 pub record IsSite (s : Site) : Type 0 where
   pub ports : ArePlaced s.ports.now

@@ -1,7 +1,7 @@
 -- What contracts see of the parts of statements.
 use Rattle.std.specs.Prelude.{List, map, Option, option_map, Vec}
 use Rattle.std.specs.Global.{Global}
-use Rattle.rtl_model.specs.bodies.Body as b
+use Rattle.rtl_model.specs.bodies.Body as bodies
 use Rattle.rtl_net.specs.declared.body.Statement.{Statement}
 use Rattle.rtl_net.specs.declared.body.Branch.{Branch}
 use Rattle.rtl_net.specs.declared.body.Alternative.{Alternative}
@@ -20,5 +20,5 @@ alternative_view x = record { choices = map choice_view x.choices.items; stateme
 abbrev pub alternatives_view : Vec Alternative Global → List steps.Alternative
 alternatives_view v = map alternative_view v.items
 
-abbrev pub otherwise_view : Option (Vec Statement Global) → b.Branches
+abbrev pub otherwise_view : Option (Vec Statement Global) → bodies.Branches
 otherwise_view o = otherwise_of (option_map (λ v. v.items) o)

@@ -14,7 +14,7 @@ use crate::site::{Site, elements};
 use rtl_net::{Choice, Expr, Statement, Value};
 use std::alloc::Global;
 use vhdl_expand_rules::{ElabFault, ElabProblem};
-use vhdl_names_rules::{Part, Place};
+use vhdl_names_rules::{Part, SignalPart};
 use vhdl_names_units as analysed;
 use vhdl_names_units::Given;
 use vhdl_values::Vec9;
@@ -50,7 +50,7 @@ impl Site<'_> {
         at: usize,
     ) -> Result<Value, ElabFault>
         requires { IsSite self.now }
-        ensures { Expands value_view (definition.given (site_view self.now) len (analysed.given_view given.now)) result }
+        ensures { Expands value_view (definition.value_given (site_view self.now) len (analysed.given_view given.now)) result }
     {
         match given {
             Given::Single(value) => {
@@ -77,7 +77,7 @@ impl Site<'_> {
     pub(crate) fn assign(
         &self,
         alloc: Global,
-        target: &Place,
+        target: &SignalPart,
         value: &Given,
     ) -> Result<Statement, ElabFault>
         requires { IsSite self.now }

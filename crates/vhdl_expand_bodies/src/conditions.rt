@@ -3,7 +3,7 @@
 
 ghost use Rattle.std.specs.Prelude.{◌≡◌, true, option_map, IfOk};
 ghost use Rattle.vhdl_values.specs.declared.kinds.Logic.TheVariants.{And};
-ghost use Rattle.rtl_model.specs.bodies.Body as body;
+ghost use Rattle.rtl_model.specs.bodies.Body as bodies;
 ghost use Rattle.rtl_net.specs.Bodies.{test_view, test_links_of};
 ghost use Rattle.vhdl_names_rules.specs.views.Integers.{static_view};
 ghost use Rattle.vhdl_names_rules.specs.views.Tests as analysed;
@@ -20,7 +20,7 @@ use rtl_net::{Expr, Test, TestLink};
 use std::alloc::{AllocError, Global};
 use vhdl_expand_rules::ElabFault;
 use vhdl_names_rules as analysed;
-use vhdl_names_rules::{Place, Static, TestStart, Value, Vector};
+use vhdl_names_rules::{SignalPart, Static, TestStart, Value, Vector};
 use vhdl_values::{Cmp, Edge, Logic, Nine, Vec9};
 
 /// A character literal, and whether it stands with no parentheses.
@@ -39,7 +39,7 @@ pub(crate) struct TestChain {
 
 /// The signal's name that a vector is.
 #[tactic(auto, using(crate::proofs::TestChains::chain_is_no_name))]
-fn name_in(vector: &Vector) -> Option<&Place>
+fn name_in(vector: &Vector) -> Option<&SignalPart>
     ensures { option_map named_view result ≡ steps.name_in (vector_view vector.now) }
 {
     match vector {
@@ -60,7 +60,7 @@ fn name_in(vector: &Vector) -> Option<&Place>
 }
 
 /// The signal's name that a value is.
-fn name_of(value: &Value) -> Option<&Place>
+fn name_of(value: &Value) -> Option<&SignalPart>
     ensures { option_map named_view result ≡ steps.name_of (value_view value.now) }
 {
     match value {
@@ -124,7 +124,7 @@ fn turned(relation: Cmp) -> Cmp
 /// An event of an element, which has this value.
 #[tactic(auto, using(rtl_net::proofs::Rows::view_combined))]
 fn event_to(alloc: Global, element: u32, value: Nine) -> Result<Test, AllocError>
-    ensures { IfOk result (λ t. test_view t ≡ body.combined And (body.event element) (body.level true element value)) }
+    ensures { IfOk result (λ t. test_view t ≡ bodies.combined And (bodies.event element) (bodies.level true element value)) }
 {
     let first = Box::new(alloc, Test::Event(element))?;
     let mut rest = Vec::new(alloc);
@@ -307,7 +307,7 @@ impl Site<'_> {
     }
 
     /// Equality of a signal's name and a character literal.
-    fn level(&self, plain: bool, place: &Place, value: Nine) -> Result<Test, ElabFault>
+    fn level(&self, plain: bool, place: &SignalPart, value: Nine) -> Result<Test, ElabFault>
         requires { IsSite self.now }
         ensures { Expands test_view (steps.level (site_view self.now) plain (place_view place.now) value) result }
     {

@@ -9,7 +9,7 @@ ghost use Rattle.vhdl_expand_bodies.specs.Sites.{ArePlaced, placed_kind};
 
 use crate::site::Placed;
 use std::alloc::{AllocError, Global};
-use vhdl_expand_rules::Kind;
+use vhdl_expand_rules::ObjectKind;
 
 /// Things whose elements are numbered from 0 on, each behind those before it, and how many elements they have together.
 #[derive(Drop)]
@@ -32,7 +32,7 @@ impl Layout {
     }
 
     /// Puts a thing of this kind behind the others. Memory would be refused for numbers beyond a word.
-    pub fn add(&mut self, kind: Kind) -> Result<(), AllocError>
+    pub fn add(&mut self, kind: ObjectKind) -> Result<(), AllocError>
         requires { IsWidth (size (kind_view kind)) }
         ensures ok { OnOk result (map placed_kind self.new.things.items ≡ map placed_kind self.old.things.items ++ kind_view kind ∷ []) }
         ensures err { OnErr result (map placed_kind self.new.things.items ≡ map placed_kind self.old.things.items) }

@@ -2,7 +2,7 @@
 
 ghost use Rattle.std.specs.Prelude.{◌≡◌, [], ◌∷◌, IfOk};
 ghost use Rattle.vhdl_values.specs.Numbers.{digits_of};
-ghost use Rattle.rtl_model.specs.bodies.Body as body;
+ghost use Rattle.rtl_model.specs.bodies.Body as bodies;
 ghost use Rattle.rtl_model.specs.bodies.Fits as fits;
 ghost use Rattle.rtl_model.specs.bodies.Fits.{IsWidth, operated_width};
 ghost use Rattle.rtl_net.specs.Bodies.{expr_view, operator_view, links_of};
@@ -123,7 +123,7 @@ impl Chain {
 impl Operand {
     /// A constant.
     pub(crate) fn constant(values: Vec9) -> Operand
-        ensures { expr_view result.expr ≡ body.constant values }
+        ensures { expr_view result.expr ≡ bodies.constant values }
     {
         let len = values.len();
         Operand {
@@ -134,7 +134,7 @@ impl Operand {
 
     /// `not` of it. It takes the memory of a box.
     pub(crate) fn inverse(self, alloc: Global) -> Result<Operand, AllocError>
-        ensures { IfOk result (λ o. expr_view o.expr ≡ body.inverse (expr_view self.expr)) }
+        ensures { IfOk result (λ o. expr_view o.expr ≡ bodies.inverse (expr_view self.expr)) }
     {
         Ok(Operand {
             expr: Expr::Inverse(Box::new(alloc, self.expr)?),
@@ -145,7 +145,7 @@ impl Operand {
     /// As a vector of so many elements. It takes the memory of a box.
     pub(crate) fn resized(self, alloc: Global, len: u32) -> Result<Operand, AllocError>
         requires { IsWidth len }
-        ensures { IfOk result (λ o. expr_view o.expr ≡ body.resized len (expr_view self.expr)) }
+        ensures { IfOk result (λ o. expr_view o.expr ≡ bodies.resized len (expr_view self.expr)) }
     {
         Ok(Operand {
             expr: Expr::Resized {
@@ -158,7 +158,7 @@ impl Operand {
 
     /// Shifted to the left. It takes the memory of a box.
     pub(crate) fn shifted_left(self, alloc: Global, count: u32) -> Result<Operand, AllocError>
-        ensures { IfOk result (λ o. expr_view o.expr ≡ body.shifted_left count (expr_view self.expr)) }
+        ensures { IfOk result (λ o. expr_view o.expr ≡ bodies.shifted_left count (expr_view self.expr)) }
     {
         Ok(Operand {
             expr: Expr::ShiftedLeft {
@@ -171,7 +171,7 @@ impl Operand {
 
     /// Shifted to the right. It takes the memory of a box.
     pub(crate) fn shifted_right(self, alloc: Global, count: u32) -> Result<Operand, AllocError>
-        ensures { IfOk result (λ o. expr_view o.expr ≡ body.shifted_right count (expr_view self.expr)) }
+        ensures { IfOk result (λ o. expr_view o.expr ≡ bodies.shifted_right count (expr_view self.expr)) }
     {
         Ok(Operand {
             expr: Expr::ShiftedRight {
@@ -192,7 +192,7 @@ impl Operand {
         at: usize,
     ) -> Result<Operand, ElabFault>
         ensures { Expands (λ o. expr_view o.expr)
-            (definition.operated (operator_view operator) (body.constant (digits_of (fits.width (expr_view self.expr)) number)) (expr_view self.expr)) result }
+            (definition.operated (operator_view operator) (bodies.constant (digits_of (fits.width (expr_view self.expr)) number)) (expr_view self.expr)) result }
     {
         let digits = Operand::constant(Vec9::of_nat(u64::from(number), self.width.len));
         let mut chain = digits.begin(alloc)?;

@@ -12,14 +12,14 @@ ghost use Rattle.vhdl_expand_bodies.specs.Sites.{ArePlaced, IsSite, IsShort, pla
 
 use crate::constant::Constant;
 use rtl_net::Indices;
-use vhdl_expand_rules::{ElabFault, ElabProblem, Integers, Kind, Run};
+use vhdl_expand_rules::{ElabFault, ElabProblem, Integers, ObjectKind, Run};
 use vhdl_names_rules::{Part, Signal};
 use vhdl_values::Vec9;
 
 /// A port, a signal or a variable, and the number of its first element among those of its class.
 #[derive(Clone, Copy)]
 pub struct Placed {
-    pub kind: Kind,
+    pub kind: ObjectKind,
     pub first: u32,
 }
 

@@ -1,7 +1,7 @@
 //! Statements, expanded (IEEE 1076-2008, clause 10): loops are the sequences of their turns.
 
 ghost use Rattle.std.specs.Prelude.{◌≡◌, ◌≢◌, map, option_map, IfErr, OnOk, Ok};
-ghost use Rattle.rtl_model.specs.bodies.Body as model;
+ghost use Rattle.rtl_model.specs.bodies.Body as bodies;
 ghost use Rattle.rtl_net.specs.Bodies.{statement_view, statements_of, choice_view};
 ghost use Rattle.vhdl_names_rules.specs.units.Statements as units;
 ghost use Rattle.vhdl_expand_rules.specs.declared.fault.ElabFault.TheVariants.{NoMemory};
@@ -33,7 +33,7 @@ use vhdl_names_units::{Case, If, Loop};
 /// Puts a statement behind others.
 #[tactic(auto, using(crate::proofs::Sequences::statements_push))]
 fn add(body: &mut Vec<Statement>, statement: Statement) -> Result<(), ElabFault>
-    ensures added { OnOk result (statements_of body.new.items ≡ model.followed_by (statements_of body.old.items) (definition.one (statement_view statement))) }
+    ensures added { OnOk result (statements_of body.new.items ≡ bodies.followed_by (statements_of body.old.items) (definition.one (statement_view statement))) }
     ensures refused { IfErr result (λ fault. fault ≡ NoMemory) }
 {
     body.push(statement)?;

@@ -1,7 +1,7 @@
 //! Values, expanded (IEEE 1076-2008, clause 9).
 
 ghost use Rattle.std.specs.Prelude.{Ok};
-ghost use Rattle.rtl_model.specs.bodies.Body as body;
+ghost use Rattle.rtl_model.specs.bodies.Body as bodies;
 ghost use Rattle.vhdl_names_rules.specs.views.Vectors as analysed;
 ghost use Rattle.vhdl_names_rules.specs.views.Vectors.{part_view, signal_view};
 ghost use Rattle.vhdl_expand_rules.specs.Expressions as definition;
@@ -20,7 +20,7 @@ use vhdl_names_rules::{Part, Signal, Value};
 /// A value that an enumeration's literal is, by its position. Memory would be refused for a position beyond a byte: an
 /// enumeration has at most 256 literals.
 fn position(number: usize) -> Result<Selected, ElabFault>
-    ensures { Expands selected_view (Ok (body.position number)) result }
+    ensures { Expands selected_view (Ok (bodies.position number)) result }
 {
     match u8::try_from(number) {
         Ok(position) => Ok(Selected {

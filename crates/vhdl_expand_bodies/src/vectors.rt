@@ -16,7 +16,7 @@ use crate::site::{Site, elements};
 use rtl_net::Expr;
 use std::alloc::Global;
 use vhdl_expand_rules::{ElabFault, ElabProblem};
-use vhdl_names_rules::{Numeric, Part, Place, Static, Vector, VectorLink, VectorStart};
+use vhdl_names_rules::{Numeric, Part, SignalPart, Static, Vector, VectorLink, VectorStart};
 use vhdl_values::{Nine, Vec9};
 
 /// A string or bit string; a fault is Index or TooWide.
@@ -79,7 +79,7 @@ impl Site<'_> {
     }
 
     /// A signal, port or part of one, by its elements.
-    fn signal(&self, place: &Place) -> Result<Operand, ElabFault>
+    fn signal(&self, place: &SignalPart) -> Result<Operand, ElabFault>
         requires { IsSite self.now }
         ensures { Expands operand_view (steps.signal (site_view self.now) (place_view place.now)) result }
     {

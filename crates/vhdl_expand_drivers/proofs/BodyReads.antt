@@ -4,7 +4,7 @@ use Rattle.std.specs.Prelude.{◌↔◌, flat_map, option_map, OnOk}
 use Rattle.std.proofs.lemmas.List.{append_assoc, append-nil}
 use Rattle.rtl_net_facts.specs.Reading.{is_in}
 use Rattle.rtl_net_facts.proofs.Members.{in_has, has_in}
-use Rattle.rtl_model.specs.bodies.Body as m
+use Rattle.rtl_model.specs.bodies.Body as bodies
 use Rattle.rtl_model.specs.bodies.Reads.{expr_reads, value_reads, test_reads, stmt_reads, reads, branches_reads, alternatives_reads}
 use Rattle.rtl_net.specs.declared.body.Expr.{Expr}
 use Rattle.rtl_net.specs.declared.body.Expr.TheVariants as ve
@@ -27,21 +27,21 @@ option_items = option_map (λ v. v.items)
 
 -- ---- lists
 
-linked-reads : (left : m.Expr) (ls : List Link) → expr_reads (links_of left ls) ≡ expr_reads left ++ flat_map link_reads ls
+linked-reads : (left : bodies.Expr) (ls : List Link) → expr_reads (links_of left ls) ≡ expr_reads left ++ flat_map link_reads ls
 linked-reads left [] = sym (append-nil (expr_reads left))
 linked-reads left (l ∷ ls) =
-    linked-reads (m.Expr.binary (operator_view l.operator) left (expr_view l.operand)) ls ∙ append_assoc (expr_reads left) (link_reads l) (flat_map link_reads ls)
+    linked-reads (bodies.Expr.binary (operator_view l.operator) left (expr_view l.operand)) ls ∙ append_assoc (expr_reads left) (link_reads l) (flat_map link_reads ls)
 
-linked-tests : (left : m.Test) (ls : List TestLink) → test_reads (test_links_of left ls) ≡ test_reads left ++ flat_map test_link_reads ls
+linked-tests : (left : bodies.Test) (ls : List TestLink) → test_reads (test_links_of left ls) ≡ test_reads left ++ flat_map test_link_reads ls
 linked-tests left [] = sym (append-nil (test_reads left))
 linked-tests left (l ∷ ls) =
-    linked-tests (m.combined l.operator left (test_view l.operand)) ls ∙ append_assoc (test_reads left) (test_link_reads l) (flat_map test_link_reads ls)
+    linked-tests (bodies.combined l.operator left (test_view l.operand)) ls ∙ append_assoc (test_reads left) (test_link_reads l) (flat_map test_link_reads ls)
 
 pub each_read : (xs : List Statement) → reads (statements_of xs) ≡ flat_map statement_reads xs
 each_read [] = refl
 each_read (x ∷ xs) = ap (λ ns. statement_reads x ++ ns) (each_read xs)
 
-each-branch : (last : m.Branches) (bs : List Branch) → branches_reads (branches_of last bs) ≡ flat_map branch_reads bs ++ branches_reads last
+each-branch : (last : bodies.Branches) (bs : List Branch) → branches_reads (branches_of last bs) ≡ flat_map branch_reads bs ++ branches_reads last
 each-branch last [] = refl
 each-branch last (b ∷ bs) =
     ap (λ ns. test_reads (test_view b.test) ++ (ns ++ branches_reads (branches_of last bs))) (each_read b.statements.items)
@@ -49,7 +49,7 @@ each-branch last (b ∷ bs) =
     ∙ sym (append_assoc (test_reads (test_view b.test)) (flat_map statement_reads b.statements.items) (flat_map branch_reads bs ++ branches_reads last))
     ∙ sym (append_assoc (branch_reads b) (flat_map branch_reads bs) (branches_reads last))
 
-each-alternative : (last : m.Stmts) (as' : List Alternative) → alternatives_reads (alternatives_of last as') ≡ flat_map alternative_reads as' ++ reads last
+each-alternative : (last : bodies.Stmts) (as' : List Alternative) → alternatives_reads (alternatives_of last as') ≡ flat_map alternative_reads as' ++ reads last
 each-alternative last [] = refl
 each-alternative last (a ∷ as') =
     ap (λ ns. ns ++ alternatives_reads (alternatives_of last as')) (each_read a.statements.items)

@@ -7,12 +7,12 @@ use Rattle.std.proofs.lemmas.List.Elements.{All-weaker, All-map}
 use Rattle.std.proofs.lemmas.Option.{same_Some}
 use Rattle.rtl_net_facts.specs.Reading.{is_in}
 use Rattle.vhdl_names_rules.specs.units.Expressions as u
-use Rattle.vhdl_names_rules.specs.units.Expressions.{Signal, Part, Place}
+use Rattle.vhdl_names_rules.specs.units.Expressions.{Signal, Part, SignalPart}
 use Rattle.vhdl_names_rules.specs.units.Statements.{Statements}
 use Rattle.vhdl_expand_rules.specs.declared.fault.ElabProblem.TheVariants.{Index}
 use Rattle.vhdl_expand_rules.specs.Elab.{Elab, ◌>>=◌, each, found}
 use Rattle.vhdl_expand_rules.specs.Integers.{Integers}
-use Rattle.vhdl_expand_rules.specs.Kinds.{Kind, size, places}
+use Rattle.vhdl_expand_rules.specs.Kinds.{ObjectKind, size, places}
 use Rattle.vhdl_expand_rules.specs.Site.{Site, elements_count, part_elements, signal_elements, place_elements}
 use Rattle.vhdl_expand_rules.specs.Prefixes.{prefix, targets, concatenated, prefixes_elements, names_elements, in_order}
 use Rattle.vhdl_expand_rules.proofs.Steps.{given, ok, bound, each-all}
@@ -57,7 +57,7 @@ begins : (r : Elab (List ℕ)) → r ≡ behind [] r
 begins (Ok xs) = refl
 begins (Err p) = refl
 
-module _ {X : Type 0} (at : Site) (v : X → Place) where
+module _ {X : Type 0} (at : Site) (v : X → SignalPart) where
   pub prefixes_begin : (xs : List X) → prefixes_elements at (map v xs) ≡ behind [] (prefixes_elements at (map v xs))
   prefixes_begin xs = begins (prefixes_elements at (map v xs))
 
@@ -96,11 +96,11 @@ module _ {X : Type 0} (at : Site) (v : X → Place) where
 
 -- ---- each element is among those of the instance
 
-within : (kinds : List Kind) (k : ℕ) (kind : Kind) (p : ℕ) → slice_get kinds k ≡ Some kind → p < size kind → elements_count (take k kinds) + p < elements_count kinds
+within : (kinds : List ObjectKind) (k : ℕ) (kind : ObjectKind) (p : ℕ) → slice_get kinds k ≡ Some kind → p < size kind → elements_count (take k kinds) + p < elements_count kinds
 within [] k kind p h l = absurd cc
 within (q ∷ kinds) zero kind p h l =
     let same : q ≡ kind = same_Some q kind h in
-    let m : p < size q = subst (λ (x : Kind). p < size x) (sym same) l in
+    let m : p < size q = subst (λ (x : ObjectKind). p < size x) (sym same) l in
     let all : elements_count (q ∷ kinds) ≡ size q + elements_count kinds = count-cons q kinds in
     omega (arith, m, all)
 within (q ∷ kinds) (suc k) kind p h l =
@@ -109,7 +109,7 @@ within (q ∷ kinds) (suc k) kind p h l =
     let all : elements_count (q ∷ kinds) ≡ size q + elements_count kinds = count-cons q kinds in
     omega (arith, m, first, all)
 
-part-all : (P : ℕ → Type 0) (at : Integers) (from : ℕ) (kinds : List Kind) (n : ℕ) (part : Part) (es : List ℕ) → part_elements at from kinds n part ≡ Ok es
+part-all : (P : ℕ → Type 0) (at : Integers) (from : ℕ) (kinds : List ObjectKind) (n : ℕ) (part : Part) (es : List ℕ) → part_elements at from kinds n part ≡ Ok es
     → ((p : ℕ) → p < elements_count kinds → P (from + p)) → All P es
 part-all P at from kinds n part es h go =
     let kind = bound (found Index (slice_get kinds n)) _ es h in
@@ -131,7 +131,7 @@ unfolding signal_elements
 signal-below at (u.port k) part es h = part-all (λ e. e < count at) at.integers 0 at.ports k part es h (λ p l. omega (arith, l))
 signal-below at (u.Signal.signal k) part es h = part-all (λ e. e < count at) at.integers (elements_count at.ports) at.signals k part es h (λ p l. omega (arith, l))
 
-pub prefixes_below : (at : Site) (ps : List Place) (ds : List ℕ) → prefixes_elements at ps ≡ Ok ds → All (λ e. e < count at) ds
+pub prefixes_below : (at : Site) (ps : List SignalPart) (ds : List ℕ) → prefixes_elements at ps ≡ Ok ds → All (λ e. e < count at) ds
 unfolding prefixes_elements
 prefixes_below at ps ds h =
     let ess = bound (each (λ p. place_elements at (prefix p)) ps) _ ds h in

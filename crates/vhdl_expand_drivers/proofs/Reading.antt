@@ -107,7 +107,7 @@ loop_names x = ap definition.statement_names (rows.view_loop x.at x.range x.stat
 
 -- ---- what the walk puts behind others
 
-pub chain_adds : {A E : Type 0} (r : Result A E) (vec : Vector) (start : Box VectorStart Global) (links : Vec VectorLink Global) (st : VectorStart) (ls : List VectorLink) (old mid new : List u.Place)
+pub chain_adds : {A E : Type 0} (r : Result A E) (vec : Vector) (start : Box VectorStart Global) (links : Vec VectorLink Global) (st : VectorStart) (ls : List VectorLink) (old mid new : List u.SignalPart)
     → vec ≡ v.Chain start links → st ≡ start.value → ls ≡ links.items → mid ≡ old ++ (vector_names (vector_view st.first) ++ link_names st.link)
     → OnOk r (new ≡ mid ++ flat_map link_names ls) → OnOk r (new ≡ old ++ vector_names (vector_view vec))
 chain_adds r vec start links st ls old mid new h j k first more =
@@ -116,7 +116,7 @@ chain_adds r vec start links st ls old mid new h j k first more =
     ∙ ap (λ (x : VectorStart). (vector_names (vector_view x.first) ++ link_names x.link) ++ flat_map link_names links.items) (sym j)
     ∙ ap (λ xs. (vector_names (vector_view st.first) ++ link_names st.link) ++ flat_map link_names xs) (sym k)) first more
 
-pub test_chain_adds : {A E : Type 0} (r : Result A E) (test : Test) (start : Box TestStart Global) (links : Vec TestLink Global) (st : TestStart) (ls : List TestLink) (old mid new : List u.Place)
+pub test_chain_adds : {A E : Type 0} (r : Result A E) (test : Test) (start : Box TestStart Global) (links : Vec TestLink Global) (st : TestStart) (ls : List TestLink) (old mid new : List u.SignalPart)
     → test ≡ c.Chain start links → st ≡ start.value → ls ≡ links.items → mid ≡ old ++ (test_names (test_view st.first) ++ test_link_names st.link)
     → OnOk r (new ≡ mid ++ flat_map test_link_names ls) → OnOk r (new ≡ old ++ test_names (test_view test))
 test_chain_adds r test start links st ls old mid new h j k first more =

@@ -19,7 +19,7 @@ use rtl_net_facts::sort_once;
 use std::alloc::{AllocError, Global};
 use vhdl_expand_rules::{ElabFault, Run, is_static_part};
 use vhdl_expand_bodies::Site;
-use vhdl_names_rules::{Part, Place};
+use vhdl_names_rules::{Part, SignalPart};
 use vhdl_names_units::Statement;
 
 /// The elements of the longest static prefix of a name; a fault is StaticError or Index, at byte `at` where the name has none.
@@ -65,7 +65,7 @@ fn prefixes(alloc: Global, site: &Site, names: &[Name], at: usize) -> Result<Vec
 }
 
 /// The elements of a sensitivity list's names, in their order; a fault is StaticError or Index. It takes the memory of the list.
-pub fn listed(alloc: Global, site: &Site, names: &[Place]) -> Result<Vec<usize>, ElabFault>
+pub fn listed(alloc: Global, site: &Site, names: &[SignalPart]) -> Result<Vec<usize>, ElabFault>
     requires { IsSite site.now }
     ensures { Expands (λ v. v.items) (definition.names_elements (site_view site.now) (map place_view names.now)) result }
 {

@@ -14,7 +14,7 @@ ghost use Rattle.vhdl_expand_drivers.specs.Starting.{codes_of, encoded_as};
 
 use smallvec::SmallVec;
 use std::alloc::{AllocError, Global};
-use vhdl_expand_rules::{ElabFault, ElabProblem, Integers, Kind};
+use vhdl_expand_rules::{ElabFault, ElabProblem, Integers, ObjectKind};
 use vhdl_expand_bodies::Site;
 use vhdl_names_rules::Static;
 use vhdl_names_units::{Fixed, Form};
@@ -22,16 +22,16 @@ use vhdl_values::{Nine, Vec9};
 
 /// What a form is where these integers are known; a fault is StaticError, Index or TooWide.
 #[tactic(auto, unfolding(vhdl_expand_rules::specs::Kinds::kind_of))]
-pub fn kind(integers: &Integers, form: &Form, at: usize) -> Result<Kind, ElabFault>
+pub fn kind(integers: &Integers, form: &Form, at: usize) -> Result<ObjectKind, ElabFault>
     ensures { Makes kind_view (kinds.kind_of (integers_view integers.now) (form_view form.now)) result }
 {
     match form {
-        Form::Element => Ok(Kind::One),
+        Form::Element => Ok(ObjectKind::One),
         Form::Vector(range) => {
             let bounds = integers.declared_bounds(range, at)?;
-            Ok(Kind::Vector(bounds))
+            Ok(ObjectKind::Vector(bounds))
         }
-        Form::Enumeration(count) => Ok(Kind::Enumeration(*count)),
+        Form::Enumeration(count) => Ok(ObjectKind::Enumeration(*count)),
     }
 }
 
@@ -157,15 +157,15 @@ fn literal_start(alloc: Global, position: usize) -> Result<SmallVec<u8, 8>, Elab
 fn given(
     alloc: Global,
     site: &Site,
-    kind: Kind,
+    kind: ObjectKind,
     value: &Fixed,
     at: usize,
 ) -> Result<SmallVec<u8, 8>, ElabFault>
     ensures { Expands (λ v. v.items) (definition.given_starts (site_view site.now) (kind_view kind) (fixed_view value.now)) result }
 {
     match kind {
-        Kind::One | Kind::Vector(_) => fixed(alloc, site, kind.size(), value, at),
-        Kind::Enumeration(_) => match value {
+        ObjectKind::One | ObjectKind::Vector(_) => fixed(alloc, site, kind.size(), value, at),
+        ObjectKind::Enumeration(_) => match value {
             Fixed::Position(position) => literal_start(alloc, *position),
             Fixed::Literal(_) | Fixed::Constant(_) | Fixed::Encoded(_, _) | Fixed::Filled(_) =>
                 fixed(alloc, site, 1, value, at),
@@ -179,7 +179,7 @@ fn given(
 pub fn starts(
     alloc: Global,
     site: &Site,
-    kind: Kind,
+    kind: ObjectKind,
     default: &Option<Fixed>,
     at: usize,
 ) -> Result<SmallVec<u8, 8>, ElabFault>

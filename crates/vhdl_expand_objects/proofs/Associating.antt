@@ -5,7 +5,7 @@ use Rattle.std.proofs.Math.Seq.{take-suc-set}
 use Rattle.std.proofs.lemmas.List.{append_assoc, append-nil, map-append, length-map, length-take-le, drop-set-lt}
 use Rattle.std.proofs.lemmas.List.FromFn.{length-range_with_len}
 use Rattle.vhdl_tree.specs.declared.expression.Identifier.{Identifier}
-use Rattle.vhdl_names_rules.specs.units.Expressions.{Place}
+use Rattle.vhdl_names_rules.specs.units.Expressions.{SignalPart}
 use Rattle.vhdl_names_rules.specs.units.Units as u
 use Rattle.vhdl_names_rules.specs.units.Units.{Port}
 use Rattle.vhdl_names_units.specs.declared.declaration.Ports.{Ports}
@@ -34,10 +34,10 @@ run_long r = length-range_with_len r.first r.len
 abbrev port_with : Ports → u.Object → Port
 port_with ports o = record { mode = ports.mode; object = o }
 
-module _ (above : Site) (actuals : List (Option Place)) where
+module _ (above : Site) (actuals : List (Option SignalPart)) where
   -- ---- the name of a port is no matter
 
-  nameless-association : (ports : Ports) (name : List ℕ) (a : Option Place) (o : Object)
+  nameless-association : (ports : Ports) (name : List ℕ) (a : Option SignalPart) (o : Object)
       → association above (port_with ports (named_object ports.objects name)) a o ≡ association above (any_port ports) a o
   unfolding association
   nameless-association ports name None o = refl
@@ -79,7 +79,7 @@ module _ (above : Site) (actuals : List (Option Place)) where
   done-long : (os : List tree.Object) (n : ℕ) → n ≤ length os → length (map object_view (take n os)) ≡ n
   done-long os n h = length-map (take n os) object_view ∙ length-take-le n os h
 
-  next-is : (os : List tree.Object) (n : ℕ) (o : tree.Object) (p : Port) (a : Option Place) → n < length os → o ≡ get_or os n o → a ≡ first_of (drop n actuals)
+  next-is : (os : List tree.Object) (n : ℕ) (o : tree.Object) (p : Port) (a : Option SignalPart) → n < length os → o ≡ get_or os n o → a ≡ first_of (drop n actuals)
       → next_associated above actuals (associated_to n os) p
       ≡ association above p a (object_view o) >>= λ (x : Object). given (record { done = map object_view (take n os) ++ x ∷ []; left = map object_view (drop (suc n) os) })
   next-is os n o p a below is e =
@@ -94,7 +94,7 @@ module _ (above : Site) (actuals : List (Option Place)) where
   set-left : (os : List tree.Object) (n : ℕ) (o : tree.Object) → map object_view (drop (n + 1) (set os n o)) ≡ map object_view (drop (suc n) os)
   set-left os n o = ap (map object_view) (drop-set-lt (n + 1) os n o (omega arith) ∙ ap (λ m. drop m os) (add-one n))
 
-  pub next_given : (os new : List tree.Object) (n : ℕ) (o x : tree.Object) (p : Port) (a : Option Place) → n < length os → o ≡ get_or os n o → a ≡ first_of (drop n actuals)
+  pub next_given : (os new : List tree.Object) (n : ℕ) (o x : tree.Object) (p : Port) (a : Option SignalPart) → n < length os → o ≡ get_or os n o → a ≡ first_of (drop n actuals)
       → association above p a (object_view o) ≡ Ok (object_view x) → new ≡ set os n x → next_associated above actuals (associated_to n os) p ≡ Ok (associated_to (n + 1) new)
   next_given os new n o x p a below is e h pushed =
       next-is os n o p a below is e
@@ -103,7 +103,7 @@ module _ (above : Site) (actuals : List (Option Place)) where
       ∙ ap (λ (left : List Object). given (record { done = map object_view (take (n + 1) (set os n x)); left = left })) (sym (set-left os n x))
       ∙ ap (λ (xs : List tree.Object). given (associated_to (n + 1) xs)) (sym pushed)
 
-  pub next_refused : (os : List tree.Object) (n : ℕ) (o : tree.Object) (p : Port) (a : Option Place) → n < length os → o ≡ get_or os n o → a ≡ first_of (drop n actuals)
+  pub next_refused : (os : List tree.Object) (n : ℕ) (o : tree.Object) (p : Port) (a : Option SignalPart) → n < length os → o ≡ get_or os n o → a ≡ first_of (drop n actuals)
       → IsErr (association above p a (object_view o)) → IsErr (next_associated above actuals (associated_to n os) p)
   next_refused os n o p a below is e h =
       subst (λ (r : Elab Associated). IsErr r) (sym (next-is os n o p a below is e)) (err_first (association above p a (object_view o)) _ h)

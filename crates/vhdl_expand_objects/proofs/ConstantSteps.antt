@@ -11,7 +11,7 @@ use Rattle.vhdl_expand_rules.specs.Integers.{Integers, integer_of}
 use Rattle.vhdl_expand_rules.specs.Kinds.{kind_of, size}
 use Rattle.vhdl_expand_rules.specs.Site as definition
 use Rattle.vhdl_expand_rules.specs.Site.{Site, no_integers}
-use Rattle.vhdl_expand_rules.specs.Declarations.{Declared, declaration, fixed, generics, interface, ports, with_constant, with_integer}
+use Rattle.vhdl_expand_rules.specs.Declarations.{InstanceObjects, declaration, fixed, generics, interface, ports, with_constant, with_integer}
 use Rattle.vhdl_expand_rules.proofs.Steps.{given, ok, bound}
 use Rattle.vhdl_expand_rules.proofs.Chains.{err_first}
 use Rattle.vhdl_expand_bodies.specs.declared.constant.Constant.{Constant}
@@ -20,16 +20,16 @@ use Rattle.vhdl_expand_objects.specs.Constants.{constant_of}
 use Rattle.vhdl_expand_objects.specs.Generics.{generics_alone}
 use Rattle.vhdl_expand_objects.specs.Objects.{of_generics}
 
-pub integer_step : (d : Declared) (type : IntegerType) (s : Static) (x : ℤ) (new : Declared) → integer_of type d.site.integers s ≡ Ok x
+pub integer_step : (d : InstanceObjects) (type : IntegerType) (s : Static) (x : ℤ) (new : InstanceObjects) → integer_of type d.site.integers s ≡ Ok x
     → new ≡ record d { site = with_integer d.site x } → declaration d (u.Declaration.integer type s) ≡ Ok new
 unfolding declaration
 integer_step d type s x new h e = ap (λ r. r >>= λ y. given (record d { site = with_integer d.site y })) h ∙ ap given (sym e)
 
-pub integer_refused : (d : Declared) (type : IntegerType) (s : Static) → IsErr (integer_of type d.site.integers s) → IsErr (declaration d (u.Declaration.integer type s))
+pub integer_refused : (d : InstanceObjects) (type : IntegerType) (s : Static) → IsErr (integer_of type d.site.integers s) → IsErr (declaration d (u.Declaration.integer type s))
 unfolding declaration
 integer_refused d type s h = err_first (integer_of type d.site.integers s) (λ y. given (record d { site = with_integer d.site y })) h
 
-pub constant_step : (d : Declared) (form : Form) (f : Fixed) (c : definition.Constant) (new : Declared) → constant_of d.site form f ≡ Ok c
+pub constant_step : (d : InstanceObjects) (form : Form) (f : Fixed) (c : definition.Constant) (new : InstanceObjects) → constant_of d.site form f ≡ Ok c
     → new ≡ record d { site = with_constant d.site c } → declaration d (u.Declaration.constant form f) ≡ Ok new
 unfolding declaration
 constant_step d form f c new h e =
@@ -50,7 +50,7 @@ refused {A} {B} {C} {D} (Ok x) s make other h = go (s x) h
     go (Err p) k = refl
 refused (Err p) s make other h = refl
 
-pub constant_refused : (d : Declared) (form : Form) (f : Fixed) → IsErr (constant_of d.site form f) → IsErr (declaration d (u.Declaration.constant form f))
+pub constant_refused : (d : InstanceObjects) (form : Form) (f : Fixed) → IsErr (constant_of d.site form f) → IsErr (declaration d (u.Declaration.constant form f))
 unfolding declaration
 constant_refused d form f h =
     refused (kind_of d.site.integers form) (λ kind. fixed d.site (size kind) f) (λ kind vs. record { kind = kind; values = vs })
@@ -61,12 +61,12 @@ constant_pushed xs ys x h = ap (map constant_view) h ∙ map-append constant_vie
 
 -- ---- where the architecture begins
 
-pub interface_goes : (above : Integers) (actuals : List (Option Static)) (unit : Entity) (values : List ℤ) (d : Declared)
+pub interface_goes : (above : Integers) (actuals : List (Option Static)) (unit : Entity) (values : List ℤ) (d : InstanceObjects)
     → generics above no_integers actuals unit.generics ≡ Ok (generics_alone values) → d ≡ of_generics values → interface above actuals unit ≡ ports d unit.ports
 unfolding interface
 interface_goes above actuals unit values d h e =
     ap (λ r. r >>= λ (i : Integers). ports (record { site = record definition.no_site { integers = i }; objects = [] }) unit.ports) h
-    ∙ ap (λ (x : Declared). ports x unit.ports) (sym e)
+    ∙ ap (λ (x : InstanceObjects). ports x unit.ports) (sym e)
 
 pub interface_stops : (above : Integers) (actuals : List (Option Static)) (unit : Entity) → IsErr (generics above no_integers actuals unit.generics) → IsErr (interface above actuals unit)
 unfolding interface

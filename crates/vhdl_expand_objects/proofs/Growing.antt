@@ -12,7 +12,7 @@ use Rattle.vhdl_expand_rules.specs.declared.fault.ElabProblem.{ElabProblem}
 use Rattle.vhdl_expand_rules.specs.declared.fault.ElabProblem.TheVariants.{StaticError, GenericRange, Index}
 use Rattle.vhdl_expand_rules.specs.Elab.{◌>>=◌, found, unless}
 use Rattle.vhdl_expand_rules.specs.Integers.{Integers, checked, operated, integer, integer_of, is_of}
-use Rattle.vhdl_expand_rules.specs.Kinds.{Kind, one, vector, enumeration, kind_of, size}
+use Rattle.vhdl_expand_rules.specs.Kinds.{ObjectKind, one, vector, enumeration, kind_of, size}
 use Rattle.vhdl_expand_rules.specs.Site.{Constant, Site}
 use Rattle.vhdl_expand_rules.specs.Declarations.{as_long_as, fixed, given_starts, starts, with_constant, with_integer}
 use Rattle.vhdl_expand_rules.proofs.Steps.{given, bound}
@@ -71,10 +71,10 @@ constant_of_grows at c form f d h =
 
 -- ---- what objects start with, when ports or signals are declared
 
-abbrev beside : Site → (ports signals : List Kind) → Site
+abbrev beside : Site → (ports signals : List ObjectKind) → Site
 beside at ps ss = record at { ports = ps; signals = ss }
 
-fixed-stays : (at : Site) (ps ss : List Kind) (len : ℕ) (f : Fixed) → fixed (beside at ps ss) len f ≡ fixed at len f
+fixed-stays : (at : Site) (ps ss : List ObjectKind) (len : ℕ) (f : Fixed) → fixed (beside at ps ss) len f ≡ fixed at len f
 unfolding fixed
 fixed-stays at ps ss len (units.Fixed.literal xs) = refl
 fixed-stays at ps ss len (units.Fixed.position n) = refl
@@ -82,7 +82,7 @@ fixed-stays at ps ss len (units.Fixed.constant k) = refl
 fixed-stays at ps ss len (units.Fixed.encoded s t) = refl
 fixed-stays at ps ss len (units.filled v) = refl
 
-given-stays : (at : Site) (ps ss : List Kind) (kind : Kind) (f : Fixed) → given_starts (beside at ps ss) kind f ≡ given_starts at kind f
+given-stays : (at : Site) (ps ss : List ObjectKind) (kind : ObjectKind) (f : Fixed) → given_starts (beside at ps ss) kind f ≡ given_starts at kind f
 given-stays at ps ss one f = ap (λ r. r >>= λ vs. given (map code_of vs)) (fixed-stays at ps ss 1 f)
 given-stays at ps ss (vector b) f = ap (λ r. r >>= λ vs. given (map code_of vs)) (fixed-stays at ps ss (size (vector b)) f)
 given-stays at ps ss (enumeration n) (units.Fixed.position p) = refl
@@ -91,7 +91,7 @@ given-stays at ps ss (enumeration n) (units.Fixed.constant k) = ap (λ r. r >>= 
 given-stays at ps ss (enumeration n) (units.Fixed.encoded s t) = ap (λ r. r >>= λ vs. given (map code_of vs)) (fixed-stays at ps ss 1 (units.Fixed.encoded s t))
 given-stays at ps ss (enumeration n) (units.filled v) = ap (λ r. r >>= λ vs. given (map code_of vs)) (fixed-stays at ps ss 1 (units.filled v))
 
-pub starts_stay : (at : Site) (ps ss : List Kind) (kind : Kind) (default : Option Fixed) → starts (beside at ps ss) kind default ≡ starts at kind default
+pub starts_stay : (at : Site) (ps ss : List ObjectKind) (kind : ObjectKind) (default : Option Fixed) → starts (beside at ps ss) kind default ≡ starts at kind default
 unfolding starts
 starts_stay at ps ss kind None = refl
 starts_stay at ps ss kind (Some f) = given-stays at ps ss kind f

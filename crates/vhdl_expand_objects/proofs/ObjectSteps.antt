@@ -7,10 +7,10 @@ use Rattle.vhdl_tree.specs.declared.declaration.Mode.TheVariants.{In, Out}
 use Rattle.vhdl_names_rules.specs.units.Units as u
 use Rattle.vhdl_names_rules.specs.units.Units.{Fixed, Form, Port, Declaration}
 use Rattle.vhdl_expand_rules.specs.Elab.{Elab, ◌>>=◌}
-use Rattle.vhdl_expand_rules.specs.Kinds.{Kind, kind_of}
+use Rattle.vhdl_expand_rules.specs.Kinds.{ObjectKind, kind_of}
 use Rattle.vhdl_expand_rules.specs.Site.{Site}
 use Rattle.vhdl_expand_rules.specs.Tree.{Role, input, output, internal, Object}
-use Rattle.vhdl_expand_rules.specs.Declarations.{Declared, object, starts, ports, declaration, declarations, role_of, with_port, with_signal}
+use Rattle.vhdl_expand_rules.specs.Declarations.{InstanceObjects, object, starts, ports, declaration, declarations, role_of, with_port, with_signal}
 use Rattle.vhdl_expand_rules.proofs.Steps.{given}
 use Rattle.vhdl_expand_rules.proofs.Chains.{err_first}
 use Rattle.vhdl_expand_objects.specs.Objects.{next_object, shape_of, shaped, with_object}
@@ -18,35 +18,35 @@ use Rattle.vhdl_expand_objects.specs.Walks.{stepwise}
 use Rattle.vhdl_expand_objects.proofs.Growing.{starts_stay}
 use Rattle.vhdl_expand_objects.proofs.Stepping.{goes_alike, of_both, walks_alike}
 
-object-by : (at : Site) (role : Role) (o : u.Object) → object at role o ≡ shape_of at o.form o.default >>= λ (p : Kind × List ℕ). given (shaped p role o)
+object-by : (at : Site) (role : Role) (o : u.Object) → object at role o ≡ shape_of at o.form o.default >>= λ (p : ObjectKind × List ℕ). given (shaped p role o)
 unfolding object
 object-by at role o = of_both (kind_of at.integers o.form) (λ kind. starts at kind o.default) (λ kind vs. shaped (kind, vs) role o)
 
 -- what is made of an object that is given
-made : (r : Elab (Kind × List ℕ)) (o : u.Object) (role : Role) (f g : Object → Declared) → ((p : Kind × List ℕ) → f (shaped p role o) ≡ g (shaped p role o))
-    → ((r >>= λ (p : Kind × List ℕ). given (shaped p role o)) >>= λ x. given (f x)) ≡ ((r >>= λ (p : Kind × List ℕ). given (shaped p role o)) >>= λ x. given (g x))
+made : (r : Elab (ObjectKind × List ℕ)) (o : u.Object) (role : Role) (f g : Object → InstanceObjects) → ((p : ObjectKind × List ℕ) → f (shaped p role o) ≡ g (shaped p role o))
+    → ((r >>= λ (p : ObjectKind × List ℕ). given (shaped p role o)) >>= λ x. given (f x)) ≡ ((r >>= λ (p : ObjectKind × List ℕ). given (shaped p role o)) >>= λ x. given (g x))
 made (Ok p) o role f g h = ap given (h p)
 made (Err p) o role f g h = refl
 
-made-of-object : (at : Site) (o : u.Object) (role : Role) (f g : Object → Declared) → ((p : Kind × List ℕ) → f (shaped p role o) ≡ g (shaped p role o))
+made-of-object : (at : Site) (o : u.Object) (role : Role) (f g : Object → InstanceObjects) → ((p : ObjectKind × List ℕ) → f (shaped p role o) ≡ g (shaped p role o))
     → (object at role o >>= λ x. given (f x)) ≡ (object at role o >>= λ x. given (g x))
 made-of-object at o role f g h =
     ap (λ r. r >>= λ x. given (f x)) (object-by at role o) ∙ made (shape_of at o.form o.default) o role f g h ∙ ap (λ r. r >>= λ x. given (g x)) (sym (object-by at role o))
 
 -- ---- one more object
 
-pub object_given : (d : Declared) (role : Role) (o : u.Object) (p : Kind × List ℕ) (x : Object) (new : Declared) → shape_of d.site o.form o.default ≡ Ok p
+pub object_given : (d : InstanceObjects) (role : Role) (o : u.Object) (p : ObjectKind × List ℕ) (x : Object) (new : InstanceObjects) → shape_of d.site o.form o.default ≡ Ok p
     → x ≡ shaped p role o → new ≡ with_object d x → next_object role d o ≡ Ok new
 object_given d role o p x new h e f =
-    ap (λ r. r >>= λ y. given (with_object d y)) (object-by d.site role o ∙ ap (λ r. r >>= λ (q : Kind × List ℕ). given (shaped q role o)) h)
+    ap (λ r. r >>= λ y. given (with_object d y)) (object-by d.site role o ∙ ap (λ r. r >>= λ (q : ObjectKind × List ℕ). given (shaped q role o)) h)
     ∙ ap (λ y. given (with_object d y)) (sym e) ∙ ap given (sym f)
 
-pub object_refused : (d : Declared) (role : Role) (o : u.Object) → IsErr (shape_of d.site o.form o.default) → IsErr (next_object role d o)
+pub object_refused : (d : InstanceObjects) (role : Role) (o : u.Object) → IsErr (shape_of d.site o.form o.default) → IsErr (next_object role d o)
 object_refused d role o h =
     err_first (object d.site role o) (λ y. given (with_object d y))
-    (subst (λ (r : Elab Object). IsErr r) (sym (object-by d.site role o)) (err_first (shape_of d.site o.form o.default) (λ (q : Kind × List ℕ). given (shaped q role o)) h))
+    (subst (λ (r : Elab Object). IsErr r) (sym (object-by d.site role o)) (err_first (shape_of d.site o.form o.default) (λ (q : ObjectKind × List ℕ). given (shaped q role o)) h))
 
-stays : (at new : Site) (form : Form) (default : Option Fixed) → new.integers ≡ at.integers → ((kind : Kind) → starts new kind default ≡ starts at kind default)
+stays : (at new : Site) (form : Form) (default : Option Fixed) → new.integers ≡ at.integers → ((kind : ObjectKind) → starts new kind default ≡ starts at kind default)
     → shape_of new form default ≡ shape_of at form default
 stays at new form default e h =
     ap (λ i. kind_of i form >>= λ kind. starts new kind default >>= λ vs. given (kind, vs)) e
@@ -54,8 +54,8 @@ stays at new form default e h =
     (λ kind. ap (λ r. r >>= λ vs. given (kind, vs)) (h kind))
 
 -- the next object of the declaration is like it
-pub shape_stays : (d new : Declared) (x : Object) (form : Form) (default : Option Fixed) → new ≡ with_object d x → shape_of new.site form default ≡ shape_of d.site form default
-shape_stays d new x form default e = ap (λ (n : Declared). shape_of n.site form default) e ∙ by x.role
+pub shape_stays : (d new : InstanceObjects) (x : Object) (form : Form) (default : Option Fixed) → new ≡ with_object d x → shape_of new.site form default ≡ shape_of d.site form default
+shape_stays d new x form default e = ap (λ (n : InstanceObjects). shape_of n.site form default) e ∙ by x.role
   where
     port : shape_of (with_port d x).site form default ≡ shape_of d.site form default
     port = stays d.site (with_port d x).site form default refl (λ kind. starts_stay d.site (d.site.ports ++ x.kind ∷ []) d.site.signals kind default)
@@ -65,7 +65,7 @@ shape_stays d new x form default e = ap (λ (n : Declared). shape_of n.site form
     by output = port
     by internal = stays d.site (with_signal d x).site form default refl (λ kind. starts_stay d.site d.site.ports (d.site.signals ++ x.kind ∷ []) kind default)
 
-pub first_refused : {X : Type 0} (role : Role) (d : Declared) (v : X → u.Object) (xs : List X) (x : X) → slice_get xs 0 ≡ Some x
+pub first_refused : {X : Type 0} (role : Role) (d : InstanceObjects) (v : X → u.Object) (xs : List X) (x : X) → slice_get xs 0 ≡ Some x
     → IsErr (shape_of d.site (v x).form (v x).default) → IsErr (stepwise (next_object role) d (map v xs))
 first_refused role d v [] x h e = absurd cc
 first_refused role d v (y ∷ xs) x h e =
@@ -74,10 +74,10 @@ first_refused role d v (y ∷ xs) x h e =
 
 -- ---- ports
 
-abbrev pub next_port : Declared → Port → Elab Declared
+abbrev pub next_port : InstanceObjects → Port → Elab InstanceObjects
 next_port d p = object d.site (role_of p.mode) p.object >>= λ o. given (with_port d o)
 
-pub ports_walk : (d : Declared) (ps : List Port) → ports d ps ≡ stepwise next_port d ps
+pub ports_walk : (d : InstanceObjects) (ps : List Port) → ports d ps ≡ stepwise next_port d ps
 unfolding ports
 ports_walk d [] = refl
 ports_walk d (p ∷ ps) = go (object d.site (role_of p.mode) p.object) (λ o. ports_walk (with_port d o) ps)
@@ -87,7 +87,7 @@ ports_walk d (p ∷ ps) = go (object d.site (role_of p.mode) p.object) (λ o. po
     go (Ok o) h = h o
     go (Err q) h = refl
 
-pub port_objects : (mode : Mode) (d : Declared) (os : List u.Object)
+pub port_objects : (mode : Mode) (d : InstanceObjects) (os : List u.Object)
     → stepwise next_port d (map (λ o. record { mode = mode; object = o }) os) ≡ stepwise (next_object (role_of mode)) d os
 port_objects In d os = walks_alike (next_object input) next_port (λ o. record { mode = In; object = o })
     (λ s o. made-of-object s.site o input (with_port s) (with_object s) (λ p. refl)) d os
@@ -96,14 +96,14 @@ port_objects Out d os = walks_alike (next_object output) next_port (λ o. record
 
 -- ---- declarations
 
-pub declarations_walk : (d : Declared) (xs : List Declaration) → declarations d xs ≡ stepwise declaration d xs
+pub declarations_walk : (d : InstanceObjects) (xs : List Declaration) → declarations d xs ≡ stepwise declaration d xs
 unfolding declarations
 declarations_walk d [] = refl
 declarations_walk d (x ∷ xs) = goes_alike (declaration d x) (λ e. declarations e xs) (λ e. stepwise declaration e xs) (λ e. declarations_walk e xs)
 
-signal-objects : (s : Declared) (o : u.Object) → declaration s (u.Declaration.signal o) ≡ next_object internal s o
+signal-objects : (s : InstanceObjects) (o : u.Object) → declaration s (u.Declaration.signal o) ≡ next_object internal s o
 unfolding declaration
 signal-objects s o = made-of-object s.site o internal (with_signal s) (with_object s) (λ p. refl)
 
-pub signals_walk : (d : Declared) (os : List u.Object) → declarations d (map u.Declaration.signal os) ≡ stepwise (next_object internal) d os
+pub signals_walk : (d : InstanceObjects) (os : List u.Object) → declarations d (map u.Declaration.signal os) ≡ stepwise (next_object internal) d os
 signals_walk d os = declarations_walk d (map u.Declaration.signal os) ∙ walks_alike (next_object internal) declaration u.Declaration.signal signal-objects d os

@@ -1,13 +1,13 @@
 -- Ports that are associated one after another.
 use Rattle.std.specs.Prelude.{ℕ, List, [], ◌∷◌, ◌++◌, length, map, take, drop, Option, option_map, Ok}
-use Rattle.vhdl_names_rules.specs.declared.vector.Place as code
-use Rattle.vhdl_names_rules.specs.units.Expressions.{Place}
+use Rattle.vhdl_names_rules.specs.declared.vector.SignalPart as code
+use Rattle.vhdl_names_rules.specs.units.Expressions.{SignalPart}
 use Rattle.vhdl_names_rules.specs.units.Units as u
 use Rattle.vhdl_names_rules.specs.views.Vectors.{place_view}
 use Rattle.vhdl_names_units.specs.declared.declaration.Ports.{Ports}
 use Rattle.vhdl_expand_tree.specs.declared.tree.Object as tree
 use Rattle.vhdl_expand_tree.specs.Views.{object_view}
-use Rattle.vhdl_expand_rules.specs.Declarations.{Declared, association, associations, first_of}
+use Rattle.vhdl_expand_rules.specs.Declarations.{InstanceObjects, association, associations, first_of}
 use Rattle.vhdl_expand_rules.specs.Elab.{Elab, ◌>>=◌}
 use Rattle.vhdl_expand_rules.specs.Site.{Site}
 use Rattle.vhdl_expand_rules.specs.Tree.{Object}
@@ -17,7 +17,7 @@ use Rattle.vhdl_expand_objects.specs.Objects.{named_object}
 abbrev pub any_port : Ports → u.Port
 any_port ports = record { mode = ports.mode; object = named_object ports.objects [] }
 
-abbrev pub places_view : List (Option code.Place) → List (Option Place)
+abbrev pub places_view : List (Option code.Place) → List (Option SignalPart)
 places_view actuals = map (option_map place_view) actuals
 
 -- the ports that are associated, and those behind them
@@ -30,7 +30,7 @@ abbrev pub associated_to : ℕ → List tree.Object → Associated
 associated_to count objects = record { done = map object_view (take count objects); left = map object_view (drop count objects) }
 
 -- one more, where there is one
-abbrev pub next_associated : (above : Site) → List (Option Place) → Associated → u.Port → Elab Associated
+abbrev pub next_associated : (above : Site) → List (Option SignalPart) → Associated → u.Port → Elab Associated
 next_associated above actuals s p = by s.left
   where
     by : List Object → Elab Associated
@@ -40,7 +40,7 @@ next_associated above actuals s p = by s.left
       Ok (record { done = s.done ++ x ∷ []; left = os })
 
 -- an instance behind whose ports nothing is declared yet
-abbrev pub associated : (above : Site) → List u.Port → List (Option Place) → Declared → Elab Declared
+abbrev pub associated : (above : Site) → List u.Port → List (Option SignalPart) → InstanceObjects → Elab InstanceObjects
 associated above ps actuals d = do
   os ← associations above ps actuals d.objects
   Ok (record d { objects = os })

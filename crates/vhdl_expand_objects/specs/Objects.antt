@@ -4,36 +4,36 @@ use Rattle.vhdl_names_rules.specs.units.Units as u
 use Rattle.vhdl_names_rules.specs.units.Units.{Fixed, Form}
 use Rattle.vhdl_names_units.specs.declared.declaration.Objects.{Objects}
 use Rattle.vhdl_names_units.specs.views.Answers.{fixed_view, form_view}
-use Rattle.vhdl_expand_rules.specs.Declarations.{Declared, object, starts, with_port, with_signal}
+use Rattle.vhdl_expand_rules.specs.Declarations.{InstanceObjects, object, starts, with_port, with_signal}
 use Rattle.vhdl_expand_rules.specs.Elab.{Elab, ◌>>=◌}
-use Rattle.vhdl_expand_rules.specs.Kinds.{Kind, kind_of}
+use Rattle.vhdl_expand_rules.specs.Kinds.{ObjectKind, kind_of}
 use Rattle.vhdl_expand_rules.specs.Site.{Site, no_integers, no_site}
 use Rattle.vhdl_expand_rules.specs.Tree.{Role, input, output, internal, Object}
 
 -- what objects of this form and with this default are and start with
-abbrev pub shape_of : Site → Form → Option Fixed → Elab (Kind × List ℕ)
+abbrev pub shape_of : Site → Form → Option Fixed → Elab (ObjectKind × List ℕ)
 shape_of at form default = do
   kind ← kind_of at.integers form
   vs ← starts at kind default
   Ok (kind, vs)
 
-abbrev pub shaped : Kind × List ℕ → Role → u.Object → Object
+abbrev pub shaped : ObjectKind × List ℕ → Role → u.Object → Object
 shaped shape role o = record { name = o.name; role = role; kind = shape.0; is_resolved = o.is_resolved; starts = shape.1; actual = None }
 
 -- where generics with these values are declared, and nothing else
-abbrev pub of_generics : List ℤ → Declared
+abbrev pub of_generics : List ℤ → InstanceObjects
 of_generics values = record { site = record no_site { integers = record no_integers { generics = values } }; objects = [] }
 
-abbrev pub with_object : Declared → Object → Declared
+abbrev pub with_object : InstanceObjects → Object → InstanceObjects
 with_object d o = by o.role
   where
-    by : Role → Declared
+    by : Role → InstanceObjects
     by input = with_port d o
     by output = with_port d o
     by internal = with_signal d o
 
 -- one more port or signal, of this role
-abbrev pub next_object : Role → Declared → u.Object → Elab Declared
+abbrev pub next_object : Role → InstanceObjects → u.Object → Elab InstanceObjects
 next_object role d o = do
   x ← object d.site role o
   Ok (with_object d x)

@@ -4,9 +4,9 @@ use Rattle.vhdl_expand_tree.specs.Views.{object_view}
 use Rattle.vhdl_expand_rules.specs.Declarations as definition
 use Rattle.vhdl_expand_rules.specs.Site.{Site}
 use Rattle.vhdl_expand_bodies.specs.Sites.{constant_view, placed_kind}
-use Rattle.vhdl_expand_objects.specs.declared.declared.Declared.{Declared}
+use Rattle.vhdl_expand_objects.specs.declared.declared.InstanceObjects.{InstanceObjects}
 
-abbrev pub declared_view : Declared → definition.Declared
+abbrev pub declared_view : InstanceObjects → definition.InstanceObjects
 declared_view d = record {
   site = record {
     integers = record { generics = d.generics.items; constants = d.integers.items; generates = []; loops = [] };

@@ -12,12 +12,12 @@ ghost use Rattle.vhdl_expand_objects.specs.Associations.{any_port, associated, a
 ghost use Rattle.vhdl_expand_objects.specs.Views.{declared_view};
 ghost use Rattle.vhdl_expand_objects.specs.Walks.{stepwise};
 
-use crate::declared::Declared;
+use crate::declared::InstanceObjects;
 use std::alloc::{AllocError, Global};
 use vhdl_expand_tree::{Object, Role};
 use vhdl_expand_rules::{ElabFault, ElabProblem, Run};
 use vhdl_expand_bodies::Site;
-use vhdl_names_rules::Place;
+use vhdl_names_rules::SignalPart;
 use vhdl_names_units::{Entity, Ports};
 
 /// The actual of the generic or port of this number, if it has one.
@@ -59,7 +59,7 @@ fn associate(
     alloc: Global,
     above: &Site,
     declaration: &Ports,
-    actual: Option<&Place>,
+    actual: Option<&SignalPart>,
     port: &mut Object,
     at: usize,
 ) -> Result<(), ElabFault>
@@ -86,7 +86,7 @@ fn associate_all(
     alloc: Global,
     above: &Site,
     declaration: &Ports,
-    actuals: &[Option<Place>],
+    actuals: &[Option<SignalPart>],
     before: usize,
     ports: &mut Vec<Object>,
     at: usize,
@@ -115,7 +115,7 @@ fn associate_ports(
     alloc: Global,
     above: &Site,
     declarations: &[Ports],
-    actuals: &[Option<Place>],
+    actuals: &[Option<SignalPart>],
     ports: &mut Vec<Object>,
     at: usize,
 ) -> Result<(), ElabFault>
@@ -136,8 +136,8 @@ pub fn associations(
     alloc: Global,
     above: &Site,
     unit: &Entity,
-    actuals: &[Option<Place>],
-    declared: &mut Declared,
+    actuals: &[Option<SignalPart>],
+    declared: &mut InstanceObjects,
     at: usize,
 ) -> Result<(), ElabFault>
     requires { IsSite above.now }

@@ -12,7 +12,7 @@ ghost use Rattle.vhdl_names_units.specs.views.Units.{entity_view};
 ghost use Rattle.vhdl_expand_objects.specs.Generics.{actuals_view};
 ghost use Rattle.vhdl_expand_objects.specs.Views.{declared_view};
 
-use crate::declared::Declared;
+use crate::declared::InstanceObjects;
 use crate::generics::generics;
 use crate::objects::{add_objects, add_ports};
 use std::alloc::Global;
@@ -32,11 +32,11 @@ pub fn interface(
     above: &Integers,
     actuals: &[Option<Static>],
     unit: &Entity,
-) -> Result<Declared, ElabFault>
+) -> Result<InstanceObjects, ElabFault>
     ensures { Expands declared_view (definition.interface (integers_view above.now) (actuals_view actuals.now) (entity_view unit.now)) result }
 {
     let values = generics(alloc, above, actuals, &unit.generics)?;
-    let mut declared = Declared::of_generics(alloc, values);
+    let mut declared = InstanceObjects::of_generics(alloc, values);
     add_ports(alloc, &unit.ports, &mut declared)?;
     Ok(declared)
 }
@@ -47,7 +47,7 @@ fn add_integers(
     names: &[Identifier],
     integer_type: IntegerType,
     value: &Static,
-    declared: &mut Declared,
+    declared: &mut InstanceObjects,
 ) -> Result<(), ElabFault>
     ensures { Expands (λ _. declared_view declared.new) (definition.declarations (declared_view declared.old) (map (λ _. u.Declaration.integer integer_type (static_view value.now)) names.now)) result }
 {
@@ -67,7 +67,7 @@ fn add_constants(
     names: &[Identifier],
     form: &Form,
     value: &Fixed,
-    declared: &mut Declared,
+    declared: &mut InstanceObjects,
 ) -> Result<(), ElabFault>
     ensures { Expands (λ _. declared_view declared.new) (definition.declarations (declared_view declared.old) (map (λ _. u.Declaration.constant (form_view form.now) (fixed_view value.now)) names.now)) result }
 {
@@ -87,7 +87,7 @@ fn add_constants(
 /// Puts what is declared behind what was declared before it.
 fn declare(
     alloc: Global,
-    declared: &mut Declared,
+    declared: &mut InstanceObjects,
     declaration: &Declaration,
 ) -> Result<(), ElabFault>
     ensures { Expands (λ _. declared_view declared.new) (definition.declarations (declared_view declared.old) (declaration_view declaration.now)) result }
@@ -109,7 +109,7 @@ fn declare(
 /// TooWide, and then no one says how far it came.
 pub fn declarations(
     alloc: Global,
-    declared: &mut Declared,
+    declared: &mut InstanceObjects,
     list: &[Declaration],
 ) -> Result<(), ElabFault>
     ensures { Expands (λ _. declared_view declared.new) (definition.declarations (declared_view declared.old) (flat_map declaration_view list.now)) result }

@@ -27,7 +27,7 @@ use vhdl_names_units::{Fixed, Form, Objects};
 
 /// What is known of an instance, and its ports and signals so far.
 #[derive(Drop)]
-pub struct Declared {
+pub struct InstanceObjects {
     /// The values of its generics.
     pub generics: Vec<i32>,
     /// The values of its constants that are integers.
@@ -40,12 +40,12 @@ pub struct Declared {
     pub objects: Vec<Object>,
 }
 
-impl Declared {
+impl InstanceObjects {
     /// Of generics with these values, and nothing else.
-    pub(crate) fn of_generics(alloc: Global, generics: Vec<i32>) -> Declared
+    pub(crate) fn of_generics(alloc: Global, generics: Vec<i32>) -> InstanceObjects
         ensures { declared_view result ≡ of_generics generics.items }
     {
-        Declared {
+        InstanceObjects {
             generics,
             integers: Vec::new(alloc),
             constants: Vec::new(alloc),

@@ -13,5 +13,5 @@ mod values;
 
 pub use actuals::associations;
 pub use declarative::{declarations, interface};
-pub use declared::Declared;
+pub use declared::InstanceObjects;
 pub use nets::charge_own_nets;

@@ -9,7 +9,7 @@ ghost use Rattle.vhdl_expand_objects.specs.Objects.{next_object};
 ghost use Rattle.vhdl_expand_objects.specs.Views.{declared_view};
 ghost use Rattle.vhdl_expand_objects.specs.Walks.{stepwise};
 
-use crate::declared::Declared;
+use crate::declared::InstanceObjects;
 use std::alloc::Global;
 use vhdl_expand_tree::Role;
 use vhdl_expand_rules::ElabFault;
@@ -22,7 +22,7 @@ pub(crate) fn add_objects(
     alloc: Global,
     role: Role,
     objects: &Objects,
-    declared: &mut Declared,
+    declared: &mut InstanceObjects,
 ) -> Result<(), ElabFault>
     ensures { Expands (λ _. declared_view declared.new) (stepwise (next_object (role_view role)) (declared_view declared.old) (units.object_view objects.now)) result }
 {
@@ -52,7 +52,7 @@ fn role_of(mode: Mode) -> Role
 pub(crate) fn add_ports(
     alloc: Global,
     declarations: &[Ports],
-    declared: &mut Declared,
+    declared: &mut InstanceObjects,
 ) -> Result<(), ElabFault>
     ensures { Expands (λ _. declared_view declared.new) (definition.ports (declared_view declared.old) (flat_map units.ports_view declarations.now)) result }
 {

@@ -13,7 +13,7 @@ ghost use Rattle.vhdl_expand_objects.specs.Objects.{named_object, shape_of, shap
 use smallvec::SmallVec;
 use std::alloc::{AllocError, Global};
 use vhdl_expand_tree::{Object, Role};
-use vhdl_expand_rules::{ElabFault, Kind};
+use vhdl_expand_rules::{ElabFault, ObjectKind};
 use vhdl_expand_bodies::Site;
 use vhdl_expand_drivers::{kind, starts};
 use vhdl_tree::Identifier;
@@ -22,7 +22,7 @@ use vhdl_names_units::Objects;
 /// What an object is, and what its elements start with, from the left.
 #[derive(Drop)]
 pub(crate) struct Shape {
-    kind: Kind,
+    kind: ObjectKind,
     starts: SmallVec<u8, 8>,
     ghost is_some: { IsWidth (size (kind_view kind)) },
 }

@@ -2,7 +2,7 @@
 use Rattle.std.proofs.Common.{◌≡◌, ℕ, ◌+◌, List, Ok, Err, refl, sym, ap, ◌∙◌, subst, arith}
 use Rattle.std.specs.Prelude.{IsErr}
 use Rattle.vhdl_names_rules.specs.units.Units as u
-use Rattle.rtl_model.specs.bodies.Body as b
+use Rattle.rtl_model.specs.bodies.Body as bodies
 use Rattle.vhdl_expand_rules.specs.Elab.{Elab, ◌>>=◌, each}
 use Rattle.vhdl_expand_rules.specs.Site.{Site, elements_count}
 use Rattle.vhdl_expand_rules.specs.Tree as t
@@ -37,7 +37,7 @@ record Parts (n : Counts) (at : Site) (p : u.Process) : Type 0 where
   resumed : sensitivity at p.sensitivity p.body ≡ Ok on
   turned : ℕ × Counts
   counted : turns_paid unbodied (statements_costs at.integers p.body) ≡ Ok turned
-  body : b.Stmts
+  body : bodies.Stmts
   expanded : statements (with_variables at vs) p.body ≡ Ok body
 
 abbrev made : (n : Counts) (at : Site) (prefix : List ℕ) (p : u.Process) → Parts n at p → t.Process

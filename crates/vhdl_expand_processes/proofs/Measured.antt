@@ -3,14 +3,14 @@ use Rattle.std.proofs.Common.{◌≡◌, ℕ, ◌+◌, List, [], ◌∷◌, leng
 use Rattle.std.specs.Prelude.{ℤ, sum}
 use Rattle.std.proofs.lemmas.List.Sums.{sum_by-cons}
 use Rattle.vhdl_names_rules.specs.units.Statements as u
-use Rattle.rtl_model.specs.bodies.Body as b
+use Rattle.rtl_model.specs.bodies.Body as bodies
 use Rattle.rtl_model.specs.bodies.Fits.{value_width}
 use Rattle.vhdl_expand_rules.specs.Elab.{Elab, ◌>>=◌, each}
 use Rattle.vhdl_expand_rules.specs.Integers.{turns}
 use Rattle.vhdl_expand_rules.specs.Site.{Site, in_loop, place_elements, variable_elements}
 use Rattle.vhdl_expand_rules.specs.Expressions.{value, test}
 use Rattle.vhdl_expand_rules.specs.Statements as d
-use Rattle.vhdl_expand_rules.specs.Statements.{joined, choice, one, statement, statements, branches, alternatives, statement_turns, statements_turns, branches_turns, alternatives_turns}
+use Rattle.vhdl_expand_rules.specs.Statements.{joined_bodies, choice, one, statement, statements, branches, alternatives, statement_turns, statements_turns, branches_turns, alternatives_turns}
 use Rattle.vhdl_expand_rules.proofs.Steps.{given, ok, bound}
 use Rattle.vhdl_elab_rules.specs.Limits.{Counts, stmt_count, statements_count, branches_count, alternatives_count}
 use Rattle.vhdl_expand_tree.specs.Costs as costs
@@ -60,9 +60,9 @@ inside p m k x = recount _ m (1 + k) (1 + k + 0) (behind-one k) (record {
   costs_are = ap (both (given a_statement)) x.costs_are ∙ ap (λ (n : ℕ). given (body_costs n (1 + k))) (none-before x.n);
 })
 
-followed-count : (x y : b.Stmts) → statements_count (b.followed_by x y) ≡ statements_count x + statements_count y
-followed-count b.done y = sym (none-before (statements_count y))
-followed-count (b.step s x) y = ap (λ n. stmt_count s + n) (followed-count x y) ∙ assoc (stmt_count s) (statements_count x) (statements_count y)
+followed-count : (x y : bodies.Stmts) → statements_count (bodies.followed_by x y) ≡ statements_count x + statements_count y
+followed-count bodies.done y = sym (none-before (statements_count y))
+followed-count (bodies.step s x) y = ap (λ n. stmt_count s + n) (followed-count x y) ∙ assoc (stmt_count s) (statements_count x) (statements_count y)
   where
     assoc : (i j k : ℕ) → i + (j + k) ≡ i + j + k
     assoc i j k = omega arith
@@ -74,30 +74,30 @@ pub record Turned (cost : Elab Counts) (turned : Elab (List ℕ)) (count : ℕ) 
   pub turns_are : turned ≡ Ok ns
   pub costs_are : cost ≡ Ok (body_costs (sum ns) count)
 
-module _ (f : ℤ → Elab b.Stmts) (g : ℤ → Elab ℕ) (h : ℤ → Elab Counts) (in_each : (i : ℤ) (x : b.Stmts) → f i ≡ Ok x → Measured (h i) (g i) (statements_count x)) where
-  each-turn : (is : List ℤ) (ss : List b.Stmts) → each f is ≡ Ok ss → Turned (together h is) (each g is) (statements_count (joined ss))
-  each-turn [] ss e = subst (λ (zs : List b.Stmts). Turned (given no_costs) (given []) (statements_count (joined zs))) (ok [] ss e) (record { ns = []; turns_are = refl; costs_are = refl })
+module _ (f : ℤ → Elab bodies.Stmts) (g : ℤ → Elab ℕ) (h : ℤ → Elab Counts) (in_each : (i : ℤ) (x : bodies.Stmts) → f i ≡ Ok x → Measured (h i) (g i) (statements_count x)) where
+  each-turn : (is : List ℤ) (ss : List bodies.Stmts) → each f is ≡ Ok ss → Turned (together h is) (each g is) (statements_count (joined_bodies ss))
+  each-turn [] ss e = subst (λ (zs : List bodies.Stmts). Turned (given no_costs) (given []) (statements_count (joined_bodies zs))) (ok [] ss e) (record { ns = []; turns_are = refl; costs_are = refl })
   each-turn (i ∷ is) ss e =
       let x = bound (f i) _ ss e in
       let xs = bound (each f is) _ ss x.then_gave in
       let first = in_each i x.x x.gave in
       let rest = each-turn is xs.x xs.gave in
-      subst (λ (zs : List b.Stmts). Turned (both (h i) (together h is)) (g i >>= λ y. each g is >>= λ ys. given (y ∷ ys)) (statements_count (joined zs))) (ok (x.x ∷ xs.x) ss xs.then_gave) (record {
+      subst (λ (zs : List bodies.Stmts). Turned (both (h i) (together h is)) (g i >>= λ y. each g is >>= λ ys. given (y ∷ ys)) (statements_count (joined_bodies zs))) (ok (x.x ∷ xs.x) ss xs.then_gave) (record {
         ns = first.n ∷ rest.ns;
         turns_are = λ k. first.turns_are k >>= λ y. rest.turns_are k >>= λ ys. given (y ∷ ys);
-        costs_are = (λ k. both (first.costs_are k) (rest.costs_are k)) ∙ ap (λ (n : ℕ). given (body_costs (first.n + sum rest.ns) n)) (sym (followed-count x.x (joined xs.x)))
-            ∙ ap (λ (n : ℕ). given (body_costs n (statements_count (joined (x.x ∷ xs.x))))) (sym (sum_by-cons (λ n. n) first.n rest.ns));
+        costs_are = (λ k. both (first.costs_are k) (rest.costs_are k)) ∙ ap (λ (n : ℕ). given (body_costs (first.n + sum rest.ns) n)) (sym (followed-count x.x (joined_bodies xs.x)))
+            ∙ ap (λ (n : ℕ). given (body_costs n (statements_count (joined_bodies (x.x ∷ xs.x))))) (sym (sum_by-cons (λ n. n) first.n rest.ns));
       })
 
-  loop-measured : (p q : Elab (List ℤ)) (is : List ℤ) (ss : List b.Stmts) → p ≡ Ok is → q ≡ Ok is → each f is ≡ Ok ss
-      → Measured (p >>= λ js. both (given (costs.turns (length js))) (together h js)) (q >>= λ js. each g js >>= λ ns. given (length js + sum ns)) (statements_count (joined ss))
+  loop-measured : (p q : Elab (List ℤ)) (is : List ℤ) (ss : List bodies.Stmts) → p ≡ Ok is → q ≡ Ok is → each f is ≡ Ok ss
+      → Measured (p >>= λ js. both (given (costs.turns (length js))) (together h js)) (q >>= λ js. each g js >>= λ ns. given (length js + sum ns)) (statements_count (joined_bodies ss))
   loop-measured p q is ss hp hq e =
       let all = each-turn is ss e in
       record {
         n = length is + sum all.ns;
         turns_are = ap (λ r. r >>= λ js. each g js >>= λ ns. given (length js + sum ns)) hq ∙ ap (λ r. r >>= λ ns. given (length is + sum ns)) all.turns_are;
         costs_are = ap (λ r. r >>= λ js. both (given (costs.turns (length js))) (together h js)) hp
-            ∙ ap (both (given (costs.turns (length is)))) all.costs_are ∙ ap (λ (n : ℕ). given (body_costs (length is + sum all.ns) n)) (none-before (statements_count (joined ss)));
+            ∙ ap (both (given (costs.turns (length is)))) all.costs_are ∙ ap (λ (n : ℕ). given (body_costs (length is + sum all.ns) n)) (none-before (statements_count (joined_bodies ss)));
       }
 
 -- ---- by the text
@@ -105,62 +105,62 @@ module _ (f : ℤ → Elab b.Stmts) (g : ℤ → Elab ℕ) (h : ℤ → Elab Cou
 mutual
   unfolding statement statements branches alternatives statement_turns statements_turns branches_turns alternatives_turns statement_costs statements_costs branches_costs alternatives_costs
 
-  statement-measured : (at by : Site) → by.integers ≡ at.integers → (s : u.Statement) (x : b.Stmts) → statement at s ≡ Ok x
+  statement-measured : (at by : Site) → by.integers ≡ at.integers → (s : u.Statement) (x : bodies.Stmts) → statement at s ≡ Ok x
       → Measured (statement_costs at.integers s) (statement_turns by s) (statements_count x)
-  statement-measured at by same u.nothing x h = recount _ _ 1 _ (ap statements_count (ok (one b.nothing) x h)) simple
+  statement-measured at by same u.null_of x h = recount _ _ 1 _ (ap statements_count (ok (one bodies.null_of) x h)) simple
   statement-measured at by same (u.assign p g) x h =
       let es = bound (place_elements at p) _ x h in
-      let v = bound (d.given at (length es.x) g) _ x es.then_gave in
-      recount _ _ 1 _ (ap statements_count (ok (one (b.assign es.x v.x)) x v.then_gave)) simple
+      let v = bound (d.value_given at (length es.x) g) _ x es.then_gave in
+      recount _ _ 1 _ (ap statements_count (ok (one (bodies.assign es.x v.x)) x v.then_gave)) simple
   statement-measured at by same (u.set k part g) x h =
       let es = bound (variable_elements at k part) _ x h in
-      let v = bound (d.given at (length es.x) g) _ x es.then_gave in
-      recount _ _ 1 _ (ap statements_count (ok (one (b.set es.x v.x)) x v.then_gave)) simple
-  statement-measured at by same (u.choose bs) x h =
+      let v = bound (d.value_given at (length es.x) g) _ x es.then_gave in
+      recount _ _ 1 _ (ap statements_count (ok (one (bodies.set es.x v.x)) x v.then_gave)) simple
+  statement-measured at by same (u.if_of bs) x h =
       let cs = bound (branches at bs) _ x h in
-      recount _ _ _ _ (ap statements_count (ok (one (b.if_of cs.x)) x cs.then_gave)) (inside _ _ _ (branches-measured at by same bs cs.x cs.gave))
-  statement-measured at by same (u.select v alts) x h =
+      recount _ _ _ _ (ap statements_count (ok (one (bodies.if_of cs.x)) x cs.then_gave)) (inside _ _ _ (branches-measured at by same bs cs.x cs.gave))
+  statement-measured at by same (u.case_of v alts) x h =
       let e = bound (value at v) _ x h in
       let cs = bound (alternatives at (value_width e.x) alts) _ x e.then_gave in
-      recount _ _ _ _ (ap statements_count (ok (one (b.case_of e.x cs.x)) x cs.then_gave)) (inside _ _ _ (alternatives-measured at by same (value_width e.x) alts cs.x cs.gave))
-  statement-measured at by same (u.loop r body) x h =
+      recount _ _ _ _ (ap statements_count (ok (one (bodies.case_of e.x cs.x)) x cs.then_gave)) (inside _ _ _ (alternatives-measured at by same (value_width e.x) alts cs.x cs.gave))
+  statement-measured at by same (u.for_of r body) x h =
       let is = bound (turns at.integers r) _ x h in
       let ss = bound (each (λ i. statements (in_loop at i) body) is.x) _ x is.then_gave in
-      recount _ _ _ _ (ap statements_count (ok (joined ss.x) x ss.then_gave))
+      recount _ _ _ _ (ap statements_count (ok (joined_bodies ss.x) x ss.then_gave))
       (loop-measured (λ i. statements (in_loop at i) body) (λ i. statements_turns (in_loop by i) body) (λ i. statements_costs (in_turn at.integers i) body)
       (λ i y e. statements-measured (in_loop at i) (in_loop by i) (ap (λ j. in_turn j i) same) body y e)
       (turns at.integers r) (turns by.integers r) is.x ss.x is.gave (ap (λ j. turns j r) same ∙ is.gave) ss.gave)
 
-  pub statements-measured : (at by : Site) → by.integers ≡ at.integers → (s : u.Statements) (x : b.Stmts) → statements at s ≡ Ok x
+  pub statements-measured : (at by : Site) → by.integers ≡ at.integers → (s : u.Statements) (x : bodies.Stmts) → statements at s ≡ Ok x
       → Measured (statements_costs at.integers s) (statements_turns by s) (statements_count x)
-  statements-measured at by same u.done x h = recount _ _ 0 _ (ap statements_count (ok b.done x h)) nothing
+  statements-measured at by same u.done x h = recount _ _ 0 _ (ap statements_count (ok bodies.done x h)) nothing
   statements-measured at by same (u.step s rest) x h =
       let first = bound (statement at s) _ x h in
       let more = bound (statements at rest) _ x first.then_gave in
-      recount _ _ _ _ (sym (followed-count first.x more.x) ∙ ap statements_count (ok (b.followed_by first.x more.x) x more.then_gave))
+      recount _ _ _ _ (sym (followed-count first.x more.x) ∙ ap statements_count (ok (bodies.followed_by first.x more.x) x more.then_gave))
       (add _ _ _ _ _ _ (statement-measured at by same s first.x first.gave) (statements-measured at by same rest more.x more.gave))
 
-  branches-measured : (at by : Site) → by.integers ≡ at.integers → (s : u.Branches) (x : b.Branches) → branches at s ≡ Ok x
+  branches-measured : (at by : Site) → by.integers ≡ at.integers → (s : u.Branches) (x : bodies.Branches) → branches at s ≡ Ok x
       → Measured (branches_costs at.integers s) (branches_turns by s) (branches_count x)
-  branches-measured at by same u.no_else x h = recount _ _ 0 _ (ap branches_count (ok b.no_else x h)) nothing
+  branches-measured at by same u.no_else x h = recount _ _ 0 _ (ap branches_count (ok bodies.no_else x h)) nothing
   branches-measured at by same (u.otherwise s) x h =
       let y = bound (statements at s) _ x h in
-      recount _ _ _ _ (ap branches_count (ok (b.otherwise y.x) x y.then_gave)) (statements-measured at by same s y.x y.gave)
+      recount _ _ _ _ (ap branches_count (ok (bodies.otherwise y.x) x y.then_gave)) (statements-measured at by same s y.x y.gave)
   branches-measured at by same (u.branch t s bs) x h =
       let c = bound (test at t) _ x h in
       let y = bound (statements at s) _ x c.then_gave in
       let z = bound (branches at bs) _ x y.then_gave in
-      recount _ _ _ _ (ap branches_count (ok (b.branch c.x y.x z.x) x z.then_gave))
+      recount _ _ _ _ (ap branches_count (ok (bodies.branch c.x y.x z.x) x z.then_gave))
       (add _ _ _ _ _ _ (statements-measured at by same s y.x y.gave) (branches-measured at by same bs z.x z.gave))
 
-  alternatives-measured : (at by : Site) → by.integers ≡ at.integers → (len : ℕ) (s : u.Alternatives) (x : b.Alternatives) → alternatives at len s ≡ Ok x
+  alternatives-measured : (at by : Site) → by.integers ≡ at.integers → (len : ℕ) (s : u.Alternatives) (x : bodies.Alternatives) → alternatives at len s ≡ Ok x
       → Measured (alternatives_costs at.integers s) (alternatives_turns by s) (alternatives_count x)
   alternatives-measured at by same len (u.others s) x h =
       let y = bound (statements at s) _ x h in
-      recount _ _ _ _ (ap alternatives_count (ok (b.others y.x) x y.then_gave)) (statements-measured at by same s y.x y.gave)
+      recount _ _ _ _ (ap alternatives_count (ok (bodies.others y.x) x y.then_gave)) (statements-measured at by same s y.x y.gave)
   alternatives-measured at by same len (u.alternative choices s alts) x h =
       let cs = bound (each (choice len) choices) _ x h in
       let y = bound (statements at s) _ x cs.then_gave in
       let z = bound (alternatives at len alts) _ x y.then_gave in
-      recount _ _ _ _ (ap alternatives_count (ok (b.alternative cs.x y.x z.x) x z.then_gave))
+      recount _ _ _ _ (ap alternatives_count (ok (bodies.alternative cs.x y.x z.x) x z.then_gave))
       (add _ _ _ _ _ _ (statements-measured at by same s y.x y.gave) (alternatives-measured at by same len alts z.x z.gave))

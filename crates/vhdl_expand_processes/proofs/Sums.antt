@@ -56,7 +56,7 @@ module _ (at : Integers) where
       ap (both (chosen_costs at g)) (alternatives-together gs last) ∙ sym (both-assoc (chosen_costs at g) (together (chosen_costs at) gs) (statements_costs at last))
 
   pub choose_costs : (gs : List Guarded) (last : u.Branches)
-      → statement_costs at (u.choose (units.branches_of gs last)) ≡ both (given a_statement) (both (together (guarded_costs at) gs) (branches_costs at last))
+      → statement_costs at (u.if_of (units.branches_of gs last)) ≡ both (given a_statement) (both (together (guarded_costs at) gs) (branches_costs at last))
   unfolding statement_costs
   choose_costs gs last = ap (both (given a_statement)) (branches-together gs last)
 
@@ -73,13 +73,13 @@ module _ (at : Integers) where
   select_costs gs last = ap (both (given a_statement)) (alternatives-together gs last)
 
   pub loop_costs : (r : Range) (body : u.Statements) (is : List ℤ) (count : ℕ) → turns at r ≡ Ok is → length is ≡ count
-      → statement_costs at (u.loop r body) ≡ both (given (costs.turns count)) (together (λ i. statements_costs (in_turn at i) body) is)
+      → statement_costs at (u.for_of r body) ≡ both (given (costs.turns count)) (together (λ i. statements_costs (in_turn at i) body) is)
   unfolding statement_costs
   loop_costs r body is count h n =
       ap (λ q. q >>= λ js. both (given (costs.turns (length js))) (together (λ i. statements_costs (in_turn at i) body) js)) h
       ∙ ap (λ c. both (given (costs.turns c)) (together (λ i. statements_costs (in_turn at i) body) is)) n
 
-  pub loop_stops : (r : Range) (body : u.Statements) → IsErr (turns at r) → IsErr (statement_costs at (u.loop r body))
+  pub loop_stops : (r : Range) (body : u.Statements) → IsErr (turns at r) → IsErr (statement_costs at (u.for_of r body))
   unfolding statement_costs
   loop_stops r body h = go (turns at r) h
     where
@@ -90,7 +90,7 @@ module _ (at : Integers) where
   -- ---- statements of the code
 
   pub if_costs : (x : If) → statement_costs at (units.statement_view (t.If x))
-      ≡ statement_costs at (u.choose (units.branches_of (units.branches_view (out-If x).branches) (units.last_of (units.option_statements_view (out-If x).otherwise))))
+      ≡ statement_costs at (u.if_of (units.branches_of (units.branches_view (out-If x).branches) (units.last_of (units.option_statements_view (out-If x).otherwise))))
   if_costs x = ap (statement_costs at) (ap (λ y. units.statement_view (t.If y)) (sym (roll-out-If x)) ∙ rows.view_if (out-If x).at (out-If x).branches (out-If x).otherwise)
 
   pub case_costs : (x : Case) → statement_costs at (units.statement_view (t.Case x))
@@ -99,7 +99,7 @@ module _ (at : Integers) where
   case_costs x = ap (statement_costs at) (ap (λ y. units.statement_view (t.Case y)) (sym (roll-out-Case x)) ∙ rows.view_case (out-Case x).at (out-Case x).selector (out-Case x).alternatives (out-Case x).others)
 
   pub loop_view_costs : (x : Loop) → statement_costs at (units.statement_view (t.Loop x))
-      ≡ statement_costs at (u.loop (range_view x.range) (units.statements_of (units.statements_view x.statements)))
+      ≡ statement_costs at (u.for_of (range_view x.range) (units.statements_of (units.statements_view x.statements)))
   loop_view_costs x = ap (statement_costs at) (rows.view_loop x.at x.range x.statements)
 
   -- ---- the same lists, read through references
@@ -122,29 +122,29 @@ module _ (at : Integers) where
   -- ---- an if statement: itself, its branches, and what it does else
 
   module _ (n : Counts) (gs : List Guarded) (last : u.Branches) where
-    pub choose_stops : IsErr (spent n a_statement) → IsErr (paid n (statement_costs at (u.choose (units.branches_of gs last))))
+    pub choose_stops : IsErr (spent n a_statement) → IsErr (paid n (statement_costs at (u.if_of (units.branches_of gs last))))
     choose_stops h = paid_stop _ n (given a_statement) _ (alike_same (ap (paid n) (choose_costs gs last))) h
 
     choose-begins : (m : Counts) → spent n a_statement ≡ Ok m
-        → Alike (paid n (statement_costs at (u.choose (units.branches_of gs last)))) (paid m (both (together (guarded_costs at) gs) (branches_costs at last)))
+        → Alike (paid n (statement_costs at (u.if_of (units.branches_of gs last)))) (paid m (both (together (guarded_costs at) gs) (branches_costs at last)))
     choose-begins m h = paid_go _ n m (given a_statement) _ (alike_same (ap (paid n) (choose_costs gs last))) h
 
-    pub branches_stop : (m : Counts) → spent n a_statement ≡ Ok m → IsErr (paid m (together (guarded_costs at) gs)) → IsErr (paid n (statement_costs at (u.choose (units.branches_of gs last))))
+    pub branches_stop : (m : Counts) → spent n a_statement ≡ Ok m → IsErr (paid m (together (guarded_costs at) gs)) → IsErr (paid n (statement_costs at (u.if_of (units.branches_of gs last))))
     branches_stop m h k = paid_stop _ m (together (guarded_costs at) gs) (branches_costs at last) (choose-begins m h) k
 
     pub branches_go : (m k : Counts) → spent n a_statement ≡ Ok m → paid m (together (guarded_costs at) gs) ≡ Ok k
-        → Alike (paid n (statement_costs at (u.choose (units.branches_of gs last)))) (paid k (branches_costs at last))
+        → Alike (paid n (statement_costs at (u.if_of (units.branches_of gs last)))) (paid k (branches_costs at last))
     branches_go m k h g = paid_go _ m k (together (guarded_costs at) gs) (branches_costs at last) (choose-begins m h) g
 
   pub no_else : (n m k : Counts) (gs : List Guarded) (x : Option (Vec Statement Global)) → x ≡ None → spent n a_statement ≡ Ok m → paid m (together (guarded_costs at) gs) ≡ Ok k
-      → paid n (statement_costs at (u.choose (units.branches_of gs (units.last_of (units.option_statements_view x))))) ≡ Ok k
+      → paid n (statement_costs at (u.if_of (units.branches_of gs (units.last_of (units.option_statements_view x))))) ≡ Ok k
   no_else n m k gs x none h g =
       (branches_go n gs (units.last_of (units.option_statements_view x)) m k h g).gives k
       (ap (λ o. paid k (branches_costs at (units.last_of (units.option_statements_view o)))) none ∙ ap (paid k) last_none ∙ spent-none k)
 
   pub some_else : (n m k : Counts) (gs : List Guarded) (x : Option (Vec Statement Global)) (list : Vec Statement Global) → x ≡ Some list → spent n a_statement ≡ Ok m
       → paid m (together (guarded_costs at) gs) ≡ Ok k → (zs : List Statement) → zs ≡ list.items
-      → Alike (paid n (statement_costs at (u.choose (units.branches_of gs (units.last_of (units.option_statements_view x)))))) (paid k (statements_costs at (units.statements_of (map units.statement_view zs))))
+      → Alike (paid n (statement_costs at (u.if_of (units.branches_of gs (units.last_of (units.option_statements_view x)))))) (paid k (statements_costs at (units.statements_of (map units.statement_view zs))))
   some_else n m k gs x list some h g zs same =
       alike_trans (branches_go n gs (units.last_of (units.option_statements_view x)) m k h g)
       (alike_same (ap (λ o. paid k (branches_costs at (units.last_of (units.option_statements_view o)))) some ∙ ap (paid k) (last_some (units.statements_view list)) ∙ same_list k zs list.items same))
@@ -170,17 +170,17 @@ module _ (at : Integers) where
   -- ---- a loop: how many turns it has, and these
 
   module _ (n : Counts) (r : Range) (body : u.Statements) where
-    pub range_stops : IsErr (turns at r) → IsErr (paid n (statement_costs at (u.loop r body)))
-    range_stops h = err_first (statement_costs at (u.loop r body)) _ (loop_stops r body h)
+    pub range_stops : IsErr (turns at r) → IsErr (paid n (statement_costs at (u.for_of r body)))
+    range_stops h = err_first (statement_costs at (u.for_of r body)) _ (loop_stops r body h)
 
     loop-counted : (direction : Direction) (x : ℤ) (count : ℕ) → turns at r ≡ Ok (counted direction x count)
-        → Alike (paid n (statement_costs at (u.loop r body))) (paid n (both (given (costs.turns count)) (together (λ i. statements_costs (in_turn at i) body) (counted direction x count))))
+        → Alike (paid n (statement_costs at (u.for_of r body))) (paid n (both (given (costs.turns count)) (together (λ i. statements_costs (in_turn at i) body) (counted direction x count))))
     loop-counted direction x count h = alike_same (ap (paid n) (loop_costs r body (counted direction x count) count h (counted_length direction x count)))
 
     pub count_stops : (direction : Direction) (x : ℤ) (count : ℕ) → turns at r ≡ Ok (counted direction x count) → IsErr (spent n (costs.turns count))
-        → IsErr (paid n (statement_costs at (u.loop r body)))
+        → IsErr (paid n (statement_costs at (u.for_of r body)))
     count_stops direction x count h k = paid_stop _ n (given (costs.turns count)) _ (loop-counted direction x count h) k
 
     pub turns_begin : (m : Counts) (direction : Direction) (x : ℤ) (count : ℕ) → turns at r ≡ Ok (counted direction x count) → spent n (costs.turns count) ≡ Ok m
-        → Alike (paid n (statement_costs at (u.loop r body))) (paid m (together (λ i. statements_costs (in_turn at i) body) (counted direction x count)))
+        → Alike (paid n (statement_costs at (u.for_of r body))) (paid m (together (λ i. statements_costs (in_turn at i) body) (counted direction x count)))
     turns_begin m direction x count h k = paid_go _ n m (given (costs.turns count)) _ (loop-counted direction x count h) k

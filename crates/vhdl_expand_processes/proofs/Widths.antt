@@ -10,7 +10,7 @@ use Rattle.vhdl_names_rules.specs.units.Units.{Form}
 use Rattle.vhdl_expand_rules.specs.declared.fault.ElabProblem.TheVariants.{Index, TooWide}
 use Rattle.vhdl_expand_rules.specs.Elab.{unless}
 use Rattle.vhdl_expand_rules.specs.Integers.{Integers, integer, as_natural, is_null, extent}
-use Rattle.vhdl_expand_rules.specs.Kinds.{Bounds, Kind, one, vector, enumeration, bounds_size, size, declared_bounds, kind_of}
+use Rattle.vhdl_expand_rules.specs.Kinds.{Bounds, ObjectKind, one, vector, enumeration, bounds_size, size, declared_bounds, kind_of}
 use Rattle.vhdl_expand_rules.proofs.Steps.{ok, bound, kept}
 
 some-extent : (d : Direction) (x y : ℤ) → not (is_null d x y) ≡ true → 1 ≤ extent d x y
@@ -41,10 +41,10 @@ bounds-width at r b h =
     (subst (λ (z : ℤ). IsWidth (extent r.direction (pos left.x) z)) (natural-is y.x right.x right.gave)
     (subst (λ (z : ℤ). IsWidth (extent r.direction z y.x)) (natural-is x.x left.x left.gave) w))
 
-pub kind_width : (at : Integers) (f : Form) (k : Kind) → kind_of at f ≡ Ok k → IsWidth (size k)
+pub kind_width : (at : Integers) (f : Form) (k : ObjectKind) → kind_of at f ≡ Ok k → IsWidth (size k)
 unfolding kind_of
-kind_width at u.element k e = subst (λ (j : Kind). IsWidth (size j)) (ok one k e) (omega arith, omega arith)
+kind_width at u.element k e = subst (λ (j : ObjectKind). IsWidth (size j)) (ok one k e) (omega arith, omega arith)
 kind_width at (u.vector r) k e =
     let b = bound (declared_bounds at r) _ k e in
-    subst (λ (j : Kind). IsWidth (size j)) (ok (vector b.x) k b.then_gave) (bounds-width at r b.x b.gave)
-kind_width at (u.enumeration count) k e = subst (λ (j : Kind). IsWidth (size j)) (ok (enumeration count) k e) (omega arith, omega arith)
+    subst (λ (j : ObjectKind). IsWidth (size j)) (ok (vector b.x) k b.then_gave) (bounds-width at r b.x b.gave)
+kind_width at (u.enumeration count) k e = subst (λ (j : ObjectKind). IsWidth (size j)) (ok (enumeration count) k e) (omega arith, omega arith)

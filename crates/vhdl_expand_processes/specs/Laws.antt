@@ -1,7 +1,7 @@
 -- What is counted of a body before its loops are unrolled is what the unrolled body has.
 use Rattle.std.specs.Prelude.{◌≡◌, ℕ, Ok}
 use Rattle.vhdl_names_rules.specs.units.Statements as u
-use Rattle.rtl_model.specs.bodies.Body as b
+use Rattle.rtl_model.specs.bodies.Body as bodies
 use Rattle.vhdl_expand_rules.specs.Site.{Site}
 use Rattle.vhdl_expand_rules.specs.Statements.{statements, statements_turns}
 use Rattle.vhdl_elab_rules.specs.Limits.{statements_count}
@@ -10,5 +10,5 @@ use Rattle.vhdl_expand_processes.specs.Unrolled.{statements_costs}
 
 -- where a body is expanded, its loops have so many turns, and it costs these and as many statements as the expanded body has
 abbrev pub CountedAsUnrolled : Type 0
-CountedAsUnrolled = (at : Site) (body : u.Statements) (x : b.Stmts) → statements at body ≡ Ok x
+CountedAsUnrolled = (at : Site) (body : u.Statements) (x : bodies.Stmts) → statements at body ≡ Ok x
     → (n : ℕ) × ((statements_turns at body ≡ Ok n) × (statements_costs at.integers body ≡ Ok (record no_costs { turns = n; statements = statements_count x })))

@@ -27,9 +27,9 @@ in_turn at i = record at { loops = at.loops ++ i ∷ [] }
 
 unfoldable mutual
   pub statement_costs : Integers → u.Statement → Elab Counts
-  statement_costs at (u.choose bs) = both (Ok a_statement) (branches_costs at bs)
-  statement_costs at (u.select v alts) = both (Ok a_statement) (alternatives_costs at alts)
-  statement_costs at (u.loop r body) = do
+  statement_costs at (u.if_of bs) = both (Ok a_statement) (branches_costs at bs)
+  statement_costs at (u.case_of v alts) = both (Ok a_statement) (alternatives_costs at alts)
+  statement_costs at (u.for_of r body) = do
     is ← turns at r
     both (Ok (costs.turns (length is))) (together (λ i. statements_costs (in_turn at i) body) is)
   statement_costs at _ = Ok a_statement

@@ -105,7 +105,7 @@ fn of_conditional(
 ) -> Result<(), ElabFault>
     ensures { Expands (λ _. budget_view budget.new)
         (paid (budget_view budget.old) (definition.statement_costs (integers_view integers.now)
-        (units.choose (analysed.branches_of (analysed.branches_view (out-If conditional.now).branches) (analysed.last_of (analysed.option_statements_view (out-If conditional.now).otherwise)))))) result }
+        (units.if_of (analysed.branches_of (analysed.branches_view (out-If conditional.now).branches) (analysed.last_of (analysed.option_statements_view (out-If conditional.now).otherwise)))))) result }
 {
     let at = conditional.at;
     budget.charge_statement(at)?;
@@ -180,7 +180,7 @@ fn of_loop(
 ) -> Result<(), ElabFault>
     ensures { Expands (λ _. budget_view budget.new)
         (paid (budget_view budget.old) (definition.statement_costs (integers_view integers.now)
-        (units.loop (range_view repeated.now.range) (analysed.statements_of (analysed.statements_view repeated.now.statements))))) result }
+        (units.for_of (range_view repeated.now.range) (analysed.statements_of (analysed.statements_view repeated.now.statements))))) result }
 {
     let turns = integers.turns(&repeated.range, repeated.at)?;
     budget.charge_turns(turns.count as usize, repeated.at)?;

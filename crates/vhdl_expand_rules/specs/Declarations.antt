@@ -7,13 +7,13 @@ use Rattle.vhdl_values.specs.Scalar.{code_of}
 use Rattle.vhdl_values.specs.Numbers.{digits_of}
 use Rattle.vhdl_tree.specs.declared.declaration.Mode.{Mode}
 use Rattle.vhdl_tree.specs.declared.declaration.Mode.TheVariants.{In, Out}
-use Rattle.vhdl_names_rules.specs.units.Expressions.{Static, Place}
+use Rattle.vhdl_names_rules.specs.units.Expressions.{Static, SignalPart}
 use Rattle.vhdl_names_rules.specs.units.Units as u
 use Rattle.vhdl_names_rules.specs.units.Units.{Fixed, Generic, Port, Declaration, Entity}
 use Rattle.vhdl_expand_rules.specs.declared.fault.ElabProblem.TheVariants.{NoGeneric, Length, Index, Unassociated}
 use Rattle.vhdl_expand_rules.specs.Elab.{Elab, ◌>>=◌, ◌>>◌, unless, found}
 use Rattle.vhdl_expand_rules.specs.Integers.{Integers, integer_of, natural}
-use Rattle.vhdl_expand_rules.specs.Kinds.{Kind, enumeration, size, kind_of, size_of}
+use Rattle.vhdl_expand_rules.specs.Kinds.{ObjectKind, enumeration, size, kind_of, size_of}
 use Rattle.vhdl_expand_rules.specs.Site.{Site, no_integers, no_site, Constant, place_elements}
 use Rattle.vhdl_expand_rules.specs.Tree.{Role, input, output, internal, Object, Variable}
 
@@ -62,14 +62,14 @@ fixed at len (u.filled v) = Ok (replicate len v)
 fixed at len (u.Fixed.position n) = Err Length
 
 -- of an enumeration, by its position, or of elements
-abbrev pub given_starts : Site → Kind → Fixed → Elab (List ℕ)
+abbrev pub given_starts : Site → ObjectKind → Fixed → Elab (List ℕ)
 given_starts at (enumeration count) (u.Fixed.position n) = Ok (n ∷ [])
 given_starts at kind f = do
   vs ← fixed at (size kind) f
   Ok (map code_of vs)
 
 -- what the elements of this kind start with: U, or the first literal, without a default (6.4.2.3)
-unfoldable pub starts : Site → Kind → Option Fixed → Elab (List ℕ)
+unfoldable pub starts : Site → ObjectKind → Option Fixed → Elab (List ℕ)
 starts at kind None = Ok (replicate (size kind) 0)
 starts at kind (Some f) = given_starts at kind f
 
@@ -86,24 +86,24 @@ role_of In = input
 role_of Out = output
 
 -- what is known of an instance, and its ports and signals so far
-pub record Declared : Type 0 where
+pub record InstanceObjects : Type 0 where
   pub site : Site
   pub objects : List Object
 
-abbrev pub with_port : Declared → Object → Declared
+abbrev pub with_port : InstanceObjects → Object → InstanceObjects
 with_port d o = record { site = record d.site { ports = d.site.ports ++ o.kind ∷ [] }; objects = d.objects ++ o ∷ [] }
 
-abbrev pub with_signal : Declared → Object → Declared
+abbrev pub with_signal : InstanceObjects → Object → InstanceObjects
 with_signal d o = record { site = record d.site { signals = d.site.signals ++ o.kind ∷ [] }; objects = d.objects ++ o ∷ [] }
 
-unfoldable pub ports : Declared → List Port → Elab Declared
+unfoldable pub ports : InstanceObjects → List Port → Elab InstanceObjects
 ports d [] = Ok d
 ports d (p ∷ ps) = do
   o ← object d.site (role_of p.mode) p.object
   ports (with_port d o) ps
 
 -- what is known of an instance where its architecture begins
-unfoldable pub interface : (above : Integers) → List (Option Static) → Entity → Elab Declared
+unfoldable pub interface : (above : Integers) → List (Option Static) → Entity → Elab InstanceObjects
 interface above actuals unit = do
   integers ← generics above no_integers actuals unit.generics
   ports (record { site = record no_site { integers = integers }; objects = [] }) unit.ports
@@ -115,7 +115,7 @@ abbrev pub with_constant : Site → Constant → Site
 with_constant at c = record at { constants = at.constants ++ c ∷ [] }
 
 -- a declaration may name those before it
-unfoldable pub declaration : Declared → Declaration → Elab Declared
+unfoldable pub declaration : InstanceObjects → Declaration → Elab InstanceObjects
 declaration d (u.integer type s) = do
   x ← integer_of type d.site.integers s
   Ok (record d { site = with_integer d.site x })
@@ -127,7 +127,7 @@ declaration d (u.Declaration.signal o) = do
   x ← object d.site internal o
   Ok (with_signal d x)
 
-unfoldable pub declarations : Declared → List Declaration → Elab Declared
+unfoldable pub declarations : InstanceObjects → List Declaration → Elab InstanceObjects
 declarations d [] = Ok d
 declarations d (x ∷ xs) = do
   e ← declaration d x
@@ -148,7 +148,7 @@ is_input internal = false
 
 -- A port has the elements of its actual, in the instance above, which are as many. An in port without an actual needs a
 -- default.
-unfoldable pub association : (above : Site) → Port → Option Place → Object → Elab Object
+unfoldable pub association : (above : Site) → Port → Option SignalPart → Object → Elab Object
 association above p (Some place) o = do
   es ← place_elements above place
   unless Length (length es == size o.kind)
@@ -157,7 +157,7 @@ association above p None o = do
   unless Unassociated (not (is_input o.role) || is_some p.object.default)
   Ok o
 
-unfoldable pub associations : (above : Site) → List Port → List (Option Place) → List Object → Elab (List Object)
+unfoldable pub associations : (above : Site) → List Port → List (Option SignalPart) → List Object → Elab (List Object)
 associations above (p ∷ ps) actuals (o ∷ os) = do
   x ← association above p (first_of actuals) o
   xs ← associations above ps (rest_of actuals) os

@@ -14,7 +14,7 @@ use Rattle.vhdl_expand_rules.specs.Tree.{Sensitivity, listed, every, as_read, Va
 use Rattle.vhdl_expand_rules.specs.Tree as t
 use Rattle.vhdl_expand_rules.specs.Statements.{statements, statements_turns}
 use Rattle.vhdl_expand_rules.specs.Prefixes.{targets, names, names_elements, prefixes_elements, in_order}
-use Rattle.vhdl_expand_rules.specs.Declarations.{Declared, interface, declarations, variable, associations}
+use Rattle.vhdl_expand_rules.specs.Declarations.{InstanceObjects, interface, declarations, variable, associations}
 
 -- ---- where a concurrent statement stands
 
@@ -75,7 +75,7 @@ joined [] = no_parts
 joined (ps ∷ rest) = followed_by ps (joined rest)
 
 -- The parameters are the units, and what an instance of a unit is: with what is known of it, and its ports.
-module _ (units : Units) (instance_of : Entity → Declared → Elab Instance) where
+module _ (units : Units) (instance_of : Entity → InstanceObjects → Elab Instance) where
   -- an instance in this place (11.7)
   unfoldable pub instance : Spot → u.Instance → Elab Instance
   instance at x = do
@@ -132,7 +132,7 @@ unfoldable mutual
 
 -- An instance of a unit, whose generics and ports are declared: its architecture's declarations and statements. So many
 -- instances may be nested from it on.
-unfoldable pub instance_of : Units → (levels : ℕ) → Entity → Declared → Elab Instance
+unfoldable pub instance_of : Units → (levels : ℕ) → Entity → InstanceObjects → Elab Instance
 instance_of units zero unit d = Err TooDeep
 instance_of units (suc n) unit d = do
   a ← found NoTop unit.architecture
@@ -150,8 +150,8 @@ pub record Design : Type 0 where
   pub name : List ℕ
   pub top : Instance
 
-unfoldable pub expanded : Units → (top : List ℕ) → Elab Design
-expanded units top = do
+unfoldable pub expanded_design : Units → (top : List ℕ) → Elab Design
+expanded_design units top = do
   unit ← found NoTop (entity_named units top)
   d ← interface no_integers [] unit
   i ← instance_of units 32 unit d

@@ -20,21 +20,21 @@ pub record Bounds : Type 0 where
   pub direction : Direction
   pub right : ℕ
 
-pub data Kind : Type 0 where
-  one : Kind
-  vector : Bounds → Kind
-  enumeration : (count : ℕ) → Kind
+pub data ObjectKind : Type 0 where
+  one : ObjectKind
+  vector : Bounds → ObjectKind
+  enumeration : (count : ℕ) → ObjectKind
 
 -- how many elements it has
 abbrev pub bounds_size : Bounds → ℕ
 bounds_size b = extent b.direction (pos b.left) (pos b.right)
 
-abbrev pub size : Kind → ℕ
+abbrev pub size : ObjectKind → ℕ
 size one = 1
 size (vector b) = bounds_size b
 size (enumeration count) = 1
 
-abbrev pub element_type : Kind → ElementType
+abbrev pub element_type : ObjectKind → ElementType
 element_type one = types.nine_valued
 element_type (vector b) = types.nine_valued
 element_type (enumeration count) = types.enumeration count
@@ -52,7 +52,7 @@ declared_bounds at r = do
   unless TooWide (nat_le (extent r.direction x y) 64)
   Ok (record { left = left; direction = r.direction; right = right })
 
-unfoldable pub kind_of : Integers → Form → Elab Kind
+unfoldable pub kind_of : Integers → Form → Elab ObjectKind
 kind_of at units.element = Ok one
 kind_of at (units.vector r) = do
   b ← declared_bounds at r
@@ -99,7 +99,7 @@ slice_places b direction x y = do
   Ok (range_with_len first (extent direction x y))
 
 -- the places of a part, from the left
-unfoldable pub places : Integers → Kind → Part → Elab (List ℕ)
+unfoldable pub places : Integers → ObjectKind → Part → Elab (List ℕ)
 places at kind u.whole = Ok (range_with_len 0 (size kind))
 places at (vector b) (u.Part.element s) = do
   i ← integer at s

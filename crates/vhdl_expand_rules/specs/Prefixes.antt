@@ -4,7 +4,7 @@
 use Rattle.std.specs.Prelude.{ℕ, Bool, true, false, ◌&&◌, ◌==◌, if◌then◌else◌, List, [], ◌∷◌, ◌++◌, filter, Ok}
 use Rattle.std.specs.List.{list_any, range_with_len}
 use Rattle.vhdl_names_rules.specs.units.Expressions as u
-use Rattle.vhdl_names_rules.specs.units.Expressions.{Static, Part, Place, Vector, Value, Test}
+use Rattle.vhdl_names_rules.specs.units.Expressions.{Static, Part, SignalPart, Vector, Value, Test}
 use Rattle.vhdl_names_rules.specs.units.Statements as s
 use Rattle.vhdl_expand_rules.specs.Elab.{Elab, ◌>>=◌, each}
 use Rattle.vhdl_expand_rules.specs.Site.{Site, place_elements}
@@ -23,36 +23,36 @@ is_static_part (u.Part.element x) = is_static x
 is_static_part (u.slice r) = is_static r.left && is_static r.right
 
 -- the name, or where its index or slice isn't static, the whole of what is declared
-abbrev pub prefix : Place → Place
+abbrev pub prefix : SignalPart → SignalPart
 prefix p = if is_static_part p.part then p else record p { part = u.whole }
 
 -- ---- the signals that a text assigns
 
 abbrev mutual
-  pub statement_targets : s.Statement → List Place
-  statement_targets s.nothing = []
+  pub statement_targets : s.Statement → List SignalPart
+  statement_targets s.null_of = []
   statement_targets (s.assign p g) = p ∷ []
   statement_targets (s.set k part g) = []
-  statement_targets (s.choose bs) = branches_targets bs
-  statement_targets (s.select v alts) = alternatives_targets alts
-  statement_targets (s.loop r body) = targets body
+  statement_targets (s.if_of bs) = branches_targets bs
+  statement_targets (s.case_of v alts) = alternatives_targets alts
+  statement_targets (s.for_of r body) = targets body
 
-  pub targets : s.Statements → List Place
+  pub targets : s.Statements → List SignalPart
   targets s.done = []
   targets (s.step x rest) = statement_targets x ++ targets rest
 
-  pub branches_targets : s.Branches → List Place
+  pub branches_targets : s.Branches → List SignalPart
   branches_targets s.no_else = []
   branches_targets (s.otherwise body) = targets body
   branches_targets (s.branch t body bs) = targets body ++ branches_targets bs
 
-  pub alternatives_targets : s.Alternatives → List Place
+  pub alternatives_targets : s.Alternatives → List SignalPart
   alternatives_targets (s.others body) = targets body
   alternatives_targets (s.alternative cs body alts) = targets body ++ alternatives_targets alts
 
 -- ---- the signals that a text reads
 
-abbrev pub vector_names : Vector → List Place
+abbrev pub vector_names : Vector → List SignalPart
 vector_names (u.of_signal p) = p ∷ []
 vector_names (u.Vector.inverse x) = vector_names x
 vector_names (u.Vector.binary op x y) = vector_names x ++ vector_names y
@@ -63,12 +63,12 @@ vector_names (u.Vector.shifted_left x n) = vector_names x
 vector_names (u.Vector.shifted_right x n) = vector_names x
 vector_names _ = []
 
-abbrev pub value_names : Value → List Place
+abbrev pub value_names : Value → List SignalPart
 value_names (u.Value.elements x) = vector_names x
 value_names (u.state_of x) = record { signal = x; part = u.whole } ∷ []
 value_names _ = []
 
-abbrev pub test_names : Test → List Place
+abbrev pub test_names : Test → List SignalPart
 test_names (u.holds x) = vector_names x
 test_names (u.Test.fixed t) = []
 test_names (u.alike x y) = value_names x ++ value_names y
@@ -81,29 +81,29 @@ test_names (u.event p) = p ∷ []
 test_names (u.Test.negated t) = test_names t
 test_names (u.Test.both op t r) = test_names t ++ test_names r
 
-abbrev pub given_names : s.Given → List Place
+abbrev pub given_names : s.Given → List SignalPart
 given_names (s.single x) = value_names x
 given_names (s.filled x) = vector_names x
 
 abbrev mutual
-  pub statement_names : s.Statement → List Place
-  statement_names s.nothing = []
+  pub statement_names : s.Statement → List SignalPart
+  statement_names s.null_of = []
   statement_names (s.assign p g) = given_names g
   statement_names (s.set k part g) = given_names g
-  statement_names (s.choose bs) = branches_names bs
-  statement_names (s.select v alts) = value_names v ++ alternatives_names alts
-  statement_names (s.loop r body) = names body
+  statement_names (s.if_of bs) = branches_names bs
+  statement_names (s.case_of v alts) = value_names v ++ alternatives_names alts
+  statement_names (s.for_of r body) = names body
 
-  pub names : s.Statements → List Place
+  pub names : s.Statements → List SignalPart
   names s.done = []
   names (s.step x rest) = statement_names x ++ names rest
 
-  pub branches_names : s.Branches → List Place
+  pub branches_names : s.Branches → List SignalPart
   branches_names s.no_else = []
   branches_names (s.otherwise body) = names body
   branches_names (s.branch t body bs) = test_names t ++ (names body ++ branches_names bs)
 
-  pub alternatives_names : s.Alternatives → List Place
+  pub alternatives_names : s.Alternatives → List SignalPart
   alternatives_names (s.others body) = names body
   alternatives_names (s.alternative cs body alts) = names body ++ alternatives_names alts
 
@@ -114,12 +114,12 @@ concatenated [] = []
 concatenated (xs ∷ rest) = xs ++ concatenated rest
 
 -- the elements of these names, and of their longest static prefixes
-unfoldable pub names_elements : Site → List Place → Elab (List ℕ)
+unfoldable pub names_elements : Site → List SignalPart → Elab (List ℕ)
 names_elements at ps = do
   es ← each (place_elements at) ps
   Ok (concatenated es)
 
-unfoldable pub prefixes_elements : Site → List Place → Elab (List ℕ)
+unfoldable pub prefixes_elements : Site → List SignalPart → Elab (List ℕ)
 prefixes_elements at ps = do
   es ← each (λ p. place_elements at (prefix p)) ps
   Ok (concatenated es)

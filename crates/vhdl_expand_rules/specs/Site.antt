@@ -5,24 +5,24 @@ use Rattle.std.specs.Prelude.{ℕ, ◌+◌, List, [], ◌∷◌, ◌++◌, map, 
 use Rattle.vhdl_values.specs.declared.scalar.Nine.{Nine}
 use Rattle.vhdl_values.specs.declared.scalar.Nine.TheVariants.{X}
 use Rattle.vhdl_names_rules.specs.units.Expressions as u
-use Rattle.vhdl_names_rules.specs.units.Expressions.{Signal, Part, Place}
+use Rattle.vhdl_names_rules.specs.units.Expressions.{Signal, Part, SignalPart}
 use Rattle.vhdl_expand_rules.specs.declared.fault.ElabProblem.TheVariants.{Index}
 use Rattle.vhdl_expand_rules.specs.Elab.{Elab, ◌>>=◌, found}
 use Rattle.vhdl_expand_rules.specs.Integers.{Integers}
-use Rattle.vhdl_expand_rules.specs.Kinds.{Kind, size, places}
+use Rattle.vhdl_expand_rules.specs.Kinds.{ObjectKind, size, places}
 
 -- a constant that is no integer
 pub record Constant : Type 0 where
-  pub kind : Kind
+  pub kind : ObjectKind
   pub values : List Nine
 
 pub record Site : Type 0 where
   pub integers : Integers
   pub constants : List Constant
-  pub ports : List Kind
-  pub signals : List Kind
+  pub ports : List ObjectKind
+  pub signals : List ObjectKind
   -- of the process
-  pub variables : List Kind
+  pub variables : List ObjectKind
 
 -- nothing is declared, as above the top
 abbrev pub no_integers : Integers
@@ -41,11 +41,11 @@ in_loop at i = record at { integers = record at.integers { loops = at.integers.l
 -- ---- elements
 
 -- how many elements things of these kinds have together
-abbrev pub elements_count : List Kind → ℕ
+abbrev pub elements_count : List ObjectKind → ℕ
 elements_count kinds = sum (map size kinds)
 
 -- the elements of a part of the thing of this number, the first of all having the number `from`
-abbrev pub part_elements : Integers → (from : ℕ) → List Kind → ℕ → Part → Elab (List ℕ)
+abbrev pub part_elements : Integers → (from : ℕ) → List ObjectKind → ℕ → Part → Elab (List ℕ)
 part_elements at from kinds k part = do
   kind ← found Index (slice_get kinds k)
   ps ← places at kind part
@@ -56,7 +56,7 @@ unfoldable pub signal_elements : Site → Signal → Part → Elab (List ℕ)
 signal_elements at (u.port k) part = part_elements at.integers 0 at.ports k part
 signal_elements at (u.Signal.signal k) part = part_elements at.integers (elements_count at.ports) at.signals k part
 
-abbrev pub place_elements : Site → Place → Elab (List ℕ)
+abbrev pub place_elements : Site → SignalPart → Elab (List ℕ)
 place_elements at p = signal_elements at p.signal p.part
 
 -- of a variable's name

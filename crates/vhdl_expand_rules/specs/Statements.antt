@@ -4,7 +4,7 @@ use Rattle.std.specs.Prelude.{ℕ, ◌+◌, ◌==◌, List, [], ◌∷◌, lengt
 use Rattle.vhdl_values.specs.Scalar.{code_of}
 use Rattle.vhdl_names_rules.specs.units.Statements as u
 use Rattle.vhdl_names_rules.specs.units.Statements.{Given, Choice}
-use Rattle.rtl_model.specs.bodies.Body as b
+use Rattle.rtl_model.specs.bodies.Body as bodies
 use Rattle.rtl_model.specs.bodies.Fits.{width, value_width}
 use Rattle.vhdl_expand_rules.specs.declared.fault.ElabProblem.TheVariants.{Length}
 use Rattle.vhdl_expand_rules.specs.Elab.{Elab, ◌>>=◌, ◌>>◌, unless, each}
@@ -13,15 +13,15 @@ use Rattle.vhdl_expand_rules.specs.Site.{Site, in_loop, place_elements, variable
 use Rattle.vhdl_expand_rules.specs.Expressions.{vector, value, test}
 
 -- what is assigned to so many elements: a value with as many, or one element for each of them
-unfoldable pub given : Site → (len : ℕ) → Given → Elab b.Value
-given at len (u.single v) = do
+unfoldable pub value_given : Site → (len : ℕ) → Given → Elab bodies.Value
+value_given at len (u.single v) = do
   e ← value at v
   unless Length (value_width e == len)
   Ok e
-given at len (u.filled x) = do
+value_given at len (u.filled x) = do
   e ← vector at x
   unless Length (width e == 1)
-  Ok (b.elements (b.filled len e))
+  Ok (bodies.elements (bodies.filled len e))
 
 -- a choice has as many elements as what is selected by
 unfoldable pub choice : (len : ℕ) → Choice → Elab (List ℕ)
@@ -31,72 +31,72 @@ choice len (u.values vs) = do
 choice len (u.position n) = Ok (n ∷ [])
 
 -- bodies, one after another
-abbrev pub joined : List b.Stmts → b.Stmts
-joined [] = b.done
-joined (s ∷ ss) = b.followed_by s (joined ss)
+abbrev pub joined_bodies : List bodies.Stmts → bodies.Stmts
+joined_bodies [] = bodies.done
+joined_bodies (s ∷ ss) = bodies.followed_by s (joined_bodies ss)
 
 -- a statement as the sequence that it is
-abbrev pub one : b.Stmt → b.Stmts
-one s = b.step s b.done
+abbrev pub one : bodies.Stmt → bodies.Stmts
+one s = bodies.step s bodies.done
 
 unfoldable mutual
-  pub statement : Site → u.Statement → Elab b.Stmts
-  statement at u.nothing = Ok (one b.nothing)
+  pub statement : Site → u.Statement → Elab bodies.Stmts
+  statement at u.null_of = Ok (one bodies.null_of)
   statement at (u.assign p g) = do
     es ← place_elements at p
-    v ← given at (length es) g
-    Ok (one (b.assign es v))
+    v ← value_given at (length es) g
+    Ok (one (bodies.assign es v))
   statement at (u.set k part g) = do
     es ← variable_elements at k part
-    v ← given at (length es) g
-    Ok (one (b.set es v))
-  statement at (u.choose bs) = do
+    v ← value_given at (length es) g
+    Ok (one (bodies.set es v))
+  statement at (u.if_of bs) = do
     cs ← branches at bs
-    Ok (one (b.if_of cs))
-  statement at (u.select v alts) = do
+    Ok (one (bodies.if_of cs))
+  statement at (u.case_of v alts) = do
     e ← value at v
     cs ← alternatives at (value_width e) alts
-    Ok (one (b.case_of e cs))
-  statement at (u.loop r body) = do
+    Ok (one (bodies.case_of e cs))
+  statement at (u.for_of r body) = do
     is ← turns at.integers r
     ss ← each (λ i. statements (in_loop at i) body) is
-    Ok (joined ss)
+    Ok (joined_bodies ss)
 
-  pub statements : Site → u.Statements → Elab b.Stmts
-  statements at u.done = Ok b.done
+  pub statements : Site → u.Statements → Elab bodies.Stmts
+  statements at u.done = Ok bodies.done
   statements at (u.step s rest) = do
     x ← statement at s
     y ← statements at rest
-    Ok (b.followed_by x y)
+    Ok (bodies.followed_by x y)
 
-  pub branches : Site → u.Branches → Elab b.Branches
-  branches at u.no_else = Ok b.no_else
+  pub branches : Site → u.Branches → Elab bodies.Branches
+  branches at u.no_else = Ok bodies.no_else
   branches at (u.otherwise s) = do
     x ← statements at s
-    Ok (b.otherwise x)
+    Ok (bodies.otherwise x)
   branches at (u.branch t s bs) = do
     c ← test at t
     x ← statements at s
     y ← branches at bs
-    Ok (b.branch c x y)
+    Ok (bodies.branch c x y)
 
-  pub alternatives : Site → (len : ℕ) → u.Alternatives → Elab b.Alternatives
+  pub alternatives : Site → (len : ℕ) → u.Alternatives → Elab bodies.Alternatives
   alternatives at len (u.others s) = do
     x ← statements at s
-    Ok (b.others x)
+    Ok (bodies.others x)
   alternatives at len (u.alternative choices s alts) = do
     cs ← each (choice len) choices
     x ← statements at s
     y ← alternatives at len alts
-    Ok (b.alternative cs x y)
+    Ok (bodies.alternative cs x y)
 
 -- ---- how many turns the loops of a body have together: each turn of an outer loop counts, and those inside it
 
 unfoldable mutual
   pub statement_turns : Site → u.Statement → Elab ℕ
-  statement_turns at (u.choose bs) = branches_turns at bs
-  statement_turns at (u.select v alts) = alternatives_turns at alts
-  statement_turns at (u.loop r body) = do
+  statement_turns at (u.if_of bs) = branches_turns at bs
+  statement_turns at (u.case_of v alts) = alternatives_turns at alts
+  statement_turns at (u.for_of r body) = do
     is ← turns at.integers r
     ns ← each (λ i. statements_turns (in_loop at i) body) is
     Ok (length is + sum ns)

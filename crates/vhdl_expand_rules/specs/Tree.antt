@@ -4,7 +4,7 @@
 -- 14.5).
 use Rattle.std.specs.Prelude.{ℕ, Bool, List, Option}
 use Rattle.rtl_model.specs.bodies.Body.{Stmts}
-use Rattle.vhdl_expand_rules.specs.Kinds.{Kind}
+use Rattle.vhdl_expand_rules.specs.Kinds.{ObjectKind}
 
 -- ---- objects
 
@@ -18,14 +18,14 @@ pub data Role : Type 0 where
 pub record Object : Type 0 where
   pub name : List ℕ
   pub role : Role
-  pub kind : Kind
+  pub kind : ObjectKind
   pub is_resolved : Bool
   pub starts : List ℕ
   pub actual : Option (List ℕ)
 
 pub record Variable : Type 0 where
   pub name : List ℕ
-  pub kind : Kind
+  pub kind : ObjectKind
   pub starts : List ℕ
 
 -- ---- processes
@@ -47,7 +47,7 @@ pub record Process : Type 0 where
   pub drives : List ℕ
   pub sensitivity : Sensitivity
   pub variables : List Variable
-  -- elements stand in it where a flat net's body has nets, and where it has places
+  -- elements stand in it where a flat netlist's body has nets, and where it has places
   pub body : Stmts
   -- how many turns its loops have together
   pub turns : ℕ

@@ -24,7 +24,7 @@ pub struct Bounds {
 
 /// One element, a vector, or a value of an enumeration of so many literals.
 #[derive(Clone, Copy)]
-pub enum Kind {
+pub enum ObjectKind {
     One,
     Vector(Bounds),
     Enumeration(usize),
@@ -93,14 +93,14 @@ impl Bounds {
     }
 }
 
-impl Kind {
+impl ObjectKind {
     /// How many elements it has.
     pub fn size(self) -> usize
         ensures { result ≡ definition.size (kind_view self) }
     {
         match self {
-            Kind::One | Kind::Enumeration(_) => 1,
-            Kind::Vector(bounds) => bounds.size(),
+            ObjectKind::One | ObjectKind::Enumeration(_) => 1,
+            ObjectKind::Vector(bounds) => bounds.size(),
         }
     }
 }
@@ -168,7 +168,7 @@ impl Integers<'_> {
 
     /// The places of a part of what is declared; a fault is StaticError or Index.
     #[tactic(auto, unfolding(crate::specs::Kinds::places))]
-    pub fn places(&self, kind: Kind, part: &Part, at: usize) -> Result<Run, ElabFault>
+    pub fn places(&self, kind: ObjectKind, part: &Part, at: usize) -> Result<Run, ElabFault>
         ensures { Makes run_view (definition.places (integers_view self.now) (kind_view kind) (part_view part.now)) result }
     {
         match part {
@@ -177,12 +177,12 @@ impl Integers<'_> {
                 len: kind.size(),
             }),
             Part::Element(index) => match kind {
-                Kind::Vector(bounds) => self.element_of(bounds, index, at),
-                Kind::One | Kind::Enumeration(_) => Err(ElabProblem::Index.at(at)),
+                ObjectKind::Vector(bounds) => self.element_of(bounds, index, at),
+                ObjectKind::One | ObjectKind::Enumeration(_) => Err(ElabProblem::Index.at(at)),
             },
             Part::Slice(range) => match kind {
-                Kind::Vector(bounds) => self.slice_of(bounds, range, at),
-                Kind::One | Kind::Enumeration(_) => Err(ElabProblem::Index.at(at)),
+                ObjectKind::Vector(bounds) => self.slice_of(bounds, range, at),
+                ObjectKind::One | ObjectKind::Enumeration(_) => Err(ElabProblem::Index.at(at)),
             },
         }
     }

@@ -13,5 +13,5 @@ mod prefix;
 pub use decision::Turns;
 pub use fault::{ElabFault, ElabProblem};
 pub use integer::Integers;
-pub use kind::{Bounds, Kind, Run};
+pub use kind::{Bounds, ObjectKind, Run};
 pub use prefix::{is_static, is_static_part};

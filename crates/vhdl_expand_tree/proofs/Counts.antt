@@ -3,7 +3,7 @@ use Rattle.std.proofs.Common.{◌≡◌, ℕ, ◌+◌, List, [], ◌∷◌, ◌+
 use Rattle.std.proofs.lemmas.List.{length-append, map-append}
 use Rattle.std.proofs.lemmas.List.Sums.{sum_by_push}
 use Rattle.vhdl_expand_rules.specs.Tree.{Process, Instance, instance, Parts, no_parts, process, inner}
-use Rattle.vhdl_elab_rules.specs.Numbering.{own_sizes, Placed, Located, Numbered, nothing_numbered, Above, above_top, above_parts, placed, with_process, with_placed, with_instance, with_parts, numbered}
+use Rattle.vhdl_elab_rules.specs.Numbering.{own_sizes, Placed, Located, Numbered, nothing_numbered, Above, above_top, above_parts, placed, with_process, with_placed, with_instance, with_parts, numbered_design}
 use Rattle.vhdl_elab_rules.specs.Limits.{Counts, statements_count, variable_elements_count, counts, is_within_limits}
 use Rattle.vhdl_expand_tree.specs.Costs.{no_costs, plus, own_costs, process_costs, instance_costs, parts_costs}
 use Rattle.vhdl_expand_tree.specs.Counts.{EachDesignCostsItsParts}
@@ -105,7 +105,7 @@ mutual
       ∙ plus-assoc (counts d) (instance_costs i) (parts_costs rest)
 
 pub each-design-costs-its-parts : EachDesignCostsItsParts
-unfolding numbered
+unfolding numbered_design
 each-design-costs-its-parts design =
-    let same : counts (numbered design) ≡ instance_costs design.top = instance-counts design.top above_top design.name nothing_numbered ∙ none-plus (instance_costs design.top) in
+    let same : counts (numbered_design design) ≡ instance_costs design.top = instance-counts design.top above_top design.name nothing_numbered ∙ none-plus (instance_costs design.top) in
     record { together = same; within = ap is_within_limits same }

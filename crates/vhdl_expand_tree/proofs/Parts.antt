@@ -8,9 +8,9 @@ use Rattle.vhdl_expand_rules.specs.Expansion.{joined}
 use Rattle.vhdl_expand_rules.proofs.Steps.{given, ok}
 use Rattle.vhdl_elab_rules.specs.Limits.{Counts}
 use Rattle.vhdl_expand_tree.specs.declared.tree.Object.{Object}
-use Rattle.vhdl_expand_tree.specs.declared.tree.Part.{Part}
-use Rattle.vhdl_expand_tree.specs.declared.tree.Part.TheVariants as p
-use Rattle.vhdl_expand_tree.specs.declared.tree.Part.TheBlock.{Row_of-Part, end_of-Part, more_of-Part, items-the_row-Part, hidden-the_row-Part-0, items_hidden-the_row-Part-0}
+use Rattle.vhdl_expand_tree.specs.declared.tree.InstancePart.{InstancePart}
+use Rattle.vhdl_expand_tree.specs.declared.tree.InstancePart.TheVariants as p
+use Rattle.vhdl_expand_tree.specs.declared.tree.InstancePart.TheBlock.{Row_of-Part, end_of-Part, more_of-Part, items-the_row-Part, hidden-the_row-Part-0, items_hidden-the_row-Part-0}
 use Rattle.vhdl_expand_tree.specs.Views.{objects_view, part_before, parts_row, parts_of, parts_view}
 use Rattle.vhdl_expand_tree.specs.Costs.{plus, charged, parts_costs}
 use Rattle.vhdl_expand_tree.proofs.Alike.{Alike, alike_same, alike_trans, alike_then}
@@ -22,7 +22,7 @@ rows : (n : Count) (row : Row_of-Part n) → parts_row row ≡ parts_of (items-t
 rows n end_of-Part = refl
 rows n (more_of-Part x rest) = ap (λ r. part_before r x) (rows _ rest)
 
-pub view_instance : (rest : Parts) (label : Vec ℕ Global) (objects : Vec Object Global) (turns : ℕ) (parts : Vec Part Global)
+pub view_instance : (rest : Parts) (label : Vec ℕ Global) (objects : Vec Object Global) (turns : ℕ) (parts : Vec InstancePart Global)
     → part_before rest (p.Instance label (record { objects = objects; turns = turns; parts = parts })) ≡ inner label.items (instance (objects_view objects) turns (parts_view parts)) rest
 view_instance rest label objects turns parts =
     ap (λ r. inner label.items (instance (objects_view objects) turns r) rest) (rows _ (hidden-the_row-Part-0 parts) ∙ ap parts_of (items_hidden-the_row-Part-0 parts))
@@ -40,18 +40,18 @@ followed_none (process p x) = ap (process p) (followed_none x)
 followed_none (inner label i x) = ap (inner label i) (followed_none x)
 
 -- what stands before others is followed by them
-before : (x : Part) (rest : Parts) → part_before rest x ≡ followed_by (part_before no_parts x) rest
+before : (x : InstancePart) (rest : Parts) → part_before rest x ≡ followed_by (part_before no_parts x) rest
 before (p.Process q) rest = refl
 before (p.Instance' label objects turns shape parts) rest = refl
 
-push : (xs : List Part) (y : Part) → parts_of (xs ++ y ∷ []) ≡ followed_by (parts_of xs) (part_before no_parts y)
+push : (xs : List InstancePart) (y : InstancePart) → parts_of (xs ++ y ∷ []) ≡ followed_by (parts_of xs) (part_before no_parts y)
 push [] y = refl
 push (x ∷ xs) y =
     ap (λ r. part_before r x) (push xs y) ∙ before x (followed_by (parts_of xs) (part_before no_parts y))
     ∙ sym (followed_assoc (part_before no_parts x) (parts_of xs) (part_before no_parts y))
     ∙ ap (λ r. followed_by r (part_before no_parts y)) (sym (before x (parts_of xs)))
 
-pub parts_push : (xs ys : List Part) (y : Part) → ys ≡ xs ++ y ∷ [] → parts_of ys ≡ followed_by (parts_of xs) (part_before no_parts y)
+pub parts_push : (xs ys : List InstancePart) (y : InstancePart) → ys ≡ xs ++ y ∷ [] → parts_of ys ≡ followed_by (parts_of xs) (part_before no_parts y)
 parts_push xs ys y h = ap parts_of h ∙ push xs y
 
 -- ---- their costs

@@ -14,9 +14,9 @@ use Rattle.vhdl_expand_tree.specs.declared.tree.Sensitivity.{Sensitivity}
 use Rattle.vhdl_expand_tree.specs.declared.tree.Sensitivity.TheVariants as s
 use Rattle.vhdl_expand_tree.specs.declared.tree.Process.{Process}
 use Rattle.vhdl_expand_tree.specs.declared.tree.Instance.{Instance}
-use Rattle.vhdl_expand_tree.specs.declared.tree.Part.{Part}
-use Rattle.vhdl_expand_tree.specs.declared.tree.Part.TheVariants as p
-use Rattle.vhdl_expand_tree.specs.declared.tree.Part.TheBlock.{Row_of-Part, end_of-Part, more_of-Part}
+use Rattle.vhdl_expand_tree.specs.declared.tree.InstancePart.{InstancePart}
+use Rattle.vhdl_expand_tree.specs.declared.tree.InstancePart.TheVariants as p
+use Rattle.vhdl_expand_tree.specs.declared.tree.InstancePart.TheBlock.{Row_of-Part, end_of-Part, more_of-Part}
 use Rattle.vhdl_expand_tree.specs.declared.tree.Design.{Design}
 use Rattle.vhdl_expand_tree.specs.declared.budget.Budget.{Budget}
 
@@ -70,7 +70,7 @@ process_view p = record {
 
 abbrev mutual
   -- a part, before others
-  pub part_before : tree.Parts → Part → tree.Parts
+  pub part_before : tree.Parts → InstancePart → tree.Parts
   part_before rest (p.Process x) = tree.process (process_view x) rest
   part_before rest (p.Instance' label objects turns shape parts) =
       tree.inner label.items (tree.instance (map object_view objects.items) turns (parts_row parts)) rest
@@ -80,11 +80,11 @@ abbrev mutual
   parts_row (more_of-Part x rest) = part_before (parts_row rest) x
 
 -- the same of a list
-abbrev pub parts_of : List Part → tree.Parts
+abbrev pub parts_of : List InstancePart → tree.Parts
 parts_of [] = tree.no_parts
 parts_of (x ∷ xs) = part_before (parts_of xs) x
 
-abbrev pub parts_view : Vec Part Global → tree.Parts
+abbrev pub parts_view : Vec InstancePart Global → tree.Parts
 parts_view v = parts_of v.items
 
 abbrev pub objects_view : Vec Object Global → List tree.Object

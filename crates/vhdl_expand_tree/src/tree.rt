@@ -4,7 +4,7 @@
 
 use rtl_net::Statement;
 use smallvec::SmallVec;
-use vhdl_expand_rules::Kind;
+use vhdl_expand_rules::ObjectKind;
 
 /// What an object is to its instance.
 #[derive(Clone, Copy)]
@@ -22,7 +22,7 @@ pub enum Role {
 pub struct Object {
     pub name: Vec<u8>,
     pub role: Role,
-    pub kind: Kind,
+    pub kind: ObjectKind,
     /// Whether several sources of an element are resolved.
     pub is_resolved: bool,
     /// What its elements start with, from the left: codes of the nine values, or a position.
@@ -37,7 +37,7 @@ pub struct Object {
 #[derive(Drop)]
 pub struct Variable {
     pub name: Vec<u8>,
-    pub kind: Kind,
+    pub kind: ObjectKind,
     pub starts: SmallVec<u8, 8>,
 }
 
@@ -80,13 +80,13 @@ pub struct Instance {
     /// How many turns its generates have together.
     pub turns: u32,
     /// In order of the text.
-    pub parts: Vec<Part>,
+    pub parts: Vec<InstancePart>,
 }
 
 /// What stands in an instance.
 #[cycle(instance)]
 #[derive(Drop)]
-pub enum Part {
+pub enum InstancePart {
     Process(Process),
     /// The label has those of the generates round it before it, joined by dots.
     Instance { label: Vec<u8>, instance: Instance },

@@ -4,11 +4,11 @@ use Rattle.std.specs.Char.{is_ascii_digit}
 use Rattle.std.proofs.lemmas.Bool.{eqb-true}
 use Rattle.std.proofs.lemmas.Bool.Decides.{nat_tests}
 use Rattle.std.proofs.Math.Seq.{take-append_seam, drop-append_seam}
-use Rattle.vhdl_lexer.specs.declared.byte.Class.{Class}
-use Rattle.vhdl_lexer.specs.declared.byte.Class.TheVariants.{Decimal}
+use Rattle.vhdl_lexer.specs.declared.byte.ByteClass.{ByteClass}
+use Rattle.vhdl_lexer.specs.declared.byte.ByteClass.TheVariants.{Decimal}
 use Rattle.vhdl_lexer.specs.declared.fault.LexFault.TheVariants.{BadByte, BadIdentifier, BadNumber}
-use Rattle.vhdl_lexer.specs.declared.token.Kind.{Kind}
-use Rattle.vhdl_lexer.specs.declared.token.Kind.TheVariants as k
+use Rattle.vhdl_lexer.specs.declared.token.TokenKind.{TokenKind}
+use Rattle.vhdl_lexer.specs.declared.token.TokenKind.TheVariants as k
 use Rattle.vhdl_lexer.specs.Bytes.{quote, tick, hash, point, slash, star, dash, is_word_byte, is_printable, begins_word, begins, Stops}
 use Rattle.vhdl_lexer.specs.Separators.{opens_comment}
 use Rattle.vhdl_lexer.specs.Words.{is_joined, is_identifier, word_kind, base_class, opened_class, IsWord}
@@ -23,15 +23,15 @@ use Rattle.vhdl_lexer.proofs.Marks.{front_single, front_pair, mark_one, mark_two
 
 -- ---- which token a first byte asks for
 
-pub front_digit : (at : ℕ) → (last : Option Kind) (b : ℕ) (after : List ℕ) → is_ascii_digit b ≡ true → front at last (b ∷ after) ≡ number at (b ∷ after)
+pub front_digit : (at : ℕ) → (last : Option TokenKind) (b : ℕ) (after : List ℕ) → is_ascii_digit b ≡ true → front at last (b ∷ after) ≡ number at (b ∷ after)
 unfolding front
 front_digit at last b after d = rw d refl
 
-pub front_word : (at : ℕ) → (last : Option Kind) (b : ℕ) (after : List ℕ) → begins_word b ≡ true → front at last (b ∷ after) ≡ word_or_bit_string at (opened_class (b ∷ after)) (b ∷ after)
+pub front_word : (at : ℕ) → (last : Option TokenKind) (b : ℕ) (after : List ℕ) → begins_word b ≡ true → front at last (b ∷ after) ≡ word_or_bit_string at (opened_class (b ∷ after)) (b ∷ after)
 unfolding front
 front_word at last b after w = let d = begins_word-digit b w in rw (d, w) refl
 
-pub front_quote : (at : ℕ) → (last : Option Kind) (after : List ℕ) → front at last (quote ∷ after) ≡ string at after
+pub front_quote : (at : ℕ) → (last : Option TokenKind) (after : List ℕ) → front at last (quote ∷ after) ≡ string at after
 unfolding front
 front_quote at last after = refl
 
@@ -51,7 +51,7 @@ word_found at slice rest i s =
     ∙ ap (λ t. cond t (Ok (word_kind slice, run (slice ++ rest))) (Err (BadIdentifier at))) i
     ∙ ap (λ n. Ok (word_kind slice, n)) len
 
-pub word_complete : (at : ℕ) → (last : Option Kind) (kind : Kind) (slice rest : List ℕ) → IsWord kind slice rest → front at last (slice ++ rest) ≡ Ok (kind, length slice)
+pub word_complete : (at : ℕ) → (last : Option TokenKind) (kind : TokenKind) (slice rest : List ℕ) → IsWord kind slice rest → front at last (slice ++ rest) ≡ Ok (kind, length slice)
 word_complete at last kind [] rest w = absurd (true≢false (sym w.0))
 word_complete at last kind (b ∷ slice) rest w =
     front_word at last b (slice ++ rest) (letter_begins b (both_true _ _ w.0).0)
@@ -83,7 +83,7 @@ number_found at slice rest j g f =
     ∙ ap (λ t. cond (not t && fits slice) (Ok (k.Integer, length slice)) (Err (BadNumber at))) g
     ∙ ap (λ t. cond t (Ok (k.Integer, length slice)) (Err (BadNumber at))) f
 
-pub integer_complete : (at : ℕ) → (last : Option Kind) (kind : Kind) (slice rest : List ℕ) → IsInteger kind slice rest → front at last (slice ++ rest) ≡ Ok (kind, length slice)
+pub integer_complete : (at : ℕ) → (last : Option TokenKind) (kind : TokenKind) (slice rest : List ℕ) → IsInteger kind slice rest → front at last (slice ++ rest) ≡ Ok (kind, length slice)
 integer_complete at last kind [] rest i = absurd (true≢false (sym i.0))
 integer_complete at last kind (b ∷ slice) rest i =
     front_digit at last b (slice ++ rest) (both_true _ _ i.0).0
@@ -92,13 +92,13 @@ integer_complete at last kind (b ∷ slice) rest i =
 
 -- ---- characters, strings and bit strings
 
-character_complete : (at : ℕ) → (last : Option Kind) (kind : Kind) (slice rest : List ℕ) → IsCharacter last kind slice → front at last (slice ++ rest) ≡ Ok (kind, length slice)
+character_complete : (at : ℕ) → (last : Option TokenKind) (kind : TokenKind) (slice rest : List ℕ) → IsCharacter last kind slice → front at last (slice ++ rest) ≡ Ok (kind, length slice)
 unfolding front character
 character_complete at last kind slice rest c =
     let opens : (may_open last && (is_printable c.0 && true)) ≡ true = ap (λ t. t && (is_printable c.0 && true)) c.3 ∙ ap (λ t. t && true) c.2 in
     rw (c.1, opens, c.4) refl
 
-string_complete : (at : ℕ) → (last : Option Kind) (kind : Kind) (slice rest : List ℕ) → IsString kind slice rest → front at last (slice ++ rest) ≡ Ok (kind, length slice)
+string_complete : (at : ℕ) → (last : Option TokenKind) (kind : TokenKind) (slice rest : List ℕ) → IsString kind slice rest → front at last (slice ++ rest) ≡ Ok (kind, length slice)
 string_complete at last kind slice rest s =
     let after = s.0 ++ quote ∷ rest in
     let whole : slice ++ rest ≡ quote ∷ (s.0 ++ quote ∷ rest) = ap (λ x. x ++ rest) s.1 ∙ ap (λ x. quote ∷ x) (append_assoc s.0 (quote ∷ []) rest) in
@@ -109,24 +109,24 @@ string_complete at last kind slice rest s =
     ∙ ap (λ n. Ok (k.String, n)) len
     ∙ ap (λ x. Ok (x, length slice)) (sym s.5)
 
-some_none : {A : Type 0} (class : Class) → ◌≡◌ {A = Option Class} None (Some class) → A
+some_none : {A : Type 0} (class : ByteClass) → ◌≡◌ {A = Option ByteClass} None (Some class) → A
 some_none class e = absurd (cc)
 
 other_base : (b : ℕ) → begins_word b ≡ false → base_class b ≡ None
 other_base b e = grind (arith, nat_tests)
 
-pub base_begins : (b : ℕ) (class : Class) → base_class b ≡ Some class → begins_word b ≡ true
+pub base_begins : (b : ℕ) (class : ByteClass) → base_class b ≡ Some class → begins_word b ≡ true
 base_begins b class e = by_test (begins_word b) refl
   where
     by_test : (t : Bool) → begins_word b ≡ t → t ≡ true
     by_test true f = refl
     by_test false f = some_none class (sym (other_base b f) ∙ e)
 
-pub front_bits : (at : ℕ) → (last : Option Kind) (base : ℕ) (class : Class) (after : List ℕ) → base_class base ≡ Some class → front at last (base ∷ quote ∷ after) ≡ bit_string at class after
+pub front_bits : (at : ℕ) → (last : Option TokenKind) (base : ℕ) (class : ByteClass) (after : List ℕ) → base_class base ≡ Some class → front at last (base ∷ quote ∷ after) ≡ bit_string at class after
 front_bits at last base class after e =
     front_word at last base (quote ∷ after) (base_begins base class e) ∙ ap (λ x. word_or_bit_string at x (base ∷ quote ∷ after)) e
 
-bit_string_complete : (at : ℕ) → (last : Option Kind) (kind : Kind) (slice rest : List ℕ) → IsBitString kind slice → front at last (slice ++ rest) ≡ Ok (kind, length slice)
+bit_string_complete : (at : ℕ) → (last : Option TokenKind) (kind : TokenKind) (slice rest : List ℕ) → IsBitString kind slice → front at last (slice ++ rest) ≡ Ok (kind, length slice)
 bit_string_complete at last kind slice rest s =
     let base = s.0 in
     let class = s.1 in
@@ -145,18 +145,18 @@ no_longer : (b : ℕ) (rest : List ℕ) → ((c : ℕ) (after : List ℕ) → re
 no_longer b [] h = refl
 no_longer b (c ∷ rest) h = h c rest refl
 
-as_tick : (at : ℕ) → (last : Option Kind) (b : ℕ) (kind : Kind) (rest : List ℕ) → IsDelimiter last kind (b ∷ []) rest → b ≡ tick → front at last (b ∷ rest) ≡ Ok (kind, 1)
+as_tick : (at : ℕ) → (last : Option TokenKind) (b : ℕ) (kind : TokenKind) (rest : List ℕ) → IsDelimiter last kind (b ∷ []) rest → b ≡ tick → front at last (b ∷ rest) ≡ Ok (kind, 1)
 unfolding front character
 as_tick at last b kind rest d e =
-    let is_tick : ◌≡◌ {A = Option Kind} (Some k.Tick) (Some kind) = sym (ap single e) ∙ d.0 in
+    let is_tick : ◌≡◌ {A = Option TokenKind} (Some k.Tick) (Some kind) = sym (ap single e) ∙ d.0 in
     let same : k.Tick ≡ kind = cc in
     rw (e, d.2 (ap (λ x. x ∷ []) e), same) refl
 
 no_slash_star : (b : ℕ) (rest : List ℕ) → opens_comment (b ∷ rest) ≡ false → (b == slash && begins star rest) ≡ false
 no_slash_star b rest h = (either_false (b == dash && begins dash rest) (b == slash && begins star rest) h).1
 
-delimiter_complete : (at : ℕ) → (last : Option Kind) (kind : Kind) (slice rest : List ℕ) → IsDelimiter last kind slice rest → opens_comment (slice ++ rest) ≡ false → front at last (slice ++ rest) ≡ Ok (kind, length slice)
-delimiter_complete at last kind [] rest d o = let never : ◌≡◌ {A = Option Kind} None (Some kind) = d.0 in absurd (cc)
+delimiter_complete : (at : ℕ) → (last : Option TokenKind) (kind : TokenKind) (slice rest : List ℕ) → IsDelimiter last kind slice rest → opens_comment (slice ++ rest) ≡ false → front at last (slice ++ rest) ≡ Ok (kind, length slice)
+delimiter_complete at last kind [] rest d o = let never : ◌≡◌ {A = Option TokenKind} None (Some kind) = d.0 in absurd (cc)
 delimiter_complete at last kind (b ∷ []) rest d o = by_test (b == tick) refl
   where
     by_test : (t : Bool) → (b == tick) ≡ t → front at last (b ∷ rest) ≡ Ok (kind, 1)
@@ -164,11 +164,11 @@ delimiter_complete at last kind (b ∷ []) rest d o = by_test (b == tick) refl
     by_test false e = front_single at last b kind rest d.0 e ∙ mark_one at b rest (Some kind) (no_slash_star b rest o) (no_longer b rest d.1) d.0
 delimiter_complete at last kind (b ∷ c ∷ []) rest d o =
     front_pair at last b c kind (c ∷ rest) d.0 ∙ mark_two at b (c ∷ rest) kind (no_slash_star b (c ∷ rest) o) d.0
-delimiter_complete at last kind (b ∷ c ∷ x ∷ slice) rest d o = let never : ◌≡◌ {A = Option Kind} None (Some kind) = d.0 in absurd (cc)
+delimiter_complete at last kind (b ∷ c ∷ x ∷ slice) rest d o = let never : ◌≡◌ {A = Option TokenKind} None (Some kind) = d.0 in absurd (cc)
 
 -- ---- the front
 
-pub front_complete : (at : ℕ) → (last : Option Kind) (kind : Kind) (slice rest : List ℕ) → IsToken last kind slice rest → front at last (slice ++ rest) ≡ Ok (kind, length slice)
+pub front_complete : (at : ℕ) → (last : Option TokenKind) (kind : TokenKind) (slice rest : List ℕ) → IsToken last kind slice rest → front at last (slice ++ rest) ≡ Ok (kind, length slice)
 front_complete at last kind slice rest t =
     ⊎_elim (word_complete at last kind slice rest) (⊎_elim (integer_complete at last kind slice rest) (⊎_elim (character_complete at last kind slice rest)
     (⊎_elim (string_complete at last kind slice rest) (⊎_elim (bit_string_complete at last kind slice rest) (λ d. delimiter_complete at last kind slice rest d t.1))))) t.0

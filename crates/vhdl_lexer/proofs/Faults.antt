@@ -4,12 +4,12 @@ use Rattle.std.specs.List.{list_all}
 use Rattle.std.specs.Char.{is_ascii_digit}
 use Rattle.std.proofs.lemmas.Bool.{eqb-true}
 use Rattle.std.proofs.lemmas.Bool.Decides.{nat_tests}
-use Rattle.vhdl_lexer.specs.declared.byte.Class.{Class}
-use Rattle.vhdl_lexer.specs.declared.byte.Class.TheVariants.{Decimal}
+use Rattle.vhdl_lexer.specs.declared.byte.ByteClass.{ByteClass}
+use Rattle.vhdl_lexer.specs.declared.byte.ByteClass.TheVariants.{Decimal}
 use Rattle.vhdl_lexer.specs.declared.fault.LexFault.{LexFault}
 use Rattle.vhdl_lexer.specs.declared.fault.LexFault.TheVariants.{BadByte, OpenComment, OpenString, BadIdentifier, BadNumber, TooLong, NoMemory}
-use Rattle.vhdl_lexer.specs.declared.token.Kind.{Kind}
-use Rattle.vhdl_lexer.specs.declared.token.Kind.TheVariants as k
+use Rattle.vhdl_lexer.specs.declared.token.TokenKind.{TokenKind}
+use Rattle.vhdl_lexer.specs.declared.token.TokenKind.TheVariants as k
 use Rattle.vhdl_lexer.specs.Bytes.{quote, tick, slash, star, is_word_byte, is_printable, begins_word, begins}
 use Rattle.vhdl_lexer.specs.Words.{is_joined, is_identifier, word_kind, base_class, opened_class, IsWord}
 use Rattle.vhdl_lexer.specs.Literals.{goes_on_number, may_open, closes, IsInteger}
@@ -27,7 +27,7 @@ use Rattle.vhdl_lexer.proofs.Starts.{not_mark}
 pub err_same : (p q : LexFault) → ◌≡◌ {A = Found} (Err p) (Err q) → p ≡ q
 err_same p q e = cc
 
-ok_err : {A : Type 0} (x : Kind × ℕ) (p : LexFault) → ◌≡◌ {A = Found} (Ok x) (Err p) → A
+ok_err : {A : Type 0} (x : TokenKind × ℕ) (p : LexFault) → ◌≡◌ {A = Found} (Ok x) (Err p) → A
 ok_err x p h = absurd (cc)
 
 -- a fault at this byte, which is one by its definition
@@ -46,7 +46,7 @@ rest_same a b xs ys e = ap (λ (x : List ℕ). drop 1 x) e
 
 -- ---- a problem met is one
 
-number_faulty : (at : ℕ) → (last : Option Kind) (b : ℕ) (after : List ℕ) (p : LexFault) → is_ascii_digit b ≡ true → front at last (b ∷ after) ≡ Err p → Met at p (b ∷ after)
+number_faulty : (at : ℕ) → (last : Option TokenKind) (b : ℕ) (after : List ℕ) (p : LexFault) → is_ascii_digit b ≡ true → front at last (b ∷ after) ≡ Err p → Met at p (b ∷ after)
 unfolding number
 number_faulty at last b after p d h = faulty at (BadNumber at) refl p (b ∷ after) (is_number (sym (front_digit at last b after d) ∙ h))
     (inl (d, λ kind slice rest e i. ok_err (kind, length slice) p (sym (integer_complete at last kind slice rest i) ∙ ap (front at last) (sym e) ∙ h)))
@@ -58,7 +58,7 @@ number_faulty at last b after p d h = faulty at (BadNumber at) refl p (b ∷ aft
         by_test true g = ok_err _ p g
         by_test false g = g
 
-word_faulty : (at : ℕ) → (last : Option Kind) (b : ℕ) (after : List ℕ) (p : LexFault) → begins_word b ≡ true → opened_class (b ∷ after) ≡ None → word at (b ∷ after) ≡ Err p → front at last (b ∷ after) ≡ Err p → Met at p (b ∷ after)
+word_faulty : (at : ℕ) → (last : Option TokenKind) (b : ℕ) (after : List ℕ) (p : LexFault) → begins_word b ≡ true → opened_class (b ∷ after) ≡ None → word at (b ∷ after) ≡ Err p → front at last (b ∷ after) ≡ Err p → Met at p (b ∷ after)
 unfolding word
 word_faulty at last b after p w none g h = faulty at (BadIdentifier at) refl p (b ∷ after) (by_test (is_identifier (take (run (b ∷ after)) (b ∷ after))) g)
     (w, none, λ kind slice rest e i. ok_err (kind, length slice) p (sym (word_complete at last kind slice rest i) ∙ ap (front at last) (sym e) ∙ h))
@@ -67,7 +67,7 @@ word_faulty at last b after p w none g h = faulty at (BadIdentifier at) refl p (
     by_test true g = ok_err _ p g
     by_test false g = g
 
-bits_faulty : (at : ℕ) → (class : Class) (base : ℕ) (after : List ℕ) (p : LexFault) → base_class base ≡ Some class → bit_string at class after ≡ Err p → Met at p (base ∷ quote ∷ after)
+bits_faulty : (at : ℕ) → (class : ByteClass) (base : ℕ) (after : List ℕ) (p : LexFault) → base_class base ≡ Some class → bit_string at class after ≡ Err p → Met at p (base ∷ quote ∷ after)
 bits_faulty at class base after p is h = ⊎_elim closed opened (closed_or_open_bits after)
   where
     by_test : (c : ClosedBits after) (t : Bool) → is_joined class c.body ≡ t → ◌≡◌ {A = Found} (cond t (Ok (k.BitString, length c.body + 3)) (Err (BadNumber at))) (Err p) → Met at p (base ∷ quote ∷ after)
@@ -102,11 +102,11 @@ no_word b d w = grind (arith, nat_tests)
 mark_faulty : (at : ℕ) → (b : ℕ) (after : List ℕ) (p : LexFault) → Stands (b ∷ after) → is_word_byte b ≡ false → (b == quote) ≡ false → mark at b after ≡ Err p → Met at p (b ∷ after)
 mark_faulty at b after p s w q h = by_test (b == slash && begins star after) refl
   where
-    by_single : (found : Option Kind) → single b ≡ found → one at found ≡ Err p → Met at p (b ∷ after)
+    by_single : (found : Option TokenKind) → single b ≡ found → one at found ≡ Err p → Met at p (b ∷ after)
     by_single None e g = faulty at (BadByte at) refl p (b ∷ after) g (inl (b, after, refl, (s.0, w, q, e)))
     by_single (Some kind) e g = ok_err (kind, 1) p g
 
-    by_pair : (found : Option Kind) → longer b after ≡ found → (b == slash && begins star after) ≡ false → Met at p (b ∷ after)
+    by_pair : (found : Option TokenKind) → longer b after ≡ found → (b == slash && begins star after) ≡ false → Met at p (b ∷ after)
     by_pair None e t = by_single (single b) refl (sym (mark_one at b after (single b) t e refl) ∙ h)
     by_pair (Some kind) e t = ok_err (kind, 2) p (sym (mark_two at b after kind t e) ∙ h)
 
@@ -119,7 +119,7 @@ mark_faulty at b after p s w q h = by_test (b == slash && begins star after) ref
     by_test true e = let f = both_true (b == slash) (begins star after) e in opened (eqb-true b slash f.0) (begins_with star after f.1) e
     by_test false e = by_pair (longer b after) refl e
 
-character_passes : {A : Type 0} (last : Option Kind) (after : List ℕ) (p : LexFault) → character last after ≡ Err p → A
+character_passes : {A : Type 0} (last : Option TokenKind) (after : List ℕ) (p : LexFault) → character last after ≡ Err p → A
 unfolding character
 character_passes last after p h = by_test (may_open last && closes after) h
   where
@@ -127,17 +127,17 @@ character_passes last after p h = by_test (may_open last && closes after) h
     by_test true g = ok_err (k.Character, 3) p g
     by_test false g = ok_err (k.Tick, 1) p g
 
-word_or_bits_faulty : (at : ℕ) → (last : Option Kind) (b : ℕ) (after : List ℕ) (p : LexFault) → begins_word b ≡ true → front at last (b ∷ after) ≡ Err p → Met at p (b ∷ after)
+word_or_bits_faulty : (at : ℕ) → (last : Option TokenKind) (b : ℕ) (after : List ℕ) (p : LexFault) → begins_word b ≡ true → front at last (b ∷ after) ≡ Err p → Met at p (b ∷ after)
 word_or_bits_faulty at last b after p w h = by_class (opened_class (b ∷ after)) refl (sym (front_word at last b after w) ∙ h)
   where
-    bits : (class : Class) → ((base : ℕ) × (rest : List ℕ) × (b ∷ after ≡ base ∷ quote ∷ rest) × (base_class base ≡ Some class)) → bit_string at class (drop 2 (b ∷ after)) ≡ Err p → Met at p (b ∷ after)
+    bits : (class : ByteClass) → ((base : ℕ) × (rest : List ℕ) × (b ∷ after ≡ base ∷ quote ∷ rest) × (base_class base ≡ Some class)) → bit_string at class (drop 2 (b ∷ after)) ≡ Err p → Met at p (b ∷ after)
     bits class o g = subst (Met at p) (sym o.2) (bits_faulty at class o.0 o.1 p o.3 (sym (ap (λ x. bit_string at class (drop 2 x)) o.2) ∙ g))
 
-    by_class : (class : Option Class) → opened_class (b ∷ after) ≡ class → word_or_bit_string at class (b ∷ after) ≡ Err p → Met at p (b ∷ after)
+    by_class : (class : Option ByteClass) → opened_class (b ∷ after) ≡ class → word_or_bit_string at class (b ∷ after) ≡ Err p → Met at p (b ∷ after)
     by_class None e g = word_faulty at last b after p w e g h
     by_class (Some class) e g = bits class (opened_bits (b ∷ after) class e) g
 
-pub front_faulty : (at : ℕ) → (last : Option Kind) (text : List ℕ) (p : LexFault) → Stands text → (text ≡ [] → ⊥) → front at last text ≡ Err p → Met at p text
+pub front_faulty : (at : ℕ) → (last : Option TokenKind) (text : List ℕ) (p : LexFault) → Stands text → (text ≡ [] → ⊥) → front at last text ≡ Err p → Met at p text
 unfolding front
 front_faulty at last [] p s some h = absurd (some refl)
 front_faulty at last (b ∷ after) p s some h = by_first (is_ascii_digit b) refl (begins_word b) refl (b == quote) refl (b == tick) h
@@ -153,7 +153,7 @@ front_faulty at last (b ∷ after) p s some h = by_first (is_ascii_digit b) refl
 
 -- ---- a problem is met
 
-stray_found : (at : ℕ) → (last : Option Kind) (b : ℕ) (after : List ℕ) → IsStray b → front at last (b ∷ after) ≡ Err (BadByte at)
+stray_found : (at : ℕ) → (last : Option TokenKind) (b : ℕ) (after : List ℕ) → IsStray b → front at last (b ∷ after) ≡ Err (BadByte at)
 stray_found at last b after s =
     front_mark at last b after (no_digit b s.1) (no_letter b s.1) s.2 (not_mark b tick k.Tick s.3 refl)
     ∙ mark_one at b after None (ap (λ t. t && begins star after) (not_mark b slash k.Slash s.3 refl)) (no_longer after) s.3
@@ -199,7 +199,7 @@ number_refused at text absent =
     by_test true ej true eg f ef = refl
     by_test false ej g eg f ef = refl
 
-pub fault_found : (last : Option Kind) (p : LexFault) (text : List ℕ) → Faulty p text → IfSome (fault_byte p) (λ at. front at last text ≡ Err p)
+pub fault_found : (last : Option TokenKind) (p : LexFault) (text : List ℕ) → Faulty p text → IfSome (fault_byte p) (λ at. front at last text ≡ Err p)
 fault_found last (BadByte at) text (inl s) = ap (front at last) s.2 ∙ stray_found at last s.0 s.1 s.3
 fault_found last (BadByte at) text (inr s) =
     ap (front at last) s.2.0 ∙ front_quote at last (s.0 ++ quote ∷ s.1) ∙ string_closed at (s.0 ++ quote ∷ s.1) s.0 s.1 refl s.2.1 s.2.2

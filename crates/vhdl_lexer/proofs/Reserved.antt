@@ -5,7 +5,7 @@ use Rattle.std.specs.Char.{is_ascii_alphabetic, to_ascii_lowercase}
 use Rattle.std.specs.Str.{str_eq_ignore_ascii_case, str_to_ascii_lowercase, bytes_eq}
 use Rattle.std.proofs.lemmas.List.FromFn.{get_or-map-range_with_len}
 use Rattle.std.proofs.lemmas.Bool.Decides.{nat_tests}
-use Rattle.vhdl_lexer.specs.declared.token.Kind.{Kind}
+use Rattle.vhdl_lexer.specs.declared.token.TokenKind.{TokenKind}
 use Rattle.vhdl_lexer.specs.Words.{Word, reserved_words, kind_among, is_identifier, word_kind}
 use Rattle.vhdl_lexer.specs.Scan.{has_letter, words_of}
 use Rattle.vhdl_lexer.proofs.Choices.{both_true}
@@ -21,14 +21,14 @@ kind_among-letter : (b : ℕ) (text : List ℕ) (words : List Word) →
 kind_among-letter b text [] = refl
 kind_among-letter b text (w ∷ words) = by_word w.0 w.1 (kind_among-letter b text words)
   where
-    by_test : (word : List ℕ) (kind : Kind) (t : Bool) → has_letter (to_ascii_lowercase b) (word, kind) ≡ t → (t ≡ false → str_eq_ignore_ascii_case word (b ∷ text) ≡ false) →
+    by_test : (word : List ℕ) (kind : TokenKind) (t : Bool) → has_letter (to_ascii_lowercase b) (word, kind) ≡ t → (t ≡ false → str_eq_ignore_ascii_case word (b ∷ text) ≡ false) →
         kind_among (filter (has_letter (to_ascii_lowercase b)) words) (b ∷ text) ≡ kind_among words (b ∷ text) →
         kind_among (cond t ((word, kind) ∷ filter (has_letter (to_ascii_lowercase b)) words) (filter (has_letter (to_ascii_lowercase b)) words)) (b ∷ text)
         ≡ cond (str_eq_ignore_ascii_case word (b ∷ text)) kind (kind_among words (b ∷ text))
     by_test word kind true e differs later = ap (λ k. cond (str_eq_ignore_ascii_case word (b ∷ text)) kind k) later
     by_test word kind false e differs later = later ∙ sym (ap (λ t. cond t kind (kind_among words (b ∷ text))) (differs refl))
 
-    by_word : (word : List ℕ) (kind : Kind) → kind_among (filter (has_letter (to_ascii_lowercase b)) words) (b ∷ text) ≡ kind_among words (b ∷ text) →
+    by_word : (word : List ℕ) (kind : TokenKind) → kind_among (filter (has_letter (to_ascii_lowercase b)) words) (b ∷ text) ≡ kind_among words (b ∷ text) →
         kind_among (filter (has_letter (to_ascii_lowercase b)) ((word, kind) ∷ words)) (b ∷ text) ≡ kind_among ((word, kind) ∷ words) (b ∷ text)
     by_word [] kind later = by_test [] kind (has_letter (to_ascii_lowercase b) ([], kind)) refl (λ e. refl) later
     by_word (c ∷ word) kind later = by_test (c ∷ word) kind (has_letter (to_ascii_lowercase b) (c ∷ word, kind)) refl

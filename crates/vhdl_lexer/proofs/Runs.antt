@@ -6,8 +6,8 @@ use Rattle.std.specs.Int.{is_in_range}
 use Rattle.std.proofs.lemmas.Bool.{eqb-true}
 use Rattle.std.proofs.lemmas.Bool.Decides.{nat_tests}
 use Rattle.std.proofs.lemmas.List.Sums.{prefix_len-le-length}
-use Rattle.vhdl_lexer.specs.declared.byte.Class.{Class}
-use Rattle.vhdl_lexer.specs.declared.byte.Class.TheVariants.{LetterOrDigit, Decimal, Hexadecimal, Octal, Binary}
+use Rattle.vhdl_lexer.specs.declared.byte.ByteClass.{ByteClass}
+use Rattle.vhdl_lexer.specs.declared.byte.ByteClass.TheVariants.{LetterOrDigit, Decimal, Hexadecimal, Octal, Binary}
 use Rattle.vhdl_lexer.specs.Bytes.{underscore, quote, ends_line, is_word_byte, begins_word, has_class, Stops}
 use Rattle.vhdl_lexer.specs.Literals.{is_unquoted}
 use Rattle.vhdl_lexer.specs.Words.{is_joined, goes_on, is_identifier}
@@ -29,7 +29,7 @@ letter_word b e = alphanumeric_word b (by_case (is_in_range 48 57 b) (is_in_rang
     by_case true u l f = refl
     by_case false u l f = f
 
-class_word : (class : Class) (b : ℕ) → has_class class b ≡ true → is_word_byte b ≡ true
+class_word : (class : ByteClass) (b : ℕ) → has_class class b ≡ true → is_word_byte b ≡ true
 class_word LetterOrDigit b e = alphanumeric_word b e
 class_word Decimal b e = alphanumeric_word b (ap (λ t. (t || is_in_range 65 90 b) || is_in_range 97 122 b) e)
 class_word Hexadecimal b e = grind (arith, nat_tests)
@@ -55,14 +55,14 @@ both_all : (b : ℕ) (text : List ℕ) → is_word_byte b ≡ true → list_all 
 both_all b text e h = ap (λ t. t && list_all is_word_byte text) e ∙ h
 
 mutual
-  goes_on-all : (class : Class) (text : List ℕ) → goes_on class text ≡ true → list_all is_word_byte text ≡ true
+  goes_on-all : (class : ByteClass) (text : List ℕ) → goes_on class text ≡ true → list_all is_word_byte text ≡ true
   goes_on-all class [] h = refl
   goes_on-all class (b ∷ text) h =
       ⊎_elim (λ t. both_all b text (class_word class b t.0) (goes_on-all class text t.1))
       (λ f. let e = both_true _ _ f.1 in both_all b text (underscore_word b e.0) (is_joined-all class text e.1))
       (chosen _ _ _ _ h)
 
-  pub is_joined-all : (class : Class) (text : List ℕ) → is_joined class text ≡ true → list_all is_word_byte text ≡ true
+  pub is_joined-all : (class : ByteClass) (text : List ℕ) → is_joined class text ≡ true → list_all is_word_byte text ≡ true
   is_joined-all class [] h = refl
   is_joined-all class (b ∷ text) h =
       let e = both_true _ _ h in both_all b text (class_word class b e.0) (goes_on-all class text e.1)

@@ -5,12 +5,12 @@ use Rattle.std.specs.Char.{is_ascii_digit}
 use Rattle.std.proofs.lemmas.Bool.{eqb-true}
 use Rattle.std.proofs.lemmas.Bool.Decides.{nat_tests}
 use Rattle.std.proofs.Math.Seq.{take-append_seam, drop-append_seam}
-use Rattle.vhdl_lexer.specs.declared.byte.Class.{Class}
-use Rattle.vhdl_lexer.specs.declared.byte.Class.TheVariants.{Decimal}
+use Rattle.vhdl_lexer.specs.declared.byte.ByteClass.{ByteClass}
+use Rattle.vhdl_lexer.specs.declared.byte.ByteClass.TheVariants.{Decimal}
 use Rattle.vhdl_lexer.specs.declared.fault.LexFault.{LexFault}
 use Rattle.vhdl_lexer.specs.declared.fault.LexFault.TheVariants.{BadByte, OpenComment, OpenString, BadIdentifier, BadNumber}
-use Rattle.vhdl_lexer.specs.declared.token.Kind.{Kind}
-use Rattle.vhdl_lexer.specs.declared.token.Kind.TheVariants as k
+use Rattle.vhdl_lexer.specs.declared.token.TokenKind.{TokenKind}
+use Rattle.vhdl_lexer.specs.declared.token.TokenKind.TheVariants as k
 use Rattle.vhdl_lexer.specs.Bytes.{quote, tick, slash, star, is_printable, begins_word, begins}
 use Rattle.vhdl_lexer.specs.Separators.{opens_comment}
 use Rattle.vhdl_lexer.specs.Words.{is_joined, is_identifier, word_kind, base_class, opened_class}
@@ -23,16 +23,16 @@ use Rattle.vhdl_lexer.proofs.Runs.{run_within, run_stops}
 use Rattle.vhdl_lexer.proofs.Strings.{Closed, closed_or_open, string_closed, string_open, ClosedBits, closed_or_open_bits, bit_string_closed, bit_string_open}
 use Rattle.vhdl_lexer.proofs.Marks.{mark_one, mark_two, mark_comment}
 
-pub ok_pair : (a b : Kind) (m n : ℕ) → ◌≡◌ {A = Found} (Ok (a, m)) (Ok (b, n)) → (a ≡ b) × (m ≡ n)
+pub ok_pair : (a b : TokenKind) (m n : ℕ) → ◌≡◌ {A = Found} (Ok (a, m)) (Ok (b, n)) → (a ≡ b) × (m ≡ n)
 ok_pair a b m n h =
-    let e : ◌≡◌ {A = Kind × ℕ} (a, m) (b, n) = cc in
-    (ap (λ (p : Kind × ℕ). p.0) e, ap (λ (p : Kind × ℕ). p.1) e)
+    let e : ◌≡◌ {A = TokenKind × ℕ} (a, m) (b, n) = cc in
+    (ap (λ (p : TokenKind × ℕ). p.0) e, ap (λ (p : TokenKind × ℕ). p.1) e)
 
-pub err_ok : {A : Type 0} (p : LexFault) (x : Kind × ℕ) → ◌≡◌ {A = Found} (Err p) (Ok x) → A
+pub err_ok : {A : Type 0} (p : LexFault) (x : TokenKind × ℕ) → ◌≡◌ {A = Found} (Err p) (Ok x) → A
 err_ok p x h = absurd (cc)
 
 -- an element of this kind and length is a slice at the front
-pub record IsSliced (last : Option Kind) (kind : Kind) (n : ℕ) (text : List ℕ) : Type 0 where
+pub record IsSliced (last : Option TokenKind) (kind : TokenKind) (n : ℕ) (text : List ℕ) : Type 0 where
   pub slice : List ℕ
   pub rest : List ℕ
   pub whole : text ≡ slice ++ rest
@@ -40,7 +40,7 @@ pub record IsSliced (last : Option Kind) (kind : Kind) (n : ℕ) (text : List �
   pub some : 1 ≤ n
   pub form : IsElement last kind slice rest
 
-sliced : (last : Option Kind) (kind other : Kind) (n m : ℕ) (text : List ℕ) → ◌≡◌ {A = Found} (Ok (kind, n)) (Ok (other, m)) → IsSliced last kind n text → IsSliced last other m text
+sliced : (last : Option TokenKind) (kind other : TokenKind) (n m : ℕ) (text : List ℕ) → ◌≡◌ {A = Found} (Ok (kind, n)) (Ok (other, m)) → IsSliced last kind n text → IsSliced last other m text
 sliced last kind other n m text h s =
     let e = ok_pair kind other n m h in
     subst (λ x. IsSliced last x m text) e.0 (subst (λ x. IsSliced last kind x text) e.1 s)
@@ -51,11 +51,11 @@ some_word : (n : ℕ) (text : List ℕ) → is_identifier (take n text) ≡ true
 some_word zero text e = absurd (true≢false (sym e))
 some_word (suc n) text e = omega arith
 
-some_joined : (class : Class) (n : ℕ) (text : List ℕ) → is_joined class (take n text) ≡ true → 1 ≤ n
+some_joined : (class : ByteClass) (n : ℕ) (text : List ℕ) → is_joined class (take n text) ≡ true → 1 ≤ n
 some_joined class zero text e = absurd (true≢false (sym e))
 some_joined class (suc n) text e = omega arith
 
-word_sound : (at : ℕ) → (last : Option Kind) (text : List ℕ) (kind : Kind) (n : ℕ) → opened_class text ≡ None → word at text ≡ Ok (kind, n) → IsSliced last kind n text
+word_sound : (at : ℕ) → (last : Option TokenKind) (text : List ℕ) (kind : TokenKind) (n : ℕ) → opened_class text ≡ None → word at text ≡ Ok (kind, n) → IsSliced last kind n text
 unfolding word
 word_sound at last text kind n none h = by_test (is_identifier (take (run text) text)) refl h
   where
@@ -76,7 +76,7 @@ fits_most text e = by_number (integer_of text) e
     by_number : (n : ℕ) → nat_le n greatest_integer ≡ true → n ≤ greatest_integer
     by_number n e = grind (arith, nat_tests)
 
-number_sound : (at : ℕ) → (last : Option Kind) (text : List ℕ) (kind : Kind) (n : ℕ) → number at text ≡ Ok (kind, n) → IsSliced last kind n text
+number_sound : (at : ℕ) → (last : Option TokenKind) (text : List ℕ) (kind : TokenKind) (n : ℕ) → number at text ≡ Ok (kind, n) → IsSliced last kind n text
 unfolding number
 number_sound at last text kind n h =
     by_test (is_joined Decimal (take (run text) text)) refl (goes_on_number (drop (run text) text)) refl (fits (take (run text) text)) refl h
@@ -97,7 +97,7 @@ number_sound at last text kind n h =
 
 -- ---- characters, strings and bit strings
 
-character_sound : (last : Option Kind) (after : List ℕ) (kind : Kind) (n : ℕ) → character last after ≡ Ok (kind, n) → IsSliced last kind n (tick ∷ after)
+character_sound : (last : Option TokenKind) (after : List ℕ) (kind : TokenKind) (n : ℕ) → character last after ≡ Ok (kind, n) → IsSliced last kind n (tick ∷ after)
 unfolding character
 character_sound last after kind n h = by_test (may_open last && closes after) refl h
   where
@@ -126,7 +126,7 @@ character_sound last after kind n h = by_test (may_open last && closes after) re
       form = inr (inr (inr (inr (inr (refl, (λ c rest is. refl), (λ is. e))))));
     })
 
-string_sound : (at : ℕ) → (last : Option Kind) (after : List ℕ) (kind : Kind) (n : ℕ) → string at after ≡ Ok (kind, n) → IsSliced last kind n (quote ∷ after)
+string_sound : (at : ℕ) → (last : Option TokenKind) (after : List ℕ) (kind : TokenKind) (n : ℕ) → string at after ≡ Ok (kind, n) → IsSliced last kind n (quote ∷ after)
 string_sound at last after kind n h = ⊎_elim closed (λ e. err_ok (OpenString at) (kind, n) (sym (string_open at after e) ∙ h)) (closed_or_open after)
   where
     by_test : (c : Closed after) (t : Bool) → list_all is_printable c.body ≡ t → ◌≡◌ {A = Found} (cond t (Ok (k.String, length c.body + 2)) (Err (BadByte at))) (Ok (kind, n)) → IsSliced last kind n (quote ∷ after)
@@ -143,7 +143,7 @@ string_sound at last after kind n h = ⊎_elim closed (λ e. err_ok (OpenString 
     closed : Closed after → IsSliced last kind n (quote ∷ after)
     closed c = by_test c (list_all is_printable c.body) refl (sym (string_closed at after c.body c.rest c.whole c.quoted c.ended) ∙ h)
 
-bit_string_sound : (at : ℕ) → (last : Option Kind) (class : Class) (base : ℕ) (after : List ℕ) (kind : Kind) (n : ℕ) → base_class base ≡ Some class → bit_string at class after ≡ Ok (kind, n) → IsSliced last kind n (base ∷ quote ∷ after)
+bit_string_sound : (at : ℕ) → (last : Option TokenKind) (class : ByteClass) (base : ℕ) (after : List ℕ) (kind : TokenKind) (n : ℕ) → base_class base ≡ Some class → bit_string at class after ≡ Ok (kind, n) → IsSliced last kind n (base ∷ quote ∷ after)
 bit_string_sound at last class base after kind n is h = ⊎_elim closed (λ e. err_ok (OpenString at) (kind, n) (sym (bit_string_open at class after e) ∙ h)) (closed_or_open_bits after)
   where
     by_test : (c : ClosedBits after) (t : Bool) → is_joined class c.body ≡ t → ◌≡◌ {A = Found} (cond t (Ok (k.BitString, length c.body + 3)) (Err (BadNumber at))) (Ok (kind, n)) → IsSliced last kind n (base ∷ quote ∷ after)
@@ -161,34 +161,34 @@ bit_string_sound at last class base after kind n is h = ⊎_elim closed (λ e. e
     closed c = by_test c (is_joined class c.body) refl (sym (bit_string_closed at class after c.body c.rest c.whole c.unquoted) ∙ h)
 
 -- a bit string opens by its base and a quotation mark
-pub opened_bits : (text : List ℕ) (class : Class) → opened_class text ≡ Some class → (base : ℕ) × (after : List ℕ) × (text ≡ base ∷ quote ∷ after) × (base_class base ≡ Some class)
-opened_bits [] class e = let never : ◌≡◌ {A = Option Class} None (Some class) = e in absurd (cc)
+pub opened_bits : (text : List ℕ) (class : ByteClass) → opened_class text ≡ Some class → (base : ℕ) × (after : List ℕ) × (text ≡ base ∷ quote ∷ after) × (base_class base ≡ Some class)
+opened_bits [] class e = let never : ◌≡◌ {A = Option ByteClass} None (Some class) = e in absurd (cc)
 opened_bits (b ∷ text) class e = by_test (begins quote text) refl e
   where
     by_test : (t : Bool) → begins quote text ≡ t → cond t (base_class b) None ≡ Some class → (base : ℕ) × (after : List ℕ) × (b ∷ text ≡ base ∷ quote ∷ after) × (base_class base ≡ Some class)
     by_test true f g = let w = begins_with quote text f in (b, w.0, ap (λ x. b ∷ x) w.1, g)
     by_test false f g = absurd (cc)
 
-word_or_bit_string_sound : (at : ℕ) → (last : Option Kind) (text : List ℕ) (kind : Kind) (n : ℕ) → word_or_bit_string at (opened_class text) text ≡ Ok (kind, n) → IsSliced last kind n text
+word_or_bit_string_sound : (at : ℕ) → (last : Option TokenKind) (text : List ℕ) (kind : TokenKind) (n : ℕ) → word_or_bit_string at (opened_class text) text ≡ Ok (kind, n) → IsSliced last kind n text
 word_or_bit_string_sound at last text kind n h = by_class (opened_class text) refl h
   where
-    bits : (class : Class) → ((base : ℕ) × (after : List ℕ) × (text ≡ base ∷ quote ∷ after) × (base_class base ≡ Some class)) → bit_string at class (drop 2 text) ≡ Ok (kind, n) → IsSliced last kind n text
+    bits : (class : ByteClass) → ((base : ℕ) × (after : List ℕ) × (text ≡ base ∷ quote ∷ after) × (base_class base ≡ Some class)) → bit_string at class (drop 2 text) ≡ Ok (kind, n) → IsSliced last kind n text
     bits class o g = subst (λ x. IsSliced last kind n x) (sym o.2) (bit_string_sound at last class o.0 o.1 kind n o.3 (sym (ap (λ x. bit_string at class (drop 2 x)) o.2) ∙ g))
 
-    by_class : (class : Option Class) → opened_class text ≡ class → word_or_bit_string at class text ≡ Ok (kind, n) → IsSliced last kind n text
+    by_class : (class : Option ByteClass) → opened_class text ≡ class → word_or_bit_string at class text ≡ Ok (kind, n) → IsSliced last kind n text
     by_class None e g = word_sound at last text kind n e g
     by_class (Some class) e g = bits class (opened_bits text class e) g
 
 -- ---- delimiters
 
-mark_sound : (at : ℕ) → (last : Option Kind) (b : ℕ) (after : List ℕ) (kind : Kind) (n : ℕ) → (b == tick) ≡ false → mark at b after ≡ Ok (kind, n) → IsSliced last kind n (b ∷ after)
+mark_sound : (at : ℕ) → (last : Option TokenKind) (b : ℕ) (after : List ℕ) (kind : TokenKind) (n : ℕ) → (b == tick) ≡ false → mark at b after ≡ Ok (kind, n) → IsSliced last kind n (b ∷ after)
 mark_sound at last b after kind n plain h = by_test (b == slash && begins star after) refl
   where
     no_tick : b ∷ [] ≡ tick ∷ [] → ⊥
     no_tick is = let e : b ≡ tick = cc in true≢false (ap (λ x. x == tick) (sym e) ∙ plain)
 
-    both : (after : List ℕ) (found : Kind) → longer b after ≡ Some found → IsSliced last found 2 (b ∷ after)
-    both [] found e = let never : ◌≡◌ {A = Option Kind} None (Some found) = e in absurd (cc)
+    both : (after : List ℕ) (found : TokenKind) → longer b after ≡ Some found → IsSliced last found 2 (b ∷ after)
+    both [] found e = let never : ◌≡◌ {A = Option TokenKind} None (Some found) = e in absurd (cc)
     both (c ∷ rest) found e = record {
       slice = b ∷ c ∷ [];
       rest = rest;
@@ -198,7 +198,7 @@ mark_sound at last b after kind n plain h = by_test (b == slash && begins star a
       form = inr (inr (inr (inr (inr (e, (λ d more is. refl), (λ is. let l : ◌≡◌ {A = ℕ} 2 1 = ap (λ (x : List ℕ). length x) is in absurd (omega (arith, l))))))));
     }
 
-    alone : (found : Kind) → longer b after ≡ None → single b ≡ Some found → IsSliced last found 1 (b ∷ after)
+    alone : (found : TokenKind) → longer b after ≡ None → single b ≡ Some found → IsSliced last found 1 (b ∷ after)
     alone found p e = record {
       slice = b ∷ [];
       rest = after;
@@ -208,11 +208,11 @@ mark_sound at last b after kind n plain h = by_test (b == slash && begins star a
       form = inr (inr (inr (inr (inr (e, (λ d more is. sym (ap (longer b) is) ∙ p), (λ is. absurd (no_tick is)))))));
     }
 
-    by_single : (found : Option Kind) → single b ≡ found → longer b after ≡ None → one at found ≡ Ok (kind, n) → IsSliced last kind n (b ∷ after)
+    by_single : (found : Option TokenKind) → single b ≡ found → longer b after ≡ None → one at found ≡ Ok (kind, n) → IsSliced last kind n (b ∷ after)
     by_single None e p g = err_ok (BadByte at) (kind, n) g
     by_single (Some other) e p g = sliced last other kind 1 n (b ∷ after) g (alone other p e)
 
-    by_pair : (b == slash && begins star after) ≡ false → (found : Option Kind) → longer b after ≡ found → IsSliced last kind n (b ∷ after)
+    by_pair : (b == slash && begins star after) ≡ false → (found : Option TokenKind) → longer b after ≡ found → IsSliced last kind n (b ∷ after)
     by_pair t None e = by_single (single b) refl e (sym (mark_one at b after (single b) t e refl) ∙ h)
     by_pair t (Some other) e = sliced last other kind 2 n (b ∷ after) (sym (mark_two at b after other t e) ∙ h) (both after other e)
 
@@ -222,7 +222,7 @@ mark_sound at last b after kind n plain h = by_test (b == slash && begins star a
 
 -- ---- the front
 
-pub front_sound : (at : ℕ) → (last : Option Kind) (text : List ℕ) (kind : Kind) (n : ℕ) → front at last text ≡ Ok (kind, n) → IsSliced last kind n text
+pub front_sound : (at : ℕ) → (last : Option TokenKind) (text : List ℕ) (kind : TokenKind) (n : ℕ) → front at last text ≡ Ok (kind, n) → IsSliced last kind n text
 unfolding front
 front_sound at last [] kind n h = err_ok (BadByte at) (kind, n) h
 front_sound at last (b ∷ after) kind n h = by_first (is_ascii_digit b) (begins_word b) (b == quote) refl (b == tick) refl h
@@ -237,7 +237,7 @@ front_sound at last (b ∷ after) kind n h = by_first (is_ascii_digit b) (begins
     by_first false false false eq false et g = mark_sound at last b after kind n et g
 
 -- where a token stands no comment opens
-no_comment : (at : ℕ) → (last : Option Kind) (text : List ℕ) (x : Kind × ℕ) → Stands text → front at last text ≡ Ok x → opens_comment text ≡ false
+no_comment : (at : ℕ) → (last : Option TokenKind) (text : List ℕ) (x : TokenKind × ℕ) → Stands text → front at last text ≡ Ok x → opens_comment text ≡ false
 unfolding front
 no_comment at last [] x s h = refl
 no_comment at last (b ∷ after) x s h = ap (λ t. t || b == slash && begins star after) s.1 ∙ by_test (b == slash) refl (begins star after) refl
@@ -250,7 +250,7 @@ no_comment at last (b ∷ after) x s h = ap (λ t. t || b == slash && begins sta
     by_test true e false f = refl
     by_test false e u f = refl
 
-pub front_stands : (at : ℕ) → (last : Option Kind) (text : List ℕ) (kind : Kind) (n : ℕ) → Stands text → front at last text ≡ Ok (kind, n) → IsFront last kind n text
+pub front_stands : (at : ℕ) → (last : Option TokenKind) (text : List ℕ) (kind : TokenKind) (n : ℕ) → Stands text → front at last text ≡ Ok (kind, n) → IsFront last kind n text
 front_stands at last text kind n s h =
     let f = front_sound at last text kind n h in
     let front_is : take n text ≡ f.slice = ap (λ m. take m text) f.count ∙ ap (λ x. take (length f.slice) x) f.whole ∙ take-append_seam f.slice f.rest in
@@ -264,6 +264,6 @@ front_stands at last text kind n s h =
       within = omega (arith, f.count, ap (λ (x : List ℕ). length x) f.whole, length-append f.slice f.rest);
     }
 
-pub found_stands : (at : ℕ) → (last : Option Kind) (text : List ℕ) (r : Found) → Stands text → r ≡ front at last text → IfOk r (λ t. IsFront last t.0 t.1 text)
+pub found_stands : (at : ℕ) → (last : Option TokenKind) (text : List ℕ) (r : Found) → Stands text → r ≡ front at last text → IfOk r (λ t. IsFront last t.0 t.1 text)
 found_stands at last text (Ok t) s e = front_stands at last text t.0 t.1 s (sym e)
 found_stands at last text (Err p) s e = tt

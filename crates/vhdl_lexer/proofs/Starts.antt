@@ -3,11 +3,11 @@ use Rattle.std.proofs.Common.{◌≡◌, ℕ, ◌==◌, ◌&&◌, Bool, true, fa
 use Rattle.std.specs.Char.{is_ascii_digit}
 use Rattle.std.proofs.lemmas.Bool.{eqb-true}
 use Rattle.std.proofs.lemmas.Bool.Decides.{nat_tests}
-use Rattle.vhdl_lexer.specs.declared.byte.Class.{Class}
+use Rattle.vhdl_lexer.specs.declared.byte.ByteClass.{ByteClass}
 use Rattle.vhdl_lexer.specs.declared.fault.LexFault.{LexFault}
 use Rattle.vhdl_lexer.specs.declared.fault.LexFault.TheVariants as fault
-use Rattle.vhdl_lexer.specs.declared.token.Kind.{Kind}
-use Rattle.vhdl_lexer.specs.declared.token.Kind.TheVariants as k
+use Rattle.vhdl_lexer.specs.declared.token.TokenKind.{TokenKind}
+use Rattle.vhdl_lexer.specs.declared.token.TokenKind.TheVariants as k
 use Rattle.vhdl_lexer.specs.Bytes.{quote, slash, star, dash, is_separator, is_word_byte, begins}
 use Rattle.vhdl_lexer.specs.Separators.{has_close, opens_comment}
 use Rattle.vhdl_lexer.specs.Words.{opened_class}
@@ -47,7 +47,7 @@ NoSeparator : List ℕ → Type 0
 NoSeparator [] = ⊥
 NoSeparator (b ∷ text) = is_separator b ≡ false
 
-element_starts : (last : Option Kind) (kind : Kind) (slice rest : List ℕ) → IsElement last kind slice rest → NoSeparator (slice ++ rest)
+element_starts : (last : Option TokenKind) (kind : TokenKind) (slice rest : List ℕ) → IsElement last kind slice rest → NoSeparator (slice ++ rest)
 unfolding NoSeparator
 element_starts last kind [] rest (inl w) = absurd (true≢false (sym w.0))
 element_starts last kind (b ∷ slice) rest (inl w) = word_separator b (begins_word-word b (letter_begins b (both_true _ _ w.0).0))
@@ -57,17 +57,17 @@ element_starts last kind slice rest (inr (inr (inl c))) = subst (λ x. NoSeparat
 element_starts last kind slice rest (inr (inr (inr (inl s)))) = subst (λ x. NoSeparator (x ++ rest)) (sym s.1) refl
 element_starts last kind slice rest (inr (inr (inr (inr (inl s))))) =
     subst (λ x. NoSeparator (x ++ rest)) (sym s.3) (word_separator s.0 (begins_word-word s.0 (base_begins s.0 s.1 s.4)))
-element_starts last kind [] rest (inr (inr (inr (inr (inr d))))) = let never : ◌≡◌ {A = Option Kind} None (Some kind) = d.0 in absurd (cc)
+element_starts last kind [] rest (inr (inr (inr (inr (inr d))))) = let never : ◌≡◌ {A = Option TokenKind} None (Some kind) = d.0 in absurd (cc)
 element_starts last kind (b ∷ []) rest (inr (inr (inr (inr (inr d))))) = fails (is_separator b) (single b) kind d.0 (separator_single b)
 element_starts last kind (b ∷ c ∷ []) rest (inr (inr (inr (inr (inr d))))) = fails (is_separator b) (pair b c) kind d.0 (separator_pair b c)
-element_starts last kind (b ∷ c ∷ x ∷ slice) rest (inr (inr (inr (inr (inr d))))) = let never : ◌≡◌ {A = Option Kind} None (Some kind) = d.0 in absurd (cc)
+element_starts last kind (b ∷ c ∷ x ∷ slice) rest (inr (inr (inr (inr (inr d))))) = let never : ◌≡◌ {A = Option TokenKind} None (Some kind) = d.0 in absurd (cc)
 
 starts_stand : (text : List ℕ) → NoSeparator text → opens_comment text ≡ false → Stands text
 unfolding NoSeparator
 starts_stand [] s o = tt
 starts_stand (b ∷ text) s o = let e = either_false (b == dash && begins dash text) (b == slash && begins star text) o in stays_plain b text s e.0 e.1
 
-pub token_stands : (last : Option Kind) (kind : Kind) (slice rest : List ℕ) → IsToken last kind slice rest → Stands (slice ++ rest)
+pub token_stands : (last : Option TokenKind) (kind : TokenKind) (slice rest : List ℕ) → IsToken last kind slice rest → Stands (slice ++ rest)
 token_stands last kind slice rest t = starts_stand (slice ++ rest) (element_starts last kind slice rest t.0) t.1
 
 -- ---- faults
@@ -80,11 +80,11 @@ quote_stands : (text : List ℕ) → Stands (quote ∷ text)
 quote_stands text = stays_plain quote text refl refl refl
 
 -- a byte that no delimiter begins with is none of them
-pub not_mark : (b v : ℕ) (kind : Kind) → single b ≡ None → single v ≡ Some kind → (b == v) ≡ false
+pub not_mark : (b v : ℕ) (kind : TokenKind) → single b ≡ None → single v ≡ Some kind → (b == v) ≡ false
 not_mark b v kind none some = by_test (b == v) refl
   where
     by_test : (t : Bool) → (b == v) ≡ t → t ≡ false
-    by_test true e = let never : ◌≡◌ {A = Option Kind} None (Some kind) = sym none ∙ ap single (eqb-true b v e) ∙ some in absurd (cc)
+    by_test true e = let never : ◌≡◌ {A = Option TokenKind} None (Some kind) = sym none ∙ ap single (eqb-true b v e) ∙ some in absurd (cc)
     by_test false e = refl
 
 stray_stands : (b : ℕ) (text : List ℕ) → IsStray b → Stands (b ∷ text)
@@ -94,7 +94,7 @@ stray_stands b text s =
 quoted_stands : (text : List ℕ) → begins quote text ≡ true → Stands text
 quoted_stands text e = let w = begins_with quote text e in subst Stands (sym w.1) (quote_stands w.0)
 
-bits_stand : (text : List ℕ) (class : Class) → opened_class text ≡ Some class → Stands text
+bits_stand : (text : List ℕ) (class : ByteClass) → opened_class text ≡ Some class → Stands text
 bits_stand text class e =
     let o = opened_bits text class e in
     subst Stands (sym o.2) (word_stands o.0 (quote ∷ o.1) (begins_word-word o.0 (base_begins o.0 class o.3)))

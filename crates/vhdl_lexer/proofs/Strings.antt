@@ -3,9 +3,9 @@ use Rattle.std.proofs.Common.{◌≡◌, ℕ, ◌+◌, ◌==◌, ◌&&◌, Bool,
 use Rattle.std.specs.List.{list_all}
 use Rattle.std.proofs.lemmas.Bool.{eqb-true}
 use Rattle.std.proofs.Math.Seq.{take-append_seam}
-use Rattle.vhdl_lexer.specs.declared.byte.Class.{Class}
+use Rattle.vhdl_lexer.specs.declared.byte.ByteClass.{ByteClass}
 use Rattle.vhdl_lexer.specs.declared.fault.LexFault.TheVariants.{BadByte, OpenString, BadNumber}
-use Rattle.vhdl_lexer.specs.declared.token.Kind.TheVariants as k
+use Rattle.vhdl_lexer.specs.declared.token.TokenKind.TheVariants as k
 use Rattle.vhdl_lexer.specs.Bytes.{quote, ends_line, is_printable, begins}
 use Rattle.vhdl_lexer.specs.Words.{is_joined}
 use Rattle.vhdl_lexer.specs.Literals.{is_quoted, is_doubled, is_unquoted}
@@ -139,7 +139,7 @@ closed_or_open_bits (b ∷ text) = by_mark (b == quote) refl (ends_line b) refl 
     by_mark false e true f later = inr (rw (e, f) refl)
     by_mark false e false f later = more e f later
 
-pub bit_string_closed : (at : ℕ) → (class : Class) (text body rest : List ℕ) → text ≡ body ++ quote ∷ rest → is_unquoted body ≡ true →
+pub bit_string_closed : (at : ℕ) → (class : ByteClass) (text body rest : List ℕ) → text ≡ body ++ quote ∷ rest → is_unquoted body ≡ true →
     bit_string at class text ≡ cond (is_joined class body) (Ok (k.BitString, length body + 3)) (Err (BadNumber at))
 unfolding bit_string
 bit_string_closed at class text body rest e q =
@@ -147,6 +147,6 @@ bit_string_closed at class text body rest e q =
     ∙ ap (λ x. cond (is_joined class x) (Ok (k.BitString, before text (quote ∷ rest) + 3)) (Err (BadNumber at))) (take_before text body rest e)
     ∙ ap (λ n. cond (is_joined class body) (Ok (k.BitString, n + 3)) (Err (BadNumber at))) (before_end text body rest e)
 
-pub bit_string_open : (at : ℕ) → (class : Class) (text : List ℕ) → from_first_quote text ≡ None → bit_string at class text ≡ Err (OpenString at)
+pub bit_string_open : (at : ℕ) → (class : ByteClass) (text : List ℕ) → from_first_quote text ≡ None → bit_string at class text ≡ Err (OpenString at)
 unfolding bit_string
 bit_string_open at class text e = ap (bit_string_to at class text) e

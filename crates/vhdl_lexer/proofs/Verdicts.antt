@@ -1,12 +1,12 @@
 -- What the loop's end says of the source.
 use Rattle.std.proofs.Common.{◌≡◌, ℕ, ◌+◌, ◌-◌, ◌≤◌, List, [], ◌∷◌, ◌++◌, length, Err, IfSome, Option, Some, None, inl, inr, refl, sym, ap, ◌∙◌, subst, true≢false, arith}
-use Rattle.vhdl_lexer.specs.declared.token.Kind.{Kind}
+use Rattle.vhdl_lexer.specs.declared.token.TokenKind.{TokenKind}
 use Rattle.vhdl_lexer.specs.declared.token.Token.{Token}
 use Rattle.vhdl_lexer.specs.declared.fault.LexFault.{LexFault}
 use Rattle.vhdl_lexer.specs.declared.fault.LexFault.TheVariants as fault
 use Rattle.vhdl_lexer.specs.Cut.{IsNext, Cuts, CutsTo}
 use Rattle.vhdl_lexer.specs.Bytes.{quote, slash, star}
-use Rattle.vhdl_lexer.specs.declared.byte.Class.{Class}
+use Rattle.vhdl_lexer.specs.declared.byte.ByteClass.{ByteClass}
 use Rattle.vhdl_lexer.specs.Fault.{fault_byte, Faulty, StartsFirst, IsRefusal, HasFault}
 use Rattle.vhdl_lexer.specs.Scan.{front, skip}
 use Rattle.vhdl_lexer.proofs.Sound.{err_ok}
@@ -39,7 +39,7 @@ fault_starts fault.NoMemory source r h = absurd r
 
 -- ---- where the front is a fault
 
-pub reached_fault : (source : List ℕ) (tokens : List Token) (last : Option Kind) (text : List ℕ) (p : LexFault) →
+pub reached_fault : (source : List ℕ) (tokens : List Token) (last : Option TokenKind) (text : List ℕ) (p : LexFault) →
     Reached source tokens last text → (skip text ≡ [] → ⊥) → front (length source - length (skip text)) last (skip text) ≡ Err p → StartsFirst p source
 reached_fault source tokens last text p r some e =
     let s = skip_skipped text in
@@ -60,7 +60,7 @@ reached_fault source tokens last text p r some e =
     }
 
 -- and its byte is within the source
-pub reached_placed : (source : List ℕ) (last : Option Kind) (text : List ℕ) (p : LexFault) → (skip text ≡ [] → ⊥) →
+pub reached_placed : (source : List ℕ) (last : Option TokenKind) (text : List ℕ) (p : LexFault) → (skip text ≡ [] → ⊥) →
     front (length source - length (skip text)) last (skip text) ≡ Err p → IfSome (fault_byte p) (λ at. at ≤ length source)
 reached_placed source last text p some e =
     let s = skip_skipped text in
@@ -71,16 +71,16 @@ reached_placed source last text p some e =
 -- ---- faults and tokens are the only ones
 
 -- a state of the cut where the lexer meets a fault
-record Stuck (p : LexFault) (last : Option Kind) (place : ℕ) (left : List ℕ) : Type 0 where
+record Stuck (p : LexFault) (last : Option TokenKind) (place : ℕ) (left : List ℕ) : Type 0 where
   met : front (place + (length left - length (skip left))) last (skip left) ≡ Err p
 
-stuck_next : {A : Type 0} (p : LexFault) (last : Option Kind) (at place : ℕ) (text : List ℕ) (t : Token) (rest : List ℕ) →
+stuck_next : {A : Type 0} (p : LexFault) (last : Option TokenKind) (at place : ℕ) (text : List ℕ) (t : Token) (rest : List ℕ) →
     Stuck p last place text → IsNext last at text t rest → A
 stuck_next p last at place text t rest s n =
     err_ok p (t.kind, length n.slice) (sym s.met ∙ next_found last at text t rest n (place + (length text - length (skip text))))
 
 -- from one state the cut goes to one such state
-same_stuck : (b : Option Kind) (at : ℕ) (text : List ℕ) (ts us : List Token) (l m : Option Kind) (place other : ℕ) (left back : List ℕ) (p q : LexFault) →
+same_stuck : (b : Option TokenKind) (at : ℕ) (text : List ℕ) (ts us : List Token) (l m : Option TokenKind) (place other : ℕ) (left back : List ℕ) (p q : LexFault) →
     CutsTo b at text ts l place left → CutsTo b at text us m other back → Stuck p l place left → Stuck q m other back → p ≡ q
 same_stuck b at text [] [] l m place other left back p q c d s r =
     let lefts : left ≡ back = sym c.2 ∙ d.2 in
@@ -100,7 +100,7 @@ same_stuck b at text (t ∷ ts) (u ∷ us) l m place other left back p q c d s r
     same_stuck (Some t.kind) t.end c.0 ts us l m place other left back p q c.2 others s r
 
 -- what cuts the whole text meets no fault
-never_stuck : {A : Type 0} (b : Option Kind) (at : ℕ) (text : List ℕ) (ts us : List Token) (m : Option Kind) (other : ℕ) (back : List ℕ) (q : LexFault) →
+never_stuck : {A : Type 0} (b : Option TokenKind) (at : ℕ) (text : List ℕ) (ts us : List Token) (m : Option TokenKind) (other : ℕ) (back : List ℕ) (q : LexFault) →
     Cuts b at text ts → CutsTo b at text us m other back → Stuck q m other back → (skip back ≡ [] → ⊥) → A
 never_stuck b at text [] [] m other back q c d r some = absurd (some (ap skip (sym d.2) ∙ leads_skip c.0 text [] c.1 tt))
 never_stuck b at text [] (u ∷ us) m other back q c d r some = next_empty b at text u d.0 (leads_skip c.0 text [] c.1 tt) d.1
@@ -130,7 +130,7 @@ faulty_some (fault.BadByte at) (inl s) = no_nil s.0 s.1 s.2
 faulty_some (fault.BadByte at) (inr s) = no_nil quote (s.0 ++ quote ∷ s.1) s.2.0
 faulty_some (fault.OpenComment at) c = no_nil slash (star ∷ c.0) c.1
 faulty_some (fault.OpenString at) (inl s) = true≢false (sym s.0)
-faulty_some (fault.OpenString at) (inr s) = let never : ◌≡◌ {A = Option Class} None (Some s.0) = s.1 in absurd (cc)
+faulty_some (fault.OpenString at) (inr s) = let never : ◌≡◌ {A = Option ByteClass} None (Some s.0) = s.1 in absurd (cc)
 faulty_some (fault.BadIdentifier at) i = i.0
 faulty_some (fault.BadNumber at) (inl i) = true≢false (sym i.0)
 faulty_some (fault.BadNumber at) (inr s) = no_nil s.3.0 (quote ∷ (s.1 ++ quote ∷ s.2)) s.3.1

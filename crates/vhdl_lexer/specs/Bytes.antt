@@ -2,8 +2,8 @@
 use Rattle.std.specs.Prelude.{◌≡◌, ℕ, ◌&&◌, ◌||◌, ◌==◌, nat_le, Bool, false, List, [], ◌∷◌}
 use Rattle.std.specs.Char.{is_ascii_digit, is_ascii_hexdigit, is_ascii_alphabetic, is_ascii_alphanumeric}
 use Rattle.std.specs.Int.{is_in_range}
-use Rattle.vhdl_lexer.specs.declared.byte.Class.{Class}
-use Rattle.vhdl_lexer.specs.declared.byte.Class.TheVariants.{LetterOrDigit, Decimal, Hexadecimal, Octal, Binary}
+use Rattle.vhdl_lexer.specs.declared.byte.ByteClass.{ByteClass}
+use Rattle.vhdl_lexer.specs.declared.byte.ByteClass.TheVariants.{LetterOrDigit, Decimal, Hexadecimal, Octal, Binary}
 
 -- the bytes that have a name here
 abbrev pub quote : ℕ
@@ -51,7 +51,7 @@ abbrev pub begins_word : ℕ → Bool
 begins_word b = is_ascii_alphabetic b || b == underscore
 
 -- the bytes of a class: letters and digits, or the digits of base 10, 16, 8 or 2
-abbrev pub has_class : Class → ℕ → Bool
+abbrev pub has_class : ByteClass → ℕ → Bool
 has_class LetterOrDigit b = is_ascii_alphanumeric b
 has_class Decimal b = is_ascii_digit b
 has_class Hexadecimal b = is_ascii_hexdigit b

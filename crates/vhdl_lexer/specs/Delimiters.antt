@@ -1,12 +1,12 @@
 -- Delimiters (IEEE 1076-2008, 15.3).
 use Rattle.std.specs.Prelude.{◌≡◌, ℕ, ◌&&◌, ◌==◌, false, if◌then◌else◌, List, [], ◌∷◌, ◌++◌, Option, Some, None}
-use Rattle.vhdl_lexer.specs.declared.token.Kind.{Kind}
-use Rattle.vhdl_lexer.specs.declared.token.Kind.TheVariants as k
+use Rattle.vhdl_lexer.specs.declared.token.TokenKind.{TokenKind}
+use Rattle.vhdl_lexer.specs.declared.token.TokenKind.TheVariants as k
 use Rattle.vhdl_lexer.specs.Bytes.{tick}
 use Rattle.vhdl_lexer.specs.Literals.{may_open, closes}
 
 -- `=>` `:=` `<=` `>=` `/=`
-abbrev pub pair : ℕ → ℕ → Option Kind
+abbrev pub pair : ℕ → ℕ → Option TokenKind
 pair b c =
     if b == 61 && c == 62 then Some k.Arrow else
     (if b == 58 && c == 61 then Some k.Assign else
@@ -15,7 +15,7 @@ pair b c =
     (if b == 47 && c == 61 then Some k.NotEqual else None))))
 
 -- `&` `'` `(` `)` `*` `+` `,` `-` `.` `/` `:` `;` `<` `=` `>` `|`
-abbrev pub single : ℕ → Option Kind
+abbrev pub single : ℕ → Option TokenKind
 single b =
     if b == 38 then Some k.Ampersand else
     (if b == 39 then Some k.Tick else
@@ -35,14 +35,14 @@ single b =
     (if b == 124 then Some k.Bar else None)))))))))))))))
 
 -- the delimiter that a text is
-abbrev pub delimiter : List ℕ → Option Kind
+abbrev pub delimiter : List ℕ → Option TokenKind
 delimiter [] = None
 delimiter (b ∷ []) = single b
 delimiter (b ∷ c ∷ []) = pair b c
 delimiter (b ∷ c ∷ d ∷ text) = None
 
 -- the longest delimiter, where rest follows; a tick is one where it opens no character literal
-abbrev pub IsDelimiter : Option Kind → Kind → List ℕ → List ℕ → Type 0
+abbrev pub IsDelimiter : Option TokenKind → TokenKind → List ℕ → List ℕ → Type 0
 IsDelimiter before kind slice rest =
     (delimiter slice ≡ Some kind)
     × ((c : ℕ) (after : List ℕ) → rest ≡ c ∷ after → delimiter (slice ++ c ∷ []) ≡ None)

@@ -1,10 +1,10 @@
 -- What is wrong with a text that no tokens cut.
 use Rattle.std.specs.Prelude.{◌≡◌, ℕ, ◌+◌, ◌-◌, ◌<◌, ◌≤◌, ◌==◌, true, false, List, [], ◌∷◌, ◌++◌, length, Option, Some, None, ◌⊎◌}
 use Rattle.std.specs.List.{list_all}
-use Rattle.vhdl_lexer.specs.declared.byte.Class.{Class}
+use Rattle.vhdl_lexer.specs.declared.byte.ByteClass.{ByteClass}
 use Rattle.vhdl_lexer.specs.declared.fault.LexFault.{LexFault}
 use Rattle.vhdl_lexer.specs.declared.fault.LexFault.TheVariants.{BadByte, OpenComment, OpenString, BadIdentifier, BadNumber, TooLong, NoMemory}
-use Rattle.vhdl_lexer.specs.declared.token.Kind.{Kind}
+use Rattle.vhdl_lexer.specs.declared.token.TokenKind.{TokenKind}
 use Rattle.vhdl_lexer.specs.declared.token.Token.{Token}
 use Rattle.vhdl_lexer.specs.Bytes.{quote, star, slash, is_separator, is_printable, is_word_byte, begins_word, begins}
 use Rattle.vhdl_lexer.specs.Separators.{has_close, LeadsTo}
@@ -38,8 +38,8 @@ fault_byte NoMemory = None
 -- ---- the conditions
 
 -- no such slice stands at the front of the text
-abbrev pub Absent : (Kind → List ℕ → List ℕ → Type 0) → List ℕ → Type 0
-Absent Form text = (kind : Kind) (slice rest : List ℕ) → text ≡ slice ++ rest → Form kind slice rest → ⊥
+abbrev pub Absent : (TokenKind → List ℕ → List ℕ → Type 0) → List ℕ → Type 0
+Absent Form text = (kind : TokenKind) (slice rest : List ℕ) → text ≡ slice ++ rest → Form kind slice rest → ⊥
 
 -- a byte that is no separator and begins no token
 abbrev pub IsStray : ℕ → Type 0
@@ -59,7 +59,7 @@ IsOpenComment text = (body : List ℕ) × (text ≡ slash ∷ star ∷ body) × 
 abbrev pub IsOpenString : List ℕ → Type 0
 IsOpenString text =
     ((begins quote text ≡ true) × ((body rest : List ℕ) → IsClosedString text body rest → ⊥))
-    ⊎ ((class : Class) × (opened_class text ≡ Some class) × ((body rest : List ℕ) → IsClosedBitString class text body rest → ⊥))
+    ⊎ ((class : ByteClass) × (opened_class text ≡ Some class) × ((body rest : List ℕ) → IsClosedBitString class text body rest → ⊥))
 
 abbrev pub BeginsWord : List ℕ → Type 0
 BeginsWord [] = ⊥
@@ -74,7 +74,7 @@ IsBadIdentifier text = BeginsWord text × (opened_class text ≡ None) × Absent
 abbrev pub IsBadNumber : List ℕ → Type 0
 IsBadNumber text =
     ((begins_digit text ≡ true) × Absent IsInteger text)
-    ⊎ ((class : Class) × (body : List ℕ) × (rest : List ℕ) × IsClosedBitString class text body rest × (is_joined class body ≡ false))
+    ⊎ ((class : ByteClass) × (body : List ℕ) × (rest : List ℕ) × IsClosedBitString class text body rest × (is_joined class body ≡ false))
 
 -- what stands at the front of the text, where the fault is one of a token
 abbrev pub Faulty : LexFault → List ℕ → Type 0
@@ -89,7 +89,7 @@ Faulty NoMemory text = ⊥
 -- tokens cut the source up to the fault's byte, separators and comments aside, and there it is
 pub record StartsFirst (fault : LexFault) (source : List ℕ) : Type 0 where
   pub tokens : List Token
-  pub last : Option Kind
+  pub last : Option TokenKind
   pub place : ℕ
   pub left : List ℕ
   pub cut : CutsTo None 0 source tokens last place left

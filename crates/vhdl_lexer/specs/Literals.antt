@@ -2,10 +2,10 @@
 use Rattle.std.specs.Prelude.{◌≡◌, ℕ, ◌+◌, ◌-◌, ◌*◌, ◌≤◌, ◌&&◌, ◌||◌, ◌==◌, not, Bool, true, false, if◌then◌else◌, List, [], ◌∷◌, ◌++◌, Option, Some, None}
 use Rattle.std.specs.Char.{is_ascii_digit}
 use Rattle.std.specs.List.{list_all}
-use Rattle.vhdl_lexer.specs.declared.byte.Class.{Class}
-use Rattle.vhdl_lexer.specs.declared.byte.Class.TheVariants.{Decimal}
-use Rattle.vhdl_lexer.specs.declared.token.Kind.{Kind}
-use Rattle.vhdl_lexer.specs.declared.token.Kind.TheVariants as k
+use Rattle.vhdl_lexer.specs.declared.byte.ByteClass.{ByteClass}
+use Rattle.vhdl_lexer.specs.declared.byte.ByteClass.TheVariants.{Decimal}
+use Rattle.vhdl_lexer.specs.declared.token.TokenKind.{TokenKind}
+use Rattle.vhdl_lexer.specs.declared.token.TokenKind.TheVariants as k
 use Rattle.vhdl_lexer.specs.Bytes.{quote, hash, tick, point, is_word_byte, is_printable, ends_line, begins}
 use Rattle.vhdl_lexer.specs.Words.{is_joined, base_class}
 
@@ -33,14 +33,14 @@ abbrev pub goes_on_number : List ℕ → Bool
 goes_on_number [] = false
 goes_on_number (b ∷ text) = is_word_byte b || b == hash || b == point && begins_digit text
 
-abbrev pub IsInteger : Kind → List ℕ → List ℕ → Type 0
+abbrev pub IsInteger : TokenKind → List ℕ → List ℕ → Type 0
 IsInteger kind slice rest =
     (is_joined Decimal slice ≡ true) × (goes_on_number rest ≡ false) × (integer_of slice ≤ greatest_integer) × (kind ≡ k.Integer)
 
 -- ---- characters
 
 -- a tick behind this token may open a character literal: behind an identifier and `)` it begins an attribute's name
-abbrev pub may_open : Option Kind → Bool
+abbrev pub may_open : Option TokenKind → Bool
 may_open None = true
 may_open (Some k.Identifier) = false
 may_open (Some k.RightParen) = false
@@ -51,7 +51,7 @@ abbrev pub closes : List ℕ → Bool
 closes [] = false
 closes (c ∷ text) = is_printable c && begins tick text
 
-abbrev pub IsCharacter : Option Kind → Kind → List ℕ → Type 0
+abbrev pub IsCharacter : Option TokenKind → TokenKind → List ℕ → Type 0
 IsCharacter before kind slice =
     (c : ℕ) × (slice ≡ tick ∷ c ∷ tick ∷ []) × (is_printable c ≡ true) × (may_open before ≡ true) × (kind ≡ k.Character)
 
@@ -72,7 +72,7 @@ abbrev mutual
 abbrev pub IsClosedString : List ℕ → List ℕ → List ℕ → Type 0
 IsClosedString text body rest = (text ≡ quote ∷ (body ++ quote ∷ rest)) × (is_quoted body ≡ true) × (begins quote rest ≡ false)
 
-abbrev pub IsString : Kind → List ℕ → List ℕ → Type 0
+abbrev pub IsString : TokenKind → List ℕ → List ℕ → Type 0
 IsString kind slice rest =
     (body : List ℕ) × (slice ≡ quote ∷ (body ++ quote ∷ [])) × (is_quoted body ≡ true) × (begins quote rest ≡ false)
     × (list_all is_printable body ≡ true) × (kind ≡ k.String)
@@ -84,11 +84,11 @@ abbrev pub is_unquoted : List ℕ → Bool
 is_unquoted text = list_all (λ b. not (ends_line b) && not (b == quote)) text
 
 -- a base specifier and a quotation mark open the text, and the next one stands on its line: body is between them
-abbrev pub IsClosedBitString : Class → List ℕ → List ℕ → List ℕ → Type 0
+abbrev pub IsClosedBitString : ByteClass → List ℕ → List ℕ → List ℕ → Type 0
 IsClosedBitString class text body rest =
     (base : ℕ) × (text ≡ base ∷ quote ∷ (body ++ quote ∷ rest)) × (base_class base ≡ Some class) × (is_unquoted body ≡ true)
 
-abbrev pub IsBitString : Kind → List ℕ → Type 0
+abbrev pub IsBitString : TokenKind → List ℕ → Type 0
 IsBitString kind slice =
-    (base : ℕ) × (class : Class) × (digits : List ℕ) × (slice ≡ base ∷ quote ∷ (digits ++ quote ∷ []))
+    (base : ℕ) × (class : ByteClass) × (digits : List ℕ) × (slice ≡ base ∷ quote ∷ (digits ++ quote ∷ []))
     × (base_class base ≡ Some class) × (is_joined class digits ≡ true) × (kind ≡ k.BitString)

@@ -3,12 +3,12 @@ use Rattle.std.specs.Prelude.{◌≡◌, ℕ, ◌+◌, ◌-◌, ◌≤◌, ◌&&
 use Rattle.std.specs.Prelude.{nat_le, not, Bool, false, List, take, drop, length, map, Option, Some, None, Result, Ok, Err}
 use Rattle.std.specs.Char.{is_ascii_digit, to_ascii_lowercase}
 use Rattle.std.specs.List.{list_all, filter, prefix_len}
-use Rattle.vhdl_lexer.specs.declared.byte.Class.{Class}
-use Rattle.vhdl_lexer.specs.declared.byte.Class.TheVariants.{Decimal}
+use Rattle.vhdl_lexer.specs.declared.byte.ByteClass.{ByteClass}
+use Rattle.vhdl_lexer.specs.declared.byte.ByteClass.TheVariants.{Decimal}
 use Rattle.vhdl_lexer.specs.declared.fault.LexFault.{LexFault}
 use Rattle.vhdl_lexer.specs.declared.fault.LexFault.TheVariants.{BadByte, OpenComment, OpenString, BadIdentifier, BadNumber}
-use Rattle.vhdl_lexer.specs.declared.token.Kind.{Kind}
-use Rattle.vhdl_lexer.specs.declared.token.Kind.TheVariants as k
+use Rattle.vhdl_lexer.specs.declared.token.TokenKind.{TokenKind}
+use Rattle.vhdl_lexer.specs.declared.token.TokenKind.TheVariants as k
 use Rattle.vhdl_lexer.specs.Bytes.{quote, tick, star, dash, slash, ends_line, is_separator, is_printable, is_word_byte, begins_word, begins}
 use Rattle.vhdl_lexer.specs.Separators.{has_close}
 use Rattle.vhdl_lexer.specs.Words.{Word, reserved_words, is_joined, is_identifier, word_kind, opened_class}
@@ -59,7 +59,7 @@ Stands (b ∷ text) =
 
 -- a kind and a length in bytes, or a fault of the token that starts at some byte
 abbrev pub Found : Type 0
-Found = Result (Kind × ℕ) LexFault
+Found = Result (TokenKind × ℕ) LexFault
 
 -- the bytes of a word or number at the front
 abbrev pub run : List ℕ → ℕ
@@ -114,38 +114,38 @@ unfoldable pub string : ℕ → List ℕ → Found
 string at text = string_to at text (from_quote text)
 
 -- behind its base specifier and quotation mark, and closed where this end begins
-abbrev pub bit_string_to : ℕ → Class → List ℕ → Option (List ℕ) → Found
+abbrev pub bit_string_to : ℕ → ByteClass → List ℕ → Option (List ℕ) → Found
 bit_string_to at class text None = Err (OpenString at)
 bit_string_to at class text (Some end) =
     if is_joined class (take (before text end) text) then Ok (k.BitString, before text end + 3) else Err (BadNumber at)
 
-unfoldable pub bit_string : ℕ → Class → List ℕ → Found
+unfoldable pub bit_string : ℕ → ByteClass → List ℕ → Found
 bit_string at class text = bit_string_to at class text (from_first_quote text)
 
-abbrev pub word_or_bit_string : ℕ → Option Class → List ℕ → Found
+abbrev pub word_or_bit_string : ℕ → Option ByteClass → List ℕ → Found
 word_or_bit_string at None text = word at text
 word_or_bit_string at (Some class) text = bit_string at class (drop 2 text)
 
-unfoldable pub character : Option Kind → List ℕ → Found
+unfoldable pub character : Option TokenKind → List ℕ → Found
 character last after = if may_open last && closes after then Ok (k.Character, 3) else Ok (k.Tick, 1)
 
-abbrev pub one : ℕ → Option Kind → Found
+abbrev pub one : ℕ → Option TokenKind → Found
 one at None = Err (BadByte at)
 one at (Some kind) = Ok (kind, 1)
 
-abbrev pub two : Option Kind → Found → Found
+abbrev pub two : Option TokenKind → Found → Found
 two None shorter = shorter
 two (Some kind) shorter = Ok (kind, 2)
 
 -- the delimiter of two bytes that begins with a byte, where this text follows it
-abbrev pub longer : ℕ → List ℕ → Option Kind
+abbrev pub longer : ℕ → List ℕ → Option TokenKind
 longer b [] = None
 longer b (c ∷ after) = pair b c
 
 unfoldable pub mark : ℕ → ℕ → List ℕ → Found
 mark at b after = if b == slash && begins star after then Err (OpenComment at) else two (longer b after) (one at (single b))
 
-unfoldable pub front : ℕ → Option Kind → List ℕ → Found
+unfoldable pub front : ℕ → Option TokenKind → List ℕ → Found
 front at last [] = Err (BadByte at)
 front at last (b ∷ after) =
     if is_ascii_digit b then number at (b ∷ after)
@@ -154,7 +154,7 @@ front at last (b ∷ after) =
     else (if b == tick then character last after else mark at b after)))
 
 -- a token of this kind and length stands at the front
-pub record IsFront (last : Option Kind) (kind : Kind) (n : ℕ) (text : List ℕ) : Type 0 where
+pub record IsFront (last : Option TokenKind) (kind : TokenKind) (n : ℕ) (text : List ℕ) : Type 0 where
   pub token : IsToken last kind (take n text) (drop n text)
   pub some : 1 ≤ n
   pub within : n ≤ length text

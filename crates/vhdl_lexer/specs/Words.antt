@@ -2,20 +2,20 @@
 use Rattle.std.specs.Prelude.{◌≡◌, ℕ, ◌&&◌, ◌==◌, Bool, true, false, if◌then◌else◌, List, [], ◌∷◌, ◌++◌, Option, Some, None, codes}
 use Rattle.std.specs.Char.{is_ascii_alphabetic, to_ascii_lowercase}
 use Rattle.std.specs.Str.{str_eq_ignore_ascii_case}
-use Rattle.vhdl_lexer.specs.declared.byte.Class.{Class}
-use Rattle.vhdl_lexer.specs.declared.byte.Class.TheVariants.{LetterOrDigit, Hexadecimal, Octal, Binary}
-use Rattle.vhdl_lexer.specs.declared.token.Kind.{Kind}
-use Rattle.vhdl_lexer.specs.declared.token.Kind.TheVariants as k
+use Rattle.vhdl_lexer.specs.declared.byte.ByteClass.{ByteClass}
+use Rattle.vhdl_lexer.specs.declared.byte.ByteClass.TheVariants.{LetterOrDigit, Hexadecimal, Octal, Binary}
+use Rattle.vhdl_lexer.specs.declared.token.TokenKind.{TokenKind}
+use Rattle.vhdl_lexer.specs.declared.token.TokenKind.TheVariants as k
 use Rattle.vhdl_lexer.specs.Bytes.{quote, underscore, is_word_byte, has_class, begins, Stops}
 
 -- bytes of a class with single underscores between them
 abbrev mutual
-  pub is_joined : Class → List ℕ → Bool
+  pub is_joined : ByteClass → List ℕ → Bool
   is_joined class [] = false
   is_joined class (b ∷ text) = has_class class b && goes_on class text
 
   -- what may follow such a byte
-  pub goes_on : Class → List ℕ → Bool
+  pub goes_on : ByteClass → List ℕ → Bool
   goes_on class [] = true
   goes_on class (b ∷ text) = if has_class class b then goes_on class text else b == underscore && is_joined class text
 
@@ -26,7 +26,7 @@ is_identifier (b ∷ text) = is_ascii_alphabetic b && goes_on LetterOrDigit text
 
 -- a reserved word and its kind
 abbrev pub Word : Type 0
-Word = List ℕ × Kind
+Word = List ℕ × TokenKind
 
 -- the words that no design may use as an identifier
 abbrev pub reserved_words : List Word
@@ -132,26 +132,26 @@ reserved_words =
     []
 
 -- the kind of the first of these words that the text is, in capitals or small letters
-abbrev pub kind_among : List Word → List ℕ → Kind
+abbrev pub kind_among : List Word → List ℕ → TokenKind
 kind_among [] text = k.Identifier
 kind_among (w ∷ words) text = if str_eq_ignore_ascii_case w.0 text then w.1 else kind_among words text
 
 -- a reserved word is a kind of its own, and no identifier
-unfoldable pub word_kind : List ℕ → Kind
+unfoldable pub word_kind : List ℕ → TokenKind
 word_kind text = kind_among reserved_words text
 
 -- the digits that a base specifier is for: X, O or B, a capital or a small letter
-abbrev pub base_class : ℕ → Option Class
+abbrev pub base_class : ℕ → Option ByteClass
 base_class b =
     if to_ascii_lowercase b == 120 then Some Hexadecimal else
     (if to_ascii_lowercase b == 111 then Some Octal else
     (if to_ascii_lowercase b == 98 then Some Binary else None))
 
 -- where a base specifier and then a quotation mark open a bit string: its digits
-abbrev pub opened_class : List ℕ → Option Class
+abbrev pub opened_class : List ℕ → Option ByteClass
 opened_class [] = None
 opened_class (b ∷ text) = if begins quote text then base_class b else None
 
 -- the longest word, where rest follows; the base specifier of a bit string is none
-abbrev pub IsWord : Kind → List ℕ → List ℕ → Type 0
+abbrev pub IsWord : TokenKind → List ℕ → List ℕ → Type 0
 IsWord kind slice rest = (is_identifier slice ≡ true) × Stops is_word_byte rest × (opened_class (slice ++ rest) ≡ None) × (kind ≡ word_kind slice)

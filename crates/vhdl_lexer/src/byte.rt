@@ -5,7 +5,7 @@ ghost use Rattle.vhdl_lexer.specs.Bytes as spec;
 
 /// The bytes that may stand in a word, or in a number of some base, beside underscores.
 #[derive(Clone, Copy)]
-pub enum Class {
+pub enum ByteClass {
     /// What a word has.
     LetterOrDigit,
     /// Digits of base 10.
@@ -18,17 +18,17 @@ pub enum Class {
     Binary,
 }
 
-impl Class {
+impl ByteClass {
     /// Whether the byte is of this class.
     pub fn has(self, b: u8) -> bool
         ensures { result ≡ spec.has_class self b }
     {
         match self {
-            Class::LetterOrDigit => b.is_ascii_alphanumeric(),
-            Class::Decimal => b.is_ascii_digit(),
-            Class::Hexadecimal => b.is_ascii_hexdigit(),
-            Class::Octal => matches!(b, b'0'..=b'7'),
-            Class::Binary => matches!(b, b'0'..=b'1'),
+            ByteClass::LetterOrDigit => b.is_ascii_alphanumeric(),
+            ByteClass::Decimal => b.is_ascii_digit(),
+            ByteClass::Hexadecimal => b.is_ascii_hexdigit(),
+            ByteClass::Octal => matches!(b, b'0'..=b'7'),
+            ByteClass::Binary => matches!(b, b'0'..=b'1'),
         }
     }
 }

@@ -6,9 +6,9 @@ ghost use Rattle.vhdl_lexer.specs.Bytes as bytes;
 ghost use Rattle.vhdl_lexer.specs.Literals as spec;
 ghost use Rattle.vhdl_lexer.specs.Scan as scan;
 
-use crate::byte::{Class, begins, ends_line, is_printable, is_word_byte};
+use crate::byte::{ByteClass, begins, ends_line, is_printable, is_word_byte};
 use crate::fault::LexFault;
-use crate::token::Kind;
+use crate::token::TokenKind;
 use crate::word::{is_joined, run};
 
 /// The greatest integer that is read, 2,147,483,647.
@@ -55,27 +55,27 @@ fn begins_digit(text: &[u8]) -> bool
 
 /// The integer at the front of a text that begins with a digit, at `at`, and its length.
 #[tactic(auto, unfolding(crate::specs::Scan::number))]
-pub fn number(text: &[u8], at: usize) -> Result<(Kind, usize), LexFault>
+pub fn number(text: &[u8], at: usize) -> Result<(TokenKind, usize), LexFault>
     ensures { result ≡ scan.number at text.now }
 {
     let len = run(text);
     let (digits, rest) = text.split_at(len);
-    if is_joined(Class::Decimal, digits)
+    if is_joined(ByteClass::Decimal, digits)
         && !goes_on_number(rest)
         && integer_value(digits).is_some()
     {
-        Ok((Kind::Integer, len))
+        Ok((TokenKind::Integer, len))
     } else {
         Err(LexFault::BadNumber { at })
     }
 }
 
 /// Whether a tick behind this token may open a character literal.
-fn may_open(last: Option<Kind>) -> bool
+fn may_open(last: Option<TokenKind>) -> bool
     ensures { result ≡ spec.may_open last }
 {
     match last {
-        Some(Kind::Identifier) | Some(Kind::RightParen) => false,
+        Some(TokenKind::Identifier) | Some(TokenKind::RightParen) => false,
         _ => true,
     }
 }
@@ -92,13 +92,13 @@ fn closes(text: &[u8]) -> bool
 
 /// The character literal or the tick that stands before the text, behind that token.
 #[tactic(auto, unfolding(crate::specs::Scan::character))]
-pub fn character(last: Option<Kind>, after: &[u8]) -> Result<(Kind, usize), LexFault>
+pub fn character(last: Option<TokenKind>, after: &[u8]) -> Result<(TokenKind, usize), LexFault>
     ensures { result ≡ scan.character last after.now }
 {
     if may_open(last) && closes(after) {
-        Ok((Kind::Character, 3))
+        Ok((TokenKind::Character, 3))
     } else {
-        Ok((Kind::Tick, 1))
+        Ok((TokenKind::Tick, 1))
     }
 }
 
@@ -149,7 +149,7 @@ fn are_printable(text: &[u8]) -> bool
 
 /// The string at `at` before whose text, behind the opening quotation mark, this is.
 #[tactic(auto, unfolding(crate::specs::Scan::string))]
-pub fn string(text: &[u8], at: usize) -> Result<(Kind, usize), LexFault>
+pub fn string(text: &[u8], at: usize) -> Result<(TokenKind, usize), LexFault>
     ensures { result ≡ scan.string at text.now }
 {
     let Some(end) = from_quote(text) else {
@@ -157,7 +157,7 @@ pub fn string(text: &[u8], at: usize) -> Result<(Kind, usize), LexFault>
     };
     let len = text.len() - end.len();
     if are_printable(&text[..len]) {
-        Ok((Kind::String, len + 2))
+        Ok((TokenKind::String, len + 2))
     } else {
         Err(LexFault::BadByte { at })
     }
@@ -165,7 +165,7 @@ pub fn string(text: &[u8], at: usize) -> Result<(Kind, usize), LexFault>
 
 /// The bit string of such digits at `at`, behind the opening quotation mark.
 #[tactic(auto, unfolding(crate::specs::Scan::bit_string))]
-pub fn bit_string(class: Class, text: &[u8], at: usize) -> Result<(Kind, usize), LexFault>
+pub fn bit_string(class: ByteClass, text: &[u8], at: usize) -> Result<(TokenKind, usize), LexFault>
     ensures { result ≡ scan.bit_string at class text.now }
 {
     let Some(end) = from_first_quote(text) else {
@@ -173,7 +173,7 @@ pub fn bit_string(class: Class, text: &[u8], at: usize) -> Result<(Kind, usize),
     };
     let len = text.len() - end.len();
     if is_joined(class, &text[..len]) {
-        Ok((Kind::BitString, len + 3))
+        Ok((TokenKind::BitString, len + 3))
     } else {
         Err(LexFault::BadNumber { at })
     }

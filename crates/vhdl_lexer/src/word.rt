@@ -7,9 +7,9 @@ ghost use Rattle.vhdl_lexer.specs.Words as spec;
 ghost use Rattle.vhdl_lexer.specs.Words.{Word};
 ghost use Rattle.vhdl_lexer.specs.Scan as scan;
 
-use crate::byte::{Class, begins, is_word_byte};
+use crate::byte::{ByteClass, begins, is_word_byte};
 use crate::fault::LexFault;
-use crate::token::{Kind, RESERVED_WORDS};
+use crate::token::{TokenKind, RESERVED_WORDS};
 
 /// How many letters, digits and underscores the text begins with.
 pub fn run(text: &[u8]) -> usize
@@ -20,7 +20,7 @@ pub fn run(text: &[u8]) -> usize
 }
 
 /// Whether the text is bytes of a class with single underscores between them.
-pub fn is_joined(class: Class, text: &[u8]) -> bool
+pub fn is_joined(class: ByteClass, text: &[u8]) -> bool
     ensures { result ≡ spec.is_joined class text.now }
 {
     let [first, rest @ ..] = text else {
@@ -30,7 +30,7 @@ pub fn is_joined(class: Class, text: &[u8]) -> bool
 }
 
 /// Whether the text may follow a byte of the class in such bytes, up to their end.
-fn goes_on(class: Class, mut text: &[u8]) -> bool
+fn goes_on(class: ByteClass, mut text: &[u8]) -> bool
     ensures { result ≡ spec.goes_on class text.entry.now }
 {
     let mut joined = false;
@@ -54,7 +54,7 @@ fn is_identifier(text: &[u8]) -> bool
     let [first, rest @ ..] = text else {
         return false;
     };
-    first.is_ascii_alphabetic() && goes_on(Class::LetterOrDigit, rest)
+    first.is_ascii_alphabetic() && goes_on(ByteClass::LetterOrDigit, rest)
 }
 
 /// Whether two texts are one word, in capitals or small letters.
@@ -64,7 +64,7 @@ fn same_word(a: &[u8], b: &[u8]) -> bool
     a.eq_ignore_ascii_case(b)
 }
 
-fn kind_among(mut words: &[(&[u8], Kind)], text: &[u8]) -> Kind
+fn kind_among(mut words: &[(&[u8], TokenKind)], text: &[u8]) -> TokenKind
     ensures { result ≡ spec.kind_among (map (λ w. (w.0.now, w.1)) words.entry.now) text.now }
 {
     while let [word, rest @ ..] = words {
@@ -73,11 +73,11 @@ fn kind_among(mut words: &[(&[u8], Kind)], text: &[u8]) -> Kind
         }
         words = rest;
     }
-    Kind::Identifier
+    TokenKind::Identifier
 }
 
 /// The group of words at a place.
-fn group<'a>(groups: &[&'a [(&'a [u8], Kind)]], at: usize) -> &'a [(&'a [u8], Kind)]
+fn group<'a>(groups: &[&'a [(&'a [u8], TokenKind)]], at: usize) -> &'a [(&'a [u8], TokenKind)]
     requires { at < length groups.now }
     ensures { map {B = Word} (λ w. (w.0.now, w.1)) result.now ≡ slice_index_or (map {B = List Word}
         (λ words. map {B = Word} (λ w. (w.0.now, w.1)) words.now) groups.now) at [] }
@@ -86,7 +86,7 @@ fn group<'a>(groups: &[&'a [(&'a [u8], Kind)]], at: usize) -> &'a [(&'a [u8], Ki
 }
 
 /// The reserved words that begin with a letter.
-fn words_of(letter: u8) -> &'static [(&'static [u8], Kind)]
+fn words_of(letter: u8) -> &'static [(&'static [u8], TokenKind)]
     requires { is_ascii_alphabetic letter ≡ true }
     ensures { map (λ w. (w.0.now, w.1)) result.now ≡ scan.words_of letter }
 {
@@ -97,7 +97,7 @@ fn words_of(letter: u8) -> &'static [(&'static [u8], Kind)]
 }
 
 /// The kind of an identifier: of a reserved word, its own. Looks among the words of its letter.
-fn word_kind(text: &[u8]) -> Kind
+fn word_kind(text: &[u8]) -> TokenKind
     requires { spec.is_identifier text.now ≡ true }
     ensures { result ≡ spec.word_kind text.now }
 {
@@ -106,7 +106,7 @@ fn word_kind(text: &[u8]) -> Kind
 
 /// The identifier or reserved word at the front of a text, at `at`, and its length.
 #[tactic(auto, unfolding(crate::specs::Scan::word))]
-pub fn word(text: &[u8], at: usize) -> Result<(Kind, usize), LexFault>
+pub fn word(text: &[u8], at: usize) -> Result<(TokenKind, usize), LexFault>
     ensures { result ≡ scan.word at text.now }
 {
     let len = run(text);
@@ -119,7 +119,7 @@ pub fn word(text: &[u8], at: usize) -> Result<(Kind, usize), LexFault>
 }
 
 /// The digits of the bit string that opens here, if one does.
-pub fn opened_class(text: &[u8]) -> Option<Class>
+pub fn opened_class(text: &[u8]) -> Option<ByteClass>
     ensures { result ≡ spec.opened_class text.now }
 {
     let [base, after @ ..] = text else {
@@ -132,13 +132,13 @@ pub fn opened_class(text: &[u8]) -> Option<Class>
     }
 }
 
-fn base_class(base: u8) -> Option<Class>
+fn base_class(base: u8) -> Option<ByteClass>
     ensures { result ≡ spec.base_class base }
 {
     match base.to_ascii_lowercase() {
-        b'x' => Some(Class::Hexadecimal),
-        b'o' => Some(Class::Octal),
-        b'b' => Some(Class::Binary),
+        b'x' => Some(ByteClass::Hexadecimal),
+        b'o' => Some(ByteClass::Octal),
+        b'b' => Some(ByteClass::Binary),
         _ => None,
     }
 }

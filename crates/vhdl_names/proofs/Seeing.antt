@@ -3,9 +3,9 @@ use Rattle.std.proofs.Common.{◌≡◌, ◌⊎◌, inl, inr, ℕ, Bool, true, f
 use Rattle.std.specs.Prelude.{◌&&◌, ◌||◌, option_map, filter_map, bytes_eq}
 use Rattle.std.specs.List.{cons_option}
 use Rattle.vhdl_tree.specs.declared.declaration.Mode.{Mode}
-use Rattle.vhdl_names_rules.specs.declared.kind.Kind.{Kind}
+use Rattle.vhdl_names_rules.specs.declared.kind.ElementKind.{ElementKind}
 use Rattle.vhdl_names_rules.specs.Rules.{◌>>=◌, then_some}
-use Rattle.vhdl_names_rules.specs.Visibility as m
+use Rattle.vhdl_names_rules.specs.Visibility as visibility
 use Rattle.vhdl_names_rules.specs.Visibility.{Name, Meaning, Declared, declare, is_among, are_distinct}
 use Rattle.vhdl_names_rules.specs.Interfaces.{declared_names}
 use Rattle.vhdl_names_rules.specs.Instances.{Formal, generic_name, port_formal}
@@ -20,27 +20,27 @@ use Rattle.vhdl_names_instances.specs.declared.actuals.PortType.{PortType}
 -- ---- what a declaration is
 
 -- a generic, a port, or neither
-module _ (P : Declared → Type 0) (of_generic : (n : Name) (k : ℕ) → P (declare n (m.generic k)))
-    (of_port : (n : Name) (k : ℕ) (mode : Mode) (kind : Kind) → P (declare n (m.port k mode kind)))
+module _ (P : Declared → Type 0) (of_generic : (n : Name) (k : ℕ) → P (declare n (visibility.generic k)))
+    (of_port : (n : Name) (k : ℕ) (mode : Mode) (kind : ElementKind) → P (declare n (visibility.port k mode kind)))
     (of_neither : (d : Declared) → ((f : Seen) → with_declared f d ≡ Some f) → generic_name d ≡ None → port_formal d ≡ None → P d) where
   by : (n : Name) (x : Meaning) → P (declare n x)
-  by n (m.generic k) = of_generic n k
-  by n (m.integer_constant k) = of_neither (declare n (m.integer_constant k)) (λ f. refl) refl refl
-  by n (m.generate_parameter k) = of_neither (declare n (m.generate_parameter k)) (λ f. refl) refl refl
-  by n (m.loop_parameter k) = of_neither (declare n (m.loop_parameter k)) (λ f. refl) refl refl
-  by n (m.port k mode kind) = of_port n k mode kind
-  by n (m.signal k type) = of_neither (declare n (m.signal k type)) (λ f. refl) refl refl
-  by n (m.variable k type) = of_neither (declare n (m.variable k type)) (λ f. refl) refl refl
-  by n (m.constant k kind values) = of_neither (declare n (m.constant k kind values)) (λ f. refl) refl refl
-  by n (m.literal number count position) = of_neither (declare n (m.literal number count position)) (λ f. refl) refl refl
-  by n (m.integer_type w) = of_neither (declare n (m.integer_type w)) (λ f. refl) refl refl
-  by n (m.element_type r) = of_neither (declare n (m.element_type r)) (λ f. refl) refl refl
-  by n (m.vector_type kind r) = of_neither (declare n (m.vector_type kind r)) (λ f. refl) refl refl
-  by n (m.enumeration_type number count) = of_neither (declare n (m.enumeration_type number count)) (λ f. refl) refl refl
-  by n (m.function f) = of_neither (declare n (m.function f)) (λ f. refl) refl refl
-  by n (m.component k) = of_neither (declare n (m.component k)) (λ f. refl) refl refl
-  by n m.label = of_neither (declare n m.label) (λ f. refl) refl refl
-  by n m.unfinished = of_neither (declare n m.unfinished) (λ f. refl) refl refl
+  by n (visibility.generic k) = of_generic n k
+  by n (visibility.integer_constant k) = of_neither (declare n (visibility.integer_constant k)) (λ f. refl) refl refl
+  by n (visibility.generate_parameter k) = of_neither (declare n (visibility.generate_parameter k)) (λ f. refl) refl refl
+  by n (visibility.loop_parameter k) = of_neither (declare n (visibility.loop_parameter k)) (λ f. refl) refl refl
+  by n (visibility.port k mode kind) = of_port n k mode kind
+  by n (visibility.signal k type) = of_neither (declare n (visibility.signal k type)) (λ f. refl) refl refl
+  by n (visibility.variable k type) = of_neither (declare n (visibility.variable k type)) (λ f. refl) refl refl
+  by n (visibility.constant k kind values) = of_neither (declare n (visibility.constant k kind values)) (λ f. refl) refl refl
+  by n (visibility.literal number count position) = of_neither (declare n (visibility.literal number count position)) (λ f. refl) refl refl
+  by n (visibility.integer_type w) = of_neither (declare n (visibility.integer_type w)) (λ f. refl) refl refl
+  by n (visibility.element_type r) = of_neither (declare n (visibility.element_type r)) (λ f. refl) refl refl
+  by n (visibility.vector_type kind r) = of_neither (declare n (visibility.vector_type kind r)) (λ f. refl) refl refl
+  by n (visibility.enumeration_type number count) = of_neither (declare n (visibility.enumeration_type number count)) (λ f. refl) refl refl
+  by n (visibility.function f) = of_neither (declare n (visibility.function f)) (λ f. refl) refl refl
+  by n (visibility.component k) = of_neither (declare n (visibility.component k)) (λ f. refl) refl refl
+  by n visibility.label = of_neither (declare n visibility.label) (λ f. refl) refl refl
+  by n visibility.unfinished = of_neither (declare n visibility.unfinished) (λ f. refl) refl refl
 
   cases : (d : Declared) → P d
   cases d = by d.name d.meaning
@@ -112,7 +112,7 @@ turned f [] = ap (λ ts. Some (record f { port_types = ts })) (sym (append-nil f
 turned f (d ∷ ds) =
     cases (λ d. in_turn with_declared f (d ∷ ds) ≡ whole f (d ∷ ds)) (of_generic (λ g. turned g ds)) (of_port (λ g. turned g ds)) (of_neither (λ g. turned g ds)) d
   where
-    of_generic : ((g : Seen) → in_turn with_declared g ds ≡ whole g ds) → (n : Name) (k : ℕ) → in_turn with_declared f (declare n (m.generic k) ∷ ds) ≡ whole f (declare n (m.generic k) ∷ ds)
+    of_generic : ((g : Seen) → in_turn with_declared g ds ≡ whole g ds) → (n : Name) (k : ℕ) → in_turn with_declared f (declare n (visibility.generic k) ∷ ds) ≡ whole f (declare n (visibility.generic k) ∷ ds)
     of_generic more n k = new (is_among n f.generics)
       where
         new : (b : Bool)
@@ -121,8 +121,8 @@ turned f (d ∷ ds) =
         new true = refl
         new false = more (record f { generics = f.generics ++ n ∷ [] })
 
-    of_port : ((g : Seen) → in_turn with_declared g ds ≡ whole g ds) → (n : Name) (k : ℕ) (mode : Mode) (kind : Kind)
-        → in_turn with_declared f (declare n (m.port k mode kind) ∷ ds) ≡ whole f (declare n (m.port k mode kind) ∷ ds)
+    of_port : ((g : Seen) → in_turn with_declared g ds ≡ whole g ds) → (n : Name) (k : ℕ) (mode : Mode) (kind : ElementKind)
+        → in_turn with_declared f (declare n (visibility.port k mode kind) ∷ ds) ≡ whole f (declare n (visibility.port k mode kind) ∷ ds)
     of_port more n k mode kind = new (is_among n f.ports)
       where
         new : (b : Bool)

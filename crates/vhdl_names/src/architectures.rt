@@ -47,7 +47,7 @@ fn declare_each(
 /// one.
 fn beside_label(
     alloc: Global,
-    formals: &vhdl_names_instances::Entities,
+    formals: &vhdl_names_instances::InstanceEntities,
     sight: &mut Sight,
     tree: &syntax::Architecture,
     fault: NameFault,
@@ -64,7 +64,7 @@ fn beside_label(
 /// twice and a fault of the statements the earlier one is told.
 fn body(
     alloc: Global,
-    formals: &vhdl_names_instances::Entities,
+    formals: &vhdl_names_instances::InstanceEntities,
     sight: &mut Sight,
     declarations: Vec<Declaration>,
     tree: &syntax::Architecture,
@@ -90,7 +90,7 @@ fn body(
 pub fn architecture(
     alloc: Global,
     entities: &Entities<'_>,
-    formals: &vhdl_names_instances::Entities,
+    formals: &vhdl_names_instances::InstanceEntities,
     entity: &EntityInterface<'_>,
     described: &Described<'_>,
 ) -> Result<Architecture, NameFault>
@@ -108,7 +108,7 @@ pub fn architecture(
 fn own_architecture(
     alloc: Global,
     entities: &Entities<'_>,
-    formals: &vhdl_names_instances::Entities,
+    formals: &vhdl_names_instances::InstanceEntities,
     outline: &Outline<'_>,
     name: &[u8],
     entity: &EntityInterface<'_>,
@@ -128,7 +128,7 @@ fn own_architecture(
 pub fn architectures_of(
     alloc: Global,
     entities: &Entities<'_>,
-    formals: &vhdl_names_instances::Entities,
+    formals: &vhdl_names_instances::InstanceEntities,
     outline: &Outline<'_>,
 ) -> Result<Vec<Option<Architecture>>, NameFault>
     requires table { AreEntities formals.now (entities_view entities.now) }

@@ -85,7 +85,7 @@ fn architecture_fault(
     alloc: Global,
     outline: &Outline<'_>,
     entities: &Entities<'_>,
-    formals: &vhdl_names_instances::Entities,
+    formals: &vhdl_names_instances::InstanceEntities,
     items: &[ContextItem],
     tree: &Architecture,
 ) -> Result<(), NameFault>
@@ -106,7 +106,7 @@ fn unit_fault(
     alloc: Global,
     outline: &Outline<'_>,
     entities: &Entities<'_>,
-    formals: &vhdl_names_instances::Entities,
+    formals: &vhdl_names_instances::InstanceEntities,
     unit: &DesignUnit,
 ) -> Result<(), NameFault>
     requires table { AreEntities formals.now (entities_view entities.now) }

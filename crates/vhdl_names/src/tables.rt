@@ -24,7 +24,7 @@ fn seen_of(alloc: Global, entity: &EntityInterface<'_>) -> Result<Formals, NameF
 /// One more entity, under a name that none before it has.
 fn add_seen(
     alloc: Global,
-    table: &mut vhdl_names_instances::Entities,
+    table: &mut vhdl_names_instances::InstanceEntities,
     name: &[u8],
     entity: &EntityInterface<'_>,
 ) -> Result<(), NameFault>
@@ -38,11 +38,11 @@ fn add_seen(
 
 /// The entities of a file as instances see them. It fails for want of memory alone, and takes that
 /// of their names and of the names of their generics and ports.
-pub fn table(alloc: Global, entities: &Entities<'_>) -> Result<vhdl_names_instances::Entities, NameFault>
+pub fn table(alloc: Global, entities: &Entities<'_>) -> Result<vhdl_names_instances::InstanceEntities, NameFault>
     ensures { Gives table_view (Some (steps.table_of (entities_view entities.now))) result }
 {
     let _apart = entities.len();
-    let mut table = vhdl_names_instances::Entities {
+    let mut table = vhdl_names_instances::InstanceEntities {
         names: IndexSet::new(alloc),
         formals: Vec::new(alloc),
     };

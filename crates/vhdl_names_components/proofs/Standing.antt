@@ -12,7 +12,7 @@ use Rattle.vhdl_tree.specs.Tree as t
 use Rattle.vhdl_names_rules.specs.units.Units as u
 use Rattle.vhdl_names_rules.specs.Rules.{◌>>=◌, met}
 use Rattle.vhdl_names_rules.specs.SameText.{same_generics, same_ports}
-use Rattle.vhdl_names_rules.specs.Visibility as m
+use Rattle.vhdl_names_rules.specs.Visibility as visibility
 use Rattle.vhdl_names_rules.specs.Visibility.{Name, Declared, Sight, Declares, declare, are_distinct, with_declared, ends}
 use Rattle.vhdl_names_rules.specs.Interfaces.{Interface, EntityView, declared_names, interface, component, entity_named}
 use Rattle.vhdl_names_declarations.specs.Entered.{more, entered, entering}
@@ -28,7 +28,7 @@ none_analysed = []
 
 -- its name enters the region
 abbrev pub named : Sight → t.Component → ℕ × EntityView → Option (Sight × List u.Declaration)
-named s c e = more s.region (declare c.name.text (m.component e.0) ∷ []) >>= λ r. Some (pair (record s { region = r }) none_analysed)
+named s c e = more s.region (declare c.name.text (visibility.component e.0) ∷ []) >>= λ r. Some (pair (record s { region = r }) none_analysed)
 
 abbrev pub closed : Sight → t.Component → ℕ × EntityView → Option (Sight × List u.Declaration)
 closed s c e = met (ends c.name.text c.end_name) >>= λ _. named s c e
@@ -46,7 +46,7 @@ abbrev none : {B : Type 0} → Option B
 none = None
 
 abbrev declares : t.Component → ℕ × EntityView → Declares u.Declaration
-declares c e = record { declared = declare c.name.text (m.component e.0) ∷ []; analysed = [] }
+declares c e = record { declared = declare c.name.text (visibility.component e.0) ∷ []; analysed = [] }
 
 in_entity : (es : List EntityView) (s : Sight) (c : t.Component) →
     entering (component es) s c ≡ (entity_named es c.name.text >>= of_entity s c)
@@ -82,8 +82,8 @@ in_entity es s c = go (entity_named es c.name.text)
 
 -- ---- a name that stands twice first
 
-named_twice : (ds : List Declared) (n : Name) (k : m.Meaning) → declared_names (ds ++ declare n k ∷ []) ≡ declared_names (ds ++ declare n m.unfinished ∷ [])
-named_twice ds n k = names-append ds (declare n k ∷ []) ∙ sym (names-append ds (declare n m.unfinished ∷ []))
+named_twice : (ds : List Declared) (n : Name) (k : visibility.Meaning) → declared_names (ds ++ declare n k ∷ []) ≡ declared_names (ds ++ declare n visibility.unfinished ∷ [])
+named_twice ds n k = names-append ds (declare n k ∷ []) ∙ sym (names-append ds (declare n visibility.unfinished ∷ []))
 
 nothing : {A B : Type 0} (o : Option A) → (o >>= λ _. none {B = B}) ≡ None
 nothing None = refl
@@ -94,7 +94,7 @@ pub component_in_turn : (es : List EntityView) (s : Sight) (c : t.Component) →
 component_in_turn es s c = in_entity es s c ∙ by (are_distinct (declared_names after)) refl
   where
     after : List Declared
-    after = s.region ++ declare c.name.text m.unfinished ∷ []
+    after = s.region ++ declare c.name.text visibility.unfinished ∷ []
 
     first : Bool → Option (Unit {0})
     first b = (met b >>= λ _. Some after) >>= λ _. Some tt
@@ -102,8 +102,8 @@ component_in_turn es s c = in_entity es s c ∙ by (are_distinct (declared_names
     twice : are_distinct (declared_names after) ≡ false → (e : ℕ × EntityView) → of_entity s c e ≡ None
     twice h e =
         ap (λ b. met (same_entity c e) >>= λ _. (has_interface s c >>= λ _. (met (ends c.name.text c.end_name) >>= λ _.
-        ((met b >>= λ _. Some (s.region ++ declare c.name.text (m.component e.0) ∷ [])) >>= λ r. Some (pair (record s { region = r }) none_analysed)))))
-        (ap are_distinct (named_twice s.region c.name.text (m.component e.0)) ∙ h)
+        ((met b >>= λ _. Some (s.region ++ declare c.name.text (visibility.component e.0) ∷ [])) >>= λ r. Some (pair (record s { region = r }) none_analysed)))))
+        (ap are_distinct (named_twice s.region c.name.text (visibility.component e.0)) ∙ h)
         ∙ ap (λ o. met (same_entity c e) >>= λ _. (has_interface s c >>= λ _. o)) (nothing (met (ends c.name.text c.end_name)))
         ∙ ap (λ o. met (same_entity c e) >>= λ _. o) (nothing (has_interface s c))
         ∙ nothing (met (same_entity c e))
@@ -122,7 +122,7 @@ component_in_turn es s c = in_entity es s c ∙ by (are_distinct (declared_names
 -- what a region that has a name says of it, and one that has it not
 pub is_twice : (es : List (Vec ℕ Global × CodeMeaning)) (n : Name) → IsDistinct (λ a b. bytes_eq a.items b.items) (keys_of es) →
     is_some (lookup (λ k. bytes_eq n k.items) es) ≡ true → is_new (map entry_view es) n ≡ None
-is_twice es n unique h = ap (λ o. o >>= λ _. there) (refused es n m.unfinished unique h)
+is_twice es n unique h = ap (λ o. o >>= λ _. there) (refused es n visibility.unfinished unique h)
 
 pub is_once : (es : List (Vec ℕ Global × CodeMeaning)) (key : Vec ℕ Global) → IsDistinct (λ a b. bytes_eq a.items b.items) (keys_of es) →
     is_some (lookup (λ k. bytes_eq key.items k.items) es) ≡ false → is_new (map entry_view es) key.items ≡ Some tt

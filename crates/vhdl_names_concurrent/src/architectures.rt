@@ -9,7 +9,7 @@ ghost use Rattle.vhdl_names_rules.specs.Concurrent as rules;
 ghost use Rattle.vhdl_names_rules.specs.Gives.{Gives};
 ghost use Rattle.vhdl_names_rules.specs.Interfaces.{EntityView};
 ghost use Rattle.vhdl_names_rules.specs.Visibility as visibility;
-ghost use Rattle.vhdl_tree.specs.Tree as syntax;
+ghost use Rattle.vhdl_tree.specs.Tree as t;
 ghost use Rattle.vhdl_tree.specs.View as tree;
 ghost use Rattle.vhdl_tree.specs.declared.concurrent.Generate.{out-Generate};
 ghost use Rattle.vhdl_names_types.specs.Views.{sight_view};
@@ -20,7 +20,7 @@ use crate::schemes::scheme;
 use std::alloc::Global;
 use vhdl_names_statements::{assignment, selected};
 use vhdl_names_declarations::labels_are_distinct;
-use vhdl_names_instances::{Entities, instance_in_turn};
+use vhdl_names_instances::{InstanceEntities, instance_in_turn};
 use vhdl_names_labels::{copied, earlier_in, ends};
 use vhdl_names_rules::NameFault;
 use vhdl_tree as syntax;
@@ -78,7 +78,7 @@ fn leave_generate(sight: &mut Sight, scheme: &syntax::Scheme)
 #[tactic(auto, using(vhdl_names_labels::proofs::Lists::each_in_turn))]
 fn statements(
     alloc: Global,
-    entities: &Entities,
+    entities: &InstanceEntities,
     sight: &mut Sight,
     list: &[syntax::Concurrent],
 ) -> Result<Vec<Concurrent>, NameFault>
@@ -99,7 +99,7 @@ fn statements(
 #[cycle(concurrent)]
 fn statement(
     alloc: Global,
-    entities: &Entities,
+    entities: &InstanceEntities,
     sight: &mut Sight,
     item: &syntax::Concurrent,
 ) -> Result<Concurrent, NameFault>
@@ -132,7 +132,7 @@ fn statement(
 #[cycle(concurrent)]
 fn labelled(
     alloc: Global,
-    entities: &Entities,
+    entities: &InstanceEntities,
     sight: &mut Sight,
     list: &[syntax::Concurrent],
 ) -> Result<Vec<Concurrent>, NameFault>
@@ -152,7 +152,7 @@ fn labelled(
 #[cycle(concurrent)]
 fn generate(
     alloc: Global,
-    entities: &Entities,
+    entities: &InstanceEntities,
     sight: &mut Sight,
     written: &syntax::Generate,
 ) -> Result<Concurrent, NameFault>
@@ -176,13 +176,13 @@ fn generate(
 /// broken, or where memory is refused.
 pub fn concurrents(
     alloc: Global,
-    entities: &Entities,
+    entities: &InstanceEntities,
     sight: &mut Sight,
     list: &[syntax::Concurrent],
 ) -> Result<Vec<Concurrent>, NameFault>
     requires outside { (sight_view sight.old).variables ≡ [] }
     ensures given { (all : List EntityView) → AreEntities entities.now all
-        → Gives steps.body_view (rules.concurrents all (sight_view sight.old) (syntax.concurrents_of (map tree.concurrent_view list.now))) result }
+        → Gives steps.body_view (rules.concurrents all (sight_view sight.old) (t.concurrents_of (map tree.concurrent_view list.now))) result }
     ensures kept { OnOk result (sight_view sight.new ≡ sight_view sight.old) }
 {
     statements(alloc, entities, sight, list)

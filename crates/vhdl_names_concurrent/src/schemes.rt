@@ -3,7 +3,7 @@
 ghost use Rattle.std.specs.Prelude.{List, ℕ};
 ghost use Rattle.vhdl_names_rules.specs.Concurrent as rules;
 ghost use Rattle.vhdl_names_rules.specs.Gives.{Gives};
-ghost use Rattle.vhdl_names_rules.specs.units.Units as units;
+ghost use Rattle.vhdl_names_rules.specs.units.Units as u;
 ghost use Rattle.vhdl_tree.specs.View.{scheme_view};
 ghost use Rattle.vhdl_names_types.specs.Views.{sight_view};
 ghost use Rattle.vhdl_names_units.specs.views.Concurrent.{generated};
@@ -17,7 +17,7 @@ use vhdl_names_units::Scheme;
 
 /// A parameter's range, or a condition over static integers.
 pub fn scheme(alloc: Global, sight: &Sight, scheme: &syntax::Scheme) -> Result<Scheme, NameFault>
-    ensures { (label : List ℕ) (body : units.Concurrents) → Gives (generated label body)
+    ensures { (label : List ℕ) (body : u.Concurrents) → Gives (generated label body)
         (rules.generated (sight_view sight.now) label (scheme_view scheme.now) body) result }
 {
     match scheme {

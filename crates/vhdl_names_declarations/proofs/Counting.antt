@@ -4,7 +4,7 @@ use Rattle.std.specs.Prelude.{slice_get, if◌then◌else◌}
 use Rattle.std.specs.Map.{values_of}
 use Rattle.std.proofs.lemmas.List.Sums.{count_by-le-length, sum_by-cons}
 use Rattle.std.proofs.lemmas.List.{length-map}
-use Rattle.vhdl_names_rules.specs.Visibility as v
+use Rattle.vhdl_names_rules.specs.Visibility as visibility
 use Rattle.vhdl_names_rules.specs.Visibility.{Meaning, Declared, count_of}
 use Rattle.vhdl_names_types.specs.declared.meaning.Meaning.{Meaning as CodeMeaning}
 use Rattle.vhdl_names_types.specs.Views.{meaning_view, entry_view}
@@ -34,13 +34,13 @@ step class es i m n is h =
 pub counted_more : (c : Counts) (es : List (Vec ℕ Global × CodeMeaning)) (i : ℕ) (m : CodeMeaning) → slice_get (values_of es) i ≡ Some m →
     AreCounts c (take i (map entry_view es)) → AreCounts (counted c (meaning_view m)) (take (i + 1) (map entry_view es))
 counted_more c es i m is h = record {
-  generics = step v.is_generic es i m c.generics is h.generics;
-  ports = step v.is_port es i m c.ports is h.ports;
-  integers = step v.is_integer_constant es i m c.integers is h.integers;
-  constants = step v.is_constant es i m c.constants is h.constants;
-  signals = step v.is_signal es i m c.signals is h.signals;
-  variables = step v.is_variable es i m c.variables is h.variables;
-  enumerations = step v.is_enumeration_type es i m c.enumerations is h.enumerations;
+  generics = step visibility.is_generic es i m c.generics is h.generics;
+  ports = step visibility.is_port es i m c.ports is h.ports;
+  integers = step visibility.is_integer_constant es i m c.integers is h.integers;
+  constants = step visibility.is_constant es i m c.constants is h.constants;
+  signals = step visibility.is_signal es i m c.signals is h.signals;
+  variables = step visibility.is_variable es i m c.variables is h.variables;
+  enumerations = step visibility.is_enumeration_type es i m c.enumerations is h.enumerations;
 }
 
 length-take-le : {A : Type 0} (n : ℕ) (xs : List A) → length (take n xs) ≤ length xs
@@ -56,13 +56,13 @@ bound class ds i n small h =
 
 pub small_counts : (c : Counts) (ds : List Declared) (i : ℕ) → length ds < 2 ^ 63 → AreCounts c (take i ds) → AreSmall c
 small_counts c ds i small h = record {
-  generics = bound v.is_generic ds i c.generics small h.generics;
-  ports = bound v.is_port ds i c.ports small h.ports;
-  integers = bound v.is_integer_constant ds i c.integers small h.integers;
-  constants = bound v.is_constant ds i c.constants small h.constants;
-  signals = bound v.is_signal ds i c.signals small h.signals;
-  variables = bound v.is_variable ds i c.variables small h.variables;
-  enumerations = bound v.is_enumeration_type ds i c.enumerations small h.enumerations;
+  generics = bound visibility.is_generic ds i c.generics small h.generics;
+  ports = bound visibility.is_port ds i c.ports small h.ports;
+  integers = bound visibility.is_integer_constant ds i c.integers small h.integers;
+  constants = bound visibility.is_constant ds i c.constants small h.constants;
+  signals = bound visibility.is_signal ds i c.signals small h.signals;
+  variables = bound visibility.is_variable ds i c.variables small h.variables;
+  enumerations = bound visibility.is_enumeration_type ds i c.enumerations small h.enumerations;
 }
 
 -- a number among those before it

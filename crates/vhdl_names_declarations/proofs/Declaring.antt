@@ -13,7 +13,7 @@ use Rattle.vhdl_names_rules.specs.declared.operator.IntegerType.{IntegerType}
 use Rattle.vhdl_names_rules.specs.units.Expressions.{Static}
 use Rattle.vhdl_names_rules.specs.units.Units as u
 use Rattle.vhdl_names_rules.specs.Rules.{◌>>=◌, met, if_any}
-use Rattle.vhdl_names_rules.specs.Visibility as m
+use Rattle.vhdl_names_rules.specs.Visibility as visibility
 use Rattle.vhdl_names_rules.specs.Visibility.{Name, Meaning, Declared, Sight, Declares, declare, meaning, names_of, count_of, with_declared, are_distinct, numbered}
 use Rattle.vhdl_names_rules.specs.Expressions.{static}
 use Rattle.vhdl_names_rules.specs.Subtypes.{as_integer_type}
@@ -31,26 +31,26 @@ use Rattle.vhdl_names_declarations.proofs.Turns.{declares_all, enters}
 abbrev pub generics_of : t.Generic → IntegerType × Option Static → List u.Generic
 generics_of g x = for_each (λ n. record { type = x.0; default = x.1 }) g.names
 
-pub generic_is : (s : Sight) (g : t.Generic) (k : ℕ) → k ≡ count_of m.is_generic s.region →
-    entering generic s g ≡ (declares_all (names_of g.names) (λ x. k) (λ x. m.generic) (generics_of g) (typed_generic s g) >>= enters (λ s. s.region) with_declared s)
+pub generic_is : (s : Sight) (g : t.Generic) (k : ℕ) → k ≡ count_of visibility.is_generic s.region →
+    entering generic s g ≡ (declares_all (names_of g.names) (λ x. k) (λ x. visibility.generic) (generics_of g) (typed_generic s g) >>= enters (λ s. s.region) with_declared s)
 unfolding generic
-generic_is s g k h = go (meaning s g.mark.text) ∙ ap (λ k. declares_all (names_of g.names) (λ x. k) (λ x. m.generic) (generics_of g) (typed_generic s g) >>= enters (λ s. s.region) with_declared s) (sym h)
+generic_is s g k h = go (meaning s g.mark.text) ∙ ap (λ k. declares_all (names_of g.names) (λ x. k) (λ x. visibility.generic) (generics_of g) (typed_generic s g) >>= enters (λ s. s.region) with_declared s) (sym h)
   where
     last : (type : IntegerType) (o : Option (Option Static)) →
-        ((o >>= λ default. Some (record { declared = numbered m.generic (count_of m.is_generic s.region) (names_of g.names); analysed = generics_of g (type, default) })) >>= enters (λ s. s.region) with_declared s)
-        ≡ (declares_all (names_of g.names) (λ x. count_of m.is_generic s.region) (λ x. m.generic) (generics_of g) (o >>= λ default. Some (type, default)) >>= enters (λ s. s.region) with_declared s)
+        ((o >>= λ default. Some (record { declared = numbered visibility.generic (count_of visibility.is_generic s.region) (names_of g.names); analysed = generics_of g (type, default) })) >>= enters (λ s. s.region) with_declared s)
+        ≡ (declares_all (names_of g.names) (λ x. count_of visibility.is_generic s.region) (λ x. visibility.generic) (generics_of g) (o >>= λ default. Some (type, default)) >>= enters (λ s. s.region) with_declared s)
     last type None = refl
     last type (Some default) = refl
 
     next : (o : Option IntegerType) →
-        ((o >>= λ type. (if_any (static s) g.default >>= λ default. Some (record { declared = numbered m.generic (count_of m.is_generic s.region) (names_of g.names); analysed = generics_of g (type, default) }))) >>= enters (λ s. s.region) with_declared s)
-        ≡ (declares_all (names_of g.names) (λ x. count_of m.is_generic s.region) (λ x. m.generic) (generics_of g) (o >>= λ type. (if_any (static s) g.default >>= λ default. Some (type, default))) >>= enters (λ s. s.region) with_declared s)
+        ((o >>= λ type. (if_any (static s) g.default >>= λ default. Some (record { declared = numbered visibility.generic (count_of visibility.is_generic s.region) (names_of g.names); analysed = generics_of g (type, default) }))) >>= enters (λ s. s.region) with_declared s)
+        ≡ (declares_all (names_of g.names) (λ x. count_of visibility.is_generic s.region) (λ x. visibility.generic) (generics_of g) (o >>= λ type. (if_any (static s) g.default >>= λ default. Some (type, default))) >>= enters (λ s. s.region) with_declared s)
     next None = refl
     next (Some type) = last type (if_any (static s) g.default)
 
     go : (o : Option Meaning) →
-        ((o >>= λ mark. (as_integer_type mark >>= λ type. (if_any (static s) g.default >>= λ default. Some (record { declared = numbered m.generic (count_of m.is_generic s.region) (names_of g.names); analysed = generics_of g (type, default) })))) >>= enters (λ s. s.region) with_declared s)
-        ≡ (declares_all (names_of g.names) (λ x. count_of m.is_generic s.region) (λ x. m.generic) (generics_of g) (o >>= λ mark. (as_integer_type mark >>= λ type. (if_any (static s) g.default >>= λ default. Some (type, default)))) >>= enters (λ s. s.region) with_declared s)
+        ((o >>= λ mark. (as_integer_type mark >>= λ type. (if_any (static s) g.default >>= λ default. Some (record { declared = numbered visibility.generic (count_of visibility.is_generic s.region) (names_of g.names); analysed = generics_of g (type, default) })))) >>= enters (λ s. s.region) with_declared s)
+        ≡ (declares_all (names_of g.names) (λ x. count_of visibility.is_generic s.region) (λ x. visibility.generic) (generics_of g) (o >>= λ mark. (as_integer_type mark >>= λ type. (if_any (static s) g.default >>= λ default. Some (type, default)))) >>= enters (λ s. s.region) with_declared s)
     go None = refl
     go (Some mark) = next (as_integer_type mark)
 
@@ -58,13 +58,13 @@ generic_is s g k h = go (meaning s g.mark.text) ∙ ap (λ k. declares_all (name
 
 pub next_literal : (ds : List Declared) (e count i : ℕ) (names : List Identifier) (n : Identifier) → i < length names → n ≡ get_or names i n →
     more ds (literals e count i (names_of (map ident_view (drop i names))))
-    ≡ (more ds (declare n.text.items (m.literal e count i) ∷ []) >>= λ r. more r (literals e count (i + 1) (names_of (map ident_view (drop (i + 1) names)))))
+    ≡ (more ds (declare n.text.items (visibility.literal e count i) ∷ []) >>= λ r. more r (literals e count (i + 1) (names_of (map ident_view (drop (i + 1) names)))))
 next_literal ds e count i names n lt is =
     let s : suc i ≡ i + 1 = omega arith in
     ap (λ l. more ds (literals e count i (names_of (map ident_view l)))) (drop-cons names i n lt)
-    ∙ ap (λ k. more ds (declare k.text.items (m.literal e count i) ∷ literals e count (suc i) (names_of (map ident_view (drop (suc i) names))))) (sym is)
-    ∙ more_split ds (declare n.text.items (m.literal e count i) ∷ []) (literals e count (suc i) (names_of (map ident_view (drop (suc i) names))))
-    ∙ ap (λ k. more ds (declare n.text.items (m.literal e count i) ∷ []) >>= λ r. more r (literals e count k (names_of (map ident_view (drop k names))))) s
+    ∙ ap (λ k. more ds (declare k.text.items (visibility.literal e count i) ∷ literals e count (suc i) (names_of (map ident_view (drop (suc i) names))))) (sym is)
+    ∙ more_split ds (declare n.text.items (visibility.literal e count i) ∷ []) (literals e count (suc i) (names_of (map ident_view (drop (suc i) names))))
+    ∙ ap (λ k. more ds (declare n.text.items (visibility.literal e count i) ∷ []) >>= λ r. more r (literals e count k (names_of (map ident_view (drop k names))))) s
 
 pub too_many : (s : Sight) (d : t.Enumeration) → 256 < length d.literals → entering enumeration s d ≡ None
 unfolding enumeration
@@ -73,20 +73,20 @@ too_many s d h = let t : nat_le (length d.literals) 256 ≡ false = grind (arith
 abbrev pub in_region : Sight → List Declared → Option (Sight × List u.Declaration)
 in_region s r = Some (record s { region = r }, [])
 
-pub enumeration_is : (s : Sight) (d : t.Enumeration) (number count : ℕ) → number ≡ count_of m.is_enumeration_type s.region → count ≡ length d.literals → count ≤ 256 →
+pub enumeration_is : (s : Sight) (d : t.Enumeration) (number count : ℕ) → number ≡ count_of visibility.is_enumeration_type s.region → count ≡ length d.literals → count ≤ 256 →
     entering enumeration s d
-    ≡ ((more s.region (declare d.name.text (m.enumeration_type number count) ∷ []) >>= λ r. more r (literals number count 0 (names_of d.literals))) >>= in_region s)
+    ≡ ((more s.region (declare d.name.text (visibility.enumeration_type number count) ∷ []) >>= λ r. more r (literals number count 0 (names_of d.literals))) >>= in_region s)
 unfolding enumeration
 enumeration_is s d number count h size le =
     let t : nat_le (length d.literals) 256 ≡ true = grind (arith, nat_tests) in
     ap (λ b. (met b >>= λ _. Some (record {
-      declared = declare d.name.text (m.enumeration_type (count_of m.is_enumeration_type s.region) (length d.literals))
-          ∷ literals (count_of m.is_enumeration_type s.region) (length d.literals) 0 (names_of d.literals);
+      declared = declare d.name.text (visibility.enumeration_type (count_of visibility.is_enumeration_type s.region) (length d.literals))
+          ∷ literals (count_of visibility.is_enumeration_type s.region) (length d.literals) 0 (names_of d.literals);
       analysed = [];
     })) >>= λ (x : Declares u.Declaration). enters (λ s. s.region) with_declared s x) t
-    ∙ go (declare d.name.text (m.enumeration_type (count_of m.is_enumeration_type s.region) (length d.literals))) (literals (count_of m.is_enumeration_type s.region) (length d.literals) 0 (names_of d.literals))
-    ∙ ap (λ n. (more s.region (declare d.name.text (m.enumeration_type n (length d.literals)) ∷ []) >>= λ r. more r (literals n (length d.literals) 0 (names_of d.literals))) >>= in_region s) (sym h)
-    ∙ ap (λ n. (more s.region (declare d.name.text (m.enumeration_type number n) ∷ []) >>= λ r. more r (literals number n 0 (names_of d.literals))) >>= in_region s) (sym size)
+    ∙ go (declare d.name.text (visibility.enumeration_type (count_of visibility.is_enumeration_type s.region) (length d.literals))) (literals (count_of visibility.is_enumeration_type s.region) (length d.literals) 0 (names_of d.literals))
+    ∙ ap (λ n. (more s.region (declare d.name.text (visibility.enumeration_type n (length d.literals)) ∷ []) >>= λ r. more r (literals n (length d.literals) 0 (names_of d.literals))) >>= in_region s) (sym h)
+    ∙ ap (λ n. (more s.region (declare d.name.text (visibility.enumeration_type number n) ∷ []) >>= λ r. more r (literals number n 0 (names_of d.literals))) >>= in_region s) (sym size)
   where
     entered_by : (b : Bool) (l : List Declared) → (met b >>= λ _. Some (record s { region = l }, [])) ≡ ((met b >>= λ _. Some l) >>= in_region s)
     entered_by true l = refl

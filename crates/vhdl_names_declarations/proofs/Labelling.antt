@@ -9,7 +9,7 @@ use Rattle.vhdl_tree.specs.Tree as t
 use Rattle.vhdl_tree.specs.View.{concurrent_view}
 use Rattle.vhdl_tree.specs.declared.concurrent.Concurrent.{Concurrent}
 use Rattle.vhdl_names_rules.specs.Rules.{◌>>=◌, met}
-use Rattle.vhdl_names_rules.specs.Visibility as v
+use Rattle.vhdl_names_rules.specs.Visibility as visibility
 use Rattle.vhdl_names_rules.specs.Visibility.{Name, Declared, are_distinct, all_declared}
 use Rattle.vhdl_names_rules.specs.Interfaces.{declared_names}
 use Rattle.vhdl_names_rules.specs.Files.{labelled}
@@ -28,7 +28,7 @@ next_label ds cs i c lt is =
     let s : suc i ≡ i + 1 = omega arith in
     ap (λ l. more ds (labelled (labels_of l))) (drop-cons cs i c lt)
     ∙ ap (λ k. more ds (labelled (concurrent_label (concurrent_view k) ++ labels_of (drop (suc i) cs)))) (sym is)
-    ∙ ap (more ds) (map-append (λ n. v.declare n v.label) (concurrent_label (concurrent_view c)) (labels_of (drop (suc i) cs)))
+    ∙ ap (more ds) (map-append (λ n. visibility.declare n visibility.label) (concurrent_label (concurrent_view c)) (labels_of (drop (suc i) cs)))
     ∙ more_split ds (labelled (concurrent_label (concurrent_view c))) (labelled (labels_of (drop (suc i) cs)))
     ∙ ap (λ k. more ds (labelled (concurrent_label (concurrent_view c))) >>= λ r. more r (labelled (labels_of (drop k cs)))) s
 
@@ -38,7 +38,7 @@ no_labels es cs i le apart = ap (λ l. more (map entry_view es) (labelled (label
 
 -- labels of a region of their own
 labels_distinct : (ns : List Name) → are_distinct (declared_names (labelled ns)) ≡ are_distinct ns
-labels_distinct ns = ap are_distinct (names-all v.label ns)
+labels_distinct ns = ap are_distinct (names-all visibility.label ns)
 
 pub distinct_none : (ns : List Name) → more [] (labelled ns) ≡ None → met (are_distinct ns) ≡ None
 distinct_none ns h = ap met (sym (labels_distinct ns)) ∙ go (are_distinct (declared_names (labelled ns))) h

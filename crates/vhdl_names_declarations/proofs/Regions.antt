@@ -8,7 +8,7 @@ use Rattle.std.proofs.Math.Seq.{drop-cons}
 use Rattle.std.proofs.lemmas.List.{map-append, length-map, drop_all}
 use Rattle.std.proofs.lemmas.Slice.Eq.{bytes_eq-Decides}
 use Rattle.vhdl_names_rules.specs.Rules.{◌>>=◌, met}
-use Rattle.vhdl_names_rules.specs.Visibility as v
+use Rattle.vhdl_names_rules.specs.Visibility as visibility
 use Rattle.vhdl_tree.specs.declared.expression.Identifier.{Identifier}
 use Rattle.vhdl_tree.specs.View.{ident_view}
 use Rattle.vhdl_names_rules.specs.Visibility.{Name, names_of, Declared, Meaning, is_among, are_distinct, all_declared, numbered}
@@ -135,18 +135,18 @@ pub absent : (es : List (Vec ℕ Global × CodeMeaning)) (n : Name) → is_some 
 absent es n h = none_of (lookup (λ k. bytes_eq n k.items) es) h
 
 pub refused : (es : List (Vec ℕ Global × CodeMeaning)) (n : Name) (m : Meaning) → IsDistinct (λ a b. bytes_eq a.items b.items) (keys_of es)
-    → is_some (lookup (λ k. bytes_eq n k.items) es) ≡ true → more (map entry_view es) (v.declare n m ∷ []) ≡ None
+    → is_some (lookup (λ k. bytes_eq n k.items) es) ≡ true → more (map entry_view es) (visibility.declare n m ∷ []) ≡ None
 refused es n m apart there =
-    more_last (map entry_view es) (v.declare n m) (names_apart es apart)
-    ∙ ap (λ b. met (not b) >>= λ _. Some (map entry_view es ++ v.declare n m ∷ [])) (sym (among_keys n es) ∙ there)
+    more_last (map entry_view es) (visibility.declare n m) (names_apart es apart)
+    ∙ ap (λ b. met (not b) >>= λ _. Some (map entry_view es ++ visibility.declare n m ∷ [])) (sym (among_keys n es) ∙ there)
 
 pub grown : (es es' : List (Vec ℕ Global × CodeMeaning)) (n : Name) (key : Vec ℕ Global) (m : CodeMeaning) → IsDistinct (λ a b. bytes_eq a.items b.items) (keys_of es)
     → is_some (lookup (λ k. bytes_eq n k.items) es) ≡ false → key.items ≡ n → es' ≡ es ++ (key, m) ∷ []
-    → more (map entry_view es) (v.declare n (meaning_view m) ∷ []) ≡ Some (map entry_view es')
+    → more (map entry_view es) (visibility.declare n (meaning_view m) ∷ []) ≡ Some (map entry_view es')
 grown es es' n key m apart new same e =
-    more_last (map entry_view es) (v.declare n (meaning_view m)) (names_apart es apart)
-    ∙ ap (λ b. met (not b) >>= λ _. Some (map entry_view es ++ v.declare n (meaning_view m) ∷ [])) (sym (among_keys n es) ∙ new)
-    ∙ ap (λ t. Some (map entry_view es ++ v.declare t (meaning_view m) ∷ [])) (sym same)
+    more_last (map entry_view es) (visibility.declare n (meaning_view m)) (names_apart es apart)
+    ∙ ap (λ b. met (not b) >>= λ _. Some (map entry_view es ++ visibility.declare n (meaning_view m) ∷ [])) (sym (among_keys n es) ∙ new)
+    ∙ ap (λ t. Some (map entry_view es ++ visibility.declare t (meaning_view m) ∷ [])) (sym same)
     ∙ ap Some (sym (map-append entry_view es ((key, m) ∷ []))) ∙ ap (λ l. Some (map entry_view l)) (sym e)
 
 -- ---- names that are settled
@@ -154,7 +154,7 @@ grown es es' n key m apart new same e =
 place_more : (f : ℕ → Meaning) (number place : ℕ) (es : List (Vec ℕ Global × CodeMeaning)) (m : CodeMeaning) → place < length es → meaning_view m ≡ f number →
     settled f number place (map entry_view es) ≡ settled f (suc number) (suc place) (map entry_view (set_value_at es place m))
 place_more f number place [] m lt is = absurd (omega arith)
-place_more f number zero (e ∷ es) m lt is = ap (λ x. v.declare e.0.items x ∷ numbered f (suc number) (declared_names (map entry_view es))) (sym is)
+place_more f number zero (e ∷ es) m lt is = ap (λ x. visibility.declare e.0.items x ∷ numbered f (suc number) (declared_names (map entry_view es))) (sym is)
 place_more f number (suc place) (e ∷ es) m lt is =
     ap (λ ds. entry_view e ∷ ds) (place_more f number place es m (omega (arith, lt)) is)
 
@@ -177,13 +177,13 @@ abbrev pub all_of_names : Meaning → List Identifier → List Declared
 all_of_names m names = all_declared m (names_of (map ident_view names))
 
 pub next_name : (ds : List Declared) (m : Meaning) (names : List Identifier) (i : ℕ) (n : Identifier) → i < length names → n ≡ get_or names i n →
-    more ds (all_of_names m (drop i names)) ≡ (more ds (v.declare n.text.items m ∷ []) >>= λ r. more r (all_of_names m (drop (i + 1) names)))
+    more ds (all_of_names m (drop i names)) ≡ (more ds (visibility.declare n.text.items m ∷ []) >>= λ r. more r (all_of_names m (drop (i + 1) names)))
 next_name ds m names i n lt is =
     let s : suc i ≡ i + 1 = omega arith in
     ap (λ l. more ds (all_of_names m l)) (drop-cons names i n lt)
-    ∙ ap (λ k. more ds (v.declare k.text.items m ∷ all_of_names m (drop (suc i) names))) (sym is)
-    ∙ more_split ds (v.declare n.text.items m ∷ []) (all_of_names m (drop (suc i) names))
-    ∙ ap (λ k. more ds (v.declare n.text.items m ∷ []) >>= λ r. more r (all_of_names m (drop k names))) s
+    ∙ ap (λ k. more ds (visibility.declare k.text.items m ∷ all_of_names m (drop (suc i) names))) (sym is)
+    ∙ more_split ds (visibility.declare n.text.items m ∷ []) (all_of_names m (drop (suc i) names))
+    ∙ ap (λ k. more ds (visibility.declare n.text.items m ∷ []) >>= λ r. more r (all_of_names m (drop k names))) s
 
 pub no_names : (es : List (Vec ℕ Global × CodeMeaning)) (m : Meaning) (names : List Identifier) (i : ℕ) → length names ≤ i → IsDistinct (λ a b. bytes_eq a.items b.items) (keys_of es) →
     more (map entry_view es) (all_of_names m (drop i names)) ≡ Some (map entry_view es)

@@ -2,7 +2,7 @@
 use Rattle.std.proofs.Common.{◌≡◌, ℕ, suc, ◌+◌, ◌≤◌, Bool, true, false, List, [], ◌∷◌, ◌++◌, map, length, take, drop, Option, Some, None, Vec, Global, refl, sym, ap, ◌∙◌, append_assoc, append-nil, arith}
 use Rattle.std.proofs.Math.Seq.{take-append_seam, drop-append_seam}
 use Rattle.vhdl_names_rules.specs.Rules.{◌>>=◌, met}
-use Rattle.vhdl_names_rules.specs.Visibility as v
+use Rattle.vhdl_names_rules.specs.Visibility as visibility
 use Rattle.vhdl_names_rules.specs.Visibility.{Name, Meaning, Declared, Sight, Declares, are_distinct, all_declared, numbered, count_of}
 use Rattle.vhdl_names_rules.specs.Interfaces.{declared_names}
 use Rattle.std.proofs.lemmas.List.{length-map, length-append}
@@ -15,11 +15,11 @@ use Rattle.vhdl_names_declarations.proofs.Regions.{names-append, names-numbered,
 
 -- names that are hidden first and settled then
 pub settled_hidden : (f : ℕ → Meaning) (number : ℕ) (ds : List Declared) (ns : List Name) →
-    settled f number (length ds) (ds ++ all_declared v.unfinished ns) ≡ ds ++ numbered f number ns
+    settled f number (length ds) (ds ++ all_declared visibility.unfinished ns) ≡ ds ++ numbered f number ns
 settled_hidden f number ds ns =
-    ap (λ l. l ++ numbered f number (declared_names (drop (length ds) (ds ++ all_declared v.unfinished ns)))) (take-append_seam ds (all_declared v.unfinished ns))
-    ∙ ap (λ l. ds ++ numbered f number (declared_names l)) (drop-append_seam ds (all_declared v.unfinished ns))
-    ∙ ap (λ l. ds ++ numbered f number l) (names-all v.unfinished ns)
+    ap (λ l. l ++ numbered f number (declared_names (drop (length ds) (ds ++ all_declared visibility.unfinished ns)))) (take-append_seam ds (all_declared visibility.unfinished ns))
+    ∙ ap (λ l. ds ++ numbered f number (declared_names l)) (drop-append_seam ds (all_declared visibility.unfinished ns))
+    ∙ ap (λ l. ds ++ numbered f number l) (names-all visibility.unfinished ns)
 
 -- what more makes of a region
 pub more_is : (ds es r : List Declared) → more ds es ≡ Some r → r ≡ ds ++ es
@@ -30,10 +30,10 @@ more_is ds es r h = go (are_distinct (declared_names (ds ++ es))) h
     go false h = cc
 
 same_names : (f : ℕ → Meaning) (k : ℕ) (ds : List Declared) (ns : List Name) →
-    declared_names (ds ++ numbered f k ns) ≡ declared_names (ds ++ all_declared v.unfinished ns)
+    declared_names (ds ++ numbered f k ns) ≡ declared_names (ds ++ all_declared visibility.unfinished ns)
 same_names f k ds ns =
-    names-append ds (numbered f k ns) ∙ ap (λ l. declared_names ds ++ l) (names-numbered f k ns ∙ sym (names-all v.unfinished ns))
-    ∙ sym (names-append ds (all_declared v.unfinished ns))
+    names-append ds (numbered f k ns) ∙ ap (λ l. declared_names ds ++ l) (names-numbered f k ns ∙ sym (names-all visibility.unfinished ns))
+    ∙ sym (names-append ds (all_declared visibility.unfinished ns))
 
 not_more : (ds es : List Declared) → more ds es ≡ None → are_distinct (declared_names (ds ++ es)) ≡ false
 not_more ds es h = go (are_distinct (declared_names (ds ++ es))) h
@@ -61,29 +61,29 @@ module _ (region : Sight → List Declared) (with_more : Sight → List Declared
   enters s x = met (are_distinct (declared_names (region s ++ x.declared))) >>= λ _. Some (pair (with_more s x.declared) x.analysed)
 
   module _ {X B : Type 0} (s : Sight) (ns : List Name) (k : X → ℕ) (f : X → ℕ → Meaning) (a : X → List B) where
-    pub refused : more (region s) (all_declared v.unfinished ns) ≡ None → (o : Option X) → (declares_all ns k f a o >>= enters s) ≡ None
+    pub refused : more (region s) (all_declared visibility.unfinished ns) ≡ None → (o : Option X) → (declares_all ns k f a o >>= enters s) ≡ None
     refused h None = refl
     refused h (Some x) =
         ap (λ b. met b >>= λ _. Some (pair (with_more s (numbered (f x) (k x) ns)) (a x)))
-        (ap are_distinct (same_names (f x) (k x) (region s) ns) ∙ not_more (region s) (all_declared v.unfinished ns) h)
+        (ap are_distinct (same_names (f x) (k x) (region s) ns) ∙ not_more (region s) (all_declared visibility.unfinished ns) h)
 
     pub unknown : (o : Option X) → o ≡ None → (declares_all ns k f a o >>= enters s) ≡ None
     unknown o h = ap (λ o. declares_all ns k f a o >>= enters s) h
 
-    pub known : (r : List Declared) → more (region s) (all_declared v.unfinished ns) ≡ Some r → (o : Option X) (x : X) → o ≡ Some x →
+    pub known : (r : List Declared) → more (region s) (all_declared visibility.unfinished ns) ≡ Some r → (o : Option X) (x : X) → o ≡ Some x →
         (declares_all ns k f a o >>= enters s) ≡ Some (pair (with_more s (numbered (f x) (k x) ns)) (a x))
     known r h o x e =
         ap (λ o. declares_all ns k f a o >>= enters s) e
         ∙ ap (λ b. met b >>= λ _. Some (pair (with_more s (numbered (f x) (k x) ns)) (a x)))
-        (ap are_distinct (same_names (f x) (k x) (region s) ns) ∙ has_more (region s) (all_declared v.unfinished ns) r h)
+        (ap are_distinct (same_names (f x) (k x) (region s) ns) ∙ has_more (region s) (all_declared visibility.unfinished ns) r h)
 
 -- a region once its last names are settled
 pub settled_region : (f : ℕ → Meaning) (k first : ℕ) (old hid new : List Declared) (ns : List Name) → first ≡ length old →
-    more old (all_declared v.unfinished ns) ≡ Some hid → new ≡ settled f k first hid → old ++ numbered f k ns ≡ new
+    more old (all_declared visibility.unfinished ns) ≡ Some hid → new ≡ settled f k first hid → old ++ numbered f k ns ≡ new
 settled_region f k first old hid new ns size h e =
     sym (settled_hidden f k old ns)
-    ∙ ap (λ n. settled f k n (old ++ all_declared v.unfinished ns)) (sym size)
-    ∙ ap (settled f k first) (sym (more_is old (all_declared v.unfinished ns) hid h)) ∙ sym e
+    ∙ ap (λ n. settled f k n (old ++ all_declared visibility.unfinished ns)) (sym size)
+    ∙ ap (settled f k first) (sym (more_is old (all_declared visibility.unfinished ns) hid h)) ∙ sym e
 
 -- a region that grows, and the number of what comes next
 pub grows_by : (es es' : List (Vec ℕ Global × CodeMeaning)) (ds : List Declared) → more (map entry_view es) ds ≡ Some (map entry_view es') → length es ≤ length es'

@@ -3,13 +3,13 @@ pub use Rattle.vhdl_names_rules.specs.Subtypes.{as_integer_type}
 use Rattle.std.specs.Prelude.{ℕ, List, Option, Some, None, is_none}
 use Rattle.vhdl_tree.specs.Tree as t
 use Rattle.vhdl_tree.specs.Tree.{Ident}
-use Rattle.vhdl_names_rules.specs.declared.kind.Kind.{Kind}
+use Rattle.vhdl_names_rules.specs.declared.kind.ElementKind.{ElementKind}
 use Rattle.vhdl_names_rules.specs.declared.operator.IntegerType.{IntegerType}
 use Rattle.vhdl_names_rules.specs.units.Expressions.{Static}
 use Rattle.vhdl_names_rules.specs.units.Units as u
 use Rattle.vhdl_names_rules.specs.declared.fault.NameProblem.TheVariants.{LeftOut}
 use Rattle.vhdl_names_rules.specs.Rules.{◌>>=◌, ◌>>◌, rule}
-use Rattle.vhdl_names_rules.specs.Visibility as m
+use Rattle.vhdl_names_rules.specs.Visibility as visibility
 use Rattle.vhdl_names_rules.specs.Visibility.{Sight, Meaning, meaning}
 use Rattle.vhdl_names_rules.specs.Expressions.{static}
 use Rattle.vhdl_names_rules.specs.Subtypes.{subtype, fixed_value, declaring_literal}
@@ -21,7 +21,7 @@ use Rattle.vhdl_names_declarations.specs.declared.constants.Constant.TheVariants
 
 pub data TypedConstant : Type 0 where
   of_integers : IntegerType → Static → TypedConstant
-  of_values : Kind → u.Form → u.Fixed → TypedConstant
+  of_values : ElementKind → u.Form → u.Fixed → TypedConstant
 
 abbrev pub constant_view : Constant → TypedConstant
 constant_view (c.Integer w s) = of_integers w (static_view s)
@@ -50,8 +50,8 @@ constant sight d = meaning sight d.subtype.mark.text >>= λ mark. by_type sight 
 
 -- what they are declared to be, the number of the first, and what is analysed of them
 abbrev pub declared_as : TypedConstant → ℕ → Meaning
-declared_as (of_integers w s) k = m.integer_constant k
-declared_as (of_values kind form value) k = m.constant k kind (declaring_literal value)
+declared_as (of_integers w s) k = visibility.integer_constant k
+declared_as (of_values kind form value) k = visibility.constant k kind (declaring_literal value)
 
 abbrev pub number : (integers constants : ℕ) → TypedConstant → ℕ
 number i k (of_integers w s) = i

@@ -7,7 +7,7 @@ use Rattle.vhdl_names_rules.specs.units.Units.{Fixed}
 use Rattle.vhdl_names_rules.specs.Rules.{◌>>=◌, if_any}
 use Rattle.vhdl_names_rules.specs.Visibility.{Sight, meaning}
 use Rattle.vhdl_names_rules.specs.Expressions.{static}
-use Rattle.vhdl_names_rules.specs.declared.kind.Kind.{Kind}
+use Rattle.vhdl_names_rules.specs.declared.kind.ElementKind.{ElementKind}
 use Rattle.vhdl_names_rules.specs.Declarations.{as_kind}
 use Rattle.vhdl_names_rules.specs.Subtypes.{Subtype, subtype, as_integer_type, fixed_value}
 
@@ -21,7 +21,7 @@ abbrev pub typed_object : Sight → t.Subtype → Option t.Value → Option (Sub
 typed_object sight s v = subtype sight s >>= λ type. if_any (fixed_value sight type.type) v >>= λ default. Some (type, default)
 
 -- ports' type, kind and default
-abbrev pub typed_port : Sight → t.Port → Option (Subtype × Kind × Option Fixed)
+abbrev pub typed_port : Sight → t.Port → Option (Subtype × ElementKind × Option Fixed)
 typed_port sight p =
     subtype sight p.subtype >>= λ type. as_kind type.type
     >>= λ kind. if_any (fixed_value sight type.type) p.default >>= λ default. Some (type, kind, default)

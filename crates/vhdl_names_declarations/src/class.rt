@@ -5,19 +5,19 @@ ghost use Rattle.vhdl_names_declarations.specs.Settled.{class_view};
 ghost use Rattle.vhdl_names_types.specs.Views.{meaning_view};
 
 use std::alloc::{AllocError, Global};
-use vhdl_names_rules::{Kind, ObjectType};
+use vhdl_names_rules::{ElementKind, ObjectType};
 use vhdl_tree::Mode;
 use vhdl_names_types::Meaning;
 use vhdl_values::Nine;
 
 /// The class and type of objects, which are numbered from 0 within their class.
 #[derive(Drop)]
-pub enum Class {
+pub enum ObjectClass {
     Generic,
-    Port(Mode, Kind),
+    Port(Mode, ElementKind),
     Integer,
     /// A constant that is no integer, with the literal that declares it, if one does.
-    Constant(Kind, Option<Vec<Nine>>),
+    Constant(ElementKind, Option<Vec<Nine>>),
     Signal(ObjectType),
     Variable(ObjectType),
 }
@@ -35,21 +35,21 @@ pub fn copied_values(
     }
 }
 
-impl Class {
+impl ObjectClass {
     /// What the object of a number is declared to be. It takes the memory of a constant's literal.
     pub fn meaning(&self, alloc: Global, number: usize) -> Result<Meaning, AllocError>
         ensures { IfOk result (λ m. meaning_view m ≡ class_view self.now number) }
     {
         match self {
-            Class::Generic => Ok(Meaning::Generic(number)),
-            Class::Port(mode, kind) => Ok(Meaning::Port(number, *mode, *kind)),
-            Class::Integer => Ok(Meaning::IntegerConstant(number)),
-            Class::Constant(kind, values) => {
+            ObjectClass::Generic => Ok(Meaning::Generic(number)),
+            ObjectClass::Port(mode, kind) => Ok(Meaning::Port(number, *mode, *kind)),
+            ObjectClass::Integer => Ok(Meaning::IntegerConstant(number)),
+            ObjectClass::Constant(kind, values) => {
                 let values = copied_values(alloc, values)?;
                 Ok(Meaning::Constant(number, *kind, values))
             }
-            Class::Signal(object_type) => Ok(Meaning::Signal(number, *object_type)),
-            Class::Variable(object_type) => Ok(Meaning::Variable(number, *object_type)),
+            ObjectClass::Signal(object_type) => Ok(Meaning::Signal(number, *object_type)),
+            ObjectClass::Variable(object_type) => Ok(Meaning::Variable(number, *object_type)),
         }
     }
 }

@@ -13,12 +13,12 @@ ghost use Rattle.vhdl_names_types.specs.Views.{meaning_view, sight_view};
 ghost use Rattle.vhdl_names_units.specs.views.Answers.{fixed_view};
 ghost use Rattle.vhdl_names_units.specs.views.Declarations.{declaration_view};
 
-use crate::class::Class;
+use crate::class::ObjectClass;
 use crate::names::copied_names;
 use crate::ports::kind_of;
 use crate::region::{hide, settle};
 use std::alloc::{AllocError, Global};
-use vhdl_names_rules::{IntegerType, Kind, NameFault, NameProblem, Static};
+use vhdl_names_rules::{IntegerType, ElementKind, NameFault, NameProblem, Static};
 use vhdl_tree::{Constants, Expr, Identifier, Value};
 use vhdl_names_types::{Meaning, Sight, meaning_of};
 use vhdl_names_expressions::{fixed_value, static_integer, subtype};
@@ -29,7 +29,7 @@ use vhdl_values::Nine;
 #[derive(Drop)]
 pub enum Constant {
     Integer(IntegerType, Static),
-    Other(Kind, Form, Fixed),
+    Other(ElementKind, Form, Fixed),
 }
 
 /// The value of an integer constant is one expression; `(others => e)` is a TypeMismatch.
@@ -105,12 +105,12 @@ fn declaring(alloc: Global, value: &Fixed) -> Result<Option<Vec<Nine>>, AllocErr
 }
 
 /// The class of constants.
-fn class_of(alloc: Global, constant: &Constant) -> Result<Class, AllocError>
+fn class_of(alloc: Global, constant: &Constant) -> Result<ObjectClass, AllocError>
     ensures { IfOk result (λ c. class_view c ≡ typed.declared_as (typed.constant_view constant.now)) }
 {
     match constant {
-        Constant::Integer(..) => Ok(Class::Integer),
-        Constant::Other(kind, _, value) => Ok(Class::Constant(*kind, declaring(alloc, value)?)),
+        Constant::Integer(..) => Ok(ObjectClass::Integer),
+        Constant::Other(kind, _, value) => Ok(ObjectClass::Constant(*kind, declaring(alloc, value)?)),
     }
 }
 

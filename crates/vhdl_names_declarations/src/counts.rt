@@ -3,7 +3,7 @@
 ghost use Rattle.std.specs.Prelude.{◌≡◌, ◌≤◌, ◌<◌, ◌+◌, ◌^◌, if◌then◌else◌, take};
 ghost use Rattle.indexmap.specs.IndexMap.{index_map_len};
 ghost use Rattle.vhdl_names_declarations.specs.Counts.{AreCounts, AreSmall, counted};
-ghost use Rattle.vhdl_names_rules.specs.Visibility as rules;
+ghost use Rattle.vhdl_names_rules.specs.Visibility as visibility;
 ghost use Rattle.vhdl_names_types.specs.Views.{meaning_view, region_view};
 
 use vhdl_names_types::{Meaning, Region};
@@ -21,43 +21,43 @@ pub struct Counts {
 }
 
 fn is_generic(meaning: &Meaning) -> bool
-    ensures { result ≡ rules.is_generic (meaning_view meaning.now) }
+    ensures { result ≡ visibility.is_generic (meaning_view meaning.now) }
 {
     matches!(meaning, Meaning::Generic(_))
 }
 
 fn is_port(meaning: &Meaning) -> bool
-    ensures { result ≡ rules.is_port (meaning_view meaning.now) }
+    ensures { result ≡ visibility.is_port (meaning_view meaning.now) }
 {
     matches!(meaning, Meaning::Port(..))
 }
 
 fn is_integer_constant(meaning: &Meaning) -> bool
-    ensures { result ≡ rules.is_integer_constant (meaning_view meaning.now) }
+    ensures { result ≡ visibility.is_integer_constant (meaning_view meaning.now) }
 {
     matches!(meaning, Meaning::IntegerConstant(_))
 }
 
 fn is_constant(meaning: &Meaning) -> bool
-    ensures { result ≡ rules.is_constant (meaning_view meaning.now) }
+    ensures { result ≡ visibility.is_constant (meaning_view meaning.now) }
 {
     matches!(meaning, Meaning::Constant(..))
 }
 
 fn is_signal(meaning: &Meaning) -> bool
-    ensures { result ≡ rules.is_signal (meaning_view meaning.now) }
+    ensures { result ≡ visibility.is_signal (meaning_view meaning.now) }
 {
     matches!(meaning, Meaning::Signal(..))
 }
 
 fn is_variable(meaning: &Meaning) -> bool
-    ensures { result ≡ rules.is_variable (meaning_view meaning.now) }
+    ensures { result ≡ visibility.is_variable (meaning_view meaning.now) }
 {
     matches!(meaning, Meaning::Variable(..))
 }
 
 fn is_enumeration_type(meaning: &Meaning) -> bool
-    ensures { result ≡ rules.is_enumeration_type (meaning_view meaning.now) }
+    ensures { result ≡ visibility.is_enumeration_type (meaning_view meaning.now) }
 {
     matches!(meaning, Meaning::EnumerationType { .. })
 }

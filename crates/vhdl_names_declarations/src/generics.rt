@@ -14,7 +14,7 @@ ghost use Rattle.vhdl_tree.specs.View.{option_expr_view, generic_view};
 ghost use Rattle.vhdl_names_types.specs.Views.{meaning_view, sight_view};
 ghost use Rattle.vhdl_names_units.specs.views.Declarations.{generics_view, all_generics_view};
 
-use crate::class::Class;
+use crate::class::ObjectClass;
 use crate::counts::Counts;
 use crate::names::copied_names;
 use crate::region::{hide, settle};
@@ -84,7 +84,7 @@ fn generic(
     let typed = generic_type(alloc, sight, generic);
     hide(alloc, &mut sight.region, &generic.names)?;
     let (integer_type, default) = typed?;
-    settle(alloc, &mut sight.region, first, number, &Class::Generic)?;
+    settle(alloc, &mut sight.region, first, number, &ObjectClass::Generic)?;
     let names = copied_names(alloc, &generic.names)?;
     Ok(Generics {
         names,

@@ -15,7 +15,7 @@ mod packages;
 pub mod ports;
 mod region;
 
-pub use class::{Class, copied_values};
+pub use class::{ObjectClass, copied_values};
 pub use context::{Context, context_after};
 pub use counts::Counts;
 pub use labels::{declare_labels, labels_are_distinct};

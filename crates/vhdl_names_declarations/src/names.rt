@@ -4,7 +4,7 @@ ghost use Rattle.std.specs.Prelude.{◌≡◌, map, option_map, IfOk};
 ghost use Rattle.vhdl_names_rules.specs.Gives.{Gives};
 ghost use Rattle.vhdl_names_rules.specs.declared.fault.NameProblem.TheVariants.{WrongKind};
 ghost use Rattle.vhdl_names_rules.specs.Rules.{rule};
-ghost use Rattle.vhdl_names_rules.specs.Visibility as rules;
+ghost use Rattle.vhdl_names_rules.specs.Visibility as visibility;
 ghost use Rattle.vhdl_tree.specs.View.{ident_view, idents_view, option_ident_view};
 
 use std::alloc::{AllocError, Global};
@@ -34,7 +34,7 @@ pub fn copied_names(alloc: Global, names: &[Identifier]) -> Result<Vec<Identifie
 
 /// An end name, if there is one, repeats the name at the beginning; else it is of WrongKind.
 pub fn ends(name: &Identifier, end: &Option<Identifier>) -> Result<(), NameFault>
-    ensures { Gives (λ x. x) (rule WrongKind (rules.ends name.now.text.items (option_ident_view end.now))) result }
+    ensures { Gives (λ x. x) (rule WrongKind (visibility.ends name.now.text.items (option_ident_view end.now))) result }
 {
     match end {
         None => Ok(()),

@@ -14,7 +14,7 @@ ghost use Rattle.vhdl_names_types.specs.Views.{sight_view};
 ghost use Rattle.vhdl_names_units.specs.views.Answers.{subtype_view, fixed_view};
 ghost use Rattle.vhdl_names_units.specs.views.Declarations.{declaration_view, object_view, objects_view};
 
-use crate::class::Class;
+use crate::class::ObjectClass;
 use crate::counts::Counts;
 use crate::names::copied_names;
 use crate::region::{hide, settle};
@@ -89,7 +89,7 @@ pub fn signals(
     let first = sight.region.len();
     hide(alloc, &mut sight.region, &declaration.names)?;
     let (subtype, default) = object_type(alloc, sight, &declaration.subtype, &declaration.default)?;
-    let class = Class::Signal(subtype.object_type);
+    let class = ObjectClass::Signal(subtype.object_type);
     settle(alloc, &mut sight.region, first, number, &class)?;
     let objects = objects(alloc, &declaration.names, subtype, default)?;
     Ok(Declaration::Signals(objects))
@@ -109,7 +109,7 @@ fn variables_of_one(
     let first = sight.variables.len();
     hide(alloc, &mut sight.variables, &declaration.names)?;
     let (subtype, default) = object_type(alloc, sight, &declaration.subtype, &declaration.default)?;
-    let class = Class::Variable(subtype.object_type);
+    let class = ObjectClass::Variable(subtype.object_type);
     settle(alloc, &mut sight.variables, first, number, &class)?;
     let objects = objects(alloc, &declaration.names, subtype, default)?;
     Ok(objects)

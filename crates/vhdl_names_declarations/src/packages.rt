@@ -12,7 +12,7 @@ use crate::context::Context;
 use crate::region::declare_name;
 use indexmap::IndexMap;
 use std::alloc::Global;
-use vhdl_names_rules::{Function, IntegerType, Kind, NameFault};
+use vhdl_names_rules::{Function, IntegerType, ElementKind, NameFault};
 use vhdl_names_types::{Meaning, Region, Sight};
 use vhdl_values::Edge;
 
@@ -23,7 +23,7 @@ pub enum Builtin {
     /// A type of elements, and whether it is resolved.
     Elements(bool),
     /// A type of vectors, and whether it is resolved.
-    Vectors(Kind, bool),
+    Vectors(ElementKind, bool),
     Call(Function),
 }
 
@@ -62,11 +62,11 @@ pub const STD_LOGIC_1164: [Row; 6] = [
     },
     Row {
         name: b"std_logic_vector",
-        builtin: Builtin::Vectors(Kind::LogicVector, true),
+        builtin: Builtin::Vectors(ElementKind::LogicVector, true),
     },
     Row {
         name: b"std_ulogic_vector",
-        builtin: Builtin::Vectors(Kind::LogicVector, false),
+        builtin: Builtin::Vectors(ElementKind::LogicVector, false),
     },
     Row {
         name: b"rising_edge",
@@ -82,7 +82,7 @@ pub const STD_LOGIC_1164: [Row; 6] = [
 pub const NUMERIC_STD: [Row; 5] = [
     Row {
         name: b"unsigned",
-        builtin: Builtin::Vectors(Kind::Unsigned, true),
+        builtin: Builtin::Vectors(ElementKind::Unsigned, true),
     },
     Row {
         name: b"resize",

@@ -11,12 +11,12 @@ ghost use Rattle.vhdl_names_types.specs.Views.{sight_view};
 ghost use Rattle.vhdl_names_units.specs.views.Answers.{subtype_view, fixed_view};
 ghost use Rattle.vhdl_names_units.specs.views.Declarations.{ports_view, all_ports_view};
 
-use crate::class::Class;
+use crate::class::ObjectClass;
 use crate::counts::Counts;
 use crate::objects::{fixed_if_any, objects};
 use crate::region::{hide, settle};
 use std::alloc::Global;
-use vhdl_names_rules::{Kind, NameFault, NameProblem, ObjectType};
+use vhdl_names_rules::{ElementKind, NameFault, NameProblem, ObjectType};
 use vhdl_tree::{Mode, Port};
 use vhdl_names_types::Sight;
 use vhdl_names_expressions::subtype;
@@ -24,7 +24,7 @@ use vhdl_names_units::{Fixed, Ports, Subtype};
 
 /// A type of the nine values, whose mark is at byte `at`; ports and constants of an enumeration are
 /// left out.
-pub fn kind_of(object_type: ObjectType, at: usize) -> Result<Kind, NameFault>
+pub fn kind_of(object_type: ObjectType, at: usize) -> Result<ElementKind, NameFault>
     ensures { Gives (λ k. k) (rules.as_kind object_type) result }
 {
     match object_type {
@@ -48,7 +48,7 @@ fn port_type(
     alloc: Global,
     sight: &Sight,
     port: &Port,
-) -> Result<(Subtype, Kind, Option<Fixed>), NameFault>
+) -> Result<(Subtype, ElementKind, Option<Fixed>), NameFault>
     ensures { Gives (λ x. (subtype_view x.0, x.1, option_map fixed_view x.2)) (typed_port (sight_view sight.now) (tree.port_view port.now)) result }
 {
     let subtype = subtype(alloc, sight, &port.subtype)?;
@@ -69,7 +69,7 @@ fn port(alloc: Global, sight: &mut Sight, number: usize, port: &Port) -> Result<
     hide(alloc, &mut sight.region, &port.names)?;
     let (subtype, kind, default) = typed?;
     let mode = mode_of(port.mode);
-    let class = Class::Port(mode, kind);
+    let class = ObjectClass::Port(mode, kind);
     settle(alloc, &mut sight.region, first, number, &class)?;
     let objects = objects(alloc, &port.names, subtype, default)?;
     Ok(Ports { mode, objects })

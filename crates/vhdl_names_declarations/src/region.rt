@@ -5,12 +5,12 @@ ghost use Rattle.indexmap.specs.IndexMap.{index_map_len};
 ghost use Rattle.vhdl_names_declarations.specs.Entered.{more};
 ghost use Rattle.vhdl_names_declarations.specs.Settled.{class_view, settled};
 ghost use Rattle.vhdl_names_rules.specs.Gives.{Gives};
-ghost use Rattle.vhdl_names_rules.specs.Visibility as rules;
+ghost use Rattle.vhdl_names_rules.specs.Visibility as visibility;
 ghost use Rattle.vhdl_names_rules.specs.Visibility.{all_declared, names_of};
 ghost use Rattle.vhdl_tree.specs.View.{ident_view};
 ghost use Rattle.vhdl_names_types.specs.Views.{meaning_view, region_view};
 
-use crate::class::Class;
+use crate::class::ObjectClass;
 use std::alloc::{AllocError, Global};
 use vhdl_names_rules::{NameFault, NameProblem};
 use vhdl_tree::Identifier;
@@ -25,7 +25,7 @@ pub fn declare_name(
     at: usize,
     meaning: Meaning,
 ) -> Result<(), NameFault>
-    ensures { Gives (λ _. region_view region.new) (more (region_view region.old) (rules.declare name.now (meaning_view meaning) ∷ [])) result }
+    ensures { Gives (λ _. region_view region.new) (more (region_view region.old) (visibility.declare name.now (meaning_view meaning) ∷ [])) result }
 {
     let _apart = region.len();
     if region.contains_key(name) {
@@ -45,7 +45,7 @@ pub fn declare(
     meaning: Meaning,
 ) -> Result<(), NameFault>
     ensures { Gives (λ _. region_view region.new)
-        (more (region_view region.old) (rules.declare name.now.text.items (meaning_view meaning) ∷ [])) result }
+        (more (region_view region.old) (visibility.declare name.now.text.items (meaning_view meaning) ∷ [])) result }
 {
     declare_name(alloc, region, &name.text, name.at, meaning)
 }
@@ -54,7 +54,7 @@ pub fn declare(
 /// names and their entries.
 pub fn hide(alloc: Global, region: &mut Region, names: &[Identifier]) -> Result<(), NameFault>
     ensures { Gives (λ _. region_view region.new)
-        (more (region_view region.old) (all_declared rules.unfinished (names_of (map ident_view names.now)))) result }
+        (more (region_view region.old) (all_declared visibility.unfinished (names_of (map ident_view names.now)))) result }
 {
     let _apart = region.len();
     for name in names {
@@ -71,7 +71,7 @@ pub fn settle(
     region: &mut Region,
     first: usize,
     number: usize,
-    class: &Class,
+    class: &ObjectClass,
 ) -> Result<(), AllocError>
     requires place { first ≤ index_map_len region.old }
     requires number { number ≤ first }

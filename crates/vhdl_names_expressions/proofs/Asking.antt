@@ -9,23 +9,23 @@ use Rattle.vhdl_names_rules.specs.Rules.{◌>>=◌, ◌>>◌, met, then_some}
 use Rattle.vhdl_names_rules.specs.Visibility.{Sight, Meaning, meaning}
 use Rattle.vhdl_names_rules.specs.Names.{Suffix}
 use Rattle.vhdl_names_rules.specs.Operators.{Typed, integer, elements, enumerated, truth}
-use Rattle.vhdl_names_rules.specs.declared.kind.Kind.{Kind}
-use Rattle.vhdl_names_rules.specs.declared.kind.Kind.TheVariants.{Element, LogicVector, Unsigned, OpenVector}
+use Rattle.vhdl_names_rules.specs.declared.kind.ElementKind.{ElementKind}
+use Rattle.vhdl_names_rules.specs.declared.kind.ElementKind.TheVariants.{Element, LogicVector, Unsigned, OpenVector}
 use Rattle.vhdl_names_rules.specs.declared.kind.ObjectType.TheVariants.{Elements}
 use Rattle.vhdl_names_rules.specs.units.Statements.{filled}
-use Rattle.vhdl_names_rules.specs.Expressions.{typed, typed_suffix, condition, given, as_test, as_static_test, as_value, as_filled, is_vector}
+use Rattle.vhdl_names_rules.specs.Expressions.{typed, typed_suffix, condition, value_given, as_test, as_static_test, as_value, as_filled, is_vector}
 use Rattle.vhdl_names_rules.specs.Statements.{signal, target, variable, as_signal, as_variable, is_input}
 
 pub condition_is : (sight : Sight) (e : t.Expr) → condition sight e ≡ (typed sight e >>= as_test)
 unfolding condition
 condition_is sight e = refl
 
-pub given_single : (sight : Sight) (type : ObjectType) (e : t.Expr) → given sight type (t.single e) ≡ (typed sight e >>= as_value type)
-unfolding given
+pub given_single : (sight : Sight) (type : ObjectType) (e : t.Expr) → value_given sight type (t.single e) ≡ (typed sight e >>= as_value type)
+unfolding value_given
 given_single sight type e = refl
 
-pub given_others : (sight : Sight) (type : ObjectType) (at : ℕ) (e : t.Expr) → given sight type (t.others at e) ≡ (typed sight e >>= as_filled type)
-unfolding given
+pub given_others : (sight : Sight) (type : ObjectType) (at : ℕ) (e : t.Expr) → value_given sight type (t.others at e) ≡ (typed sight e >>= as_filled type)
+unfolding value_given
 given_others sight type at e = refl
 
 pub not_static : (x : u.Test) → is_fixed x ≡ false → as_static_test (truth x) ≡ None
@@ -68,7 +68,7 @@ unfolding target
 target_is sight n = refl
 
 -- what is no vector is not filled
-pub no_filled : (k : Kind) (x : Typed) → is_vector k ≡ false → as_filled (Elements k) x ≡ None
+pub no_filled : (k : ElementKind) (x : Typed) → is_vector k ≡ false → as_filled (Elements k) x ≡ None
 no_filled k (integer s) h = refl
 no_filled k (elements Element v) h = ap (λ b. then_some b (filled v)) h
 no_filled k (elements LogicVector v) h = refl

@@ -14,7 +14,7 @@ use Rattle.vhdl_tree.specs.declared.expression.Chain.{Chain, out-Chain}
 use Rattle.vhdl_tree.specs.declared.expression.Link.{Link}
 use Rattle.vhdl_tree.proofs.Rows.{chain_is, view_arguments}
 use Rattle.vhdl_names_rules.specs.Rules.{◌>>=◌}
-use Rattle.vhdl_names_rules.specs.Visibility as m
+use Rattle.vhdl_names_rules.specs.Visibility as visibility
 use Rattle.vhdl_names_rules.specs.Visibility.{Sight}
 use Rattle.vhdl_names_rules.specs.Names.{Suffix, range, denoted, attributed}
 use Rattle.vhdl_names_rules.specs.units.Expressions as u
@@ -80,11 +80,11 @@ link_fails sight whole v ls i l h lt e f =
 
 -- the identifier first
 pub named_in_turn : (sight : Sight) (n : Ident) (s : t.Suffix) (a : Option Ident) →
-    typed sight (t.named n s a) ≡ (m.meaning sight n.text >>= λ d. (typed_suffix sight s >>= λ x. (denoted d x >>= attributed a)))
+    typed sight (t.named n s a) ≡ (visibility.meaning sight n.text >>= λ d. (typed_suffix sight s >>= λ x. (denoted d x >>= attributed a)))
 unfolding typed
-named_in_turn sight n s a = go (typed_suffix sight s) (m.meaning sight n.text)
+named_in_turn sight n s a = go (typed_suffix sight s) (visibility.meaning sight n.text)
   where
-    go : (o : Option Suffix) (p : Option m.Meaning) →
+    go : (o : Option Suffix) (p : Option visibility.Meaning) →
         (o >>= λ x. (p >>= λ d. (denoted d x >>= attributed a))) ≡ (p >>= λ d. (o >>= λ x. (denoted d x >>= attributed a)))
     go None None = refl
     go None (Some d) = refl

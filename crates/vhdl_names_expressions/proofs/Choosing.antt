@@ -9,8 +9,8 @@ use Rattle.vhdl_tree.specs.declared.expression.Expr.TheVariants as x
 use Rattle.vhdl_tree.specs.declared.expression.Chain.{Chain, out-Chain}
 use Rattle.vhdl_tree.specs.declared.operator.Operator.{Operator}
 use Rattle.vhdl_tree.proofs.Rows.{chain_is}
-use Rattle.vhdl_names_rules.specs.declared.kind.Kind.{Kind}
-use Rattle.vhdl_names_rules.specs.declared.kind.Kind.TheVariants.{Element, LogicVector, Unsigned, OpenVector}
+use Rattle.vhdl_names_rules.specs.declared.kind.ElementKind.{ElementKind}
+use Rattle.vhdl_names_rules.specs.declared.kind.ElementKind.TheVariants.{Element, LogicVector, Unsigned, OpenVector}
 use Rattle.vhdl_names_rules.specs.Expressions.{is_one_name, is_vector}
 use Rattle.vhdl_tree.specs.declared.expression.Suffix as f
 use Rattle.vhdl_tree.specs.declared.expression.Suffix.TheVariants as s
@@ -21,7 +21,7 @@ use Rattle.vhdl_names_rules.specs.declared.kind.ObjectType.{ObjectType}
 use Rattle.vhdl_names_rules.specs.declared.kind.ObjectType.TheVariants.{Elements, Enumeration}
 use Rattle.vhdl_names_rules.specs.units.Statements.{Choice}
 use Rattle.vhdl_names_rules.specs.Rules.{◌>>=◌, ◌>>◌, met, each}
-use Rattle.vhdl_names_rules.specs.Visibility as m
+use Rattle.vhdl_names_rules.specs.Visibility as visibility
 use Rattle.vhdl_names_rules.specs.Visibility.{Sight}
 use Rattle.vhdl_names_rules.specs.Literals.{values_of_string, values_of_bits}
 use Rattle.vhdl_names_rules.specs.Subtypes.{literal_values}
@@ -96,25 +96,25 @@ chain_is_no_character = chain_is_as as_character None (λ b op at d e. refl)
 
 -- ---- literals, kind by kind
 
-pub literal_character : (k : Kind) (at c : ℕ) → literal_values k (t.character at c) ≡ character_values k c
+pub literal_character : (k : ElementKind) (at c : ℕ) → literal_values k (t.character at c) ≡ character_values k c
 literal_character Element at c = refl
 literal_character LogicVector at c = refl
 literal_character Unsigned at c = refl
 literal_character OpenVector at c = refl
 
-pub literal_string : (k : Kind) (at : ℕ) (text : List ℕ) → literal_values k (t.string at text) ≡ (met (is_vector k) >> values_of_string text)
+pub literal_string : (k : ElementKind) (at : ℕ) (text : List ℕ) → literal_values k (t.string at text) ≡ (met (is_vector k) >> values_of_string text)
 literal_string Element at text = refl
 literal_string LogicVector at text = refl
 literal_string Unsigned at text = refl
 literal_string OpenVector at text = refl
 
-pub literal_bits : (k : Kind) (at : ℕ) (text : List ℕ) → literal_values k (t.bits at text) ≡ (met (is_vector k) >> values_of_bits text)
+pub literal_bits : (k : ElementKind) (at : ℕ) (text : List ℕ) → literal_values k (t.bits at text) ≡ (met (is_vector k) >> values_of_bits text)
 literal_bits Element at text = refl
 literal_bits LogicVector at text = refl
 literal_bits Unsigned at text = refl
 literal_bits OpenVector at text = refl
 
-pub no_literal : (k : Kind) (e : t.Expr) → is_literal e ≡ false → literal_values k e ≡ None
+pub no_literal : (k : ElementKind) (e : t.Expr) → is_literal e ≡ false → literal_values k e ≡ None
 no_literal Element (t.integer at s) h = refl
 no_literal LogicVector (t.integer at s) h = refl
 no_literal Unsigned (t.integer at s) h = refl
@@ -159,11 +159,11 @@ name_unchosen (Enumeration e count) n y a = refl
 
 -- a name whose identifier comes first
 pub chosen_named : (sight : Sight) (type : ObjectType) (n : t.Ident) (y : t.Suffix) (a : Option t.Ident) →
-    c.chosen sight type (t.named n y a) ≡ (m.meaning sight n.text >>= λ d. (met (is_bare y a) >> c.named_choice type d))
+    c.chosen sight type (t.named n y a) ≡ (visibility.meaning sight n.text >>= λ d. (met (is_bare y a) >> c.named_choice type d))
 chosen_named sight type n t.plain None = refl
-chosen_named sight type n t.plain (Some a) = name_unchosen type n t.plain (Some a) ∙ sym (none_after (m.meaning sight n.text) (c.named_choice type))
-chosen_named sight type n (t.arguments es) a = name_unchosen type n (t.arguments es) a ∙ sym (none_after (m.meaning sight n.text) (c.named_choice type))
-chosen_named sight type n (t.sliced d w e) a = name_unchosen type n (t.sliced d w e) a ∙ sym (none_after (m.meaning sight n.text) (c.named_choice type))
+chosen_named sight type n t.plain (Some a) = name_unchosen type n t.plain (Some a) ∙ sym (none_after (visibility.meaning sight n.text) (c.named_choice type))
+chosen_named sight type n (t.arguments es) a = name_unchosen type n (t.arguments es) a ∙ sym (none_after (visibility.meaning sight n.text) (c.named_choice type))
+chosen_named sight type n (t.sliced d w e) a = name_unchosen type n (t.sliced d w e) a ∙ sym (none_after (visibility.meaning sight n.text) (c.named_choice type))
 
 abbrev pub chosen_by : Sight → ObjectType → Option t.Name → t.Expr → Option Choice
 chosen_by sight type (Some n) e = c.chosen sight type (t.named n.identifier n.suffix n.attribute)

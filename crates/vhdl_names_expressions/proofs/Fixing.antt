@@ -3,13 +3,13 @@ use Rattle.std.proofs.Common.{◌≡◌, ℕ, true, false, List, [], ◌∷◌, 
 use Rattle.std.specs.Prelude.{option_map, is_none}
 use Rattle.vhdl_tree.specs.Tree as t
 use Rattle.vhdl_names_rules.specs.declared.kind.Function.TheVariants.{ToUnsigned}
-use Rattle.vhdl_names_rules.specs.declared.kind.Kind.TheVariants.{Unsigned}
+use Rattle.vhdl_names_rules.specs.declared.kind.ElementKind.TheVariants.{Unsigned}
 use Rattle.vhdl_names_rules.specs.declared.kind.ObjectType.{ObjectType}
 use Rattle.vhdl_names_rules.specs.declared.kind.ObjectType.TheVariants.{Elements, Enumeration}
 use Rattle.vhdl_names_rules.specs.units.Expressions as u
 use Rattle.vhdl_names_rules.specs.units.Units.{Fixed}
 use Rattle.vhdl_names_rules.specs.Rules.{◌>>=◌, ◌>>◌, met}
-use Rattle.vhdl_names_rules.specs.Visibility as m
+use Rattle.vhdl_names_rules.specs.Visibility as visibility
 use Rattle.vhdl_names_rules.specs.Visibility.{Sight}
 use Rattle.vhdl_names_rules.specs.Names.{arguments, range}
 use Rattle.vhdl_names_rules.specs.Operators as o
@@ -26,7 +26,7 @@ use Rattle.vhdl_names_expressions.proofs.Choosing.{no_literal}
 
 -- ---- to_unsigned
 
-encode_two : (xs : List o.Typed) → r.encoded_value (Elements Unsigned) (m.function ToUnsigned) xs ≡ encoded_fixed (two xs)
+encode_two : (xs : List o.Typed) → r.encoded_value (Elements Unsigned) (visibility.function ToUnsigned) xs ≡ encoded_fixed (two xs)
 encode_two [] = refl
 encode_two (integer s ∷ []) = refl
 encode_two (integer s ∷ integer t ∷ []) = refl
@@ -66,7 +66,7 @@ encode_two (truth x ∷ truth y ∷ []) = refl
 encode_two (truth x ∷ truth y ∷ z ∷ zs) = refl
 
 pub encoding_two : (xs : List Typed) →
-    r.encoded_value (Elements Unsigned) (m.function ToUnsigned) (map typed_view xs) ≡ encoded_fixed (option_map both_views (two xs))
+    r.encoded_value (Elements Unsigned) (visibility.function ToUnsigned) (map typed_view xs) ≡ encoded_fixed (option_map both_views (two xs))
 encoding_two xs = encode_two (map typed_view xs) ∙ ap encoded_fixed (two_map xs)
 
 -- ---- names
@@ -84,24 +84,24 @@ broken (Some d) (Some s) f = refl
 -- the identifier first, and the attribute last
 pub fixed_named : (sight : Sight) (type : ObjectType) (n : t.Ident) (y : t.Suffix) (a : Option t.Ident) →
     r.fixed sight type (t.named n y a)
-    ≡ (m.meaning sight n.text >>= λ d. (typed_suffix sight y >>= λ s. (met (is_none a) >> suffixed_value type d s)))
+    ≡ (visibility.meaning sight n.text >>= λ d. (typed_suffix sight y >>= λ s. (met (is_none a) >> suffixed_value type d s)))
 unfolding typed_suffix
-fixed_named sight type n t.plain None = go (m.meaning sight n.text)
+fixed_named sight type n t.plain None = go (visibility.meaning sight n.text)
   where
-    go : (p : Option m.Meaning) → (p >>= r.named_value type) ≡ (p >>= λ d. r.named_value type d)
+    go : (p : Option visibility.Meaning) → (p >>= r.named_value type) ≡ (p >>= λ d. r.named_value type d)
     go None = refl
     go (Some d) = refl
-fixed_named sight type n (t.arguments es) None = go (m.meaning sight n.text) (typed_each sight es)
+fixed_named sight type n (t.arguments es) None = go (visibility.meaning sight n.text) (typed_each sight es)
   where
-    go : (p : Option m.Meaning) (q : Option (List o.Typed)) →
+    go : (p : Option visibility.Meaning) (q : Option (List o.Typed)) →
         (p >>= λ d. (q >>= λ xs. r.encoded_value type d xs))
         ≡ (p >>= λ d. (option_map (arguments (is_one_name es)) q >>= λ s. (met true >> suffixed_value type d s)))
     go None q = refl
     go (Some d) None = refl
     go (Some d) (Some xs) = refl
-fixed_named sight type n (t.sliced d w e) None = name_unvalued type n (t.sliced d w e) None ∙ sym (go (m.meaning sight n.text) (typed sight d))
+fixed_named sight type n (t.sliced d w e) None = name_unvalued type n (t.sliced d w e) None ∙ sym (go (visibility.meaning sight n.text) (typed sight d))
   where
-    last : (p : m.Meaning) (l : u.Static) (q : Option o.Typed) →
+    last : (p : visibility.Meaning) (l : u.Static) (q : Option o.Typed) →
         ((q >>= λ y. (as_integer y >>= λ r. Some (range (record { left = l; direction = w; right = r })))) >>= λ s. (met true >> suffixed_value type p s)) ≡ None
     last p l None = refl
     last p l (Some y) = end (as_integer y)
@@ -110,19 +110,19 @@ fixed_named sight type n (t.sliced d w e) None = name_unvalued type n (t.sliced 
         end None = refl
         end (Some r) = refl
 
-    next : (p : m.Meaning) (q : Option u.Static) →
+    next : (p : visibility.Meaning) (q : Option u.Static) →
         ((q >>= λ l. (typed sight e >>= λ y. (as_integer y >>= λ r. Some (range (record { left = l; direction = w; right = r }))))) >>= λ s. (met true >> suffixed_value type p s)) ≡ None
     next p None = refl
     next p (Some l) = last p l (typed sight e)
 
-    go : (p : Option m.Meaning) (q : Option o.Typed) →
+    go : (p : Option visibility.Meaning) (q : Option o.Typed) →
         (p >>= λ d. ((q >>= λ x. (as_integer x >>= λ l. (typed sight e >>= λ y. (as_integer y >>= λ r. Some (range (record { left = l; direction = w; right = r })))))) >>= λ s. (met true >> suffixed_value type d s))) ≡ None
     go None q = refl
     go (Some p) None = refl
     go (Some p) (Some x) = next p (as_integer x)
-fixed_named sight type n t.plain (Some a) = name_unvalued type n t.plain (Some a) ∙ sym (broken (m.meaning sight n.text) (typed_suffix sight t.plain) (suffixed_value type))
-fixed_named sight type n (t.arguments es) (Some a) = name_unvalued type n (t.arguments es) (Some a) ∙ sym (broken (m.meaning sight n.text) (typed_suffix sight (t.arguments es)) (suffixed_value type))
-fixed_named sight type n (t.sliced d w e) (Some a) = name_unvalued type n (t.sliced d w e) (Some a) ∙ sym (broken (m.meaning sight n.text) (typed_suffix sight (t.sliced d w e)) (suffixed_value type))
+fixed_named sight type n t.plain (Some a) = name_unvalued type n t.plain (Some a) ∙ sym (broken (visibility.meaning sight n.text) (typed_suffix sight t.plain) (suffixed_value type))
+fixed_named sight type n (t.arguments es) (Some a) = name_unvalued type n (t.arguments es) (Some a) ∙ sym (broken (visibility.meaning sight n.text) (typed_suffix sight (t.arguments es)) (suffixed_value type))
+fixed_named sight type n (t.sliced d w e) (Some a) = name_unvalued type n (t.sliced d w e) (Some a) ∙ sym (broken (visibility.meaning sight n.text) (typed_suffix sight (t.sliced d w e)) (suffixed_value type))
 
 abbrev pub fixed_by : Sight → ObjectType → Option t.Name → t.Expr → Option Fixed
 fixed_by sight type (Some n) e = r.fixed sight type (t.named n.identifier n.suffix n.attribute)

@@ -6,7 +6,7 @@ use Rattle.vhdl_names_rules.specs.Rules.{◌>>=◌}
 use Rattle.vhdl_names_rules.specs.Visibility.{Sight, Meaning, meaning}
 use Rattle.vhdl_names_rules.specs.Expressions.{static_range}
 use Rattle.vhdl_names_rules.specs.Subtypes.{subtype, marked}
-use Rattle.vhdl_names_rules.specs.declared.kind.Kind.{Kind}
+use Rattle.vhdl_names_rules.specs.declared.kind.ElementKind.{ElementKind}
 use Rattle.vhdl_names_types.specs.declared.meaning.Meaning.{Meaning as DeclaredMeaning}
 use Rattle.vhdl_names_types.specs.declared.meaning.Meaning.TheVariants as d
 use Rattle.vhdl_names_types.specs.Views.{meaning_view}
@@ -32,7 +32,7 @@ unfolding subtype
 subtype_ranged sight n r = ranged (static_range sight r) (meaning sight n.text)
 
 -- what takes no range takes none that is broken either
-pub no_range : (m : DeclaredMeaning) → ((kind : Kind) (is_resolved : Bool) → m ≡ d.VectorType kind is_resolved → ⊥) → (o : Option Range) →
+pub no_range : (m : DeclaredMeaning) → ((kind : ElementKind) (is_resolved : Bool) → m ≡ d.VectorType kind is_resolved → ⊥) → (o : Option Range) →
     with_range (meaning_view m) o ≡ None
 no_range (d.VectorType kind is_resolved) other o = absurd (other kind is_resolved refl)
 no_range (d.Generic k) other None = refl

@@ -3,8 +3,8 @@ use Rattle.std.specs.Prelude.{ℕ, Bool, true, false, List, [], ◌∷◌, Optio
 use Rattle.vhdl_values.specs.declared.scalar.Nine.{Nine}
 use Rattle.vhdl_tree.specs.Tree as t
 use Rattle.vhdl_tree.specs.Tree.{Expr, Exprs, Ident}
-use Rattle.vhdl_names_rules.specs.declared.kind.Kind.{Kind}
-use Rattle.vhdl_names_rules.specs.declared.kind.Kind.TheVariants.{Element}
+use Rattle.vhdl_names_rules.specs.declared.kind.ElementKind.{ElementKind}
+use Rattle.vhdl_names_rules.specs.declared.kind.ElementKind.TheVariants.{Element}
 use Rattle.vhdl_names_rules.specs.Literals.{nine_of}
 use Rattle.vhdl_names_rules.specs.Names.{Suffix, arguments}
 use Rattle.vhdl_names_rules.specs.Visibility.{Sight}
@@ -43,7 +43,7 @@ as_character (t.character at c) = Some c
 as_character _ = None
 
 -- a character for one element
-abbrev pub character_values : Kind → ℕ → Option (List Nine)
+abbrev pub character_values : ElementKind → ℕ → Option (List Nine)
 character_values Element c = option_map (λ v. v ∷ []) (nine_of c)
 character_values _ c = None
 

@@ -5,7 +5,7 @@ ghost use Rattle.vhdl_names_rules.specs.Choices as rules;
 ghost use Rattle.vhdl_names_rules.specs.Gives.{Gives};
 ghost use Rattle.vhdl_names_rules.specs.Rules.{each};
 ghost use Rattle.vhdl_names_rules.specs.declared.kind.ObjectType.TheVariants.{Elements, Enumeration};
-ghost use Rattle.vhdl_tree.specs.Tree as tree;
+ghost use Rattle.vhdl_tree.specs.Tree as t;
 ghost use Rattle.vhdl_tree.specs.View.{view, ident_view, suffix_view, option_ident_view, choice_view as tree_choice_view};
 ghost use Rattle.vhdl_names_types.specs.Views.{sight_view, meaning_view};
 ghost use Rattle.vhdl_names_expressions.specs.Chosen.{is_bare};
@@ -14,7 +14,7 @@ ghost use Rattle.vhdl_names_units.specs.views.Answers.{choice_view, choices_view
 use crate::expressions::start;
 use crate::literals::{literal_problem, literal_values, name_of};
 use std::alloc::Global;
-use vhdl_names_rules::{Kind, NameFault, NameProblem, ObjectType};
+use vhdl_names_rules::{ElementKind, NameFault, NameProblem, ObjectType};
 use vhdl_tree::{Choice as TreeChoice, Expr, Name, Suffix};
 use vhdl_names_types::{Meaning, Sight, meaning_of};
 use vhdl_names_units::Choice;
@@ -30,13 +30,13 @@ fn choice_problem(meaning: &Meaning) -> NameProblem {
 }
 
 /// The choice that a constant of this kind is, which a literal declares; its name is at byte `at`.
-fn constant_choice(kind: Kind, meaning: &Meaning, at: usize) -> Result<Choice, NameFault>
+fn constant_choice(kind: ElementKind, meaning: &Meaning, at: usize) -> Result<Choice, NameFault>
     ensures { Gives choice_view (rules.named_choice (Elements kind) (meaning_view meaning.now)) result }
 {
     match (kind, meaning) {
-        (Kind::Element, Meaning::Constant(_, Kind::Element, Some(values)))
-        | (Kind::LogicVector, Meaning::Constant(_, Kind::LogicVector, Some(values)))
-        | (Kind::Unsigned, Meaning::Constant(_, Kind::Unsigned, Some(values))) => {
+        (ElementKind::Element, Meaning::Constant(_, ElementKind::Element, Some(values)))
+        | (ElementKind::LogicVector, Meaning::Constant(_, ElementKind::LogicVector, Some(values)))
+        | (ElementKind::Unsigned, Meaning::Constant(_, ElementKind::Unsigned, Some(values))) => {
             Ok(Choice::Values(values.clone()?))
         }
         _ => Err(choice_problem(meaning).at(at)),
@@ -91,7 +91,7 @@ fn is_bare_name(name: &Name) -> bool
 /// A name as a choice, with nothing behind it.
 #[tactic(auto, using(crate::proofs::Choosing::chosen_named))]
 fn chosen_name(sight: &Sight, object_type: ObjectType, name: &Name) -> Result<Choice, NameFault>
-    ensures { Gives choice_view (rules.chosen (sight_view sight.now) object_type (tree.named (ident_view name.now.identifier) (suffix_view name.now.suffix) (option_ident_view name.now.attribute))) result }
+    ensures { Gives choice_view (rules.chosen (sight_view sight.now) object_type (t.named (ident_view name.now.identifier) (suffix_view name.now.suffix) (option_ident_view name.now.attribute))) result }
 {
     let meaning = meaning_of(sight, &name.identifier)?;
     if !is_bare_name(name) {

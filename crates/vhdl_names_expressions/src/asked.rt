@@ -14,7 +14,7 @@ ghost use Rattle.vhdl_names_units.specs.views.Answers.{given_view, selector_view
 
 use crate::expressions::{start, typed};
 use std::alloc::Global;
-use vhdl_names_rules::{Kind, NameFault, NameProblem, ObjectType, StaticTest, Test, Value};
+use vhdl_names_rules::{ElementKind, NameFault, NameProblem, ObjectType, StaticTest, Test, Value};
 use vhdl_tree::{Expr, Value as TreeValue};
 use vhdl_names_types::{Sight, Typed};
 use vhdl_names_units::Given;
@@ -26,7 +26,7 @@ fn as_test(operand: Typed, at: usize) -> Result<Test, NameFault>
     match operand {
         Typed::Truth(test) => Ok(test),
         Typed::Elements(kind, vector) => match kind {
-            Kind::Element => Ok(Test::Holds(vector)),
+            ElementKind::Element => Ok(Test::Holds(vector)),
             _ => Err(NameProblem::TypeMismatch.at(at)),
         },
         Typed::Integer(_) => Err(NameProblem::TypeMismatch.at(at)),
@@ -66,7 +66,7 @@ pub fn static_condition(alloc: Global, sight: &Sight, e: &Expr) -> Result<Static
 }
 
 /// The value of a kind that an operand is, which starts at byte `at`.
-fn as_elements(kind: Kind, operand: Typed, at: usize) -> Result<Given, NameFault>
+fn as_elements(kind: ElementKind, operand: Typed, at: usize) -> Result<Given, NameFault>
     ensures { Gives given_view (rules.as_value (Elements kind) (typed_view operand)) result }
 {
     if let Typed::Elements(own, vector) = operand {
@@ -115,7 +115,7 @@ fn as_filled(
     match object_type {
         ObjectType::Elements(kind) if kind.is_vector() => match operand {
             Typed::Elements(own, vector) => match own {
-                Kind::Element => Ok(Given::Filled(vector)),
+                ElementKind::Element => Ok(Given::Filled(vector)),
                 _ => Err(NameProblem::TypeMismatch.at(element_at)),
             },
             Typed::Integer(_) => Err(NameProblem::TypeMismatch.at(element_at)),
@@ -135,7 +135,7 @@ pub fn given(
     object_type: ObjectType,
     value: &TreeValue,
 ) -> Result<Given, NameFault>
-    ensures { Gives given_view (rules.given (sight_view sight.now) object_type (trees.value_view value.now)) result }
+    ensures { Gives given_view (rules.value_given (sight_view sight.now) object_type (trees.value_view value.now)) result }
 {
     match value {
         TreeValue::Expr(e) => {
@@ -154,8 +154,8 @@ fn as_selector(operand: Typed, at: usize) -> Result<(ObjectType, Value), NameFau
     ensures { Gives selector_view (selector_of (typed_view operand)) result }
 {
     match operand {
-        Typed::Elements(Kind::OpenVector, vector) => Ok((
-            ObjectType::Elements(Kind::LogicVector),
+        Typed::Elements(ElementKind::OpenVector, vector) => Ok((
+            ObjectType::Elements(ElementKind::LogicVector),
             Value::Elements(vector),
         )),
         Typed::Elements(kind, vector) => {

@@ -7,7 +7,7 @@ ghost use Rattle.vhdl_names_rules.specs.Gives.{Gives};
 ghost use Rattle.vhdl_names_rules.specs.Names.{denoted as denoted_of};
 ghost use Rattle.vhdl_names_rules.specs.declared.fault.NameFault.TheVariants.{NoMemory};
 ghost use Rattle.vhdl_names_rules.specs.views.Integers.{static_view, range_view};
-ghost use Rattle.vhdl_tree.specs.Tree as tree;
+ghost use Rattle.vhdl_tree.specs.Tree as t;
 ghost use Rattle.vhdl_tree.specs.View.{view, suffix_view, ident_view, range_view as tree_range_view};
 ghost use Rattle.vhdl_names_expressions.specs.Chosen.{is_name, arguments_of, started, links_of};
 ghost use Rattle.vhdl_names_expressions.specs.Steps.{is_parens, enclosed_if, linked, all_linked};
@@ -96,7 +96,7 @@ fn is_bare_name(e: &Expr) -> bool
 /// Whether arguments are one name alone.
 #[tactic(auto, using(crate::proofs::Choosing::just_one, crate::proofs::Choosing::not_one))]
 fn is_one_name(arguments: &[Expr]) -> bool
-    ensures { result ≡ rules.is_one_name (tree.exprs_of (map view arguments.now)) }
+    ensures { result ≡ rules.is_one_name (t.exprs_of (map view arguments.now)) }
 {
     match arguments {
         [only] => is_bare_name(only),
@@ -240,7 +240,7 @@ fn denoted_name(
 #[cycle(typed)]
 #[tactic(auto, using(crate::proofs::Chains::named_in_turn))]
 fn named(alloc: Global, sight: &Sight, name: &Name) -> Result<Typed, NameFault>
-    ensures { Gives typed_view (rules.typed (sight_view sight.now) (tree.named (ident_view name.now.identifier) (suffix_view name.now.suffix) (option_map ident_view name.now.attribute))) result }
+    ensures { Gives typed_view (rules.typed (sight_view sight.now) (t.named (ident_view name.now.identifier) (suffix_view name.now.suffix) (option_map ident_view name.now.attribute))) result }
 {
     let at = name.identifier.at;
     let meaning = meaning_of(sight, &name.identifier)?;
@@ -269,7 +269,7 @@ pub fn typed_suffix(alloc: Global, sight: &Sight, suffix: &Suffix) -> Result<Typ
 /// Indices or arguments.
 #[cycle(typed)]
 fn arguments(alloc: Global, sight: &Sight, all: &[Expr]) -> Result<TypedSuffix, NameFault>
-    ensures { Gives typed_suffix_view (arguments_of (sight_view sight.now) (tree.exprs_of (map view all.now))) result }
+    ensures { Gives typed_suffix_view (arguments_of (sight_view sight.now) (t.exprs_of (map view all.now))) result }
 {
     let typed = typed_each(alloc, sight, all)?;
     Ok(TypedSuffix::Arguments(is_one_name(all), typed))
@@ -302,7 +302,7 @@ pub fn static_range(alloc: Global, sight: &Sight, range: &Range) -> Result<Stati
 /// Arguments with their types. It takes memory for what is analysed.
 #[cycle(typed)]
 pub fn typed_each(alloc: Global, sight: &Sight, arguments: &[Expr]) -> Result<Vec<Typed>, NameFault>
-    ensures { Gives (λ v. map typed_view v.items) (rules.typed_each (sight_view sight.now) (tree.exprs_of (map view arguments.now))) result }
+    ensures { Gives (λ v. map typed_view v.items) (rules.typed_each (sight_view sight.now) (t.exprs_of (map view arguments.now))) result }
 {
     let mut done = Vec::new(alloc);
     for argument in arguments {

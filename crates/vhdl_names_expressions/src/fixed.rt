@@ -4,7 +4,7 @@ ghost use Rattle.std.specs.Prelude.{◌≡◌, map, option_map};
 ghost use Rattle.vhdl_names_rules.specs.Gives.{Gives};
 ghost use Rattle.vhdl_names_rules.specs.Subtypes as rules;
 ghost use Rattle.vhdl_names_rules.specs.declared.kind.ObjectType.TheVariants.{Elements, Enumeration};
-ghost use Rattle.vhdl_tree.specs.Tree as tree;
+ghost use Rattle.vhdl_tree.specs.Tree as t;
 ghost use Rattle.vhdl_tree.specs.View.{view, ident_view, suffix_view, option_ident_view, value_view as tree_value_view};
 ghost use Rattle.vhdl_names_types.specs.Views.{sight_view, meaning_view, typed_view, typed_suffix_view};
 ghost use Rattle.vhdl_names_expressions.specs.Chosen.{as_character};
@@ -14,7 +14,7 @@ ghost use Rattle.vhdl_names_units.specs.views.Answers.{fixed_view};
 use crate::expressions::{start, typed_suffix};
 use crate::literals::{literal_problem, literal_values, name_of};
 use std::alloc::Global;
-use vhdl_names_rules::{Function, Kind, NameFault, NameProblem, ObjectType, nine_of};
+use vhdl_names_rules::{Function, ElementKind, NameFault, NameProblem, ObjectType, nine_of};
 use vhdl_tree::{Expr, Name, Value as TreeValue};
 use vhdl_names_types::{Meaning, Sight, Typed, TypedSuffix, meaning_of, two_arguments};
 use vhdl_names_units::Fixed;
@@ -30,13 +30,13 @@ fn value_problem(meaning: &Meaning) -> NameProblem {
 }
 
 /// The value that a constant of this kind is; its name is at byte `at`.
-fn constant_value(kind: Kind, meaning: &Meaning, at: usize) -> Result<Fixed, NameFault>
+fn constant_value(kind: ElementKind, meaning: &Meaning, at: usize) -> Result<Fixed, NameFault>
     ensures { Gives fixed_view (rules.named_value (Elements kind) (meaning_view meaning.now)) result }
 {
     match (kind, meaning) {
-        (Kind::Element, Meaning::Constant(k, Kind::Element, _))
-        | (Kind::LogicVector, Meaning::Constant(k, Kind::LogicVector, _))
-        | (Kind::Unsigned, Meaning::Constant(k, Kind::Unsigned, _)) => Ok(Fixed::Constant(*k)),
+        (ElementKind::Element, Meaning::Constant(k, ElementKind::Element, _))
+        | (ElementKind::LogicVector, Meaning::Constant(k, ElementKind::LogicVector, _))
+        | (ElementKind::Unsigned, Meaning::Constant(k, ElementKind::Unsigned, _)) => Ok(Fixed::Constant(*k)),
         _ => Err(value_problem(meaning).at(at)),
     }
 }
@@ -94,7 +94,7 @@ fn encoded_value(
     ensures { Gives fixed_view (rules.encoded_value object_type (meaning_view meaning.now) (map typed_view arguments.items)) result }
 {
     match (object_type, meaning) {
-        (ObjectType::Elements(Kind::Unsigned), Meaning::Function(Function::ToUnsigned)) => {
+        (ObjectType::Elements(ElementKind::Unsigned), Meaning::Function(Function::ToUnsigned)) => {
             encoded(two_arguments(arguments), at)
         }
         _ => Err(value_problem(meaning).at(at)),
@@ -125,7 +125,7 @@ fn fixed_name(
     object_type: ObjectType,
     name: &Name,
 ) -> Result<Fixed, NameFault>
-    ensures { Gives fixed_view (rules.fixed (sight_view sight.now) object_type (tree.named (ident_view name.now.identifier) (suffix_view name.now.suffix) (option_ident_view name.now.attribute))) result }
+    ensures { Gives fixed_view (rules.fixed (sight_view sight.now) object_type (t.named (ident_view name.now.identifier) (suffix_view name.now.suffix) (option_ident_view name.now.attribute))) result }
 {
     let meaning = meaning_of(sight, &name.identifier)?;
     let suffix = typed_suffix(alloc, sight, &name.suffix)?;

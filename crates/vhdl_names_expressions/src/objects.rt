@@ -10,7 +10,7 @@ ghost use Rattle.vhdl_names_units.specs.views.Answers.{signal_name_view, variabl
 
 use crate::expressions::typed_suffix;
 use std::alloc::Global;
-use vhdl_names_rules::{NameFault, NameProblem, ObjectType, Place, Signal};
+use vhdl_names_rules::{NameFault, NameProblem, ObjectType, SignalPart, Signal};
 use vhdl_tree::{Mode, Name};
 use vhdl_names_types::{Meaning, Sight, TypedSuffix, meaning_of, part_of};
 use vhdl_names_units::{SignalName, VariableName};
@@ -36,7 +36,7 @@ fn as_signal(meaning: &Meaning, suffix: TypedSuffix, at: usize) -> Result<Signal
     };
     let (part, object_type) = part_of(object_type, suffix, at)?;
     Ok(SignalName {
-        place: Place { at, signal, part },
+        place: SignalPart { at, signal, part },
         mode,
         object_type,
     })

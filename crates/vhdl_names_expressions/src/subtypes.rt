@@ -11,7 +11,7 @@ ghost use Rattle.vhdl_names_units.specs.views.Answers.{subtype_view};
 
 use crate::expressions::static_range;
 use std::alloc::Global;
-use vhdl_names_rules::{Kind, NameFault, NameProblem, ObjectType};
+use vhdl_names_rules::{ElementKind, NameFault, NameProblem, ObjectType};
 use vhdl_tree::{Range, Subtype as TreeSubtype};
 use vhdl_names_types::{Meaning, Sight, meaning_of};
 use vhdl_names_units::{Form, Subtype};
@@ -34,7 +34,7 @@ fn marked(meaning: &Meaning, at: usize) -> Result<Subtype, NameFault>
 {
     match meaning {
         Meaning::ElementType { is_resolved } => Ok(Subtype {
-            object_type: ObjectType::Elements(Kind::Element),
+            object_type: ObjectType::Elements(ElementKind::Element),
             form: Form::Element,
             is_resolved: *is_resolved,
         }),

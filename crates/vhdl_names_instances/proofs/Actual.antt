@@ -12,7 +12,7 @@ use Rattle.vhdl_tree.specs.declared.expression.Expr.TheVariants as x
 use Rattle.vhdl_tree.specs.declared.expression.Chain.{Chain, out-Chain}
 use Rattle.vhdl_tree.specs.declared.operator.Operator.{Operator}
 use Rattle.vhdl_tree.proofs.Rows.{chain_is}
-use Rattle.vhdl_names_rules.specs.units.Expressions.{Place}
+use Rattle.vhdl_names_rules.specs.units.Expressions.{SignalPart}
 use Rattle.vhdl_names_rules.specs.Rules.{◌>>=◌}
 use Rattle.vhdl_names_rules.specs.Visibility.{Sight}
 use Rattle.vhdl_names_rules.specs.Instances.{as_name}
@@ -42,7 +42,7 @@ entry_at as' i o e = slice_get-map actual_view as' i ∙ ap (option_map actual_v
 
 module _ (sight : Sight) where
   -- an entry before the others
-  abbrev more : Option (List (Option Place)) → Option (Option Place) → Option (List (Option Place))
+  abbrev more : Option (List (Option SignalPart)) → Option (Option SignalPart) → Option (List (Option SignalPart))
   more rest None = Some []
   more rest (Some x) = rest >>= λ xs. Some (x ∷ xs)
 
@@ -63,26 +63,26 @@ module _ (sight : Sight) where
       no_actuals (drop i ps) ∙ ap (λ o. o >>= more (port_actuals sight (drop (suc i) ps) [])) (sym (no_entry (slice_get ps i)))
   unrolled (p ∷ ps) (e ∷ es) zero = go (port_entry sight p e)
     where
-      go : (o : Option (Option Place)) → (o >>= λ x. port_actuals sight ps es >>= λ xs. Some (x ∷ xs)) ≡ ((o >>= λ x. Some (Some x)) >>= more (port_actuals sight ps es))
+      go : (o : Option (Option SignalPart)) → (o >>= λ x. port_actuals sight ps es >>= λ xs. Some (x ∷ xs)) ≡ ((o >>= λ x. Some (Some x)) >>= more (port_actuals sight ps es))
       go None = refl
       go (Some x) = refl
   unrolled (p ∷ ps) (e ∷ es) (suc i) = unrolled ps es i
 
-  module _ (whole : Option (List (Option Place))) (ys : List (Option Place)) (ps : List PortType) (es : List (Option t.Expr)) (i : ℕ)
+  module _ (whole : Option (List (Option SignalPart))) (ys : List (Option SignalPart)) (ps : List PortType) (es : List (Option t.Expr)) (i : ℕ)
       (h : whole ≡ behind ys (port_actuals sight (drop i ps) (drop i es))) where
-    abbrev rest : Option (List (Option Place))
+    abbrev rest : Option (List (Option SignalPart))
     rest = port_actuals sight (drop (suc i) ps) (drop (suc i) es)
 
-    by_entry : (o : Option (Option (Option Place))) → entry sight ps es i ≡ o → whole ≡ behind ys (o >>= more rest)
+    by_entry : (o : Option (Option (Option SignalPart))) → entry sight ps es i ≡ o → whole ≡ behind ys (o >>= more rest)
     by_entry o e = h ∙ ap (behind ys) (unrolled ps es i ∙ ap (λ o. o >>= more rest) e)
 
     pub port_fails : entry sight ps es i ≡ None → whole ≡ None
     port_fails e = by_entry None e
 
-    pub port_goes : (x : Option Place) → entry sight ps es i ≡ Some (Some x) → whole ≡ behind (ys ++ x ∷ []) rest
+    pub port_goes : (x : Option SignalPart) → entry sight ps es i ≡ Some (Some x) → whole ≡ behind (ys ++ x ∷ []) rest
     port_goes x e = by_entry (Some (Some x)) e ∙ go rest
       where
-        go : (o : Option (List (Option Place))) → behind ys (o >>= λ xs. Some (x ∷ xs)) ≡ behind (ys ++ x ∷ []) o
+        go : (o : Option (List (Option SignalPart))) → behind ys (o >>= λ xs. Some (x ∷ xs)) ≡ behind (ys ++ x ∷ []) o
         go None = refl
         go (Some zs) = ap Some (sym (append_assoc ys (x ∷ []) zs))
 

@@ -16,7 +16,7 @@ use Rattle.vhdl_names_rules.specs.Interfaces.{EntityView, entity_named}
 use Rattle.vhdl_names_labels.proofs.Lists.{bound}
 use Rattle.vhdl_names_instances.specs.Table.{Seen, seen, seen_view, type_of, items, AreEntities}
 use Rattle.vhdl_names_instances.specs.declared.instances.Formals.{Formals}
-use Rattle.vhdl_names_instances.specs.declared.instances.Entities.{Entities}
+use Rattle.vhdl_names_instances.specs.declared.instances.InstanceEntities.{InstanceEntities}
 use Rattle.vhdl_names_instances.specs.steps.Actuals as actuals
 use Rattle.vhdl_names_instances.specs.steps.Instances as steps
 use Rattle.vhdl_names_labels.specs.Once.{names_view}
@@ -155,7 +155,7 @@ module _ (es : List EntityView) where
       go k None = refl
       go k (Some e) = refl
 
-pub instance_gives : (table : Entities) (es : List EntityView) → AreEntities table es → (sight : Sight) (label : Ident) (i : t.Instance)
+pub instance_gives : (table : InstanceEntities) (es : List EntityView) → AreEntities table es → (sight : Sight) (label : Ident) (i : t.Instance)
     → rules.instance es sight label i ≡ steps.instance (names_view table.names) (map seen_view table.formals.items) sight label i
 instance_gives table es are sight label i =
     instance_by es sight label i

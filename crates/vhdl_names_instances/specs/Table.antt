@@ -7,7 +7,7 @@ use Rattle.vhdl_names_rules.specs.Interfaces.{EntityView}
 use Rattle.vhdl_names_labels.specs.Once.{names_view}
 use Rattle.vhdl_names_instances.specs.declared.actuals.PortType.{PortType}
 use Rattle.vhdl_names_instances.specs.declared.instances.Formals.{Formals}
-use Rattle.vhdl_names_instances.specs.declared.instances.Entities.{Entities}
+use Rattle.vhdl_names_instances.specs.declared.instances.InstanceEntities.{InstanceEntities}
 
 pub record Seen : Type 0 where
   pub architecture : Option Name
@@ -42,6 +42,6 @@ seen e = record {
 }
 
 -- the table of these entities
-pub record AreEntities (table : Entities) (entities : List EntityView) : Type 0 where
+pub record AreEntities (table : InstanceEntities) (entities : List EntityView) : Type 0 where
   pub names : names_view table.names ≡ map (λ (e : EntityView). e.name) entities
   pub formals : seens_view table.formals ≡ map seen entities

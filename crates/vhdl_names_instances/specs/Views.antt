@@ -6,7 +6,7 @@ use Rattle.vhdl_tree.specs.declared.expression.Expr.{Expr}
 use Rattle.vhdl_tree.specs.Tree as t
 use Rattle.vhdl_tree.specs.View.{view}
 use Rattle.vhdl_names_rules.specs.declared.integer.Static.{Static}
-use Rattle.vhdl_names_rules.specs.declared.vector.Place.{Place}
+use Rattle.vhdl_names_rules.specs.declared.vector.SignalPart.{SignalPart}
 use Rattle.vhdl_names_rules.specs.units.Expressions as u
 use Rattle.vhdl_names_rules.specs.views.Integers.{static_view}
 use Rattle.vhdl_names_rules.specs.views.Vectors.{place_view}
@@ -21,5 +21,5 @@ actuals_view v = map actual_view v.items
 abbrev pub statics_view : Vec (Option Static) Global → List (Option u.Static)
 statics_view v = map (option_map static_view) v.items
 
-abbrev pub places_view : Vec (Option Place) Global → List (Option u.Place)
+abbrev pub places_view : Vec (Option SignalPart) Global → List (Option u.SignalPart)
 places_view v = map (option_map place_view) v.items

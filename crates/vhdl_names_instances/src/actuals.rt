@@ -16,7 +16,7 @@ ghost use Rattle.vhdl_names_types.specs.Views.{sight_view};
 ghost use Rattle.vhdl_names_units.specs.views.Answers.{signal_name_view};
 
 use std::alloc::Global;
-use vhdl_names_rules::{Kind, NameFault, NameProblem, ObjectType, Place, Static};
+use vhdl_names_rules::{ElementKind, NameFault, NameProblem, ObjectType, SignalPart, Static};
 use vhdl_tree::{Expr, Mode, Name, Suffix};
 use vhdl_names_types::{Meaning, Sight};
 use vhdl_names_expressions::{signal, start, static_integer};
@@ -26,7 +26,7 @@ use vhdl_names_units::SignalName;
 #[derive(Clone, Copy)]
 pub struct PortType {
     pub mode: Mode,
-    pub kind: Kind,
+    pub kind: ElementKind,
 }
 
 /// The name that an expression is, if it stands in no parentheses.
@@ -48,13 +48,13 @@ fn as_name(e: &Expr) -> Option<&Name>
 }
 
 /// Whether an actual has the kind of its formal.
-fn is_kind(kind: Kind, object_type: ObjectType) -> bool
+fn is_kind(kind: ElementKind, object_type: ObjectType) -> bool
     ensures { result ≡ rules.is_kind kind object_type }
 {
     match (kind, object_type) {
-        (Kind::Element, ObjectType::Elements(Kind::Element)) => true,
-        (Kind::LogicVector, ObjectType::Elements(Kind::LogicVector)) => true,
-        (Kind::Unsigned, ObjectType::Elements(Kind::Unsigned)) => true,
+        (ElementKind::Element, ObjectType::Elements(ElementKind::Element)) => true,
+        (ElementKind::LogicVector, ObjectType::Elements(ElementKind::LogicVector)) => true,
+        (ElementKind::Unsigned, ObjectType::Elements(ElementKind::Unsigned)) => true,
         _ => false,
     }
 }
@@ -112,7 +112,7 @@ fn actual_signal(alloc: Global, sight: &Sight, name: &Name) -> Result<SignalName
 
 /// The actual of a port: the name of a signal or port, or of a part of one.
 #[tactic(auto, unfolding(vhdl_names_rules::specs::Instances::port_actual))]
-fn port_actual(alloc: Global, sight: &Sight, port: PortType, e: &Expr) -> Result<Place, NameFault>
+fn port_actual(alloc: Global, sight: &Sight, port: PortType, e: &Expr) -> Result<SignalPart, NameFault>
     ensures { Gives place_view (rules.port_actual (sight_view sight.now) (steps.formal port) (view e.now)) result }
 {
     match as_name(e) {
@@ -136,7 +136,7 @@ fn port_entry(
     sight: &Sight,
     port: PortType,
     actual: &Option<&Expr>,
-) -> Result<Option<Place>, NameFault>
+) -> Result<Option<SignalPart>, NameFault>
     ensures { Gives (option_map place_view) (steps.port_entry (sight_view sight.now) port (actual_view actual.now)) result }
 {
     match actual {
@@ -173,7 +173,7 @@ fn entry(
     ports: &[PortType],
     actuals: &[Option<&Expr>],
     index: usize,
-) -> Result<Option<Option<Place>>, NameFault>
+) -> Result<Option<Option<SignalPart>>, NameFault>
     ensures { Gives (option_map (option_map place_view)) (steps.entry (sight_view sight.now) ports.now (map actual_view actuals.now) index) result }
 {
     match port_at(ports, index) {
@@ -191,7 +191,7 @@ pub fn port_actuals(
     sight: &Sight,
     ports: &[PortType],
     actuals: &[Option<&Expr>],
-) -> Result<Vec<Option<Place>>, NameFault>
+) -> Result<Vec<Option<SignalPart>>, NameFault>
     ensures { Gives places_view (steps.port_actuals (sight_view sight.now) ports.now (map actual_view actuals.now)) result }
 {
     let mut all = Vec::new(alloc);

@@ -36,7 +36,7 @@ pub struct Formals {
 
 /// The entities of a file in order of the text, by their names.
 #[derive(Drop)]
-pub struct Entities {
+pub struct InstanceEntities {
     pub names: Names,
     pub formals: Vec<Formals>,
 }
@@ -63,7 +63,7 @@ fn is_architecture(named: &Option<Identifier>, own: &Option<Vec<u8>>) -> bool
 }
 
 /// The number of the entity of a name, if there is one.
-fn number_of(entities: &Entities, name: &[u8]) -> Option<usize>
+fn number_of(entities: &InstanceEntities, name: &[u8]) -> Option<usize>
     ensures { result ≡ position_from (bytes_eq name.now) 0 (names_view entities.now.names) }
 {
     entities.names.get_index_of(name)
@@ -71,7 +71,7 @@ fn number_of(entities: &Entities, name: &[u8]) -> Option<usize>
 
 /// What instances see of the entity of a number, if there are so many.
 #[tactic(auto, using(crate::proofs::Instancing::formals_at))]
-fn formals_at(entities: &Entities, number: usize) -> Option<&Formals>
+fn formals_at(entities: &InstanceEntities, number: usize) -> Option<&Formals>
     ensures { option_map (λ f. seen_view f.now) result ≡ slice_get (seens_view entities.now.formals) number }
 {
     entities.formals.get(number)
@@ -88,7 +88,7 @@ fn architecture_place(architecture: &Option<Identifier>, at: usize) -> usize {
 /// The entity of a number, whose architecture may be named. The entity is named at byte `at`.
 #[tactic(auto, using(crate::proofs::Instancing::seen_at))]
 fn with_architecture(
-    entities: &Entities,
+    entities: &InstanceEntities,
     number: usize,
     architecture: &Option<Identifier>,
     at: usize,
@@ -109,7 +109,7 @@ fn with_architecture(
 
 /// The entity of a name, which is of library work.
 fn entity_of(
-    entities: &Entities,
+    entities: &InstanceEntities,
     library: &Identifier,
     name: &Identifier,
     architecture: &Option<Identifier>,
@@ -137,7 +137,7 @@ fn as_component(meaning: &Meaning, at: usize) -> Result<usize, NameFault>
 }
 
 /// The number of the entity that is instantiated.
-fn instantiated(entities: &Entities, sight: &Sight, unit: &Instantiated) -> Result<usize, NameFault>
+fn instantiated(entities: &InstanceEntities, sight: &Sight, unit: &Instantiated) -> Result<usize, NameFault>
     ensures { Gives (λ k. k) (steps.instantiated (names_view entities.now.names) (seens_view entities.now.formals)
         (sight_view sight.now) (tree.instantiated_view unit.now)) result }
 {
@@ -201,7 +201,7 @@ fn with_formals(
 /// An instance behind its label, in the order of its parts.
 pub fn instance_in_turn(
     alloc: Global,
-    entities: &Entities,
+    entities: &InstanceEntities,
     sight: &Sight,
     label: &Identifier,
     instance: &syntax::Instance,
@@ -221,7 +221,7 @@ pub fn instance_in_turn(
 /// at the first byte where a rule is broken, or where memory is refused.
 pub fn instance(
     alloc: Global,
-    entities: &Entities,
+    entities: &InstanceEntities,
     sight: &Sight,
     label: &Identifier,
     instance: &syntax::Instance,

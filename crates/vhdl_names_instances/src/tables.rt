@@ -5,7 +5,7 @@ ghost use Rattle.vhdl_names_labels.specs.Lists.{in_turn};
 ghost use Rattle.vhdl_names_instances.specs.Table.{seen_view};
 ghost use Rattle.vhdl_names_instances.specs.steps.Tables as steps;
 ghost use Rattle.vhdl_names_rules.specs.Gives.{Gives};
-ghost use Rattle.vhdl_names_rules.specs.Visibility as rules;
+ghost use Rattle.vhdl_names_rules.specs.Visibility as visibility;
 ghost use Rattle.vhdl_names_types.specs.Views.{meaning_view, region_view};
 
 use crate::actuals::PortType;
@@ -18,7 +18,7 @@ use vhdl_tree::Identifier;
 use vhdl_names_types::{Meaning, Region};
 
 fn is_generic(meaning: &Meaning) -> bool
-    ensures { result ≡ rules.is_generic (meaning_view meaning.now) }
+    ensures { result ≡ visibility.is_generic (meaning_view meaning.now) }
 {
     matches!(meaning, Meaning::Generic(_))
 }
@@ -57,7 +57,7 @@ fn add_declared(
     name: &[u8],
     meaning: &Meaning,
 ) -> Result<(), NameFault>
-    ensures { Gives (λ _. seen_view formals.new) (steps.with_declared (seen_view formals.old) (rules.declare name.now (meaning_view meaning.now))) result }
+    ensures { Gives (λ _. seen_view formals.new) (steps.with_declared (seen_view formals.old) (visibility.declare name.now (meaning_view meaning.now))) result }
 {
     if is_generic(meaning) {
         return add_name(alloc, &mut formals.generics, name, 0);

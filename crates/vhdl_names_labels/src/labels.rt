@@ -3,7 +3,7 @@
 ghost use Rattle.std.specs.Prelude.{◌≡◌, IfOk, bytes_eq, option_map};
 ghost use Rattle.vhdl_names_rules.specs.declared.fault.NameProblem.TheVariants.{WrongKind};
 ghost use Rattle.vhdl_names_rules.specs.Rules.{rule};
-ghost use Rattle.vhdl_names_rules.specs.Visibility as rules;
+ghost use Rattle.vhdl_names_rules.specs.Visibility as visibility;
 ghost use Rattle.vhdl_names_rules.specs.Gives.{Gives};
 ghost use Rattle.vhdl_tree.specs.View as tree;
 
@@ -20,7 +20,7 @@ pub fn is_text(text: &[u8], other: &[u8]) -> bool
 
 /// An end name, if there is one, repeats the name at the beginning.
 pub fn ends(name: &Identifier, end: &Option<Identifier>) -> Result<(), NameFault>
-    ensures { Gives (λ _. tt) (rule WrongKind (rules.ends name.now.text.items (option_map tree.ident_view end.now))) result }
+    ensures { Gives (λ _. tt) (rule WrongKind (visibility.ends name.now.text.items (option_map tree.ident_view end.now))) result }
 {
     match end {
         None => Ok(()),
@@ -36,7 +36,7 @@ pub fn ends(name: &Identifier, end: &Option<Identifier>) -> Result<(), NameFault
 
 /// An end label repeats the label; where no label stands, none stands at the end.
 pub fn label_ends(label: &Option<Identifier>, end: &Option<Identifier>) -> Result<(), NameFault>
-    ensures { Gives (λ _. tt) (rule WrongKind (rules.label_ends (option_map tree.ident_view label.now) (option_map tree.ident_view end.now))) result }
+    ensures { Gives (λ _. tt) (rule WrongKind (visibility.label_ends (option_map tree.ident_view label.now) (option_map tree.ident_view end.now))) result }
 {
     match (label, end) {
         (Some(label), _) => ends(label, end),

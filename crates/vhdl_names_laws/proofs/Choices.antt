@@ -7,8 +7,8 @@ use Rattle.std.proofs.lemmas.Bool.{and_parts, and_from}
 use Rattle.vhdl_values.specs.declared.scalar.Nine.{Nine}
 use Rattle.vhdl_tree.specs.Tree as t
 use Rattle.vhdl_tree.specs.Tree.{Expr}
-use Rattle.vhdl_names_rules.specs.declared.kind.Kind.{Kind}
-use Rattle.vhdl_names_rules.specs.declared.kind.Kind.TheVariants.{Element, LogicVector, Unsigned, OpenVector}
+use Rattle.vhdl_names_rules.specs.declared.kind.ElementKind.{ElementKind}
+use Rattle.vhdl_names_rules.specs.declared.kind.ElementKind.TheVariants.{Element, LogicVector, Unsigned, OpenVector}
 use Rattle.vhdl_names_rules.specs.declared.kind.ObjectType.{ObjectType}
 use Rattle.vhdl_names_rules.specs.declared.kind.ObjectType.TheVariants.{Elements, Enumeration}
 use Rattle.vhdl_names_rules.specs.units.Expressions as e
@@ -17,7 +17,7 @@ use Rattle.vhdl_names_rules.specs.units.Statements as s
 use Rattle.vhdl_names_rules.specs.units.Statements.{Given, Choice, Statements, Alternatives}
 use Rattle.vhdl_names_rules.specs.units.Units as u
 use Rattle.vhdl_names_rules.specs.Rules.{each}
-use Rattle.vhdl_names_rules.specs.Visibility as m
+use Rattle.vhdl_names_rules.specs.Visibility as visibility
 use Rattle.vhdl_names_rules.specs.Visibility.{Meaning, Sight, meaning}
 use Rattle.vhdl_names_rules.specs.Operators as o
 use Rattle.vhdl_names_rules.specs.Operators.{Typed}
@@ -53,7 +53,7 @@ shape_given z (Some y) h = ap Some (sym (same_shapes z y h))
 selects_of : (w : Option Shape) (type : ObjectType) → w ≡ Some (type_shape type) → Selects w type
 selects_of w type h = subst (λ w. Selects w type) (sym h) refl
 
-of_elements : (i : Inside) (counts : Counts) (k : Kind) (y : Vector) → vector_shape i y ≡ Some (kind_shape k) → Selected i counts (Elements k, e.Value.elements y)
+of_elements : (i : Inside) (counts : Counts) (k : ElementKind) (y : Vector) → vector_shape i y ≡ Some (kind_shape k) → Selected i counts (Elements k, e.Value.elements y)
 of_elements i counts k y h = record { selects = selects_of (vector_shape i y) (Elements k) h; fits = ap is_some h; counted = tt }
 
 of_enumeration : (i : Inside) (counts : Counts) (n count : ℕ) (y : Value) → value_fits i (state count) y ≡ true → slice_get counts n ≡ Some count
@@ -80,7 +80,7 @@ selector_is i counts (o.truth y) by h q = absurd cc
 
 -- ---- choices
 
-values_chosen : (i : Inside) (kind : Kind) (vs : List Nine) → fixed_fits i (kind_shape kind) (u.Fixed.literal vs) ≡ true → choice_fits (Some (kind_shape kind)) (s.values vs) ≡ true
+values_chosen : (i : Inside) (kind : ElementKind) (vs : List Nine) → fixed_fits i (kind_shape kind) (u.Fixed.literal vs) ≡ true → choice_fits (Some (kind_shape kind)) (s.values vs) ≡ true
 values_chosen i Element [] h = absurd cc
 values_chosen i Element (v ∷ []) h = refl
 values_chosen i Element (v ∷ w ∷ vs) h = absurd cc
@@ -92,7 +92,7 @@ values_chosen i OpenVector [] h = absurd cc
 values_chosen i OpenVector (v ∷ vs) h = refl
 
 -- a choice of values, and of a literal, by what is selected
-of_values : (i : Inside) (w : Option Shape) (kind : Kind) (vs : List Nine) → Selects w (Elements kind) → fixed_fits i (kind_shape kind) (u.Fixed.literal vs) ≡ true
+of_values : (i : Inside) (w : Option Shape) (kind : ElementKind) (vs : List Nine) → Selects w (Elements kind) → fixed_fits i (kind_shape kind) (u.Fixed.literal vs) ≡ true
     → choice_fits w (s.values vs) ≡ true
 of_values i None kind vs k h = absurd k
 of_values i (Some z) kind vs k h = ap (λ z. choice_fits (Some z) (s.values vs)) k ∙ values_chosen i kind vs h
@@ -103,112 +103,112 @@ of_position (Some z) n count q k h = ap (λ z. choice_fits (Some z) (s.Choice.po
 
 named_fits : (i : Inside) (counts : Counts) (w : Option Shape) (type : ObjectType) (d : Meaning) (c : Choice) → Selects w type → IsCounted counts type → MeaningFits i counts d
     → named_choice type d ≡ Some c → choice_fits w c ≡ true
-named_fits i counts w (Elements Element) (m.constant k Element (Some vs)) c f n h q =
+named_fits i counts w (Elements Element) (visibility.constant k Element (Some vs)) c f n h q =
     subst (λ c. choice_fits w c ≡ true) (some_same (s.values vs) c q) (of_values i w Element vs f h.1)
-named_fits i counts w (Elements LogicVector) (m.constant k LogicVector (Some vs)) c f n h q =
+named_fits i counts w (Elements LogicVector) (visibility.constant k LogicVector (Some vs)) c f n h q =
     subst (λ c. choice_fits w c ≡ true) (some_same (s.values vs) c q) (of_values i w LogicVector vs f h.1)
-named_fits i counts w (Elements Unsigned) (m.constant k Unsigned (Some vs)) c f n h q =
+named_fits i counts w (Elements Unsigned) (visibility.constant k Unsigned (Some vs)) c f n h q =
     subst (λ c. choice_fits w c ≡ true) (some_same (s.values vs) c q) (of_values i w Unsigned vs f h.1)
-named_fits i counts w (Enumeration d count) (m.literal b size z) c f n h q =
+named_fits i counts w (Enumeration d count) (visibility.literal b size z) c f n h q =
     let a = p.given (b == d) (s.Choice.position z) c q in
     let g = same_count counts b d size count a.holds h.1 n in
     subst (λ c. choice_fits w c ≡ true) a.is (of_position w d count z f (ap (nat_lt z) (sym g) ∙ h.0))
-named_fits i counts w (Elements Element) (m.generic k) c f n h q = absurd cc
-named_fits i counts w (Elements Element) (m.integer_constant k) c f n h q = absurd cc
-named_fits i counts w (Elements Element) (m.generate_parameter k) c f n h q = absurd cc
-named_fits i counts w (Elements Element) (m.loop_parameter k) c f n h q = absurd cc
-named_fits i counts w (Elements Element) (m.port k mode kind) c f n h q = absurd cc
-named_fits i counts w (Elements Element) (m.signal k type) c f n h q = absurd cc
-named_fits i counts w (Elements Element) (m.variable k type) c f n h q = absurd cc
-named_fits i counts w (Elements Element) (m.integer_type y) c f n h q = absurd cc
-named_fits i counts w (Elements Element) (m.element_type y) c f n h q = absurd cc
-named_fits i counts w (Elements Element) (m.vector_type k y) c f n h q = absurd cc
-named_fits i counts w (Elements Element) (m.enumeration_type k y) c f n h q = absurd cc
-named_fits i counts w (Elements Element) (m.function y) c f n h q = absurd cc
-named_fits i counts w (Elements Element) (m.component k) c f n h q = absurd cc
-named_fits i counts w (Elements Element) m.label c f n h q = absurd cc
-named_fits i counts w (Elements Element) m.unfinished c f n h q = absurd cc
-named_fits i counts w (Elements Element) (m.literal b size z) c f n h q = absurd cc
-named_fits i counts w (Elements Element) (m.constant l Element None) c f n h q = absurd cc
-named_fits i counts w (Elements Element) (m.constant l LogicVector vs) c f n h q = absurd cc
-named_fits i counts w (Elements Element) (m.constant l Unsigned vs) c f n h q = absurd cc
-named_fits i counts w (Elements Element) (m.constant l OpenVector vs) c f n h q = absurd cc
-named_fits i counts w (Elements LogicVector) (m.generic k) c f n h q = absurd cc
-named_fits i counts w (Elements LogicVector) (m.integer_constant k) c f n h q = absurd cc
-named_fits i counts w (Elements LogicVector) (m.generate_parameter k) c f n h q = absurd cc
-named_fits i counts w (Elements LogicVector) (m.loop_parameter k) c f n h q = absurd cc
-named_fits i counts w (Elements LogicVector) (m.port k mode kind) c f n h q = absurd cc
-named_fits i counts w (Elements LogicVector) (m.signal k type) c f n h q = absurd cc
-named_fits i counts w (Elements LogicVector) (m.variable k type) c f n h q = absurd cc
-named_fits i counts w (Elements LogicVector) (m.integer_type y) c f n h q = absurd cc
-named_fits i counts w (Elements LogicVector) (m.element_type y) c f n h q = absurd cc
-named_fits i counts w (Elements LogicVector) (m.vector_type k y) c f n h q = absurd cc
-named_fits i counts w (Elements LogicVector) (m.enumeration_type k y) c f n h q = absurd cc
-named_fits i counts w (Elements LogicVector) (m.function y) c f n h q = absurd cc
-named_fits i counts w (Elements LogicVector) (m.component k) c f n h q = absurd cc
-named_fits i counts w (Elements LogicVector) m.label c f n h q = absurd cc
-named_fits i counts w (Elements LogicVector) m.unfinished c f n h q = absurd cc
-named_fits i counts w (Elements LogicVector) (m.literal b size z) c f n h q = absurd cc
-named_fits i counts w (Elements LogicVector) (m.constant l Element vs) c f n h q = absurd cc
-named_fits i counts w (Elements LogicVector) (m.constant l LogicVector None) c f n h q = absurd cc
-named_fits i counts w (Elements LogicVector) (m.constant l Unsigned vs) c f n h q = absurd cc
-named_fits i counts w (Elements LogicVector) (m.constant l OpenVector vs) c f n h q = absurd cc
-named_fits i counts w (Elements Unsigned) (m.generic k) c f n h q = absurd cc
-named_fits i counts w (Elements Unsigned) (m.integer_constant k) c f n h q = absurd cc
-named_fits i counts w (Elements Unsigned) (m.generate_parameter k) c f n h q = absurd cc
-named_fits i counts w (Elements Unsigned) (m.loop_parameter k) c f n h q = absurd cc
-named_fits i counts w (Elements Unsigned) (m.port k mode kind) c f n h q = absurd cc
-named_fits i counts w (Elements Unsigned) (m.signal k type) c f n h q = absurd cc
-named_fits i counts w (Elements Unsigned) (m.variable k type) c f n h q = absurd cc
-named_fits i counts w (Elements Unsigned) (m.integer_type y) c f n h q = absurd cc
-named_fits i counts w (Elements Unsigned) (m.element_type y) c f n h q = absurd cc
-named_fits i counts w (Elements Unsigned) (m.vector_type k y) c f n h q = absurd cc
-named_fits i counts w (Elements Unsigned) (m.enumeration_type k y) c f n h q = absurd cc
-named_fits i counts w (Elements Unsigned) (m.function y) c f n h q = absurd cc
-named_fits i counts w (Elements Unsigned) (m.component k) c f n h q = absurd cc
-named_fits i counts w (Elements Unsigned) m.label c f n h q = absurd cc
-named_fits i counts w (Elements Unsigned) m.unfinished c f n h q = absurd cc
-named_fits i counts w (Elements Unsigned) (m.literal b size z) c f n h q = absurd cc
-named_fits i counts w (Elements Unsigned) (m.constant l Element vs) c f n h q = absurd cc
-named_fits i counts w (Elements Unsigned) (m.constant l LogicVector vs) c f n h q = absurd cc
-named_fits i counts w (Elements Unsigned) (m.constant l Unsigned None) c f n h q = absurd cc
-named_fits i counts w (Elements Unsigned) (m.constant l OpenVector vs) c f n h q = absurd cc
-named_fits i counts w (Elements OpenVector) (m.generic k) c f n h q = absurd cc
-named_fits i counts w (Elements OpenVector) (m.integer_constant k) c f n h q = absurd cc
-named_fits i counts w (Elements OpenVector) (m.generate_parameter k) c f n h q = absurd cc
-named_fits i counts w (Elements OpenVector) (m.loop_parameter k) c f n h q = absurd cc
-named_fits i counts w (Elements OpenVector) (m.port k mode kind) c f n h q = absurd cc
-named_fits i counts w (Elements OpenVector) (m.signal k type) c f n h q = absurd cc
-named_fits i counts w (Elements OpenVector) (m.variable k type) c f n h q = absurd cc
-named_fits i counts w (Elements OpenVector) (m.integer_type y) c f n h q = absurd cc
-named_fits i counts w (Elements OpenVector) (m.element_type y) c f n h q = absurd cc
-named_fits i counts w (Elements OpenVector) (m.vector_type k y) c f n h q = absurd cc
-named_fits i counts w (Elements OpenVector) (m.enumeration_type k y) c f n h q = absurd cc
-named_fits i counts w (Elements OpenVector) (m.function y) c f n h q = absurd cc
-named_fits i counts w (Elements OpenVector) (m.component k) c f n h q = absurd cc
-named_fits i counts w (Elements OpenVector) m.label c f n h q = absurd cc
-named_fits i counts w (Elements OpenVector) m.unfinished c f n h q = absurd cc
-named_fits i counts w (Elements OpenVector) (m.literal b size z) c f n h q = absurd cc
-named_fits i counts w (Elements OpenVector) (m.constant l Element vs) c f n h q = absurd cc
-named_fits i counts w (Elements OpenVector) (m.constant l LogicVector vs) c f n h q = absurd cc
-named_fits i counts w (Elements OpenVector) (m.constant l Unsigned vs) c f n h q = absurd cc
-named_fits i counts w (Elements OpenVector) (m.constant l OpenVector vs) c f n h q = absurd cc
-named_fits i counts w (Enumeration d count) (m.generic k) c f n h q = absurd cc
-named_fits i counts w (Enumeration d count) (m.integer_constant k) c f n h q = absurd cc
-named_fits i counts w (Enumeration d count) (m.generate_parameter k) c f n h q = absurd cc
-named_fits i counts w (Enumeration d count) (m.loop_parameter k) c f n h q = absurd cc
-named_fits i counts w (Enumeration d count) (m.port k mode kind) c f n h q = absurd cc
-named_fits i counts w (Enumeration d count) (m.signal k type) c f n h q = absurd cc
-named_fits i counts w (Enumeration d count) (m.variable k type) c f n h q = absurd cc
-named_fits i counts w (Enumeration d count) (m.integer_type y) c f n h q = absurd cc
-named_fits i counts w (Enumeration d count) (m.element_type y) c f n h q = absurd cc
-named_fits i counts w (Enumeration d count) (m.vector_type k y) c f n h q = absurd cc
-named_fits i counts w (Enumeration d count) (m.enumeration_type k y) c f n h q = absurd cc
-named_fits i counts w (Enumeration d count) (m.function y) c f n h q = absurd cc
-named_fits i counts w (Enumeration d count) (m.component k) c f n h q = absurd cc
-named_fits i counts w (Enumeration d count) m.label c f n h q = absurd cc
-named_fits i counts w (Enumeration d count) m.unfinished c f n h q = absurd cc
-named_fits i counts w (Enumeration d count) (m.constant l j vs) c f n h q = absurd cc
+named_fits i counts w (Elements Element) (visibility.generic k) c f n h q = absurd cc
+named_fits i counts w (Elements Element) (visibility.integer_constant k) c f n h q = absurd cc
+named_fits i counts w (Elements Element) (visibility.generate_parameter k) c f n h q = absurd cc
+named_fits i counts w (Elements Element) (visibility.loop_parameter k) c f n h q = absurd cc
+named_fits i counts w (Elements Element) (visibility.port k mode kind) c f n h q = absurd cc
+named_fits i counts w (Elements Element) (visibility.signal k type) c f n h q = absurd cc
+named_fits i counts w (Elements Element) (visibility.variable k type) c f n h q = absurd cc
+named_fits i counts w (Elements Element) (visibility.integer_type y) c f n h q = absurd cc
+named_fits i counts w (Elements Element) (visibility.element_type y) c f n h q = absurd cc
+named_fits i counts w (Elements Element) (visibility.vector_type k y) c f n h q = absurd cc
+named_fits i counts w (Elements Element) (visibility.enumeration_type k y) c f n h q = absurd cc
+named_fits i counts w (Elements Element) (visibility.function y) c f n h q = absurd cc
+named_fits i counts w (Elements Element) (visibility.component k) c f n h q = absurd cc
+named_fits i counts w (Elements Element) visibility.label c f n h q = absurd cc
+named_fits i counts w (Elements Element) visibility.unfinished c f n h q = absurd cc
+named_fits i counts w (Elements Element) (visibility.literal b size z) c f n h q = absurd cc
+named_fits i counts w (Elements Element) (visibility.constant l Element None) c f n h q = absurd cc
+named_fits i counts w (Elements Element) (visibility.constant l LogicVector vs) c f n h q = absurd cc
+named_fits i counts w (Elements Element) (visibility.constant l Unsigned vs) c f n h q = absurd cc
+named_fits i counts w (Elements Element) (visibility.constant l OpenVector vs) c f n h q = absurd cc
+named_fits i counts w (Elements LogicVector) (visibility.generic k) c f n h q = absurd cc
+named_fits i counts w (Elements LogicVector) (visibility.integer_constant k) c f n h q = absurd cc
+named_fits i counts w (Elements LogicVector) (visibility.generate_parameter k) c f n h q = absurd cc
+named_fits i counts w (Elements LogicVector) (visibility.loop_parameter k) c f n h q = absurd cc
+named_fits i counts w (Elements LogicVector) (visibility.port k mode kind) c f n h q = absurd cc
+named_fits i counts w (Elements LogicVector) (visibility.signal k type) c f n h q = absurd cc
+named_fits i counts w (Elements LogicVector) (visibility.variable k type) c f n h q = absurd cc
+named_fits i counts w (Elements LogicVector) (visibility.integer_type y) c f n h q = absurd cc
+named_fits i counts w (Elements LogicVector) (visibility.element_type y) c f n h q = absurd cc
+named_fits i counts w (Elements LogicVector) (visibility.vector_type k y) c f n h q = absurd cc
+named_fits i counts w (Elements LogicVector) (visibility.enumeration_type k y) c f n h q = absurd cc
+named_fits i counts w (Elements LogicVector) (visibility.function y) c f n h q = absurd cc
+named_fits i counts w (Elements LogicVector) (visibility.component k) c f n h q = absurd cc
+named_fits i counts w (Elements LogicVector) visibility.label c f n h q = absurd cc
+named_fits i counts w (Elements LogicVector) visibility.unfinished c f n h q = absurd cc
+named_fits i counts w (Elements LogicVector) (visibility.literal b size z) c f n h q = absurd cc
+named_fits i counts w (Elements LogicVector) (visibility.constant l Element vs) c f n h q = absurd cc
+named_fits i counts w (Elements LogicVector) (visibility.constant l LogicVector None) c f n h q = absurd cc
+named_fits i counts w (Elements LogicVector) (visibility.constant l Unsigned vs) c f n h q = absurd cc
+named_fits i counts w (Elements LogicVector) (visibility.constant l OpenVector vs) c f n h q = absurd cc
+named_fits i counts w (Elements Unsigned) (visibility.generic k) c f n h q = absurd cc
+named_fits i counts w (Elements Unsigned) (visibility.integer_constant k) c f n h q = absurd cc
+named_fits i counts w (Elements Unsigned) (visibility.generate_parameter k) c f n h q = absurd cc
+named_fits i counts w (Elements Unsigned) (visibility.loop_parameter k) c f n h q = absurd cc
+named_fits i counts w (Elements Unsigned) (visibility.port k mode kind) c f n h q = absurd cc
+named_fits i counts w (Elements Unsigned) (visibility.signal k type) c f n h q = absurd cc
+named_fits i counts w (Elements Unsigned) (visibility.variable k type) c f n h q = absurd cc
+named_fits i counts w (Elements Unsigned) (visibility.integer_type y) c f n h q = absurd cc
+named_fits i counts w (Elements Unsigned) (visibility.element_type y) c f n h q = absurd cc
+named_fits i counts w (Elements Unsigned) (visibility.vector_type k y) c f n h q = absurd cc
+named_fits i counts w (Elements Unsigned) (visibility.enumeration_type k y) c f n h q = absurd cc
+named_fits i counts w (Elements Unsigned) (visibility.function y) c f n h q = absurd cc
+named_fits i counts w (Elements Unsigned) (visibility.component k) c f n h q = absurd cc
+named_fits i counts w (Elements Unsigned) visibility.label c f n h q = absurd cc
+named_fits i counts w (Elements Unsigned) visibility.unfinished c f n h q = absurd cc
+named_fits i counts w (Elements Unsigned) (visibility.literal b size z) c f n h q = absurd cc
+named_fits i counts w (Elements Unsigned) (visibility.constant l Element vs) c f n h q = absurd cc
+named_fits i counts w (Elements Unsigned) (visibility.constant l LogicVector vs) c f n h q = absurd cc
+named_fits i counts w (Elements Unsigned) (visibility.constant l Unsigned None) c f n h q = absurd cc
+named_fits i counts w (Elements Unsigned) (visibility.constant l OpenVector vs) c f n h q = absurd cc
+named_fits i counts w (Elements OpenVector) (visibility.generic k) c f n h q = absurd cc
+named_fits i counts w (Elements OpenVector) (visibility.integer_constant k) c f n h q = absurd cc
+named_fits i counts w (Elements OpenVector) (visibility.generate_parameter k) c f n h q = absurd cc
+named_fits i counts w (Elements OpenVector) (visibility.loop_parameter k) c f n h q = absurd cc
+named_fits i counts w (Elements OpenVector) (visibility.port k mode kind) c f n h q = absurd cc
+named_fits i counts w (Elements OpenVector) (visibility.signal k type) c f n h q = absurd cc
+named_fits i counts w (Elements OpenVector) (visibility.variable k type) c f n h q = absurd cc
+named_fits i counts w (Elements OpenVector) (visibility.integer_type y) c f n h q = absurd cc
+named_fits i counts w (Elements OpenVector) (visibility.element_type y) c f n h q = absurd cc
+named_fits i counts w (Elements OpenVector) (visibility.vector_type k y) c f n h q = absurd cc
+named_fits i counts w (Elements OpenVector) (visibility.enumeration_type k y) c f n h q = absurd cc
+named_fits i counts w (Elements OpenVector) (visibility.function y) c f n h q = absurd cc
+named_fits i counts w (Elements OpenVector) (visibility.component k) c f n h q = absurd cc
+named_fits i counts w (Elements OpenVector) visibility.label c f n h q = absurd cc
+named_fits i counts w (Elements OpenVector) visibility.unfinished c f n h q = absurd cc
+named_fits i counts w (Elements OpenVector) (visibility.literal b size z) c f n h q = absurd cc
+named_fits i counts w (Elements OpenVector) (visibility.constant l Element vs) c f n h q = absurd cc
+named_fits i counts w (Elements OpenVector) (visibility.constant l LogicVector vs) c f n h q = absurd cc
+named_fits i counts w (Elements OpenVector) (visibility.constant l Unsigned vs) c f n h q = absurd cc
+named_fits i counts w (Elements OpenVector) (visibility.constant l OpenVector vs) c f n h q = absurd cc
+named_fits i counts w (Enumeration d count) (visibility.generic k) c f n h q = absurd cc
+named_fits i counts w (Enumeration d count) (visibility.integer_constant k) c f n h q = absurd cc
+named_fits i counts w (Enumeration d count) (visibility.generate_parameter k) c f n h q = absurd cc
+named_fits i counts w (Enumeration d count) (visibility.loop_parameter k) c f n h q = absurd cc
+named_fits i counts w (Enumeration d count) (visibility.port k mode kind) c f n h q = absurd cc
+named_fits i counts w (Enumeration d count) (visibility.signal k type) c f n h q = absurd cc
+named_fits i counts w (Enumeration d count) (visibility.variable k type) c f n h q = absurd cc
+named_fits i counts w (Enumeration d count) (visibility.integer_type y) c f n h q = absurd cc
+named_fits i counts w (Enumeration d count) (visibility.element_type y) c f n h q = absurd cc
+named_fits i counts w (Enumeration d count) (visibility.vector_type k y) c f n h q = absurd cc
+named_fits i counts w (Enumeration d count) (visibility.enumeration_type k y) c f n h q = absurd cc
+named_fits i counts w (Enumeration d count) (visibility.function y) c f n h q = absurd cc
+named_fits i counts w (Enumeration d count) (visibility.component k) c f n h q = absurd cc
+named_fits i counts w (Enumeration d count) visibility.label c f n h q = absurd cc
+named_fits i counts w (Enumeration d count) visibility.unfinished c f n h q = absurd cc
+named_fits i counts w (Enumeration d count) (visibility.constant l j vs) c f n h q = absurd cc
 
 literal_fits : (i : Inside) (w : Option Shape) (type : ObjectType) (d : Expr) (c : Choice) → Selects w type → literal_choice type d ≡ Some c → choice_fits w c ≡ true
 literal_fits i w (Elements k) d c f q =

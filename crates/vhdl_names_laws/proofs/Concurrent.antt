@@ -6,7 +6,7 @@ use Rattle.vhdl_tree.specs.Tree.{Ident}
 use Rattle.vhdl_names_rules.specs.units.Units as u
 use Rattle.vhdl_names_rules.specs.units.Units.{Units}
 use Rattle.vhdl_names_rules.specs.Rules.{◌>>=◌}
-use Rattle.vhdl_names_rules.specs.Visibility as m
+use Rattle.vhdl_names_rules.specs.Visibility as visibility
 use Rattle.vhdl_names_rules.specs.Visibility.{Name, Sight, are_distinct, ends}
 use Rattle.vhdl_names_rules.specs.Expressions.{typed, static_range, as_static_test}
 use Rattle.vhdl_names_rules.specs.Interfaces.{EntityView}
@@ -41,7 +41,7 @@ more_generates i counts = record {
   counts = keeps_all counts;
 }
 
-inside_generate : (i : Inside) (counts : Counts) (sight : Sight) (n : Ident) → IsInside i counts sight → IsInside (w.within_generate i) counts (m.within_generate sight n)
+inside_generate : (i : Inside) (counts : Counts) (sight : Sight) (n : Ident) → IsInside i counts sight → IsInside (w.within_generate i) counts (visibility.within_generate sight n)
 inside_generate i counts sight n h =
     let same : length sight.generates ≡ i.generates = h.generate_count in
     record {

@@ -9,14 +9,14 @@ use Rattle.vhdl_tree.specs.Tree as t
 use Rattle.vhdl_tree.specs.Tree.{Ident}
 use Rattle.vhdl_tree.specs.Pieces.{IsAny, IsList}
 use Rattle.vhdl_tree.specs.grammar.Declarations.{IsDeclaration}
-use Rattle.vhdl_names_rules.specs.declared.kind.Kind.{Kind}
+use Rattle.vhdl_names_rules.specs.declared.kind.ElementKind.{ElementKind}
 use Rattle.vhdl_names_rules.specs.declared.kind.ObjectType.{ObjectType}
 use Rattle.vhdl_names_rules.specs.declared.kind.ObjectType.TheVariants.{Elements}
 use Rattle.vhdl_names_rules.specs.declared.operator.IntegerType.{IntegerType}
 use Rattle.vhdl_names_rules.specs.units.Units as u
 use Rattle.vhdl_names_rules.specs.units.Units.{Form, Fixed}
 use Rattle.vhdl_names_rules.specs.Rules.{if_any}
-use Rattle.vhdl_names_rules.specs.Visibility as m
+use Rattle.vhdl_names_rules.specs.Visibility as visibility
 use Rattle.vhdl_names_rules.specs.Visibility.{Name, Meaning, Declared, declare, all_declared, numbered, names_of, count_of, Sight, meaning, with_declared, with_variables, Declares}
 use Rattle.vhdl_names_rules.specs.Expressions.{static}
 use Rattle.vhdl_names_rules.specs.Subtypes.{subtype, fixed_value, declaring_literal, as_integer_type, object}
@@ -61,29 +61,29 @@ signals_step i counts sight d x h q =
     let f = subtype_fits i counts (within sight d.names) d.subtype a.value in' a.is in
     let make : Name → u.Declaration = λ n. u.Declaration.signal (object a.value c.value n) in
     subst (DeclarationStep i sight) (some_same _ x c.rest)
-    (r.names_step with_declaration declaration_fits with_declared IsKnown nothing_more more_twice (λ k. m.signal k a.value.type) (λ (s : Sight). count_of m.is_signal s.region) make
+    (r.names_step with_declaration declaration_fits with_declared IsKnown nothing_more more_twice (λ k. visibility.signal k a.value.type) (λ (s : Sight). count_of visibility.is_signal s.region) make
     (λ i counts. (object_fits i (object a.value c.value []) ≡ true) × IsCounted counts a.value.type)
     (λ i counts sight n ok k. single i counts sight n a.value.form a.value.type f.shape ok.1 k)
     (λ i counts n ok. ok.0)
     (λ i counts n ok. (object_more i (record i { signals = i.signals ++ a.value.form ∷ [] }) (more_signals i counts a.value.form).numbers (keeps_all i.constants) (object a.value c.value []) ok.0, ok.1))
-    (λ sight n. one_more m.is_signal sight.region (declare n (m.signal (count_of m.is_signal sight.region) a.value.type)) refl)
+    (λ sight n. one_more visibility.is_signal sight.region (declare n (visibility.signal (count_of visibility.is_signal sight.region) a.value.type)) refl)
     (names_of d.names) i counts sight (object_is i counts (within sight d.names) a.value d.default c.value in' f c.is, f.counted) h)
   where
     single : (i : Inside) (counts : Counts) (sight : Sight) (n : Name) (form : Form) (type : ObjectType) → shape_of form ≡ type_shape type → IsCounted counts type → IsKnown i counts sight
-        → IsKnown (record i { signals = i.signals ++ form ∷ [] }) counts (with_declared sight (declare n (m.signal (count_of m.is_signal sight.region) type) ∷ []))
+        → IsKnown (record i { signals = i.signals ++ form ∷ [] }) counts (with_declared sight (declare n (visibility.signal (count_of visibility.is_signal sight.region) type) ∷ []))
     single i counts sight n form type s c k =
-        let d : Declared = declare n (m.signal (count_of m.is_signal sight.region) type) in
+        let d : Declared = declare n (visibility.signal (count_of visibility.is_signal sight.region) type) in
         let j : Inside = record i { signals = i.signals ++ form ∷ [] } in
         record {
           inside =
               inside_with j counts sight (d ∷ []) (inside_more i j counts counts sight (more_signals i counts form) refl refl k.inside)
-              (last_form counts type form i.signals (count_of m.is_signal sight.region) k.signals s c, tt);
-          generics = none_more m.is_generic sight.region d refl ∙ k.generics;
-          integers = none_more m.is_integer_constant sight.region d refl ∙ k.integers;
-          constants = none_more m.is_constant sight.region d refl ∙ k.constants;
-          ports = none_more m.is_port sight.region d refl ∙ k.ports;
-          signals = one_more m.is_signal sight.region d refl ∙ (ap suc k.signals ∙ sym (one_longer i.signals form));
-          enumerations = none_more m.is_enumeration_type sight.region d refl ∙ k.enumerations;
+              (last_form counts type form i.signals (count_of visibility.is_signal sight.region) k.signals s c, tt);
+          generics = none_more visibility.is_generic sight.region d refl ∙ k.generics;
+          integers = none_more visibility.is_integer_constant sight.region d refl ∙ k.integers;
+          constants = none_more visibility.is_constant sight.region d refl ∙ k.constants;
+          ports = none_more visibility.is_port sight.region d refl ∙ k.ports;
+          signals = one_more visibility.is_signal sight.region d refl ∙ (ap suc k.signals ∙ sym (one_longer i.signals form));
+          enumerations = none_more visibility.is_enumeration_type sight.region d refl ∙ k.enumerations;
           generic_names = same_names sight.region (d ∷ []) i.generics refl k.generic_names;
           formals = same_formals sight.region (d ∷ []) i.ports refl k.formals;
         }
@@ -118,30 +118,30 @@ integers_step i counts sight d type x h q =
     let c = comes (static (within sight d.names) b.value) _ x b.rest in
     let make : Name → u.Declaration = λ n. u.Declaration.integer type c.value in
     subst (DeclarationStep i sight) (some_same _ x c.rest)
-    (r.names_step with_declaration declaration_fits with_declared IsKnown nothing_more more_twice m.integer_constant (λ (s : Sight). count_of m.is_integer_constant s.region) make
+    (r.names_step with_declaration declaration_fits with_declared IsKnown nothing_more more_twice visibility.integer_constant (λ (s : Sight). count_of visibility.is_integer_constant s.region) make
     (λ i counts. static_fits i c.value ≡ true)
     (λ i counts sight n ok k. single i counts sight n k)
     (λ i counts n ok. ok)
     (λ i counts n ok. static_more i (record i { integers = suc i.integers }) (more_integers i counts).numbers c.value ok)
-    (λ sight n. one_more m.is_integer_constant sight.region (declare n (m.integer_constant (count_of m.is_integer_constant sight.region))) refl)
+    (λ sight n. one_more visibility.is_integer_constant sight.region (declare n (visibility.integer_constant (count_of visibility.is_integer_constant sight.region))) refl)
     (names_of d.names) i counts sight (static_integer_fits i counts (within sight d.names) b.value c.value (inside_within i counts sight d.names h.inside) c.is) h)
   where
     single : (i : Inside) (counts : Counts) (sight : Sight) (n : Name) → IsKnown i counts sight
-        → IsKnown (record i { integers = suc i.integers }) counts (with_declared sight (declare n (m.integer_constant (count_of m.is_integer_constant sight.region)) ∷ []))
+        → IsKnown (record i { integers = suc i.integers }) counts (with_declared sight (declare n (visibility.integer_constant (count_of visibility.is_integer_constant sight.region)) ∷ []))
     single i counts sight n k =
-        let d : Declared = declare n (m.integer_constant (count_of m.is_integer_constant sight.region)) in
-        let e : count_of m.is_integer_constant sight.region ≡ i.integers = k.integers in
+        let d : Declared = declare n (visibility.integer_constant (count_of visibility.is_integer_constant sight.region)) in
+        let e : count_of visibility.is_integer_constant sight.region ≡ i.integers = k.integers in
         record {
           inside =
               inside_with (record i { integers = suc i.integers }) counts sight (d ∷ [])
               (inside_more i (record i { integers = suc i.integers }) counts counts sight (more_integers i counts) refl refl k.inside)
-              (lt-ltb (count_of m.is_integer_constant sight.region) (suc i.integers) (omega (arith, e)), tt);
-          generics = none_more m.is_generic sight.region d refl ∙ k.generics;
-          integers = one_more m.is_integer_constant sight.region d refl ∙ ap suc k.integers;
-          constants = none_more m.is_constant sight.region d refl ∙ k.constants;
-          ports = none_more m.is_port sight.region d refl ∙ k.ports;
-          signals = none_more m.is_signal sight.region d refl ∙ k.signals;
-          enumerations = none_more m.is_enumeration_type sight.region d refl ∙ k.enumerations;
+              (lt-ltb (count_of visibility.is_integer_constant sight.region) (suc i.integers) (omega (arith, e)), tt);
+          generics = none_more visibility.is_generic sight.region d refl ∙ k.generics;
+          integers = one_more visibility.is_integer_constant sight.region d refl ∙ ap suc k.integers;
+          constants = none_more visibility.is_constant sight.region d refl ∙ k.constants;
+          ports = none_more visibility.is_port sight.region d refl ∙ k.ports;
+          signals = none_more visibility.is_signal sight.region d refl ∙ k.signals;
+          enumerations = none_more visibility.is_enumeration_type sight.region d refl ∙ k.enumerations;
           generic_names = same_names sight.region (d ∷ []) i.generics refl k.generic_names;
           formals = same_formals sight.region (d ∷ []) i.ports refl k.formals;
         }
@@ -158,7 +158,7 @@ others_step i counts sight d x h q =
     let v = fixed_value_fits i counts (within sight d.names) a.value.type d.value c.value in' f.counted c.is in
     let make : Name → u.Declaration = λ n. u.Declaration.constant a.value.form c.value in
     subst (DeclarationStep i sight) (some_same _ x c.rest)
-    (r.names_step with_declaration declaration_fits with_declared IsKnown nothing_more more_twice (λ k. m.constant k b.value (declaring_literal c.value)) (λ (s : Sight). count_of m.is_constant s.region) make
+    (r.names_step with_declaration declaration_fits with_declared IsKnown nothing_more more_twice (λ k. visibility.constant k b.value (declaring_literal c.value)) (λ (s : Sight). count_of visibility.is_constant s.region) make
     (λ i counts. (form_fits i a.value.form ≡ true) × (fixed_fits i (shape_of a.value.form) c.value ≡ true))
     (λ i counts sight n ok k. single i counts sight n a.value.form b.value c.value shape (ap (λ z. fixed_fits i z c.value) (sym shape) ∙ ok.1) k)
     (λ i counts n ok. and_from (form_fits i a.value.form) (fixed_fits i (shape_of a.value.form) c.value) ok.0 ok.1)
@@ -166,29 +166,29 @@ others_step i counts sight d x h q =
       form_more i (record i { constants = i.constants ++ a.value.form ∷ [] }) (more_constants i counts a.value.form).numbers a.value.form ok.0,
       fixed_more i (record i { constants = i.constants ++ a.value.form ∷ [] }) (more_constants i counts a.value.form).numbers (keeps_before i.constants (a.value.form ∷ [])) (shape_of a.value.form) c.value ok.1,
     ))
-    (λ sight n. one_more m.is_constant sight.region (declare n (m.constant (count_of m.is_constant sight.region) b.value (declaring_literal c.value))) refl)
+    (λ sight n. one_more visibility.is_constant sight.region (declare n (visibility.constant (count_of visibility.is_constant sight.region) b.value (declaring_literal c.value))) refl)
     (names_of d.names) i counts sight (f.form, ap (λ z. fixed_fits i z c.value) f.shape ∙ v) h)
   where
-    single : (i : Inside) (counts : Counts) (sight : Sight) (n : Name) (form : Form) (kind : Kind) (v : Fixed) → shape_of form ≡ kind_shape kind → fixed_fits i (kind_shape kind) v ≡ true → IsKnown i counts sight
-        → IsKnown (record i { constants = i.constants ++ form ∷ [] }) counts (with_declared sight (declare n (m.constant (count_of m.is_constant sight.region) kind (declaring_literal v)) ∷ []))
+    single : (i : Inside) (counts : Counts) (sight : Sight) (n : Name) (form : Form) (kind : ElementKind) (v : Fixed) → shape_of form ≡ kind_shape kind → fixed_fits i (kind_shape kind) v ≡ true → IsKnown i counts sight
+        → IsKnown (record i { constants = i.constants ++ form ∷ [] }) counts (with_declared sight (declare n (visibility.constant (count_of visibility.is_constant sight.region) kind (declaring_literal v)) ∷ []))
     single i counts sight n form kind v s f k =
-        let d : Declared = declare n (m.constant (count_of m.is_constant sight.region) kind (declaring_literal v)) in
+        let d : Declared = declare n (visibility.constant (count_of visibility.is_constant sight.region) kind (declaring_literal v)) in
         let j : Inside = record i { constants = i.constants ++ form ∷ [] } in
         record {
           inside =
               inside_with j counts sight (d ∷ []) (inside_more i j counts counts sight (more_constants i counts form) refl refl k.inside) (
                 (
-                  last_form counts (Elements kind) form i.constants (count_of m.is_constant sight.region) k.constants s tt,
+                  last_form counts (Elements kind) form i.constants (count_of visibility.is_constant sight.region) k.constants s tt,
                   literal_of_more i j kind (declaring_literal v) (declaring_fits i kind v f),
                 ),
                 tt,
               );
-          generics = none_more m.is_generic sight.region d refl ∙ k.generics;
-          integers = none_more m.is_integer_constant sight.region d refl ∙ k.integers;
-          constants = one_more m.is_constant sight.region d refl ∙ (ap suc k.constants ∙ sym (one_longer i.constants form));
-          ports = none_more m.is_port sight.region d refl ∙ k.ports;
-          signals = none_more m.is_signal sight.region d refl ∙ k.signals;
-          enumerations = none_more m.is_enumeration_type sight.region d refl ∙ k.enumerations;
+          generics = none_more visibility.is_generic sight.region d refl ∙ k.generics;
+          integers = none_more visibility.is_integer_constant sight.region d refl ∙ k.integers;
+          constants = one_more visibility.is_constant sight.region d refl ∙ (ap suc k.constants ∙ sym (one_longer i.constants form));
+          ports = none_more visibility.is_port sight.region d refl ∙ k.ports;
+          signals = none_more visibility.is_signal sight.region d refl ∙ k.signals;
+          enumerations = none_more visibility.is_enumeration_type sight.region d refl ∙ k.enumerations;
           generic_names = same_names sight.region (d ∷ []) i.generics refl k.generic_names;
           formals = same_formals sight.region (d ∷ []) i.ports refl k.formals;
         }
@@ -210,28 +210,28 @@ literals_fit : (i : Inside) (counts : Counts) (e count p : ℕ) (ns : List Name)
 literals_fit i counts e count p [] l h = tt
 literals_fit i counts e count p (n ∷ ns) l h = ((lt-ltb p count (omega (arith, l)), h), literals_fit i counts e count (suc p) ns (omega (arith, l)) h)
 
-no_literals : (class : Meaning → Bool) → ((e count p : ℕ) → class (m.literal e count p) ≡ false) → (e count p : ℕ) (ns : List Name) → count_of class (literals e count p ns) ≡ 0
+no_literals : (class : Meaning → Bool) → ((e count p : ℕ) → class (visibility.literal e count p) ≡ false) → (e count p : ℕ) (ns : List Name) → count_of class (literals e count p ns) ≡ 0
 no_literals class none e count p [] = refl
 no_literals class none e count p (n ∷ ns) =
-    count_cons class (declare n (m.literal e count p)) (literals e count (suc p) ns)
+    count_cons class (declare n (visibility.literal e count p)) (literals e count (suc p) ns)
     ∙ ap (λ b. cond b 1 0 + count_of class (literals e count (suc p) ns)) (none e count p)
     ∙ (none_first (count_of class (literals e count (suc p) ns)) ∙ no_literals class none e count (suc p) ns)
 
 -- a type and its literals
-counted_type : (class : Meaning → Bool) (b : Bool) → ((e count p : ℕ) → class (m.literal e count p) ≡ false) → (ds : List Declared) (n : Name) (e count : ℕ) (ns : List Name)
-    → class (m.enumeration_type e count) ≡ b → count_of class (ds ++ declare n (m.enumeration_type e count) ∷ literals e count 0 ns) ≡ count_of class ds + cond b 1 0
+counted_type : (class : Meaning → Bool) (b : Bool) → ((e count p : ℕ) → class (visibility.literal e count p) ≡ false) → (ds : List Declared) (n : Name) (e count : ℕ) (ns : List Name)
+    → class (visibility.enumeration_type e count) ≡ b → count_of class (ds ++ declare n (visibility.enumeration_type e count) ∷ literals e count 0 ns) ≡ count_of class ds + cond b 1 0
 counted_type class b none ds n e count ns h =
     let l = literals e count 0 ns in
-    let a = sum_by-append (λ (d : Declared). cond (class d.meaning) 1 0) ds (declare n (m.enumeration_type e count) ∷ l) in
-    let c : count_of class (declare n (m.enumeration_type e count) ∷ l) ≡ cond b 1 0 + count_of class l =
-    count_cons class (declare n (m.enumeration_type e count)) l ∙ ap (λ b. cond b 1 0 + count_of class l) h in
+    let a = sum_by-append (λ (d : Declared). cond (class d.meaning) 1 0) ds (declare n (visibility.enumeration_type e count) ∷ l) in
+    let c : count_of class (declare n (visibility.enumeration_type e count) ∷ l) ≡ cond b 1 0 + count_of class l =
+    count_cons class (declare n (visibility.enumeration_type e count)) l ∙ ap (λ b. cond b 1 0 + count_of class l) h in
     let z : count_of class l ≡ 0 = no_literals class none e count 0 ns in
     omega (arith, a, c, z)
 
-same_counted : (class : Meaning → Bool) → ((e count p : ℕ) → class (m.literal e count p) ≡ false) → (ds : List Declared) (n : Name) (e count : ℕ) (ns : List Name) (k : ℕ)
-    → class (m.enumeration_type e count) ≡ false → count_of class ds ≡ k → count_of class (ds ++ declare n (m.enumeration_type e count) ∷ literals e count 0 ns) ≡ k
+same_counted : (class : Meaning → Bool) → ((e count p : ℕ) → class (visibility.literal e count p) ≡ false) → (ds : List Declared) (n : Name) (e count : ℕ) (ns : List Name) (k : ℕ)
+    → class (visibility.enumeration_type e count) ≡ false → count_of class ds ≡ k → count_of class (ds ++ declare n (visibility.enumeration_type e count) ∷ literals e count 0 ns) ≡ k
 same_counted class none ds n e count ns k h g =
-    let a : count_of class (ds ++ declare n (m.enumeration_type e count) ∷ literals e count 0 ns) ≡ count_of class ds + 0 = counted_type class false none ds n e count ns h in
+    let a : count_of class (ds ++ declare n (visibility.enumeration_type e count) ∷ literals e count 0 ns) ≡ count_of class ds + 0 = counted_type class false none ds n e count ns h in
     omega (arith, a, g)
 
 more_counts : (i : Inside) (counts : Counts) (count : ℕ) → HasMore i i counts (counts ++ count ∷ [])
@@ -251,31 +251,31 @@ has_literal (n ∷ ns) h = omega arith
 
 enumeration_known : (i : Inside) (counts : Counts) (sight : Sight) (n : Name) (ns : List Ident) → IsList IsAny ns → nat_le (length ns) 256 ≡ true → IsKnown i counts sight
     → IsKnown i (counts ++ length ns ∷ [])
-    (with_declared sight (declare n (m.enumeration_type (count_of m.is_enumeration_type sight.region) (length ns)) ∷ literals (count_of m.is_enumeration_type sight.region) (length ns) 0 (names_of ns)))
+    (with_declared sight (declare n (visibility.enumeration_type (count_of visibility.is_enumeration_type sight.region) (length ns)) ∷ literals (count_of visibility.is_enumeration_type sight.region) (length ns) 0 (names_of ns)))
 enumeration_known i counts sight n ns some few k =
-    let e = count_of m.is_enumeration_type sight.region in
+    let e = count_of visibility.is_enumeration_type sight.region in
     let count = length ns in
     let at : slice_get (counts ++ count ∷ []) e ≡ Some count = ap (slice_get (counts ++ count ∷ [])) k.enumerations ∙ get_last counts count in
-    let last : count_of m.is_enumeration_type (sight.region ++ declare n (m.enumeration_type e count) ∷ literals e count 0 (names_of ns)) ≡ e + 1 =
-    counted_type m.is_enumeration_type true (λ e c p. refl) sight.region n e count (names_of ns) refl in
+    let last : count_of visibility.is_enumeration_type (sight.region ++ declare n (visibility.enumeration_type e count) ∷ literals e count 0 (names_of ns)) ≡ e + 1 =
+    counted_type visibility.is_enumeration_type true (λ e c p. refl) sight.region n e count (names_of ns) refl in
     let was : e ≡ length counts = k.enumerations in
     let longer : length (counts ++ count ∷ []) ≡ suc (length counts) = one_longer counts count in
-    let all : length (names_of ns) ≡ count = length-map ns m.name_of in
+    let all : length (names_of ns) ≡ count = length-map ns visibility.name_of in
     record {
       inside =
-          inside_with i (counts ++ count ∷ []) sight (declare n (m.enumeration_type e count) ∷ literals e count 0 (names_of ns))
+          inside_with i (counts ++ count ∷ []) sight (declare n (visibility.enumeration_type e count) ∷ literals e count 0 (names_of ns))
           (inside_more i i counts (counts ++ count ∷ []) sight (more_counts i counts count) refl refl k.inside) (
             (and_from (nat_lt 0 count) (nat_le count 256) (lt-ltb 0 count (has_literal ns some)) few, at),
             literals_fit i (counts ++ count ∷ []) e count 0 (names_of ns) (omega (arith, all)) at,
           );
-      generics = same_counted m.is_generic (λ e c p. refl) sight.region n e count (names_of ns) i.generics refl k.generics;
-      integers = same_counted m.is_integer_constant (λ e c p. refl) sight.region n e count (names_of ns) i.integers refl k.integers;
-      constants = same_counted m.is_constant (λ e c p. refl) sight.region n e count (names_of ns) (length i.constants) refl k.constants;
-      ports = same_counted m.is_port (λ e c p. refl) sight.region n e count (names_of ns) (length i.ports) refl k.ports;
-      signals = same_counted m.is_signal (λ e c p. refl) sight.region n e count (names_of ns) (length i.signals) refl k.signals;
+      generics = same_counted visibility.is_generic (λ e c p. refl) sight.region n e count (names_of ns) i.generics refl k.generics;
+      integers = same_counted visibility.is_integer_constant (λ e c p. refl) sight.region n e count (names_of ns) i.integers refl k.integers;
+      constants = same_counted visibility.is_constant (λ e c p. refl) sight.region n e count (names_of ns) (length i.constants) refl k.constants;
+      ports = same_counted visibility.is_port (λ e c p. refl) sight.region n e count (names_of ns) (length i.ports) refl k.ports;
+      signals = same_counted visibility.is_signal (λ e c p. refl) sight.region n e count (names_of ns) (length i.signals) refl k.signals;
       enumerations = omega (arith, last, was, longer);
-      generic_names = same_names sight.region (declare n (m.enumeration_type e count) ∷ literals e count 0 (names_of ns)) i.generics (no_names e count 0 (names_of ns)) k.generic_names;
-      formals = same_formals sight.region (declare n (m.enumeration_type e count) ∷ literals e count 0 (names_of ns)) i.ports (no_formals e count 0 (names_of ns)) k.formals;
+      generic_names = same_names sight.region (declare n (visibility.enumeration_type e count) ∷ literals e count 0 (names_of ns)) i.generics (no_names e count 0 (names_of ns)) k.generic_names;
+      formals = same_formals sight.region (declare n (visibility.enumeration_type e count) ∷ literals e count 0 (names_of ns)) i.ports (no_formals e count 0 (names_of ns)) k.formals;
     }
 
 pub enumeration_step : (i : Inside) (counts : Counts) (sight : Sight) (d : t.Enumeration) (x : Declares u.Declaration) → IsList IsAny d.literals → IsKnown i counts sight
@@ -286,17 +286,17 @@ enumeration_step i counts sight d x some h q =
     subst (DeclarationStep i sight) (some_same _ x a.1)
     (record { more = counts ++ length d.literals ∷ []; fit = refl; after = enumeration_known i counts sight d.name.text d.literals some a.0 h })
 
-component_known : (i : Inside) (counts : Counts) (sight : Sight) (n : Name) (k : ℕ) → IsKnown i counts sight → IsKnown i counts (with_declared sight (declare n (m.component k) ∷ []))
+component_known : (i : Inside) (counts : Counts) (sight : Sight) (n : Name) (k : ℕ) → IsKnown i counts sight → IsKnown i counts (with_declared sight (declare n (visibility.component k) ∷ []))
 component_known i counts sight n number k =
-    let d : Declared = declare n (m.component number) in
+    let d : Declared = declare n (visibility.component number) in
     record {
       inside = inside_with i counts sight (d ∷ []) k.inside (tt, tt);
-      generics = none_more m.is_generic sight.region d refl ∙ k.generics;
-      integers = none_more m.is_integer_constant sight.region d refl ∙ k.integers;
-      constants = none_more m.is_constant sight.region d refl ∙ k.constants;
-      ports = none_more m.is_port sight.region d refl ∙ k.ports;
-      signals = none_more m.is_signal sight.region d refl ∙ k.signals;
-      enumerations = none_more m.is_enumeration_type sight.region d refl ∙ k.enumerations;
+      generics = none_more visibility.is_generic sight.region d refl ∙ k.generics;
+      integers = none_more visibility.is_integer_constant sight.region d refl ∙ k.integers;
+      constants = none_more visibility.is_constant sight.region d refl ∙ k.constants;
+      ports = none_more visibility.is_port sight.region d refl ∙ k.ports;
+      signals = none_more visibility.is_signal sight.region d refl ∙ k.signals;
+      enumerations = none_more visibility.is_enumeration_type sight.region d refl ∙ k.enumerations;
       generic_names = same_names sight.region (d ∷ []) i.generics refl k.generic_names;
       formals = same_formals sight.region (d ∷ []) i.ports refl k.formals;
     }

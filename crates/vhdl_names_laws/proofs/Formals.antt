@@ -3,7 +3,7 @@ use Rattle.std.proofs.Common.{◌≡◌, ℕ, suc, ◌+◌, List, [], ◌∷◌,
 use Rattle.std.specs.List.{filter_map, cons_option}
 use Rattle.std.proofs.lemmas.List.{length-append, append-nil}
 use Rattle.vhdl_names_rules.specs.units.Units as u
-use Rattle.vhdl_names_rules.specs.Visibility as m
+use Rattle.vhdl_names_rules.specs.Visibility as visibility
 use Rattle.vhdl_names_rules.specs.Visibility.{Name, Meaning, Declared, declare}
 use Rattle.vhdl_names_rules.specs.Declarations.{literals}
 use Rattle.vhdl_names_rules.specs.Instances.{Formal, generic_name, port_formal}
@@ -46,10 +46,10 @@ pub same_formals : (ds es : List Declared) (ps : List u.Port) → filter_map por
 same_formals ds es ps e h =
     subst (λ fs. AreFormals fs ps) (sym (picked_append port_formal ds es ∙ ap (λ fs. filter_map port_formal ds ++ fs) e ∙ append-nil (filter_map port_formal ds))) h
 
-pub one_name : (ds : List Declared) (n : Name) (k count : ℕ) → length (filter_map generic_name ds) ≡ count → length (filter_map generic_name (ds ++ declare n (m.generic k) ∷ [])) ≡ suc count
+pub one_name : (ds : List Declared) (n : Name) (k count : ℕ) → length (filter_map generic_name ds) ≡ count → length (filter_map generic_name (ds ++ declare n (visibility.generic k) ∷ [])) ≡ suc count
 one_name ds n k count h =
     let a : length (filter_map generic_name ds ++ n ∷ []) ≡ length (filter_map generic_name ds) + 1 = length-append (filter_map generic_name ds) (n ∷ []) in
-    ap length (picked_append generic_name ds (declare n (m.generic k) ∷ [])) ∙ omega (arith, a, h)
+    ap length (picked_append generic_name ds (declare n (visibility.generic k) ∷ [])) ∙ omega (arith, a, h)
 
 pub one_formal : (ds : List Declared) (d : Declared) (f : Formal) (ps : List u.Port) (p : u.Port) → filter_map port_formal (d ∷ []) ≡ f ∷ [] → AreFormals (filter_map port_formal ds) ps → IsFormal f p
     → AreFormals (filter_map port_formal (ds ++ d ∷ [])) (ps ++ p ∷ [])

@@ -7,11 +7,11 @@ use Rattle.vhdl_tree.specs.declared.declaration.Mode.{Mode}
 use Rattle.vhdl_tree.specs.declared.declaration.Mode.TheVariants.{In, Out}
 use Rattle.vhdl_tree.specs.Tree as t
 use Rattle.vhdl_tree.specs.Tree.{Ident, Expr}
-use Rattle.vhdl_names_rules.specs.declared.kind.Kind.{Kind}
-use Rattle.vhdl_names_rules.specs.declared.kind.Kind.TheVariants.{Element, LogicVector, Unsigned, OpenVector}
+use Rattle.vhdl_names_rules.specs.declared.kind.ElementKind.{ElementKind}
+use Rattle.vhdl_names_rules.specs.declared.kind.ElementKind.TheVariants.{Element, LogicVector, Unsigned, OpenVector}
 use Rattle.vhdl_names_rules.specs.declared.kind.ObjectType.{ObjectType}
 use Rattle.vhdl_names_rules.specs.declared.kind.ObjectType.TheVariants.{Elements, Enumeration}
-use Rattle.vhdl_names_rules.specs.units.Expressions.{Place}
+use Rattle.vhdl_names_rules.specs.units.Expressions.{SignalPart}
 use Rattle.vhdl_names_rules.specs.units.Units as u
 use Rattle.vhdl_names_rules.specs.units.Units.{Units}
 use Rattle.vhdl_names_rules.specs.Rules.{each, if_any, all_of}
@@ -46,7 +46,7 @@ AreUnits units entities = (k : ℕ) (e : EntityView) → slice_get entities k �
 
 -- ---- actuals of ports
 
-kind_is : (k : Kind) (type : ObjectType) → is_kind k type ≡ true → type_shape type ≡ kind_shape k
+kind_is : (k : ElementKind) (type : ObjectType) → is_kind k type ≡ true → type_shape type ≡ kind_shape k
 kind_is Element (Elements Element) h = refl
 kind_is LogicVector (Elements LogicVector) h = refl
 kind_is Unsigned (Elements Unsigned) h = refl
@@ -68,7 +68,7 @@ joins : (i : Inside) (counts : Counts) (mode : Mode) (x : SignalName) → Signal
 joins i counts In x h k = refl
 joins i counts Out x h k = h.driven (not_true (is_input x.mode) k)
 
-place_is : (i : Inside) (counts : Counts) (sight : Sight) (f : Formal) (p : u.Port) (d : Expr) (z : Place) → IsInside i counts sight → IsFormal f p → port_actual sight f d ≡ Some z
+place_is : (i : Inside) (counts : Counts) (sight : Sight) (f : Formal) (p : u.Port) (d : Expr) (z : SignalPart) → IsInside i counts sight → IsFormal f p → port_actual sight f d ≡ Some z
     → (fits_shape (shape_of p.object.form) (place_shape i z) && w.may_join i p.mode z.signal) ≡ true
 unfolding port_actual
 place_is i counts sight f p d z h g q =
@@ -82,14 +82,14 @@ place_is i counts sight f p d z h g q =
     (fits_self (shape_of p.object.form) (place_shape i b.value.place) (s.shape ∙ ap Some (kind_is f.kind b.value.type c.0 ∙ sym g.shape)))
     (ap (λ mode. w.may_join i mode b.value.place.signal) g.mode ∙ joins i counts f.mode b.value s m.0))
 
-actual_is : (i : Inside) (counts : Counts) (sight : Sight) (f : Formal) (p : u.Port) (d : Option Expr) (z : Option Place) → IsInside i counts sight → IsFormal f p
+actual_is : (i : Inside) (counts : Counts) (sight : Sight) (f : Formal) (p : u.Port) (d : Option Expr) (z : Option SignalPart) → IsInside i counts sight → IsFormal f p
     → if_any (port_actual sight f) d ≡ Some z → actual_fits i p z ≡ true
 actual_is i counts sight f p None z h g q = subst (λ z. actual_fits i p z ≡ true) (some_same None z q) refl
 actual_is i counts sight f p (Some d) z h g q =
     let a = comes (port_actual sight f d) _ z q in
     subst (λ z. actual_fits i p z ≡ true) (some_same (Some a.value) z a.rest) (place_is i counts sight f p d a.value h g a.is)
 
-actuals_are : (i : Inside) (counts : Counts) (sight : Sight) → IsInside i counts sight → (fs : List Formal) (ds : List (Option Expr)) (ps : List u.Port) (zs : List (Option Place)) → AreFormals fs ps
+actuals_are : (i : Inside) (counts : Counts) (sight : Sight) → IsInside i counts sight → (fs : List Formal) (ds : List (Option Expr)) (ps : List u.Port) (zs : List (Option SignalPart)) → AreFormals fs ps
     → length ds ≡ length fs → port_actuals sight fs ds ≡ Some zs → actuals_fit i ps zs ≡ true
 actuals_are i counts sight h [] [] [] zs a l q = subst (λ zs. actuals_fit i [] zs ≡ true) (some_same [] zs q) refl
 actuals_are i counts sight h [] (d ∷ ds) [] zs a l q = absurd (omega (arith, l))

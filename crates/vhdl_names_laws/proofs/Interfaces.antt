@@ -7,7 +7,7 @@ use Rattle.std.proofs.lemmas.Bool.{and_parts, and_from}
 use Rattle.vhdl_tree.specs.Tree as t
 use Rattle.vhdl_names_rules.specs.units.Units as u
 use Rattle.vhdl_names_rules.specs.Rules.{all_of}
-use Rattle.vhdl_names_rules.specs.Visibility as m
+use Rattle.vhdl_names_rules.specs.Visibility as visibility
 use Rattle.vhdl_names_rules.specs.Visibility.{Name, Meaning, Declared, declare, is_among, are_distinct, ends, Sight, with_declared, Declares}
 use Rattle.vhdl_names_rules.specs.Packages.{standard, std_logic_1164, numeric_std, Context, no_context, context, visible, sight_of}
 use Rattle.vhdl_names_rules.specs.Declarations.{in_order, generic, port}
@@ -105,23 +105,23 @@ ports_alone (p ∷ ps) i j h c k =
 -- ---- names of ports
 
 formal_name : (n : Name) (d : Meaning) (f : Formal) → port_formal (declare n d) ≡ Some f → f.name ≡ n
-formal_name n (m.port k mode kind) f q = ap (λ (f : Formal). f.name) (sym (some_same _ f q))
-formal_name n (m.generic k) f q = absurd cc
-formal_name n (m.integer_constant k) f q = absurd cc
-formal_name n (m.generate_parameter k) f q = absurd cc
-formal_name n (m.loop_parameter k) f q = absurd cc
-formal_name n (m.signal k type) f q = absurd cc
-formal_name n (m.variable k type) f q = absurd cc
-formal_name n (m.constant k kind vs) f q = absurd cc
-formal_name n (m.literal a b c) f q = absurd cc
-formal_name n (m.integer_type y) f q = absurd cc
-formal_name n (m.element_type y) f q = absurd cc
-formal_name n (m.vector_type k y) f q = absurd cc
-formal_name n (m.enumeration_type k y) f q = absurd cc
-formal_name n (m.function y) f q = absurd cc
-formal_name n (m.component k) f q = absurd cc
-formal_name n m.label f q = absurd cc
-formal_name n m.unfinished f q = absurd cc
+formal_name n (visibility.port k mode kind) f q = ap (λ (f : Formal). f.name) (sym (some_same _ f q))
+formal_name n (visibility.generic k) f q = absurd cc
+formal_name n (visibility.integer_constant k) f q = absurd cc
+formal_name n (visibility.generate_parameter k) f q = absurd cc
+formal_name n (visibility.loop_parameter k) f q = absurd cc
+formal_name n (visibility.signal k type) f q = absurd cc
+formal_name n (visibility.variable k type) f q = absurd cc
+formal_name n (visibility.constant k kind vs) f q = absurd cc
+formal_name n (visibility.literal a b c) f q = absurd cc
+formal_name n (visibility.integer_type y) f q = absurd cc
+formal_name n (visibility.element_type y) f q = absurd cc
+formal_name n (visibility.vector_type k y) f q = absurd cc
+formal_name n (visibility.enumeration_type k y) f q = absurd cc
+formal_name n (visibility.function y) f q = absurd cc
+formal_name n (visibility.component k) f q = absurd cc
+formal_name n visibility.label f q = absurd cc
+formal_name n visibility.unfinished f q = absurd cc
 
 abbrev names_of_formals : List Declared → List Name
 names_of_formals ds = map (λ (f : Formal). f.name) (filter_map port_formal ds)

@@ -7,7 +7,7 @@ use Rattle.std.proofs.lemmas.List.Sums.{sum_by-append}
 use Rattle.vhdl_tree.specs.Tree.{Ident}
 use Rattle.vhdl_names_rules.specs.declared.kind.ObjectType.{ObjectType}
 use Rattle.vhdl_names_rules.specs.units.Units.{Form}
-use Rattle.vhdl_names_rules.specs.Visibility as m
+use Rattle.vhdl_names_rules.specs.Visibility as visibility
 use Rattle.vhdl_names_rules.specs.Visibility.{Name, Meaning, Declared, declare, all_declared, numbered, names_of, count_of, Sight, meaning, with_declared, with_variables, Declares}
 use Rattle.vhdl_names_rules.specs.Declarations.{within, within_variables}
 use Rattle.vhdl_names_rules.specs.Instances.{generic_name, port_formal}
@@ -53,15 +53,15 @@ inside_variables i counts sight ds h a = record {
 }
 
 -- names whose declaration isn't finished
-unfinished_fit : (i : Inside) (counts : Counts) (ns : List Name) → AllFit i counts (all_declared m.unfinished ns)
+unfinished_fit : (i : Inside) (counts : Counts) (ns : List Name) → AllFit i counts (all_declared visibility.unfinished ns)
 unfinished_fit i counts [] = tt
 unfinished_fit i counts (n ∷ ns) = (tt, unfinished_fit i counts ns)
 
 pub inside_within : (i : Inside) (counts : Counts) (sight : Sight) (ns : List Ident) → IsInside i counts sight → IsInside i counts (within sight ns)
-inside_within i counts sight ns h = inside_with i counts sight (all_declared m.unfinished (names_of ns)) h (unfinished_fit i counts (names_of ns))
+inside_within i counts sight ns h = inside_with i counts sight (all_declared visibility.unfinished (names_of ns)) h (unfinished_fit i counts (names_of ns))
 
 pub inside_within_variables : (i : Inside) (counts : Counts) (sight : Sight) (ns : List Ident) → IsInside i counts sight → IsInside i counts (within_variables sight ns)
-inside_within_variables i counts sight ns h = inside_variables i counts sight (all_declared m.unfinished (names_of ns)) h (unfinished_fit i counts (names_of ns))
+inside_within_variables i counts sight ns h = inside_variables i counts sight (all_declared visibility.unfinished (names_of ns)) h (unfinished_fit i counts (names_of ns))
 
 -- ---- counts
 
@@ -97,12 +97,12 @@ last_form counts type form fs k e h c = record {
 -- what a region declares is counted by what is inside
 pub record IsKnown (i : Inside) (counts : Counts) (sight : Sight) : Type 0 where
   pub inside : IsInside i counts sight
-  pub generics : count_of m.is_generic sight.region ≡ i.generics
-  pub integers : count_of m.is_integer_constant sight.region ≡ i.integers
-  pub constants : count_of m.is_constant sight.region ≡ length i.constants
-  pub ports : count_of m.is_port sight.region ≡ length i.ports
-  pub signals : count_of m.is_signal sight.region ≡ length i.signals
-  pub enumerations : count_of m.is_enumeration_type sight.region ≡ length counts
+  pub generics : count_of visibility.is_generic sight.region ≡ i.generics
+  pub integers : count_of visibility.is_integer_constant sight.region ≡ i.integers
+  pub constants : count_of visibility.is_constant sight.region ≡ length i.constants
+  pub ports : count_of visibility.is_port sight.region ≡ length i.ports
+  pub signals : count_of visibility.is_signal sight.region ≡ length i.signals
+  pub enumerations : count_of visibility.is_enumeration_type sight.region ≡ length counts
   pub generic_names : length (filter_map generic_name sight.region) ≡ i.generics
   pub formals : AreFormals (filter_map port_formal sight.region) i.ports
 

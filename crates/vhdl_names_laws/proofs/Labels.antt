@@ -3,7 +3,7 @@ use Rattle.std.proofs.Common.{◌≡◌, true, ◌&&◌, List, [], ◌∷◌, �
 use Rattle.std.specs.List.{slice_get, filter_map, AllByRecursion}
 use Rattle.std.specs.Option.{option_map}
 use Rattle.std.proofs.lemmas.Bool.{and_from}
-use Rattle.vhdl_lexer.specs.declared.token.Kind.TheVariants as k
+use Rattle.vhdl_lexer.specs.declared.token.TokenKind.TheVariants as k
 use Rattle.vhdl_tree.specs.Tree as t
 use Rattle.vhdl_tree.specs.Tree.{Ident, File, DesignUnit, LibraryUnit, ContextItem}
 use Rattle.vhdl_tree.specs.Pieces as p
@@ -58,7 +58,7 @@ selected_named sight label a rest x h q =
     let css = comes (covered sight by.value.0 (map (λ (w : t.Waveform). w.choices) a.waveforms)) _ x to.rest in
     let bodies = comes (each (λ (w : t.Waveform). option_map alone (assigned sight to.value w.value)) a.waveforms) _ x css.rest in
     let all = comes (arranged css.value bodies.value) _ x bodies.rest in
-    subst (λ x. concurrent_is_named x ≡ true) (some_same _ x all.rest) (assigning_named label rest (s.select by.value.1 all.value) h)
+    subst (λ x. concurrent_is_named x ≡ true) (some_same _ x all.rest) (assigning_named label rest (s.case_of by.value.1 all.value) h)
 
 process_named : (sight : Sight) (label : Option Ident) (d : t.Process) (x : u.Process) → label_is_named (label_of label) ≡ true → AllByRecursion (λ (v : t.Variables). NamesAreWords v.names) d.variables
     → process sight label d ≡ Some x → (label_is_named x.label && objects_are_named x.variables) ≡ true

@@ -9,18 +9,18 @@ use Rattle.std.proofs.lemmas.Option.{slice_get-map}
 use Rattle.vhdl_values.specs.declared.kinds.Edge.{Edge}
 use Rattle.vhdl_tree.specs.Tree.{Ident}
 use Rattle.vhdl_tree.specs.declared.declaration.Mode.{Mode}
-use Rattle.vhdl_names_rules.specs.declared.kind.Kind.{Kind}
-use Rattle.vhdl_names_rules.specs.declared.kind.Kind.TheVariants.{Element, LogicVector, Unsigned, OpenVector}
+use Rattle.vhdl_names_rules.specs.declared.kind.ElementKind.{ElementKind}
+use Rattle.vhdl_names_rules.specs.declared.kind.ElementKind.TheVariants.{Element, LogicVector, Unsigned, OpenVector}
 use Rattle.vhdl_names_rules.specs.declared.kind.ObjectType.{ObjectType}
 use Rattle.vhdl_names_rules.specs.declared.kind.ObjectType.TheVariants.{Elements, Enumeration}
 use Rattle.vhdl_names_rules.specs.declared.kind.Function.{Function}
 use Rattle.vhdl_names_rules.specs.declared.kind.Function.TheVariants.{EdgeCall, Resize, ShiftLeft, ShiftRight, ToUnsigned}
 use Rattle.vhdl_names_rules.specs.units.Expressions as e
-use Rattle.vhdl_names_rules.specs.units.Expressions.{Static, Range, Part, Place, Signal, Vector}
+use Rattle.vhdl_names_rules.specs.units.Expressions.{Static, Range, Part, SignalPart, Signal, Vector}
 use Rattle.vhdl_names_rules.specs.units.Units as u
 use Rattle.vhdl_names_rules.specs.units.Units.{Form}
 use Rattle.vhdl_names_rules.specs.Rules.{◌>>=◌, then_some}
-use Rattle.vhdl_names_rules.specs.Visibility as m
+use Rattle.vhdl_names_rules.specs.Visibility as visibility
 use Rattle.vhdl_names_rules.specs.Visibility.{Meaning}
 use Rattle.vhdl_names_rules.specs.Operators as o
 use Rattle.vhdl_names_rules.specs.Operators.{Typed}
@@ -59,18 +59,18 @@ slice_form i (u.enumeration c) s h t = absurd cc
 
 module _ (i : Inside) (counts : Counts) where
   -- a part of an object of a kind has the kind's shape
-  pub part_fits : (f : Form) (k : Kind) (s : Suffix) (p : Part × Kind) → shape_of f ≡ kind_shape k → SuffixFits i counts s → part k s ≡ Some p
+  pub part_fits : (f : Form) (k : ElementKind) (s : Suffix) (p : Part × ElementKind) → shape_of f ≡ kind_shape k → SuffixFits i counts s → part k s ≡ Some p
       → part_shape i f p.0 ≡ Some (kind_shape p.1)
   part_fits f k s p h t g = by k s h t g
     where
-      is : (q : Part × Kind) → Some q ≡ Some p → part_shape i f q.0 ≡ Some (kind_shape q.1) → part_shape i f p.0 ≡ Some (kind_shape p.1)
-      is q g h = subst (λ (q : Part × Kind). part_shape i f q.0 ≡ Some (kind_shape q.1)) (some_same q p g) h
+      is : (q : Part × ElementKind) → Some q ≡ Some p → part_shape i f q.0 ≡ Some (kind_shape q.1) → part_shape i f p.0 ≡ Some (kind_shape p.1)
+      is q g h = subst (λ (q : Part × ElementKind). part_shape i f q.0 ≡ Some (kind_shape q.1)) (some_same q p g) h
 
-      element_of : (j : Kind) → kind_shape j ≡ vector → shape_of f ≡ kind_shape j → (s : Static) → static_fits i s ≡ true → Some (e.Part.element s, Element) ≡ Some p
+      element_of : (j : ElementKind) → kind_shape j ≡ vector → shape_of f ≡ kind_shape j → (s : Static) → static_fits i s ≡ true → Some (e.Part.element s, Element) ≡ Some p
           → part_shape i f p.0 ≡ Some (kind_shape p.1)
       element_of j v h s t g = is (e.Part.element s, Element) g (vector_form i f s (h ∙ v) t)
 
-      listed : (j : Kind) → kind_shape j ≡ vector → shape_of f ≡ kind_shape j → (b : Bool) (xs : List Typed) → EachFits i counts xs
+      listed : (j : ElementKind) → kind_shape j ≡ vector → shape_of f ≡ kind_shape j → (b : Bool) (xs : List Typed) → EachFits i counts xs
           → ((s : Static) → part j (n.arguments b (o.integer s ∷ [])) ≡ Some (e.Part.element s, Element)) → part j (n.arguments b xs) ≡ Some p
           → part_shape i f p.0 ≡ Some (kind_shape p.1)
       listed LogicVector v h b (o.integer s ∷ []) t c g = element_of LogicVector v h s t.0 g
@@ -88,7 +88,7 @@ module _ (i : Inside) (counts : Counts) where
       listed Element v h b xs t c g = absurd cc
       listed OpenVector v h b xs t c g = absurd cc
 
-      by : (k : Kind) (s : Suffix) → shape_of f ≡ kind_shape k → SuffixFits i counts s → part k s ≡ Some p → part_shape i f p.0 ≡ Some (kind_shape p.1)
+      by : (k : ElementKind) (s : Suffix) → shape_of f ≡ kind_shape k → SuffixFits i counts s → part k s ≡ Some p → part_shape i f p.0 ≡ Some (kind_shape p.1)
       by k n.plain h t g = is (e.whole, k) g (ap Some h)
       by LogicVector (n.arguments b xs) h t g = listed LogicVector refl h b xs t (λ s. refl) g
       by Unsigned (n.arguments b xs) h t g = listed Unsigned refl h b xs t (λ s. refl) g
@@ -103,7 +103,7 @@ module _ (i : Inside) (counts : Counts) where
   pub part_of_fits : (f : Form) (type : ObjectType) (s : Suffix) (p : Part × ObjectType) → shape_of f ≡ type_shape type → IsCounted counts type → SuffixFits i counts s
       → part_of type s ≡ Some p → (part_shape i f p.0 ≡ Some (type_shape p.1)) × IsCounted counts p.1
   part_of_fits f (Elements k) s p h c t g =
-      let a = mapped (λ (q : Part × Kind). (q.0, Elements q.1)) (part k s) p g in
+      let a = mapped (λ (q : Part × ElementKind). (q.0, Elements q.1)) (part k s) p g in
       subst (λ (q : Part × ObjectType). (part_shape i f q.0 ≡ Some (type_shape q.1)) × IsCounted counts q.1) a.is (part_fits f k s a.value h t a.from, tt)
   part_of_fits f (Enumeration d count) n.plain p h c t g =
       subst (λ (q : Part × ObjectType). (part_shape i f q.0 ≡ Some (type_shape q.1)) × IsCounted counts q.1) (some_same (e.whole, Enumeration d count) p g) (ap Some h, c)
@@ -114,16 +114,16 @@ module _ (i : Inside) (counts : Counts) where
 
   -- what is read of an object of a form
   read_fits : (object : Part → Vector) (f : Form) → ((p : Part) → vector_shape i (object p) ≡ (part_shape i f p >>= λ x. then_some (is_elements x) x))
-      → (k : Kind) → shape_of f ≡ kind_shape k → (s : Suffix) (x : Typed) → SuffixFits i counts s → read_by object k s ≡ Some x → TypedFits i counts x
+      → (k : ElementKind) → shape_of f ≡ kind_shape k → (s : Suffix) (x : Typed) → SuffixFits i counts s → read_by object k s ≡ Some x → TypedFits i counts x
   read_fits object f c k h s x t g =
-      let a = mapped (λ (p : Part × Kind). o.elements p.1 (object p.0)) (part k s) x g in
+      let a = mapped (λ (p : Part × ElementKind). o.elements p.1 (object p.0)) (part k s) x g in
       subst (TypedFits i counts) a.is
       (c a.value.0 ∙ ap (λ z. z >>= λ x. then_some (is_elements x) x) (part_fits f k s a.value h t a.from) ∙ ap (λ b. then_some b (kind_shape a.value.1)) (shape_elements a.value.1))
 
   read_place : (z : Signal) (f : Form) → signal_form i z ≡ Some f → (p : Part) → vector_shape i (e.of_signal (place_of z p)) ≡ (part_shape i f p >>= λ x. then_some (is_elements x) x)
   read_place z f h p = ap (λ w. (w >>= λ f. part_shape i f p) >>= λ x. then_some (is_elements x) x) h
 
-  pub port_form_is : (k : ℕ) (mode : Mode) (kind : Kind) (f : IsPort i.ports k mode kind) → signal_form i (e.port k) ≡ Some (port_form f.port)
+  pub port_form_is : (k : ℕ) (mode : Mode) (kind : ElementKind) (f : IsPort i.ports k mode kind) → signal_form i (e.port k) ≡ Some (port_form f.port)
   port_form_is k mode kind f = slice_get-map port_form i.ports k ∙ ap (option_map port_form) f.at
 
   -- an object's form
@@ -145,7 +145,7 @@ module _ (i : Inside) (counts : Counts) where
 
   -- ---- conversions and calls
 
-  converted_fits : (k : Kind) (s : Suffix) (y : Typed) → kind_shape k ≡ vector → SuffixFits i counts s → converted k s ≡ Some y → TypedFits i counts y
+  converted_fits : (k : ElementKind) (s : Suffix) (y : Typed) → kind_shape k ≡ vector → SuffixFits i counts s → converted k s ≡ Some y → TypedFits i counts y
   converted_fits k n.plain y v t g = absurd cc
   converted_fits k (n.range r) y v t g = absurd cc
   converted_fits k (n.arguments b []) y v t g = absurd cc
@@ -225,12 +225,12 @@ module _ (i : Inside) (counts : Counts) where
   same_signal (e.port k) = refl
   same_signal (e.Signal.signal k) = refl
 
-  place_outside : (p : Place) → is_static_part p.part ≡ true → place_shape i p ≡ Some one → place_shape (record i { loops = 0 }) p ≡ Some one
+  place_outside : (p : SignalPart) → is_static_part p.part ≡ true → place_shape i p ≡ Some one → place_shape (record i { loops = 0 }) p ≡ Some one
   place_outside p h t =
       let c = comes (signal_form i p.signal) (λ f. part_shape i f p.part) one t in
       ap (λ w. w >>= λ f. part_shape (record i { loops = 0 }) f p.part) (same_signal p.signal ∙ c.is) ∙ part_outside c.value p.part h c.rest
 
-  edge_place : (x : Typed) (p : Place) → TypedFits i counts x → edge_signal x ≡ Some p → edge_fits i p ≡ true
+  edge_place : (x : Typed) (p : SignalPart) → TypedFits i counts x → edge_signal x ≡ Some p → edge_fits i p ≡ true
   edge_place (o.integer s) p t g = absurd cc
   edge_place (o.enumerated d m x) p t g = absurd cc
   edge_place (o.truth x) p t g = absurd cc
@@ -280,38 +280,38 @@ module _ (i : Inside) (counts : Counts) where
   -- ---- all names
 
   pub denoted_fits : (d : Meaning) (s : Suffix) (y : Typed) → MeaningFits i counts d → SuffixFits i counts s → denoted d s ≡ Some y → TypedFits i counts y
-  denoted_fits (m.generic k) s y h t g = plain_fits s (o.integer (e.generic k)) y h g
-  denoted_fits (m.integer_constant k) s y h t g = plain_fits s (o.integer (e.Static.constant k)) y h g
-  denoted_fits (m.generate_parameter k) s y h t g = plain_fits s (o.integer (e.generate_parameter k)) y h g
-  denoted_fits (m.loop_parameter k) s y h t g = plain_fits s (o.integer (e.loop_parameter k)) y h g
-  denoted_fits (m.port k mode kind) s y h t g =
+  denoted_fits (visibility.generic k) s y h t g = plain_fits s (o.integer (e.generic k)) y h g
+  denoted_fits (visibility.integer_constant k) s y h t g = plain_fits s (o.integer (e.Static.constant k)) y h g
+  denoted_fits (visibility.generate_parameter k) s y h t g = plain_fits s (o.integer (e.generate_parameter k)) y h g
+  denoted_fits (visibility.loop_parameter k) s y h t g = plain_fits s (o.integer (e.loop_parameter k)) y h g
+  denoted_fits (visibility.port k mode kind) s y h t g =
       read_fits (λ p. e.of_signal (place_of (e.port k) p)) (port_form h.port) (read_place (e.port k) (port_form h.port) (port_form_is k mode kind h)) kind h.shape s y t g
-  denoted_fits (m.signal k (Elements kind)) s y h t g =
+  denoted_fits (visibility.signal k (Elements kind)) s y h t g =
       let f = the_form (Elements kind) (slice_get i.signals k) h in
       read_fits (λ p. e.of_signal (place_of (e.Signal.signal k) p)) f.0 (read_place (e.Signal.signal k) f.0 f.1) kind f.2 s y t g
-  denoted_fits (m.signal k (Enumeration d count)) s y h t g =
+  denoted_fits (visibility.signal k (Enumeration d count)) s y h t g =
       let f = the_form (Enumeration d count) (slice_get i.signals k) h in
       plain_fits s (o.enumerated d count (e.state_of (e.Signal.signal k))) y
       (fits_self (state count) (value_shape i (e.state_of (e.Signal.signal k))) (ap (λ w. w >>= state_shape) f.1 ∙ state_is f.0 count f.2), h.counted) g
-  denoted_fits (m.variable k (Elements kind)) s y h t g =
+  denoted_fits (visibility.variable k (Elements kind)) s y h t g =
       let f = the_form (Elements kind) (slice_get i.variables k) h in
       read_fits (e.of_variable k) f.0 (λ p. ap (λ w. w >>= λ f. part_shape i f p >>= λ x. then_some (is_elements x) x) f.1) kind f.2 s y t g
-  denoted_fits (m.variable k (Enumeration d count)) s y h t g =
+  denoted_fits (visibility.variable k (Enumeration d count)) s y h t g =
       let f = the_form (Enumeration d count) (slice_get i.variables k) h in
       plain_fits s (o.enumerated d count (e.state_of_variable k)) y
       (fits_self (state count) (value_shape i (e.state_of_variable k)) (ap (λ w. w >>= state_shape) f.1 ∙ state_is f.0 count f.2), h.counted) g
-  denoted_fits (m.constant k kind values) s y h t g =
+  denoted_fits (visibility.constant k kind values) s y h t g =
       let f = the_form (Elements kind) (slice_get i.constants k) h.0 in
       read_fits (e.of_constant k) f.0 (λ p. ap (λ w. w >>= λ f. part_shape i f p >>= λ x. then_some (is_elements x) x) f.1) kind f.2 s y t g
-  denoted_fits (m.literal d count p) s y h t g = plain_fits s (o.enumerated d count (e.Value.position p)) y h g
-  denoted_fits (m.vector_type k r) s y h t g = converted_fits k s y h t g
-  denoted_fits (m.function f) s y h t g = called_fits f s y t g
-  denoted_fits (m.integer_type w) s y h t g = absurd cc
-  denoted_fits (m.element_type r) s y h t g = absurd cc
-  denoted_fits (m.enumeration_type d count) s y h t g = absurd cc
-  denoted_fits (m.component k) s y h t g = absurd cc
-  denoted_fits m.label s y h t g = absurd cc
-  denoted_fits m.unfinished s y h t g = absurd cc
+  denoted_fits (visibility.literal d count p) s y h t g = plain_fits s (o.enumerated d count (e.Value.position p)) y h g
+  denoted_fits (visibility.vector_type k r) s y h t g = converted_fits k s y h t g
+  denoted_fits (visibility.function f) s y h t g = called_fits f s y t g
+  denoted_fits (visibility.integer_type w) s y h t g = absurd cc
+  denoted_fits (visibility.element_type r) s y h t g = absurd cc
+  denoted_fits (visibility.enumeration_type d count) s y h t g = absurd cc
+  denoted_fits (visibility.component k) s y h t g = absurd cc
+  denoted_fits visibility.label s y h t g = absurd cc
+  denoted_fits visibility.unfinished s y h t g = absurd cc
 
   pub attributed_fits : (a : Option Ident) (x y : Typed) → TypedFits i counts x → attributed a x ≡ Some y → TypedFits i counts y
   attributed_fits None x y t g = subst (TypedFits i counts) (some_same x y g) t

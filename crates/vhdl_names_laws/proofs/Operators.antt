@@ -7,8 +7,8 @@ use Rattle.vhdl_values.specs.declared.kinds.Logic.{Logic}
 use Rattle.vhdl_values.specs.declared.kinds.Cmp.{Cmp}
 use Rattle.vhdl_tree.specs.declared.operator.Operator.{Operator}
 use Rattle.vhdl_tree.specs.declared.operator.Operator.TheVariants as op
-use Rattle.vhdl_names_rules.specs.declared.kind.Kind.{Kind}
-use Rattle.vhdl_names_rules.specs.declared.kind.Kind.TheVariants.{Element, LogicVector, Unsigned, OpenVector}
+use Rattle.vhdl_names_rules.specs.declared.kind.ElementKind.{ElementKind}
+use Rattle.vhdl_names_rules.specs.declared.kind.ElementKind.TheVariants.{Element, LogicVector, Unsigned, OpenVector}
 use Rattle.vhdl_names_rules.specs.declared.operator.Arithmetic.{Arithmetic}
 use Rattle.vhdl_names_rules.specs.declared.operator.Numeric.{Numeric}
 use Rattle.vhdl_names_rules.specs.declared.operator.VectorOperator.{VectorOperator}
@@ -43,7 +43,7 @@ mapped f (Some x) y h = record { value = x; from = refl; is = some_same (f x) y 
 
 -- ---- shapes
 
-pub shape_elements : (k : Kind) → is_elements (kind_shape k) ≡ true
+pub shape_elements : (k : ElementKind) → is_elements (kind_shape k) ≡ true
 shape_elements Element = refl
 shape_elements LogicVector = refl
 shape_elements Unsigned = refl
@@ -69,29 +69,29 @@ pub fits_self : (x : Shape) (o : Option Shape) → o ≡ Some x → fits_shape x
 fits_self x o h = ap (fits_shape x) h ∙ same_self x
 
 -- a number is a vector
-number_shape : (k : Kind) → is_number k ≡ true → kind_shape k ≡ vector
+number_shape : (k : ElementKind) → is_number k ≡ true → kind_shape k ≡ vector
 number_shape Element h = absurd cc
 number_shape LogicVector h = absurd cc
 number_shape Unsigned h = refl
 number_shape OpenVector h = refl
 
-numbers_shape : (j k : Kind) → are_numbers j k ≡ true → (kind_shape j ≡ vector) × (kind_shape k ≡ vector)
+numbers_shape : (j k : ElementKind) → are_numbers j k ≡ true → (kind_shape j ≡ vector) × (kind_shape k ≡ vector)
 numbers_shape Element k h = absurd cc
 numbers_shape LogicVector k h = absurd cc
 numbers_shape Unsigned k h = (refl, number_shape k h)
 numbers_shape OpenVector k h = (refl, number_shape k h)
 
-record Common (j k c : Kind) : Type 0 where
+record Common (j k c : ElementKind) : Type 0 where
   left : kind_shape j ≡ kind_shape c
   right : kind_shape k ≡ kind_shape c
 
-common : (j k c : Kind) → common_kind j k ≡ Some c → Common j k c
+common : (j k c : ElementKind) → common_kind j k ≡ Some c → Common j k c
 common j k c h = by j k h
   where
-    same : (j k d : Kind) → Some d ≡ Some c → kind_shape j ≡ kind_shape d → kind_shape k ≡ kind_shape d → Common j k c
+    same : (j k d : ElementKind) → Some d ≡ Some c → kind_shape j ≡ kind_shape d → kind_shape k ≡ kind_shape d → Common j k c
     same j k d h l r = let g : d ≡ c = some_same d c h in record { left = l ∙ ap kind_shape g; right = r ∙ ap kind_shape g }
 
-    by : (j k : Kind) → common_kind j k ≡ Some c → Common j k c
+    by : (j k : ElementKind) → common_kind j k ≡ Some c → Common j k c
     by Element Element h = same Element Element Element h refl refl
     by Element LogicVector h = absurd cc
     by Element Unsigned h = absurd cc
@@ -110,13 +110,13 @@ common j k c h = by j k h
     by OpenVector OpenVector h = same OpenVector OpenVector OpenVector h refl refl
 
 -- a concatenation is a vector
-joined : (j k c : Kind) → joined_kind j k ≡ Some c → kind_shape c ≡ vector
+joined : (j k c : ElementKind) → joined_kind j k ≡ Some c → kind_shape c ≡ vector
 joined j k c h = by j k h
   where
-    is : (d : Kind) → Some d ≡ Some c → kind_shape d ≡ vector → kind_shape c ≡ vector
+    is : (d : ElementKind) → Some d ≡ Some c → kind_shape d ≡ vector → kind_shape c ≡ vector
     is d h t = ap kind_shape (sym (some_same d c h)) ∙ t
 
-    by : (j k : Kind) → joined_kind j k ≡ Some c → kind_shape c ≡ vector
+    by : (j k : ElementKind) → joined_kind j k ≡ Some c → kind_shape c ≡ vector
     by Element Element h = is OpenVector h refl
     by Element LogicVector h = is LogicVector h refl
     by Element Unsigned h = is Unsigned h refl
@@ -163,7 +163,7 @@ module _ (i : Inside) (counts : Counts) where
   known : (x y : Typed) → Some x ≡ Some y → TypedFits i counts x → TypedFits i counts y
   known x y h t = subst (TypedFits i counts) (some_same x y h) t
 
-  vector_is : (x : Vector) (k : Kind) → vector_shape i x ≡ Some (kind_shape k) → kind_shape k ≡ vector → vector_shape i x ≡ Some vector
+  vector_is : (x : Vector) (k : ElementKind) → vector_shape i x ≡ Some (kind_shape k) → kind_shape k ≡ vector → vector_shape i x ≡ Some vector
   vector_is x k h t = h ∙ ap Some t
 
   with_static_is : (o : Option Shape) (n : Static) → o ≡ Some vector → static_fits i n ≡ true → with_static i o n ≡ Some vector
@@ -292,7 +292,7 @@ module _ (i : Inside) (counts : Counts) where
       → (fits_shape vector (vector_shape i x) && fits_shape vector (vector_shape i y)) ≡ true
   compared_fits x y h t = and_from (fits_shape vector (vector_shape i x)) (fits_shape vector (vector_shape i y)) (fits_self vector (vector_shape i x) h) (fits_self vector (vector_shape i y) t)
 
-  equal_fits : (op : Cmp) (same : Value → Value → Test) → Compares same → (x y : Vector) (k : Kind) → vector_shape i x ≡ Some (kind_shape k) → vector_shape i y ≡ Some (kind_shape k)
+  equal_fits : (op : Cmp) (same : Value → Value → Test) → Compares same → (x y : Vector) (k : ElementKind) → vector_shape i x ≡ Some (kind_shape k) → vector_shape i y ≡ Some (kind_shape k)
       → TypedFits i counts (equal_by op same x y k)
   equal_fits op same c x y Unsigned h t = compared_fits x y h t
   equal_fits op same c x y Element h t = c (e.Value.elements x) (e.Value.elements y) ∙ elements_fit i x y one h t

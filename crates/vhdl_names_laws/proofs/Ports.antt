@@ -5,13 +5,13 @@ use Rattle.std.proofs.lemmas.Bool.{and_from, lt-ltb}
 use Rattle.vhdl_tree.specs.Tree as t
 use Rattle.vhdl_tree.specs.Tree.{Ident}
 use Rattle.vhdl_tree.specs.declared.declaration.Mode.{Mode}
-use Rattle.vhdl_names_rules.specs.declared.kind.Kind.{Kind}
+use Rattle.vhdl_names_rules.specs.declared.kind.ElementKind.{ElementKind}
 use Rattle.vhdl_names_rules.specs.declared.kind.ObjectType.{ObjectType}
 use Rattle.vhdl_names_rules.specs.declared.kind.ObjectType.TheVariants.{Elements, Enumeration}
 use Rattle.vhdl_names_rules.specs.units.Units as u
 use Rattle.vhdl_names_rules.specs.units.Units.{Form, Fixed}
 use Rattle.vhdl_names_rules.specs.Rules.{if_any}
-use Rattle.vhdl_names_rules.specs.Visibility as m
+use Rattle.vhdl_names_rules.specs.Visibility as visibility
 use Rattle.vhdl_names_rules.specs.Visibility.{Name, Meaning, Declared, declare, all_declared, numbered, names_of, count_of, Sight, meaning, with_declared, with_variables, Declares}
 use Rattle.vhdl_names_rules.specs.Expressions.{static}
 use Rattle.vhdl_names_rules.specs.Subtypes.{subtype, fixed_value, as_integer_type, object}
@@ -55,31 +55,31 @@ generic_step i counts sight g x h q =
     let c = comes (if_any (static sight) g.default) _ x b.rest in
     let make : Name → u.Generic = λ n. record { type = b.value; default = c.value } in
     subst (r.Step with_generic generic_fits with_declared IsKnown i sight) (some_same _ x c.rest)
-    (r.names_step with_generic generic_fits with_declared IsKnown nothing_more more_twice m.generic (λ (s : Sight). count_of m.is_generic s.region) make
+    (r.names_step with_generic generic_fits with_declared IsKnown nothing_more more_twice visibility.generic (λ (s : Sight). count_of visibility.is_generic s.region) make
     (λ i counts. static_default_fits i c.value ≡ true)
     (λ i counts sight n ok k. single i counts sight n k)
     (λ i counts n ok. ok)
     (λ i counts n ok. static_default_more i (record i { generics = suc i.generics }) (more_generics i counts).numbers c.value ok)
-    (λ sight n. one_more m.is_generic sight.region (declare n (m.generic (count_of m.is_generic sight.region))) refl)
+    (λ sight n. one_more visibility.is_generic sight.region (declare n (visibility.generic (count_of visibility.is_generic sight.region))) refl)
     (names_of g.names) i counts sight (any_static_fits i counts sight g.default c.value h.inside c.is) h)
   where
     single : (i : Inside) (counts : Counts) (sight : Sight) (n : Name) → IsKnown i counts sight
-        → IsKnown (record i { generics = suc i.generics }) counts (with_declared sight (declare n (m.generic (count_of m.is_generic sight.region)) ∷ []))
+        → IsKnown (record i { generics = suc i.generics }) counts (with_declared sight (declare n (visibility.generic (count_of visibility.is_generic sight.region)) ∷ []))
     single i counts sight n k =
-        let d : Declared = declare n (m.generic (count_of m.is_generic sight.region)) in
-        let e : count_of m.is_generic sight.region ≡ i.generics = k.generics in
+        let d : Declared = declare n (visibility.generic (count_of visibility.is_generic sight.region)) in
+        let e : count_of visibility.is_generic sight.region ≡ i.generics = k.generics in
         record {
           inside =
               inside_with (record i { generics = suc i.generics }) counts sight (d ∷ [])
               (inside_more i (record i { generics = suc i.generics }) counts counts sight (more_generics i counts) refl refl k.inside)
-              (lt-ltb (count_of m.is_generic sight.region) (suc i.generics) (omega (arith, e)), tt);
-          generics = one_more m.is_generic sight.region d refl ∙ ap suc k.generics;
-          integers = none_more m.is_integer_constant sight.region d refl ∙ k.integers;
-          constants = none_more m.is_constant sight.region d refl ∙ k.constants;
-          ports = none_more m.is_port sight.region d refl ∙ k.ports;
-          signals = none_more m.is_signal sight.region d refl ∙ k.signals;
-          enumerations = none_more m.is_enumeration_type sight.region d refl ∙ k.enumerations;
-          generic_names = one_name sight.region n (count_of m.is_generic sight.region) i.generics k.generic_names;
+              (lt-ltb (count_of visibility.is_generic sight.region) (suc i.generics) (omega (arith, e)), tt);
+          generics = one_more visibility.is_generic sight.region d refl ∙ ap suc k.generics;
+          integers = none_more visibility.is_integer_constant sight.region d refl ∙ k.integers;
+          constants = none_more visibility.is_constant sight.region d refl ∙ k.constants;
+          ports = none_more visibility.is_port sight.region d refl ∙ k.ports;
+          signals = none_more visibility.is_signal sight.region d refl ∙ k.signals;
+          enumerations = none_more visibility.is_enumeration_type sight.region d refl ∙ k.enumerations;
+          generic_names = one_name sight.region n (count_of visibility.is_generic sight.region) i.generics k.generic_names;
           formals = same_formals sight.region (d ∷ []) i.ports refl k.formals;
         }
 
@@ -101,7 +101,7 @@ more_ports i counts p = record {
   counts = keeps_all counts;
 }
 
-pub elements_kind : (type : ObjectType) (kind : Kind) → as_kind type ≡ Some kind → type_shape type ≡ kind_shape kind
+pub elements_kind : (type : ObjectType) (kind : ElementKind) → as_kind type ≡ Some kind → type_shape type ≡ kind_shape kind
 elements_kind (Elements k) kind q = ap kind_shape (some_same k kind q)
 elements_kind (Enumeration e count) kind q = absurd cc
 
@@ -116,28 +116,28 @@ port_step i counts sight p x h q =
     let shape = f.shape ∙ elements_kind a.value.type b.value b.is in
     let make : Name → u.Port = λ n. record { mode = mode_of p.mode; object = object a.value c.value n } in
     subst (r.Step with_port port_is with_declared IsKnown i sight) (some_same _ x c.rest)
-    (r.names_step with_port port_is with_declared IsKnown nothing_more more_twice (λ k. m.port k (mode_of p.mode) b.value) (λ (s : Sight). count_of m.is_port s.region) make
+    (r.names_step with_port port_is with_declared IsKnown nothing_more more_twice (λ k. visibility.port k (mode_of p.mode) b.value) (λ (s : Sight). count_of visibility.is_port s.region) make
     (λ i counts. object_fits i (object a.value c.value []) ≡ true)
     (λ i counts sight n ok k. single i counts sight n (make n) (mode_of p.mode) b.value refl refl shape k)
     (λ i counts n ok. and_from (object_fits i (object a.value c.value n)) (is_elements (shape_of a.value.form)) ok (ap is_elements shape ∙ shape_elements b.value))
     (λ i counts n ok. object_more i (with_port i (make n)) (more_ports i counts (make n)).numbers (keeps_all i.constants) (object a.value c.value []) ok)
-    (λ sight n. one_more m.is_port sight.region (declare n (m.port (count_of m.is_port sight.region) (mode_of p.mode) b.value)) refl)
+    (λ sight n. one_more visibility.is_port sight.region (declare n (visibility.port (count_of visibility.is_port sight.region) (mode_of p.mode) b.value)) refl)
     (names_of p.names) i counts sight (object_is i counts sight a.value p.default c.value h.inside f c.is) h)
   where
-    single : (i : Inside) (counts : Counts) (sight : Sight) (n : Name) (p : u.Port) (mode : Mode) (kind : Kind) → p.object.name ≡ n → p.mode ≡ mode → shape_of p.object.form ≡ kind_shape kind → IsKnown i counts sight
-        → IsKnown (with_port i p) counts (with_declared sight (declare n (m.port (count_of m.is_port sight.region) mode kind) ∷ []))
+    single : (i : Inside) (counts : Counts) (sight : Sight) (n : Name) (p : u.Port) (mode : Mode) (kind : ElementKind) → p.object.name ≡ n → p.mode ≡ mode → shape_of p.object.form ≡ kind_shape kind → IsKnown i counts sight
+        → IsKnown (with_port i p) counts (with_declared sight (declare n (visibility.port (count_of visibility.is_port sight.region) mode kind) ∷ []))
     single i counts sight n p mode kind same e s k =
-        let d : Declared = declare n (m.port (count_of m.is_port sight.region) mode kind) in
+        let d : Declared = declare n (visibility.port (count_of visibility.is_port sight.region) mode kind) in
         record {
           inside =
               inside_with (with_port i p) counts sight (d ∷ []) (inside_more i (with_port i p) counts counts sight (more_ports i counts p) refl refl k.inside)
               (record { port = p; at = ap (slice_get (i.ports ++ p ∷ [])) k.ports ∙ get_last i.ports p; mode_is = e; shape = s }, tt);
-          generics = none_more m.is_generic sight.region d refl ∙ k.generics;
-          integers = none_more m.is_integer_constant sight.region d refl ∙ k.integers;
-          constants = none_more m.is_constant sight.region d refl ∙ k.constants;
-          ports = one_more m.is_port sight.region d refl ∙ (ap suc k.ports ∙ sym (one_longer i.ports p));
-          signals = none_more m.is_signal sight.region d refl ∙ k.signals;
-          enumerations = none_more m.is_enumeration_type sight.region d refl ∙ k.enumerations;
+          generics = none_more visibility.is_generic sight.region d refl ∙ k.generics;
+          integers = none_more visibility.is_integer_constant sight.region d refl ∙ k.integers;
+          constants = none_more visibility.is_constant sight.region d refl ∙ k.constants;
+          ports = one_more visibility.is_port sight.region d refl ∙ (ap suc k.ports ∙ sym (one_longer i.ports p));
+          signals = none_more visibility.is_signal sight.region d refl ∙ k.signals;
+          enumerations = none_more visibility.is_enumeration_type sight.region d refl ∙ k.enumerations;
           generic_names = same_names sight.region (d ∷ []) i.generics refl k.generic_names;
           formals = one_formal sight.region d (record { name = n; mode = mode; kind = kind }) i.ports p refl k.formals (record { name = same; mode = e; shape = s });
         }

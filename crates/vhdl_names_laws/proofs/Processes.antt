@@ -6,17 +6,17 @@ use Rattle.std.proofs.lemmas.Bool.{and_parts, and_from}
 use Rattle.vhdl_tree.specs.Tree as t
 use Rattle.vhdl_tree.specs.Tree.{Ident}
 use Rattle.vhdl_names_rules.specs.declared.kind.ObjectType.{ObjectType}
-use Rattle.vhdl_names_rules.specs.units.Expressions.{Place, Value}
+use Rattle.vhdl_names_rules.specs.units.Expressions.{SignalPart, Value}
 use Rattle.vhdl_names_rules.specs.units.Statements as s
 use Rattle.vhdl_names_rules.specs.units.Units as u
 use Rattle.vhdl_names_rules.specs.units.Units.{Form}
 use Rattle.vhdl_names_rules.specs.Rules.{each, if_any}
-use Rattle.vhdl_names_rules.specs.Visibility as m
+use Rattle.vhdl_names_rules.specs.Visibility as visibility
 use Rattle.vhdl_names_rules.specs.Visibility.{Name, Meaning, Declared, declare, names_of, count_of, are_distinct, label_ends, Sight, with_variables, Declares}
 use Rattle.vhdl_names_rules.specs.Subtypes.{subtype, fixed_value, object}
 use Rattle.vhdl_names_rules.specs.Declarations.{in_order, within_variables, variables}
 use Rattle.vhdl_names_rules.specs.Interfaces.{declared_names}
-use Rattle.vhdl_names_rules.specs.Expressions.{typed, condition, given}
+use Rattle.vhdl_names_rules.specs.Expressions.{typed, condition, value_given}
 use Rattle.vhdl_names_rules.specs.Choices.{covered, selector, arranged}
 use Rattle.vhdl_names_rules.specs.Statements.{SignalName, signal, target, statements, statement_labels}
 use Rattle.vhdl_names_rules.specs.Concurrent.{assigning, assigned, alone, last_branch, branches, assignment_body, assignment, selected, sensitivity, process}
@@ -41,7 +41,7 @@ use Rattle.vhdl_names_rules.proofs.laws.Rules.{comes, kept}
 -- what is in sight within a process, up to some variable
 pub record HasVariables (i : Inside) (counts : Counts) (sight : Sight) : Type 0 where
   pub inside : IsInside i counts sight
-  pub variables : count_of m.is_variable sight.variables ≡ length i.variables
+  pub variables : count_of visibility.is_variable sight.variables ≡ length i.variables
 
 abbrev pub with_variable : Inside → u.Object → Inside
 with_variable i o = record i { variables = i.variables ++ o.form ∷ [] }
@@ -71,24 +71,24 @@ variables_step i counts sight d x h q =
     let c = comes (if_any (fixed_value (within_variables sight d.names) a.value.type) d.default) _ x a.rest in
     let f = subtype_fits i counts (within_variables sight d.names) d.subtype a.value in' a.is in
     subst (r.Step with_variable object_fits with_variables HasVariables i sight) (some_same _ x c.rest)
-    (r.names_step with_variable object_fits with_variables HasVariables no_more more_twice (λ k. m.variable k a.value.type) (λ (s : Sight). count_of m.is_variable s.variables) (object a.value c.value)
+    (r.names_step with_variable object_fits with_variables HasVariables no_more more_twice (λ k. visibility.variable k a.value.type) (λ (s : Sight). count_of visibility.is_variable s.variables) (object a.value c.value)
     (λ i counts. (object_fits i (object a.value c.value []) ≡ true) × IsCounted counts a.value.type)
     (λ i counts sight n ok k. single i counts sight n a.value.form a.value.type f.shape ok.1 k)
     (λ i counts n ok. ok.0)
     (λ i counts n ok. (object_more i (record i { variables = i.variables ++ a.value.form ∷ [] }) (more_variables i counts a.value.form).numbers (keeps_all i.constants) (object a.value c.value []) ok.0, ok.1))
-    (λ sight n. one_more m.is_variable sight.variables (declare n (m.variable (count_of m.is_variable sight.variables) a.value.type)) refl)
+    (λ sight n. one_more visibility.is_variable sight.variables (declare n (visibility.variable (count_of visibility.is_variable sight.variables) a.value.type)) refl)
     (names_of d.names) i counts sight (object_is i counts (within_variables sight d.names) a.value d.default c.value in' f c.is, f.counted) h)
   where
     single : (i : Inside) (counts : Counts) (sight : Sight) (n : Name) (form : Form) (type : ObjectType) → shape_of form ≡ type_shape type → IsCounted counts type → HasVariables i counts sight
-        → HasVariables (record i { variables = i.variables ++ form ∷ [] }) counts (with_variables sight (declare n (m.variable (count_of m.is_variable sight.variables) type) ∷ []))
+        → HasVariables (record i { variables = i.variables ++ form ∷ [] }) counts (with_variables sight (declare n (visibility.variable (count_of visibility.is_variable sight.variables) type) ∷ []))
     single i counts sight n form type s c k =
-        let d : Declared = declare n (m.variable (count_of m.is_variable sight.variables) type) in
+        let d : Declared = declare n (visibility.variable (count_of visibility.is_variable sight.variables) type) in
         let j : Inside = record i { variables = i.variables ++ form ∷ [] } in
         record {
           inside =
               inside_variables j counts sight (d ∷ []) (inside_more i j counts counts sight (more_variables i counts form) refl refl k.inside)
-              (last_form counts type form i.variables (count_of m.is_variable sight.variables) k.variables s c, tt);
-          variables = one_more m.is_variable sight.variables d refl ∙ (ap suc k.variables ∙ sym (one_longer i.variables form));
+              (last_form counts type form i.variables (count_of visibility.is_variable sight.variables) k.variables s c, tt);
+          variables = one_more visibility.is_variable sight.variables d refl ∙ (ap suc k.variables ∙ sym (one_longer i.variables form));
         }
 
 -- each fits also without the others
@@ -120,7 +120,7 @@ sensitivity_is : (i : Inside) (counts : Counts) (sight : Sight) (w : t.Sensitivi
 sensitivity_is i counts sight t.absent x h q = absurd cc
 sensitivity_is i counts sight t.every x h q = subst (λ x. sensitivity_fits i x ≡ true) (some_same u.every x q) refl
 sensitivity_is i counts sight (t.listed ns) x h q =
-    let place : SignalName → Place = λ x. x.place in
+    let place : SignalName → SignalPart = λ x. x.place in
     let a = mapped (λ xs. u.listed (map place xs)) (each (signal sight) ns) x q in
     subst (λ x. sensitivity_fits i x ≡ true) a.is
     (mapped_all place (λ p. is_some (place_shape i p)) a.value
@@ -149,7 +149,7 @@ variables_are : (i : Inside) (counts : Counts) (sight : Sight) (ds : List t.Vari
 variables_are i counts sight ds vs h q =
     r.steps with_variable object_fits with_variables HasVariables no_more more_twice (λ (d : t.Variables). Unit {0}) variables
     (λ i counts sight d x u k g. variables_step i counts sight d x k g) ds (all_any ds) i counts sight vs
-    (record { inside = h.inside; variables = ap (count_of m.is_variable) h.none_in_sight ∙ sym (ap length h.no_variables) }) q
+    (record { inside = h.inside; variables = ap (count_of visibility.is_variable) h.none_in_sight ∙ sym (ap length h.no_variables) }) q
 
 pub process_is : (i : Inside) (counts : Counts) (sight : Sight) (label : Option Ident) (p : t.Process) (x : u.Process) → IsOutside i counts sight → process sight label p ≡ Some x
     → process_fits i x ≡ true
@@ -180,7 +180,7 @@ assigning_fits units i label x e h = body_alone i (s.step x s.done) e (and_from 
 assigned_is : (i : Inside) (counts : Counts) (sight : Sight) (x : SignalName) (v : t.Value) (y : s.Statement) → IsInside i counts sight → TargetFits i counts x → assigned sight x v ≡ Some y
     → statement_fits i y ≡ true
 assigned_is i counts sight x v y h f q =
-    let g = comes (given sight x.type v) _ y q in
+    let g = comes (value_given sight x.type v) _ y q in
     subst (λ y. statement_fits i y ≡ true) (some_same _ y g.rest) (assigned_fits i counts x g.value f (given_is i counts sight x.type v g.value h f.fits.counted g.is))
 
 alone_is : (i : Inside) (y : s.Statement) → statement_fits i y ≡ true → statements_fit i (alone y) ≡ true
@@ -210,10 +210,10 @@ branches_are i counts sight x (b ∷ bs) o y h f q =
     (branches_are i counts sight x bs o d.value h f d.is))
 
 chosen_is : (i : Inside) (counts : Counts) (sight : Sight) (x : SignalName) (bs : List t.Branch) (o : Option t.Value) (y : s.Statement) → IsInside i counts sight → TargetFits i counts x
-    → option_map s.choose (branches sight x bs o) ≡ Some y → statement_fits i y ≡ true
+    → option_map s.if_of (branches sight x bs o) ≡ Some y → statement_fits i y ≡ true
 unfolding statement_fits
 chosen_is i counts sight x bs o y h f q =
-    let a = mapped s.choose (branches sight x bs o) y q in
+    let a = mapped s.if_of (branches sight x bs o) y q in
     subst (λ y. statement_fits i y ≡ true) a.is (branches_are i counts sight x bs o a.value h f a.from)
 
 body_is : (i : Inside) (counts : Counts) (sight : Sight) (x : SignalName) (bs : List t.Branch) (o : Option t.Value) (y : s.Statement) → IsInside i counts sight → TargetFits i counts x
@@ -231,7 +231,7 @@ assignment_is units i counts sight a x h q =
     subst (λ x. concurrent_fits units i x ≡ true) (some_same _ x c.rest)
     (assigning_fits units i a.label c.value h.no_variables (body_is i counts sight b.value a.branches a.otherwise c.value h.inside (target_fits i counts sight a.target b.value h.inside b.is) c.is))
 
-select_is : (i : Inside) (by : Value) (alts : s.Alternatives) → selector_fits i by ≡ true → alternatives_fit i (value_shape i by) alts ≡ true → statement_fits i (s.select by alts) ≡ true
+select_is : (i : Inside) (by : Value) (alts : s.Alternatives) → selector_fits i by ≡ true → alternatives_fit i (value_shape i by) alts ≡ true → statement_fits i (s.case_of by alts) ≡ true
 unfolding statement_fits
 select_is i by alts h k = and_from (selector_fits i by) (alternatives_fit i (value_shape i by) alts) h k
 
@@ -248,7 +248,7 @@ selected_is units i counts sight label a x h q =
     let f = selector_is i counts e.value by.value (typed_fits a.selector i counts sight e.value h.inside e.is) by.is in
     let g = target_fits i counts sight a.target to.value h.inside to.is in
     subst (λ x. concurrent_fits units i x ≡ true) (some_same _ x all.rest)
-    (assigning_fits units i label (s.select by.value.1 all.value) h.no_variables
+    (assigning_fits units i label (s.case_of by.value.1 all.value) h.no_variables
     (select_is i by.value.1 all.value f.fits
     (arranged_fits i (value_shape i by.value.1) css.value bodies.value all.value
     (covered_fits i counts sight h.inside (value_shape i by.value.1) by.value.0 f.selects f.counted (map (λ (w : t.Waveform). w.choices) a.waveforms) css.value css.is)

@@ -5,8 +5,8 @@ use Rattle.std.specs.List.{AllByRecursion}
 use Rattle.std.specs.Char.{to_ascii_lowercase}
 use Rattle.std.proofs.lemmas.List.{length-map, length-take, length-drop}
 use Rattle.std.proofs.lemmas.Str.Ascii.{lowercase-lowercase}
-use Rattle.vhdl_lexer.specs.declared.token.Kind.{Kind}
-use Rattle.vhdl_lexer.specs.declared.token.Kind.TheVariants as k
+use Rattle.vhdl_lexer.specs.declared.token.TokenKind.{TokenKind}
+use Rattle.vhdl_lexer.specs.declared.token.TokenKind.TheVariants as k
 use Rattle.vhdl_lexer.specs.declared.token.Token.{Token}
 use Rattle.vhdl_lexer.specs.Cut.{IsElement, Cuts, AreWithin}
 use Rattle.vhdl_tree.specs.Lexeme.{same_kind, Lexeme, text_of, lexeme, lexemes}
@@ -36,7 +36,7 @@ spelled_words (x ∷ ps) (l ∷ ls) h g = (piece_is x l h.0 g.0, spelled_words p
 -- ---- tokens
 
 -- no lexical element is empty
-is_some_text : (before : Option Kind) (kind : Kind) (slice rest : List ℕ) → IsElement before kind slice rest → 0 < length slice
+is_some_text : (before : Option TokenKind) (kind : TokenKind) (slice rest : List ℕ) → IsElement before kind slice rest → 0 < length slice
 is_some_text before kind (b ∷ slice) rest h = omega arith
 is_some_text before kind [] rest (inl w) = absurd (cc (w.0))
 is_some_text before kind [] rest (inr (inl n)) = absurd (cc (n.0))
@@ -74,7 +74,7 @@ lexeme_is source t h g e =
     let bytes = slice_range source t.start t.end in
     subst IsWord (sym (ap (λ kind. text_of kind bytes) e ∙ identifier_text bytes)) (small_word bytes (slice_length source t.start t.end h g))
 
-tokens_are : (ts : List Token) (source : List ℕ) (before : Option Kind) (at : ℕ) (text : List ℕ) → Cuts before at text ts → AreWithin source ts → AllByRecursion LexemeIsWord (lexemes source ts)
+tokens_are : (ts : List Token) (source : List ℕ) (before : Option TokenKind) (at : ℕ) (text : List ℕ) → Cuts before at text ts → AreWithin source ts → AllByRecursion LexemeIsWord (lexemes source ts)
 tokens_are [] source before at text c w = tt
 tokens_are (t ∷ ts) source before at text c w =
     let n = c.1 in

@@ -7,17 +7,17 @@ use Rattle.vhdl_tree.specs.declared.declaration.Mode.{Mode}
 use Rattle.vhdl_tree.specs.declared.declaration.Mode.TheVariants.{In, Out}
 use Rattle.vhdl_tree.specs.Tree as t
 use Rattle.vhdl_tree.specs.Tree.{Ident, Expr}
-use Rattle.vhdl_names_rules.specs.declared.kind.Kind.{Kind}
+use Rattle.vhdl_names_rules.specs.declared.kind.ElementKind.{ElementKind}
 use Rattle.vhdl_names_rules.specs.declared.kind.ObjectType.{ObjectType}
 use Rattle.vhdl_names_rules.specs.declared.kind.ObjectType.TheVariants.{Elements}
 use Rattle.vhdl_names_rules.specs.units.Expressions as e
-use Rattle.vhdl_names_rules.specs.units.Expressions.{Part, Place, Signal, Value}
+use Rattle.vhdl_names_rules.specs.units.Expressions.{Part, SignalPart, Signal, Value}
 use Rattle.vhdl_names_rules.specs.units.Statements as s
 use Rattle.vhdl_names_rules.specs.Rules.{◌>>=◌}
-use Rattle.vhdl_names_rules.specs.Visibility as m
+use Rattle.vhdl_names_rules.specs.Visibility as visibility
 use Rattle.vhdl_names_rules.specs.Visibility.{Meaning, Sight, meaning, label_ends}
 use Rattle.vhdl_names_rules.specs.Names.{Suffix, part_of}
-use Rattle.vhdl_names_rules.specs.Expressions.{typed, typed_suffix, static_range, condition, given}
+use Rattle.vhdl_names_rules.specs.Expressions.{typed, typed_suffix, static_range, condition, value_given}
 use Rattle.vhdl_names_rules.specs.Choices.{covered, selector, arranged}
 use Rattle.vhdl_names_rules.specs.Statements.{SignalName, named_part, as_signal, signal, is_input, target, VariableName, as_variable, variable, choice_lists, statement, statements, conditionals, otherwise, alternatives}
 use Rattle.vhdl_names_rules.specs.sound.Expressions.{Inside, Shape, range_fits, part_shape, port_form, place_shape, value_shape, test_fits}
@@ -40,14 +40,14 @@ pub record SignalFits (i : Inside) (counts : Counts) (x : SignalName) : Type 0 w
   pub counted : IsCounted counts x.type
   pub driven : is_input x.mode ≡ false → is_driven i x.place.signal ≡ true
 
-out_port : (i : Inside) (k : ℕ) (mode : Mode) (kind : Kind) → IsPort i.ports k mode kind → is_input (Some mode) ≡ false → is_driven i (e.port k) ≡ true
+out_port : (i : Inside) (k : ℕ) (mode : Mode) (kind : ElementKind) → IsPort i.ports k mode kind → is_input (Some mode) ≡ false → is_driven i (e.port k) ≡ true
 out_port i k In kind h n = absurd cc
 out_port i k Out kind h n =
     ap is_out h.at ∙ ap (λ mode. is_out (Some (record { mode = mode; object = h.port.object }))) h.mode_is
 
 as_signal_fits : (i : Inside) (counts : Counts) (d : Meaning) (suffix : Suffix) (x : SignalName) → MeaningFits i counts d → SuffixFits i counts suffix
     → as_signal d suffix ≡ Some x → SignalFits i counts x
-as_signal_fits i counts (m.port k mode kind) suffix x h f q =
+as_signal_fits i counts (visibility.port k mode kind) suffix x h f q =
     let a = mapped (named_part (e.port k) (Some mode)) (part_of (Elements kind) suffix) x q in
     let p = part_of_fits i counts (port_form h.port) (Elements kind) suffix a.value h.shape tt f a.from in
     subst (SignalFits i counts) a.is (record {
@@ -55,7 +55,7 @@ as_signal_fits i counts (m.port k mode kind) suffix x h f q =
       counted = p.1;
       driven = λ n. out_port i k mode kind h n;
     })
-as_signal_fits i counts (m.signal k type) suffix x h f q =
+as_signal_fits i counts (visibility.signal k type) suffix x h f q =
     let a = mapped (named_part (e.Signal.signal k) None) (part_of type suffix) x q in
     let g = the_form i counts type (slice_get i.signals k) h in
     let p = part_of_fits i counts g.0 type suffix a.value g.2 h.counted f a.from in
@@ -64,21 +64,21 @@ as_signal_fits i counts (m.signal k type) suffix x h f q =
       counted = p.1;
       driven = λ n. refl;
     })
-as_signal_fits i counts (m.generic k) suffix x h f q = absurd cc
-as_signal_fits i counts (m.integer_constant k) suffix x h f q = absurd cc
-as_signal_fits i counts (m.generate_parameter k) suffix x h f q = absurd cc
-as_signal_fits i counts (m.loop_parameter k) suffix x h f q = absurd cc
-as_signal_fits i counts (m.variable k type) suffix x h f q = absurd cc
-as_signal_fits i counts (m.constant k kind vs) suffix x h f q = absurd cc
-as_signal_fits i counts (m.literal n count p) suffix x h f q = absurd cc
-as_signal_fits i counts (m.integer_type y) suffix x h f q = absurd cc
-as_signal_fits i counts (m.element_type y) suffix x h f q = absurd cc
-as_signal_fits i counts (m.vector_type k y) suffix x h f q = absurd cc
-as_signal_fits i counts (m.enumeration_type n count) suffix x h f q = absurd cc
-as_signal_fits i counts (m.function y) suffix x h f q = absurd cc
-as_signal_fits i counts (m.component k) suffix x h f q = absurd cc
-as_signal_fits i counts m.label suffix x h f q = absurd cc
-as_signal_fits i counts m.unfinished suffix x h f q = absurd cc
+as_signal_fits i counts (visibility.generic k) suffix x h f q = absurd cc
+as_signal_fits i counts (visibility.integer_constant k) suffix x h f q = absurd cc
+as_signal_fits i counts (visibility.generate_parameter k) suffix x h f q = absurd cc
+as_signal_fits i counts (visibility.loop_parameter k) suffix x h f q = absurd cc
+as_signal_fits i counts (visibility.variable k type) suffix x h f q = absurd cc
+as_signal_fits i counts (visibility.constant k kind vs) suffix x h f q = absurd cc
+as_signal_fits i counts (visibility.literal n count p) suffix x h f q = absurd cc
+as_signal_fits i counts (visibility.integer_type y) suffix x h f q = absurd cc
+as_signal_fits i counts (visibility.element_type y) suffix x h f q = absurd cc
+as_signal_fits i counts (visibility.vector_type k y) suffix x h f q = absurd cc
+as_signal_fits i counts (visibility.enumeration_type n count) suffix x h f q = absurd cc
+as_signal_fits i counts (visibility.function y) suffix x h f q = absurd cc
+as_signal_fits i counts (visibility.component k) suffix x h f q = absurd cc
+as_signal_fits i counts visibility.label suffix x h f q = absurd cc
+as_signal_fits i counts visibility.unfinished suffix x h f q = absurd cc
 
 pub signal_fits : (i : Inside) (counts : Counts) (sight : Sight) (n : t.Name) (x : SignalName) → IsInside i counts sight → signal sight n ≡ Some x → SignalFits i counts x
 unfolding signal
@@ -106,28 +106,28 @@ pub record VariableFits (i : Inside) (counts : Counts) (x : VariableName) : Type
 
 as_variable_fits : (i : Inside) (counts : Counts) (d : Meaning) (suffix : Suffix) (x : VariableName) → MeaningFits i counts d → SuffixFits i counts suffix
     → as_variable d suffix ≡ Some x → VariableFits i counts x
-as_variable_fits i counts (m.variable k type) suffix x h f q =
+as_variable_fits i counts (visibility.variable k type) suffix x h f q =
     let make : Part × ObjectType → VariableName = λ p. record { number = k; part = p.0; type = p.1 } in
     let a = mapped make (part_of type suffix) x q in
     let g = the_form i counts type (slice_get i.variables k) h in
     let p = part_of_fits i counts g.0 type suffix a.value g.2 h.counted f a.from in
     subst (VariableFits i counts) a.is (record { shape = ap (λ w. w >>= λ f. part_shape i f a.value.0) g.1 ∙ p.0; counted = p.1 })
-as_variable_fits i counts (m.port k mode kind) suffix x h f q = absurd cc
-as_variable_fits i counts (m.signal k type) suffix x h f q = absurd cc
-as_variable_fits i counts (m.generic k) suffix x h f q = absurd cc
-as_variable_fits i counts (m.integer_constant k) suffix x h f q = absurd cc
-as_variable_fits i counts (m.generate_parameter k) suffix x h f q = absurd cc
-as_variable_fits i counts (m.loop_parameter k) suffix x h f q = absurd cc
-as_variable_fits i counts (m.constant k kind vs) suffix x h f q = absurd cc
-as_variable_fits i counts (m.literal n count p) suffix x h f q = absurd cc
-as_variable_fits i counts (m.integer_type y) suffix x h f q = absurd cc
-as_variable_fits i counts (m.element_type y) suffix x h f q = absurd cc
-as_variable_fits i counts (m.vector_type k y) suffix x h f q = absurd cc
-as_variable_fits i counts (m.enumeration_type n count) suffix x h f q = absurd cc
-as_variable_fits i counts (m.function y) suffix x h f q = absurd cc
-as_variable_fits i counts (m.component k) suffix x h f q = absurd cc
-as_variable_fits i counts m.label suffix x h f q = absurd cc
-as_variable_fits i counts m.unfinished suffix x h f q = absurd cc
+as_variable_fits i counts (visibility.port k mode kind) suffix x h f q = absurd cc
+as_variable_fits i counts (visibility.signal k type) suffix x h f q = absurd cc
+as_variable_fits i counts (visibility.generic k) suffix x h f q = absurd cc
+as_variable_fits i counts (visibility.integer_constant k) suffix x h f q = absurd cc
+as_variable_fits i counts (visibility.generate_parameter k) suffix x h f q = absurd cc
+as_variable_fits i counts (visibility.loop_parameter k) suffix x h f q = absurd cc
+as_variable_fits i counts (visibility.constant k kind vs) suffix x h f q = absurd cc
+as_variable_fits i counts (visibility.literal n count p) suffix x h f q = absurd cc
+as_variable_fits i counts (visibility.integer_type y) suffix x h f q = absurd cc
+as_variable_fits i counts (visibility.element_type y) suffix x h f q = absurd cc
+as_variable_fits i counts (visibility.vector_type k y) suffix x h f q = absurd cc
+as_variable_fits i counts (visibility.enumeration_type n count) suffix x h f q = absurd cc
+as_variable_fits i counts (visibility.function y) suffix x h f q = absurd cc
+as_variable_fits i counts (visibility.component k) suffix x h f q = absurd cc
+as_variable_fits i counts visibility.label suffix x h f q = absurd cc
+as_variable_fits i counts visibility.unfinished suffix x h f q = absurd cc
 
 pub variable_fits : (i : Inside) (counts : Counts) (sight : Sight) (n : t.Name) (x : VariableName) → IsInside i counts sight → variable sight n ≡ Some x → VariableFits i counts x
 unfolding variable
@@ -149,7 +149,7 @@ more_loops i counts = record {
   counts = keeps_all counts;
 }
 
-inside_loop : (i : Inside) (counts : Counts) (sight : Sight) (n : Ident) → IsInside i counts sight → IsInside (w.within_loop i) counts (m.within_loop sight n)
+inside_loop : (i : Inside) (counts : Counts) (sight : Sight) (n : Ident) → IsInside i counts sight → IsInside (w.within_loop i) counts (visibility.within_loop sight n)
 inside_loop i counts sight n h =
     let same : length sight.loops ≡ i.loops = h.loop_count in
     record {
@@ -180,27 +180,27 @@ mutual
 
   pub statement_is : (y : t.Statement) (i : Inside) (counts : Counts) (sight : Sight) (label : Option Ident) (x : s.Statement) → IsInside i counts sight
       → statement sight label y ≡ Some x → statement_fits i x ≡ true
-  statement_is (t.nothing at) i counts sight label x h q = subst (λ x. statement_fits i x ≡ true) (some_same s.nothing x q) refl
+  statement_is (t.null_of at) i counts sight label x h q = subst (λ x. statement_fits i x ≡ true) (some_same s.null_of x q) refl
   statement_is (t.assigned n v) i counts sight label x h q =
       let a = comes (target sight n) _ x q in
-      let g = comes (given sight a.value.type v) _ x a.rest in
+      let g = comes (value_given sight a.value.type v) _ x a.rest in
       let f = target_fits i counts sight n a.value h a.is in
       subst (λ x. statement_fits i x ≡ true) (some_same _ x g.rest)
       (assigned_fits i counts a.value g.value f (given_is i counts sight a.value.type v g.value h f.fits.counted g.is))
   statement_is (t.variable_assigned n v) i counts sight label x h q =
       let a = comes (variable sight n) _ x q in
-      let g = comes (given sight a.value.type v) _ x a.rest in
+      let g = comes (value_given sight a.value.type v) _ x a.rest in
       let f = variable_fits i counts sight n a.value h a.is in
       subst (λ x. statement_fits i x ≡ true) (some_same _ x g.rest)
       (given_to i (slice_get i.variables a.value.number >>= λ f. part_shape i f a.value.part) (type_shape a.value.type) g.value f.shape
       (given_is i counts sight a.value.type v g.value h f.counted g.is))
-  statement_is (t.conditional at bs o end) i counts sight label x h q =
+  statement_is (t.if_of at bs o end) i counts sight label x h q =
       let a = kept (label_ends label end) _ x q in
       let b = comes (otherwise sight o) _ x a.1 in
       let c = comes (conditionals sight b.value bs) _ x b.rest in
       subst (λ x. statement_fits i x ≡ true) (some_same _ x c.rest)
       (conditionals_are bs i counts sight b.value c.value h (otherwise_is o i counts sight b.value h b.is) c.is)
-  statement_is (t.selection at d alts end) i counts sight label x h q =
+  statement_is (t.case_of at d alts end) i counts sight label x h q =
       let a = kept (label_ends label end) _ x q in
       let b = comes (typed sight d) _ x a.1 in
       let by = comes (selector b.value) _ x b.rest in
@@ -213,13 +213,13 @@ mutual
       (arranged_fits i (value_shape i by.value.1) css.value bodies.value all.value
       (covered_fits i counts sight h (value_shape i by.value.1) by.value.0 f.selects f.counted (choice_lists alts) css.value css.is)
       (alternatives_are alts i counts sight bodies.value h bodies.is) all.is))
-  statement_is (t.loop at n r body end) i counts sight label x h q =
+  statement_is (t.for_of at n r body end) i counts sight label x h q =
       let a = kept (label_ends label end) _ x q in
       let b = comes (static_range sight r) _ x a.1 in
-      let c = comes (statements (m.within_loop sight n) body) _ x b.rest in
+      let c = comes (statements (visibility.within_loop sight n) body) _ x b.rest in
       subst (λ x. statement_fits i x ≡ true) (some_same _ x c.rest)
       (and_from (range_fits i b.value) (statements_fit (w.within_loop i) c.value) (static_range_fits i counts sight r b.value h b.is)
-      (statements_are body (w.within_loop i) counts (m.within_loop sight n) c.value (inside_loop i counts sight n h) c.is))
+      (statements_are body (w.within_loop i) counts (visibility.within_loop sight n) c.value (inside_loop i counts sight n h) c.is))
 
   pub statements_are : (ys : t.Statements) (i : Inside) (counts : Counts) (sight : Sight) (xs : s.Statements) → IsInside i counts sight
       → statements sight ys ≡ Some xs → statements_fit i xs ≡ true

@@ -6,15 +6,15 @@ use Rattle.std.specs.Option.{option_map}
 use Rattle.std.specs.Str.{bytes_eq}
 use Rattle.std.proofs.lemmas.Bool.{and_parts, and_from, ltb-true, lt-ltb}
 use Rattle.vhdl_values.specs.declared.scalar.Nine.{Nine}
-use Rattle.vhdl_names_rules.specs.declared.kind.Kind.{Kind}
-use Rattle.vhdl_names_rules.specs.declared.kind.Kind.TheVariants.{Element, LogicVector, Unsigned, OpenVector}
+use Rattle.vhdl_names_rules.specs.declared.kind.ElementKind.{ElementKind}
+use Rattle.vhdl_names_rules.specs.declared.kind.ElementKind.TheVariants.{Element, LogicVector, Unsigned, OpenVector}
 use Rattle.vhdl_names_rules.specs.declared.kind.ObjectType.{ObjectType}
 use Rattle.vhdl_names_rules.specs.declared.kind.ObjectType.TheVariants.{Elements, Enumeration}
 use Rattle.vhdl_names_rules.specs.units.Expressions as e
 use Rattle.vhdl_names_rules.specs.units.Expressions.{Static, Range, StaticTest}
 use Rattle.vhdl_names_rules.specs.units.Units as u
 use Rattle.vhdl_names_rules.specs.units.Units.{Form}
-use Rattle.vhdl_names_rules.specs.Visibility as m
+use Rattle.vhdl_names_rules.specs.Visibility as visibility
 use Rattle.vhdl_names_rules.specs.Visibility.{Name, Meaning, Declared, declare, Sight, in_sight, meaning}
 use Rattle.vhdl_names_rules.specs.sound.Expressions.{Inside, shape_of, static_fits, range_fits}
 use Rattle.vhdl_names_rules.specs.sound.Units.{fixed_fits}
@@ -82,7 +82,7 @@ range_more i j h r t =
     and_from (static_fits j r.left) (static_fits j r.right) (static_more i j h r.left b.0) (static_more i j h r.right b.1)
 
 -- whether a literal has a kind doesn't hang on what is inside
-literal_more : (i j : Inside) (kind : Kind) (vs : List Nine) → fixed_fits i (kind_shape kind) (u.Fixed.literal vs) ≡ true → fixed_fits j (kind_shape kind) (u.Fixed.literal vs) ≡ true
+literal_more : (i j : Inside) (kind : ElementKind) (vs : List Nine) → fixed_fits i (kind_shape kind) (u.Fixed.literal vs) ≡ true → fixed_fits j (kind_shape kind) (u.Fixed.literal vs) ≡ true
 literal_more i j Element [] t = t
 literal_more i j Element (x ∷ []) t = t
 literal_more i j Element (x ∷ y ∷ ys) t = t
@@ -93,7 +93,7 @@ literal_more i j Unsigned (x ∷ xs) t = t
 literal_more i j OpenVector [] t = t
 literal_more i j OpenVector (x ∷ xs) t = t
 
-pub literal_of_more : (i j : Inside) (kind : Kind) (vs : Option (List Nine)) → IsLiteralOf i kind vs → IsLiteralOf j kind vs
+pub literal_of_more : (i j : Inside) (kind : ElementKind) (vs : Option (List Nine)) → IsLiteralOf i kind vs → IsLiteralOf j kind vs
 literal_of_more i j kind None h = tt
 literal_of_more i j kind (Some vs) h = literal_more i j kind vs h
 
@@ -110,24 +110,24 @@ form_more counts more type fs gs k c f h = record { shape = by (slice_get fs k) 
     counted (Enumeration n count) t = c n count t
 
 pub meaning_more : (i j : Inside) (counts more : Counts) → HasMore i j counts more → (d : Meaning) → MeaningFits i counts d → MeaningFits j more d
-meaning_more i j counts more h (m.generic k) f = below k i.generics j.generics h.numbers.generics f
-meaning_more i j counts more h (m.integer_constant k) f = below k i.integers j.integers h.numbers.integers f
-meaning_more i j counts more h (m.generate_parameter k) f = below k i.generates j.generates h.numbers.generates f
-meaning_more i j counts more h (m.loop_parameter k) f = below k i.loops j.loops h.numbers.loops f
-meaning_more i j counts more h (m.port k mode kind) f = record { port = f.port; at = h.ports k f.port f.at; mode_is = f.mode_is; shape = f.shape }
-meaning_more i j counts more h (m.signal k type) f = form_more counts more type i.signals j.signals k h.counts h.signals f
-meaning_more i j counts more h (m.variable k type) f = form_more counts more type i.variables j.variables k h.counts h.variables f
-meaning_more i j counts more h (m.constant k kind values) f =
+meaning_more i j counts more h (visibility.generic k) f = below k i.generics j.generics h.numbers.generics f
+meaning_more i j counts more h (visibility.integer_constant k) f = below k i.integers j.integers h.numbers.integers f
+meaning_more i j counts more h (visibility.generate_parameter k) f = below k i.generates j.generates h.numbers.generates f
+meaning_more i j counts more h (visibility.loop_parameter k) f = below k i.loops j.loops h.numbers.loops f
+meaning_more i j counts more h (visibility.port k mode kind) f = record { port = f.port; at = h.ports k f.port f.at; mode_is = f.mode_is; shape = f.shape }
+meaning_more i j counts more h (visibility.signal k type) f = form_more counts more type i.signals j.signals k h.counts h.signals f
+meaning_more i j counts more h (visibility.variable k type) f = form_more counts more type i.variables j.variables k h.counts h.variables f
+meaning_more i j counts more h (visibility.constant k kind values) f =
     (form_more counts more (Elements kind) i.constants j.constants k h.counts h.constants f.0, literal_of_more i j kind values f.1)
-meaning_more i j counts more h (m.literal n count p) f = (f.0, h.counts n count f.1)
-meaning_more i j counts more h (m.vector_type kind r) f = f
-meaning_more i j counts more h (m.enumeration_type n count) f = (f.0, h.counts n count f.1)
-meaning_more i j counts more h (m.integer_type w) f = tt
-meaning_more i j counts more h (m.element_type r) f = tt
-meaning_more i j counts more h (m.function g) f = tt
-meaning_more i j counts more h (m.component k) f = tt
-meaning_more i j counts more h m.label f = tt
-meaning_more i j counts more h m.unfinished f = tt
+meaning_more i j counts more h (visibility.literal n count p) f = (f.0, h.counts n count f.1)
+meaning_more i j counts more h (visibility.vector_type kind r) f = f
+meaning_more i j counts more h (visibility.enumeration_type n count) f = (f.0, h.counts n count f.1)
+meaning_more i j counts more h (visibility.integer_type w) f = tt
+meaning_more i j counts more h (visibility.element_type r) f = tt
+meaning_more i j counts more h (visibility.function g) f = tt
+meaning_more i j counts more h (visibility.component k) f = tt
+meaning_more i j counts more h visibility.label f = tt
+meaning_more i j counts more h visibility.unfinished f = tt
 
 pub all_more : (i j : Inside) (counts more : Counts) → HasMore i j counts more → (ds : List Declared) → AllFit i counts ds → AllFit j more ds
 all_more i j counts more h ds a = each_weaker (λ (d : Declared). MeaningFits i counts d.meaning) (λ (d : Declared). MeaningFits j more d.meaning) (λ d. meaning_more i j counts more h d.meaning) ds a

@@ -6,8 +6,8 @@ use Rattle.std.specs.Option.{option_map}
 use Rattle.std.proofs.lemmas.Bool.{and_parts, and_from}
 use Rattle.vhdl_tree.specs.Tree as t
 use Rattle.vhdl_tree.specs.Tree.{Expr}
-use Rattle.vhdl_names_rules.specs.declared.kind.Kind.{Kind}
-use Rattle.vhdl_names_rules.specs.declared.kind.Kind.TheVariants.{Element, LogicVector, Unsigned, OpenVector}
+use Rattle.vhdl_names_rules.specs.declared.kind.ElementKind.{ElementKind}
+use Rattle.vhdl_names_rules.specs.declared.kind.ElementKind.TheVariants.{Element, LogicVector, Unsigned, OpenVector}
 use Rattle.vhdl_names_rules.specs.declared.kind.ObjectType.{ObjectType}
 use Rattle.vhdl_names_rules.specs.declared.kind.ObjectType.TheVariants.{Elements, Enumeration}
 use Rattle.vhdl_names_rules.specs.declared.kind.Function.TheVariants.{EdgeCall, Resize, ShiftLeft, ShiftRight, ToUnsigned}
@@ -15,7 +15,7 @@ use Rattle.vhdl_names_rules.specs.units.Expressions.{Static, Range}
 use Rattle.vhdl_names_rules.specs.units.Units as u
 use Rattle.vhdl_names_rules.specs.units.Units.{Form, Fixed}
 use Rattle.vhdl_names_rules.specs.Rules.{if_any}
-use Rattle.vhdl_names_rules.specs.Visibility as m
+use Rattle.vhdl_names_rules.specs.Visibility as visibility
 use Rattle.vhdl_names_rules.specs.Visibility.{Meaning, Sight, meaning}
 use Rattle.vhdl_names_rules.specs.Literals.{nine_of}
 use Rattle.vhdl_names_rules.specs.Operators as o
@@ -95,29 +95,29 @@ RangeFits i None = Unit {0}
 RangeFits i (Some r) = range_fits i r ≡ true
 
 marked_fits : (i : Inside) (counts : Counts) (d : Meaning) (r : Option Range) (s : Subtype) → MeaningFits i counts d → RangeFits i r → marked d r ≡ Some s → SubtypeFits i counts s
-marked_fits i counts (m.element_type b) None s h f q =
+marked_fits i counts (visibility.element_type b) None s h f q =
     subst (SubtypeFits i counts) (some_same _ s q) (record { form = refl; resolved = refl; shape = refl; counted = tt })
-marked_fits i counts (m.vector_type k b) (Some r) s h f q =
+marked_fits i counts (visibility.vector_type k b) (Some r) s h f q =
     subst (SubtypeFits i counts) (some_same _ s q) (record { form = f; resolved = refl; shape = sym h; counted = tt })
-marked_fits i counts (m.enumeration_type n count) None s h f q =
+marked_fits i counts (visibility.enumeration_type n count) None s h f q =
     subst (SubtypeFits i counts) (some_same _ s q) (record { form = h.0; resolved = refl; shape = refl; counted = h.1 })
-marked_fits i counts (m.element_type b) (Some r) s h f q = absurd cc
-marked_fits i counts (m.vector_type k b) None s h f q = absurd cc
-marked_fits i counts (m.enumeration_type n count) (Some r) s h f q = absurd cc
-marked_fits i counts (m.generic k) r s h f q = absurd cc
-marked_fits i counts (m.integer_constant k) r s h f q = absurd cc
-marked_fits i counts (m.generate_parameter k) r s h f q = absurd cc
-marked_fits i counts (m.loop_parameter k) r s h f q = absurd cc
-marked_fits i counts (m.port k mode kind) r s h f q = absurd cc
-marked_fits i counts (m.signal k type) r s h f q = absurd cc
-marked_fits i counts (m.variable k type) r s h f q = absurd cc
-marked_fits i counts (m.constant k kind vs) r s h f q = absurd cc
-marked_fits i counts (m.literal n count p) r s h f q = absurd cc
-marked_fits i counts (m.integer_type y) r s h f q = absurd cc
-marked_fits i counts (m.function y) r s h f q = absurd cc
-marked_fits i counts (m.component k) r s h f q = absurd cc
-marked_fits i counts m.label r s h f q = absurd cc
-marked_fits i counts m.unfinished r s h f q = absurd cc
+marked_fits i counts (visibility.element_type b) (Some r) s h f q = absurd cc
+marked_fits i counts (visibility.vector_type k b) None s h f q = absurd cc
+marked_fits i counts (visibility.enumeration_type n count) (Some r) s h f q = absurd cc
+marked_fits i counts (visibility.generic k) r s h f q = absurd cc
+marked_fits i counts (visibility.integer_constant k) r s h f q = absurd cc
+marked_fits i counts (visibility.generate_parameter k) r s h f q = absurd cc
+marked_fits i counts (visibility.loop_parameter k) r s h f q = absurd cc
+marked_fits i counts (visibility.port k mode kind) r s h f q = absurd cc
+marked_fits i counts (visibility.signal k type) r s h f q = absurd cc
+marked_fits i counts (visibility.variable k type) r s h f q = absurd cc
+marked_fits i counts (visibility.constant k kind vs) r s h f q = absurd cc
+marked_fits i counts (visibility.literal n count p) r s h f q = absurd cc
+marked_fits i counts (visibility.integer_type y) r s h f q = absurd cc
+marked_fits i counts (visibility.function y) r s h f q = absurd cc
+marked_fits i counts (visibility.component k) r s h f q = absurd cc
+marked_fits i counts visibility.label r s h f q = absurd cc
+marked_fits i counts visibility.unfinished r s h f q = absurd cc
 
 any_range : (i : Inside) (counts : Counts) (sight : Sight) (r : Option t.Range) (y : Option Range) → IsInside i counts sight → if_any (static_range sight) r ≡ Some y → RangeFits i y
 any_range i counts sight None y h q = subst (RangeFits i) (some_same None y q) tt
@@ -137,144 +137,144 @@ subtype_fits i counts sight d s h q =
 -- what is named: a constant of the kind, or a literal of the enumeration
 named_value_fits : (i : Inside) (counts : Counts) (type : ObjectType) (d : Meaning) (v : Fixed) → IsCounted counts type → MeaningFits i counts d
     → named_value type d ≡ Some v → fixed_fits i (type_shape type) v ≡ true
-named_value_fits i counts (Elements Element) (m.constant l Element vs) v n h q =
+named_value_fits i counts (Elements Element) (visibility.constant l Element vs) v n h q =
     subst (λ v. fixed_fits i one v ≡ true) (some_same (u.Fixed.constant l) v q) (fits_self one (option_map shape_of (slice_get i.constants l)) h.0.shape)
-named_value_fits i counts (Elements LogicVector) (m.constant l LogicVector vs) v n h q =
+named_value_fits i counts (Elements LogicVector) (visibility.constant l LogicVector vs) v n h q =
     subst (λ v. fixed_fits i vector v ≡ true) (some_same (u.Fixed.constant l) v q) (fits_self vector (option_map shape_of (slice_get i.constants l)) h.0.shape)
-named_value_fits i counts (Elements Unsigned) (m.constant l Unsigned vs) v n h q =
+named_value_fits i counts (Elements Unsigned) (visibility.constant l Unsigned vs) v n h q =
     subst (λ v. fixed_fits i vector v ≡ true) (some_same (u.Fixed.constant l) v q) (fits_self vector (option_map shape_of (slice_get i.constants l)) h.0.shape)
-named_value_fits i counts (Enumeration e count) (m.literal d size p) v n h q =
+named_value_fits i counts (Enumeration e count) (visibility.literal d size p) v n h q =
     let a = given (d == e) (u.Fixed.position p) v q in
     let g = same_count counts d e size count a.holds h.1 n in
     subst (λ v. fixed_fits i (state count) v ≡ true) a.is (ap (nat_lt p) (sym g) ∙ h.0)
-named_value_fits i counts (Elements Element) (m.generic k) v n h q = absurd cc
-named_value_fits i counts (Elements Element) (m.integer_constant k) v n h q = absurd cc
-named_value_fits i counts (Elements Element) (m.generate_parameter k) v n h q = absurd cc
-named_value_fits i counts (Elements Element) (m.loop_parameter k) v n h q = absurd cc
-named_value_fits i counts (Elements Element) (m.port k mode kind) v n h q = absurd cc
-named_value_fits i counts (Elements Element) (m.signal k type) v n h q = absurd cc
-named_value_fits i counts (Elements Element) (m.variable k type) v n h q = absurd cc
-named_value_fits i counts (Elements Element) (m.integer_type y) v n h q = absurd cc
-named_value_fits i counts (Elements Element) (m.element_type y) v n h q = absurd cc
-named_value_fits i counts (Elements Element) (m.vector_type k y) v n h q = absurd cc
-named_value_fits i counts (Elements Element) (m.enumeration_type k y) v n h q = absurd cc
-named_value_fits i counts (Elements Element) (m.function y) v n h q = absurd cc
-named_value_fits i counts (Elements Element) (m.component k) v n h q = absurd cc
-named_value_fits i counts (Elements Element) m.label v n h q = absurd cc
-named_value_fits i counts (Elements Element) m.unfinished v n h q = absurd cc
-named_value_fits i counts (Elements Element) (m.literal b size z) v n h q = absurd cc
-named_value_fits i counts (Elements Element) (m.constant l LogicVector vs) v n h q = absurd cc
-named_value_fits i counts (Elements Element) (m.constant l Unsigned vs) v n h q = absurd cc
-named_value_fits i counts (Elements Element) (m.constant l OpenVector vs) v n h q = absurd cc
-named_value_fits i counts (Elements LogicVector) (m.generic k) v n h q = absurd cc
-named_value_fits i counts (Elements LogicVector) (m.integer_constant k) v n h q = absurd cc
-named_value_fits i counts (Elements LogicVector) (m.generate_parameter k) v n h q = absurd cc
-named_value_fits i counts (Elements LogicVector) (m.loop_parameter k) v n h q = absurd cc
-named_value_fits i counts (Elements LogicVector) (m.port k mode kind) v n h q = absurd cc
-named_value_fits i counts (Elements LogicVector) (m.signal k type) v n h q = absurd cc
-named_value_fits i counts (Elements LogicVector) (m.variable k type) v n h q = absurd cc
-named_value_fits i counts (Elements LogicVector) (m.integer_type y) v n h q = absurd cc
-named_value_fits i counts (Elements LogicVector) (m.element_type y) v n h q = absurd cc
-named_value_fits i counts (Elements LogicVector) (m.vector_type k y) v n h q = absurd cc
-named_value_fits i counts (Elements LogicVector) (m.enumeration_type k y) v n h q = absurd cc
-named_value_fits i counts (Elements LogicVector) (m.function y) v n h q = absurd cc
-named_value_fits i counts (Elements LogicVector) (m.component k) v n h q = absurd cc
-named_value_fits i counts (Elements LogicVector) m.label v n h q = absurd cc
-named_value_fits i counts (Elements LogicVector) m.unfinished v n h q = absurd cc
-named_value_fits i counts (Elements LogicVector) (m.literal b size z) v n h q = absurd cc
-named_value_fits i counts (Elements LogicVector) (m.constant l Element vs) v n h q = absurd cc
-named_value_fits i counts (Elements LogicVector) (m.constant l Unsigned vs) v n h q = absurd cc
-named_value_fits i counts (Elements LogicVector) (m.constant l OpenVector vs) v n h q = absurd cc
-named_value_fits i counts (Elements Unsigned) (m.generic k) v n h q = absurd cc
-named_value_fits i counts (Elements Unsigned) (m.integer_constant k) v n h q = absurd cc
-named_value_fits i counts (Elements Unsigned) (m.generate_parameter k) v n h q = absurd cc
-named_value_fits i counts (Elements Unsigned) (m.loop_parameter k) v n h q = absurd cc
-named_value_fits i counts (Elements Unsigned) (m.port k mode kind) v n h q = absurd cc
-named_value_fits i counts (Elements Unsigned) (m.signal k type) v n h q = absurd cc
-named_value_fits i counts (Elements Unsigned) (m.variable k type) v n h q = absurd cc
-named_value_fits i counts (Elements Unsigned) (m.integer_type y) v n h q = absurd cc
-named_value_fits i counts (Elements Unsigned) (m.element_type y) v n h q = absurd cc
-named_value_fits i counts (Elements Unsigned) (m.vector_type k y) v n h q = absurd cc
-named_value_fits i counts (Elements Unsigned) (m.enumeration_type k y) v n h q = absurd cc
-named_value_fits i counts (Elements Unsigned) (m.function y) v n h q = absurd cc
-named_value_fits i counts (Elements Unsigned) (m.component k) v n h q = absurd cc
-named_value_fits i counts (Elements Unsigned) m.label v n h q = absurd cc
-named_value_fits i counts (Elements Unsigned) m.unfinished v n h q = absurd cc
-named_value_fits i counts (Elements Unsigned) (m.literal b size z) v n h q = absurd cc
-named_value_fits i counts (Elements Unsigned) (m.constant l Element vs) v n h q = absurd cc
-named_value_fits i counts (Elements Unsigned) (m.constant l LogicVector vs) v n h q = absurd cc
-named_value_fits i counts (Elements Unsigned) (m.constant l OpenVector vs) v n h q = absurd cc
-named_value_fits i counts (Elements OpenVector) (m.generic k) v n h q = absurd cc
-named_value_fits i counts (Elements OpenVector) (m.integer_constant k) v n h q = absurd cc
-named_value_fits i counts (Elements OpenVector) (m.generate_parameter k) v n h q = absurd cc
-named_value_fits i counts (Elements OpenVector) (m.loop_parameter k) v n h q = absurd cc
-named_value_fits i counts (Elements OpenVector) (m.port k mode kind) v n h q = absurd cc
-named_value_fits i counts (Elements OpenVector) (m.signal k type) v n h q = absurd cc
-named_value_fits i counts (Elements OpenVector) (m.variable k type) v n h q = absurd cc
-named_value_fits i counts (Elements OpenVector) (m.integer_type y) v n h q = absurd cc
-named_value_fits i counts (Elements OpenVector) (m.element_type y) v n h q = absurd cc
-named_value_fits i counts (Elements OpenVector) (m.vector_type k y) v n h q = absurd cc
-named_value_fits i counts (Elements OpenVector) (m.enumeration_type k y) v n h q = absurd cc
-named_value_fits i counts (Elements OpenVector) (m.function y) v n h q = absurd cc
-named_value_fits i counts (Elements OpenVector) (m.component k) v n h q = absurd cc
-named_value_fits i counts (Elements OpenVector) m.label v n h q = absurd cc
-named_value_fits i counts (Elements OpenVector) m.unfinished v n h q = absurd cc
-named_value_fits i counts (Elements OpenVector) (m.literal b size z) v n h q = absurd cc
-named_value_fits i counts (Elements OpenVector) (m.constant l Element vs) v n h q = absurd cc
-named_value_fits i counts (Elements OpenVector) (m.constant l LogicVector vs) v n h q = absurd cc
-named_value_fits i counts (Elements OpenVector) (m.constant l Unsigned vs) v n h q = absurd cc
-named_value_fits i counts (Elements OpenVector) (m.constant l OpenVector vs) v n h q = absurd cc
-named_value_fits i counts (Enumeration e count) (m.generic k) v n h q = absurd cc
-named_value_fits i counts (Enumeration e count) (m.integer_constant k) v n h q = absurd cc
-named_value_fits i counts (Enumeration e count) (m.generate_parameter k) v n h q = absurd cc
-named_value_fits i counts (Enumeration e count) (m.loop_parameter k) v n h q = absurd cc
-named_value_fits i counts (Enumeration e count) (m.port k mode kind) v n h q = absurd cc
-named_value_fits i counts (Enumeration e count) (m.signal k type) v n h q = absurd cc
-named_value_fits i counts (Enumeration e count) (m.variable k type) v n h q = absurd cc
-named_value_fits i counts (Enumeration e count) (m.integer_type y) v n h q = absurd cc
-named_value_fits i counts (Enumeration e count) (m.element_type y) v n h q = absurd cc
-named_value_fits i counts (Enumeration e count) (m.vector_type k y) v n h q = absurd cc
-named_value_fits i counts (Enumeration e count) (m.enumeration_type k y) v n h q = absurd cc
-named_value_fits i counts (Enumeration e count) (m.function y) v n h q = absurd cc
-named_value_fits i counts (Enumeration e count) (m.component k) v n h q = absurd cc
-named_value_fits i counts (Enumeration e count) m.label v n h q = absurd cc
-named_value_fits i counts (Enumeration e count) m.unfinished v n h q = absurd cc
-named_value_fits i counts (Enumeration e count) (m.constant l j vs) v n h q = absurd cc
+named_value_fits i counts (Elements Element) (visibility.generic k) v n h q = absurd cc
+named_value_fits i counts (Elements Element) (visibility.integer_constant k) v n h q = absurd cc
+named_value_fits i counts (Elements Element) (visibility.generate_parameter k) v n h q = absurd cc
+named_value_fits i counts (Elements Element) (visibility.loop_parameter k) v n h q = absurd cc
+named_value_fits i counts (Elements Element) (visibility.port k mode kind) v n h q = absurd cc
+named_value_fits i counts (Elements Element) (visibility.signal k type) v n h q = absurd cc
+named_value_fits i counts (Elements Element) (visibility.variable k type) v n h q = absurd cc
+named_value_fits i counts (Elements Element) (visibility.integer_type y) v n h q = absurd cc
+named_value_fits i counts (Elements Element) (visibility.element_type y) v n h q = absurd cc
+named_value_fits i counts (Elements Element) (visibility.vector_type k y) v n h q = absurd cc
+named_value_fits i counts (Elements Element) (visibility.enumeration_type k y) v n h q = absurd cc
+named_value_fits i counts (Elements Element) (visibility.function y) v n h q = absurd cc
+named_value_fits i counts (Elements Element) (visibility.component k) v n h q = absurd cc
+named_value_fits i counts (Elements Element) visibility.label v n h q = absurd cc
+named_value_fits i counts (Elements Element) visibility.unfinished v n h q = absurd cc
+named_value_fits i counts (Elements Element) (visibility.literal b size z) v n h q = absurd cc
+named_value_fits i counts (Elements Element) (visibility.constant l LogicVector vs) v n h q = absurd cc
+named_value_fits i counts (Elements Element) (visibility.constant l Unsigned vs) v n h q = absurd cc
+named_value_fits i counts (Elements Element) (visibility.constant l OpenVector vs) v n h q = absurd cc
+named_value_fits i counts (Elements LogicVector) (visibility.generic k) v n h q = absurd cc
+named_value_fits i counts (Elements LogicVector) (visibility.integer_constant k) v n h q = absurd cc
+named_value_fits i counts (Elements LogicVector) (visibility.generate_parameter k) v n h q = absurd cc
+named_value_fits i counts (Elements LogicVector) (visibility.loop_parameter k) v n h q = absurd cc
+named_value_fits i counts (Elements LogicVector) (visibility.port k mode kind) v n h q = absurd cc
+named_value_fits i counts (Elements LogicVector) (visibility.signal k type) v n h q = absurd cc
+named_value_fits i counts (Elements LogicVector) (visibility.variable k type) v n h q = absurd cc
+named_value_fits i counts (Elements LogicVector) (visibility.integer_type y) v n h q = absurd cc
+named_value_fits i counts (Elements LogicVector) (visibility.element_type y) v n h q = absurd cc
+named_value_fits i counts (Elements LogicVector) (visibility.vector_type k y) v n h q = absurd cc
+named_value_fits i counts (Elements LogicVector) (visibility.enumeration_type k y) v n h q = absurd cc
+named_value_fits i counts (Elements LogicVector) (visibility.function y) v n h q = absurd cc
+named_value_fits i counts (Elements LogicVector) (visibility.component k) v n h q = absurd cc
+named_value_fits i counts (Elements LogicVector) visibility.label v n h q = absurd cc
+named_value_fits i counts (Elements LogicVector) visibility.unfinished v n h q = absurd cc
+named_value_fits i counts (Elements LogicVector) (visibility.literal b size z) v n h q = absurd cc
+named_value_fits i counts (Elements LogicVector) (visibility.constant l Element vs) v n h q = absurd cc
+named_value_fits i counts (Elements LogicVector) (visibility.constant l Unsigned vs) v n h q = absurd cc
+named_value_fits i counts (Elements LogicVector) (visibility.constant l OpenVector vs) v n h q = absurd cc
+named_value_fits i counts (Elements Unsigned) (visibility.generic k) v n h q = absurd cc
+named_value_fits i counts (Elements Unsigned) (visibility.integer_constant k) v n h q = absurd cc
+named_value_fits i counts (Elements Unsigned) (visibility.generate_parameter k) v n h q = absurd cc
+named_value_fits i counts (Elements Unsigned) (visibility.loop_parameter k) v n h q = absurd cc
+named_value_fits i counts (Elements Unsigned) (visibility.port k mode kind) v n h q = absurd cc
+named_value_fits i counts (Elements Unsigned) (visibility.signal k type) v n h q = absurd cc
+named_value_fits i counts (Elements Unsigned) (visibility.variable k type) v n h q = absurd cc
+named_value_fits i counts (Elements Unsigned) (visibility.integer_type y) v n h q = absurd cc
+named_value_fits i counts (Elements Unsigned) (visibility.element_type y) v n h q = absurd cc
+named_value_fits i counts (Elements Unsigned) (visibility.vector_type k y) v n h q = absurd cc
+named_value_fits i counts (Elements Unsigned) (visibility.enumeration_type k y) v n h q = absurd cc
+named_value_fits i counts (Elements Unsigned) (visibility.function y) v n h q = absurd cc
+named_value_fits i counts (Elements Unsigned) (visibility.component k) v n h q = absurd cc
+named_value_fits i counts (Elements Unsigned) visibility.label v n h q = absurd cc
+named_value_fits i counts (Elements Unsigned) visibility.unfinished v n h q = absurd cc
+named_value_fits i counts (Elements Unsigned) (visibility.literal b size z) v n h q = absurd cc
+named_value_fits i counts (Elements Unsigned) (visibility.constant l Element vs) v n h q = absurd cc
+named_value_fits i counts (Elements Unsigned) (visibility.constant l LogicVector vs) v n h q = absurd cc
+named_value_fits i counts (Elements Unsigned) (visibility.constant l OpenVector vs) v n h q = absurd cc
+named_value_fits i counts (Elements OpenVector) (visibility.generic k) v n h q = absurd cc
+named_value_fits i counts (Elements OpenVector) (visibility.integer_constant k) v n h q = absurd cc
+named_value_fits i counts (Elements OpenVector) (visibility.generate_parameter k) v n h q = absurd cc
+named_value_fits i counts (Elements OpenVector) (visibility.loop_parameter k) v n h q = absurd cc
+named_value_fits i counts (Elements OpenVector) (visibility.port k mode kind) v n h q = absurd cc
+named_value_fits i counts (Elements OpenVector) (visibility.signal k type) v n h q = absurd cc
+named_value_fits i counts (Elements OpenVector) (visibility.variable k type) v n h q = absurd cc
+named_value_fits i counts (Elements OpenVector) (visibility.integer_type y) v n h q = absurd cc
+named_value_fits i counts (Elements OpenVector) (visibility.element_type y) v n h q = absurd cc
+named_value_fits i counts (Elements OpenVector) (visibility.vector_type k y) v n h q = absurd cc
+named_value_fits i counts (Elements OpenVector) (visibility.enumeration_type k y) v n h q = absurd cc
+named_value_fits i counts (Elements OpenVector) (visibility.function y) v n h q = absurd cc
+named_value_fits i counts (Elements OpenVector) (visibility.component k) v n h q = absurd cc
+named_value_fits i counts (Elements OpenVector) visibility.label v n h q = absurd cc
+named_value_fits i counts (Elements OpenVector) visibility.unfinished v n h q = absurd cc
+named_value_fits i counts (Elements OpenVector) (visibility.literal b size z) v n h q = absurd cc
+named_value_fits i counts (Elements OpenVector) (visibility.constant l Element vs) v n h q = absurd cc
+named_value_fits i counts (Elements OpenVector) (visibility.constant l LogicVector vs) v n h q = absurd cc
+named_value_fits i counts (Elements OpenVector) (visibility.constant l Unsigned vs) v n h q = absurd cc
+named_value_fits i counts (Elements OpenVector) (visibility.constant l OpenVector vs) v n h q = absurd cc
+named_value_fits i counts (Enumeration e count) (visibility.generic k) v n h q = absurd cc
+named_value_fits i counts (Enumeration e count) (visibility.integer_constant k) v n h q = absurd cc
+named_value_fits i counts (Enumeration e count) (visibility.generate_parameter k) v n h q = absurd cc
+named_value_fits i counts (Enumeration e count) (visibility.loop_parameter k) v n h q = absurd cc
+named_value_fits i counts (Enumeration e count) (visibility.port k mode kind) v n h q = absurd cc
+named_value_fits i counts (Enumeration e count) (visibility.signal k type) v n h q = absurd cc
+named_value_fits i counts (Enumeration e count) (visibility.variable k type) v n h q = absurd cc
+named_value_fits i counts (Enumeration e count) (visibility.integer_type y) v n h q = absurd cc
+named_value_fits i counts (Enumeration e count) (visibility.element_type y) v n h q = absurd cc
+named_value_fits i counts (Enumeration e count) (visibility.vector_type k y) v n h q = absurd cc
+named_value_fits i counts (Enumeration e count) (visibility.enumeration_type k y) v n h q = absurd cc
+named_value_fits i counts (Enumeration e count) (visibility.function y) v n h q = absurd cc
+named_value_fits i counts (Enumeration e count) (visibility.component k) v n h q = absurd cc
+named_value_fits i counts (Enumeration e count) visibility.label v n h q = absurd cc
+named_value_fits i counts (Enumeration e count) visibility.unfinished v n h q = absurd cc
+named_value_fits i counts (Enumeration e count) (visibility.constant l j vs) v n h q = absurd cc
 
 -- to_unsigned
 encoded_of_unsigned : (i : Inside) (counts : Counts) (d : Meaning) (xs : List Typed) (v : Fixed) → EachFits i counts xs
     → encoded_value (Elements Unsigned) d xs ≡ Some v → fixed_fits i vector v ≡ true
-encoded_of_unsigned i counts (m.function ToUnsigned) (o.integer n ∷ o.integer size ∷ []) v h q =
+encoded_of_unsigned i counts (visibility.function ToUnsigned) (o.integer n ∷ o.integer size ∷ []) v h q =
     subst (λ v. fixed_fits i vector v ≡ true) (some_same (u.Fixed.encoded n size) v q) (and_from (static_fits i n) (static_fits i size) h.0 h.1.0)
-encoded_of_unsigned i counts (m.function ToUnsigned) [] v h q = absurd cc
-encoded_of_unsigned i counts (m.function ToUnsigned) (o.elements k x ∷ xs) v h q = absurd cc
-encoded_of_unsigned i counts (m.function ToUnsigned) (o.enumerated n c x ∷ xs) v h q = absurd cc
-encoded_of_unsigned i counts (m.function ToUnsigned) (o.truth x ∷ xs) v h q = absurd cc
-encoded_of_unsigned i counts (m.function ToUnsigned) (o.integer n ∷ []) v h q = absurd cc
-encoded_of_unsigned i counts (m.function ToUnsigned) (o.integer n ∷ o.elements k x ∷ xs) v h q = absurd cc
-encoded_of_unsigned i counts (m.function ToUnsigned) (o.integer n ∷ o.enumerated m c x ∷ xs) v h q = absurd cc
-encoded_of_unsigned i counts (m.function ToUnsigned) (o.integer n ∷ o.truth x ∷ xs) v h q = absurd cc
-encoded_of_unsigned i counts (m.function ToUnsigned) (o.integer n ∷ o.integer size ∷ x ∷ xs) v h q = absurd cc
-encoded_of_unsigned i counts (m.function (EdgeCall y)) xs v h q = absurd cc
-encoded_of_unsigned i counts (m.function Resize) xs v h q = absurd cc
-encoded_of_unsigned i counts (m.function ShiftLeft) xs v h q = absurd cc
-encoded_of_unsigned i counts (m.function ShiftRight) xs v h q = absurd cc
-encoded_of_unsigned i counts (m.generic k) xs v h q = absurd cc
-encoded_of_unsigned i counts (m.integer_constant k) xs v h q = absurd cc
-encoded_of_unsigned i counts (m.generate_parameter k) xs v h q = absurd cc
-encoded_of_unsigned i counts (m.loop_parameter k) xs v h q = absurd cc
-encoded_of_unsigned i counts (m.port k mode kind) xs v h q = absurd cc
-encoded_of_unsigned i counts (m.signal k type) xs v h q = absurd cc
-encoded_of_unsigned i counts (m.variable k type) xs v h q = absurd cc
-encoded_of_unsigned i counts (m.integer_type y) xs v h q = absurd cc
-encoded_of_unsigned i counts (m.element_type y) xs v h q = absurd cc
-encoded_of_unsigned i counts (m.vector_type k y) xs v h q = absurd cc
-encoded_of_unsigned i counts (m.enumeration_type k y) xs v h q = absurd cc
-encoded_of_unsigned i counts (m.component k) xs v h q = absurd cc
-encoded_of_unsigned i counts m.label xs v h q = absurd cc
-encoded_of_unsigned i counts m.unfinished xs v h q = absurd cc
-encoded_of_unsigned i counts (m.constant l j vs) xs v h q = absurd cc
-encoded_of_unsigned i counts (m.literal b size z) xs v h q = absurd cc
+encoded_of_unsigned i counts (visibility.function ToUnsigned) [] v h q = absurd cc
+encoded_of_unsigned i counts (visibility.function ToUnsigned) (o.elements k x ∷ xs) v h q = absurd cc
+encoded_of_unsigned i counts (visibility.function ToUnsigned) (o.enumerated n c x ∷ xs) v h q = absurd cc
+encoded_of_unsigned i counts (visibility.function ToUnsigned) (o.truth x ∷ xs) v h q = absurd cc
+encoded_of_unsigned i counts (visibility.function ToUnsigned) (o.integer n ∷ []) v h q = absurd cc
+encoded_of_unsigned i counts (visibility.function ToUnsigned) (o.integer n ∷ o.elements k x ∷ xs) v h q = absurd cc
+encoded_of_unsigned i counts (visibility.function ToUnsigned) (o.integer n ∷ o.enumerated m c x ∷ xs) v h q = absurd cc
+encoded_of_unsigned i counts (visibility.function ToUnsigned) (o.integer n ∷ o.truth x ∷ xs) v h q = absurd cc
+encoded_of_unsigned i counts (visibility.function ToUnsigned) (o.integer n ∷ o.integer size ∷ x ∷ xs) v h q = absurd cc
+encoded_of_unsigned i counts (visibility.function (EdgeCall y)) xs v h q = absurd cc
+encoded_of_unsigned i counts (visibility.function Resize) xs v h q = absurd cc
+encoded_of_unsigned i counts (visibility.function ShiftLeft) xs v h q = absurd cc
+encoded_of_unsigned i counts (visibility.function ShiftRight) xs v h q = absurd cc
+encoded_of_unsigned i counts (visibility.generic k) xs v h q = absurd cc
+encoded_of_unsigned i counts (visibility.integer_constant k) xs v h q = absurd cc
+encoded_of_unsigned i counts (visibility.generate_parameter k) xs v h q = absurd cc
+encoded_of_unsigned i counts (visibility.loop_parameter k) xs v h q = absurd cc
+encoded_of_unsigned i counts (visibility.port k mode kind) xs v h q = absurd cc
+encoded_of_unsigned i counts (visibility.signal k type) xs v h q = absurd cc
+encoded_of_unsigned i counts (visibility.variable k type) xs v h q = absurd cc
+encoded_of_unsigned i counts (visibility.integer_type y) xs v h q = absurd cc
+encoded_of_unsigned i counts (visibility.element_type y) xs v h q = absurd cc
+encoded_of_unsigned i counts (visibility.vector_type k y) xs v h q = absurd cc
+encoded_of_unsigned i counts (visibility.enumeration_type k y) xs v h q = absurd cc
+encoded_of_unsigned i counts (visibility.component k) xs v h q = absurd cc
+encoded_of_unsigned i counts visibility.label xs v h q = absurd cc
+encoded_of_unsigned i counts visibility.unfinished xs v h q = absurd cc
+encoded_of_unsigned i counts (visibility.constant l j vs) xs v h q = absurd cc
+encoded_of_unsigned i counts (visibility.literal b size z) xs v h q = absurd cc
 
 encoded_fits : (i : Inside) (counts : Counts) (type : ObjectType) (d : Meaning) (xs : List Typed) (v : Fixed) → EachFits i counts xs
     → encoded_value type d xs ≡ Some v → fixed_fits i (type_shape type) v ≡ true
@@ -355,7 +355,7 @@ object_is i counts sight s d v h f q =
     (ap (λ z. default_fits i z v) f.shape ∙ any_default_fits i counts sight s.type d v h f.counted q)
 
 -- the literal that declares a constant
-pub declaring_fits : (i : Inside) (kind : Kind) (v : Fixed) → fixed_fits i (kind_shape kind) v ≡ true → IsLiteralOf i kind (declaring_literal v)
+pub declaring_fits : (i : Inside) (kind : ElementKind) (v : Fixed) → fixed_fits i (kind_shape kind) v ≡ true → IsLiteralOf i kind (declaring_literal v)
 declaring_fits i kind (u.Fixed.literal vs) h = h
 declaring_fits i kind (u.Fixed.position p) h = tt
 declaring_fits i kind (u.Fixed.constant k) h = tt

@@ -7,8 +7,8 @@ use Rattle.std.proofs.lemmas.Bool.{eqb-true}
 use Rattle.std.proofs.lemmas.List.{map-append}
 use Rattle.std.proofs.lemmas.Slice.Eq.{bytes_eq-Decides}
 use Rattle.vhdl_lexer.specs.contracts.token.Kind.{the_type}
-use Rattle.vhdl_lexer.specs.declared.token.Kind.{Kind}
-use Rattle.vhdl_lexer.specs.declared.token.Kind.TheVariants as k
+use Rattle.vhdl_lexer.specs.declared.token.TokenKind.{TokenKind}
+use Rattle.vhdl_lexer.specs.declared.token.TokenKind.TheVariants as k
 use Rattle.vhdl_tree.specs.declared.declaration.Mode.{Mode}
 use Rattle.vhdl_tree.specs.declared.declaration.Mode.TheVariants.{In, Out}
 use Rattle.vhdl_tree.specs.Lexeme.{same_kind}
@@ -30,7 +30,7 @@ use Rattle.vhdl_names_laws.specs.Laws.{ComponentsAreTexts}
 
 -- ---- pieces
 
-kind_same : (a b : Kind) → same_kind a b ≡ true → a ≡ b
+kind_same : (a b : TokenKind) → same_kind a b ≡ true → a ≡ b
 unfolding same_kind
 kind_same a b = same_true the_type (search rules) a b
 
@@ -53,7 +53,7 @@ behind : (a b : Piece) (ps qs : List Piece) → unplaced a ≡ unplaced b → Ar
 behind a b ps qs h g = record { same = ap (λ x. x ∷ map unplaced ps) h ∙ ap (λ xs. unplaced b ∷ xs) g.same }
 
 -- the same word before both
-after : (kind : Kind) (ps qs : List Piece) → AreSameText ps qs → AreSameText (p.some kind ∷ ps) (p.some kind ∷ qs)
+after : (kind : TokenKind) (ps qs : List Piece) → AreSameText ps qs → AreSameText (p.some kind ∷ ps) (p.some kind ∷ qs)
 after kind ps qs g = behind (p.some kind) (p.some kind) ps qs refl g
 
 closed : (ps qs : List Piece) → AreSameText ps qs → AreSameText (ps ++ p.some k.RightParen ∷ []) (qs ++ p.some k.RightParen ∷ [])
@@ -63,7 +63,7 @@ in_parens : (ps qs : List Piece) → AreSameText ps qs
     → AreSameText (p.some k.LeftParen ∷ (ps ++ p.some k.RightParen ∷ [])) (p.some k.LeftParen ∷ (qs ++ p.some k.RightParen ∷ []))
 in_parens ps qs g = after k.LeftParen (ps ++ p.some k.RightParen ∷ []) (qs ++ p.some k.RightParen ∷ []) (closed ps qs g)
 
-word_text : (kind : Kind) (a b : Bool) → same_word a b ≡ true → AreSameText (spell_word kind a) (spell_word kind b)
+word_text : (kind : TokenKind) (a b : Bool) → same_word a b ≡ true → AreSameText (spell_word kind a) (spell_word kind b)
 word_text kind true true e = alike (spell_word kind true)
 word_text kind true false e = absurd cc
 word_text kind false true e = absurd cc
@@ -95,7 +95,7 @@ module _ {A : Type 0} (same : A → A → Bool) (spelled : A → List Piece) (on
       let f = both (same x y) (same_each same xs ys) e in
       one_by_one (spelled x) (spelled y) (spell_each spelled xs) (spell_each spelled ys) (one x y f.0) (each_text xs ys f.1)
 
-list_text : {A : Type 0} (separator : Kind) (same : A → A → Bool) (spelled : A → List Piece)
+list_text : {A : Type 0} (separator : TokenKind) (same : A → A → Bool) (spelled : A → List Piece)
     → ((x y : A) → same x y ≡ true → AreSameText (spelled x) (spelled y))
     → (xs ys : List A) → same_each same xs ys ≡ true → AreSameText (spell_list separator spelled xs) (spell_list separator spelled ys)
 list_text separator same spelled one [] [] e = alike []

@@ -8,8 +8,8 @@ use Rattle.vhdl_lexer.specs.Words.{base_class}
 use Rattle.vhdl_lexer.specs.Bytes.{underscore}
 use Rattle.vhdl_tree.specs.Tree as t
 use Rattle.vhdl_tree.specs.Tree.{Expr}
-use Rattle.vhdl_names_rules.specs.declared.kind.Kind.{Kind}
-use Rattle.vhdl_names_rules.specs.declared.kind.Kind.TheVariants.{Element, LogicVector, Unsigned, OpenVector}
+use Rattle.vhdl_names_rules.specs.declared.kind.ElementKind.{ElementKind}
+use Rattle.vhdl_names_rules.specs.declared.kind.ElementKind.TheVariants.{Element, LogicVector, Unsigned, OpenVector}
 use Rattle.vhdl_names_rules.specs.declared.kind.ObjectType.{ObjectType}
 use Rattle.vhdl_names_rules.specs.declared.kind.ObjectType.TheVariants.{Elements, Enumeration}
 use Rattle.vhdl_names_rules.specs.units.Expressions as e
@@ -23,7 +23,7 @@ use Rattle.vhdl_names_rules.specs.Literals.{nine_of, values_of_string, values_of
 use Rattle.vhdl_names_rules.specs.Operators as o
 use Rattle.vhdl_names_rules.specs.Operators.{Typed}
 use Rattle.vhdl_names_rules.specs.Expressions as x
-use Rattle.vhdl_names_rules.specs.Expressions.{typed, fits, as_value, as_filled, given, as_test, condition, as_static_test}
+use Rattle.vhdl_names_rules.specs.Expressions.{typed, fits, as_value, as_filled, value_given, as_test, condition, as_static_test}
 use Rattle.vhdl_names_rules.specs.Subtypes.{literal_values}
 use Rattle.vhdl_names_rules.specs.sound.Expressions.{Inside, one, vector, state, is_vector, vector_shape, fits_shape, value_fits, test_fits, static_test_fits}
 use Rattle.vhdl_names_rules.specs.sound.Statements.{given_fits}
@@ -37,7 +37,7 @@ use Rattle.vhdl_names_rules.proofs.laws.Rules.{comes}
 
 -- ---- values of a type
 
-fitting_kinds : (k j : Kind) → fits k j ≡ true → kind_shape k ≡ kind_shape j
+fitting_kinds : (k j : ElementKind) → fits k j ≡ true → kind_shape k ≡ kind_shape j
 fitting_kinds Element Element h = refl
 fitting_kinds Element LogicVector h = absurd cc
 fitting_kinds Element Unsigned h = absurd cc
@@ -55,7 +55,7 @@ fitting_kinds OpenVector LogicVector h = refl
 fitting_kinds OpenVector Unsigned h = refl
 fitting_kinds OpenVector OpenVector h = refl
 
-pub kind_is_vector : (k : Kind) → x.is_vector k ≡ true → kind_shape k ≡ vector
+pub kind_is_vector : (k : ElementKind) → x.is_vector k ≡ true → kind_shape k ≡ vector
 kind_is_vector Element h = absurd cc
 kind_is_vector LogicVector h = refl
 kind_is_vector Unsigned h = refl
@@ -96,8 +96,8 @@ as_filled_fits i counts (Elements k) (o.truth y) g h q = absurd cc
 as_filled_fits i counts (Enumeration n count) y g h q = absurd cc
 
 pub given_is : (i : Inside) (counts : Counts) (sight : Sight) (type : ObjectType) (w : t.Value) (g : Given) → IsInside i counts sight → IsCounted counts type
-    → given sight type w ≡ Some g → given_fits i (type_shape type) g ≡ true
-unfolding given
+    → value_given sight type w ≡ Some g → given_fits i (type_shape type) g ≡ true
+unfolding value_given
 given_is i counts sight type (t.single d) g h c q =
     let a = comes (typed sight d) (as_value type) g q in
     as_value_fits i counts type a.value g c (typed_fits d i counts sight a.value h a.is) a.rest
@@ -152,7 +152,7 @@ bits_fit i [] vs q = absurd cc
 bits_fit i (base ∷ text) vs q =
     let a = comes (values_by (base_class base) (filter (λ b. not (b == underscore)) (quoted text))) at_least_one vs q in at_least i a.value vs a.rest
 
-pub literal_values_fit : (i : Inside) (k : Kind) (d : Expr) (vs : List Nine) → literal_values k d ≡ Some vs → fixed_fits i (kind_shape k) (u.Fixed.literal vs) ≡ true
+pub literal_values_fit : (i : Inside) (k : ElementKind) (d : Expr) (vs : List Nine) → literal_values k d ≡ Some vs → fixed_fits i (kind_shape k) (u.Fixed.literal vs) ≡ true
 literal_values_fit i Element (t.character at c) vs q =
     let a = mapped (λ v. v ∷ []) (nine_of c) vs q in
     subst (λ vs. fixed_fits i one (u.Fixed.literal vs) ≡ true) a.is refl

@@ -3,8 +3,8 @@ use Rattle.std.proofs.Common.{◌≡◌, Bool, true, ◌&&◌, List, [], ◌∷�
 use Rattle.std.specs.Prelude.{is_none}
 use Rattle.std.specs.List.{list_all, AllByRecursion}
 use Rattle.std.proofs.lemmas.Bool.{and_from}
-use Rattle.vhdl_lexer.specs.declared.token.Kind.{Kind}
-use Rattle.vhdl_lexer.specs.declared.token.Kind.TheVariants as k
+use Rattle.vhdl_lexer.specs.declared.token.TokenKind.{TokenKind}
+use Rattle.vhdl_lexer.specs.declared.token.TokenKind.TheVariants as k
 use Rattle.vhdl_tree.specs.Tree as t
 use Rattle.vhdl_tree.specs.Tree.{Ident, File, DesignUnit, LibraryUnit, ContextItem}
 use Rattle.vhdl_tree.specs.Pieces as p
@@ -40,7 +40,7 @@ pub each_piece : {A : Type 0} (spell : A → List Piece) (P : A → Type 0) → 
 each_piece spell P of [] h = tt
 each_piece spell P of (x ∷ xs) h = (of x (left (spell x) (spell_each spell xs) h), each_piece spell P of xs (right (spell x) (spell_each spell xs) h))
 
-pub list_piece : {A : Type 0} (separator : Kind) (spell : A → List Piece) (P : A → Type 0) → ((x : A) → AreWords (spell x) → P x) → (xs : List A) → AreWords (spell_list separator spell xs) → AllByRecursion P xs
+pub list_piece : {A : Type 0} (separator : TokenKind) (spell : A → List Piece) (P : A → Type 0) → ((x : A) → AreWords (spell x) → P x) → (xs : List A) → AreWords (spell_list separator spell xs) → AllByRecursion P xs
 list_piece separator spell P of [] h = tt
 list_piece separator spell P of (x ∷ xs) h =
     let rest = spell_each (λ y. p.some separator ∷ spell y) xs in

@@ -3,13 +3,13 @@ use Rattle.std.specs.Prelude.{◌≡◌, ℕ, nat_lt, nat_le, ◌&&◌, List, le
 use Rattle.std.specs.List.{AllByRecursion}
 use Rattle.vhdl_values.specs.declared.scalar.Nine.{Nine}
 use Rattle.vhdl_tree.specs.declared.declaration.Mode.{Mode}
-use Rattle.vhdl_names_rules.specs.declared.kind.Kind.{Kind}
-use Rattle.vhdl_names_rules.specs.declared.kind.Kind.TheVariants.{Element, LogicVector, Unsigned, OpenVector}
+use Rattle.vhdl_names_rules.specs.declared.kind.ElementKind.{ElementKind}
+use Rattle.vhdl_names_rules.specs.declared.kind.ElementKind.TheVariants.{Element, LogicVector, Unsigned, OpenVector}
 use Rattle.vhdl_names_rules.specs.declared.kind.ObjectType.{ObjectType}
 use Rattle.vhdl_names_rules.specs.declared.kind.ObjectType.TheVariants.{Elements, Enumeration}
 use Rattle.vhdl_names_rules.specs.units.Units as u
 use Rattle.vhdl_names_rules.specs.units.Units.{Form}
-use Rattle.vhdl_names_rules.specs.Visibility as m
+use Rattle.vhdl_names_rules.specs.Visibility as visibility
 use Rattle.vhdl_names_rules.specs.Visibility.{Meaning, Declared, Sight}
 use Rattle.vhdl_names_rules.specs.Operators as o
 use Rattle.vhdl_names_rules.specs.Operators.{Typed}
@@ -18,7 +18,7 @@ use Rattle.vhdl_names_rules.specs.sound.Units.{fixed_fits}
 
 -- ---- types
 
-abbrev pub kind_shape : Kind → Shape
+abbrev pub kind_shape : ElementKind → Shape
 kind_shape Element = one
 kind_shape LogicVector = vector
 kind_shape Unsigned = vector
@@ -45,30 +45,30 @@ pub record IsForm (counts : Counts) (type : ObjectType) (form : Option Form) : T
 -- ---- meanings
 
 -- the port of a number has this mode and kind
-pub record IsPort (ports : List u.Port) (k : ℕ) (mode : Mode) (kind : Kind) : Type 0 where
+pub record IsPort (ports : List u.Port) (k : ℕ) (mode : Mode) (kind : ElementKind) : Type 0 where
   pub port : u.Port
   pub at : slice_get ports k ≡ Some port
   pub mode_is : port.mode ≡ mode
   pub shape : shape_of port.object.form ≡ kind_shape kind
 
 -- the literal that declares a constant has its kind
-abbrev pub IsLiteralOf : Inside → Kind → Option (List Nine) → Type 0
+abbrev pub IsLiteralOf : Inside → ElementKind → Option (List Nine) → Type 0
 IsLiteralOf i kind None = Unit {0}
 IsLiteralOf i kind (Some values) = IsTrue (fixed_fits i (kind_shape kind) (u.Fixed.literal values))
 
 -- An object's number is below the count of its class, and the object of that number is of the type; an enumeration has literals.
 abbrev pub MeaningFits : Inside → Counts → Meaning → Type 0
-MeaningFits i counts (m.generic k) = IsTrue (nat_lt k i.generics)
-MeaningFits i counts (m.integer_constant k) = IsTrue (nat_lt k i.integers)
-MeaningFits i counts (m.generate_parameter k) = IsTrue (nat_lt k i.generates)
-MeaningFits i counts (m.loop_parameter k) = IsTrue (nat_lt k i.loops)
-MeaningFits i counts (m.port k mode kind) = IsPort i.ports k mode kind
-MeaningFits i counts (m.signal k type) = IsForm counts type (slice_get i.signals k)
-MeaningFits i counts (m.variable k type) = IsForm counts type (slice_get i.variables k)
-MeaningFits i counts (m.constant k kind values) = IsForm counts (Elements kind) (slice_get i.constants k) × IsLiteralOf i kind values
-MeaningFits i counts (m.literal e count p) = IsTrue (nat_lt p count) × (slice_get counts e ≡ Some count)
-MeaningFits i counts (m.vector_type kind is_resolved) = kind_shape kind ≡ vector
-MeaningFits i counts (m.enumeration_type e count) = IsTrue (nat_lt 0 count && nat_le count 256) × (slice_get counts e ≡ Some count)
+MeaningFits i counts (visibility.generic k) = IsTrue (nat_lt k i.generics)
+MeaningFits i counts (visibility.integer_constant k) = IsTrue (nat_lt k i.integers)
+MeaningFits i counts (visibility.generate_parameter k) = IsTrue (nat_lt k i.generates)
+MeaningFits i counts (visibility.loop_parameter k) = IsTrue (nat_lt k i.loops)
+MeaningFits i counts (visibility.port k mode kind) = IsPort i.ports k mode kind
+MeaningFits i counts (visibility.signal k type) = IsForm counts type (slice_get i.signals k)
+MeaningFits i counts (visibility.variable k type) = IsForm counts type (slice_get i.variables k)
+MeaningFits i counts (visibility.constant k kind values) = IsForm counts (Elements kind) (slice_get i.constants k) × IsLiteralOf i kind values
+MeaningFits i counts (visibility.literal e count p) = IsTrue (nat_lt p count) × (slice_get counts e ≡ Some count)
+MeaningFits i counts (visibility.vector_type kind is_resolved) = kind_shape kind ≡ vector
+MeaningFits i counts (visibility.enumeration_type e count) = IsTrue (nat_lt 0 count && nat_le count 256) × (slice_get counts e ≡ Some count)
 MeaningFits i counts _ = Unit {0}
 
 abbrev pub AllFit : Inside → Counts → List Declared → Type 0

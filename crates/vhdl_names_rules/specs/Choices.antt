@@ -4,7 +4,7 @@ use Rattle.std.specs.List.{list_all, list_any, range_with_len}
 use Rattle.vhdl_values.specs.Scalar.{are_same}
 use Rattle.vhdl_tree.specs.Tree as t
 use Rattle.vhdl_tree.specs.Tree.{Expr}
-use Rattle.vhdl_names_rules.specs.declared.kind.Kind.TheVariants.{Element, LogicVector, Unsigned, OpenVector}
+use Rattle.vhdl_names_rules.specs.declared.kind.ElementKind.TheVariants.{Element, LogicVector, Unsigned, OpenVector}
 use Rattle.vhdl_names_rules.specs.declared.kind.ObjectType.{ObjectType}
 use Rattle.vhdl_names_rules.specs.declared.kind.ObjectType.TheVariants.{Elements, Enumeration}
 use Rattle.vhdl_names_rules.specs.units.Expressions as u
@@ -12,7 +12,7 @@ use Rattle.vhdl_names_rules.specs.units.Expressions.{Value}
 use Rattle.vhdl_names_rules.specs.units.Statements.{Choice, values, position, Statements, Alternatives, others, alternative}
 use Rattle.vhdl_names_rules.specs.declared.fault.NameProblem.TheVariants.{WrongKind, TypeMismatch, NoOthers, ChoiceTwice}
 use Rattle.vhdl_names_rules.specs.Rules.{◌>>=◌, ◌>>◌, rule, each, given_that}
-use Rattle.vhdl_names_rules.specs.Visibility as m
+use Rattle.vhdl_names_rules.specs.Visibility as visibility
 use Rattle.vhdl_names_rules.specs.Visibility.{Meaning, Sight, meaning}
 use Rattle.vhdl_names_rules.specs.Operators.{Typed, elements, enumerated}
 use Rattle.vhdl_names_rules.specs.Subtypes.{literal_values}
@@ -21,10 +21,10 @@ use Rattle.vhdl_names_rules.specs.Subtypes.{literal_values}
 
 -- a constant of the same kind that a literal declares, or a literal of the same enumeration
 abbrev pub named_choice : ObjectType → Meaning → Option Choice
-named_choice (Elements Element) (m.constant k Element (Some vs)) = Some (values vs)
-named_choice (Elements LogicVector) (m.constant k LogicVector (Some vs)) = Some (values vs)
-named_choice (Elements Unsigned) (m.constant k Unsigned (Some vs)) = Some (values vs)
-named_choice (Enumeration e count) (m.literal d size p) = given_that TypeMismatch (d == e) (position p)
+named_choice (Elements Element) (visibility.constant k Element (Some vs)) = Some (values vs)
+named_choice (Elements LogicVector) (visibility.constant k LogicVector (Some vs)) = Some (values vs)
+named_choice (Elements Unsigned) (visibility.constant k Unsigned (Some vs)) = Some (values vs)
+named_choice (Enumeration e count) (visibility.literal d size p) = given_that TypeMismatch (d == e) (position p)
 named_choice _ _ = None
 
 abbrev pub literal_choice : ObjectType → Expr → Option Choice

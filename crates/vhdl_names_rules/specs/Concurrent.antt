@@ -7,7 +7,7 @@ use Rattle.vhdl_names_rules.specs.units.Units as u
 use Rattle.vhdl_names_rules.specs.declared.fault.NameProblem.TheVariants.{Twice, WrongKind}
 use Rattle.vhdl_names_rules.specs.Rules.{◌>>=◌, ◌>>◌, rule, each}
 use Rattle.vhdl_names_rules.specs.Visibility.{Name, Sight, are_distinct, ends, label_ends, within_generate, with_variables}
-use Rattle.vhdl_names_rules.specs.Expressions.{typed, static_range, condition, given, as_static_test}
+use Rattle.vhdl_names_rules.specs.Expressions.{typed, static_range, condition, value_given, as_static_test}
 use Rattle.vhdl_names_rules.specs.Choices.{covered, selector, arranged}
 use Rattle.vhdl_names_rules.specs.Declarations.{in_order, variables}
 use Rattle.vhdl_names_rules.specs.Interfaces.{EntityView, declared_names}
@@ -27,7 +27,7 @@ assigning label statement =
 -- what a target of a type is given
 abbrev pub assigned : Sight → SignalName → t.Value → Option s.Statement
 assigned sight x v = do
-  g ← given sight x.type v
+  g ← value_given sight x.type v
   Some (s.assign x.place g)
 
 abbrev pub alone : s.Statement → s.Statements
@@ -49,7 +49,7 @@ branches sight x (b ∷ bs) o = do
 -- a value alone is assigned as it is
 abbrev pub assignment_body : Sight → SignalName → List t.Branch → Option t.Value → Option s.Statement
 assignment_body sight x [] (Some v) = assigned sight x v
-assignment_body sight x bs o = option_map s.choose (branches sight x bs o)
+assignment_body sight x bs o = option_map s.if_of (branches sight x bs o)
 
 unfoldable pub assignment : Sight → t.Assignment → Option u.Concurrent
 assignment sight a = do
@@ -66,7 +66,7 @@ selected sight label a = do
   choices ← covered sight by.0 (map (λ w. w.choices) a.waveforms)
   bodies ← each (λ w. option_map alone (assigned sight x w.value)) a.waveforms
   all ← arranged choices bodies
-  Some (assigning label (s.select by.1 all))
+  Some (assigning label (s.case_of by.1 all))
 
 -- ---- processes (11.3)
 

@@ -5,7 +5,7 @@ use Rattle.vhdl_tree.specs.declared.declaration.Mode.{Mode}
 use Rattle.vhdl_tree.specs.declared.declaration.Mode.TheVariants.{In}
 use Rattle.vhdl_tree.specs.Tree as t
 use Rattle.vhdl_tree.specs.Tree.{Ident, Expr}
-use Rattle.vhdl_names_rules.specs.declared.kind.Kind.{Kind}
+use Rattle.vhdl_names_rules.specs.declared.kind.ElementKind.{ElementKind}
 use Rattle.vhdl_names_rules.specs.declared.kind.ObjectType.{ObjectType}
 use Rattle.vhdl_names_rules.specs.declared.kind.ObjectType.TheVariants.{Elements, Enumeration}
 use Rattle.vhdl_names_rules.specs.declared.operator.IntegerType.{IntegerType}
@@ -13,7 +13,7 @@ use Rattle.vhdl_names_rules.specs.units.Units as u
 use Rattle.vhdl_names_rules.specs.units.Units.{Fixed, Object}
 use Rattle.vhdl_names_rules.specs.declared.fault.NameProblem.TheVariants.{LeftOut}
 use Rattle.vhdl_names_rules.specs.Rules.{◌>>=◌, ◌>>◌, rule, if_any}
-use Rattle.vhdl_names_rules.specs.Visibility as m
+use Rattle.vhdl_names_rules.specs.Visibility as visibility
 use Rattle.vhdl_names_rules.specs.Visibility.{declare, Name, Meaning, Declared, Sight, meaning, names_of, numbered, all_declared, count_of, with_declared, with_variables, Declares, followed_by}
 use Rattle.vhdl_names_rules.specs.Expressions.{static}
 use Rattle.vhdl_names_rules.specs.Subtypes.{subtype, as_integer_type, fixed_value, declaring_literal, object}
@@ -31,10 +31,10 @@ in_order with_more declares sight (d ∷ ds) = do
 -- Within the declaration of a signal, constant or variable its name hides outer ones, and means nothing yet (12.3). In an interface
 -- list a name is there, and hides, from the end of its declaration on.
 abbrev pub within : Sight → List Ident → Sight
-within sight ns = with_declared sight (all_declared m.unfinished (names_of ns))
+within sight ns = with_declared sight (all_declared visibility.unfinished (names_of ns))
 
 abbrev pub within_variables : Sight → List Ident → Sight
-within_variables sight ns = with_variables sight (all_declared m.unfinished (names_of ns))
+within_variables sight ns = with_variables sight (all_declared visibility.unfinished (names_of ns))
 
 -- what names of one declaration are declared to be, numbered on from those of their class in the region
 abbrev pub declared_as : (Meaning → Bool) → (ℕ → Meaning) → List Declared → List Ident → List Declared
@@ -53,12 +53,12 @@ generic sight g = do
   type ← as_integer_type mark
   default ← if_any (static sight) g.default
   Some (record {
-    declared = declared_as m.is_generic m.generic sight.region g.names;
+    declared = declared_as visibility.is_generic visibility.generic sight.region g.names;
     analysed = for_each (λ n. record { type = type; default = default }) g.names;
   })
 
 -- ports are of the nine values
-abbrev pub as_kind : ObjectType → Option Kind
+abbrev pub as_kind : ObjectType → Option ElementKind
 as_kind (Elements k) = Some k
 as_kind (Enumeration e count) = None
 
@@ -72,7 +72,7 @@ port sight p = do
   kind ← as_kind s.type
   default ← if_any (fixed_value sight s.type) p.default
   Some (record {
-    declared = declared_as m.is_port (λ k. m.port k (mode_of p.mode) kind) sight.region p.names;
+    declared = declared_as visibility.is_port (λ k. visibility.port k (mode_of p.mode) kind) sight.region p.names;
     analysed = for_each (λ n. record { mode = mode_of p.mode; object = object s default n }) p.names;
   })
 
@@ -83,7 +83,7 @@ signals sight d = do
   s ← subtype (within sight d.names) d.subtype
   default ← if_any (fixed_value (within sight d.names) s.type) d.default
   Some (record {
-    declared = declared_as m.is_signal (λ k. m.signal k s.type) sight.region d.names;
+    declared = declared_as visibility.is_signal (λ k. visibility.signal k s.type) sight.region d.names;
     analysed = for_each (λ n. u.signal (object s default n)) d.names;
   })
 
@@ -92,7 +92,7 @@ variables sight d = do
   s ← subtype (within_variables sight d.names) d.subtype
   default ← if_any (fixed_value (within_variables sight d.names) s.type) d.default
   Some (record {
-    declared = declared_as m.is_variable (λ k. m.variable k s.type) sight.variables d.names;
+    declared = declared_as visibility.is_variable (λ k. visibility.variable k s.type) sight.variables d.names;
     analysed = for_each (object s default) d.names;
   })
 
@@ -108,7 +108,7 @@ integer_constants sight d type = do
   e ← single_expression d.value
   value ← static (within sight d.names) e
   Some (record {
-    declared = declared_as m.is_integer_constant m.integer_constant sight.region d.names;
+    declared = declared_as visibility.is_integer_constant visibility.integer_constant sight.region d.names;
     analysed = for_each (λ n. u.Declaration.integer type value) d.names;
   })
 
@@ -119,7 +119,7 @@ other_constants sight d = do
   kind ← as_kind s.type
   value ← fixed_value (within sight d.names) s.type d.value
   Some (record {
-    declared = declared_as m.is_constant (λ k. m.constant k kind (declaring_literal value)) sight.region d.names;
+    declared = declared_as visibility.is_constant (λ k. visibility.constant k kind (declaring_literal value)) sight.region d.names;
     analysed = for_each (λ n. u.Declaration.constant s.form value) d.names;
   })
 
@@ -137,17 +137,17 @@ constants sight d = do
 -- the literals of an enumeration, by position from here on
 abbrev pub literals : (number count position : ℕ) → List Name → List Declared
 literals e count p [] = []
-literals e count p (n ∷ ns) = declare n (m.literal e count p) ∷ literals e count (suc p) ns
+literals e count p (n ∷ ns) = declare n (visibility.literal e count p) ∷ literals e count (suc p) ns
 
 -- an enumeration has at most 256 literals
 unfoldable pub enumeration : Sight → t.Enumeration → Option (Declares u.Declaration)
 enumeration sight d = do
   rule LeftOut (nat_le (length d.literals) 256)
   Some (record {
-    declared = declare d.name.text (m.enumeration_type number (length d.literals))
+    declared = declare d.name.text (visibility.enumeration_type number (length d.literals))
         ∷ literals number (length d.literals) 0 (names_of d.literals);
     analysed = [];
   })
   where
     number : ℕ
-    number = count_of m.is_enumeration_type sight.region
+    number = count_of visibility.is_enumeration_type sight.region

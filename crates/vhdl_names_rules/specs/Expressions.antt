@@ -5,12 +5,12 @@ use Rattle.vhdl_tree.specs.declared.operator.Sign.{Sign}
 use Rattle.vhdl_tree.specs.declared.operator.Sign.TheVariants.{Plus, Minus}
 use Rattle.vhdl_tree.specs.Tree as t
 use Rattle.vhdl_tree.specs.Tree.{Expr, Exprs, Ident}
-use Rattle.vhdl_names_rules.specs.declared.kind.Kind.{Kind}
-use Rattle.vhdl_names_rules.specs.declared.kind.Kind.TheVariants.{Element, LogicVector, Unsigned, OpenVector}
+use Rattle.vhdl_names_rules.specs.declared.kind.ElementKind.{ElementKind}
+use Rattle.vhdl_names_rules.specs.declared.kind.ElementKind.TheVariants.{Element, LogicVector, Unsigned, OpenVector}
 use Rattle.vhdl_names_rules.specs.declared.kind.ObjectType.{ObjectType}
 use Rattle.vhdl_names_rules.specs.declared.kind.ObjectType.TheVariants.{Elements, Enumeration}
 use Rattle.vhdl_names_rules.specs.units.Expressions as u
-use Rattle.vhdl_names_rules.specs.units.Expressions.{Static, Place, Test}
+use Rattle.vhdl_names_rules.specs.units.Expressions.{Static, SignalPart, Test}
 use Rattle.vhdl_names_rules.specs.units.Statements.{Given, single, filled}
 use Rattle.vhdl_names_rules.specs.declared.fault.NameProblem.TheVariants.{TypeMismatch}
 use Rattle.vhdl_names_rules.specs.Rules.{◌>>=◌, given_that}
@@ -114,7 +114,7 @@ as_static_test _ = None
 -- ---- values of a type
 
 -- an open vector takes the kind of the vector that it is assigned to
-abbrev pub fits : Kind → Kind → Bool
+abbrev pub fits : ElementKind → ElementKind → Bool
 fits Element Element = true
 fits LogicVector LogicVector = true
 fits LogicVector OpenVector = true
@@ -122,7 +122,7 @@ fits Unsigned Unsigned = true
 fits Unsigned OpenVector = true
 fits _ _ = false
 
-abbrev pub is_vector : Kind → Bool
+abbrev pub is_vector : ElementKind → Bool
 is_vector LogicVector = true
 is_vector Unsigned = true
 is_vector _ = false
@@ -138,6 +138,6 @@ as_filled (Elements k) (elements Element x) = given_that TypeMismatch (is_vector
 as_filled _ _ = None
 
 -- what is given to a target of this type
-unfoldable pub given : Sight → ObjectType → t.Value → Option Given
-given sight type (t.single e) = typed sight e >>= as_value type
-given sight type (t.others at e) = typed sight e >>= as_filled type
+unfoldable pub value_given : Sight → ObjectType → t.Value → Option Given
+value_given sight type (t.single e) = typed sight e >>= as_value type
+value_given sight type (t.others at e) = typed sight e >>= as_filled type

@@ -7,7 +7,7 @@ use Rattle.vhdl_names_rules.specs.units.Units as u
 use Rattle.vhdl_names_rules.specs.units.Units.{Units}
 use Rattle.vhdl_names_rules.specs.declared.fault.NameProblem.TheVariants.{Undeclared, Twice, WrongKind, SecondArchitecture}
 use Rattle.vhdl_names_rules.specs.Rules.{◌>>=◌, ◌>>◌, rule, each, if_any}
-use Rattle.vhdl_names_rules.specs.Visibility as m
+use Rattle.vhdl_names_rules.specs.Visibility as visibility
 use Rattle.vhdl_names_rules.specs.Visibility.{Name, Declared, Sight, is_among, are_distinct, ends, all_declared, with_declared, Declares}
 use Rattle.vhdl_names_rules.specs.Packages.{context, sight_of}
 use Rattle.vhdl_names_rules.specs.Declarations.{in_order, signals, constants, enumeration}
@@ -68,7 +68,7 @@ declaration entities sight (t.enumeration d) = enumeration sight d
 declaration entities sight (t.component c) = component entities sight c
 
 abbrev pub labelled : List Name → List Declared
-labelled ns = all_declared m.label ns
+labelled ns = all_declared visibility.label ns
 
 -- An architecture has its entity's context, and its own. Its declarations and the labels of its statements are one region with
 -- the entity's generics and ports, in which each name is declared once.

@@ -5,15 +5,15 @@ use Rattle.vhdl_tree.specs.declared.declaration.Mode.{Mode}
 use Rattle.vhdl_tree.specs.declared.declaration.Mode.TheVariants.{In, Out}
 use Rattle.vhdl_tree.specs.Tree as t
 use Rattle.vhdl_tree.specs.Tree.{Ident, Expr, Association}
-use Rattle.vhdl_names_rules.specs.declared.kind.Kind.{Kind}
-use Rattle.vhdl_names_rules.specs.declared.kind.Kind.TheVariants.{Element, LogicVector, Unsigned}
+use Rattle.vhdl_names_rules.specs.declared.kind.ElementKind.{ElementKind}
+use Rattle.vhdl_names_rules.specs.declared.kind.ElementKind.TheVariants.{Element, LogicVector, Unsigned}
 use Rattle.vhdl_names_rules.specs.declared.kind.ObjectType.{ObjectType}
 use Rattle.vhdl_names_rules.specs.declared.kind.ObjectType.TheVariants.{Elements}
-use Rattle.vhdl_names_rules.specs.units.Expressions.{Place}
+use Rattle.vhdl_names_rules.specs.units.Expressions.{SignalPart}
 use Rattle.vhdl_names_rules.specs.units.Units as u
 use Rattle.vhdl_names_rules.specs.declared.fault.NameProblem.TheVariants.{Undeclared, Twice, WrongKind, TypeMismatch, WriteOfIn}
 use Rattle.vhdl_names_rules.specs.Rules.{◌>>=◌, ◌>>◌, rule, each, if_any, all_of}
-use Rattle.vhdl_names_rules.specs.Visibility as m
+use Rattle.vhdl_names_rules.specs.Visibility as visibility
 use Rattle.vhdl_names_rules.specs.Visibility.{Name, Meaning, Declared, Sight, meaning, is_among, are_distinct}
 use Rattle.vhdl_names_rules.specs.Expressions.{static}
 use Rattle.vhdl_names_rules.specs.Statements.{signal, is_input}
@@ -71,20 +71,20 @@ associated formals as' = do
 pub record Formal : Type 0 where
   pub name : Name
   pub mode : Mode
-  pub kind : Kind
+  pub kind : ElementKind
 
 abbrev pub generic_name : Declared → Option Name
 generic_name d = by d.name d.meaning
   where
     by : Name → Meaning → Option Name
-    by n (m.generic k) = Some n
+    by n (visibility.generic k) = Some n
     by n _ = None
 
 abbrev pub port_formal : Declared → Option Formal
 port_formal d = by d.name d.meaning
   where
     by : Name → Meaning → Option Formal
-    by n (m.port k mode kind) = Some (record { name = n; mode = mode; kind = kind })
+    by n (visibility.port k mode kind) = Some (record { name = n; mode = mode; kind = kind })
     by n _ = None
 
 -- a name as it stands, in no parentheses
@@ -93,7 +93,7 @@ as_name (t.named n suffix attribute) = Some (record { identifier = n; suffix = s
 as_name _ = None
 
 -- an actual has the kind of the formal
-abbrev pub is_kind : Kind → ObjectType → Bool
+abbrev pub is_kind : ElementKind → ObjectType → Bool
 is_kind Element (Elements Element) = true
 is_kind LogicVector (Elements LogicVector) = true
 is_kind Unsigned (Elements Unsigned) = true
@@ -105,7 +105,7 @@ may_join In mode = true
 may_join Out mode = not (is_input mode)
 
 -- the actual of a port is the name of a signal or port, with a static index or slice
-unfoldable pub port_actual : Sight → Formal → Expr → Option Place
+unfoldable pub port_actual : Sight → Formal → Expr → Option SignalPart
 port_actual sight f e = do
   n ← as_name e
   x ← signal sight n
@@ -113,7 +113,7 @@ port_actual sight f e = do
   rule WriteOfIn (may_join f.mode x.mode)
   Some x.place
 
-abbrev pub port_actuals : Sight → List Formal → List (Option Expr) → Option (List (Option Place))
+abbrev pub port_actuals : Sight → List Formal → List (Option Expr) → Option (List (Option SignalPart))
 port_actuals sight (f ∷ fs) (e ∷ es) = do
   p ← if_any (port_actual sight f) e
   ps ← port_actuals sight fs es
@@ -123,7 +123,7 @@ port_actuals sight _ _ = Some []
 -- ---- which unit is instantiated
 
 abbrev pub as_component : Meaning → Option ℕ
-as_component (m.component k) = Some k
+as_component (visibility.component k) = Some k
 as_component _ = None
 
 -- an architecture that is named is the one that the entity has

@@ -6,7 +6,7 @@ use Rattle.vhdl_tree.specs.Tree.{Ident}
 use Rattle.vhdl_names_rules.specs.units.Units as u
 use Rattle.vhdl_names_rules.specs.declared.fault.NameProblem.TheVariants.{Twice, WrongKind}
 use Rattle.vhdl_names_rules.specs.Rules.{◌>>=◌, ◌>>◌, rule, all_of}
-use Rattle.vhdl_names_rules.specs.Visibility as m
+use Rattle.vhdl_names_rules.specs.Visibility as visibility
 use Rattle.vhdl_names_rules.specs.Visibility.{declare, Name, Meaning, Declared, Sight, are_distinct, ends, with_declared, Declares}
 use Rattle.vhdl_names_rules.specs.Packages.{Context, no_context, context, sight_of}
 use Rattle.vhdl_names_rules.specs.Declarations.{in_order, generic, port}
@@ -73,4 +73,4 @@ component entities sight c = do
   rule WrongKind (same_generics c.generics e.1.generic_text && same_ports c.ports e.1.port_text)
   i ← interface (record sight { region = []; outside = sight.region ++ sight.outside }) c.generics c.ports
   rule WrongKind (ends c.name.text c.end_name)
-  Some (record { declared = declare c.name.text (m.component e.0) ∷ []; analysed = [] })
+  Some (record { declared = declare c.name.text (visibility.component e.0) ∷ []; analysed = [] })

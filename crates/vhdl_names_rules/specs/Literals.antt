@@ -5,8 +5,8 @@ use Rattle.std.specs.List.{after_first}
 use Rattle.vhdl_values.specs.declared.scalar.Nine.{Nine}
 use Rattle.vhdl_values.specs.declared.scalar.Nine.TheVariants.{Zero, One}
 use Rattle.vhdl_values.specs.Scalar.{nines, letter_of}
-use Rattle.vhdl_lexer.specs.declared.byte.Class.{Class}
-use Rattle.vhdl_lexer.specs.declared.byte.Class.TheVariants as c
+use Rattle.vhdl_lexer.specs.declared.byte.ByteClass.{ByteClass}
+use Rattle.vhdl_lexer.specs.declared.byte.ByteClass.TheVariants as c
 use Rattle.vhdl_lexer.specs.Bytes.{quote, underscore}
 use Rattle.vhdl_lexer.specs.Literals.{integer_of, greatest_integer}
 use Rattle.vhdl_lexer.specs.Words.{base_class}
@@ -47,12 +47,12 @@ abbrev pub digit_value : ℕ → ℕ
 digit_value b = if is_ascii_digit b then b - 48 else to_ascii_uppercase b - 55
 
 -- the bits of a digit, the leftmost first: four for X, three for O, one for B
-abbrev pub bits_of : Class → ℕ → List Nine
+abbrev pub bits_of : ByteClass → ℕ → List Nine
 bits_of c.Hexadecimal d = bit (d / 8) ∷ bit (d / 4) ∷ bit (d / 2) ∷ bit d ∷ []
 bits_of c.Octal d = bit (d / 4) ∷ bit (d / 2) ∷ bit d ∷ []
 bits_of _ d = bit d ∷ []
 
-abbrev pub values_by : Option Class → List ℕ → Option (List Nine)
+abbrev pub values_by : Option ByteClass → List ℕ → Option (List Nine)
 values_by None digits = None
 values_by (Some class) digits = Some (flat_map (λ b. bits_of class (digit_value b)) digits)
 

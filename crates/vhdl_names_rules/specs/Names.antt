@@ -3,17 +3,17 @@
 use Rattle.std.specs.Prelude.{Bool, true, false, ◌&&◌, if◌then◌else◌, List, [], ◌∷◌, Option, Some, None, option_map, bytes_eq, codes}
 use Rattle.vhdl_values.specs.declared.kinds.Edge.{Edge}
 use Rattle.vhdl_tree.specs.Tree.{Ident}
-use Rattle.vhdl_names_rules.specs.declared.kind.Kind.{Kind}
-use Rattle.vhdl_names_rules.specs.declared.kind.Kind.TheVariants.{Element, LogicVector, Unsigned, OpenVector}
+use Rattle.vhdl_names_rules.specs.declared.kind.ElementKind.{ElementKind}
+use Rattle.vhdl_names_rules.specs.declared.kind.ElementKind.TheVariants.{Element, LogicVector, Unsigned, OpenVector}
 use Rattle.vhdl_names_rules.specs.declared.kind.ObjectType.{ObjectType}
 use Rattle.vhdl_names_rules.specs.declared.kind.ObjectType.TheVariants.{Elements, Enumeration}
 use Rattle.vhdl_names_rules.specs.declared.kind.Function.{Function}
 use Rattle.vhdl_names_rules.specs.declared.kind.Function.TheVariants.{EdgeCall, Resize, ShiftLeft, ShiftRight, ToUnsigned}
 use Rattle.vhdl_names_rules.specs.units.Expressions as u
-use Rattle.vhdl_names_rules.specs.units.Expressions.{Static, Part, Place, Signal, Vector}
+use Rattle.vhdl_names_rules.specs.units.Expressions.{Static, Part, SignalPart, Signal, Vector}
 use Rattle.vhdl_names_rules.specs.declared.fault.NameProblem.TheVariants.{LeftOut}
 use Rattle.vhdl_names_rules.specs.Rules.{◌>>=◌, ◌>>◌, rule}
-use Rattle.vhdl_names_rules.specs.Visibility as m
+use Rattle.vhdl_names_rules.specs.Visibility as visibility
 use Rattle.vhdl_names_rules.specs.Visibility.{Meaning}
 use Rattle.vhdl_names_rules.specs.Operators.{Typed, integer, elements, enumerated, truth}
 
@@ -27,7 +27,7 @@ pub data Suffix : Type 0 where
   range : u.Range → Suffix
 
 -- the whole; an element of a vector (8.4); a slice of a vector, which is of its kind (8.5)
-abbrev pub part : Kind → Suffix → Option (Part × Kind)
+abbrev pub part : ElementKind → Suffix → Option (Part × ElementKind)
 part k plain = Some (u.whole, k)
 part LogicVector (arguments b (integer s ∷ [])) = Some (u.Part.element s, Element)
 part Unsigned (arguments b (integer s ∷ [])) = Some (u.Part.element s, Element)
@@ -41,7 +41,7 @@ part_of (Elements k) s = option_map (λ p. (p.0, Elements p.1)) (part k s)
 part_of (Enumeration e count) plain = Some (u.whole, Enumeration e count)
 part_of (Enumeration e count) _ = None
 
-abbrev pub place_of : Signal → Part → Place
+abbrev pub place_of : Signal → Part → SignalPart
 place_of s p = record { signal = s; part = p }
 
 abbrev pub if_plain : Suffix → Typed → Option Typed
@@ -49,16 +49,16 @@ if_plain plain t = Some t
 if_plain _ t = None
 
 -- elements of the nine values, by what they are part of
-abbrev pub read_by : (Part → Vector) → Kind → Suffix → Option Typed
+abbrev pub read_by : (Part → Vector) → ElementKind → Suffix → Option Typed
 read_by object k s = option_map (λ p. elements p.1 (object p.0)) (part k s)
 
-abbrev pub read_signal : Signal → Kind → Suffix → Option Typed
+abbrev pub read_signal : Signal → ElementKind → Suffix → Option Typed
 read_signal x k s = read_by (λ p. u.of_signal (place_of x p)) k s
 
 -- ---- conversions and calls
 
 -- unsigned(x), std_logic_vector(x), std_ulogic_vector(x): of any vector
-abbrev pub converted : Kind → Suffix → Option Typed
+abbrev pub converted : ElementKind → Suffix → Option Typed
 converted k (arguments b (elements LogicVector x ∷ [])) = Some (elements k x)
 converted k (arguments b (elements Unsigned x ∷ [])) = Some (elements k x)
 converted k (arguments b (elements OpenVector x ∷ [])) = Some (elements k x)
@@ -78,7 +78,7 @@ is_static_part (u.Part.element s) = is_static s
 is_static_part (u.slice r) = false
 
 -- the signal that an edge call or 'event asks for
-abbrev pub edge_signal : Typed → Option Place
+abbrev pub edge_signal : Typed → Option SignalPart
 edge_signal (elements Element (u.of_signal p)) = if is_static_part p.part then Some p else None
 edge_signal _ = None
 
@@ -107,19 +107,19 @@ called ToUnsigned = encoding
 
 -- what a name of this meaning is, with what follows it; types, components and labels are no values
 abbrev pub denoted : Meaning → Suffix → Option Typed
-denoted (m.generic k) s = if_plain s (integer (u.generic k))
-denoted (m.integer_constant k) s = if_plain s (integer (u.Static.constant k))
-denoted (m.generate_parameter k) s = if_plain s (integer (u.generate_parameter k))
-denoted (m.loop_parameter k) s = if_plain s (integer (u.loop_parameter k))
-denoted (m.port k mode kind) s = read_signal (u.port k) kind s
-denoted (m.signal k (Elements kind)) s = read_signal (u.Signal.signal k) kind s
-denoted (m.signal k (Enumeration e count)) s = if_plain s (enumerated e count (u.state_of (u.Signal.signal k)))
-denoted (m.variable k (Elements kind)) s = read_by (u.of_variable k) kind s
-denoted (m.variable k (Enumeration e count)) s = if_plain s (enumerated e count (u.state_of_variable k))
-denoted (m.constant k kind values) s = read_by (u.of_constant k) kind s
-denoted (m.literal e count p) s = if_plain s (enumerated e count (u.position p))
-denoted (m.vector_type k is_resolved) s = converted k s
-denoted (m.function f) s = called f s
+denoted (visibility.generic k) s = if_plain s (integer (u.generic k))
+denoted (visibility.integer_constant k) s = if_plain s (integer (u.Static.constant k))
+denoted (visibility.generate_parameter k) s = if_plain s (integer (u.generate_parameter k))
+denoted (visibility.loop_parameter k) s = if_plain s (integer (u.loop_parameter k))
+denoted (visibility.port k mode kind) s = read_signal (u.port k) kind s
+denoted (visibility.signal k (Elements kind)) s = read_signal (u.Signal.signal k) kind s
+denoted (visibility.signal k (Enumeration e count)) s = if_plain s (enumerated e count (u.state_of (u.Signal.signal k)))
+denoted (visibility.variable k (Elements kind)) s = read_by (u.of_variable k) kind s
+denoted (visibility.variable k (Enumeration e count)) s = if_plain s (enumerated e count (u.state_of_variable k))
+denoted (visibility.constant k kind values) s = read_by (u.of_constant k) kind s
+denoted (visibility.literal e count p) s = if_plain s (enumerated e count (u.position p))
+denoted (visibility.vector_type k is_resolved) s = converted k s
+denoted (visibility.function f) s = called f s
 denoted _ s = None
 
 -- the attribute 'event; no other is offered

@@ -6,8 +6,8 @@ use Rattle.vhdl_values.specs.declared.kinds.Cmp.{Cmp}
 use Rattle.vhdl_values.specs.declared.kinds.Cmp.TheVariants as c
 use Rattle.vhdl_tree.specs.declared.operator.Operator.{Operator}
 use Rattle.vhdl_tree.specs.declared.operator.Operator.TheVariants as o
-use Rattle.vhdl_names_rules.specs.declared.kind.Kind.{Kind}
-use Rattle.vhdl_names_rules.specs.declared.kind.Kind.TheVariants.{Element, LogicVector, Unsigned, OpenVector}
+use Rattle.vhdl_names_rules.specs.declared.kind.ElementKind.{ElementKind}
+use Rattle.vhdl_names_rules.specs.declared.kind.ElementKind.TheVariants.{Element, LogicVector, Unsigned, OpenVector}
 use Rattle.vhdl_names_rules.specs.declared.operator.Arithmetic.{Arithmetic}
 use Rattle.vhdl_names_rules.specs.declared.operator.Arithmetic.TheVariants as a
 use Rattle.vhdl_names_rules.specs.declared.operator.Numeric.{Numeric}
@@ -22,14 +22,14 @@ use Rattle.vhdl_names_rules.specs.Rules.{◌>>◌, rule, given_that}
 -- what an expression is: a static integer, one element or a vector of a kind, a value of an enumeration, or a truth
 pub data Typed : Type 0 where
   integer : Static → Typed
-  elements : Kind → Vector → Typed
+  elements : ElementKind → Vector → Typed
   enumerated : (number count : ℕ) → Value → Typed
   truth : Test → Typed
 
 -- ---- kinds
 
 -- two operands of one kind; an open vector takes the kind of the vector beside it
-abbrev pub common_kind : Kind → Kind → Option Kind
+abbrev pub common_kind : ElementKind → ElementKind → Option ElementKind
 common_kind Element Element = Some Element
 common_kind LogicVector LogicVector = Some LogicVector
 common_kind LogicVector OpenVector = Some LogicVector
@@ -41,24 +41,24 @@ common_kind OpenVector OpenVector = Some OpenVector
 common_kind _ _ = None
 
 -- the kind of a concatenation: elements stand beside elements and any vector (9.2.5)
-abbrev pub joined_kind : Kind → Kind → Option Kind
+abbrev pub joined_kind : ElementKind → ElementKind → Option ElementKind
 joined_kind Element Element = Some OpenVector
 joined_kind Element k = Some k
 joined_kind k Element = Some k
 joined_kind j k = common_kind j k
 
 -- what numeric_std takes for a number: unsigned, and an open vector
-abbrev pub is_number : Kind → Bool
+abbrev pub is_number : ElementKind → Bool
 is_number Unsigned = true
 is_number OpenVector = true
 is_number _ = false
 
-abbrev pub are_numbers : Kind → Kind → Bool
+abbrev pub are_numbers : ElementKind → ElementKind → Bool
 are_numbers j k = if is_number j then is_number k else false
 
 -- ---- logical operators (9.2.2)
 
-abbrev pub binary : VectorOperator → Vector → Vector → Kind → Typed
+abbrev pub binary : VectorOperator → Vector → Vector → ElementKind → Typed
 binary op v w kind = elements kind (u.Vector.binary op v w)
 
 -- truth over integers alone stays so
@@ -115,7 +115,7 @@ abbrev pub integers_compared : Cmp → Static → Static → Typed
 integers_compared op s t = truth (u.fixed (u.StaticTest.compared op s t))
 
 -- = and /= of one kind: numbers are compared as numbers, all else by its values
-abbrev pub equal_by : Cmp → (Value → Value → Test) → Vector → Vector → Kind → Typed
+abbrev pub equal_by : Cmp → (Value → Value → Test) → Vector → Vector → ElementKind → Typed
 equal_by op same x y Unsigned = truth (u.Test.compared op x y)
 equal_by op same x y _ = truth (same (u.elements x) (u.elements y))
 

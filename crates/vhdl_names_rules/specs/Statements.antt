@@ -7,21 +7,21 @@ use Rattle.vhdl_tree.specs.Tree.{Ident}
 use Rattle.vhdl_names_rules.specs.declared.kind.ObjectType.{ObjectType}
 use Rattle.vhdl_names_rules.specs.declared.kind.ObjectType.TheVariants.{Elements}
 use Rattle.vhdl_names_rules.specs.units.Expressions as u
-use Rattle.vhdl_names_rules.specs.units.Expressions.{Part, Place, Signal}
+use Rattle.vhdl_names_rules.specs.units.Expressions.{Part, SignalPart, Signal}
 use Rattle.vhdl_names_rules.specs.units.Statements as s
 use Rattle.vhdl_names_rules.specs.declared.fault.NameProblem.TheVariants.{WrongKind, WriteOfIn, LeftOut}
 use Rattle.vhdl_names_rules.specs.Rules.{◌>>=◌, ◌>>◌, rule}
-use Rattle.vhdl_names_rules.specs.Visibility as m
+use Rattle.vhdl_names_rules.specs.Visibility as visibility
 use Rattle.vhdl_names_rules.specs.Visibility.{Name, Meaning, Sight, meaning, label_ends, within_loop}
 use Rattle.vhdl_names_rules.specs.Names.{Suffix, part_of, place_of}
-use Rattle.vhdl_names_rules.specs.Expressions.{typed, typed_suffix, static_range, condition, given}
+use Rattle.vhdl_names_rules.specs.Expressions.{typed, typed_suffix, static_range, condition, value_given}
 use Rattle.vhdl_names_rules.specs.Choices.{covered, selector, arranged}
 
 -- ---- names of signals and variables
 
 -- a signal, port, or part of one, with its mode if it is a port, and its type
 pub record SignalName : Type 0 where
-  pub place : Place
+  pub place : SignalPart
   pub mode : Option Mode
   pub type : ObjectType
 
@@ -29,8 +29,8 @@ abbrev pub named_part : Signal → Option Mode → Part × ObjectType → Signal
 named_part x mode p = record { place = place_of x p.0; mode = mode; type = p.1 }
 
 abbrev pub as_signal : Meaning → Suffix → Option SignalName
-as_signal (m.port k mode kind) suffix = option_map (named_part (u.port k) (Some mode)) (part_of (Elements kind) suffix)
-as_signal (m.signal k type) suffix = option_map (named_part (u.Signal.signal k) None) (part_of type suffix)
+as_signal (visibility.port k mode kind) suffix = option_map (named_part (u.port k) (Some mode)) (part_of (Elements kind) suffix)
+as_signal (visibility.signal k type) suffix = option_map (named_part (u.Signal.signal k) None) (part_of type suffix)
 as_signal _ suffix = None
 
 -- the signal that a name is
@@ -61,7 +61,7 @@ pub record VariableName : Type 0 where
   pub type : ObjectType
 
 abbrev pub as_variable : Meaning → Suffix → Option VariableName
-as_variable (m.variable k type) suffix = option_map (λ p. record { number = k; part = p.0; type = p.1 }) (part_of type suffix)
+as_variable (visibility.variable k type) suffix = option_map (λ p. record { number = k; part = p.0; type = p.1 }) (part_of type suffix)
 as_variable _ suffix = None
 
 -- the target of a variable assignment (10.6)
@@ -83,37 +83,37 @@ unfoldable mutual
   -- a statement behind its label
   pub statement : Sight → Option Ident → t.Statement → Option s.Statement
   -- null (10.14)
-  statement sight label (t.nothing at) = Some s.nothing
+  statement sight label (t.null_of at) = Some s.null_of
   -- a signal assignment (10.5), and a variable assignment (10.6)
   statement sight label (t.assigned n v) = do
     x ← target sight n
-    g ← given sight x.type v
+    g ← value_given sight x.type v
     Some (s.assign x.place g)
   statement sight label (t.variable_assigned n v) = do
     x ← variable sight n
-    g ← given sight x.type v
+    g ← value_given sight x.type v
     Some (s.set x.number x.part g)
   -- if (10.8)
-  statement sight label (t.conditional at bs o end) = do
+  statement sight label (t.if_of at bs o end) = do
     rule WrongKind (label_ends label end)
     last ← otherwise sight o
     branches ← conditionals sight last bs
-    Some (s.choose branches)
+    Some (s.if_of branches)
   -- case (10.9)
-  statement sight label (t.selection at e alts end) = do
+  statement sight label (t.case_of at e alts end) = do
     rule WrongKind (label_ends label end)
     x ← typed sight e
     by ← selector x
     choices ← covered sight by.0 (choice_lists alts)
     bodies ← alternatives sight alts
     all ← arranged choices bodies
-    Some (s.select by.1 all)
+    Some (s.case_of by.1 all)
   -- a for loop (10.10); its parameter's range has the outer names in sight
-  statement sight label (t.loop at n r body end) = do
+  statement sight label (t.for_of at n r body end) = do
     rule WrongKind (label_ends label end)
     range ← static_range sight r
     turn ← statements (within_loop sight n) body
-    Some (s.loop range turn)
+    Some (s.for_of range turn)
 
   pub statements : Sight → t.Statements → Option s.Statements
   statements sight t.no_statements = Some s.done
@@ -150,12 +150,12 @@ label_names (Some l) = l.text ∷ []
 
 abbrev mutual
   pub inner_labels : t.Statement → List Name
-  inner_labels (t.nothing at) = []
+  inner_labels (t.null_of at) = []
   inner_labels (t.assigned n v) = []
   inner_labels (t.variable_assigned n v) = []
-  inner_labels (t.conditional at bs o end) = conditional_labels bs ++ otherwise_labels o
-  inner_labels (t.selection at e alts end) = alternative_labels alts
-  inner_labels (t.loop at n r body end) = statement_labels body
+  inner_labels (t.if_of at bs o end) = conditional_labels bs ++ otherwise_labels o
+  inner_labels (t.case_of at e alts end) = alternative_labels alts
+  inner_labels (t.for_of at n r body end) = statement_labels body
 
   pub statement_labels : t.Statements → List Name
   statement_labels t.no_statements = []

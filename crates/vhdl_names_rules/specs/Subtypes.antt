@@ -3,8 +3,8 @@ use Rattle.std.specs.Prelude.{◌==◌, Bool, false, List, [], ◌∷◌, Option
 use Rattle.vhdl_values.specs.declared.scalar.Nine.{Nine}
 use Rattle.vhdl_tree.specs.Tree as t
 use Rattle.vhdl_tree.specs.Tree.{Expr}
-use Rattle.vhdl_names_rules.specs.declared.kind.Kind.{Kind}
-use Rattle.vhdl_names_rules.specs.declared.kind.Kind.TheVariants.{Element, LogicVector, Unsigned}
+use Rattle.vhdl_names_rules.specs.declared.kind.ElementKind.{ElementKind}
+use Rattle.vhdl_names_rules.specs.declared.kind.ElementKind.TheVariants.{Element, LogicVector, Unsigned}
 use Rattle.vhdl_names_rules.specs.declared.kind.ObjectType.{ObjectType}
 use Rattle.vhdl_names_rules.specs.declared.kind.ObjectType.TheVariants.{Elements, Enumeration}
 use Rattle.vhdl_names_rules.specs.declared.kind.Function.TheVariants.{ToUnsigned}
@@ -14,7 +14,7 @@ use Rattle.vhdl_names_rules.specs.units.Units as u
 use Rattle.vhdl_names_rules.specs.units.Units.{Form, Fixed, Object}
 use Rattle.vhdl_names_rules.specs.declared.fault.NameProblem.TheVariants.{TypeMismatch}
 use Rattle.vhdl_names_rules.specs.Rules.{◌>>=◌, ◌>>◌, rule, if_any, given_that}
-use Rattle.vhdl_names_rules.specs.Visibility as m
+use Rattle.vhdl_names_rules.specs.Visibility as visibility
 use Rattle.vhdl_names_rules.specs.Visibility.{Name, Meaning, Sight, meaning}
 use Rattle.vhdl_names_rules.specs.Literals.{nine_of, values_of_string, values_of_bits}
 use Rattle.vhdl_names_rules.specs.Operators.{Typed, integer}
@@ -30,9 +30,9 @@ pub record Subtype : Type 0 where
 
 -- a vector type needs a range, and no other type takes one (5.3.2)
 abbrev pub marked : Meaning → Option Range → Option Subtype
-marked (m.element_type r) None = Some (record { type = Elements Element; form = u.element; is_resolved = r })
-marked (m.vector_type k r) (Some range) = Some (record { type = Elements k; form = u.vector range; is_resolved = r })
-marked (m.enumeration_type e count) None =
+marked (visibility.element_type r) None = Some (record { type = Elements Element; form = u.element; is_resolved = r })
+marked (visibility.vector_type k r) (Some range) = Some (record { type = Elements k; form = u.vector range; is_resolved = r })
+marked (visibility.enumeration_type e count) None =
     Some (record { type = Enumeration e count; form = u.enumeration count; is_resolved = false })
 marked _ _ = None
 
@@ -45,13 +45,13 @@ subtype sight s = do
 
 -- a type of integers
 abbrev pub as_integer_type : Meaning → Option IntegerType
-as_integer_type (m.integer_type w) = Some w
+as_integer_type (visibility.integer_type w) = Some w
 as_integer_type _ = None
 
 -- ---- literals as they stand, which constants, defaults and choices ask for
 
 -- a character for one element, a string or a bit string for a vector
-abbrev pub literal_values : Kind → Expr → Option (List Nine)
+abbrev pub literal_values : ElementKind → Expr → Option (List Nine)
 literal_values Element (t.character at c) = option_map (λ v. v ∷ []) (nine_of c)
 literal_values LogicVector (t.string at text) = values_of_string text
 literal_values LogicVector (t.bits at text) = values_of_bits text
@@ -68,15 +68,15 @@ simple_name _ = None
 
 -- a constant of the same kind, or a literal of the same enumeration
 abbrev pub named_value : ObjectType → Meaning → Option Fixed
-named_value (Elements Element) (m.constant k Element values) = Some (u.Fixed.constant k)
-named_value (Elements LogicVector) (m.constant k LogicVector values) = Some (u.Fixed.constant k)
-named_value (Elements Unsigned) (m.constant k Unsigned values) = Some (u.Fixed.constant k)
-named_value (Enumeration e count) (m.literal d size p) = given_that TypeMismatch (d == e) (u.Fixed.position p)
+named_value (Elements Element) (visibility.constant k Element values) = Some (u.Fixed.constant k)
+named_value (Elements LogicVector) (visibility.constant k LogicVector values) = Some (u.Fixed.constant k)
+named_value (Elements Unsigned) (visibility.constant k Unsigned values) = Some (u.Fixed.constant k)
+named_value (Enumeration e count) (visibility.literal d size p) = given_that TypeMismatch (d == e) (u.Fixed.position p)
 named_value _ _ = None
 
 -- to_unsigned of two static integers
 abbrev pub encoded_value : ObjectType → Meaning → List Typed → Option Fixed
-encoded_value (Elements Unsigned) (m.function ToUnsigned) (integer n ∷ integer size ∷ []) = Some (u.Fixed.encoded n size)
+encoded_value (Elements Unsigned) (visibility.function ToUnsigned) (integer n ∷ integer size ∷ []) = Some (u.Fixed.encoded n size)
 encoded_value _ _ _ = None
 
 abbrev pub literal_value : ObjectType → Expr → Option Fixed

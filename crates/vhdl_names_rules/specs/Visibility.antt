@@ -4,7 +4,7 @@ use Rattle.std.specs.List.{list_any}
 use Rattle.vhdl_values.specs.declared.scalar.Nine.{Nine}
 use Rattle.vhdl_tree.specs.declared.declaration.Mode.{Mode}
 use Rattle.vhdl_tree.specs.Tree.{Ident}
-use Rattle.vhdl_names_rules.specs.declared.kind.Kind.{Kind}
+use Rattle.vhdl_names_rules.specs.declared.kind.ElementKind.{ElementKind}
 use Rattle.vhdl_names_rules.specs.declared.kind.ObjectType.{ObjectType}
 use Rattle.vhdl_names_rules.specs.declared.kind.Function.{Function}
 use Rattle.vhdl_names_rules.specs.declared.operator.IntegerType.{IntegerType}
@@ -49,17 +49,17 @@ pub data Meaning : Type 0 where
   generate_parameter : ℕ → Meaning
   loop_parameter : ℕ → Meaning
   -- objects of other types
-  port : ℕ → Mode → Kind → Meaning
+  port : ℕ → Mode → ElementKind → Meaning
   signal : ℕ → ObjectType → Meaning
   variable : ℕ → ObjectType → Meaning
   -- with the literal that declares it, if one does
-  constant : ℕ → Kind → Option (List Nine) → Meaning
+  constant : ℕ → ElementKind → Option (List Nine) → Meaning
   -- the literal of an enumeration, at this position
   literal : (number count position : ℕ) → Meaning
   -- types: of integers; of one element, and of vectors, with whether they are resolved; enumerations
   integer_type : IntegerType → Meaning
   element_type : (is_resolved : Bool) → Meaning
-  vector_type : Kind → (is_resolved : Bool) → Meaning
+  vector_type : ElementKind → (is_resolved : Bool) → Meaning
   enumeration_type : (number count : ℕ) → Meaning
   function : Function → Meaning
   -- a component, of the unit of this number

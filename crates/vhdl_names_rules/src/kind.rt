@@ -4,7 +4,7 @@ use vhdl_values::Edge;
 
 /// The kind of one element, or of a vector, of the nine values.
 #[derive(Clone, Copy)]
-pub enum Kind {
+pub enum ElementKind {
     Element,
     LogicVector,
     Unsigned,
@@ -16,7 +16,7 @@ pub enum Kind {
 /// number, with so many literals.
 #[derive(Clone, Copy)]
 pub enum ObjectType {
-    Elements(Kind),
+    Elements(ElementKind),
     Enumeration { number: usize, count: usize },
 }
 
@@ -30,33 +30,33 @@ pub enum Function {
     ToUnsigned,
 }
 
-impl Kind {
+impl ElementKind {
     ghost use Rattle.std.specs.Prelude.{◌≡◌};
     ghost use Rattle.vhdl_names_rules.specs.Operators as table;
     ghost use Rattle.vhdl_names_rules.specs.Expressions as expressions;
 
     /// The kind of two operands of one kind; an open vector takes the kind of the vector beside it.
-    pub fn common(self, other: Kind) -> Option<Kind>
+    pub fn common(self, other: ElementKind) -> Option<ElementKind>
         ensures { result ≡ table.common_kind self other }
     {
         match (self, other) {
-            (Kind::Element, Kind::Element) => Some(Kind::Element),
-            (Kind::LogicVector, Kind::LogicVector | Kind::OpenVector)
-            | (Kind::OpenVector, Kind::LogicVector) => Some(Kind::LogicVector),
-            (Kind::Unsigned, Kind::Unsigned | Kind::OpenVector)
-            | (Kind::OpenVector, Kind::Unsigned) => Some(Kind::Unsigned),
-            (Kind::OpenVector, Kind::OpenVector) => Some(Kind::OpenVector),
+            (ElementKind::Element, ElementKind::Element) => Some(ElementKind::Element),
+            (ElementKind::LogicVector, ElementKind::LogicVector | ElementKind::OpenVector)
+            | (ElementKind::OpenVector, ElementKind::LogicVector) => Some(ElementKind::LogicVector),
+            (ElementKind::Unsigned, ElementKind::Unsigned | ElementKind::OpenVector)
+            | (ElementKind::OpenVector, ElementKind::Unsigned) => Some(ElementKind::Unsigned),
+            (ElementKind::OpenVector, ElementKind::OpenVector) => Some(ElementKind::OpenVector),
             _ => None,
         }
     }
 
     /// The kind of a concatenation (IEEE 1076-2008, 9.2.5): an element stands beside any vector.
-    pub fn joined(self, other: Kind) -> Option<Kind>
+    pub fn joined(self, other: ElementKind) -> Option<ElementKind>
         ensures { result ≡ table.joined_kind self other }
     {
         match (self, other) {
-            (Kind::Element, Kind::Element) => Some(Kind::OpenVector),
-            (Kind::Element, vector) | (vector, Kind::Element) => Some(vector),
+            (ElementKind::Element, ElementKind::Element) => Some(ElementKind::OpenVector),
+            (ElementKind::Element, vector) | (vector, ElementKind::Element) => Some(vector),
             _ => self.common(other),
         }
     }
@@ -65,18 +65,18 @@ impl Kind {
     pub fn is_number(self) -> bool
         ensures { result ≡ table.is_number self }
     {
-        matches!(self, Kind::Unsigned | Kind::OpenVector)
+        matches!(self, ElementKind::Unsigned | ElementKind::OpenVector)
     }
 
     /// Whether a value of the other kind is given to a target of this kind.
-    pub fn fits(self, other: Kind) -> bool
+    pub fn fits(self, other: ElementKind) -> bool
         ensures { result ≡ expressions.fits self other }
     {
         match self {
-            Kind::Element => other == Kind::Element,
-            Kind::LogicVector => matches!(other, Kind::LogicVector | Kind::OpenVector),
-            Kind::Unsigned => other.is_number(),
-            Kind::OpenVector => false,
+            ElementKind::Element => other == ElementKind::Element,
+            ElementKind::LogicVector => matches!(other, ElementKind::LogicVector | ElementKind::OpenVector),
+            ElementKind::Unsigned => other.is_number(),
+            ElementKind::OpenVector => false,
         }
     }
 
@@ -84,6 +84,6 @@ impl Kind {
     pub fn is_vector(self) -> bool
         ensures { result ≡ expressions.is_vector self }
     {
-        matches!(self, Kind::LogicVector | Kind::Unsigned)
+        matches!(self, ElementKind::LogicVector | ElementKind::Unsigned)
     }
 }

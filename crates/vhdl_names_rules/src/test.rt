@@ -6,7 +6,7 @@ ghost use Rattle.vhdl_names_rules.specs.units.Expressions as units;
 ghost use Rattle.vhdl_names_rules.specs.views.Tests.{static_test_view, static_start_view, static_test_chained, test_view, start_view, test_chained, is_fixed};
 
 use crate::integer::Static;
-use crate::vector::{Place, Value, Vector};
+use crate::vector::{SignalPart, Value, Vector};
 use std::alloc::{AllocError, Global};
 use vhdl_values::{Cmp, Edge, Logic};
 
@@ -51,8 +51,8 @@ pub enum Test {
     ComparedTo(Cmp, usize, Vector, Static),
     ComparedWith(Cmp, usize, Static, Vector),
     /// `rising_edge` and `falling_edge`, and `'event`.
-    Edge(Edge, Place),
-    Event(Place),
+    Edge(Edge, SignalPart),
+    Event(SignalPart),
     Not(Box<Test>),
     /// Logical operators, grouped from the left: the first one, and those after it.
     Chain(Box<TestStart>, Vec<TestLink>),

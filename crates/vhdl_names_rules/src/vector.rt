@@ -27,7 +27,7 @@ pub enum Part {
 
 /// A signal or port or a part of one, and the byte at which its name starts.
 #[derive(Drop)]
-pub struct Place {
+pub struct SignalPart {
     pub at: usize,
     pub signal: Signal,
     pub part: Part,
@@ -38,7 +38,7 @@ pub struct Place {
 #[cycle(vector)]
 #[derive(Drop)]
 pub enum Vector {
-    Signal(Place),
+    Signal(SignalPart),
     /// The variable of this number, or a part of it.
     Variable(usize, usize, Part),
     /// The constant of this number that is no integer, or a part of it.

@@ -3,7 +3,7 @@
 ghost use Rattle.std.specs.Prelude.{◌≡◌, IfOk, option_map};
 ghost use Rattle.vhdl_names_rules.specs.declared.fault.NameProblem.TheVariants.{WrongKind};
 ghost use Rattle.vhdl_names_rules.specs.Rules.{rule};
-ghost use Rattle.vhdl_names_rules.specs.Visibility as rules;
+ghost use Rattle.vhdl_names_rules.specs.Visibility as visibility;
 ghost use Rattle.vhdl_names_rules.specs.Gives.{Gives};
 ghost use Rattle.vhdl_tree.specs.View as tree;
 
@@ -18,7 +18,7 @@ pub(crate) fn ended<T: Drop>(
     found: T,
 ) -> Result<T, NameFault>
     ensures same { IfOk result (λ x. x ≡ found) }
-    ensures asked { Gives (λ _. tt) (rule WrongKind (rules.label_ends (option_map tree.ident_view label.now) (option_map tree.ident_view end.now))) result }
+    ensures asked { Gives (λ _. tt) (rule WrongKind (visibility.label_ends (option_map tree.ident_view label.now) (option_map tree.ident_view end.now))) result }
 {
     label_ends(label, end)?;
     Ok(found)

@@ -5,7 +5,7 @@ ghost use Rattle.vhdl_names_rules.specs.Rules.{each, if_any};
 ghost use Rattle.vhdl_names_rules.specs.Statements as rules;
 ghost use Rattle.vhdl_names_rules.specs.Visibility as visibility;
 ghost use Rattle.vhdl_names_rules.specs.Gives.{Gives};
-ghost use Rattle.vhdl_tree.specs.Tree as syntax;
+ghost use Rattle.vhdl_tree.specs.Tree as t;
 ghost use Rattle.vhdl_tree.specs.View as tree;
 ghost use Rattle.vhdl_tree.specs.declared.sequential.Case.{out-Case};
 ghost use Rattle.vhdl_tree.specs.declared.sequential.For.{out-For};
@@ -87,7 +87,7 @@ pub fn analysed(
     sight: &mut Sight,
     list: &[syntax::Sequential],
 ) -> Result<Vec<Statement>, NameFault>
-    ensures given { Gives views.body_view (rules.statements (sight_view sight.old) (syntax.statements_of (map tree.sequential_view list.now))) result }
+    ensures given { Gives views.body_view (rules.statements (sight_view sight.old) (t.statements_of (map tree.sequential_view list.now))) result }
     ensures kept { sight_view sight.new ≡ sight_view sight.old }
 {
     statements(alloc, sight, list)

@@ -2,7 +2,7 @@
 use Rattle.std.proofs.Common.{◌≡◌, ℕ, refl}
 use mathlib.Core.Former.{Count}
 use Rattle.vhdl_values.specs.declared.scalar.Nine.{Nine}
-use Rattle.vhdl_names_rules.specs.declared.kind.Kind.TheVariants.{Element}
+use Rattle.vhdl_names_rules.specs.declared.kind.ElementKind.TheVariants.{Element}
 use Rattle.vhdl_names_rules.specs.declared.vector.Vector.{Vector}
 use Rattle.vhdl_names_rules.specs.declared.vector.Vector.TheVariants as v
 use Rattle.vhdl_names_rules.specs.declared.vector.Vector.TheBlock.{Row_of-VectorLink, end_of-VectorLink, more_of-VectorLink}

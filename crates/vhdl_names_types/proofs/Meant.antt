@@ -4,8 +4,8 @@ use Rattle.std.specs.Prelude.{◌&&◌, option_map}
 use Rattle.std.specs.List.{list_all}
 use mathlib.Core.Former.{Count}
 use Rattle.vhdl_values.specs.declared.kinds.Edge.{Edge}
-use Rattle.vhdl_names_rules.specs.declared.kind.Kind.{Kind}
-use Rattle.vhdl_names_rules.specs.declared.kind.Kind.TheVariants.{Element, LogicVector, Unsigned, OpenVector}
+use Rattle.vhdl_names_rules.specs.declared.kind.ElementKind.{ElementKind}
+use Rattle.vhdl_names_rules.specs.declared.kind.ElementKind.TheVariants.{Element, LogicVector, Unsigned, OpenVector}
 use Rattle.vhdl_names_rules.specs.declared.integer.Static.{Static}
 use Rattle.vhdl_names_rules.specs.declared.integer.Static.TheVariants as s
 use Rattle.vhdl_names_rules.specs.declared.integer.StaticStart.{StaticStart}
@@ -15,7 +15,7 @@ use Rattle.vhdl_names_rules.specs.declared.vector.Vector.TheVariants as v
 use Rattle.vhdl_names_rules.specs.declared.vector.Vector.TheBlock.{Row_of-VectorLink, end_of-VectorLink, more_of-VectorLink}
 use Rattle.vhdl_names_rules.specs.declared.vector.VectorLink.{VectorLink}
 use Rattle.vhdl_names_rules.specs.declared.vector.VectorLink.TheVariants as l
-use Rattle.vhdl_names_rules.specs.declared.vector.Place.{Place}
+use Rattle.vhdl_names_rules.specs.declared.vector.SignalPart.{SignalPart}
 use Rattle.vhdl_names_rules.specs.Names as rules
 use Rattle.vhdl_names_rules.specs.Names.{arguments}
 use Rattle.vhdl_names_rules.specs.Operators as o
@@ -35,7 +35,7 @@ sole_map f [] = refl
 sole_map f (x ∷ []) = refl
 sole_map f (x ∷ y ∷ xs) = refl
 
-part_sole : (k : Kind) (b : Bool) (xs : List o.Typed) → rules.part k (arguments b xs) ≡ indexed k (sole xs)
+part_sole : (k : ElementKind) (b : Bool) (xs : List o.Typed) → rules.part k (arguments b xs) ≡ indexed k (sole xs)
 part_sole Element b xs = refl
 part_sole OpenVector b xs = refl
 part_sole LogicVector b [] = refl
@@ -57,10 +57,10 @@ part_sole Unsigned b (enumerated d m x ∷ y ∷ ys) = refl
 part_sole Unsigned b (truth x ∷ []) = refl
 part_sole Unsigned b (truth x ∷ y ∷ ys) = refl
 
-pub part_indexed : (k : Kind) (b : Bool) (xs : List Typed) → rules.part k (arguments b (map typed_view xs)) ≡ indexed k (option_map typed_view (sole xs))
+pub part_indexed : (k : ElementKind) (b : Bool) (xs : List Typed) → rules.part k (arguments b (map typed_view xs)) ≡ indexed k (option_map typed_view (sole xs))
 part_indexed k b xs = part_sole k b (map typed_view xs) ∙ ap (indexed k) (sole_map typed_view xs)
 
-conversion_sole : (k : Kind) (b : Bool) (xs : List o.Typed) → rules.converted k (arguments b xs) ≡ conversion k (sole xs)
+conversion_sole : (k : ElementKind) (b : Bool) (xs : List o.Typed) → rules.converted k (arguments b xs) ≡ conversion k (sole xs)
 conversion_sole k b [] = refl
 conversion_sole k b (integer s ∷ []) = refl
 conversion_sole k b (integer s ∷ y ∷ ys) = refl
@@ -77,7 +77,7 @@ conversion_sole k b (enumerated d m x ∷ y ∷ ys) = refl
 conversion_sole k b (truth x ∷ []) = refl
 conversion_sole k b (truth x ∷ y ∷ ys) = refl
 
-pub converted_sole : (k : Kind) (b : Bool) (xs : List Typed) → rules.converted k (arguments b (map typed_view xs)) ≡ conversion k (option_map typed_view (sole xs))
+pub converted_sole : (k : ElementKind) (b : Bool) (xs : List Typed) → rules.converted k (arguments b (map typed_view xs)) ≡ conversion k (option_map typed_view (sole xs))
 converted_sole k b xs = conversion_sole k b (map typed_view xs) ∙ ap (conversion k) (sole_map typed_view xs)
 
 edge_alone : (e : Edge) (xs : List o.Typed) → rules.edge_of e (arguments true xs) ≡ edge_by e (sole xs)
@@ -221,7 +221,7 @@ chain_other left (l.Vector op at y) n end_of-VectorLink = refl
 chain_other left (l.Integer op at s) n end_of-VectorLink = refl
 chain_other left x n (more_of-VectorLink y rest) = chain_other (linked left x) y _ rest
 
-pub no_signal : (x : Vector) → ((p : Place) → x ≡ v.Signal p → ⊥) → is_signal (vector_view x) ≡ false
+pub no_signal : (x : Vector) → ((p : SignalPart) → x ≡ v.Signal p → ⊥) → is_signal (vector_view x) ≡ false
 no_signal (v.Signal p) other = absurd (other p refl)
 no_signal (v.Variable at k p) other = refl
 no_signal (v.Constant at k p) other = refl
@@ -237,7 +237,7 @@ no_signal (v.ShiftedLeft' at b x s) other = refl
 no_signal (v.ShiftedRight' at b x s) other = refl
 
 -- what is no signal's name has no edge
-pub no_edge : (k : Kind) (x : u.Vector) → is_signal x ≡ false → rules.edge_signal (elements k x) ≡ None
+pub no_edge : (k : ElementKind) (x : u.Vector) → is_signal x ≡ false → rules.edge_signal (elements k x) ≡ None
 no_edge Element (u.of_signal p) h = absurd (true≢false h)
 no_edge Element (u.of_variable n p) h = refl
 no_edge Element (u.of_constant n p) h = refl

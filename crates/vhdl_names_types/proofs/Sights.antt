@@ -5,21 +5,21 @@ use Rattle.std.specs.Option.{option_or}
 use Rattle.std.specs.Map.{lookup}
 use Rattle.std.proofs.lemmas.List.{take_more, map-append, reverse-append}
 use Rattle.std.proofs.lemmas.List.Folds.{find-append}
-use Rattle.vhdl_names_rules.specs.Visibility as v
+use Rattle.vhdl_names_rules.specs.Visibility as visibility
 use Rattle.vhdl_names_types.specs.declared.meaning.Meaning.{Meaning}
 use Rattle.vhdl_names_types.specs.declared.meaning.Declared.{Declared}
 use Rattle.vhdl_names_types.specs.Sights.{found}
 use Rattle.vhdl_names_types.specs.Views.{meaning_view, declared_view, entry_view}
 
-found-append : (xs ys : List v.Declared) (n : v.Name) → found (xs ++ ys) n ≡ option_or (found xs n) (found ys n)
+found-append : (xs ys : List visibility.Declared) (n : visibility.Name) → found (xs ++ ys) n ≡ option_or (found xs n) (found ys n)
 found-append xs ys n = ap (option_map (λ d. d.meaning)) (find-append (λ d. bytes_eq n d.name) xs ys) ∙ go (find (λ d. bytes_eq n d.name) xs)
   where
-    go : (o : Option v.Declared) → option_map (λ d. d.meaning) (option_or o (find (λ d. bytes_eq n d.name) ys)) ≡ option_or (option_map (λ d. d.meaning) o) (found ys n)
+    go : (o : Option visibility.Declared) → option_map (λ d. d.meaning) (option_or o (find (λ d. bytes_eq n d.name) ys)) ≡ option_or (option_map (λ d. d.meaning) o) (found ys n)
     go None = refl
     go (Some d) = refl
 
 -- a table's look-up
-pub found_entries : (es : List (Vec ℕ Global × Meaning)) (n : v.Name) → found (map entry_view es) n ≡ option_map meaning_view (lookup (λ k. bytes_eq n k.items) es)
+pub found_entries : (es : List (Vec ℕ Global × Meaning)) (n : visibility.Name) → found (map entry_view es) n ≡ option_map meaning_view (lookup (λ k. bytes_eq n k.items) es)
 found_entries [] n = refl
 found_entries (e ∷ es) n = go (bytes_eq n e.0.items) (found_entries es n)
   where
@@ -30,19 +30,19 @@ found_entries (e ∷ es) n = go (bytes_eq n e.0.items) (found_entries es n)
     go false h = h
 
 -- from the innermost region outwards
-pub meaning_in_turn : (s : v.Sight) (n : v.Name) →
-    v.meaning s n ≡ option_or (found s.loops n) (option_or (found s.variables n) (option_or (found s.generates n) (option_or (found s.region n) (found s.outside n))))
+pub meaning_in_turn : (s : visibility.Sight) (n : visibility.Name) →
+    visibility.meaning s n ≡ option_or (found s.loops n) (option_or (found s.variables n) (option_or (found s.generates n) (option_or (found s.region n) (found s.outside n))))
 meaning_in_turn s n =
     found-append s.loops _ n
     ∙ ap (option_or (found s.loops n)) (found-append s.variables _ n
     ∙ ap (option_or (found s.variables n)) (found-append s.generates _ n
     ∙ ap (option_or (found s.generates n)) (found-append s.region _ n)))
 
-pub outside_in_turn : (xs ys : List v.Declared) (n : v.Name) → found (xs ++ ys) n ≡ option_or (found xs n) (found ys n)
+pub outside_in_turn : (xs ys : List visibility.Declared) (n : visibility.Name) → found (xs ++ ys) n ≡ option_or (found xs n) (found ys n)
 outside_in_turn = found-append
 
 -- one more parameter, inside those before it
-pub innermost_more : (ds : List Declared) (i : ℕ) (d : Declared) (n : v.Name) → i < length ds → d ≡ get_or ds i d →
+pub innermost_more : (ds : List Declared) (i : ℕ) (d : Declared) (n : visibility.Name) → i < length ds → d ≡ get_or ds i d →
     found (reverse (map declared_view (take (i + 1) ds))) n ≡ cond (bytes_eq n d.name.items) (Some (meaning_view d.meaning)) (found (reverse (map declared_view (take i ds))) n)
 innermost_more ds i d n lt e =
     ap (λ xs. found (reverse (map declared_view xs)) n) (take_more ds i d lt)

@@ -1,6 +1,6 @@
 -- What single steps of the code answer.
-use Rattle.vhdl_lexer.specs.declared.byte.Class.{Class}
-use Rattle.vhdl_lexer.specs.declared.byte.Class.TheVariants.{Hexadecimal, Octal, Binary}
+use Rattle.vhdl_lexer.specs.declared.byte.ByteClass.{ByteClass}
+use Rattle.vhdl_lexer.specs.declared.byte.ByteClass.TheVariants.{Hexadecimal, Octal, Binary}
 use Rattle.vhdl_values.specs.declared.kinds.Cmp.{Cmp}
 use Rattle.vhdl_values.specs.declared.kinds.Cmp.TheVariants.{Ne}
 use Rattle.vhdl_names_rules.specs.units.Expressions as u
@@ -10,8 +10,8 @@ use Rattle.vhdl_names_rules.specs.Expressions.{as_integer, signed}
 use Rattle.vhdl_names_rules.specs.Literals.{number_of}
 use Rattle.std.specs.Prelude.{ℕ, Bool, true, false, List, [], ◌∷◌, Option, Some, None, option_map}
 use Rattle.vhdl_values.specs.declared.kinds.Edge.{Edge}
-use Rattle.vhdl_names_rules.specs.declared.kind.Kind.{Kind}
-use Rattle.vhdl_names_rules.specs.declared.kind.Kind.TheVariants.{Element, LogicVector, Unsigned, OpenVector}
+use Rattle.vhdl_names_rules.specs.declared.kind.ElementKind.{ElementKind}
+use Rattle.vhdl_names_rules.specs.declared.kind.ElementKind.TheVariants.{Element, LogicVector, Unsigned, OpenVector}
 use Rattle.vhdl_names_rules.specs.Names.{edge_signal}
 use Rattle.vhdl_names_rules.specs.Operators.{Typed, integer, elements, truth}
 use Rattle.vhdl_names_rules.specs.units.Expressions.{Static, Part, Vector, Value, Test}
@@ -24,7 +24,7 @@ same_by Ne = u.unlike
 same_by _ = u.alike
 
 -- the digits of a base
-abbrev pub class_of : Base → Class
+abbrev pub class_of : Base → ByteClass
 class_of b.Hexadecimal = Hexadecimal
 class_of b.Octal = Octal
 class_of b.Binary = Binary
@@ -42,13 +42,13 @@ two (x ∷ y ∷ []) = Some (x, y)
 two _ = None
 
 -- the element of a vector at an index
-abbrev pub indexed : Kind → Option Typed → Option (Part × Kind)
+abbrev pub indexed : ElementKind → Option Typed → Option (Part × ElementKind)
 indexed LogicVector (Some (integer s)) = Some (u.Part.element s, Element)
 indexed Unsigned (Some (integer s)) = Some (u.Part.element s, Element)
 indexed _ _ = None
 
 -- a vector as one of another kind
-abbrev pub conversion : Kind → Option Typed → Option Typed
+abbrev pub conversion : ElementKind → Option Typed → Option Typed
 conversion k (Some (elements LogicVector x)) = Some (elements k x)
 conversion k (Some (elements Unsigned x)) = Some (elements k x)
 conversion k (Some (elements OpenVector x)) = Some (elements k x)

@@ -2,7 +2,7 @@
 use Rattle.std.specs.Prelude.{ℕ, List, ◌++◌, map, reverse, option_map, Vec}
 use Rattle.std.specs.Global.{Global}
 use Rattle.indexmap.specs.IndexMap.{IndexMap}
-use Rattle.vhdl_names_rules.specs.Visibility as v
+use Rattle.vhdl_names_rules.specs.Visibility as visibility
 use Rattle.vhdl_names_rules.specs.Visibility.{declare}
 use Rattle.vhdl_names_rules.specs.Operators as o
 use Rattle.vhdl_names_rules.specs.Names as n
@@ -20,35 +20,35 @@ use Rattle.vhdl_names_types.specs.declared.types.TypedSuffix.TheVariants as s
 
 -- ---- declarations
 
-abbrev pub meaning_view : Meaning → v.Meaning
-meaning_view (m.Generic k) = v.generic k
-meaning_view (m.IntegerConstant k) = v.integer_constant k
-meaning_view (m.GenerateParameter k) = v.generate_parameter k
-meaning_view (m.LoopParameter k) = v.loop_parameter k
-meaning_view (m.Port k mode kind) = v.port k mode kind
-meaning_view (m.Signal k type) = v.signal k type
-meaning_view (m.Variable k type) = v.variable k type
-meaning_view (m.Constant k kind values) = v.constant k kind (option_map (λ vs. vs.items) values)
-meaning_view (m.Literal number count position) = v.literal number count position
-meaning_view (m.IntegerType w) = v.integer_type w
-meaning_view (m.ElementType r) = v.element_type r
-meaning_view (m.VectorType kind r) = v.vector_type kind r
-meaning_view (m.EnumerationType number count) = v.enumeration_type number count
-meaning_view (m.Function f) = v.function f
-meaning_view (m.Component k) = v.component k
-meaning_view m.Label = v.label
-meaning_view m.Unfinished = v.unfinished
+abbrev pub meaning_view : Meaning → visibility.Meaning
+meaning_view (m.Generic k) = visibility.generic k
+meaning_view (m.IntegerConstant k) = visibility.integer_constant k
+meaning_view (m.GenerateParameter k) = visibility.generate_parameter k
+meaning_view (m.LoopParameter k) = visibility.loop_parameter k
+meaning_view (m.Port k mode kind) = visibility.port k mode kind
+meaning_view (m.Signal k type) = visibility.signal k type
+meaning_view (m.Variable k type) = visibility.variable k type
+meaning_view (m.Constant k kind values) = visibility.constant k kind (option_map (λ vs. vs.items) values)
+meaning_view (m.Literal number count position) = visibility.literal number count position
+meaning_view (m.IntegerType w) = visibility.integer_type w
+meaning_view (m.ElementType r) = visibility.element_type r
+meaning_view (m.VectorType kind r) = visibility.vector_type kind r
+meaning_view (m.EnumerationType number count) = visibility.enumeration_type number count
+meaning_view (m.Function f) = visibility.function f
+meaning_view (m.Component k) = visibility.component k
+meaning_view m.Label = visibility.label
+meaning_view m.Unfinished = visibility.unfinished
 
-abbrev pub declared_view : Declared → v.Declared
+abbrev pub declared_view : Declared → visibility.Declared
 declared_view d = declare d.name.items (meaning_view d.meaning)
 
-abbrev pub entry_view : Vec ℕ Global × Meaning → v.Declared
+abbrev pub entry_view : Vec ℕ Global × Meaning → visibility.Declared
 entry_view e = declare e.0.items (meaning_view e.1)
 
-abbrev pub region_view : {S : Type 0} → IndexMap (Vec ℕ Global) Meaning S → List v.Declared
+abbrev pub region_view : {S : Type 0} → IndexMap (Vec ℕ Global) Meaning S → List visibility.Declared
 region_view r = map entry_view r.entries
 
-abbrev pub sight_view : Sight → v.Sight
+abbrev pub sight_view : Sight → visibility.Sight
 sight_view s = record {
   loops = reverse (map declared_view s.loops.items);
   variables = region_view s.variables;

@@ -5,7 +5,7 @@ ghost use Rattle.std.specs.List.{list_all};
 ghost use Rattle.vhdl_names_rules.specs.Gives.{Gives};
 ghost use Rattle.vhdl_names_rules.specs.Names as rules;
 ghost use Rattle.vhdl_names_rules.specs.Operators as table;
-ghost use Rattle.vhdl_names_rules.specs.declared.kind.Kind.TheVariants.{Element};
+ghost use Rattle.vhdl_names_rules.specs.declared.kind.ElementKind.TheVariants.{Element};
 ghost use Rattle.vhdl_names_rules.specs.units.Expressions as units;
 ghost use Rattle.vhdl_names_rules.specs.views.Integers.{static_view, start_view};
 ghost use Rattle.vhdl_names_rules.specs.views.Vectors.{part_view, place_view, vector_view};
@@ -15,12 +15,12 @@ ghost use Rattle.vhdl_names_types.specs.Views.{typed_view, typed_suffix_view};
 use crate::parts::sole_argument;
 use crate::types::{Typed, TypedSuffix};
 use vhdl_names_rules::{
-    Kind, NameFault, NameProblem, Part, Place, Static, StaticLink, StaticStart, Test, Vector,
+    ElementKind, NameFault, NameProblem, Part, SignalPart, Static, StaticLink, StaticStart, Test, Vector,
 };
 use vhdl_values::Edge;
 
 /// The signal, or part of one, that a vector is, or else the vector.
-fn as_place(vector: Vector) -> Result<Place, Vector>
+fn as_place(vector: Vector) -> Result<SignalPart, Vector>
     ensures place { IfOk result (λ p. vector_view vector ≡ units.of_signal (place_view p)) }
     ensures other { IfErr result (λ v. is_signal (vector_view vector) ≡ false) }
 {
@@ -90,7 +90,7 @@ fn element_of(operand: Typed, at: usize) -> Result<Vector, NameFault>
     ensures other { OnErr result (rules.edge_signal (typed_view operand) ≡ None) }
 {
     match operand {
-        Typed::Elements(Kind::Element, vector) => Ok(vector),
+        Typed::Elements(ElementKind::Element, vector) => Ok(vector),
         Typed::Integer(_integer) => Err(NameProblem::WrongKind.at(at)),
         _operand => Err(NameProblem::TypeMismatch.at(at)),
     }
@@ -98,7 +98,7 @@ fn element_of(operand: Typed, at: usize) -> Result<Vector, NameFault>
 
 /// The signal that an element is, by a static name.
 #[tactic(auto, using(crate::proofs::Meant::no_edge))]
-fn static_signal(vector: Vector, at: usize) -> Result<Place, NameFault>
+fn static_signal(vector: Vector, at: usize) -> Result<SignalPart, NameFault>
     ensures { Gives place_view (rules.edge_signal (table.elements Element (vector_view vector))) result }
 {
     match as_place(vector) {
@@ -114,7 +114,7 @@ fn static_signal(vector: Vector, at: usize) -> Result<Place, NameFault>
 }
 
 /// The signal of one element that an edge call or 'event at byte `at` asks for.
-pub(crate) fn edge_signal(operand: Typed, at: usize) -> Result<Place, NameFault>
+pub(crate) fn edge_signal(operand: Typed, at: usize) -> Result<SignalPart, NameFault>
     ensures { Gives place_view (rules.edge_signal (typed_view operand)) result }
 {
     let vector = element_of(operand, at)?;

@@ -1,6 +1,6 @@
 //! What names are declared to be (IEEE 1076-2008, 6.1).
 
-use vhdl_names_rules::{Function, IntegerType, Kind, ObjectType};
+use vhdl_names_rules::{Function, IntegerType, ElementKind, ObjectType};
 use vhdl_tree::Mode;
 use vhdl_values::Nine;
 
@@ -11,11 +11,11 @@ pub enum Meaning {
     IntegerConstant(usize),
     GenerateParameter(usize),
     LoopParameter(usize),
-    Port(usize, Mode, Kind),
+    Port(usize, Mode, ElementKind),
     Signal(usize, ObjectType),
     Variable(usize, ObjectType),
     /// A constant that is no integer, with the literal that declares it, if one does.
-    Constant(usize, Kind, Option<Vec<Nine>>),
+    Constant(usize, ElementKind, Option<Vec<Nine>>),
     /// A literal of the enumeration of this number, which has so many, at this position.
     Literal {
         number: usize,
@@ -27,7 +27,7 @@ pub enum Meaning {
         is_resolved: bool,
     },
     /// A type of vectors, and whether it is resolved.
-    VectorType(Kind, bool),
+    VectorType(ElementKind, bool),
     EnumerationType {
         number: usize,
         count: usize,

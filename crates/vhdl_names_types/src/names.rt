@@ -5,7 +5,7 @@ ghost use Rattle.std.specs.Prelude.{◌≡◌, option_map};
 ghost use Rattle.vhdl_names_rules.specs.Gives.{Gives};
 ghost use Rattle.vhdl_names_rules.specs.Names as rules;
 ghost use Rattle.vhdl_names_rules.specs.Operators as table;
-ghost use Rattle.vhdl_names_rules.specs.Visibility as meanings;
+ghost use Rattle.vhdl_names_rules.specs.Visibility as visibility;
 ghost use Rattle.vhdl_names_rules.specs.units.Expressions as units;
 ghost use Rattle.vhdl_names_rules.specs.views.Integers.{static_view};
 ghost use Rattle.vhdl_names_rules.specs.views.Vectors.{signal_view, value_view, vector_view};
@@ -19,27 +19,27 @@ use crate::parts::{if_plain, part, sole_argument, two_arguments};
 use crate::types::{Typed, TypedSuffix};
 use std::alloc::Global;
 use vhdl_names_rules::{
-    Function, Kind, NameFault, NameProblem, ObjectType, Place, Signal, Static, Test, Value, Vector,
+    Function, ElementKind, NameFault, NameProblem, ObjectType, SignalPart, Signal, Static, Test, Value, Vector,
 };
 use vhdl_tree::Identifier;
 
 /// A port or signal of the nine values, or a part of it.
 fn read_signal(
     signal: Signal,
-    kind: Kind,
+    kind: ElementKind,
     suffix: TypedSuffix,
     at: usize,
 ) -> Result<Typed, NameFault>
     ensures { Gives typed_view (rules.read_signal (signal_view signal) kind (typed_suffix_view suffix)) result }
 {
     let (part, kind) = part(kind, suffix, at)?;
-    Ok(Typed::Elements(kind, Vector::Signal(Place { at, signal, part })))
+    Ok(Typed::Elements(kind, Vector::Signal(SignalPart { at, signal, part })))
 }
 
 /// A variable of the nine values, or a part of it.
 fn read_variable(
     number: usize,
-    kind: Kind,
+    kind: ElementKind,
     suffix: TypedSuffix,
     at: usize,
 ) -> Result<Typed, NameFault>
@@ -52,7 +52,7 @@ fn read_variable(
 /// A constant of the nine values, or a part of it.
 fn read_constant(
     number: usize,
-    kind: Kind,
+    kind: ElementKind,
     suffix: TypedSuffix,
     at: usize,
 ) -> Result<Typed, NameFault>
@@ -63,11 +63,11 @@ fn read_constant(
 }
 
 /// A vector as one of another kind.
-fn conversion_of(kind: Kind, operand: Option<Typed>, at: usize) -> Result<Typed, NameFault>
+fn conversion_of(kind: ElementKind, operand: Option<Typed>, at: usize) -> Result<Typed, NameFault>
     ensures { Gives typed_view (conversion kind (option_map typed_view operand)) result }
 {
     match operand {
-        Some(Typed::Elements(Kind::LogicVector | Kind::Unsigned | Kind::OpenVector, vector)) => {
+        Some(Typed::Elements(ElementKind::LogicVector | ElementKind::Unsigned | ElementKind::OpenVector, vector)) => {
             Ok(Typed::Elements(kind, vector))
         }
         _operand => Err(NameProblem::TypeMismatch.at(at)),
@@ -76,7 +76,7 @@ fn conversion_of(kind: Kind, operand: Option<Typed>, at: usize) -> Result<Typed,
 
 /// The conversion to a vector type of a kind, whose name is at byte `at`.
 #[tactic(auto, using(crate::proofs::Meant::converted_sole))]
-fn converted(kind: Kind, suffix: TypedSuffix, at: usize) -> Result<Typed, NameFault>
+fn converted(kind: ElementKind, suffix: TypedSuffix, at: usize) -> Result<Typed, NameFault>
     ensures { Gives typed_view (rules.converted kind (typed_suffix_view suffix)) result }
 {
     match suffix {
@@ -94,7 +94,7 @@ fn number_and_count(arguments: Vec<Typed>, at: usize) -> Result<(Vector, Static)
     };
     let problem = NameProblem::TypeMismatch;
     match first {
-        Typed::Elements(Kind::Unsigned, number) => match second {
+        Typed::Elements(ElementKind::Unsigned, number) => match second {
             Typed::Integer(count) => Ok((number, count)),
             _second => Err(problem.at(at)),
         },
@@ -113,7 +113,7 @@ fn encoded(arguments: Vec<Typed>, at: usize) -> Result<Typed, NameFault>
     match first {
         Typed::Integer(number) => match second {
             Typed::Integer(size) => {
-                Ok(Typed::Elements(Kind::Unsigned, Vector::Encoded(at, number, size)))
+                Ok(Typed::Elements(ElementKind::Unsigned, Vector::Encoded(at, number, size)))
             }
             _second => Err(problem.at(at)),
         },
@@ -147,7 +147,7 @@ fn called(
         Function::ShiftLeft => Vector::ShiftedLeft(at, number, count),
         _ => Vector::ShiftedRight(at, number, count),
     };
-    Ok(Typed::Elements(Kind::Unsigned, vector))
+    Ok(Typed::Elements(ElementKind::Unsigned, vector))
 }
 
 /// A value of an enumeration, by its number and its count of literals.
@@ -168,7 +168,7 @@ fn signal_of(
     suffix: TypedSuffix,
     at: usize,
 ) -> Result<Typed, NameFault>
-    ensures { Gives typed_view (rules.denoted (meanings.signal number object_type) (typed_suffix_view suffix)) result }
+    ensures { Gives typed_view (rules.denoted (visibility.signal number object_type) (typed_suffix_view suffix)) result }
 {
     let signal = Signal::Signal(number);
     match object_type {
@@ -190,7 +190,7 @@ fn variable_of(
     suffix: TypedSuffix,
     at: usize,
 ) -> Result<Typed, NameFault>
-    ensures { Gives typed_view (rules.denoted (meanings.variable number object_type) (typed_suffix_view suffix)) result }
+    ensures { Gives typed_view (rules.denoted (visibility.variable number object_type) (typed_suffix_view suffix)) result }
 {
     match object_type {
         ObjectType::Elements(kind) => read_variable(number, kind, suffix, at),

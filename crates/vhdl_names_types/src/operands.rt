@@ -5,7 +5,7 @@ ghost use Rattle.vhdl_names_rules.specs.Expressions as rules;
 ghost use Rattle.vhdl_names_rules.specs.Gives.{Gives};
 ghost use Rattle.vhdl_names_rules.specs.Literals as literals;
 ghost use Rattle.vhdl_names_rules.specs.Operators as table;
-ghost use Rattle.vhdl_names_rules.specs.declared.kind.Kind.TheVariants.{Element, OpenVector};
+ghost use Rattle.vhdl_names_rules.specs.declared.kind.ElementKind.TheVariants.{Element, OpenVector};
 ghost use Rattle.vhdl_names_rules.specs.units.Expressions as u;
 ghost use Rattle.vhdl_names_rules.specs.views.Vectors.{vector_view};
 ghost use Rattle.vhdl_names_types.specs.Steps.{closed, integer_literal as integer_of, signed_by};
@@ -15,7 +15,7 @@ use crate::literals::{bit_string_values, string_values};
 use crate::types::Typed;
 use std::alloc::Global;
 use vhdl_lexer::integer_value;
-use vhdl_names_rules::{Kind, NameFault, NameProblem, Static, Vector, nine_of};
+use vhdl_names_rules::{ElementKind, NameFault, NameProblem, Static, Vector, nine_of};
 use vhdl_tree::{Literal, Sign};
 
 /// An integer literal, of at most 2,147,483,647 (IEEE 1076-2008, 5.2.3.2); a greater one is LeftOut.
@@ -33,7 +33,7 @@ pub fn character_literal(code: u8, at: usize) -> Result<Typed, NameFault>
     ensures { Gives typed_view (option_map (λ v. table.elements Element (u.character v)) (literals.nine_of code)) result }
 {
     match nine_of(code) {
-        Some(value) => Ok(Typed::Elements(Kind::Element, Vector::Character(at, value))),
+        Some(value) => Ok(Typed::Elements(ElementKind::Element, Vector::Character(at, value))),
         None => Err(NameProblem::TypeMismatch.at(at)),
     }
 }
@@ -43,7 +43,7 @@ pub fn string_literal(alloc: Global, literal: &Literal) -> Result<Typed, NameFau
     ensures { Gives typed_view (option_map (λ vs. table.elements OpenVector (u.Vector.literal vs)) (literals.values_of_string literal.now.text.items)) result }
 {
     let values = string_values(alloc, literal)?;
-    Ok(Typed::Elements(Kind::OpenVector, Vector::Literal(literal.at, values)))
+    Ok(Typed::Elements(ElementKind::OpenVector, Vector::Literal(literal.at, values)))
 }
 
 /// A bit string literal, a vector of zeros and ones (15.8). It takes the memory of a list.
@@ -51,7 +51,7 @@ pub fn bit_string_literal(alloc: Global, literal: &Literal) -> Result<Typed, Nam
     ensures { Gives typed_view (option_map (λ vs. table.elements OpenVector (u.Vector.literal vs)) (literals.values_of_bits literal.now.text.items)) result }
 {
     let values = bit_string_values(alloc, literal)?;
-    Ok(Typed::Elements(Kind::OpenVector, Vector::Literal(literal.at, values)))
+    Ok(Typed::Elements(ElementKind::OpenVector, Vector::Literal(literal.at, values)))
 }
 
 /// A sign at byte `at`, before an integer (9.2.6), or else there is TypeMismatch. It takes the
@@ -84,8 +84,8 @@ pub fn enclosed(operand: Typed) -> Typed
     ensures { typed_view result ≡ rules.enclosed (typed_view operand) }
 {
     match operand {
-        Typed::Elements(Kind::Element, vector) => {
-            Typed::Elements(Kind::Element, closed_vector(vector))
+        Typed::Elements(ElementKind::Element, vector) => {
+            Typed::Elements(ElementKind::Element, closed_vector(vector))
         }
         operand => operand,
     }

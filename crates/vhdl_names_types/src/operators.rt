@@ -12,7 +12,7 @@ ghost use Rattle.vhdl_names_types.specs.Views.{typed_view};
 use crate::types::Typed;
 use std::alloc::Global;
 use vhdl_names_rules::{
-    Arithmetic, Kind, NameFault, NameProblem, Numeric, Static, StaticTest, Test, Value, Vector,
+    Arithmetic, ElementKind, NameFault, NameProblem, Numeric, Static, StaticTest, Test, Value, Vector,
     VectorLink, VectorOperator,
 };
 use vhdl_tree::Operator;
@@ -140,7 +140,7 @@ fn arithmetic(
             Typed::Elements(k, y) => {
                 numeric(numbers, k.is_number(), problem, at)?;
                 let made = Vector::integer_with(alloc, by, at, s, y)?;
-                Ok(Typed::Elements(Kind::Unsigned, made))
+                Ok(Typed::Elements(ElementKind::Unsigned, made))
             }
             _right => Err(problem.at(at)),
         },
@@ -148,12 +148,12 @@ fn arithmetic(
             Typed::Elements(k, y) => {
                 numeric(numbers, j.is_number() && k.is_number(), problem, at)?;
                 let link = VectorLink::Vector(VectorOperator::Arithmetic(by), at, y);
-                Ok(Typed::Elements(Kind::Unsigned, x.with_link(alloc, link)?))
+                Ok(Typed::Elements(ElementKind::Unsigned, x.with_link(alloc, link)?))
             }
             Typed::Integer(t) => {
                 numeric(numbers, j.is_number(), problem, at)?;
                 let link = VectorLink::Integer(by, at, t);
-                Ok(Typed::Elements(Kind::Unsigned, x.with_link(alloc, link)?))
+                Ok(Typed::Elements(ElementKind::Unsigned, x.with_link(alloc, link)?))
             }
             _right => Err(problem.at(at)),
         },
@@ -187,7 +187,7 @@ fn equality(at: usize, comparison: Cmp, operands: (Typed, Typed)) -> Result<Type
     match left {
         Typed::Integer(s) => match right {
             Typed::Integer(t) => Ok(integers_compared(comparison, at, s, t)),
-            Typed::Elements(Kind::Unsigned, y) => {
+            Typed::Elements(ElementKind::Unsigned, y) => {
                 Ok(Typed::Truth(Test::ComparedWith(comparison, at, s, y)))
             }
             _right => Err(problem.at(at)),
@@ -195,11 +195,11 @@ fn equality(at: usize, comparison: Cmp, operands: (Typed, Typed)) -> Result<Type
         Typed::Elements(j, x) => match right {
             Typed::Elements(k, y) => match j.common(k) {
                 None => Err(problem.at(at)),
-                Some(Kind::Unsigned) => Ok(Typed::Truth(Test::Compared(comparison, at, x, y))),
+                Some(ElementKind::Unsigned) => Ok(Typed::Truth(Test::Compared(comparison, at, x, y))),
                 Some(_) => Ok(same(comparison, at, Value::Elements(x), Value::Elements(y))),
             },
             Typed::Integer(t) => match j {
-                Kind::Unsigned => Ok(Typed::Truth(Test::ComparedTo(comparison, at, x, t))),
+                ElementKind::Unsigned => Ok(Typed::Truth(Test::ComparedTo(comparison, at, x, t))),
                 _ => Err(problem.at(at)),
             },
             _right => Err(problem.at(at)),

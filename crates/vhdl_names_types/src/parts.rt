@@ -9,7 +9,7 @@ ghost use Rattle.vhdl_names_types.specs.Views.{typed_view, typed_suffix_view};
 
 use crate::held::before;
 use crate::types::{Typed, TypedSuffix};
-use vhdl_names_rules::{Kind, NameFault, NameProblem, ObjectType, Part};
+use vhdl_names_rules::{ElementKind, NameFault, NameProblem, ObjectType, Part};
 
 /// The argument that stands alone.
 pub(crate) fn sole_argument(mut arguments: Vec<Typed>) -> Option<Typed>
@@ -31,12 +31,12 @@ pub fn two_arguments(mut arguments: Vec<Typed>) -> Option<(Typed, Typed)>
 }
 
 /// The element of a vector at an index.
-fn element(kind: Kind, index: Option<Typed>, at: usize) -> Result<(Part, Kind), NameFault>
+fn element(kind: ElementKind, index: Option<Typed>, at: usize) -> Result<(Part, ElementKind), NameFault>
     ensures { Gives (λ p. (part_view p.0, p.1)) (indexed kind (option_map typed_view index)) result }
 {
     match index {
         Some(Typed::Integer(index)) => match kind {
-            Kind::LogicVector | Kind::Unsigned => Ok((Part::Element(index), Kind::Element)),
+            ElementKind::LogicVector | ElementKind::Unsigned => Ok((Part::Element(index), ElementKind::Element)),
             _ => Err(NameProblem::TypeMismatch.at(at)),
         },
         _index => Err(NameProblem::TypeMismatch.at(at)),
@@ -45,14 +45,14 @@ fn element(kind: Kind, index: Option<Typed>, at: usize) -> Result<(Part, Kind), 
 
 /// The part of an object of a kind that stands behind its name at byte `at`, and its kind.
 #[tactic(auto, using(crate::proofs::Meant::part_indexed))]
-pub(crate) fn part(kind: Kind, suffix: TypedSuffix, at: usize) -> Result<(Part, Kind), NameFault>
+pub(crate) fn part(kind: ElementKind, suffix: TypedSuffix, at: usize) -> Result<(Part, ElementKind), NameFault>
     ensures { Gives (λ p. (part_view p.0, p.1)) (rules.part kind (typed_suffix_view suffix)) result }
 {
     match suffix {
         TypedSuffix::Plain => Ok((Part::Whole, kind)),
         TypedSuffix::Arguments(_, arguments) => element(kind, sole_argument(arguments), at),
         TypedSuffix::Range(range) => match kind {
-            Kind::LogicVector | Kind::Unsigned => Ok((Part::Slice(range), kind)),
+            ElementKind::LogicVector | ElementKind::Unsigned => Ok((Part::Slice(range), kind)),
             _ => Err(NameProblem::TypeMismatch.at(at)),
         },
     }

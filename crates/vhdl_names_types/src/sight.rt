@@ -1,7 +1,7 @@
 //! The declarations in sight of a place (IEEE 1076-2008, 12.3).
 
 ghost use Rattle.std.specs.Prelude.{◌≡◌, ℕ, List, map, reverse, option_map, option_copied, IfErr};
-ghost use Rattle.vhdl_names_rules.specs.Visibility as rules;
+ghost use Rattle.vhdl_names_rules.specs.Visibility as visibility;
 ghost use Rattle.vhdl_names_types.specs.Views.{meaning_view, declared_view, sight_view};
 ghost use Rattle.vhdl_names_rules.specs.Gives.{Gives};
 ghost use Rattle.vhdl_names_rules.specs.declared.fault.NameFault.TheVariants.{At};
@@ -53,7 +53,7 @@ impl Sight {
     /// What a name, in small letters, means here.
     #[tactic(auto, using(crate::proofs::Sights::meaning_in_turn, crate::proofs::Sights::outside_in_turn, crate::proofs::Sights::found_entries))]
     pub fn meaning(&self, name: &[u8]) -> Option<&Meaning>
-        ensures { rules.meaning (sight_view self.now) name.now ≡ option_map meaning_view (option_copied result) }
+        ensures { visibility.meaning (sight_view self.now) name.now ≡ option_map meaning_view (option_copied result) }
     {
         if let Some(parameter) = innermost(&self.loops, name) {
             return Some(parameter);
@@ -198,7 +198,7 @@ fn missing(name: &[u8]) -> NameProblem
 /// use clause names, LeftOut if a package declares what the language leaves out, as `boolean`,
 /// `signed` and `to_integer`, and else Undeclared.
 pub fn meaning_of<'a>(sight: &'a Sight, name: &Identifier) -> Result<&'a Meaning, NameFault>
-    ensures meant { Gives (λ m. meaning_view m.now) (rules.meaning (sight_view sight.now) name.now.text.items) result }
+    ensures meant { Gives (λ m. meaning_view m.now) (visibility.meaning (sight_view sight.now) name.now.text.items) result }
     ensures fault { IfErr result (λ f. f ≡ At (problem_of name.now.text.items) name.now.at) }
 {
     match sight.meaning(&name.text) {

@@ -1,13 +1,13 @@
 //! What expressions are.
 
-use vhdl_names_rules::{Kind, Static, StaticRange, Test, Value, Vector};
+use vhdl_names_rules::{ElementKind, Static, StaticRange, Test, Value, Vector};
 
 /// What an expression is: a static integer, one element or a vector of a kind, a value of the
 /// enumeration of this number, which has so many literals, or a truth.
 #[derive(Drop)]
 pub enum Typed {
     Integer(Static),
-    Elements(Kind, Vector),
+    Elements(ElementKind, Vector),
     Enumerated {
         number: usize,
         count: usize,

@@ -1,6 +1,6 @@
 //! What is analysed of names, values, choices and subtype indications.
 
-use vhdl_names_rules::{ObjectType, Part, Place, Static, StaticRange, Value, Vector};
+use vhdl_names_rules::{ObjectType, Part, SignalPart, Static, StaticRange, Value, Vector};
 use vhdl_tree::Mode;
 use vhdl_values::Nine;
 
@@ -21,7 +21,7 @@ pub enum Choice {
 /// A signal, port, or part of one, with its mode if it is a port, and its type.
 #[derive(Drop)]
 pub struct SignalName {
-    pub place: Place,
+    pub place: SignalPart,
     pub mode: Option<Mode>,
     pub object_type: ObjectType,
 }

@@ -5,13 +5,13 @@ ghost use Rattle.vhdl_names_units.specs.views.Concurrent as views;
 
 use crate::declaration::Objects;
 use crate::sequential::Statement;
-use vhdl_names_rules::{Place, Static, StaticRange, StaticTest};
+use vhdl_names_rules::{SignalPart, Static, StaticRange, StaticTest};
 use vhdl_tree::Identifier;
 
 /// What resumes a process.
 #[derive(Drop)]
 pub enum Sensitivity {
-    Listed(Vec<Place>),
+    Listed(Vec<SignalPart>),
     /// `( all )`.
     All,
     /// What a concurrent assignment reads.
@@ -35,7 +35,7 @@ pub struct Instance {
     pub label: Identifier,
     pub unit: usize,
     pub generics: Vec<Option<Static>>,
-    pub ports: Vec<Option<Place>>,
+    pub ports: Vec<Option<SignalPart>>,
 }
 
 /// A concurrent statement.

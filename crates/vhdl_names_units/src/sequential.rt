@@ -9,7 +9,7 @@ ghost use Rattle.vhdl_names_units.specs.views.Answers.{choices_view};
 ghost use Rattle.vhdl_names_units.specs.views.Sequential as views;
 
 use crate::answers::{Choice, Given};
-use vhdl_names_rules::{Part, Place, StaticRange, Test, Value};
+use vhdl_names_rules::{Part, SignalPart, StaticRange, Test, Value};
 
 /// A sequential statement.
 #[cycle(statement)]
@@ -18,7 +18,7 @@ pub enum Statement {
     Null,
     /// To a signal (10.5).
     Assign {
-        target: Place,
+        target: SignalPart,
         value: Given,
     },
     /// To the variable of this number (10.6), whose name starts at byte `at`.
@@ -111,7 +111,7 @@ impl Statement {
         otherwise: Option<Vec<Statement>>,
     ) -> Statement
         ensures { views.statement_view result
-            ≡ units.choose (views.branches_of (views.branches_view branches) (views.last_of (views.option_statements_view otherwise))) }
+            ≡ units.if_of (views.branches_of (views.branches_view branches) (views.last_of (views.option_statements_view otherwise))) }
     {
         Statement::If(If {
             at,
@@ -128,7 +128,7 @@ impl Statement {
         others: Vec<Statement>,
     ) -> Statement
         ensures { views.statement_view result
-            ≡ units.select (value_view selector) (views.alternatives_of (views.alternatives_view alternatives) (views.statements_of (views.statements_view others))) }
+            ≡ units.case_of (value_view selector) (views.alternatives_of (views.alternatives_view alternatives) (views.statements_of (views.statements_view others))) }
     {
         Statement::Case(Case {
             at,
@@ -140,7 +140,7 @@ impl Statement {
 
     /// A for loop, which starts at byte `at`.
     pub fn repetition(at: usize, range: StaticRange, statements: Vec<Statement>) -> Statement
-        ensures { views.statement_view result ≡ units.loop (range_view range) (views.statements_of (views.statements_view statements)) }
+        ensures { views.statement_view result ≡ units.for_of (range_view range) (views.statements_of (views.statements_view statements)) }
     {
         Statement::Loop(Loop {
             at,

@@ -1,7 +1,7 @@
 -- What the readers of concurrent statements make.
 use Rattle.std.proofs.Common.{◌≡◌, ℕ, zero, suc, ◌≤◌, Bool, false, List, [], ◌∷◌, ◌++◌, Option, Some, None, refl, sym, ap, append-nil, arith}
-use Rattle.vhdl_lexer.specs.declared.token.Kind.{Kind}
-use Rattle.vhdl_lexer.specs.declared.token.Kind.TheVariants as k
+use Rattle.vhdl_lexer.specs.declared.token.TokenKind.{TokenKind}
+use Rattle.vhdl_lexer.specs.declared.token.TokenKind.TheVariants as k
 use Rattle.vhdl_tree.specs.Lexeme.{Lexeme, same_kind}
 use Rattle.vhdl_tree.specs.Tree.{Ident, Scheme, for_each, if_holds, Concurrent, assignment, selected, process, instance, generated, concurrents_of}
 use Rattle.vhdl_tree.specs.Pieces.{Piece, some, spell_option, spell_word, spell_each, IsEach}
@@ -65,7 +65,7 @@ named_rule n label = w_by sees_component (instance_with_rule n label) (assign_wi
     (eager k.Identifier (instance_with_rule n label).steady (λ at text. ap (λ o. left_of o) (instance_with_alone n label at text)))
     (eager k.Identifier (assign_with_rule n (Some label)).steady (λ at text. ap (λ o. left_of o) (assign_with_alone n (Some label) at text))))
 
-unlabelled_next : (n : ℕ) (next : Option Kind) → Behind n None (unlabelled_by n next)
+unlabelled_next : (n : ℕ) (next : Option TokenKind) → Behind n None (unlabelled_by n next)
 unlabelled_next n (Some k.With) = select_with_rule n None
 unlabelled_next n (Some k.Process) = process_with_rule n None
 unlabelled_next n (Some k.Identifier) = assign_with_rule n None
@@ -120,7 +120,7 @@ module _ (n : ℕ) (inner : Parser (List Concurrent)) (each : Rule n 1 inner spe
   unfolding if_generate same_kind
   if_rule label = w_open k.If refl refl refl (plain_if label) (below_met _ n) (λ at. w_below n (λ m e. w_then (under e (expr_rule m)) (λ c good le. generate_rest_rule label at (if_holds c) good le)))
 
-  labelled_next : (label : Ident) (next : Option Kind) → Behind n (Some label) (labelled_by n inner label next)
+  labelled_next : (label : Ident) (next : Option TokenKind) → Behind n (Some label) (labelled_by n inner label next)
   labelled_next label (Some k.With) = select_with_rule n (Some label)
   labelled_next label (Some k.Process) = process_with_rule n (Some label)
   labelled_next label (Some k.Entity) = instance_with_rule n label

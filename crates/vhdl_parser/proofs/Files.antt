@@ -1,7 +1,7 @@
 -- Units and files: what is read is spelled so, and what is spelled is read.
 use Rattle.std.proofs.Common.{◌≡◌, ◌+◌, ◌≤◌, Bool, true, false, List, [], ◌∷◌, ◌++◌, length, take, Ok, Err, Option, Some, None, inl, ⊎_elim, refl, sym, ap, ◌∙◌, subst, append-nil, arith}
-use Rattle.vhdl_lexer.specs.declared.token.Kind.{Kind}
-use Rattle.vhdl_lexer.specs.declared.token.Kind.TheVariants as k
+use Rattle.vhdl_lexer.specs.declared.token.TokenKind.{TokenKind}
+use Rattle.vhdl_lexer.specs.declared.token.TokenKind.TheVariants as k
 use Rattle.vhdl_parser_expressions.specs.declared.stop.Stop.{Stop}
 use Rattle.vhdl_parser_expressions.specs.declared.stop.Stop.TheVariants.{Unexpected, TooDeep}
 use Rattle.vhdl_tree.specs.Lexeme.{Lexeme, same_kind}
@@ -71,7 +71,7 @@ library_unit_rule : Rule max_open 0 library_unit spell_library_unit IsLibraryUni
 unfolding library_unit
 library_unit_rule = w_choose (λ next. by_next next)
   where
-    by_next : (next : Option Kind) → Rule max_open 0 (library_unit_by next) spell_library_unit IsLibraryUnit
+    by_next : (next : Option TokenKind) → Rule max_open 0 (library_unit_by next) spell_library_unit IsLibraryUnit
     by_next (Some k.Entity) = w_last entity entity_rule (λ e good. (refl, good))
     by_next (Some k.Architecture) = w_last architecture architecture_rule (λ a good. (refl, good))
     by_next _ = w_refuse plain_entity
@@ -94,13 +94,13 @@ unfolding units
 units_rule = each_rule is_more unit (omega arith) unit_rule refl unit_some
 
 -- end [ word ] [ id ] ;
-end_gives : {B : Type 0} (f : Bool → Option Ident → B) (kind : Kind) (word : Bool) (last : Option Ident) → same_kind kind kind ≡ true → same_kind k.Identifier kind ≡ false → same_kind k.Semicolon kind ≡ false →
+end_gives : {B : Type 0} (f : Bool → Option Ident → B) (kind : TokenKind) (word : Bool) (last : Option Ident) → same_kind kind kind ≡ true → same_kind k.Identifier kind ≡ false → same_kind k.Semicolon kind ≡ false →
     Gives (λ ts. and_then (expect k.End ts) (λ _ us. and_then (eat kind us) (λ w vs. and_then (optional (is_kind k.Identifier) identifier vs) (λ l ws. and_then (expect k.Semicolon ws) (λ _ xs. Ok (f w l, xs)))))) (f word last) (spell_end kind word last) Whatever
 unfolding same_kind
 end_gives f kind word last same no_name no_end =
     g_some (λ _. g_then _ (eat_gives kind word same) (g_then _ (last_gives last) (g_some (λ _. g_pure)) (λ next g. (refl, tt))) (λ next g. behind last next))
   where
-    behind : (last : Option Ident) (next : Option Kind) → is_kind kind (front (spell_option spell_ident last ++ some k.Semicolon ∷ []) next) ≡ false
+    behind : (last : Option Ident) (next : Option TokenKind) → is_kind kind (front (spell_option spell_ident last ++ some k.Semicolon ∷ []) next) ≡ false
     behind None next = no_end
     behind (Some i) next = no_name
 
@@ -114,7 +114,7 @@ entity_gives e good =
     (λ next g. (refl, tt)))
     (λ next g. no_generic e.ports next))))
   where
-    no_generic : (ps : Option (List Port)) (next : Option Kind) → (is_kind k.Generic (front (spell_option spell_ports ps ++ spell_end k.Entity e.end_word e.end_name) next) ≡ false) × Unit {0}
+    no_generic : (ps : Option (List Port)) (next : Option TokenKind) → (is_kind k.Generic (front (spell_option spell_ports ps ++ spell_end k.Entity e.end_word e.end_name) next) ≡ false) × Unit {0}
     no_generic None next = (refl, tt)
     no_generic (Some ps) next = (refl, tt)
 
@@ -134,7 +134,7 @@ unfolding library_unit
 library_unit_gives (entity e) good = g_choose library_unit_by (Some k.Entity) (λ next g. refl) (g_map (λ x. entity x) (entity_gives e good))
 library_unit_gives (architecture a) good = g_choose library_unit_by (Some k.Architecture) (λ next g. refl) (g_map (λ x. architecture x) (architecture_gives a good))
 
-no_context : (u : LibraryUnit) (next : Option Kind) → begins_context (front (spell_library_unit u) next) ≡ false
+no_context : (u : LibraryUnit) (next : Option TokenKind) → begins_context (front (spell_library_unit u) next) ≡ false
 no_context (entity e) next = refl
 no_context (architecture a) next = refl
 
@@ -142,7 +142,7 @@ unit_gives : (u : DesignUnit) → IsUnit u → Gives unit u (spell_unit u) Whate
 unfolding unit
 unit_gives u good = g_then _ (context_gives u.context good.0) (g_map (λ x. record { context = u.context; unit = x }) (library_unit_gives u.unit good.1)) (λ next g. (no_context u.unit next, tt))
 
-unit_begins : (u : DesignUnit) → IsUnit u → (next : Option Kind) → is_more (front (spell_unit u) next) ≡ true
+unit_begins : (u : DesignUnit) → IsUnit u → (next : Option TokenKind) → is_more (front (spell_unit u) next) ≡ true
 unit_begins u good next = by_parts u.context u.unit
   where
     by_parts : (cs : List ContextItem) (x : LibraryUnit) → is_more (front (spell_each spell_context cs ++ spell_library_unit x) next) ≡ true

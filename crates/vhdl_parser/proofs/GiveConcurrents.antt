@@ -1,7 +1,7 @@
 -- Concurrent statements that are spelled are read.
 use Rattle.std.proofs.Common.{◌≡◌, ℕ, suc, ◌≤◌, Bool, true, false, ◌||◌, cond, List, [], ◌∷◌, ◌++◌, length, Ok, Option, Some, None, refl, sym, ap, ◌∙◌, subst, append_assoc, arith}
-use Rattle.vhdl_lexer.specs.declared.token.Kind.{Kind}
-use Rattle.vhdl_lexer.specs.declared.token.Kind.TheVariants as k
+use Rattle.vhdl_lexer.specs.declared.token.TokenKind.{TokenKind}
+use Rattle.vhdl_lexer.specs.declared.token.TokenKind.TheVariants as k
 use Rattle.vhdl_tree.specs.Lexeme.{Lexeme, same_kind}
 use Rattle.vhdl_tree.specs.Tree.{Ident, Expr, Suffix, plain, arguments, sliced, Range, Name, Value, Branch, Assignment, SelectedAssignment, Process, Association, Instantiated, entity_unit, component_unit, Instance, Scheme, for_each, if_holds, Concurrent, assignment, selected, process, instance, generated, Concurrents, no_concurrents, concurrents_of}
 use Rattle.vhdl_tree.specs.Tree as tree
@@ -26,7 +26,7 @@ use Rattle.vhdl_parser.proofs.Concurrents.{spelled_all, spelled_all-each}
 -- ---- labels
 
 module _ (n : ℕ) (inner : Parser (List Concurrent)) where
-  without_label : (c : Concurrent) (ps : List Piece) → 1 ≤ length ps → ((next : Option Kind) → both k.Identifier k.Colon ps next ≡ false) → Gives (unlabelled n) c ps Whatever → Gives (concurrent n inner) c ps Whatever
+  without_label : (c : Concurrent) (ps : List Piece) → 1 ≤ length ps → ((next : Option TokenKind) → both k.Identifier k.Colon ps next ≡ false) → Gives (unlabelled n) c ps Whatever → Gives (concurrent n inner) c ps Whatever
   unfolding concurrent optional_label
   without_label c ps long none w = g_neither_then k.Identifier k.Colon long (λ ts. Ok (None, ts)) (λ ts. and_then (label ts) (λ x us. Ok (Some x, us))) (by_label n inner) (λ next _. none next) w
 
@@ -36,7 +36,7 @@ module _ (n : ℕ) (inner : Parser (List Concurrent)) where
 
 -- ---- a component's name or a target
 
-abbrev component : List Piece → Option Kind → Bool
+abbrev component : List Piece → Option TokenKind → Bool
 component ps next = both k.Identifier k.Generic ps next || (both k.Identifier k.Port ps next || both k.Identifier k.Semicolon ps next)
 
 component_is : (ps : List Piece) (ts rest : List Lexeme) → 1 ≤ length ps → Spells ps ts rest → sees_component ts ≡ component ps (next_kind rest)
@@ -46,13 +46,13 @@ component_is ps ts rest le h =
     ∙ ap (λ x. both k.Identifier k.Generic ps (next_kind rest) || (both k.Identifier k.Port ps (next_kind rest) || x)) (sees_is k.Identifier k.Semicolon ps ts rest le h)
 
 module _ (n : ℕ) (i : Ident) (c : Concurrent) (ps : List Piece) (long : 1 ≤ length ps) where
-  component_gives : ((next : Option Kind) → component ps next ≡ true) → Gives (instance_with n i) c ps Whatever → Gives (named_with n i) c ps Whatever
+  component_gives : ((next : Option TokenKind) → component ps next ≡ true) → Gives (instance_with n i) c ps Whatever → Gives (named_with n i) c ps Whatever
   unfolding named_with
   component_gives is w = record {
     reads = λ ts rest h g. subst (λ t. Reaches (cond {A = Outcome Concurrent} t (instance_with n i ts) (assign_with n (Some i) ts)) c rest) (sym (component_is ps ts rest long h ∙ is (next_kind rest))) (w.reads ts rest h g);
   }
 
-  target_gives : ((next : Option Kind) → component ps next ≡ false) → Gives (assign_with n (Some i)) c ps Whatever → Gives (named_with n i) c ps Whatever
+  target_gives : ((next : Option TokenKind) → component ps next ≡ false) → Gives (assign_with n (Some i)) c ps Whatever → Gives (named_with n i) c ps Whatever
   unfolding named_with
   target_gives is w = record {
     reads = λ ts rest h g. subst (λ t. Reaches (cond {A = Outcome Concurrent} t (instance_with n i ts) (assign_with n (Some i) ts)) c rest) (sym (component_is ps ts rest long h ∙ is (next_kind rest))) (w.reads ts rest h g);
@@ -68,14 +68,14 @@ assign_gives : (n : ℕ) (l : Option Ident) (target : Name) (branches : List Bra
 unfolding assign
 assign_gives n l target branches last f g = g_then _ (name_gives n target f) (g_some (λ _. g_then _ (conditional_gives n branches last g) (g_some (λ _. g_pure)) (λ next _. refl))) (λ next _. omega arith)
 
-target_label : (i : Ident) (x : Suffix) (a : Option Ident) (ps : List Piece) (next : Option Kind) → both k.Identifier k.Colon (spell_name (record { identifier = i; suffix = x; attribute = a }) ++ (some k.LessEqual ∷ ps)) next ≡ false
+target_label : (i : Ident) (x : Suffix) (a : Option Ident) (ps : List Piece) (next : Option TokenKind) → both k.Identifier k.Colon (spell_name (record { identifier = i; suffix = x; attribute = a }) ++ (some k.LessEqual ∷ ps)) next ≡ false
 unfolding same_kind
 target_label i plain None ps next = refl
 target_label i plain (Some a) ps next = refl
 target_label i (arguments all) a ps next = refl
 target_label i (sliced left direction right) a ps next = refl
 
-target_component : (i : Ident) (x : Suffix) (a : Option Ident) (ps : List Piece) (next : Option Kind) → component (spell_name (record { identifier = i; suffix = x; attribute = a }) ++ (some k.LessEqual ∷ ps)) next ≡ false
+target_component : (i : Ident) (x : Suffix) (a : Option Ident) (ps : List Piece) (next : Option TokenKind) → component (spell_name (record { identifier = i; suffix = x; attribute = a }) ++ (some k.LessEqual ∷ ps)) next ≡ false
 unfolding same_kind
 target_component i plain None ps next = refl
 target_component i plain (Some a) ps next = refl
@@ -105,7 +105,7 @@ unfolding unlabelled labelled same_kind
 process_ready n inner None p f = without_label n inner _ (spell_process p) (omega arith) (λ next. refl) (g_choose (unlabelled_by n) (Some k.Process) (λ next _. refl) (g_map (λ x. process None x) (process_gives n p f)))
 process_ready n inner (Some i) p f = with_label n inner i _ (spell_process p) (g_choose (labelled_by n inner i) (Some k.Process) (λ next _. refl) (g_map (λ x. process (Some i) x) (process_gives n p f)))
 
-is_component : (name : Ident) (g p : Option (List Association)) (next : Option Kind) → component (spell_ident name ++ (spell_option (spell_map k.Generic) g ++ (spell_option (spell_map k.Port) p ++ some k.Semicolon ∷ []))) next ≡ true
+is_component : (name : Ident) (g p : Option (List Association)) (next : Option TokenKind) → component (spell_ident name ++ (spell_option (spell_map k.Generic) g ++ (spell_option (spell_map k.Port) p ++ some k.Semicolon ∷ []))) next ≡ true
 unfolding same_kind
 is_component name None None next = refl
 is_component name None (Some p) next = refl
@@ -128,7 +128,7 @@ instance_ready n inner i (component_unit false name) g p f = with_label n inner 
 abbrev Ready : Concurrent → Type 0
 Ready c = (n : ℕ) → Gives (concurrent n (deeper_concurrents n)) c (spell_concurrent c) Whatever
 
-concurrent_begins : (c : Concurrent) (next : Option Kind) → begins_concurrent (front (spell_concurrent c) next) ≡ true
+concurrent_begins : (c : Concurrent) (next : Option TokenKind) → begins_concurrent (front (spell_concurrent c) next) ≡ true
 concurrent_begins (assignment a) next = by a.label
   where
     by : (l : Option Ident) → begins_concurrent (front (spell_option spell_label l ++ spell_behind a.target a.branches a.otherwise) next) ≡ true
@@ -141,7 +141,7 @@ concurrent_begins (process (Some i) p) next = refl
 concurrent_begins (instance i x) next = refl
 concurrent_begins (generated i at s w cs l) next = refl
 
-abbrev pub EndsConcurrents : Option Kind → Type 0
+abbrev pub EndsConcurrents : Option TokenKind → Type 0
 EndsConcurrents next = (begins_concurrent next ≡ false) × Whatever next
 
 concurrents_from : (cs : List Concurrent) → IsEach Ready cs → (n : ℕ) → Gives (concurrents n) cs (spell_each spell_concurrent cs) EndsConcurrents
@@ -156,7 +156,7 @@ deeper_from cs r n m e =
 
 -- ---- generates
 
-no_begin : (c : Concurrent) (ps : List Piece) (next : Option Kind) → is_kind k.Begin (front (spell_concurrent c ++ ps) next) ≡ false
+no_begin : (c : Concurrent) (ps : List Piece) (next : Option TokenKind) → is_kind k.Begin (front (spell_concurrent c ++ ps) next) ≡ false
 unfolding same_kind
 no_begin (assignment a) ps next = by a.label
   where
@@ -170,7 +170,7 @@ no_begin (process (Some i) p) ps next = refl
 no_begin (instance i x) ps next = refl
 no_begin (generated i at s w cs l) ps next = refl
 
-after_begin : (cs : List Concurrent) (ps : List Piece) (next : Option Kind) → is_kind k.Begin (front (spelled_all cs ++ (some k.End ∷ ps)) next) ≡ false
+after_begin : (cs : List Concurrent) (ps : List Piece) (next : Option TokenKind) → is_kind k.Begin (front (spelled_all cs ++ (some k.End ∷ ps)) next) ≡ false
 unfolding same_kind
 after_begin [] ps next = refl
 after_begin (c ∷ cs) ps next = by (spelled_all cs)

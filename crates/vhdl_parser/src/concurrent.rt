@@ -8,19 +8,19 @@ ghost use Rattle.vhdl_parser_expressions.specs.reader.Input.{Reads};
 
 use vhdl_parser_declarations::instance;
 use vhdl_parser_expressions::{Parser, Stop, below};
-use vhdl_lexer::Kind;
+use vhdl_lexer::TokenKind;
 use vhdl_parser_statements::{
     conditional_waveforms, end_of, optional_label, process, selected_assignment,
 };
 use vhdl_tree::{Assignment, Concurrent, Identifier, Scheme};
 
-fn begins_concurrent(kind: Option<Kind>) -> bool
+fn begins_concurrent(kind: Option<TokenKind>) -> bool
     ensures { result ≡ read.begins_concurrent kind }
 {
     match kind {
-        Some(Kind::Identifier) => true,
-        Some(Kind::With) => true,
-        Some(Kind::Process) => true,
+        Some(TokenKind::Identifier) => true,
+        Some(TokenKind::With) => true,
+        Some(TokenKind::Process) => true,
         _ => false,
     }
 }
@@ -34,9 +34,9 @@ fn assignment(
     ensures { Reads assignment_view (read.assign levels (option_ident_view label) parser.old) result parser.new }
 {
     let target = parser.name(levels)?;
-    parser.expect(Kind::LessEqual)?;
+    parser.expect(TokenKind::LessEqual)?;
     let (branches, otherwise) = conditional_waveforms(parser, levels)?;
-    parser.expect(Kind::Semicolon)?;
+    parser.expect(TokenKind::Semicolon)?;
     Ok(Assignment {
         label,
         target,
@@ -82,9 +82,9 @@ fn instance_statement(
 fn sees_component(parser: &Parser<'_>) -> bool
     ensures { result ≡ read.sees_component parser.now }
 {
-    parser.sees_both(Kind::Identifier, Kind::Generic)
-        || parser.sees_both(Kind::Identifier, Kind::Port)
-        || parser.sees_both(Kind::Identifier, Kind::Semicolon)
+    parser.sees_both(TokenKind::Identifier, TokenKind::Generic)
+        || parser.sees_both(TokenKind::Identifier, TokenKind::Port)
+        || parser.sees_both(TokenKind::Identifier, TokenKind::Semicolon)
 }
 
 #[tactic(auto, unfolding(crate::specs::reader::Concurrent::named_with))]
@@ -107,9 +107,9 @@ fn unlabelled(parser: &mut Parser<'_>, levels: usize) -> Result<Concurrent, Stop
     ensures { Reads concurrent_view (read.unlabelled levels parser.old) result parser.new }
 {
     match parser.peek() {
-        Some(Kind::With) => selected(parser, levels, None),
-        Some(Kind::Process) => process_statement(parser, levels, None),
-        Some(Kind::Identifier) => Ok(Concurrent::Assignment(assignment(parser, levels, None)?)),
+        Some(TokenKind::With) => selected(parser, levels, None),
+        Some(TokenKind::Process) => process_statement(parser, levels, None),
+        Some(TokenKind::Identifier) => Ok(Concurrent::Assignment(assignment(parser, levels, None)?)),
         _ => Err(parser.refuse()),
     }
 }
@@ -147,12 +147,12 @@ fn labelled(parser: &mut Parser<'_>, levels: usize, label: Identifier) -> Result
     ensures { Reads concurrent_view (read.labelled levels (read.deeper_concurrents levels) (ident_view label) parser.old) result parser.new }
 {
     match parser.peek() {
-        Some(Kind::With) => selected(parser, levels, Some(label)),
-        Some(Kind::Process) => process_statement(parser, levels, Some(label)),
-        Some(Kind::Entity) | Some(Kind::Component) => instance_statement(parser, levels, label),
-        Some(Kind::For) => for_generate(parser, levels, label),
-        Some(Kind::If) => if_generate(parser, levels, label),
-        Some(Kind::Identifier) => instance_or_assignment(parser, levels, label),
+        Some(TokenKind::With) => selected(parser, levels, Some(label)),
+        Some(TokenKind::Process) => process_statement(parser, levels, Some(label)),
+        Some(TokenKind::Entity) | Some(TokenKind::Component) => instance_statement(parser, levels, label),
+        Some(TokenKind::For) => for_generate(parser, levels, label),
+        Some(TokenKind::If) => if_generate(parser, levels, label),
+        Some(TokenKind::Identifier) => instance_or_assignment(parser, levels, label),
         _ => Err(parser.refuse()),
     }
 }
@@ -162,7 +162,7 @@ fn for_scheme(parser: &mut Parser<'_>, levels: usize) -> Result<Scheme, Stop>
     ensures { Reads scheme_view (read.for_scheme levels parser.old) result parser.new }
 {
     let parameter = parser.identifier()?;
-    parser.expect(Kind::In)?;
+    parser.expect(TokenKind::In)?;
     let range = parser.range(levels)?;
     Ok(Scheme::For { parameter, range })
 }
@@ -176,7 +176,7 @@ fn for_generate(
 ) -> Result<Concurrent, Stop>
     ensures { Reads concurrent_view (read.for_generate levels (read.deeper_concurrents levels) (ident_view label) parser.old) result parser.new }
 {
-    let at = parser.expect(Kind::For)?;
+    let at = parser.expect(TokenKind::For)?;
     let inner = below(levels)?;
     let scheme = for_scheme(parser, inner)?;
     generated(parser, inner, label, at, scheme)
@@ -191,7 +191,7 @@ fn if_generate(
 ) -> Result<Concurrent, Stop>
     ensures { Reads concurrent_view (read.if_generate levels (read.deeper_concurrents levels) (ident_view label) parser.old) result parser.new }
 {
-    let at = parser.expect(Kind::If)?;
+    let at = parser.expect(TokenKind::If)?;
     let inner = below(levels)?;
     let condition = parser.expr(inner)?;
     generated(parser, inner, label, at, Scheme::If { condition })
@@ -222,9 +222,9 @@ fn generate_body(
 ) -> Result<(bool, Vec<Concurrent>, Option<Identifier>), Stop>
     ensures { Reads generate_body_view (read.generate_body (read.concurrents levels) parser.old) result parser.new }
 {
-    parser.expect(Kind::Generate)?;
-    let begin_word = parser.eat(Kind::Begin)?;
+    parser.expect(TokenKind::Generate)?;
+    let begin_word = parser.eat(TokenKind::Begin)?;
     let statements = concurrents(parser, levels)?;
-    let end_label = end_of(parser, Kind::Generate)?;
+    let end_label = end_of(parser, TokenKind::Generate)?;
     Ok((begin_word, statements, end_label))
 }

@@ -8,7 +8,7 @@ ghost use Rattle.vhdl_tree.specs.Height.{file_height};
 ghost use Rattle.vhdl_tree.specs.Levels.{IsShallow, IsDeep, most_open};
 ghost use Rattle.vhdl_tree.specs.Lexeme.{lexemes};
 ghost use Rattle.vhdl_tree.specs.Pieces.{Spells};
-ghost use Rattle.vhdl_tree.specs.Tree as tree;
+ghost use Rattle.vhdl_tree.specs.Tree as t;
 ghost use Rattle.vhdl_tree.specs.View.{file_view};
 ghost use Rattle.vhdl_parser_expressions.specs.declared.stop.Stop.TheVariants as s;
 ghost use Rattle.vhdl_tree.specs.grammar.Units.{spell_file, IsFile};
@@ -47,7 +47,7 @@ pub fn parse(alloc: Global, source: &[u8], tokens: &[Token]) -> Result<File, Syn
 
     // No other well-formed tree is spelled so.
     ensures only { IfOk result
-        (λ f. (other : tree.File) → IsFile other
+        (λ f. (other : t.File) → IsFile other
         → Spells (spell_file other) (lexemes source.now tokens.now) [] → other ≡ file_view f) }
     ensures shallow { OnOk result (IsShallow most_open (lexemes source.now tokens.now)) }
 
@@ -56,7 +56,7 @@ pub fn parse(alloc: Global, source: &[u8], tokens: &[Token]) -> Result<File, Syn
 
     // What is refused, and neither for its depth nor for memory, is the spelling of no tree.
     ensures refused { IfErr result
-        (λ e. IsRefusal e → (other : tree.File) → IsFile other
+        (λ e. IsRefusal e → (other : t.File) → IsFile other
         → Spells (spell_file other) (lexemes source.now tokens.now) [] → ⊥) }
     ensures deep { IfErr result
         (λ e. IsTooDeep e → IsDeep most_open (lexemes source.now tokens.now)) }

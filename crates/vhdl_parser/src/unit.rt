@@ -9,22 +9,22 @@ ghost use Rattle.vhdl_parser.specs.reader.Units as read;
 use crate::concurrent::concurrents;
 use vhdl_parser_declarations::{context_clause, declarations, optional_generics, optional_ports};
 use vhdl_parser_expressions::{Parser, Stop, many};
-use vhdl_lexer::Kind;
+use vhdl_lexer::TokenKind;
 use vhdl_tree::{Architecture, DesignUnit, Entity, File, LibraryUnit, MAX_OPEN};
 
 #[tactic(auto, unfolding(crate::specs::reader::Units::entity_unit))]
 fn entity(parser: &mut Parser<'_>) -> Result<Entity, Stop>
     ensures { Reads entity_view (read.entity_unit parser.old) result parser.new }
 {
-    let at = parser.expect(Kind::Entity)?;
+    let at = parser.expect(TokenKind::Entity)?;
     let name = parser.identifier()?;
-    parser.expect(Kind::Is)?;
+    parser.expect(TokenKind::Is)?;
     let generics = optional_generics(parser, MAX_OPEN)?;
     let ports = optional_ports(parser, MAX_OPEN)?;
-    parser.expect(Kind::End)?;
-    let end_word = parser.eat(Kind::Entity)?;
+    parser.expect(TokenKind::End)?;
+    let end_word = parser.eat(TokenKind::Entity)?;
     let end_name = parser.optional_identifier()?;
-    parser.expect(Kind::Semicolon)?;
+    parser.expect(TokenKind::Semicolon)?;
     Ok(Entity {
         at,
         name,
@@ -39,18 +39,18 @@ fn entity(parser: &mut Parser<'_>) -> Result<Entity, Stop>
 fn architecture(parser: &mut Parser<'_>) -> Result<Architecture, Stop>
     ensures { Reads architecture_view (read.architecture_unit parser.old) result parser.new }
 {
-    let at = parser.expect(Kind::Architecture)?;
+    let at = parser.expect(TokenKind::Architecture)?;
     let name = parser.identifier()?;
-    parser.expect(Kind::Of)?;
+    parser.expect(TokenKind::Of)?;
     let entity = parser.identifier()?;
-    parser.expect(Kind::Is)?;
+    parser.expect(TokenKind::Is)?;
     let declarations = declarations(parser, MAX_OPEN)?;
-    parser.expect(Kind::Begin)?;
+    parser.expect(TokenKind::Begin)?;
     let statements = concurrents(parser, MAX_OPEN)?;
-    parser.expect(Kind::End)?;
-    let end_word = parser.eat(Kind::Architecture)?;
+    parser.expect(TokenKind::End)?;
+    let end_word = parser.eat(TokenKind::Architecture)?;
     let end_name = parser.optional_identifier()?;
-    parser.expect(Kind::Semicolon)?;
+    parser.expect(TokenKind::Semicolon)?;
     Ok(Architecture {
         at,
         name,
@@ -67,8 +67,8 @@ fn library_unit(parser: &mut Parser<'_>) -> Result<LibraryUnit, Stop>
     ensures { Reads library_unit_view (read.library_unit parser.old) result parser.new }
 {
     match parser.peek() {
-        Some(Kind::Entity) => Ok(LibraryUnit::Entity(entity(parser)?)),
-        Some(Kind::Architecture) => Ok(LibraryUnit::Architecture(architecture(parser)?)),
+        Some(TokenKind::Entity) => Ok(LibraryUnit::Entity(entity(parser)?)),
+        Some(TokenKind::Architecture) => Ok(LibraryUnit::Architecture(architecture(parser)?)),
         _ => Err(parser.refuse()),
     }
 }

@@ -1,7 +1,7 @@
 -- Context clauses: what is read is spelled so, and what is spelled is read.
 use Rattle.std.proofs.Common.{◌≡◌, ℕ, ◌≤◌, true, false, List, [], ◌∷◌, length, Option, Some, refl, arith}
-use Rattle.vhdl_lexer.specs.declared.token.Kind.{Kind}
-use Rattle.vhdl_lexer.specs.declared.token.Kind.TheVariants as k
+use Rattle.vhdl_lexer.specs.declared.token.TokenKind.{TokenKind}
+use Rattle.vhdl_lexer.specs.declared.token.TokenKind.TheVariants as k
 use Rattle.vhdl_tree.specs.Lexeme.{same_kind}
 use Rattle.vhdl_tree.specs.Tree.{Ident, Selected, ContextItem, library, uses}
 use Rattle.vhdl_tree.specs.Pieces.{some, spell_each, spell_list, IsAny, IsEach, IsList}
@@ -56,7 +56,7 @@ unfolding context_item same_kind
 context_item_gives (library names) good = g_yes use_clause (is_kind k.Library) (λ next g. refl) (library_gives names good)
 context_item_gives (uses all) good = g_no library_clause (is_kind k.Library) (λ next g. refl) (uses_gives all good)
 
-context_begins : (c : ContextItem) → IsContext c → (next : Option Kind) → begins_context (front (spell_context c) next) ≡ true
+context_begins : (c : ContextItem) → IsContext c → (next : Option TokenKind) → begins_context (front (spell_context c) next) ≡ true
 context_begins (library names) good next = refl
 context_begins (uses all) good next = refl
 

@@ -1,7 +1,7 @@
 -- Declarations: what is read is spelled so, and what is spelled is read.
 use Rattle.std.proofs.Common.{◌≡◌, ℕ, ◌≤◌, true, false, List, [], ◌∷◌, ◌++◌, length, Option, Some, None, refl, arith}
-use Rattle.vhdl_lexer.specs.declared.token.Kind.{Kind}
-use Rattle.vhdl_lexer.specs.declared.token.Kind.TheVariants as k
+use Rattle.vhdl_lexer.specs.declared.token.TokenKind.{TokenKind}
+use Rattle.vhdl_lexer.specs.declared.token.TokenKind.TheVariants as k
 use Rattle.vhdl_tree.specs.Lexeme.{same_kind}
 use Rattle.vhdl_tree.specs.Tree.{Value, Generic, Port, Signals, Constants, Enumeration, Component, Declaration, signals, constants, enumeration, component}
 use Rattle.vhdl_tree.specs.Pieces.{Piece, some, word_at, spell_ident, spell_option, spell_each, IsEach}
@@ -80,7 +80,7 @@ declaration_rule : (n : ℕ) → Rule n 0 (declaration n) spell_declaration IsDe
 unfolding declaration
 declaration_rule n = w_choose (λ next. by_next next)
   where
-    by_next : (next : Option Kind) → Rule n 0 (declaration_by n next) spell_declaration IsDeclaration
+    by_next : (next : Option TokenKind) → Rule n 0 (declaration_by n next) spell_declaration IsDeclaration
     by_next (Some k.Signal) = w_last signals (signals_rule n) (λ d good. (refl, good))
     by_next (Some k.Constant) = w_last constants (constants_rule n) (λ d good. (refl, good))
     by_next (Some k.Type) = w_last enumeration (enumeration_rule n) (λ d good. (refl, good))
@@ -134,11 +134,11 @@ component_gives n c good =
     (λ next g. no_generic c.ports next))
     (λ next g. no_is c.generics c.ports next)))
   where
-    no_generic : (ps : Option (List Port)) (next : Option Kind) → (is_kind k.Generic (front (spell_option spell_ports ps ++ (some k.End ∷ (some k.Component ∷ (spell_option spell_ident c.end_name ++ some k.Semicolon ∷ [])))) next) ≡ false) × Unit {0}
+    no_generic : (ps : Option (List Port)) (next : Option TokenKind) → (is_kind k.Generic (front (spell_option spell_ports ps ++ (some k.End ∷ (some k.Component ∷ (spell_option spell_ident c.end_name ++ some k.Semicolon ∷ [])))) next) ≡ false) × Unit {0}
     no_generic None next = (refl, tt)
     no_generic (Some ps) next = (refl, tt)
 
-    no_is : (gs : Option (List Generic)) (ps : Option (List Port)) (next : Option Kind) → is_kind k.Is (front (spell_option spell_generics gs ++ (spell_option spell_ports ps ++ (some k.End ∷ (some k.Component ∷ (spell_option spell_ident c.end_name ++ some k.Semicolon ∷ []))))) next) ≡ false
+    no_is : (gs : Option (List Generic)) (ps : Option (List Port)) (next : Option TokenKind) → is_kind k.Is (front (spell_option spell_generics gs ++ (spell_option spell_ports ps ++ (some k.End ∷ (some k.Component ∷ (spell_option spell_ident c.end_name ++ some k.Semicolon ∷ []))))) next) ≡ false
     no_is None None next = refl
     no_is None (Some ps) next = refl
     no_is (Some gs) ps next = refl
@@ -150,7 +150,7 @@ declaration_gives n (constants d) good = g_choose (declaration_by n) (Some k.Con
 declaration_gives n (enumeration d) good = g_choose (declaration_by n) (Some k.Type) (λ next g. refl) (g_map (λ x. enumeration x) (enumeration_gives n d good))
 declaration_gives n (component d) good = g_choose (declaration_by n) (Some k.Component) (λ next g. refl) (g_map (λ x. component x) (component_gives n d good))
 
-declaration_begins : (d : Declaration) → IsDeclaration d → (next : Option Kind) → begins_declaration (front (spell_declaration d) next) ≡ true
+declaration_begins : (d : Declaration) → IsDeclaration d → (next : Option TokenKind) → begins_declaration (front (spell_declaration d) next) ≡ true
 declaration_begins (signals d) good next = refl
 declaration_begins (constants d) good next = refl
 declaration_begins (enumeration d) good next = refl

@@ -1,7 +1,7 @@
 -- Instances that are spelled are read.
 use Rattle.std.proofs.Common.{◌≡◌, ℕ, true, false, List, [], ◌∷◌, ◌++◌, Option, Some, None, refl, arith}
-use Rattle.vhdl_lexer.specs.declared.token.Kind.{Kind}
-use Rattle.vhdl_lexer.specs.declared.token.Kind.TheVariants as k
+use Rattle.vhdl_lexer.specs.declared.token.TokenKind.{TokenKind}
+use Rattle.vhdl_lexer.specs.declared.token.TokenKind.TheVariants as k
 use Rattle.vhdl_tree.specs.Lexeme.{same_kind}
 use Rattle.vhdl_tree.specs.Tree.{Ident, Association, Instantiated, entity_unit, component_unit, Instance}
 use Rattle.vhdl_tree.specs.Pieces.{some, spell_option, IsAny, IsOption}
@@ -17,7 +17,7 @@ unfolding chosen
 chosen_gives n i = g_some (λ _. g_below _ n (λ m e. g_ident _ (g_some (λ _. g_pure))))
 
 -- no parenthesis follows
-abbrev EndsUnit : Option Kind → Type 0
+abbrev EndsUnit : Option TokenKind → Type 0
 EndsUnit next = (is_kind k.LeftParen next ≡ false) × Whatever next
 
 unit_gives : (n : ℕ) (u : Instantiated) → Gives (instantiated n) u (spell_instantiated u) EndsUnit
@@ -31,18 +31,18 @@ unit_gives n (entity_unit l i a) = g_yes _ (is_kind k.Entity) (λ next _. refl)
 unit_gives n (component_unit true i) = g_no _ (is_kind k.Entity) (λ next _. refl) (g_then _ (eat_gives k.Component true refl) (g_ident _ g_pure) (λ next _. refl))
 unit_gives n (component_unit false i) = g_no _ (is_kind k.Entity) (λ next _. refl) (g_then _ (eat_gives k.Component false refl) (g_ident _ g_pure) (λ next _. refl))
 
-map_gives : (n : ℕ) (word : Kind) (all : List Association) → AreAssociations all → Gives (map_of n word) all (spell_map word all) Whatever
+map_gives : (n : ℕ) (word : TokenKind) (all : List Association) → AreAssociations all → Gives (map_of n word) all (spell_map word all) Whatever
 unfolding map_of same_kind
 map_gives n word all f = g_some (λ _. g_some (λ _. g_some (λ _. g_below _ n (λ m e. g_then _ (associations_gives m all f) (g_some (λ _. g_pure)) (λ next _. (refl, (refl, omega arith)))))))
 
 -- the word that comes next
-after_unit : (g p : Option (List Association)) (next : Option Kind) → EndsUnit (front (spell_option (spell_map k.Generic) g ++ (spell_option (spell_map k.Port) p ++ some k.Semicolon ∷ [])) next)
+after_unit : (g p : Option (List Association)) (next : Option TokenKind) → EndsUnit (front (spell_option (spell_map k.Generic) g ++ (spell_option (spell_map k.Port) p ++ some k.Semicolon ∷ [])) next)
 unfolding same_kind
 after_unit None None next = (refl, tt)
 after_unit None (Some p) next = (refl, tt)
 after_unit (Some g) p next = (refl, tt)
 
-after_generics : (p : Option (List Association)) (next : Option Kind) → (is_kind k.Generic (front (spell_option (spell_map k.Port) p ++ some k.Semicolon ∷ []) next) ≡ false) × Whatever next
+after_generics : (p : Option (List Association)) (next : Option TokenKind) → (is_kind k.Generic (front (spell_option (spell_map k.Port) p ++ some k.Semicolon ∷ []) next) ≡ false) × Whatever next
 unfolding same_kind
 after_generics None next = (refl, tt)
 after_generics (Some p) next = (refl, tt)

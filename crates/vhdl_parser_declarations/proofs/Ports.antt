@@ -1,7 +1,7 @@
 -- Generics and ports: what is read is spelled so, and what is spelled is read.
 use Rattle.std.proofs.Common.{◌≡◌, ℕ, Bool, true, false, List, [], ◌∷◌, Option, Some, None, refl, arith}
-use Rattle.vhdl_lexer.specs.declared.token.Kind.{Kind}
-use Rattle.vhdl_lexer.specs.declared.token.Kind.TheVariants as k
+use Rattle.vhdl_lexer.specs.declared.token.TokenKind.{TokenKind}
+use Rattle.vhdl_lexer.specs.declared.token.TokenKind.TheVariants as k
 use Rattle.vhdl_tree.specs.declared.declaration.Mode.{Mode}
 use Rattle.vhdl_tree.specs.declared.declaration.Mode.TheVariants.{In, Out}
 use Rattle.vhdl_tree.specs.Lexeme.{same_kind}
@@ -36,7 +36,7 @@ generic_default_gives : (n : ℕ) (e : Expr) → IsExpr e → Gives (generic_def
 unfolding generic_default
 generic_default_gives n e good = g_some (λ _. expr_gives n e good)
 
-generic_default_begins : (e : Expr) → IsExpr e → (next : Option Kind) → is_kind k.Assign (front (spell_generic_default e) next) ≡ true
+generic_default_begins : (e : Expr) → IsExpr e → (next : Option TokenKind) → is_kind k.Assign (front (spell_generic_default e) next) ≡ true
 unfolding same_kind
 generic_default_begins e good next = refl
 
@@ -108,7 +108,7 @@ generics_gives : (n : ℕ) (all : List Generic) → AreGenerics all → Gives (g
 unfolding generics same_kind
 generics_gives n all good = g_some (λ _. g_some (λ _. g_below _ n (λ m e. g_then _ (generic_list_gives m all good) (g_some (λ _. g_some (λ _. g_pure))) (λ next g. (refl, (refl, omega arith))))))
 
-generics_begin : (all : List Generic) → AreGenerics all → (next : Option Kind) → is_kind k.Generic (front (spell_generics all) next) ≡ true
+generics_begin : (all : List Generic) → AreGenerics all → (next : Option TokenKind) → is_kind k.Generic (front (spell_generics all) next) ≡ true
 unfolding same_kind
 generics_begin all good next = refl
 
@@ -122,7 +122,7 @@ mode_rule : (n : ℕ) → Rule n 0 mode (spell_option spell_mode) IsAny
 unfolding mode
 mode_rule n = w_choose (λ next. by_next next)
   where
-    by_next : (next : Option Kind) → Rule n 0 (mode_by next) (spell_option spell_mode) IsAny
+    by_next : (next : Option TokenKind) → Rule n 0 (mode_by next) (spell_option spell_mode) IsAny
     by_next (Some k.In) = w_some k.In refl (λ _. w_pure (omega arith) refl tt)
     by_next (Some k.Out) = w_some k.Out refl (λ _. w_pure (omega arith) refl tt)
     by_next _ = w_pure (omega arith) refl tt
@@ -196,7 +196,7 @@ ports_gives : (n : ℕ) (all : List Port) → ArePorts all → Gives (ports n) a
 unfolding ports same_kind
 ports_gives n all good = g_some (λ _. g_some (λ _. g_below _ n (λ m e. g_then _ (port_list_gives m all good) (g_some (λ _. g_some (λ _. g_pure))) (λ next g. (refl, (refl, omega arith))))))
 
-ports_begin : (all : List Port) → ArePorts all → (next : Option Kind) → is_kind k.Port (front (spell_ports all) next) ≡ true
+ports_begin : (all : List Port) → ArePorts all → (next : Option TokenKind) → is_kind k.Port (front (spell_ports all) next) ≡ true
 unfolding same_kind
 ports_begin all good next = refl
 

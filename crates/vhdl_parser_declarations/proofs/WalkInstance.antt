@@ -1,7 +1,7 @@
 -- What the readers of instances make.
 use Rattle.std.proofs.Common.{◌≡◌, ℕ, true, [], ◌∷◌, None, refl, sym, ap, append-nil, arith}
-use Rattle.vhdl_lexer.specs.declared.token.Kind.{Kind}
-use Rattle.vhdl_lexer.specs.declared.token.Kind.TheVariants as k
+use Rattle.vhdl_lexer.specs.declared.token.TokenKind.{TokenKind}
+use Rattle.vhdl_lexer.specs.declared.token.TokenKind.TheVariants as k
 use Rattle.vhdl_tree.specs.Tree.{left_open}
 use Rattle.vhdl_tree.specs.Pieces.{some, one_at, word_at, spell_option, IsAny}
 use Rattle.vhdl_tree.specs.grammar.Expressions.{AreAssociations}
@@ -30,7 +30,7 @@ instantiated_rule : (n : ℕ) → Rule n 0 (instantiated n) spell_instantiated I
 unfolding instantiated
 instantiated_rule n = w_test (is_kind k.Entity) (entity_rule n) (component_rule n)
 
-map_rule : (n : ℕ) (word : Kind) → is_neutral word ≡ true → Rule n 0 (map_of n word) (spell_map word) AreAssociations
+map_rule : (n : ℕ) (word : TokenKind) → is_neutral word ≡ true → Rule n 0 (map_of n word) (spell_map word) AreAssociations
 unfolding map_of
 map_rule n word ok = w_some word ok (λ _. w_some k.Map refl (λ _.
     w_left (record { tree = record { formal = None; actual = left_open 0 } ∷ []; more = one_at k.Open 0 ∷ (some k.RightParen ∷ []); is = refl; formed = (tt, tt) }) (below_met _ n) (λ _. w_below n (λ m e. w_then (under e (associations_rule m)) (λ all good le. w_right le (λ _. w_pure (omega arith) refl good))))))

@@ -7,7 +7,7 @@ ghost use Rattle.vhdl_parser_expressions.specs.reader.Input.{Reads};
 ghost use Rattle.vhdl_parser_declarations.specs.reader.Context as read;
 
 use vhdl_parser_expressions::{Parser, Stop, many, separated};
-use vhdl_lexer::Kind;
+use vhdl_lexer::TokenKind;
 use vhdl_parser_statements::identifiers;
 use vhdl_tree::{ContextItem, Selected};
 
@@ -16,26 +16,26 @@ fn selected(parser: &mut Parser<'_>) -> Result<Selected, Stop>
     ensures { Reads selected_view (read.selected parser.old) result parser.new }
 {
     let library = parser.identifier()?;
-    parser.expect(Kind::Dot)?;
+    parser.expect(TokenKind::Dot)?;
     let name = parser.identifier()?;
-    parser.expect(Kind::Dot)?;
-    parser.expect(Kind::All)?;
+    parser.expect(TokenKind::Dot)?;
+    parser.expect(TokenKind::All)?;
     Ok(Selected { library, name })
 }
 
 fn selecteds(parser: &mut Parser<'_>) -> Result<Vec<Selected>, Stop>
     ensures { Reads selecteds_view (read.selecteds parser.old) result parser.new }
 {
-    separated(parser, Kind::Comma, selected)
+    separated(parser, TokenKind::Comma, selected)
 }
 
 #[tactic(auto, unfolding(crate::specs::reader::Context::library_clause))]
 fn library_clause(parser: &mut Parser<'_>) -> Result<ContextItem, Stop>
     ensures { Reads context_view (read.library_clause parser.old) result parser.new }
 {
-    parser.expect(Kind::Library)?;
+    parser.expect(TokenKind::Library)?;
     let names = identifiers(parser)?;
-    parser.expect(Kind::Semicolon)?;
+    parser.expect(TokenKind::Semicolon)?;
     Ok(ContextItem::Library(names))
 }
 
@@ -43,9 +43,9 @@ fn library_clause(parser: &mut Parser<'_>) -> Result<ContextItem, Stop>
 fn use_clause(parser: &mut Parser<'_>) -> Result<ContextItem, Stop>
     ensures { Reads context_view (read.use_clause parser.old) result parser.new }
 {
-    parser.expect(Kind::Use)?;
+    parser.expect(TokenKind::Use)?;
     let all = selecteds(parser)?;
-    parser.expect(Kind::Semicolon)?;
+    parser.expect(TokenKind::Semicolon)?;
     Ok(ContextItem::Use(all))
 }
 
@@ -53,7 +53,7 @@ fn use_clause(parser: &mut Parser<'_>) -> Result<ContextItem, Stop>
 fn context_item(parser: &mut Parser<'_>) -> Result<ContextItem, Stop>
     ensures { Reads context_view (read.context_item parser.old) result parser.new }
 {
-    if parser.sees(Kind::Library) {
+    if parser.sees(TokenKind::Library) {
         library_clause(parser)
     } else {
         use_clause(parser)
@@ -64,7 +64,7 @@ fn begins_context(parser: &Parser<'_>) -> bool
     ensures { result ≡ read.begins_context (input.next_kind parser.now) }
 {
     match parser.peek() {
-        Some(Kind::Library) | Some(Kind::Use) => true,
+        Some(TokenKind::Library) | Some(TokenKind::Use) => true,
         _ => false,
     }
 }

@@ -8,7 +8,7 @@ ghost use Rattle.vhdl_parser_expressions.specs.reader.Input.{Reads};
 
 use crate::interface::{optional_generics, optional_ports};
 use vhdl_parser_expressions::{Parser, Stop, below, many};
-use vhdl_lexer::Kind;
+use vhdl_lexer::TokenKind;
 use vhdl_parser_statements::{identifiers, object_declaration, subtype};
 use vhdl_tree::{Component, Constants, Declaration, Enumeration, Signals, Value};
 
@@ -16,7 +16,7 @@ use vhdl_tree::{Component, Constants, Declaration, Enumeration, Signals, Value};
 fn signals(parser: &mut Parser<'_>, levels: usize) -> Result<Signals, Stop>
     ensures { Reads signals_view (read.signals_of levels parser.old) result parser.new }
 {
-    let (names, subtype, default) = object_declaration(parser, levels, Kind::Signal)?;
+    let (names, subtype, default) = object_declaration(parser, levels, TokenKind::Signal)?;
     Ok(Signals {
         names,
         subtype,
@@ -29,9 +29,9 @@ fn signals(parser: &mut Parser<'_>, levels: usize) -> Result<Signals, Stop>
 fn constant_value(parser: &mut Parser<'_>, levels: usize) -> Result<Value, Stop>
     ensures { Reads value_view (read.constant_value levels parser.old) result parser.new }
 {
-    parser.expect(Kind::Assign)?;
+    parser.expect(TokenKind::Assign)?;
     let value = parser.value(levels)?;
-    parser.expect(Kind::Semicolon)?;
+    parser.expect(TokenKind::Semicolon)?;
     Ok(value)
 }
 
@@ -39,9 +39,9 @@ fn constant_value(parser: &mut Parser<'_>, levels: usize) -> Result<Value, Stop>
 fn constants(parser: &mut Parser<'_>, levels: usize) -> Result<Constants, Stop>
     ensures { Reads constants_view (read.constants_of levels parser.old) result parser.new }
 {
-    parser.expect(Kind::Constant)?;
+    parser.expect(TokenKind::Constant)?;
     let names = identifiers(parser)?;
-    parser.expect(Kind::Colon)?;
+    parser.expect(TokenKind::Colon)?;
     let subtype = subtype(parser, levels)?;
     let value = constant_value(parser, levels)?;
     Ok(Constants {
@@ -55,14 +55,14 @@ fn constants(parser: &mut Parser<'_>, levels: usize) -> Result<Constants, Stop>
 fn enumeration(parser: &mut Parser<'_>, levels: usize) -> Result<Enumeration, Stop>
     ensures { Reads enumeration_view (read.enumeration_of levels parser.old) result parser.new }
 {
-    parser.expect(Kind::Type)?;
+    parser.expect(TokenKind::Type)?;
     let name = parser.identifier()?;
-    parser.expect(Kind::Is)?;
-    parser.expect(Kind::LeftParen)?;
+    parser.expect(TokenKind::Is)?;
+    parser.expect(TokenKind::LeftParen)?;
     below(levels)?;
     let literals = identifiers(parser)?;
-    parser.expect(Kind::RightParen)?;
-    parser.expect(Kind::Semicolon)?;
+    parser.expect(TokenKind::RightParen)?;
+    parser.expect(TokenKind::Semicolon)?;
     Ok(Enumeration { name, literals })
 }
 
@@ -70,15 +70,15 @@ fn enumeration(parser: &mut Parser<'_>, levels: usize) -> Result<Enumeration, St
 fn component(parser: &mut Parser<'_>, levels: usize) -> Result<Component, Stop>
     ensures { Reads component_view (read.component_of levels parser.old) result parser.new }
 {
-    parser.expect(Kind::Component)?;
+    parser.expect(TokenKind::Component)?;
     let name = parser.identifier()?;
-    let is_word = parser.eat(Kind::Is)?;
+    let is_word = parser.eat(TokenKind::Is)?;
     let generics = optional_generics(parser, levels)?;
     let ports = optional_ports(parser, levels)?;
-    parser.expect(Kind::End)?;
-    parser.expect(Kind::Component)?;
+    parser.expect(TokenKind::End)?;
+    parser.expect(TokenKind::Component)?;
     let end_name = parser.optional_identifier()?;
-    parser.expect(Kind::Semicolon)?;
+    parser.expect(TokenKind::Semicolon)?;
     Ok(Component {
         name,
         is_word,
@@ -93,10 +93,10 @@ fn declaration(parser: &mut Parser<'_>, levels: usize) -> Result<Declaration, St
     ensures { Reads declaration_view (read.declaration levels parser.old) result parser.new }
 {
     match parser.peek() {
-        Some(Kind::Signal) => Ok(Declaration::Signals(signals(parser, levels)?)),
-        Some(Kind::Constant) => Ok(Declaration::Constants(constants(parser, levels)?)),
-        Some(Kind::Type) => Ok(Declaration::Enumeration(enumeration(parser, levels)?)),
-        Some(Kind::Component) => Ok(Declaration::Component(component(parser, levels)?)),
+        Some(TokenKind::Signal) => Ok(Declaration::Signals(signals(parser, levels)?)),
+        Some(TokenKind::Constant) => Ok(Declaration::Constants(constants(parser, levels)?)),
+        Some(TokenKind::Type) => Ok(Declaration::Enumeration(enumeration(parser, levels)?)),
+        Some(TokenKind::Component) => Ok(Declaration::Component(component(parser, levels)?)),
         _ => Err(parser.refuse()),
     }
 }
@@ -105,7 +105,7 @@ fn begins_declaration(parser: &Parser<'_>) -> bool
     ensures { result ≡ read.begins_declaration (input.next_kind parser.now) }
 {
     match parser.peek() {
-        Some(Kind::Signal) | Some(Kind::Constant) | Some(Kind::Type) | Some(Kind::Component) =>
+        Some(TokenKind::Signal) | Some(TokenKind::Constant) | Some(TokenKind::Type) | Some(TokenKind::Component) =>
             true,
         _ => false,
     }

@@ -1,24 +1,24 @@
 //! Instances.
 
 ghost use Rattle.std.specs.Prelude.{◌≡◌, option_map};
-ghost use Rattle.vhdl_lexer.specs.declared.token.Kind.TheVariants as k;
+ghost use Rattle.vhdl_lexer.specs.declared.token.TokenKind.TheVariants as k;
 ghost use Rattle.vhdl_tree.specs.View.{ident_view, option_ident_view, associations_view, instantiated_view, instance_view};
 ghost use Rattle.vhdl_parser_expressions.specs.reader.Input as input;
 ghost use Rattle.vhdl_parser_expressions.specs.reader.Input.{Reads};
 ghost use Rattle.vhdl_parser_declarations.specs.reader.Instance as read;
 
 use vhdl_parser_expressions::{Parser, Stop, below};
-use vhdl_lexer::Kind;
+use vhdl_lexer::TokenKind;
 use vhdl_tree::{Association, Identifier, Instance, Instantiated};
 
 #[tactic(auto, unfolding(crate::specs::reader::Instance::chosen))]
 fn chosen_architecture(parser: &mut Parser<'_>, levels: usize) -> Result<Identifier, Stop>
     ensures { Reads ident_view (read.chosen levels parser.old) result parser.new }
 {
-    parser.expect(Kind::LeftParen)?;
+    parser.expect(TokenKind::LeftParen)?;
     let _inner = below(levels)?;
     let name = parser.identifier()?;
-    parser.expect(Kind::RightParen)?;
+    parser.expect(TokenKind::RightParen)?;
     Ok(name)
 }
 
@@ -26,7 +26,7 @@ fn chosen_architecture(parser: &mut Parser<'_>, levels: usize) -> Result<Identif
 fn optional_architecture(parser: &mut Parser<'_>, levels: usize) -> Result<Option<Identifier>, Stop>
     ensures { Reads option_ident_view (input.optional (input.is_kind k.LeftParen) (read.chosen levels) parser.old) result parser.new }
 {
-    if parser.sees(Kind::LeftParen) {
+    if parser.sees(TokenKind::LeftParen) {
         Ok(Some(chosen_architecture(parser, levels)?))
     } else {
         Ok(None)
@@ -37,9 +37,9 @@ fn optional_architecture(parser: &mut Parser<'_>, levels: usize) -> Result<Optio
 fn instantiated_entity(parser: &mut Parser<'_>, levels: usize) -> Result<Instantiated, Stop>
     ensures { Reads instantiated_view (read.of_entity levels parser.old) result parser.new }
 {
-    parser.expect(Kind::Entity)?;
+    parser.expect(TokenKind::Entity)?;
     let library = parser.identifier()?;
-    parser.expect(Kind::Dot)?;
+    parser.expect(TokenKind::Dot)?;
     let name = parser.identifier()?;
     let architecture = optional_architecture(parser, levels)?;
     Ok(Instantiated::Entity {
@@ -53,10 +53,10 @@ fn instantiated_entity(parser: &mut Parser<'_>, levels: usize) -> Result<Instant
 fn instantiated(parser: &mut Parser<'_>, levels: usize) -> Result<Instantiated, Stop>
     ensures { Reads instantiated_view (read.instantiated levels parser.old) result parser.new }
 {
-    if parser.sees(Kind::Entity) {
+    if parser.sees(TokenKind::Entity) {
         return instantiated_entity(parser, levels);
     }
-    let component_word = parser.eat(Kind::Component)?;
+    let component_word = parser.eat(TokenKind::Component)?;
     let name = parser.identifier()?;
     Ok(Instantiated::Component {
         component_word,
@@ -65,15 +65,15 @@ fn instantiated(parser: &mut Parser<'_>, levels: usize) -> Result<Instantiated, 
 }
 
 #[tactic(auto, unfolding(crate::specs::reader::Instance::map_of))]
-fn map_of(parser: &mut Parser<'_>, levels: usize, word: Kind) -> Result<Vec<Association>, Stop>
+fn map_of(parser: &mut Parser<'_>, levels: usize, word: TokenKind) -> Result<Vec<Association>, Stop>
     ensures { Reads associations_view (read.map_of levels word parser.old) result parser.new }
 {
     parser.expect(word)?;
-    parser.expect(Kind::Map)?;
-    parser.expect(Kind::LeftParen)?;
+    parser.expect(TokenKind::Map)?;
+    parser.expect(TokenKind::LeftParen)?;
     let inner = below(levels)?;
     let all = parser.associations(inner)?;
-    parser.expect(Kind::RightParen)?;
+    parser.expect(TokenKind::RightParen)?;
     Ok(all)
 }
 
@@ -81,7 +81,7 @@ fn map_of(parser: &mut Parser<'_>, levels: usize, word: Kind) -> Result<Vec<Asso
 fn optional_map(
     parser: &mut Parser<'_>,
     levels: usize,
-    word: Kind,
+    word: TokenKind,
 ) -> Result<Option<Vec<Association>>, Stop>
     ensures { Reads (option_map associations_view) (input.optional (input.is_kind word) (read.map_of levels word) parser.old) result parser.new }
 {
@@ -98,9 +98,9 @@ pub fn instance(parser: &mut Parser<'_>, levels: usize) -> Result<Instance, Stop
     ensures { Reads instance_view (read.instance levels parser.old) result parser.new }
 {
     let unit = instantiated(parser, levels)?;
-    let generics = optional_map(parser, levels, Kind::Generic)?;
-    let ports = optional_map(parser, levels, Kind::Port)?;
-    parser.expect(Kind::Semicolon)?;
+    let generics = optional_map(parser, levels, TokenKind::Generic)?;
+    let ports = optional_map(parser, levels, TokenKind::Port)?;
+    parser.expect(TokenKind::Semicolon)?;
     Ok(Instance {
         unit,
         generics,

@@ -6,7 +6,7 @@ ghost use Rattle.vhdl_parser_declarations.specs.reader.Declarations as read;
 ghost use Rattle.vhdl_parser_expressions.specs.reader.Input.{Reads};
 
 use vhdl_parser_expressions::{Parser, Stop, below, separated};
-use vhdl_lexer::Kind;
+use vhdl_lexer::TokenKind;
 use vhdl_parser_statements::{identifiers, optional_default, subtype};
 use vhdl_tree::{Expr, Generic, Mode, Port};
 
@@ -14,7 +14,7 @@ use vhdl_tree::{Expr, Generic, Mode, Port};
 fn generic_default(parser: &mut Parser<'_>, levels: usize) -> Result<Expr, Stop>
     ensures { Reads view (read.generic_default levels parser.old) result parser.new }
 {
-    parser.expect(Kind::Assign)?;
+    parser.expect(TokenKind::Assign)?;
     parser.expr(levels)
 }
 
@@ -22,7 +22,7 @@ fn generic_default(parser: &mut Parser<'_>, levels: usize) -> Result<Expr, Stop>
 fn optional_generic_default(parser: &mut Parser<'_>, levels: usize) -> Result<Option<Expr>, Stop>
     ensures { Reads option_expr_view (read.optional_generic_default levels parser.old) result parser.new }
 {
-    if parser.sees(Kind::Assign) {
+    if parser.sees(TokenKind::Assign) {
         Ok(Some(generic_default(parser, levels)?))
     } else {
         Ok(None)
@@ -33,10 +33,10 @@ fn optional_generic_default(parser: &mut Parser<'_>, levels: usize) -> Result<Op
 fn generic(parser: &mut Parser<'_>, levels: usize) -> Result<Generic, Stop>
     ensures { Reads generic_view (read.generic levels parser.old) result parser.new }
 {
-    let constant_word = parser.eat(Kind::Constant)?;
+    let constant_word = parser.eat(TokenKind::Constant)?;
     let names = identifiers(parser)?;
-    parser.expect(Kind::Colon)?;
-    let in_word = parser.eat(Kind::In)?;
+    parser.expect(TokenKind::Colon)?;
+    let in_word = parser.eat(TokenKind::In)?;
     let mark = parser.identifier()?;
     let default = optional_generic_default(parser, levels)?;
     Ok(Generic {
@@ -51,19 +51,19 @@ fn generic(parser: &mut Parser<'_>, levels: usize) -> Result<Generic, Stop>
 fn generic_list(parser: &mut Parser<'_>, levels: usize) -> Result<Vec<Generic>, Stop>
     ensures { Reads generics_view (read.generic_list levels parser.old) result parser.new }
 {
-    separated(parser, Kind::Semicolon, |parser| generic(parser, levels))
+    separated(parser, TokenKind::Semicolon, |parser| generic(parser, levels))
 }
 
 #[tactic(auto, unfolding(crate::specs::reader::Declarations::generics))]
 fn generics(parser: &mut Parser<'_>, levels: usize) -> Result<Vec<Generic>, Stop>
     ensures { Reads generics_view (read.generics levels parser.old) result parser.new }
 {
-    parser.expect(Kind::Generic)?;
-    parser.expect(Kind::LeftParen)?;
+    parser.expect(TokenKind::Generic)?;
+    parser.expect(TokenKind::LeftParen)?;
     let inner = below(levels)?;
     let found = generic_list(parser, inner)?;
-    parser.expect(Kind::RightParen)?;
-    parser.expect(Kind::Semicolon)?;
+    parser.expect(TokenKind::RightParen)?;
+    parser.expect(TokenKind::Semicolon)?;
     Ok(found)
 }
 
@@ -75,7 +75,7 @@ pub fn optional_generics(
 ) -> Result<Option<Vec<Generic>>, Stop>
     ensures { Reads option_generics_view (read.optional_generics levels parser.old) result parser.new }
 {
-    if parser.sees(Kind::Generic) {
+    if parser.sees(TokenKind::Generic) {
         Ok(Some(generics(parser, levels)?))
     } else {
         Ok(None)
@@ -87,12 +87,12 @@ fn mode(parser: &mut Parser<'_>) -> Result<Option<Mode>, Stop>
     ensures { Reads (λ m. m) (read.mode parser.old) result parser.new }
 {
     match parser.peek() {
-        Some(Kind::In) => {
-            parser.expect(Kind::In)?;
+        Some(TokenKind::In) => {
+            parser.expect(TokenKind::In)?;
             Ok(Some(Mode::In))
         }
-        Some(Kind::Out) => {
-            parser.expect(Kind::Out)?;
+        Some(TokenKind::Out) => {
+            parser.expect(TokenKind::Out)?;
             Ok(Some(Mode::Out))
         }
         _ => Ok(None),
@@ -103,9 +103,9 @@ fn mode(parser: &mut Parser<'_>) -> Result<Option<Mode>, Stop>
 fn port(parser: &mut Parser<'_>, levels: usize) -> Result<Port, Stop>
     ensures { Reads port_view (read.port levels parser.old) result parser.new }
 {
-    let signal_word = parser.eat(Kind::Signal)?;
+    let signal_word = parser.eat(TokenKind::Signal)?;
     let names = identifiers(parser)?;
-    parser.expect(Kind::Colon)?;
+    parser.expect(TokenKind::Colon)?;
     let mode = mode(parser)?;
     let subtype = subtype(parser, levels)?;
     let default = optional_default(parser, levels)?;
@@ -121,19 +121,19 @@ fn port(parser: &mut Parser<'_>, levels: usize) -> Result<Port, Stop>
 fn port_list(parser: &mut Parser<'_>, levels: usize) -> Result<Vec<Port>, Stop>
     ensures { Reads ports_view (read.port_list levels parser.old) result parser.new }
 {
-    separated(parser, Kind::Semicolon, |parser| port(parser, levels))
+    separated(parser, TokenKind::Semicolon, |parser| port(parser, levels))
 }
 
 #[tactic(auto, unfolding(crate::specs::reader::Declarations::ports))]
 fn ports(parser: &mut Parser<'_>, levels: usize) -> Result<Vec<Port>, Stop>
     ensures { Reads ports_view (read.ports levels parser.old) result parser.new }
 {
-    parser.expect(Kind::Port)?;
-    parser.expect(Kind::LeftParen)?;
+    parser.expect(TokenKind::Port)?;
+    parser.expect(TokenKind::LeftParen)?;
     let inner = below(levels)?;
     let found = port_list(parser, inner)?;
-    parser.expect(Kind::RightParen)?;
-    parser.expect(Kind::Semicolon)?;
+    parser.expect(TokenKind::RightParen)?;
+    parser.expect(TokenKind::Semicolon)?;
     Ok(found)
 }
 
@@ -142,7 +142,7 @@ fn ports(parser: &mut Parser<'_>, levels: usize) -> Result<Vec<Port>, Stop>
 pub fn optional_ports(parser: &mut Parser<'_>, levels: usize) -> Result<Option<Vec<Port>>, Stop>
     ensures { Reads option_ports_view (read.optional_ports levels parser.old) result parser.new }
 {
-    if parser.sees(Kind::Port) {
+    if parser.sees(TokenKind::Port) {
         Ok(Some(ports(parser, levels)?))
     } else {
         Ok(None)

@@ -1,13 +1,13 @@
 -- Choices by two tokens ahead: the first of them is taken on both ways.
 use Rattle.std.proofs.Common.{◌≡◌, ℕ, ◌≤◌, Bool, true, false, cond, List, [], ◌∷◌, ◌++◌, length, length-append, refl, sym, ap, ◌∙◌, subst, arith}
-use Rattle.vhdl_lexer.specs.declared.token.Kind.{Kind}
+use Rattle.vhdl_lexer.specs.declared.token.TokenKind.{TokenKind}
 use Rattle.vhdl_tree.specs.Lexeme.{Lexeme, same_kind}
 use Rattle.vhdl_parser_expressions.specs.reader.Input.{Outcome, Parser, and_then, next_kind, second_kind, test_both, sees_both}
 use Rattle.vhdl_parser_expressions.proofs.Steps.{kind_same}
 use Rattle.vhdl_parser_expressions.proofs.Steady.{left_of, Twins, both_read, both_refuse, took, Steady, steady_same, steady_cond}
 
 -- a first token of this kind is taken
-abbrev pub Eager : {A : Type 0} → Kind → Parser A → Type 0
+abbrev pub Eager : {A : Type 0} → TokenKind → Parser A → Type 0
 Eager kind p = (t : Lexeme) (r : List Lexeme) → t.kind ≡ kind → length (left_of (p (t ∷ r))) ≤ length r
 
 module _ (t : Lexeme) (r : List Lexeme) where
@@ -22,13 +22,13 @@ module _ (t : Lexeme) (r : List Lexeme) where
   taken_by o other (took le) e = le
 
 -- what takes such a token where it stands alone takes it whatever follows
-pub eager : {A : Type 0} {p : Parser A} (kind : Kind) → Steady p → ((at : ℕ) (text : List ℕ) → left_of (p (record { kind = kind; at = at; text = text } ∷ [])) ≡ []) → Eager kind p
+pub eager : {A : Type 0} {p : Parser A} (kind : TokenKind) → Steady p → ((at : ℕ) (text : List ℕ) → left_of (p (record { kind = kind; at = at; text = text } ∷ [])) ≡ []) → Eager kind p
 eager {A} {p} kind steady alone t r is =
     taken_by t r (p (t ∷ r)) (p (t ∷ [])) (steady.twins [] t r [])
     (subst (λ x. left_of (p (record { kind = x; at = t.at; text = t.text } ∷ [])) ≡ []) (sym is) (alone t.at t.text))
 
 -- by a test of the first two tokens, of which the second one matters where the first one is of a kind that both ways take
-pub steady_by : {A : Type 0} {p q : Parser A} (c : List Lexeme → Bool) (first : Kind) → ((l k : Lexeme) (us vs : List Lexeme) → c (l ∷ k ∷ us) ≡ c (l ∷ k ∷ vs)) →
+pub steady_by : {A : Type 0} {p q : Parser A} (c : List Lexeme → Bool) (first : TokenKind) → ((l k : Lexeme) (us vs : List Lexeme) → c (l ∷ k ∷ us) ≡ c (l ∷ k ∷ vs)) →
     ((t : Lexeme) (r m : List Lexeme) → same_kind t.kind first ≡ false → c (t ∷ r) ≡ c (t ∷ m)) →
     Steady p → Steady q → Eager first p → Eager first q → Steady (λ ts. cond {A = Outcome A} (c ts) (p ts) (q ts))
 steady_by {A} {p} {q} c first two one way other eager_way eager_other = record { shorter = λ ts. (by (c ts)).shorter ts; twins = alike }
@@ -57,7 +57,7 @@ steady_by {A} {p} {q} c first two one way other eager_way eager_other = record {
     alike (l ∷ []) t r m = with_same (l ∷ []) t r m (two l t r m)
     alike (l ∷ k ∷ front) t r m = with_same (l ∷ k ∷ front) t r m (two l k (front ++ t ∷ r) (front ++ t ∷ m))
 
-module _ (first second : Kind) where
+module _ (first second : TokenKind) where
   sees_two : (l k : Lexeme) (us vs : List Lexeme) → sees_both first second (l ∷ k ∷ us) ≡ sees_both first second (l ∷ k ∷ vs)
   unfolding next_kind second_kind
   sees_two l k us vs = refl

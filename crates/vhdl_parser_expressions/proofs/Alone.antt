@@ -1,6 +1,6 @@
 -- What the readers of expressions say of one token that stands alone: they take it.
 use Rattle.std.proofs.Common.{◌≡◌, ℕ, zero, suc, List, [], ◌∷◌, Ok, Err, None, refl}
-use Rattle.vhdl_lexer.specs.declared.token.Kind.TheVariants as k
+use Rattle.vhdl_lexer.specs.declared.token.TokenKind.TheVariants as k
 use Rattle.vhdl_parser_expressions.specs.declared.stop.Stop.{Stop}
 use Rattle.vhdl_parser_expressions.specs.declared.stop.Stop.TheVariants.{EndOfFile, TooDeep}
 use Rattle.vhdl_tree.specs.Lexeme.{Lexeme, same_kind}

@@ -1,7 +1,7 @@
 -- Expressions that are spelled are read, level by level.
 use Rattle.std.proofs.Common.{◌≡◌, ℕ, zero, suc, ◌≤◌, ◌<◌, Bool, true, false, List, [], ◌∷◌, length, Ok, Some, None, inl, inr, refl, ap, ◌∙◌, arith}
-use Rattle.vhdl_lexer.specs.declared.token.Kind.{Kind}
-use Rattle.vhdl_lexer.specs.declared.token.Kind.TheVariants as k
+use Rattle.vhdl_lexer.specs.declared.token.TokenKind.{TokenKind}
+use Rattle.vhdl_lexer.specs.declared.token.TokenKind.TheVariants as k
 use Rattle.vhdl_tree.specs.declared.operator.Operator.{Operator}
 use Rattle.vhdl_parser_expressions.specs.declared.operator.Level.{Level}
 use Rattle.vhdl_parser_expressions.specs.declared.operator.Level.TheVariants.{Logical, Relation, Adding, Multiplying}
@@ -119,7 +119,7 @@ operand_reads Multiplying e c b f = c.as_factor b f
 
 -- ---- primaries that begin with a token of one kind
 
-module _ (e : Expr) (kind : Kind) (no_not : same_kind kind k.Not ≡ false) (no_sign : sign_at (Some kind) ≡ None)
+module _ (e : Expr) (kind : TokenKind) (no_not : same_kind kind k.Not ≡ false) (no_sign : sign_at (Some kind) ≡ None)
     (tight : 4 < binding e) (begins : (ts rest : List Lexeme) → Spells (spell e) ts rest → next_kind ts ≡ Some kind)
     (read : IsExpr e → (n : ℕ) (ts rest : List Lexeme) → Spells (spell e) ts rest → Stops 7 rest → Yields (primary_by (inside n) (Some kind) ts) (Ok (e, rest))) where
   by_primary : IsExpr e → Reading 7 (λ n. primary (inside n)) e

@@ -1,7 +1,7 @@
 -- Names, parentheses and whole expressions that are spelled are read.
 use Rattle.std.proofs.Common.{◌≡◌, ℕ, zero, suc, ◌≤◌, ◌<◌, Bool, true, false, List, [], ◌∷◌, ◌++◌, length, Ok, Option, Some, None, inl, inr, refl, sym, ap, ◌∙◌, subst, append_assoc, append-nil, length-append, arith}
-use Rattle.vhdl_lexer.specs.declared.token.Kind.{Kind}
-use Rattle.vhdl_lexer.specs.declared.token.Kind.TheVariants as k
+use Rattle.vhdl_lexer.specs.declared.token.TokenKind.{TokenKind}
+use Rattle.vhdl_lexer.specs.declared.token.TokenKind.TheVariants as k
 use Rattle.vhdl_parser_expressions.specs.declared.operator.Level.TheVariants.{Logical}
 use Rattle.vhdl_tree.specs.declared.operator.Direction.{Direction}
 use Rattle.vhdl_tree.specs.declared.operator.Direction.TheVariants.{To, Downto}
@@ -24,7 +24,7 @@ unfolding inside
 inside_reads e c f zero ts rest h s = inr (ts, refl)
 inside_reads e c f (suc n) ts rest h s = closed Logical e (c.as_chain Logical (binding_least e) f) n ts rest h s
 
-stops_at : (kind : Kind) (ps : List Piece) (ts rest : List Lexeme) → grip (Some kind) ≡ 0 → Spells (some kind ∷ ps) ts rest → Stops 1 ts
+stops_at : (kind : TokenKind) (ps : List Piece) (ts rest : List Lexeme) → grip (Some kind) ≡ 0 → Spells (some kind ∷ ps) ts rest → Stops 1 ts
 stops_at kind ps ts rest g h = let e = ap grip (front (some kind) ps kind ts rest (λ l i. i) h) in omega (arith, e, g)
 
 parens_reads : (at : ℕ) (e : Expr) → Complete e → IsExpr e → (n : ℕ) (ts rest : List Lexeme) → Spells (spell (parens at e)) ts rest → Yields (parenthesis (inside n) ts) (Ok (parens at e, rest))
@@ -71,7 +71,7 @@ character_complete at code = primary_complete (character at code) k.Character re
 
 -- ---- attributes
 
-not_here : (kind : Kind) (next : Option Kind) → grip (Some kind) ≡ 7 → grip next < 7 → is_kind kind next ≡ false
+not_here : (kind : TokenKind) (next : Option TokenKind) → grip (Some kind) ≡ 7 → grip next < 7 → is_kind kind next ≡ false
 not_here kind next g s = by_test (is_kind kind next) refl
   where
     by_test : (b : Bool) → is_kind kind next ≡ b → is_kind kind next ≡ false

@@ -1,7 +1,7 @@
 -- Ranges, values, choices and associations that are spelled are read.
 use Rattle.std.proofs.Common.{◌≡◌, ℕ, ◌≤◌, ◌<◌, Bool, true, false, ◌&&◌, cond, List, [], ◌∷◌, ◌++◌, length, Ok, Option, Some, None, refl, sym, ap, ◌∙◌, subst, append_assoc, append-nil, length-append, arith}
-use Rattle.vhdl_lexer.specs.declared.token.Kind.{Kind}
-use Rattle.vhdl_lexer.specs.declared.token.Kind.TheVariants as k
+use Rattle.vhdl_lexer.specs.declared.token.TokenKind.{TokenKind}
+use Rattle.vhdl_lexer.specs.declared.token.TokenKind.TheVariants as k
 use Rattle.vhdl_tree.specs.declared.operator.Operator.{Operator}
 use Rattle.vhdl_tree.specs.declared.operator.Operator.TheVariants.{And, Or, Xor, Xnor, Nand, Nor, Equal, NotEqual, Less, LessEqual, Greater, GreaterEqual, Add, Subtract, Concatenate, Multiply, Divide, Modulo, Remainder}
 use Rattle.vhdl_tree.specs.declared.operator.Sign.TheVariants.{Plus, Minus}
@@ -20,7 +20,7 @@ use Rattle.vhdl_parser_expressions.proofs.Gives.{Reaches, Gives, front, front_is
 use Rattle.vhdl_parser_expressions.proofs.CompleteNames.{complete_suffix, expr_reads, inside_reads, complete, name_reads}
 
 -- nothing goes on with an expression
-abbrev pub Ends : Option Kind → Type 0
+abbrev pub Ends : Option TokenKind → Type 0
 Ends next = grip next < 1
 
 pub expr_gives : (n : ℕ) (e : Expr) → IsExpr e → Gives (read.expr n) e (spell e) Ends
@@ -30,7 +30,7 @@ pub inside_gives : (n : ℕ) (e : Expr) → IsExpr e → Gives (inside n) e (spe
 inside_gives n e f = record { reads = λ ts rest h s. inside_reads e (complete e) f n ts rest h s }
 
 -- neither a parenthesis nor a tick goes on with a name
-abbrev pub EndsName : Option Kind → Type 0
+abbrev pub EndsName : Option TokenKind → Type 0
 EndsName next = grip next < 7
 
 pub name_gives : (n : ℕ) (x : Name) → IsName x → Gives (name (inside n)) x (spell_name x) EndsName
@@ -59,7 +59,7 @@ range_gives n r f = by r.direction refl
 
 -- ---- the first two tokens of an expression
 
-abbrev head : Expr → Kind
+abbrev head : Expr → TokenKind
 head (integer at text) = k.Integer
 head (character at code) = k.Character
 head (string at text) = k.String
@@ -70,7 +70,7 @@ head (negation at operand) = k.Not
 head (signed sign at operand) = sign_kind sign
 head (binary b op at left right) = head left
 
-head_is : (e : Expr) (ps : List Piece) (next : Option Kind) → front (spell e ++ ps) next ≡ Some (head e)
+head_is : (e : Expr) (ps : List Piece) (next : Option TokenKind) → front (spell e ++ ps) next ≡ Some (head e)
 head_is (integer at text) ps next = refl
 head_is (character at code) ps next = refl
 head_is (string at text) ps next = refl
@@ -81,7 +81,7 @@ head_is (negation at operand) ps next = refl
 head_is (signed sign at operand) ps next = refl
 head_is (binary b op at left right) ps next = ap (λ qs. front qs next) (append_assoc (spell left) (one_at (kind_of op) at ∷ spell right) ps) ∙ head_is left ((one_at (kind_of op) at ∷ spell right) ++ ps) next
 
-abbrev begins : Kind → Bool
+abbrev begins : TokenKind → Bool
 begins k.Others = false
 begins k.Open = false
 begins _ = true
@@ -98,7 +98,7 @@ head_begins (signed Plus at operand) = refl
 head_begins (signed Minus at operand) = refl
 head_begins (binary b op at left right) = head_begins left
 
-not_head : (kind : Kind) (e : Expr) → begins kind ≡ false → same_kind (head e) kind ≡ false
+not_head : (kind : TokenKind) (e : Expr) → begins kind ≡ false → same_kind (head e) kind ≡ false
 not_head kind e h = by (same_kind (head e) kind) refl
   where
     by : (b : Bool) → same_kind (head e) kind ≡ b → same_kind (head e) kind ≡ false
@@ -106,7 +106,7 @@ not_head kind e h = by (same_kind (head e) kind) refl
     by true s = let same = kind_same (head e) kind s in let never : true ≡ false = sym (head_begins e) ∙ ap begins same ∙ h in absurd (cc)
 
 -- the kind behind the first token, where f follows the expression
-abbrev second : Expr → Option Kind → Option Kind
+abbrev second : Expr → Option TokenKind → Option TokenKind
 second (integer at text) f = f
 second (character at code) f = f
 second (string at text) f = f
@@ -120,11 +120,11 @@ second (negation at operand) f = Some (head operand)
 second (signed sign at operand) f = Some (head operand)
 second (binary b op at left right) f = second left (Some (kind_of op))
 
-abbrev pub behind : List Piece → Option Kind → Option Kind
+abbrev pub behind : List Piece → Option TokenKind → Option TokenKind
 behind [] next = None
 behind (p ∷ ps) next = front ps next
 
-second_is : (e : Expr) (ps : List Piece) (next : Option Kind) → behind (spell e ++ ps) next ≡ second e (front ps next)
+second_is : (e : Expr) (ps : List Piece) (next : Option TokenKind) → behind (spell e ++ ps) next ≡ second e (front ps next)
 second_is (integer at text) ps next = refl
 second_is (character at code) ps next = refl
 second_is (string at text) ps next = refl
@@ -139,7 +139,7 @@ second_is (signed sign at operand) ps next = head_is operand ps next
 second_is (binary b op at left right) ps next = ap (λ qs. behind qs next) (append_assoc (spell left) (one_at (kind_of op) at ∷ spell right) ps) ∙ second_is left ((one_at (kind_of op) at ∷ spell right) ++ ps) next
 
 -- no expression begins with ( others
-no_others : (e : Expr) (f : Option Kind) → same_kind (head e) k.LeftParen && is_kind k.Others (second e f) ≡ false
+no_others : (e : Expr) (f : Option TokenKind) → same_kind (head e) k.LeftParen && is_kind k.Others (second e f) ≡ false
 unfolding same_kind
 no_others (integer at text) f = refl
 no_others (character at code) f = refl
@@ -175,7 +175,7 @@ operator_no_arrow Modulo = refl
 operator_no_arrow Remainder = refl
 
 -- nor with id =>, where no => follows it
-no_formal : (e : Expr) (f : Option Kind) → is_kind k.Arrow f ≡ false → same_kind (head e) k.Identifier && is_kind k.Arrow (second e f) ≡ false
+no_formal : (e : Expr) (f : Option TokenKind) → is_kind k.Arrow f ≡ false → same_kind (head e) k.Identifier && is_kind k.Arrow (second e f) ≡ false
 unfolding same_kind
 no_formal (integer at text) f s = refl
 no_formal (character at code) f s = refl
@@ -204,7 +204,7 @@ spell_long (binary b op at left right) = omega (arith, spell_long left, length-a
 
 -- ---- choices by two tokens
 
-abbrev pub both : Kind → Kind → List Piece → Option Kind → Bool
+abbrev pub both : TokenKind → TokenKind → List Piece → Option TokenKind → Bool
 both first behind_it ps next = is_kind first (front ps next) && is_kind behind_it (behind ps next)
 
 second_kind_is : (p : Piece) (ps : List Piece) (ts rest : List Lexeme) → Spells (p ∷ ps) ts rest → second_kind ts ≡ front ps (next_kind rest)
@@ -212,34 +212,34 @@ unfolding second_kind
 second_kind_is p ps [] rest h = absurd h
 second_kind_is p ps (t ∷ ts) rest h = front_is ps ts rest h.1
 
-pub sees_is : (first behind_it : Kind) (ps : List Piece) (ts rest : List Lexeme) → 1 ≤ length ps → Spells ps ts rest → sees_both first behind_it ts ≡ both first behind_it ps (next_kind rest)
+pub sees_is : (first behind_it : TokenKind) (ps : List Piece) (ts rest : List Lexeme) → 1 ≤ length ps → Spells ps ts rest → sees_both first behind_it ts ≡ both first behind_it ps (next_kind rest)
 sees_is first behind_it [] ts rest le h = absurd (omega (arith, le))
 sees_is first behind_it (p ∷ ps) ts rest le h = rw (front_is (p ∷ ps) ts rest h, second_kind_is p ps ts rest h)
 
-module _ {B : Type 0} {b : B} {ps : List Piece} {G : Option Kind → Type 0} (first behind_it : Kind) (long : 1 ≤ length ps) where
-  pub g_both : {p : Parser B} (q : Parser B) → ((next : Option Kind) → both first behind_it ps next ≡ true) → Gives p b ps G → Gives (test_both first behind_it p q) b ps G
+module _ {B : Type 0} {b : B} {ps : List Piece} {G : Option TokenKind → Type 0} (first behind_it : TokenKind) (long : 1 ≤ length ps) where
+  pub g_both : {p : Parser B} (q : Parser B) → ((next : Option TokenKind) → both first behind_it ps next ≡ true) → Gives p b ps G → Gives (test_both first behind_it p q) b ps G
   g_both {p} q is w = record {
     reads = λ ts rest h g.
         subst (λ t. Reaches (cond {A = Outcome B} t (p ts) (q ts)) b rest) (sym (sees_is first behind_it ps ts rest long h ∙ is (next_kind rest))) (w.reads ts rest h g);
   }
 
-  pub g_neither : {q : Parser B} (p : Parser B) → ((next : Option Kind) → G next → both first behind_it ps next ≡ false) → Gives q b ps G → Gives (test_both first behind_it p q) b ps G
+  pub g_neither : {q : Parser B} (p : Parser B) → ((next : Option TokenKind) → G next → both first behind_it ps next ≡ false) → Gives q b ps G → Gives (test_both first behind_it p q) b ps G
   g_neither {q} p is w = record {
     reads = λ ts rest h g.
         subst (λ t. Reaches (cond {A = Outcome B} t (p ts) (q ts)) b rest) (sym (sees_is first behind_it ps ts rest long h ∙ is (next_kind rest) g)) (w.reads ts rest h g);
   }
 
-  pub g_neither_then : {A : Type 0} (q p : Parser A) (f : A → Parser B) → ((next : Option Kind) → G next → both first behind_it ps next ≡ false) → Gives (λ ts. and_then (q ts) f) b ps G → Gives (λ ts. and_then (test_both first behind_it p q ts) f) b ps G
+  pub g_neither_then : {A : Type 0} (q p : Parser A) (f : A → Parser B) → ((next : Option TokenKind) → G next → both first behind_it ps next ≡ false) → Gives (λ ts. and_then (q ts) f) b ps G → Gives (λ ts. and_then (test_both first behind_it p q ts) f) b ps G
   g_neither_then {A} q p f is w = record {
     reads = λ ts rest h g.
         subst (λ t. Reaches (and_then (cond {A = Outcome A} t (p ts) (q ts)) f) b rest) (sym (sees_is first behind_it ps ts rest long h ∙ is (next_kind rest) g)) (w.reads ts rest h g);
   }
 
 -- an expression's first two tokens
-both_expr : (first behind_it : Kind) (e : Expr) (next : Option Kind) → both first behind_it (spell e) next ≡ same_kind (head e) first && is_kind behind_it (second e next)
+both_expr : (first behind_it : TokenKind) (e : Expr) (next : Option TokenKind) → both first behind_it (spell e) next ≡ same_kind (head e) first && is_kind behind_it (second e next)
 both_expr first behind_it e next = subst (λ qs. both first behind_it qs next ≡ same_kind (head e) first && is_kind behind_it (second e next)) (append-nil (spell e)) (rw (head_is e [] next, second_is e [] next))
 
-head_alone : (kind : Kind) (e : Expr) (next : Option Kind) → begins kind ≡ false → is_kind kind (front (spell e) next) ≡ false
+head_alone : (kind : TokenKind) (e : Expr) (next : Option TokenKind) → begins kind ≡ false → is_kind kind (front (spell e) next) ≡ false
 head_alone kind e next h = subst (λ qs. is_kind kind (front qs next) ≡ false) (append-nil (spell e)) (ap (is_kind kind) (head_is e [] next) ∙ not_head kind e h)
 
 -- ---- values
@@ -269,7 +269,7 @@ choices_gives n cs f = separated_gives k.Bar refl (omega arith) (choice_gives n)
 -- ---- associations
 
 -- no => follows
-abbrev EndsActual : Option Kind → Type 0
+abbrev EndsActual : Option TokenKind → Type 0
 EndsActual next = (is_kind k.Arrow next ≡ false) × Ends next
 
 actual_gives : (n : ℕ) (a : Actual) → IsActual a → Gives (actual_of n) a (spell_actual a) Ends
@@ -282,7 +282,7 @@ actual_gives n (actual e) f =
 actual_ends : (n : ℕ) (a : Actual) → IsActual a → Gives (actual_of n) a (spell_actual a) EndsActual
 actual_ends n a f = record { reads = λ ts rest h g. (actual_gives n a f).reads ts rest h g.1 }
 
-no_formal_actual : (a : Actual) (next : Option Kind) → EndsActual next → both k.Identifier k.Arrow (spell_actual a) next ≡ false
+no_formal_actual : (a : Actual) (next : Option TokenKind) → EndsActual next → both k.Identifier k.Arrow (spell_actual a) next ≡ false
 unfolding same_kind
 no_formal_actual (left_open at) next g = refl
 no_formal_actual (actual e) next g = both_expr k.Identifier k.Arrow e next ∙ no_formal e next g.0

@@ -1,8 +1,8 @@
 -- Operators by level, and what may follow what.
 use Rattle.std.proofs.Common.{◌≡◌, ℕ, ◌≤◌, ◌<◌, Bool, true, false, cond, Option, Some, None, inl, inr, ⊎_elim, refl, sym, ap, ◌∙◌, subst, rules, arith}
 use denote.Enum.Bare.{same_true, true_same}
-use Rattle.vhdl_lexer.specs.declared.token.Kind.{Kind}
-use Rattle.vhdl_lexer.specs.declared.token.Kind.TheVariants as k
+use Rattle.vhdl_lexer.specs.declared.token.TokenKind.{TokenKind}
+use Rattle.vhdl_lexer.specs.declared.token.TokenKind.TheVariants as k
 use Rattle.vhdl_lexer.specs.contracts.token.Kind.{the_type}
 use Rattle.vhdl_tree.specs.declared.operator.Operator.{Operator}
 use Rattle.vhdl_tree.specs.declared.operator.Operator.TheVariants.{And, Or, Xor, Xnor, Nand, Nor, Equal, NotEqual, Less, LessEqual, Greater, GreaterEqual, Add, Subtract, Concatenate, Multiply, Divide, Modulo, Remainder}
@@ -21,7 +21,7 @@ level_rank Adding = 3
 level_rank Multiplying = 4
 
 -- How tightly a token goes on with the expression before it: not at all 0, as an operator by its rank, and as a name's suffix or attribute 7.
-abbrev pub grip : Option Kind → ℕ
+abbrev pub grip : Option TokenKind → ℕ
 grip (Some k.And) = 1
 grip (Some k.Or) = 1
 grip (Some k.Xor) = 1
@@ -135,14 +135,14 @@ binding_least (named n s a) = omega arith
 binding_least (parens at e) = omega arith
 
 -- the token is this operator, which is of this level
-pub record At (level : Level) (next : Option Kind) (op : Operator) : Type 0 where
+pub record At (level : Level) (next : Option TokenKind) (op : Operator) : Type 0 where
   pub kind_is : next ≡ Some (kind_of op)
   pub rank_is : rank op ≡ level_rank level
 
-row : (level : Level) (next : Option Kind) (found op : Operator) → ◌≡◌ {A = Option Operator} (Some found) (Some op) → next ≡ Some (kind_of found) → rank found ≡ level_rank level → At level next op
+row : (level : Level) (next : Option TokenKind) (found op : Operator) → ◌≡◌ {A = Option Operator} (Some found) (Some op) → next ≡ Some (kind_of found) → rank found ≡ level_rank level → At level next op
 row level next found op h e r = let same : found ≡ op = cc in subst (At level next) same (record { kind_is = e; rank_is = r })
 
-logical_is : (next : Option Kind) (op : Operator) → logical_at next ≡ Some op → At Logical next op
+logical_is : (next : Option TokenKind) (op : Operator) → logical_at next ≡ Some op → At Logical next op
 logical_is (Some k.And) op h = row Logical _ And op h refl refl
 logical_is (Some k.Or) op h = row Logical _ Or op h refl refl
 logical_is (Some k.Xor) op h = row Logical _ Xor op h refl refl
@@ -151,7 +151,7 @@ logical_is (Some k.Nand) op h = row Logical _ Nand op h refl refl
 logical_is (Some k.Nor) op h = row Logical _ Nor op h refl refl
 logical_is _ op h = absurd (cc)
 
-relation_is : (next : Option Kind) (op : Operator) → relation_at next ≡ Some op → At Relation next op
+relation_is : (next : Option TokenKind) (op : Operator) → relation_at next ≡ Some op → At Relation next op
 relation_is (Some k.Equal) op h = row Relation _ Equal op h refl refl
 relation_is (Some k.NotEqual) op h = row Relation _ NotEqual op h refl refl
 relation_is (Some k.Less) op h = row Relation _ Less op h refl refl
@@ -160,13 +160,13 @@ relation_is (Some k.Greater) op h = row Relation _ Greater op h refl refl
 relation_is (Some k.GreaterEqual) op h = row Relation _ GreaterEqual op h refl refl
 relation_is _ op h = absurd (cc)
 
-adding_is : (next : Option Kind) (op : Operator) → adding_at next ≡ Some op → At Adding next op
+adding_is : (next : Option TokenKind) (op : Operator) → adding_at next ≡ Some op → At Adding next op
 adding_is (Some k.Plus) op h = row Adding _ Add op h refl refl
 adding_is (Some k.Minus) op h = row Adding _ Subtract op h refl refl
 adding_is (Some k.Ampersand) op h = row Adding _ Concatenate op h refl refl
 adding_is _ op h = absurd (cc)
 
-multiplying_is : (next : Option Kind) (op : Operator) → multiplying_at next ≡ Some op → At Multiplying next op
+multiplying_is : (next : Option TokenKind) (op : Operator) → multiplying_at next ≡ Some op → At Multiplying next op
 multiplying_is (Some k.Star) op h = row Multiplying _ Multiply op h refl refl
 multiplying_is (Some k.Slash) op h = row Multiplying _ Divide op h refl refl
 multiplying_is (Some k.Mod) op h = row Multiplying _ Modulo op h refl refl
@@ -203,24 +203,24 @@ repeated_rank Xor e = refl
 repeated_rank Xnor e = refl
 repeated_rank _ e = absurd (cc)
 
-same_here : (kind : Kind) → same_kind kind kind ≡ true
+same_here : (kind : TokenKind) → same_kind kind kind ≡ true
 unfolding same_kind
 same_here kind = true_same the_type kind kind refl
 
-pub is_here : (kind : Kind) (next : Option Kind) → is_kind kind next ≡ true → next ≡ Some kind
+pub is_here : (kind : TokenKind) (next : Option TokenKind) → is_kind kind next ≡ true → next ≡ Some kind
 unfolding same_kind
 is_here kind None h = absurd (cc)
 is_here kind (Some found) h = ap Some (same_true the_type (search rules) found kind h)
 
 -- what a chain begins with is an operator of its level
-pub first_is : (level : Level) (next : Option Kind) (op : Operator) → operator_at level next ≡ Some op → At level next op
+pub first_is : (level : Level) (next : Option TokenKind) (op : Operator) → operator_at level next ≡ Some op → At level next op
 first_is Logical next op h = logical_is next op h
 first_is Relation next op h = relation_is next op h
 first_is Adding next op h = adding_is next op h
 first_is Multiplying next op h = multiplying_is next op h
 
 -- what it goes on with is one
-pub next_is : (level : Level) (last : Operator) (next : Option Kind) (op : Operator) → next_operator level last next ≡ Some op → At level next op
+pub next_is : (level : Level) (last : Operator) (next : Option TokenKind) (op : Operator) → next_operator level last next ≡ Some op → At level next op
 unfolding next_operator
 next_is Logical last next op h = by_repeats (repeats last) refl h
   where
@@ -236,17 +236,17 @@ next_is Adding last next op h = adding_is next op h
 next_is Multiplying last next op h = multiplying_is next op h
 
 -- nothing of this level follows where what comes next is looser
-none_at : (level : Level) (next : Option Kind) (o : Option Operator) → ((op : Operator) → o ≡ Some op → At level next op) → grip next < level_rank level → o ≡ None
+none_at : (level : Level) (next : Option TokenKind) (o : Option Operator) → ((op : Operator) → o ≡ Some op → At level next op) → grip next < level_rank level → o ≡ None
 none_at level next None is s = refl
 none_at level next (Some op) is s =
     let a = is op refl in
     let g : grip next ≡ rank op = ap grip a.kind_is ∙ grip-kind_of op in
     absurd (omega (arith, s, g, a.rank_is))
 
-pub first_none : (level : Level) (next : Option Kind) → grip next < level_rank level → operator_at level next ≡ None
+pub first_none : (level : Level) (next : Option TokenKind) → grip next < level_rank level → operator_at level next ≡ None
 first_none level next s = none_at level next (operator_at level next) (first_is level next) s
 
-pub next_none : (level : Level) (last : Operator) (next : Option Kind) → grip next < level_rank level → next_operator level last next ≡ None
+pub next_none : (level : Level) (last : Operator) (next : Option TokenKind) → grip next < level_rank level → next_operator level last next ≡ None
 next_none level last next s = none_at level next (next_operator level last next) (next_is level last next) s
 
 -- ---- what may follow a tree is read after it
@@ -294,7 +294,7 @@ begins_tight level first b op r = inl (omega (arith, r, b))
 
 -- as a further one
 abbrev pub Fits : Level → Operator → Expr → Type 0
-Fits level last left = (next : Option Kind) (op : Operator) → next_operator level last next ≡ Some op → GoesOn op left
+Fits level last left = (next : Option TokenKind) (op : Operator) → next_operator level last next ≡ Some op → GoesOn op left
 
 pub fits_after : (level : Level) (b : Bool) (op : Operator) (at : ℕ) (left right : Expr) → rank op ≡ level_rank level → Fits level op (binary b op at left right)
 unfolding next_operator

@@ -1,6 +1,6 @@
 -- How readers are made of repetitions: what each makes.
 use Rattle.std.proofs.Common.{◌≡◌, ℕ, zero, suc, ◌≤◌, Bool, true, false, List, [], ◌∷◌, ◌++◌, length, Ok, Err, Option, None, ⊎_elim, refl, sym, ap, ◌∙◌, subst, append_assoc, append-nil, arith}
-use Rattle.vhdl_lexer.specs.declared.token.Kind.{Kind}
+use Rattle.vhdl_lexer.specs.declared.token.TokenKind.{TokenKind}
 use Rattle.vhdl_parser_expressions.specs.declared.stop.Stop.{Stop}
 use Rattle.vhdl_parser_expressions.specs.declared.stop.Stop.TheVariants.{TooDeep}
 use Rattle.vhdl_tree.specs.Lexeme.{Lexeme}
@@ -12,7 +12,7 @@ use Rattle.vhdl_parser_expressions.proofs.Steady.{Advances, steady_many}
 use Rattle.vhdl_parser_expressions.proofs.Walks.{Walk, walk_none, walk_append, Deep, deep_after, Walks, Rule, afresh, w_then, w_rule}
 use Rattle.vhdl_parser_expressions.proofs.Rules.{is_neutral, w_some}
 
-module _ {A : Type 0} {n d : ℕ} {part : A → List Piece} {Part : A → Type 0} (begins : Option Kind → Bool) (item : Parser A) (le : d ≤ n) (each : Rule n d item part Part) where
+module _ {A : Type 0} {n d : ℕ} {part : A → List Piece} {Part : A → Type 0} (begins : Option TokenKind → Bool) (item : Parser A) (le : d ≤ n) (each : Rule n d item part Part) where
   -- what was found, and then items that are spelled
   pub record ManyMade (found all : List A) (ts rest : List Lexeme) : Type 0 where
     pub more : List A
@@ -106,7 +106,7 @@ module _ {A : Type 0} {n d : ℕ} {part : A → List Piece} {Part : A → Type 0
   }
 
 -- item { separator item }
-pub separated_rule : {A : Type 0} {n d : ℕ} {item : Parser A} {part : A → List Piece} {Part : A → Type 0} (separator : Kind) → is_neutral separator ≡ true → d ≤ n → Rule n d item part Part →
+pub separated_rule : {A : Type 0} {n d : ℕ} {item : Parser A} {part : A → List Piece} {Part : A → Type 0} (separator : TokenKind) → is_neutral separator ≡ true → d ≤ n → Rule n d item part Part →
     Rule n d (separated separator item) (spell_list separator part) (IsList Part)
 unfolding separated
 separated_rule {A} {n} {d} {item} {part} {Part} separator ok le each = w_then each (λ first good le. rest_of first good)

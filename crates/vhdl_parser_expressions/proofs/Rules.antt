@@ -1,7 +1,7 @@
 -- How readers are made of tokens, choices and options: what each makes.
 use Rattle.std.proofs.Common.{◌≡◌, ℕ, zero, suc, ◌+◌, ◌≤◌, Bool, true, false, cond, List, [], ◌∷◌, ◌++◌, slice_index, Ok, Err, Option, Some, None, ⊎_elim, refl, sym, ap, ◌∙◌, subst, arith}
-use Rattle.vhdl_lexer.specs.declared.token.Kind.{Kind}
-use Rattle.vhdl_lexer.specs.declared.token.Kind.TheVariants as k
+use Rattle.vhdl_lexer.specs.declared.token.TokenKind.{TokenKind}
+use Rattle.vhdl_lexer.specs.declared.token.TokenKind.TheVariants as k
 use Rattle.vhdl_parser_expressions.specs.declared.stop.Stop.{Stop}
 use Rattle.vhdl_parser_expressions.specs.declared.stop.Stop.TheVariants.{Unexpected, EndOfFile, TooDeep}
 use Rattle.vhdl_tree.specs.Lexeme.{Lexeme, same_kind}
@@ -22,7 +22,7 @@ abbrev pub Stops : {A B : Type 0} → (A → Parser B) → A → Type 0
 Stops f a = (ts : List Lexeme) × (why : Stop) × (at : List Lexeme) × (f a ts ≡ Err (why, at)) × IsRefused why
 
 -- a token that neither opens nor closes a level, nor is `end`
-abbrev pub is_neutral : Kind → Bool
+abbrev pub is_neutral : TokenKind → Bool
 is_neutral k.LeftParen = false
 is_neutral k.RightParen = false
 is_neutral k.If = false
@@ -33,12 +33,12 @@ is_neutral k.Generate = false
 is_neutral k.End = false
 is_neutral _ = true
 
-pub record Neutral (kind : Kind) : Type 0 where
+pub record Neutral (kind : TokenKind) : Type 0 where
   pub opens_none : (e : Bool) → opening e kind ≡ 0
   pub closes_none : (e : Bool) → closing e kind ≡ 0
   pub no_end : is_end kind ≡ false
 
-pub neutral : (kind : Kind) → is_neutral kind ≡ true → Neutral kind
+pub neutral : (kind : TokenKind) → is_neutral kind ≡ true → Neutral kind
 unfolding same_kind
 neutral k.LeftParen h = absurd (cc)
 neutral k.RightParen h = absurd (cc)
@@ -51,17 +51,17 @@ neutral k.End h = absurd (cc)
 neutral _ h = record { opens_none = λ e. refl; closes_none = λ e. refl; no_end = refl }
 
 -- the piece of a token that was taken
-spelled_by : {A : Type 0} (of : Lexeme → A) (kind : Kind) (part : A → Piece) → ((l : Lexeme) → l.kind ≡ kind → Is (part (of l)) l) → {ts : List Lexeme} {a : A} {rest : List Lexeme} → Taken kind of ts a rest → Spells (part a ∷ []) ts rest
+spelled_by : {A : Type 0} (of : Lexeme → A) (kind : TokenKind) (part : A → Piece) → ((l : Lexeme) → l.kind ≡ kind → Is (part (of l)) l) → {ts : List Lexeme} {a : A} {rest : List Lexeme} → Taken kind of ts a rest → Spells (part a ∷ []) ts rest
 spelled_by of kind part is {ts} {a} {rest} t = spells_one (part a) ts t.token rest t.first (subst (λ y. Is (part y) t.token) t.value (is t.token t.kind_is))
 
-example_behind : {A B : Type 0} {before : List Piece → List Piece} {spell : B → List Piece} {Good : B → Type 0} (of : Lexeme → A) (kind : Kind) (part : A → Piece) → ((a : A) → Example (λ r. before (part a ∷ r)) spell Good) → Example before spell Good
+example_behind : {A B : Type 0} {before : List Piece → List Piece} {spell : B → List Piece} {Good : B → Type 0} (of : Lexeme → A) (kind : TokenKind) (part : A → Piece) → ((a : A) → Example (λ r. before (part a ∷ r)) spell Good) → Example before spell Good
 example_behind of kind part example =
     let a = of (record { kind = kind; at = 0; text = [] }) in
     let x = example a in
     record { tree = x.tree; more = part a ∷ x.more; is = x.is; formed = x.formed }
 
 -- a token of this kind, behind which a tree can go on
-pub stick_take : {A B : Type 0} {before : List Piece → List Piece} {f : A → Parser B} {spell : B → List Piece} {Good : B → Type 0} (of : Lexeme → A) (kind : Kind) (part : A → Piece) →
+pub stick_take : {A B : Type 0} {before : List Piece → List Piece} {f : A → Parser B} {spell : B → List Piece} {Good : B → Type 0} (of : Lexeme → A) (kind : TokenKind) (part : A → Piece) →
     ((l : Lexeme) → l.kind ≡ kind → Is (part (of l)) l) → ((a : A) → Example (λ r. before (part a ∷ r)) spell Good) → ((a : A) → Sticks (λ r. before (part a ∷ r)) (f a) spell Good) →
     Sticks before (λ ts. and_then (and_then (token kind ts) (λ l us. Ok (of l, us))) f) spell Good
 stick_take {A} {B} {before} {f} {spell} {Good} of kind part is example next ts why at h met = ⊎_elim
@@ -70,7 +70,7 @@ stick_take {A} {B} {before} {f} {spell} {Good} of kind part is example next ts w
     (bind_err (and_then (token kind ts) (λ l us. Ok (of l, us))) f (why, at) h)
 
 -- a token of this kind, after which d2 levels are open
-pub w_take_by : {A B : Type 0} {n d d2 d3 : ℕ} {e e2 : Bool} {before : List Piece → List Piece} {f : A → Parser B} {spell : B → List Piece} {Good : B → Type 0} (of : Lexeme → A) (kind : Kind) (part : A → Piece) →
+pub w_take_by : {A B : Type 0} {n d d2 d3 : ℕ} {e e2 : Bool} {before : List Piece → List Piece} {f : A → Parser B} {spell : B → List Piece} {Good : B → Type 0} (of : Lexeme → A) (kind : TokenKind) (part : A → Piece) →
     (d2 ≤ n → d ≤ n) → d + opening e kind ≡ d2 + closing e kind → is_end kind ≡ e2 → ((l : Lexeme) → l.kind ≡ kind → Is (part (of l)) l) →
     (d ≤ n → (a : A) → Example (λ r. before (part a ∷ r)) spell Good) → (d ≤ n → (a : A) → Sticks (λ r. before (part a ∷ r)) (f a) spell Good) →
     ((a : A) → Walks n d2 e2 d3 (λ r. before (part a ∷ r)) (f a) spell Good) → Walks n d e d3 before (λ ts. and_then (and_then (token kind ts) (λ l us. Ok (of l, us))) f) spell Good
@@ -99,13 +99,13 @@ w_take_by {A} {B} {n} {d} {d2} {d3} {e} {e2} {before} {f} {spell} {Good} of kind
     level t = ap (λ y. d + opening e y) t.kind_is ∙ b ∙ ap (λ y. d2 + closing e y) (sym t.kind_is)
 
 -- a token that opens no level
-pub w_take : {A B : Type 0} {n d d2 d3 : ℕ} {e e2 : Bool} {before : List Piece → List Piece} {f : A → Parser B} {spell : B → List Piece} {Good : B → Type 0} (of : Lexeme → A) (kind : Kind) (part : A → Piece) →
+pub w_take : {A B : Type 0} {n d d2 d3 : ℕ} {e e2 : Bool} {before : List Piece → List Piece} {f : A → Parser B} {spell : B → List Piece} {Good : B → Type 0} (of : Lexeme → A) (kind : TokenKind) (part : A → Piece) →
     (d2 ≤ n → d ≤ n) → d2 ≤ d → d + opening e kind ≡ d2 + closing e kind → is_end kind ≡ e2 → ((l : Lexeme) → l.kind ≡ kind → Is (part (of l)) l) →
     ((a : A) → Walks n d2 e2 d3 (λ r. before (part a ∷ r)) (f a) spell Good) → Walks n d e d3 before (λ ts. and_then (and_then (token kind ts) (λ l us. Ok (of l, us))) f) spell Good
 w_take of kind part bound less b last is next = w_take_by of kind part bound b last is (λ le a. (next a).example (omega (arith, le, less))) (λ le a. (next a).stuck (omega (arith, le, less))) next
 
 -- a token that neither opens nor closes a level, by itself
-pub w_token : {A : Type 0} {n : ℕ} (of : Lexeme → A) (kind : Kind) (part : A → Piece) → is_neutral kind ≡ true → ((l : Lexeme) → l.kind ≡ kind → Is (part (of l)) l) →
+pub w_token : {A : Type 0} {n : ℕ} (of : Lexeme → A) (kind : TokenKind) (part : A → Piece) → is_neutral kind ≡ true → ((l : Lexeme) → l.kind ≡ kind → Is (part (of l)) l) →
     Rule n 0 (λ ts. and_then (token kind ts) (λ l us. Ok (of l, us))) (λ a. part a ∷ []) IsAny
 w_token {A} {n} of kind part ok is = record {
   reads = λ ts a rest h.
@@ -131,14 +131,14 @@ w_token {A} {n} of kind part ok is = record {
 
 module _ {B : Type 0} {n d d2 : ℕ} {e : Bool} {before : List Piece → List Piece} {spell : B → List Piece} {Good : B → Type 0} where
   -- a neutral token whose place the tree keeps
-  pub w_at : {f : ℕ → Parser B} (kind : Kind) → is_neutral kind ≡ true → ((at : ℕ) → Walks n d false d2 (λ r. before (one_at kind at ∷ r)) (f at) spell Good) → Walks n d e d2 before (λ ts. and_then (expect kind ts) f) spell Good
+  pub w_at : {f : ℕ → Parser B} (kind : TokenKind) → is_neutral kind ≡ true → ((at : ℕ) → Walks n d false d2 (λ r. before (one_at kind at ∷ r)) (f at) spell Good) → Walks n d e d2 before (λ ts. and_then (expect kind ts) f) spell Good
   unfolding expect
   w_at kind ok next =
       let u = neutral kind ok in
       w_take (λ l. l.at) kind (one_at kind) (λ le. le) (omega arith) (omega (arith, u.opens_none e, u.closes_none e)) u.no_end (λ l i. (i, refl)) next
 
   -- a neutral token
-  pub w_some : {f : ℕ → Parser B} (kind : Kind) → is_neutral kind ≡ true → ((at : ℕ) → Walks n d false d2 (λ r. before (some kind ∷ r)) (f at) spell Good) → Walks n d e d2 before (λ ts. and_then (expect kind ts) f) spell Good
+  pub w_some : {f : ℕ → Parser B} (kind : TokenKind) → is_neutral kind ≡ true → ((at : ℕ) → Walks n d false d2 (λ r. before (some kind ∷ r)) (f at) spell Good) → Walks n d e d2 before (λ ts. and_then (expect kind ts) f) spell Good
   unfolding expect
   w_some kind ok next =
       let u = neutral kind ok in
@@ -166,7 +166,7 @@ module _ {B : Type 0} {n d d2 : ℕ} {e : Bool} {before : List Piece → List Pi
 
 module _ {B : Type 0} {n d2 : ℕ} {before : List Piece → List Piece} {spell : B → List Piece} {Good : B → Type 0} where
   -- a word or parenthesis that opens, by a tree that goes on with it
-  pub w_open : {e : Bool} {f : ℕ → Parser B} (kind : Kind) → opening e kind ≡ 1 → closing e kind ≡ 0 → is_end kind ≡ false → ((at : ℕ) → Example (λ r. before (one_at kind at ∷ r)) spell Good) → ((at : ℕ) → Stops f at → 1 ≤ n) →
+  pub w_open : {e : Bool} {f : ℕ → Parser B} (kind : TokenKind) → opening e kind ≡ 1 → closing e kind ≡ 0 → is_end kind ≡ false → ((at : ℕ) → Example (λ r. before (one_at kind at ∷ r)) spell Good) → ((at : ℕ) → Stops f at → 1 ≤ n) →
       ((at : ℕ) → Walks n 1 false d2 (λ r. before (one_at kind at ∷ r)) (f at) spell Good) → Walks n 0 e d2 before (λ ts. and_then (expect kind ts) f) spell Good
   unfolding expect
   w_open kind o c last example within next = w_take_by (λ l. l.at) kind (one_at kind) (λ le. omega arith) (omega (arith, o, c)) last (λ l i. (i, refl)) (λ le. example) (λ le at ts why us h met. (next at).stuck (within at (ts, why, us, h, met)) ts why us h met) next
@@ -199,7 +199,7 @@ module _ {B : Type 0} {n d d2 : ℕ} {e : Bool} {before : List Piece → List Pi
       never [] at h = let e = err_why EndOfFile TooDeep [] at h in absurd (cc)
       never (t ∷ ts) at h = let e = err_why Unexpected TooDeep (t ∷ ts) at h in absurd (cc)
 
-  pub w_choose : {by : Option Kind → Parser B} → ((next : Option Kind) → Walks n d e d2 before (by next) spell Good) → Walks n d e d2 before (λ ts. by (next_kind ts) ts) spell Good
+  pub w_choose : {by : Option TokenKind → Parser B} → ((next : Option TokenKind) → Walks n d e d2 before (by next) spell Good) → Walks n d e d2 before (λ ts. by (next_kind ts) ts) spell Good
   w_choose each = record {
     reads = λ ts b rest h. (each (next_kind ts)).reads ts b rest h;
     deep = λ ts at h. (each (next_kind ts)).deep ts at h;
@@ -208,7 +208,7 @@ module _ {B : Type 0} {n d d2 : ℕ} {e : Bool} {before : List Piece → List Pi
     steady = steady_choose (λ next. (each next).steady);
   }
 
-  pub w_test : {p q : Parser B} (begins : Option Kind → Bool) → Walks n d e d2 before p spell Good → Walks n d e d2 before q spell Good → Walks n d e d2 before (test begins p q) spell Good
+  pub w_test : {p q : Parser B} (begins : Option TokenKind → Bool) → Walks n d e d2 before p spell Good → Walks n d e d2 before q spell Good → Walks n d e d2 before (test begins p q) spell Good
   w_test {p} {q} begins one other = w_choose {by = λ next ts. cond {A = Outcome B} (begins next) (p ts) (q ts)} (λ next. by (begins next))
     where
       by : (t : Bool) → Walks n d e d2 before (λ ts. cond {A = Outcome B} t (p ts) (q ts)) spell Good
@@ -225,7 +225,7 @@ module _ {B : Type 0} {n d d2 : ℕ} {e : Bool} {before : List Piece → List Pi
     steady = steady_same same w.steady;
   }
 
-  pub w_test_then : {A : Type 0} (begins : Option Kind → Bool) (p q : Parser A) (f : A → Parser B) → Walks n d e d2 before (λ ts. and_then (p ts) f) spell Good → Walks n d e d2 before (λ ts. and_then (q ts) f) spell Good → Walks n d e d2 before (λ ts. and_then (test begins p q ts) f) spell Good
+  pub w_test_then : {A : Type 0} (begins : Option TokenKind → Bool) (p q : Parser A) (f : A → Parser B) → Walks n d e d2 before (λ ts. and_then (p ts) f) spell Good → Walks n d e d2 before (λ ts. and_then (q ts) f) spell Good → Walks n d e d2 before (λ ts. and_then (test begins p q ts) f) spell Good
   w_test_then {A} begins p q f one other = w_same (λ ts. spread (begins (next_kind ts)) ts) (w_test begins one other)
     where
       spread : (t : Bool) (ts : List Lexeme) → cond {A = Outcome B} t (and_then (p ts) f) (and_then (q ts) f) ≡ and_then (cond {A = Outcome A} t (p ts) (q ts)) f
@@ -256,7 +256,7 @@ w_by {B} {n} {d} {d2} {e} {before} {spell} {Good} {p} {q} c one other steady = r
     by false = other
 
 -- a rule by the next two tokens, and what follows it: the first of them is taken on both ways
-pub w_both : {A B : Type 0} {n d d2 : ℕ} {before : List Piece → List Piece} {part : A → List Piece} {Part : A → Type 0} {spell : B → List Piece} {Good : B → Type 0} (first second : Kind) (p q : Parser A) (f : A → Parser B) →
+pub w_both : {A B : Type 0} {n d d2 : ℕ} {before : List Piece → List Piece} {part : A → List Piece} {Part : A → Type 0} {spell : B → List Piece} {Good : B → Type 0} (first second : TokenKind) (p q : Parser A) (f : A → Parser B) →
     Rule n d p part Part → Rule n d q part Part → ((a : A) → Part a → d ≤ n → Walks n d false d2 (λ r. before (part a ++ r)) (f a) spell Good) →
     (Steady (λ ts. and_then (p ts) f) → Eager first (λ ts. and_then (p ts) f)) → (Steady (λ ts. and_then (q ts) f) → Eager first (λ ts. and_then (q ts) f)) →
     Walks n d false d2 before (λ ts. and_then (test_both first second p q ts) f) spell Good
@@ -313,7 +313,7 @@ under_none = record {
 
 module _ {B : Type 0} {n d d2 : ℕ} {before : List Piece → List Piece} {spell : B → List Piece} {Good : B → Type 0} where
   -- an optional word, also behind `end`
-  pub w_word : {e : Bool} {f : Bool → Parser B} (kind : Kind) → is_neutral kind ≡ true → ((b : Bool) (e2 : Bool) → Walks n d e2 d2 (λ r. before (spell_word kind b ++ r)) (f b) spell Good) → Walks n d e d2 before (λ ts. and_then (eat kind ts) f) spell Good
+  pub w_word : {e : Bool} {f : Bool → Parser B} (kind : TokenKind) → is_neutral kind ≡ true → ((b : Bool) (e2 : Bool) → Walks n d e2 d2 (λ r. before (spell_word kind b ++ r)) (f b) spell Good) → Walks n d e d2 before (λ ts. and_then (eat kind ts) f) spell Good
   unfolding eat
   w_word {e} {f} kind ok next = w_test_then (is_kind kind) (λ ts. and_then (expect kind ts) (λ _ us. Ok (true, us))) (λ ts. Ok (false, ts)) f (w_inner (expect kind) (λ _ us. Ok (true, us)) f (w_some kind ok (λ _. next true false))) (next false e)
 
@@ -324,10 +324,10 @@ module _ {B : Type 0} {n d d2 : ℕ} {before : List Piece → List Piece} {spell
 
 -- ---- options, as rules
 
-pub word_rule : {n d : ℕ} (kind : Kind) → is_neutral kind ≡ true → d ≤ n → Rule n d (eat kind) (spell_word kind) IsAny
+pub word_rule : {n d : ℕ} (kind : TokenKind) → is_neutral kind ≡ true → d ≤ n → Rule n d (eat kind) (spell_word kind) IsAny
 unfolding eat
 word_rule kind ok le = w_test (is_kind kind) (w_some kind ok (λ _. w_pure le refl tt)) (w_pure le refl tt)
 
-pub option_rule : {A : Type 0} {n d : ℕ} {item : Parser A} {part : A → List Piece} {Part : A → Type 0} (begins : Option Kind → Bool) → d ≤ n → Rule n d item part Part → Rule n d (optional begins item) (spell_option part) (IsOption Part)
+pub option_rule : {A : Type 0} {n d : ℕ} {item : Parser A} {part : A → List Piece} {Part : A → Type 0} (begins : Option TokenKind → Bool) → d ≤ n → Rule n d item part Part → Rule n d (optional begins item) (spell_option part) (IsOption Part)
 unfolding optional
 option_rule begins le w = w_test begins (w_last (λ x. Some x) w (λ a good. (refl, good))) (w_pure le refl tt)

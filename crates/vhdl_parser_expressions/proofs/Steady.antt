@@ -1,6 +1,6 @@
 -- What a reader says of the tokens up to where it stops doesn't hang on those behind.
 use Rattle.std.proofs.Common.{◌≡◌, ℕ, zero, suc, ◌+◌, ◌≤◌, ◌<◌, Bool, true, false, cond, List, [], ◌∷◌, ◌++◌, length, length-append, Ok, Err, Option, Some, None, refl, sym, ap, ◌∙◌, subst, arith}
-use Rattle.vhdl_lexer.specs.declared.token.Kind.{Kind}
+use Rattle.vhdl_lexer.specs.declared.token.TokenKind.{TokenKind}
 use Rattle.vhdl_parser_expressions.specs.declared.stop.Stop.{Stop}
 use Rattle.vhdl_parser_expressions.specs.declared.stop.Stop.TheVariants.{Unexpected, TooDeep}
 use Rattle.vhdl_tree.specs.Lexeme.{Lexeme, same_kind}
@@ -62,7 +62,7 @@ steady_refuse {A} = record { shorter = λ ts. omega arith; twins = alike }
     alike [] t r m = both_refuse Unexpected [] refl refl
     alike (l ∷ front) t r m = both_refuse Unexpected (l ∷ front) refl refl
 
-pub steady_token : (kind : Kind) → Steady (token kind)
+pub steady_token : (kind : TokenKind) → Steady (token kind)
 unfolding token
 steady_token kind = record { shorter = short; twins = alike }
   where
@@ -114,7 +114,7 @@ pub steady_map : {A B : Type 0} {p : Parser A} (g : A → B) → Steady p → St
 steady_map g first = steady_then first (λ ts a rest h. steady_pure)
 
 -- a step that takes a token
-pub steady_take : {A : Type 0} (of : Lexeme → A) (kind : Kind) → Steady (λ ts. and_then (token kind ts) (λ l us. Ok (of l, us)))
+pub steady_take : {A : Type 0} (of : Lexeme → A) (kind : TokenKind) → Steady (λ ts. and_then (token kind ts) (λ l us. Ok (of l, us)))
 steady_take of kind = steady_map of (steady_token kind)
 
 -- a reader that says the same
@@ -128,7 +128,7 @@ steady_same {A} {p} {q} same s = record {
 
 -- ---- choices
 
-pub steady_choose : {A : Type 0} {by : Option Kind → Parser A} → ((next : Option Kind) → Steady (by next)) → Steady (λ ts. by (next_kind ts) ts)
+pub steady_choose : {A : Type 0} {by : Option TokenKind → Parser A} → ((next : Option TokenKind) → Steady (by next)) → Steady (λ ts. by (next_kind ts) ts)
 unfolding next_kind
 steady_choose {A} {by} each = record { shorter = λ ts. (each (next_kind ts)).shorter ts; twins = alike }
   where
@@ -140,7 +140,7 @@ pub steady_cond : {A : Type 0} {p q : Parser A} → Steady p → Steady q → (b
 steady_cond one other true = one
 steady_cond one other false = other
 
-pub steady_test : {A : Type 0} {p q : Parser A} (begins : Option Kind → Bool) → Steady p → Steady q → Steady (test begins p q)
+pub steady_test : {A : Type 0} {p q : Parser A} (begins : Option TokenKind → Bool) → Steady p → Steady q → Steady (test begins p q)
 steady_test {A} {p} {q} begins one other = steady_choose {by = λ next ts. cond {A = Outcome A} (begins next) (p ts) (q ts)} (λ next. steady_cond one other (begins next))
 
 -- the level below
@@ -170,7 +170,7 @@ pub then_alike : {A B : Type 0} (o : Outcome A) (f g : A → Parser B) → ((a :
 then_alike (Ok x) f g same = same x.0 x.1 refl
 then_alike (Err e) f g same = refl
 
-module _ {A : Type 0} (begins : Option Kind → Bool) {item : Parser A} (none : begins None ≡ false) (each : Steady item) (on : Advances item) where
+module _ {A : Type 0} (begins : Option TokenKind → Bool) {item : Parser A} (none : begins None ≡ false) (each : Steady item) (on : Advances item) where
   many_steady : (turns : ℕ) (found : List A) → Steady (many_from begins item turns found)
   unfolding many_from
   many_steady zero found = steady_pure
@@ -200,10 +200,10 @@ advances_then {A} {B} {p} f on short ts b rest h =
     let e : length (left_of (f a.0.0 a.0.1)) ≡ length rest = ap (λ o. length (left_of o)) a.2 in
     omega (arith, on ts a.0.0 a.0.1 a.1, short a.0.0 a.0.1, e)
 
-pub advances_token : (kind : Kind) → Advances (token kind)
+pub advances_token : (kind : TokenKind) → Advances (token kind)
 advances_token kind ts l rest h = let e = ap (λ us. length us) (token_ok kind ts l rest h).first in omega (arith, e)
 
-pub steady_separated : {A : Type 0} {item : Parser A} (separator : Kind) → Steady item → Steady (separated separator item)
+pub steady_separated : {A : Type 0} {item : Parser A} (separator : TokenKind) → Steady item → Steady (separated separator item)
 unfolding separated expect
 steady_separated {A} {item} separator each = steady_then each (λ ts first rest h. steady_many (is_kind separator) refl next next_on (first ∷ []))
   where

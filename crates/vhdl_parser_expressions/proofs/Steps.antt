@@ -1,7 +1,7 @@
 -- What the steps of a reader say of the tokens.
 use Rattle.std.proofs.Common.{◌≡◌, ℕ, Bool, true, false, cond, List, [], ◌∷◌, ◌++◌, length, Result, Ok, Err, ◌⊎◌, inl, inr, refl, sym, ap, ◌∙◌, subst, rules, arith, ◌+◌}
 use denote.Enum.Bare.{same_true, true_same}
-use Rattle.vhdl_lexer.specs.declared.token.Kind.{Kind}
+use Rattle.vhdl_lexer.specs.declared.token.TokenKind.{TokenKind}
 use Rattle.vhdl_lexer.specs.contracts.token.Kind.{the_type}
 use Rattle.vhdl_parser_expressions.specs.declared.stop.Stop.{Stop}
 use Rattle.vhdl_parser_expressions.specs.declared.stop.Stop.TheVariants.{Unexpected, EndOfFile, TooDeep}
@@ -41,16 +41,16 @@ err_why d e ts at h = let same : ◌≡◌ {A = Stop × List Lexeme} (d, ts) (e,
 pub err_at : {A : Type 0} (d e : Stop) (ts at : List Lexeme) → ◌≡◌ {A = Outcome A} (Err (d, ts)) (Err (e, at)) → ts ≡ at
 err_at d e ts at h = let same : ◌≡◌ {A = Stop × List Lexeme} (d, ts) (e, at) = cc in ap (λ (p : Stop × List Lexeme). p.1) same
 
-pub kind_same : (a b : Kind) → same_kind a b ≡ true → a ≡ b
+pub kind_same : (a b : TokenKind) → same_kind a b ≡ true → a ≡ b
 unfolding same_kind
 kind_same a b = same_true the_type (search rules) a b
 
-pub same_kind_of : (a b : Kind) → a ≡ b → same_kind a b ≡ true
+pub same_kind_of : (a b : TokenKind) → a ≡ b → same_kind a b ≡ true
 unfolding same_kind
 same_kind_of = true_same the_type
 
 -- taking a token
-pub record Took (kind : Kind) (ts : List Lexeme) (l : Lexeme) (rest : List Lexeme) : Type 0 where
+pub record Took (kind : TokenKind) (ts : List Lexeme) (l : Lexeme) (rest : List Lexeme) : Type 0 where
   pub first : ts ≡ l ∷ rest
   pub kind_is : l.kind ≡ kind
 
@@ -58,7 +58,7 @@ cond_ok : {A E : Type 0} (b : Bool) (x y : A) (e : E) → ◌≡◌ {A = Result 
 cond_ok true x y e h = (refl, cc)
 cond_ok false x y e h = absurd (cc)
 
-pub token_ok : (kind : Kind) (ts : List Lexeme) (l : Lexeme) (rest : List Lexeme) → token kind ts ≡ Ok (l, rest) → Took kind ts l rest
+pub token_ok : (kind : TokenKind) (ts : List Lexeme) (l : Lexeme) (rest : List Lexeme) → token kind ts ≡ Ok (l, rest) → Took kind ts l rest
 unfolding token
 token_ok kind [] l rest h = absurd (cc)
 token_ok kind (t ∷ ts) l rest h =
@@ -67,12 +67,12 @@ token_ok kind (t ∷ ts) l rest h =
     let f : ts ≡ rest = ap (λ (p : Lexeme × List Lexeme). p.1) c.1 in
     record { first = cc; kind_is = ap (λ (x : Lexeme). x.kind) (sym e) ∙ kind_same _ _ c.0 }
 
-pub token_reads : (kind : Kind) (l : Lexeme) (rest : List Lexeme) → l.kind ≡ kind → token kind (l ∷ rest) ≡ Ok (l, rest)
+pub token_reads : (kind : TokenKind) (l : Lexeme) (rest : List Lexeme) → l.kind ≡ kind → token kind (l ∷ rest) ≡ Ok (l, rest)
 unfolding token
 token_reads kind l rest h = rw (same_kind_of l.kind kind h)
 
 -- a token is never refused for its depth
-pub token_shallow : {X : Type 0} (kind : Kind) (ts at : List Lexeme) → token kind ts ≡ Err (TooDeep, at) → X
+pub token_shallow : {X : Type 0} (kind : TokenKind) (ts at : List Lexeme) → token kind ts ≡ Err (TooDeep, at) → X
 unfolding token
 token_shallow kind [] at h = let e = err_why EndOfFile TooDeep [] at h in absurd (cc)
 token_shallow {X} kind (t ∷ ts) at h = by_test (same_kind t.kind kind) h
@@ -82,7 +82,7 @@ token_shallow {X} kind (t ∷ ts) at h = by_test (same_kind t.kind kind) h
     by_test false e = let f = err_why Unexpected TooDeep (t ∷ ts) at e in absurd (cc)
 
 -- one that is refused is not taken
-pub token_here : (kind : Kind) (ts : List Lexeme) (why : Stop) (at : List Lexeme) → token kind ts ≡ Err (why, at) → ts ≡ at
+pub token_here : (kind : TokenKind) (ts : List Lexeme) (why : Stop) (at : List Lexeme) → token kind ts ≡ Err (why, at) → ts ≡ at
 unfolding token
 token_here kind [] why at h = err_at EndOfFile why [] at h
 token_here kind (t ∷ ts) why at h = by_test (same_kind t.kind kind) h
@@ -117,13 +117,13 @@ spelled_one p (t ∷ ts) rest h = (t, ap (λ us. t ∷ us) h.1, h.0)
 
 -- ---- a step that takes a token: what it took
 
-pub record Taken {A : Type 0} (kind : Kind) (of : Lexeme → A) (ts : List Lexeme) (a : A) (rest : List Lexeme) : Type 0 where
+pub record Taken {A : Type 0} (kind : TokenKind) (of : Lexeme → A) (ts : List Lexeme) (a : A) (rest : List Lexeme) : Type 0 where
   pub token : Lexeme
   pub first : ts ≡ token ∷ rest
   pub kind_is : token.kind ≡ kind
   pub value : of token ≡ a
 
-pub taken : {A : Type 0} (kind : Kind) (of : Lexeme → A) (ts : List Lexeme) (a : A) (rest : List Lexeme) →
+pub taken : {A : Type 0} (kind : TokenKind) (of : Lexeme → A) (ts : List Lexeme) (a : A) (rest : List Lexeme) →
     and_then (token kind ts) (λ l us. Ok (of l, us)) ≡ Ok (a, rest) → Taken kind of ts a rest
 taken {A} kind of ts a rest h =
     let b = bind_ok (token kind ts) (λ l us. Ok (of l, us)) (a, rest) h in
@@ -131,20 +131,20 @@ taken {A} kind of ts a rest h =
     let t = token_ok kind ts b.0.0 b.0.1 b.1 in
     record { token = b.0.0; first = t.first ∙ ap (λ us. b.0.0 ∷ us) e.1; kind_is = t.kind_is; value = e.0 }
 
-pub taken_shallow : {A X : Type 0} (kind : Kind) (of : Lexeme → A) (ts at : List Lexeme) → ◌≡◌ {A = Outcome A} (and_then (token kind ts) (λ l us. Ok (of l, us))) (Err (TooDeep, at)) → X
+pub taken_shallow : {A X : Type 0} (kind : TokenKind) (of : Lexeme → A) (ts at : List Lexeme) → ◌≡◌ {A = Outcome A} (and_then (token kind ts) (λ l us. Ok (of l, us))) (Err (TooDeep, at)) → X
 taken_shallow {A} {X} kind of ts at h = by_case (bind_err (token kind ts) (λ l us. Ok (of l, us)) (TooDeep, at) h)
   where
     by_case : (token kind ts ≡ Err (TooDeep, at)) ⊎ ((p : Lexeme × List Lexeme) × (token kind ts ≡ Ok p) × (◌≡◌ {A = Outcome A} (Ok (of p.0, p.1)) (Err (TooDeep, at)))) → X
     by_case (inl e) = token_shallow kind ts at e
     by_case (inr p) = pure_err _ (TooDeep, at) p.2
 
-pub taken_here : {A : Type 0} (kind : Kind) (of : Lexeme → A) (ts : List Lexeme) (why : Stop) (at : List Lexeme) → ◌≡◌ {A = Outcome A} (and_then (token kind ts) (λ l us. Ok (of l, us))) (Err (why, at)) → ts ≡ at
+pub taken_here : {A : Type 0} (kind : TokenKind) (of : Lexeme → A) (ts : List Lexeme) (why : Stop) (at : List Lexeme) → ◌≡◌ {A = Outcome A} (and_then (token kind ts) (λ l us. Ok (of l, us))) (Err (why, at)) → ts ≡ at
 taken_here {A} kind of ts why at h = by_case (bind_err (token kind ts) (λ l us. Ok (of l, us)) (why, at) h)
   where
     by_case : (token kind ts ≡ Err (why, at)) ⊎ ((p : Lexeme × List Lexeme) × (token kind ts ≡ Ok p) × (◌≡◌ {A = Outcome A} (Ok (of p.0, p.1)) (Err (why, at)))) → ts ≡ at
     by_case (inl e) = token_here kind ts why at e
     by_case (inr p) = pure_err _ (why, at) p.2
 
-pub takes : {A : Type 0} (kind : Kind) (of : Lexeme → A) (ts : List Lexeme) (l : Lexeme) (rest : List Lexeme) → ts ≡ l ∷ rest → l.kind ≡ kind →
+pub takes : {A : Type 0} (kind : TokenKind) (of : Lexeme → A) (ts : List Lexeme) (l : Lexeme) (rest : List Lexeme) → ts ≡ l ∷ rest → l.kind ≡ kind →
     and_then (token kind ts) (λ l us. Ok (of l, us)) ≡ Ok (of l, rest)
 takes kind of ts l rest e i = rw (e, token_reads kind l rest i)

@@ -1,7 +1,7 @@
 -- What the readers of expressions make.
 use Rattle.std.proofs.Common.{◌≡◌, ℕ, zero, suc, ◌≤◌, Bool, true, false, List, [], ◌∷◌, ◌++◌, length, Ok, Option, Some, None, inr, refl, sym, ap, ◌∙◌, subst, append_assoc, append-nil, arith}
-use Rattle.vhdl_lexer.specs.declared.token.Kind.{Kind}
-use Rattle.vhdl_lexer.specs.declared.token.Kind.TheVariants as k
+use Rattle.vhdl_lexer.specs.declared.token.TokenKind.{TokenKind}
+use Rattle.vhdl_lexer.specs.declared.token.TokenKind.TheVariants as k
 use Rattle.vhdl_tree.specs.declared.operator.Operator.{Operator}
 use Rattle.vhdl_tree.specs.declared.operator.Operator.TheVariants.{And, Or, Xor, Xnor, Nand, Nor, Equal, NotEqual, Less, LessEqual, Greater, GreaterEqual, Add, Subtract, Concatenate, Multiply, Divide, Modulo, Remainder}
 use Rattle.vhdl_parser_expressions.specs.declared.operator.Level.{Level}
@@ -26,7 +26,7 @@ use Rattle.vhdl_parser_expressions.proofs.Repeats.{many_made, many_deep, many_st
 
 -- ---- literals
 
-w_text : {B : Type 0} {n d d2 : ℕ} {e : Bool} {before : List Piece → List Piece} {spell : B → List Piece} {Good : B → Type 0} {f : (ℕ × List ℕ) → Parser B} (kind : Kind) → is_neutral kind ≡ true →
+w_text : {B : Type 0} {n d d2 : ℕ} {e : Bool} {before : List Piece → List Piece} {spell : B → List Piece} {Good : B → Type 0} {f : (ℕ × List ℕ) → Parser B} (kind : TokenKind) → is_neutral kind ≡ true →
     ((c : ℕ × List ℕ) → Walks n d false d2 (λ r. before (text_at kind c.0 c.1 ∷ r)) (f c) spell Good) → Walks n d e d2 before (λ ts. and_then (text kind ts) f) spell Good
 unfolding text
 w_text {B} {n} {d} {d2} {e} {before} {spell} {Good} {f} kind ok next =
@@ -155,7 +155,7 @@ module _ (n : ℕ) (inner : Rule n 1 (inside n) spell IsExpr) where
 
   -- ---- primaries and factors
 
-  primary_next : (next : Option Kind) → Rule n 0 (primary_by (inside n) next) spell (Tight 6)
+  primary_next : (next : Option TokenKind) → Rule n 0 (primary_by (inside n) next) spell (Tight 6)
   primary_next (Some k.Identifier) = w_then name_rule (λ x good _. w_pure (omega arith) (sym (append-nil (spell_name x))) (omega arith, good))
   primary_next (Some k.Integer) = w_text k.Integer refl (λ c. w_pure (omega arith) refl (omega arith, tt))
   primary_next (Some k.Character) = w_literal (λ c. w_pure (omega arith) refl (omega arith, tt))
@@ -200,7 +200,7 @@ module _ (n : ℕ) (inner : Rule n 1 (inside n) spell IsExpr) where
           subst (λ o. Fits level o (binary b p.operator p.at left p.operand)) same (fits_after level b p.operator p.at left p.operand s),
         )
 
-    turn_rule : (turns : ℕ) → More turns → (next : Option Kind) (last : Operator) (left : Expr) → Tight (level_rank level) left → Fits level last left →
+    turn_rule : (turns : ℕ) → More turns → (next : Option TokenKind) (last : Operator) (left : Expr) → Tight (level_rank level) left → Fits level last left →
         (o : Option Operator) → next_operator level last next ≡ o → Goes (turn operand o (more_from operand turns level) left) left
     turn_rule turns later next last left good fits None h = stops left good
     turn_rule turns later next last left good fits (Some op) h = w_then (pair_rule op) (λ p made _.
@@ -222,7 +222,7 @@ module _ (n : ℕ) (inner : Rule n 1 (inside n) spell IsExpr) where
       steady = steady_more each.steady level last left;
     }
 
-    begin_rule : (next : Option Kind) (first : Expr) → First level first → (o : Option Operator) → operator_at level next ≡ o → Goes (begin_by operand level first o) first
+    begin_rule : (next : Option TokenKind) (first : Expr) → First level first → (o : Option Operator) → operator_at level next ≡ o → Goes (begin_by operand level first o) first
     begin_rule next first good None h = stops first (good.0, good.1)
     begin_rule next first good (Some op) h = w_then (pair_rule op) (λ p made _.
         let r = (first_is level next op h).rank_is in

@@ -1,6 +1,6 @@
 -- What the readers of ranges, values, choices and associations make.
 use Rattle.std.proofs.Common.{ℕ, zero, suc, false, [], ◌∷◌, ◌++◌, Ok, Option, Some, None, refl, ap, arith}
-use Rattle.vhdl_lexer.specs.declared.token.Kind.TheVariants as k
+use Rattle.vhdl_lexer.specs.declared.token.TokenKind.TheVariants as k
 use Rattle.vhdl_tree.specs.declared.operator.Direction.{Direction}
 use Rattle.vhdl_tree.specs.declared.operator.Direction.TheVariants.{To}
 use Rattle.vhdl_tree.specs.Lexeme.{same_kind}

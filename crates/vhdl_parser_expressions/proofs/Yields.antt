@@ -1,7 +1,7 @@
 -- Readers that read what is spelled, unless it is too deep: one lemma for each step.
 use Rattle.std.proofs.Common.{◌≡◌, ℕ, List, [], ◌∷◌, slice_index, Ok, Err, Some, ◌⊎◌, inl, inr, refl, ap, ◌∙◌}
-use Rattle.vhdl_lexer.specs.declared.token.Kind.{Kind}
-use Rattle.vhdl_lexer.specs.declared.token.Kind.TheVariants as k
+use Rattle.vhdl_lexer.specs.declared.token.TokenKind.{TokenKind}
+use Rattle.vhdl_lexer.specs.declared.token.TokenKind.TheVariants as k
 use Rattle.vhdl_parser_expressions.specs.declared.stop.Stop.TheVariants.{TooDeep}
 use Rattle.vhdl_tree.specs.Lexeme.{Lexeme}
 use Rattle.vhdl_tree.specs.Tree.{Ident}
@@ -39,13 +39,13 @@ yields_bind f (inr d) y = inr (deep_then f d)
 
 -- ---- tokens
 
-pub expect_at : (kind : Kind) (at : ℕ) (ts us : List Lexeme) → Spells (one_at kind at ∷ []) ts us → expect kind ts ≡ Ok (at, us)
+pub expect_at : (kind : TokenKind) (at : ℕ) (ts us : List Lexeme) → Spells (one_at kind at ∷ []) ts us → expect kind ts ≡ Ok (at, us)
 unfolding expect
 expect_at kind at ts us h =
     let s = spelled_one (one_at kind at) ts us h in
     takes kind (λ (l : Lexeme). l.at) ts s.0 us s.1 s.2.0 ∙ ap (λ x. Ok (x, us)) s.2.1
 
-pub expect_some : (kind : Kind) (ts us : List Lexeme) → Spells (some kind ∷ []) ts us → (at : ℕ) × (expect kind ts ≡ Ok (at, us))
+pub expect_some : (kind : TokenKind) (ts us : List Lexeme) → Spells (some kind ∷ []) ts us → (at : ℕ) × (expect kind ts ≡ Ok (at, us))
 unfolding expect
 expect_some kind ts us h =
     let s = spelled_one (some kind) ts us h in
@@ -67,7 +67,7 @@ reads_literal at code ts us h =
     let value : of s.0 ≡ (at, code) = rw (s.2.1, s.2.2) refl in
     takes k.Character of ts s.0 us s.1 s.2.0 ∙ ap (λ x. Ok (x, us)) value
 
-pub reads_text : (kind : Kind) (at : ℕ) (bytes : List ℕ) (ts us : List Lexeme) → Spells (text_at kind at bytes ∷ []) ts us → text kind ts ≡ Ok ((at, bytes), us)
+pub reads_text : (kind : TokenKind) (at : ℕ) (bytes : List ℕ) (ts us : List Lexeme) → Spells (text_at kind at bytes ∷ []) ts us → text kind ts ≡ Ok ((at, bytes), us)
 unfolding text
 reads_text kind at bytes ts us h =
     let s = spelled_one (text_at kind at bytes) ts us h in
@@ -76,7 +76,7 @@ reads_text kind at bytes ts us h =
     takes kind of ts s.0 us s.1 s.2.0 ∙ ap (λ x. Ok (x, us)) value
 
 -- the kind of the token at the front
-pub front : (p : Piece) (ps : List Piece) (kind : Kind) (ts us : List Lexeme) → ((l : Lexeme) → Is p l → l.kind ≡ kind) → Spells (p ∷ ps) ts us → next_kind ts ≡ Some kind
+pub front : (p : Piece) (ps : List Piece) (kind : TokenKind) (ts us : List Lexeme) → ((l : Lexeme) → Is p l → l.kind ≡ kind) → Spells (p ∷ ps) ts us → next_kind ts ≡ Some kind
 unfolding next_kind
 front p ps kind [] us f h = absurd h
 front p ps kind (t ∷ ts) us f h = ap Some (f t h.0)

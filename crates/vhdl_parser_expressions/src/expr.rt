@@ -1,7 +1,7 @@
 //! Names and expressions (IEEE 1076-2008 clauses 8 and 9).
 
 ghost use Rattle.std.specs.Prelude.{◌≡◌, option_map};
-ghost use Rattle.vhdl_lexer.specs.declared.token.Kind.TheVariants as k;
+ghost use Rattle.vhdl_lexer.specs.declared.token.TokenKind.TheVariants as k;
 ghost use Rattle.vhdl_tree.specs.Tree.{Expr as Tree, all_joined};
 ghost use Rattle.vhdl_tree.specs.View.{view, suffix_view, name_view, ident_view, exprs_view, pair_view, pairs_view};
 ghost use Rattle.vhdl_parser_expressions.specs.reader.Input as input;
@@ -11,7 +11,7 @@ ghost use Rattle.vhdl_parser_expressions.specs.reader.Expressions as read;
 use crate::operator::{Level, direction_at, sign_at};
 use crate::parser::Parser;
 use crate::stop::Stop;
-use vhdl_lexer::Kind;
+use vhdl_lexer::TokenKind;
 use vhdl_tree::{Direction, Expr, Identifier, Link, Name, Operator, Range, Suffix};
 
 impl Parser<'_> {
@@ -38,10 +38,10 @@ impl Parser<'_> {
     fn optional_attribute(&mut self) -> Result<Option<Identifier>, Stop>
         ensures { Reads (option_map ident_view) (input.optional (input.is_kind k.Tick) read.attribute self.old) result self.new }
     {
-        if !self.sees(Kind::Tick) {
+        if !self.sees(TokenKind::Tick) {
             return Ok(None);
         }
-        self.expect(Kind::Tick)?;
+        self.expect(TokenKind::Tick)?;
         Ok(Some(self.identifier()?))
     }
 
@@ -66,7 +66,7 @@ impl Parser<'_> {
     fn optional_suffix(&mut self, levels: usize) -> Result<Suffix, Stop>
         ensures { Reads suffix_view (read.optional_suffix (read.inside levels) self.old) result self.new }
     {
-        if self.sees(Kind::LeftParen) {
+        if self.sees(TokenKind::LeftParen) {
             self.suffix(levels)
         } else {
             Ok(Suffix::Plain)
@@ -78,7 +78,7 @@ impl Parser<'_> {
     fn suffix(&mut self, levels: usize) -> Result<Suffix, Stop>
         ensures { Reads suffix_view (read.suffix (read.inside levels) self.old) result self.new }
     {
-        self.expect(Kind::LeftParen)?;
+        self.expect(TokenKind::LeftParen)?;
         let first = self.inside(levels)?;
         match direction_at(self.peek()) {
             None => self.arguments_from(levels, first),
@@ -98,7 +98,7 @@ impl Parser<'_> {
     {
         self.expect(direction.kind())?;
         let right = self.inside(levels)?;
-        self.expect(Kind::RightParen)?;
+        self.expect(TokenKind::RightParen)?;
         let range = Range {
             left,
             direction,
@@ -115,7 +115,7 @@ impl Parser<'_> {
         let mut found = Vec::new(self.alloc);
         found.push(first)?;
         let all = self.arguments(levels, found)?;
-        self.expect(Kind::RightParen)?;
+        self.expect(TokenKind::RightParen)?;
         Ok(Suffix::from_arguments(all))
     }
 
@@ -124,7 +124,7 @@ impl Parser<'_> {
         ensures { Reads exprs_view (input.many (input.is_kind k.Comma) (read.argument (read.inside levels)) (exprs_view found) self.old) result self.new }
     {
         for _turn in 0..self.left() {
-            if !self.sees(Kind::Comma) {
+            if !self.sees(TokenKind::Comma) {
                 return Ok(found);
             }
             found.push(self.argument(levels)?)?;
@@ -137,7 +137,7 @@ impl Parser<'_> {
     fn argument(&mut self, levels: usize) -> Result<Expr, Stop>
         ensures { Reads view (read.argument (read.inside levels) self.old) result self.new }
     {
-        self.expect(Kind::Comma)?;
+        self.expect(TokenKind::Comma)?;
         self.inside(levels)
     }
 
@@ -243,10 +243,10 @@ impl Parser<'_> {
     fn factor(&mut self, levels: usize) -> Result<Expr, Stop>
         ensures { Reads view (read.factor (read.inside levels) self.old) result self.new }
     {
-        if !self.sees(Kind::Not) {
+        if !self.sees(TokenKind::Not) {
             return self.primary(levels);
         }
-        let at = self.expect(Kind::Not)?;
+        let at = self.expect(TokenKind::Not)?;
         let operand = self.primary(levels)?;
         Ok(Expr::negated(self.alloc, at, operand)?)
     }
@@ -257,15 +257,15 @@ impl Parser<'_> {
         ensures { Reads view (read.primary (read.inside levels) self.old) result self.new }
     {
         match self.peek() {
-            Some(Kind::Identifier) => Ok(Expr::Name(self.name(levels)?)),
-            Some(Kind::Integer) => Ok(Expr::Integer(self.text(Kind::Integer)?)),
-            Some(Kind::Character) => {
+            Some(TokenKind::Identifier) => Ok(Expr::Name(self.name(levels)?)),
+            Some(TokenKind::Integer) => Ok(Expr::Integer(self.text(TokenKind::Integer)?)),
+            Some(TokenKind::Character) => {
                 let (at, code) = self.literal()?;
                 Ok(Expr::Character { at, code })
             }
-            Some(Kind::String) => Ok(Expr::StringLiteral(self.text(Kind::String)?)),
-            Some(Kind::BitString) => Ok(Expr::BitString(self.text(Kind::BitString)?)),
-            Some(Kind::LeftParen) => self.parenthesis(levels),
+            Some(TokenKind::String) => Ok(Expr::StringLiteral(self.text(TokenKind::String)?)),
+            Some(TokenKind::BitString) => Ok(Expr::BitString(self.text(TokenKind::BitString)?)),
+            Some(TokenKind::LeftParen) => self.parenthesis(levels),
             _ => Err(self.refuse()),
         }
     }
@@ -275,9 +275,9 @@ impl Parser<'_> {
     fn parenthesis(&mut self, levels: usize) -> Result<Expr, Stop>
         ensures { Reads view (read.parenthesis (read.inside levels) self.old) result self.new }
     {
-        let at = self.expect(Kind::LeftParen)?;
+        let at = self.expect(TokenKind::LeftParen)?;
         let inner = self.inside(levels)?;
-        self.expect(Kind::RightParen)?;
+        self.expect(TokenKind::RightParen)?;
         Ok(Expr::in_parens(self.alloc, at, inner)?)
     }
 

@@ -6,7 +6,7 @@ ghost use Rattle.vhdl_parser_expressions.specs.reader.Lists.{Collects, Separates
 
 use crate::parser::Parser;
 use crate::stop::Stop;
-use vhdl_lexer::Kind;
+use vhdl_lexer::TokenKind;
 
 /// The items found so far, and behind them those that `item` reads while `begins` says that one
 /// begins: at most as many as tokens are ahead. Where `item` stops, so does this. It takes the memory
@@ -36,7 +36,7 @@ where
 
 /// One item or more that `item` reads, with separators between them. Where `item` stops, so does this. It
 /// takes the memory of the list.
-pub fn separated<T, I>(parser: &mut Parser<'_>, separator: Kind, item: I) -> Result<Vec<T>, Stop>
+pub fn separated<T, I>(parser: &mut Parser<'_>, separator: TokenKind, item: I) -> Result<Vec<T>, Stop>
 where
     T: Drop,
     I: Fn(&mut Parser<'_>) -> Result<T, Stop> + Drop,

@@ -3,7 +3,7 @@
 ghost use Rattle.std.specs.Prelude.{◌≡◌};
 ghost use Rattle.vhdl_parser_expressions.specs.reader.Expressions as read;
 
-use vhdl_lexer::Kind;
+use vhdl_lexer::TokenKind;
 use vhdl_tree::{Direction, Operator, Sign};
 
 /// How tightly operators bind, the loosest first.
@@ -17,7 +17,7 @@ pub enum Level {
 
 impl Level {
     /// The operator of this level that a token is.
-    pub fn operator_at(self, kind: Option<Kind>) -> Option<Operator>
+    pub fn operator_at(self, kind: Option<TokenKind>) -> Option<Operator>
         ensures { result ≡ read.operator_at self kind }
     {
         match self {
@@ -29,75 +29,75 @@ impl Level {
     }
 }
 
-fn logical_at(kind: Option<Kind>) -> Option<Operator>
+fn logical_at(kind: Option<TokenKind>) -> Option<Operator>
     ensures { result ≡ read.logical_at kind }
 {
     match kind {
-        Some(Kind::And) => Some(Operator::And),
-        Some(Kind::Or) => Some(Operator::Or),
-        Some(Kind::Xor) => Some(Operator::Xor),
-        Some(Kind::Xnor) => Some(Operator::Xnor),
-        Some(Kind::Nand) => Some(Operator::Nand),
-        Some(Kind::Nor) => Some(Operator::Nor),
+        Some(TokenKind::And) => Some(Operator::And),
+        Some(TokenKind::Or) => Some(Operator::Or),
+        Some(TokenKind::Xor) => Some(Operator::Xor),
+        Some(TokenKind::Xnor) => Some(Operator::Xnor),
+        Some(TokenKind::Nand) => Some(Operator::Nand),
+        Some(TokenKind::Nor) => Some(Operator::Nor),
         _ => None,
     }
 }
 
-fn relation_at(kind: Option<Kind>) -> Option<Operator>
+fn relation_at(kind: Option<TokenKind>) -> Option<Operator>
     ensures { result ≡ read.relation_at kind }
 {
     match kind {
-        Some(Kind::Equal) => Some(Operator::Equal),
-        Some(Kind::NotEqual) => Some(Operator::NotEqual),
-        Some(Kind::Less) => Some(Operator::Less),
-        Some(Kind::LessEqual) => Some(Operator::LessEqual),
-        Some(Kind::Greater) => Some(Operator::Greater),
-        Some(Kind::GreaterEqual) => Some(Operator::GreaterEqual),
+        Some(TokenKind::Equal) => Some(Operator::Equal),
+        Some(TokenKind::NotEqual) => Some(Operator::NotEqual),
+        Some(TokenKind::Less) => Some(Operator::Less),
+        Some(TokenKind::LessEqual) => Some(Operator::LessEqual),
+        Some(TokenKind::Greater) => Some(Operator::Greater),
+        Some(TokenKind::GreaterEqual) => Some(Operator::GreaterEqual),
         _ => None,
     }
 }
 
-fn adding_at(kind: Option<Kind>) -> Option<Operator>
+fn adding_at(kind: Option<TokenKind>) -> Option<Operator>
     ensures { result ≡ read.adding_at kind }
 {
     match kind {
-        Some(Kind::Plus) => Some(Operator::Add),
-        Some(Kind::Minus) => Some(Operator::Subtract),
-        Some(Kind::Ampersand) => Some(Operator::Concatenate),
+        Some(TokenKind::Plus) => Some(Operator::Add),
+        Some(TokenKind::Minus) => Some(Operator::Subtract),
+        Some(TokenKind::Ampersand) => Some(Operator::Concatenate),
         _ => None,
     }
 }
 
-fn multiplying_at(kind: Option<Kind>) -> Option<Operator>
+fn multiplying_at(kind: Option<TokenKind>) -> Option<Operator>
     ensures { result ≡ read.multiplying_at kind }
 {
     match kind {
-        Some(Kind::Star) => Some(Operator::Multiply),
-        Some(Kind::Slash) => Some(Operator::Divide),
-        Some(Kind::Mod) => Some(Operator::Modulo),
-        Some(Kind::Rem) => Some(Operator::Remainder),
+        Some(TokenKind::Star) => Some(Operator::Multiply),
+        Some(TokenKind::Slash) => Some(Operator::Divide),
+        Some(TokenKind::Mod) => Some(Operator::Modulo),
+        Some(TokenKind::Rem) => Some(Operator::Remainder),
         _ => None,
     }
 }
 
 /// The sign that a token is.
-pub fn sign_at(kind: Option<Kind>) -> Option<Sign>
+pub fn sign_at(kind: Option<TokenKind>) -> Option<Sign>
     ensures { result ≡ read.sign_at kind }
 {
     match kind {
-        Some(Kind::Plus) => Some(Sign::Plus),
-        Some(Kind::Minus) => Some(Sign::Minus),
+        Some(TokenKind::Plus) => Some(Sign::Plus),
+        Some(TokenKind::Minus) => Some(Sign::Minus),
         _ => None,
     }
 }
 
 /// The direction that a token is.
-pub fn direction_at(kind: Option<Kind>) -> Option<Direction>
+pub fn direction_at(kind: Option<TokenKind>) -> Option<Direction>
     ensures { result ≡ read.direction_at kind }
 {
     match kind {
-        Some(Kind::To) => Some(Direction::To),
-        Some(Kind::Downto) => Some(Direction::Downto),
+        Some(TokenKind::To) => Some(Direction::To),
+        Some(TokenKind::Downto) => Some(Direction::Downto),
         _ => None,
     }
 }

@@ -3,7 +3,7 @@
 ghost use Rattle.std.specs.Prelude.{false, ◌≡◌, ◌∷◌, ◌≤◌, ◌+◌, ℕ, List, length, map, slice_index, IfOk};
 ghost use Rattle.std.specs.Char.{to_ascii_lowercase};
 ghost use Rattle.vhdl_lexer.specs.Cut.{AreWithin};
-ghost use Rattle.vhdl_lexer.specs.declared.token.Kind.TheVariants as k;
+ghost use Rattle.vhdl_lexer.specs.declared.token.TokenKind.TheVariants as k;
 ghost use Rattle.vhdl_tree.specs.Lexeme.{Lexeme, lexemes, same_kind};
 ghost use Rattle.vhdl_tree.specs.View.{ident_view, option_ident_view, literal_view};
 ghost use Rattle.vhdl_parser_expressions.specs.reader.Input as read;
@@ -12,7 +12,7 @@ ghost use Rattle.vhdl_parser_expressions.specs.reader.Input.{Reads, Takes};
 use crate::stop::Stop;
 use std::alloc::{AllocError, Global};
 use std::marker::Model;
-use vhdl_lexer::{Kind, Token};
+use vhdl_lexer::{TokenKind, Token};
 use vhdl_tree::{Identifier, Literal};
 
 /// A place among the tokens of a source. Contracts see it as the lexemes that are ahead.
@@ -70,7 +70,7 @@ impl<'a> Parser<'a> {
 
     /// The kind of the next token, or `None` behind the last one.
     #[tactic(auto, unfolding(crate::specs::reader::Input::next_kind))]
-    pub fn peek(&self) -> Option<Kind>
+    pub fn peek(&self) -> Option<TokenKind>
         ensures { result ≡ read.next_kind self.now }
     {
         if self.tokens.is_empty() {
@@ -81,7 +81,7 @@ impl<'a> Parser<'a> {
 
     /// Whether the next token is of this kind.
     #[tactic(auto, unfolding(crate::specs::reader::Input::next_kind, vhdl_tree::specs::Lexeme::same_kind, vhdl_tree::specs::Lexeme::lexeme))]
-    pub fn sees(&self, kind: Kind) -> bool
+    pub fn sees(&self, kind: TokenKind) -> bool
         ensures { result ≡ read.sees kind self.now }
     {
         match self.tokens.first() {
@@ -92,7 +92,7 @@ impl<'a> Parser<'a> {
 
     /// Whether the next two tokens are of these kinds.
     #[tactic(auto, unfolding(crate::specs::reader::Input::next_kind, crate::specs::reader::Input::second_kind, vhdl_tree::specs::Lexeme::same_kind, vhdl_tree::specs::Lexeme::lexeme))]
-    pub fn sees_both(&self, first: Kind, second: Kind) -> bool
+    pub fn sees_both(&self, first: TokenKind, second: TokenKind) -> bool
         ensures { result ≡ read.sees_both first second self.now }
     {
         match self.tokens.split_first() {
@@ -114,7 +114,7 @@ impl<'a> Parser<'a> {
 
     /// Takes the next token, which is of this kind, and answers where it starts.
     #[tactic(auto, unfolding(crate::specs::reader::Input::expect, vhdl_tree::specs::Lexeme::lexeme))]
-    pub fn expect(&mut self, kind: Kind) -> Result<usize, Stop>
+    pub fn expect(&mut self, kind: TokenKind) -> Result<usize, Stop>
         ensures { Reads (λ at. at) (read.expect kind self.old) result self.new }
     {
         let (token, rest) = next_token(self.tokens, kind)?;
@@ -124,7 +124,7 @@ impl<'a> Parser<'a> {
 
     /// Takes the next token, if it is of this kind, and answers whether it is.
     #[tactic(auto, unfolding(crate::specs::reader::Input::eat))]
-    pub fn eat(&mut self, kind: Kind) -> Result<bool, Stop>
+    pub fn eat(&mut self, kind: TokenKind) -> Result<bool, Stop>
         ensures { Reads (λ b. b) (read.eat kind self.old) result self.new }
     {
         if self.sees(kind) {
@@ -140,7 +140,7 @@ impl<'a> Parser<'a> {
     pub fn identifier(&mut self) -> Result<Identifier, Stop>
         ensures { Reads ident_view (read.identifier self.old) result self.new }
     {
-        let (token, rest) = next_token(self.tokens, Kind::Identifier)?;
+        let (token, rest) = next_token(self.tokens, TokenKind::Identifier)?;
         let text = small_letters(
             self.alloc,
             &self.source[token.start as usize..token.end as usize],
@@ -157,7 +157,7 @@ impl<'a> Parser<'a> {
     pub fn literal(&mut self) -> Result<(usize, u8), Stop>
         ensures { Reads (λ c. c) (read.literal self.old) result self.new }
     {
-        let (token, rest) = next_token(self.tokens, Kind::Character)?;
+        let (token, rest) = next_token(self.tokens, TokenKind::Character)?;
         let code = second(&self.source[token.start as usize..token.end as usize]);
         self.tokens = rest;
         Ok((token.start as usize, code))
@@ -165,7 +165,7 @@ impl<'a> Parser<'a> {
 
     /// Takes the next token, which is a literal of this kind, with its bytes.
     #[tactic(auto, unfolding(crate::specs::reader::Input::text, vhdl_tree::specs::Lexeme::lexeme, vhdl_tree::specs::Lexeme::same_kind))]
-    pub fn text(&mut self, kind: Kind) -> Result<Literal, Stop>
+    pub fn text(&mut self, kind: TokenKind) -> Result<Literal, Stop>
         requires { same_kind kind k.Identifier ≡ false }
         ensures { Reads literal_view (read.text kind self.old) result self.new }
     {
@@ -183,7 +183,7 @@ impl<'a> Parser<'a> {
     pub fn optional_identifier(&mut self) -> Result<Option<Identifier>, Stop>
         ensures { Reads option_ident_view (read.optional (read.is_kind k.Identifier) read.identifier self.old) result self.new }
     {
-        if self.sees(Kind::Identifier) {
+        if self.sees(TokenKind::Identifier) {
             Ok(Some(self.identifier()?))
         } else {
             Ok(None)
@@ -206,7 +206,7 @@ pub fn below(levels: usize) -> Result<usize, Stop>
 
 /// Whether the first of the tokens is of this kind.
 #[tactic(auto, unfolding(crate::specs::reader::Input::next_kind, vhdl_tree::specs::Lexeme::same_kind, vhdl_tree::specs::Lexeme::lexeme))]
-fn begins(tokens: &[Token], kind: Kind) -> bool
+fn begins(tokens: &[Token], kind: TokenKind) -> bool
     ensures { (source : List ℕ) → result ≡ read.is_kind kind (read.next_kind (lexemes source tokens.now)) }
 {
     match tokens.first() {
@@ -217,7 +217,7 @@ fn begins(tokens: &[Token], kind: Kind) -> bool
 
 /// The next token, which is of this kind, and those after it.
 #[tactic(auto, unfolding(crate::specs::reader::Input::token, vhdl_tree::specs::Lexeme::lexeme, vhdl_tree::specs::Lexeme::same_kind))]
-fn next_token(tokens: &[Token], kind: Kind) -> Result<(Token, &[Token]), Stop>
+fn next_token(tokens: &[Token], kind: TokenKind) -> Result<(Token, &[Token]), Stop>
     ensures ok { IfOk result (λ r. (tokens.now ≡ r.0 ∷ r.1.now) × (r.0.kind ≡ kind)) }
     ensures reads { (source : List ℕ) → Takes source tokens.now (read.token kind) result }
 {

@@ -9,7 +9,7 @@ use crate::list::separated;
 use crate::operator::direction_at;
 use crate::parser::Parser;
 use crate::stop::Stop;
-use vhdl_lexer::Kind;
+use vhdl_lexer::TokenKind;
 use vhdl_tree::{Actual, Association, Choice, Identifier, Range, Value};
 
 impl Parser<'_> {
@@ -39,7 +39,7 @@ impl Parser<'_> {
     pub fn value(&mut self, levels: usize) -> Result<Value, Stop>
         ensures { Reads value_view (read.value levels self.old) result self.new }
     {
-        if self.sees_both(Kind::LeftParen, Kind::Others) {
+        if self.sees_both(TokenKind::LeftParen, TokenKind::Others) {
             self.others_value(levels)
         } else {
             Ok(Value::Expr(self.expr(levels)?))
@@ -50,11 +50,11 @@ impl Parser<'_> {
     fn others_value(&mut self, levels: usize) -> Result<Value, Stop>
         ensures { Reads value_view (read.others_value levels self.old) result self.new }
     {
-        let at = self.expect(Kind::LeftParen)?;
-        self.expect(Kind::Others)?;
-        self.expect(Kind::Arrow)?;
+        let at = self.expect(TokenKind::LeftParen)?;
+        self.expect(TokenKind::Others)?;
+        self.expect(TokenKind::Arrow)?;
         let element = self.inside(levels)?;
-        self.expect(Kind::RightParen)?;
+        self.expect(TokenKind::RightParen)?;
         Ok(Value::Others { at, element })
     }
 
@@ -62,16 +62,16 @@ impl Parser<'_> {
     pub fn choices(&mut self, levels: usize) -> Result<Vec<Choice>, Stop>
         ensures { Reads choices_view (read.choices levels self.old) result self.new }
     {
-        separated(self, Kind::Bar, |parser| parser.choice(levels))
+        separated(self, TokenKind::Bar, |parser| parser.choice(levels))
     }
 
     #[tactic(auto, unfolding(crate::specs::reader::Expressions::choice))]
     fn choice(&mut self, levels: usize) -> Result<Choice, Stop>
         ensures { Reads choice_view (read.choice levels self.old) result self.new }
     {
-        if self.sees(Kind::Others) {
+        if self.sees(TokenKind::Others) {
             Ok(Choice::Others {
-                at: self.expect(Kind::Others)?,
+                at: self.expect(TokenKind::Others)?,
             })
         } else {
             Ok(Choice::Expr(self.expr(levels)?))
@@ -82,7 +82,7 @@ impl Parser<'_> {
     pub fn associations(&mut self, levels: usize) -> Result<Vec<Association>, Stop>
         ensures { Reads associations_view (read.associations levels self.old) result self.new }
     {
-        separated(self, Kind::Comma, |parser| parser.association(levels))
+        separated(self, TokenKind::Comma, |parser| parser.association(levels))
     }
 
     #[tactic(auto, unfolding(crate::specs::reader::Expressions::association))]
@@ -99,11 +99,11 @@ impl Parser<'_> {
     fn optional_formal(&mut self) -> Result<Option<Identifier>, Stop>
         ensures { Reads (option_map ident_view) (read.optional_formal self.old) result self.new }
     {
-        if !self.sees_both(Kind::Identifier, Kind::Arrow) {
+        if !self.sees_both(TokenKind::Identifier, TokenKind::Arrow) {
             return Ok(None);
         }
         let formal = self.identifier()?;
-        self.expect(Kind::Arrow)?;
+        self.expect(TokenKind::Arrow)?;
         Ok(Some(formal))
     }
 
@@ -111,9 +111,9 @@ impl Parser<'_> {
     fn actual(&mut self, levels: usize) -> Result<Actual, Stop>
         ensures { Reads actual_view (read.actual_of levels self.old) result self.new }
     {
-        if self.sees(Kind::Open) {
+        if self.sees(TokenKind::Open) {
             Ok(Actual::Open {
-                at: self.expect(Kind::Open)?,
+                at: self.expect(TokenKind::Open)?,
             })
         } else {
             Ok(Actual::Expr(self.expr(levels)?))

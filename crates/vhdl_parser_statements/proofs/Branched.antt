@@ -1,6 +1,6 @@
 -- The branches of an assignment take no more turns than tokens, and what is read of them doesn't hang on the tokens behind.
 use Rattle.std.proofs.Common.{◌≡◌, ℕ, zero, suc, ◌≤◌, cond, List, [], ◌∷◌, ◌++◌, length, Ok, Option, Some, None, refl, sym, ap, ◌∙◌, arith}
-use Rattle.vhdl_lexer.specs.declared.token.Kind.TheVariants as k
+use Rattle.vhdl_lexer.specs.declared.token.TokenKind.TheVariants as k
 use Rattle.vhdl_tree.specs.Lexeme.{Lexeme}
 use Rattle.vhdl_tree.specs.Tree.{Expr, Value, Branch}
 use Rattle.vhdl_parser_expressions.specs.reader.Input.{Outcome, Parser, expect, next_kind, is_kind}

@@ -1,7 +1,7 @@
 -- Conditional assignments: what is read is spelled so, and what is spelled is read.
 use Rattle.std.proofs.Common.{◌≡◌, ℕ, zero, suc, ◌+◌, ◌≤◌, true, false, List, [], ◌∷◌, ◌++◌, length, Ok, Option, Some, None, refl, sym, ap, ◌∙◌, subst, append_assoc, append-nil, length-append, arith}
-use Rattle.vhdl_lexer.specs.declared.token.Kind.{Kind}
-use Rattle.vhdl_lexer.specs.declared.token.Kind.TheVariants as k
+use Rattle.vhdl_lexer.specs.declared.token.TokenKind.{TokenKind}
+use Rattle.vhdl_lexer.specs.declared.token.TokenKind.TheVariants as k
 use Rattle.vhdl_tree.specs.Lexeme.{Lexeme, same_kind}
 use Rattle.vhdl_tree.specs.Tree.{Expr, Value, Branch}
 use Rattle.vhdl_tree.specs.Pieces.{Piece, some, spell_each, spell_option, IsEach, IsOption}
@@ -129,28 +129,28 @@ module _ (n : ℕ) where
 -- ---- what is spelled is read
 
 -- a semicolon follows
-abbrev pub AtEnd : Option Kind → Type 0
+abbrev pub AtEnd : Option TokenKind → Type 0
 AtEnd next = next ≡ Some k.Semicolon
 
-at_end : (next : Option Kind) → AtEnd next → (kind : Kind) → same_kind k.Semicolon kind ≡ false → is_kind kind next ≡ false
+at_end : (next : Option TokenKind) → AtEnd next → (kind : TokenKind) → same_kind k.Semicolon kind ≡ false → is_kind kind next ≡ false
 at_end next g kind other = ap (is_kind kind) g ∙ other
 
-ends_at : (next : Option Kind) → AtEnd next → Ends next
+ends_at : (next : Option TokenKind) → AtEnd next → Ends next
 ends_at next g = subst Ends (sym g) (omega arith)
 
 condition_gives : (n : ℕ) (c : Expr) → IsExpr c → Gives (condition n) c (spell_when c) Ends
 unfolding condition
 condition_gives n c good = g_some (λ _. expr_gives n c good)
 
-condition_begins : (c : Expr) → IsExpr c → (next : Option Kind) → is_kind k.When (front (spell_when c) next) ≡ true
+condition_begins : (c : Expr) → IsExpr c → (next : Option TokenKind) → is_kind k.When (front (spell_when c) next) ≡ true
 unfolding same_kind
 condition_begins c good next = refl
 
 -- neither a condition nor the rest of an expression follows
-abbrev EndsPart : Option Kind → Type 0
+abbrev EndsPart : Option TokenKind → Type 0
 EndsPart next = (is_kind k.When next ≡ false) × Ends next
 
-when_ends : (c : Option Expr) (next : Option Kind) → EndsPart next → Ends (front (spell_option spell_when c) next)
+when_ends : (c : Option Expr) (next : Option TokenKind) → EndsPart next → Ends (front (spell_option spell_when c) next)
 when_ends None next g = g.1
 when_ends (Some c) next g = omega arith
 
@@ -162,7 +162,7 @@ else_part_gives : (n : ℕ) (v : Value) (c : Option Expr) → IsValue v → IsOp
 unfolding else_part
 else_part_gives n v c held good = g_some (λ _. part_gives n v c held good)
 
-part_ends : (more : List Branch) (o : Option Value) (next : Option Kind) → AtEnd next → EndsPart (front (spell_otherwise more o) next)
+part_ends : (more : List Branch) (o : Option Value) (next : Option TokenKind) → AtEnd next → EndsPart (front (spell_otherwise more o) next)
 unfolding same_kind
 part_ends [] None next g = (at_end next g k.When refl, ends_at next g)
 part_ends [] (Some v) next g = (refl, omega arith)

@@ -1,7 +1,7 @@
 -- Processes and selected assignments that are spelled are read.
 use Rattle.std.proofs.Common.{◌≡◌, ℕ, Bool, true, false, List, [], ◌∷◌, ◌++◌, Option, refl, arith}
-use Rattle.vhdl_lexer.specs.declared.token.Kind.{Kind}
-use Rattle.vhdl_lexer.specs.declared.token.Kind.TheVariants as k
+use Rattle.vhdl_lexer.specs.declared.token.TokenKind.{TokenKind}
+use Rattle.vhdl_lexer.specs.declared.token.TokenKind.TheVariants as k
 use Rattle.vhdl_tree.specs.Lexeme.{same_kind}
 use Rattle.vhdl_tree.specs.Tree.{Name, Variables, Process, statements_of, Sensitivity, absent, every, listed, Waveform, SelectedAssignment}
 use Rattle.vhdl_tree.specs.Pieces.{spell_word, spell_each, spell_list, IsEach, IsList}
@@ -16,14 +16,14 @@ use Rattle.vhdl_parser_expressions.proofs.GiveValues.{Ends, EndsName, expr_gives
 use Rattle.vhdl_parser_statements.proofs.Subtypes.{objects_gives}
 use Rattle.vhdl_parser_statements.proofs.GiveSequential.{end_gives, statements_gives}
 
-abbrev EndsNames : Option Kind → Type 0
+abbrev EndsNames : Option TokenKind → Type 0
 EndsNames next = (is_kind k.Comma next ≡ false) × EndsName next
 
 names_gives : (n : ℕ) (xs : List Name) → IsList IsName xs → Gives (names n) xs (spell_list k.Comma spell_name xs) EndsNames
 unfolding same_kind
 names_gives n xs f = separated_gives k.Comma refl (omega arith) (λ x good. name_gives n x good) xs f
 
-names_begin : (xs : List Name) → IsList IsName xs → (next : Option Kind) → is_kind k.All (front (spell_list k.Comma spell_name xs) next) ≡ false
+names_begin : (xs : List Name) → IsList IsName xs → (next : Option TokenKind) → is_kind k.All (front (spell_list k.Comma spell_name xs) next) ≡ false
 unfolding same_kind
 names_begin [] f next = absurd f
 names_begin (x ∷ xs) f next = refl
@@ -42,7 +42,7 @@ variables_gives : (n : ℕ) (d : Variables) → IsVariables d → Gives (variabl
 unfolding variables
 variables_gives n d f = g_map (λ o. record { names = o.names; subtype = o.subtype; default = o.default }) (objects_gives n k.Variable (record { names = d.names; subtype = d.subtype; default = d.default }) f)
 
-variables_begin : (d : Variables) → IsVariables d → (next : Option Kind) → is_kind k.Variable (front (spell_variables d) next) ≡ true
+variables_begin : (d : Variables) → IsVariables d → (next : Option TokenKind) → is_kind k.Variable (front (spell_variables d) next) ≡ true
 unfolding same_kind
 variables_begin d f next = refl
 
@@ -50,12 +50,12 @@ all_variables_gives : (n : ℕ) (ds : List Variables) → IsEach IsVariables ds 
 all_variables_gives n ds f = more_gives (is_kind k.Variable) (variables_gives n) variables_begin (λ d. omega arith) (λ next e. tt) ds f []
 
 -- what follows the word `is`, or would
-after_word : (ds : List Variables) (p : Process) (next : Option Kind) → is_kind k.Is (front (spell_each spell_variables ds ++ spell_body p) next) ≡ false
+after_word : (ds : List Variables) (p : Process) (next : Option TokenKind) → is_kind k.Is (front (spell_each spell_variables ds ++ spell_body p) next) ≡ false
 unfolding same_kind
 after_word [] p next = refl
 after_word (d ∷ ds) p next = refl
 
-after_sensitivity : (w : Bool) (ds : List Variables) (p : Process) (next : Option Kind) → is_kind k.LeftParen (front (spell_word k.Is w ++ (spell_each spell_variables ds ++ spell_body p)) next) ≡ false
+after_sensitivity : (w : Bool) (ds : List Variables) (p : Process) (next : Option TokenKind) → is_kind k.LeftParen (front (spell_word k.Is w ++ (spell_each spell_variables ds ++ spell_body p)) next) ≡ false
 unfolding same_kind
 after_sensitivity true ds p next = refl
 after_sensitivity false [] p next = refl

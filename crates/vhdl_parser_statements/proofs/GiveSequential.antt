@@ -1,9 +1,9 @@
 -- Sequential statements that are spelled are read.
 use Rattle.std.proofs.Common.{◌≡◌, ℕ, suc, true, false, List, [], ◌∷◌, ◌++◌, Ok, Option, Some, None, refl, sym, ap, ◌∙◌, subst, arith}
-use Rattle.vhdl_lexer.specs.declared.token.Kind.{Kind}
-use Rattle.vhdl_lexer.specs.declared.token.Kind.TheVariants as k
+use Rattle.vhdl_lexer.specs.declared.token.TokenKind.{TokenKind}
+use Rattle.vhdl_lexer.specs.declared.token.TokenKind.TheVariants as k
 use Rattle.vhdl_tree.specs.Lexeme.{same_kind}
-use Rattle.vhdl_tree.specs.Tree.{Ident, Expr, Suffix, plain, arguments, sliced, Name, Value, Range, Choice, Statement, nothing, assigned, variable_assigned, conditional, selection, loop, Statements, no_statements, statement, Conditionals, no_conditionals, guarded, Otherwise, no_else, else_do, Alternatives, no_alternatives, alternative, Sequential, Conditional, Alternative, statements_of, conditionals_of, alternatives_of, otherwise_of}
+use Rattle.vhdl_tree.specs.Tree.{Ident, Expr, Suffix, plain, arguments, sliced, Name, Value, Range, Choice, Statement, null_of, assigned, variable_assigned, if_of, case_of, for_of, Statements, no_statements, statement, Conditionals, no_conditionals, guarded, Otherwise, no_else, else_do, Alternatives, no_alternatives, alternative, Sequential, Conditional, Alternative, statements_of, conditionals_of, alternatives_of, otherwise_of}
 use Rattle.vhdl_tree.specs.Pieces.{Piece, some, one_at, spell_ident, spell_option, spell_list, IsEach, IsList, IsOption}
 use Rattle.vhdl_tree.specs.grammar.Expressions.{spell, spell_name, spell_value, IsExpr, IsName, IsValue, IsRange, AreChoices}
 use Rattle.vhdl_tree.specs.grammar.Sequential.{spell_label, spell_end, spell_statement, spell_else, spell_sequential, IsStatement, AreStatements, AreElsifs, IsElse, AreAlternatives}
@@ -16,12 +16,12 @@ use Rattle.vhdl_parser_statements.proofs.Plain.{statement_long, sequential_long}
 use Rattle.vhdl_parser_statements.proofs.WalkSequential.{spelled, spell_condition, spell_alternative, spell_else_part, spelled-each, conditionals-list, alternatives-list, else-option}
 
 -- no statement begins
-abbrev pub EndsStatements : Option Kind → Type 0
+abbrev pub EndsStatements : Option TokenKind → Type 0
 EndsStatements next = begins_sequential next ≡ false
 
 -- ---- labels and ends
 
-name_first : (word : Kind) → same_kind word k.Colon ≡ false → (n : Ident) (x : Suffix) (a : Option Ident) (ps : List Piece) (next : Option Kind) →
+name_first : (word : TokenKind) → same_kind word k.Colon ≡ false → (n : Ident) (x : Suffix) (a : Option Ident) (ps : List Piece) (next : Option TokenKind) →
     both k.Identifier k.Colon (spell_name (record { identifier = n; suffix = x; attribute = a }) ++ (some word ∷ ps)) next ≡ false
 unfolding same_kind
 name_first word other n plain None ps next = other
@@ -29,22 +29,22 @@ name_first word other n plain (Some a) ps next = refl
 name_first word other n (arguments all) a ps next = refl
 name_first word other n (sliced left direction right) a ps next = refl
 
-no_label : (s : Statement) (next : Option Kind) → both k.Identifier k.Colon (spell_statement s) next ≡ false
+no_label : (s : Statement) (next : Option TokenKind) → both k.Identifier k.Colon (spell_statement s) next ≡ false
 unfolding same_kind
-no_label (nothing _) next = refl
+no_label (null_of _) next = refl
 no_label (assigned target value) next = name_first k.LessEqual refl target.identifier target.suffix target.attribute (spell_value value ++ some k.Semicolon ∷ []) next
 no_label (variable_assigned target value) next = name_first k.Assign refl target.identifier target.suffix target.attribute (spell_value value ++ some k.Semicolon ∷ []) next
-no_label (conditional _ _ _ _) next = refl
-no_label (selection _ _ _ _) next = refl
-no_label (loop _ _ _ _ _) next = refl
+no_label (if_of _ _ _ _) next = refl
+no_label (case_of _ _ _ _) next = refl
+no_label (for_of _ _ _ _ _) next = refl
 
-statement_begins : (s : Statement) (next : Option Kind) → begins_sequential (front (spell_statement s) next) ≡ true
-statement_begins (nothing _) next = refl
+statement_begins : (s : Statement) (next : Option TokenKind) → begins_sequential (front (spell_statement s) next) ≡ true
+statement_begins (null_of _) next = refl
 statement_begins (assigned _ _) next = refl
 statement_begins (variable_assigned _ _) next = refl
-statement_begins (conditional _ _ _ _) next = refl
-statement_begins (selection _ _ _ _) next = refl
-statement_begins (loop _ _ _ _ _) next = refl
+statement_begins (if_of _ _ _ _) next = refl
+statement_begins (case_of _ _ _ _) next = refl
+statement_begins (for_of _ _ _ _ _) next = refl
 
 pub label_gives : (i : Ident) → Gives optional_label (Some i) (spell_label i) Whatever
 unfolding optional_label label same_kind
@@ -57,7 +57,7 @@ sequential_from n inner None s w =
     g_neither_then k.Identifier k.Colon (statement_long s) (λ ts. Ok (None, ts)) (λ ts. and_then (label ts) (λ x us. Ok (Some x, us))) _ (λ next _. no_label s next) (g_map (λ x. record { label = None; statement = x }) w)
 sequential_from n inner (Some i) s w = g_then _ (label_gives i) (g_map (λ x. record { label = Some i; statement = x }) w) (λ next _. tt)
 
-pub end_gives : (word : Kind) (l : Option Ident) → Gives (end_of word) l (spell_end word l) Whatever
+pub end_gives : (word : TokenKind) (l : Option Ident) → Gives (end_of word) l (spell_end word l) Whatever
 unfolding end_of same_kind
 end_gives word l = g_some (λ _. g_some (λ _. g_then _ (last_gives l) (g_some (λ _. g_pure)) (λ next _. (refl, tt))))
 
@@ -67,7 +67,7 @@ end_gives word l = g_some (λ _. g_some (λ _. g_then _ (last_gives l) (g_some (
 abbrev Ready : Sequential → Type 0
 Ready s = (n : ℕ) → Gives (sequential n (deeper n)) s (spell_sequential s) Whatever
 
-sequential_begins : (s : Sequential) (next : Option Kind) → begins_sequential (front (spell_sequential s) next) ≡ true
+sequential_begins : (s : Sequential) (next : Option TokenKind) → begins_sequential (front (spell_sequential s) next) ≡ true
 sequential_begins s next = by s.label
   where
     by : (l : Option Ident) → begins_sequential (front (spell_option spell_label l ++ spell_statement s.statement) next) ≡ true
@@ -103,28 +103,28 @@ else_from : (o : Option (List Sequential)) → IsOption ReadyList o → (n m : �
 unfolding else_part same_kind
 else_from o r n m e = option_gives (is_kind k.Else) (λ ss good. g_some (λ _. deeper_from ss good n m e)) (λ ss _ next. refl) o r
 
-after_branches : (o : Option (List Sequential)) (ps : List Piece) (next : Option Kind) → (is_kind k.Elsif (front (spell_option spell_else_part o ++ (some k.End ∷ ps)) next) ≡ false) × EndsStatements (front (spell_option spell_else_part o ++ (some k.End ∷ ps)) next)
+after_branches : (o : Option (List Sequential)) (ps : List Piece) (next : Option TokenKind) → (is_kind k.Elsif (front (spell_option spell_else_part o ++ (some k.End ∷ ps)) next) ≡ false) × EndsStatements (front (spell_option spell_else_part o ++ (some k.End ∷ ps)) next)
 unfolding same_kind
 after_branches None ps next = (refl, refl)
 after_branches (Some ss) ps next = (refl, refl)
 
 if_from : (at : ℕ) (cs : List Conditional) → IsList ReadyCondition cs → (o : Option (List Sequential)) → IsOption ReadyList o → (l : Option Ident) (n : ℕ) →
-    Gives (if_statement n (deeper n)) (conditional at (conditionals_of cs) (otherwise_of o) l) (one_at k.If at ∷ (spell_list k.Elsif spell_condition cs ++ (spell_option spell_else_part o ++ spell_end k.If l))) Whatever
+    Gives (if_statement n (deeper n)) (if_of at (conditionals_of cs) (otherwise_of o) l) (one_at k.If at ∷ (spell_list k.Elsif spell_condition cs ++ (spell_option spell_else_part o ++ spell_end k.If l))) Whatever
 unfolding if_statement if_rest same_kind
 if_from at cs r o q l n = g_at _ (g_below _ n (λ m e.
     g_then _ (branches_from cs r n m e)
-    (g_then _ (else_from o q n m e) (g_map (λ x. conditional at (conditionals_of cs) (otherwise_of o) x) (end_gives k.If l)) (λ next _. (refl, refl)))
+    (g_then _ (else_from o q n m e) (g_map (λ x. if_of at (conditionals_of cs) (otherwise_of o) x) (end_gives k.If l)) (λ next _. (refl, refl)))
     (λ next _. after_branches o (some k.If ∷ (spell_option spell_ident l ++ some k.Semicolon ∷ [])) next)))
 
 if_gives : (at : ℕ) (cs : List Conditional) → IsList ReadyCondition cs → (o : Option (List Sequential)) → IsOption ReadyList o → (l : Option Ident) (bs : Conditionals) (e : Otherwise) → conditionals_of cs ≡ bs → otherwise_of o ≡ e → (n : ℕ) →
-    Gives (statement_of n (deeper n)) (conditional at bs e l) (spell_statement (conditional at bs e l)) Whatever
+    Gives (statement_of n (deeper n)) (if_of at bs e l) (spell_statement (if_of at bs e l)) Whatever
 unfolding statement_of
 if_gives at cs r o q l bs e same other n =
     g_choose (statement_by n (deeper n)) (Some k.If) (λ next _. refl)
-    (subst (λ x. Gives (if_statement n (deeper n)) (conditional at x e l) (spell_statement (conditional at x e l)) Whatever) same
-    (subst (λ x. Gives (if_statement n (deeper n)) (conditional at (conditionals_of cs) x l) (spell_statement (conditional at (conditionals_of cs) x l)) Whatever) other
-    (subst (λ ps. Gives (if_statement n (deeper n)) (conditional at (conditionals_of cs) (otherwise_of o) l) (one_at k.If at ∷ (ps ++ (spell_else (otherwise_of o) ++ spell_end k.If l))) Whatever) (sym (conditionals-list cs))
-    (subst (λ ps. Gives (if_statement n (deeper n)) (conditional at (conditionals_of cs) (otherwise_of o) l) (one_at k.If at ∷ (spell_list k.Elsif spell_condition cs ++ (ps ++ spell_end k.If l))) Whatever) (sym (else-option o))
+    (subst (λ x. Gives (if_statement n (deeper n)) (if_of at x e l) (spell_statement (if_of at x e l)) Whatever) same
+    (subst (λ x. Gives (if_statement n (deeper n)) (if_of at (conditionals_of cs) x l) (spell_statement (if_of at (conditionals_of cs) x l)) Whatever) other
+    (subst (λ ps. Gives (if_statement n (deeper n)) (if_of at (conditionals_of cs) (otherwise_of o) l) (one_at k.If at ∷ (ps ++ (spell_else (otherwise_of o) ++ spell_end k.If l))) Whatever) (sym (conditionals-list cs))
+    (subst (λ ps. Gives (if_statement n (deeper n)) (if_of at (conditionals_of cs) (otherwise_of o) l) (one_at k.If at ∷ (spell_list k.Elsif spell_condition cs ++ (ps ++ spell_end k.If l))) Whatever) (sym (else-option o))
     (if_from at cs r o q l n)))))
 
 -- ---- case statements
@@ -141,37 +141,37 @@ unfolding same_kind
 alternatives_from all r n m e = separated_gives k.When refl refl (λ a good. good n m e) all r
 
 case_from : (at : ℕ) (s : Expr) → IsExpr s → (all : List Alternative) → IsList ReadyAlternative all → (l : Option Ident) (n : ℕ) →
-    Gives (case_statement n (deeper n)) (selection at s (alternatives_of all) l) (one_at k.Case at ∷ (spell s ++ (some k.Is ∷ (some k.When ∷ (spell_list k.When spell_alternative all ++ spell_end k.Case l))))) Whatever
+    Gives (case_statement n (deeper n)) (case_of at s (alternatives_of all) l) (one_at k.Case at ∷ (spell s ++ (some k.Is ∷ (some k.When ∷ (spell_list k.When spell_alternative all ++ spell_end k.Case l))))) Whatever
 unfolding case_statement case_rest same_kind
 case_from at s f all r l n = g_at _ (g_below _ n (λ m e.
     g_then _ (expr_gives m s f)
-    (g_some (λ _. g_some (λ _. g_then _ (alternatives_from all r n m e) (g_map (λ x. selection at s (alternatives_of all) x) (end_gives k.Case l)) (λ next _. (refl, refl)))))
+    (g_some (λ _. g_some (λ _. g_then _ (alternatives_from all r n m e) (g_map (λ x. case_of at s (alternatives_of all) x) (end_gives k.Case l)) (λ next _. (refl, refl)))))
     (λ next _. omega arith)))
 
 case_gives : (at : ℕ) (s : Expr) → IsExpr s → (a : Alternative) (all : List Alternative) → IsList ReadyAlternative (a ∷ all) → (l : Option Ident) (as_tree : Alternatives) → alternatives_of (a ∷ all) ≡ as_tree → (n : ℕ) →
-    Gives (statement_of n (deeper n)) (selection at s as_tree l) (spell_statement (selection at s as_tree l)) Whatever
+    Gives (statement_of n (deeper n)) (case_of at s as_tree l) (spell_statement (case_of at s as_tree l)) Whatever
 unfolding statement_of
 case_gives at s f a all r l as_tree same n =
     g_choose (statement_by n (deeper n)) (Some k.Case) (λ next _. refl)
-    (subst (λ x. Gives (case_statement n (deeper n)) (selection at s x l) (spell_statement (selection at s x l)) Whatever) same
-    (subst (λ ps. Gives (case_statement n (deeper n)) (selection at s (alternatives_of (a ∷ all)) l) (one_at k.Case at ∷ (spell s ++ (some k.Is ∷ (ps ++ spell_end k.Case l)))) Whatever) (sym (alternatives-list a all))
+    (subst (λ x. Gives (case_statement n (deeper n)) (case_of at s x l) (spell_statement (case_of at s x l)) Whatever) same
+    (subst (λ ps. Gives (case_statement n (deeper n)) (case_of at s (alternatives_of (a ∷ all)) l) (one_at k.Case at ∷ (spell s ++ (some k.Is ∷ (ps ++ spell_end k.Case l)))) Whatever) (sym (alternatives-list a all))
     (case_from at s f (a ∷ all) r l n)))
 
 -- ---- for loops
 
 for_gives : (at : ℕ) (p : Ident) (r : Range) → IsRange r → (ss : List Sequential) → ReadyList ss → (l : Option Ident) (t : Statements) → statements_of ss ≡ t → (n : ℕ) →
-    Gives (statement_of n (deeper n)) (loop at p r t l) (spell_statement (loop at p r t l)) Whatever
+    Gives (statement_of n (deeper n)) (for_of at p r t l) (spell_statement (for_of at p r t l)) Whatever
 unfolding statement_of for_statement for_rest same_kind
 for_gives at p r f ss q l t same n =
     g_choose (statement_by n (deeper n)) (Some k.For) (λ next _. refl)
-    (subst (λ x. Gives (for_statement n (deeper n)) (loop at p r x l) (spell_statement (loop at p r x l)) Whatever) same
+    (subst (λ x. Gives (for_statement n (deeper n)) (for_of at p r x l) (spell_statement (for_of at p r x l)) Whatever) same
     (g_at _ (g_below _ n (λ m e. g_ident _ (g_some (λ _. g_then _ (range_gives m r f)
-    (g_some (λ _. g_then _ (deeper_from ss q n m e) (g_map (λ x. loop at p r (statements_of ss) x) (end_gives k.Loop l)) (λ next _. refl)))
+    (g_some (λ _. g_then _ (deeper_from ss q n m e) (g_map (λ x. for_of at p r (statements_of ss) x) (end_gives k.Loop l)) (λ next _. refl)))
     (λ next _. omega arith)))))))
 
 -- ---- assignments and null
 
-value_rest : (sign : Kind) (v : Value) → IsValue v → (n : ℕ) → Gives (assigned_value n sign) v (some sign ∷ (spell_value v ++ some k.Semicolon ∷ [])) Whatever
+value_rest : (sign : TokenKind) (v : Value) → IsValue v → (n : ℕ) → Gives (assigned_value n sign) v (some sign ∷ (spell_value v ++ some k.Semicolon ∷ [])) Whatever
 unfolding assigned_value
 value_rest sign v f n = g_some (λ _. g_then _ (value_gives n v f) (g_some (λ _. g_pure)) (λ next _. omega arith))
 
@@ -187,7 +187,7 @@ variable_gives t v f g n =
     g_choose (statement_by n (deeper n)) (Some k.Identifier) (λ next _. refl)
     (g_then _ (name_gives n t f) (g_choose (assign_by n t) (Some k.Assign) (λ next _. refl) (g_map (λ x. variable_assigned t x) (value_rest k.Assign v g n))) (λ next _. omega arith))
 
-null_gives : (at n : ℕ) → Gives (statement_of n (deeper n)) (nothing at) (spell_statement (nothing at)) Whatever
+null_gives : (at n : ℕ) → Gives (statement_of n (deeper n)) (null_of at) (spell_statement (null_of at)) Whatever
 unfolding statement_of null_statement
 null_gives at n = g_choose (statement_by n (deeper n)) (Some k.Null) (λ next _. refl) (g_at _ (g_some (λ _. g_pure)))
 
@@ -233,12 +233,12 @@ otherwise_of-option_of (else_do ss) = ap else_do (statements_of-list_of ss)
 -- ---- all statements
 
 if_tree : (at : ℕ) (c : Expr) (ss : Statements) (more : Conditionals) (o : Otherwise) (l : Option Ident) → IsExpr c → IsEach Ready (list_of ss) → IsEach ReadyCondition (conditions_of more) → IsOption ReadyList (option_of o) → (n : ℕ) →
-    Gives (statement_of n (deeper n)) (conditional at (guarded c ss more) o l) (spell_statement (conditional at (guarded c ss more) o l)) Whatever
+    Gives (statement_of n (deeper n)) (if_of at (guarded c ss more) o l) (spell_statement (if_of at (guarded c ss more) o l)) Whatever
 unfolding conditions_of
 if_tree at c ss more o l f r rs q n = if_gives at (conditions_of (guarded c ss more)) (condition_from (record { condition = c; statements = list_of ss }) f r, rs) (option_of o) q l (guarded c ss more) o (conditionals_of-conditions_of (guarded c ss more)) (otherwise_of-option_of o) n
 
 case_tree : (at : ℕ) (s : Expr) (cs : List Choice) (ss : Statements) (more : Alternatives) (l : Option Ident) → IsExpr s → AreChoices cs → IsEach Ready (list_of ss) → IsEach ReadyAlternative (alternatives_in more) → (n : ℕ) →
-    Gives (statement_of n (deeper n)) (selection at s (alternative cs ss more) l) (spell_statement (selection at s (alternative cs ss more) l)) Whatever
+    Gives (statement_of n (deeper n)) (case_of at s (alternative cs ss more) l) (spell_statement (case_of at s (alternative cs ss more) l)) Whatever
 unfolding alternatives_in
 case_tree at s cs ss more l f g r rs n = case_gives at s f (record { choices = cs; statements = list_of ss }) (alternatives_in more) (alternative_from (record { choices = cs; statements = list_of ss }) g r, rs) l (alternative cs ss more) (alternatives_of-in (alternative cs ss more)) n
 
@@ -246,14 +246,14 @@ mutual
   unfolding list_of conditions_of option_of alternatives_in
 
   pub statement_gives : (s : Statement) → IsStatement s → (n : ℕ) → Gives (statement_of n (deeper n)) s (spell_statement s) Whatever
-  statement_gives (nothing at) f n = null_gives at n
+  statement_gives (null_of at) f n = null_gives at n
   statement_gives (assigned t v) f n = assign_gives t v f.0 f.1 n
   statement_gives (variable_assigned t v) f n = variable_gives t v f.0 f.1 n
-  statement_gives (conditional at no_conditionals o l) f n = absurd f.0
-  statement_gives (conditional at (guarded c ss more) o l) f n = if_tree at c ss more o l f.0.0 (all_ready ss f.0.1) (elsifs_ready more f.0.2) (else_ready o f.1) n
-  statement_gives (selection at s no_alternatives l) f n = absurd f.1
-  statement_gives (selection at s (alternative cs ss more) l) f n = case_tree at s cs ss more l f.0 f.1.0 (all_ready ss f.1.1) (cases_ready more f.1.2) n
-  statement_gives (loop at p r ss l) f n = for_gives at p r f.0 (list_of ss) (all_ready ss f.1) l ss (statements_of-list_of ss) n
+  statement_gives (if_of at no_conditionals o l) f n = absurd f.0
+  statement_gives (if_of at (guarded c ss more) o l) f n = if_tree at c ss more o l f.0.0 (all_ready ss f.0.1) (elsifs_ready more f.0.2) (else_ready o f.1) n
+  statement_gives (case_of at s no_alternatives l) f n = absurd f.1
+  statement_gives (case_of at s (alternative cs ss more) l) f n = case_tree at s cs ss more l f.0 f.1.0 (all_ready ss f.1.1) (cases_ready more f.1.2) n
+  statement_gives (for_of at p r ss l) f n = for_gives at p r f.0 (list_of ss) (all_ready ss f.1) l ss (statements_of-list_of ss) n
 
   pub all_ready : (ss : Statements) → AreStatements ss → IsEach Ready (list_of ss)
   all_ready no_statements f = tt

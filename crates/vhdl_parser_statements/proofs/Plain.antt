@@ -1,8 +1,8 @@
 -- The plainest statements, and that each takes a token at least.
 use Rattle.std.proofs.Common.{ℕ, ◌≤◌, [], ◌∷◌, ◌++◌, length, length-append, None, refl, arith}
-use Rattle.vhdl_lexer.specs.declared.token.Kind.TheVariants as k
+use Rattle.vhdl_lexer.specs.declared.token.TokenKind.TheVariants as k
 use Rattle.vhdl_tree.specs.declared.operator.Direction.TheVariants.{To}
-use Rattle.vhdl_tree.specs.Tree.{Ident, Name, Range, single, otherwise, Statement, nothing, assigned, variable_assigned, conditional, selection, loop, no_statements, no_conditionals, guarded, no_else, no_alternatives, alternative, Sequential}
+use Rattle.vhdl_tree.specs.Tree.{Ident, Name, Range, single, otherwise, Statement, null_of, assigned, variable_assigned, if_of, case_of, for_of, no_statements, no_conditionals, guarded, no_else, no_alternatives, alternative, Sequential}
 use Rattle.vhdl_tree.specs.Pieces.{Piece, some, one_at, word_at, text_at, spell_option}
 use Rattle.vhdl_tree.specs.grammar.Expressions.{spell_name, IsName}
 use Rattle.vhdl_tree.specs.grammar.Sequential.{spell_label, spell_end, spell_statement, spell_sequential, IsStatement}
@@ -20,7 +20,7 @@ a_number = text_at k.Integer 0 []
 
 -- null ;
 pub plain_statement : Example (λ ps. ps) spell_statement IsStatement
-plain_statement = record { tree = nothing 0; more = one_at k.Null 0 ∷ (some k.Semicolon ∷ []); is = refl; formed = tt }
+plain_statement = record { tree = null_of 0; more = one_at k.Null 0 ∷ (some k.Semicolon ∷ []); is = refl; formed = tt }
 
 -- .. <= 0 ;
 pub plain_assigned : (t : Name) → IsName t → Example (λ r. spell_name t ++ r) spell_statement IsStatement
@@ -29,7 +29,7 @@ plain_assigned t good = record { tree = assigned t (single number); more = some 
 -- if 0 then end if ;
 pub plain_if : (at : ℕ) → Example (λ r. one_at k.If at ∷ r) spell_statement IsStatement
 plain_if at = record {
-  tree = conditional at (guarded number no_statements no_conditionals) no_else None;
+  tree = if_of at (guarded number no_statements no_conditionals) no_else None;
   more = a_number ∷ (some k.Then ∷ spell_end k.If None);
   is = refl;
   formed = ((tt, tt, tt), tt);
@@ -38,7 +38,7 @@ plain_if at = record {
 -- case 0 is when others => end case ;
 pub plain_case : (at : ℕ) → Example (λ r. one_at k.Case at ∷ r) spell_statement IsStatement
 plain_case at = record {
-  tree = selection at number (alternative (otherwise 0 ∷ []) no_statements no_alternatives) None;
+  tree = case_of at number (alternative (otherwise 0 ∷ []) no_statements no_alternatives) None;
   more = a_number ∷ (some k.Is ∷ (some k.When ∷ (one_at k.Others 0 ∷ (some k.Arrow ∷ spell_end k.Case None))));
   is = refl;
   formed = (tt, ((tt, tt), tt, tt));
@@ -47,19 +47,19 @@ plain_case at = record {
 -- for id in 0 to 0 loop end loop ;
 pub plain_for : (at : ℕ) → Example (λ r. one_at k.For at ∷ r) spell_statement IsStatement
 plain_for at = record {
-  tree = loop at an_ident a_range no_statements None;
+  tree = for_of at an_ident a_range no_statements None;
   more = word_at 0 [] ∷ (some k.In ∷ (a_number ∷ (some k.To ∷ (a_number ∷ (some k.Loop ∷ spell_end k.Loop None)))));
   is = refl;
   formed = ((tt, tt), tt);
 }
 
 pub statement_long : (s : Statement) → 1 ≤ length (spell_statement s)
-statement_long (nothing _) = omega arith
+statement_long (null_of _) = omega arith
 statement_long (assigned _ _) = omega arith
 statement_long (variable_assigned _ _) = omega arith
-statement_long (conditional _ _ _ _) = omega arith
-statement_long (selection _ _ _ _) = omega arith
-statement_long (loop _ _ _ _ _) = omega arith
+statement_long (if_of _ _ _ _) = omega arith
+statement_long (case_of _ _ _ _) = omega arith
+statement_long (for_of _ _ _ _ _) = omega arith
 
 pub sequential_long : (s : Sequential) → 1 ≤ length (spell_sequential s)
 sequential_long s = omega (arith, statement_long s.statement, length-append (spell_option spell_label s.label) (spell_statement s.statement))

@@ -1,7 +1,7 @@
 -- Identifiers, subtypes and declarations of objects: what is read is spelled so, and what is spelled is read.
 use Rattle.std.proofs.Common.{◌≡◌, ℕ, Bool, true, false, List, [], ◌∷◌, ◌++◌, Option, Some, None, refl, ap, arith}
-use Rattle.vhdl_lexer.specs.declared.token.Kind.{Kind}
-use Rattle.vhdl_lexer.specs.declared.token.Kind.TheVariants as k
+use Rattle.vhdl_lexer.specs.declared.token.TokenKind.{TokenKind}
+use Rattle.vhdl_lexer.specs.declared.token.TokenKind.TheVariants as k
 use Rattle.vhdl_tree.specs.Lexeme.{same_kind}
 use Rattle.vhdl_tree.specs.Tree.{Ident, Range, Value, Subtype}
 use Rattle.vhdl_tree.specs.Pieces.{Piece, some, word_at, spell_ident, spell_idents, spell_option, IsAny, IsList, IsOption}
@@ -68,12 +68,12 @@ constraint_gives : (n : ℕ) (r : Range) → IsRange r → Gives (constraint n) 
 unfolding constraint
 constraint_gives n r good = g_some (λ _. g_below _ n (λ m e. g_then _ (range_gives m r good) (g_some (λ _. g_pure)) (λ next g. omega arith)))
 
-constraint_begins : (r : Range) → IsRange r → (next : Option Kind) → is_kind k.LeftParen (front (spell_constraint r) next) ≡ true
+constraint_begins : (r : Range) → IsRange r → (next : Option TokenKind) → is_kind k.LeftParen (front (spell_constraint r) next) ≡ true
 unfolding same_kind
 constraint_begins r good next = refl
 
 -- no parenthesis follows
-abbrev pub EndsSubtype : Option Kind → Type 0
+abbrev pub EndsSubtype : Option TokenKind → Type 0
 EndsSubtype next = (is_kind k.LeftParen next ≡ false) × Whatever next
 
 pub subtype_gives : (n : ℕ) (t : Subtype) → IsSubtype t → Gives (subtype n) t (spell_subtype t) EndsSubtype
@@ -84,19 +84,19 @@ default_gives : (n : ℕ) (v : Value) → IsValue v → Gives (default_value n) 
 unfolding default_value
 default_gives n v good = g_some (λ _. value_gives n v good)
 
-default_begins : (v : Value) → IsValue v → (next : Option Kind) → is_kind k.Assign (front (spell_default v) next) ≡ true
+default_begins : (v : Value) → IsValue v → (next : Option TokenKind) → is_kind k.Assign (front (spell_default v) next) ≡ true
 unfolding same_kind
 default_begins v good next = refl
 
 -- neither a default nor the rest of an expression follows
-abbrev pub EndsDefault : Option Kind → Type 0
+abbrev pub EndsDefault : Option TokenKind → Type 0
 EndsDefault next = (is_kind k.Assign next ≡ false) × Ends next
 
 pub optional_default_gives : (n : ℕ) (d : Option Value) → IsOption IsValue d → Gives (optional_default n) d (spell_option spell_default d) EndsDefault
 unfolding optional_default
 optional_default_gives n d good = option_gives (is_kind k.Assign) (default_gives n) default_begins d good
 
-no_paren : (next : Option Kind) → Ends next → is_kind k.LeftParen next ≡ false
+no_paren : (next : Option TokenKind) → Ends next → is_kind k.LeftParen next ≡ false
 no_paren next g = by_test (is_kind k.LeftParen next) refl
   where
     by_test : (b : Bool) → is_kind k.LeftParen next ≡ b → is_kind k.LeftParen next ≡ false
@@ -104,7 +104,7 @@ no_paren next g = by_test (is_kind k.LeftParen next) refl
     by_test true e = let held = ap grip (is_here k.LeftParen next e) in absurd (omega (arith, held, g))
 
 -- a default or what follows it is no parenthesis
-pub default_no_paren : (d : Option Value) (next : Option Kind) → Ends next → EndsSubtype (front (spell_option spell_default d) next)
+pub default_no_paren : (d : Option Value) (next : Option TokenKind) → Ends next → EndsSubtype (front (spell_option spell_default d) next)
 unfolding same_kind
 default_no_paren None next g = (no_paren next g, tt)
 default_no_paren (Some v) next g = (refl, tt)
@@ -112,13 +112,13 @@ default_no_paren (Some v) next g = (refl, tt)
 -- ---- objects
 
 -- word ids : subtype [ := value ] ;
-abbrev pub spell_objects : Kind → Objects → List Piece
+abbrev pub spell_objects : TokenKind → Objects → List Piece
 spell_objects word o = some word ∷ (spell_idents o.names ++ (some k.Colon ∷ (spell_subtype o.subtype ++ (spell_option spell_default o.default ++ some k.Semicolon ∷ []))))
 
 abbrev pub AreObjects : Objects → Type 0
 AreObjects o = IsList IsAny o.names × IsSubtype o.subtype × IsOption IsValue o.default
 
-pub objects_rule : (n : ℕ) (word : Kind) → is_neutral word ≡ true → Rule n 0 (objects n word) (spell_objects word) AreObjects
+pub objects_rule : (n : ℕ) (word : TokenKind) → is_neutral word ≡ true → Rule n 0 (objects n word) (spell_objects word) AreObjects
 unfolding objects
 objects_rule n word ok =
     w_some word ok (λ _.
@@ -129,12 +129,12 @@ objects_rule n word ok =
     w_some k.Semicolon refl (λ _.
     w_pure (omega arith) refl (several, fine, good)))))))
 
-after_subtype : (d : Option Value) (next : Option Kind) → EndsSubtype (front (spell_option spell_default d ++ some k.Semicolon ∷ []) next)
+after_subtype : (d : Option Value) (next : Option TokenKind) → EndsSubtype (front (spell_option spell_default d ++ some k.Semicolon ∷ []) next)
 unfolding same_kind
 after_subtype None next = (refl, tt)
 after_subtype (Some v) next = (refl, tt)
 
-pub objects_gives : (n : ℕ) (word : Kind) (o : Objects) → AreObjects o → Gives (objects n word) o (spell_objects word o) Whatever
+pub objects_gives : (n : ℕ) (word : TokenKind) (o : Objects) → AreObjects o → Gives (objects n word) o (spell_objects word o) Whatever
 unfolding objects same_kind
 objects_gives n word o good =
     g_some (λ _.

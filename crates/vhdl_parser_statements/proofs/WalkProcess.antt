@@ -1,6 +1,6 @@
 -- What the readers of processes and selected assignments make.
 use Rattle.std.proofs.Common.{◌≡◌, ℕ, List, [], ◌∷◌, ◌++◌, refl, sym, ap, append-nil, arith}
-use Rattle.vhdl_lexer.specs.declared.token.Kind.TheVariants as k
+use Rattle.vhdl_lexer.specs.declared.token.TokenKind.TheVariants as k
 use Rattle.vhdl_tree.specs.Tree.{Sensitivity, absent, every, listed}
 use Rattle.vhdl_tree.specs.Pieces.{Piece, some, spell_list, IsList}
 use Rattle.vhdl_tree.specs.grammar.Expressions.{spell_name, IsName}

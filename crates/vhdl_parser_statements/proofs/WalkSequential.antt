@@ -1,9 +1,9 @@
 -- What the readers of sequential statements make.
 use Rattle.std.proofs.Common.{◌≡◌, ℕ, zero, suc, ◌≤◌, true, false, List, [], ◌∷◌, ◌++◌, Ok, Option, Some, None, refl, sym, ap, ◌∙◌, append-nil, arith}
-use Rattle.vhdl_lexer.specs.declared.token.Kind.{Kind}
-use Rattle.vhdl_lexer.specs.declared.token.Kind.TheVariants as k
+use Rattle.vhdl_lexer.specs.declared.token.TokenKind.{TokenKind}
+use Rattle.vhdl_lexer.specs.declared.token.TokenKind.TheVariants as k
 use Rattle.vhdl_tree.specs.Lexeme.{same_kind}
-use Rattle.vhdl_tree.specs.Tree.{Ident, Name, assigned, variable_assigned, conditional, selection, loop, Sequential, Conditional, Alternative, statements_of, conditionals_of, alternatives_of, otherwise_of}
+use Rattle.vhdl_tree.specs.Tree.{Ident, Name, assigned, variable_assigned, if_of, case_of, for_of, Sequential, Conditional, Alternative, statements_of, conditionals_of, alternatives_of, otherwise_of}
 use Rattle.vhdl_tree.specs.Pieces.{Piece, some, one_at, word_at, spell_ident, spell_option, spell_each, spell_list, IsAny, IsEach, IsList, IsOption}
 use Rattle.vhdl_tree.specs.Levels.{is_end, opening, closing}
 use Rattle.vhdl_tree.specs.grammar.Expressions.{spell, spell_name, spell_value, spell_range, spell_choices, IsExpr, IsName, IsValue, AreChoices}
@@ -23,13 +23,13 @@ use Rattle.vhdl_parser_statements.proofs.Plain.{plain_statement, plain_assigned,
 
 -- ---- words that open and close levels
 
-end_spelled : (before : List Piece → List Piece) (word : Kind) (l : Option Ident) (r : List Piece) → before (spell_end word l ++ r) ≡ before (some k.End ∷ (some word ∷ (spell_option spell_ident l ++ (some k.Semicolon ∷ r))))
+end_spelled : (before : List Piece → List Piece) (word : TokenKind) (l : Option Ident) (r : List Piece) → before (spell_end word l ++ r) ≡ before (some k.End ∷ (some word ∷ (spell_option spell_ident l ++ (some k.Semicolon ∷ r))))
 end_spelled before word None r = refl
 end_spelled before word (Some i) r = refl
 
 module _ {B : Type 0} {n d d2 : ℕ} {before : List Piece → List Piece} {spell : B → List Piece} {Good : B → Type 0} where
   -- one that closes a level behind `end`
-  w_close : {f : ℕ → Parser B} (kind : Kind) → opening true kind ≡ 0 → closing true kind ≡ 1 → is_end kind ≡ false → suc d ≤ n →
+  w_close : {f : ℕ → Parser B} (kind : TokenKind) → opening true kind ≡ 0 → closing true kind ≡ 1 → is_end kind ≡ false → suc d ≤ n →
       ((at : ℕ) → Walks n d false d2 (λ r. before (some kind ∷ r)) (f at) spell Good) → Walks n (suc d) true d2 before (λ ts. and_then (expect kind ts) f) spell Good
   unfolding expect
   w_close kind o c last le next = w_take (λ l. l.at) kind (λ _. some kind) (λ _. le) (omega arith) (omega (arith, o, c)) last (λ l i. i) next
@@ -41,7 +41,7 @@ module _ {B : Type 0} {n d d2 : ℕ} {before : List Piece → List Piece} {spell
 
 module _ {B : Type 0} {n d d2 : ℕ} {before : List Piece → List Piece} {spell : B → List Piece} {Good : B → Type 0} where
   -- end word [ id ] ;
-  pub w_end_of : {f : Option Ident → Parser B} (word : Kind) → opening true word ≡ 0 → closing true word ≡ 1 → is_end word ≡ false → suc d ≤ n →
+  pub w_end_of : {f : Option Ident → Parser B} (word : TokenKind) → opening true word ≡ 0 → closing true word ≡ 1 → is_end word ≡ false → suc d ≤ n →
       ((l : Option Ident) → Walks n d false d2 (λ r. before (spell_end word l ++ r)) (f l) spell Good) → Walks n (suc d) false d2 before (λ ts. and_then (end_of word ts) f) spell Good
   unfolding end_of
   w_end_of {f} word o c last le next =
@@ -52,7 +52,7 @@ module _ {B : Type 0} {n d d2 : ℕ} {before : List Piece → List Piece} {spell
 
 module _ {B : Type 0} {n d d2 : ℕ} {before : List Piece → List Piece} {spell : B → List Piece} {Good : B → Type 0} where
   -- the same with a word that closes no level
-  pub w_end_neutral : {f : Option Ident → Parser B} (word : Kind) → is_neutral word ≡ true →
+  pub w_end_neutral : {f : Option Ident → Parser B} (word : TokenKind) → is_neutral word ≡ true →
       ((l : Option Ident) → Walks n d false d2 (λ r. before (spell_end word l ++ r)) (f l) spell Good) → Walks n d false d2 before (λ ts. and_then (end_of word ts) f) spell Good
   unfolding end_of
   w_end_neutral {f} word ok next =
@@ -73,11 +73,11 @@ w_labelled {B} {n} f next alone = w_both k.Identifier k.Colon (λ ts. and_then (
     (λ s. eager k.Identifier s (λ at text. ap (λ o. left_of (and_then (and_then o (λ i us. Ok (Some i, us))) f)) (label_alone at text)))
     (λ s. eager k.Identifier s alone)
 
-value_rest : (n : ℕ) (sign : Kind) → is_neutral sign ≡ true → Rule n 0 (assigned_value n sign) (λ v. some sign ∷ (spell_value v ++ some k.Semicolon ∷ [])) IsValue
+value_rest : (n : ℕ) (sign : TokenKind) → is_neutral sign ≡ true → Rule n 0 (assigned_value n sign) (λ v. some sign ∷ (spell_value v ++ some k.Semicolon ∷ [])) IsValue
 unfolding assigned_value
 value_rest n sign ok = w_some sign ok (λ _. w_then (value_rule n) (λ v fine _. w_some k.Semicolon refl (λ _. w_pure (omega arith) refl fine)))
 
-assign_next : (n : ℕ) (t : Name) → IsName t → (next : Option Kind) → Walks n 0 false 0 (λ r. spell_name t ++ r) (assign_by n t next) spell_statement IsStatement
+assign_next : (n : ℕ) (t : Name) → IsName t → (next : Option TokenKind) → Walks n 0 false 0 (λ r. spell_name t ++ r) (assign_by n t next) spell_statement IsStatement
 assign_next n t good (Some k.LessEqual) = w_last (assigned t) (value_rest n k.LessEqual refl) (λ v fine. (refl, (good, fine)))
 assign_next n t good (Some k.Assign) = w_last (variable_assigned t) (value_rest n k.Assign refl) (λ v fine. (refl, (good, fine)))
 assign_next n t good _ = w_refuse (plain_assigned t good)
@@ -171,7 +171,7 @@ module _ (n m : ℕ) (less : n ≡ suc m) (inner : Parser (List Sequential)) (ea
   else_rule = option_rule (is_kind k.Else) (omega (arith, less)) (w_some k.Else refl (λ _. w_ends (λ ss. refl) (λ ss good. good) each))
 
   if_spelled : (at : ℕ) (bs : List Conditional) (o : Option (List Sequential)) (l : Option Ident) →
-      spell_statement (conditional at (conditionals_of bs) (otherwise_of o) l) ≡ one_at k.If at ∷ (spell_list k.Elsif spell_condition bs ++ (spell_option spell_else_part o ++ (spell_end k.If l ++ [])))
+      spell_statement (if_of at (conditionals_of bs) (otherwise_of o) l) ≡ one_at k.If at ∷ (spell_list k.Elsif spell_condition bs ++ (spell_option spell_else_part o ++ (spell_end k.If l ++ [])))
   if_spelled at bs o l =
       ap (λ ps. one_at k.If at ∷ (ps ++ (spell_else (otherwise_of o) ++ spell_end k.If l))) (conditionals-list bs)
       ∙ ap (λ ps. one_at k.If at ∷ (spell_list k.Elsif spell_condition bs ++ (ps ++ spell_end k.If l))) (else-option o)
@@ -189,7 +189,7 @@ module _ (n m : ℕ) (less : n ≡ suc m) (inner : Parser (List Sequential)) (ea
   alternatives_rule = separated_rule k.When refl (omega (arith, less)) alternative_rule
 
   case_spelled : (at : ℕ) (s : _) (all : List Alternative) (l : Option Ident) → IsList IsAlternative all →
-      spell_statement (selection at s (alternatives_of all) l) ≡ one_at k.Case at ∷ (spell s ++ (some k.Is ∷ (some k.When ∷ (spell_list k.When spell_alternative all ++ (spell_end k.Case l ++ [])))))
+      spell_statement (case_of at s (alternatives_of all) l) ≡ one_at k.Case at ∷ (spell s ++ (some k.Is ∷ (some k.When ∷ (spell_list k.When spell_alternative all ++ (spell_end k.Case l ++ [])))))
   case_spelled at s [] l f = absurd f
   case_spelled at s (a ∷ all) l f =
       ap (λ ps. one_at k.Case at ∷ (spell s ++ (some k.Is ∷ (ps ++ spell_end k.Case l)))) (alternatives-list a all)
@@ -205,7 +205,7 @@ module _ (n m : ℕ) (less : n ≡ suc m) (inner : Parser (List Sequential)) (ea
       w_end_of k.Case refl refl refl le (λ l. w_pure (omega arith) (case_spelled at s all l fine) (good, cases_list all fine))))))
 
   for_spelled : (at : ℕ) (p : Ident) (r : _) (ss : List Sequential) (l : Option Ident) →
-      spell_statement (loop at p r (statements_of ss) l) ≡ one_at k.For at ∷ (word_at p.at p.text ∷ (some k.In ∷ (spell_range r ++ (some k.Loop ∷ (spelled ss ++ (spell_end k.Loop l ++ []))))))
+      spell_statement (for_of at p r (statements_of ss) l) ≡ one_at k.For at ∷ (word_at p.at p.text ∷ (some k.In ∷ (spell_range r ++ (some k.Loop ∷ (spelled ss ++ (spell_end k.Loop l ++ []))))))
   for_spelled at p r ss l = ap (λ ps. one_at k.For at ∷ (word_at p.at p.text ∷ (some k.In ∷ (spell_range r ++ (some k.Loop ∷ (spelled ss ++ ps)))))) (sym (append-nil (spell_end k.Loop l)))
 
   for_rest_rule : (at : ℕ) → Walks n 1 false 0 (λ r. one_at k.For at ∷ r) (for_rest m inner at) spell_statement IsStatement
@@ -226,7 +226,7 @@ module _ (n : ℕ) (inner : Parser (List Sequential)) (each : Rule n 1 inner spe
   unfolding for_statement same_kind
   for_rule = w_open k.For refl refl refl plain_for (below_met _ n) (λ at. w_below n (λ m e. for_rest_rule n m e inner each at))
 
-  statement_next : (next : Option Kind) → Rule n 0 (statement_by n inner next) spell_statement IsStatement
+  statement_next : (next : Option TokenKind) → Rule n 0 (statement_by n inner next) spell_statement IsStatement
   statement_next (Some k.Identifier) = assign_rule n
   statement_next (Some k.Null) = null_rule n
   statement_next (Some k.If) = if_rule

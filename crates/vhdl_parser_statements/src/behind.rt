@@ -8,12 +8,12 @@ ghost use Rattle.vhdl_parser_statements.specs.reader.Sequential as read;
 
 use crate::sequential::end_of;
 use vhdl_parser_expressions::{Parser, Stop};
-use vhdl_lexer::Kind;
+use vhdl_lexer::TokenKind;
 use vhdl_tree::Identifier;
 
 /// What was read, and behind it a token of this kind.
 #[tactic(auto, using(crate::proofs::Started::starts))]
-pub fn followed<T: Drop>(parser: &mut Parser<'_>, found: T, kind: Kind) -> Result<T, Stop>
+pub fn followed<T: Drop>(parser: &mut Parser<'_>, found: T, kind: TokenKind) -> Result<T, Stop>
     ensures same { IfOk result (λ x. x ≡ found) }
     ensures reads { Reads (λ _. start parser.old) (expect kind parser.old) result parser.new }
 {
@@ -25,7 +25,7 @@ pub fn followed<T: Drop>(parser: &mut Parser<'_>, found: T, kind: Kind) -> Resul
 pub fn ended<T: Drop>(
     parser: &mut Parser<'_>,
     found: T,
-    word: Kind,
+    word: TokenKind,
 ) -> Result<(T, Option<Identifier>), Stop>
     ensures same { IfOk result (λ r. r.0 ≡ found) }
     ensures reads { Reads (λ r. option_ident_view r.1) (read.end_of word parser.old) result parser.new }

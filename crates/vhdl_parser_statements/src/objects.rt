@@ -8,31 +8,31 @@ ghost use Rattle.vhdl_parser_statements.specs.reader.Subtypes.{objects_view};
 
 use crate::behind::followed;
 use vhdl_parser_expressions::{Parser, Stop, below, separated};
-use vhdl_lexer::Kind;
+use vhdl_lexer::TokenKind;
 use vhdl_tree::{Identifier, Range, Subtype, Value};
 
 /// One identifier or more, with commas between.
 pub fn identifiers(parser: &mut Parser<'_>) -> Result<Vec<Identifier>, Stop>
     ensures { Reads idents_view (read.idents parser.old) result parser.new }
 {
-    separated(parser, Kind::Comma, |parser| parser.identifier())
+    separated(parser, TokenKind::Comma, |parser| parser.identifier())
 }
 
 #[tactic(auto, unfolding(crate::specs::reader::Subtypes::constraint))]
 fn constraint(parser: &mut Parser<'_>, levels: usize) -> Result<Range, Stop>
     ensures { Reads range_view (read.constraint levels parser.old) result parser.new }
 {
-    parser.expect(Kind::LeftParen)?;
+    parser.expect(TokenKind::LeftParen)?;
     let inner = below(levels)?;
     let range = parser.range(inner)?;
-    followed(parser, range, Kind::RightParen)
+    followed(parser, range, TokenKind::RightParen)
 }
 
 #[tactic(auto, unfolding(crate::specs::reader::Subtypes::optional_constraint, vhdl_parser_expressions::specs::reader::Input::optional))]
 fn optional_constraint(parser: &mut Parser<'_>, levels: usize) -> Result<Option<Range>, Stop>
     ensures { Reads option_range_view (read.optional_constraint levels parser.old) result parser.new }
 {
-    if parser.sees(Kind::LeftParen) {
+    if parser.sees(TokenKind::LeftParen) {
         Ok(Some(constraint(parser, levels)?))
     } else {
         Ok(None)
@@ -53,7 +53,7 @@ pub fn subtype(parser: &mut Parser<'_>, levels: usize) -> Result<Subtype, Stop>
 fn default_value(parser: &mut Parser<'_>, levels: usize) -> Result<Value, Stop>
     ensures { Reads value_view (read.default_value levels parser.old) result parser.new }
 {
-    parser.expect(Kind::Assign)?;
+    parser.expect(TokenKind::Assign)?;
     parser.value(levels)
 }
 
@@ -62,7 +62,7 @@ fn default_value(parser: &mut Parser<'_>, levels: usize) -> Result<Value, Stop>
 pub fn optional_default(parser: &mut Parser<'_>, levels: usize) -> Result<Option<Value>, Stop>
     ensures { Reads option_value_view (read.optional_default levels parser.old) result parser.new }
 {
-    if parser.sees(Kind::Assign) {
+    if parser.sees(TokenKind::Assign) {
         Ok(Some(default_value(parser, levels)?))
     } else {
         Ok(None)
@@ -75,14 +75,14 @@ pub fn optional_default(parser: &mut Parser<'_>, levels: usize) -> Result<Option
 pub fn object_declaration(
     parser: &mut Parser<'_>,
     levels: usize,
-    word: Kind,
+    word: TokenKind,
 ) -> Result<(Vec<Identifier>, Subtype, Option<Value>), Stop>
     ensures { Reads objects_view (read.objects levels word parser.old) result parser.new }
 {
     parser.expect(word)?;
     let names = identifiers(parser)?;
-    let names = followed(parser, names, Kind::Colon)?;
+    let names = followed(parser, names, TokenKind::Colon)?;
     let subtype = subtype(parser, levels)?;
     let default = optional_default(parser, levels)?;
-    followed(parser, (names, subtype, default), Kind::Semicolon)
+    followed(parser, (names, subtype, default), TokenKind::Semicolon)
 }

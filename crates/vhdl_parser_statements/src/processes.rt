@@ -10,21 +10,21 @@ use crate::behind::{ended, followed};
 use crate::objects::object_declaration;
 use crate::sequential::statements;
 use vhdl_parser_expressions::{Parser, Stop, below, many, separated};
-use vhdl_lexer::Kind;
+use vhdl_lexer::TokenKind;
 use vhdl_tree::{Identifier, Name, Process, Sensitivity, Sequential, Variables};
 
 fn names(parser: &mut Parser<'_>, levels: usize) -> Result<Vec<Name>, Stop>
     ensures { Reads names_view (read.names levels parser.old) result parser.new }
 {
-    separated(parser, Kind::Comma, |parser| parser.name(levels))
+    separated(parser, TokenKind::Comma, |parser| parser.name(levels))
 }
 
 #[tactic(auto, unfolding(crate::specs::reader::Process::sensitivity_list))]
 fn sensitivity_list(parser: &mut Parser<'_>, levels: usize) -> Result<Sensitivity, Stop>
     ensures { Reads sensitivity_view (read.sensitivity_list levels parser.old) result parser.new }
 {
-    if parser.sees(Kind::All) {
-        parser.expect(Kind::All)?;
+    if parser.sees(TokenKind::All) {
+        parser.expect(TokenKind::All)?;
         Ok(Sensitivity::All)
     } else {
         Ok(Sensitivity::Names(names(parser, levels)?))
@@ -35,17 +35,17 @@ fn sensitivity_list(parser: &mut Parser<'_>, levels: usize) -> Result<Sensitivit
 fn sensitivity(parser: &mut Parser<'_>, levels: usize) -> Result<Sensitivity, Stop>
     ensures { Reads sensitivity_view (read.sensitivity levels parser.old) result parser.new }
 {
-    parser.expect(Kind::LeftParen)?;
+    parser.expect(TokenKind::LeftParen)?;
     let inner = below(levels)?;
     let found = sensitivity_list(parser, inner)?;
-    followed(parser, found, Kind::RightParen)
+    followed(parser, found, TokenKind::RightParen)
 }
 
 #[tactic(auto, unfolding(crate::specs::reader::Process::optional_sensitivity))]
 fn optional_sensitivity(parser: &mut Parser<'_>, levels: usize) -> Result<Sensitivity, Stop>
     ensures { Reads sensitivity_view (read.optional_sensitivity levels parser.old) result parser.new }
 {
-    if parser.sees(Kind::LeftParen) {
+    if parser.sees(TokenKind::LeftParen) {
         sensitivity(parser, levels)
     } else {
         Ok(Sensitivity::Absent)
@@ -56,7 +56,7 @@ fn optional_sensitivity(parser: &mut Parser<'_>, levels: usize) -> Result<Sensit
 fn variables(parser: &mut Parser<'_>, levels: usize) -> Result<Variables, Stop>
     ensures { Reads variables_view (read.variables levels parser.old) result parser.new }
 {
-    let (names, subtype, default) = object_declaration(parser, levels, Kind::Variable)?;
+    let (names, subtype, default) = object_declaration(parser, levels, TokenKind::Variable)?;
     Ok(Variables {
         names,
         subtype,
@@ -70,7 +70,7 @@ fn all_variables(parser: &mut Parser<'_>, levels: usize) -> Result<Vec<Variables
     let found = Vec::new(parser.alloc);
     many(
         parser,
-        |parser| parser.sees(Kind::Variable),
+        |parser| parser.sees(TokenKind::Variable),
         |parser| variables(parser, levels),
         found,
     )
@@ -84,9 +84,9 @@ fn body(
 ) -> Result<(Vec<Sequential>, Option<Identifier>), Stop>
     ensures { Reads body_view (read.body levels parser.old) result parser.new }
 {
-    parser.expect(Kind::Begin)?;
+    parser.expect(TokenKind::Begin)?;
     let statements = statements(parser, levels)?;
-    ended(parser, statements, Kind::Process)
+    ended(parser, statements, TokenKind::Process)
 }
 
 /// A process behind its label, in which so many levels may be opened.
@@ -94,9 +94,9 @@ fn body(
 pub fn process(parser: &mut Parser<'_>, levels: usize) -> Result<Process, Stop>
     ensures { Reads process_view (read.process levels parser.old) result parser.new }
 {
-    let at = parser.expect(Kind::Process)?;
+    let at = parser.expect(TokenKind::Process)?;
     let sensitivity = optional_sensitivity(parser, levels)?;
-    let is_word = parser.eat(Kind::Is)?;
+    let is_word = parser.eat(TokenKind::Is)?;
     let variables = all_variables(parser, levels)?;
     let (statements, end_label) = body(parser, levels)?;
     Ok(Process {

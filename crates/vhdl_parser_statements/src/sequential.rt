@@ -1,7 +1,7 @@
 //! Sequential statements.
 
 ghost use Rattle.std.specs.Prelude.{◌≡◌};
-ghost use Rattle.vhdl_lexer.specs.declared.token.Kind.TheVariants as k;
+ghost use Rattle.vhdl_lexer.specs.declared.token.TokenKind.TheVariants as k;
 ghost use Rattle.vhdl_tree.specs.View.{option_ident_view, value_view, statement_view, sequential_view, sequentials_view, option_sequentials_view, conditional_view, conditionals_view, alternative_view, alternatives_view};
 ghost use Rattle.vhdl_parser_expressions.specs.reader.Input as input;
 ghost use Rattle.vhdl_parser_expressions.specs.reader.Input.{Reads};
@@ -9,18 +9,18 @@ ghost use Rattle.vhdl_parser_statements.specs.reader.Sequential as read;
 
 use crate::behind::{ended, followed};
 use vhdl_parser_expressions::{Parser, Stop, below};
-use vhdl_lexer::Kind;
+use vhdl_lexer::TokenKind;
 use vhdl_tree::{Alternative, Conditional, Identifier, Sequential, Statement, Value};
 
-fn begins_statement(kind: Option<Kind>) -> bool
+fn begins_statement(kind: Option<TokenKind>) -> bool
     ensures { result ≡ read.begins_sequential kind }
 {
     match kind {
-        Some(Kind::Identifier) => true,
-        Some(Kind::Null) => true,
-        Some(Kind::If) => true,
-        Some(Kind::Case) => true,
-        Some(Kind::For) => true,
+        Some(TokenKind::Identifier) => true,
+        Some(TokenKind::Null) => true,
+        Some(TokenKind::If) => true,
+        Some(TokenKind::Case) => true,
+        Some(TokenKind::For) => true,
         _ => false,
     }
 }
@@ -30,41 +30,41 @@ fn begins_statement(kind: Option<Kind>) -> bool
 pub fn optional_label(parser: &mut Parser<'_>) -> Result<Option<Identifier>, Stop>
     ensures { Reads option_ident_view (read.optional_label parser.old) result parser.new }
 {
-    if !parser.sees_both(Kind::Identifier, Kind::Colon) {
+    if !parser.sees_both(TokenKind::Identifier, TokenKind::Colon) {
         return Ok(None);
     }
     let label = parser.identifier()?;
-    Ok(Some(followed(parser, label, Kind::Colon)?))
+    Ok(Some(followed(parser, label, TokenKind::Colon)?))
 }
 
 /// `end word [ id ] ;`
 #[tactic(auto, unfolding(crate::specs::reader::Sequential::end_of))]
-pub fn end_of(parser: &mut Parser<'_>, word: Kind) -> Result<Option<Identifier>, Stop>
+pub fn end_of(parser: &mut Parser<'_>, word: TokenKind) -> Result<Option<Identifier>, Stop>
     ensures { Reads option_ident_view (read.end_of word parser.old) result parser.new }
 {
-    parser.expect(Kind::End)?;
+    parser.expect(TokenKind::End)?;
     parser.expect(word)?;
     let label = parser.optional_identifier()?;
-    followed(parser, label, Kind::Semicolon)
+    followed(parser, label, TokenKind::Semicolon)
 }
 
 #[tactic(auto, unfolding(crate::specs::reader::Sequential::null_statement))]
 fn null_statement(parser: &mut Parser<'_>) -> Result<Statement, Stop>
     ensures { Reads statement_view (read.null_statement parser.old) result parser.new }
 {
-    let at = parser.expect(Kind::Null)?;
-    parser.expect(Kind::Semicolon)?;
+    let at = parser.expect(TokenKind::Null)?;
+    parser.expect(TokenKind::Semicolon)?;
     Ok(Statement::Null { at })
 }
 
 /// What is assigned behind `<=` or `:=`.
 #[tactic(auto, unfolding(crate::specs::reader::Sequential::assigned_value))]
-fn assigned_value(parser: &mut Parser<'_>, levels: usize, sign: Kind) -> Result<Value, Stop>
+fn assigned_value(parser: &mut Parser<'_>, levels: usize, sign: TokenKind) -> Result<Value, Stop>
     ensures { Reads value_view (read.assigned_value levels sign parser.old) result parser.new }
 {
     parser.expect(sign)?;
     let value = parser.value(levels)?;
-    followed(parser, value, Kind::Semicolon)
+    followed(parser, value, TokenKind::Semicolon)
 }
 
 #[tactic(auto, unfolding(crate::specs::reader::Sequential::assign))]
@@ -73,12 +73,12 @@ fn assignment(parser: &mut Parser<'_>, levels: usize) -> Result<Statement, Stop>
 {
     let target = parser.name(levels)?;
     match parser.peek() {
-        Some(Kind::LessEqual) => {
-            let value = assigned_value(parser, levels, Kind::LessEqual)?;
+        Some(TokenKind::LessEqual) => {
+            let value = assigned_value(parser, levels, TokenKind::LessEqual)?;
             Ok(Statement::SignalAssignment { target, value })
         }
-        Some(Kind::Assign) => {
-            let value = assigned_value(parser, levels, Kind::Assign)?;
+        Some(TokenKind::Assign) => {
+            let value = assigned_value(parser, levels, TokenKind::Assign)?;
             Ok(Statement::VariableAssignment { target, value })
         }
         _ => Err(parser.refuse()),
@@ -117,11 +117,11 @@ fn statement(parser: &mut Parser<'_>, levels: usize) -> Result<Statement, Stop>
     ensures { Reads statement_view (read.statement_of levels (read.deeper levels) parser.old) result parser.new }
 {
     match parser.peek() {
-        Some(Kind::Identifier) => assignment(parser, levels),
-        Some(Kind::Null) => null_statement(parser),
-        Some(Kind::If) => if_statement(parser, levels),
-        Some(Kind::Case) => case_statement(parser, levels),
-        Some(Kind::For) => for_statement(parser, levels),
+        Some(TokenKind::Identifier) => assignment(parser, levels),
+        Some(TokenKind::Null) => null_statement(parser),
+        Some(TokenKind::If) => if_statement(parser, levels),
+        Some(TokenKind::Case) => case_statement(parser, levels),
+        Some(TokenKind::For) => for_statement(parser, levels),
         _ => Err(parser.refuse()),
     }
 }
@@ -131,7 +131,7 @@ fn statement(parser: &mut Parser<'_>, levels: usize) -> Result<Statement, Stop>
 fn if_statement(parser: &mut Parser<'_>, levels: usize) -> Result<Statement, Stop>
     ensures { Reads statement_view (read.if_statement levels (read.deeper levels) parser.old) result parser.new }
 {
-    let at = parser.expect(Kind::If)?;
+    let at = parser.expect(TokenKind::If)?;
     let inner = below(levels)?;
     if_rest(parser, inner, at)
 }
@@ -143,7 +143,7 @@ fn if_rest(parser: &mut Parser<'_>, levels: usize, at: usize) -> Result<Statemen
 {
     let branches = branches(parser, levels)?;
     let otherwise = otherwise(parser, levels)?;
-    let ((branches, otherwise), end_label) = ended(parser, (branches, otherwise), Kind::If)?;
+    let ((branches, otherwise), end_label) = ended(parser, (branches, otherwise), TokenKind::If)?;
     Ok(Statement::conditional(at, branches, otherwise, end_label))
 }
 
@@ -155,10 +155,10 @@ fn branches(parser: &mut Parser<'_>, levels: usize) -> Result<Vec<Conditional>, 
     let mut found = Vec::new(parser.alloc);
     found.push(condition(parser, levels)?)?;
     for _turn in 0..parser.left() {
-        if !parser.sees(Kind::Elsif) {
+        if !parser.sees(TokenKind::Elsif) {
             return Ok(found);
         }
-        parser.expect(Kind::Elsif)?;
+        parser.expect(TokenKind::Elsif)?;
         found.push(condition(parser, levels)?)?;
     }
     Ok(found)
@@ -170,7 +170,7 @@ fn condition(parser: &mut Parser<'_>, levels: usize) -> Result<Conditional, Stop
     ensures { Reads conditional_view (read.condition levels (read.statements levels) parser.old) result parser.new }
 {
     let condition = parser.expr(levels)?;
-    let condition = followed(parser, condition, Kind::Then)?;
+    let condition = followed(parser, condition, TokenKind::Then)?;
     let statements = statements(parser, levels)?;
     Ok(Conditional::new(condition, statements))
 }
@@ -180,10 +180,10 @@ fn condition(parser: &mut Parser<'_>, levels: usize) -> Result<Conditional, Stop
 fn otherwise(parser: &mut Parser<'_>, levels: usize) -> Result<Option<Vec<Sequential>>, Stop>
     ensures { Reads option_sequentials_view (input.optional (input.is_kind k.Else) (read.else_part levels (read.statements levels)) parser.old) result parser.new }
 {
-    if !parser.sees(Kind::Else) {
+    if !parser.sees(TokenKind::Else) {
         return Ok(None);
     }
-    parser.expect(Kind::Else)?;
+    parser.expect(TokenKind::Else)?;
     Ok(Some(statements(parser, levels)?))
 }
 
@@ -192,7 +192,7 @@ fn otherwise(parser: &mut Parser<'_>, levels: usize) -> Result<Option<Vec<Sequen
 fn case_statement(parser: &mut Parser<'_>, levels: usize) -> Result<Statement, Stop>
     ensures { Reads statement_view (read.case_statement levels (read.deeper levels) parser.old) result parser.new }
 {
-    let at = parser.expect(Kind::Case)?;
+    let at = parser.expect(TokenKind::Case)?;
     let inner = below(levels)?;
     case_rest(parser, inner, at)
 }
@@ -203,10 +203,10 @@ fn case_rest(parser: &mut Parser<'_>, levels: usize, at: usize) -> Result<Statem
     ensures { Reads statement_view (read.case_rest levels (read.statements levels) at parser.old) result parser.new }
 {
     let selector = parser.expr(levels)?;
-    let selector = followed(parser, selector, Kind::Is)?;
-    let selector = followed(parser, selector, Kind::When)?;
+    let selector = followed(parser, selector, TokenKind::Is)?;
+    let selector = followed(parser, selector, TokenKind::When)?;
     let all = alternatives(parser, levels)?;
-    let ((selector, all), end_label) = ended(parser, (selector, all), Kind::Case)?;
+    let ((selector, all), end_label) = ended(parser, (selector, all), TokenKind::Case)?;
     Ok(Statement::selection(at, selector, all, end_label))
 }
 
@@ -218,10 +218,10 @@ fn alternatives(parser: &mut Parser<'_>, levels: usize) -> Result<Vec<Alternativ
     let mut found = Vec::new(parser.alloc);
     found.push(alternative(parser, levels)?)?;
     for _turn in 0..parser.left() {
-        if !parser.sees(Kind::When) {
+        if !parser.sees(TokenKind::When) {
             return Ok(found);
         }
-        parser.expect(Kind::When)?;
+        parser.expect(TokenKind::When)?;
         found.push(alternative(parser, levels)?)?;
     }
     Ok(found)
@@ -233,7 +233,7 @@ fn alternative(parser: &mut Parser<'_>, levels: usize) -> Result<Alternative, St
     ensures { Reads alternative_view (read.alternative_part levels (read.statements levels) parser.old) result parser.new }
 {
     let choices = parser.choices(levels)?;
-    let choices = followed(parser, choices, Kind::Arrow)?;
+    let choices = followed(parser, choices, TokenKind::Arrow)?;
     let statements = statements(parser, levels)?;
     Ok(Alternative::new(choices, statements))
 }
@@ -243,7 +243,7 @@ fn alternative(parser: &mut Parser<'_>, levels: usize) -> Result<Alternative, St
 fn for_statement(parser: &mut Parser<'_>, levels: usize) -> Result<Statement, Stop>
     ensures { Reads statement_view (read.for_statement levels (read.deeper levels) parser.old) result parser.new }
 {
-    let at = parser.expect(Kind::For)?;
+    let at = parser.expect(TokenKind::For)?;
     let inner = below(levels)?;
     for_rest(parser, inner, at)
 }
@@ -254,11 +254,11 @@ fn for_rest(parser: &mut Parser<'_>, levels: usize, at: usize) -> Result<Stateme
     ensures { Reads statement_view (read.for_rest levels (read.statements levels) at parser.old) result parser.new }
 {
     let parameter = parser.identifier()?;
-    let parameter = followed(parser, parameter, Kind::In)?;
+    let parameter = followed(parser, parameter, TokenKind::In)?;
     let range = parser.range(levels)?;
-    let head = followed(parser, (parameter, range), Kind::Loop)?;
+    let head = followed(parser, (parameter, range), TokenKind::Loop)?;
     let statements = statements(parser, levels)?;
-    let ((head, statements), end_label) = ended(parser, (head, statements), Kind::Loop)?;
+    let ((head, statements), end_label) = ended(parser, (head, statements), TokenKind::Loop)?;
     let (parameter, range) = head;
     Ok(Statement::repetition(at, parameter, range, statements, end_label))
 }

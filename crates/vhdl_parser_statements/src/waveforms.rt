@@ -1,7 +1,7 @@
 //! What concurrent assignments assign: conditional and selected waveforms (IEEE 1076-2008, 10.5, 11.6).
 
 ghost use Rattle.std.specs.Prelude.{◌≡◌};
-ghost use Rattle.vhdl_lexer.specs.declared.token.Kind.TheVariants as k;
+ghost use Rattle.vhdl_lexer.specs.declared.token.TokenKind.TheVariants as k;
 ghost use Rattle.vhdl_tree.specs.View.{view, option_expr_view, branches_view, waveform_view, waveforms_view, selected_assignment_view};
 ghost use Rattle.vhdl_parser_expressions.specs.reader.Input as input;
 ghost use Rattle.vhdl_parser_expressions.specs.reader.Input.{Reads};
@@ -10,14 +10,14 @@ ghost use Rattle.vhdl_parser_statements.specs.reader.Waveforms.{part_view, condi
 
 use crate::behind::followed;
 use vhdl_parser_expressions::{Parser, Stop, separated};
-use vhdl_lexer::Kind;
+use vhdl_lexer::TokenKind;
 use vhdl_tree::{Branch, Expr, SelectedAssignment, Value, Waveform};
 
 #[tactic(auto, unfolding(crate::specs::reader::Waveforms::condition))]
 fn waveform_condition(parser: &mut Parser<'_>, levels: usize) -> Result<Expr, Stop>
     ensures { Reads view (read.condition levels parser.old) result parser.new }
 {
-    parser.expect(Kind::When)?;
+    parser.expect(TokenKind::When)?;
     parser.expr(levels)
 }
 
@@ -25,7 +25,7 @@ fn waveform_condition(parser: &mut Parser<'_>, levels: usize) -> Result<Expr, St
 fn optional_condition(parser: &mut Parser<'_>, levels: usize) -> Result<Option<Expr>, Stop>
     ensures { Reads option_expr_view (input.optional (input.is_kind k.When) (read.condition levels) parser.old) result parser.new }
 {
-    if parser.sees(Kind::When) {
+    if parser.sees(TokenKind::When) {
         Ok(Some(waveform_condition(parser, levels)?))
     } else {
         Ok(None)
@@ -46,7 +46,7 @@ fn part(parser: &mut Parser<'_>, levels: usize) -> Result<(Value, Option<Expr>),
 fn else_part(parser: &mut Parser<'_>, levels: usize) -> Result<(Value, Option<Expr>), Stop>
     ensures { Reads part_view (read.else_part levels parser.old) result parser.new }
 {
-    parser.expect(Kind::Else)?;
+    parser.expect(TokenKind::Else)?;
     part(parser, levels)
 }
 
@@ -59,7 +59,7 @@ fn more_branches(
     ensures { Reads conditional_view (read.more_branches levels (branches_view found) parser.old) result parser.new }
 {
     for _turn in 0..parser.left() {
-        if !parser.sees(Kind::Else) {
+        if !parser.sees(TokenKind::Else) {
             return Ok((found, None));
         }
         let (value, condition) = else_part(parser, levels)?;
@@ -93,7 +93,7 @@ fn waveform(parser: &mut Parser<'_>, levels: usize) -> Result<Waveform, Stop>
     ensures { Reads waveform_view (read.waveform levels parser.old) result parser.new }
 {
     let value = parser.value(levels)?;
-    let value = followed(parser, value, Kind::When)?;
+    let value = followed(parser, value, TokenKind::When)?;
     let choices = parser.choices(levels)?;
     Ok(Waveform { value, choices })
 }
@@ -101,7 +101,7 @@ fn waveform(parser: &mut Parser<'_>, levels: usize) -> Result<Waveform, Stop>
 fn waveforms(parser: &mut Parser<'_>, levels: usize) -> Result<Vec<Waveform>, Stop>
     ensures { Reads waveforms_view (read.waveforms levels parser.old) result parser.new }
 {
-    separated(parser, Kind::Comma, |parser| waveform(parser, levels))
+    separated(parser, TokenKind::Comma, |parser| waveform(parser, levels))
 }
 
 /// A selected assignment behind its label, in which so many levels may be opened.
@@ -112,13 +112,13 @@ pub fn selected_assignment(
 ) -> Result<SelectedAssignment, Stop>
     ensures { Reads selected_assignment_view (read.selected levels parser.old) result parser.new }
 {
-    let at = parser.expect(Kind::With)?;
+    let at = parser.expect(TokenKind::With)?;
     let selector = parser.expr(levels)?;
-    let selector = followed(parser, selector, Kind::Select)?;
+    let selector = followed(parser, selector, TokenKind::Select)?;
     let target = parser.name(levels)?;
-    let parts = followed(parser, (selector, target), Kind::LessEqual)?;
+    let parts = followed(parser, (selector, target), TokenKind::LessEqual)?;
     let waveforms = waveforms(parser, levels)?;
-    let ((selector, target), waveforms) = followed(parser, (parts, waveforms), Kind::Semicolon)?;
+    let ((selector, target), waveforms) = followed(parser, (parts, waveforms), TokenKind::Semicolon)?;
     Ok(SelectedAssignment {
         at,
         selector,

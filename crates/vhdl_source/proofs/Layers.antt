@@ -16,11 +16,11 @@ use Rattle.vhdl_names_laws.proofs.Spelled.{spelled_files_have_words}
 use Rattle.vhdl_expand_rules.specs.Elab.{Elab as Expanded}
 use Rattle.vhdl_expand_rules.specs.declared.fault.ElabFault.{ElabFault}
 use Rattle.vhdl_expand_rules.specs.declared.fault.ElabFault.TheVariants as elab
-use Rattle.vhdl_elab_rules.specs.Elaboration.{Elaborated, elaborated}
+use Rattle.vhdl_elab_rules.specs.Elaboration.{Elaborated, elaborated_net}
 use Rattle.vhdl_elab_laws.specs.Shown.{as_shown, net_shown}
 use Rattle.vhdl_elab_laws.proofs.Nets.{each-has-its-names}
 use Rattle.vhdl_elab_laws.proofs.Ports.{each-has-own-ports}
-use Rattle.rtl_net.specs.Nets.{NetView}
+use Rattle.rtl_net.specs.Nets.{NetlistView}
 use Rattle.rtl_stim.specs.Ports.{HasOwnPorts}
 use Rattle.vhdl_source_rules.specs.Sources.{IsFileOf}
 use Rattle.vhdl_source_rules.specs.Designs.{IsNetOf}
@@ -43,7 +43,7 @@ file_named source file units read typed = units_are_named file units (words sour
 
 -- ---- its net
 
-pub opened : (source top : List ℕ) (file : File) (units : u.Units) (net : NetView) → IsFileOf source file → units_of file ≡ Some units → ShowsTop units top net → IsNetOf source top net
+pub opened : (source top : List ℕ) (file : File) (units : u.Units) (net : NetlistView) → IsFileOf source file → units_of file ≡ Some units → ShowsTop units top net → IsNetOf source top net
 opened source top file units net read typed shown = record {
   design = shown.design;
   has = record { units = units; analysed = record { file = file; read = read; well_typed = typed }; is = shown.is };
@@ -51,7 +51,7 @@ opened source top file units net read typed shown = record {
   named = each-has-its-names units top shown.design net (file_sound source file units read typed) shown.is shown.shows;
 }
 
-pub own_ports : (source top : List ℕ) (net : NetView) → IsNetOf source top net → HasOwnPorts net
+pub own_ports : (source top : List ℕ) (net : NetlistView) → IsNetOf source top net → HasOwnPorts net
 own_ports source top net h =
     let analysed = h.has.analysed in
     each-has-own-ports h.has.units top h.design net (file_sound source analysed.file h.has.units analysed.read analysed.well_typed)
@@ -59,10 +59,10 @@ own_ports source top net h =
 
 -- ---- what the layers' answers are
 
-pub shows_top : (units : u.Units) (top : List ℕ) (net : NetView) → as_shown (elaborated units top) ≡ Ok (net_shown net) → ShowsTop units top net
-shows_top units top net = by (elaborated units top) refl
+pub shows_top : (units : u.Units) (top : List ℕ) (net : NetlistView) → as_shown (elaborated_net units top) ≡ Ok (net_shown net) → ShowsTop units top net
+shows_top units top net = by (elaborated_net units top) refl
   where
-    by : (given : Expanded Elaborated) → elaborated units top ≡ given → as_shown given ≡ Ok (net_shown net) → ShowsTop units top net
+    by : (given : Expanded Elaborated) → elaborated_net units top ≡ given → as_shown given ≡ Ok (net_shown net) → ShowsTop units top net
     by (Ok x) is e = record { design = x; is = is; shows = cc }
     by (Err problem) is e = absurd (cc)
 
@@ -70,8 +70,8 @@ is_err : (given : Expanded Elaborated) → IsErr (as_shown given) → IsErr give
 is_err (Ok x) h = h
 is_err (Err problem) h = h
 
-pub elab_fault : (units : u.Units) (top : List ℕ) (size : ℕ) (fault : ElabFault) → (fault ≢ elab.NoMemory → IsErr (as_shown (elaborated units top))) → HasElabFault units top (of_elab (elab_within size fault))
-elab_fault units top size (elab.At problem at) h = is_err (elaborated units top) (h (λ e. cc))
+pub elab_fault : (units : u.Units) (top : List ℕ) (size : ℕ) (fault : ElabFault) → (fault ≢ elab.NoMemory → IsErr (as_shown (elaborated_net units top))) → HasElabFault units top (of_elab (elab_within size fault))
+elab_fault units top size (elab.At problem at) h = is_err (elaborated_net units top) (h (λ e. cc))
 elab_fault units top size elab.NoMemory h = tt
 
 pub name_fault : (file : File) (size : ℕ) (fault : NameFault) → (fault ≢ names.NoMemory → units_of file ≡ None) → HasNameFault file (of_name (name_within size fault))
@@ -111,14 +111,14 @@ elab_refuses source top file units NoMemory read typed h = tt
 -- ---- the whole
 
 module _ (source top : List ℕ) (file : File) (units : u.Units) (read : IsFileOf source file) (typed : units_of file ≡ Some units) where
-  pub gives_opened : (answer : Result NetView SourceFault) → GivesNet units top answer → IfOk answer (λ net. IsNetOf source top net)
+  pub gives_opened : (answer : Result NetlistView SourceFault) → GivesNet units top answer → IfOk answer (λ net. IsNetOf source top net)
   gives_opened (Ok net) h = opened source top file units net read typed h
   gives_opened (Err fault) h = tt
 
-  pub gives_ports : (answer : Result NetView SourceFault) → GivesNet units top answer → IfOk answer (λ net. HasOwnPorts net)
+  pub gives_ports : (answer : Result NetlistView SourceFault) → GivesNet units top answer → IfOk answer (λ net. HasOwnPorts net)
   gives_ports (Ok net) h = own_ports source top net (opened source top file units net read typed h)
   gives_ports (Err fault) h = tt
 
-pub refuses_along : (source top : List ℕ) (answer : Result NetView SourceFault) (fault : SourceFault) → IsErrAnd answer (λ f. f ≡ fault) → Refuses source top fault → IfErr answer (Refuses source top)
+pub refuses_along : (source top : List ℕ) (answer : Result NetlistView SourceFault) (fault : SourceFault) → IsErrAnd answer (λ f. f ≡ fault) → Refuses source top fault → IfErr answer (Refuses source top)
 refuses_along source top (Ok net) fault is h = tt
 refuses_along source top (Err f) fault is h = rw is h

@@ -13,7 +13,7 @@ use Rattle.vhdl_names_rules.specs.declared.fault.NameFault.TheVariants as names
 use Rattle.vhdl_names_rules.specs.units.Units.{Units}
 use Rattle.vhdl_expand_rules.specs.Elab.{Elab as Expanded}
 use Rattle.vhdl_expand_rules.specs.declared.fault.ElabFault.TheVariants as elab
-use Rattle.vhdl_elab_rules.specs.Elaboration.{Elaborated, elaborated}
+use Rattle.vhdl_elab_rules.specs.Elaboration.{Elaborated, elaborated_net}
 use Rattle.vhdl_elab_laws.specs.Shown.{shown}
 use Rattle.vhdl_source_rules.specs.Sources.{SpellsTokens, IsFileOf, HasSyntaxFault}
 use Rattle.vhdl_source_rules.specs.Designs.{HasUnits, HasDesign}
@@ -33,7 +33,7 @@ one_units source a b p q = in_some a b (sym p.well_typed ∙ ap units_of (one_fi
 
 pub one_design : EachSourceHasOneDesign
 one_design source top one other p q =
-    let e : elaborated p.units top ≡ elaborated q.units top = ap (λ (x : Units). elaborated x top) (one_units source p.units q.units p.analysed q.analysed) in
+    let e : elaborated_net p.units top ≡ elaborated_net q.units top = ap (λ (x : Units). elaborated_net x top) (one_units source p.units q.units p.analysed q.analysed) in
     let both = sym p.is ∙ e ∙ q.is in cc
 
 pub one_net : EachSourceHasOneNet
@@ -64,8 +64,8 @@ undesigned (Err problem) design h e = absurd (cc)
 
 no_design : (source top : List ℕ) (design : Elaborated) → HasNoDesign source top → HasDesign source top design → ⊥
 no_design source top design r h =
-    undesigned (elaborated r.units top) design r.refused
-    (ap (λ (x : Units). elaborated x top) (one_units source r.units h.units r.analysed h.analysed) ∙ h.is)
+    undesigned (elaborated_net r.units top) design r.refused
+    (ap (λ (x : Units). elaborated_net x top) (one_units source r.units h.units r.analysed h.analysed) ∙ h.is)
 
 pub refused : EachRefusedHasNone
 refused source top (Lex x) design behind r h = behind

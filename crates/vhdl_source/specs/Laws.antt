@@ -1,7 +1,7 @@
 -- A source has one design at most under a top, and is refused only where it has none.
 use Rattle.std.specs.Prelude.{◌≡◌, ℕ, List}
 use Rattle.rtl_stim.specs.Ports.{HasOwnPorts}
-use Rattle.rtl_net.specs.Nets.{NetView}
+use Rattle.rtl_net.specs.Nets.{NetlistView}
 use Rattle.vhdl_elab_rules.specs.Elaboration.{Elaborated}
 use Rattle.vhdl_elab_laws.specs.Shown.{net_shown}
 use Rattle.vhdl_source_rules.specs.Designs.{HasDesign, IsNetOf}
@@ -16,7 +16,7 @@ EachSourceHasOneDesign =
 -- so nets of it show the same
 abbrev pub EachSourceHasOneNet : Type 0
 EachSourceHasOneNet =
-    (source top : List ℕ) (one other : NetView) → IsNetOf source top one → IsNetOf source top other
+    (source top : List ℕ) (one other : NetlistView) → IsNetOf source top one → IsNetOf source top other
     → net_shown one ≡ net_shown other
 
 -- the layers behind the lexer
@@ -32,4 +32,4 @@ EachRefusedHasNone =
 
 -- A stimulus can speak of the net's ports.
 abbrev pub EachNetHasOwnPorts : Type 0
-EachNetHasOwnPorts = (source top : List ℕ) (net : NetView) → IsNetOf source top net → HasOwnPorts net
+EachNetHasOwnPorts = (source top : List ℕ) (net : NetlistView) → IsNetOf source top net → HasOwnPorts net

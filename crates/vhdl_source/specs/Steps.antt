@@ -1,7 +1,7 @@
 -- What the code's own calls say.
 use Rattle.std.specs.Prelude.{◌≡◌, ℕ, min, List, None, Some, Result, Ok, Err, IsErr}
-use Rattle.rtl_net.specs.Nets.{NetView}
-use Rattle.vhdl_elab_rules.specs.Elaboration.{Elaborated, elaborated}
+use Rattle.rtl_net.specs.Nets.{NetlistView}
+use Rattle.vhdl_elab_rules.specs.Elaboration.{Elaborated, elaborated_net}
 use Rattle.vhdl_expand_rules.specs.declared.fault.ElabFault.{ElabFault}
 use Rattle.vhdl_expand_rules.specs.declared.fault.ElabFault.TheVariants as elab
 use Rattle.vhdl_names_rules.specs.Files as rules
@@ -36,18 +36,18 @@ GivesUnits file (Ok units) = rules.units_of file ≡ Some (units_view units)
 GivesUnits file (Err fault) = HasNameFault file fault
 
 -- the units have this net
-pub record ShowsTop (units : u.Units) (top : List ℕ) (net : NetView) : Type 0 where
+pub record ShowsTop (units : u.Units) (top : List ℕ) (net : NetlistView) : Type 0 where
   pub design : Elaborated
-  pub is : elaborated units top ≡ Ok design
+  pub is : elaborated_net units top ≡ Ok design
   pub shows : Shows design net
 
 -- only a fault of elaboration, and only where the units have no design
 abbrev pub HasElabFault : u.Units → (top : List ℕ) → SourceFault → Type 0
 HasElabFault units top (Elab elab.NoMemory) = ⊥
-HasElabFault units top (Elab fault) = IsErr (elaborated units top)
+HasElabFault units top (Elab fault) = IsErr (elaborated_net units top)
 HasElabFault units top NoMemory = Unit {0}
 HasElabFault units top _ = ⊥
 
-abbrev pub GivesNet : u.Units → (top : List ℕ) → Result NetView SourceFault → Type 0
+abbrev pub GivesNet : u.Units → (top : List ℕ) → Result NetlistView SourceFault → Type 0
 GivesNet units top (Ok net) = ShowsTop units top net
 GivesNet units top (Err fault) = HasElabFault units top fault

@@ -13,7 +13,7 @@ pub fn refused_sources_have_no_design()
     ensures { EachRefusedHasNone }
 {}
 
-/// In the net of a source the ports of the top have names of their own, and the elements of its in ports are the inputs.
+/// In the netlist of a source the ports of the top have names of their own, and the elements of its in ports are the inputs.
 pub fn nets_of_sources_have_own_ports()
     ensures { EachNetHasOwnPorts }
 {}

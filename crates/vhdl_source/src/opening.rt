@@ -24,7 +24,7 @@ use vhdl_parser::parse;
 use vhdl_tree::File;
 use vhdl_names_units::Units;
 
-/// The net of a source: `source` has the bytes of one file, `top` the name of an entity in it, in letters of either case. The
+/// The netlist of a source: `source` has the bytes of one file, `top` the name of an entity in it, in letters of either case. The
 /// file is read, its names and types are analysed, and its top is elaborated (IEEE 1076-2008, clauses 15, 12 and 14). It takes
 /// memory in proportion to the source and to the net, within the limits of elaboration.
 ///

@@ -1,7 +1,7 @@
 -- The design of a source under a top, and the net that shows it (IEEE 1076-2008, clauses 3, 13 and 14).
 use Rattle.std.specs.Prelude.{◌≡◌, ℕ, List, Some, Ok}
-use Rattle.rtl_net.specs.Nets.{NetView}
-use Rattle.vhdl_elab_rules.specs.Elaboration.{Elaborated, elaborated}
+use Rattle.rtl_net.specs.Nets.{NetlistView}
+use Rattle.vhdl_elab_rules.specs.Elaboration.{Elaborated, elaborated_net}
 use Rattle.vhdl_names_rules.specs.Files.{units_of}
 use Rattle.vhdl_names_rules.specs.units.Units.{Units}
 use Rattle.vhdl_elab_laws.specs.Names.{IsNamedAlike}
@@ -19,11 +19,11 @@ pub record HasUnits (source : List ℕ) (units : Units) : Type 0 where
 pub record HasDesign (source top : List ℕ) (design : Elaborated) : Type 0 where
   pub units : Units
   pub analysed : HasUnits source units
-  pub is : elaborated units top ≡ Ok design
+  pub is : elaborated_net units top ≡ Ok design
 
 -- The net shows the source's design: its nets, sources, starts and bodies, its scopes and signals are the design's, and so are the
 -- names of its nets and processes.
-pub record IsNetOf (source top : List ℕ) (net : NetView) : Type 0 where
+pub record IsNetOf (source top : List ℕ) (net : NetlistView) : Type 0 where
   pub design : Elaborated
   pub has : HasDesign source top design
   pub shows : Shows design net

@@ -1,6 +1,6 @@
 -- Why a source has no net under a top: the first layer that refuses, each where its own definition does.
 use Rattle.std.specs.Prelude.{◌≡◌, ℕ, List, None, IsErr}
-use Rattle.vhdl_elab_rules.specs.Elaboration.{elaborated}
+use Rattle.vhdl_elab_rules.specs.Elaboration.{elaborated_net}
 use Rattle.vhdl_expand_rules.specs.declared.fault.ElabFault.TheVariants as elab
 use Rattle.vhdl_lexer.specs.Fault.{HasFault}
 use Rattle.vhdl_lexer.specs.declared.fault.LexFault.TheVariants as lex
@@ -24,7 +24,7 @@ pub record HasNoUnits (source : List ℕ) : Type 0 where
 pub record HasNoDesign (source top : List ℕ) : Type 0 where
   pub units : Units
   pub analysed : HasUnits source units
-  pub refused : IsErr (elaborated units top)
+  pub refused : IsErr (elaborated_net units top)
 
 -- A layer's want of memory is told as NoMemory alone. Which of the problems of names and of elaboration is told, no definition
 -- says, nor whether TooDeep or Unexpected is told of a source that has both.

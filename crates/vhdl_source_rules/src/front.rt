@@ -12,7 +12,7 @@ use std::alloc::Global;
 
 /// Whatever turns sources into nets.
 pub trait Front {
-    /// The net of a source: `source` has the bytes of one file, `top` the name of an entity in it, in letters of either case
+    /// The netlist of a source: `source` has the bytes of one file, `top` the name of an entity in it, in letters of either case
     /// (IEEE 1076-2008, 13.5 and clause 14). It takes memory in proportion to the source and to the net.
     ///
     /// # Errors

@@ -1,4 +1,4 @@
-//! The net of a source, told apart from the code that finds it: which one it is, why there is none, and `Front`, which is what a
+//! The netlist of a source, told apart from the code that finds it: which one it is, why there is none, and `Front`, which is what a
 //! caller asks of the code.
 //!
 //! `specs/Sources.antt` says which tree a source has, `specs/Designs.antt` which design and which net, and `specs/Refusals.antt` why

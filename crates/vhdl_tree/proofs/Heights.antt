@@ -7,73 +7,73 @@ use Rattle.vhdl_tree.specs.declared.expression.Chain.{Chain, Chain'}
 use Rattle.vhdl_tree.specs.declared.expression.Suffix.{Suffix}
 use Rattle.vhdl_tree.specs.declared.expression.Suffix.TheVariants as s
 use Rattle.vhdl_tree.specs.declared.operator.Operator.{Operator}
-use Rattle.vhdl_tree.specs.Tree as tree
+use Rattle.vhdl_tree.specs.Tree as t
 use Rattle.vhdl_tree.specs.View.{view, chain_view, links_view, suffix_view, row_view}
 use Rattle.vhdl_tree.specs.Height.{height, chain_height, links_height, suffix_height, row_height}
 use Rattle.vhdl_tree.specs.Nesting.{nesting, suffix_nesting, exprs_nesting}
 use Rattle.vhdl_tree.specs.grammar.Expressions.{rank, binding, Leads, IsSigned, IsExpr, IsSuffix, AreArguments, AreExprs}
 
 -- how tightly a tree holds together, where a sign before a term holds it more tightly than the operators of a sum
-abbrev weight : tree.Expr → ℕ
-weight (tree.integer at text) = 7
-weight (tree.character at code) = 7
-weight (tree.string at text) = 7
-weight (tree.bits at text) = 7
-weight (tree.named n suffix attribute) = 7
-weight (tree.parens at inner) = 7
-weight (tree.negation at operand) = 6
-weight (tree.signed sign at operand) = 4
-weight (tree.binary begins op at left right) = rank op + rank op / 4
+abbrev weight : t.Expr → ℕ
+weight (t.integer at text) = 7
+weight (t.character at code) = 7
+weight (t.string at text) = 7
+weight (t.bits at text) = 7
+weight (t.named n suffix attribute) = 7
+weight (t.parens at inner) = 7
+weight (t.negation at operand) = 6
+weight (t.signed sign at operand) = 4
+weight (t.binary begins op at left right) = rank op + rank op / 4
 
 -- what binds more tightly than an operator of rank r
-tighter : (r : ℕ) (x : tree.Expr) → r < binding x → r + r / 4 < weight x
-tighter r (tree.integer at text) h = omega (arith, h)
-tighter r (tree.character at code) h = omega (arith, h)
-tighter r (tree.string at text) h = omega (arith, h)
-tighter r (tree.bits at text) h = omega (arith, h)
-tighter r (tree.named n suffix attribute) h = omega (arith, h)
-tighter r (tree.parens at inner) h = omega (arith, h)
-tighter r (tree.negation at operand) h = omega (arith, h)
-tighter r (tree.signed sign at operand) h = omega (arith, h)
-tighter r (tree.binary begins op at left right) h = omega (arith, h)
+tighter : (r : ℕ) (x : t.Expr) → r < binding x → r + r / 4 < weight x
+tighter r (t.integer at text) h = omega (arith, h)
+tighter r (t.character at code) h = omega (arith, h)
+tighter r (t.string at text) h = omega (arith, h)
+tighter r (t.bits at text) h = omega (arith, h)
+tighter r (t.named n suffix attribute) h = omega (arith, h)
+tighter r (t.parens at inner) h = omega (arith, h)
+tighter r (t.negation at operand) h = omega (arith, h)
+tighter r (t.signed sign at operand) h = omega (arith, h)
+tighter r (t.binary begins op at left right) h = omega (arith, h)
 
 -- what stands behind a sign
-signed_operand : (x : tree.Expr) → 3 < binding x → 4 < weight x
-signed_operand (tree.integer at text) h = omega arith
-signed_operand (tree.character at code) h = omega arith
-signed_operand (tree.string at text) h = omega arith
-signed_operand (tree.bits at text) h = omega arith
-signed_operand (tree.named n suffix attribute) h = omega arith
-signed_operand (tree.parens at inner) h = omega arith
-signed_operand (tree.negation at operand) h = omega arith
-signed_operand (tree.signed sign at operand) h = absurd (omega (arith, h))
-signed_operand (tree.binary begins op at left right) h = omega (arith, h)
+signed_operand : (x : t.Expr) → 3 < binding x → 4 < weight x
+signed_operand (t.integer at text) h = omega arith
+signed_operand (t.character at code) h = omega arith
+signed_operand (t.string at text) h = omega arith
+signed_operand (t.bits at text) h = omega arith
+signed_operand (t.named n suffix attribute) h = omega arith
+signed_operand (t.parens at inner) h = omega arith
+signed_operand (t.negation at operand) h = omega arith
+signed_operand (t.signed sign at operand) h = absurd (omega (arith, h))
+signed_operand (t.binary begins op at left right) h = omega (arith, h)
 
-signed_first : (op : Operator) (x : tree.Expr) → IsSigned op x → rank op + rank op / 4 < weight x
-signed_first op (tree.integer at text) h = absurd h
-signed_first op (tree.character at code) h = absurd h
-signed_first op (tree.string at text) h = absurd h
-signed_first op (tree.bits at text) h = absurd h
-signed_first op (tree.named n suffix attribute) h = absurd h
-signed_first op (tree.parens at inner) h = absurd h
-signed_first op (tree.negation at operand) h = absurd h
-signed_first op (tree.signed sign at operand) h = omega (arith, h)
-signed_first op (tree.binary begins other at left right) h = absurd h
+signed_first : (op : Operator) (x : t.Expr) → IsSigned op x → rank op + rank op / 4 < weight x
+signed_first op (t.integer at text) h = absurd h
+signed_first op (t.character at code) h = absurd h
+signed_first op (t.string at text) h = absurd h
+signed_first op (t.bits at text) h = absurd h
+signed_first op (t.named n suffix attribute) h = absurd h
+signed_first op (t.parens at inner) h = absurd h
+signed_first op (t.negation at operand) h = absurd h
+signed_first op (t.signed sign at operand) h = omega (arith, h)
+signed_first op (t.binary begins other at left right) h = absurd h
 
-leading : (op : Operator) (x : tree.Expr) → Leads true op x → rank op + rank op / 4 < weight x
+leading : (op : Operator) (x : t.Expr) → Leads true op x → rank op + rank op / 4 < weight x
 leading op x (inl h) = tighter (rank op) x h
 leading op x (inr h) = signed_first op x h
 
 -- the links behind what a chain has so far
-record Linked (left whole : tree.Expr) (high : ℕ) : Type 0 where
+record Linked (left whole : t.Expr) (high : ℕ) : Type 0 where
   formed : IsExpr left
   same : weight whole ≡ weight left
   deep : nesting left ≤ nesting whole
   low : high ≤ (8 * nesting whole + 8) - suc (weight left)
 
-arguments_are : (all : tree.Exprs) → AreArguments all → AreExprs all
-arguments_are tree.no_exprs f = absurd f
-arguments_are (tree.expr x more) f = f
+arguments_are : (all : t.Exprs) → AreArguments all → AreExprs all
+arguments_are t.no_exprs f = absurd f
+arguments_are (t.expr x more) f = f
 
 mutual
   flat : (x : Expr) → IsExpr (view x) → height x + weight (view x) ≤ 8 * nesting (view x) + 8
@@ -92,11 +92,11 @@ mutual
       let g = flat_links true op at (view first) (view operand) rest f in
       omega (arith, g.same, g.deep, g.low, flat first g.formed.2, flat operand g.formed.3, leading op (view first) g.formed.0, tighter (rank op) (view operand) g.formed.1)
 
-  flat_links : {m : _} (begins : Bool) (op : Operator) (at : ℕ) (left right : tree.Expr) (row : Row_of-Link m) → IsExpr (links_view (tree.binary begins op at left right) row) →
-      Linked (tree.binary begins op at left right) (links_view (tree.binary begins op at left right) row) (links_height row)
+  flat_links : {m : _} (begins : Bool) (op : Operator) (at : ℕ) (left right : t.Expr) (row : Row_of-Link m) → IsExpr (links_view (t.binary begins op at left right) row) →
+      Linked (t.binary begins op at left right) (links_view (t.binary begins op at left right) row) (links_height row)
   flat_links begins op at left right end_of-Link f = record { formed = f; same = refl; deep = omega arith; low = omega arith }
   flat_links begins op at left right (more_of-Link next next_at operand rest) f =
-      let so_far = tree.binary begins op at left right in
+      let so_far = t.binary begins op at left right in
       let g = flat_links false next next_at so_far (view operand) rest f in
       let r : rank op ≡ rank next = g.formed.0.0 in
       record {

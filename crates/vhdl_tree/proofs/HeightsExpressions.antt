@@ -1,7 +1,7 @@
 -- How high names, expressions and what is made of them are, where so many levels may be opened.
 use Rattle.std.proofs.Common.{ℕ, ◌*◌, Vec, Global, Option, Some, None, refl, arith}
 use Rattle.std.specs.Prelude.{option_map}
-use Rattle.vhdl_lexer.specs.declared.token.Kind.TheVariants as k
+use Rattle.vhdl_lexer.specs.declared.token.TokenKind.TheVariants as k
 use Rattle.vhdl_tree.specs.declared.operator.Operator.{Operator}
 use Rattle.vhdl_tree.specs.declared.operator.Operator.TheVariants.{And}
 use Rattle.vhdl_tree.specs.declared.operator.Sign.{Sign}

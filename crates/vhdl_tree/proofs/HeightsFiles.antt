@@ -1,8 +1,8 @@
 -- How high concurrent statements, declarations, units and files are, where so many levels may be opened.
 use Rattle.std.proofs.Common.{ℕ, ◌+◌, ◌*◌, ◌≤◌, Bool, true, false, List, [], ◌∷◌, ◌++◌, map, Vec, Global, Option, Some, None, refl, sym, subst, append-nil, arith}
 use Rattle.std.specs.Prelude.{max}
-use Rattle.vhdl_lexer.specs.declared.token.Kind.{Kind}
-use Rattle.vhdl_lexer.specs.declared.token.Kind.TheVariants as k
+use Rattle.vhdl_lexer.specs.declared.token.TokenKind.{TokenKind}
+use Rattle.vhdl_lexer.specs.declared.token.TokenKind.TheVariants as k
 use Rattle.vhdl_tree.specs.declared.expression.Association.{Association}
 use Rattle.vhdl_tree.specs.declared.expression.Expr.{Expr}
 use Rattle.vhdl_tree.specs.declared.expression.Value.{Value}
@@ -38,7 +38,7 @@ use Rattle.vhdl_tree.specs.declared.unit.DesignUnit.{DesignUnit}
 use Rattle.vhdl_tree.specs.declared.unit.File.{File}
 use Rattle.vhdl_tree.specs.Lexeme.{Lexeme, same_kind}
 use Rattle.vhdl_tree.specs.Levels.{IsShallow}
-use Rattle.vhdl_tree.specs.Tree as tree
+use Rattle.vhdl_tree.specs.Tree as t
 use Rattle.vhdl_tree.specs.View as view
 use Rattle.vhdl_tree.specs.Height as high
 use Rattle.vhdl_tree.specs.Pieces.{Piece, some, one_at, word_at, Spells, spell_each, IsEach, IsOption, spell_option}
@@ -92,18 +92,18 @@ selected_is s good = b_less {c = 8} (omega arith)
 
 -- ---- instances
 
-chosen_is : {c : ℕ} (i : tree.Ident) → Bounds c 0 (instance.spell_chosen i)
+chosen_is : {c : ℕ} (i : t.Ident) → Bounds c 0 (instance.spell_chosen i)
 unfolding same_kind
 chosen_is {c} i = b_less {c = c} (omega arith) (b_level (some k.LeftParen) (refl, refl, refl) (b_then (b_ident i) b_paren))
 
-instantiated_is : {c : ℕ} (i : tree.Instantiated) → Bounds c 0 (instance.spell_instantiated i)
+instantiated_is : {c : ℕ} (i : t.Instantiated) → Bounds c 0 (instance.spell_instantiated i)
 unfolding same_kind
-instantiated_is {c} (tree.entity_unit library name chosen) = b_less {c = c} (omega arith)
+instantiated_is {c} (t.entity_unit library name chosen) = b_less {c = c} (omega arith)
     (b_piece (some k.Entity) (refl, refl, refl) (b_then (b_ident library) (b_piece (some k.Dot) (refl, refl, refl)
     (b_then (b_ident name) (b_option_flat instance.spell_chosen (λ i. chosen_is i) chosen)))))
-instantiated_is {c} (tree.component_unit word name) = b_less {c = c} (omega arith) (b_then (b_word k.Component word (refl, refl, refl)) (b_ident name))
+instantiated_is {c} (t.component_unit word name) = b_less {c = c} (omega arith) (b_then (b_word k.Component word (refl, refl, refl)) (b_ident name))
 
-map_is : (word : Kind) → IsPlain word → (all : Vec Association Global) → AreAssociations (view.associations_view all) → Bounds 8 (high.associations_height all) (instance.spell_map word (view.associations_view all))
+map_is : (word : TokenKind) → IsPlain word → (all : Vec Association Global) → AreAssociations (view.associations_view all) → Bounds 8 (high.associations_height all) (instance.spell_map word (view.associations_view all))
 unfolding same_kind
 map_is word plain all good = b_less {c = 8} (omega arith)
     (b_piece (some word) plain (b_piece (some k.Map) (refl, refl, refl) (b_level (some k.LeftParen) (refl, refl, refl) (b_then (associations_are all good) b_paren))))
@@ -247,7 +247,7 @@ declaration_is (d.Component x) good = component_is x good
 -- ---- units
 
 -- end [ word ] [ id ] ;
-end_is : {c : ℕ} (word : Kind) → Moves true 0 0 false word → (stands : Bool) (name : Option tree.Ident) → Bounds c 0 (unit.spell_end word stands name)
+end_is : {c : ℕ} (word : TokenKind) → Moves true 0 0 false word → (stands : Bool) (name : Option t.Ident) → Bounds c 0 (unit.spell_end word stands name)
 unfolding same_kind
 end_is word is true name = b_end (some word) is (b_last name)
 end_is word is false None = b_end (some k.Semicolon) (refl, refl, refl) b_none
@@ -273,17 +273,17 @@ library_unit_is : (x : LibraryUnit) → unit.IsLibraryUnit (view.library_unit_vi
 library_unit_is (u.Entity n) good = entity_is n good
 library_unit_is (u.Architecture a) good = architecture_is a good
 
-use_is : {c : ℕ} (s : tree.Selected) → Bounds c 0 (unit.spell_selected s)
+use_is : {c : ℕ} (s : t.Selected) → Bounds c 0 (unit.spell_selected s)
 unfolding same_kind
 use_is {c} s = b_less {c = c} (omega arith)
     (b_then (b_ident s.library) (b_piece (some k.Dot) (refl, refl, refl) (b_then (b_ident s.name) (b_piece (some k.Dot) (refl, refl, refl) (b_piece (some k.All) (refl, refl, refl) b_none)))))
 
-context_is : (x : tree.ContextItem) → Bounds 11 0 (unit.spell_context x)
+context_is : (x : t.ContextItem) → Bounds 11 0 (unit.spell_context x)
 unfolding same_kind
-context_is (tree.library names) = b_less {c = 11} (omega arith) (b_piece (some k.Library) (refl, refl, refl) (b_then (b_idents names) b_semicolon))
-context_is (tree.uses all) = b_less {c = 11} (omega arith) (b_piece (some k.Use) (refl, refl, refl) (b_then (b_list_flat unit.spell_selected (λ s. use_is s) k.Comma (refl, refl, refl) all) b_semicolon))
+context_is (t.library names) = b_less {c = 11} (omega arith) (b_piece (some k.Library) (refl, refl, refl) (b_then (b_idents names) b_semicolon))
+context_is (t.uses all) = b_less {c = 11} (omega arith) (b_piece (some k.Use) (refl, refl, refl) (b_then (b_list_flat unit.spell_selected (λ s. use_is s) k.Comma (refl, refl, refl) all) b_semicolon))
 
-contexts_are : (xs : List tree.ContextItem) → Bounds 11 0 (spell_each unit.spell_context xs)
+contexts_are : (xs : List t.ContextItem) → Bounds 11 0 (spell_each unit.spell_context xs)
 contexts_are [] = b_none
 contexts_are (x ∷ xs) = b_less {c = 11} (omega arith) (b_then (context_is x) (contexts_are xs))
 

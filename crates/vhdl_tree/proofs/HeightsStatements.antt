@@ -1,8 +1,8 @@
 -- How high statements are, where so many levels may be opened.
 use Rattle.std.proofs.Common.{ℕ, suc, true, false, List, [], ◌∷◌, map, Option, refl, arith}
 use Rattle.std.specs.Prelude.{max, option_map}
-use Rattle.vhdl_lexer.specs.declared.token.Kind.{Kind}
-use Rattle.vhdl_lexer.specs.declared.token.Kind.TheVariants as k
+use Rattle.vhdl_lexer.specs.declared.token.TokenKind.{TokenKind}
+use Rattle.vhdl_lexer.specs.declared.token.TokenKind.TheVariants as k
 use Rattle.vhdl_tree.specs.declared.sequential.Sequential.{Sequential}
 use Rattle.vhdl_tree.specs.declared.sequential.Statement.{Statement}
 use Rattle.vhdl_tree.specs.declared.sequential.Statement.TheVariants as st
@@ -13,7 +13,7 @@ use Rattle.vhdl_tree.specs.declared.sequential.For.{For, For'}
 use Rattle.vhdl_tree.specs.declared.sequential.Conditional.{Conditional, Conditional'}
 use Rattle.vhdl_tree.specs.declared.sequential.Alternative.{Alternative, Alternative'}
 use Rattle.vhdl_tree.specs.Lexeme.{same_kind}
-use Rattle.vhdl_tree.specs.Tree as tree
+use Rattle.vhdl_tree.specs.Tree as t
 use Rattle.vhdl_tree.specs.View.{ident_view, statement_view, if_view, case_view, for_view, statements_row, conditionals_row, condition_row, alternatives_row, alternative_row, otherwise_row, sequential_view}
 use Rattle.vhdl_tree.specs.Height.{highest, statement_height, if_height, case_height, for_height, statements_height, conditionals_height, conditional_height, alternatives_height, alternative_height, otherwise_height, sequential_height}
 use Rattle.vhdl_tree.specs.Pieces.{some, one_at, word_at, spell_option}
@@ -21,20 +21,20 @@ use Rattle.vhdl_tree.specs.grammar.Sequential.{spell_label, spell_end, spell_sta
 use Rattle.vhdl_tree.proofs.Room.{Bounds, Closes, Moves, b_none, b_less, b_raise, b_then, b_piece, b_close, b_level, b_last, b_semicolon, b_option_flat}
 use Rattle.vhdl_tree.proofs.HeightsExpressions.{expr_height, name_is, range_is, value_is, choices_are}
 
-pub b_label : {c : ℕ} (i : tree.Ident) → Bounds c 0 (spell_label i)
+pub b_label : {c : ℕ} (i : t.Ident) → Bounds c 0 (spell_label i)
 unfolding same_kind
 b_label i = b_piece (word_at i.at i.text) (refl, refl, refl) (b_piece (some k.Colon) (refl, refl, refl) b_none)
 
 -- [ id : ]
-pub b_optional_label : {c : ℕ} (o : Option tree.Ident) → Bounds c 0 (spell_option spell_label o)
+pub b_optional_label : {c : ℕ} (o : Option t.Ident) → Bounds c 0 (spell_option spell_label o)
 b_optional_label o = b_option_flat spell_label (λ i. b_label i) o
 
-pub b_end_of : {c : ℕ} (word : Kind) → Moves true 0 1 false word → (label : Option tree.Ident) → Closes c 0 (spell_end word label)
+pub b_end_of : {c : ℕ} (word : TokenKind) → Moves true 0 1 false word → (label : Option t.Ident) → Closes c 0 (spell_end word label)
 b_end_of word is label = b_close (some word) is (b_last label)
 
-arms : (more : tree.Alternatives) → AreCases more → AreAlternatives more
-arms tree.no_alternatives good = absurd good
-arms (tree.alternative choices body more) good = good
+arms : (more : t.Alternatives) → AreCases more → AreAlternatives more
+arms t.no_alternatives good = absurd good
+arms (t.alternative choices body more) good = good
 
 mutual
   unfolding same_kind
@@ -76,7 +76,7 @@ mutual
   branches_are end_of-Conditional good = absurd good
   branches_are (more_of-Conditional c rest) good = branch_is c (conditionals_row rest) (conditionals_height rest) (λ more. elsifs_are rest more) good
 
-  branch_is : (c : Conditional) (rest : tree.Conditionals) (high : ℕ) → (AreElsifs rest → Bounds 9 high (spell_elsifs rest)) → AreBranches (condition_row c rest) →
+  branch_is : (c : Conditional) (rest : t.Conditionals) (high : ℕ) → (AreElsifs rest → Bounds 9 high (spell_elsifs rest)) → AreBranches (condition_row c rest) →
       Bounds 9 (max (conditional_height c) high) (spell_conditionals (condition_row c rest))
   branch_is (Conditional' condition shape statements) rest high then good =
       b_then (b_then (b_raise 9 (omega arith) (expr_height condition good.0)) (b_piece (some k.Then) (refl, refl, refl) (statements_are statements good.1))) (then good.2)
@@ -85,7 +85,7 @@ mutual
   elsifs_are end_of-Conditional good = b_none
   elsifs_are (more_of-Conditional c rest) good = elsif_is c (conditionals_row rest) (conditionals_height rest) (λ more. elsifs_are rest more) good
 
-  elsif_is : (c : Conditional) (rest : tree.Conditionals) (high : ℕ) → (AreElsifs rest → Bounds 9 high (spell_elsifs rest)) → AreElsifs (condition_row c rest) →
+  elsif_is : (c : Conditional) (rest : t.Conditionals) (high : ℕ) → (AreElsifs rest → Bounds 9 high (spell_elsifs rest)) → AreElsifs (condition_row c rest) →
       Bounds 9 (max (conditional_height c) high) (spell_elsifs (condition_row c rest))
   elsif_is (Conditional' condition shape statements) rest high then good =
       b_then (b_piece (some k.Elsif) (refl, refl, refl) (b_then (b_raise 9 (omega arith) (expr_height condition good.0)) (b_piece (some k.Then) (refl, refl, refl) (statements_are statements good.1)))) (then good.2)
@@ -98,12 +98,12 @@ mutual
   alternatives_are end_of-Alternative good = b_none
   alternatives_are (more_of-Alternative a rest) good = alternative_is a (alternatives_row rest) (alternatives_height rest) (λ more. alternatives_are rest more) good
 
-  alternative_is : (a : Alternative) (rest : tree.Alternatives) (high : ℕ) → (AreAlternatives rest → Bounds 9 high (spell_alternatives rest)) → AreAlternatives (alternative_row a rest) →
+  alternative_is : (a : Alternative) (rest : t.Alternatives) (high : ℕ) → (AreAlternatives rest → Bounds 9 high (spell_alternatives rest)) → AreAlternatives (alternative_row a rest) →
       Bounds 9 (max (alternative_height a) high) (spell_alternatives (alternative_row a rest))
   alternative_is (Alternative' choices shape statements) rest high then good =
       b_then (b_piece (some k.When) (refl, refl, refl) (b_then (b_raise 9 (omega arith) (choices_are choices good.0)) (b_piece (some k.Arrow) (refl, refl, refl) (statements_are statements good.1)))) (then good.2)
 
-pub body_is : (ss : List Sequential) → AreStatements (tree.statements_of (map sequential_view ss)) →
-    Bounds 9 (highest sequential_height ss) (spell_statements (tree.statements_of (map sequential_view ss)))
+pub body_is : (ss : List Sequential) → AreStatements (t.statements_of (map sequential_view ss)) →
+    Bounds 9 (highest sequential_height ss) (spell_statements (t.statements_of (map sequential_view ss)))
 body_is [] good = b_none
 body_is (s ∷ ss) good = b_less {c = 9} (omega arith) (b_then (b_then (b_optional_label (option_map ident_view s.label)) (statement_is s.statement good.0)) (body_is ss good.1))

@@ -1,8 +1,8 @@
 -- What opens levels in what trees spell, where so many may be opened; and how high a tree may be for them.
 use Rattle.std.proofs.Common.{◌≡◌, ℕ, zero, suc, ◌+◌, ◌*◌, ◌≤◌, Bool, true, false, ◌&&◌, not, if◌then◌else◌, List, [], ◌∷◌, ◌++◌, take, map, Option, Some, None, refl, sym, subst, append_assoc, arith}
 use Rattle.std.specs.Prelude.{max, option_map}
-use Rattle.vhdl_lexer.specs.declared.token.Kind.{Kind}
-use Rattle.vhdl_lexer.specs.declared.token.Kind.TheVariants as k
+use Rattle.vhdl_lexer.specs.declared.token.TokenKind.{TokenKind}
+use Rattle.vhdl_lexer.specs.declared.token.TokenKind.TheVariants as k
 use Rattle.vhdl_tree.specs.Lexeme.{Lexeme, same_kind}
 use Rattle.vhdl_tree.specs.Levels.{begins_level, ends_level, is_end, opening, closing, opens, closes, IsShallow}
 use Rattle.vhdl_tree.specs.Tree.{Ident}
@@ -11,7 +11,7 @@ use Rattle.vhdl_tree.specs.Height.{highest, optional_height}
 
 -- ---- levels of pieces
 
-abbrev pub kind_of_piece : Piece → Kind
+abbrev pub kind_of_piece : Piece → TokenKind
 kind_of_piece (some kind) = kind
 kind_of_piece (one_at kind at) = kind
 kind_of_piece (word_at at text) = k.Identifier
@@ -99,15 +99,15 @@ abbrev After : ℕ → ℕ → Bool → ℕ → List Piece → Type 0
 After o c e n ps = Behind o c n (λ m. Fits m e ps)
 
 -- what a token opens and closes
-abbrev pub Moves : Bool → ℕ → ℕ → Bool → Kind → Type 0
+abbrev pub Moves : Bool → ℕ → ℕ → Bool → TokenKind → Type 0
 Moves e o c next kind = (opening e kind ≡ o) × (closing e kind ≡ c) × (is_end kind ≡ next)
 
-moved : {next : Bool} {o c : ℕ} (e : Bool) (kind : Kind) (n : ℕ) (ps : List Piece) → Moves e o c next kind → After (opening e kind) (closing e kind) (is_end kind) n ps → After o c next n ps
+moved : {next : Bool} {o c : ℕ} (e : Bool) (kind : TokenKind) (n : ℕ) (ps : List Piece) → Moves e o c next kind → After (opening e kind) (closing e kind) (is_end kind) n ps → After o c next n ps
 moved {next} {o} {c} e kind n ps is f =
     subst (λ x. After o c x n ps) is.2 (subst (λ d. After o d (is_end kind) n ps) is.1 (subst (λ d. After d (closing e kind) (is_end kind) n ps) is.0 f))
 
 -- no level, and it isn't `end`
-abbrev pub IsPlain : Kind → Type 0
+abbrev pub IsPlain : TokenKind → Type 0
 IsPlain = Moves false 0 0 false
 
 pub b_piece : {g : ℕ → ℕ} {c a : ℕ} {ps : List Piece} (p : Piece) → IsPlain (kind_of_piece p) → Spans g c a ps → Spans g c a (p ∷ ps)
@@ -150,7 +150,7 @@ pub b_ident : {c : ℕ} (i : Ident) → Bounds c 0 (spell_ident i)
 unfolding same_kind
 b_ident i = b_piece (word_at i.at i.text) (refl, refl, refl) b_none
 
-pub b_word : {c : ℕ} (kind : Kind) (stands : Bool) → IsPlain kind → Bounds c 0 (spell_word kind stands)
+pub b_word : {c : ℕ} (kind : TokenKind) (stands : Bool) → IsPlain kind → Bounds c 0 (spell_word kind stands)
 b_word kind true plain = b_piece (some kind) plain b_none
 b_word kind false plain = b_none
 
@@ -164,11 +164,11 @@ module _ {X A : Type 0} (c : ℕ) (view : X → A) (high : X → ℕ) (spell : A
   b_each [] good = b_none
   b_each (x ∷ xs) good = b_then (each x good.0) (b_each xs good.1)
 
-  b_more : (separator : Kind) → IsPlain separator → (xs : List X) → IsEach Good (map view xs) → Bounds c (highest high xs) (spell_each (λ y. some separator ∷ spell y) (map view xs))
+  b_more : (separator : TokenKind) → IsPlain separator → (xs : List X) → IsEach Good (map view xs) → Bounds c (highest high xs) (spell_each (λ y. some separator ∷ spell y) (map view xs))
   b_more separator plain [] good = b_none
   b_more separator plain (x ∷ xs) good = b_then (b_piece (some separator) plain (each x good.0)) (b_more separator plain xs good.1)
 
-  pub b_list : (separator : Kind) → IsPlain separator → (xs : List X) → IsList Good (map view xs) → Bounds c (highest high xs) (spell_list separator spell (map view xs))
+  pub b_list : (separator : TokenKind) → IsPlain separator → (xs : List X) → IsList Good (map view xs) → Bounds c (highest high xs) (spell_list separator spell (map view xs))
   b_list separator plain [] good = absurd good
   b_list separator plain (x ∷ xs) good = b_then (each x good.0) (b_more separator plain xs good.1)
 
@@ -178,11 +178,11 @@ module _ {A : Type 0} {c : ℕ} (spell : A → List Piece) (each : (x : A) → B
   b_option_flat None = b_none
   b_option_flat (Some x) = each x
 
-  more_flat : (separator : Kind) → IsPlain separator → (xs : List A) → Bounds c 0 (spell_each (λ y. some separator ∷ spell y) xs)
+  more_flat : (separator : TokenKind) → IsPlain separator → (xs : List A) → Bounds c 0 (spell_each (λ y. some separator ∷ spell y) xs)
   more_flat separator plain [] = b_none
   more_flat separator plain (x ∷ xs) = b_less (omega arith) (b_then (b_piece (some separator) plain (each x)) (more_flat separator plain xs))
 
-  pub b_list_flat : (separator : Kind) → IsPlain separator → (xs : List A) → Bounds c 0 (spell_list separator spell xs)
+  pub b_list_flat : (separator : TokenKind) → IsPlain separator → (xs : List A) → Bounds c 0 (spell_list separator spell xs)
   b_list_flat separator plain [] = b_none
   b_list_flat separator plain (x ∷ xs) = b_less (omega arith) (b_then (each x) (more_flat separator plain xs))
 

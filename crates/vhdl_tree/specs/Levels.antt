@@ -1,34 +1,34 @@
 -- How many levels are open: parentheses, if and case statements, loops and generates.
 use Rattle.std.specs.Prelude.{ℕ, ◌+◌, ◌<◌, ◌≤◌, Bool, true, false, ◌&&◌, not, if◌then◌else◌, List, [], ◌∷◌, take}
-use Rattle.vhdl_lexer.specs.declared.token.Kind.{Kind}
-use Rattle.vhdl_lexer.specs.declared.token.Kind.TheVariants as k
+use Rattle.vhdl_lexer.specs.declared.token.TokenKind.{TokenKind}
+use Rattle.vhdl_lexer.specs.declared.token.TokenKind.TheVariants as k
 use Rattle.vhdl_tree.specs.declared.levels.TheConstants.{MAX_OPEN}
 use Rattle.vhdl_tree.specs.Lexeme.{Lexeme, same_kind}
 
 -- the words that open a level where they don't stand after `end`
-abbrev pub begins_level : Kind → Bool
+abbrev pub begins_level : TokenKind → Bool
 begins_level k.If = true
 begins_level k.Case = true
 begins_level k.For = true
 begins_level _ = false
 
 -- the words that close a level where they stand after `end`
-abbrev pub ends_level : Kind → Bool
+abbrev pub ends_level : TokenKind → Bool
 ends_level k.If = true
 ends_level k.Case = true
 ends_level k.Loop = true
 ends_level k.Generate = true
 ends_level _ = false
 
-abbrev pub is_end : Kind → Bool
+abbrev pub is_end : TokenKind → Bool
 is_end kind = same_kind kind k.End
 
 -- 1 for a token that opens a level, by whether it stands after `end`
-abbrev pub opening : Bool → Kind → ℕ
+abbrev pub opening : Bool → TokenKind → ℕ
 opening after_end kind = if same_kind kind k.LeftParen then 1 else (if begins_level kind && not after_end then 1 else 0)
 
 -- 1 for one that closes a level
-abbrev pub closing : Bool → Kind → ℕ
+abbrev pub closing : Bool → TokenKind → ℕ
 closing after_end kind = if same_kind kind k.RightParen then 1 else (if ends_level kind && after_end then 1 else 0)
 
 abbrev pub opens : Bool → List Lexeme → ℕ

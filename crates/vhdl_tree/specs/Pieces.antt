@@ -1,21 +1,21 @@
 -- How pieces, each of which says something of one token, spell tokens; and the pieces that productions have in common.
 use Rattle.std.specs.Prelude.{◌≡◌, ℕ, Bool, true, false, Option, Some, None, List, [], ◌∷◌, ◌++◌, slice_index}
-use Rattle.vhdl_lexer.specs.declared.token.Kind.{Kind}
-use Rattle.vhdl_lexer.specs.declared.token.Kind.TheVariants as k
+use Rattle.vhdl_lexer.specs.declared.token.TokenKind.{TokenKind}
+use Rattle.vhdl_lexer.specs.declared.token.TokenKind.TheVariants as k
 use Rattle.vhdl_tree.specs.Lexeme.{Lexeme}
 use Rattle.vhdl_tree.specs.Tree.{Ident}
 
 pub data Piece : Type 0 where
   -- a token of this kind
-  some : Kind → Piece
+  some : TokenKind → Piece
   -- one that starts here
-  one_at : Kind → ℕ → Piece
+  one_at : TokenKind → ℕ → Piece
   -- the identifier that starts here and has these small letters
   word_at : ℕ → List ℕ → Piece
   -- the character literal that starts here, with this character between its ticks
   literal_at : ℕ → ℕ → Piece
   -- the token of this kind that starts here and has these bytes
-  text_at : Kind → ℕ → List ℕ → Piece
+  text_at : TokenKind → ℕ → List ℕ → Piece
 
 abbrev pub Is : Piece → Lexeme → Type 0
 Is (some kind) l = l.kind ≡ kind
@@ -37,7 +37,7 @@ abbrev pub spell_ident : Ident → List Piece
 spell_ident i = word_at i.at i.text ∷ []
 
 -- [ word ]
-abbrev pub spell_word : Kind → Bool → List Piece
+abbrev pub spell_word : TokenKind → Bool → List Piece
 spell_word word true = some word ∷ []
 spell_word word false = []
 
@@ -52,7 +52,7 @@ spell_each spell [] = []
 spell_each spell (x ∷ xs) = spell x ++ spell_each spell xs
 
 -- a { separator a }
-abbrev pub spell_list : {A : Type 0} → Kind → (A → List Piece) → List A → List Piece
+abbrev pub spell_list : {A : Type 0} → TokenKind → (A → List Piece) → List A → List Piece
 spell_list separator spell [] = []
 spell_list separator spell (x ∷ xs) = spell x ++ spell_each (λ y. some separator ∷ spell y) xs
 

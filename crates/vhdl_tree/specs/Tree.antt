@@ -101,16 +101,16 @@ pub record Subtype : Type 0 where
 mutual
   pub data Statement : Type 0 where
     -- where `null` starts
-    nothing : ℕ → Statement
+    null_of : ℕ → Statement
     -- name <= value, and name := value
     assigned : Name → Value → Statement
     variable_assigned : Name → Value → Statement
     -- where `if` starts, its branches, what else is done, and the label at its end
-    conditional : ℕ → Conditionals → Otherwise → Option Ident → Statement
+    if_of : ℕ → Conditionals → Otherwise → Option Ident → Statement
     -- where `case` starts, its selector and alternatives, and the label at its end
-    selection : ℕ → Expr → Alternatives → Option Ident → Statement
+    case_of : ℕ → Expr → Alternatives → Option Ident → Statement
     -- where `for` starts, its parameter, range and statements, and the label at its end
-    loop : ℕ → Ident → Range → Statements → Option Ident → Statement
+    for_of : ℕ → Ident → Range → Statements → Option Ident → Statement
 
   -- each after its label
   pub data Statements : Type 0 where

@@ -159,7 +159,7 @@ subtype_view t = record { mark = ident_view t.mark; range = option_map range_vie
 
 abbrev mutual
   pub statement_view : Statement → tree.Statement
-  statement_view (st.Null at) = tree.nothing at
+  statement_view (st.Null at) = tree.null_of at
   statement_view (st.SignalAssignment target value) = tree.assigned (name_view target) (value_view value)
   statement_view (st.VariableAssignment target value) = tree.variable_assigned (name_view target) (value_view value)
   statement_view (st.If i) = if_view i
@@ -168,15 +168,15 @@ abbrev mutual
 
   pub if_view : If → tree.Statement
   if_view (If' at shape branches otherwise end_label) =
-      tree.conditional at (conditionals_row branches) (otherwise_row otherwise) (option_map ident_view end_label)
+      tree.if_of at (conditionals_row branches) (otherwise_row otherwise) (option_map ident_view end_label)
 
   pub case_view : Case → tree.Statement
   case_view (Case' at selector shape alternatives end_label) =
-      tree.selection at (view selector) (alternatives_row alternatives) (option_map ident_view end_label)
+      tree.case_of at (view selector) (alternatives_row alternatives) (option_map ident_view end_label)
 
   pub for_view : For → tree.Statement
   for_view (For' at parameter range shape statements end_label) =
-      tree.loop at (ident_view parameter) (range_view range) (statements_row statements) (option_map ident_view end_label)
+      tree.for_of at (ident_view parameter) (range_view range) (statements_row statements) (option_map ident_view end_label)
 
   pub statements_row : {m : _} → Row_of-Sequential m → tree.Statements
   statements_row end_of-Sequential = tree.no_statements

@@ -3,7 +3,7 @@
 ghost use Rattle.std.specs.Prelude.{◌≡◌};
 ghost use Rattle.vhdl_tree.specs.grammar.Expressions as grammar;
 
-use vhdl_lexer::Kind;
+use vhdl_lexer::TokenKind;
 
 /// A binary operator.
 #[derive(Clone, Copy, Debug, PartialEq, Eq)]
@@ -45,29 +45,29 @@ pub enum Direction {
 
 impl Operator {
     /// The token that an operator is.
-    pub fn kind(self) -> Kind
+    pub fn kind(self) -> TokenKind
         ensures { result ≡ grammar.kind_of self }
     {
         match self {
-            Operator::And => Kind::And,
-            Operator::Or => Kind::Or,
-            Operator::Xor => Kind::Xor,
-            Operator::Xnor => Kind::Xnor,
-            Operator::Nand => Kind::Nand,
-            Operator::Nor => Kind::Nor,
-            Operator::Equal => Kind::Equal,
-            Operator::NotEqual => Kind::NotEqual,
-            Operator::Less => Kind::Less,
-            Operator::LessEqual => Kind::LessEqual,
-            Operator::Greater => Kind::Greater,
-            Operator::GreaterEqual => Kind::GreaterEqual,
-            Operator::Add => Kind::Plus,
-            Operator::Subtract => Kind::Minus,
-            Operator::Concatenate => Kind::Ampersand,
-            Operator::Multiply => Kind::Star,
-            Operator::Divide => Kind::Slash,
-            Operator::Modulo => Kind::Mod,
-            Operator::Remainder => Kind::Rem,
+            Operator::And => TokenKind::And,
+            Operator::Or => TokenKind::Or,
+            Operator::Xor => TokenKind::Xor,
+            Operator::Xnor => TokenKind::Xnor,
+            Operator::Nand => TokenKind::Nand,
+            Operator::Nor => TokenKind::Nor,
+            Operator::Equal => TokenKind::Equal,
+            Operator::NotEqual => TokenKind::NotEqual,
+            Operator::Less => TokenKind::Less,
+            Operator::LessEqual => TokenKind::LessEqual,
+            Operator::Greater => TokenKind::Greater,
+            Operator::GreaterEqual => TokenKind::GreaterEqual,
+            Operator::Add => TokenKind::Plus,
+            Operator::Subtract => TokenKind::Minus,
+            Operator::Concatenate => TokenKind::Ampersand,
+            Operator::Multiply => TokenKind::Star,
+            Operator::Divide => TokenKind::Slash,
+            Operator::Modulo => TokenKind::Mod,
+            Operator::Remainder => TokenKind::Rem,
         }
     }
 
@@ -84,24 +84,24 @@ impl Operator {
 
 impl Sign {
     /// The token that a sign is.
-    pub fn kind(self) -> Kind
+    pub fn kind(self) -> TokenKind
         ensures { result ≡ grammar.sign_kind self }
     {
         match self {
-            Sign::Plus => Kind::Plus,
-            Sign::Minus => Kind::Minus,
+            Sign::Plus => TokenKind::Plus,
+            Sign::Minus => TokenKind::Minus,
         }
     }
 }
 
 impl Direction {
     /// The token that a direction is.
-    pub fn kind(self) -> Kind
+    pub fn kind(self) -> TokenKind
         ensures { result ≡ grammar.direction_kind self }
     {
         match self {
-            Direction::To => Kind::To,
-            Direction::Downto => Kind::Downto,
+            Direction::To => TokenKind::To,
+            Direction::Downto => TokenKind::Downto,
         }
     }
 }

@@ -1,7 +1,7 @@
 //! Sequential statements (IEEE 1076-2008 clause 10).
 
 ghost use Rattle.std.specs.Prelude.{◌≡◌};
-ghost use Rattle.vhdl_tree.specs.Tree.{conditional, selection, loop, guarded_by, chosen_by, statements_of, conditionals_of, alternatives_of, otherwise_of};
+ghost use Rattle.vhdl_tree.specs.Tree.{if_of, case_of, for_of, guarded_by, chosen_by, statements_of, conditionals_of, alternatives_of, otherwise_of};
 ghost use Rattle.vhdl_tree.specs.View.{view, ident_view, option_ident_view, range_view, choices_view, statement_view, sequentials_view, option_sequentials_view, conditional_view, conditionals_view, alternative_view, alternatives_view};
 
 use crate::expression::{Choice, Expr, Identifier, Name, Range, Value};
@@ -110,7 +110,7 @@ impl Statement {
         end_label: Option<Identifier>,
     ) -> Statement
         ensures { statement_view result
-            ≡ conditional at (conditionals_of (conditionals_view branches)) (otherwise_of (option_sequentials_view otherwise)) (option_ident_view end_label) }
+            ≡ if_of at (conditionals_of (conditionals_view branches)) (otherwise_of (option_sequentials_view otherwise)) (option_ident_view end_label) }
     {
         Statement::If(If {
             at,
@@ -128,7 +128,7 @@ impl Statement {
         end_label: Option<Identifier>,
     ) -> Statement
         ensures { statement_view result
-            ≡ selection at (view selector) (alternatives_of (alternatives_view alternatives)) (option_ident_view end_label) }
+            ≡ case_of at (view selector) (alternatives_of (alternatives_view alternatives)) (option_ident_view end_label) }
     {
         Statement::Case(Case {
             at,
@@ -147,7 +147,7 @@ impl Statement {
         end_label: Option<Identifier>,
     ) -> Statement
         ensures { statement_view result
-            ≡ loop at (ident_view parameter) (range_view range) (statements_of (sequentials_view statements)) (option_ident_view end_label) }
+            ≡ for_of at (ident_view parameter) (range_view range) (statements_of (sequentials_view statements)) (option_ident_view end_label) }
     {
         Statement::For(For {
             at,

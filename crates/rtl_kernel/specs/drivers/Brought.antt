@@ -1,27 +1,27 @@
 -- What an update of drivers does to their nets (IEEE 1076-2008, 14.7.3): nets with one source get their drivers' new values
 -- at once, and the group of nets with several is noted, so that they are resolved when all drivers have theirs.
 use Rattle.std.specs.Prelude.{◌≡◌, ◌↔◌, ◌%◌, ℕ, ◌<◌, List, length, slice_index, Contains}
-use Rattle.rtl_model.specs.nets.FlatNet.{FlatNet, flat_sources}
+use Rattle.rtl_model.specs.nets.FlatNetlist.{FlatNetlist, flat_sources}
 use Rattle.rtl_net.specs.declared.process.Process.{Process}
 use Rattle.rtl_kernel.specs.drivers.Transactions.{driver_at, targets_of}
 use Rattle.rtl_kernel.specs.values.TwoValues.{TwoValues, HasWritten, group_of}
 use Rattle.rtl_kernel.specs.worklists.Numbers.{Numbers, IsWith}
 
-abbrev pub IsAlone : FlatNet → (net : ℕ) → Type 0
+abbrev pub IsAlone : FlatNetlist → (net : ℕ) → Type 0
 IsAlone wiring n = length (flat_sources wiring n) ≡ 1
 
 -- the nets of a group have one source each, or none of them has just one
-abbrev pub AreAloneAlike : FlatNet → (of_net : List ℕ) → Type 0
+abbrev pub AreAloneAlike : FlatNetlist → (of_net : List ℕ) → Type 0
 AreAloneAlike wiring of_net = (m n : ℕ) → m < length of_net → n < length of_net → slice_index of_net m ≡ slice_index of_net n
     → IsAlone wiring m → IsAlone wiring n
 
 -- nets have odd numbers where they have one source each
-abbrev pub AreToldApart : FlatNet → (numbers : List ℕ) → Type 0
+abbrev pub AreToldApart : FlatNetlist → (numbers : List ℕ) → Type 0
 AreToldApart wiring numbers = (n : ℕ) → n < length numbers → IsAlone wiring n ↔ (slice_index numbers n % 2 ≡ 1)
 
 -- ---- new values of drivers of the nets from this one on, all in one group
 
-pub data BringsRun (wiring : FlatNet) (first : ℕ) (values : List ℕ) (old : TwoValues) (old_noted : Numbers)
+pub data BringsRun (wiring : FlatNetlist) (first : ℕ) (values : List ℕ) (old : TwoValues) (old_noted : Numbers)
     (new : TwoValues) (new_noted : Numbers) : Type 0 where
   at_once : IsAlone wiring first → HasWritten first values old new → new_noted ≡ old_noted → BringsRun wiring first values old old_noted new new_noted
   later : new ≡ old → IsWith (group_of old first) old_noted new_noted → BringsRun wiring first values old old_noted new new_noted
@@ -35,14 +35,14 @@ pub record IsDriver (targets : List ℕ) (place net : ℕ) : Type 0 where
 
 -- net n: its group is noted, and one of these drivers is its; or it has kept its value, and so have these drivers of it; or it
 -- is alone and has its driver's value
-pub data IsBrought (wiring : FlatNet) (of_net targets before after old new noted : List ℕ) (n : ℕ) : Type 0 where
+pub data IsBrought (wiring : FlatNetlist) (of_net targets before after old new noted : List ℕ) (n : ℕ) : Type 0 where
   is_noted : (place : ℕ) → IsDriver targets place n → Contains noted (slice_index of_net n) → IsBrought wiring of_net targets before after old new noted n
   has_kept : slice_index new n ≡ slice_index old n → ((place : ℕ) → IsDriver targets place n → slice_index after place ≡ slice_index before place)
       → IsBrought wiring of_net targets before after old new noted n
   has_value : (place : ℕ) → IsDriver targets place n → IsAlone wiring n → slice_index new n ≡ slice_index after place
       → IsBrought wiring of_net targets before after old new noted n
 
-pub record Brings (wiring : FlatNet) (targets before after : List ℕ) (old : TwoValues) (old_noted : Numbers)
+pub record Brings (wiring : FlatNetlist) (targets before after : List ℕ) (old : TwoValues) (old_noted : Numbers)
     (new : TwoValues) (new_noted : Numbers) : Type 0 where
   pub bound_stays : new_noted.bound ≡ old_noted.bound
   pub noted_stay : (g : ℕ) → Contains old_noted.members g → Contains new_noted.members g
@@ -53,7 +53,7 @@ pub record Brings (wiring : FlatNet) (targets before after : List ℕ) (old : Tw
 
 -- ---- the same of all processes
 
-pub data IsBroughtByAll (wiring : FlatNet) (of_net : List ℕ) (processes : List Process) (before after : List (List ℕ))
+pub data IsBroughtByAll (wiring : FlatNetlist) (of_net : List ℕ) (processes : List Process) (before after : List (List ℕ))
     (old new noted : List ℕ) (n : ℕ) : Type 0 where
   all_noted : (p place : ℕ) → IsDriver (targets_of processes p) place n → Contains noted (slice_index of_net n)
       → IsBroughtByAll wiring of_net processes before after old new noted n
@@ -63,7 +63,7 @@ pub data IsBroughtByAll (wiring : FlatNet) (of_net : List ℕ) (processes : List
   all_value : (p place : ℕ) → IsDriver (targets_of processes p) place n → IsAlone wiring n → slice_index new n ≡ driver_at after p place
       → IsBroughtByAll wiring of_net processes before after old new noted n
 
-pub record BringsAll (wiring : FlatNet) (processes : List Process) (before after : List (List ℕ)) (old : TwoValues) (old_noted : Numbers)
+pub record BringsAll (wiring : FlatNetlist) (processes : List Process) (before after : List (List ℕ)) (old : TwoValues) (old_noted : Numbers)
     (new : TwoValues) (new_noted : Numbers) : Type 0 where
   pub bound_stays : new_noted.bound ≡ old_noted.bound
   pub noted_stay : (g : ℕ) → Contains old_noted.members g → Contains new_noted.members g

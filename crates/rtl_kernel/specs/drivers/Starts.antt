@@ -1,6 +1,6 @@
 -- What drivers and outcomes are before the first run (IEEE 1076-2008, 14.7.5.2).
 use Rattle.std.specs.Prelude.{◌≡◌, ◌≤◌, ℕ, ◌<◌, List, length, map, replicate, slice_index_or, Option, None}
-use Rattle.rtl_model.specs.nets.FlatNet.{element_starts}
+use Rattle.rtl_model.specs.nets.FlatNetlist.{element_starts}
 use Rattle.rtl_net.specs.Nets.{variable_view}
 use Rattle.rtl_net.specs.declared.process.Driver as net
 use Rattle.rtl_net.specs.declared.process.Process.{Process}

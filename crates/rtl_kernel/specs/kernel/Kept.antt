@@ -2,8 +2,8 @@
 use Rattle.std.specs.Prelude.{◌≡◌, ℕ, ◌<◌, ◌≤◌, List, [], length, map, slice_index_or}
 use Rattle.rtl_net_layout.specs.Cuts.{Cutting, AreCutsOf}
 use Rattle.rtl_model.specs.bodies.Types.{ElementType}
-use Rattle.rtl_model.specs.nets.FlatNet.{FlatNet, FlatProcess, IsInRange, process_at}
-use Rattle.rtl_model.specs.nets.CoreNet.{core_net}
+use Rattle.rtl_model.specs.nets.FlatNetlist.{FlatNetlist, FlatProcess, IsInRange, process_at}
+use Rattle.rtl_model.specs.nets.CoreNetlist.{core_netlist}
 use Rattle.rtl_model.specs.nets.Wiring.{IsConnected}
 use Rattle.rtl_model.specs.simulation.Cycle.{State, IsToRun}
 use Rattle.rtl_model.specs.simulation.Laws.{IsConsistent}
@@ -12,7 +12,7 @@ use Rattle.rtl_eval.specs.Runs.{Outcome, IsOf}
 use Rattle.rtl_kernel.specs.drivers.Brought.{AreAloneAlike}
 use Rattle.rtl_kernel.specs.drivers.Transactions.{Transactions, IsActive, all_targets, no_outcome, pending_of}
 use Rattle.rtl_kernel.specs.values.TwoValues.{TwoValues}
-use Rattle.rtl_net.specs.Nets.{NetView, flat}
+use Rattle.rtl_net.specs.Nets.{NetlistView, flat}
 use Rattle.rtl_net.specs.declared.process.Process.{Process}
 use Rattle.rtl_kernel.specs.wakes.ToRun.{ToRun}
 use Rattle.rtl_kernel.specs.wakes.Woken.{IsIndex, wakers_of}
@@ -28,28 +28,28 @@ state_of values transactions to_run = record {
 }
 
 -- the k-th of these runs the body of the k-th process
-pub record RunBodies {E : Type 0} (process : E → FlatProcess) (types : E → List ElementType) (net : FlatNet) (bodies : List E) : Type 0 where
+pub record RunBodies {E : Type 0} (process : E → FlatProcess) (types : E → List ElementType) (net : FlatNetlist) (bodies : List E) : Type 0 where
   pub as_many : length bodies ≡ length net.processes
   pub each : (p : ℕ) (e : E) → p < length bodies → process (slice_index_or bodies p e) ≡ process_at net p
   pub among : (p : ℕ) (e : E) → p < length bodies → types (slice_index_or bodies p e) ≡ net.types
 
 -- each process has the room that its body's run wants
-pub record HaveRoom {E : Type 0} (most : E → ℕ) (net : FlatNet) (bodies : List E) (outcomes : List Outcome) : Type 0 where
+pub record HaveRoom {E : Type 0} (most : E → ℕ) (net : FlatNetlist) (bodies : List E) (outcomes : List Outcome) : Type 0 where
   pub as_many : length outcomes ≡ length net.processes
   pub own : (p : ℕ) → p < length outcomes → IsOf (process_at net p) (slice_index_or outcomes p no_outcome)
   pub room : (p : ℕ) (e : E) → p < length bodies → most (slice_index_or bodies p e) ≤ (slice_index_or outcomes p no_outcome).room
 
-pub record IsSound (net : FlatNet) (s : State) : Type 0 where
+pub record IsSound (net : FlatNetlist) (s : State) : Type 0 where
   pub each_process : length s.waiting ≡ length net.processes
   pub each_row : length s.drivers ≡ length net.processes
-  pub in_range : StateInRange (core_net net) s
-  pub consistent : IsConsistent (core_net net) s
+  pub in_range : StateInRange (core_netlist net) s
+  pub consistent : IsConsistent (core_netlist net) s
   -- what is still to run has no transaction
   pub fresh : (p : ℕ) → IsToRun s p → IsActive s.pending p → ⊥
 
 -- what a kernel keeps is of its net, and fits together
 pub record IsKernel {E : Type 0} (process : E → FlatProcess) (types : E → List ElementType) (most : E → ℕ)
-    (net : NetView) (bodies : List E) (cuts : Cutting) (values : TwoValues) (drivers : Transactions) (resumed : ToRun) (noted : Numbers) : Type 0 where
+    (net : NetlistView) (bodies : List E) (cuts : Cutting) (values : TwoValues) (drivers : Transactions) (resumed : ToRun) (noted : Numbers) : Type 0 where
   pub in_range : IsInRange (flat net)
   pub connected : IsConnected (flat net)
   pub run_bodies : RunBodies process types (flat net) bodies

@@ -2,12 +2,12 @@
 use Rattle.std.specs.Prelude.{ℕ, List, [], ◌∷◌, map}
 use Rattle.vhdl_values.specs.declared.scalar.Nine.{Nine}
 use Rattle.vhdl_values.specs.Scalar.{code_of}
-use Rattle.rtl_model.specs.nets.FlatNet.{FlatNet}
-use Rattle.rtl_model.specs.simulation.Cycle.{State, changed}
-use Rattle.rtl_net.specs.Nets.{NetView}
+use Rattle.rtl_model.specs.nets.FlatNetlist.{FlatNetlist}
+use Rattle.rtl_model.specs.simulation.Cycle.{State, with_changes}
+use Rattle.rtl_net.specs.Nets.{NetlistView}
 
 pub record Simulation : Type 0 where
-  pub net : NetView
+  pub net : NetlistView
   pub state : State
 
 -- a change of a net, by its code
@@ -24,5 +24,5 @@ each_given (n ∷ nets) [] = []
 each_given (n ∷ nets) (v ∷ values) = (n, code_of v) ∷ each_given nets values
 
 -- the inputs' values at the start: these, in the order of the inputs
-abbrev pub initial_inputs : FlatNet → List Nine → (net : ℕ) → ℕ
-initial_inputs net values = changed (each_given net.inputs values) net.start
+abbrev pub initial_inputs : FlatNetlist → List Nine → (net : ℕ) → ℕ
+initial_inputs net values = with_changes (each_given net.inputs values) net.start

@@ -2,7 +2,7 @@
 use Rattle.std.specs.Prelude.{◌≡◌, ℕ, ◌+◌, ◌<◌, ◌≤◌, true, All, List, length, slice_index, Contains}
 use Rattle.rtl_net_layout.specs.Groups.{Grouping}
 use Rattle.rtl_model.specs.basics.Valuations.{has_event}
-use Rattle.rtl_model.specs.simulation.Cycle.{changed}
+use Rattle.rtl_model.specs.simulation.Cycle.{with_changes}
 
 pub record TwoValues : Type 0 where
   pub groups : Grouping
@@ -33,4 +33,4 @@ pub record HasWritten (first : ℕ) (values : List ℕ) (old new : TwoValues) : 
 -- new has what old has, after these changes, each a net and its value
 pub record AreChanged (changes : List (ℕ × ℕ)) (old new : List ℕ) : Type 0 where
   pub as_many : length new ≡ length old
-  pub each : (n : ℕ) → slice_index new n ≡ changed changes old n
+  pub each : (n : ℕ) → slice_index new n ≡ with_changes changes old n

@@ -24,7 +24,7 @@ pub record AreWoken (index : List (List ℕ)) (before current : List ℕ) (waiti
       → (n : ℕ) × IsTrue (has_event before current n) × Contains (slice_index_or index n []) p
 
 -- new has the marks of old, and these
-pub record Adds (places : List ℕ) (old new : List Bool) : Type 0 where
+pub record AddsPlaces (places : List ℕ) (old new : List Bool) : Type 0 where
   pub kept : (p : ℕ) → IsTrue (slice_index_or old p false) → IsTrue (slice_index_or new p false)
   pub added : (p : ℕ) → Contains places p → IsTrue (slice_index_or new p false)
   pub no_other : (p : ℕ) → IsTrue (slice_index_or new p false) → IsTrue (slice_index_or old p false) ⊎ Contains places p

@@ -4,7 +4,7 @@ use Rattle.std.proofs.Common.{◌≡◌, ℕ, Bool, true, false, cond, List, [],
 use Rattle.std.proofs.lemmas.Bool.{and_parts}
 use Rattle.rtl_model.specs.basics.Valuations.{clocked_entry}
 use Rattle.rtl_model.specs.basics.Lists.{is_empty}
-use Rattle.rtl_model.specs.bodies.Body.{nothing, assign, if_of, Stmts, done, step, no_else, branch}
+use Rattle.rtl_model.specs.bodies.Body.{null_of, assign, if_of, Stmts, done, step, no_else, branch}
 use Rattle.rtl_model.specs.bodies.Tests.{edge_at, is_met}
 use Rattle.rtl_model.specs.bodies.Effect.{effect}
 use Rattle.rtl_model.specs.bodies.Reads.{reads, value_reads, events, test_events, branches_events}
@@ -135,7 +135,7 @@ follows_its_edge inputs body c h seen place = go (clocked_is inputs body c h)
 
 constants_read_nothing : (s : Stmts) → assigns_constants s ≡ true → (reads s ≡ []) × (events s ≡ [])
 constants_read_nothing done h = (refl, refl)
-constants_read_nothing (step nothing rest) h = constants_read_nothing rest h
+constants_read_nothing (step null_of rest) h = constants_read_nothing rest h
 constants_read_nothing (step (assign places v) rest) h =
     let (a, b) = and_parts (is_empty (value_reads v)) (assigns_constants rest) h in
     let (p, q) = constants_read_nothing rest b in

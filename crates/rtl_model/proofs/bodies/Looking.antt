@@ -19,7 +19,7 @@ use Rattle.rtl_model.specs.bodies.Body.{Expr, signal, variable, constant, invers
 use Rattle.rtl_model.specs.bodies.Body.{Value, elements, position, position_of, position_in}
 use Rattle.rtl_model.specs.bodies.Body.{Test, condition, decided, equal, unequal, level, compared, compared_to}
 use Rattle.rtl_model.specs.bodies.Body.{rising, falling, event, negated, combined}
-use Rattle.rtl_model.specs.bodies.Body.{Stmt, nothing, assign, set, if_of, case_of, Stmts, done, step}
+use Rattle.rtl_model.specs.bodies.Body.{Stmt, null_of, assign, set, if_of, case_of, Stmts, done, step}
 use Rattle.rtl_model.specs.bodies.Body.{Branches, no_else, otherwise, branch, Alternatives, others, alternative}
 use Rattle.rtl_model.specs.bodies.Values.{Seen, element_at, operated, elements_of, value_of}
 use Rattle.rtl_model.specs.bodies.Tests.{same, truth, is_met}
@@ -226,7 +226,7 @@ none_contained n (k, l, at) = omega arith
 mutual
   stmt_looks : (s : Stmt) (a b : Seen) → length a.variables ≡ length b.variables → Alike (stmt_reads s) (stmt_events s) (λ e. stmt_stores e s) a b
       → DoAlike (stmt_effect a s) (stmt_effect b s) a.variables b.variables (stmt_variables a s) (stmt_variables b s) (λ e. stmt_must_assign (is_element e) s)
-  stmt_looks nothing a b l h = none_alike l
+  stmt_looks null_of a b l h = none_alike l
   stmt_looks (assign places v) a b l h =
       record { effect_is = λ place. ap (λ x. entries places x place) (value_looks a b v h); as_many = l; after = λ e g. of_places e places g }
     where

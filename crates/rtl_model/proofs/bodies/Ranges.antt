@@ -8,7 +8,7 @@ use Rattle.vhdl_values.specs.declared.scalar.Nine.{Nine}
 use Rattle.vhdl_values.specs.Scalar.{code_of}
 use Rattle.vhdl_values.proofs.Codes.{code_of_below}
 use Rattle.rtl_model.specs.basics.Valuations.{or_else}
-use Rattle.rtl_model.specs.bodies.Body.{Value, elements, position, position_of, position_in, Stmt, nothing, assign, set, if_of, case_of, Stmts, done, step}
+use Rattle.rtl_model.specs.bodies.Body.{Value, elements, position, position_of, position_in, Stmt, null_of, assign, set, if_of, case_of, Stmts, done, step}
 use Rattle.rtl_model.specs.bodies.Body.{Branches, no_else, otherwise, branch, Alternatives, others, alternative}
 use Rattle.rtl_model.specs.bodies.Values.{Seen, elements_of, value_of}
 use Rattle.rtl_model.specs.bodies.Tests.{same, is_met}
@@ -132,7 +132,7 @@ module _ (scope : Scope) where
 
   mutual
     of_stmt : (s : Stmt) (seen : Seen) → SeesTypes scope seen → FitsStmt scope s → Fine (stmt_effect seen s) (stmt_variables seen s)
-    of_stmt nothing seen sees h = record { entries = none; variables = sees.variables }
+    of_stmt null_of seen sees h = record { entries = none; variables = sees.variables }
     of_stmt (assign places v) seen sees h = record {
       entries = of_target h.0 places (value_of seen v) (h.2 ∙ sym (length-value_of scope seen h.0 v h.1)) h.3 (of_value h.0 v seen sees h.1);
       variables = sees.variables;

@@ -8,7 +8,7 @@ use Rattle.rtl_model.specs.bodies.Body.{Expr, signal, variable, constant, invers
 use Rattle.rtl_model.specs.bodies.Body.{Value, elements, position, position_of, position_in}
 use Rattle.rtl_model.specs.bodies.Body.{Test, condition, decided, equal, unequal, level, compared, compared_to}
 use Rattle.rtl_model.specs.bodies.Body.{rising, falling, event, negated, combined}
-use Rattle.rtl_model.specs.bodies.Body.{Stmt, nothing, assign, set, if_of, case_of, Stmts, done, step}
+use Rattle.rtl_model.specs.bodies.Body.{Stmt, null_of, assign, set, if_of, case_of, Stmts, done, step}
 use Rattle.rtl_model.specs.bodies.Body.{Branches, no_else, otherwise, branch, Alternatives, others, alternative}
 use Rattle.rtl_model.specs.bodies.Reads.{expr_reads, value_reads, test_reads, stmt_reads, reads, branches_reads, alternatives_reads}
 use Rattle.rtl_model.specs.bodies.Reads.{test_events, stmt_events, events, branches_events, alternatives_events}
@@ -97,7 +97,7 @@ module _ (scope : Scope) where
 
   mutual
     of_stmt : (s : Stmt) → FitsStmt scope s → There (stmt_reads s) (stmt_events s) (λ e. stmt_stores e s)
-    of_stmt nothing h = nothing_there
+    of_stmt null_of h = nothing_there
     of_stmt (assign places v) h = of_value h.0 v h.1
     of_stmt (set es v) h = of_value h.0 v h.1
     of_stmt (if_of bs) h = of_branches bs h

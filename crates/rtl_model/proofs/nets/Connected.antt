@@ -4,12 +4,12 @@ use Rattle.std.proofs.lemmas.List.{length-map, get_or-map, get_or_past}
 use Rattle.std.proofs.lemmas.Bool.{cases_lt}
 use Rattle.std.proofs.lemmas.Option.{slice_get_within}
 use Rattle.rtl_model.specs.bodies.Types.{nine_valued, HasType}
-use Rattle.rtl_model.specs.nets.FlatNet as flat
-use Rattle.rtl_model.specs.nets.FlatNet.{FlatNet, FlatProcess, FlatDriver, targets, starts, DriverInRange, IsInRange, flat_sources}
+use Rattle.rtl_model.specs.nets.FlatNetlist as flat
+use Rattle.rtl_model.specs.nets.FlatNetlist.{FlatNetlist, FlatProcess, FlatDriver, targets, starts, DriverInRange, IsInRange, flat_sources}
 use Rattle.rtl_model.specs.nets.Wiring.{IsConnected}
-use Rattle.rtl_model.specs.nets.CoreNet.{core_process, core_net, core_resolve}
+use Rattle.rtl_model.specs.nets.CoreNetlist.{core_process, core_netlist, core_resolve}
 use Rattle.rtl_model.specs.nets.Laws.{EachIsElaborated}
-use Rattle.rtl_model.specs.simulation.Net as c
+use Rattle.rtl_model.specs.simulation.Netlist as c
 use Rattle.rtl_model.specs.simulation.Cycle.{source_value}
 use Rattle.rtl_model.specs.simulation.Elaborated.{IsWired}
 use Rattle.rtl_model.proofs.basics.Lists.{Contains-none, in_contains}
@@ -28,7 +28,7 @@ as_many p = length-map p.drivers (λ (d : FlatDriver). d.start) ∙ sym (length-
 pub no_driver : FlatDriver
 no_driver = record { net = 0; start = 0 }
 
-module _ (net : FlatNet) (in_range : IsInRange net) where
+module _ (net : FlatNetlist) (in_range : IsInRange net) where
   target_below : (p place : ℕ) → place < length (targets (flat.process_at net p)) → slice_index (targets (flat.process_at net p)) place < length net.types
   target_below p place l =
       let q : FlatProcess = flat.process_at net p in
@@ -47,42 +47,42 @@ module _ (net : FlatNet) (in_range : IsInRange net) where
       go h (inl l) = let e = in_range.each_has_idle in omega arith
       go h (inr l) = absurd (Contains-none v (subst (λ (xs : List ℕ). Contains xs v) (get_or_past net.idle n [] l) h))
 
-module _ (net : FlatNet) (in_range : IsInRange net) (connected : IsConnected net) where
+module _ (net : FlatNetlist) (in_range : IsInRange net) (connected : IsConnected net) where
   input_below : (n : ℕ) → Contains net.inputs n → n < length net.types
   input_below n (k, l, at) = slice_get_within net.types n nine_valued (subst (λ (x : ℕ). HasType net.types nine_valued x) at (in_range.inputs k n l))
 
-  of_targets : (p place : ℕ) → c.HasPlace (core_net net) p place → c.target (core_net net) p place < length net.start
+  of_targets : (p place : ℕ) → c.HasPlace (core_netlist net) p place → c.target (core_netlist net) p place < length net.start
   of_targets p place = rw (process-core_net net p, in_range.each_starts) (target_below net in_range p place)
 
-  of_inputs : (n : ℕ) → c.IsInput (core_net net) n → n < length net.start
+  of_inputs : (n : ℕ) → c.IsInput (core_netlist net) n → n < length net.start
   of_inputs n h = let b = input_below n (in_contains net.inputs n h) in let e = in_range.each_starts in omega arith
 
-  without_source : (n : ℕ) → c.IsInput (core_net net) n → c.sources_of (core_net net) n ≡ []
+  without_source : (n : ℕ) → c.IsInput (core_netlist net) n → c.sources_of (core_netlist net) n ≡ []
   without_source n h =
       let i = in_contains net.inputs n h in
       sources-core_net net n (input_below n i) ∙ connected.inputs_have_no_source n i
 
-  of_sources : (n p place : ℕ) → Contains (c.sources_of (core_net net) n) (c.Driver p place) → c.HasPlace (core_net net) p place × (c.target (core_net net) p place ≡ n)
+  of_sources : (n p place : ℕ) → Contains (c.sources_of (core_netlist net) n) (c.Driver p place) → c.HasPlace (core_netlist net) p place × (c.target (core_netlist net) p place ≡ n)
   of_sources n p place h =
       let there = source_there net n (c.Driver p place) h in
       rw (process-core_net net p) (source_is_driver net n p place (subst (λ (xs : List c.Source). Contains xs (c.Driver p place)) (sources-core_net net n there) h))
 
-  of_drivers : (p place : ℕ) → c.HasPlace (core_net net) p place → Contains (c.sources_of (core_net net) (c.target (core_net net) p place)) (c.Driver p place)
+  of_drivers : (p place : ℕ) → c.HasPlace (core_netlist net) p place → Contains (c.sources_of (core_netlist net) (c.target (core_netlist net) p place)) (c.Driver p place)
   of_drivers p place = rw (process-core_net net p) (λ l.
       let n = slice_index (targets (flat.process_at net p)) place in
       subst (λ (xs : List c.Source). Contains xs (c.Driver p place)) (sym (sources-core_net net n (target_below net in_range p place l))) (driver_is_source net n p place l refl))
 
-  of_starts : (p : ℕ) → length (c.process (core_net net) p).starts ≡ length (c.process (core_net net) p).drives
+  of_starts : (p : ℕ) → length (c.process (core_netlist net) p).starts ≡ length (c.process (core_netlist net) p).drives
   of_starts p = rw (process-core_net net p) (as_many (flat.process_at net p))
 
-  nets_start : (n : ℕ) (source : c.Source) → Contains (c.sources_of (core_net net) n) source
-      → slice_index net.start n ≡ core_resolve (map (source_value (map (λ (p : c.Process). p.starts) (map (core_process net.inputs) net.processes))) (c.sources_of (core_net net) n))
+  nets_start : (n : ℕ) (source : c.Source) → Contains (c.sources_of (core_netlist net) n) source
+      → slice_index net.start n ≡ core_resolve (map (source_value (map (λ (p : c.Process). p.starts) (map (core_process net.inputs) net.processes))) (c.sources_of (core_netlist net) n))
   nets_start n source h =
       let e = sources-core_net net n (source_there net n source h) in
       connected.nets_start n source (subst (λ (xs : List c.Source). Contains xs source) e h)
       ∙ (λ i. core_resolve (map (source_value (sym (core_starts net.inputs net.processes) i)) (sym e i)))
 
-  is_wired : IsWired (core_net net)
+  is_wired : IsWired (core_netlist net)
   is_wired = record {
     targets_are_nets = of_targets;
     inputs_are_nets = of_inputs;

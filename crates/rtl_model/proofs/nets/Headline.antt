@@ -5,8 +5,8 @@ use Rattle.std.proofs.lemmas.List.{get_or_past}
 use Rattle.std.proofs.lemmas.Bool.{cases_lt, lt-ltb}
 use Rattle.rtl_model.specs.bodies.Effect.{effect}
 use Rattle.rtl_model.specs.bodies.Stored.{stores_element}
-use Rattle.rtl_model.specs.nets.FlatNet.{FlatVariable, element_starts}
-use Rattle.rtl_model.specs.nets.CoreNet.{core_net, element_number, raised_by, stores_one, seen_from}
+use Rattle.rtl_model.specs.nets.FlatNetlist.{FlatVariable, element_starts}
+use Rattle.rtl_model.specs.nets.CoreNetlist.{core_netlist, element_number, raised_by, stores_one, seen_from}
 use Rattle.rtl_model.specs.nets.Laws.{EachForgets, EachStateIsInRange, SettlesAsMachine, EachSimulatesTheMachine, EachHasOneSolution}
 use Rattle.rtl_model.specs.simulation.Cycle.{State}
 use Rattle.rtl_model.specs.simulation.Moments.{Begun}
@@ -62,27 +62,27 @@ each_forgets inputs p none before now values l =
 
 pub each_state_is_in_range : EachStateIsInRange
 each_state_is_in_range net in_range connected =
-    (states_in_range (core_net net) (connected_is_elaborated net in_range connected).wiring (keeps_range net in_range) (sources_keep_range net in_range connected)).1
+    (states_in_range (core_netlist net) (connected_is_elaborated net in_range connected).wiring (keeps_range net in_range) (sources_keep_range net in_range connected)).1
 
 pub each_simulates_the_machine : EachSimulatesTheMachine
-each_simulates_the_machine net sound stimulus = record { settles = settles; begins = begins; one_run = one_machine_run (core_net net) (connected_is_elaborated net sound.in_range sound.connected) sound.accepted stimulus }
+each_simulates_the_machine net sound stimulus = record { settles = settles; begins = begins; one_run = one_machine_run (core_netlist net) (connected_is_elaborated net sound.in_range sound.connected) sound.accepted stimulus }
   where
-    settles : (levels : List (Option ℕ)) (greatest : ℕ) → AreLevels (core_net net) levels greatest
-        → (m : ℕ) (s : State) → Begun (core_net net) stimulus m s → SettlesAsMachine net greatest stimulus m s
+    settles : (levels : List (Option ℕ)) (greatest : ℕ) → AreLevels (core_netlist net) levels greatest
+        → (m : ℕ) (s : State) → Begun (core_netlist net) stimulus m s → SettlesAsMachine net greatest stimulus m s
     settles levels greatest V m s begun =
-        let (k, settles, bounded, at_start) = settles_in_bound (core_net net) levels greatest (connected_is_elaborated net sound.in_range sound.connected) sound.accepted V stimulus m s begun in
+        let (k, settles, bounded, at_start) = settles_in_bound (core_netlist net) levels greatest (connected_is_elaborated net sound.in_range sound.connected) sound.accepted V stimulus m s begun in
         record {
           deltas = k;
           settles = settles;
           in_bound = bounded;
           at_start = at_start;
-          is_machine = λ no_race t deltas v run. is_the_machine (core_net net) (connected_is_elaborated net sound.in_range sound.connected) sound.accepted stimulus m no_race k t (s, begun, (settles, deltas)) v run;
+          is_machine = λ no_race t deltas v run. is_the_machine (core_netlist net) (connected_is_elaborated net sound.in_range sound.connected) sound.accepted stimulus m no_race k t (s, begun, (settles, deltas)) v run;
         }
 
-    begins : (m : ℕ) → (s : State) × Begun (core_net net) stimulus m s
+    begins : (m : ℕ) → (s : State) × Begun (core_netlist net) stimulus m s
     begins m =
-        let (k, t, (s, begun, to)) = each_moment_comes (core_net net) (connected_is_elaborated net sound.in_range sound.connected) sound.accepted stimulus m in
+        let (k, t, (s, begun, to)) = each_moment_comes (core_netlist net) (connected_is_elaborated net sound.in_range sound.connected) sound.accepted stimulus m in
         (s, begun)
 
 pub each_has_one_solution : EachHasOneSolution
-each_has_one_solution net sound = one_solution (core_net net) (connected_is_elaborated net sound.in_range sound.connected) sound.accepted
+each_has_one_solution net sound = one_solution (core_netlist net) (connected_is_elaborated net sound.in_range sound.connected) sound.accepted

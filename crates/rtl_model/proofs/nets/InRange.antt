@@ -9,11 +9,11 @@ use Rattle.rtl_model.specs.bodies.Kinds.{ResetPart, Clocking, clocking, IsClocke
 use Rattle.rtl_model.specs.bodies.Laws.{SeesTypes}
 use Rattle.rtl_model.specs.bodies.Types.{ElementType, enumeration, limit_of, HasType, KeepsTypes}
 use Rattle.rtl_model.specs.bodies.Fits.{Fits}
-use Rattle.rtl_model.specs.nets.FlatNet as flat
-use Rattle.rtl_model.specs.nets.FlatNet.{FlatNet, FlatProcess, FlatDriver, FlatVariable, VariableInRange, targets, element_starts, element_types, scope_of, ProcessInRange, IsInRange}
-use Rattle.rtl_model.specs.nets.CoreNet.{seen_from, part_effect, core_reset, core_kind, acting_branch, core_net}
+use Rattle.rtl_model.specs.nets.FlatNetlist as flat
+use Rattle.rtl_model.specs.nets.FlatNetlist.{FlatNetlist, FlatProcess, FlatDriver, FlatVariable, VariableInRange, targets, element_starts, element_types, scope_of, ProcessInRange, IsInRange}
+use Rattle.rtl_model.specs.nets.CoreNetlist.{seen_from, part_effect, core_reset, core_kind, acting_branch, core_netlist}
 use Rattle.rtl_model.specs.nets.Laws.{InRangeIsSafe}
-use Rattle.rtl_model.specs.simulation.Net as c
+use Rattle.rtl_model.specs.simulation.Netlist as c
 use Rattle.rtl_model.specs.simulation.Range.{limit, IsValuation, KeepsRange}
 use Rattle.rtl_model.proofs.bodies.Ranges.{entries_keep_types}
 use Rattle.rtl_model.proofs.bodies.There.{each_read_is_there}
@@ -79,7 +79,7 @@ reset_fits inputs types p k x e r h = part (clocked_is inputs p.body k e)
         let same : y.reset ≡ x = (let f = y.reset_is in cc) in
         subst (λ (z : ResetPart). Fits (scope_of types p) z.branch) same (subst (λ (s : Stmts). Fits (scope_of types p) s) y.is h).0.1
 
-module _ (net : FlatNet) (in_range : IsInRange net) where
+module _ (net : FlatNetlist) (in_range : IsInRange net) where
   pub process_in_range : (p : ℕ) → p < length net.processes → ProcessInRange net.types (flat.process_at net p)
   process_in_range p l = in_range.processes p flat.no_flat_process l
 
@@ -97,7 +97,7 @@ module _ (net : FlatNet) (in_range : IsInRange net) where
       go (inr l) = absurd (none (flat.process_at net p) (get_or_past net.processes p flat.no_flat_process l) h)
 
   -- a valuation of the core keeps the types
-  keeps_types : (v : List ℕ) → IsValuation (core_net net) v → KeepsTypes net.types v
+  keeps_types : (v : List ℕ) → IsValuation (core_netlist net) v → KeepsTypes net.types v
   keeps_types v is n t h =
       let l : n < length net.types = slice_get_within net.types n t h in
       let e = in_range.each_starts in
@@ -117,7 +117,7 @@ module _ (net : FlatNet) (in_range : IsInRange net) where
       let lim : slice_index (map limit_of net.types) g.0 ≡ limit_of g.1 = limit-at net.types g.0 g.1 g.3 in
       subst (λ (y : ℕ). x < y) (sym (ap (slice_index (map limit_of net.types)) at ∙ lim)) g.4
 
-  start_is_valuation : IsValuation (core_net net) net.start
+  start_is_valuation : IsValuation (core_netlist net) net.start
   start_is_valuation = record { each_net = refl; in_range = below }
     where
       below : (n : ℕ) → n < length net.start → slice_index net.start n < slice_index (map limit_of net.types) n
@@ -126,14 +126,14 @@ module _ (net : FlatNet) (in_range : IsInRange net) where
           let t = type_at net.types n (omega arith) in
           subst (λ (y : ℕ). slice_index net.start n < y) (sym (limit-at net.types n t.0 t.1)) (in_range.starts n t.0 t.1)
 
-  of_effect : (p place x : ℕ) (before now : List ℕ) → IsValuation (core_net net) now → c.HasPlace (core_net net) p place
-      → get_or ((c.process (core_net net) p).effect before now) place None ≡ Some x → x < limit (core_net net) (c.target (core_net net) p place)
+  of_effect : (p place x : ℕ) (before now : List ℕ) → IsValuation (core_netlist net) now → c.HasPlace (core_netlist net) p place
+      → get_or ((c.process (core_netlist net) p).effect before now) place None ≡ Some x → x < limit (core_netlist net) (c.target (core_netlist net) p place)
   of_effect p place x before now is =
       rw (process-core_net net p)
       (λ l h. let there = has_process p place l in entry_below p place x (flat.process_at net p).body before now there (process_in_range p there).body (keeps_types now is) l h)
 
-  of_branch : (p place x : ℕ) (now : List ℕ) → IsValuation (core_net net) now → c.HasPlace (core_net net) p place
-      → get_or ((c.process (core_net net) p).acting_effect now) place None ≡ Some x → x < limit (core_net net) (c.target (core_net net) p place)
+  of_branch : (p place x : ℕ) (now : List ℕ) → IsValuation (core_netlist net) now → c.HasPlace (core_netlist net) p place
+      → get_or ((c.process (core_netlist net) p).acting_effect now) place None ≡ Some x → x < limit (core_netlist net) (c.target (core_netlist net) p place)
   of_branch p place x now is =
       rw (process-core_net net p)
       (λ l h.
@@ -141,7 +141,7 @@ module _ (net : FlatNet) (in_range : IsInRange net) where
       entry_below p place x (acting_branch (clocking net.inputs (flat.process_at net p).body)) now now there (branch_fits net.inputs net.types (flat.process_at net p) (process_in_range p there).body) (keeps_types now is) l h)
 
   -- a reset's branch reads nothing, so its entries are those in the starting valuation
-  of_reset : (p place x : ℕ) → c.HasPlace (core_net net) p place → c.reset_entry (c.reset_of (core_net net) p) place ≡ Some x → x < limit (core_net net) (c.target (core_net net) p place)
+  of_reset : (p place x : ℕ) → c.HasPlace (core_netlist net) p place → c.reset_entry (c.reset_of (core_netlist net) p) place ≡ Some x → x < limit (core_netlist net) (c.target (core_netlist net) p place)
   of_reset p place x = rw (process-core_net net p) (λ l h. go l (clocking net.inputs (flat.process_at net p).body) _ refl h)
     where
       go : place < length (targets (flat.process_at net p)) → (o : Option Clocking) (ns : List ℕ) → clocking net.inputs (flat.process_at net p).body ≡ o
@@ -160,7 +160,7 @@ module _ (net : FlatNet) (in_range : IsInRange net) where
               let fits = reset_fits net.inputs net.types q k y e r (process_in_range p there).body in
               entry_below p place x y.branch [] net.start there fits (keeps_types net.start start_is_valuation) l (ap (λ (row : List (Option ℕ)). get_or row place None) (reset_anywhere net.inputs q k y e r [] net.start) ∙ g)
 
-  pub keeps_range : KeepsRange (core_net net)
+  pub keeps_range : KeepsRange (core_netlist net)
   keeps_range = record {
     starts_in_range = start_is_valuation;
     effect_in_range = λ p place x before now b is l h. of_effect p place x before now is l h;

@@ -14,11 +14,11 @@ use Rattle.rtl_model.specs.bodies.Effect.{effect, effect_of}
 use Rattle.rtl_model.specs.bodies.Reads.{reads, events}
 use Rattle.rtl_model.specs.bodies.Kinds.{ResetPart, Clocking, clocking, IsClockedAlone, IsClockedWithReset}
 use Rattle.rtl_model.specs.bodies.Laws.{reset_holds, entry_of_reset}
-use Rattle.rtl_model.specs.nets.FlatNet as flat
-use Rattle.rtl_model.specs.nets.FlatNet.{FlatNet, FlatProcess, FlatDriver, targets}
-use Rattle.rtl_model.specs.nets.CoreNet.{seen_from, part_effect, core_reset, core_kind, acting_branch, core_process, core_edges, core_net, drives_net}
+use Rattle.rtl_model.specs.nets.FlatNetlist as flat
+use Rattle.rtl_model.specs.nets.FlatNetlist.{FlatNetlist, FlatProcess, FlatDriver, targets}
+use Rattle.rtl_model.specs.nets.CoreNetlist.{seen_from, part_effect, core_reset, core_kind, acting_branch, core_process, core_edges, core_netlist, drives_net}
 use Rattle.rtl_model.specs.nets.Laws.{EachKindIsOfBody}
-use Rattle.rtl_model.specs.simulation.Net as c
+use Rattle.rtl_model.specs.simulation.Netlist as c
 use Rattle.rtl_model.specs.simulation.Elaborated.{HasBodies}
 use Rattle.rtl_model.proofs.basics.Lists.{Contains-none, is_in, contains_in}
 use Rattle.rtl_model.proofs.simulation.Rows.{get_or-map}
@@ -28,7 +28,7 @@ use Rattle.rtl_model.proofs.bodies.Clocking.{clocked_is, each_kind_is_as_said, f
 
 -- ---- a process of the net
 
-pub process-core_net : (net : FlatNet) (p : ℕ) → c.process (core_net net) p ≡ core_process net.inputs (flat.process_at net p)
+pub process-core_net : (net : FlatNetlist) (p : ℕ) → c.process (core_netlist net) p ≡ core_process net.inputs (flat.process_at net p)
 process-core_net net p = get_or-map (core_process net.inputs) net.processes p flat.no_flat_process
 
 -- ---- rows of entries
@@ -232,7 +232,7 @@ each_kind_is_of_body inputs p = record {
 
 -- ---- the facts, of a net
 
-pub has_bodies : (net : FlatNet) → HasBodies (core_net net)
+pub has_bodies : (net : FlatNetlist) → HasBodies (core_netlist net)
 has_bodies net = record {
   assigned = λ p place before now is l only h. of_assigned p place before now l only h;
   effect_reads = λ p before now before' now' is a. of_effect p before now before' now' is.1 a;
@@ -241,31 +241,31 @@ has_bodies net = record {
   reset_is_input = of_reset;
 }
   where
-    of_assigned : (p place : ℕ) (before now : List ℕ) → c.HasPlace (core_net net) p place
-        → ((other : ℕ) → c.HasPlace (core_net net) p other → c.target (core_net net) p other ≡ c.target (core_net net) p place → other ≡ place)
-        → IsTrue ((c.process (core_net net) p).assigns (c.target (core_net net) p place)) → IsSome (get_or ((c.process (core_net net) p).effect before now) place None)
+    of_assigned : (p place : ℕ) (before now : List ℕ) → c.HasPlace (core_netlist net) p place
+        → ((other : ℕ) → c.HasPlace (core_netlist net) p other → c.target (core_netlist net) p other ≡ c.target (core_netlist net) p place → other ≡ place)
+        → IsTrue ((c.process (core_netlist net) p).assigns (c.target (core_netlist net) p place)) → IsSome (get_or ((c.process (core_netlist net) p).effect before now) place None)
     of_assigned p place before now = rw (process-core_net net p) (assigned net.inputs (flat.process_at net p) place before now)
 
-    of_effect : (p : ℕ) (before now before' now' : List ℕ) → (c.process (core_net net) p).kind ≡ c.Combinational → AgreeOn (c.process (core_net net) p).reads now now'
-        → (c.process (core_net net) p).effect before now ≡ (c.process (core_net net) p).effect before' now'
+    of_effect : (p : ℕ) (before now before' now' : List ℕ) → (c.process (core_netlist net) p).kind ≡ c.Combinational → AgreeOn (c.process (core_netlist net) p).reads now now'
+        → (c.process (core_netlist net) p).effect before now ≡ (c.process (core_netlist net) p).effect before' now'
     of_effect p before now before' now' = rw (process-core_net net p) (effect_reads net.inputs (flat.process_at net p) before now before' now')
 
-    of_branch : (p : ℕ) (v w : List ℕ) → AgreeOn (c.process (core_net net) p).acting_reads v w
-        → (c.process (core_net net) p).acting_effect v ≡ (c.process (core_net net) p).acting_effect w
+    of_branch : (p : ℕ) (v w : List ℕ) → AgreeOn (c.process (core_netlist net) p).acting_reads v w
+        → (c.process (core_netlist net) p).acting_effect v ≡ (c.process (core_netlist net) p).acting_effect w
     of_branch p v w = rw (process-core_net net p) (branch_reads net.inputs (flat.process_at net p) v w)
 
-    of_clocked : (p clock place : ℕ) (edge : c.Edge) (reset : Option c.Reset) (before now : List ℕ) → (c.process (core_net net) p).kind ≡ c.Clocked clock edge reset
-        → get_or ((c.process (core_net net) p).effect before now) place None
-        ≡ clocked_entry (c.resets (c.reset_of (core_net net) p) (slice_index now)) (core_edges edge (slice_index before clock) (slice_index now clock)) (c.reset_entry (c.reset_of (core_net net) p) place) (get_or ((c.process (core_net net) p).acting_effect now) place None)
+    of_clocked : (p clock place : ℕ) (edge : c.Edge) (reset : Option c.Reset) (before now : List ℕ) → (c.process (core_netlist net) p).kind ≡ c.Clocked clock edge reset
+        → get_or ((c.process (core_netlist net) p).effect before now) place None
+        ≡ clocked_entry (c.resets (c.reset_of (core_netlist net) p) (slice_index now)) (core_edges edge (slice_index before clock) (slice_index now clock)) (c.reset_entry (c.reset_of (core_netlist net) p) place) (get_or ((c.process (core_netlist net) p).acting_effect now) place None)
     of_clocked p clock place edge reset before now h =
-        subst (λ (r : Option c.Reset). get_or ((c.process (core_net net) p).effect before now) place None
-        ≡ clocked_entry (c.resets r (slice_index now)) (core_edges edge (slice_index before clock) (slice_index now clock)) (c.reset_entry r place) (get_or ((c.process (core_net net) p).acting_effect now) place None))
+        subst (λ (r : Option c.Reset). get_or ((c.process (core_netlist net) p).effect before now) place None
+        ≡ clocked_entry (c.resets r (slice_index now)) (core_edges edge (slice_index before clock) (slice_index now clock)) (c.reset_entry r place) (get_or ((c.process (core_netlist net) p).acting_effect now) place None))
         (sym (ap c.kind_reset h)) (of_kind p clock place edge reset before now h)
       where
-        of_kind : (p clock place : ℕ) (edge : c.Edge) (reset : Option c.Reset) (before now : List ℕ) → (c.process (core_net net) p).kind ≡ c.Clocked clock edge reset
-            → get_or ((c.process (core_net net) p).effect before now) place None
-            ≡ clocked_entry (c.resets reset (slice_index now)) (core_edges edge (slice_index before clock) (slice_index now clock)) (c.reset_entry reset place) (get_or ((c.process (core_net net) p).acting_effect now) place None)
+        of_kind : (p clock place : ℕ) (edge : c.Edge) (reset : Option c.Reset) (before now : List ℕ) → (c.process (core_netlist net) p).kind ≡ c.Clocked clock edge reset
+            → get_or ((c.process (core_netlist net) p).effect before now) place None
+            ≡ clocked_entry (c.resets reset (slice_index now)) (core_edges edge (slice_index before clock) (slice_index now clock)) (c.reset_entry reset place) (get_or ((c.process (core_netlist net) p).acting_effect now) place None)
         of_kind p clock place edge reset before now = rw (process-core_net net p) (clocked_acts net.inputs (flat.process_at net p) clock place edge reset before now)
 
-    of_reset : (p : ℕ) (reset : c.Reset) → c.HasReset (core_net net) p reset → c.IsInput (core_net net) reset.net
+    of_reset : (p : ℕ) (reset : c.Reset) → c.HasReset (core_netlist net) p reset → c.IsInput (core_netlist net) reset.net
     of_reset p reset = rw (process-core_net net p) (reset_is_input net.inputs (flat.process_at net p) reset)

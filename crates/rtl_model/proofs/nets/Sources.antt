@@ -6,26 +6,26 @@ use Rattle.std.proofs.lemmas.List.{get_or_past}
 use Rattle.std.proofs.lemmas.List.FromFn.{length-map-range_with_len, get_or-map-range_with_len}
 use Rattle.std.proofs.lemmas.List.Elements.{Contains-append_left, Contains-append_right}
 use Rattle.std.proofs.lemmas.Bool.{cases_lt, eqb-true, eq-eqb}
-use Rattle.rtl_model.specs.nets.FlatNet as flat
-use Rattle.rtl_model.specs.nets.FlatNet.{FlatNet, FlatProcess, targets, drivers_of, all_drivers_of, flat_sources}
-use Rattle.rtl_model.specs.nets.CoreNet.{core_net}
-use Rattle.rtl_model.specs.simulation.Net as c
-use Rattle.rtl_model.specs.simulation.Net.{Source, Driver, Idle}
+use Rattle.rtl_model.specs.nets.FlatNetlist as flat
+use Rattle.rtl_model.specs.nets.FlatNetlist.{FlatNetlist, FlatProcess, targets, drivers_of, all_drivers_of, flat_sources}
+use Rattle.rtl_model.specs.nets.CoreNetlist.{core_netlist}
+use Rattle.rtl_model.specs.simulation.Netlist as c
+use Rattle.rtl_model.specs.simulation.Netlist.{Source, Driver, Idle}
 use Rattle.rtl_model.proofs.basics.Lists.{Contains-none, Contains-first}
 
 -- ---- the sources in the core
 
-pub sources-core_net : (net : FlatNet) (n : ℕ) → n < length net.types → c.sources_of (core_net net) n ≡ flat_sources net n
+pub sources-core_net : (net : FlatNetlist) (n : ℕ) → n < length net.types → c.sources_of (core_netlist net) n ≡ flat_sources net n
 sources-core_net net n l = get_or-map-range_with_len (flat_sources net) 0 (length net.types) n n [] l (omega arith)
 
 -- a net with a source in the core is there
-pub source_there : (net : FlatNet) (n : ℕ) (source : Source) → Contains (c.sources_of (core_net net) n) source → n < length net.types
+pub source_there : (net : FlatNetlist) (n : ℕ) (source : Source) → Contains (c.sources_of (core_netlist net) n) source → n < length net.types
 source_there net n source h = go (cases_lt n (length net.types))
   where
     go : (n < length net.types) ⊎ (length net.types ≤ n) → n < length net.types
     go (inl l) = l
     go (inr l) =
-        let none : c.sources_of (core_net net) n ≡ [] = get_or_past (map (flat_sources net) (range_with_len 0 (length net.types))) n [] (omega (arith, length-map-range_with_len (flat_sources net) 0 (length net.types))) in
+        let none : c.sources_of (core_netlist net) n ≡ [] = get_or_past (map (flat_sources net) (range_with_len 0 (length net.types))) n [] (omega (arith, length-map-range_with_len (flat_sources net) 0 (length net.types))) in
         absurd (Contains-none source (subst (λ (xs : List Source). Contains xs source) none h))
 
 -- ---- either of two lists
@@ -115,7 +115,7 @@ idle_values (v ∷ vs) source (suc k, l, at) = let (w, h, e) = idle_values vs so
 
 -- ---- of a net
 
-module _ (net : FlatNet) (n : ℕ) where
+module _ (net : FlatNetlist) (n : ℕ) where
   abbrev drivers : List Source
   drivers = all_drivers_of n 0 net.processes
 

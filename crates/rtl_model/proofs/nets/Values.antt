@@ -2,10 +2,10 @@
 use Rattle.std.proofs.Common.{◌≡◌, ℕ, false, refl}
 use Rattle.std.proofs.lemmas.Bool.{eq-eqb}
 use Rattle.vhdl_values.specs.Scalar.{code_of, value_of_code}
-use Rattle.rtl_model.specs.simulation.Net.{Edge, Rising, Falling, To1, To0}
+use Rattle.rtl_model.specs.simulation.Netlist.{Edge, Rising, Falling, To1, To0}
 use Rattle.rtl_model.specs.simulation.Elaborated.{HasValues}
-use Rattle.rtl_model.specs.nets.FlatNet.{FlatNet}
-use Rattle.rtl_model.specs.nets.CoreNet.{core_edges, core_net}
+use Rattle.rtl_model.specs.nets.FlatNetlist.{FlatNetlist}
+use Rattle.rtl_model.specs.nets.CoreNetlist.{core_edges, core_netlist}
 
 edges_differ : (edge : Edge) (v : ℕ) → core_edges edge v v ≡ false
 edges_differ Rising v = rw (eq-eqb (code_of (value_of_code v)) (code_of (value_of_code v)) refl) refl
@@ -13,5 +13,5 @@ edges_differ Falling v = rw (eq-eqb (code_of (value_of_code v)) (code_of (value_
 edges_differ To1 v = rw (eq-eqb (code_of (value_of_code v)) (code_of (value_of_code v)) refl) refl
 edges_differ To0 v = rw (eq-eqb (code_of (value_of_code v)) (code_of (value_of_code v)) refl) refl
 
-pub has_values : (net : FlatNet) → HasValues (core_net net)
+pub has_values : (net : FlatNetlist) → HasValues (core_netlist net)
 has_values net = record { one_resolves = λ v. refl; edges_differ = edges_differ }

@@ -4,8 +4,8 @@ use Rattle.std.proofs.Common.{refl, sym, ap, ◌∙◌, subst, arith, ◌⊎◌,
 use Rattle.std.specs.List.{list_any, range_with_len}
 use Rattle.std.proofs.lemmas.List.{get_or-set_same, get_or-set_other, get_or_past, length-set}
 use Rattle.std.proofs.lemmas.Bool.{cases_lt, cond-true, cond-false, false_from_ne_true}
-use Rattle.rtl_model.specs.simulation.Net.{Net, Source, Driver, Idle, sources_of, IsInput}
-use Rattle.rtl_model.specs.simulation.Cycle.{State, started, updated, driven_all, driven, source_value, net_value, with_inputs, changed, resumed}
+use Rattle.rtl_model.specs.simulation.Netlist.{Netlist, Source, Driver, Idle, sources_of, IsInput}
+use Rattle.rtl_model.specs.simulation.Cycle.{State, start_state, after_update, all_driver_values, driver_values, source_value, net_value, with_inputs, with_changes, resumed_processes}
 use Rattle.rtl_model.specs.simulation.Moments.{Begun, HasDeltas}
 use Rattle.rtl_model.specs.simulation.Elaborated.{IsWired}
 use Rattle.rtl_model.specs.simulation.Machine.{entry_or}
@@ -20,7 +20,7 @@ map_same : (f g : Source → ℕ) (xs : List Source) → ((x : Source) → Conta
 map_same f g [] h = refl
 map_same f g (x ∷ xs) h = λ i. h x (Contains-first x xs) i ∷ map_same f g xs (λ y (k, l, at). h y (suc k, omega arith, at)) i
 
-module _ (net : Net) (wired : IsWired net) where
+module _ (net : Netlist) (wired : IsWired net) where
   -- a net with sources is no input
   not_input : (n : ℕ) (source : Source) → Contains (sources_of net n) source → list_any (λ m. m == n) net.inputs ≡ false
   not_input n source c =
@@ -30,47 +30,47 @@ module _ (net : Net) (wired : IsWired net) where
   not_given inputs old n source l c =
       get_or-table (length net.start) (λ m. if list_any (λ k. k == m) net.inputs then inputs m else get_or old m 0) n l ∙ cond-false _ _ _ (not_input n source c)
 
-  updated_at : (s : State) (n : ℕ) → n < length net.start → get_or (updated net s).now n 0 ≡ net_value net (driven_all s.pending s.drivers) (sources_of net n) (get_or s.now n 0)
-  updated_at s n l = get_or-table (length net.start) (λ m. net_value net (driven_all s.pending s.drivers) (sources_of net m) (get_or s.now m 0)) n l
+  updated_at : (s : State) (n : ℕ) → n < length net.start → get_or (after_update net s).now n 0 ≡ net_value net (all_driver_values s.pending s.drivers) (sources_of net n) (get_or s.now n 0)
+  updated_at s n l = get_or-table (length net.start) (λ m. net_value net (all_driver_values s.pending s.drivers) (sources_of net m) (get_or s.now m 0)) n l
 
   resolves : (drivers : List (List ℕ)) (old : ℕ) (xs : List Source) (source : Source) → Contains xs source → net_value net drivers xs old ≡ net.resolve (map (source_value drivers) xs)
   resolves drivers old [] source c = absurd (Contains-none source c)
   resolves drivers old (x ∷ xs) source c = refl
 
   -- a driver without a transaction keeps its value
-  same_driver : (s : State) (p place : ℕ) → get_or (get_or s.pending p []) place None ≡ None → get_or (get_or (driven_all s.pending s.drivers) p []) place 0 ≡ get_or (get_or s.drivers p []) place 0
+  same_driver : (s : State) (p place : ℕ) → get_or (get_or s.pending p []) place None ≡ None → get_or (get_or (all_driver_values s.pending s.drivers) p []) place 0 ≡ get_or (get_or s.drivers p []) place 0
   same_driver s p place e =
       ap (λ (row : List ℕ). get_or row place 0) (driven_all_at s.pending s.drivers p) ∙ go (cases_lt place (length (get_or s.drivers p [])))
     where
       pend : List (Option ℕ)
       pend = get_or s.pending p []
 
-      go : (place < length (get_or s.drivers p [])) ⊎ (length (get_or s.drivers p []) ≤ place) → get_or (driven (get_or s.pending p []) (get_or s.drivers p [])) place 0 ≡ get_or (get_or s.drivers p []) place 0
+      go : (place < length (get_or s.drivers p [])) ⊎ (length (get_or s.drivers p []) ≤ place) → get_or (driver_values (get_or s.pending p []) (get_or s.drivers p [])) place 0 ≡ get_or (get_or s.drivers p []) place 0
       go (inl l) = driven_at (get_or s.pending p []) (get_or s.drivers p []) place l ∙ ap (λ (o : Option ℕ). entry_or o (get_or (get_or s.drivers p []) place 0)) e
       go (inr l) =
-          get_or_past (driven (get_or s.pending p []) (get_or s.drivers p [])) place 0 (omega (arith, length-driven (get_or s.pending p []) (get_or s.drivers p [])))
+          get_or_past (driver_values (get_or s.pending p []) (get_or s.drivers p [])) place 0 (omega (arith, length-driven (get_or s.pending p []) (get_or s.drivers p [])))
           ∙ sym (get_or_past (get_or s.drivers p []) place 0 l)
 
   keeps : (s : State) (n : ℕ) → IsConsistent net s → n < length net.start
       → ((p place : ℕ) → Contains (sources_of net n) (Driver p place) → get_or (get_or s.pending p []) place None ≡ None)
-      → get_or (updated net s).now n 0 ≡ get_or s.now n 0
+      → get_or (after_update net s).now n 0 ≡ get_or s.now n 0
   keeps s n consistent l none = updated_at s n l ∙ go (sources_of net n) refl
     where
-      same : (x : Source) → Contains (sources_of net n) x → source_value (driven_all s.pending s.drivers) x ≡ source_value s.drivers x
+      same : (x : Source) → Contains (sources_of net n) x → source_value (all_driver_values s.pending s.drivers) x ≡ source_value s.drivers x
       same (Driver p place) c = same_driver s p place (none p place c)
       same (Idle v) c = refl
 
-      go : (xs : List Source) → sources_of net n ≡ xs → net_value net (driven_all s.pending s.drivers) xs (get_or s.now n 0) ≡ get_or s.now n 0
+      go : (xs : List Source) → sources_of net n ≡ xs → net_value net (all_driver_values s.pending s.drivers) xs (get_or s.now n 0) ≡ get_or s.now n 0
       go [] e = refl
       go (x ∷ xs) e =
           let has = subst (λ (ys : List Source). Contains ys x) (sym e) (Contains-first x xs) in
-          ap net.resolve (ap (map (source_value (driven_all s.pending s.drivers))) (sym e) ∙ map_same _ _ (sources_of net n) same)
+          ap net.resolve (ap (map (source_value (all_driver_values s.pending s.drivers))) (sym e) ∙ map_same _ _ (sources_of net n) same)
           ∙ sym (consistent n x l has)
 
 pub each_stays_consistent : EachStaysConsistent
 each_stays_consistent net wired = record {
   starts = λ inputs n source l c. not_given net wired inputs net.start n source l c ∙ wired.nets_start n source c;
-  updates = λ s n source l c. updated_at net wired s n l ∙ resolves net wired (driven_all s.pending s.drivers) (get_or s.now n 0) (sources_of net n) source c;
+  updates = λ s n source l c. updated_at net wired s n l ∙ resolves net wired (all_driver_values s.pending s.drivers) (get_or s.now n 0) (sources_of net n) source c;
   gives = λ inputs s consistent n source l c. not_given net wired inputs s.now n source l c ∙ consistent n source l c;
   runs = λ p s consistent n source l c. consistent n source l c;
   keeps = keeps net wired;
@@ -78,7 +78,7 @@ each_stays_consistent net wired = record {
 
 -- ---- inputs
 
-same_inputs : (net : Net) (inputs other : ℕ → ℕ) (old : List ℕ) → ((n : ℕ) → IsInput net n → inputs n ≡ other n) → with_inputs net inputs old ≡ with_inputs net other old
+same_inputs : (net : Netlist) (inputs other : ℕ → ℕ) (old : List ℕ) → ((n : ℕ) → IsInput net n → inputs n ≡ other n) → with_inputs net inputs old ≡ with_inputs net other old
 same_inputs net inputs other old h = λ i. map (λ n. at n (list_any (λ m. m == n) net.inputs) (λ e. h n e) i) (range_with_len 0 (length net.start))
   where
     at : (n : ℕ) (b : Bool) → (b ≡ true → inputs n ≡ other n) → (if b then inputs n else slice_index old n) ≡ (if b then other n else slice_index old n)
@@ -92,22 +92,22 @@ takes_inputs_alone net inputs other h = record {
 }
   where
     of_first : List ℕ → State
-    of_first first = record (started net inputs) { before = first; now = first }
+    of_first first = record (start_state net inputs) { before = first; now = first }
 
     of_now : State → List ℕ → State
-    of_now s now = record { before = s.now; now = now; drivers = s.drivers; pending = s.pending; waiting = resumed net s.now now }
+    of_now s now = record { before = s.now; now = now; drivers = s.drivers; pending = s.pending; waiting = resumed_processes net s.now now }
 
-given_at : (net : Net) → IsWired net → (inputs : ℕ → ℕ) (old : List ℕ) (n : ℕ) → IsInput net n → get_or (with_inputs net inputs old) n 0 ≡ inputs n
+given_at : (net : Netlist) → IsWired net → (inputs : ℕ → ℕ) (old : List ℕ) (n : ℕ) → IsInput net n → get_or (with_inputs net inputs old) n 0 ≡ inputs n
 given_at net wired inputs old n is =
     get_or-table (length net.start) (λ m. if list_any (λ k. k == m) net.inputs then inputs m else get_or old m 0) n (wired.inputs_are_nets n is) ∙ cond-true _ _ _ is
 
 -- delta cycles leave inputs as they are
-after_at : (net : Net) → IsWired net → (k : ℕ) (s : State) (n : ℕ) → IsInput net n → get_or (after net k s).now n 0 ≡ get_or s.now n 0
+after_at : (net : Netlist) → IsWired net → (k : ℕ) (s : State) (n : ℕ) → IsInput net n → get_or (after net k s).now n 0 ≡ get_or s.now n 0
 after_at net wired zero s n is = refl
 after_at net wired (suc k) s n is =
-    after_at net wired k (finished net (updated net s)) n is
+    after_at net wired k (finished net (after_update net s)) n is
     ∙ updated_at net wired s n (wired.inputs_are_nets n is)
-    ∙ ap (λ (xs : List Source). net_value net (driven_all s.pending s.drivers) xs (get_or s.now n 0)) (wired.inputs_have_no_source n is)
+    ∙ ap (λ (xs : List Source). net_value net (all_driver_values s.pending s.drivers) xs (get_or s.now n 0)) (wired.inputs_have_no_source n is)
 
 pub each_input_holds : EachInputHolds
 each_input_holds net wired stimulus m n is = record { begun = begun m; settled = λ k t (s, b, (settles, deltas)). settled k t s deltas ∙ begun m s b }
@@ -121,7 +121,7 @@ each_input_holds net wired stimulus m n is = record { begun = begun m; settled =
 
 -- ---- changes
 
-changed_kept : (changes : List (ℕ × ℕ)) (old : List ℕ) (n : ℕ) → ((value : ℕ) → Contains changes (n, value) → ⊥) → changed changes old n ≡ slice_index old n
+changed_kept : (changes : List (ℕ × ℕ)) (old : List ℕ) (n : ℕ) → ((value : ℕ) → Contains changes (n, value) → ⊥) → with_changes changes old n ≡ slice_index old n
 changed_kept [] old n h = refl
 changed_kept ((m, v) ∷ changes) old n h =
     changed_kept changes (slice_set old m v) n (λ value (k, l, at). h value (suc k, omega arith, at)) ∙ get_or-set_other old m n v 0 other
@@ -129,11 +129,11 @@ changed_kept ((m, v) ∷ changes) old n h =
     other : n ≡ m → ⊥
     other e = h v (0, omega arith, λ i. (sym e i, v))
 
-changed_last : (changes : List (ℕ × ℕ)) (old : List ℕ) (n value : ℕ) → n < length old → changed (changes ++ ((n, value) ∷ [])) old n ≡ value
+changed_last : (changes : List (ℕ × ℕ)) (old : List ℕ) (n value : ℕ) → n < length old → with_changes (changes ++ ((n, value) ∷ [])) old n ≡ value
 changed_last [] old n value l = get_or-set_same old n value 0 l
 changed_last ((m, v) ∷ changes) old n value l = changed_last changes (slice_set old m v) n value (omega (arith, length-set old m v))
 
-changed_others : (changes : List (ℕ × ℕ)) (old : List ℕ) (n m value : ℕ) → (n ≡ m → ⊥) → changed (changes ++ ((m, value) ∷ [])) old n ≡ changed changes old n
+changed_others : (changes : List (ℕ × ℕ)) (old : List ℕ) (n m value : ℕ) → (n ≡ m → ⊥) → with_changes (changes ++ ((m, value) ∷ [])) old n ≡ with_changes changes old n
 changed_others [] old n m value h = get_or-set_other old m n value 0 h
 changed_others ((j, v) ∷ changes) old n m value h = changed_others changes (slice_set old j v) n m value h
 

@@ -1,7 +1,7 @@
 -- Facts about processes that can be decided.
 use Rattle.std.proofs.Common.{◌≡◌, ℕ, zero, suc, ◌<◌, ◌≤◌, List, length, get_or, refl, arith, ◌⊎◌, inl, inr, subst, Contains}
 use Rattle.std.proofs.lemmas.Bool.{cases_eq, cases_lt}
-use Rattle.rtl_model.specs.simulation.Net.{Clocked, Combinational, IsCombinational, Kind, Mixed, Net, process, target}
+use Rattle.rtl_model.specs.simulation.Netlist.{Clocked, Combinational, IsCombinational, ProcessKind, Mixed, Netlist, process, target}
 use Rattle.rtl_model.specs.simulation.Accepted.{Feeds}
 
 -- whether some number below n has a property that can be decided
@@ -25,16 +25,16 @@ is_contained xs x = go (search_below (λ k. get_or xs k x ≡ x) (λ k. cases_eq
     go (inl h) = inl h
     go (inr none) = inr (λ (k, l, e). none k l e)
 
-pub is_combinational : (net : Net) (p : ℕ) → IsCombinational net p ⊎ (IsCombinational net p → ⊥)
+pub is_combinational : (net : Netlist) (p : ℕ) → IsCombinational net p ⊎ (IsCombinational net p → ⊥)
 is_combinational net p = go (cases_lt p (length net.processes)) (process net p).kind refl
   where
-    go : (p < length net.processes) ⊎ (length net.processes ≤ p) → (k : Kind) → (process net p).kind ≡ k → IsCombinational net p ⊎ (IsCombinational net p → ⊥)
+    go : (p < length net.processes) ⊎ (length net.processes ≤ p) → (k : ProcessKind) → (process net p).kind ≡ k → IsCombinational net p ⊎ (IsCombinational net p → ⊥)
     go (inl l) Combinational e = inl (l, e)
     go (inl l) (Clocked clock edge reset) e = inr (λ c. let h = c.1 in cc)
     go (inl l) Mixed e = inr (λ c. let h = c.1 in cc)
     go (inr l) k e = inr (λ c. let h = c.0 in absurd (omega arith))
 
-pub is_fed : (net : Net) (p q : ℕ) → Feeds net p q ⊎ (Feeds net p q → ⊥)
+pub is_fed : (net : Netlist) (p q : ℕ) → Feeds net p q ⊎ (Feeds net p q → ⊥)
 is_fed net p q = go (is_combinational net p) (is_combinational net q) (search_below (λ place. Contains (process net q).wakes (target net p place)) (λ place. is_contained (process net q).wakes (target net p place)) (length (process net p).drives))
   where
     go : IsCombinational net p ⊎ (IsCombinational net p → ⊥) → IsCombinational net q ⊎ (IsCombinational net q → ⊥)

@@ -2,33 +2,33 @@
 use Rattle.std.proofs.Common.{◌≡◌, ℕ, zero, suc, ◌+◌, ◌<◌, ◌≤◌, Bool, true, false, List, [], ◌∷◌, length, get_or, set, refl, sym, ap, ◌∙◌, arith, ◌⊎◌, inl, inr, subst}
 use Rattle.std.proofs.lemmas.List.{get_or-set_same, get_or-set_other}
 use Rattle.std.proofs.lemmas.Bool.{cases_eq, cases_Bool}
-use Rattle.rtl_model.specs.simulation.Net.{Net}
-use Rattle.rtl_model.specs.simulation.Cycle.{is_quiet, IsToRun, ran, State, updated}
+use Rattle.rtl_model.specs.simulation.Netlist.{Netlist}
+use Rattle.rtl_model.specs.simulation.Cycle.{is_quiet, IsToRun, after_run, State, after_update}
 use Rattle.rtl_model.specs.simulation.Moments.{Deltas, HasDeltas, HasNoneToRun, HasRun, Runs, SettlesIn}
 use Rattle.rtl_model.proofs.simulation.Order.{finished, finished_done, Runs-finished, waits, waits_in}
 
 -- after a delta cycle, whatever its order; and after k of them
-abbrev pub after_delta : Net → State → State
-after_delta net s = finished net (updated net s)
+abbrev pub after_delta : Netlist → State → State
+after_delta net s = finished net (after_update net s)
 
-abbrev pub after : Net → ℕ → State → State
+abbrev pub after : Netlist → ℕ → State → State
 after net zero s = s
 after net (suc k) s = after net k (after_delta net s)
 
-pub Deltas-after : (net : Net) (orders : List (List ℕ)) (s t : State) → Deltas net orders s t → t ≡ after net (length orders) s
+pub Deltas-after : (net : Netlist) (orders : List (List ℕ)) (s t : State) → Deltas net orders s t → t ≡ after net (length orders) s
 Deltas-after net [] s t h = h
 Deltas-after net (order ∷ orders) s t (mid, one, more) =
-    Deltas-after net orders mid t more ∙ ap (λ (u : State). after net (length orders) u) (Runs-finished net order (updated net s) mid one.1)
+    Deltas-after net orders mid t more ∙ ap (λ (u : State). after net (length orders) u) (Runs-finished net order (after_update net s) mid one.1)
 
-pub HasDeltas-after : (net : Net) (k : ℕ) (s t : State) → HasDeltas net k s t → t ≡ after net k s
+pub HasDeltas-after : (net : Netlist) (k : ℕ) (s t : State) → HasDeltas net k s t → t ≡ after net k s
 HasDeltas-after net k s t (orders, e, runs) = Deltas-after net orders s t runs ∙ ap (λ (j : ℕ). after net j s) e
 
 -- the processes that wait, from the highest that may
-runs_below : (net : Net) (k : ℕ) (s : State) → ((p : ℕ) → IsToRun s p → p < k) → (order : List ℕ) × (t : State) × Runs net order s t
+runs_below : (net : Netlist) (k : ℕ) (s : State) → ((p : ℕ) → IsToRun s p → p < k) → (order : List ℕ) × (t : State) × Runs net order s t
 runs_below net zero s h = ([], s, ((λ p r. let l = h p r in absurd (omega arith)), refl))
-runs_below net (suc k) s h = go (runs_below net k (ran net k s)) (runs_below net k s) (cases_Bool (waits s k))
+runs_below net (suc k) s h = go (runs_below net k (after_run net k s)) (runs_below net k s) (cases_Bool (waits s k))
   where
-    others : waits s k ≡ true → (p : ℕ) → IsToRun (ran net k s) p → p < k
+    others : waits s k ≡ true → (p : ℕ) → IsToRun (after_run net k s) p → p < k
     others w p r = at (cases_eq p k)
       where
         at : (p ≡ k) ⊎ (p ≡ k → ⊥) → p < k
@@ -40,7 +40,7 @@ runs_below net (suc k) s h = go (runs_below net k (ran net k s)) (runs_below net
             let l = h p (sym (get_or-set_other s.waiting k p false false n) ∙ r) in
             omega arith
 
-    go : (((p : ℕ) → IsToRun (ran net k s) p → p < k) → (order : List ℕ) × (t : State) × Runs net order (ran net k s) t)
+    go : (((p : ℕ) → IsToRun (after_run net k s) p → p < k) → (order : List ℕ) × (t : State) × Runs net order (after_run net k s) t)
         → (((p : ℕ) → IsToRun s p → p < k) → (order : List ℕ) × (t : State) × Runs net order s t)
         → (waits s k ≡ true) ⊎ (waits s k ≡ false) → (order : List ℕ) × (t : State) × Runs net order s t
     go one none (inl w) = let (order, t, r) = one (others w) in (k ∷ order, t, (w, r))
@@ -50,16 +50,16 @@ runs_below net (suc k) s h = go (runs_below net k (ran net k s)) (runs_below net
         at p r (inl e) = let g : waits s k ≡ true = subst (λ (q : ℕ). waits s q ≡ true) e r in cc
         at p r (inr n) = let l = h p r in omega arith
 
-pub runs_exist : (net : Net) (s : State) → HasRun net s (finished net s)
+pub runs_exist : (net : Netlist) (s : State) → HasRun net s (finished net s)
 runs_exist net s =
     let (order, t, r) = runs_below net (length s.waiting) s (λ p w. waits_in s.waiting p w) in
     (order, subst (λ (u : State). Runs net order s u) (Runs-finished net order s t r) r)
 
-pub deltas_exist : (net : Net) (k : ℕ) (s : State) → HasNoneToRun s → HasDeltas net k s (after net k s)
+pub deltas_exist : (net : Netlist) (k : ℕ) (s : State) → HasNoneToRun s → HasDeltas net k s (after net k s)
 deltas_exist net zero s done = ([], refl, refl)
 deltas_exist net (suc k) s done =
-    let (order, one) = runs_exist net (updated net s) in
-    let (orders, e, more) = deltas_exist net k (after_delta net s) (finished_done net (updated net s)) in
+    let (order, one) = runs_exist net (after_update net s) in
+    let (orders, e, more) = deltas_exist net k (after_delta net s) (finished_done net (after_update net s)) in
     (order ∷ orders, ap suc e, (after_delta net s, (done, one), more))
 
 -- the least number that passes, where b does and none below i
@@ -79,7 +79,7 @@ least_from f b (suc n) i h e none = go (λ more. least_from f b n (suc i) h (ome
         at j l u (inr ne) = none j (omega arith) u
 
 -- what is quiet after b delta cycles settles within b
-pub settles_within : (net : Net) (s : State) (b : ℕ) → HasNoneToRun s → is_quiet (after net b s) ≡ true → (k : ℕ) × SettlesIn net s k × (k ≤ b)
+pub settles_within : (net : Netlist) (s : State) (b : ℕ) → HasNoneToRun s → is_quiet (after net b s) ≡ true → (k : ℕ) × SettlesIn net s k × (k ≤ b)
 settles_within net s b done h =
     let (k, (le, quiet, none)) = least_from (λ j. is_quiet (after net j s)) b b 0 h (omega arith) (λ j l. absurd (omega arith)) in (
       k,

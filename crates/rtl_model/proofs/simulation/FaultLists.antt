@@ -1,14 +1,14 @@
 -- A net has one list of faults, unless it has loops alone; and one at all only where it isn't accepted.
 use Rattle.std.proofs.Common.{◌≡◌, ℕ, Bool, true, false, List, [], ◌∷◌, refl, subst, arith, ◌⊎◌, inl, inr, IsTrue}
 use Rattle.std.proofs.lemmas.Bool.{false_from_ne_true}
-use Rattle.rtl_model.specs.simulation.Net.{Net, process}
+use Rattle.rtl_model.specs.simulation.Netlist.{Netlist, process}
 use Rattle.rtl_model.specs.simulation.Accepted.{Fault, TwoDrivers, MixedProcess, ClockNotInput, EdgeNotSensitive, ClockAsData, MissingSensitivity, Latch, Loop, StoredVariable, IsFault, IsAccepted, HasNoLoop}
 use Rattle.rtl_model.specs.simulation.Faults.{fault_key, is_no_loop, is_of_stored, AreFaultsOf, AreFaultsButLoops, AreStored, IsOneLoop, AreFaults}
 use Rattle.rtl_model.specs.simulation.Laws.{EachFaultIsListed}
 use Rattle.rtl_model.proofs.basics.Lists.{Contains-none, Contains-first}
 use Rattle.rtl_model.proofs.basics.Rising.{same_elements}
 
-one_of : (net : Net) (among : Fault → Bool) (faults other : List Fault) → AreFaultsOf net among faults → AreFaultsOf net among other → faults ≡ other
+one_of : (net : Netlist) (among : Fault → Bool) (faults other : List Fault) → AreFaultsOf net among faults → AreFaultsOf net among other → faults ≡ other
 one_of net among faults other a b = same_elements fault_key faults other a.rise b.rise (λ f c. (b.are f).1 ((a.are f).0 c)) (λ f c. (a.are f).1 ((b.are f).0 c))
 
 -- no fault but loops, or a loop
@@ -23,7 +23,7 @@ loop_or_not (Latch p net) = inl refl
 loop_or_not (Loop ps) = inr (ps, refl)
 loop_or_not (StoredVariable p v place) = inl refl
 
-module _ (net : Net) where
+module _ (net : Netlist) where
   none_listed : (among : Fault → Bool) → ((f : Fault) → IsFault net f → IsTrue (among f) → ⊥) → AreFaultsOf net among []
   none_listed among h = record { are = λ f. (λ c. absurd (Contains-none f c), λ (is, t). absurd (h f is t)); rise = λ i j d l k. absurd (omega arith) }
 

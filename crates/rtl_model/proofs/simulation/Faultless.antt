@@ -1,13 +1,13 @@
--- What an accepted net has, each fault turned round.
+-- What an accepted netlist has, each fault turned round.
 use Rattle.std.proofs.Common.{◌≡◌, ℕ, ◌≤◌, true, false, List, [], ◌∷◌, length, refl, arith, ◌⊎◌, inl, inr, Contains, IsTrue, ◌==◌}
 use Rattle.std.specs.List.{list_any}
 use Rattle.std.proofs.lemmas.Bool.{cases_Bool}
 use Rattle.std.proofs.lemmas.List.Elements.{Contains-get_or}
-use Rattle.rtl_model.specs.simulation.Net.{Edge, HasPlace, HasReset, IsClockedBy, IsCombinational, IsInput, Mixed, Net, process, Reset, Source, sources_of, target}
+use Rattle.rtl_model.specs.simulation.Netlist.{Edge, HasPlace, HasReset, IsClockedBy, IsCombinational, IsInput, Mixed, Netlist, process, Reset, Source, sources_of, target}
 use Rattle.rtl_model.specs.simulation.Accepted.{ClockAsData, ClockNotInput, EdgeNotSensitive, IsAccepted, IsLoop, Latch, Loop, MissingSensitivity, MixedProcess, TwoDrivers}
 use Rattle.rtl_model.proofs.simulation.Decisions.{is_contained}
 
-pub record Faultless (net : Net) : Type 0 where
+pub record Faultless (net : Netlist) : Type 0 where
   pub one_source : (n : ℕ) → length (sources_of net n) ≤ 1
   pub not_mixed : (p : ℕ) → (process net p).kind ≡ Mixed → ⊥
   pub clock_is_input : (p clock : ℕ) (edge : Edge) → IsClockedBy net p clock edge → IsInput net clock
@@ -19,7 +19,7 @@ pub record Faultless (net : Net) : Type 0 where
   pub no_latch : (p place : ℕ) → IsCombinational net p → HasPlace net p place → IsTrue ((process net p).assigns (target net p place))
   pub no_loop : (ps : List ℕ) → IsLoop net ps → ⊥
 
-module _ (net : Net) (A : IsAccepted net) where
+module _ (net : Netlist) (A : IsAccepted net) where
   one : (n : ℕ) → length (sources_of net n) ≤ 1
   one n = go (sources_of net n) refl
     where

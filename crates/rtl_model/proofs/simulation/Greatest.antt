@@ -1,7 +1,7 @@
--- The greatest number of delta cycles of an accepted net's moments.
+-- The greatest number of delta cycles of an accepted netlist's moments.
 use Rattle.std.proofs.Common.{◌≡◌, ℕ, zero, suc, ◌<◌, ◌≤◌, arith, ◌⊎◌, inl, inr, subst}
 use Rattle.std.proofs.lemmas.Bool.{cases_eq, cases_lt}
-use Rattle.rtl_model.specs.simulation.Net.{Net}
+use Rattle.rtl_model.specs.simulation.Netlist.{Netlist}
 use Rattle.rtl_model.specs.simulation.Moments.{Takes, IsMost}
 use Rattle.rtl_model.specs.simulation.Elaborated.{IsElaborated}
 use Rattle.rtl_model.specs.simulation.Accepted.{IsAccepted}
@@ -10,10 +10,10 @@ use Rattle.rtl_model.specs.simulation.Laws.{OneGreatestCount}
 use Rattle.rtl_model.proofs.simulation.Orders.{every_order_is_one, one_number}
 use Rattle.rtl_model.proofs.simulation.Settling.{each_moment_comes, settles_in_bound}
 
-one_count : (net : Net) (stimulus : ℕ → ℕ → ℕ) (m k j : ℕ) → Takes net stimulus m k → Takes net stimulus m j → k ≡ j
+one_count : (net : Netlist) (stimulus : ℕ → ℕ → ℕ) (m k j : ℕ) → Takes net stimulus m k → Takes net stimulus m j → k ≡ j
 one_count net stimulus m k j (t, a) (u, b) = ((every_order_is_one net stimulus m).1 k j t u a b).0
 
-module _ (net : Net) (E : IsElaborated net) (A : IsAccepted net) (stimulus : ℕ → ℕ → ℕ) where
+module _ (net : Netlist) (E : IsElaborated net) (A : IsAccepted net) (stimulus : ℕ → ℕ → ℕ) where
   takes : (m : ℕ) → (k : ℕ) × Takes net stimulus m k
   takes m = let (k, t, settled) = each_moment_comes net E A stimulus m in (k, (t, settled))
 
@@ -44,7 +44,7 @@ module _ (net : Net) (E : IsElaborated net) (A : IsAccepted net) (stimulus : ℕ
               let (m, le, other) = B.met in
               (b, record { at_most = λ m j le other. up_to b m j (omega arith) (omega arith) le other (cases_eq m (suc last)); met = (m, omega arith, other) })
 
-one_most : (net : Net) (stimulus : ℕ → ℕ → ℕ) (last a b : ℕ) → IsMost net stimulus last a → IsMost net stimulus last b → a ≤ b
+one_most : (net : Netlist) (stimulus : ℕ → ℕ → ℕ) (last a b : ℕ) → IsMost net stimulus last a → IsMost net stimulus last b → a ≤ b
 one_most net stimulus last a b x y = let (m, l, take) = x.met in y.at_most m a l take
 
 pub one_greatest_count : OneGreatestCount

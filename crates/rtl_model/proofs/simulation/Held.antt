@@ -10,8 +10,8 @@ use Rattle.rtl_model.proofs.basics.Lists.{Contains-none, any_at, any_true, Conta
 use Rattle.rtl_model.specs.basics.Valuations.{AgreeOn, clocked_entry, has_event}
 use Rattle.rtl_model.proofs.simulation.Faultless.{Faultless}
 use Rattle.rtl_model.proofs.simulation.Leveled.{Leveled}
-use Rattle.rtl_model.specs.simulation.Net.{Clocked, Combinational, Driver, Edge, HasPlace, Idle, IsClockedBy, IsCombinational, IsInput, Kind, kind_reset, Mixed, Net, no_process, process, Process, Reset, reset_entry, reset_of, resets, Source, sources_of, target}
-use Rattle.rtl_model.specs.simulation.Cycle.{is_quiet, net_value, resumed, source_value, State, updated}
+use Rattle.rtl_model.specs.simulation.Netlist.{Clocked, Combinational, Driver, Edge, HasPlace, Idle, IsClockedBy, IsCombinational, IsInput, ProcessKind, kind_reset, Mixed, Netlist, no_process, process, Process, Reset, reset_entry, reset_of, resets, Source, sources_of, target}
+use Rattle.rtl_model.specs.simulation.Cycle.{is_quiet, net_value, resumed_processes, source_value, State, after_update}
 use Rattle.rtl_model.specs.simulation.Levels.{has_late_reset, is_driver}
 use Rattle.rtl_model.specs.simulation.Machine.{entry_or, IsDriven}
 use Rattle.rtl_model.proofs.simulation.Order.{finished, waits, row_after, get_or-rows}
@@ -21,7 +21,7 @@ use Rattle.rtl_model.proofs.simulation.Rows.{transaction, value, out, driven_all
 use Rattle.rtl_model.proofs.simulation.Deltas.{after_delta, after}
 
 -- r is what the driver of each register has from the next update on
-pub record Holds (net : Net) (inputs : ℕ → ℕ) (r : ℕ → ℕ → ℕ) (s : State) : Type 0 where
+pub record Holds (net : Netlist) (inputs : ℕ → ℕ) (r : ℕ → ℕ → ℕ) (s : State) : Type 0 where
   pub now_length : length s.now ≡ length net.start
   pub pend_length : length s.pending ≡ length net.processes
   pub row_lengths : (p : ℕ) → length (get_or s.drivers p []) ≡ length (process net p).drives
@@ -34,12 +34,12 @@ pub record Holds (net : Net) (inputs : ℕ → ℕ) (r : ℕ → ℕ → ℕ) (s
   pub reset_kept : (p place clock : ℕ) (edge : Edge) → IsClockedBy net p clock edge → HasPlace net p place → resets (reset_of net p) inputs ≡ true → entry_or (reset_entry (reset_of net p) place) (r p place) ≡ r p place
 
 -- a cycle whose Runs are still to come: nothing is pending
-pub record IsFresh (net : Net) (u : State) : Type 0 where
+pub record IsFresh (net : Netlist) (u : State) : Type 0 where
   pub rows : length u.pending ≡ length net.processes
   pub none : (p place : ℕ) → transaction u p place ≡ None
 
 -- after d delta cycles and later by b: processes with transactions are above level d, or clocked and without an event
-pub record IsAbove (net : Net) (levels : List (Option ℕ)) (greatest d b : ℕ) (s : State) : Type 0 where
+pub record IsAbove (net : Netlist) (levels : List (Option ℕ)) (greatest d b : ℕ) (s : State) : Type 0 where
   pub combinational : (p place : ℕ) → IsCombinational net p → IsSome (transaction s p place) → d + 1 ≤ level_or levels p + b
   pub clocked_event : (p place clock : ℕ) (edge : Edge) → IsClockedBy net p clock edge → HasPlace net p place → (d + 1 ≤ b) ⊎ (out s p place ≡ value s p place)
   pub clocked_woken : (p place clock : ℕ) (edge : Edge) → IsClockedBy net p clock edge → IsSome (transaction s p place) → (d + 1 ≤ b) ⊎ ((has_late_reset net ≡ true) × (d ≤ greatest + b))
@@ -62,22 +62,22 @@ none_or_some : (o : Option ℕ) → (o ≡ None) ⊎ IsSome o
 none_or_some None = inl refl
 none_or_some (Some v) = inr refl
 
-pub kinds_below : (net : Net) (A : Faultless net) (p : ℕ) → p < length net.processes → IsCombinational net p ⊎ ((clock : ℕ) × (edge : Edge) × IsClockedBy net p clock edge)
+pub kinds_below : (net : Netlist) (A : Faultless net) (p : ℕ) → p < length net.processes → IsCombinational net p ⊎ ((clock : ℕ) × (edge : Edge) × IsClockedBy net p clock edge)
 kinds_below net A p l = go (process net p).kind refl
   where
-    go : (k : Kind) → (process net p).kind ≡ k → IsCombinational net p ⊎ ((clock : ℕ) × (edge : Edge) × IsClockedBy net p clock edge)
+    go : (k : ProcessKind) → (process net p).kind ≡ k → IsCombinational net p ⊎ ((clock : ℕ) × (edge : Edge) × IsClockedBy net p clock edge)
     go Combinational e = inl (l, e)
     go (Clocked clock edge reset) e = inr (clock, edge, (reset, e))
     go Mixed e = absurd (A.not_mixed p e)
 
 -- the transactions after the Runs of a cycle
-pub ran_awake : (net : Net) (u : State) (p place : ℕ) → IsFresh net u → p < length net.processes → waits u p ≡ true → transaction (finished net u) p place ≡ get_or ((process net p).effect u.before u.now) place None
+pub ran_awake : (net : Netlist) (u : State) (p place : ℕ) → IsFresh net u → p < length net.processes → waits u p ≡ true → transaction (finished net u) p place ≡ get_or ((process net p).effect u.before u.now) place None
 ran_awake net u p place f l w =
     let rows = f.rows in
     let row = get_or-rows (row_after net u) (length u.pending) p [] (omega arith) ∙ cond-true (waits u p) _ _ w in
     ap (λ (r : List (Option ℕ)). get_or r place None) row ∙ over_none ((process net p).effect u.before u.now) (get_or u.pending p []) place (f.none p place)
 
-pub ran_asleep : (net : Net) (u : State) (p place : ℕ) → IsFresh net u → waits u p ≡ false → transaction (finished net u) p place ≡ None
+pub ran_asleep : (net : Netlist) (u : State) (p place : ℕ) → IsFresh net u → waits u p ≡ false → transaction (finished net u) p place ≡ None
 ran_asleep net u p place f w = go (cases_lt p (length u.pending))
   where
     go : (p < length u.pending) ⊎ (length u.pending ≤ p) → transaction (finished net u) p place ≡ None
@@ -89,7 +89,7 @@ ran_asleep net u p place f w = go (cases_lt p (length u.pending))
         ap (λ (r : List (Option ℕ)). get_or r place None) row
 
 -- who has a transaction then, has run
-pub who_ran : (net : Net) (u : State) (p place : ℕ) → IsFresh net u → IsSome (transaction (finished net u) p place) → (p < length net.processes) × (waits u p ≡ true)
+pub who_ran : (net : Netlist) (u : State) (p place : ℕ) → IsFresh net u → IsSome (transaction (finished net u) p place) → (p < length net.processes) × (waits u p ≡ true)
 who_ran net u p place f s = (go (cases_lt p (length u.pending)), at (cases_Bool (waits u p)))
   where
     go : (p < length u.pending) ⊎ (length u.pending ≤ p) → p < length net.processes
@@ -103,7 +103,7 @@ who_ran net u p place f s = (go (cases_lt p (length u.pending)), at (cases_Bool 
     at (inl w) = w
     at (inr w) = let e = ran_asleep net u p place f w in cc
 
-module _ (net : Net) (L : Leveled net) where
+module _ (net : Netlist) (L : Leveled net) where
   pub input_not_driven : (n : ℕ) → IsInput net n → IsDriven net n → ⊥
   input_not_driven n is (p, place, h, t) = Contains-none (Driver p place) (subst (λ (xs : List Source). Contains xs (Driver p place)) (L.elaborated.wiring.inputs_have_no_source n is) (subst (λ (m : ℕ). Contains (sources_of net m) (Driver p place)) t (L.elaborated.wiring.drivers_are_sources p place h)))
 
@@ -146,7 +146,7 @@ module _ (net : Net) (L : Leveled net) where
   asleep_agrees before now p c e n r = no_event_same before now n (none_contained (has_event before now) (process net p).wakes n e (L.faultless.reads_wake p n c r))
 
   -- a combinational process's output after the Runs is its effect now, if it was before
-  pub combinational_ran : (u : State) (p place : ℕ) → IsFresh net u → u.waiting ≡ resumed net u.before u.now → IsCombinational net p → HasPlace net p place
+  pub combinational_ran : (u : State) (p place : ℕ) → IsFresh net u → u.waiting ≡ resumed_processes net u.before u.now → IsCombinational net p → HasPlace net p place
       → get_or ((process net p).effect u.before u.before) place None ≡ Some (value u p place)
       → get_or ((process net p).effect u.now u.now) place None ≡ Some (out (finished net u) p place)
   combinational_ran u p place f t c h was = go (cases_Bool (waits u p))
@@ -163,49 +163,49 @@ module _ (net : Net) (L : Leveled net) where
           ∙ ap (λ (o : Option ℕ). Some (entry_or o (value u p place))) (sym (ran_asleep net u p place f w))
 
   module _ (inputs : ℕ → ℕ) (r : ℕ → ℕ → ℕ) (s : State) (H : Holds net inputs r s) where
-    pub updated_fresh : IsFresh net (updated net s)
+    pub updated_fresh : IsFresh net (after_update net s)
     updated_fresh = record { rows = length-map s.pending _ ∙ H.pend_length; none = none_pending_at s.pending }
 
-    pub updated_value : (p place : ℕ) → HasPlace net p place → value (updated net s) p place ≡ out s p place
+    pub updated_value : (p place : ℕ) → HasPlace net p place → value (after_update net s) p place ≡ out s p place
     updated_value p place h =
         let e = H.row_lengths p in
         ap (λ (row : List ℕ). get_or row place 0) (driven_all_at s.pending s.drivers p) ∙ driven_at (get_or s.pending p []) (get_or s.drivers p []) place (omega arith)
 
-    pub updated_driven : (p place : ℕ) → HasPlace net p place → get_or (updated net s).now (target net p place) 0 ≡ value (updated net s) p place
+    pub updated_driven : (p place : ℕ) → HasPlace net p place → get_or (after_update net s).now (target net p place) 0 ≡ value (after_update net s) p place
     updated_driven p place h =
-        get_or-table (length net.start) (λ n. net_value net (updated net s).drivers (sources_of net n) (get_or s.now n 0)) (target net p place) (L.elaborated.wiring.targets_are_nets p place h)
-        ∙ ap (λ (xs : List Source). net_value net (updated net s).drivers xs (get_or s.now (target net p place) 0)) (sole net L p place h)
+        get_or-table (length net.start) (λ n. net_value net (after_update net s).drivers (sources_of net n) (get_or s.now n 0)) (target net p place) (L.elaborated.wiring.targets_are_nets p place h)
+        ∙ ap (λ (xs : List Source). net_value net (after_update net s).drivers xs (get_or s.now (target net p place) 0)) (sole net L p place h)
         ∙ L.elaborated.values.one_resolves _
 
-    pub updated_rest : (n : ℕ) → (IsDriven net n → ⊥) → get_or (updated net s).now n 0 ≡ get_or s.now n 0
+    pub updated_rest : (n : ℕ) → (IsDriven net n → ⊥) → get_or (after_update net s).now n 0 ≡ get_or s.now n 0
     updated_rest n free = go (cases_lt n (length net.start)) (sources_of net n) refl
       where
         starts : List (List ℕ)
         starts = map (λ (p : Process). p.starts) net.processes
 
-        go : (n < length net.start) ⊎ (length net.start ≤ n) → (xs : List Source) → sources_of net n ≡ xs → get_or (updated net s).now n 0 ≡ get_or s.now n 0
+        go : (n < length net.start) ⊎ (length net.start ≤ n) → (xs : List Source) → sources_of net n ≡ xs → get_or (after_update net s).now n 0 ≡ get_or s.now n 0
         go (inl l) [] e =
-            get_or-table (length net.start) (λ m. net_value net (updated net s).drivers (sources_of net m) (get_or s.now m 0)) n l
-            ∙ ap (λ (xs : List Source). net_value net (updated net s).drivers xs (get_or s.now n 0)) e
+            get_or-table (length net.start) (λ m. net_value net (after_update net s).drivers (sources_of net m) (get_or s.now m 0)) n l
+            ∙ ap (λ (xs : List Source). net_value net (after_update net s).drivers xs (get_or s.now n 0)) e
         go (inl l) (Idle v ∷ more) e =
             let has = subst (λ (xs : List Source). Contains xs (Idle v)) (sym e) (Contains-first (Idle v) more) in
             let one = only_source (sources_of net n) (Idle v) (L.faultless.one_source n) has in
             let given : IsInput net n → ⊥ = λ is. Contains-none (Idle v) (subst (λ (xs : List Source). Contains xs (Idle v)) (L.elaborated.wiring.inputs_have_no_source n is) has) in
-            get_or-table (length net.start) (λ m. net_value net (updated net s).drivers (sources_of net m) (get_or s.now m 0)) n l
-            ∙ ap (λ (xs : List Source). net_value net (updated net s).drivers xs (get_or s.now n 0)) one
+            get_or-table (length net.start) (λ m. net_value net (after_update net s).drivers (sources_of net m) (get_or s.now m 0)) n l
+            ∙ ap (λ (xs : List Source). net_value net (after_update net s).drivers xs (get_or s.now n 0)) one
             ∙ sym (H.on_others n l given free ∙ L.elaborated.wiring.nets_start n (Idle v) has ∙ ap (λ (xs : List Source). net.resolve (map (source_value starts) xs)) one)
         go (inl l) (Driver p place ∷ more) e =
             let f = L.elaborated.wiring.sources_are_drivers n p place (subst (λ (xs : List Source). Contains xs (Driver p place)) (sym e) (Contains-first (Driver p place) more)) in
             absurd (free (p, place, f.0, f.1))
         go (inr l) xs e =
             let k = H.now_length in
-            get_or_past (updated net s).now n 0 (rw length-table l) ∙ sym (get_or_past s.now n 0 (omega arith))
+            get_or_past (after_update net s).now n 0 (rw length-table l) ∙ sym (get_or_past s.now n 0 (omega arith))
 
-    reset_after : (p : ℕ) → resets (reset_of net p) (λ n. get_or (updated net s).now n 0) ≡ resets (reset_of net p) inputs
-    reset_after p = reset_now p (λ n. get_or (updated net s).now n 0) inputs (λ n is. updated_rest n (input_not_driven n is) ∙ H.on_inputs n is)
+    reset_after : (p : ℕ) → resets (reset_of net p) (λ n. get_or (after_update net s).now n 0) ≡ resets (reset_of net p) inputs
+    reset_after p = reset_now p (λ n. get_or (after_update net s).now n 0) inputs (λ n is. updated_rest n (input_not_driven n is) ∙ H.on_inputs n is)
 
-    no_edge_then : (p clock : ℕ) (edge : Edge) → IsClockedBy net p clock edge → net.edge edge (get_or s.now clock 0) (get_or (updated net s).now clock 0) ≡ false
-    no_edge_then p clock edge is = no_edge_same s.now (updated net s).now clock edge (sym (updated_rest clock (input_not_driven clock (L.faultless.clock_is_input p clock edge is))))
+    no_edge_then : (p clock : ℕ) (edge : Edge) → IsClockedBy net p clock edge → net.edge edge (get_or s.now clock 0) (get_or (after_update net s).now clock 0) ≡ false
+    no_edge_then p clock edge is = no_edge_same s.now (after_update net s).now clock edge (sym (updated_rest clock (input_not_driven clock (L.faultless.clock_is_input p clock edge is))))
 
     -- who has a transaction then is in reset
     delta_resets : (p place clock : ℕ) (edge : Edge) → IsClockedBy net p clock edge → IsSome (transaction (after_delta net s) p place) → resets (reset_of net p) inputs ≡ true
@@ -213,7 +213,7 @@ module _ (net : Net) (L : Leveled net) where
       where
         go : (resets (reset_of net p) inputs ≡ true) ⊎ (resets (reset_of net p) inputs ≡ false) → resets (reset_of net p) inputs ≡ true
         go (inl t) = t
-        go (inr t) = let none = clocked_ran (updated net s) p place clock edge updated_fresh is (reset_after p ∙ t) (no_edge_then p clock edge is) in cc
+        go (inr t) = let none = clocked_ran (after_update net s) p place clock edge updated_fresh is (reset_after p ∙ t) (no_edge_then p clock edge is) in cc
 
     -- a clocked process makes no event after a delta cycle
     delta_same : (p place clock : ℕ) (edge : Edge) → IsClockedBy net p clock edge → HasPlace net p place → entry_or (transaction (after_delta net s) p place) (out s p place) ≡ out s p place
@@ -222,21 +222,21 @@ module _ (net : Net) (L : Leveled net) where
         go : (transaction (after_delta net s) p place ≡ None) ⊎ IsSome (transaction (after_delta net s) p place) → entry_or (transaction (after_delta net s) p place) (out s p place) ≡ out s p place
         go (inl e) = ap (λ (o : Option ℕ). entry_or o (out s p place)) e
         go (inr some) =
-            let (l, w) = who_ran net (updated net s) p place updated_fresh some in
+            let (l, w) = who_ran net (after_update net s) p place updated_fresh some in
             let t = delta_resets p place clock edge is some in
-            let ran = reset_ran (updated net s) p place clock edge updated_fresh is l w (reset_after p ∙ t) in
+            let ran = reset_ran (after_update net s) p place clock edge updated_fresh is l w (reset_after p ∙ t) in
             let was = H.on_clocked p place clock edge is h in
             ap (λ (o : Option ℕ). entry_or o (out s p place)) ran ∙ ap (entry_or (reset_entry (reset_of net p) place)) was ∙ H.reset_kept p place clock edge is h t ∙ sym was
 
     pub delta_holds : Holds net inputs r (after_delta net s)
     delta_holds = record {
       now_length = length-table _ _;
-      pend_length = length-map-range_with_len (row_after net (updated net s)) 0 (length (updated net s).pending) ∙ updated_fresh.rows;
+      pend_length = length-map-range_with_len (row_after net (after_update net s)) 0 (length (after_update net s).pending) ∙ updated_fresh.rows;
       row_lengths = λ p. ap length (driven_all_at s.pending s.drivers p) ∙ length-driven (get_or s.pending p []) (get_or s.drivers p []) ∙ H.row_lengths p;
       on_inputs = λ n is. updated_rest n (input_not_driven n is) ∙ H.on_inputs n is;
       on_others = λ n l given free. updated_rest n free ∙ H.on_others n l given free;
       on_driven = updated_driven;
-      on_combinational = λ p place c h. combinational_ran (updated net s) p place updated_fresh refl c h (H.on_combinational p place c h ∙ ap (λ (x : ℕ). Some x) (sym (updated_value p place h)));
+      on_combinational = λ p place c h. combinational_ran (after_update net s) p place updated_fresh refl c h (H.on_combinational p place c h ∙ ap (λ (x : ℕ). Some x) (sym (updated_value p place h)));
       on_clocked = λ p place clock edge is h. ap (entry_or (transaction (after_delta net s) p place)) (updated_value p place h) ∙ delta_same p place clock edge is h ∙ H.on_clocked p place clock edge is h;
       reset_kept = H.reset_kept;
     }
@@ -244,11 +244,11 @@ module _ (net : Net) (L : Leveled net) where
     -- one delta cycle more, and those with transactions are a level higher
     module _ (d b : ℕ) (above : IsAbove net L.levels L.greatest d b s) where
       -- a net with an event then is driven by a process that is high enough
-      event_above : (n : ℕ) → (get_or s.now n 0 ≡ get_or (updated net s).now n 0 → ⊥) → (q : ℕ) × (place : ℕ) × HasPlace net q place × (target net q place ≡ n) × (d + 1 ≤ level_or L.levels q + b)
+      event_above : (n : ℕ) → (get_or s.now n 0 ≡ get_or (after_update net s).now n 0 → ⊥) → (q : ℕ) × (place : ℕ) × HasPlace net q place × (target net q place ≡ n) × (d + 1 ≤ level_or L.levels q + b)
       event_above n differs = go (driven_or_not net L n)
         where
-          same : (q place : ℕ) → HasPlace net q place → target net q place ≡ n → out s q place ≡ value s q place → get_or s.now n 0 ≡ get_or (updated net s).now n 0
-          same q place h t e = subst (λ (m : ℕ). get_or s.now m 0 ≡ get_or (updated net s).now m 0) t
+          same : (q place : ℕ) → HasPlace net q place → target net q place ≡ n → out s q place ≡ value s q place → get_or s.now n 0 ≡ get_or (after_update net s).now n 0
+          same q place h t e = subst (λ (m : ℕ). get_or s.now m 0 ≡ get_or (after_update net s).now m 0) t
               (H.on_driven q place h ∙ sym (updated_driven q place h ∙ updated_value q place h ∙ e))
 
           combinational : (q place : ℕ) → HasPlace net q place → target net q place ≡ n → IsCombinational net q → (transaction s q place ≡ None) ⊎ IsSome (transaction s q place) → d + 1 ≤ level_or L.levels q + b
@@ -269,9 +269,9 @@ module _ (net : Net) (L : Leveled net) where
 
       woken_by : (p place : ℕ) → IsSome (transaction (after_delta net s) p place) → (n : ℕ) × Contains (process net p).wakes n × ((q : ℕ) × (place : ℕ) × HasPlace net q place × (target net q place ≡ n) × (d + 1 ≤ level_or L.levels q + b))
       woken_by p place some =
-          let (l, w) = who_ran net (updated net s) p place updated_fresh some in
-          let (n, wakes, event) = any_at (has_event s.now (updated net s).now) (process net p).wakes (sym (resumed_at net s.now (updated net s).now p) ∙ w) in
-          (n, wakes, event_above n (event_differs s.now (updated net s).now n event))
+          let (l, w) = who_ran net (after_update net s) p place updated_fresh some in
+          let (n, wakes, event) = any_at (has_event s.now (after_update net s).now) (process net p).wakes (sym (resumed_at net s.now (after_update net s).now p) ∙ w) in
+          (n, wakes, event_above n (event_differs s.now (after_update net s).now n event))
 
       low : (q place : ℕ) → HasPlace net q place → level_or L.levels q ≤ L.greatest
       low q place h = go (kinds net L q place h)
@@ -295,7 +295,7 @@ module _ (net : Net) (L : Leveled net) where
           any_true (λ (x : Process). is_some (kind_reset x.kind) && list_any (λ m. list_any is_driver (sources_of net m)) x.wakes) net.processes (process net p) at (and_from _ _ has drives)
         where
           in_range : p < length net.processes
-          in_range = (who_ran net (updated net s) p place updated_fresh some).0
+          in_range = (who_ran net (after_update net s) p place updated_fresh some).0
 
           at : Contains net.processes (process net p)
           at = Contains-get_or net.processes p no_process in_range

@@ -1,34 +1,34 @@
--- Sources, kinds and levels of an accepted net.
+-- Sources, kinds and levels of an accepted netlist.
 use Rattle.std.proofs.Common.{◌≡◌, ℕ, zero, suc, ◌<◌, ◌≤◌, List, [], ◌∷◌, length, get_or, Option, None, refl, sym, ap, IsSome, arith, ◌⊎◌, inl, inr, subst, Contains}
 use Rattle.std.proofs.lemmas.List.{get_or_past}
 use Rattle.std.proofs.lemmas.Bool.{cases_lt}
 use Rattle.rtl_model.proofs.basics.Lists.{Contains-none, Contains-one, Contains-first, only_source}
 use Rattle.rtl_model.proofs.simulation.Leveled.{Leveled}
-use Rattle.rtl_model.specs.simulation.Net.{Clocked, Combinational, Driver, Edge, HasPlace, Idle, IsClockedBy, IsCombinational, Kind, Mixed, Net, no_process, Process, process, Source, sources_of, target}
+use Rattle.rtl_model.specs.simulation.Netlist.{Clocked, Combinational, Driver, Edge, HasPlace, Idle, IsClockedBy, IsCombinational, ProcessKind, Mixed, Netlist, no_process, Process, process, Source, sources_of, target}
 use Rattle.rtl_model.specs.simulation.Elaborated.{IsOnlyPlace}
 use Rattle.rtl_model.specs.simulation.Accepted.{Feeds}
 use Rattle.rtl_model.specs.simulation.Levels.{ChainTo, IsLevel}
 use Rattle.rtl_model.specs.simulation.Machine.{entry_or, IsDriven}
 
-pub place_in_range : (net : Net) (p place : ℕ) → HasPlace net p place → p < length net.processes
+pub place_in_range : (net : Netlist) (p place : ℕ) → HasPlace net p place → p < length net.processes
 place_in_range net p place h = go (cases_lt p (length net.processes))
   where
     go : (p < length net.processes) ⊎ (length net.processes ≤ p) → p < length net.processes
     go (inl l) = l
     go (inr l) = let h' : place < 0 = subst (λ (q : Process). place < length q.drives) (get_or_past net.processes p no_process l) h in absurd (omega arith)
 
-pub same_level : (net : Net) (p a b : ℕ) → IsLevel net p a → IsLevel net p b → a ≡ b
+pub same_level : (net : Netlist) (p a b : ℕ) → IsLevel net p a → IsLevel net p b → a ≡ b
 same_level net p a b x y = let l = x.longest b y.reached in let k = y.longest a x.reached in omega arith
 
 -- the level of a combinational process, 0 of a clocked one
 abbrev pub level_or : List (Option ℕ) → ℕ → ℕ
 level_or levels p = entry_or (get_or levels p None) 0
 
-module _ (net : Net) (L : Leveled net) where
+module _ (net : Netlist) (L : Leveled net) where
   pub kinds : (p place : ℕ) → HasPlace net p place → IsCombinational net p ⊎ ((clock : ℕ) × (edge : Edge) × IsClockedBy net p clock edge)
   kinds p place h = go (process net p).kind refl
     where
-      go : (k : Kind) → (process net p).kind ≡ k → IsCombinational net p ⊎ ((clock : ℕ) × (edge : Edge) × IsClockedBy net p clock edge)
+      go : (k : ProcessKind) → (process net p).kind ≡ k → IsCombinational net p ⊎ ((clock : ℕ) × (edge : Edge) × IsClockedBy net p clock edge)
       go Combinational e = inl (place_in_range net p place h, e)
       go (Clocked clock edge reset) e = inr (clock, edge, (reset, e))
       go Mixed e = absurd (L.faultless.not_mixed p e)

@@ -7,14 +7,14 @@ use Rattle.std.proofs.lemmas.List.Elements.{All-from_get_or, recursion_from_All}
 use Rattle.std.proofs.lemmas.Map.Keys.{IsDistinct-cons}
 use Rattle.std.proofs.lemmas.Map.Steps.{length-le_from_distinct_below}
 use Rattle.std.proofs.lemmas.Bool.{cases_eq, cases_lt, ne_eqb, eqb-true, or_cases, lt-ltb, le-ltb}
-use Rattle.rtl_model.specs.simulation.Net.{Edge, IsClockedBy, IsCombinational, Net}
+use Rattle.rtl_model.specs.simulation.Netlist.{Edge, IsClockedBy, IsCombinational, Netlist}
 use Rattle.rtl_model.specs.simulation.Accepted.{Feeds, HasNoLoop, IsFedRound}
 use Rattle.rtl_model.specs.simulation.Levels.{ChainTo, IsLevel}
 use Rattle.rtl_model.specs.simulation.Laws.{LevelsExist}
 use Rattle.rtl_model.proofs.simulation.Order.{get_or-rows}
 use Rattle.rtl_model.proofs.simulation.Decisions.{search_below, is_combinational, is_fed}
 
-is_chain : (net : Net) (n q : ℕ) → ChainTo net q n ⊎ (ChainTo net q n → ⊥)
+is_chain : (net : Netlist) (n q : ℕ) → ChainTo net q n ⊎ (ChainTo net q n → ⊥)
 is_chain net zero q = inr (λ h. h)
 is_chain net (suc zero) q = is_combinational net q
 is_chain net (suc (suc n)) q = go (search_below (λ p. ChainTo net p (suc n) × Feeds net p q) (λ p. both (is_chain net (suc n) p) (is_fed net p q)) (length net.processes))
@@ -29,23 +29,23 @@ is_chain net (suc (suc n)) q = go (search_below (λ p. ChainTo net p (suc n) × 
     go (inr none) = inr (λ (p, c, f). none p f.feeder.0 (c, f))
 
 -- a chain as a list, its end first
-IsChain : Net → ℕ → List ℕ → Type 0
+IsChain : Netlist → ℕ → List ℕ → Type 0
 IsChain net q [] = IsCombinational net q
 IsChain net q (p ∷ more) = Feeds net p q × IsChain net p more
 
-chain_list : (net : Net) (n q : ℕ) → ChainTo net q (suc n) → (more : List ℕ) × (length more ≡ n) × IsChain net q more
+chain_list : (net : Netlist) (n q : ℕ) → ChainTo net q (suc n) → (more : List ℕ) × (length more ≡ n) × IsChain net q more
 unfolding IsChain
 chain_list net zero q c = ([], refl, c)
 chain_list net (suc n) q (p, c, f) = let (more, e, chain) = chain_list net n p c in (p ∷ more, ap suc e, (f, chain))
 
 -- a chain that comes back to a process has a loop
-back : (net : Net) (first q : ℕ) (more : List ℕ) (k : ℕ) → IsChain net q more → k < length more → get_or more k 0 ≡ first → IsFedRound net first (q ∷ take k more)
+back : (net : Netlist) (first q : ℕ) (more : List ℕ) (k : ℕ) → IsChain net q more → k < length more → get_or more k 0 ≡ first → IsFedRound net first (q ∷ take k more)
 unfolding IsChain
 back net first q [] k c l e = absurd (omega arith)
 back net first q (p ∷ more) zero (f, c) l e = subst (λ (r : ℕ). Feeds net r q) e f
 back net first q (p ∷ more) (suc k) (f, c) l e = (f, back net first p more k c (omega arith) e)
 
-chain_distinct : (net : Net) (A : HasNoLoop net) (q : ℕ) (more : List ℕ) → IsChain net q more → IsDistinct eqb (q ∷ more)
+chain_distinct : (net : Netlist) (A : HasNoLoop net) (q : ℕ) (more : List ℕ) → IsChain net q more → IsDistinct eqb (q ∷ more)
 unfolding IsChain IsDistinct
 chain_distinct net A q [] c = IsDistinct-cons eqb q [] tt tt
 chain_distinct net A q (p ∷ more) c =
@@ -53,7 +53,7 @@ chain_distinct net A q (p ∷ more) c =
     (recursion_from_All (λ y. eqb q y ≡ false) (p ∷ more) (All-from_get_or (λ y. eqb q y ≡ false) (p ∷ more) 0 (λ k l. ne_eqb q _ (λ e. A (q ∷ take k (p ∷ more)) (back net q q (p ∷ more) k c l (sym e))))))
     (chain_distinct net A p more c.1)
 
-chain_in_range : (net : Net) (q : ℕ) (more : List ℕ) → IsChain net q more → (r : ℕ) → list_any (eqb r) (q ∷ more) ≡ true → r < length net.processes
+chain_in_range : (net : Netlist) (q : ℕ) (more : List ℕ) → IsChain net q more → (r : ℕ) → list_any (eqb r) (q ∷ more) ≡ true → r < length net.processes
 unfolding IsChain
 chain_in_range net q [] c r h = go (or_cases (eqb r q) false h)
   where
@@ -66,7 +66,7 @@ chain_in_range net q (p ∷ more) c r h = go (chain_in_range net p more c.1 r) (
     go more' (inl e) = let k = eqb-true r q e in let l = c.0.fed.0 in omega arith
     go more' (inr e) = more' e
 
-chain_bounded : (net : Net) (A : HasNoLoop net) (q n : ℕ) → ChainTo net q n → n ≤ length net.processes
+chain_bounded : (net : Netlist) (A : HasNoLoop net) (q n : ℕ) → ChainTo net q n → n ≤ length net.processes
 chain_bounded net A q zero c = absurd c
 chain_bounded net A q (suc n) c =
     let (more, e, chain) = chain_list net n q c in
@@ -86,16 +86,16 @@ highest Q d one (suc b) top = go (λ t. highest Q d one b t) (d (suc b))
         at n h (inl e) = absurd (none (subst (λ (m : ℕ). Q m) e h))
         at n h (inr ne) = let l = top n h in omega arith
 
-level_exists : (net : Net) (A : HasNoLoop net) (p : ℕ) → IsCombinational net p → (level : ℕ) × IsLevel net p level
+level_exists : (net : Netlist) (A : HasNoLoop net) (p : ℕ) → IsCombinational net p → (level : ℕ) × IsLevel net p level
 level_exists net A p c =
     let (n, h, top) = highest (λ n. ChainTo net p n) (λ n. is_chain net n p) c (length net.processes) (λ n h. chain_bounded net A p n h) in
     (n, record { reached = h; longest = top })
 
-abbrev level_option : (net : Net) (A : HasNoLoop net) (p : ℕ) → IsCombinational net p ⊎ (IsCombinational net p → ⊥) → Option ℕ
+abbrev level_option : (net : Netlist) (A : HasNoLoop net) (p : ℕ) → IsCombinational net p ⊎ (IsCombinational net p → ⊥) → Option ℕ
 level_option net A p (inl c) = Some (level_exists net A p c).0
 level_option net A p (inr none) = None
 
-levels_of : (net : Net) → HasNoLoop net → List (Option ℕ)
+levels_of : (net : Netlist) → HasNoLoop net → List (Option ℕ)
 levels_of net A = map (λ (p : ℕ). level_option net A p (is_combinational net p)) (range_with_len 0 (length net.processes))
 
 greatest_of : List (Option ℕ) → ℕ
@@ -130,7 +130,7 @@ met (Some w ∷ xs) h = go (met xs) (cases_lt w (greatest_of xs))
     go more (inl l) = rw (lt-ltb w (greatest_of xs) l) (let (k, e) = more (λ z. absurd (omega arith)) in (suc k, e))
     go more (inr l) = rw (le-ltb w (greatest_of xs) l) (0, refl)
 
-levels_at : (net : Net) (A : HasNoLoop net) (p : ℕ) → p < length net.processes → get_or (levels_of net A) p None ≡ level_option net A p (is_combinational net p)
+levels_at : (net : Netlist) (A : HasNoLoop net) (p : ℕ) → p < length net.processes → get_or (levels_of net A) p None ≡ level_option net A p (is_combinational net p)
 unfolding levels_of
 levels_at net A p l = get_or-rows (λ (q : ℕ). level_option net A q (is_combinational net q)) (length net.processes) p None l
 

@@ -3,7 +3,7 @@ use Rattle.std.proofs.Common.{◌≡◌, ℕ, zero, suc, ◌<◌, ◌≤◌, Lis
 use Rattle.std.proofs.lemmas.List.{ext_get_or}
 use Rattle.std.proofs.lemmas.Bool.{cases_eq, cases_order}
 use Rattle.rtl_model.proofs.basics.Rising.{same_elements}
-use Rattle.rtl_model.specs.simulation.Net.{Edge, IsClockedBy, IsCombinational, Net}
+use Rattle.rtl_model.specs.simulation.Netlist.{Edge, IsClockedBy, IsCombinational, Netlist}
 use Rattle.rtl_model.specs.simulation.Levels.{AreLevels, bound, IsLevel}
 use Rattle.rtl_model.specs.simulation.Report.{clock_key, IsFrom, IsReport}
 use Rattle.rtl_model.specs.simulation.Laws.{OneReport}
@@ -11,11 +11,11 @@ use Rattle.rtl_model.proofs.simulation.Faultless.{Faultless, faultless}
 use Rattle.rtl_model.proofs.simulation.Levels.{same_level}
 use Rattle.rtl_model.proofs.simulation.Held.{kinds_below}
 
-not_below_one : (net : Net) (p n : ℕ) → IsLevel net p n → 1 ≡ suc n → ⊥
+not_below_one : (net : Netlist) (p n : ℕ) → IsLevel net p n → 1 ≡ suc n → ⊥
 not_below_one net p zero lower e = lower.reached
 not_below_one net p (suc n) lower e = absurd (omega arith)
 
-module _ (net : Net) (A : Faultless net) where
+module _ (net : Netlist) (A : Faultless net) where
   same_levels : (v w : List (Option ℕ)) (m n : ℕ) → AreLevels net v m → AreLevels net w n → v ≡ w
   same_levels v w m n V W = ext_get_or None v w (V.each_process ∙ sym W.each_process) (λ p l. go p (kinds_below net A p (let e = V.each_process in omega arith)))
     where

@@ -2,7 +2,7 @@
 use Rattle.std.proofs.Common.{◌≡◌, ℕ, zero, suc, pred, min, ◌<◌, ◌≤◌, Bool, false, List, length, slice_index, slice_index_or, Option, Some, None, refl, sym, ap, ◌∙◌, subst, arith, ◌⊎◌, inl, inr, ◌==◌}
 use Rattle.std.proofs.lemmas.Bool.{cases_lt}
 use Rattle.rtl_model.specs.basics.Valuations.{clocked_entry}
-use Rattle.rtl_model.specs.simulation.Net.{Net, Edge, Reset, IsInput, IsClockedBy, process, target, reset_of, reset_entry, resets}
+use Rattle.rtl_model.specs.simulation.Netlist.{Netlist, Edge, Reset, IsInput, IsClockedBy, process, target, reset_of, reset_entry, resets}
 use Rattle.rtl_model.specs.simulation.Cycle.{State}
 use Rattle.rtl_model.specs.simulation.Moments.{HasRun, Begun, at_moments}
 use Rattle.rtl_model.specs.simulation.Elaborated.{IsElaborated}
@@ -14,7 +14,7 @@ use Rattle.rtl_model.proofs.simulation.Consistent.{takes_inputs_alone}
 use Rattle.rtl_model.proofs.simulation.Faultless.{Faultless, faultless}
 use Rattle.rtl_model.proofs.simulation.Runs.{Machine, Machine-run, run_is}
 
-begins : (net : Net) (stimulus other : ℕ → ℕ → ℕ) (m : ℕ) → AgreeUpTo net stimulus other m → (s : State) → Begun net stimulus m s → Begun net other m s
+begins : (net : Netlist) (stimulus other : ℕ → ℕ → ℕ) (m : ℕ) → AgreeUpTo net stimulus other m → (s : State) → Begun net stimulus m s → Begun net other m s
 begins net stimulus other zero agree s run =
     subst (λ (u : State). HasRun net u s) (takes_inputs_alone net (stimulus 0) (other 0) (λ n is. agree 0 n (omega arith) is)).starts run
 begins net stimulus other (suc m) agree s (earlier, k, quiet, begun, to, run) = (
@@ -26,7 +26,7 @@ begins net stimulus other (suc m) agree s (earlier, k, quiet, begun, to, run) = 
   subst (λ (u : State). HasRun net u s) ((takes_inputs_alone net (stimulus (suc m)) (other (suc m)) (λ n is. agree (suc m) n (omega arith) is)).gives quiet) run,
 )
 
-module _ (net : Net) (E : IsElaborated net) (A : Faultless net) (inputs other : ℕ → ℕ) (agree : (n : ℕ) → IsInput net n → inputs n ≡ other n) where
+module _ (net : Netlist) (E : IsElaborated net) (A : Faultless net) (inputs other : ℕ → ℕ) (agree : (n : ℕ) → IsInput net n → inputs n ≡ other n) where
   same_reset : (p : ℕ) → resets (reset_of net p) inputs ≡ resets (reset_of net p) other
   same_reset p = go (reset_of net p) refl
     where
@@ -61,7 +61,7 @@ module _ (net : Net) (E : IsElaborated net) (A : Faultless net) (inputs other : 
       same : (p place clock : ℕ) (edge : Edge) → IsClockedBy net p clock edge → register_next net p place clock edge v inputs ≡ register_next net p place clock edge v other
       same p place clock edge is = λ i. entry_or (clocked_entry (same_reset p i) (net.edge edge (slice_index v clock) (agree clock (A.clock_is_input p clock edge is) i)) (reset_entry (reset_of net p) place) (slice_index_or ((process net p).acting_effect v) place None)) (slice_index v (target net p place))
 
-machine_other : (net : Net) (E : IsElaborated net) (A : Faultless net) (stimulus other : ℕ → ℕ → ℕ) (m : ℕ) → AgreeUpTo net stimulus other m → (v : List ℕ) → Machine net stimulus m v → Machine net other m v
+machine_other : (net : Netlist) (E : IsElaborated net) (A : Faultless net) (stimulus other : ℕ → ℕ → ℕ) (m : ℕ) → AgreeUpTo net stimulus other m → (v : List ℕ) → Machine net stimulus m v → Machine net other m v
 machine_other net E A stimulus other zero agree v f = first_other net E A (stimulus 0) (other 0) (λ n is. agree 0 n (omega arith) is) v f
 machine_other net E A stimulus other (suc m) agree v (u, before, f) = (
   u,
@@ -69,7 +69,7 @@ machine_other net E A stimulus other (suc m) agree v (u, before, f) = (
   step_other net E A (stimulus (suc m)) (other (suc m)) (λ n is. agree (suc m) n (omega arith) is) u v f,
 )
 
-race_back : (net : Net) (A : Faultless net) (stimulus other : ℕ → ℕ → ℕ) (last m : ℕ) → m ≤ last → AgreeUpTo net stimulus other last → IsRaceAt net other m → IsRaceAt net stimulus m
+race_back : (net : Netlist) (A : Faultless net) (stimulus other : ℕ → ℕ → ℕ) (last m : ℕ) → m ≤ last → AgreeUpTo net stimulus other last → IsRaceAt net other m → IsRaceAt net stimulus m
 race_back net A stimulus other last zero l agree r = r
 race_back net A stimulus other last (suc m) l agree r =
     let clock_is = A.clock_is_input r.process r.clock r.edge r.clocked in
@@ -101,7 +101,7 @@ depends_on_past net stimulus other m agree = record {
 
 -- ---- past the last time
 
-module _ (net : Net) (times : List ℕ) (value : (time n : ℕ) → ℕ) where
+module _ (net : Netlist) (times : List ℕ) (value : (time n : ℕ) → ℕ) where
   stays : (m : ℕ) → length times ≤ suc m → at_moments times value (suc m) ≡ at_moments times value m
   stays m l = ap (λ (k : ℕ). value (slice_index times k)) (omega arith)
 

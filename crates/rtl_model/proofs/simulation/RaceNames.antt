@@ -1,12 +1,12 @@
 -- Races are what a report's clocks show, and the earliest has one name.
 use Rattle.std.proofs.Common.{◌≡◌, ℕ, suc, ◌<◌, List, arith, sym, ◌⊎◌, inl, inr, subst}
 use Rattle.std.proofs.lemmas.Bool.{cases_order}
-use Rattle.rtl_model.specs.simulation.Net.{Net, Edge}
+use Rattle.rtl_model.specs.simulation.Netlist.{Netlist, Edge}
 use Rattle.rtl_model.specs.simulation.Report.{AreClocks}
 use Rattle.rtl_model.specs.simulation.Races.{IsRace, IsRaceOf, IsLowestRace, IsFirstRace}
 use Rattle.rtl_model.specs.simulation.Laws.{EachClockShowsRaces}
 
-module _ (net : Net) (clocks : List (ℕ × Edge)) (C : AreClocks net clocks) where
+module _ (net : Netlist) (clocks : List (ℕ × Edge)) (C : AreClocks net clocks) where
   named : (before now : ℕ → ℕ) → IsRace net before now → (input clock : ℕ) × IsRaceOf net clocks before now input clock
   named before now r = (
     r.input,

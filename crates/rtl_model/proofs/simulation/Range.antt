@@ -4,7 +4,7 @@ use Rattle.std.specs.List.{list_any}
 use Rattle.std.proofs.lemmas.Bool.{cases_Bool, cond-true, cond-false}
 use Rattle.rtl_model.proofs.basics.Lists.{Contains-first}
 use Rattle.rtl_model.specs.basics.Valuations.{clocked_entry}
-use Rattle.rtl_model.specs.simulation.Net.{Clocked, Combinational, Driver, HasPlace, Idle, Kind, Mixed, Net, process, Source, sources_of, target}
+use Rattle.rtl_model.specs.simulation.Netlist.{Clocked, Combinational, Driver, HasPlace, Idle, ProcessKind, Mixed, Netlist, process, Source, sources_of, target}
 use Rattle.rtl_model.specs.simulation.Machine.{entry_or, IsMachineRun, Solves}
 use Rattle.rtl_model.specs.simulation.Range.{AreInputs, AreRegisters, IsValuation, KeepsRange, limit}
 use Rattle.rtl_model.specs.simulation.Laws.{RunsInRange, SolutionsInRange}
@@ -33,7 +33,7 @@ some_below : (most : ℕ) (o : Option ℕ) → EntryBelow most o → IsSome o �
 some_below most None e h = cc
 some_below most (Some x) e h = e x refl
 
-module _ (net : Net) (L : Leveled net) (K : KeepsRange net) where
+module _ (net : Netlist) (L : Leveled net) (K : KeepsRange net) where
   module _ (inputs registers : ℕ → ℕ) (I : AreInputs net inputs) (R : AreRegisters net registers) where
     value_in_range : (v : List ℕ) → IsValuation net v → (n : ℕ) → n < length net.start → (xs : List Source) → sources_of net n ≡ xs → evaluated net inputs registers v n xs < limit net n
     value_in_range v is n l [] e = go (cases_Bool (list_any (λ m. m == n) net.inputs))
@@ -46,7 +46,7 @@ module _ (net : Net) (L : Leveled net) (K : KeepsRange net) where
         let (h, t) = L.elaborated.wiring.sources_are_drivers n p place (subst (λ (xs : List Source). Contains xs (Driver p place)) (sym e) (Contains-first (Driver p place) more)) in
         go h t (process net p).kind refl
       where
-        go : HasPlace net p place → target net p place ≡ n → (k : Kind) → (process net p).kind ≡ k → by_kind k (entry_or (get_or ((process net p).effect v v) place None) 0) (registers n) < limit net n
+        go : HasPlace net p place → target net p place ≡ n → (k : ProcessKind) → (process net p).kind ≡ k → by_kind k (entry_or (get_or ((process net p).effect v v) place None) 0) (registers n) < limit net n
         go h t Combinational k =
             subst (λ (m : ℕ). entry_or (get_or ((process net p).effect v v) place None) 0 < limit net m) t
             (some_below (limit net (target net p place)) (get_or ((process net p).effect v v) place None) (λ x e. K.effect_in_range p place x v v is is h e) (assigned net L p place v v (place_in_range net p place h, k) h))

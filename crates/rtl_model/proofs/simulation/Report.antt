@@ -1,13 +1,13 @@
 -- A report shows its levels by local facts.
 use Rattle.std.proofs.Common.{◌≡◌, ℕ, zero, suc, ◌<◌, ◌≤◌, List, [], ◌∷◌, get_or, Option, Some, None, refl, sym, ap, ◌∙◌, subst, arith}
-use Rattle.rtl_model.specs.simulation.Net.{Edge, IsCombinational, Net}
+use Rattle.rtl_model.specs.simulation.Netlist.{Edge, IsCombinational, Netlist}
 use Rattle.rtl_model.specs.simulation.Accepted.{Feeds, IsFedRound, IsLoop}
 use Rattle.rtl_model.specs.simulation.Levels.{ChainTo, IsLevel, Rises, ShowLevels}
 use Rattle.rtl_model.specs.simulation.Report.{IsFrom, IsReport, LeadsDown, ShowReport}
 use Rattle.rtl_model.specs.simulation.Laws.{LevelsAreShown, ReportsAreShown, ReportsLeadDown}
 use Rattle.rtl_model.proofs.simulation.Levels.{same_level}
 
-module _ (net : Net) (f : ℕ → ℕ) (R : Rises net f) where
+module _ (net : Netlist) (f : ℕ → ℕ) (R : Rises net f) where
   chain_below : (n q : ℕ) → ChainTo net q n → n ≤ f q
   chain_below zero q c = omega arith
   chain_below (suc zero) q c = R.from_one q c
@@ -21,7 +21,7 @@ module _ (net : Net) (f : ℕ → ℕ) (R : Rises net f) where
   no_loop [] h = h
   no_loop (p ∷ more) h = let a = round_rises p p more h in omega arith
 
-module _ (net : Net) (levels from : List (Option ℕ)) (S : ShowLevels net levels from) where
+module _ (net : Netlist) (levels from : List (Option ℕ)) (S : ShowLevels net levels from) where
   chain_of : (below q : ℕ) → IsCombinational net q → get_or levels q None ≡ Some (suc below) → ChainTo net q (suc below)
   chain_of zero q c e = c
   chain_of (suc below) q c e = let (p, is, feeds, l) = S.from_below q below c e in (p, chain_of below p feeds.feeder l, feeds)
@@ -49,7 +49,7 @@ pub levels_are_shown : LevelsAreShown
 levels_are_shown net levels from S = (is_level net levels from S, no_loop net _ (rises net levels from S))
 
 -- a report's levels and from satisfy the local facts
-module _ (net : Net) (levels from : List (Option ℕ)) (clocks : List (ℕ × Edge)) (most : ℕ) (R : IsReport net levels from clocks most) where
+module _ (net : Netlist) (levels from : List (Option ℕ)) (clocks : List (ℕ × Edge)) (most : ℕ) (R : IsReport net levels from clocks most) where
   level_is : (p level : ℕ) → IsCombinational net p → get_or levels p None ≡ Some level → IsLevel net p level
   level_is p level c e =
       let (n, d, is) = R.levels_are.combinational p c in
@@ -132,7 +132,7 @@ module _ (net : Net) (levels from : List (Option ℕ)) (clocks : List (ℕ × Ed
   }
 
 -- and what satisfies them is a report
-module _ (net : Net) (levels from : List (Option ℕ)) (clocks : List (ℕ × Edge)) (most : ℕ) (S : ShowReport net levels from clocks most) where
+module _ (net : Netlist) (levels from : List (Option ℕ)) (clocks : List (ℕ × Edge)) (most : ℕ) (S : ShowReport net levels from clocks most) where
   has_level : (p level : ℕ) → IsCombinational net p → get_or levels p None ≡ Some level → IsLevel net p level
   has_level p level c e = (is_level net levels from S.shown p level c e).0
 

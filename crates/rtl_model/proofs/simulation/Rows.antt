@@ -5,8 +5,8 @@ use Rattle.std.specs.Option.{is_some}
 use Rattle.std.proofs.lemmas.Bool.{not-true, not-false, eqb-true, ne_eqb, eqb-false}
 use Rattle.rtl_model.proofs.basics.Lists.{all_none, none_at}
 use Rattle.rtl_model.specs.basics.Valuations.{has_event}
-use Rattle.rtl_model.specs.simulation.Net.{Net, no_process, process, Process}
-use Rattle.rtl_model.specs.simulation.Cycle.{driven, driven_all, is_quiet, none_pending, over, resumed, State}
+use Rattle.rtl_model.specs.simulation.Netlist.{Netlist, no_process, process, Process}
+use Rattle.rtl_model.specs.simulation.Cycle.{driver_values, all_driver_values, is_quiet, none_pending, over, resumed_processes, State}
 use Rattle.rtl_model.specs.simulation.Machine.{entry_or}
 
 abbrev pub transaction : State → ℕ → ℕ → Option ℕ
@@ -24,23 +24,23 @@ get_or-map f [] k d = refl
 get_or-map f (x ∷ xs) zero d = refl
 get_or-map f (x ∷ xs) (suc k) d = get_or-map f xs k d
 
-pub driven_all_at : (ps : List (List (Option ℕ))) (rows : List (List ℕ)) (p : ℕ) → get_or (driven_all ps rows) p [] ≡ driven (get_or ps p []) (get_or rows p [])
+pub driven_all_at : (ps : List (List (Option ℕ))) (rows : List (List ℕ)) (p : ℕ) → get_or (all_driver_values ps rows) p [] ≡ driver_values (get_or ps p []) (get_or rows p [])
 driven_all_at [] rows p = refl
 driven_all_at (a ∷ ps) [] p = none (get_or (a ∷ ps) p [])
   where
-    none : (a : List (Option ℕ)) → [] ≡ driven a []
+    none : (a : List (Option ℕ)) → [] ≡ driver_values a []
     none [] = refl
     none (x ∷ a) = refl
 driven_all_at (a ∷ ps) (row ∷ rows) zero = refl
 driven_all_at (a ∷ ps) (row ∷ rows) (suc p) = driven_all_at ps rows p
 
-pub length-driven : (a : List (Option ℕ)) (xs : List ℕ) → length (driven a xs) ≡ length xs
+pub length-driven : (a : List (Option ℕ)) (xs : List ℕ) → length (driver_values a xs) ≡ length xs
 length-driven [] xs = refl
 length-driven (o ∷ a) [] = refl
 length-driven (Some v ∷ a) (x ∷ xs) = ap suc (length-driven a xs)
 length-driven (None ∷ a) (x ∷ xs) = ap suc (length-driven a xs)
 
-pub driven_at : (a : List (Option ℕ)) (xs : List ℕ) (k : ℕ) → k < length xs → get_or (driven a xs) k 0 ≡ entry_or (get_or a k None) (get_or xs k 0)
+pub driven_at : (a : List (Option ℕ)) (xs : List ℕ) (k : ℕ) → k < length xs → get_or (driver_values a xs) k 0 ≡ entry_or (get_or a k None) (get_or xs k 0)
 driven_at [] xs k l = refl
 driven_at (o ∷ a) [] k l = absurd (omega arith)
 driven_at (Some v ∷ a) (x ∷ xs) zero l = refl
@@ -84,7 +84,7 @@ quiet_from s h = ap not (all_none (list_any is_some) s.pending [] (λ p l. all_n
     go p place l (Some v) e = absurd (h p place l (ap is_some e))
 
 -- a process is resumed where a net that it is sensitive to has an event
-pub resumed_at : (net : Net) (before now : List ℕ) (p : ℕ) → get_or (resumed net before now) p false ≡ list_any (has_event before now) (process net p).wakes
+pub resumed_at : (net : Netlist) (before now : List ℕ) (p : ℕ) → get_or (resumed_processes net before now) p false ≡ list_any (has_event before now) (process net p).wakes
 resumed_at net before now p = get_or-map (λ (q : Process). list_any (has_event before now) q.wakes) net.processes p no_process
 
 pub event_differs : (before now : List ℕ) (n : ℕ) → has_event before now n ≡ true → get_or before n 0 ≡ get_or now n 0 → ⊥

@@ -2,7 +2,7 @@
 use Rattle.std.proofs.Common.{◌≡◌, ℕ, zero, suc, Bool, false, List, [], ◌∷◌, get_or, None, sym, ap, ◌∙◌, subst}
 use Rattle.rtl_model.specs.basics.Valuations.{clocked_entry}
 use Rattle.rtl_model.proofs.simulation.Faultless.{Faultless, faultless}
-use Rattle.rtl_model.specs.simulation.Net.{Clocked, Combinational, Driver, Edge, HasPlace, Idle, IsClockedBy, Kind, Mixed, Net, process, reset_entry, reset_of, resets, Source, sources_of, target}
+use Rattle.rtl_model.specs.simulation.Netlist.{Clocked, Combinational, Driver, Edge, HasPlace, Idle, IsClockedBy, ProcessKind, Mixed, Netlist, process, reset_entry, reset_of, resets, Source, sources_of, target}
 use Rattle.rtl_model.specs.simulation.Elaborated.{IsElaborated}
 use Rattle.rtl_model.specs.simulation.Machine.{entry_or, IsFirst, IsMachineRun, IsStep, Solves}
 use Rattle.rtl_model.specs.simulation.Laws.{OneMachineRun}
@@ -11,16 +11,16 @@ use Rattle.rtl_model.proofs.simulation.Levels.{sole}
 use Rattle.rtl_model.proofs.simulation.Solution.{one_solves, solution_exists}
 
 -- v is a valuation of the machine at the moment m
-abbrev pub Machine : Net → (ℕ → ℕ → ℕ) → ℕ → List ℕ → Type 0
+abbrev pub Machine : Netlist → (ℕ → ℕ → ℕ) → ℕ → List ℕ → Type 0
 Machine net stimulus zero v = IsFirst net (stimulus 0) v
 Machine net stimulus (suc m) w = (v : List ℕ) × Machine net stimulus m v × IsStep net v (stimulus (suc m)) w
 
 -- a solution solves for other registers that are the same where a process is clocked
-solves_like : (net : Net) (inputs r r' : ℕ → ℕ) (v : List ℕ) → Solves net inputs r v
+solves_like : (net : Netlist) (inputs r r' : ℕ → ℕ) (v : List ℕ) → Solves net inputs r v
     → ((p place clock : ℕ) (edge : Edge) → IsClockedBy net p clock edge → HasPlace net p place → r (target net p place) ≡ r' (target net p place)) → Solves net inputs r' v
 solves_like net inputs r r' v s same = record { each_net = s.each_net; on_inputs = s.on_inputs; on_registers = λ p place clock edge is h. s.on_registers p place clock edge is h ∙ same p place clock edge is h; on_others = s.on_others; on_combinational = s.on_combinational }
 
-module _ (net : Net) (E : IsElaborated net) (A : Faultless net) where
+module _ (net : Netlist) (E : IsElaborated net) (A : Faultless net) where
   unique : (inputs r : ℕ → ℕ) (v w : List ℕ) → Solves net inputs r v → Solves net inputs r w → v ≡ w
   unique inputs r v w s t = one_solves net (leveled net E A) inputs r v w s t
 
@@ -48,7 +48,7 @@ module _ (net : Net) (E : IsElaborated net) (A : Faultless net) where
     run_is v run (suc m) = (v m, run_is v run m, run.step m)
 
     -- what a register has next, from its old value, by the one source of its net
-    abbrev edge_of : List ℕ → (ℕ → ℕ) → Kind → Bool
+    abbrev edge_of : List ℕ → (ℕ → ℕ) → ProcessKind → Bool
     edge_of v inputs (Clocked clock edge reset) = net.edge edge (get_or v clock 0) (inputs clock)
     edge_of v inputs Combinational = false
     edge_of v inputs Mixed = false
@@ -76,7 +76,7 @@ module _ (net : Net) (E : IsElaborated net) (A : Faultless net) where
           record {
             registers = registers;
             next = λ p place clock edge is h. at_sole (next_from v inputs (target net p place)) p place h
-                ∙ ap (λ (k : Kind). entry_or (clocked_entry (resets (reset_of net p) inputs) (edge_of v inputs k) (reset_entry (reset_of net p) place) (get_or ((process net p).acting_effect v) place None)) (get_or v (target net p place) 0)) is.1;
+                ∙ ap (λ (k : ProcessKind). entry_or (clocked_entry (resets (reset_of net p) inputs) (edge_of v inputs k) (reset_entry (reset_of net p) place) (get_or ((process net p).acting_effect v) place None)) (get_or v (target net p place) 0)) is.1;
             solves = s;
           },
         )

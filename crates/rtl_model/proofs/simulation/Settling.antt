@@ -6,8 +6,8 @@ use Rattle.std.proofs.lemmas.Bool.{cases_eq, cases_Bool, cond-true, and_parts}
 use Rattle.rtl_model.proofs.basics.Lists.{any_at, none_at}
 use Rattle.rtl_model.proofs.simulation.Faultless.{faultless}
 use Rattle.rtl_model.proofs.simulation.Orders.{one_number}
-use Rattle.rtl_model.specs.simulation.Net.{Edge, HasPlace, IsClockedBy, IsInput, kind_reset, Net, no_process, process, Process, Reset, sources_of, target}
-use Rattle.rtl_model.specs.simulation.Cycle.{given, is_quiet, started, State}
+use Rattle.rtl_model.specs.simulation.Netlist.{Edge, HasPlace, IsClockedBy, IsInput, kind_reset, Netlist, no_process, process, Process, Reset, sources_of, target}
+use Rattle.rtl_model.specs.simulation.Cycle.{after_inputs, is_quiet, start_state, State}
 use Rattle.rtl_model.specs.simulation.Moments.{Begun, HasNoneToRun, HasSettled, SettlesIn, SettlesTo}
 use Rattle.rtl_model.specs.simulation.Accepted.{IsClock}
 use Rattle.rtl_model.specs.simulation.Levels.{bound, has_clocked, has_late_reset, is_clocked, is_driver}
@@ -25,26 +25,26 @@ use Rattle.rtl_model.proofs.simulation.Starting.{first, start_holds, start_regis
 use Rattle.rtl_model.proofs.simulation.Stepping.{next_holds, next_register}
 
 -- how many cycles later than the levels say a moment after 0 may settle
-abbrev pub late : Net → ℕ
+abbrev pub late : Netlist → ℕ
 late net = cond (has_clocked net) 1 0
 
-abbrev pub extra : Net → ℕ
+abbrev pub extra : Netlist → ℕ
 extra net = cond (has_late_reset net) 1 0
 
-no_clocked : (net : Net) → has_clocked net ≡ false → (p clock : ℕ) (edge : Edge) → IsClockedBy net p clock edge → ⊥
+no_clocked : (net : Netlist) → has_clocked net ≡ false → (p clock : ℕ) (edge : Edge) → IsClockedBy net p clock edge → ⊥
 no_clocked net e p clock edge is =
     let a = none_at (λ (q : Process). is_clocked q.kind) net.processes p no_process e refl in
     let b : is_clocked (process net p).kind ≡ true = ap is_clocked is.1 in
     cc
 
-late_clocked : (net : Net) (p clock : ℕ) (edge : Edge) → IsClockedBy net p clock edge → 1 ≤ late net
+late_clocked : (net : Netlist) (p clock : ℕ) (edge : Edge) → IsClockedBy net p clock edge → 1 ≤ late net
 late_clocked net p clock edge is = go (cases_Bool (has_clocked net))
   where
     go : (has_clocked net ≡ true) ⊎ (has_clocked net ≡ false) → 1 ≤ late net
     go (inl has) = let one : late net ≡ 1 = cond-true _ _ _ has in omega arith
     go (inr none) = absurd (no_clocked net none p clock edge is)
 
-process_of : (net : Net) (x : Process) → Contains net.processes x → (p : ℕ) × (process net p ≡ x)
+process_of : (net : Netlist) (x : Process) → Contains net.processes x → (p : ℕ) × (process net p ≡ x)
 process_of net x (p, l, e) = (p, get_or_default net.processes p no_process x l ∙ e)
   where
     get_or_default : {X : Type 0} (xs : List X) (k : ℕ) (d e : X) → k < length xs → get_or xs k d ≡ get_or xs k e
@@ -52,7 +52,7 @@ process_of net x (p, l, e) = (p, get_or_default net.processes p no_process x l �
     get_or_default (x ∷ xs) zero d e l = refl
     get_or_default (x ∷ xs) (suc k) d e l = get_or_default xs k d e (omega arith)
 
-no_late_reset : (net : Net) → HasNoReset net → has_late_reset net ≡ true → ⊥
+no_late_reset : (net : Netlist) → HasNoReset net → has_late_reset net ≡ true → ⊥
 no_late_reset net none t =
     let (x, c, both) = any_at (λ (q : Process). is_some (kind_reset q.kind) && list_any (λ n. list_any is_driver (sources_of net n)) q.wakes) net.processes t in
     let (p, e) = process_of net x c in
@@ -62,7 +62,7 @@ no_late_reset net none t =
     go p x e None r t = cc
     go p x e (Some reset) r t = none p reset (ap (λ (q : Process). kind_reset q.kind) e ∙ r)
 
-module _ (net : Net) (L : Leveled net) where
+module _ (net : Netlist) (L : Leveled net) where
   above_start : (s : State) → IsAbove net L.levels L.greatest 0 (late net) s
   above_start s = record {
     combinational = λ p place c some. let k = level_above_none net L p c in omega arith;
@@ -107,18 +107,18 @@ module _ (net : Net) (L : Leveled net) where
 
     at_moment : (m : ℕ) (s : State) → Begun net stimulus m s → AtMoment m s
     at_moment zero s run =
-        let e = HasRun-finished net (started net (stimulus 0)) s run in
+        let e = HasRun-finished net (start_state net (stimulus 0)) s run in
         record {
-          r = λ p place. out (finished net (started net (stimulus 0))) p place;
-          holds = subst (λ (u : State). Holds net (stimulus 0) (λ p place. out (finished net (started net (stimulus 0))) p place) u) (sym e) (start_holds net L (stimulus 0));
+          r = λ p place. out (finished net (start_state net (stimulus 0))) p place;
+          holds = subst (λ (u : State). Holds net (stimulus 0) (λ p place. out (finished net (start_state net (stimulus 0))) p place) u) (sym e) (start_holds net L (stimulus 0));
           above = above_start s;
         }
     at_moment (suc m) s (earlier, k, quiet, begun, to, run) =
         let a = at_moment m earlier begun in
         let H = settled_holds m earlier quiet k a to in
         let Q = settled_quiet earlier quiet k to in
-        let e = HasRun-finished net (given net (stimulus (suc m)) quiet) s run in
-        let r = λ (p : ℕ) (place : ℕ). out (finished net (given net (stimulus (suc m)) quiet)) p place in
+        let e = HasRun-finished net (after_inputs net (stimulus (suc m)) quiet) s run in
+        let r = λ (p : ℕ) (place : ℕ). out (finished net (after_inputs net (stimulus (suc m)) quiet)) p place in
         record {
           r = r;
           holds = subst (λ (u : State). Holds net (stimulus (suc m)) r u) (sym e) (next_holds net L (stimulus m) (stimulus (suc m)) a.r quiet H Q);
@@ -141,7 +141,7 @@ module _ (net : Net) (L : Leveled net) where
     unfolding at_moment
     settles_first none s run =
         let a = at_moment 0 s run in
-        let e = HasRun-finished net (started net (stimulus 0)) s run in
+        let e = HasRun-finished net (start_state net (stimulus 0)) s run in
         let above = subst (λ (u : State). IsAbove net L.levels L.greatest 0 0 u) (sym e) (above_first (stimulus 0) none) in
         settles_within net s (L.greatest + 0 + 0) (HasRun-done net _ s run) (quiet_after net L (stimulus 0) a.r 0 0 s (λ t. absurd (no_late_reset net none t)) a.holds above)
 
@@ -188,12 +188,12 @@ module _ (net : Net) (L : Leveled net) where
             go (inr h) = absurd (none (suc m) (omega arith) (record { process = p; clock = clock; edge = edge; clocked = is; active = e; input = n; is_input = input; no_clock = data'; changes = h }))
 
     comes : (m : ℕ) → (s : State) × Begun net stimulus m s
-    comes zero = let (order, runs) = runs_exist net (started net (stimulus 0)) in (finished net (started net (stimulus 0)), (order, runs))
+    comes zero = let (order, runs) = runs_exist net (start_state net (stimulus 0)) in (finished net (start_state net (stimulus 0)), (order, runs))
     comes (suc m) =
         let (earlier, begun) = comes m in
         let (k, set, le) = settles m earlier begun in
         let (quiet, deltas) = set.goes_on in
-        (finished net (given net (stimulus (suc m)) quiet), (earlier, k, quiet, begun, (set, deltas), runs_exist net (given net (stimulus (suc m)) quiet)))
+        (finished net (after_inputs net (stimulus (suc m)) quiet), (earlier, k, quiet, begun, (set, deltas), runs_exist net (after_inputs net (stimulus (suc m)) quiet)))
 
     has_settled : (m : ℕ) → (k : ℕ) × (t : State) × HasSettled net stimulus m k t
     has_settled m =

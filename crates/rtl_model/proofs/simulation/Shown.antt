@@ -1,18 +1,18 @@
 -- One run of delta cycles shows what every order does.
 use Rattle.std.proofs.Common.{◌≡◌, ℕ, suc, ◌<◌, Bool, true, false, List, [], ◌∷◌, ◌++◌, refl, sym, ap, ◌∙◌, subst, arith, length-append, ◌⊎◌, inl, inr}
 use Rattle.std.proofs.lemmas.Bool.{cases_eq}
-use Rattle.rtl_model.specs.simulation.Net.{Net}
+use Rattle.rtl_model.specs.simulation.Netlist.{Netlist}
 use Rattle.rtl_model.specs.simulation.Cycle.{State, is_quiet}
 use Rattle.rtl_model.specs.simulation.Moments.{Delta, Deltas, HasDeltas, HasNoneToRun, SettlesIn, IsUnsettled}
 use Rattle.rtl_model.specs.simulation.Laws.{IsBusyBefore, EachRunShows, HasSettledWithin, SettlesOrNot}
 use Rattle.rtl_model.proofs.simulation.Deltas.{after, HasDeltas-after, deltas_exist, settles_within}
 use Rattle.rtl_model.proofs.simulation.Decisions.{search_below}
 
-last_delta : (net : Net) (orders : List (List ℕ)) (order : List ℕ) (s t u : State) → Deltas net orders s t → Delta net order t u → Deltas net (orders ++ (order ∷ [])) s u
+last_delta : (net : Netlist) (orders : List (List ℕ)) (order : List ℕ) (s t u : State) → Deltas net orders s t → Delta net order t u → Deltas net (orders ++ (order ∷ [])) s u
 last_delta net [] order s t u e d = (u, subst (λ (x : State). Delta net order x u) e d, refl)
 last_delta net (first ∷ orders) order s t u (mid, one, more) d = (mid, one, last_delta net orders order mid t u more d)
 
-module _ (net : Net) (s : State) where
+module _ (net : Netlist) (s : State) where
   one_state : (k : ℕ) (t u : State) → HasDeltas net k s t → HasDeltas net k s u → t ≡ u
   one_state k t u h g = HasDeltas-after net k s t h ∙ sym (HasDeltas-after net k s u g)
 

@@ -1,4 +1,4 @@
--- One valuation solves an accepted net, and no other.
+-- One valuation solves an accepted netlist, and no other.
 use Rattle.std.proofs.Common.{◌≡◌, ℕ, zero, suc, ◌<◌, ◌≤◌, true, false, List, [], ◌∷◌, length, get_or, Option, Some, None, refl, sym, ap, ◌∙◌, arith, if◌then◌else◌, ◌⊎◌, inl, inr, subst, IsSome, Contains, ◌==◌}
 use Rattle.std.specs.List.{list_any}
 use Rattle.std.proofs.lemmas.List.{ext_get_or, get_or_past}
@@ -7,8 +7,8 @@ use Rattle.std.proofs.lemmas.Bool.{cases_lt, cases_Bool, cond-true, cond-false, 
 use Rattle.rtl_model.proofs.basics.Lists.{Contains-first}
 use Rattle.rtl_model.specs.basics.Valuations.{AgreeOn}
 use Rattle.rtl_model.proofs.simulation.Faultless.{Faultless, faultless}
-use Rattle.rtl_model.specs.simulation.Net.{Clocked, Combinational, Driver, Edge, HasPlace, Idle, IsClockedBy, IsCombinational, IsInput, Kind, Mixed, Net, process, Source, sources_of, table, target}
-use Rattle.rtl_model.specs.simulation.Cycle.{given}
+use Rattle.rtl_model.specs.simulation.Netlist.{Clocked, Combinational, Driver, Edge, HasPlace, Idle, IsClockedBy, IsCombinational, IsInput, ProcessKind, Mixed, Netlist, process, Source, sources_of, table, target}
+use Rattle.rtl_model.specs.simulation.Cycle.{after_inputs}
 use Rattle.rtl_model.specs.simulation.Elaborated.{IsElaborated}
 use Rattle.rtl_model.specs.simulation.Machine.{entry_or, IsDriven, Solves}
 use Rattle.rtl_model.specs.simulation.Laws.{OneSolution}
@@ -26,30 +26,30 @@ some_entry (Some v) h = refl
 some_entry None h = cc
 
 -- two valuations agree on what processes of at most this level drive, and on what none drives
-pub record AgreeTo (net : Net) (levels : List (Option ℕ)) (d : ℕ) (v w : List ℕ) : Type 0 where
+pub record AgreeTo (net : Netlist) (levels : List (Option ℕ)) (d : ℕ) (v w : List ℕ) : Type 0 where
   pub on_driven : (p place : ℕ) → HasPlace net p place → level_or levels p ≤ d → get_or v (target net p place) 0 ≡ get_or w (target net p place) 0
   pub on_rest : (n : ℕ) → (IsDriven net n → ⊥) → get_or v n 0 ≡ get_or w n 0
 
 -- a value for net n, from the values of v: what its one source, its given value or its start says
-abbrev pub by_kind : Kind → ℕ → ℕ → ℕ
+abbrev pub by_kind : ProcessKind → ℕ → ℕ → ℕ
 by_kind Combinational x r = x
 by_kind (Clocked clock edge reset) x r = r
 by_kind Mixed x r = 0
 
-abbrev pub evaluated : Net → (ℕ → ℕ) → (ℕ → ℕ) → List ℕ → ℕ → List Source → ℕ
+abbrev pub evaluated : Netlist → (ℕ → ℕ) → (ℕ → ℕ) → List ℕ → ℕ → List Source → ℕ
 evaluated net inputs registers v n [] = if list_any (λ m. m == n) net.inputs then inputs n else get_or net.start n 0
 evaluated net inputs registers v n (Idle value ∷ more) = get_or net.start n 0
 evaluated net inputs registers v n (Driver p place ∷ more) =
     by_kind (process net p).kind (entry_or (get_or ((process net p).effect v v) place None) 0) (registers n)
 
-abbrev pub evaluate : Net → (ℕ → ℕ) → (ℕ → ℕ) → List ℕ → List ℕ
+abbrev pub evaluate : Netlist → (ℕ → ℕ) → (ℕ → ℕ) → List ℕ → List ℕ
 evaluate net inputs registers v = table (length net.start) (λ n. evaluated net inputs registers v n (sources_of net n))
 
-abbrev pub evaluations : Net → (ℕ → ℕ) → (ℕ → ℕ) → ℕ → List ℕ
+abbrev pub evaluations : Netlist → (ℕ → ℕ) → (ℕ → ℕ) → ℕ → List ℕ
 evaluations net inputs registers zero = net.start
 evaluations net inputs registers (suc d) = evaluate net inputs registers (evaluations net inputs registers d)
 
-module _ (net : Net) (L : Leveled net) where
+module _ (net : Netlist) (L : Leveled net) where
   pub reads_agree : (d p : ℕ) (v w : List ℕ) → AgreeTo net L.levels d v w → IsCombinational net p → level_or L.levels p ≤ suc d → AgreeOn (process net p).reads v w
   reads_agree d p v w a c l n r = go (driven_or_not net L n)
     where
@@ -117,10 +117,10 @@ module _ (net : Net) (L : Leveled net) where
     evaluate_target v p place h = evaluate_at v (target net p place) (L.elaborated.wiring.targets_are_nets p place h) ∙ ap (λ (xs : List Source). evaluated net inputs registers v (target net p place) xs) (sole net L p place h)
 
     evaluate_register : (v : List ℕ) (p place clock : ℕ) (edge : Edge) → HasPlace net p place → IsClockedBy net p clock edge → get_or (evaluate net inputs registers v) (target net p place) 0 ≡ registers (target net p place)
-    evaluate_register v p place clock edge h is = evaluate_target v p place h ∙ ap (λ (k : Kind). by_kind k (entry_or (get_or ((process net p).effect v v) place None) 0) (registers (target net p place))) is.1
+    evaluate_register v p place clock edge h is = evaluate_target v p place h ∙ ap (λ (k : ProcessKind). by_kind k (entry_or (get_or ((process net p).effect v v) place None) 0) (registers (target net p place))) is.1
 
     evaluate_combinational : (v : List ℕ) (p place : ℕ) → HasPlace net p place → IsCombinational net p → get_or (evaluate net inputs registers v) (target net p place) 0 ≡ entry_or (get_or ((process net p).effect v v) place None) 0
-    evaluate_combinational v p place h is = evaluate_target v p place h ∙ ap (λ (k : Kind). by_kind k (entry_or (get_or ((process net p).effect v v) place None) 0) (registers (target net p place))) is.1
+    evaluate_combinational v p place h is = evaluate_target v p place h ∙ ap (λ (k : ProcessKind). by_kind k (entry_or (get_or ((process net p).effect v v) place None) 0) (registers (target net p place))) is.1
 
     -- what no process drives is the same after every evaluation
     evaluate_rest : (v w : List ℕ) (n : ℕ) → (IsDriven net n → ⊥) → get_or (evaluate net inputs registers v) n 0 ≡ get_or (evaluate net inputs registers w) n 0
@@ -154,7 +154,7 @@ module _ (net : Net) (L : Leveled net) where
       each_net = ap length e ∙ length-table _ _;
       on_inputs = λ n is. at n ∙ evaluate_at v n (L.elaborated.wiring.inputs_are_nets n is) ∙ ap (λ (xs : List Source). evaluated net inputs registers v n xs) (L.elaborated.wiring.inputs_have_no_source n is) ∙ cond-true _ _ _ is;
       on_registers = λ p place clock edge is h. at (target net p place) ∙ evaluate_register v p place clock edge h is;
-      on_others = λ n l given free. at n ∙ evaluate_at v n l ∙ other n given free (sources_of net n) refl;
+      on_others = λ n l after_inputs free. at n ∙ evaluate_at v n l ∙ other n after_inputs free (sources_of net n) refl;
       on_combinational = λ p place c h. some_entry _ (assigned net L p place v v c h) ∙ ap (λ (x : ℕ). Some x) (sym (at (target net p place) ∙ evaluate_combinational v p place h c));
     }
       where
@@ -162,9 +162,9 @@ module _ (net : Net) (L : Leveled net) where
         at n = ap (λ (u : List ℕ). get_or u n 0) e
 
         other : (n : ℕ) → (IsInput net n → ⊥) → (IsDriven net n → ⊥) → (xs : List Source) → sources_of net n ≡ xs → evaluated net inputs registers v n (sources_of net n) ≡ get_or net.start n 0
-        other n given free [] k = ap (λ (xs : List Source). evaluated net inputs registers v n xs) k ∙ cond-false _ _ _ (false_from_ne_true _ given)
-        other n given free (Idle value ∷ more) k = ap (λ (xs : List Source). evaluated net inputs registers v n xs) k
-        other n given free (Driver p place ∷ more) k =
+        other n after_inputs free [] k = ap (λ (xs : List Source). evaluated net inputs registers v n xs) k ∙ cond-false _ _ _ (false_from_ne_true _ after_inputs)
+        other n after_inputs free (Idle value ∷ more) k = ap (λ (xs : List Source). evaluated net inputs registers v n xs) k
+        other n after_inputs free (Driver p place ∷ more) k =
             let f = L.elaborated.wiring.sources_are_drivers n p place (subst (λ (xs : List Source). Contains xs (Driver p place)) (sym k) (Contains-first (Driver p place) more)) in
             absurd (free (p, place, f.0, f.1))
 
@@ -184,7 +184,7 @@ module _ (net : Net) (L : Leveled net) where
     one_solves v w s t = same_values v w (s.each_net ∙ sym t.each_net) (solutions_agree L.greatest v w s t)
 
 -- the solution for given inputs and registers
-pub solution_exists : (net : Net) → IsElaborated net → Faultless net → (inputs registers : ℕ → ℕ) → (v : List ℕ) × Solves net inputs registers v × ((w : List ℕ) → Solves net inputs registers w → w ≡ v)
+pub solution_exists : (net : Netlist) → IsElaborated net → Faultless net → (inputs registers : ℕ → ℕ) → (v : List ℕ) × Solves net inputs registers v × ((w : List ℕ) → Solves net inputs registers w → w ≡ v)
 solution_exists net E A inputs registers =
     let L = leveled net E A in
     (solution net L inputs registers, solution_solves net L inputs registers, λ w t. one_solves net L inputs registers _ _ t (solution_solves net L inputs registers))

@@ -7,8 +7,8 @@ use Rattle.std.proofs.lemmas.Bool.{cases_lt, cases_Bool, false_from_ne_true, con
 use Rattle.rtl_model.proofs.basics.Lists.{get_or-map_within}
 use Rattle.rtl_model.specs.basics.Valuations.{clocked_entry}
 use Rattle.rtl_model.proofs.simulation.Leveled.{Leveled}
-use Rattle.rtl_model.specs.simulation.Net.{Driver, Edge, HasPlace, IsClockedBy, IsInput, Net, no_process, process, Process, Reset, reset_entry, reset_of, resets, Source, target}
-use Rattle.rtl_model.specs.simulation.Cycle.{given, source_value, started, State, with_inputs}
+use Rattle.rtl_model.specs.simulation.Netlist.{Driver, Edge, HasPlace, IsClockedBy, IsInput, Netlist, no_process, process, Process, Reset, reset_entry, reset_of, resets, Source, target}
+use Rattle.rtl_model.specs.simulation.Cycle.{after_inputs, source_value, start_state, State, with_inputs}
 use Rattle.rtl_model.specs.simulation.Elaborated.{IsElaborated}
 use Rattle.rtl_model.specs.simulation.Machine.{entry_or}
 use Rattle.rtl_model.specs.simulation.Laws.{HasNoReset}
@@ -22,25 +22,25 @@ pub entry_twice : (o : Option ℕ) (x : ℕ) → entry_or o (entry_or o x) ≡ e
 entry_twice (Some v) x = refl
 entry_twice None x = refl
 
-pub inputs_at : (net : Net) (E : IsElaborated net) (inputs : ℕ → ℕ) (old : List ℕ) (n : ℕ) → IsInput net n → get_or (with_inputs net inputs old) n 0 ≡ inputs n
+pub inputs_at : (net : Netlist) (E : IsElaborated net) (inputs : ℕ → ℕ) (old : List ℕ) (n : ℕ) → IsInput net n → get_or (with_inputs net inputs old) n 0 ≡ inputs n
 inputs_at net E inputs old n is =
     get_or-table (length net.start) (λ m. if list_any (λ k. k == m) net.inputs then inputs m else get_or old m 0) n (E.wiring.inputs_are_nets n is) ∙ cond-true _ _ _ is
 
-pub others_at : (net : Net) (inputs : ℕ → ℕ) (old : List ℕ) (n : ℕ) → length old ≡ length net.start → (IsInput net n → ⊥) → get_or (with_inputs net inputs old) n 0 ≡ get_or old n 0
-others_at net inputs old n e given = go (cases_lt n (length net.start))
+pub others_at : (net : Netlist) (inputs : ℕ → ℕ) (old : List ℕ) (n : ℕ) → length old ≡ length net.start → (IsInput net n → ⊥) → get_or (with_inputs net inputs old) n 0 ≡ get_or old n 0
+others_at net inputs old n e after_inputs = go (cases_lt n (length net.start))
   where
     go : (n < length net.start) ⊎ (length net.start ≤ n) → get_or (with_inputs net inputs old) n 0 ≡ get_or old n 0
-    go (inl l) = get_or-table (length net.start) (λ m. if list_any (λ k. k == m) net.inputs then inputs m else get_or old m 0) n l ∙ cond-false _ _ _ (false_from_ne_true _ given)
+    go (inl l) = get_or-table (length net.start) (λ m. if list_any (λ k. k == m) net.inputs then inputs m else get_or old m 0) n l ∙ cond-false _ _ _ (false_from_ne_true _ after_inputs)
     go (inr l) = get_or_past (with_inputs net inputs old) n 0 (rw length-table l) ∙ sym (get_or_past old n 0 (omega arith))
 
-module _ (net : Net) (L : Leveled net) where
+module _ (net : Netlist) (L : Leveled net) where
   pub target_no_input : (p place : ℕ) → HasPlace net p place → IsInput net (target net p place) → ⊥
   target_no_input p place h is = input_not_driven net L (target net p place) is (p, place, h, refl)
 
   -- the start
   module _ (inputs : ℕ → ℕ) where
     abbrev pub first : State
-    first = started net inputs
+    first = start_state net inputs
 
     pub start_fresh : IsFresh net first
     start_fresh = record {
@@ -85,7 +85,7 @@ module _ (net : Net) (L : Leveled net) where
       pend_length = length-map-range_with_len (row_after net first) 0 (length first.pending) ∙ start_fresh.rows;
       row_lengths = λ p. ap length (start_row p) ∙ L.elaborated.wiring.each_driver_starts p;
       on_inputs = λ n is. inputs_at net L.elaborated inputs net.start n is;
-      on_others = λ n l given free. others_at net inputs net.start n refl given;
+      on_others = λ n l after_inputs free. others_at net inputs net.start n refl after_inputs;
       on_driven = λ p place h. others_at net inputs net.start (target net p place) refl (target_no_input p place h) ∙ start_value p place h;
       on_combinational = λ p place c h. combinational_awake net L first p place start_fresh c h (start_waits p c.0);
       on_clocked = λ p place clock edge is h. refl;

@@ -5,8 +5,8 @@ use Rattle.std.proofs.lemmas.List.{length-map, length-set, get_or-set_same, get_
 use Rattle.std.proofs.lemmas.List.Elements.{Contains-get_or}
 use Rattle.std.proofs.lemmas.Bool.{cases_Bool, cases_eq, cases_lt, cond-true, cond-false}
 use Rattle.rtl_model.proofs.basics.Lists.{get_or-map_within}
-use Rattle.rtl_model.specs.simulation.Net.{no_process, Driver, HasPlace, Idle, Net, Process, process, Source, sources_of, target}
-use Rattle.rtl_model.specs.simulation.Cycle.{driven_all, given, over, ran, net_value, source_value, started, State, updated, with_inputs}
+use Rattle.rtl_model.specs.simulation.Netlist.{no_process, Driver, HasPlace, Idle, Netlist, Process, process, Source, sources_of, target}
+use Rattle.rtl_model.specs.simulation.Cycle.{all_driver_values, after_inputs, over, after_run, net_value, source_value, start_state, State, after_update, with_inputs}
 use Rattle.rtl_model.specs.simulation.Moments.{Begun, Deltas, HasSettled, Runs}
 use Rattle.rtl_model.specs.simulation.Elaborated.{IsWired}
 use Rattle.rtl_model.specs.simulation.Range.{AreInputs, IsValuation, KeepsRange, limit, SourcesKeepRange, StateInRange}
@@ -24,7 +24,7 @@ over_below most (None ∷ as') (y ∷ bs) zero a b = b
 over_below most (Some v ∷ as') (y ∷ bs) (suc k) a b = over_below most as' bs k a b
 over_below most (None ∷ as') (y ∷ bs) (suc k) a b = over_below most as' bs k a b
 
-module _ (net : Net) (W : IsWired net) (K : KeepsRange net) (S : SourcesKeepRange net) where
+module _ (net : Netlist) (W : IsWired net) (K : KeepsRange net) (S : SourcesKeepRange net) where
   -- what a net's sources give
   resolved_below : (drivers : List (List ℕ)) → ((p place : ℕ) → HasPlace net p place → get_or (get_or drivers p []) place 0 < limit net (target net p place))
       → (n old : ℕ) → old < limit net n → net_value net drivers (sources_of net n) old < limit net n
@@ -51,7 +51,7 @@ module _ (net : Net) (W : IsWired net) (K : KeepsRange net) (S : SourcesKeepRang
       go n l (inl t) = rw (cond-true _ (inputs n) (get_or old n 0) t) (I n t)
       go n l (inr f) = rw (cond-false _ (inputs n) (get_or old n 0) f) (is.in_range n l)
 
-  starts_below : (inputs : ℕ → ℕ) → AreInputs net inputs → StateInRange net (started net inputs)
+  starts_below : (inputs : ℕ → ℕ) → AreInputs net inputs → StateInRange net (start_state net inputs)
   starts_below inputs I = record {
     before = first;
     now = first;
@@ -66,30 +66,30 @@ module _ (net : Net) (W : IsWired net) (K : KeepsRange net) (S : SourcesKeepRang
       row : (p : ℕ) → get_or (map (λ (q : Process). q.starts) net.processes) p [] ≡ (process net p).starts
       row p = get_or-map (λ (q : Process). q.starts) net.processes p no_process
 
-      none : (p place x : ℕ) → get_or (get_or (started net inputs).pending p []) place None ≡ Some x → ⊥
+      none : (p place x : ℕ) → get_or (get_or (start_state net inputs).pending p []) place None ≡ Some x → ⊥
       none p place x e =
           let nothing = ap (λ (r : List (Option ℕ)). get_or r place None) (get_or-map (λ (q : Process). map {B = Option ℕ} (λ (n : ℕ). None) q.drives) net.processes p no_process) ∙ no_entries (process net p).drives place in
           cc
 
-  updates_below : (s : State) → StateInRange net s → StateInRange net (updated net s)
+  updates_below : (s : State) → StateInRange net s → StateInRange net (after_update net s)
   updates_below s R = record {
     before = R.now;
     now = record {
       each_net = length-table (length net.start) _;
-      in_range = λ n l. rw (get_or-table (length net.start) (λ m. net_value net (updated net s).drivers (sources_of net m) (get_or s.now m 0)) n l) (resolved_below (updated net s).drivers value_below n (get_or s.now n 0) (R.now.in_range n l));
+      in_range = λ n l. rw (get_or-table (length net.start) (λ m. net_value net (after_update net s).drivers (sources_of net m) (get_or s.now m 0)) n l) (resolved_below (after_update net s).drivers value_below n (get_or s.now n 0) (R.now.in_range n l));
     };
     each_driver = λ p. ap length (driven_all_at s.pending s.drivers p) ∙ length-driven (get_or s.pending p []) (get_or s.drivers p []) ∙ R.each_driver p;
     drivers = value_below;
     transactions = λ p place x h e. let nothing = none_pending_at s.pending p place in absurd cc;
   }
     where
-      value_below : (p place : ℕ) → HasPlace net p place → get_or (get_or (driven_all s.pending s.drivers) p []) place 0 < limit net (target net p place)
+      value_below : (p place : ℕ) → HasPlace net p place → get_or (get_or (all_driver_values s.pending s.drivers) p []) place 0 < limit net (target net p place)
       value_below p place h =
           let l = R.each_driver p in
           rw (ap (λ (row : List ℕ). get_or row place 0) (driven_all_at s.pending s.drivers p) ∙ driven_at (get_or s.pending p []) (get_or s.drivers p []) place (omega arith))
           (entry_or_below (limit net (target net p place)) (get_or (get_or s.drivers p []) place 0) (get_or (get_or s.pending p []) place None) (λ x e. R.transactions p place x h e) (R.drivers p place h))
 
-  gives_below : (inputs : ℕ → ℕ) (s : State) → AreInputs net inputs → StateInRange net s → StateInRange net (given net inputs s)
+  gives_below : (inputs : ℕ → ℕ) (s : State) → AreInputs net inputs → StateInRange net s → StateInRange net (after_inputs net inputs s)
   gives_below inputs s I R = record { before = R.now; now = inputs_below inputs s.now I R.now; each_driver = R.each_driver; drivers = R.drivers; transactions = R.transactions }
 
   -- the transactions of process p after its run
@@ -111,17 +111,17 @@ module _ (net : Net) (W : IsWired net) (K : KeepsRange net) (S : SourcesKeepRang
       subst (λ (k : ℕ). HasPlace net k place → EntryBelow (limit net (target net k place)) (get_or (get_or (set s.pending p (row_of p s)) k []) place None)) (sym e) (λ h'. set_below p place s R h' (cases_lt p (length s.pending))) h
   entry_below p q place s R h (inr ne) = rw (get_or-set_other s.pending p q (row_of p s) [] ne) (λ x e. R.transactions q place x h e)
 
-  runs_below : (p : ℕ) (s : State) → StateInRange net s → StateInRange net (ran net p s)
+  runs_below : (p : ℕ) (s : State) → StateInRange net s → StateInRange net (after_run net p s)
   runs_below p s R = record { before = R.before; now = R.now; each_driver = R.each_driver; drivers = R.drivers; transactions = λ q place x h e. entry_below p q place s R h (cases_eq q p) x e }
 
   -- whole simulations
   after_runs : (order : List ℕ) (s t : State) → Runs net order s t → StateInRange net s → StateInRange net t
   after_runs [] s t (done, e) R = subst (λ (u : State). StateInRange net u) (sym e) R
-  after_runs (p ∷ order) s t (is, more) R = after_runs order (ran net p s) t more (runs_below p s R)
+  after_runs (p ∷ order) s t (is, more) R = after_runs order (after_run net p s) t more (runs_below p s R)
 
   after_deltas : (orders : List (List ℕ)) (s t : State) → Deltas net orders s t → StateInRange net s → StateInRange net t
   after_deltas [] s t e R = subst (λ (u : State). StateInRange net u) (sym e) R
-  after_deltas (order ∷ orders) s t (mid, (done, runs), more) R = after_deltas orders mid t more (after_runs order (updated net s) mid runs (updates_below s R))
+  after_deltas (order ∷ orders) s t (mid, (done, runs), more) R = after_deltas orders mid t more (after_runs order (after_update net s) mid runs (updates_below s R))
 
   module _ (stimulus : ℕ → ℕ → ℕ) (I : (m : ℕ) → AreInputs net (stimulus m)) where
     begun_below : (m : ℕ) (s : State) → Begun net stimulus m s → StateInRange net s

@@ -6,8 +6,8 @@ use Rattle.std.proofs.lemmas.Bool.{cases_Bool}
 use Rattle.rtl_model.proofs.basics.Lists.{any_true, none_contained}
 use Rattle.rtl_model.specs.basics.Valuations.{AgreeOn, clocked_entry, has_event}
 use Rattle.rtl_model.proofs.simulation.Leveled.{Leveled}
-use Rattle.rtl_model.specs.simulation.Net.{Edge, HasPlace, IsClockedBy, IsInput, Net, process, Reset, reset_entry, reset_of, resets, target}
-use Rattle.rtl_model.specs.simulation.Cycle.{given, is_quiet, State}
+use Rattle.rtl_model.specs.simulation.Netlist.{Edge, HasPlace, IsClockedBy, IsInput, Netlist, process, Reset, reset_entry, reset_of, resets, target}
+use Rattle.rtl_model.specs.simulation.Cycle.{after_inputs, is_quiet, State}
 use Rattle.rtl_model.specs.simulation.Accepted.{IsClock}
 use Rattle.rtl_model.specs.simulation.Machine.{entry_or}
 use Rattle.rtl_model.proofs.simulation.Order.{finished, waits, row_after}
@@ -17,11 +17,11 @@ use Rattle.rtl_model.proofs.simulation.Rows.{transaction, no_event_same, value, 
 use Rattle.rtl_model.proofs.simulation.Held.{clocked_awake, entry_none, entry_of_reset, entry_of_branch, ran_asleep, reset_ran, reset_now, Holds, IsFresh, clocked_ran, no_edge_same, combinational_ran}
 use Rattle.rtl_model.proofs.simulation.Starting.{entry_twice, inputs_at, others_at, target_no_input}
 
-module _ (net : Net) (L : Leveled net) where
+module _ (net : Netlist) (L : Leveled net) where
   -- new inputs, given to a quiet state
   module _ (was inputs : ℕ → ℕ) (r : ℕ → ℕ → ℕ) (t : State) (H : Holds net was r t) (Q : is_quiet t ≡ true) where
     abbrev pub next : State
-    next = given net inputs t
+    next = after_inputs net inputs t
 
     next_fresh : IsFresh net next
     next_fresh = record { rows = H.pend_length; none = quiet_at t Q }
@@ -60,7 +60,7 @@ module _ (net : Net) (L : Leveled net) where
       pend_length = length-map-range_with_len (row_after net next) 0 (length next.pending) ∙ H.pend_length;
       row_lengths = H.row_lengths;
       on_inputs = λ n is. inputs_at net L.elaborated inputs t.now n is;
-      on_others = λ n l given free. others_at net inputs t.now n H.now_length given ∙ H.on_others n l given free;
+      on_others = λ n l after_inputs free. others_at net inputs t.now n H.now_length after_inputs ∙ H.on_others n l after_inputs free;
       on_driven = λ p place h. next_driven p place h ∙ H.on_driven p place h;
       on_combinational = λ p place c h. combinational_ran net L next p place next_fresh refl c h (H.on_combinational p place c h ∙ ap (λ (x : ℕ). Some x) (quiet_out p place));
       on_clocked = λ p place clock edge is h. refl;

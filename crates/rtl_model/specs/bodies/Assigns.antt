@@ -2,7 +2,7 @@
 -- names; `these` are targets, and an assignment to any of them assigns it.
 use Rattle.std.specs.Prelude.{ℕ, Bool, false, ◌&&◌, ◌||◌, ◌==◌}
 use Rattle.std.specs.List.{list_any}
-use Rattle.rtl_model.specs.bodies.Body.{Stmt, nothing, assign, set, if_of, case_of, Stmts, done, step}
+use Rattle.rtl_model.specs.bodies.Body.{Stmt, null_of, assign, set, if_of, case_of, Stmts, done, step}
 use Rattle.rtl_model.specs.bodies.Body.{Branches, no_else, otherwise, branch, Alternatives, others, alternative}
 
 -- what an assignment assigns: a driver, by its place, or an element of a variable
@@ -21,7 +21,7 @@ is_element e (element d) = d == e
 
 abbrev mutual
   pub stmt_must_assign : (these : Target → Bool) → Stmt → Bool
-  stmt_must_assign these nothing = false
+  stmt_must_assign these null_of = false
   stmt_must_assign these (assign places v) = list_any (λ place. these (driver place)) places
   stmt_must_assign these (set es v) = list_any (λ e. these (element e)) es
   stmt_must_assign these (if_of bs) = branches_must_assign these bs

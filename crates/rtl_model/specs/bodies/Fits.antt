@@ -6,7 +6,7 @@ use Rattle.rtl_model.specs.bodies.Body.{inverse, filled, binary, resized, shifte
 use Rattle.rtl_model.specs.bodies.Body.{Value, elements, position, position_of, position_in}
 use Rattle.rtl_model.specs.bodies.Body.{Test, condition, decided, equal, unequal, level, compared, compared_to}
 use Rattle.rtl_model.specs.bodies.Body.{rising, falling, event, negated, combined}
-use Rattle.rtl_model.specs.bodies.Body.{Stmt, nothing, assign, set, if_of, case_of, Stmts, done, step}
+use Rattle.rtl_model.specs.bodies.Body.{Stmt, null_of, assign, set, if_of, case_of, Stmts, done, step}
 use Rattle.rtl_model.specs.bodies.Body.{Branches, no_else, otherwise, branch, Alternatives, others, alternative}
 use Rattle.rtl_model.specs.bodies.Types.{ElementType, nine_valued, enumeration, limit_of, HasType}
 
@@ -106,7 +106,7 @@ module _ (scope : Scope) where
 
   abbrev mutual
     pub FitsStmt : Stmt → Type 0
-    FitsStmt nothing = ⊤
+    FitsStmt null_of = ⊤
     FitsStmt (assign places v) = FitsTarget DrivesType places v
     FitsStmt (set es v) = FitsTarget (HasType scope.variables) es v
     FitsStmt (if_of bs) = FitsBranches bs

@@ -9,7 +9,7 @@ use Rattle.vhdl_values.specs.declared.kinds.Edge.TheVariants.{Rising, Falling, T
 use Rattle.vhdl_values.specs.Scalar.{code_of}
 use Rattle.rtl_model.specs.basics.Lists.{is_empty}
 use Rattle.rtl_model.specs.bodies.Body.{Test, level, rising, falling, event, combined}
-use Rattle.rtl_model.specs.bodies.Body.{nothing, assign, if_of, Stmts, done, step, no_else, branch}
+use Rattle.rtl_model.specs.bodies.Body.{null_of, assign, if_of, Stmts, done, step, no_else, branch}
 use Rattle.rtl_model.specs.bodies.Reads.{value_reads, events}
 
 -- ---- edge tests
@@ -73,7 +73,7 @@ reset_test inputs _ = None
 -- signal assignments and nulls alone, and no value reads a signal
 abbrev pub assigns_constants : Stmts → Bool
 assigns_constants done = true
-assigns_constants (step nothing rest) = assigns_constants rest
+assigns_constants (step null_of rest) = assigns_constants rest
 assigns_constants (step (assign places v) rest) = is_empty (value_reads v) && assigns_constants rest
 assigns_constants (step _ rest) = false
 

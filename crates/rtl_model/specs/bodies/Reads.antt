@@ -5,7 +5,7 @@ use Rattle.rtl_model.specs.bodies.Body.{Expr, signal, variable, constant, invers
 use Rattle.rtl_model.specs.bodies.Body.{shifted_right, Value, elements, position, position_of, position_in}
 use Rattle.rtl_model.specs.bodies.Body.{Test, condition, decided, equal, unequal, level, compared, compared_to}
 use Rattle.rtl_model.specs.bodies.Body.{rising, falling, event, negated, combined}
-use Rattle.rtl_model.specs.bodies.Body.{Stmt, nothing, assign, set, if_of, case_of, Stmts, done, step}
+use Rattle.rtl_model.specs.bodies.Body.{Stmt, null_of, assign, set, if_of, case_of, Stmts, done, step}
 use Rattle.rtl_model.specs.bodies.Body.{Branches, no_else, otherwise, branch, Alternatives, others, alternative}
 
 -- ---- what is read
@@ -43,7 +43,7 @@ test_reads (combined op s t) = test_reads s ++ test_reads t
 
 abbrev mutual
   pub stmt_reads : Stmt → List ℕ
-  stmt_reads nothing = []
+  stmt_reads null_of = []
   stmt_reads (assign places v) = value_reads v
   stmt_reads (set es v) = value_reads v
   stmt_reads (if_of bs) = branches_reads bs
@@ -74,7 +74,7 @@ test_events _ = []
 
 abbrev mutual
   pub stmt_events : Stmt → List ℕ
-  stmt_events nothing = []
+  stmt_events null_of = []
   stmt_events (assign places v) = []
   stmt_events (set es v) = []
   stmt_events (if_of bs) = branches_events bs

@@ -6,7 +6,7 @@ use Rattle.rtl_model.specs.bodies.Body.{Expr, signal, variable, constant, invers
 use Rattle.rtl_model.specs.bodies.Body.{shifted_right, Value, elements, position, position_of, position_in}
 use Rattle.rtl_model.specs.bodies.Body.{Test, condition, equal, unequal, compared, compared_to}
 use Rattle.rtl_model.specs.bodies.Body.{negated, combined}
-use Rattle.rtl_model.specs.bodies.Body.{Stmt, nothing, assign, set, if_of, case_of, Stmts, done, step}
+use Rattle.rtl_model.specs.bodies.Body.{Stmt, null_of, assign, set, if_of, case_of, Stmts, done, step}
 use Rattle.rtl_model.specs.bodies.Body.{Branches, no_else, otherwise, branch, Alternatives, others, alternative}
 use Rattle.rtl_model.specs.bodies.Assigns.{is_element, stmt_must_assign}
 
@@ -44,7 +44,7 @@ module _ (e : ℕ) where
 
   abbrev mutual
     pub stmt_stores : Stmt → Bool
-    stmt_stores nothing = false
+    stmt_stores null_of = false
     stmt_stores (assign places v) = value_looks_at v
     stmt_stores (set es v) = value_looks_at v
     stmt_stores (if_of bs) = branches_store bs

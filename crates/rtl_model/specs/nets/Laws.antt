@@ -1,14 +1,14 @@
 -- What the laws of simulation ask of a net, of each flat net: of its values and bodies always, of its wiring where it is
--- connected. So whoever makes a flat net owes facts about its wiring alone; and then the laws hold of it as they stand.
+-- connected. So whoever makes a flat netlist owes facts about its wiring alone; and then the laws hold of it as they stand.
 use Rattle.std.specs.Prelude.{◌≡◌, ◌≢◌, ◌↔◌, ℕ, ◌<◌, ◌≤◌, false, All, List, [], length, Option, Some, None, IsTrue}
 use Rattle.rtl_model.specs.bodies.Effect.{effect_of}
 use Rattle.rtl_model.specs.bodies.Reads.{reads, events}
 use Rattle.rtl_model.specs.bodies.Stored.{stores_element}
-use Rattle.rtl_model.specs.nets.FlatNet.{FlatNet, FlatProcess, IsInRange, process_at, element_starts}
-use Rattle.rtl_model.specs.nets.CoreNet.{core_net, core_process}
+use Rattle.rtl_model.specs.nets.FlatNetlist.{FlatNetlist, FlatProcess, IsInRange, process_at, element_starts}
+use Rattle.rtl_model.specs.nets.CoreNetlist.{core_netlist, core_process}
 use Rattle.rtl_model.specs.nets.Wiring.{IsConnected}
 use Rattle.rtl_model.specs.bodies.Kinds.{Clocking, clocking}
-use Rattle.rtl_model.specs.simulation.Net.{Edge, Reset, Combinational, Clocked, Mixed}
+use Rattle.rtl_model.specs.simulation.Netlist.{Edge, Reset, Combinational, Clocked, Mixed}
 use Rattle.rtl_model.specs.simulation.Cycle.{State}
 use Rattle.rtl_model.specs.simulation.Moments.{HasDeltas, Begun, SettlesIn, HasSettled}
 use Rattle.rtl_model.specs.simulation.Elaborated.{HasValues, HasBodies, IsElaborated}
@@ -22,10 +22,10 @@ use Rattle.rtl_model.specs.simulation.Laws.{HasNoReset}
 -- ---- of every flat net
 
 abbrev pub EachHasValues : Type 0
-EachHasValues = (net : FlatNet) → HasValues (core_net net)
+EachHasValues = (net : FlatNetlist) → HasValues (core_netlist net)
 
 abbrev pub EachHasBodies : Type 0
-EachHasBodies = (net : FlatNet) → HasBodies (core_net net)
+EachHasBodies = (net : FlatNetlist) → HasBodies (core_netlist net)
 
 -- A process is combinational where no edge test and no `'event` stands in its body, clocked where the body is one of a clocked
 -- process, and else mixed.
@@ -49,61 +49,61 @@ EachForgets =
 -- ---- of those in range and connected
 
 -- All nets that a process wakes on and reads are there, and so are the elements of variables that it stores.
-pub record IsThere (net : FlatNet) (p : FlatProcess) : Type 0 where
+pub record IsThere (net : FlatNetlist) (p : FlatProcess) : Type 0 where
   pub wakes : All (λ n. n < length net.types) p.wakes
   pub reads_there : All (λ n. n < length net.types) (reads p.body)
   pub elements : (e : ℕ) → IsTrue (stores_element e p.body) → e < length (element_starts p.variables)
 
 abbrev pub InRangeIsSafe : Type 0
-InRangeIsSafe = (net : FlatNet) → IsInRange net → (p : ℕ) → p < length net.processes → IsThere net (process_at net p)
+InRangeIsSafe = (net : FlatNetlist) → IsInRange net → (p : ℕ) → p < length net.processes → IsThere net (process_at net p)
 
 abbrev pub EachKeepsRange : Type 0
-EachKeepsRange = (net : FlatNet) → IsInRange net → KeepsRange (core_net net)
+EachKeepsRange = (net : FlatNetlist) → IsInRange net → KeepsRange (core_netlist net)
 
 abbrev pub EachIsElaborated : Type 0
-EachIsElaborated = (net : FlatNet) → IsInRange net → IsConnected net → IsElaborated (core_net net)
+EachIsElaborated = (net : FlatNetlist) → IsInRange net → IsConnected net → IsElaborated (core_netlist net)
 
 abbrev pub EachSourceKeepsRange : Type 0
-EachSourceKeepsRange = (net : FlatNet) → IsInRange net → IsConnected net → SourcesKeepRange (core_net net)
+EachSourceKeepsRange = (net : FlatNetlist) → IsInRange net → IsConnected net → SourcesKeepRange (core_netlist net)
 
 -- So whatever it settles in, accepted or not, has values of the nets' types, where the stimulus has.
 abbrev pub EachStateIsInRange : Type 0
 EachStateIsInRange =
-    (net : FlatNet) → IsInRange net → IsConnected net
-    → (stimulus : ℕ → ℕ → ℕ) → ((m : ℕ) → AreInputs (core_net net) (stimulus m))
-    → (m k : ℕ) (t : State) → HasSettled (core_net net) stimulus m k t → StateInRange (core_net net) t
+    (net : FlatNetlist) → IsInRange net → IsConnected net
+    → (stimulus : ℕ → ℕ → ℕ) → ((m : ℕ) → AreInputs (core_netlist net) (stimulus m))
+    → (m k : ℕ) (t : State) → HasSettled (core_netlist net) stimulus m k t → StateInRange (core_netlist net) t
 
 -- ---- of those that are accepted besides
 
--- a flat net as elaboration gives it, accepted by the checker
-pub record IsSound (net : FlatNet) : Type 0 where
+-- a flat netlist as elaboration gives it, accepted by the checker
+pub record IsSound (net : FlatNetlist) : Type 0 where
   pub in_range : IsInRange net
   pub connected : IsConnected net
-  pub accepted : IsAccepted (core_net net)
+  pub accepted : IsAccepted (core_netlist net)
 
 -- From the state after a moment's first cycle it settles, in so many delta cycles as the bound says at most, and at the
 -- start, where nothing is reset, in the greatest level at most; and without a race so far, in the machine's valuation.
-pub record SettlesAsMachine (net : FlatNet) (greatest : ℕ) (stimulus : ℕ → ℕ → ℕ) (m : ℕ) (s : State) : Type 0 where
+pub record SettlesAsMachine (net : FlatNetlist) (greatest : ℕ) (stimulus : ℕ → ℕ → ℕ) (m : ℕ) (s : State) : Type 0 where
   pub deltas : ℕ
-  pub settles : SettlesIn (core_net net) s deltas
-  pub in_bound : deltas ≤ bound (core_net net) greatest
-  pub at_start : m ≡ 0 → HasNoReset (core_net net) → deltas ≤ greatest
-  pub is_machine : HasNoRace (core_net net) stimulus m → (t : State) → HasDeltas (core_net net) deltas s t
-      → (v : ℕ → List ℕ) → IsMachineRun (core_net net) stimulus v → t.now ≡ v m
+  pub settles : SettlesIn (core_netlist net) s deltas
+  pub in_bound : deltas ≤ bound (core_netlist net) greatest
+  pub at_start : m ≡ 0 → HasNoReset (core_netlist net) → deltas ≤ greatest
+  pub is_machine : HasNoRace (core_netlist net) stimulus m → (t : State) → HasDeltas (core_netlist net) deltas s t
+      → (v : ℕ → List ℕ) → IsMachineRun (core_netlist net) stimulus v → t.now ≡ v m
 
 -- At each moment, whatever the orders so far. There is such a state, and one run of the machine.
-pub record SimulatesTheMachine (net : FlatNet) (stimulus : ℕ → ℕ → ℕ) : Type 0 where
-  pub settles : (levels : List (Option ℕ)) (greatest : ℕ) → AreLevels (core_net net) levels greatest
-      → (m : ℕ) (s : State) → Begun (core_net net) stimulus m s → SettlesAsMachine net greatest stimulus m s
-  pub begins : (m : ℕ) → (s : State) × Begun (core_net net) stimulus m s
-  pub one_run : (v : ℕ → List ℕ) × IsMachineRun (core_net net) stimulus v
-      × ((w : ℕ → List ℕ) → IsMachineRun (core_net net) stimulus w → w ≡ v)
+pub record SimulatesTheMachine (net : FlatNetlist) (stimulus : ℕ → ℕ → ℕ) : Type 0 where
+  pub settles : (levels : List (Option ℕ)) (greatest : ℕ) → AreLevels (core_netlist net) levels greatest
+      → (m : ℕ) (s : State) → Begun (core_netlist net) stimulus m s → SettlesAsMachine net greatest stimulus m s
+  pub begins : (m : ℕ) → (s : State) × Begun (core_netlist net) stimulus m s
+  pub one_run : (v : ℕ → List ℕ) × IsMachineRun (core_netlist net) stimulus v
+      × ((w : ℕ → List ℕ) → IsMachineRun (core_netlist net) stimulus w → w ≡ v)
 
 abbrev pub EachSimulatesTheMachine : Type 0
-EachSimulatesTheMachine = (net : FlatNet) → IsSound net → (stimulus : ℕ → ℕ → ℕ) → SimulatesTheMachine net stimulus
+EachSimulatesTheMachine = (net : FlatNetlist) → IsSound net → (stimulus : ℕ → ℕ → ℕ) → SimulatesTheMachine net stimulus
 
 -- For given inputs and registers one valuation solves, and no other.
 abbrev pub EachHasOneSolution : Type 0
 EachHasOneSolution =
-    (net : FlatNet) → IsSound net → (inputs registers : ℕ → ℕ)
-    → (v : List ℕ) × Solves (core_net net) inputs registers v × ((w : List ℕ) → Solves (core_net net) inputs registers w → w ≡ v)
+    (net : FlatNetlist) → IsSound net → (inputs registers : ℕ → ℕ)
+    → (v : List ℕ) × Solves (core_netlist net) inputs registers v × ((w : List ℕ) → Solves (core_netlist net) inputs registers w → w ≡ v)

@@ -1,22 +1,22 @@
--- When a net is accepted: the nine faults.
+-- When a netlist is accepted: the nine faults.
 use Rattle.std.specs.Prelude.{◌≡◌, ℕ, ◌⊎◌, false, List, [], ◌∷◌, Contains, IsTrue}
-use Rattle.rtl_model.specs.simulation.Net.{Net, Source, Reset, Mixed, Edge, process}
-use Rattle.rtl_model.specs.simulation.Net.{sources_of, target, HasPlace, HasReset, IsInput, IsCombinational, IsClockedBy}
+use Rattle.rtl_model.specs.simulation.Netlist.{Netlist, Source, Reset, Mixed, Edge, process}
+use Rattle.rtl_model.specs.simulation.Netlist.{sources_of, target, HasPlace, HasReset, IsInput, IsCombinational, IsClockedBy}
 
 -- n is the clock of process p
-abbrev pub IsClockOf : Net → (p n : ℕ) → Type 0
+abbrev pub IsClockOf : Netlist → (p n : ℕ) → Type 0
 IsClockOf net p n = (edge : Edge) × IsClockedBy net p n edge
 
 -- n is the net of process p's reset
-abbrev pub IsResetOf : Net → (p n : ℕ) → Type 0
+abbrev pub IsResetOf : Netlist → (p n : ℕ) → Type 0
 IsResetOf net p n = (reset : Reset) × HasReset net p reset × (reset.net ≡ n)
 
 -- some process is clocked by n
-abbrev pub IsClock : Net → ℕ → Type 0
+abbrev pub IsClock : Netlist → ℕ → Type 0
 IsClock net n = (p : ℕ) × IsClockOf net p n
 
 -- q is sensitive to a net that p drives, both being combinational
-pub record Feeds (net : Net) (p q : ℕ) : Type 0 where
+pub record Feeds (net : Netlist) (p q : ℕ) : Type 0 where
   pub feeder : IsCombinational net p
   pub fed : IsCombinational net q
   pub place : ℕ
@@ -24,17 +24,17 @@ pub record Feeds (net : Net) (p q : ℕ) : Type 0 where
   pub wakes : Contains (process net q).wakes (target net p place)
 
 -- the last of these is fed by the first, and each other by the one after it
-abbrev pub IsFedRound : Net → (first : ℕ) → List ℕ → Type 0
+abbrev pub IsFedRound : Netlist → (first : ℕ) → List ℕ → Type 0
 IsFedRound net first [] = ⊥
 IsFedRound net first (p ∷ []) = Feeds net first p
 IsFedRound net first (p ∷ q ∷ more) = Feeds net q p × IsFedRound net first (q ∷ more)
 
 -- a loop: each process is sensitive to a net that the next drives, the last to one that the first drives
-abbrev pub IsLoop : Net → List ℕ → Type 0
+abbrev pub IsLoop : Netlist → List ℕ → Type 0
 IsLoop net [] = ⊥
 IsLoop net (p ∷ more) = IsFedRound net p (p ∷ more)
 
-abbrev pub HasNoLoop : Net → Type 0
+abbrev pub HasNoLoop : Netlist → Type 0
 HasNoLoop net = (processes : List ℕ) → IsLoop net processes → ⊥
 
 pub data Fault : Type 0 where
@@ -49,7 +49,7 @@ pub data Fault : Type 0 where
   StoredVariable : (process variable place : ℕ) → Fault
 
 -- the net has this fault
-abbrev pub IsFault : Net → Fault → Type 0
+abbrev pub IsFault : Netlist → Fault → Type 0
 -- n has two sources or more, these being the first two
 IsFault net (TwoDrivers n first second) = (more : List Source) × (sources_of net n ≡ first ∷ second ∷ more)
 -- p is neither clocked nor combinational
@@ -70,5 +70,5 @@ IsFault net (Loop ps) = IsLoop net ps
 IsFault net (StoredVariable p variable place) = IsTrue ((process net p).stores variable place)
 
 -- accepted: no fault
-abbrev pub IsAccepted : Net → Type 0
+abbrev pub IsAccepted : Netlist → Type 0
 IsAccepted net = (fault : Fault) → IsFault net fault → ⊥

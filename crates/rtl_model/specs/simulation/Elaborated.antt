@@ -1,12 +1,12 @@
 -- What holds of every net that was elaborated: of its wiring, of the nine values' resolution and edges, and of its bodies.
 use Rattle.std.specs.Prelude.{◌≡◌, ℕ, ◌<◌, false, List, [], ◌∷◌, length, slice_index, slice_index_or, map, None, IsSome, IsTrue, Contains}
 use Rattle.rtl_model.specs.basics.Valuations.{AgreeOn, clocked_entry}
-use Rattle.rtl_model.specs.simulation.Net.{Net, Source, Driver, Reset, Edge, process, sources_of, target}
-use Rattle.rtl_model.specs.simulation.Net.{HasPlace, HasReset, IsInput, IsCombinational, IsClockedBy, reset_of, reset_entry, resets}
+use Rattle.rtl_model.specs.simulation.Netlist.{Netlist, Source, Driver, Reset, Edge, process, sources_of, target}
+use Rattle.rtl_model.specs.simulation.Netlist.{HasPlace, HasReset, IsInput, IsCombinational, IsClockedBy, reset_of, reset_entry, resets}
 use Rattle.rtl_model.specs.simulation.Cycle.{source_value, starting_drivers}
 
 -- drivers, sources and starting values fit together (14.7.2, 14.7.3.2)
-pub record IsWired (net : Net) : Type 0 where
+pub record IsWired (net : Netlist) : Type 0 where
   pub targets_are_nets : (p place : ℕ) → HasPlace net p place → target net p place < length net.start
   pub inputs_are_nets : (n : ℕ) → IsInput net n → n < length net.start
   -- nothing inside the top drives its in ports
@@ -19,16 +19,16 @@ pub record IsWired (net : Net) : Type 0 where
       ≡ net.resolve (map (source_value (starting_drivers net)) (sources_of net n))
 
 -- resolution leaves one value as it is (14.7.3.2), and an edge is an event
-pub record HasValues (net : Net) : Type 0 where
+pub record HasValues (net : Netlist) : Type 0 where
   pub one_resolves : (v : ℕ) → net.resolve (v ∷ []) ≡ v
   pub edges_differ : (edge : Edge) (v : ℕ) → net.edge edge v v ≡ false
 
 -- a net is the target of this place of process p and of no other
-abbrev pub IsOnlyPlace : Net → ℕ → ℕ → Type 0
+abbrev pub IsOnlyPlace : Netlist → ℕ → ℕ → Type 0
 IsOnlyPlace net p place = (other : ℕ) → HasPlace net p other → target net p other ≡ target net p place → other ≡ place
 
 -- what bodies do
-pub record HasBodies (net : Net) : Type 0 where
+pub record HasBodies (net : Netlist) : Type 0 where
   -- a combinational body has an entry for what it assigns on every path,
   pub assigned : (p place : ℕ) (before now : List ℕ) → IsCombinational net p → HasPlace net p place → IsOnlyPlace net p place
       → IsTrue ((process net p).assigns (target net p place)) → IsSome (slice_index_or ((process net p).effect before now) place None)
@@ -46,7 +46,7 @@ pub record HasBodies (net : Net) : Type 0 where
   -- a body with a test of another net in a reset's place is mixed
   pub reset_is_input : (p : ℕ) (reset : Reset) → HasReset net p reset → IsInput net reset.net
 
-pub record IsElaborated (net : Net) : Type 0 where
+pub record IsElaborated (net : Netlist) : Type 0 where
   pub wiring : IsWired net
   pub values : HasValues net
   pub bodies : HasBodies net

@@ -1,7 +1,7 @@
 -- The list of a net's faults: all but loops, in order, each once; or else one loop.
 use Rattle.std.specs.Prelude.{◌≡◌, ◌≢◌, ℕ, ◌⊎◌, ◌↔◌, Bool, not, ◌==◌, IsTrue, List, [], ◌∷◌, Contains}
 use Rattle.rtl_model.specs.basics.Lists.{RisesBy}
-use Rattle.rtl_model.specs.simulation.Net.{Net}
+use Rattle.rtl_model.specs.simulation.Netlist.{Netlist}
 use Rattle.rtl_model.specs.simulation.Accepted.{Fault, TwoDrivers, MixedProcess, ClockNotInput, EdgeNotSensitive, ClockAsData}
 use Rattle.rtl_model.specs.simulation.Accepted.{MissingSensitivity, Latch, Loop, StoredVariable, IsFault, IsLoop}
 
@@ -38,24 +38,24 @@ abbrev pub is_of_stored : Fault → Bool
 is_of_stored fault = fault_number fault == 9
 
 -- these are the net's faults of some kind, in order, each once
-pub record AreFaultsOf (net : Net) (among : Fault → Bool) (faults : List Fault) : Type 0 where
+pub record AreFaultsOf (net : Netlist) (among : Fault → Bool) (faults : List Fault) : Type 0 where
   pub are : (fault : Fault) → Contains faults fault ↔ (IsFault net fault × IsTrue (among fault))
   pub rise : RisesBy fault_key faults
 
 -- all but loops, and the stored variables alone
-abbrev pub AreFaultsButLoops : Net → List Fault → Type 0
+abbrev pub AreFaultsButLoops : Netlist → List Fault → Type 0
 AreFaultsButLoops net = AreFaultsOf net is_no_loop
 
-abbrev pub AreStored : Net → List Fault → Type 0
+abbrev pub AreStored : Netlist → List Fault → Type 0
 AreStored net = AreFaultsOf net is_of_stored
 
 -- a loop is looked for only where there is no other fault
-pub record IsOneLoop (net : Net) (faults : List Fault) : Type 0 where
+pub record IsOneLoop (net : Netlist) (faults : List Fault) : Type 0 where
   pub processes : List ℕ
   pub is : faults ≡ Loop processes ∷ []
   pub loop : IsLoop net processes
   pub no_other : AreFaultsButLoops net []
 
 -- what a checker lists of a net that isn't accepted
-abbrev pub AreFaults : Net → List Fault → Type 0
+abbrev pub AreFaults : Netlist → List Fault → Type 0
 AreFaults net faults = (AreFaultsButLoops net faults × (faults ≢ [])) ⊎ IsOneLoop net faults

@@ -1,8 +1,8 @@
 -- The laws of simulation, over the definitions beside this file.
 use Rattle.std.specs.Prelude.{◌≡◌, ◌↔◌, ◌⊎◌, ℕ, suc, pred, ◌<◌, ◌≤◌, Bool, false, List}
 use Rattle.std.specs.Prelude.{[], ◌∷◌, ◌++◌, length, map, Option, Some, None, slice_index, slice_index_or, Contains, IsTrue}
-use Rattle.rtl_model.specs.simulation.Net.{Net, Source, Driver, Edge, Reset, process, sources_of, HasReset, IsInput, IsCombinational}
-use Rattle.rtl_model.specs.simulation.Cycle.{State, started, updated, given, ran, is_quiet, source_value, changed}
+use Rattle.rtl_model.specs.simulation.Netlist.{Netlist, Source, Driver, Edge, Reset, process, sources_of, HasReset, IsInput, IsCombinational}
+use Rattle.rtl_model.specs.simulation.Cycle.{State, start_state, after_update, after_inputs, after_run, is_quiet, source_value, with_changes}
 use Rattle.rtl_model.specs.simulation.Moments.{HasNoneToRun, HasRun, HasDeltas, Delta, Begun, SettlesIn, SettlesTo, IsUnsettled, HasSettled, IsMost, at_moments}
 use Rattle.rtl_model.specs.simulation.Elaborated.{IsElaborated, IsWired}
 use Rattle.rtl_model.specs.simulation.Accepted.{Fault, IsAccepted, HasNoLoop}
@@ -17,64 +17,64 @@ use Rattle.rtl_model.specs.simulation.Range.{IsValuation, KeepsRange, SourcesKee
 
 -- two orders of one cycle's Runs end in the same state
 abbrev pub OrderIsFree : Type 0
-OrderIsFree = (net : Net) (s t u : State) → HasRun net s t → HasRun net s u → t ≡ u
+OrderIsFree = (net : Netlist) (s t u : State) → HasRun net s t → HasRun net s u → t ≡ u
 
 -- Whole simulations agree, whatever their orders: a moment has one state after its first cycle, and settles in one way.
 abbrev pub EveryOrderIsOne : Type 0
 EveryOrderIsOne =
-    (net : Net) (stimulus : ℕ → ℕ → ℕ) (m : ℕ) → ((s t : State) → Begun net stimulus m s → Begun net stimulus m t → s ≡ t)
+    (net : Netlist) (stimulus : ℕ → ℕ → ℕ) (m : ℕ) → ((s t : State) → Begun net stimulus m s → Begun net stimulus m t → s ≡ t)
     × ((k j : ℕ) (t u : State) → HasSettled net stimulus m k t → HasSettled net stimulus m j u → (k ≡ j) × (t ≡ u))
 
 -- each net with sources has the resolution of their values
-abbrev pub IsConsistent : Net → State → Type 0
+abbrev pub IsConsistent : Netlist → State → Type 0
 IsConsistent net s =
     (n : ℕ) (source : Source) → n < length net.start → Contains (sources_of net n) source
     → slice_index s.now n ≡ net.resolve (map (source_value s.drivers) (sources_of net n))
 
 -- A simulation begins consistent, and its steps keep it so; hence a net none of whose drivers is active keeps its value.
-pub record StaysConsistent (net : Net) : Type 0 where
-  pub starts : (inputs : ℕ → ℕ) → IsConsistent net (started net inputs)
-  pub updates : (s : State) → IsConsistent net (updated net s)
-  pub gives : (inputs : ℕ → ℕ) (s : State) → IsConsistent net s → IsConsistent net (given net inputs s)
-  pub runs : (p : ℕ) (s : State) → IsConsistent net s → IsConsistent net (ran net p s)
+pub record StaysConsistent (net : Netlist) : Type 0 where
+  pub starts : (inputs : ℕ → ℕ) → IsConsistent net (start_state net inputs)
+  pub updates : (s : State) → IsConsistent net (after_update net s)
+  pub gives : (inputs : ℕ → ℕ) (s : State) → IsConsistent net s → IsConsistent net (after_inputs net inputs s)
+  pub runs : (p : ℕ) (s : State) → IsConsistent net s → IsConsistent net (after_run net p s)
   pub keeps : (s : State) (n : ℕ) → IsConsistent net s → n < length net.start
       → ((p place : ℕ) → Contains (sources_of net n) (Driver p place) → slice_index_or (slice_index_or s.pending p []) place None ≡ None)
-      → slice_index (updated net s).now n ≡ slice_index s.now n
+      → slice_index (after_update net s).now n ≡ slice_index s.now n
 
 abbrev pub EachStaysConsistent : Type 0
-EachStaysConsistent = (net : Net) → IsWired net → StaysConsistent net
+EachStaysConsistent = (net : Netlist) → IsWired net → StaysConsistent net
 
 -- The inputs alone are looked at.
-pub record InputsAlone (net : Net) (inputs other : ℕ → ℕ) : Type 0 where
-  pub starts : started net inputs ≡ started net other
-  pub gives : (s : State) → given net inputs s ≡ given net other s
+pub record InputsAlone (net : Netlist) (inputs other : ℕ → ℕ) : Type 0 where
+  pub starts : start_state net inputs ≡ start_state net other
+  pub gives : (s : State) → after_inputs net inputs s ≡ after_inputs net other s
 
 abbrev pub EachTakesInputsAlone : Type 0
-EachTakesInputsAlone = (net : Net) (inputs other : ℕ → ℕ) → ((n : ℕ) → IsInput net n → inputs n ≡ other n) → InputsAlone net inputs other
+EachTakesInputsAlone = (net : Netlist) (inputs other : ℕ → ℕ) → ((n : ℕ) → IsInput net n → inputs n ≡ other n) → InputsAlone net inputs other
 
 -- Throughout a moment the inputs have the stimulus's values.
-pub record InputsHold (net : Net) (stimulus : ℕ → ℕ → ℕ) (m n : ℕ) : Type 0 where
+pub record InputsHold (net : Netlist) (stimulus : ℕ → ℕ → ℕ) (m n : ℕ) : Type 0 where
   pub begun : (s : State) → Begun net stimulus m s → slice_index s.now n ≡ stimulus m n
   pub settled : (k : ℕ) (t : State) → HasSettled net stimulus m k t → slice_index t.now n ≡ stimulus m n
 
 abbrev pub EachInputHolds : Type 0
-EachInputHolds = (net : Net) → IsWired net → (stimulus : ℕ → ℕ → ℕ) (m n : ℕ) → IsInput net n → InputsHold net stimulus m n
+EachInputHolds = (net : Netlist) → IsWired net → (stimulus : ℕ → ℕ → ℕ) (m n : ℕ) → IsInput net n → InputsHold net stimulus m n
 
 -- A net that no change names keeps its value, and one that a change names, and no later one, has that change's.
 pub record ChangesAreMade (changes : List (ℕ × ℕ)) (old : List ℕ) : Type 0 where
-  pub kept : (n : ℕ) → ((value : ℕ) → Contains changes (n, value) → ⊥) → changed changes old n ≡ slice_index old n
-  pub last : (n value : ℕ) → n < length old → changed (changes ++ ((n, value) ∷ [])) old n ≡ value
-  pub others : (n m value : ℕ) → (n ≡ m → ⊥) → changed (changes ++ ((m, value) ∷ [])) old n ≡ changed changes old n
+  pub kept : (n : ℕ) → ((value : ℕ) → Contains changes (n, value) → ⊥) → with_changes changes old n ≡ slice_index old n
+  pub last : (n value : ℕ) → n < length old → with_changes (changes ++ ((n, value) ∷ [])) old n ≡ value
+  pub others : (n m value : ℕ) → (n ≡ m → ⊥) → with_changes (changes ++ ((m, value) ∷ [])) old n ≡ with_changes changes old n
 
 abbrev pub EachChangeIsMade : Type 0
 EachChangeIsMade = (changes : List (ℕ × ℕ)) (old : List ℕ) → ChangesAreMade changes old
 
 -- no state less than k delta cycles from s is quiet
-abbrev pub IsBusyBefore : Net → State → ℕ → Type 0
+abbrev pub IsBusyBefore : Netlist → State → ℕ → Type 0
 IsBusyBefore net s k = (j : ℕ) (t : State) → j < k → HasDeltas net j s t → is_quiet t ≡ false
 
 -- One run of delta cycles shows what every order does.
-pub record OneRunShows (net : Net) (s : State) : Type 0 where
+pub record OneRunShows (net : Netlist) (s : State) : Type 0 where
   pub one_state : (k : ℕ) (t u : State) → HasDeltas net k s t → HasDeltas net k s u → t ≡ u
   pub none_yet : HasDeltas net 0 s s × IsBusyBefore net s 0
   pub one_more : (k : ℕ) (order : List ℕ) (t u : State) → HasDeltas net k s t → Delta net order t u → HasDeltas net (suc k) s u
@@ -84,35 +84,35 @@ pub record OneRunShows (net : Net) (s : State) : Type 0 where
       → IsUnsettled net s limit t
 
 abbrev pub EachRunShows : Type 0
-EachRunShows = (net : Net) (s : State) → OneRunShows net s
+EachRunShows = (net : Netlist) (s : State) → OneRunShows net s
 
 -- So a state with nothing to run settles within a limit, or is unsettled there, and not both.
-abbrev pub HasSettledWithin : Net → State → (limit : ℕ) → Type 0
+abbrev pub HasSettledWithin : Netlist → State → (limit : ℕ) → Type 0
 HasSettledWithin net s limit = (k : ℕ) × (t : State) × (k ≤ limit) × SettlesTo net s k t
 
 abbrev pub SettlesOrNot : Type 0
 SettlesOrNot =
-    (net : Net) (s : State) (limit : ℕ) → HasNoneToRun s
+    (net : Netlist) (s : State) (limit : ℕ) → HasNoneToRun s
     → (HasSettledWithin net s limit ⊎ ((t : State) × IsUnsettled net s limit t))
     × (HasSettledWithin net s limit → (t : State) → IsUnsettled net s limit t → ⊥)
 
 -- two stimuli agree on the inputs up to a moment
-abbrev pub AgreeUpTo : Net → (stimulus other : ℕ → ℕ → ℕ) → (m : ℕ) → Type 0
+abbrev pub AgreeUpTo : Netlist → (stimulus other : ℕ → ℕ → ℕ) → (m : ℕ) → Type 0
 AgreeUpTo net stimulus other m = (j n : ℕ) → j ≤ m → IsInput net n → stimulus j n ≡ other j n
 
 -- What happens up to a moment depends on the moments up to it alone.
-pub record DependsOnPast (net : Net) (stimulus other : ℕ → ℕ → ℕ) (m : ℕ) : Type 0 where
+pub record DependsOnPast (net : Netlist) (stimulus other : ℕ → ℕ → ℕ) (m : ℕ) : Type 0 where
   pub begins : (s : State) → Begun net stimulus m s → Begun net other m s
   pub settles : (k : ℕ) (t : State) → HasSettled net stimulus m k t → HasSettled net other m k t
   pub machine : IsElaborated net → IsAccepted net → (v w : ℕ → List ℕ) → IsMachineRun net stimulus v → IsMachineRun net other w → v m ≡ w m
   pub races : IsAccepted net → HasNoRace net stimulus m → HasNoRace net other m
 
 abbrev pub EachDependsOnPast : Type 0
-EachDependsOnPast = (net : Net) (stimulus other : ℕ → ℕ → ℕ) (m : ℕ) → AgreeUpTo net stimulus other m → DependsOnPast net stimulus other m
+EachDependsOnPast = (net : Netlist) (stimulus other : ℕ → ℕ → ℕ) (m : ℕ) → AgreeUpTo net stimulus other m → DependsOnPast net stimulus other m
 
 -- Past the last of its times a stimulus changes nothing: no race is there, and its values are in range where those at its
 -- times are.
-pub record EndsAtLast (net : Net) (times : List ℕ) (value : (time n : ℕ) → ℕ) : Type 0 where
+pub record EndsAtLast (net : Netlist) (times : List ℕ) (value : (time n : ℕ) → ℕ) : Type 0 where
   pub is_at : (m : ℕ) → m < length times → at_moments times value m ≡ value (slice_index times m)
   pub stays : (m : ℕ) → length times ≤ suc m → at_moments times value (suc m) ≡ at_moments times value m
   pub no_race : HasNoRace net (at_moments times value) (pred (length times)) → (last : ℕ) → HasNoRace net (at_moments times value) last
@@ -120,20 +120,20 @@ pub record EndsAtLast (net : Net) (times : List ℕ) (value : (time n : ℕ) →
       → (m : ℕ) → AreInputs net (at_moments times value m)
 
 abbrev pub EachEndsAtLast : Type 0
-EachEndsAtLast = (net : Net) (times : List ℕ) (value : (time n : ℕ) → ℕ) → EndsAtLast net times value
+EachEndsAtLast = (net : Netlist) (times : List ℕ) (value : (time n : ℕ) → ℕ) → EndsAtLast net times value
 
 -- Races are what a report's clocks show, and the earliest has one name.
-pub record ClocksShowRaces (net : Net) (clocks : List (ℕ × Edge)) : Type 0 where
+pub record ClocksShowRaces (net : Netlist) (clocks : List (ℕ × Edge)) : Type 0 where
   pub same : (before now : ℕ → ℕ) → IsRace net before now ↔ ((input clock : ℕ) × IsRaceOf net clocks before now input clock)
   pub one_first : (stimulus : ℕ → ℕ → ℕ) (m input clock m' input' clock' : ℕ)
       → IsFirstRace net clocks stimulus m input clock → IsFirstRace net clocks stimulus m' input' clock'
       → (m ≡ m') × (input ≡ input') × (clock ≡ clock')
 
 abbrev pub EachClockShowsRaces : Type 0
-EachClockShowsRaces = (net : Net) (clocks : List (ℕ × Edge)) → AreClocks net clocks → ClocksShowRaces net clocks
+EachClockShowsRaces = (net : Netlist) (clocks : List (ℕ × Edge)) → AreClocks net clocks → ClocksShowRaces net clocks
 
 -- A net has one list of faults, unless it has loops alone; and one at all only where it isn't accepted.
-pub record FaultsAreListed (net : Net) : Type 0 where
+pub record FaultsAreListed (net : Netlist) : Type 0 where
   pub one_of : (among : Fault → Bool) (faults other : List Fault) → AreFaultsOf net among faults → AreFaultsOf net among other → faults ≡ other
   pub one_list : (faults other : List Fault) → AreFaults net faults → AreFaults net other
       → (faults ≡ other) ⊎ (IsOneLoop net faults × IsOneLoop net other)
@@ -142,104 +142,104 @@ pub record FaultsAreListed (net : Net) : Type 0 where
   pub stores_none : AreStored net [] ↔ ((p variable place : ℕ) → (process net p).stores variable place ≡ false)
 
 abbrev pub EachFaultIsListed : Type 0
-EachFaultIsListed = (net : Net) → FaultsAreListed net
+EachFaultIsListed = (net : Netlist) → FaultsAreListed net
 
 -- The steps keep a state's values in range.
-pub record StepsKeepRange (net : Net) : Type 0 where
-  pub starts : (inputs : ℕ → ℕ) → AreInputs net inputs → StateInRange net (started net inputs)
-  pub updates : (s : State) → StateInRange net s → StateInRange net (updated net s)
-  pub gives : (inputs : ℕ → ℕ) (s : State) → AreInputs net inputs → StateInRange net s → StateInRange net (given net inputs s)
-  pub runs : (p : ℕ) (s : State) → StateInRange net s → StateInRange net (ran net p s)
+pub record StepsKeepRange (net : Netlist) : Type 0 where
+  pub starts : (inputs : ℕ → ℕ) → AreInputs net inputs → StateInRange net (start_state net inputs)
+  pub updates : (s : State) → StateInRange net s → StateInRange net (after_update net s)
+  pub gives : (inputs : ℕ → ℕ) (s : State) → AreInputs net inputs → StateInRange net s → StateInRange net (after_inputs net inputs s)
+  pub runs : (p : ℕ) (s : State) → StateInRange net s → StateInRange net (after_run net p s)
 
 -- So whatever a net settles in, accepted or not, has values of the nets' types, where the stimulus has.
 abbrev pub StatesInRange : Type 0
 StatesInRange =
-    (net : Net) → IsWired net → KeepsRange net → SourcesKeepRange net
+    (net : Netlist) → IsWired net → KeepsRange net → SourcesKeepRange net
     → StepsKeepRange net
     × ((stimulus : ℕ → ℕ → ℕ) → ((m : ℕ) → AreInputs net (stimulus m)) → (m k : ℕ) (t : State) → HasSettled net stimulus m k t → StateInRange net t)
 
 -- without a loop each combinational process has a level
 abbrev pub LevelsExist : Type 0
-LevelsExist = (net : Net) → HasNoLoop net → (levels : List (Option ℕ)) × (greatest : ℕ) × AreLevels net levels greatest
+LevelsExist = (net : Netlist) → HasNoLoop net → (levels : List (Option ℕ)) × (greatest : ℕ) × AreLevels net levels greatest
 
 -- What shows levels gives each process its level, no rising numbering is lower anywhere, and there is no loop.
 abbrev pub LevelsAreShown : Type 0
 LevelsAreShown =
-    (net : Net) (levels from : List (Option ℕ)) → ShowLevels net levels from
+    (net : Netlist) (levels from : List (Option ℕ)) → ShowLevels net levels from
     → ((p level : ℕ) → IsCombinational net p → slice_index_or levels p None ≡ Some level
     → IsLevel net p level × ((number : ℕ → ℕ) → Rises net number → level ≤ number p))
     × HasNoLoop net
 
 -- What is a report is shown by local facts, and what they show is a report.
 abbrev pub ReportsAreShown : Type 0
-ReportsAreShown = (net : Net) (levels from : List (Option ℕ)) (clocks : List (ℕ × Edge)) (most : ℕ) → IsReport net levels from clocks most
+ReportsAreShown = (net : Netlist) (levels from : List (Option ℕ)) (clocks : List (ℕ × Edge)) (most : ℕ) → IsReport net levels from clocks most
     ↔ ShowReport net levels from clocks most
 
 -- In a report each level is reached by following `from` down to level 1.
 abbrev pub ReportsLeadDown : Type 0
 ReportsLeadDown =
-    (net : Net) (levels from : List (Option ℕ)) (clocks : List (ℕ × Edge)) (most : ℕ) → IsReport net levels from clocks most
+    (net : Netlist) (levels from : List (Option ℕ)) (clocks : List (ℕ × Edge)) (most : ℕ) → IsReport net levels from clocks most
     → (q level : ℕ) → IsCombinational net q → slice_index_or levels q None ≡ Some level → LeadsDown net from q level
 
--- ---- of an accepted net
+-- ---- of an accepted netlist
 
--- an accepted net has no more than one report
+-- an accepted netlist has no more than one report
 abbrev pub OneReport : Type 0
 OneReport =
-    (net : Net) → IsAccepted net → (levels levels' from from' : List (Option ℕ)) (clocks clocks' : List (ℕ × Edge)) (most most' : ℕ)
+    (net : Netlist) → IsAccepted net → (levels levels' from from' : List (Option ℕ)) (clocks clocks' : List (ℕ × Edge)) (most most' : ℕ)
     → IsReport net levels from clocks most → IsReport net levels' from' clocks' most' → (levels ≡ levels') × (from ≡ from') × (clocks ≡ clocks')
     × (most ≡ most')
 
 -- for given inputs and registers one valuation solves, and no other
 abbrev pub OneSolution : Type 0
 OneSolution =
-    (net : Net) → IsElaborated net → IsAccepted net → (inputs registers : ℕ → ℕ)
+    (net : Netlist) → IsElaborated net → IsAccepted net → (inputs registers : ℕ → ℕ)
     → (v : List ℕ) × Solves net inputs registers v × ((w : List ℕ) → Solves net inputs registers w → w ≡ v)
 
 -- where the inputs and registers have values of their types, so has every net in the solution
 abbrev pub SolutionsInRange : Type 0
 SolutionsInRange =
-    (net : Net) → IsElaborated net → IsAccepted net → KeepsRange net → (inputs registers : ℕ → ℕ) → AreInputs net inputs → AreRegisters net registers
+    (net : Netlist) → IsElaborated net → IsAccepted net → KeepsRange net → (inputs registers : ℕ → ℕ) → AreInputs net inputs → AreRegisters net registers
     → (v : List ℕ) → Solves net inputs registers v → IsValuation net v
 
 -- under each stimulus the synchronous machine has one run
 abbrev pub OneMachineRun : Type 0
 OneMachineRun =
-    (net : Net) → IsElaborated net → IsAccepted net → (stimulus : ℕ → ℕ → ℕ)
+    (net : Netlist) → IsElaborated net → IsAccepted net → (stimulus : ℕ → ℕ → ℕ)
     → (v : ℕ → List ℕ) × IsMachineRun net stimulus v × ((w : ℕ → List ℕ) → IsMachineRun net stimulus w → w ≡ v)
 
 -- its valuations are in range where the stimulus is
 abbrev pub RunsInRange : Type 0
 RunsInRange =
-    (net : Net) → IsElaborated net → IsAccepted net → KeepsRange net → (stimulus : ℕ → ℕ → ℕ) → ((m : ℕ) → AreInputs net (stimulus m))
+    (net : Netlist) → IsElaborated net → IsAccepted net → KeepsRange net → (stimulus : ℕ → ℕ → ℕ) → ((m : ℕ) → AreInputs net (stimulus m))
     → (v : ℕ → List ℕ) → IsMachineRun net stimulus v → (m : ℕ) → IsValuation net (v m)
 
 -- each moment is reached, and settles
 abbrev pub EachMomentComes : Type 0
 EachMomentComes =
-    (net : Net) → IsElaborated net → IsAccepted net → (stimulus : ℕ → ℕ → ℕ) (m : ℕ) → (k : ℕ) × (t : State) × HasSettled net stimulus m k t
+    (net : Netlist) → IsElaborated net → IsAccepted net → (stimulus : ℕ → ℕ → ℕ) (m : ℕ) → (k : ℕ) × (t : State) × HasSettled net stimulus m k t
 
 -- no process has a reset
-abbrev pub HasNoReset : Net → Type 0
+abbrev pub HasNoReset : Netlist → Type 0
 HasNoReset net = (p : ℕ) (reset : Reset) → HasReset net p reset → ⊥
 
 -- Whatever the orders so far, each moment settles, within the bound, and at the start within the greatest level where
 -- nothing is reset.
 abbrev pub SettlesInBound : Type 0
 SettlesInBound =
-    (net : Net) (levels : List (Option ℕ)) (greatest : ℕ) → IsElaborated net → IsAccepted net → AreLevels net levels greatest
+    (net : Netlist) (levels : List (Option ℕ)) (greatest : ℕ) → IsElaborated net → IsAccepted net → AreLevels net levels greatest
     → (stimulus : ℕ → ℕ → ℕ) (m : ℕ) (s : State) → Begun net stimulus m s
     → (k : ℕ) × SettlesIn net s k × (k ≤ bound net greatest) × (m ≡ 0 → HasNoReset net → k ≤ greatest)
 
 -- So there is one greatest number of delta cycles of the moments up to a last one, and it is within the bound.
 abbrev pub OneGreatestCount : Type 0
 OneGreatestCount =
-    (net : Net) (levels : List (Option ℕ)) (greatest : ℕ) → IsElaborated net → IsAccepted net → AreLevels net levels greatest
+    (net : Netlist) (levels : List (Option ℕ)) (greatest : ℕ) → IsElaborated net → IsAccepted net → AreLevels net levels greatest
     → (stimulus : ℕ → ℕ → ℕ) (last : ℕ)
     → (most : ℕ) × IsMost net stimulus last most × (most ≤ bound net greatest) × ((other : ℕ) → IsMost net stimulus last other → other ≡ most)
 
 -- Where no moment up to m has a race, what has settled at m is the valuation of the machine's run.
 abbrev pub IsTheMachine : Type 0
 IsTheMachine =
-    (net : Net) → IsElaborated net → IsAccepted net → (stimulus : ℕ → ℕ → ℕ) (m : ℕ) → HasNoRace net stimulus m
+    (net : Netlist) → IsElaborated net → IsAccepted net → (stimulus : ℕ → ℕ → ℕ) (m : ℕ) → HasNoRace net stimulus m
     → (k : ℕ) (t : State) → HasSettled net stimulus m k t → (v : ℕ → List ℕ) → IsMachineRun net stimulus v → t.now ≡ v m

@@ -1,8 +1,8 @@
 -- How the tables of a net are filled.
 use Rattle.std.specs.Prelude.{◌≡◌, ℕ, ◌<◌, List, [], ◌++◌, length, map, slice_index_or, Option, Some, None}
 use Rattle.smallvec.specs.SmallVec.{SmallVec}
-use Rattle.rtl_model.specs.simulation.Net as core
-use Rattle.rtl_model.specs.nets.FlatNet.{FlatDriver}
+use Rattle.rtl_model.specs.simulation.Netlist as core
+use Rattle.rtl_model.specs.nets.FlatNetlist.{FlatDriver}
 use Rattle.rtl_net.specs.declared.net.Source.{Source}
 use Rattle.rtl_net.specs.declared.process.Driver.{Driver}
 use Rattle.rtl_net.specs.declared.net.Owner.{Owner}
@@ -22,7 +22,7 @@ abbrev pub sources_at : List (SmallVec Source) → (net : ℕ) → List core.Sou
 sources_at table n = slice_index_or (map shown table) n []
 
 -- each net gets these sources behind those it has
-pub record Adds (what : (net : ℕ) → List core.Source) (old new : List (SmallVec Source)) : Type 0 where
+pub record AddsSources (what : (net : ℕ) → List core.Source) (old new : List (SmallVec Source)) : Type 0 where
   pub as_many : length new ≡ length old
   pub each : (n : ℕ) → n < length old → sources_at new n ≡ sources_at old n ++ what n
 

@@ -6,7 +6,7 @@ ghost use Rattle.rtlsim_commands.specs.Notices as notices;
 ghost use Rattle.rtlsim_commands.specs.Notices.{entry_of, lex_entry, syntax_entry, names_entry, elab_entry, stim_entry};
 
 use super::titles::{elab_number, elab_title, name_number, name_title};
-use super::{Notice, Place};
+use super::{Notice, FaultPlace};
 use rtl_stim::StimFault;
 use vhdl_expand_rules::ElabFault;
 use vhdl_lexer::LexFault;
@@ -18,7 +18,7 @@ pub(crate) fn lex_notice(fault: &LexFault) -> Option<Notice>
     ensures { option_map entry_of result ≡ lex_entry fault.now }
 {
     let at = fault.byte()?;
-    Notice::some("lex", fault.number(), lex_name(fault), Place::Byte(at))
+    Notice::some("lex", fault.number(), lex_name(fault), FaultPlace::Byte(at))
 }
 
 fn lex_name(fault: &LexFault) -> &'static str
@@ -44,7 +44,7 @@ pub(crate) fn syntax_notice(fault: &SyntaxFault) -> Option<Notice>
         "syntax",
         fault.number(),
         syntax_name(fault),
-        Place::Byte(at),
+        FaultPlace::Byte(at),
     )
 }
 
@@ -69,7 +69,7 @@ pub(crate) fn name_notice(fault: &NameFault) -> Option<Notice>
                 "name",
                 name_number(problem),
                 name_title(problem),
-                Place::Byte(at),
+                FaultPlace::Byte(at),
             )
         }
         NameFault::NoMemory => None,
@@ -86,7 +86,7 @@ pub(crate) fn elab_notice(fault: &ElabFault) -> Option<Notice>
                 "elab",
                 elab_number(problem),
                 elab_title(problem),
-                Place::Byte(at),
+                FaultPlace::Byte(at),
             )
         }
         ElabFault::NoMemory => None,
@@ -99,10 +99,10 @@ pub(crate) fn stim_notice(fault: &StimFault) -> Option<Notice>
 {
     match *fault {
         StimFault::InLine { problem, line } => {
-            Notice::some("stim", problem.number(), problem.title(), Place::Line(line))
+            Notice::some("stim", problem.number(), problem.title(), FaultPlace::Line(line))
         }
-        StimFault::NoStop => Notice::some("stim", 6, "NoStop", Place::Nowhere),
-        StimFault::Race { time, .. } => Notice::some("stim", 8, "Race", Place::Time(time)),
+        StimFault::NoStop => Notice::some("stim", 6, "NoStop", FaultPlace::Nowhere),
+        StimFault::Race { time, .. } => Notice::some("stim", 8, "Race", FaultPlace::Time(time)),
         StimFault::NoMemory => None,
     }
 }

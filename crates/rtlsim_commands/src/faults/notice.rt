@@ -2,7 +2,7 @@
 
 /// Where a fault is found.
 #[derive(Clone, Copy, PartialEq, Eq, Debug)]
-pub(crate) enum Place {
+pub(crate) enum FaultPlace {
     /// In no one place.
     Nowhere,
     /// At a byte of the source, counted from 0.
@@ -23,7 +23,7 @@ pub(crate) struct Notice {
     /// The fault's name.
     pub name: &'static str,
     /// Where it is found.
-    pub place: Place,
+    pub place: FaultPlace,
 }
 
 impl Notice {
@@ -36,7 +36,7 @@ impl Notice {
         layer: &'static str,
         number: u8,
         name: &'static str,
-        place: Place,
+        place: FaultPlace,
     ) -> Option<Notice>
         ensures { option_map entry_of result ≡ some_entry layer.now number name.now place }
     {

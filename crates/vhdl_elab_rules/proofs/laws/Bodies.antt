@@ -1,4 +1,4 @@
--- Connected bodies fit the flat net, by induction over bodies.
+-- Connected bodies fit the flat netlist, by induction over bodies.
 use Rattle.std.proofs.Common.{◌≡◌, ℕ, zero, suc, ◌+◌, ◌<◌, Bool, true, false, cond, ◌==◌, List, [], ◌∷◌, length, map, Some, All, refl, sym, ap, ◌∙◌, subst, arith}
 use Rattle.std.specs.Prelude.{slice_get, slice_index, slice_index_or, Contains}
 use Rattle.std.specs.List.{range_with_len}
@@ -8,13 +8,13 @@ use Rattle.std.proofs.lemmas.List.{length-map}
 use Rattle.std.proofs.lemmas.List.Elements.{All-cons, All-nil, All-head, All-tail, All-map, All-weaker}
 use Rattle.std.proofs.lemmas.List.FromFn.{length-range_with_len, get_or-range_with_len}
 use Rattle.rtl_model.specs.bodies.Types.{ElementType, nine_valued, enumeration, HasType}
-use Rattle.rtl_model.specs.bodies.Body as b
+use Rattle.rtl_model.specs.bodies.Body as bodies
 use Rattle.rtl_model.specs.bodies.Body.{Stmts}
 use Rattle.rtl_model.specs.bodies.Fits.{operated_width, width, value_width, IsWidth, FitsOperands, Scope, FitsExpr, FitsAs, FitsTest, DrivesType, FitsStmt, Fits, FitsBranches, FitsAlternatives}
 use Rattle.vhdl_expand_rules.specs.Site.{elements_count}
 use Rattle.vhdl_expand_rules.specs.Tree.{Object, Variable}
 use Rattle.vhdl_expand_rules.specs.laws.Trees.{object_kinds, StmtAssigns, Assigns, BranchesAssign, AlternativesAssign, body_scope}
-use Rattle.vhdl_elab_rules.specs.Bodies.{place_in, net_of, connected_expr, connected_value, connected_test, connected_stmt, connected, connected_branches, connected_alternatives}
+use Rattle.vhdl_elab_rules.specs.Bodies.{place_in, net_of, connected_expr, connected_value, connected_test, connected_stmt, connected_body, connected_branches, connected_alternatives}
 use Rattle.vhdl_elab_rules.specs.laws.Bodies.{AreNetsOf, connected_scope, EachBodyIsConnected}
 
 -- ---- the place of a driver
@@ -42,68 +42,68 @@ module _ (types : List ElementType) (os : List Object) (vs : List Variable) (net
 
   -- ---- expressions
 
-  width-expr : (e : b.Expr) → width (connected_expr nets drives e) ≡ width e
-  width-expr (b.signal es) = length-map es (net_of nets drives)
-  width-expr (b.variable es) = refl
-  width-expr (b.constant values) = refl
-  width-expr (b.inverse e) = width-expr e
-  width-expr (b.filled len e) = refl
-  width-expr (b.binary op d e) = ap (λ n. operated_width op n (width (connected_expr nets drives e))) (width-expr d) ∙ ap (operated_width op (width d)) (width-expr e)
-  width-expr (b.resized len e) = refl
-  width-expr (b.shifted_left count e) = width-expr e
-  width-expr (b.shifted_right count e) = width-expr e
+  width-expr : (e : bodies.Expr) → width (connected_expr nets drives e) ≡ width e
+  width-expr (bodies.signal es) = length-map es (net_of nets drives)
+  width-expr (bodies.variable es) = refl
+  width-expr (bodies.constant values) = refl
+  width-expr (bodies.inverse e) = width-expr e
+  width-expr (bodies.filled len e) = refl
+  width-expr (bodies.binary op d e) = ap (λ n. operated_width op n (width (connected_expr nets drives e))) (width-expr d) ∙ ap (operated_width op (width d)) (width-expr e)
+  width-expr (bodies.resized len e) = refl
+  width-expr (bodies.shifted_left count e) = width-expr e
+  width-expr (bodies.shifted_right count e) = width-expr e
 
   nets-typed : (t : ElementType) (es : List ℕ) → All (HasType here.nets t) es → All (HasType types t) (map (net_of nets drives) es)
   nets-typed t es h = All-map (HasType types t) (net_of nets drives) es (All-weaker (HasType here.nets t) (λ e. HasType types t (net_of nets drives e)) (λ e k. typed e t k) es h)
 
-  operands : (op : b.Operator) (m n m' n' : ℕ) → m' ≡ m → n' ≡ n → FitsOperands op m n → FitsOperands op m' n'
+  operands : (op : bodies.Operator) (m n m' n' : ℕ) → m' ≡ m → n' ≡ n → FitsOperands op m n → FitsOperands op m' n'
   operands op m n m' n' p q h = subst (λ x. FitsOperands op x n') (sym p) (subst (FitsOperands op m) (sym q) h)
 
-  expr-fits : (e : b.Expr) → FitsExpr here e → FitsExpr there (connected_expr nets drives e)
-  expr-fits (b.signal es) h = (subst IsWidth (sym (length-map es (net_of nets drives))) h.0, nets-typed nine_valued es h.1)
-  expr-fits (b.variable es) h = h
-  expr-fits (b.constant values) h = h
-  expr-fits (b.inverse e) h = expr-fits e h
-  expr-fits (b.filled len e) h = (h.0, expr-fits e h.1, width-expr e ∙ h.2)
-  expr-fits (b.binary op d e) h = (
-    subst IsWidth (sym (width-expr (b.binary op d e))) h.0,
+  expr-fits : (e : bodies.Expr) → FitsExpr here e → FitsExpr there (connected_expr nets drives e)
+  expr-fits (bodies.signal es) h = (subst IsWidth (sym (length-map es (net_of nets drives))) h.0, nets-typed nine_valued es h.1)
+  expr-fits (bodies.variable es) h = h
+  expr-fits (bodies.constant values) h = h
+  expr-fits (bodies.inverse e) h = expr-fits e h
+  expr-fits (bodies.filled len e) h = (h.0, expr-fits e h.1, width-expr e ∙ h.2)
+  expr-fits (bodies.binary op d e) h = (
+    subst IsWidth (sym (width-expr (bodies.binary op d e))) h.0,
     expr-fits d h.1,
     expr-fits e h.2,
     operands op (width d) (width e) (width (connected_expr nets drives d)) (width (connected_expr nets drives e)) (width-expr d) (width-expr e) h.3,
   )
-  expr-fits (b.resized len e) h = (h.0, expr-fits e h.1)
-  expr-fits (b.shifted_left count e) h = expr-fits e h
-  expr-fits (b.shifted_right count e) h = expr-fits e h
+  expr-fits (bodies.resized len e) h = (h.0, expr-fits e h.1)
+  expr-fits (bodies.shifted_left count e) h = expr-fits e h
+  expr-fits (bodies.shifted_right count e) h = expr-fits e h
 
-  width-value : (v : b.Value) → value_width (connected_value nets drives v) ≡ value_width v
-  width-value (b.elements e) = width-expr e
-  width-value (b.position n) = refl
-  width-value (b.position_of e) = refl
-  width-value (b.position_in e) = refl
+  width-value : (v : bodies.Value) → value_width (connected_value nets drives v) ≡ value_width v
+  width-value (bodies.elements e) = width-expr e
+  width-value (bodies.position n) = refl
+  width-value (bodies.position_of e) = refl
+  width-value (bodies.position_in e) = refl
 
-  value-fits : (t : ElementType) (v : b.Value) → FitsAs here t v → FitsAs there t (connected_value nets drives v)
-  value-fits nine_valued (b.elements e) h = expr-fits e h
-  value-fits (enumeration n) (b.position p) h = h
-  value-fits (enumeration n) (b.position_of e) h = typed e (enumeration n) h
-  value-fits (enumeration n) (b.position_in e) h = h
-  value-fits nine_valued (b.position p) h = elim h [ ]
-  value-fits nine_valued (b.position_of e) h = elim h [ ]
-  value-fits nine_valued (b.position_in e) h = elim h [ ]
-  value-fits (enumeration n) (b.elements e) h = elim h [ ]
+  value-fits : (t : ElementType) (v : bodies.Value) → FitsAs here t v → FitsAs there t (connected_value nets drives v)
+  value-fits nine_valued (bodies.elements e) h = expr-fits e h
+  value-fits (enumeration n) (bodies.position p) h = h
+  value-fits (enumeration n) (bodies.position_of e) h = typed e (enumeration n) h
+  value-fits (enumeration n) (bodies.position_in e) h = h
+  value-fits nine_valued (bodies.position p) h = elim h [ ]
+  value-fits nine_valued (bodies.position_of e) h = elim h [ ]
+  value-fits nine_valued (bodies.position_in e) h = elim h [ ]
+  value-fits (enumeration n) (bodies.elements e) h = elim h [ ]
 
-  test-fits : (t : b.Test) → FitsTest here t → FitsTest there (connected_test nets drives t)
-  test-fits (b.condition e) h = (expr-fits e h.0, width-expr e ∙ h.1)
-  test-fits (b.decided x) h = tt
-  test-fits (b.equal v w) h = (h.0, value-fits h.0 v h.1, value-fits h.0 w h.2)
-  test-fits (b.unequal v w) h = (h.0, value-fits h.0 v h.1, value-fits h.0 w h.2)
-  test-fits (b.level plain e x) h = typed e nine_valued h
-  test-fits (b.compared op d e) h = (expr-fits d h.0, expr-fits e h.1)
-  test-fits (b.compared_to op e n) h = expr-fits e h
-  test-fits (b.rising e) h = typed e nine_valued h
-  test-fits (b.falling e) h = typed e nine_valued h
-  test-fits (b.event e) h = typed e nine_valued h
-  test-fits (b.negated t) h = test-fits t h
-  test-fits (b.combined op s t) h = (test-fits s h.0, test-fits t h.1)
+  test-fits : (t : bodies.Test) → FitsTest here t → FitsTest there (connected_test nets drives t)
+  test-fits (bodies.condition e) h = (expr-fits e h.0, width-expr e ∙ h.1)
+  test-fits (bodies.decided x) h = tt
+  test-fits (bodies.equal v w) h = (h.0, value-fits h.0 v h.1, value-fits h.0 w h.2)
+  test-fits (bodies.unequal v w) h = (h.0, value-fits h.0 v h.1, value-fits h.0 w h.2)
+  test-fits (bodies.level plain e x) h = typed e nine_valued h
+  test-fits (bodies.compared op d e) h = (expr-fits d h.0, expr-fits e h.1)
+  test-fits (bodies.compared_to op e n) h = expr-fits e h
+  test-fits (bodies.rising e) h = typed e nine_valued h
+  test-fits (bodies.falling e) h = typed e nine_valued h
+  test-fits (bodies.event e) h = typed e nine_valued h
+  test-fits (bodies.negated t) h = test-fits t h
+  test-fits (bodies.combined op s t) h = (test-fits s h.0, test-fits t h.1)
 
   -- ---- statements
 
@@ -122,26 +122,26 @@ module _ (types : List ElementType) (os : List Object) (vs : List Variable) (net
       (targets-fit t es (All-tail (DrivesType here t) e es h) (All-tail (Contains drives) e es c))
 
   mutual
-    stmt-fits : (s : b.Stmt) → FitsStmt here s → StmtAssigns (Contains drives) s → FitsStmt there (connected_stmt nets drives s)
-    stmt-fits b.nothing h c = tt
-    stmt-fits (b.assign es v) h c = (h.0, value-fits h.0 v h.1, length-map es (place_in drives) ∙ h.2 ∙ sym (width-value v), targets-fit h.0 es h.3 c)
-    stmt-fits (b.set es v) h c = (h.0, value-fits h.0 v h.1, h.2 ∙ sym (width-value v), h.3)
-    stmt-fits (b.if_of bs) h c = branches-fit bs h c
-    stmt-fits (b.case_of v alts) h c =
+    stmt-fits : (s : bodies.Stmt) → FitsStmt here s → StmtAssigns (Contains drives) s → FitsStmt there (connected_stmt nets drives s)
+    stmt-fits bodies.null_of h c = tt
+    stmt-fits (bodies.assign es v) h c = (h.0, value-fits h.0 v h.1, length-map es (place_in drives) ∙ h.2 ∙ sym (width-value v), targets-fit h.0 es h.3 c)
+    stmt-fits (bodies.set es v) h c = (h.0, value-fits h.0 v h.1, h.2 ∙ sym (width-value v), h.3)
+    stmt-fits (bodies.if_of bs) h c = branches-fit bs h c
+    stmt-fits (bodies.case_of v alts) h c =
         (h.0, value-fits h.0 v h.1, subst (λ n. FitsAlternatives there h.0 n (connected_alternatives nets drives alts)) (sym (width-value v)) (alternatives-fit alts h.0 (value_width v) h.2 c))
 
-    body-fits : (s : Stmts) → Fits here s → Assigns (Contains drives) s → Fits there (connected nets drives s)
-    body-fits b.done h c = tt
-    body-fits (b.step s rest) h c = (stmt-fits s h.0 c.0, body-fits rest h.1 c.1)
+    body-fits : (s : Stmts) → Fits here s → Assigns (Contains drives) s → Fits there (connected_body nets drives s)
+    body-fits bodies.done h c = tt
+    body-fits (bodies.step s rest) h c = (stmt-fits s h.0 c.0, body-fits rest h.1 c.1)
 
-    branches-fit : (bs : b.Branches) → FitsBranches here bs → BranchesAssign (Contains drives) bs → FitsBranches there (connected_branches nets drives bs)
-    branches-fit b.no_else h c = tt
-    branches-fit (b.otherwise s) h c = body-fits s h c
-    branches-fit (b.branch t s bs) h c = (test-fits t h.0, body-fits s h.1 c.0, branches-fit bs h.2 c.1)
+    branches-fit : (bs : bodies.Branches) → FitsBranches here bs → BranchesAssign (Contains drives) bs → FitsBranches there (connected_branches nets drives bs)
+    branches-fit bodies.no_else h c = tt
+    branches-fit (bodies.otherwise s) h c = body-fits s h c
+    branches-fit (bodies.branch t s bs) h c = (test-fits t h.0, body-fits s h.1 c.0, branches-fit bs h.2 c.1)
 
-    alternatives-fit : (alts : b.Alternatives) (t : ElementType) (len : ℕ) → FitsAlternatives here t len alts → AlternativesAssign (Contains drives) alts → FitsAlternatives there t len (connected_alternatives nets drives alts)
-    alternatives-fit (b.others s) t len h c = body-fits s h c
-    alternatives-fit (b.alternative choices s alts) t len h c = (h.0, body-fits s h.1 c.0, alternatives-fit alts t len h.2 c.1)
+    alternatives-fit : (alts : bodies.Alternatives) (t : ElementType) (len : ℕ) → FitsAlternatives here t len alts → AlternativesAssign (Contains drives) alts → FitsAlternatives there t len (connected_alternatives nets drives alts)
+    alternatives-fit (bodies.others s) t len h c = body-fits s h c
+    alternatives-fit (bodies.alternative choices s alts) t len h c = (h.0, body-fits s h.1 c.0, alternatives-fit alts t len h.2 c.1)
 
 pub each-body-is-connected : EachBodyIsConnected
 each-body-is-connected types os vs nets drives body typed h c = body-fits types os vs nets drives typed body h c

@@ -1,4 +1,4 @@
--- Names and labels of elaborated nets: going through the tree in order of the text.
+-- Names and labels of elaborated netlists: going through the tree in order of the text.
 use Rattle.std.proofs.Common.{◌≡◌, ℕ, ◌+◌, ◌<◌, ◌≤◌, List, [], ◌∷◌, ◌++◌, length, map, All, sym, subst, arith}
 use Rattle.std.specs.Prelude.{◌≢◌, flat_map}
 use Rattle.std.specs.List.{enumerate_from}
@@ -6,13 +6,13 @@ use Rattle.std.proofs.lemmas.List.{length-append, length-map}
 use Rattle.std.proofs.lemmas.List.Elements.{All-nil, All-cons, All-append, All-head, All-tail, All-map, All-weaker}
 use Rattle.vhdl_expand_rules.specs.Kinds.{size}
 use Rattle.vhdl_expand_rules.specs.Tree.{Object, Instance, instance, Parts, no_parts, process, inner}
-use Rattle.vhdl_expand_rules.specs.Expansion.{expanded}
+use Rattle.vhdl_expand_rules.specs.Expansion.{expanded_design}
 use Rattle.vhdl_expand_rules.specs.laws.Labels.{ProcessIsNamed, InstanceIsNamed, PartsAreNamed}
 use Rattle.vhdl_expand_rules.proofs.Steps.{bound}
 use Rattle.vhdl_expand_rules.proofs.laws.Labels.{each-tree-is-named}
-use Rattle.vhdl_elab_rules.specs.Numbering.{Placed, Located, Numbered, Above, nothing_numbered, above_top, above_parts, placed, with_process, with_placed, with_instance, with_parts, numbered}
+use Rattle.vhdl_elab_rules.specs.Numbering.{Placed, Located, Numbered, Above, nothing_numbered, above_top, above_parts, placed, with_process, with_placed, with_instance, with_parts, numbered_design}
 use Rattle.vhdl_elab_rules.specs.Names.{Scope, scope_of, Signal, signals_from, signals_of, NamedVariable, named_variable, named_process}
-use Rattle.vhdl_elab_rules.specs.Elaboration.{net_of, elaborated}
+use Rattle.vhdl_elab_rules.specs.Elaboration.{net_of, elaborated_net}
 use Rattle.vhdl_elab_rules.specs.laws.Names.{ProcessHasName, HasNames, EachHasNames}
 use Rattle.vhdl_elab_rules.proofs.laws.Sound.{accepted}
 
@@ -104,10 +104,10 @@ has-names d h = record {
 }
 
 pub each-has-names : EachHasNames
-unfolding elaborated numbered
+unfolding elaborated_net numbered_design
 each-has-names units top x named e =
-    let design = bound (expanded units top) _ x e in
+    let design = bound (expanded_design units top) _ x e in
     let w = accepted design.x x design.then_gave in
     let tree = each-tree-is-named units top design.x named design.gave in
-    subst HasNames w.is (has-names (numbered design.x)
+    subst HasNames w.is (has-names (numbered_design design.x)
     (instance-named design.x.top above_top design.x.name nothing_numbered tree.0 tree.1 (record { instances = All-nil PlacedIsNamed; processes = All-nil (LocatedIsNamed 0) })).so_far)

@@ -13,7 +13,7 @@ use Rattle.vhdl_expand_rules.specs.Kinds.{size}
 use Rattle.vhdl_expand_rules.specs.Tree.{Object, Instance, instance, Parts, no_parts, process, inner}
 use Rattle.vhdl_expand_rules.specs.laws.Lengths.{ObjectFits, InstanceFits, PartsFit}
 use Rattle.vhdl_expand_rules.proofs.laws.Lengths.{design-fits}
-use Rattle.vhdl_elab_rules.specs.Numbering.{object_nets, own_size, element_nets, own_sizes, Placed, Numbered, nothing_numbered, Above, above_top, above_parts, placed, with_process, with_placed, with_instance, with_parts, numbered}
+use Rattle.vhdl_elab_rules.specs.Numbering.{object_nets, own_size, element_nets, own_sizes, Placed, Numbered, nothing_numbered, Above, above_top, above_parts, placed, with_process, with_placed, with_instance, with_parts, numbered_design}
 use Rattle.vhdl_elab_rules.specs.Wiring.{Element, element_of, elements_from, elements_of}
 use Rattle.vhdl_elab_rules.specs.laws.Nets.{objects_count, nets_of_name, NetsAreAsSaid, EachNetIsAsSaid}
 use Rattle.vhdl_elab_rules.proofs.Segments.{run-append, segment, reads-all, get-left, get-last}
@@ -273,8 +273,8 @@ as_said d s = record {
         ∙ segment sp.front (object_nets above sp.begins o) sp.rest c (c + size o.kind) sp.front_is (ap (λ n. c + n) (nets-length above sp.begins o fit))
 
 pub nets-are-as-said : EachNetIsAsSaid
-unfolding numbered AboveFits
+unfolding numbered_design AboveFits
 nets-are-as-said units top design h =
-    as_said (numbered design)
+    as_said (numbered_design design)
     (instance-step design.top above_top design.name nothing_numbered (design-fits units top design h)
     (record { own_nets = refl; stands = λ k p g. absurd cc }) (λ m e. absurd cc)).so_far

@@ -6,22 +6,22 @@ use Rattle.std.proofs.lemmas.List.Elements.{All-nil, All-map, All-weaker, All-co
 use Rattle.rtl_model.specs.bodies.Body.{Stmts}
 use Rattle.rtl_model.specs.bodies.Types.{ElementType, enumeration, IsByte, HasType}
 use Rattle.rtl_model.specs.bodies.Fits.{IsWidth, Fits}
-use Rattle.rtl_model.specs.nets.FlatNet.{FlatDriver, element_types, targets, DriverInRange, VariableInRange, ProcessInRange}
+use Rattle.rtl_model.specs.nets.FlatNetlist.{FlatDriver, element_types, targets, DriverInRange, VariableInRange, ProcessInRange}
 use Rattle.rtl_model.proofs.nets.InRange.{type_at}
 use Rattle.vhdl_names_rules.specs.units.Units.{Units}
 use Rattle.vhdl_names_rules.specs.sound.Units.{are_sound}
-use Rattle.vhdl_expand_rules.specs.Kinds.{Kind, one, vector, size, element_type}
+use Rattle.vhdl_expand_rules.specs.Kinds.{ObjectKind, one, vector, size, element_type}
 use Rattle.vhdl_expand_rules.specs.Kinds as k
 use Rattle.vhdl_expand_rules.specs.Tree.{Object, Variable}
-use Rattle.vhdl_expand_rules.specs.Expansion.{Design, expanded}
+use Rattle.vhdl_expand_rules.specs.Expansion.{Design, expanded_design}
 use Rattle.vhdl_expand_rules.specs.laws.Sites.{kinds_types}
 use Rattle.vhdl_expand_rules.specs.laws.Trees.{IsKind, object_kinds, object_types, object_roles, MayBeDriven, VariableIsSound}
 use Rattle.vhdl_expand_rules.proofs.laws.Lengths.{design-fits}
 use Rattle.vhdl_expand_rules.proofs.laws.Names.{length-types}
 use Rattle.vhdl_expand_rules.proofs.laws.Driven.{length-roles}
 use Rattle.vhdl_expand_rules.proofs.laws.Trees.{each-tree-is-sound}
-use Rattle.vhdl_elab_rules.specs.Bodies.{connected}
-use Rattle.vhdl_elab_rules.specs.Numbering.{Placed, Located, Numbered, nothing_numbered, above_top, numbered}
+use Rattle.vhdl_elab_rules.specs.Bodies.{connected_body}
+use Rattle.vhdl_elab_rules.specs.Numbering.{Placed, Located, Numbered, nothing_numbered, above_top, numbered_design}
 use Rattle.vhdl_elab_rules.specs.Wiring.{driver_of, defaults_of, flat_variable, flat_process, flat_net}
 use Rattle.vhdl_elab_rules.specs.laws.Processes.{HasTypedNets, ProcessesFit, EachProcessFits}
 use Rattle.vhdl_elab_rules.specs.laws.Shape.{WakesRise, HasShape}
@@ -40,17 +40,17 @@ variable-fits v h = record {
   starts = h.starts;
 }
   where
-    by : (q : Kind) → IsKind q → IsWidth (size q)
+    by : (q : ObjectKind) → IsKind q → IsWidth (size q)
     by one w = (omega arith, omega arith)
     by (vector b) w = w
     by (k.enumeration n) w = (omega arith, omega arith)
 
-    byte : (q : Kind) → IsKind q → IsByte (element_type q)
+    byte : (q : ObjectKind) → IsKind q → IsByte (element_type q)
     byte one w = omega arith
     byte (vector b) w = omega arith
     byte (k.enumeration n) w = w.1
 
-    single : (q : Kind) (n : ℕ) → element_type q ≡ enumeration n → size q ≡ 1
+    single : (q : ObjectKind) (n : ℕ) → element_type q ≡ enumeration n → size q ≡ 1
     single one n e = refl
     single (vector b) n e = absurd cc
     single (k.enumeration m) n e = refl
@@ -96,14 +96,14 @@ process-fits types count x len h wakes =
       wakes_rise = wakes.rise;
       variables = All-map VariableInRange flat_variable q.variables (All-weaker VariableIsSound (λ v. VariableInRange (flat_variable v)) variable-fits q.variables h.process.variables);
       body = body-in-scope types (kinds_types (map (λ (v : Variable). v.kind) q.variables)) (element_types (map flat_variable q.variables)) (map (slice_index p.nets) q.drives) (targets (flat_process count x))
-          (connected p.nets q.drives q.body) (variable-types q.variables h.process.variables) (driver-targets p q.drives)
+          (connected_body p.nets q.drives q.body) (variable-types q.variables h.process.variables) (driver-targets p q.drives)
           (each-body-is-connected types p.objects q.variables p.nets q.drives q.body (λ e t k. zip_read (HasType types) (object_types p.objects) p.nets e t h.round.nets k) h.process.body h.process.assigned);
     }
 
 -- ---- the whole
 
-pub walked : (units : Units) (top : List ℕ) (design : Design) → IsTrue (are_sound units) → expanded units top ≡ Ok design → SoFar (numbered design)
-unfolding numbered
+pub walked : (units : Units) (top : List ℕ) (design : Design) → IsTrue (are_sound units) → expanded_design units top ≡ Ok design → SoFar (numbered_design design)
+unfolding numbered_design
 walked units top design sound e =
     let tree = each-tree-is-sound units top design sound e in
     (instance-walks design.top [] above_top design.name nothing_numbered (design-fits units top design e) tree.top
@@ -128,4 +128,4 @@ processes-fit d h shape =
         (all-fit types count xs len (All-tail (LocatedIsSound types) x xs w) (All-tail (WakesRise count) (flat_process count x) (map (flat_process count) xs) r))
 
 pub each-process-fits : EachProcessFits
-each-process-fits units top design sound e = processes-fit (numbered design) (walked units top design sound e) (each-has-shape units top design e)
+each-process-fits units top design sound e = processes-fit (numbered_design design) (walked units top design sound e) (each-has-shape units top design e)

@@ -6,11 +6,11 @@ use Rattle.std.proofs.lemmas.List.{length-append, length-map, map-append}
 use Rattle.rtl_net.specs.Nets.{ScopeView, parent_of}
 use Rattle.rtl_net.specs.Elaborated.{IsRound, itself, further_in, FollowsInText}
 use Rattle.vhdl_expand_rules.specs.Tree.{Instance, instance, Parts, no_parts, process, inner}
-use Rattle.vhdl_expand_rules.specs.Expansion.{expanded}
+use Rattle.vhdl_expand_rules.specs.Expansion.{expanded_design}
 use Rattle.vhdl_expand_rules.proofs.Steps.{bound}
-use Rattle.vhdl_elab_rules.specs.Numbering.{Placed, Numbered, nothing_numbered, above_top, above_parts, placed, with_process, with_placed, with_instance, with_parts, numbered}
+use Rattle.vhdl_elab_rules.specs.Numbering.{Placed, Numbered, nothing_numbered, above_top, above_parts, placed, with_process, with_placed, with_instance, with_parts, numbered_design}
 use Rattle.vhdl_elab_rules.specs.Names.{Scope, scope_of}
-use Rattle.vhdl_elab_rules.specs.Elaboration.{Elaborated, elaborated}
+use Rattle.vhdl_elab_rules.specs.Elaboration.{Elaborated, elaborated_net}
 use Rattle.vhdl_elab_rules.specs.laws.Scopes.{scope_views, StandInText, EachScopeFollows}
 use Rattle.vhdl_elab_rules.proofs.laws.Sound.{accepted}
 
@@ -175,8 +175,8 @@ top-stands (instance os turns parts) name =
     record { some = s.there; top = s.text.top; others = s.text.others }
 
 pub each-scope-follows : EachScopeFollows
-unfolding elaborated numbered
+unfolding elaborated_net numbered_design
 each-scope-follows units top x e =
-    let design = bound (expanded units top) _ x e in
+    let design = bound (expanded_design units top) _ x e in
     let w = accepted design.x x design.then_gave in
     subst (λ (y : Elaborated). StandInText (scope_views y.scopes)) w.is (top-stands design.x.top design.x.name)

@@ -1,4 +1,4 @@
--- The lists of an elaborated net are as long as it has nets.
+-- The lists of an elaborated netlist are as long as it has nets.
 use Rattle.std.proofs.Common.{◌≡◌, ℕ, ◌+◌, ◌<◌, List, length, map, All, sym, ap, ◌∙◌, arith}
 use Rattle.std.specs.Prelude.{slice_index, slice_index_or}
 use Rattle.std.specs.List.{range_with_len}
@@ -8,7 +8,7 @@ use Rattle.std.proofs.lemmas.List.FromFn.{length-range_with_len, length-map-rang
 use Rattle.std.proofs.lemmas.List.Elements.{All-map, All-filter}
 use Rattle.std.proofs.lemmas.List.Kept.{IsStrictlyIncreasing-filter}
 use Rattle.vhdl_expand_rules.specs.Prefixes.{is_among, in_order}
-use Rattle.vhdl_elab_rules.specs.Numbering.{Numbered, numbered}
+use Rattle.vhdl_elab_rules.specs.Numbering.{Numbered, numbered_design}
 use Rattle.vhdl_elab_rules.specs.Wiring.{Element, own_elements, idle_values, sensitive_to, flat_process, with_defaults, start_of, flat_net}
 use Rattle.vhdl_elab_rules.specs.laws.Nets.{NetsAreAsSaid}
 use Rattle.vhdl_elab_rules.specs.laws.Shape.{WakesRise, HasShape, EachHasShape}
@@ -50,4 +50,4 @@ has-shape d said = record {
 }
 
 pub each-has-shape : EachHasShape
-each-has-shape units top design h = has-shape (numbered design) (nets-are-as-said units top design h)
+each-has-shape units top design h = has-shape (numbered_design design) (nets-are-as-said units top design h)

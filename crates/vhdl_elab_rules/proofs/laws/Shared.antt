@@ -7,8 +7,8 @@ use Rattle.std.proofs.lemmas.Option.{same_Some, slice_get_within}
 use Rattle.std.proofs.lemmas.List.{length-append}
 use Rattle.std.proofs.lemmas.List.Elements.{All-head, All-tail}
 use Rattle.rtl_model.specs.bodies.Types.{ElementType, enumeration, HasType}
-use Rattle.rtl_model.specs.nets.FlatNet.{targets, drivers_of, all_drivers_of}
-use Rattle.rtl_model.specs.simulation.Net.{Source, Driver}
+use Rattle.rtl_model.specs.nets.FlatNetlist.{targets, drivers_of, all_drivers_of}
+use Rattle.rtl_model.specs.simulation.Netlist.{Source, Driver}
 use Rattle.vhdl_expand_rules.specs.Tree.{Object, Instance, instance, Parts, no_parts, process, inner}
 use Rattle.vhdl_expand_rules.specs.laws.Lengths.{ObjectFits, InstanceFits, PartsFit}
 use Rattle.vhdl_expand_rules.specs.laws.Trees.{object_types, MayBeDriven, ObjectIsSound, InstanceIsSound, PartsAreSound}

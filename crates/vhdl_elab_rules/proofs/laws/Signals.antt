@@ -11,17 +11,17 @@ use Rattle.rtl_model.specs.bodies.Types.{ElementType, HasType}
 use Rattle.rtl_model.specs.bodies.Fits.{IsWidth}
 use Rattle.rtl_net.specs.Elaborated.{width_of}
 use Rattle.vhdl_expand_rules.specs.Integers.{extent}
-use Rattle.vhdl_expand_rules.specs.Kinds.{Bounds, Kind, one, vector, size, element_type}
+use Rattle.vhdl_expand_rules.specs.Kinds.{Bounds, ObjectKind, one, vector, size, element_type}
 use Rattle.vhdl_expand_rules.specs.Kinds as k
 use Rattle.vhdl_expand_rules.specs.Tree.{Object, Variable}
-use Rattle.vhdl_expand_rules.specs.Expansion.{expanded}
+use Rattle.vhdl_expand_rules.specs.Expansion.{expanded_design}
 use Rattle.vhdl_expand_rules.specs.laws.Trees.{IsKind, object_types, ObjectIsSound, VariableIsSound}
 use Rattle.vhdl_expand_rules.proofs.Steps.{bound}
 use Rattle.vhdl_expand_rules.proofs.laws.Places.{extent-to, extent-downto}
-use Rattle.vhdl_elab_rules.specs.Numbering.{Placed, Numbered, numbered, Located}
+use Rattle.vhdl_elab_rules.specs.Numbering.{Placed, Numbered, numbered_design, Located}
 use Rattle.vhdl_elab_rules.specs.Wiring.{flat_variable, flat_process, flat_net}
 use Rattle.vhdl_elab_rules.specs.Names.{scope_of, is_port_role, signals_from, signals_of, named_variable, named_process}
-use Rattle.vhdl_elab_rules.specs.Elaboration.{Elaborated, net_of, elaborated}
+use Rattle.vhdl_elab_rules.specs.Elaboration.{Elaborated, net_of, elaborated_net}
 use Rattle.vhdl_elab_rules.specs.laws.Signals.{kind_view, SignalFits, EachSignalFits, VariableFits, VariablesFit, EachVariableFits}
 use Rattle.vhdl_elab_rules.proofs.Segments.{segment}
 use Rattle.vhdl_elab_rules.proofs.laws.Typed.{zip_lengths}
@@ -53,12 +53,12 @@ some-bounds l Downto r h = by (cases_lt l r)
         let one : 1 ≤ 0 = subst (λ n. 1 ≤ n) z h in omega (arith, one))
     by (inr le) = between-down l r le ∙ sym (extent-downto l r le)
 
-pub width-of_kind : (q : Kind) → IsKind q → width_of (kind_view q) ≡ size q
+pub width-of_kind : (q : ObjectKind) → IsKind q → width_of (kind_view q) ≡ size q
 width-of_kind one h = refl
 width-of_kind (vector b) h = some-bounds b.left b.direction b.right h.0
 width-of_kind (k.enumeration n) h = refl
 
-kind-width : (q : Kind) → IsKind q → IsWidth (size q)
+kind-width : (q : ObjectKind) → IsKind q → IsWidth (size q)
 kind-width one h = (omega arith, omega arith)
 kind-width (vector b) h = h
 kind-width (k.enumeration n) h = (omega arith, omega arith)
@@ -125,11 +125,11 @@ in-net d h =
     (all-signals (types_of d.instances) (length d.instances) 0 d.instances (omega arith) h.instances)
 
 pub each-signal-fits : EachSignalFits
-unfolding elaborated
+unfolding elaborated_net
 each-signal-fits units top x sound e =
-    let design = bound (expanded units top) _ x e in
+    let design = bound (expanded_design units top) _ x e in
     let w = accepted design.x x design.then_gave in
-    subst (λ (y : Elaborated). All (SignalFits y.flat.types (length y.scopes)) y.signals) w.is (in-net (numbered design.x) (walked units top design.x sound design.gave))
+    subst (λ (y : Elaborated). All (SignalFits y.flat.types (length y.scopes)) y.signals) w.is (in-net (numbered_design design.x) (walked units top design.x sound design.gave))
 
 -- ---- variables
 
@@ -149,8 +149,8 @@ unfolding flat_net
 variables-in d h = all-variables (types_of d.instances) d.nets d.processes h.processes
 
 pub each-variable-fits : EachVariableFits
-unfolding elaborated
+unfolding elaborated_net
 each-variable-fits units top x sound e =
-    let design = bound (expanded units top) _ x e in
+    let design = bound (expanded_design units top) _ x e in
     let w = accepted design.x x design.then_gave in
-    subst (λ (y : Elaborated). AllZip VariablesFit y.processes y.flat.processes) w.is (variables-in (numbered design.x) (walked units top design.x sound design.gave))
+    subst (λ (y : Elaborated). AllZip VariablesFit y.processes y.flat.processes) w.is (variables-in (numbered_design design.x) (walked units top design.x sound design.gave))

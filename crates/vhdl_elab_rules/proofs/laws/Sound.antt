@@ -10,10 +10,10 @@ use Rattle.vhdl_values.specs.Scalar.{value_of_code}
 use Rattle.vhdl_values.specs.Resolution.{resolved}
 use Rattle.vhdl_values.proofs.Codes.{code_of_below}
 use Rattle.rtl_model.specs.bodies.Types.{ElementType, nine_valued, enumeration, limit_of, IsByte, HasType}
-use Rattle.rtl_model.specs.nets.FlatNet.{FlatDriver, FlatProcess, no_flat_process, process_at, targets, starts, all_drivers_of, flat_sources, ProcessInRange, IsInRange}
-use Rattle.rtl_model.specs.nets.CoreNet.{core_resolve}
+use Rattle.rtl_model.specs.nets.FlatNetlist.{FlatDriver, FlatProcess, no_flat_process, process_at, targets, starts, all_drivers_of, flat_sources, ProcessInRange, IsInRange}
+use Rattle.rtl_model.specs.nets.CoreNetlist.{core_resolve}
 use Rattle.rtl_model.specs.nets.Wiring.{IsConnected}
-use Rattle.rtl_model.specs.simulation.Net.{Source, Driver, Idle}
+use Rattle.rtl_model.specs.simulation.Netlist.{Source, Driver, Idle}
 use Rattle.rtl_model.specs.simulation.Cycle.{source_value}
 use Rattle.rtl_model.proofs.basics.Lists.{Contains-first, get_or-map_within}
 use Rattle.rtl_model.proofs.nets.Connected.{no_driver}
@@ -23,16 +23,16 @@ use Rattle.vhdl_names_rules.specs.units.Units.{Units}
 use Rattle.vhdl_names_rules.specs.sound.Units.{are_sound}
 use Rattle.vhdl_expand_rules.specs.declared.fault.ElabProblem.TheVariants.{TwoUnresolved, ReadOfShared, TooMany}
 use Rattle.vhdl_expand_rules.specs.Elab.{unless}
-use Rattle.vhdl_expand_rules.specs.Expansion.{Design, expanded}
+use Rattle.vhdl_expand_rules.specs.Expansion.{Design, expanded_design}
 use Rattle.vhdl_expand_rules.proofs.Steps.{ok, bound, kept}
 use Rattle.vhdl_expand_rules.proofs.laws.Lengths.{design-fits}
 use Rattle.vhdl_expand_rules.proofs.laws.Trees.{each-tree-is-sound}
 use Rattle.vhdl_expand_rules.proofs.laws.Targets.{all_left, all_right}
-use Rattle.vhdl_elab_rules.specs.Numbering.{Placed, Numbered, nothing_numbered, above_top, numbered}
+use Rattle.vhdl_elab_rules.specs.Numbering.{Placed, Numbered, nothing_numbered, above_top, numbered_design}
 use Rattle.vhdl_elab_rules.specs.Wiring.{Element, elements_of, with_defaults, start_by, start_of, flat_net}
 use Rattle.vhdl_elab_rules.specs.Limits.{elements, has_two_unresolved, has_read_of_shared, counts, is_within_limits}
 use Rattle.vhdl_elab_rules.specs.Names.{scope_of}
-use Rattle.vhdl_elab_rules.specs.Elaboration.{Elaborated, net_of, connected, elaborated}
+use Rattle.vhdl_elab_rules.specs.Elaboration.{Elaborated, net_of, connected, elaborated_net}
 use Rattle.vhdl_elab_rules.specs.laws.Processes.{ProcessesFit}
 use Rattle.vhdl_elab_rules.specs.laws.Shape.{HasShape}
 use Rattle.vhdl_elab_rules.specs.laws.Wiring.{IsWired}
@@ -164,23 +164,23 @@ in-range d h once shape fit wired = (
   },
 )
 
-once-in : (units : Units) (top : List ℕ) (design : Design) → IsTrue (are_sound units) → expanded units top ≡ Ok design → has_two_unresolved (numbered design) ≡ false → HitOnce (numbered design)
-unfolding numbered
+once-in : (units : Units) (top : List ℕ) (design : Design) → IsTrue (are_sound units) → expanded_design units top ≡ Ok design → has_two_unresolved (numbered_design design) ≡ false → HitOnce (numbered_design design)
+unfolding numbered_design
 once-in units top design sound e two =
     let tree = each-tree-is-sound units top design sound e in
     let start : SoFar nothing_numbered = record { count = refl; bytes = All-nil IsByte; starts = tt; instances = All-nil (PlacedIsSound []); processes = All-nil (LocatedIsSound []) } in
     instance-once design.top [] above_top design.name nothing_numbered (design-fits units top design e) tree.top start tt
-    (all-tame (numbered design).instances (none-two (elements (numbered design)) two)) (record { once = λ n c typed. absurd cc })
+    (all-tame (numbered_design design).instances (none-two (elements (numbered_design design)) two)) (record { once = λ n c typed. absurd cc })
 
 pub record Accepted (design : Design) (x : Elaborated) : Type 0 where
-  pub limits : is_within_limits (counts (numbered design)) ≡ true
-  pub no_two : has_two_unresolved (numbered design) ≡ false
-  pub is : net_of (numbered design) ≡ x
+  pub limits : is_within_limits (counts (numbered_design design)) ≡ true
+  pub no_two : has_two_unresolved (numbered_design design) ≡ false
+  pub is : net_of (numbered_design design) ≡ x
 
 pub accepted : (design : Design) (x : Elaborated) → connected design ≡ Ok x → Accepted design x
 unfolding connected
 accepted design x e =
-    let d : Numbered = numbered design in
+    let d : Numbered = numbered_design design in
     let limits = bound (unless TooMany (is_within_limits (counts d))) _ x e in
     let two = bound (unless TwoUnresolved (not (has_two_unresolved d))) _ x limits.then_gave in
     let shared = bound (unless ReadOfShared (not (has_read_of_shared d (flat_net d)))) _ x two.then_gave in
@@ -191,21 +191,21 @@ accepted design x e =
     }
 
 pub each-net-is-sound : EachNetIsSound
-unfolding elaborated
+unfolding elaborated_net
 each-net-is-sound units top x sound e =
-    let design = bound (expanded units top) _ x e in
+    let design = bound (expanded_design units top) _ x e in
     let w = accepted design.x x design.then_gave in
-    let d : Numbered = numbered design.x in
+    let d : Numbered = numbered_design design.x in
     subst (λ (y : Elaborated). IsInRange y.flat × IsConnected y.flat) w.is
     (in-range d (walked units top design.x sound design.gave) (once-in units top design.x sound design.gave w.no_two) (each-has-shape units top design.x design.gave)
     (each-process-fits units top design.x sound design.gave) (each-net-is-wired units top design.x sound design.gave))
 
 pub each-net-is-within-limits : EachNetIsWithinLimits
-unfolding elaborated
+unfolding elaborated_net
 each-net-is-within-limits units top x e =
-    let design = bound (expanded units top) _ x e in
+    let design = bound (expanded_design units top) _ x e in
     let w = accepted design.x x design.then_gave in
-    let d : Numbered = numbered design.x in
+    let d : Numbered = numbered_design design.x in
     let shape = each-has-shape units top design.x design.gave in
     let a = and_parts (nat_le (length d.processes) 65536) _ w.limits in
     let b = and_parts (nat_le (length d.instances) 65536) _ a.1 in

@@ -5,8 +5,8 @@ use Rattle.std.proofs.lemmas.List.Sums.{sum_by-append, sum_by-cons}
 use Rattle.std.proofs.lemmas.List.FromFn.{get_or-map-range_with_len}
 use Rattle.std.proofs.lemmas.Bool.{eq-eqb, ne_eqb}
 use Rattle.std.proofs.lemmas.Option.{slice_get-get_or}
-use Rattle.rtl_model.specs.nets.FlatNet.{FlatProcess, no_flat_process, process_at, targets, drivers_of, all_drivers_of}
-use Rattle.rtl_model.specs.simulation.Net.{Source, Driver, Idle}
+use Rattle.rtl_model.specs.nets.FlatNetlist.{FlatProcess, no_flat_process, process_at, targets, drivers_of, all_drivers_of}
+use Rattle.rtl_model.specs.simulation.Netlist.{Source, Driver, Idle}
 use Rattle.rtl_model.proofs.nets.Sources.{source_is_driver}
 use Rattle.vhdl_elab_rules.specs.Wiring.{idle_values, flat_net}
 use Rattle.vhdl_elab_rules.specs.laws.Sources.{is_driver, EachSourceIsListed, EachIdlePortIsListed}

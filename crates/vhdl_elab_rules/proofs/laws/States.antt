@@ -9,7 +9,7 @@ use Rattle.std.proofs.lemmas.List.Elements.{All-head, All-tail}
 use Rattle.std.proofs.lemmas.List.FromFn.{length-map-range_with_len, get_or-map-range_with_len}
 use Rattle.std.proofs.lemmas.List.Sums.{sum_by-append, sum_by-cons}
 use Rattle.rtl_model.specs.bodies.Types.{ElementType, nine_valued, enumeration, HasType}
-use Rattle.vhdl_expand_rules.specs.Kinds.{Kind, one, vector, size, element_type}
+use Rattle.vhdl_expand_rules.specs.Kinds.{ObjectKind, one, vector, size, element_type}
 use Rattle.vhdl_expand_rules.specs.Kinds as k
 use Rattle.vhdl_expand_rules.specs.Tree.{output, Object, Parts, no_parts, process, inner, objects_of}
 use Rattle.vhdl_expand_rules.specs.laws.Lengths.{ObjectFits}
@@ -85,7 +85,7 @@ states-rise (o ∷ os) outer above first h fit =
     more : (n : ℕ) → first ≤ first + n
     more n = omega arith
 
-    by : (q : Kind) → o.kind ≡ q → length (object_nets above first o) ≡ size o.kind → StatesRise (first + own_size o) (object_types os) (element_nets above (first + own_size o) os)
+    by : (q : ObjectKind) → o.kind ≡ q → length (object_nets above first o) ≡ size o.kind → StatesRise (first + own_size o) (object_types os) (element_nets above (first + own_size o) os)
         → StatesRise first (replicate (size o.kind) (element_type o.kind) ++ object_types os) (object_nets above first o ++ element_nets above (first + own_size o) os)
     by one e l r =
         subst (λ (t : ElementType). StatesRise first (replicate (size o.kind) t ++ object_types os) (object_nets above first o ++ element_nets above (first + own_size o) os)) (sym (ap element_type e))
@@ -100,9 +100,9 @@ states-rise (o ∷ os) outer above first h fit =
         let ns : List ℕ = element_nets above (first + own_size o) os in
         let next : first + own_size o ≡ suc first = ap (λ m. first + m) (own-is_size o none ∙ ap size e) ∙ plus-one first in
         let rest : StatesRise (suc first) (object_types os) ns = subst (λ m. StatesRise m (object_types os) ns) next r in
-        let nets : object_nets above first o ≡ first ∷ [] = own-nets above first o none ∙ ap (λ (q : Kind). range_with_len first (size q)) e in
+        let nets : object_nets above first o ≡ first ∷ [] = own-nets above first o none ∙ ap (λ (q : ObjectKind). range_with_len first (size q)) e in
         subst (λ (xs : List ℕ). StatesRise first (replicate (size o.kind) (element_type o.kind) ++ object_types os) (xs ++ ns)) (sym nets)
-        (subst (λ (q : Kind). StatesRise first (replicate (size q) (element_type q) ++ object_types os) (first ∷ ns)) (sym e) (omega arith, rest))
+        (subst (λ (q : ObjectKind). StatesRise first (replicate (size q) (element_type q) ++ object_types os) (first ∷ ns)) (sym e) (omega arith, rest))
       where
         plus-one : (n : ℕ) → n + 1 ≡ suc n
         plus-one n = omega arith

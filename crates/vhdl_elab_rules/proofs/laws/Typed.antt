@@ -6,7 +6,7 @@ use Rattle.std.proofs.lemmas.Option.{same_Some}
 use Rattle.std.proofs.lemmas.List.{length-append, length-replicate, map-append, get_or-append-add}
 use Rattle.std.proofs.lemmas.List.Elements.{All-nil, All-append, All-replicate, All-head, All-tail, filter-append}
 use Rattle.rtl_model.specs.bodies.Types.{ElementType, limit_of, IsByte, HasType}
-use Rattle.vhdl_expand_rules.specs.Kinds.{Kind, one, vector, enumeration, size, element_type}
+use Rattle.vhdl_expand_rules.specs.Kinds.{ObjectKind, one, vector, enumeration, size, element_type}
 use Rattle.vhdl_expand_rules.specs.Tree.{Object}
 use Rattle.vhdl_expand_rules.specs.laws.Lengths.{ObjectFits}
 use Rattle.vhdl_expand_rules.specs.laws.Trees.{IsKind, object_types, ObjectIsSound}
@@ -137,7 +137,7 @@ own-starts-from (o ∷ os) p start fit =
 
 -- ---- bytes, and values of types
 
-kind-byte : (k : Kind) → IsKind k → IsByte (element_type k)
+kind-byte : (k : ObjectKind) → IsKind k → IsByte (element_type k)
 kind-byte one h = omega arith
 kind-byte (vector b) h = omega arith
 kind-byte (enumeration n) h = h.1

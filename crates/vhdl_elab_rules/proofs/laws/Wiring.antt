@@ -9,9 +9,9 @@ use Rattle.std.proofs.lemmas.List.{get_or_past}
 use Rattle.std.proofs.lemmas.List.Elements.{All-map, All-weaker, All-head, All-tail, All-filter, All-contains, filter_passes}
 use Rattle.std.proofs.lemmas.List.FromFn.{length-map-range_with_len, get_or-map-range_with_len}
 use Rattle.rtl_model.specs.bodies.Types.{ElementType, nine_valued, limit_of, HasType}
-use Rattle.rtl_model.specs.nets.FlatNet.{FlatNet, FlatDriver, FlatProcess, no_flat_process, targets, starts, flat_sources, DriverInRange, ProcessInRange}
-use Rattle.rtl_model.specs.nets.CoreNet.{core_resolve}
-use Rattle.rtl_model.specs.simulation.Net.{Source, Driver, Idle}
+use Rattle.rtl_model.specs.nets.FlatNetlist.{FlatNetlist, FlatDriver, FlatProcess, no_flat_process, targets, starts, flat_sources, DriverInRange, ProcessInRange}
+use Rattle.rtl_model.specs.nets.CoreNetlist.{core_resolve}
+use Rattle.rtl_model.specs.simulation.Netlist.{Source, Driver, Idle}
 use Rattle.rtl_model.specs.simulation.Cycle.{source_value}
 use Rattle.rtl_model.proofs.basics.Lists.{Contains-none, Contains-first}
 use Rattle.rtl_model.proofs.nets.Sources.{source_is_driver, source_is_idle}
@@ -21,7 +21,7 @@ use Rattle.vhdl_expand_rules.specs.laws.Lengths.{InstanceFits}
 use Rattle.vhdl_expand_rules.specs.laws.Trees.{object_roles, is_port, MayBeDriven, InstanceIsSound}
 use Rattle.vhdl_expand_rules.proofs.laws.Lengths.{design-fits}
 use Rattle.vhdl_expand_rules.proofs.laws.Trees.{each-tree-is-sound}
-use Rattle.vhdl_elab_rules.specs.Numbering.{Placed, Located, Numbered, nothing_numbered, above_top, placed, with_placed, with_instance, numbered}
+use Rattle.vhdl_elab_rules.specs.Numbering.{Placed, Located, Numbered, nothing_numbered, above_top, placed, with_placed, with_instance, numbered_design}
 use Rattle.vhdl_elab_rules.specs.Wiring.{Element, elements_of, is_input, is_output, is_top, inputs_of, idle_elements, idle_values, flat_process, with_defaults, start_by, start_of, flat_net}
 use Rattle.vhdl_elab_rules.specs.laws.Processes.{ProcessesFit}
 use Rattle.vhdl_elab_rules.specs.laws.Wiring.{IsWired, EachNetIsWired}
@@ -244,7 +244,7 @@ targets-there : (types : List ElementType) (q : FlatProcess) → ProcessInRange 
 targets-there types q h =
     All-map (λ n. n < length types) (λ (x : FlatDriver). x.net) q.drivers (All-weaker (DriverInRange types) (λ (x : FlatDriver). x.net < length types) (λ x w. slice_get_within types x.net w.0 w.1) q.drivers h.drivers)
 
-starts-by : (net : FlatNet) (default : ℕ) (xs : List Source) (s : Source) → Contains xs s → start_by net default xs ≡ core_resolve (map (source_value (map starts net.processes)) xs)
+starts-by : (net : FlatNetlist) (default : ℕ) (xs : List Source) (s : Source) → Contains xs s → start_by net default xs ≡ core_resolve (map (source_value (map starts net.processes)) xs)
 starts-by net default [] s h = absurd (Contains-none s h)
 starts-by net default (x ∷ xs) s h = refl
 
@@ -288,8 +288,8 @@ kept-in : (i : Instance) (name : List ℕ) → InstanceFits i → InstanceIsSoun
 kept-in (instance os turns parts) name fit sound alone = top-keeps os above_top name turns parts nothing_numbered refl refl refl alone fit.0 fit.1 sound.1
 
 pub each-net-is-wired : EachNetIsWired
-unfolding numbered
+unfolding numbered_design
 each-net-is-wired units top design sound e =
     let tree = each-tree-is-sound units top design sound e in
     let fits = design-fits units top design e in
-    is-wired (objects_of design.top) (numbered design) (walked units top design sound e) (kept-in design.top design.name fits tree.top tree.not_joined) (top-in design.top design.name fits tree.not_joined) (each-process-fits units top design sound e)
+    is-wired (objects_of design.top) (numbered_design design) (walked units top design sound e) (kept-in design.top design.name fits tree.top tree.not_joined) (top-in design.top design.name fits tree.not_joined) (each-process-fits units top design sound e)

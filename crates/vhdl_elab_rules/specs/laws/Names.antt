@@ -4,7 +4,7 @@ use Rattle.std.specs.Prelude.{◌≡◌, ◌≢◌, ℕ, ◌<◌, All, List, [],
 use Rattle.vhdl_names_rules.specs.units.Units.{Units}
 use Rattle.vhdl_names_rules.specs.sound.Named.{are_named}
 use Rattle.vhdl_elab_rules.specs.Names.{Scope, Signal, NamedVariable, NamedProcess}
-use Rattle.vhdl_elab_rules.specs.Elaboration.{Elaborated, elaborated}
+use Rattle.vhdl_elab_rules.specs.Elaboration.{Elaborated, elaborated_net}
 
 -- a process of a net with so many scopes
 pub record ProcessHasName (scopes : ℕ) (p : NamedProcess) : Type 0 where
@@ -18,4 +18,4 @@ pub record HasNames (x : Elaborated) : Type 0 where
   pub processes : All (ProcessHasName (length x.scopes)) x.processes
 
 abbrev pub EachHasNames : Type 0
-EachHasNames = (units : Units) (top : List ℕ) (x : Elaborated) → IsTrue (are_named units) → elaborated units top ≡ Ok x → HasNames x
+EachHasNames = (units : Units) (top : List ℕ) (x : Elaborated) → IsTrue (are_named units) → elaborated_net units top ≡ Ok x → HasNames x

@@ -6,8 +6,8 @@ use Rattle.vhdl_names_rules.specs.units.Units.{Units}
 use Rattle.vhdl_expand_rules.specs.Kinds.{size}
 use Rattle.vhdl_expand_rules.specs.Site.{elements_count}
 use Rattle.vhdl_expand_rules.specs.Tree.{Object}
-use Rattle.vhdl_expand_rules.specs.Expansion.{Design, expanded}
-use Rattle.vhdl_elab_rules.specs.Numbering.{Placed, Numbered, numbered}
+use Rattle.vhdl_expand_rules.specs.Expansion.{Design, expanded_design}
+use Rattle.vhdl_elab_rules.specs.Numbering.{Placed, Numbered, numbered_design}
 use Rattle.vhdl_elab_rules.specs.Wiring.{Element, own_elements}
 
 -- how many elements objects have together
@@ -37,4 +37,4 @@ pub record NetsAreAsSaid (d : Numbered) : Type 0 where
       → (first : ℕ) × (nets_of_name p j o ≡ range_with_len first (size o.kind))
 
 abbrev pub EachNetIsAsSaid : Type 0
-EachNetIsAsSaid = (units : Units) (top : List ℕ) (design : Design) → expanded units top ≡ Ok design → NetsAreAsSaid (numbered design)
+EachNetIsAsSaid = (units : Units) (top : List ℕ) (design : Design) → expanded_design units top ≡ Ok design → NetsAreAsSaid (numbered_design design)

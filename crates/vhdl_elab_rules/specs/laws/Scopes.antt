@@ -5,7 +5,7 @@ use Rattle.rtl_net.specs.Nets.{ScopeView, parent_of}
 use Rattle.rtl_net.specs.Elaborated.{FollowsInText}
 use Rattle.vhdl_names_rules.specs.units.Units.{Units}
 use Rattle.vhdl_elab_rules.specs.Names.{Scope}
-use Rattle.vhdl_elab_rules.specs.Elaboration.{Elaborated, elaborated}
+use Rattle.vhdl_elab_rules.specs.Elaboration.{Elaborated, elaborated_net}
 
 -- what contracts see of a scope in a net
 abbrev pub scope_views : List Scope → List ScopeView
@@ -17,4 +17,4 @@ pub record StandInText (scopes : List ScopeView) : Type 0 where
   pub others : (k : ℕ) → suc k < length scopes → FollowsInText scopes k
 
 abbrev pub EachScopeFollows : Type 0
-EachScopeFollows = (units : Units) (top : List ℕ) (x : Elaborated) → elaborated units top ≡ Ok x → StandInText (scope_views x.scopes)
+EachScopeFollows = (units : Units) (top : List ℕ) (x : Elaborated) → elaborated_net units top ≡ Ok x → StandInText (scope_views x.scopes)

@@ -1,16 +1,16 @@
--- What the laws of flat nets ask of a net holds of every net that is elaborated from sound units: each value, net, place and
+-- What the laws of flat netlists ask of a net holds of every net that is elaborated from sound units: each value, net, place and
 -- length is in range, nothing inside drives the top's in ports, nets start with the resolution of their sources, and several
 -- sources meet at nets of the nine values alone (IEEE 1076-2008, 14.7).
 use Rattle.std.specs.Prelude.{◌≡◌, ℕ, ◌≤◌, List, length, Ok, IsTrue}
-use Rattle.rtl_model.specs.nets.FlatNet.{IsInRange}
+use Rattle.rtl_model.specs.nets.FlatNetlist.{IsInRange}
 use Rattle.rtl_model.specs.nets.Wiring.{IsConnected}
 use Rattle.vhdl_names_rules.specs.units.Units.{Units}
 use Rattle.vhdl_names_rules.specs.sound.Units.{are_sound}
-use Rattle.vhdl_elab_rules.specs.Elaboration.{Elaborated, elaborated}
+use Rattle.vhdl_elab_rules.specs.Elaboration.{Elaborated, elaborated_net}
 
 abbrev pub EachNetIsSound : Type 0
 EachNetIsSound =
-    (units : Units) (top : List ℕ) (x : Elaborated) → IsTrue (are_sound units) → elaborated units top ≡ Ok x
+    (units : Units) (top : List ℕ) (x : Elaborated) → IsTrue (are_sound units) → elaborated_net units top ≡ Ok x
     → IsInRange x.flat × IsConnected x.flat
 
 -- the limits of elaboration
@@ -20,4 +20,4 @@ pub record IsWithinLimits (x : Elaborated) : Type 0 where
   pub scopes : length x.scopes ≤ 65536
 
 abbrev pub EachNetIsWithinLimits : Type 0
-EachNetIsWithinLimits = (units : Units) (top : List ℕ) (x : Elaborated) → elaborated units top ≡ Ok x → IsWithinLimits x
+EachNetIsWithinLimits = (units : Units) (top : List ℕ) (x : Elaborated) → elaborated_net units top ≡ Ok x → IsWithinLimits x

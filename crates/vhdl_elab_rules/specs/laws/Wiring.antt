@@ -3,17 +3,17 @@
 use Rattle.std.specs.Prelude.{◌≡◌, ℕ, ◌<◌, All, List, [], map, slice_index, slice_index_or, Contains, Ok, IsTrue}
 use Rattle.std.specs.List.Sorted.{IsStrictlyIncreasing}
 use Rattle.rtl_model.specs.bodies.Types.{ElementType, nine_valued, limit_of, HasType}
-use Rattle.rtl_model.specs.nets.FlatNet.{FlatNet, starts, flat_sources}
-use Rattle.rtl_model.specs.nets.CoreNet.{core_resolve}
-use Rattle.rtl_model.specs.simulation.Net.{Source}
+use Rattle.rtl_model.specs.nets.FlatNetlist.{FlatNetlist, starts, flat_sources}
+use Rattle.rtl_model.specs.nets.CoreNetlist.{core_resolve}
+use Rattle.rtl_model.specs.simulation.Netlist.{Source}
 use Rattle.rtl_model.specs.simulation.Cycle.{source_value}
 use Rattle.vhdl_names_rules.specs.units.Units.{Units}
 use Rattle.vhdl_names_rules.specs.sound.Units.{are_sound}
-use Rattle.vhdl_expand_rules.specs.Expansion.{Design, expanded}
-use Rattle.vhdl_elab_rules.specs.Numbering.{numbered}
+use Rattle.vhdl_expand_rules.specs.Expansion.{Design, expanded_design}
+use Rattle.vhdl_elab_rules.specs.Numbering.{numbered_design}
 use Rattle.vhdl_elab_rules.specs.Wiring.{flat_net}
 
-pub record IsWired (net : FlatNet) : Type 0 where
+pub record IsWired (net : FlatNetlist) : Type 0 where
   pub idle : (n : ℕ) (t : ElementType) → HasType net.types t n → All (λ v. v < limit_of t) (slice_index_or net.idle n [])
   pub inputs_rise : IsStrictlyIncreasing net.inputs
   pub inputs : All (HasType net.types nine_valued) net.inputs
@@ -23,5 +23,5 @@ pub record IsWired (net : FlatNet) : Type 0 where
 
 abbrev pub EachNetIsWired : Type 0
 EachNetIsWired =
-    (units : Units) (top : List ℕ) (design : Design) → IsTrue (are_sound units) → expanded units top ≡ Ok design
-    → IsWired (flat_net (numbered design))
+    (units : Units) (top : List ℕ) (design : Design) → IsTrue (are_sound units) → expanded_design units top ≡ Ok design
+    → IsWired (flat_net (numbered_design design))

@@ -13,13 +13,13 @@ use Rattle.vhdl_names_rules.specs.units.Expressions as e
 use Rattle.vhdl_names_rules.specs.units.Expressions.{Vector, Value}
 use Rattle.vhdl_names_rules.specs.units.Units as u
 use Rattle.vhdl_names_rules.specs.units.Units.{Entity}
-use Rattle.rtl_model.specs.bodies.Body as b
+use Rattle.rtl_model.specs.bodies.Body as bodies
 use Rattle.vhdl_expand_rules.specs.declared.fault.ElabProblem.TheVariants.{StaticError, Length, Index, TooWide}
 use Rattle.vhdl_expand_rules.specs.Kinds.{one}
 use Rattle.vhdl_expand_rules.specs.Kinds as k
 use Rattle.vhdl_expand_rules.specs.Site.{Site, no_site}
 use Rattle.vhdl_expand_rules.specs.Expressions.{vector, test}
-use Rattle.vhdl_elab_rules.specs.Elaboration.{elaborated}
+use Rattle.vhdl_elab_rules.specs.Elaboration.{elaborated_net}
 use Rattle.vhdl_examples.specs.designs.Words.{number, downto, port, at, assignment, object, input, entity, Of}
 use Rattle.vhdl_examples.specs.designs.Designs.{no_statement}
 use Rattle.vhdl_examples.specs.designs.Refusals.{minus, of}
@@ -42,32 +42,32 @@ is_enclosed_one = e.elements (e.enclosed_character One)
 
 pub record ConditionsBecomeTests : Type 0 where
   -- a = '1', a = ('1'), '1' = a
-  pub plain : test site (e.alike a is_one) ≡ Ok (b.level true 0 One)
-  pub enclosed : test site (e.alike a is_enclosed_one) ≡ Ok (b.level false 0 One)
-  pub turned : test site (e.alike is_one a) ≡ Ok (b.level false 0 One)
+  pub plain : test site (e.alike a is_one) ≡ Ok (bodies.level true 0 One)
+  pub enclosed : test site (e.alike a is_enclosed_one) ≡ Ok (bodies.level false 0 One)
+  pub turned : test site (e.alike is_one a) ≡ Ok (bodies.level false 0 One)
   -- w(0) = '1'
-  pub indexed : test site (e.alike (e.elements (e.of_signal (port 1 (at (number 0))))) is_one) ≡ Ok (b.level true 2 One)
+  pub indexed : test site (e.alike (e.elements (e.of_signal (port 1 (at (number 0))))) is_one) ≡ Ok (bodies.level true 2 One)
   -- w(1 downto 1) = "1", x = '1', a /= '1'
   pub slice : test site (e.alike (e.elements (e.of_signal (port 1 (e.slice (downto 1 1))))) (e.elements (e.Vector.literal (One ∷ []))))
-      ≡ Ok (b.equal (b.elements (b.signal (1 ∷ []))) (b.elements (b.constant (One ∷ []))))
+      ≡ Ok (bodies.equal (bodies.elements (bodies.signal (1 ∷ []))) (bodies.elements (bodies.constant (One ∷ []))))
   pub of_variable : test site (e.alike (e.elements (e.of_variable 0 e.whole)) is_one)
-      ≡ Ok (b.equal (b.elements (b.variable (0 ∷ []))) (b.elements (b.constant (One ∷ []))))
-  pub unlike : test site (e.unlike a is_one) ≡ Ok (b.unequal (b.elements (b.signal (0 ∷ []))) (b.elements (b.constant (One ∷ []))))
+      ≡ Ok (bodies.equal (bodies.elements (bodies.variable (0 ∷ []))) (bodies.elements (bodies.constant (One ∷ []))))
+  pub unlike : test site (e.unlike a is_one) ≡ Ok (bodies.unequal (bodies.elements (bodies.signal (0 ∷ []))) (bodies.elements (bodies.constant (One ∷ []))))
   -- a'event and a = '1'
-  pub edge : test site (e.Test.both And (e.event (port 0 e.whole)) (e.alike a is_one)) ≡ Ok (b.combined And (b.event 0) (b.level true 0 One))
+  pub edge : test site (e.Test.both And (e.event (port 0 e.whole)) (e.alike a is_one)) ≡ Ok (bodies.combined And (bodies.event 0) (bodies.level true 0 One))
   -- 1 < w, 1 = 2, w = "111" of other lengths
-  pub integer_first : test site (e.compared_with Lt (number 1) w) ≡ Ok (b.compared_to Gt (b.signal (1 ∷ 2 ∷ [])) 1)
-  pub decided : test site (e.Test.fixed (e.StaticTest.compared Eq (number 1) (number 2))) ≡ Ok (b.decided false)
+  pub integer_first : test site (e.compared_with Lt (number 1) w) ≡ Ok (bodies.compared_to Gt (bodies.signal (1 ∷ 2 ∷ [])) 1)
+  pub decided : test site (e.Test.fixed (e.StaticTest.compared Eq (number 1) (number 2))) ≡ Ok (bodies.decided false)
   pub lengths_differ : test site (e.alike (e.elements w) (e.elements (e.Vector.literal (One ∷ One ∷ One ∷ []))))
-      ≡ Ok (b.equal (b.elements (b.signal (1 ∷ 2 ∷ []))) (b.elements (b.constant (One ∷ One ∷ One ∷ []))))
+      ≡ Ok (bodies.equal (bodies.elements (bodies.signal (1 ∷ 2 ∷ []))) (bodies.elements (bodies.constant (One ∷ One ∷ One ∷ []))))
 
 pub record NumbersBecomeConstants : Type 0 where
   -- w + 5, which is w + "01", and 5 * w
-  pub sum : vector site (e.with_integer Add w (number 5)) ≡ Ok (b.binary b.plus (b.signal (1 ∷ 2 ∷ [])) (b.constant (Zero ∷ One ∷ [])))
-  pub product : vector site (e.integer_with Multiply (number 5) w) ≡ Ok (b.binary b.times (b.constant (Zero ∷ One ∷ [])) (b.signal (1 ∷ 2 ∷ [])))
+  pub sum : vector site (e.with_integer Add w (number 5)) ≡ Ok (bodies.binary bodies.plus (bodies.signal (1 ∷ 2 ∷ [])) (bodies.constant (Zero ∷ One ∷ [])))
+  pub product : vector site (e.integer_with Multiply (number 5) w) ≡ Ok (bodies.binary bodies.times (bodies.constant (Zero ∷ One ∷ [])) (bodies.signal (1 ∷ 2 ∷ [])))
   pub negative : vector site (e.with_integer Add w (minus 1)) ≡ Err StaticError
   -- to_unsigned(9, 3), to_unsigned(9, 0), resize(w, 65)
-  pub encoded : vector site (e.Vector.encoded (number 9) (number 3)) ≡ Ok (b.constant (Zero ∷ Zero ∷ One ∷ []))
+  pub encoded : vector site (e.Vector.encoded (number 9) (number 3)) ≡ Ok (bodies.constant (Zero ∷ Zero ∷ One ∷ []))
   pub no_element : vector site (e.Vector.encoded (number 9) (number 0)) ≡ Err Index
   pub too_wide : vector site (e.Vector.resized w (number 65)) ≡ Err TooWide
   -- w and "111", and 63 elements & w
@@ -105,7 +105,7 @@ two_sources = entity (codes "t")
     ∷ assignment (port 1 e.whole) a ∷ [])
 
 pub record DefaultsAreTaken : Type 0 where
-  pub generic : Of (elaborated (later_default ∷ []) (codes "g")) (λ x. x.flat.start ≡ 0 ∷ 0 ∷ 0 ∷ 0 ∷ [])
-  pub not_computed : Of (elaborated (nothing_computed ∷ []) (codes "f")) (λ x. x.flat.start ≡ [])
+  pub generic : Of (elaborated_net (later_default ∷ []) (codes "g")) (λ x. x.flat.start ≡ 0 ∷ 0 ∷ 0 ∷ 0 ∷ [])
+  pub not_computed : Of (elaborated_net (nothing_computed ∷ []) (codes "f")) (λ x. x.flat.start ≡ [])
   -- the driver starts with '1', the idle port with '0', and y with X
-  pub resolved : Of (elaborated (no_statement ∷ two_sources ∷ []) (codes "t")) (λ x. x.flat.start ≡ 0 ∷ 1 ∷ [])
+  pub resolved : Of (elaborated_net (no_statement ∷ two_sources ∷ []) (codes "t")) (λ x. x.flat.start ≡ 0 ∷ 1 ∷ [])

@@ -8,10 +8,10 @@ use Rattle.vhdl_names_rules.specs.units.Expressions as e
 use Rattle.vhdl_names_rules.specs.units.Statements as s
 use Rattle.vhdl_names_rules.specs.units.Units as u
 use Rattle.vhdl_names_rules.specs.units.Units.{Entity}
-use Rattle.rtl_model.specs.bodies.Body as b
-use Rattle.rtl_model.specs.nets.FlatNet.{flat_sources}
-use Rattle.rtl_model.specs.simulation.Net.{Driver}
-use Rattle.vhdl_elab_rules.specs.Elaboration.{elaborated}
+use Rattle.rtl_model.specs.bodies.Body as bodies
+use Rattle.rtl_model.specs.nets.FlatNetlist.{flat_sources}
+use Rattle.rtl_model.specs.simulation.Netlist.{Driver}
+use Rattle.vhdl_elab_rules.specs.Elaboration.{elaborated_net}
 use Rattle.vhdl_examples.specs.designs.Words.{number, downto, to, port, signal, at, read, assigned, process, assignment, object, input, output, declared}
 use Rattle.vhdl_examples.specs.designs.Words.{entity, shown, Of}
 
@@ -24,31 +24,31 @@ counter = entity (codes "cnt")
     (input (codes "clk") u.element ∷ output (codes "y") (u.vector (downto 1 0)) ∷ [])
     (u.signal (object (codes "q") (u.vector (downto 1 0)) (Some (u.Fixed.literal (Zero ∷ Zero ∷ [])))) ∷ [])
     (process (u.listed (port 0 e.whole ∷ []))
-    (s.choose (s.branch (e.edge Rising (port 0 e.whole))
+    (s.if_of (s.branch (e.edge Rising (port 0 e.whole))
     (s.step (assigned (signal 0 e.whole) (e.elements (e.with_integer Add (e.of_signal (signal 0 e.whole)) (number 1)))) s.done)
     s.no_else) ∷ [])
     ∷ assignment (port 1 e.whole) (read (signal 0 e.whole)) ∷ [])
 
 pub record CounterHasItsNet : Type 0 where
-  pub net : shown (elaborated (counter ∷ []) (codes "CNT")) ≡ Ok (record {
+  pub net : shown (elaborated_net (counter ∷ []) (codes "CNT")) ≡ Ok (record {
     starts = 0 ∷ 0 ∷ 0 ∷ 2 ∷ 2 ∷ [];
     inputs = 0 ∷ [];
     idle = [] ∷ [] ∷ [] ∷ [] ∷ [] ∷ [];
     nets = codes "cnt.clk" ∷ codes "cnt.y(1)" ∷ codes "cnt.y(0)" ∷ codes "cnt.q(1)" ∷ codes "cnt.q(0)" ∷ [];
     processes = codes "cnt.#0" ∷ codes "cnt.#1" ∷ [];
   })
-  pub processes : Of (elaborated (counter ∷ []) (codes "cnt")) (λ x. x.flat.processes ≡ record {
+  pub processes : Of (elaborated_net (counter ∷ []) (codes "cnt")) (λ x. x.flat.processes ≡ record {
     drivers = record { net = 3; start = 2 } ∷ record { net = 4; start = 2 } ∷ [];
     wakes = 0 ∷ [];
     variables = [];
-    body = b.step (b.if_of (b.branch (b.rising 0)
-        (b.step (b.assign (0 ∷ 1 ∷ []) (b.elements (b.binary b.plus (b.signal (3 ∷ 4 ∷ [])) (b.constant (Zero ∷ One ∷ []))))) b.done)
-        b.no_else)) b.done;
+    body = bodies.step (bodies.if_of (bodies.branch (bodies.rising 0)
+        (bodies.step (bodies.assign (0 ∷ 1 ∷ []) (bodies.elements (bodies.binary bodies.plus (bodies.signal (3 ∷ 4 ∷ [])) (bodies.constant (Zero ∷ One ∷ []))))) bodies.done)
+        bodies.no_else)) bodies.done;
   } ∷ record {
     drivers = record { net = 1; start = 0 } ∷ record { net = 2; start = 0 } ∷ [];
     wakes = 3 ∷ 4 ∷ [];
     variables = [];
-    body = b.step (b.assign (0 ∷ 1 ∷ []) (b.elements (b.signal (3 ∷ 4 ∷ [])))) b.done;
+    body = bodies.step (bodies.assign (0 ∷ 1 ∷ []) (bodies.elements (bodies.signal (3 ∷ 4 ∷ [])))) bodies.done;
   } ∷ [])
 
 -- ---- two inverters
@@ -70,14 +70,14 @@ two_inverters = entity (codes "t") (input (codes "x") (u.vector (downto 1 0)) �
     })) u.no_concurrents) ∷ [])
 
 pub record InvertersAreJoined : Type 0 where
-  pub net : shown (elaborated (inverter ∷ two_inverters ∷ []) (codes "t")) ≡ Ok (record {
+  pub net : shown (elaborated_net (inverter ∷ two_inverters ∷ []) (codes "t")) ≡ Ok (record {
     starts = 0 ∷ 0 ∷ 0 ∷ 0 ∷ [];
     inputs = 0 ∷ 1 ∷ [];
     idle = [] ∷ [] ∷ [] ∷ [] ∷ [];
     nets = codes "t.x(1)" ∷ codes "t.x(0)" ∷ codes "t.z(1)" ∷ codes "t.z(0)" ∷ [];
     processes = codes "t.g(0).u.#0" ∷ codes "t.g(1).u.#1" ∷ [];
   })
-  pub sources : Of (elaborated (inverter ∷ two_inverters ∷ []) (codes "t")) (λ x.
+  pub sources : Of (elaborated_net (inverter ∷ two_inverters ∷ []) (codes "t")) (λ x.
       map (flat_sources x.flat) (0 ∷ 1 ∷ 2 ∷ 3 ∷ []) ≡ [] ∷ [] ∷ (Driver 1 0 ∷ []) ∷ (Driver 0 0 ∷ []) ∷ [])
 
 -- ---- an idle out port
@@ -92,7 +92,7 @@ around_idle = entity (codes "t") (input (codes "a") u.element ∷ output (codes 
     (u.instance (record { label = codes "u"; unit = 0; generics = []; ports = Some (port 0 e.whole) ∷ Some (port 1 e.whole) ∷ [] }) ∷ [])
 
 pub record IdlePortsHoldTheirDefaults : Type 0 where
-  pub net : shown (elaborated (no_statement ∷ around_idle ∷ []) (codes "t")) ≡ Ok (record {
+  pub net : shown (elaborated_net (no_statement ∷ around_idle ∷ []) (codes "t")) ≡ Ok (record {
     starts = 0 ∷ 2 ∷ [];
     inputs = 0 ∷ [];
     idle = [] ∷ (2 ∷ []) ∷ [];
@@ -106,28 +106,28 @@ pub record IdlePortsHoldTheirDefaults : Type 0 where
 abbrev pub loop_drives : Entity
 loop_drives = entity (codes "lt") (input (codes "a") u.element ∷ []) (declared (codes "v") (u.vector (downto 3 0)) ∷ [])
     (process (u.listed (port 0 e.whole ∷ []))
-    (s.loop (to 0 1) (s.step (assigned (signal 0 (at (e.loop_parameter 0))) (read (port 0 e.whole))) s.done) ∷ []) ∷ [])
+    (s.for_of (to 0 1) (s.step (assigned (signal 0 (at (e.loop_parameter 0))) (read (port 0 e.whole))) s.done) ∷ []) ∷ [])
 
 -- a : in (3 downto 0), y : out (1 downto 0); process (all) begin for i in 0 to 1 loop y(i) <= a(i); end loop; end process;
 abbrev pub loop_reads : Entity
 loop_reads = entity (codes "lp") (input (codes "a") (u.vector (downto 3 0)) ∷ output (codes "y") (u.vector (downto 1 0)) ∷ []) []
-    (process u.every (s.loop (to 0 1)
+    (process u.every (s.for_of (to 0 1)
     (s.step (assigned (port 1 (at (e.loop_parameter 0))) (read (port 0 (at (e.loop_parameter 0))))) s.done) ∷ []) ∷ [])
 
 pub record LoopsAreUnrolled : Type 0 where
   -- all of v is driven, and v(0) and v(1), which stand last, are assigned
-  pub drives : Of (elaborated (loop_drives ∷ []) (codes "lt")) (λ x. x.flat.processes ≡ record {
+  pub drives : Of (elaborated_net (loop_drives ∷ []) (codes "lt")) (λ x. x.flat.processes ≡ record {
     drivers = record { net = 1; start = 0 } ∷ record { net = 2; start = 0 } ∷ record { net = 3; start = 0 } ∷ record { net = 4; start = 0 } ∷ [];
     wakes = 0 ∷ [];
     variables = [];
-    body = b.step (b.assign (3 ∷ []) (b.elements (b.signal (0 ∷ []))))
-        (b.step (b.assign (2 ∷ []) (b.elements (b.signal (0 ∷ [])))) b.done);
+    body = bodies.step (bodies.assign (3 ∷ []) (bodies.elements (bodies.signal (0 ∷ []))))
+        (bodies.step (bodies.assign (2 ∷ []) (bodies.elements (bodies.signal (0 ∷ [])))) bodies.done);
   } ∷ [])
   -- it is sensitive to all of a, and reads a(0) and a(1)
-  pub wakes : Of (elaborated (loop_reads ∷ []) (codes "lp")) (λ x. x.flat.processes ≡ record {
+  pub wakes : Of (elaborated_net (loop_reads ∷ []) (codes "lp")) (λ x. x.flat.processes ≡ record {
     drivers = record { net = 4; start = 0 } ∷ record { net = 5; start = 0 } ∷ [];
     wakes = 0 ∷ 1 ∷ 2 ∷ 3 ∷ [];
     variables = [];
-    body = b.step (b.assign (1 ∷ []) (b.elements (b.signal (3 ∷ []))))
-        (b.step (b.assign (0 ∷ []) (b.elements (b.signal (2 ∷ [])))) b.done);
+    body = bodies.step (bodies.assign (1 ∷ []) (bodies.elements (bodies.signal (3 ∷ []))))
+        (bodies.step (bodies.assign (0 ∷ []) (bodies.elements (bodies.signal (2 ∷ [])))) bodies.done);
   } ∷ [])

@@ -12,13 +12,13 @@ use Rattle.vhdl_names_rules.specs.units.Expressions.{Static, Range, Part}
 use Rattle.vhdl_names_rules.specs.units.Statements as s
 use Rattle.vhdl_names_rules.specs.units.Units as u
 use Rattle.vhdl_names_rules.specs.units.Units.{Entity, Concurrent}
-use Rattle.rtl_model.specs.bodies.Body as b
+use Rattle.rtl_model.specs.bodies.Body as bodies
 use Rattle.rtl_model.specs.bodies.Types.{nine_valued}
 use Rattle.vhdl_expand_rules.specs.declared.fault.ElabProblem.TheVariants.{NoTop, NoGeneric, GenericRange, StaticError, Length, Index, TooWide}
 use Rattle.vhdl_expand_rules.specs.declared.fault.ElabProblem.TheVariants.{Unassociated, TwoUnresolved, ReadOfShared, TooDeep, TooMany}
 use Rattle.vhdl_expand_rules.specs.Integers.{integer}
 use Rattle.vhdl_expand_rules.specs.Site.{no_integers}
-use Rattle.vhdl_elab_rules.specs.Elaboration.{elaborated}
+use Rattle.vhdl_elab_rules.specs.Elaboration.{elaborated_net}
 use Rattle.vhdl_examples.specs.designs.Words.{number, downto, to, port, signal, at, read, assigned, process, assignment, object, input, output, declared}
 use Rattle.vhdl_examples.specs.designs.Words.{entity, Of}
 use Rattle.vhdl_examples.specs.designs.Designs.{inverter, no_statement}
@@ -46,11 +46,11 @@ abbrev pub with_generic : Option Static → Entity
 with_generic default = record (entity (codes "g") [] [] []) { generics = record { type = Positive; default = default } ∷ [] }
 
 pub record TopsAreThere : Type 0 where
-  pub no_entity : elaborated (inverter ∷ []) (codes "other") ≡ Err NoTop
-  pub no_architecture : elaborated (record inverter { architecture = None } ∷ []) (codes "inv") ≡ Err NoTop
-  pub no_generic : elaborated (with_generic None ∷ []) (codes "g") ≡ Err NoGeneric
-  pub generic_range : elaborated (with_generic (Some (number 0)) ∷ []) (codes "g") ≡ Err GenericRange
-  pub generic_without_value : elaborated (with_generic (Some (of Divide (number 1) (number 0))) ∷ []) (codes "g") ≡ Err StaticError
+  pub no_entity : elaborated_net (inverter ∷ []) (codes "other") ≡ Err NoTop
+  pub no_architecture : elaborated_net (record inverter { architecture = None } ∷ []) (codes "inv") ≡ Err NoTop
+  pub no_generic : elaborated_net (with_generic None ∷ []) (codes "g") ≡ Err NoGeneric
+  pub generic_range : elaborated_net (with_generic (Some (number 0)) ∷ []) (codes "g") ≡ Err GenericRange
+  pub generic_without_value : elaborated_net (with_generic (Some (of Divide (number 1) (number 0))) ∷ []) (codes "g") ≡ Err StaticError
 
 -- ---- ranges and lengths: signal s of this range, y out of three elements, and a statement
 
@@ -63,7 +63,7 @@ short_literal = assigned (port 0 e.whole) (e.elements (e.Vector.literal (Zero �
 
 -- if 0 = 1 then .. end if;
 abbrev pub under_false : s.Statement → s.Statement
-under_false x = s.choose (s.branch (e.Test.fixed (e.StaticTest.compared Eq (number 0) (number 1))) (s.step x s.done) s.no_else)
+under_false x = s.if_of (s.branch (e.Test.fixed (e.StaticTest.compared Eq (number 0) (number 1))) (s.step x s.done) s.no_else)
 
 -- y(2 downto 1) <= s(part);
 abbrev pub slice_read : Part → Concurrent
@@ -74,37 +74,37 @@ abbrev pub element_read : Static → Concurrent
 element_read i = assignment (port 0 (at (number 2))) (read (signal 0 (at i)))
 
 pub record LengthsAgree : Type 0 where
-  pub short : elaborated (with_signal (downto 3 0) (process u.every (short_literal ∷ []) ∷ []) ∷ []) (codes "d") ≡ Err Length
-  pub short_under_false : elaborated (with_signal (downto 3 0) (process u.every (under_false short_literal ∷ []) ∷ []) ∷ []) (codes "d") ≡ Err Length
-  pub null_range : elaborated (with_signal (to 3 0) [] ∷ []) (codes "d") ≡ Err Index
-  pub negative_bound : elaborated (with_signal (record { left = number 3; direction = Downto; right = minus 1 }) [] ∷ []) (codes "d") ≡ Err StaticError
-  pub too_wide : elaborated (with_signal (downto 64 0) [] ∷ []) (codes "d") ≡ Err TooWide
-  pub against_direction : elaborated (with_signal (downto 3 0) (slice_read (e.slice (to 1 2)) ∷ []) ∷ []) (codes "d") ≡ Err Index
-  pub outside : elaborated (with_signal (downto 3 0) (element_read (number 4) ∷ []) ∷ []) (codes "d") ≡ Err Index
-  pub negative_index : elaborated (with_signal (downto 3 0) (element_read (minus 1) ∷ []) ∷ []) (codes "d") ≡ Err Index
+  pub short : elaborated_net (with_signal (downto 3 0) (process u.every (short_literal ∷ []) ∷ []) ∷ []) (codes "d") ≡ Err Length
+  pub short_under_false : elaborated_net (with_signal (downto 3 0) (process u.every (under_false short_literal ∷ []) ∷ []) ∷ []) (codes "d") ≡ Err Length
+  pub null_range : elaborated_net (with_signal (to 3 0) [] ∷ []) (codes "d") ≡ Err Index
+  pub negative_bound : elaborated_net (with_signal (record { left = number 3; direction = Downto; right = minus 1 }) [] ∷ []) (codes "d") ≡ Err StaticError
+  pub too_wide : elaborated_net (with_signal (downto 64 0) [] ∷ []) (codes "d") ≡ Err TooWide
+  pub against_direction : elaborated_net (with_signal (downto 3 0) (slice_read (e.slice (to 1 2)) ∷ []) ∷ []) (codes "d") ≡ Err Index
+  pub outside : elaborated_net (with_signal (downto 3 0) (element_read (number 4) ∷ []) ∷ []) (codes "d") ≡ Err Index
+  pub negative_index : elaborated_net (with_signal (downto 3 0) (element_read (minus 1) ∷ []) ∷ []) (codes "d") ≡ Err Index
 
 -- ---- loops: in a process, for i in this range loop y(i) <= s(i); end loop;
 
 abbrev pub looping : Range → Entity
-looping r = with_signal (downto 3 0) (process u.every (s.loop r
+looping r = with_signal (downto 3 0) (process u.every (s.for_of r
     (s.step (assigned (port 0 (at (e.loop_parameter 0))) (read (signal 0 (at (e.loop_parameter 0))))) s.done) ∷ []) ∷ [])
 
 pub record TurnsAreWithin : Type 0 where
-  pub outside : elaborated (looping (to 1 3) ∷ []) (codes "d") ≡ Err Index
-  pub too_many : elaborated (looping (to 0 4096) ∷ []) (codes "d") ≡ Err TooMany
+  pub outside : elaborated_net (looping (to 1 3) ∷ []) (codes "d") ≡ Err Index
+  pub too_many : elaborated_net (looping (to 0 4096) ∷ []) (codes "d") ≡ Err TooMany
   -- a null range makes no turn, and y is driven
-  pub none : Of (elaborated (looping (to 1 0) ∷ []) (codes "d")) (λ x. x.flat.idle ≡ replicate 7 [])
+  pub none : Of (elaborated_net (looping (to 1 0) ∷ []) (codes "d")) (λ x. x.flat.idle ≡ replicate 7 [])
 
 -- ---- associations: an instance of k (a in, z out) with these actuals, in t with a : in, y : out, s : signal
 
-abbrev pub around : List (Option e.Place) → List Concurrent → Entity
+abbrev pub around : List (Option e.SignalPart) → List Concurrent → Entity
 around ports more = entity (codes "t") (input (codes "a") u.element ∷ output (codes "y") u.element ∷ []) (declared (codes "s") u.element ∷ [])
     (u.instance (record { label = codes "u"; unit = 0; generics = []; ports = ports }) ∷ more)
 
-abbrev pub to_a : Option e.Place
+abbrev pub to_a : Option e.SignalPart
 to_a = Some (port 0 e.whole)
 
-abbrev pub to_y : Option e.Place
+abbrev pub to_y : Option e.SignalPart
 to_y = Some (port 1 e.whole)
 
 -- y <= a;
@@ -123,22 +123,22 @@ unresolved x = record x {
 }
 
 pub record SourcesAreCounted : Type 0 where
-  pub unassociated : elaborated (no_statement ∷ around (None ∷ to_y ∷ []) [] ∷ []) (codes "t") ≡ Err Unassociated
+  pub unassociated : elaborated_net (no_statement ∷ around (None ∷ to_y ∷ []) [] ∷ []) (codes "t") ≡ Err Unassociated
   -- y has a driver and an instance's out port
-  pub two_unresolved : elaborated (inverter ∷ unresolved (around (to_a ∷ to_y ∷ []) (y_from_a ∷ [])) ∷ []) (codes "t") ≡ Err TwoUnresolved
+  pub two_unresolved : elaborated_net (inverter ∷ unresolved (around (to_a ∷ to_y ∷ []) (y_from_a ∷ [])) ∷ []) (codes "t") ≡ Err TwoUnresolved
   -- two drivers
-  pub two_drivers : elaborated (unresolved (entity (codes "t") [] [] (y_from_a ∷ y_from_a ∷ [])) ∷ []) (codes "t") ≡ Err TwoUnresolved
+  pub two_drivers : elaborated_net (unresolved (entity (codes "t") [] [] (y_from_a ∷ y_from_a ∷ [])) ∷ []) (codes "t") ≡ Err TwoUnresolved
   -- y has two sources, and s takes its value
-  pub read_of_shared : elaborated (inverter ∷ around (to_a ∷ to_y ∷ []) (y_from_a ∷ s_from_y ∷ []) ∷ []) (codes "t") ≡ Err ReadOfShared
+  pub read_of_shared : elaborated_net (inverter ∷ around (to_a ∷ to_y ∷ []) (y_from_a ∷ s_from_y ∷ []) ∷ []) (codes "t") ≡ Err ReadOfShared
   -- y has two sources and stands in a list, or is the actual of an in port
-  pub in_list : elaborated (inverter ∷ around (to_a ∷ to_y ∷ []) (y_from_a ∷ process (u.listed (port 1 e.whole ∷ [])) [] ∷ []) ∷ []) (codes "t")
+  pub in_list : elaborated_net (inverter ∷ around (to_a ∷ to_y ∷ []) (y_from_a ∷ process (u.listed (port 1 e.whole ∷ [])) [] ∷ []) ∷ []) (codes "t")
       ≡ Err ReadOfShared
-  pub by_in_port : elaborated (inverter ∷ around (to_y ∷ to_y ∷ []) (y_from_a ∷ []) ∷ []) (codes "t")
+  pub by_in_port : elaborated_net (inverter ∷ around (to_y ∷ to_y ∷ []) (y_from_a ∷ []) ∷ []) (codes "t")
       ≡ Err ReadOfShared
   -- y has one source, and is read
-  pub once : Of (elaborated (inverter ∷ around (to_a ∷ to_y ∷ []) (s_from_y ∷ []) ∷ []) (codes "t")) (λ x. x.flat.start ≡ 0 ∷ 0 ∷ 0 ∷ [])
+  pub once : Of (elaborated_net (inverter ∷ around (to_a ∷ to_y ∷ []) (s_from_y ∷ []) ∷ []) (codes "t")) (λ x. x.flat.start ≡ 0 ∷ 0 ∷ 0 ∷ [])
   -- an entity that has an instance of itself
-  pub too_deep : elaborated (entity (codes "e") [] [] (u.instance (record { label = codes "u"; unit = 0; generics = []; ports = [] }) ∷ []) ∷ []) (codes "e")
+  pub too_deep : elaborated_net (entity (codes "e") [] [] (u.instance (record { label = codes "u"; unit = 0; generics = []; ports = [] }) ∷ []) ∷ []) (codes "e")
       ≡ Err TooDeep
 
 -- ---- variables
@@ -155,10 +155,10 @@ with_variables = entity (codes "t") (input (codes "a") u.element ∷ output (cod
     }) ∷ [])
 
 pub record VariablesAreNumbered : Type 0 where
-  pub has : Of (elaborated (with_variables ∷ []) (codes "t")) (λ x. x.flat.processes ≡ record {
+  pub has : Of (elaborated_net (with_variables ∷ []) (codes "t")) (λ x. x.flat.processes ≡ record {
     drivers = record { net = 1; start = 0 } ∷ [];
     wakes = 0 ∷ [];
     variables = record { type_of = nine_valued; starts = 3 ∷ 2 ∷ [] } ∷ record { type_of = nine_valued; starts = 0 ∷ [] } ∷ [];
-    body = b.step (b.set (1 ∷ []) (b.elements (b.signal (0 ∷ []))))
-        (b.step (b.assign (0 ∷ []) (b.elements (b.variable (0 ∷ [])))) b.done);
+    body = bodies.step (bodies.set (1 ∷ []) (bodies.elements (bodies.signal (0 ∷ []))))
+        (bodies.step (bodies.assign (0 ∷ []) (bodies.elements (bodies.variable (0 ∷ [])))) bodies.done);
   } ∷ [])

@@ -3,7 +3,7 @@ use Rattle.std.specs.Prelude.{ℕ, true, List, [], ◌∷◌, Option, Some, None
 use Rattle.vhdl_tree.specs.declared.declaration.Mode.TheVariants.{In, Out}
 use Rattle.vhdl_tree.specs.declared.operator.Direction.TheVariants.{To, Downto}
 use Rattle.vhdl_names_rules.specs.units.Expressions as e
-use Rattle.vhdl_names_rules.specs.units.Expressions.{Static, Range, Part, Place, Vector, Value}
+use Rattle.vhdl_names_rules.specs.units.Expressions.{Static, Range, Part, SignalPart, Vector, Value}
 use Rattle.vhdl_names_rules.specs.units.Statements as s
 use Rattle.vhdl_names_rules.specs.units.Units as u
 use Rattle.vhdl_names_rules.specs.units.Units.{Form, Fixed, Entity, Concurrent, Concurrents, Units}
@@ -21,10 +21,10 @@ downto l r = record { left = number l; direction = Downto; right = number r }
 abbrev pub to : ℕ → ℕ → Range
 to l r = record { left = number l; direction = To; right = number r }
 
-abbrev pub port : ℕ → Part → Place
+abbrev pub port : ℕ → Part → SignalPart
 port k part = record { signal = e.port k; part = part }
 
-abbrev pub signal : ℕ → Part → Place
+abbrev pub signal : ℕ → Part → SignalPart
 signal k part = record { signal = e.Signal.signal k; part = part }
 
 abbrev pub at : Static → Part
@@ -32,10 +32,10 @@ at = e.Part.element
 
 -- ---- values and statements
 
-abbrev pub read : Place → Value
+abbrev pub read : SignalPart → Value
 read p = e.elements (e.of_signal p)
 
-abbrev pub assigned : Place → Value → s.Statement
+abbrev pub assigned : SignalPart → Value → s.Statement
 assigned p v = s.assign p (s.single v)
 
 abbrev pub sequence : List s.Statement → s.Statements
@@ -46,7 +46,7 @@ abbrev pub process : u.Sensitivity → List s.Statement → Concurrent
 process on body = u.process (record { label = None; variables = []; sensitivity = on; body = sequence body })
 
 -- target <= value;
-abbrev pub assignment : Place → Value → Concurrent
+abbrev pub assignment : SignalPart → Value → Concurrent
 assignment p v = process u.as_read (assigned p v ∷ [])
 
 abbrev pub together : List Concurrent → Concurrents

@@ -4,12 +4,12 @@ use Rattle.vhdl_values.specs.declared.scalar.Nine.TheVariants.{Zero, One}
 use Rattle.vhdl_tree.specs.declared.declaration.Mode.TheVariants.{In}
 use Rattle.vhdl_tree.specs.Tree as t
 use Rattle.vhdl_tree.specs.Tree.{Expr}
-use Rattle.vhdl_names_rules.specs.declared.kind.Kind.TheVariants.{Element, LogicVector, Unsigned}
+use Rattle.vhdl_names_rules.specs.declared.kind.ElementKind.TheVariants.{Element, LogicVector, Unsigned}
 use Rattle.vhdl_names_rules.specs.declared.kind.ObjectType.TheVariants.{Elements, Enumeration}
 use Rattle.vhdl_names_rules.specs.units.Expressions as u
 use Rattle.vhdl_names_rules.specs.units.Statements as s
 use Rattle.vhdl_names_rules.specs.units.Units as u'
-use Rattle.vhdl_names_rules.specs.Visibility as m
+use Rattle.vhdl_names_rules.specs.Visibility as visibility
 use Rattle.vhdl_names_rules.specs.Visibility.{declare, Sight, Declares}
 use Rattle.vhdl_names_rules.specs.Packages.{sight_of}
 use Rattle.vhdl_names_rules.specs.Subtypes.{fixed_value}
@@ -39,7 +39,7 @@ generics_of mark = record { constant_word = false; names = words (codes "w" ∷ 
 pub record DeclarationsDeclare : Type 0 where
   -- a, b : std_logic, which are inputs
   pub ports : port empty_sight (ports_of (codes "a" ∷ codes "b" ∷ []) (plain_type (codes "std_logic"))) ≡ Some (record {
-    declared = declare (codes "a") (m.port 0 In Element) ∷ declare (codes "b") (m.port 1 In Element) ∷ [];
+    declared = declare (codes "a") (visibility.port 0 In Element) ∷ declare (codes "b") (visibility.port 1 In Element) ∷ [];
     analysed = record { mode = In; object = object_of (codes "a") } ∷ record { mode = In; object = object_of (codes "b") } ∷ [];
   })
   -- a, a : std_logic

@@ -7,7 +7,7 @@ use Rattle.vhdl_values.specs.declared.kinds.Edge.TheVariants.{Rising}
 use Rattle.vhdl_tree.specs.declared.operator.Operator.TheVariants as o
 use Rattle.vhdl_tree.specs.Tree as t
 use Rattle.vhdl_tree.specs.Tree.{Expr}
-use Rattle.vhdl_names_rules.specs.declared.kind.Kind.TheVariants.{Element, LogicVector, Unsigned, OpenVector}
+use Rattle.vhdl_names_rules.specs.declared.kind.ElementKind.TheVariants.{Element, LogicVector, Unsigned, OpenVector}
 use Rattle.vhdl_names_rules.specs.declared.kind.ObjectType.TheVariants.{Elements}
 use Rattle.vhdl_names_rules.specs.declared.operator.Numeric.TheVariants as by
 use Rattle.vhdl_names_rules.specs.declared.operator.VectorOperator.TheVariants as op
@@ -16,7 +16,7 @@ use Rattle.vhdl_names_rules.specs.units.Statements as s
 use Rattle.vhdl_names_rules.specs.Visibility.{Sight, within_loop, within_generate}
 use Rattle.vhdl_names_rules.specs.Packages.{sight_of}
 use Rattle.vhdl_names_rules.specs.Operators.{integer, elements, truth}
-use Rattle.vhdl_names_rules.specs.Expressions.{typed, given}
+use Rattle.vhdl_names_rules.specs.Expressions.{typed, value_given}
 use Rattle.vhdl_examples.specs.rules.Words.{word, name, with_one, with_two, event, enclosed, number, character, string, binary, region, sight, logic_alone, a, v, n}
 
 abbrev pub named_a : Expr
@@ -52,9 +52,9 @@ pub record OperatorsHaveTypes : Type 0 where
   -- v + 1
   pub no_number : typed sight (binary o.Add named_v (number (codes "1"))) ≡ None
   -- "01" + "1" is an unsigned, and needs numeric_std in sight
-  pub open_sum : given sight (Elements Unsigned) (t.single sum)
+  pub open_sum : value_given sight (Elements Unsigned) (t.single sum)
       ≡ Some (s.single (u.elements (u.Vector.binary (op.Arithmetic by.Add) literal_01 (u.Vector.literal (One ∷ [])))))
-  pub vector_sum : given sight (Elements LogicVector) (t.single sum) ≡ None
+  pub vector_sum : value_given sight (Elements LogicVector) (t.single sum) ≡ None
   pub unseen_sum : typed (sight_of logic_alone region) sum ≡ None
   -- v = n, v < v, and 3 < n
   pub unlike_kinds : typed sight (binary o.Equal named_v named_n) ≡ None

@@ -59,7 +59,7 @@ e = codes "e"
 abbrev pub port_object : List ℕ → u'.Object
 port_object n = record { name = n; form = u'.element; is_resolved = true; default = None }
 
-abbrev pub whole_port : ℕ → u.Place
+abbrev pub whole_port : ℕ → u.SignalPart
 whole_port k = record { signal = u.port k; part = u.whole }
 
 -- ---- units

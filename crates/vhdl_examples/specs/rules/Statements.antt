@@ -14,7 +14,7 @@ use Rattle.vhdl_names_rules.specs.Concurrent.{process, assignment, concurrent}
 use Rattle.vhdl_examples.specs.rules.Words.{word, words, name, number, character, binary, target, plain_type, sight, a}
 
 -- y, as it is assigned
-abbrev pub at_y : u.Place
+abbrev pub at_y : u.SignalPart
 at_y = record { signal = u.port 3; part = u.whole }
 
 abbrev pub named_a : Expr
@@ -59,7 +59,7 @@ through_variable =
     ∷ sequential (t.assigned (target (codes "y")) (t.single named_a)) ∷ []
 
 abbrev pub null : t.Statement
-null = t.Statement.nothing 0
+null = t.Statement.null_of 0
 
 pub record ProcessesAreRegions : Type 0 where
   -- process (a) variable a : std_logic; begin a := '1'; y <= a; end process;  the list means the port, the statements the variable
@@ -110,7 +110,7 @@ empty_if test = t.generated (word (codes "g")) 0 (t.if_holds test) false t.no_co
 -- for i in 0 to 3 loop y <= v(i); end loop;
 abbrev pub loop_over_v : t.Statement
 loop_over_v =
-    t.Statement.loop 0 (word (codes "i")) to_three
+    t.Statement.for_of 0 (word (codes "i")) to_three
     (t.statement None (t.assigned (target (codes "y")) (y_from_v (word (codes "i")))) t.no_statements) None
 
 -- an assignment of an element of v to y, alone
@@ -122,7 +122,7 @@ abbrev pub reading : s.Statements → u'.Concurrent
 reading body = u'.process (record { label = None; variables = []; sensitivity = u'.as_read; body = body })
 
 pub record TurnsHaveParameters : Type 0 where
-  pub for_loop : statement sight None loop_over_v ≡ Some (s.loop zero_to_three (y_is_element (u.loop_parameter 0)))
+  pub for_loop : statement sight None loop_over_v ≡ Some (s.for_of zero_to_three (y_is_element (u.loop_parameter 0)))
   -- g : for i in 0 to 3 generate y <= v(i); end generate;
   pub generate_for : concurrent [] sight (generate (t.for_each (word (codes "i")) to_three))
       ≡ Some (u'.generate_for (codes "g") zero_to_three (u'.concurrent (reading (y_is_element (u.generate_parameter 0))) u'.no_concurrents))
@@ -149,6 +149,6 @@ y_is_a = s.step (s.assign at_y (s.single (u.elements a))) s.done
 
 pub record ConditionsBecomeIfs : Type 0 where
   -- y <= a when a; leaves the driver alone where a doesn't hold
-  pub without_else : assignment sight (y_when named_a) ≡ Some (reading (s.step (s.choose (s.branch (u.holds a) y_is_a s.no_else)) s.done))
+  pub without_else : assignment sight (y_when named_a) ≡ Some (reading (s.step (s.if_of (s.branch (u.holds a) y_is_a s.no_else)) s.done))
   -- a vector is no condition
   pub vector : assignment sight (y_when (name (codes "v"))) ≡ None

@@ -6,11 +6,11 @@ use Rattle.vhdl_tree.specs.declared.operator.Direction.TheVariants.{Downto}
 use Rattle.vhdl_tree.specs.declared.declaration.Mode.TheVariants.{In, Out}
 use Rattle.vhdl_tree.specs.Tree as t
 use Rattle.vhdl_tree.specs.Tree.{Ident, Expr}
-use Rattle.vhdl_names_rules.specs.declared.kind.Kind.TheVariants.{Element, LogicVector, Unsigned}
+use Rattle.vhdl_names_rules.specs.declared.kind.ElementKind.TheVariants.{Element, LogicVector, Unsigned}
 use Rattle.vhdl_names_rules.specs.declared.kind.ObjectType.TheVariants.{Enumeration}
 use Rattle.vhdl_names_rules.specs.units.Expressions as u
 use Rattle.vhdl_names_rules.specs.units.Expressions.{Part, Vector}
-use Rattle.vhdl_names_rules.specs.Visibility as m
+use Rattle.vhdl_names_rules.specs.Visibility as visibility
 use Rattle.vhdl_names_rules.specs.Visibility.{declare, Declared, Sight}
 use Rattle.vhdl_names_rules.specs.Packages.{Context, sight_of}
 
@@ -83,11 +83,11 @@ logic_alone = record { has_ieee = true; has_logic = true; has_numbers = false }
 -- in ports a, v and n, out port y; signal q of an enumeration (red, green); a constant one declared by '1'; an integer k
 abbrev pub region : List Declared
 region =
-    declare (codes "a") (m.port 0 In Element) ∷ declare (codes "v") (m.port 1 In LogicVector)
-    ∷ declare (codes "n") (m.port 2 In Unsigned) ∷ declare (codes "y") (m.port 3 Out Element)
-    ∷ declare (codes "colour") (m.enumeration_type 0 2) ∷ declare (codes "red") (m.literal 0 2 0)
-    ∷ declare (codes "green") (m.literal 0 2 1) ∷ declare (codes "q") (m.signal 0 (Enumeration 0 2))
-    ∷ declare (codes "one") (m.constant 0 Element (Some (One ∷ []))) ∷ declare (codes "k") (m.integer_constant 0) ∷ []
+    declare (codes "a") (visibility.port 0 In Element) ∷ declare (codes "v") (visibility.port 1 In LogicVector)
+    ∷ declare (codes "n") (visibility.port 2 In Unsigned) ∷ declare (codes "y") (visibility.port 3 Out Element)
+    ∷ declare (codes "colour") (visibility.enumeration_type 0 2) ∷ declare (codes "red") (visibility.literal 0 2 0)
+    ∷ declare (codes "green") (visibility.literal 0 2 1) ∷ declare (codes "q") (visibility.signal 0 (Enumeration 0 2))
+    ∷ declare (codes "one") (visibility.constant 0 Element (Some (One ∷ []))) ∷ declare (codes "k") (visibility.integer_constant 0) ∷ []
 
 abbrev pub sight : Sight
 sight = sight_of both_packages region

@@ -6,8 +6,8 @@ use Rattle.vhdl_names_rules.specs.declared.test.TestLink.{TestLink}
 use Rattle.vhdl_names_rules.specs.declared.test.TestStart.{TestStart}
 use Rattle.vhdl_names_rules.specs.views.Tests.{test_view}
 use Rattle.vhdl_names_rules.specs.units.Expressions as u
-use Rattle.vhdl_names_rules.specs.units.Expressions.{Static, Place, Vector, Value}
-use Rattle.rtl_model.specs.bodies.Body as b
+use Rattle.vhdl_names_rules.specs.units.Expressions.{Static, SignalPart, Vector, Value}
+use Rattle.rtl_model.specs.bodies.Body as bodies
 use Rattle.vhdl_expand_rules.specs.Elab.{Elab, ◌>>=◌}
 use Rattle.vhdl_expand_rules.specs.Site.{Site, place_elements}
 use Rattle.vhdl_expand_rules.specs.Integers.{natural}
@@ -19,11 +19,11 @@ pub record Character : Type 0 where
   pub literal : Nine
 
 -- the name, or the character literal, that a vector or a value is
-abbrev pub name_in : Vector → Option Place
+abbrev pub name_in : Vector → Option SignalPart
 name_in (u.of_signal p) = Some p
 name_in _ = None
 
-abbrev pub name_of : Value → Option Place
+abbrev pub name_of : Value → Option SignalPart
 name_of (u.Value.elements x) = name_in x
 name_of _ = None
 
@@ -37,40 +37,40 @@ character_of (u.Value.elements x) = character_in x
 character_of _ = None
 
 module _ (at : Site) where
-  abbrev pub level : (plain : Bool) → Place → Nine → Elab b.Test
+  abbrev pub level : (plain : Bool) → SignalPart → Nine → Elab bodies.Test
   level plain p x = do
     es ← place_elements at p
     Ok (levelled plain es x)
 
-  abbrev pub equal : Value → Value → Elab b.Test
+  abbrev pub equal : Value → Value → Elab bodies.Test
   equal v w = do
     d ← value at v
     e ← value at w
-    Ok (b.equal d e)
+    Ok (bodies.equal d e)
 
-  abbrev pub unlike : Value → Value → Elab b.Test
+  abbrev pub unlike : Value → Value → Elab bodies.Test
   unlike v w = do
     d ← value at v
     e ← value at w
-    Ok (b.unequal d e)
+    Ok (bodies.unequal d e)
 
-  abbrev pub compared : Cmp → Vector → Vector → Elab b.Test
+  abbrev pub compared : Cmp → Vector → Vector → Elab bodies.Test
   compared op x y = do
     d ← vector at x
     e ← vector at y
-    Ok (b.compared op d e)
+    Ok (bodies.compared op d e)
 
-  abbrev pub compared_to : Cmp → Vector → Static → Elab b.Test
+  abbrev pub compared_to : Cmp → Vector → Static → Elab bodies.Test
   compared_to op x s = do
     e ← vector at x
     n ← natural at.integers s
-    Ok (b.compared_to op e n)
+    Ok (bodies.compared_to op e n)
 
   -- a name and a character literal, in either order, or any other values
-  abbrev pub alike : Value → Value → Elab b.Test
+  abbrev pub alike : Value → Value → Elab bodies.Test
   alike v w = by (name_of v) (character_of w) (character_of v) (name_of w)
     where
-      by : Option Place → Option Character → Option Character → Option Place → Elab b.Test
+      by : Option SignalPart → Option Character → Option Character → Option SignalPart → Elab bodies.Test
       by (Some p) (Some c) _ _ = level c.is_plain p c.literal
       by (Some p) None _ _ = equal v w
       by None _ (Some c) (Some p) = level false p c.literal
@@ -78,18 +78,18 @@ module _ (at : Site) where
       by None _ None _ = equal v w
 
   -- a logical operator with its right operand, after a condition
-  abbrev pub linked : b.Test → TestLink → Elab b.Test
+  abbrev pub linked : bodies.Test → TestLink → Elab bodies.Test
   linked c l = do
     d ← test at (test_view l.operand)
-    Ok (b.combined l.operator c d)
+    Ok (bodies.combined l.operator c d)
 
-  abbrev pub all_linked : b.Test → List TestLink → Elab b.Test
+  abbrev pub all_linked : bodies.Test → List TestLink → Elab bodies.Test
   all_linked c [] = Ok c
   all_linked c (l ∷ ls) = do
     d ← linked c l
     all_linked d ls
 
-  abbrev pub started : TestStart → Elab b.Test
+  abbrev pub started : TestStart → Elab bodies.Test
   started s = do
     c ← test at (test_view s.first)
     linked c s.link

@@ -8,8 +8,8 @@ use Rattle.vhdl_names_rules.specs.declared.vector.VectorLink.TheVariants as l
 use Rattle.vhdl_names_rules.specs.declared.vector.VectorStart.{VectorStart}
 use Rattle.vhdl_names_rules.specs.views.Integers.{static_view}
 use Rattle.vhdl_names_rules.specs.views.Vectors.{vector_view}
-use Rattle.vhdl_names_rules.specs.units.Expressions.{Static, Part, Place, Vector}
-use Rattle.rtl_model.specs.bodies.Body as b
+use Rattle.vhdl_names_rules.specs.units.Expressions.{Static, Part, SignalPart, Vector}
+use Rattle.rtl_model.specs.bodies.Body as bodies
 use Rattle.rtl_model.specs.bodies.Fits.{width}
 use Rattle.vhdl_expand_rules.specs.Elab.{Elab, ◌>>=◌, ◌>>◌}
 use Rattle.vhdl_expand_rules.specs.Integers.{natural}
@@ -17,56 +17,56 @@ use Rattle.vhdl_expand_rules.specs.Kinds.{as_size, size_of}
 use Rattle.vhdl_expand_rules.specs.Site.{Site, place_elements, variable_elements}
 use Rattle.vhdl_expand_rules.specs.Expressions.{operated, operator, numeric, vector}
 
-abbrev pub literal : List Nine → Elab b.Expr
+abbrev pub literal : List Nine → Elab bodies.Expr
 literal xs = do
   as_size (length xs)
-  Ok (b.constant xs)
+  Ok (bodies.constant xs)
 
 module _ (at : Site) where
-  abbrev pub signal : Place → Elab b.Expr
+  abbrev pub signal : SignalPart → Elab bodies.Expr
   signal p = do
     es ← place_elements at p
-    Ok (b.signal es)
+    Ok (bodies.signal es)
 
-  abbrev pub variable : ℕ → Part → Elab b.Expr
+  abbrev pub variable : ℕ → Part → Elab bodies.Expr
   variable k part = do
     es ← variable_elements at k part
-    Ok (b.variable es)
+    Ok (bodies.variable es)
 
-  abbrev pub encoded : Static → Static → Elab b.Expr
+  abbrev pub encoded : Static → Static → Elab bodies.Expr
   encoded s t = do
     n ← natural at.integers s
     len ← size_of at.integers t
-    Ok (b.constant (digits_of len n))
+    Ok (bodies.constant (digits_of len n))
 
-  abbrev pub resized : Vector → Static → Elab b.Expr
+  abbrev pub resized : Vector → Static → Elab bodies.Expr
   resized x s = do
     e ← vector at x
     len ← size_of at.integers s
-    Ok (b.resized len e)
+    Ok (bodies.resized len e)
 
-  abbrev pub integer_with : Numeric → Static → Vector → Elab b.Expr
+  abbrev pub integer_with : Numeric → Static → Vector → Elab bodies.Expr
   integer_with op s x = do
     n ← natural at.integers s
     e ← vector at x
-    operated (numeric op) (b.constant (digits_of (width e) n)) e
+    operated (numeric op) (bodies.constant (digits_of (width e) n)) e
 
   -- an operator with its right operand, after an expression
-  abbrev pub linked : b.Expr → VectorLink → Elab b.Expr
+  abbrev pub linked : bodies.Expr → VectorLink → Elab bodies.Expr
   linked d (l.Vector op pos x) = do
     e ← vector at (vector_view x)
     operated (operator op) d e
   linked d (l.Integer op pos s) = do
     n ← natural at.integers (static_view s)
-    operated (numeric op) d (b.constant (digits_of (width d) n))
+    operated (numeric op) d (bodies.constant (digits_of (width d) n))
 
-  abbrev pub all_linked : b.Expr → List VectorLink → Elab b.Expr
+  abbrev pub all_linked : bodies.Expr → List VectorLink → Elab bodies.Expr
   all_linked d [] = Ok d
   all_linked d (x ∷ xs) = do
     e ← linked d x
     all_linked e xs
 
-  abbrev pub started : VectorStart → Elab b.Expr
+  abbrev pub started : VectorStart → Elab bodies.Expr
   started s = do
     d ← vector at (vector_view s.first)
     linked d s.link

@@ -8,7 +8,7 @@ use Rattle.std.proofs.lemmas.List.Elements.{All-cons, All-nil, All-append, All-h
 use Rattle.vhdl_tree.specs.declared.declaration.Mode.{Mode}
 use Rattle.vhdl_tree.specs.declared.declaration.Mode.TheVariants.{In, Out}
 use Rattle.rtl_model.specs.bodies.Types.{ElementType, nine_valued, limit_of, HasType}
-use Rattle.vhdl_names_rules.specs.units.Expressions.{Static, Place}
+use Rattle.vhdl_names_rules.specs.units.Expressions.{Static, SignalPart}
 use Rattle.vhdl_names_rules.specs.units.Units as u
 use Rattle.vhdl_names_rules.specs.units.Units.{Form, Port, Declaration, Entity}
 use Rattle.vhdl_names_rules.specs.sound.Expressions.{Inside, shape_of, place_shape, fits_shape, port_form}
@@ -17,10 +17,10 @@ use Rattle.vhdl_names_rules.specs.sound.Units.{form_fits, fixed_fits, default_fi
 use Rattle.vhdl_expand_rules.specs.declared.fault.ElabProblem.TheVariants.{Length, Unassociated}
 use Rattle.vhdl_expand_rules.specs.Elab.{unless}
 use Rattle.vhdl_expand_rules.specs.Integers.{Integers, integer_of}
-use Rattle.vhdl_expand_rules.specs.Kinds.{Kind, size, element_type, kind_of}
+use Rattle.vhdl_expand_rules.specs.Kinds.{ObjectKind, size, element_type, kind_of}
 use Rattle.vhdl_expand_rules.specs.Site.{Site, no_integers, no_site, place_elements}
 use Rattle.vhdl_expand_rules.specs.Tree.{Role, internal, Object}
-use Rattle.vhdl_expand_rules.specs.Declarations.{generics, fixed, starts, object, role_of, Declared, with_port, with_signal, ports, interface, declaration, declarations, is_input, association, associations}
+use Rattle.vhdl_expand_rules.specs.Declarations.{generics, fixed, starts, object, role_of, InstanceObjects, with_port, with_signal, ports, interface, declaration, declarations, is_input, association, associations}
 use Rattle.vhdl_expand_rules.specs.laws.Sites.{IsOf, IsConstant, IsSite, scope_at}
 use Rattle.vhdl_expand_rules.specs.laws.Trees.{object_kinds, object_types, MayBeDriven, is_port, ObjectIsSound}
 use Rattle.vhdl_expand_rules.proofs.Steps.{ok, bound}
@@ -72,7 +72,7 @@ pub record PortObject (p : Port) (o : Object) : Type 0 where
   pub plain : Plain (role_of p.mode) p.object o
   pub nine : element_type o.kind ≡ nine_valued
 
-pub record Interface (i : Inside) (done : List Port) (d : Declared) : Type 0 where
+pub record Interface (i : Inside) (done : List Port) (d : InstanceObjects) : Type 0 where
   pub site : IsSite (record i { ports = done }) d.site
   pub kinds : object_kinds d.objects ≡ d.site.ports
   pub no_signals : d.site.signals ≡ []
@@ -86,7 +86,7 @@ port-object i at p o h e =
     let w = object-plain i at (role_of p.mode) p.object o h.0 e in
     record { plain = w; nine = elements_kind p.object.form o.kind w.kind h.1 }
 
-port-added : (i : Inside) (done : List Port) (d : Declared) (p : Port) (o : Object) → Interface i done d → PortObject p o → Interface i (done ++ p ∷ []) (with_port d o)
+port-added : (i : Inside) (done : List Port) (d : InstanceObjects) (p : Port) (o : Object) → Interface i done d → PortObject p o → Interface i (done ++ p ∷ []) (with_port d o)
 port-added i done d p o h w = record {
   site = record {
     constants = h.site.constants;
@@ -95,12 +95,12 @@ port-added i done d p o h w = record {
     signals = h.site.signals;
     variables = h.site.variables;
   };
-  kinds = map-append (λ (x : Object). x.kind) d.objects (o ∷ []) ∙ ap (λ (ks : List Kind). ks ++ o.kind ∷ []) h.kinds;
+  kinds = map-append (λ (x : Object). x.kind) d.objects (o ∷ []) ∙ ap (λ (ks : List ObjectKind). ks ++ o.kind ∷ []) h.kinds;
   no_signals = h.no_signals;
   objects = zip_push PortObject done d.objects p o h.objects w;
 }
 
-ports-stand : (ps : List Port) (i : Inside) (done : List Port) (d e : Declared) → Interface i done d → All (PortFits i) ps → ports d ps ≡ Ok e → Interface i (done ++ ps) e
+ports-stand : (ps : List Port) (i : Inside) (done : List Port) (d e : InstanceObjects) → Interface i done d → All (PortFits i) ps → ports d ps ≡ Ok e → Interface i (done ++ ps) e
 unfolding ports
 ports-stand [] i done d e h fit k = subst (λ (xs : List Port). Interface i xs e) (sym (append-nil done)) (subst (Interface i done) (ok d e k) h)
 ports-stand (p ∷ ps) i done d e h fit k =
@@ -116,7 +116,7 @@ port-fits i (p ∷ ps) h e =
     let b = and_parts (port_fits p) (list_all port_fits ps) e in
     All-cons (PortFits i) p ps (a.0, b.0) (port-fits i ps a.1 b.1)
 
-pub interface-stands : (i : Inside) (above : Integers) (actuals : List (Option Static)) (unit : Entity) (d : Declared) → i.constants ≡ [] → i.signals ≡ [] → i.variables ≡ []
+pub interface-stands : (i : Inside) (above : Integers) (actuals : List (Option Static)) (unit : Entity) (d : InstanceObjects) → i.constants ≡ [] → i.signals ≡ [] → i.variables ≡ []
     → objects_fit i (map (λ (p : Port). p.object) unit.ports) ≡ true → list_all port_fits unit.ports ≡ true → interface above actuals unit ≡ Ok d → Interface i unit.ports d
 unfolding interface
 interface-stands i above actuals unit d no_constants no_signals no_variables h e k =
@@ -146,11 +146,11 @@ port-sound above p o h = record { role_is = h.plain.role_is; sound = plain-sound
 same-list : (xs ys : List ℕ) → Some xs ≡ Some ys → xs ≡ ys
 same-list xs ys h = cc
 
-joined-driven : (i : Inside) (m : Mode) (p : Place) → may_join i m p.signal ≡ true → is_input (role_of m) ≡ false → is_driven i p.signal ≡ true
+joined-driven : (i : Inside) (m : Mode) (p : SignalPart) → may_join i m p.signal ≡ true → is_input (role_of m) ≡ false → is_driven i p.signal ≡ true
 joined-driven i Out p h e = h
 joined-driven i In p h e = absurd cc
 
-association-sound : (i : Inside) (at : Site) (ps ss : List Object) (p : Port) (actual : Option Place) (o x : Object) → IsDeclared i at ps ss → PortObject p o → actual_fits i p actual ≡ true
+association-sound : (i : Inside) (at : Site) (ps ss : List Object) (p : Port) (actual : Option SignalPart) (o x : Object) → IsDeclared i at ps ss → PortObject p o → actual_fits i p actual ≡ true
     → association at p actual o ≡ Ok x → (x.kind ≡ o.kind) × Joined (ps ++ ss) p x
 unfolding association
 association-sound i at ps ss p None o x h w fit e =
@@ -191,7 +191,7 @@ pub record AllJoined (above : List Object) (fs : List Port) (os xs : List Object
   pub kinds : object_kinds xs ≡ object_kinds os
   pub joined : AllZip (Joined above) fs xs
 
-pub associations-sound : (i : Inside) (at : Site) (ps ss : List Object) (fs : List Port) (actuals : List (Option Place)) (os xs : List Object) → IsDeclared i at ps ss → AllZip PortObject fs os
+pub associations-sound : (i : Inside) (at : Site) (ps ss : List Object) (fs : List Port) (actuals : List (Option SignalPart)) (os xs : List Object) → IsDeclared i at ps ss → AllZip PortObject fs os
     → actuals_fit i fs actuals ≡ true → associations at fs actuals os ≡ Ok xs → AllJoined (ps ++ ss) fs os xs
 unfolding associations
 associations-sound i at ps ss [] [] [] xs h w fit e = subst (AllJoined (ps ++ ss) [] []) (ok [] xs e) (record { kinds = refl; joined = tt })
@@ -206,14 +206,14 @@ associations-sound i at ps ss (f ∷ fs) (a ∷ as') (o ∷ os) xs h w fit e =
     let first = association-sound i at ps ss f a o y.x h w.0 both.0 y.gave in
     let rest = associations-sound i at ps ss fs as' os ys.x h w.1 both.1 ys.gave in
     subst (AllJoined (ps ++ ss) (f ∷ fs) (o ∷ os)) (ok (y.x ∷ ys.x) xs ys.then_gave) (record {
-      kinds = ap (λ (k : Kind). k ∷ object_kinds ys.x) first.0 ∙ ap (λ (ks : List Kind). o.kind ∷ ks) rest.kinds;
+      kinds = ap (λ (k : ObjectKind). k ∷ object_kinds ys.x) first.0 ∙ ap (λ (ks : List ObjectKind). o.kind ∷ ks) rest.kinds;
       joined = (first.1, rest.joined);
     })
 
 -- ---- declarations of an architecture
 
 -- the objects are the ports and these signals, which are sound wherever the instance stands
-pub record Stands (i : Inside) (d : Declared) (ps : List Object) : Type 0 where
+pub record Stands (i : Inside) (d : InstanceObjects) (ps : List Object) : Type 0 where
   pub signals : List Object
   pub objects : d.objects ≡ ps ++ signals
   pub declared : IsDeclared i d.site ps signals
@@ -222,12 +222,12 @@ pub record Stands (i : Inside) (d : Declared) (ps : List Object) : Type 0 where
 abbrev pub Anywhere : Object → Type 0
 Anywhere o = (above : List Object) → ObjectIsSound above o
 
-declaration-stands : (x : Declaration) (i : Inside) (d e : Declared) (ps : List Object) → declaration_fits i x ≡ true → Stands i d ps → declaration d x ≡ Ok e → Stands (with_declaration i x) e ps
+declaration-stands : (x : Declaration) (i : Inside) (d e : InstanceObjects) (ps : List Object) → declaration_fits i x ≡ true → Stands i d ps → declaration d x ≡ Ok e → Stands (with_declaration i x) e ps
 unfolding declaration
 declaration-stands (u.integer type s) i d e ps fit h k =
     let j = bound (integer_of type d.site.integers s) _ e k in
     let w = h.declared in
-    subst (λ (y : Declared). Stands (with_declaration i (u.integer type s)) y ps) (ok _ e j.then_gave) (record {
+    subst (λ (y : InstanceObjects). Stands (with_declaration i (u.integer type s)) y ps) (ok _ e j.then_gave) (record {
       signals = h.signals;
       objects = h.objects;
       declared = record {
@@ -245,7 +245,7 @@ declaration-stands (u.Declaration.constant form f) i d e ps fit h k =
     let both = and_parts (form_fits i form) (fixed_fits i (shape_of form) f) fit in
     let of = kind_is_of i d.site.integers form c.x both.0 c.gave in
     let w = h.declared in
-    subst (λ (y : Declared). Stands (with_declaration i (u.Declaration.constant form f)) y ps) (ok _ e vs.then_gave) (record {
+    subst (λ (y : InstanceObjects). Stands (with_declaration i (u.Declaration.constant form f)) y ps) (ok _ e vs.then_gave) (record {
       signals = h.signals;
       objects = h.objects;
       declared = record {
@@ -266,7 +266,7 @@ declaration-stands (u.Declaration.signal o) i d e ps fit h k =
     let x = bound (object d.site internal o) _ e k in
     let plain = object-plain i d.site internal o x.x fit x.gave in
     let w = h.declared in
-    subst (λ (y : Declared). Stands (with_declaration i (u.Declaration.signal o)) y ps) (ok (with_signal d x.x) e x.then_gave) (record {
+    subst (λ (y : InstanceObjects). Stands (with_declaration i (u.Declaration.signal o)) y ps) (ok (with_signal d x.x) e x.then_gave) (record {
       signals = h.signals ++ x.x ∷ [];
       objects = ap (λ (os : List Object). os ++ x.x ∷ []) h.objects ∙ append_assoc ps h.signals (x.x ∷ []);
       declared = record {
@@ -277,7 +277,7 @@ declaration-stands (u.Declaration.signal o) i d e ps fit h k =
           variables = w.site.variables;
         };
         ports = w.ports;
-        signals = map-append (λ (y : Object). y.kind) h.signals (x.x ∷ []) ∙ ap (λ (ks : List Kind). ks ++ x.x.kind ∷ []) w.signals;
+        signals = map-append (λ (y : Object). y.kind) h.signals (x.x ∷ []) ∙ ap (λ (ks : List ObjectKind). ks ++ x.x.kind ∷ []) w.signals;
         roles = w.roles;
         internals = All-append (λ (y : Object). y.role ≡ internal) h.signals (x.x ∷ []) w.internals
             (All-cons (λ (y : Object). y.role ≡ internal) x.x [] plain.role_is (All-nil (λ (y : Object). y.role ≡ internal)));
@@ -286,10 +286,10 @@ declaration-stands (u.Declaration.signal o) i d e ps fit h k =
           (All-cons Anywhere x.x [] (λ above. plain-sound above internal o x.x plain (λ r. absurd cc)) (All-nil Anywhere));
     })
 
-pub declarations-stand : (xs : List Declaration) (i : Inside) (d e : Declared) (ps : List Object) → declarations_fit i xs ≡ true → Stands i d ps → declarations d xs ≡ Ok e
+pub declarations-stand : (xs : List Declaration) (i : Inside) (d e : InstanceObjects) (ps : List Object) → declarations_fit i xs ≡ true → Stands i d ps → declarations d xs ≡ Ok e
     → Stands (with_declarations i xs) e ps
 unfolding declarations
-declarations-stand [] i d e ps fit h k = subst (λ (y : Declared). Stands i y ps) (ok d e k) h
+declarations-stand [] i d e ps fit h k = subst (λ (y : InstanceObjects). Stands i y ps) (ok d e k) h
 declarations-stand (x ∷ xs) i d e ps fit h k =
     let both = and_parts (declaration_fits i x) (declarations_fit (with_declaration i x) xs) fit in
     let y = bound (declaration d x) _ e k in

@@ -16,7 +16,7 @@ use Rattle.vhdl_names_rules.specs.sound.Statements.{is_out, is_driven}
 use Rattle.vhdl_expand_rules.specs.declared.fault.ElabProblem.TheVariants.{Index}
 use Rattle.vhdl_expand_rules.specs.Elab.{found}
 use Rattle.vhdl_expand_rules.specs.Integers.{Integers}
-use Rattle.vhdl_expand_rules.specs.Kinds.{Kind, size, element_type, places}
+use Rattle.vhdl_expand_rules.specs.Kinds.{ObjectKind, size, element_type, places}
 use Rattle.vhdl_expand_rules.specs.Site.{Site, elements_count, part_elements, signal_elements}
 use Rattle.vhdl_expand_rules.specs.Tree.{Role, output, internal, Object}
 use Rattle.vhdl_expand_rules.specs.Declarations.{role_of}
@@ -65,7 +65,7 @@ roles-append [] ss = refl
 roles-append (p ∷ ps) ss =
     ap (λ (rs : List Role). replicate (size p.kind) p.role ++ rs) (roles-append ps ss) ∙ sym (append_assoc (replicate (size p.kind) p.role) (object_roles ps) (object_roles ss))
 
-types-of-append : (ks js : List Kind) → kinds_types (ks ++ js) ≡ kinds_types ks ++ kinds_types js
+types-of-append : (ks js : List ObjectKind) → kinds_types (ks ++ js) ≡ kinds_types ks ++ kinds_types js
 types-of-append [] js = refl
 types-of-append (k ∷ ks) js =
     ap (λ (ts : List ElementType). replicate (size k) (element_type k) ++ ts) (types-of-append ks js) ∙ sym (append_assoc (replicate (size k) (element_type k)) (kinds_types ks) (kinds_types js))
@@ -73,10 +73,10 @@ types-of-append (k ∷ ks) js =
 -- the types of the elements of these objects are those that the site has
 pub site-types : (i : Inside) (at : Site) (ps ss : List Object) → IsDeclared i at ps ss → kinds_types at.ports ++ kinds_types at.signals ≡ object_types (ps ++ ss)
 site-types i at ps ss h =
-    ap (λ (ks : List Kind). kinds_types ks ++ kinds_types at.signals) (sym h.ports) ∙ ap (λ (ks : List Kind). kinds_types (object_kinds ps) ++ kinds_types ks) (sym h.signals)
+    ap (λ (ks : List ObjectKind). kinds_types ks ++ kinds_types at.signals) (sym h.ports) ∙ ap (λ (ks : List ObjectKind). kinds_types (object_kinds ps) ++ kinds_types ks) (sym h.signals)
     ∙ sym (types-of-append (object_kinds ps) (object_kinds ss)) ∙ ap kinds_types (sym (map-append (λ (o : Object). o.kind) ps ss))
 
-count-append : (ks js : List Kind) → elements_count (ks ++ js) ≡ elements_count ks + elements_count js
+count-append : (ks js : List ObjectKind) → elements_count (ks ++ js) ≡ elements_count ks + elements_count js
 count-append [] js = let e : (n : ℕ) → n ≡ 0 + n = λ n. omega arith in e (elements_count js)
 count-append (k ∷ ks) js =
     count-cons k (ks ++ js) ∙ ap (λ n. size k + n) (count-append ks js) ∙ sym (plus-assoc (size k) (elements_count ks) (elements_count js))
@@ -84,13 +84,13 @@ count-append (k ∷ ks) js =
 
 pub site-count : (i : Inside) (at : Site) (ps ss : List Object) → IsDeclared i at ps ss → elements_count at.ports + elements_count at.signals ≡ elements_count (object_kinds (ps ++ ss))
 site-count i at ps ss h =
-    ap (λ (ks : List Kind). elements_count ks + elements_count at.signals) (sym h.ports) ∙ ap (λ (ks : List Kind). elements_count (object_kinds ps) + elements_count ks) (sym h.signals)
+    ap (λ (ks : List ObjectKind). elements_count ks + elements_count at.signals) (sym h.ports) ∙ ap (λ (ks : List ObjectKind). elements_count (object_kinds ps) + elements_count ks) (sym h.signals)
     ∙ sym (count-append (object_kinds ps) (object_kinds ss)) ∙ ap elements_count (sym (map-append (λ (o : Object). o.kind) ps ss))
 
 -- ---- elements of a part
 
-part-all : (P : ℕ → Type 0) (at : Integers) (from : ℕ) (kinds : List Kind) (n : ℕ) (part : Part) (es : List ℕ) → part_elements at from kinds n part ≡ Ok es
-    → ((kind : Kind) (p : ℕ) → slice_get kinds n ≡ Some kind → p < size kind → P (from + elements_count (take n kinds) + p)) → All P es
+part-all : (P : ℕ → Type 0) (at : Integers) (from : ℕ) (kinds : List ObjectKind) (n : ℕ) (part : Part) (es : List ℕ) → part_elements at from kinds n part ≡ Ok es
+    → ((kind : ObjectKind) (p : ℕ) → slice_get kinds n ≡ Some kind → p < size kind → P (from + elements_count (take n kinds) + p)) → All P es
 part-all P at from kinds n part es h go =
     let kind = bound (found Index (slice_get kinds n)) _ es h in
     let ps = bound (places at kind.x part) _ es kind.then_gave in
@@ -99,12 +99,12 @@ part-all P at from kinds n part es h go =
     (All-map P f ps.x (All-weaker (λ p. p < size kind.x) (λ p. P (f p)) (λ p l. go kind.x p (was_found Index (slice_get kinds n) kind.x kind.gave) l) ps.x (places_below at kind.x part ps.x ps.gave)))
 
 -- the object of this number, where there is a kind
-record AnObject (os : List Object) (n : ℕ) (k : Kind) : Type 0 where
+record AnObject (os : List Object) (n : ℕ) (k : ObjectKind) : Type 0 where
   object : Object
   is : slice_get os n ≡ Some object
   kind_is : object.kind ≡ k
 
-an-object : (os : List Object) (n : ℕ) (k : Kind) → slice_get (object_kinds os) n ≡ Some k → AnObject os n k
+an-object : (os : List Object) (n : ℕ) (k : ObjectKind) → slice_get (object_kinds os) n ≡ Some k → AnObject os n k
 an-object [] n k h = absurd cc
 an-object (o ∷ os) zero k h = record { object = o; is = refl; kind_is = same_Some o.kind k h }
 an-object (o ∷ os) (suc n) k h = let a = an-object os n k h in record { object = a.object; is = a.is; kind_is = a.kind_is }
@@ -138,7 +138,7 @@ pub driven_elements : (i : Inside) (at : Site) (ps ss : List Object) (x : Signal
 unfolding signal_elements
 driven_elements i at ps ss (u.port n) part es h d e =
     let out = out-port i n d in
-    let there : part_elements at.integers 0 (object_kinds ps) n part ≡ Ok es = ap (λ (ks : List Kind). part_elements at.integers 0 ks n part) h.ports ∙ e in
+    let there : part_elements at.integers 0 (object_kinds ps) n part ≡ Ok es = ap (λ (ks : List ObjectKind). part_elements at.integers 0 ks n part) h.ports ∙ e in
     part-all (MayBeDriven (ps ++ ss)) at.integers 0 (object_kinds ps) n part es there (λ kind p k l.
     let a = an-object ps n kind k in
     let role : a.object.role ≡ output = zip_at (λ (q : Port) (o : Object). o.role ≡ role_of q.mode) i.ports ps n out.port a.object h.roles out.is a.is ∙ out.role in
@@ -147,13 +147,13 @@ driven_elements i at ps ss (u.port n) part es h d e =
       ap (λ (rs : List Role). slice_get rs (0 + c + p)) (roles-append ps ss)
           ∙ get-before (object_roles ps) (object_roles ss) (0 + c + p) output
           (ap (λ m. slice_get (object_roles ps) (m + p)) (none-plus c)
-          ∙ role_at ps n a.object p a.is (subst (λ (q : Kind). p < size q) (sym a.kind_is) l) ∙ ap Some role),
+          ∙ role_at ps n a.object p a.is (subst (λ (q : ObjectKind). p < size q) (sym a.kind_is) l) ∙ ap Some role),
       refl,
     ))
 driven_elements i at ps ss (u.Signal.signal n) part es h d e =
     let from : ℕ = elements_count (object_kinds ps) in
     let there : part_elements at.integers from (object_kinds ss) n part ≡ Ok es =
-    ap (λ (ks : List Kind). part_elements at.integers (elements_count ks) (object_kinds ss) n part) h.ports ∙ ap (λ (ks : List Kind). part_elements at.integers (elements_count at.ports) ks n part) h.signals ∙ e in
+    ap (λ (ks : List ObjectKind). part_elements at.integers (elements_count ks) (object_kinds ss) n part) h.ports ∙ ap (λ (ks : List ObjectKind). part_elements at.integers (elements_count at.ports) ks n part) h.signals ∙ e in
     part-all (MayBeDriven (ps ++ ss)) at.integers from (object_kinds ss) n part es there (λ kind p k l.
     let a = an-object ss n kind k in
     let role : a.object.role ≡ internal = all-at (λ (o : Object). o.role ≡ internal) ss n a.object h.internals a.is in
@@ -162,6 +162,6 @@ driven_elements i at ps ss (u.Signal.signal n) part es h d e =
       ap (λ (rs : List Role). slice_get rs (from + c + p)) (roles-append ps ss)
           ∙ ap (slice_get (object_roles ps ++ object_roles ss)) (plus-assoc from c p ∙ ap (λ m. m + (c + p)) (sym (length-roles ps)))
           ∙ get-past (object_roles ps) (object_roles ss) (c + p)
-          ∙ role_at ss n a.object p a.is (subst (λ (q : Kind). p < size q) (sym a.kind_is) l) ∙ ap Some role,
+          ∙ role_at ss n a.object p a.is (subst (λ (q : ObjectKind). p < size q) (sym a.kind_is) l) ∙ ap Some role,
       refl,
     ))

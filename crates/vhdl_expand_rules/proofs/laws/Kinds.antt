@@ -17,7 +17,7 @@ use Rattle.vhdl_names_rules.specs.sound.Units.{form_fits, fixed_fits, default_fi
 use Rattle.vhdl_expand_rules.specs.declared.fault.ElabProblem.TheVariants.{Index, TooWide}
 use Rattle.vhdl_expand_rules.specs.Elab.{unless}
 use Rattle.vhdl_expand_rules.specs.Integers.{Integers, integer, as_natural, is_null, extent}
-use Rattle.vhdl_expand_rules.specs.Kinds.{Bounds, Kind, one, vector, enumeration, bounds_size, size, element_type, declared_bounds, kind_of}
+use Rattle.vhdl_expand_rules.specs.Kinds.{Bounds, ObjectKind, one, vector, enumeration, bounds_size, size, element_type, declared_bounds, kind_of}
 use Rattle.vhdl_expand_rules.specs.Site.{Site}
 use Rattle.vhdl_expand_rules.specs.Declarations.{fixed, given_starts, starts}
 use Rattle.vhdl_expand_rules.specs.laws.Sites.{IsOf}
@@ -54,7 +54,7 @@ bounds-width at r b h =
     (subst (λ (z : ℤ). IsWidth (extent r.direction (pos left.x) z)) (natural-is y.x right.x right.gave)
     (subst (λ (z : ℤ). IsWidth (extent r.direction z y.x)) (natural-is x.x left.x left.gave) w))
 
-pub kind_is_of : (i : Inside) (at : Integers) (f : Form) (k : Kind) → form_fits i f ≡ true → kind_of at f ≡ Ok k → IsOf f k
+pub kind_is_of : (i : Inside) (at : Integers) (f : Form) (k : ObjectKind) → form_fits i f ≡ true → kind_of at f ≡ Ok k → IsOf f k
 unfolding kind_of
 kind_is_of i at u.element k h e = subst (IsOf u.element) (ok one k e) tt
 kind_is_of i at (u.vector r) k h e =
@@ -64,7 +64,7 @@ kind_is_of i at (u.enumeration count) k h e =
     let both = and_parts (nat_lt 0 count) (nat_le count 256) h in
     subst (IsOf (u.enumeration count)) (ok (enumeration count) k e) (refl, ltb-true 0 count both.0, leb-true count 256 both.1)
 
-pub is_kind : (f : Form) (k : Kind) → IsOf f k → IsKind k
+pub is_kind : (f : Form) (k : ObjectKind) → IsOf f k → IsKind k
 is_kind u.element one h = tt
 is_kind (u.vector r) (vector b) h = h
 is_kind (u.enumeration m) (enumeration n) h = (h.1, h.2)
@@ -76,14 +76,14 @@ is_kind (u.enumeration m) one h = elim h [ ]
 is_kind (u.enumeration m) (vector b) h = elim h [ ]
 
 -- forms of elements are of the nine values, and so is what is resolved
-pub elements_kind : (f : Form) (k : Kind) → IsOf f k → is_elements (shape_of f) ≡ true → element_type k ≡ nine_valued
+pub elements_kind : (f : Form) (k : ObjectKind) → IsOf f k → is_elements (shape_of f) ≡ true → element_type k ≡ nine_valued
 elements_kind f one h e = refl
 elements_kind f (vector b) h e = refl
 elements_kind (u.enumeration m) (enumeration n) h e = absurd cc
 elements_kind u.element (enumeration n) h e = elim h [ ]
 elements_kind (u.vector r) (enumeration n) h e = elim h [ ]
 
-pub resolved_kind : (f : Form) (k : Kind) (resolved : Bool) → IsOf f k → may_be_resolved f resolved ≡ true → resolved ≡ true → element_type k ≡ nine_valued
+pub resolved_kind : (f : Form) (k : ObjectKind) (resolved : Bool) → IsOf f k → may_be_resolved f resolved ≡ true → resolved ≡ true → element_type k ≡ nine_valued
 resolved_kind f one r h e g = refl
 resolved_kind f (vector b) r h e g = refl
 resolved_kind (u.enumeration m) (enumeration n) true h e g = absurd cc
@@ -93,19 +93,19 @@ resolved_kind (u.vector r') (enumeration n) r h e g = elim h [ ]
 
 -- ---- what they start with
 
-abbrev Below : Kind → List ℕ → Type 0
+abbrev Below : ObjectKind → List ℕ → Type 0
 Below k vs = All (λ v. v < limit_of (element_type k)) vs
 
 pub codes_below : (vs : List Nine) → All (λ n. n < 9) (map code_of vs)
 codes_below [] = All-nil (λ n. n < 9)
 codes_below (v ∷ vs) = All-cons (λ n. n < 9) (code_of v) (map code_of vs) (code_of_below v) (codes_below vs)
 
-some-value : (k : Kind) → IsKind k → 0 < limit_of (element_type k)
+some-value : (k : ObjectKind) → IsKind k → 0 < limit_of (element_type k)
 some-value one h = omega arith
 some-value (vector b) h = omega arith
 some-value (enumeration n) h = h.0
 
-given-below : (i : Inside) (at : Site) (f : Form) (k : Kind) (x : Fixed) (vs : List ℕ) → IsOf f k → fixed_fits i (shape_of f) x ≡ true → given_starts at k x ≡ Ok vs → Below k vs
+given-below : (i : Inside) (at : Site) (f : Form) (k : ObjectKind) (x : Fixed) (vs : List ℕ) → IsOf f k → fixed_fits i (shape_of f) x ≡ true → given_starts at k x ≡ Ok vs → Below k vs
 given-below i at f one x vs h e g =
     let xs = bound (fixed at 1 x) _ vs g in
     subst (Below one) (ok (map code_of xs.x) vs xs.then_gave) (codes_below xs.x)
@@ -122,7 +122,7 @@ given-below i at (u.enumeration m) (enumeration n) (u.Fixed.filled v) vs h e g =
 given-below i at u.element (enumeration n) x vs h e g = elim h [ ]
 given-below i at (u.vector r) (enumeration n) x vs h e g = elim h [ ]
 
-pub starts_below : (i : Inside) (at : Site) (f : Form) (k : Kind) (d : Option Fixed) (vs : List ℕ) → IsOf f k → default_fits i (shape_of f) d ≡ true → starts at k d ≡ Ok vs → Below k vs
+pub starts_below : (i : Inside) (at : Site) (f : Form) (k : ObjectKind) (d : Option Fixed) (vs : List ℕ) → IsOf f k → default_fits i (shape_of f) d ≡ true → starts at k d ≡ Ok vs → Below k vs
 unfolding starts
 starts_below i at f k None vs h e g =
     subst (Below k) (ok (replicate (size k) 0) vs g) (All-replicate (λ v. v < limit_of (element_type k)) (size k) 0 (some-value k (is_kind f k h)))

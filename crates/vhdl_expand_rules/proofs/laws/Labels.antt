@@ -6,21 +6,21 @@ use Rattle.std.specs.List.{list_all}
 use Rattle.std.proofs.lemmas.Bool.{and_parts}
 use Rattle.std.proofs.lemmas.Option.{same_Some}
 use Rattle.std.proofs.lemmas.List.Elements.{All-cons, All-nil, All-append, All-head, All-tail}
-use Rattle.vhdl_names_rules.specs.units.Expressions.{Static, Place}
+use Rattle.vhdl_names_rules.specs.units.Expressions.{Static, SignalPart}
 use Rattle.vhdl_names_rules.specs.units.Units as u
 use Rattle.vhdl_names_rules.specs.units.Units.{Units, Port, Declaration, Entity}
 use Rattle.vhdl_names_rules.specs.sound.Named.{has_text, label_is_named, objects_are_named, declaration_is_named, concurrent_is_named, concurrents_are_named, architecture_is_named, entity_is_named, are_named}
 use Rattle.vhdl_expand_rules.specs.declared.fault.ElabProblem.TheVariants.{NoTop, Length, Unassociated}
 use Rattle.vhdl_expand_rules.specs.Elab.{Elab, unless, found, each}
 use Rattle.vhdl_expand_rules.specs.Integers.{Integers, integer_of, decision, turns}
-use Rattle.vhdl_expand_rules.specs.Kinds.{Kind, size, kind_of}
+use Rattle.vhdl_expand_rules.specs.Kinds.{ObjectKind, size, kind_of}
 use Rattle.vhdl_expand_rules.specs.Site.{Site, no_integers, no_site, place_elements}
 use Rattle.vhdl_expand_rules.specs.Statements.{statements, statements_turns}
 use Rattle.vhdl_expand_rules.specs.Prefixes.{targets, prefixes_elements}
-use Rattle.vhdl_expand_rules.specs.Declarations.{first_of, rest_of, generics, fixed, starts, object, role_of, Declared, with_port, with_signal, ports, interface, declaration, declarations, variable, is_input, association, associations}
+use Rattle.vhdl_expand_rules.specs.Declarations.{first_of, rest_of, generics, fixed, starts, object, role_of, InstanceObjects, with_port, with_signal, ports, interface, declaration, declarations, variable, is_input, association, associations}
 use Rattle.vhdl_expand_rules.specs.Tree.{Role, internal, Object, Variable, Instance, Parts, no_parts, inner, followed_by}
 use Rattle.vhdl_expand_rules.specs.Tree as t
-use Rattle.vhdl_expand_rules.specs.Expansion.{Spot, in_turn, in_branch, sensitivity, with_variables, process, joined, instance, concurrent, concurrents, concurrents_turns, instance_of, entity_named, Design, expanded}
+use Rattle.vhdl_expand_rules.specs.Expansion.{Spot, in_turn, in_branch, sensitivity, with_variables, process, joined, instance, concurrent, concurrents, concurrents_turns, instance_of, entity_named, Design, expanded_design}
 use Rattle.vhdl_expand_rules.specs.laws.Labels.{ProcessIsNamed, InstanceIsNamed, PartsAreNamed, EachTreeIsNamed}
 use Rattle.vhdl_expand_rules.proofs.Steps.{given, ok, bound, each-all}
 use Rattle.vhdl_expand_rules.proofs.laws.Names.{was_found}
@@ -54,42 +54,42 @@ one-more os o h k = All-append HasName os (o ∷ []) h (All-cons HasName o [] k 
 abbrev objects_of_ports : List Port → List u.Object
 objects_of_ports ps = map (λ (p : Port). p.object) ps
 
-ports-named : (ps : List Port) (d e : Declared) → objects_are_named (objects_of_ports ps) ≡ true → All HasName d.objects → ports d ps ≡ Ok e → All HasName e.objects
+ports-named : (ps : List Port) (d e : InstanceObjects) → objects_are_named (objects_of_ports ps) ≡ true → All HasName d.objects → ports d ps ≡ Ok e → All HasName e.objects
 unfolding ports
-ports-named [] d e n h k = subst (λ (x : Declared). All HasName x.objects) (ok d e k) h
+ports-named [] d e n h k = subst (λ (x : InstanceObjects). All HasName x.objects) (ok d e k) h
 ports-named (p ∷ ps) d e n h k =
     let both = and_parts (has_text p.object.name) (objects_are_named (objects_of_ports ps)) n in
     let o = bound (object d.site (role_of p.mode) p.object) _ e k in
     ports-named ps (with_port d o.x) e both.1 (one-more d.objects o.x h (object-named d.site (role_of p.mode) p.object o.x both.0 o.gave)) o.then_gave
 
-interface-named : (above : Integers) (actuals : List (Option Static)) (unit : Entity) (d : Declared) → objects_are_named (objects_of_ports unit.ports) ≡ true → interface above actuals unit ≡ Ok d → All HasName d.objects
+interface-named : (above : Integers) (actuals : List (Option Static)) (unit : Entity) (d : InstanceObjects) → objects_are_named (objects_of_ports unit.ports) ≡ true → interface above actuals unit ≡ Ok d → All HasName d.objects
 unfolding interface
 interface-named above actuals unit d n h =
     let i = bound (generics above no_integers actuals unit.generics) _ d h in
     ports-named unit.ports (record { site = record no_site { integers = i.x }; objects = [] }) d n (All-nil HasName) i.then_gave
 
-declaration-named : (x : Declaration) (d e : Declared) → declaration_is_named x ≡ true → All HasName d.objects → declaration d x ≡ Ok e → All HasName e.objects
+declaration-named : (x : Declaration) (d e : InstanceObjects) → declaration_is_named x ≡ true → All HasName d.objects → declaration d x ≡ Ok e → All HasName e.objects
 unfolding declaration
 declaration-named (u.integer type s) d e n h k =
     let x = bound (integer_of type d.site.integers s) _ e k in
-    subst (λ (y : Declared). All HasName y.objects) (ok _ e x.then_gave) h
+    subst (λ (y : InstanceObjects). All HasName y.objects) (ok _ e x.then_gave) h
 declaration-named (u.Declaration.constant form f) d e n h k =
     let x = bound (kind_of d.site.integers form) _ e k in
     let vs = bound (fixed d.site (size x.x) f) _ e x.then_gave in
-    subst (λ (y : Declared). All HasName y.objects) (ok _ e vs.then_gave) h
+    subst (λ (y : InstanceObjects). All HasName y.objects) (ok _ e vs.then_gave) h
 declaration-named (u.Declaration.signal o) d e n h k =
     let x = bound (object d.site internal o) _ e k in
-    subst (λ (y : Declared). All HasName y.objects) (ok (with_signal d x.x) e x.then_gave) (one-more d.objects x.x h (object-named d.site internal o x.x n x.gave))
+    subst (λ (y : InstanceObjects). All HasName y.objects) (ok (with_signal d x.x) e x.then_gave) (one-more d.objects x.x h (object-named d.site internal o x.x n x.gave))
 
-declarations-named : (xs : List Declaration) (d e : Declared) → list_all declaration_is_named xs ≡ true → All HasName d.objects → declarations d xs ≡ Ok e → All HasName e.objects
+declarations-named : (xs : List Declaration) (d e : InstanceObjects) → list_all declaration_is_named xs ≡ true → All HasName d.objects → declarations d xs ≡ Ok e → All HasName e.objects
 unfolding declarations
-declarations-named [] d e n h k = subst (λ (y : Declared). All HasName y.objects) (ok d e k) h
+declarations-named [] d e n h k = subst (λ (y : InstanceObjects). All HasName y.objects) (ok d e k) h
 declarations-named (x ∷ xs) d e n h k =
     let both = and_parts (declaration_is_named x) (list_all declaration_is_named xs) n in
     let y = bound (declaration d x) _ e k in
     declarations-named xs y.x e both.1 (declaration-named x d y.x both.0 h y.gave) y.then_gave
 
-association-named : (above : Site) (p : Port) (actual : Option Place) (o x : Object) → HasName o → association above p actual o ≡ Ok x → HasName x
+association-named : (above : Site) (p : Port) (actual : Option SignalPart) (o x : Object) → HasName o → association above p actual o ≡ Ok x → HasName x
 unfolding association
 association-named above p None o x h k =
     let a = bound (unless Unassociated (not (is_input o.role) || is_some p.object.default)) _ x k in
@@ -99,7 +99,7 @@ association-named above p (Some place) o x h k =
     let a = bound (unless Length (length es.x == size o.kind)) _ x es.then_gave in
     subst HasName (ok (record o { actual = Some es.x }) x a.then_gave) h
 
-associations-named : (above : Site) (ps : List Port) (actuals : List (Option Place)) (os xs : List Object) → All HasName os → associations above ps actuals os ≡ Ok xs → All HasName xs
+associations-named : (above : Site) (ps : List Port) (actuals : List (Option SignalPart)) (os xs : List Object) → All HasName os → associations above ps actuals os ≡ Ok xs → All HasName xs
 unfolding associations
 associations-named above [] actuals os xs h k = subst (λ (ys : List Object). All HasName ys) (ok [] xs k) (All-nil HasName)
 associations-named above (p ∷ ps) actuals [] xs h k = subst (λ (ys : List Object). All HasName ys) (ok [] xs k) (All-nil HasName)
@@ -168,8 +168,8 @@ entity-parts unit h =
     let b = and_parts (has_text unit.name) (objects_are_named (objects_of_ports unit.ports)) a.0 in
     record { name = b.0; ports = b.1; architecture = a.1 }
 
-module _ (units : Units) (named : list_all entity_is_named units ≡ true) (go : Entity → Declared → Elab Instance)
-    (go-named : (unit : Entity) (d : Declared) (i : Instance) → entity_is_named unit ≡ true → All HasName d.objects → go unit d ≡ Ok i → InstanceIsNamed i) where
+module _ (units : Units) (named : list_all entity_is_named units ≡ true) (go : Entity → InstanceObjects → Elab Instance)
+    (go-named : (unit : Entity) (d : InstanceObjects) (i : Instance) → entity_is_named unit ≡ true → All HasName d.objects → go unit d ≡ Ok i → InstanceIsNamed i) where
   instance-named : (at : Spot) (x : u.Instance) (i : Instance) → instance units go at x ≡ Ok i → InstanceIsNamed i
   unfolding instance
   instance-named at x i h =
@@ -215,7 +215,7 @@ module _ (units : Units) (named : list_all entity_is_named units ≡ true) (go :
 
 -- ---- instances and the top
 
-instance_of-named : (units : Units) (levels : ℕ) → list_all entity_is_named units ≡ true → (unit : Entity) (d : Declared) (i : Instance) → entity_is_named unit ≡ true → All HasName d.objects
+instance_of-named : (units : Units) (levels : ℕ) → list_all entity_is_named units ≡ true → (unit : Entity) (d : InstanceObjects) (i : Instance) → entity_is_named unit ≡ true → All HasName d.objects
     → instance_of units levels unit d ≡ Ok i → InstanceIsNamed i
 unfolding instance_of
 instance_of-named units zero named unit d i n h k = absurd cc
@@ -244,7 +244,7 @@ found-named f (x ∷ units) unit h e = by (f x) e (λ later. found-named f units
     by false e go = go e
 
 pub each-tree-is-named : EachTreeIsNamed
-unfolding expanded are_named
+unfolding expanded_design are_named
 each-tree-is-named units top design h e =
     let named : list_all entity_is_named units ≡ true = h in
     let unit = bound (found NoTop (entity_named units top)) _ design e in

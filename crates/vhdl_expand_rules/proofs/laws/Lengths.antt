@@ -6,18 +6,18 @@ use Rattle.std.proofs.lemmas.Bool.{eqb-true}
 use Rattle.vhdl_values.specs.declared.scalar.Nine.{Nine}
 use Rattle.vhdl_values.specs.Scalar.{code_of}
 use Rattle.vhdl_values.specs.Numbers.{digits_of}
-use Rattle.vhdl_names_rules.specs.units.Expressions.{Static, Place}
+use Rattle.vhdl_names_rules.specs.units.Expressions.{Static, SignalPart}
 use Rattle.vhdl_names_rules.specs.units.Units as u
 use Rattle.vhdl_names_rules.specs.units.Units.{Fixed, Port, Declaration, Entity, Units}
 use Rattle.vhdl_expand_rules.specs.declared.fault.ElabProblem.TheVariants.{NoTop, Length, Index, Unassociated}
 use Rattle.vhdl_expand_rules.specs.Elab.{Elab, ◌>>=◌, unless, found, each}
 use Rattle.vhdl_expand_rules.specs.Integers.{Integers, natural, integer_of, decision, turns}
-use Rattle.vhdl_expand_rules.specs.Kinds.{Kind, one, vector, enumeration, size, size_of, kind_of}
+use Rattle.vhdl_expand_rules.specs.Kinds.{ObjectKind, one, vector, enumeration, size, size_of, kind_of}
 use Rattle.vhdl_expand_rules.specs.Site.{Site, no_integers, no_site, place_elements}
 use Rattle.vhdl_expand_rules.specs.Tree.{Role, internal, Object, Process, Instance, Parts, no_parts, inner, followed_by}
 use Rattle.vhdl_expand_rules.specs.Tree as t
-use Rattle.vhdl_expand_rules.specs.Declarations.{first_of, rest_of, generics, as_long_as, fixed, given_starts, starts, object, role_of, Declared, with_port, with_signal, ports, interface, declaration, declarations, is_input, association, associations}
-use Rattle.vhdl_expand_rules.specs.Expansion.{Spot, in_turn, in_branch, process, joined, instance, concurrent, concurrents, concurrents_turns, instance_of, entity_named, Design, expanded}
+use Rattle.vhdl_expand_rules.specs.Declarations.{first_of, rest_of, generics, as_long_as, fixed, given_starts, starts, object, role_of, InstanceObjects, with_port, with_signal, ports, interface, declaration, declarations, is_input, association, associations}
+use Rattle.vhdl_expand_rules.specs.Expansion.{Spot, in_turn, in_branch, process, joined, instance, concurrent, concurrents, concurrents_turns, instance_of, entity_named, Design, expanded_design}
 use Rattle.vhdl_expand_rules.specs.laws.Lengths.{ObjectFits, InstanceFits, PartsFit, EachDesignFits}
 use Rattle.vhdl_expand_rules.proofs.Steps.{given, ok, bound, kept, each-all}
 use Rattle.std.proofs.lemmas.List.{length-map, length-replicate}
@@ -47,7 +47,7 @@ codes-length at len f vs h =
     let x = bound (fixed at len f) _ vs h in
     subst (λ (ns : List ℕ). length ns ≡ len) (ok (map code_of x.x) vs x.then_gave) (length-map x.x code_of ∙ fixed-length at len f x.x x.gave)
 
-given-length : (at : Site) (kind : Kind) (f : Fixed) (vs : List ℕ) → given_starts at kind f ≡ Ok vs → length vs ≡ size kind
+given-length : (at : Site) (kind : ObjectKind) (f : Fixed) (vs : List ℕ) → given_starts at kind f ≡ Ok vs → length vs ≡ size kind
 given-length at one f vs h = codes-length at 1 f vs h
 given-length at (vector b) f vs h = codes-length at (size (vector b)) f vs h
 given-length at (enumeration count) (u.Fixed.position n) vs h = ap length (sym (ok (n ∷ []) vs h))
@@ -56,7 +56,7 @@ given-length at (enumeration count) (u.Fixed.constant k) vs h = codes-length at 
 given-length at (enumeration count) (u.Fixed.encoded s t) vs h = codes-length at 1 (u.Fixed.encoded s t) vs h
 given-length at (enumeration count) (u.filled v) vs h = codes-length at 1 (u.filled v) vs h
 
-pub starts-length : (at : Site) (kind : Kind) (d : Option Fixed) (vs : List ℕ) → starts at kind d ≡ Ok vs → length vs ≡ size kind
+pub starts-length : (at : Site) (kind : ObjectKind) (d : Option Fixed) (vs : List ℕ) → starts at kind d ≡ Ok vs → length vs ≡ size kind
 unfolding starts
 starts-length at kind None vs h = subst (λ (ns : List ℕ). length ns ≡ size kind) (ok (replicate (size kind) 0) vs h) (length-replicate (size kind) 0)
 starts-length at kind (Some f) vs h = given-length at kind f vs h
@@ -81,40 +81,40 @@ fits o d = record { starts = d.starts; actual = λ es h. absurd (let e = d.none 
 one_more : (os : List Object) (o : Object) → All ObjectFits os → ObjectFits o → All ObjectFits (os ++ o ∷ [])
 one_more os o h k = All-append ObjectFits os (o ∷ []) h (All-cons ObjectFits o [] k (All-nil ObjectFits))
 
-ports-fit : (ps : List Port) (d e : Declared) → All ObjectFits d.objects → ports d ps ≡ Ok e → All ObjectFits e.objects
+ports-fit : (ps : List Port) (d e : InstanceObjects) → All ObjectFits d.objects → ports d ps ≡ Ok e → All ObjectFits e.objects
 unfolding ports
-ports-fit [] d e h k = subst (λ (x : Declared). All ObjectFits x.objects) (ok d e k) h
+ports-fit [] d e h k = subst (λ (x : InstanceObjects). All ObjectFits x.objects) (ok d e k) h
 ports-fit (p ∷ ps) d e h k =
     let o = bound (object d.site (role_of p.mode) p.object) _ e k in
     ports-fit ps (with_port d o.x) e (one_more d.objects o.x h (fits o.x (object-declared d.site (role_of p.mode) p.object o.x o.gave))) o.then_gave
 
-interface-fits : (above : Integers) (actuals : List (Option Static)) (unit : Entity) (d : Declared) → interface above actuals unit ≡ Ok d → All ObjectFits d.objects
+interface-fits : (above : Integers) (actuals : List (Option Static)) (unit : Entity) (d : InstanceObjects) → interface above actuals unit ≡ Ok d → All ObjectFits d.objects
 unfolding interface
 interface-fits above actuals unit d h =
     let i = bound (generics above no_integers actuals unit.generics) _ d h in
     ports-fit unit.ports (record { site = record no_site { integers = i.x }; objects = [] }) d (All-nil ObjectFits) i.then_gave
 
-declaration-fits : (x : Declaration) (d e : Declared) → All ObjectFits d.objects → declaration d x ≡ Ok e → All ObjectFits e.objects
+declaration-fits : (x : Declaration) (d e : InstanceObjects) → All ObjectFits d.objects → declaration d x ≡ Ok e → All ObjectFits e.objects
 unfolding declaration
 declaration-fits (u.integer type s) d e h k =
     let x = bound (integer_of type d.site.integers s) _ e k in
-    subst (λ (y : Declared). All ObjectFits y.objects) (ok _ e x.then_gave) h
+    subst (λ (y : InstanceObjects). All ObjectFits y.objects) (ok _ e x.then_gave) h
 declaration-fits (u.Declaration.constant form f) d e h k =
     let x = bound (kind_of d.site.integers form) _ e k in
     let vs = bound (fixed d.site (size x.x) f) _ e x.then_gave in
-    subst (λ (y : Declared). All ObjectFits y.objects) (ok _ e vs.then_gave) h
+    subst (λ (y : InstanceObjects). All ObjectFits y.objects) (ok _ e vs.then_gave) h
 declaration-fits (u.Declaration.signal o) d e h k =
     let x = bound (object d.site internal o) _ e k in
-    subst (λ (y : Declared). All ObjectFits y.objects) (ok (with_signal d x.x) e x.then_gave) (one_more d.objects x.x h (fits x.x (object-declared d.site internal o x.x x.gave)))
+    subst (λ (y : InstanceObjects). All ObjectFits y.objects) (ok (with_signal d x.x) e x.then_gave) (one_more d.objects x.x h (fits x.x (object-declared d.site internal o x.x x.gave)))
 
-declarations-fit : (xs : List Declaration) (d e : Declared) → All ObjectFits d.objects → declarations d xs ≡ Ok e → All ObjectFits e.objects
+declarations-fit : (xs : List Declaration) (d e : InstanceObjects) → All ObjectFits d.objects → declarations d xs ≡ Ok e → All ObjectFits e.objects
 unfolding declarations
-declarations-fit [] d e h k = subst (λ (y : Declared). All ObjectFits y.objects) (ok d e k) h
+declarations-fit [] d e h k = subst (λ (y : InstanceObjects). All ObjectFits y.objects) (ok d e k) h
 declarations-fit (x ∷ xs) d e h k =
     let y = bound (declaration d x) _ e k in
     declarations-fit xs y.x e (declaration-fits x d y.x h y.gave) y.then_gave
 
-association-fits : (above : Site) (p : Port) (actual : Option Place) (o x : Object) → ObjectFits o → association above p actual o ≡ Ok x → ObjectFits x
+association-fits : (above : Site) (p : Port) (actual : Option SignalPart) (o x : Object) → ObjectFits o → association above p actual o ≡ Ok x → ObjectFits x
 unfolding association
 association-fits above p None o x h k =
     let a = bound (unless Unassociated (not (is_input o.role) || is_some p.object.default)) _ x k in
@@ -130,7 +130,7 @@ association-fits above p (Some place) o x h k =
     some : (fs es : List ℕ) → Some es ≡ Some fs → fs ≡ es
     some fs es e = cc
 
-associations-fit : (above : Site) (ps : List Port) (actuals : List (Option Place)) (os xs : List Object) → All ObjectFits os → associations above ps actuals os ≡ Ok xs → All ObjectFits xs
+associations-fit : (above : Site) (ps : List Port) (actuals : List (Option SignalPart)) (os xs : List Object) → All ObjectFits os → associations above ps actuals os ≡ Ok xs → All ObjectFits xs
 unfolding associations
 associations-fit above [] actuals os xs h k = subst (λ (ys : List Object). All ObjectFits ys) (ok [] xs k) (All-nil ObjectFits)
 associations-fit above (p ∷ ps) actuals [] xs h k = subst (λ (ys : List Object). All ObjectFits ys) (ok [] xs k) (All-nil ObjectFits)
@@ -151,7 +151,7 @@ joined-fits : (ps : List Parts) → All PartsFit ps → PartsFit (joined ps)
 joined-fits [] h = tt
 joined-fits (p ∷ ps) h = followed_by-fits p (joined ps) (All-head PartsFit p ps h) (joined-fits ps (All-tail PartsFit p ps h))
 
-module _ (units : Units) (go : Entity → Declared → Elab Instance) (go-fits : (unit : Entity) (d : Declared) (i : Instance) → All ObjectFits d.objects → go unit d ≡ Ok i → InstanceFits i) where
+module _ (units : Units) (go : Entity → InstanceObjects → Elab Instance) (go-fits : (unit : Entity) (d : InstanceObjects) (i : Instance) → All ObjectFits d.objects → go unit d ≡ Ok i → InstanceFits i) where
   instance-fits : (at : Spot) (x : u.Instance) (i : Instance) → instance units go at x ≡ Ok i → InstanceFits i
   unfolding instance
   instance-fits at x i h =
@@ -193,7 +193,7 @@ module _ (units : Units) (go : Entity → Declared → Elab Instance) (go-fits :
 
 -- ---- instances
 
-instance_of-fits : (units : Units) (levels : ℕ) (unit : Entity) (d : Declared) (i : Instance) → All ObjectFits d.objects → instance_of units levels unit d ≡ Ok i → InstanceFits i
+instance_of-fits : (units : Units) (levels : ℕ) (unit : Entity) (d : InstanceObjects) (i : Instance) → All ObjectFits d.objects → instance_of units levels unit d ≡ Ok i → InstanceFits i
 unfolding instance_of
 instance_of-fits units zero unit d i h k = absurd cc
 instance_of-fits units (suc n) unit d i h k =
@@ -208,7 +208,7 @@ instance_of-fits units (suc n) unit d i h k =
     )
 
 pub design-fits : EachDesignFits
-unfolding expanded
+unfolding expanded_design
 design-fits units top design h =
     let unit = bound (found NoTop (entity_named units top)) _ design h in
     let d = bound (interface no_integers [] unit.x) _ design unit.then_gave in

@@ -10,7 +10,7 @@ use Rattle.std.proofs.lemmas.List.Sums.{sum_by-cons}
 use Rattle.rtl_model.specs.bodies.Types.{ElementType, enumeration, HasType}
 use Rattle.rtl_model.specs.bodies.Fits.{IsWidth}
 use Rattle.vhdl_names_rules.specs.units.Expressions as u
-use Rattle.vhdl_names_rules.specs.units.Expressions.{Signal, Part, Place}
+use Rattle.vhdl_names_rules.specs.units.Expressions.{Signal, Part, SignalPart}
 use Rattle.vhdl_names_rules.specs.units.Units as units
 use Rattle.vhdl_names_rules.specs.units.Units.{Form}
 use Rattle.vhdl_names_rules.specs.sound.Expressions as sound
@@ -19,7 +19,7 @@ use Rattle.vhdl_expand_rules.specs.declared.fault.ElabProblem.{ElabProblem}
 use Rattle.vhdl_expand_rules.specs.declared.fault.ElabProblem.TheVariants.{Index}
 use Rattle.vhdl_expand_rules.specs.Elab.{found}
 use Rattle.vhdl_expand_rules.specs.Integers.{Integers, integer}
-use Rattle.vhdl_expand_rules.specs.Kinds.{Kind, one, vector, enumeration, size, element_type, place_of, places}
+use Rattle.vhdl_expand_rules.specs.Kinds.{ObjectKind, one, vector, enumeration, size, element_type, place_of, places}
 use Rattle.vhdl_expand_rules.specs.Site.{Site, elements_count, part_elements, signal_elements, variable_elements}
 use Rattle.vhdl_expand_rules.specs.laws.Sites.{IsOf, IsSite, kinds_types, scope_at}
 use Rattle.vhdl_expand_rules.specs.laws.Expressions.{HasShape, type_of, IsName, EachNameFits}
@@ -43,7 +43,7 @@ was_found problem (Some y) x h = ap Some (ok y x h)
 
 -- ---- places of a part
 
-pub record PartPlaces (kind : Kind) (s : Shape) (ps : List ℕ) : Type 0 where
+pub record PartPlaces (kind : ObjectKind) (s : Shape) (ps : List ℕ) : Type 0 where
   pub below : All (λ p. p < size kind) ps
   pub width : HasShape s (length ps)
   pub type_is : type_of s ≡ element_type kind
@@ -51,7 +51,7 @@ pub record PartPlaces (kind : Kind) (s : Shape) (ps : List ℕ) : Type 0 where
 one-place : (n p : ℕ) → p < n → All (λ q. q < n) (p ∷ [])
 one-place n p h = All-cons (λ q. q < n) p [] h (All-nil (λ q. q < n))
 
-pub whole : (f : Form) (kind : Kind) → IsOf f kind → PartPlaces kind (shape_of f) (range_with_len 0 (size kind))
+pub whole : (f : Form) (kind : ObjectKind) → IsOf f kind → PartPlaces kind (shape_of f) (range_with_len 0 (size kind))
 whole units.element one h = record { below = one-place 1 0 (omega arith); width = refl; type_is = refl }
 whole units.element (vector b) h = elim h [ ]
 whole units.element (enumeration n) h = elim h [ ]
@@ -66,7 +66,7 @@ whole (units.enumeration m) (enumeration n) h = record { below = one-place 1 0 (
 whole (units.enumeration m) one h = elim h [ ]
 whole (units.enumeration m) (vector b) h = elim h [ ]
 
-pub part_places : (i : Inside) (at : Integers) (f : Form) (kind : Kind) (part : Part) (s : Shape) (ps : List ℕ)
+pub part_places : (i : Inside) (at : Integers) (f : Form) (kind : ObjectKind) (part : Part) (s : Shape) (ps : List ℕ)
     → IsOf f kind → part_shape i f part ≡ Some s → places at kind part ≡ Ok ps → PartPlaces kind s ps
 unfolding places
 part_places i at f kind u.whole s ps h e g =
@@ -110,22 +110,22 @@ get-replicate zero x k h = absurd (omega (arith, h))
 get-replicate (suc n) x zero h = refl
 get-replicate (suc n) x (suc k) h = get-replicate n x k (omega (arith, h))
 
-pub count-cons : (k : Kind) (ks : List Kind) → elements_count (k ∷ ks) ≡ size k + elements_count ks
+pub count-cons : (k : ObjectKind) (ks : List ObjectKind) → elements_count (k ∷ ks) ≡ size k + elements_count ks
 count-cons k ks = sum_by-cons (λ n. n) (size k) (map size ks)
 
-pub length-types : (ks : List Kind) → length (kinds_types ks) ≡ elements_count ks
+pub length-types : (ks : List ObjectKind) → length (kinds_types ks) ≡ elements_count ks
 length-types [] = refl
 length-types (k ∷ ks) =
     length-append (replicate (size k) (element_type k)) (kinds_types ks) ∙ ap (λ n. n + length (kinds_types ks)) (length-replicate (size k) (element_type k))
     ∙ ap (λ n. size k + n) (length-types ks) ∙ sym (count-cons k ks)
 
-pub type_at : (kinds : List Kind) (k : ℕ) (kind : Kind) (p : ℕ) → slice_get kinds k ≡ Some kind → p < size kind
+pub type_at : (kinds : List ObjectKind) (k : ℕ) (kind : ObjectKind) (p : ℕ) → slice_get kinds k ≡ Some kind → p < size kind
     → HasType (kinds_types kinds) (element_type kind) (elements_count (take k kinds) + p)
 type_at [] k kind p h l = absurd cc
 type_at (q ∷ kinds) zero kind p h l =
     let same : q ≡ kind = same_Some q kind h in
     ap (slice_get (kinds_types (q ∷ kinds))) (let e : 0 + p ≡ p = omega arith in e)
-    ∙ subst (λ (x : Kind). slice_get (replicate (size x) (element_type x) ++ kinds_types kinds) p ≡ Some (element_type kind)) (sym same)
+    ∙ subst (λ (x : ObjectKind). slice_get (replicate (size x) (element_type x) ++ kinds_types kinds) p ≡ Some (element_type kind)) (sym same)
     (get-before (replicate (size kind) (element_type kind)) (kinds_types kinds) p (element_type kind) (get-replicate (size kind) (element_type kind) p l))
 type_at (q ∷ kinds) (suc k) kind p h l =
     let front : List ElementType = replicate (size q) (element_type q) in
@@ -153,14 +153,14 @@ zip_push {A} {B} R (a ∷ xs) [] x y h g = elim h [ ]
 zip_push {A} {B} R (a ∷ xs) (b ∷ ys) x y h g = (h.0, zip_push R xs ys x y h.1 g)
 
 -- where the elements of these kinds stand among these types
-abbrev Stand : (types : List ElementType) (from : ℕ) (kinds : List Kind) → Type 0
+abbrev Stand : (types : List ElementType) (from : ℕ) (kinds : List ObjectKind) → Type 0
 Stand types from kinds = (n : ℕ) (t : ElementType) → HasType (kinds_types kinds) t n → HasType types t (from + n)
 
 record PartElements (types : List ElementType) (s : Shape) (es : List ℕ) : Type 0 where
   width : HasShape s (length es)
   typed : All (HasType types (type_of s)) es
 
-part-elements : (types : List ElementType) (i : Inside) (at : Integers) (from : ℕ) (forms : List Form) (kinds : List Kind) (n : ℕ) (part : Part) (f : Form) (s : Shape) (es : List ℕ)
+part-elements : (types : List ElementType) (i : Inside) (at : Integers) (from : ℕ) (forms : List Form) (kinds : List ObjectKind) (n : ℕ) (part : Part) (f : Form) (s : Shape) (es : List ℕ)
     → AllZip IsOf forms kinds → Stand types from kinds → slice_get forms n ≡ Some f → part_shape i f part ≡ Some s → part_elements at from kinds n part ≡ Ok es
     → PartElements types s es
 part-elements types i at from forms kinds n part f s es h stand e g m =

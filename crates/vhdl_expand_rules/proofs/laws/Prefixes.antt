@@ -6,11 +6,11 @@ use Rattle.std.proofs.lemmas.Bool.{and_parts}
 use Rattle.std.proofs.lemmas.List.Elements.{All-cons, All-nil, All-map, All-weaker, All-contains_itself}
 use Rattle.std.proofs.lemmas.List.FromFn.{length-range_with_len, get_or-range_with_len, length-map-range_with_len, get_or-map-range_with_len}
 use Rattle.vhdl_names_rules.specs.units.Expressions as u
-use Rattle.vhdl_names_rules.specs.units.Expressions.{Static, Signal, Part, Place}
+use Rattle.vhdl_names_rules.specs.units.Expressions.{Static, Signal, Part, SignalPart}
 use Rattle.vhdl_expand_rules.specs.declared.fault.ElabProblem.TheVariants.{Index}
 use Rattle.vhdl_expand_rules.specs.Elab.{Elab, ◌>>=◌, found}
 use Rattle.vhdl_expand_rules.specs.Integers.{Integers, checked, operated, integer}
-use Rattle.vhdl_expand_rules.specs.Kinds.{Kind, one, vector, enumeration, size, place_of, slice_places, places}
+use Rattle.vhdl_expand_rules.specs.Kinds.{ObjectKind, one, vector, enumeration, size, place_of, slice_places, places}
 use Rattle.vhdl_expand_rules.specs.Site.{Site, elements_count, part_elements, signal_elements, place_elements}
 use Rattle.vhdl_expand_rules.specs.Prefixes.{is_static, is_static_part, prefix}
 use Rattle.vhdl_expand_rules.proofs.Steps.{given, ok, bound}
@@ -27,7 +27,7 @@ run-below n k d h =
     let is : slice_index_or (range_with_len 0 n) k d ≡ 0 + k = get_or-range_with_len 0 n k d (omega (arith, h, l)) in
     omega (arith, is, h, l)
 
-pub places_below : (at : Integers) (kind : Kind) (part : Part) (ps : List ℕ) → places at kind part ≡ Ok ps → All (λ p. p < size kind) ps
+pub places_below : (at : Integers) (kind : ObjectKind) (part : Part) (ps : List ℕ) → places at kind part ≡ Ok ps → All (λ p. p < size kind) ps
 unfolding places
 places_below at kind u.whole ps h = subst (All (λ p. p < size kind)) (ok (range_with_len 0 (size kind)) ps h) (run-below (size kind))
 places_below at (vector b) (u.Part.element x) ps h =
@@ -49,7 +49,7 @@ abbrev turned : Integers → List ℤ → Integers
 turned at loops = record at { loops = loops }
 
 -- the site of a statement within loops, in a process with these variables
-abbrev pub within : Site → List ℤ → List Kind → Site
+abbrev pub within : Site → List ℤ → List ObjectKind → Site
 within at loops variables = record at { integers = turned at.integers loops; variables = variables }
 
 static-same : (at : Integers) (loops : List ℤ) (s : Static) → is_static s ≡ true → integer (turned at loops) s ≡ integer at s
@@ -65,7 +65,7 @@ static-same at loops (u.Static.binary op s t) h =
     ap (λ (r : Elab ℤ). r >>= λ x. integer (turned at loops) t >>= λ y. operated op x y) (static-same at loops s both.0)
     ∙ ap (λ (r : Elab ℤ). integer at s >>= λ x. r >>= λ y. operated op x y) (static-same at loops t both.1)
 
-places-same : (at : Integers) (loops : List ℤ) (kind : Kind) (part : Part) → is_static_part part ≡ true → places (turned at loops) kind part ≡ places at kind part
+places-same : (at : Integers) (loops : List ℤ) (kind : ObjectKind) (part : Part) → is_static_part part ≡ true → places (turned at loops) kind part ≡ places at kind part
 unfolding places
 places-same at loops kind u.whole h = refl
 places-same at loops (vector b) (u.Part.element s) h = ap (λ (r : Elab ℤ). r >>= λ i. place_of b i >>= λ p. given (p ∷ [])) (static-same at loops s h)
@@ -83,17 +83,17 @@ places-same at loops (enumeration n) (u.slice r) h = refl
 same_result : {A : Type 0} (r : Elab A) (x y : A) → r ≡ Ok x → r ≡ Ok y → x ≡ y
 same_result r x y h g = ok x y (sym h ∙ g)
 
-in-static : (at : Integers) (loops : List ℤ) (from : ℕ) (kinds : List Kind) (k : ℕ) (part : Part) (es ds : List ℕ) → is_static_part part ≡ true
+in-static : (at : Integers) (loops : List ℤ) (from : ℕ) (kinds : List ObjectKind) (k : ℕ) (part : Part) (es ds : List ℕ) → is_static_part part ≡ true
     → part_elements (turned at loops) from kinds k part ≡ Ok es → part_elements at from kinds k part ≡ Ok ds → All (Contains ds) es
 in-static at loops from kinds k part es ds s h g =
     subst (λ (xs : List ℕ). All (Contains ds) xs) (sym (same_result (part_elements at from kinds k part) es ds (sym (by (found Index (slice_get kinds k))) ∙ h) g)) (All-contains_itself ds)
   where
-    by : (r : Elab Kind) → (r >>= λ kind. places (turned at loops) kind part >>= λ ps. given (map (λ p. from + elements_count (take k kinds) + p) ps))
+    by : (r : Elab ObjectKind) → (r >>= λ kind. places (turned at loops) kind part >>= λ ps. given (map (λ p. from + elements_count (take k kinds) + p) ps))
         ≡ (r >>= λ kind. places at kind part >>= λ ps. given (map (λ p. from + elements_count (take k kinds) + p) ps))
     by (Ok kind) = ap (λ (e : Elab (List ℕ)). e >>= λ ps. given (map (λ p. from + elements_count (take k kinds) + p) ps)) (places-same at loops kind part s)
     by (Err problem) = refl
 
-in-whole : (at at' : Integers) (from : ℕ) (kinds : List Kind) (k : ℕ) (part : Part) (es ds : List ℕ) → part_elements at' from kinds k part ≡ Ok es → part_elements at from kinds k u.whole ≡ Ok ds
+in-whole : (at at' : Integers) (from : ℕ) (kinds : List ObjectKind) (k : ℕ) (part : Part) (es ds : List ℕ) → part_elements at' from kinds k part ≡ Ok es → part_elements at from kinds k u.whole ≡ Ok ds
     → All (Contains ds) es
 unfolding places
 in-whole at at' from kinds k part es ds h g =
@@ -103,7 +103,7 @@ in-whole at at' from kinds k part es ds h g =
     let same = bound (found Index (slice_get kinds k)) _ ds g in
     let n : ℕ = size same.x in
     let is : kind.x ≡ same.x = same_result (found Index (slice_get kinds k)) kind.x same.x kind.gave same.gave in
-    let below : All (λ p. p < n) ps.x = subst (λ (x : Kind). All (λ p. p < size x) ps.x) is (places_below at' kind.x part ps.x ps.gave) in
+    let below : All (λ p. p < n) ps.x = subst (λ (x : ObjectKind). All (λ p. p < size x) ps.x) is (places_below at' kind.x part ps.x ps.gave) in
     subst (λ (xs : List ℕ). All (Contains xs) es) (ok (map f (range_with_len 0 n)) ds same.then_gave)
     (subst (λ (xs : List ℕ). All (Contains (map f (range_with_len 0 n))) xs) (ok (map f ps.x) es ps.then_gave)
     (All-map (Contains (map f (range_with_len 0 n))) f ps.x
@@ -112,7 +112,7 @@ in-whole at at' from kinds k part es ds h g =
     there : (f : ℕ → ℕ) (n p : ℕ) → p < n → Contains (map f (range_with_len 0 n)) (f p)
     there f n p l = (p, subst (λ m. p < m) (sym (length-map-range_with_len f 0 n)) l, get_or-map-range_with_len f 0 n p p (f p) l (let z : 0 + p ≡ p = omega arith in z))
 
-signal-in : (at : Site) (loops : List ℤ) (vs : List Kind) (x : Signal) (part : Part) (t : Bool) (es ds : List ℕ) → is_static_part part ≡ t
+signal-in : (at : Site) (loops : List ℤ) (vs : List ObjectKind) (x : Signal) (part : Part) (t : Bool) (es ds : List ℕ) → is_static_part part ≡ t
     → signal_elements (within at loops vs) x part ≡ Ok es → signal_elements at x (cond t part u.whole) ≡ Ok ds → All (Contains ds) es
 unfolding signal_elements
 signal-in at loops vs (u.port k) part true es ds s h g = in-static at.integers loops 0 at.ports k part es ds s h g
@@ -120,13 +120,13 @@ signal-in at loops vs (u.Signal.signal k) part true es ds s h g = in-static at.i
 signal-in at loops vs (u.port k) part false es ds s h g = in-whole at.integers (turned at.integers loops) 0 at.ports k part es ds h g
 signal-in at loops vs (u.Signal.signal k) part false es ds s h g = in-whole at.integers (turned at.integers loops) (elements_count at.ports) at.signals k part es ds h g
 
-prefix-is : (p : Place) → prefix p ≡ record { signal = p.signal; part = cond (is_static_part p.part) p.part u.whole }
+prefix-is : (p : SignalPart) → prefix p ≡ record { signal = p.signal; part = cond (is_static_part p.part) p.part u.whole }
 prefix-is p = by (is_static_part p.part)
   where
     by : (t : Bool) → cond t p (record p { part = u.whole }) ≡ record { signal = p.signal; part = cond t p.part u.whole }
     by true = refl
     by false = refl
 
-pub name_in_prefix : (at : Site) (loops : List ℤ) (vs : List Kind) (p : Place) (es ds : List ℕ) → place_elements (within at loops vs) p ≡ Ok es → place_elements at (prefix p) ≡ Ok ds → All (Contains ds) es
+pub name_in_prefix : (at : Site) (loops : List ℤ) (vs : List ObjectKind) (p : SignalPart) (es ds : List ℕ) → place_elements (within at loops vs) p ≡ Ok es → place_elements at (prefix p) ≡ Ok ds → All (Contains ds) es
 name_in_prefix at loops vs p es ds h g =
     signal-in at loops vs p.signal p.part (is_static_part p.part) es ds refl h (sym (ap (place_elements at) (prefix-is p)) ∙ g)

@@ -9,17 +9,17 @@ use Rattle.std.proofs.lemmas.List.Elements.{All-cons, All-nil, All-weaker, All-c
 use Rattle.std.proofs.lemmas.List.FromFn.{length-range_with_len, get_or-range_with_len}
 use Rattle.std.proofs.lemmas.List.Kept.{IsStrictlyIncreasing-filter}
 use Rattle.rtl_model.specs.bodies.Types.{ElementType}
-use Rattle.rtl_model.specs.bodies.Body as b
+use Rattle.rtl_model.specs.bodies.Body as bodies
 use Rattle.rtl_model.specs.bodies.Fits.{Fits}
 use Rattle.vhdl_names_rules.specs.units.Expressions as e
-use Rattle.vhdl_names_rules.specs.units.Expressions.{Static, Signal, Place}
+use Rattle.vhdl_names_rules.specs.units.Expressions.{Static, Signal, SignalPart}
 use Rattle.vhdl_names_rules.specs.units.Units as u
 use Rattle.vhdl_names_rules.specs.units.Units.{Units, Form, Port, Entity, Architecture}
 use Rattle.vhdl_names_rules.specs.sound.Expressions.{Inside, shape_of}
 use Rattle.vhdl_names_rules.specs.sound.Statements.{is_driven, statements_fit}
 use Rattle.vhdl_names_rules.specs.sound.Units.{form_fits, default_fits, may_be_resolved, object_fits, objects_fit, sensitivity_fits, process_fits}
 use Rattle.vhdl_expand_rules.specs.Elab.{Elab, each}
-use Rattle.vhdl_expand_rules.specs.Kinds.{Kind, kind_of}
+use Rattle.vhdl_expand_rules.specs.Kinds.{ObjectKind, kind_of}
 use Rattle.vhdl_expand_rules.specs.Site.{Site, elements_count, place_elements}
 use Rattle.vhdl_expand_rules.specs.Statements.{statements, statements_turns}
 use Rattle.vhdl_expand_rules.specs.Prefixes.{targets, is_static_part, prefix, prefixes_elements, concatenated, is_among, in_order}
@@ -59,7 +59,7 @@ variable-declares i at o v h e =
       };
     })
 
-abbrev kinds_of : List Variable → List Kind
+abbrev kinds_of : List Variable → List ObjectKind
 kinds_of vs = map (λ (v : Variable). v.kind) vs
 
 record AllDeclare (os : List u.Object) (vs : List Variable) : Type 0 where
@@ -95,26 +95,26 @@ same-driven : (i : Inside) (fs : List Form) (x : Signal) → is_driven (record i
 same-driven i fs (e.port k) h = h
 same-driven i fs (e.Signal.signal k) h = h
 
-prefix-driven : (i : Inside) (p : Place) → is_driven i p.signal ≡ true → is_driven i (prefix p).signal ≡ true
+prefix-driven : (i : Inside) (p : SignalPart) → is_driven i p.signal ≡ true → is_driven i (prefix p).signal ≡ true
 prefix-driven i p h = by (is_static_part p.part)
   where
     by : (t : Bool) → is_driven i (cond t p (record p { part = e.whole })).signal ≡ true
     by true = h
     by false = h
 
-abbrev IsDriven : Inside → Place → Type 0
+abbrev IsDriven : Inside → SignalPart → Type 0
 IsDriven i p = is_driven i p.signal ≡ true
 
 -- what the longest static prefixes of a body's targets gave
-record Prefixes (at : Site) (P : ℕ → Type 0) (ps : List Place) (ds : List ℕ) : Type 0 where
+record Prefixes (at : Site) (P : ℕ → Type 0) (ps : List SignalPart) (ds : List ℕ) : Type 0 where
   driven : All P ds
-  among : All (λ (p : Place). (es : List ℕ) × (place_elements at (prefix p) ≡ Ok es) × All (Contains ds) es) ps
+  among : All (λ (p : SignalPart). (es : List ℕ) × (place_elements at (prefix p) ≡ Ok es) × All (Contains ds) es) ps
 
-prefixes-driven : (i : Inside) (at : Site) (os ss : List Object) (ps : List Place) (ds : List ℕ) → IsDeclared i at os ss → All (IsDriven i) ps → prefixes_elements at ps ≡ Ok ds
+prefixes-driven : (i : Inside) (at : Site) (os ss : List Object) (ps : List SignalPart) (ds : List ℕ) → IsDeclared i at os ss → All (IsDriven i) ps → prefixes_elements at ps ≡ Ok ds
     → Prefixes at (MayBeDriven (os ++ ss)) ps ds
 unfolding prefixes_elements
 prefixes-driven i at os ss ps ds h driven g =
-    let f : Place → Elab (List ℕ) = λ p. place_elements at (prefix p) in
+    let f : SignalPart → Elab (List ℕ) = λ p. place_elements at (prefix p) in
     let ess = bound (each (λ p. place_elements at (prefix p)) ps) _ ds g in
     subst (Prefixes at (MayBeDriven (os ++ ss)) ps) (ok (concatenated ess.x) ds ess.then_gave) (record {
       driven = all_concatenated (MayBeDriven (os ++ ss)) ess.x
@@ -152,7 +152,7 @@ process-sound i at os ss p q h fit g =
       body = body-stands (kinds_types at.site.ports ++ kinds_types at.site.signals) (object_types all) count (elements_count (object_kinds all)) (kinds_types (kinds_of vs.x)) body.x
           (site-types i at.site os ss h) (site-count i at.site os ss h) fits;
       assigned = body_assigns at.site (kinds_of vs.x) (Contains drives) p.body at.site.integers.loops body.x
-          (All-weaker (λ (x : Place). (es : List ℕ) × (place_elements at.site (prefix x) ≡ Ok es) × All (Contains ds.x) es) (λ (x : Place). (es : List ℕ) × (place_elements at.site (prefix x) ≡ Ok es) × All (Contains drives) es)
+          (All-weaker (λ (x : SignalPart). (es : List ℕ) × (place_elements at.site (prefix x) ≡ Ok es) × All (Contains ds.x) es) (λ (x : SignalPart). (es : List ℕ) × (place_elements at.site (prefix x) ≡ Ok es) × All (Contains drives) es)
           (λ x w. (w.0, w.1, All-weaker (Contains ds.x) (Contains drives) kept w.0 w.2)) (targets p.body) prefixes.among) body.gave;
       drives = in_order_all (MayBeDriven all) count ds.x prefixes.driven;
       drives_rise = in-order-rises count ds.x;
@@ -162,7 +162,7 @@ process-sound i at os ss p q h fit g =
     is-below : (all : List Object) (count e : ℕ) → count ≡ elements_count (object_kinds all) → MayBeDriven all e → e < count
     is-below all count e c m = subst (λ n. e < n) (length-roles all ∙ sym c) (slice_get_within (object_roles all) e m.0 m.1)
 
-    body-stands : (types types' : List ElementType) (count count' : ℕ) (variables : List ElementType) (body : b.Stmts) → types ≡ types' → count ≡ count'
+    body-stands : (types types' : List ElementType) (count count' : ℕ) (variables : List ElementType) (body : bodies.Stmts) → types ≡ types' → count ≡ count'
         → Fits (record { nets = types; variables = variables; targets = range_with_len 0 count }) body → Fits (record { nets = types'; variables = variables; targets = range_with_len 0 count' }) body
     body-stands types types' count count' variables body p q h =
         subst (λ n. Fits (record { nets = types'; variables = variables; targets = range_with_len 0 n }) body) q

@@ -11,8 +11,8 @@ use Rattle.vhdl_values.specs.declared.scalar.Nine.{Nine}
 use Rattle.vhdl_values.specs.Scalar.{code_of}
 use Rattle.rtl_model.specs.bodies.Types.{ElementType, nine_valued, enumeration, HasType}
 use Rattle.rtl_model.specs.bodies.Fits.{IsWidth, width, value_width, FitsAs, DrivesType, FitsChoice, FitsStmt, Fits, FitsBranches, FitsAlternatives}
-use Rattle.rtl_model.specs.bodies.Body as b
-use Rattle.vhdl_names_rules.specs.units.Expressions.{Place, Part, Value}
+use Rattle.rtl_model.specs.bodies.Body as bodies
+use Rattle.vhdl_names_rules.specs.units.Expressions.{SignalPart, Part, Value}
 use Rattle.vhdl_names_rules.specs.units.Expressions as u
 use Rattle.vhdl_names_rules.specs.units.Statements as s
 use Rattle.vhdl_names_rules.specs.units.Units.{Form}
@@ -24,7 +24,7 @@ use Rattle.vhdl_expand_rules.specs.Elab.{unless, each}
 use Rattle.vhdl_expand_rules.specs.Integers.{turns}
 use Rattle.vhdl_expand_rules.specs.Site.{Site, in_loop, elements_count, place_elements, variable_elements}
 use Rattle.vhdl_expand_rules.specs.Expressions as x
-use Rattle.vhdl_expand_rules.specs.Statements.{given, choice, joined, one, statement, statements, branches, alternatives}
+use Rattle.vhdl_expand_rules.specs.Statements.{value_given, choice, joined_bodies, one, statement, statements, branches, alternatives}
 use Rattle.vhdl_expand_rules.specs.laws.Sites.{IsSite, kinds_types, scope_at}
 use Rattle.vhdl_expand_rules.specs.laws.Expressions.{HasShape, type_of}
 use Rattle.vhdl_expand_rules.specs.laws.Statements.{EachBodyFits}
@@ -38,12 +38,12 @@ use Rattle.vhdl_expand_rules.proofs.laws.Tests.{has_shape, value_of_shape, each-
 -- ---- what is assigned
 
 -- a value for so many elements
-record IsGiven (at : Site) (z : Shape) (len : ℕ) (v : b.Value) : Type 0 where
+record IsGiven (at : Site) (z : Shape) (len : ℕ) (v : bodies.Value) : Type 0 where
   fits : FitsAs (scope_at at) (type_of z) v
   width : len ≡ value_width v
 
-given-fits : (i : Inside) (at : Site) (z : Shape) (len : ℕ) (g : s.Given) (v : b.Value) → IsSite i at → IsWidth len → given_fits i z g ≡ true → given at len g ≡ Ok v → IsGiven at z len v
-unfolding given
+given-fits : (i : Inside) (at : Site) (z : Shape) (len : ℕ) (g : s.Given) (v : bodies.Value) → IsSite i at → IsWidth len → given_fits i z g ≡ true → value_given at len g ≡ Ok v → IsGiven at z len v
+unfolding value_given
 given-fits i at z len (s.single y) v h w k m =
     let e = bound (x.value at y) _ v m in
     let same = bound (unless Length (value_width e.x == len)) _ v e.then_gave in
@@ -54,7 +54,7 @@ given-fits i at vector len (s.filled y) v h w k m =
     let e = bound (x.vector at y) _ v m in
     let same = bound (unless Length (width e.x == 1)) _ v e.then_gave in
     let q = each-vector-fits i at y sound.one e.x h (has_shape sound.one (vector_shape i y) k) e.gave in
-    subst (IsGiven at vector len) (ok (b.elements (b.filled len e.x)) v same.then_gave) (record { fits = (w, q.fits, q.width); width = refl })
+    subst (IsGiven at vector len) (ok (bodies.elements (bodies.filled len e.x)) v same.then_gave) (record { fits = (w, q.fits, q.width); width = refl })
 given-fits i at sound.one len (s.filled y) v h w k m = absurd cc
 given-fits i at (state count) len (s.filled y) v h w k m = absurd cc
 
@@ -80,16 +80,16 @@ drives at t e h =
     none : (e : ℕ) → 0 + e ≡ e
     none e = omega arith
 
-assign-fits : (i : Inside) (at : Site) (p : Place) (g : s.Given) (es : List ℕ) (v : b.Value) → IsSite i at → given_fits_target i (place_shape i p) g ≡ true → place_elements at p ≡ Ok es
-    → given at (length es) g ≡ Ok v → FitsStmt (scope_at at) (b.assign es v)
+assign-fits : (i : Inside) (at : Site) (p : SignalPart) (g : s.Given) (es : List ℕ) (v : bodies.Value) → IsSite i at → given_fits_target i (place_shape i p) g ≡ true → place_elements at p ≡ Ok es
+    → value_given at (length es) g ≡ Ok v → FitsStmt (scope_at at) (bodies.assign es v)
 assign-fits i at p g es v h k m n =
     let z = target i (place_shape i p) g k in
     let q = each-name-fits i at p z.shape es h z.is m in
     let w = given-fits i at z.shape (length es) g v h (is_width z.shape (length es) q.width) z.fits n in
     (type_of z.shape, w.fits, w.width, All-weaker (HasType (scope_at at).nets (type_of z.shape)) (DrivesType (scope_at at) (type_of z.shape)) (drives at (type_of z.shape)) es q.typed)
 
-set-fits : (i : Inside) (at : Site) (n : ℕ) (part : Part) (g : s.Given) (z : Shape) (f : Form) (es : List ℕ) (v : b.Value) → IsSite i at → slice_get i.variables n ≡ Some f → part_shape i f part ≡ Some z
-    → given_fits i z g ≡ true → variable_elements at n part ≡ Ok es → given at (length es) g ≡ Ok v → FitsStmt (scope_at at) (b.set es v)
+set-fits : (i : Inside) (at : Site) (n : ℕ) (part : Part) (g : s.Given) (z : Shape) (f : Form) (es : List ℕ) (v : bodies.Value) → IsSite i at → slice_get i.variables n ≡ Some f → part_shape i f part ≡ Some z
+    → given_fits i z g ≡ true → variable_elements at n part ≡ Ok es → value_given at (length es) g ≡ Ok v → FitsStmt (scope_at at) (bodies.set es v)
 set-fits i at n part g z f es v h a c k m e =
     let q = variable_fits i at n part f z es h a c m in
     let w = given-fits i at z (length es) g v h (is_width z (length es) q.width) k e in
@@ -145,19 +145,19 @@ module _ (at : Site) where
 -- ---- statements
 
 module _ (at : Site) where
-  followed-fits : (a c : b.Stmts) → Fits (scope_at at) a → Fits (scope_at at) c → Fits (scope_at at) (b.followed_by a c)
-  followed-fits b.done c h k = k
-  followed-fits (b.step y a) c h k = (h.0, followed-fits a c h.1 k)
+  followed-fits : (a c : bodies.Stmts) → Fits (scope_at at) a → Fits (scope_at at) c → Fits (scope_at at) (bodies.followed_by a c)
+  followed-fits bodies.done c h k = k
+  followed-fits (bodies.step y a) c h k = (h.0, followed-fits a c h.1 k)
 
-  joined-fits : (ss : List b.Stmts) → All (Fits (scope_at at)) ss → Fits (scope_at at) (joined ss)
+  joined-fits : (ss : List bodies.Stmts) → All (Fits (scope_at at)) ss → Fits (scope_at at) (joined_bodies ss)
   joined-fits [] h = tt
-  joined-fits (y ∷ ss) h = followed-fits y (joined ss) (All-head (Fits (scope_at at)) y ss h) (joined-fits ss (All-tail (Fits (scope_at at)) y ss h))
+  joined-fits (y ∷ ss) h = followed-fits y (joined_bodies ss) (All-head (Fits (scope_at at)) y ss h) (joined-fits ss (All-tail (Fits (scope_at at)) y ss h))
 
 in-loop : (i : Inside) (at : Site) (j : ℤ) → IsSite i at → IsSite (within_loop i) (in_loop at j)
 in-loop i at j h = record { constants = h.constants; ports = h.ports; signals = h.signals; variables = h.variables }
 
 -- the alternatives of a case on an enumeration's literal
-record OfPosition (at : Site) (alts : b.Alternatives) : Type 0 where
+record OfPosition (at : Site) (alts : bodies.Alternatives) : Type 0 where
   count : ℕ
   fit : (n : ℕ) → count ≤ n → FitsAlternatives (scope_at at) (enumeration n) 1 alts
 
@@ -166,9 +166,9 @@ some-shape None h = absurd cc
 some-shape (Some z) h = (z, refl)
 
 -- a case on what has a shape, whose alternatives fit
-selected-fits : (alts : s.Alternatives) (i : Inside) (at : Site) (v : Value) (body : b.Stmts) → IsSite i at → (is_some (value_shape i v) && alternatives_fit i (value_shape i v) alts) ≡ true
-    → ((z : Shape) (len : ℕ) (cs : b.Alternatives) → HasShape z len → alternatives_fit i (Some z) alts ≡ true → alternatives at len alts ≡ Ok cs → FitsAlternatives (scope_at at) (type_of z) len cs)
-    → statement at (s.select v alts) ≡ Ok body → Fits (scope_at at) body
+selected-fits : (alts : s.Alternatives) (i : Inside) (at : Site) (v : Value) (body : bodies.Stmts) → IsSite i at → (is_some (value_shape i v) && alternatives_fit i (value_shape i v) alts) ≡ true
+    → ((z : Shape) (len : ℕ) (cs : bodies.Alternatives) → HasShape z len → alternatives_fit i (Some z) alts ≡ true → alternatives at len alts ≡ Ok cs → FitsAlternatives (scope_at at) (type_of z) len cs)
+    → statement at (s.case_of v alts) ≡ Ok body → Fits (scope_at at) body
 unfolding statement
 selected-fits alts i at v body h k go m =
     let both = and_parts (is_some (value_shape i v)) (alternatives_fit i (value_shape i v) alts) k in
@@ -177,90 +177,90 @@ selected-fits alts i at v body h k go m =
     let cs = bound (alternatives at (value_width e.x) alts) _ body e.then_gave in
     let w = value_of_shape i at v z.0 e.x h z.1 e.gave in
     let sound : alternatives_fit i (Some z.0) alts ≡ true = ap (λ (o : Option Shape). alternatives_fit i o alts) (sym z.1) ∙ both.1 in
-    subst (Fits (scope_at at)) (ok (one (b.case_of e.x cs.x)) body cs.then_gave)
+    subst (Fits (scope_at at)) (ok (one (bodies.case_of e.x cs.x)) body cs.then_gave)
     ((type_of z.0, w.fits, go z.0 (value_width e.x) cs.x w.width sound cs.gave), tt)
 
 mutual
   unfolding statement statement_fits x.value
 
-  statement-fits : (y : s.Statement) (i : Inside) (at : Site) (body : b.Stmts) → IsSite i at → statement_fits i y ≡ true → statement at y ≡ Ok body → Fits (scope_at at) body
-  statement-fits s.nothing i at body h k m = subst (Fits (scope_at at)) (ok (one b.nothing) body m) (tt, tt)
+  statement-fits : (y : s.Statement) (i : Inside) (at : Site) (body : bodies.Stmts) → IsSite i at → statement_fits i y ≡ true → statement at y ≡ Ok body → Fits (scope_at at) body
+  statement-fits s.null_of i at body h k m = subst (Fits (scope_at at)) (ok (one bodies.null_of) body m) (tt, tt)
   statement-fits (s.assign p g) i at body h k m =
       let both = and_parts (is_driven i p.signal) (given_fits_target i (place_shape i p) g) k in
       let es = bound (place_elements at p) _ body m in
-      let v = bound (given at (length es.x) g) _ body es.then_gave in
-      subst (Fits (scope_at at)) (ok (one (b.assign es.x v.x)) body v.then_gave) (assign-fits i at p g es.x v.x h both.1 es.gave v.gave, tt)
+      let v = bound (value_given at (length es.x) g) _ body es.then_gave in
+      subst (Fits (scope_at at)) (ok (one (bodies.assign es.x v.x)) body v.then_gave) (assign-fits i at p g es.x v.x h both.1 es.gave v.gave, tt)
   statement-fits (s.set n part g) i at body h k m =
       let z = target i _ g k in
       let f = step (slice_get i.variables n) _ z.shape z.is in
       let es = bound (variable_elements at n part) _ body m in
-      let v = bound (given at (length es.x) g) _ body es.then_gave in
-      subst (Fits (scope_at at)) (ok (one (b.set es.x v.x)) body v.then_gave)
+      let v = bound (value_given at (length es.x) g) _ body es.then_gave in
+      subst (Fits (scope_at at)) (ok (one (bodies.set es.x v.x)) body v.then_gave)
       (set-fits i at n part g z.shape f.x es.x v.x h f.gave f.then_gave z.fits es.gave v.gave, tt)
-  statement-fits (s.choose bs) i at body h k m =
+  statement-fits (s.if_of bs) i at body h k m =
       let cs = bound (branches at bs) _ body m in
-      subst (Fits (scope_at at)) (ok (one (b.if_of cs.x)) body cs.then_gave) (branches-fit bs i at cs.x h k cs.gave, tt)
-  statement-fits (s.select (u.Value.position p) alts) i at body h k m =
+      subst (Fits (scope_at at)) (ok (one (bodies.if_of cs.x)) body cs.then_gave) (branches-fit bs i at cs.x h k cs.gave, tt)
+  statement-fits (s.case_of (u.Value.position p) alts) i at body h k m =
       let cs = bound (alternatives at 1 alts) _ body m in
       let w = positions-fit alts i at cs.x h k cs.gave in
       let n : ℕ = suc p + w.count in
-      subst (Fits (scope_at at)) (ok (one (b.case_of (b.position p) cs.x)) body cs.then_gave) ((enumeration n, omega arith, w.fit n (omega arith)), tt)
-  statement-fits (s.select (u.Value.elements y) alts) i at body h k m =
+      subst (Fits (scope_at at)) (ok (one (bodies.case_of (bodies.position p) cs.x)) body cs.then_gave) ((enumeration n, omega arith, w.fit n (omega arith)), tt)
+  statement-fits (s.case_of (u.Value.elements y) alts) i at body h k m =
       selected-fits alts i at (u.Value.elements y) body h k (λ z len cs w a c. alternatives-fit alts i at z len cs h w a c) m
-  statement-fits (s.select (u.state_of y) alts) i at body h k m =
+  statement-fits (s.case_of (u.state_of y) alts) i at body h k m =
       selected-fits alts i at (u.state_of y) body h k (λ z len cs w a c. alternatives-fit alts i at z len cs h w a c) m
-  statement-fits (s.select (u.state_of_variable y) alts) i at body h k m =
+  statement-fits (s.case_of (u.state_of_variable y) alts) i at body h k m =
       selected-fits alts i at (u.state_of_variable y) body h k (λ z len cs w a c. alternatives-fit alts i at z len cs h w a c) m
-  statement-fits (s.loop r inner) i at body h k m =
+  statement-fits (s.for_of r inner) i at body h k m =
       let both = and_parts (range_fits i r) (statements_fit (within_loop i) inner) k in
       let is = bound (turns at.integers r) _ body m in
       let ss = bound (each (λ j. statements (in_loop at j) inner) is.x) _ body is.then_gave in
-      subst (Fits (scope_at at)) (ok (joined ss.x) body ss.then_gave)
+      subst (Fits (scope_at at)) (ok (joined_bodies ss.x) body ss.then_gave)
       (joined-fits at ss.x (each-all (Fits (scope_at at)) (λ j. statements (in_loop at j) inner) is.x ss.x
       (λ j y e. statements-fit inner (within_loop i) (in_loop at j) y (in-loop i at j h) both.1 e) ss.gave))
 
-  statements-fit : (ys : s.Statements) (i : Inside) (at : Site) (body : b.Stmts) → IsSite i at → statements_fit i ys ≡ true → statements at ys ≡ Ok body → Fits (scope_at at) body
-  statements-fit s.done i at body h k m = subst (Fits (scope_at at)) (ok b.done body m) tt
+  statements-fit : (ys : s.Statements) (i : Inside) (at : Site) (body : bodies.Stmts) → IsSite i at → statements_fit i ys ≡ true → statements at ys ≡ Ok body → Fits (scope_at at) body
+  statements-fit s.done i at body h k m = subst (Fits (scope_at at)) (ok bodies.done body m) tt
   statements-fit (s.step y ys) i at body h k m =
       let both = and_parts (statement_fits i y) (statements_fit i ys) k in
       let a = bound (statement at y) _ body m in
       let c = bound (statements at ys) _ body a.then_gave in
-      subst (Fits (scope_at at)) (ok (b.followed_by a.x c.x) body c.then_gave)
+      subst (Fits (scope_at at)) (ok (bodies.followed_by a.x c.x) body c.then_gave)
       (followed-fits at a.x c.x (statement-fits y i at a.x h both.0 a.gave) (statements-fit ys i at c.x h both.1 c.gave))
 
-  branches-fit : (bs : s.Branches) (i : Inside) (at : Site) (cs : b.Branches) → IsSite i at → branches_fit i bs ≡ true → branches at bs ≡ Ok cs → FitsBranches (scope_at at) cs
-  branches-fit s.no_else i at cs h k m = subst (FitsBranches (scope_at at)) (ok b.no_else cs m) tt
+  branches-fit : (bs : s.Branches) (i : Inside) (at : Site) (cs : bodies.Branches) → IsSite i at → branches_fit i bs ≡ true → branches at bs ≡ Ok cs → FitsBranches (scope_at at) cs
+  branches-fit s.no_else i at cs h k m = subst (FitsBranches (scope_at at)) (ok bodies.no_else cs m) tt
   branches-fit (s.otherwise ys) i at cs h k m =
       let a = bound (statements at ys) _ cs m in
-      subst (FitsBranches (scope_at at)) (ok (b.otherwise a.x) cs a.then_gave) (statements-fit ys i at a.x h k a.gave)
+      subst (FitsBranches (scope_at at)) (ok (bodies.otherwise a.x) cs a.then_gave) (statements-fit ys i at a.x h k a.gave)
   branches-fit (s.branch t ys bs) i at cs h k m =
       let both = and_parts (test_fits i t && statements_fit i ys) (branches_fit i bs) k in
       let first = and_parts (test_fits i t) (statements_fit i ys) both.0 in
       let c = bound (x.test at t) _ cs m in
       let a = bound (statements at ys) _ cs c.then_gave in
       let rest = bound (branches at bs) _ cs a.then_gave in
-      subst (FitsBranches (scope_at at)) (ok (b.branch c.x a.x rest.x) cs rest.then_gave)
+      subst (FitsBranches (scope_at at)) (ok (bodies.branch c.x a.x rest.x) cs rest.then_gave)
       (each-test-fits i at t c.x h first.0 c.gave, statements-fit ys i at a.x h first.1 a.gave, branches-fit bs i at rest.x h both.1 rest.gave)
 
-  alternatives-fit : (alts : s.Alternatives) (i : Inside) (at : Site) (z : Shape) (len : ℕ) (cs : b.Alternatives) → IsSite i at → HasShape z len → alternatives_fit i (Some z) alts ≡ true
+  alternatives-fit : (alts : s.Alternatives) (i : Inside) (at : Site) (z : Shape) (len : ℕ) (cs : bodies.Alternatives) → IsSite i at → HasShape z len → alternatives_fit i (Some z) alts ≡ true
       → alternatives at len alts ≡ Ok cs → FitsAlternatives (scope_at at) (type_of z) len cs
   alternatives-fit (s.others ys) i at z len cs h w k m =
       let a = bound (statements at ys) _ cs m in
-      subst (FitsAlternatives (scope_at at) (type_of z) len) (ok (b.others a.x) cs a.then_gave) (statements-fit ys i at a.x h k a.gave)
+      subst (FitsAlternatives (scope_at at) (type_of z) len) (ok (bodies.others a.x) cs a.then_gave) (statements-fit ys i at a.x h k a.gave)
   alternatives-fit (s.alternative choices ys alts) i at z len cs h w k m =
       let both = and_parts (list_all (choice_fits (Some z)) choices && statements_fit i ys) (alternatives_fit i (Some z) alts) k in
       let first = and_parts (list_all (choice_fits (Some z)) choices) (statements_fit i ys) both.0 in
       let c = bound (each (choice len) choices) _ cs m in
       let a = bound (statements at ys) _ cs c.then_gave in
       let rest = bound (alternatives at len alts) _ cs a.then_gave in
-      subst (FitsAlternatives (scope_at at) (type_of z) len) (ok (b.alternative c.x a.x rest.x) cs rest.then_gave)
+      subst (FitsAlternatives (scope_at at) (type_of z) len) (ok (bodies.alternative c.x a.x rest.x) cs rest.then_gave)
       (choices-fit at z len choices c.x w first.0 c.gave, statements-fit ys i at a.x h first.1 a.gave, alternatives-fit alts i at z len rest.x h w both.1 rest.gave)
 
-  positions-fit : (alts : s.Alternatives) (i : Inside) (at : Site) (cs : b.Alternatives) → IsSite i at → alternatives_fit i None alts ≡ true → alternatives at 1 alts ≡ Ok cs → OfPosition at cs
+  positions-fit : (alts : s.Alternatives) (i : Inside) (at : Site) (cs : bodies.Alternatives) → IsSite i at → alternatives_fit i None alts ≡ true → alternatives at 1 alts ≡ Ok cs → OfPosition at cs
   positions-fit (s.others ys) i at cs h k m =
       let a = bound (statements at ys) _ cs m in
       let w = statements-fit ys i at a.x h k a.gave in
-      subst (OfPosition at) (ok (b.others a.x) cs a.then_gave) (record { count = 0; fit = λ n l. w })
+      subst (OfPosition at) (ok (bodies.others a.x) cs a.then_gave) (record { count = 0; fit = λ n l. w })
   positions-fit (s.alternative choices ys alts) i at cs h k m =
       let both = and_parts (list_all (choice_fits None) choices && statements_fit i ys) (alternatives_fit i None alts) k in
       let first = and_parts (list_all (choice_fits None) choices) (statements_fit i ys) both.0 in
@@ -270,7 +270,7 @@ mutual
       let p = positions at choices c.x first.0 c.gave in
       let w = statements-fit ys i at a.x h first.1 a.gave in
       let q = positions-fit alts i at rest.x h both.1 rest.gave in
-      subst (OfPosition at) (ok (b.alternative c.x a.x rest.x) cs rest.then_gave)
+      subst (OfPosition at) (ok (bodies.alternative c.x a.x rest.x) cs rest.then_gave)
       (record { count = p.count + q.count; fit = λ n l. (p.fit n (omega (arith, l)), w, q.fit n (omega (arith, l))) })
 
 pub each-body-fits : EachBodyFits

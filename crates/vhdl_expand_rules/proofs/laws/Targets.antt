@@ -5,17 +5,17 @@ use Rattle.std.specs.List.{list_any, list_all, range_with_len}
 use Rattle.std.proofs.lemmas.Bool.{eqb-true, eq-eqb, or_cases, or_left, or_right, and_parts}
 use Rattle.std.proofs.lemmas.List.Elements.{All-cons, All-nil, All-head, All-tail, All-append, All-weaker, All-contains, All-contains_itself, Contains-append_left, Contains-append_right, filter_passes}
 use Rattle.std.proofs.lemmas.List.FromFn.{length-range_with_len, get_or-range_with_len}
-use Rattle.rtl_model.specs.bodies.Body as b
-use Rattle.vhdl_names_rules.specs.units.Expressions.{Place}
+use Rattle.rtl_model.specs.bodies.Body as bodies
+use Rattle.vhdl_names_rules.specs.units.Expressions.{SignalPart}
 use Rattle.vhdl_names_rules.specs.units.Statements as s
 use Rattle.vhdl_names_rules.specs.sound.Expressions.{Inside, Shape, place_shape, value_shape, range_fits, test_fits}
 use Rattle.vhdl_names_rules.specs.sound.Statements.{given_fits_target, is_driven, within_loop, choice_fits, selector_fits, statement_fits, statements_fit, branches_fit, alternatives_fit}
 use Rattle.vhdl_expand_rules.specs.Elab.{Elab, each}
 use Rattle.vhdl_expand_rules.specs.Integers.{turns}
-use Rattle.vhdl_expand_rules.specs.Kinds.{Kind}
+use Rattle.vhdl_expand_rules.specs.Kinds.{ObjectKind}
 use Rattle.vhdl_expand_rules.specs.Site.{Site, in_loop, place_elements, variable_elements}
 use Rattle.vhdl_expand_rules.specs.Expressions as x
-use Rattle.vhdl_expand_rules.specs.Statements.{given, choice, joined, one, statement, statements, branches, alternatives}
+use Rattle.vhdl_expand_rules.specs.Statements.{value_given, choice, joined_bodies, one, statement, statements, branches, alternatives}
 use Rattle.vhdl_expand_rules.specs.Prefixes.{prefix, statement_targets, targets, branches_targets, alternatives_targets, concatenated, is_among, in_order}
 use Rattle.vhdl_expand_rules.specs.laws.Trees.{Assigns, BranchesAssign, AlternativesAssign}
 use Rattle.vhdl_expand_rules.proofs.Steps.{ok, bound, each-all}
@@ -102,107 +102,107 @@ each-among {A} f (x ∷ xs) ess h =
     (All-weaker (GaveAmong f (concatenated rest.x)) (GaveAmong f all)
     (λ y g. (g.0, g.1, All-weaker (Contains (concatenated rest.x)) (Contains all) (λ e c. Contains-append_right es.x (concatenated rest.x) e c) g.0 g.2)) xs (each-among f xs rest.x rest.gave)))
 
-pub among_prefixes : (at : Site) (ps : List Place) (ess : List (List ℕ)) → each (λ p. place_elements at (prefix p)) ps ≡ Ok ess
+pub among_prefixes : (at : Site) (ps : List SignalPart) (ess : List (List ℕ)) → each (λ p. place_elements at (prefix p)) ps ≡ Ok ess
     → All (GaveAmong (λ p. place_elements at (prefix p)) (concatenated ess)) ps
 among_prefixes at ps ess h = each-among (λ p. place_elements at (prefix p)) ps ess h
 
 -- ---- what a body assigns
 
-module _ (at : Site) (vs : List Kind) (P : ℕ → Type 0) where
+module _ (at : Site) (vs : List ObjectKind) (P : ℕ → Type 0) where
   -- the longest static prefix of a name has only such elements
-  abbrev Driven : Place → Type 0
+  abbrev Driven : SignalPart → Type 0
   Driven p = (ds : List ℕ) × (place_elements at (prefix p) ≡ Ok ds) × All P ds
 
-  name-assigned : (loops : List ℤ) (p : Place) (es : List ℕ) → Driven p → place_elements (within at loops vs) p ≡ Ok es → All P es
+  name-assigned : (loops : List ℤ) (p : SignalPart) (es : List ℕ) → Driven p → place_elements (within at loops vs) p ≡ Ok es → All P es
   name-assigned loops p es h g = All-weaker (Contains h.0) P (λ e c. All-contains P h.0 e h.2 c) es (name_in_prefix at loops vs p es h.0 g h.1)
 
-  followed-assigns : (a c : b.Stmts) → Assigns P a → Assigns P c → Assigns P (b.followed_by a c)
-  followed-assigns b.done c h k = k
-  followed-assigns (b.step y a) c h k = (h.0, followed-assigns a c h.1 k)
+  followed-assigns : (a c : bodies.Stmts) → Assigns P a → Assigns P c → Assigns P (bodies.followed_by a c)
+  followed-assigns bodies.done c h k = k
+  followed-assigns (bodies.step y a) c h k = (h.0, followed-assigns a c h.1 k)
 
-  joined-assigns : (ss : List b.Stmts) → All (Assigns P) ss → Assigns P (joined ss)
+  joined-assigns : (ss : List bodies.Stmts) → All (Assigns P) ss → Assigns P (joined_bodies ss)
   joined-assigns [] h = tt
-  joined-assigns (y ∷ ss) h = followed-assigns y (joined ss) (All-head (Assigns P) y ss h) (joined-assigns ss (All-tail (Assigns P) y ss h))
+  joined-assigns (y ∷ ss) h = followed-assigns y (joined_bodies ss) (All-head (Assigns P) y ss h) (joined-assigns ss (All-tail (Assigns P) y ss h))
 
   mutual
     unfolding statement
 
-    statement-assigns : (y : s.Statement) (loops : List ℤ) (body : b.Stmts) → All Driven (statement_targets y) → statement (within at loops vs) y ≡ Ok body → Assigns P body
-    statement-assigns s.nothing loops body h m = subst (Assigns P) (ok (one b.nothing) body m) (tt, tt)
+    statement-assigns : (y : s.Statement) (loops : List ℤ) (body : bodies.Stmts) → All Driven (statement_targets y) → statement (within at loops vs) y ≡ Ok body → Assigns P body
+    statement-assigns s.null_of loops body h m = subst (Assigns P) (ok (one bodies.null_of) body m) (tt, tt)
     statement-assigns (s.assign p g) loops body h m =
         let es = bound (place_elements (within at loops vs) p) _ body m in
-        let v = bound (given (within at loops vs) (length es.x) g) _ body es.then_gave in
-        subst (Assigns P) (ok (one (b.assign es.x v.x)) body v.then_gave) (name-assigned loops p es.x (All-head Driven p [] h) es.gave, tt)
+        let v = bound (value_given (within at loops vs) (length es.x) g) _ body es.then_gave in
+        subst (Assigns P) (ok (one (bodies.assign es.x v.x)) body v.then_gave) (name-assigned loops p es.x (All-head Driven p [] h) es.gave, tt)
     statement-assigns (s.set n part g) loops body h m =
         let es = bound (variable_elements (within at loops vs) n part) _ body m in
-        let v = bound (given (within at loops vs) (length es.x) g) _ body es.then_gave in
-        subst (Assigns P) (ok (one (b.set es.x v.x)) body v.then_gave) (tt, tt)
-    statement-assigns (s.choose bs) loops body h m =
+        let v = bound (value_given (within at loops vs) (length es.x) g) _ body es.then_gave in
+        subst (Assigns P) (ok (one (bodies.set es.x v.x)) body v.then_gave) (tt, tt)
+    statement-assigns (s.if_of bs) loops body h m =
         let cs = bound (branches (within at loops vs) bs) _ body m in
-        subst (Assigns P) (ok (one (b.if_of cs.x)) body cs.then_gave) (branches-assign bs loops cs.x h cs.gave, tt)
-    statement-assigns (s.select v alts) loops body h m =
+        subst (Assigns P) (ok (one (bodies.if_of cs.x)) body cs.then_gave) (branches-assign bs loops cs.x h cs.gave, tt)
+    statement-assigns (s.case_of v alts) loops body h m =
         let e = bound (x.value (within at loops vs) v) _ body m in
         let cs = bound (alternatives (within at loops vs) (value_width e.x) alts) _ body e.then_gave in
-        subst (Assigns P) (ok (one (b.case_of e.x cs.x)) body cs.then_gave) (alternatives-assign alts loops (value_width e.x) cs.x h cs.gave, tt)
-    statement-assigns (s.loop r inner) loops body h m =
+        subst (Assigns P) (ok (one (bodies.case_of e.x cs.x)) body cs.then_gave) (alternatives-assign alts loops (value_width e.x) cs.x h cs.gave, tt)
+    statement-assigns (s.for_of r inner) loops body h m =
         let is = bound (turns (within at loops vs).integers r) _ body m in
         let ss = bound (each (λ j. statements (in_loop (within at loops vs) j) inner) is.x) _ body is.then_gave in
-        subst (Assigns P) (ok (joined ss.x) body ss.then_gave)
+        subst (Assigns P) (ok (joined_bodies ss.x) body ss.then_gave)
         (joined-assigns ss.x (each-all (Assigns P) (λ j. statements (in_loop (within at loops vs) j) inner) is.x ss.x
         (λ j y e. statements-assign inner (loops ++ j ∷ []) y h e) ss.gave))
 
-    statements-assign : (ys : s.Statements) (loops : List ℤ) (body : b.Stmts) → All Driven (targets ys) → statements (within at loops vs) ys ≡ Ok body → Assigns P body
-    statements-assign s.done loops body h m = subst (Assigns P) (ok b.done body m) tt
+    statements-assign : (ys : s.Statements) (loops : List ℤ) (body : bodies.Stmts) → All Driven (targets ys) → statements (within at loops vs) ys ≡ Ok body → Assigns P body
+    statements-assign s.done loops body h m = subst (Assigns P) (ok bodies.done body m) tt
     statements-assign (s.step y ys) loops body h m =
         let a = bound (statement (within at loops vs) y) _ body m in
         let c = bound (statements (within at loops vs) ys) _ body a.then_gave in
-        subst (Assigns P) (ok (b.followed_by a.x c.x) body c.then_gave)
+        subst (Assigns P) (ok (bodies.followed_by a.x c.x) body c.then_gave)
         (followed-assigns a.x c.x (statement-assigns y loops a.x (all_left Driven (statement_targets y) (targets ys) h) a.gave)
         (statements-assign ys loops c.x (all_right Driven (statement_targets y) (targets ys) h) c.gave))
 
-    branches-assign : (bs : s.Branches) (loops : List ℤ) (cs : b.Branches) → All Driven (branches_targets bs) → branches (within at loops vs) bs ≡ Ok cs → BranchesAssign P cs
-    branches-assign s.no_else loops cs h m = subst (BranchesAssign P) (ok b.no_else cs m) tt
+    branches-assign : (bs : s.Branches) (loops : List ℤ) (cs : bodies.Branches) → All Driven (branches_targets bs) → branches (within at loops vs) bs ≡ Ok cs → BranchesAssign P cs
+    branches-assign s.no_else loops cs h m = subst (BranchesAssign P) (ok bodies.no_else cs m) tt
     branches-assign (s.otherwise ys) loops cs h m =
         let a = bound (statements (within at loops vs) ys) _ cs m in
-        subst (BranchesAssign P) (ok (b.otherwise a.x) cs a.then_gave) (statements-assign ys loops a.x h a.gave)
+        subst (BranchesAssign P) (ok (bodies.otherwise a.x) cs a.then_gave) (statements-assign ys loops a.x h a.gave)
     branches-assign (s.branch t ys bs) loops cs h m =
         let c = bound (x.test (within at loops vs) t) _ cs m in
         let a = bound (statements (within at loops vs) ys) _ cs c.then_gave in
         let rest = bound (branches (within at loops vs) bs) _ cs a.then_gave in
-        subst (BranchesAssign P) (ok (b.branch c.x a.x rest.x) cs rest.then_gave)
+        subst (BranchesAssign P) (ok (bodies.branch c.x a.x rest.x) cs rest.then_gave)
         (statements-assign ys loops a.x (all_left Driven (targets ys) (branches_targets bs) h) a.gave, branches-assign bs loops rest.x (all_right Driven (targets ys) (branches_targets bs) h) rest.gave)
 
-    alternatives-assign : (alts : s.Alternatives) (loops : List ℤ) (len : ℕ) (cs : b.Alternatives) → All Driven (alternatives_targets alts)
+    alternatives-assign : (alts : s.Alternatives) (loops : List ℤ) (len : ℕ) (cs : bodies.Alternatives) → All Driven (alternatives_targets alts)
         → alternatives (within at loops vs) len alts ≡ Ok cs → AlternativesAssign P cs
     alternatives-assign (s.others ys) loops len cs h m =
         let a = bound (statements (within at loops vs) ys) _ cs m in
-        subst (AlternativesAssign P) (ok (b.others a.x) cs a.then_gave) (statements-assign ys loops a.x h a.gave)
+        subst (AlternativesAssign P) (ok (bodies.others a.x) cs a.then_gave) (statements-assign ys loops a.x h a.gave)
     alternatives-assign (s.alternative choices ys alts) loops len cs h m =
         let c = bound (each (choice len) choices) _ cs m in
         let a = bound (statements (within at loops vs) ys) _ cs c.then_gave in
         let rest = bound (alternatives (within at loops vs) len alts) _ cs a.then_gave in
-        subst (AlternativesAssign P) (ok (b.alternative c.x a.x rest.x) cs rest.then_gave)
+        subst (AlternativesAssign P) (ok (bodies.alternative c.x a.x rest.x) cs rest.then_gave)
         (statements-assign ys loops a.x (all_left Driven (targets ys) (alternatives_targets alts) h) a.gave, alternatives-assign alts loops len rest.x (all_right Driven (targets ys) (alternatives_targets alts) h) rest.gave)
 
-pub body_assigns : (at : Site) (vs : List Kind) (P : ℕ → Type 0) (ys : s.Statements) (loops : List ℤ) (body : b.Stmts)
-    → All (λ (p : Place). (ds : List ℕ) × (place_elements at (prefix p) ≡ Ok ds) × All P ds) (targets ys) → statements (within at loops vs) ys ≡ Ok body → Assigns P body
+pub body_assigns : (at : Site) (vs : List ObjectKind) (P : ℕ → Type 0) (ys : s.Statements) (loops : List ℤ) (body : bodies.Stmts)
+    → All (λ (p : SignalPart). (ds : List ℕ) × (place_elements at (prefix p) ≡ Ok ds) × All P ds) (targets ys) → statements (within at loops vs) ys ≡ Ok body → Assigns P body
 body_assigns at vs P ys loops body h m = statements-assign at vs P ys loops body h m
 
 -- ---- no target is an in port
 
-abbrev IsDriven : Inside → Place → Type 0
+abbrev IsDriven : Inside → SignalPart → Type 0
 IsDriven i p = is_driven i p.signal ≡ true
 
 mutual
   unfolding statement_fits
 
   statement-targets : (y : s.Statement) (i : Inside) → statement_fits i y ≡ true → All (IsDriven i) (statement_targets y)
-  statement-targets s.nothing i k = All-nil (IsDriven i)
+  statement-targets s.null_of i k = All-nil (IsDriven i)
   statement-targets (s.assign p g) i k = All-cons (IsDriven i) p [] (and_parts (is_driven i p.signal) (given_fits_target i (place_shape i p) g) k).0 (All-nil (IsDriven i))
   statement-targets (s.set n part g) i k = All-nil (IsDriven i)
-  statement-targets (s.choose bs) i k = branches-targets bs i k
-  statement-targets (s.select v alts) i k = alternatives-targets alts i (value_shape i v) (and_parts (selector_fits i v) (alternatives_fit i (value_shape i v) alts) k).1
-  statement-targets (s.loop r inner) i k = statements-targets inner (within_loop i) (and_parts (range_fits i r) (statements_fit (within_loop i) inner) k).1
+  statement-targets (s.if_of bs) i k = branches-targets bs i k
+  statement-targets (s.case_of v alts) i k = alternatives-targets alts i (value_shape i v) (and_parts (selector_fits i v) (alternatives_fit i (value_shape i v) alts) k).1
+  statement-targets (s.for_of r inner) i k = statements-targets inner (within_loop i) (and_parts (range_fits i r) (statements_fit (within_loop i) inner) k).1
 
   statements-targets : (ys : s.Statements) (i : Inside) → statements_fit i ys ≡ true → All (IsDriven i) (targets ys)
   statements-targets s.done i k = All-nil (IsDriven i)
@@ -223,5 +223,5 @@ mutual
       let both = and_parts (list_all (choice_fits o) cs && statements_fit i ys) (alternatives_fit i o alts) k in
       All-append (IsDriven i) (targets ys) (alternatives_targets alts) (statements-targets ys i (and_parts (list_all (choice_fits o) cs) (statements_fit i ys) both.0).1) (alternatives-targets alts i o both.1)
 
-pub targets_are_driven : (ys : s.Statements) (i : Inside) → statements_fit i ys ≡ true → All (λ (p : Place). is_driven i p.signal ≡ true) (targets ys)
+pub targets_are_driven : (ys : s.Statements) (i : Inside) → statements_fit i ys ≡ true → All (λ (p : SignalPart). is_driven i p.signal ≡ true) (targets ys)
 targets_are_driven ys i k = statements-targets ys i k

@@ -9,9 +9,9 @@ use Rattle.vhdl_values.specs.declared.kinds.Edge.{Edge}
 use Rattle.vhdl_values.specs.declared.kinds.Edge.TheVariants.{Rising, Falling, To1, To0}
 use Rattle.rtl_model.specs.bodies.Types.{ElementType, nine_valued, enumeration, HasType}
 use Rattle.rtl_model.specs.bodies.Fits.{FitBoth, FitsTest}
-use Rattle.rtl_model.specs.bodies.Body as b
+use Rattle.rtl_model.specs.bodies.Body as bodies
 use Rattle.vhdl_names_rules.specs.units.Expressions as u
-use Rattle.vhdl_names_rules.specs.units.Expressions.{Signal, Place, Vector, Value, Test}
+use Rattle.vhdl_names_rules.specs.units.Expressions.{Signal, SignalPart, Vector, Value, Test}
 use Rattle.vhdl_names_rules.specs.units.Units.{Form}
 use Rattle.vhdl_names_rules.specs.Rules.{◌>>=◌}
 use Rattle.vhdl_names_rules.specs.sound.Expressions.{Inside, Shape, one, vector, state, shape_of, is_elements, same_shape, static_fits, part_shape, signal_form, place_shape, vector_shape}
@@ -64,26 +64,26 @@ the-element r e h =
 
 -- ---- values
 
-vector-value : (at : Site) (s : Shape) (e : b.Expr) → IsVector at s e → IsValue at s (b.elements e)
+vector-value : (at : Site) (s : Shape) (e : bodies.Expr) → IsVector at s e → IsValue at s (bodies.elements e)
 vector-value at one e h = record { fits = h.fits; width = h.width }
 vector-value at vector e h = record { fits = h.fits; width = h.width }
 vector-value at (state count) e h = absurd (let k = h.of_elements in cc)
 
-state-of : (at : Site) (s : Shape) (e : ℕ) → is_elements s ≡ false → HasType (scope_at at).nets (type_of s) e → IsValue at s (b.position_of e)
+state-of : (at : Site) (s : Shape) (e : ℕ) → is_elements s ≡ false → HasType (scope_at at).nets (type_of s) e → IsValue at s (bodies.position_of e)
 state-of at (state count) e h g = record { fits = g; width = refl }
 state-of at one e h g = absurd cc
 state-of at vector e h g = absurd cc
 
-state-in : (at : Site) (s : Shape) (e : ℕ) → is_elements s ≡ false → HasType (kinds_types at.variables) (type_of s) e → IsValue at s (b.position_in e)
+state-in : (at : Site) (s : Shape) (e : ℕ) → is_elements s ≡ false → HasType (kinds_types at.variables) (type_of s) e → IsValue at s (bodies.position_in e)
 state-in at (state count) e h g = record { fits = g; width = refl }
 state-in at one e h g = absurd cc
 state-in at vector e h g = absurd cc
 
-pub value_of_shape : (i : Inside) (at : Site) (v : Value) (s : Shape) (e : b.Value) → IsSite i at → value_shape i v ≡ Some s → x.value at v ≡ Ok e → IsValue at s e
+pub value_of_shape : (i : Inside) (at : Site) (v : Value) (s : Shape) (e : bodies.Value) → IsSite i at → value_shape i v ≡ Some s → x.value at v ≡ Ok e → IsValue at s e
 unfolding x.value
 value_of_shape i at (u.Value.elements y) s e h k m =
     let d = bound (x.vector at y) _ e m in
-    subst (IsValue at s) (ok (b.elements d.x) e d.then_gave) (vector-value at s d.x (each-vector-fits i at y s d.x h k d.gave))
+    subst (IsValue at s) (ok (bodies.elements d.x) e d.then_gave) (vector-value at s d.x (each-vector-fits i at y s d.x h k d.gave))
 value_of_shape i at (u.Value.position n) s e h k m = absurd cc
 value_of_shape i at (u.state_of y) s e h k m =
     let f = step (signal_form i y) state_shape s k in
@@ -91,8 +91,8 @@ value_of_shape i at (u.state_of y) s e h k m =
     let d = bound (the_element (signal_elements at y u.whole)) _ e m in
     let q = the-element (signal_elements at y u.whole) d.x d.gave in
     let w = name_fits i at y u.whole (shape_of f.x) q.es h (ap (λ (o : Option Form). o >>= λ z. part_shape i z u.whole) f.gave) q.gave in
-    subst (IsValue at s) (ok (b.position_of d.x) e d.then_gave)
-    (subst (λ (z : Shape). IsValue at z (b.position_of d.x)) g.1
+    subst (IsValue at s) (ok (bodies.position_of d.x) e d.then_gave)
+    (subst (λ (z : Shape). IsValue at z (bodies.position_of d.x)) g.1
     (state-of at (shape_of f.x) d.x (not-true (is_elements (shape_of f.x)) g.0) (first_is (HasType (scope_at at).nets (type_of (shape_of f.x))) q.es d.x w.typed q.first)))
 value_of_shape i at (u.state_of_variable n) s e h k m =
     let f = step (slice_get i.variables n) state_shape s k in
@@ -100,18 +100,18 @@ value_of_shape i at (u.state_of_variable n) s e h k m =
     let d = bound (the_element (variable_elements at n u.whole)) _ e m in
     let q = the-element (variable_elements at n u.whole) d.x d.gave in
     let w = variable_fits i at n u.whole f.x (shape_of f.x) q.es h f.gave refl q.gave in
-    subst (IsValue at s) (ok (b.position_in d.x) e d.then_gave)
-    (subst (λ (z : Shape). IsValue at z (b.position_in d.x)) g.1
+    subst (IsValue at s) (ok (bodies.position_in d.x) e d.then_gave)
+    (subst (λ (z : Shape). IsValue at z (bodies.position_in d.x)) g.1
     (state-in at (shape_of f.x) d.x (not-true (is_elements (shape_of f.x)) g.0) (first_is (HasType (kinds_types at.variables) (type_of (shape_of f.x))) q.es d.x w.typed q.first)))
 
-position-value : (at : Site) (s : Shape) (n : ℕ) → position_fits s n ≡ true → IsValue at s (b.position n)
+position-value : (at : Site) (s : Shape) (n : ℕ) → position_fits s n ≡ true → IsValue at s (bodies.position n)
 position-value at (state count) n h = record { fits = ltb-true n count h; width = refl }
 position-value at one n h = absurd cc
 position-value at vector n h = absurd cc
 
 pub each-value-fits : EachValueFits
 unfolding x.value
-each-value-fits i at (u.Value.position n) s e h k m = subst (IsValue at s) (ok (b.position n) e m) (position-value at s n k)
+each-value-fits i at (u.Value.position n) s e h k m = subst (IsValue at s) (ok (bodies.position n) e m) (position-value at s n k)
 each-value-fits i at (u.Value.elements y) s e h k m = value_of_shape i at (u.Value.elements y) s e h (has_shape s (value_shape i (u.Value.elements y)) k) m
 each-value-fits i at (u.state_of y) s e h k m = value_of_shape i at (u.state_of y) s e h (has_shape s (value_shape i (u.state_of y)) k) m
 each-value-fits i at (u.state_of_variable n) s e h k m = value_of_shape i at (u.state_of_variable n) s e h (has_shape s (value_shape i (u.state_of_variable n)) k) m
@@ -127,23 +127,23 @@ beside : (i : Inside) (o : Option Shape) (y : Value) → value_fits_beside i o y
 beside i None y h = absurd cc
 beside i (Some s) y h = record { shape = s; is = refl; fits = h }
 
-left-first : (i : Inside) (at : Site) (v w : Value) (d e : b.Value) → IsSite i at → value_fits_beside i (value_shape i v) w ≡ true → x.value at v ≡ Ok d → x.value at w ≡ Ok e
+left-first : (i : Inside) (at : Site) (v w : Value) (d e : bodies.Value) → IsSite i at → value_fits_beside i (value_shape i v) w ≡ true → x.value at v ≡ Ok d → x.value at w ≡ Ok e
     → FitBoth (scope_at at) d e
 left-first i at v w d e h k m n =
     let z = beside i (value_shape i v) w k in
     (type_of z.shape, (value_of_shape i at v z.shape d h z.is m).fits, (each-value-fits i at w z.shape e h z.fits n).fits)
 
-right-first : (i : Inside) (at : Site) (v w : Value) (d e : b.Value) → IsSite i at → value_fits_beside i (value_shape i w) v ≡ true → x.value at v ≡ Ok d → x.value at w ≡ Ok e
+right-first : (i : Inside) (at : Site) (v w : Value) (d e : bodies.Value) → IsSite i at → value_fits_beside i (value_shape i w) v ≡ true → x.value at v ≡ Ok d → x.value at w ≡ Ok e
     → FitBoth (scope_at at) d e
 right-first i at v w d e h k m n =
     let z = beside i (value_shape i w) v k in
     (type_of z.shape, (each-value-fits i at v z.shape d h z.fits m).fits, (value_of_shape i at w z.shape e h z.is n).fits)
 
-both_fit : (i : Inside) (at : Site) (v w : Value) (d e : b.Value) → IsSite i at → values_fit i v w ≡ true → x.value at v ≡ Ok d → x.value at w ≡ Ok e → FitBoth (scope_at at) d e
+both_fit : (i : Inside) (at : Site) (v w : Value) (d e : bodies.Value) → IsSite i at → values_fit i v w ≡ true → x.value at v ≡ Ok d → x.value at w ≡ Ok e → FitBoth (scope_at at) d e
 unfolding x.value
 both_fit i at (u.Value.position p) (u.Value.position q) d e h k m n =
-    subst (λ (y : b.Value). FitBoth (scope_at at) y e) (ok (b.position p) d m)
-    (subst (λ (y : b.Value). FitBoth (scope_at at) (b.position p) y) (ok (b.position q) e n) (enumeration (suc (p + q)), omega arith, omega arith))
+    subst (λ (y : bodies.Value). FitBoth (scope_at at) y e) (ok (bodies.position p) d m)
+    (subst (λ (y : bodies.Value). FitBoth (scope_at at) (bodies.position p) y) (ok (bodies.position q) e n) (enumeration (suc (p + q)), omega arith, omega arith))
 both_fit i at (u.Value.position p) (u.Value.elements y) d e h k m n = right-first i at (u.Value.position p) (u.Value.elements y) d e h k m n
 both_fit i at (u.Value.position p) (u.state_of y) d e h k m n = right-first i at (u.Value.position p) (u.state_of y) d e h k m n
 both_fit i at (u.Value.position p) (u.state_of_variable y) d e h k m n = right-first i at (u.Value.position p) (u.state_of_variable y) d e h k m n
@@ -159,20 +159,20 @@ level-fits at s [] plain y h n = absurd (let l : 1 ≤ 0 = (is_width s 0 n.width
 level-fits at s (e ∷ []) plain y h n = subst (λ (t : ElementType). HasType (scope_at at).nets t e) (elements_are_nine s h) (All-head (HasType (scope_at at).nets (type_of s)) e [] n.typed)
 level-fits at s (d ∷ e ∷ es) plain y h n = (nine_valued, (named at s (d ∷ e ∷ es) h n).fits, (one_character at y).fits)
 
-place-level : (i : Inside) (at : Site) (p : Place) (s : Shape) (plain : Bool) (y : Nine) (c : b.Test) (es : List ℕ) → IsSite i at → vector_shape i (u.of_signal p) ≡ Some s
+place-level : (i : Inside) (at : Site) (p : SignalPart) (s : Shape) (plain : Bool) (y : Nine) (c : bodies.Test) (es : List ℕ) → IsSite i at → vector_shape i (u.of_signal p) ≡ Some s
     → place_elements at p ≡ Ok es → levelled plain es y ≡ c → FitsTest (scope_at at) c
 place-level i at p s plain y c es h k m g =
     let z = step (place_shape i p) _ s k in
     let w = given_some (is_elements z.x) z.x s z.then_gave in
     subst (FitsTest (scope_at at)) g (level-fits at z.x es plain y w.0 (each-name-fits i at p z.x es h z.gave m))
 
-abbrev equals : Site → Value → Value → b.Test → Type 0
-equals at v w c = (d : b.Value) × (e : b.Value) × (x.value at v ≡ Ok d) × (x.value at w ≡ Ok e) × (b.equal d e ≡ c)
+abbrev equals : Site → Value → Value → bodies.Test → Type 0
+equals at v w c = (d : bodies.Value) × (e : bodies.Value) × (x.value at v ≡ Ok d) × (x.value at w ≡ Ok e) × (bodies.equal d e ≡ c)
 
-equal-fits : (i : Inside) (at : Site) (v w : Value) (c : b.Test) → IsSite i at → values_fit i v w ≡ true → equals at v w c → FitsTest (scope_at at) c
+equal-fits : (i : Inside) (at : Site) (v w : Value) (c : bodies.Test) → IsSite i at → values_fit i v w ≡ true → equals at v w c → FitsTest (scope_at at) c
 equal-fits i at v w c h k m = subst (FitsTest (scope_at at)) m.4 (both_fit i at v w m.0 m.1 h k m.2 m.3)
 
-alike-fits : (i : Inside) (at : Site) (v w : Value) (c : b.Test) → IsSite i at → values_fit i v w ≡ true → alike at v w ≡ Ok c → FitsTest (scope_at at) c
+alike-fits : (i : Inside) (at : Site) (v w : Value) (c : bodies.Test) → IsSite i at → values_fit i v w ≡ true → alike at v w ≡ Ok c → FitsTest (scope_at at) c
 alike-fits i at (u.Value.elements (u.of_signal p)) (u.Value.elements (u.character y)) c h k m =
     let z = beside i (vector_shape i (u.of_signal p)) (u.Value.elements (u.character y)) k in
     let es = bound (place_elements at p) _ c m in
@@ -190,14 +190,14 @@ alike-fits i at (u.Value.elements (u.enclosed_character y)) (u.Value.elements (u
 alike-fits i at v w c h k m =
     let d = bound (x.value at v) _ c m in
     let e = bound (x.value at w) _ c d.then_gave in
-    equal-fits i at v w c h k (d.x, e.x, d.gave, e.gave, ok (b.equal d.x e.x) c e.then_gave)
+    equal-fits i at v w c h k (d.x, e.x, d.gave, e.gave, ok (bodies.equal d.x e.x) c e.then_gave)
 
 -- ---- edges
 
 without-loops : (i : Inside) (at : Site) → IsSite i at → IsSite (record i { loops = 0 }) at
 without-loops i at h = record { constants = h.constants; ports = h.ports; signals = h.signals; variables = h.variables }
 
-edge-element : (i : Inside) (at : Site) (p : Place) (e : ℕ) → IsSite i at → edge_fits i p ≡ true → the_element (place_elements at p) ≡ Ok e → HasType (scope_at at).nets nine_valued e
+edge-element : (i : Inside) (at : Site) (p : SignalPart) (e : ℕ) → IsSite i at → edge_fits i p ≡ true → the_element (place_elements at p) ≡ Ok e → HasType (scope_at at).nets nine_valued e
 edge-element i at p e h k m =
     let j : Inside = record i { loops = 0 } in
     let q = the-element (place_elements at p) e m in
@@ -217,20 +217,20 @@ unfolding x.test
 each-test-fits i at (u.holds v) c h k m =
     let e = bound (x.vector at v) _ c m in
     let w = each-vector-fits i at v one e.x h (has_shape one (vector_shape i v) k) e.gave in
-    subst (FitsTest (scope_at at)) (ok (b.condition e.x) c e.then_gave) (w.fits, w.width)
+    subst (FitsTest (scope_at at)) (ok (bodies.condition e.x) c e.then_gave) (w.fits, w.width)
 each-test-fits i at (u.Test.fixed t) c h k m =
     let d = bound (decision at.integers t) _ c m in
-    subst (FitsTest (scope_at at)) (ok (b.decided d.x) c d.then_gave) tt
+    subst (FitsTest (scope_at at)) (ok (bodies.decided d.x) c d.then_gave) tt
 each-test-fits i at (u.alike v w) c h k m = alike-fits i at v w c h k m
 each-test-fits i at (u.unlike v w) c h k m =
     let d = bound (x.value at v) _ c m in
     let e = bound (x.value at w) _ c d.then_gave in
-    subst (FitsTest (scope_at at)) (ok (b.unequal d.x e.x) c e.then_gave) (both_fit i at v w d.x e.x h k d.gave e.gave)
+    subst (FitsTest (scope_at at)) (ok (bodies.unequal d.x e.x) c e.then_gave) (both_fit i at v w d.x e.x h k d.gave e.gave)
 each-test-fits i at (u.Test.compared op v w) c h k m =
     let both = and_parts (fits_shape vector (vector_shape i v)) (fits_shape vector (vector_shape i w)) k in
     let d = bound (x.vector at v) _ c m in
     let e = bound (x.vector at w) _ c d.then_gave in
-    subst (FitsTest (scope_at at)) (ok (b.compared op d.x e.x) c e.then_gave) (
+    subst (FitsTest (scope_at at)) (ok (bodies.compared op d.x e.x) c e.then_gave) (
       (each-vector-fits i at v vector d.x h (has_shape vector (vector_shape i v) both.0) d.gave).fits,
       (each-vector-fits i at w vector e.x h (has_shape vector (vector_shape i w) both.1) e.gave).fits,
     )
@@ -238,23 +238,23 @@ each-test-fits i at (u.compared_to op v n) c h k m =
     let both = and_parts (fits_shape vector (vector_shape i v)) (static_fits i n) k in
     let d = bound (x.vector at v) _ c m in
     let j = bound (natural at.integers n) _ c d.then_gave in
-    subst (FitsTest (scope_at at)) (ok (b.compared_to op d.x j.x) c j.then_gave) (each-vector-fits i at v vector d.x h (has_shape vector (vector_shape i v) both.0) d.gave).fits
+    subst (FitsTest (scope_at at)) (ok (bodies.compared_to op d.x j.x) c j.then_gave) (each-vector-fits i at v vector d.x h (has_shape vector (vector_shape i v) both.0) d.gave).fits
 each-test-fits i at (u.compared_with op n v) c h k m =
     let both = and_parts (static_fits i n) (fits_shape vector (vector_shape i v)) k in
     let j = bound (natural at.integers n) _ c m in
     let d = bound (x.vector at v) _ c j.then_gave in
-    subst (FitsTest (scope_at at)) (ok (b.compared_to (x.turned op) d.x j.x) c d.then_gave) (each-vector-fits i at v vector d.x h (has_shape vector (vector_shape i v) both.1) d.gave).fits
+    subst (FitsTest (scope_at at)) (ok (bodies.compared_to (x.turned op) d.x j.x) c d.then_gave) (each-vector-fits i at v vector d.x h (has_shape vector (vector_shape i v) both.1) d.gave).fits
 each-test-fits i at (u.edge kind p) c h k m =
     let e = bound (the_element (place_elements at p)) _ c m in
     subst (FitsTest (scope_at at)) (ok (edge_test kind e.x) c e.then_gave) (edge-fits at kind e.x (edge-element i at p e.x h k e.gave))
 each-test-fits i at (u.event p) c h k m =
     let e = bound (the_element (place_elements at p)) _ c m in
-    subst (FitsTest (scope_at at)) (ok (b.event e.x) c e.then_gave) (edge-element i at p e.x h k e.gave)
+    subst (FitsTest (scope_at at)) (ok (bodies.event e.x) c e.then_gave) (edge-element i at p e.x h k e.gave)
 each-test-fits i at (u.Test.negated t) c h k m =
     let d = bound (x.test at t) _ c m in
-    subst (FitsTest (scope_at at)) (ok (b.negated d.x) c d.then_gave) (each-test-fits i at t d.x h k d.gave)
+    subst (FitsTest (scope_at at)) (ok (bodies.negated d.x) c d.then_gave) (each-test-fits i at t d.x h k d.gave)
 each-test-fits i at (u.Test.both op t r) c h k m =
     let both = and_parts (test_fits i t) (test_fits i r) k in
     let d = bound (x.test at t) _ c m in
     let e = bound (x.test at r) _ c d.then_gave in
-    subst (FitsTest (scope_at at)) (ok (b.combined op d.x e.x) c e.then_gave) (each-test-fits i at t d.x h both.0 d.gave, each-test-fits i at r e.x h both.1 e.gave)
+    subst (FitsTest (scope_at at)) (ok (bodies.combined op d.x e.x) c e.then_gave) (each-test-fits i at t d.x h both.0 d.gave, each-test-fits i at r e.x h both.1 e.gave)

@@ -15,10 +15,10 @@ use Rattle.vhdl_expand_rules.specs.declared.fault.ElabProblem.TheVariants.{NoTop
 use Rattle.vhdl_expand_rules.specs.Elab.{Elab, found, each}
 use Rattle.vhdl_expand_rules.specs.Integers.{Integers, decision, turns}
 use Rattle.vhdl_expand_rules.specs.Site.{Site, no_integers, in_generate}
-use Rattle.vhdl_expand_rules.specs.Declarations.{role_of, Declared, interface, declarations, associations}
+use Rattle.vhdl_expand_rules.specs.Declarations.{role_of, InstanceObjects, interface, declarations, associations}
 use Rattle.vhdl_expand_rules.specs.Tree.{internal, Object, Variable, Instance, Parts, no_parts, inner, followed_by, objects_of}
 use Rattle.vhdl_expand_rules.specs.Tree as t
-use Rattle.vhdl_expand_rules.specs.Expansion.{Spot, in_turn, in_branch, process, joined, instance, concurrent, concurrents, concurrents_turns, instance_of, entity_named, expanded}
+use Rattle.vhdl_expand_rules.specs.Expansion.{Spot, in_turn, in_branch, process, joined, instance, concurrent, concurrents, concurrents_turns, instance_of, entity_named, expanded_design}
 use Rattle.vhdl_expand_rules.specs.laws.Trees.{object_kinds, is_port, ObjectIsSound, InstanceIsSound, PartsAreSound, DesignIsSound, EachTreeIsSound}
 use Rattle.vhdl_expand_rules.proofs.Steps.{ok, bound, each-all}
 use Rattle.vhdl_expand_rules.proofs.laws.Names.{was_found}
@@ -56,7 +56,7 @@ abbrev before_ports : Entity → Inside
 before_ports unit = record nothing_inside { generics = length unit.generics }
 
 -- an interface whose ports are joined to things above
-record Begins (above : List Object) (unit : Entity) (d : Declared) : Type 0 where
+record Begins (above : List Object) (unit : Entity) (d : InstanceObjects) : Type 0 where
   declared : IsDeclared (inside unit) d.site d.objects []
   sound : All (ObjectIsSound above) d.objects
 
@@ -78,7 +78,7 @@ not-joined above [] (o ∷ os) h = elim h [ ]
 not-joined above (f ∷ fs) [] h = elim h [ ]
 not-joined above (f ∷ fs) (o ∷ os) h = (port-sound above f o h.0, not-joined above fs os h.1)
 
-begins : (above : List Object) (unit : Entity) (d : Declared) (os : List Object) → Interface (before_ports unit) unit.ports d → object_kinds os ≡ object_kinds d.objects → AllZip (Joined above) unit.ports os
+begins : (above : List Object) (unit : Entity) (d : InstanceObjects) (os : List Object) → Interface (before_ports unit) unit.ports d → object_kinds os ≡ object_kinds d.objects → AllZip (Joined above) unit.ports os
     → Begins above unit (record d { objects = os })
 begins above unit d os h kinds joined = record {
   declared = record {
@@ -111,12 +111,12 @@ entity-parts units unit h =
     let ports = and_parts (a && b) c all.0 in
     record { objects = (and_parts a b ports.0).1; ports = ports.1; architecture = all.1 }
 
-unit-begins : (units : Units) (above : List Object) (integers : Integers) (actuals : List (Option Static)) (unit : Entity) (d : Declared) → EntityFits units unit → interface integers actuals unit ≡ Ok d
+unit-begins : (units : Units) (above : List Object) (integers : Integers) (actuals : List (Option Static)) (unit : Entity) (d : InstanceObjects) → EntityFits units unit → interface integers actuals unit ≡ Ok d
     → Interface (before_ports unit) unit.ports d
 unit-begins units above integers actuals unit d fit e = interface-stands (before_ports unit) integers actuals unit d refl refl refl fit.objects fit.ports e
 
-module _ (units : Units) (sound : list_all (entity_fits units) units ≡ true) (go : Entity → Declared → Elab Instance)
-    (go-sound : (above : List Object) (unit : Entity) (d : Declared) (i : Instance) → entity_fits units unit ≡ true → Begins above unit d → go unit d ≡ Ok i → InstanceIsSound above i) where
+module _ (units : Units) (sound : list_all (entity_fits units) units ≡ true) (go : Entity → InstanceObjects → Elab Instance)
+    (go-sound : (above : List Object) (unit : Entity) (d : InstanceObjects) (i : Instance) → entity_fits units unit ≡ true → Begins above unit d → go unit d ≡ Ok i → InstanceIsSound above i) where
   fitting : (i : Inside) (x : u.Instance) (unit : Entity) → slice_get units x.unit ≡ Some unit → instance_fits i x (slice_get units x.unit) ≡ true → actuals_fit i unit.ports x.ports ≡ true
   fitting i x unit e h =
       let k : instance_fits i x (Some unit) ≡ true = ap (instance_fits i x) (sym e) ∙ h in
@@ -174,7 +174,7 @@ module _ (units : Units) (sound : list_all (entity_fits units) units ≡ true) (
 
 -- ---- instances
 
-instance_of-sound : (units : Units) (levels : ℕ) → list_all (entity_fits units) units ≡ true → (above : List Object) (unit : Entity) (d : Declared) (i : Instance) → entity_fits units unit ≡ true → Begins above unit d
+instance_of-sound : (units : Units) (levels : ℕ) → list_all (entity_fits units) units ≡ true → (above : List Object) (unit : Entity) (d : InstanceObjects) (i : Instance) → entity_fits units unit ≡ true → Begins above unit d
     → instance_of units levels unit d ≡ Ok i → InstanceIsSound above i
 unfolding instance_of
 instance_of-sound units zero sound above unit d i fit h e = absurd cc
@@ -209,7 +209,7 @@ signals-alone (o ∷ os) h k =
     All-cons (λ (x : Object). x.actual ≡ None) o os ((All-head Anywhere o os h []).signals_have_none (ap is_port (All-head (λ (x : Object). x.role ≡ internal) o os k)))
     (signals-alone os (All-tail Anywhere o os h) (All-tail (λ (x : Object). x.role ≡ internal) o os k))
 
-top-alone : (units : Units) (n : ℕ) (unit : Entity) (d : Declared) (i : Instance) → entity_fits units unit ≡ true → Begins [] unit d → All (λ (o : Object). o.actual ≡ None) d.objects
+top-alone : (units : Units) (n : ℕ) (unit : Entity) (d : InstanceObjects) (i : Instance) → entity_fits units unit ≡ true → Begins [] unit d → All (λ (o : Object). o.actual ≡ None) d.objects
     → instance_of units n unit d ≡ Ok i → All (λ (o : Object). o.actual ≡ None) (objects_of i)
 unfolding instance_of
 top-alone units zero unit d i fit h none e = absurd cc
@@ -240,7 +240,7 @@ found-fits f g (x ∷ units) unit h e = by (f x) e (λ later. found-fits f g uni
     by false e go = go e
 
 pub each-tree-is-sound : EachTreeIsSound
-unfolding expanded are_sound
+unfolding expanded_design are_sound
 each-tree-is-sound units top design h e =
     let sound : list_all (entity_fits units) units ≡ true = h in
     let unit = bound (found NoTop (entity_named units top)) _ design e in

@@ -10,7 +10,7 @@ use Rattle.vhdl_values.specs.Numbers.{digits_of}
 use Rattle.vhdl_values.proofs.Digits.{length-digits_of}
 use Rattle.rtl_model.specs.bodies.Types.{ElementType, nine_valued, HasType}
 use Rattle.rtl_model.specs.bodies.Fits.{width, IsWidth}
-use Rattle.rtl_model.specs.bodies.Body as b
+use Rattle.rtl_model.specs.bodies.Body as bodies
 use Rattle.vhdl_names_rules.specs.declared.operator.Numeric.{Numeric}
 use Rattle.vhdl_names_rules.specs.declared.operator.Numeric.TheVariants.{Add, Subtract, Multiply}
 use Rattle.vhdl_names_rules.specs.declared.operator.VectorOperator.{VectorOperator}
@@ -42,16 +42,16 @@ vectors_are_elements one h = refl
 vectors_are_elements vector h = refl
 vectors_are_elements (state count) h = absurd cc
 
-pub vector_width : (at : Site) (s : Shape) (e : b.Expr) → IsVector at s e → IsWidth (width e)
+pub vector_width : (at : Site) (s : Shape) (e : bodies.Expr) → IsVector at s e → IsWidth (width e)
 vector_width at s e h = is_width s (width e) h.width
 
 one-is_width : IsWidth 1
 one-is_width = (omega arith, omega arith)
 
-pub one_character : (at : Site) (x : Nine) → IsVector at one (b.constant (x ∷ []))
+pub one_character : (at : Site) (x : Nine) → IsVector at one (bodies.constant (x ∷ []))
 one_character at x = record { of_elements = refl; fits = one-is_width; width = refl }
 
-constant_vector : (at : Site) (vs : List Nine) → IsWidth (length vs) → IsVector at vector (b.constant vs)
+constant_vector : (at : Site) (vs : List Nine) → IsWidth (length vs) → IsVector at vector (bodies.constant vs)
 constant_vector at vs h = record { of_elements = refl; fits = h; width = h }
 
 -- ---- sizes
@@ -80,36 +80,36 @@ sum-is_width : (m n : ℕ) → IsWidth m → nat_le (m + n) 64 ≡ true → IsWi
 sum-is_width m n h g = let a : 1 ≤ m = h.0 in (omega (arith, a), leb-true (m + n) 64 g)
 
 -- an operator but the logical ones
-arithmetic : (at : Site) (op : Numeric) (s t : Shape) (d e r : b.Expr) → IsVector at s d → IsVector at t e → operated (numeric op) d e ≡ Ok r → IsVector at vector r
+arithmetic : (at : Site) (op : Numeric) (s t : Shape) (d e r : bodies.Expr) → IsVector at s d → IsVector at t e → operated (numeric op) d e ≡ Ok r → IsVector at vector r
 arithmetic at Add s t d e r h g m =
     let w = max-is_width (width d) (width e) (vector_width at s d h) (vector_width at t e g) in
-    subst (IsVector at vector) (ok (b.binary b.plus d e) r m) (record { of_elements = refl; fits = (w, h.fits, g.fits, tt); width = w })
+    subst (IsVector at vector) (ok (bodies.binary bodies.plus d e) r m) (record { of_elements = refl; fits = (w, h.fits, g.fits, tt); width = w })
 arithmetic at Subtract s t d e r h g m =
     let w = max-is_width (width d) (width e) (vector_width at s d h) (vector_width at t e g) in
-    subst (IsVector at vector) (ok (b.binary b.minus d e) r m) (record { of_elements = refl; fits = (w, h.fits, g.fits, tt); width = w })
+    subst (IsVector at vector) (ok (bodies.binary bodies.minus d e) r m) (record { of_elements = refl; fits = (w, h.fits, g.fits, tt); width = w })
 arithmetic at Multiply s t d e r h g m =
-    let fit = bound (operands_fit b.times (width d) (width e)) _ r m in
+    let fit = bound (operands_fit bodies.times (width d) (width e)) _ r m in
     let w = sum-is_width (width d) (width e) (vector_width at s d h) (kept TooWide (nat_le (width d + width e) 64) fit.x fit.gave) in
-    subst (IsVector at vector) (ok (b.binary b.times d e) r fit.then_gave) (record { of_elements = refl; fits = (w, h.fits, g.fits, tt); width = w })
+    subst (IsVector at vector) (ok (bodies.binary bodies.times d e) r fit.then_gave) (record { of_elements = refl; fits = (w, h.fits, g.fits, tt); width = w })
 
-operated-fits : (at : Site) (op : VectorOperator) (s t z : Shape) (d e r : b.Expr) → IsVector at s d → IsVector at t e → operated_shape op s t ≡ Some z → operated (operator op) d e ≡ Ok r
+operated-fits : (at : Site) (op : VectorOperator) (s t z : Shape) (d e r : bodies.Expr) → IsVector at s d → IsVector at t e → operated_shape op s t ≡ Some z → operated (operator op) d e ≡ Ok r
     → IsVector at z r
 operated-fits at (v.Logical op) s t z d e r h g k m =
-    let fit = bound (operands_fit (b.logical op) (width d) (width e)) _ r m in
+    let fit = bound (operands_fit (bodies.logical op) (width d) (width e)) _ r m in
     let same : width d ≡ width e = eqb-true (width d) (width e) (kept Length (width d == width e) fit.x fit.gave) in
     subst (λ (y : Shape). IsVector at y r) (given_some (same_shape s t && is_elements s) s z k).1
-    (subst (IsVector at s) (ok (b.binary (b.logical op) d e) r fit.then_gave)
+    (subst (IsVector at s) (ok (bodies.binary (bodies.logical op) d e) r fit.then_gave)
     (record { of_elements = h.of_elements; fits = (vector_width at s d h, h.fits, g.fits, same); width = h.width }))
 operated-fits at v.Concatenate s t z d e r h g k m =
-    let fit = bound (operands_fit b.joined (width d) (width e)) _ r m in
+    let fit = bound (operands_fit bodies.joined (width d) (width e)) _ r m in
     let w = sum-is_width (width d) (width e) (vector_width at s d h) (kept TooWide (nat_le (width d + width e) 64) fit.x fit.gave) in
     subst (λ (y : Shape). IsVector at y r) (given_some (is_elements s && is_elements t) vector z k).1
-    (subst (IsVector at vector) (ok (b.binary b.joined d e) r fit.then_gave) (record { of_elements = refl; fits = (w, h.fits, g.fits, tt); width = w }))
+    (subst (IsVector at vector) (ok (bodies.binary bodies.joined d e) r fit.then_gave) (record { of_elements = refl; fits = (w, h.fits, g.fits, tt); width = w }))
 operated-fits at (v.Arithmetic op) s t z d e r h g k m =
     subst (λ (y : Shape). IsVector at y r) (given_some (is_vector s && is_vector t) vector z k).1 (arithmetic at op s t d e r h g m)
 
 -- a number with as many digits as what stands beside it
-beside : (at : Site) (s : Shape) (e : b.Expr) (n : ℕ) → IsVector at s e → IsVector at vector (b.constant (digits_of (width e) n))
+beside : (at : Site) (s : Shape) (e : bodies.Expr) (n : ℕ) → IsVector at s e → IsVector at vector (bodies.constant (digits_of (width e) n))
 beside at s e n h = constant_vector at (digits_of (width e) n) (subst IsWidth (sym (length-digits_of (width e) n)) (vector_width at s e h))
 
 -- with a static integer: a vector's shape, and what comes of it
@@ -125,7 +125,7 @@ static-shape i v s z h =
 
 -- ---- names
 
-pub named : (at : Site) (s : Shape) (es : List ℕ) → is_elements s ≡ true → IsName at s es → IsVector at s (b.signal es)
+pub named : (at : Site) (s : Shape) (es : List ℕ) → is_elements s ≡ true → IsName at s es → IsVector at s (bodies.signal es)
 named at s es h n = record {
   of_elements = h;
   fits = (is_width s (length es) n.width, subst (λ (t : ElementType). Typed t) (elements_are_nine s h) n.typed);
@@ -155,7 +155,7 @@ each-vector-fits i at (u.of_signal p) s e h k m =
     let w = given_some (is_elements z.x) z.x s z.then_gave in
     let es = bound (place_elements at p) _ e m in
     subst (λ (y : Shape). IsVector at y e) w.1
-    (subst (IsVector at z.x) (ok (b.signal es.x) e es.then_gave) (named at z.x es.x w.0 (each-name-fits i at p z.x es.x h z.gave es.gave)))
+    (subst (IsVector at z.x) (ok (bodies.signal es.x) e es.then_gave) (named at z.x es.x w.0 (each-name-fits i at p z.x es.x h z.gave es.gave)))
 each-vector-fits i at (u.of_variable n part) s e h k m =
     let f = step (slice_get i.variables n) _ s k in
     let z = step (part_shape i f.x part) _ s f.then_gave in
@@ -163,7 +163,7 @@ each-vector-fits i at (u.of_variable n part) s e h k m =
     let es = bound (variable_elements at n part) _ e m in
     let q = variable_fits i at n part f.x z.x es.x h f.gave z.gave es.gave in
     subst (λ (y : Shape). IsVector at y e) w.1
-    (subst (IsVector at z.x) (ok (b.variable es.x) e es.then_gave) (record {
+    (subst (IsVector at z.x) (ok (bodies.variable es.x) e es.then_gave) (record {
       of_elements = w.0;
       fits = (is_width z.x (length es.x) q.width, subst (λ (t : ElementType). All (HasType (kinds_types at.variables) t) es.x) (elements_are_nine z.x w.0) q.typed);
       width = q.width;
@@ -175,19 +175,19 @@ each-vector-fits i at (u.of_constant n part) s e h k m =
     let vs = bound (constant_values at n part) _ e m in
     let q = constant-values i at n part f.x z.x vs.x h f.gave z.gave vs.gave in
     subst (λ (y : Shape). IsVector at y e) w.1
-    (subst (IsVector at z.x) (ok (b.constant vs.x) e vs.then_gave) (record { of_elements = w.0; fits = is_width z.x (length vs.x) q; width = q }))
+    (subst (IsVector at z.x) (ok (bodies.constant vs.x) e vs.then_gave) (record { of_elements = w.0; fits = is_width z.x (length vs.x) q; width = q }))
 each-vector-fits i at (u.character x) s e h k m =
-    subst (λ (y : Shape). IsVector at y e) (same_Some one s k) (subst (IsVector at one) (ok (b.constant (x ∷ [])) e m) (one_character at x))
+    subst (λ (y : Shape). IsVector at y e) (same_Some one s k) (subst (IsVector at one) (ok (bodies.constant (x ∷ [])) e m) (one_character at x))
 each-vector-fits i at (u.enclosed_character x) s e h k m =
-    subst (λ (y : Shape). IsVector at y e) (same_Some one s k) (subst (IsVector at one) (ok (b.constant (x ∷ [])) e m) (one_character at x))
+    subst (λ (y : Shape). IsVector at y e) (same_Some one s k) (subst (IsVector at one) (ok (bodies.constant (x ∷ [])) e m) (one_character at x))
 each-vector-fits i at (u.Vector.literal xs) s e h k m =
     let n = bound (as_size (length xs)) _ e m in
     subst (λ (y : Shape). IsVector at y e) (same_Some vector s k)
-    (subst (IsVector at vector) (ok (b.constant xs) e n.then_gave) (constant_vector at xs (asked (length xs) n.x n.gave).0))
+    (subst (IsVector at vector) (ok (bodies.constant xs) e n.then_gave) (constant_vector at xs (asked (length xs) n.x n.gave).0))
 each-vector-fits i at (u.Vector.inverse v) s e h k m =
     let d = bound (x.vector at v) _ e m in
     let w = each-vector-fits i at v s d.x h k d.gave in
-    subst (IsVector at s) (ok (b.inverse d.x) e d.then_gave) (record { of_elements = w.of_elements; fits = w.fits; width = w.width })
+    subst (IsVector at s) (ok (bodies.inverse d.x) e d.then_gave) (record { of_elements = w.of_elements; fits = w.fits; width = w.width })
 each-vector-fits i at (u.Vector.binary op v w) s e h k m =
     let y = step (vector_shape i v) _ s k in
     let z = step (vector_shape i w) _ s y.then_gave in
@@ -200,19 +200,19 @@ each-vector-fits i at (u.with_integer op v n) s e h k m =
     let j = bound (natural at.integers n) _ e c.then_gave in
     let w = each-vector-fits i at v y.shape c.x h y.is c.gave in
     subst (λ (q : Shape). IsVector at q e) y.result
-    (arithmetic at op y.shape vector c.x (b.constant (digits_of (width c.x) j.x)) e w (beside at y.shape c.x j.x w) j.then_gave)
+    (arithmetic at op y.shape vector c.x (bodies.constant (digits_of (width c.x) j.x)) e w (beside at y.shape c.x j.x w) j.then_gave)
 each-vector-fits i at (u.integer_with op n v) s e h k m =
     let y = static-shape i v n s k in
     let j = bound (natural at.integers n) _ e m in
     let c = bound (x.vector at v) _ e j.then_gave in
     let w = each-vector-fits i at v y.shape c.x h y.is c.gave in
     subst (λ (q : Shape). IsVector at q e) y.result
-    (arithmetic at op vector y.shape (b.constant (digits_of (width c.x) j.x)) c.x e (beside at y.shape c.x j.x w) w c.then_gave)
+    (arithmetic at op vector y.shape (bodies.constant (digits_of (width c.x) j.x)) c.x e (beside at y.shape c.x j.x w) w c.then_gave)
 each-vector-fits i at (u.Vector.encoded n size) s e h k m =
     let j = bound (natural at.integers n) _ e m in
     let len = bound (size_of at.integers size) _ e j.then_gave in
     subst (λ (q : Shape). IsVector at q e) (given_some (static_fits i n && static_fits i size) vector s k).1
-    (subst (IsVector at vector) (ok (b.constant (digits_of len.x j.x)) e len.then_gave)
+    (subst (IsVector at vector) (ok (bodies.constant (digits_of len.x j.x)) e len.then_gave)
     (constant_vector at (digits_of len.x j.x) (subst IsWidth (sym (length-digits_of len.x j.x)) (size_is_width at.integers size len.x len.gave))))
 each-vector-fits i at (u.Vector.resized v n) s e h k m =
     let y = static-shape i v n s k in
@@ -221,18 +221,18 @@ each-vector-fits i at (u.Vector.resized v n) s e h k m =
     let w = each-vector-fits i at v y.shape c.x h y.is c.gave in
     let q = size_is_width at.integers n len.x len.gave in
     subst (λ (z : Shape). IsVector at z e) y.result
-    (subst (IsVector at vector) (ok (b.resized len.x c.x) e len.then_gave) (record { of_elements = refl; fits = (q, w.fits); width = q }))
+    (subst (IsVector at vector) (ok (bodies.resized len.x c.x) e len.then_gave) (record { of_elements = refl; fits = (q, w.fits); width = q }))
 each-vector-fits i at (u.Vector.shifted_left v n) s e h k m =
     let y = static-shape i v n s k in
     let c = bound (x.vector at v) _ e m in
     let j = bound (natural at.integers n) _ e c.then_gave in
     let w = each-vector-fits i at v y.shape c.x h y.is c.gave in
     subst (λ (z : Shape). IsVector at z e) y.result
-    (subst (IsVector at vector) (ok (b.shifted_left j.x c.x) e j.then_gave) (record { of_elements = refl; fits = w.fits; width = vector_width at y.shape c.x w }))
+    (subst (IsVector at vector) (ok (bodies.shifted_left j.x c.x) e j.then_gave) (record { of_elements = refl; fits = w.fits; width = vector_width at y.shape c.x w }))
 each-vector-fits i at (u.Vector.shifted_right v n) s e h k m =
     let y = static-shape i v n s k in
     let c = bound (x.vector at v) _ e m in
     let j = bound (natural at.integers n) _ e c.then_gave in
     let w = each-vector-fits i at v y.shape c.x h y.is c.gave in
     subst (λ (z : Shape). IsVector at z e) y.result
-    (subst (IsVector at vector) (ok (b.shifted_right j.x c.x) e j.then_gave) (record { of_elements = refl; fits = w.fits; width = vector_width at y.shape c.x w }))
+    (subst (IsVector at vector) (ok (bodies.shifted_right j.x c.x) e j.then_gave) (record { of_elements = refl; fits = w.fits; width = vector_width at y.shape c.x w }))

@@ -2,9 +2,9 @@
 -- wanted, and each length is one that a vector can have, and the one that is wanted (IEEE 1076-2008, clause 9).
 use Rattle.std.specs.Prelude.{◌≡◌, ℕ, true, List, length, All, Some, Ok}
 use Rattle.rtl_model.specs.bodies.Types.{ElementType, nine_valued, enumeration, HasType}
-use Rattle.rtl_model.specs.bodies.Body as b
+use Rattle.rtl_model.specs.bodies.Body as bodies
 use Rattle.rtl_model.specs.bodies.Fits.{IsWidth, width, value_width, FitsExpr, FitsAs, FitsTest}
-use Rattle.vhdl_names_rules.specs.units.Expressions.{Place, Vector, Value, Test}
+use Rattle.vhdl_names_rules.specs.units.Expressions.{SignalPart, Vector, Value, Test}
 use Rattle.vhdl_names_rules.specs.sound.Expressions.{Inside, Shape, one, vector, state, is_elements, place_shape, vector_shape, value_fits, test_fits}
 use Rattle.vhdl_expand_rules.specs.Site.{Site, place_elements}
 use Rattle.vhdl_expand_rules.specs.Expressions as x
@@ -28,29 +28,29 @@ pub record IsName (at : Site) (s : Shape) (es : List ℕ) : Type 0 where
 
 abbrev pub EachNameFits : Type 0
 EachNameFits =
-    (i : Inside) (at : Site) (p : Place) (s : Shape) (es : List ℕ) → IsSite i at → place_shape i p ≡ Some s → place_elements at p ≡ Ok es
+    (i : Inside) (at : Site) (p : SignalPart) (s : Shape) (es : List ℕ) → IsSite i at → place_shape i p ≡ Some s → place_elements at p ≡ Ok es
     → IsName at s es
 
-pub record IsVector (at : Site) (s : Shape) (e : b.Expr) : Type 0 where
+pub record IsVector (at : Site) (s : Shape) (e : bodies.Expr) : Type 0 where
   pub of_elements : is_elements s ≡ true
   pub fits : FitsExpr (scope_at at) e
   pub width : HasShape s (width e)
 
 abbrev pub EachVectorFits : Type 0
 EachVectorFits =
-    (i : Inside) (at : Site) (v : Vector) (s : Shape) (e : b.Expr) → IsSite i at → vector_shape i v ≡ Some s → x.vector at v ≡ Ok e
+    (i : Inside) (at : Site) (v : Vector) (s : Shape) (e : bodies.Expr) → IsSite i at → vector_shape i v ≡ Some s → x.vector at v ≡ Ok e
     → IsVector at s e
 
-pub record IsValue (at : Site) (s : Shape) (v : b.Value) : Type 0 where
+pub record IsValue (at : Site) (s : Shape) (v : bodies.Value) : Type 0 where
   pub fits : FitsAs (scope_at at) (type_of s) v
   pub width : HasShape s (value_width v)
 
 -- where a value of this shape is asked for
 abbrev pub EachValueFits : Type 0
 EachValueFits =
-    (i : Inside) (at : Site) (v : Value) (s : Shape) (e : b.Value) → IsSite i at → value_fits i s v ≡ true → x.value at v ≡ Ok e
+    (i : Inside) (at : Site) (v : Value) (s : Shape) (e : bodies.Value) → IsSite i at → value_fits i s v ≡ true → x.value at v ≡ Ok e
     → IsValue at s e
 
 abbrev pub EachTestFits : Type 0
 EachTestFits =
-    (i : Inside) (at : Site) (t : Test) (c : b.Test) → IsSite i at → test_fits i t ≡ true → x.test at t ≡ Ok c → FitsTest (scope_at at) c
+    (i : Inside) (at : Site) (t : Test) (c : bodies.Test) → IsSite i at → test_fits i t ≡ true → x.test at t ≡ Ok c → FitsTest (scope_at at) c

@@ -3,7 +3,7 @@ use Rattle.std.specs.Prelude.{◌≡◌, ◌≢◌, ℕ, ⊤, All, List, [], Opt
 use Rattle.vhdl_names_rules.specs.units.Units.{Units}
 use Rattle.vhdl_names_rules.specs.sound.Named.{are_named}
 use Rattle.vhdl_expand_rules.specs.Tree.{Object, Variable, Process, Instance, instance, Parts, no_parts, process, inner}
-use Rattle.vhdl_expand_rules.specs.Expansion.{Design, expanded}
+use Rattle.vhdl_expand_rules.specs.Expansion.{Design, expanded_design}
 
 pub record ProcessIsNamed (p : Process) : Type 0 where
   pub label : IfSome p.label (λ label. label ≢ [])
@@ -20,5 +20,5 @@ abbrev mutual
 
 abbrev pub EachTreeIsNamed : Type 0
 EachTreeIsNamed =
-    (units : Units) (top : List ℕ) (design : Design) → IsTrue (are_named units) → expanded units top ≡ Ok design
+    (units : Units) (top : List ℕ) (design : Design) → IsTrue (are_named units) → expanded_design units top ≡ Ok design
     → (design.name ≢ []) × InstanceIsNamed design.top

@@ -4,7 +4,7 @@ use Rattle.std.specs.Prelude.{◌≡◌, ℕ, ⊤, All, List, length, Some, Ok}
 use Rattle.vhdl_names_rules.specs.units.Units.{Units}
 use Rattle.vhdl_expand_rules.specs.Kinds.{size}
 use Rattle.vhdl_expand_rules.specs.Tree.{Object, Instance, instance, Parts, no_parts, process, inner}
-use Rattle.vhdl_expand_rules.specs.Expansion.{Design, expanded}
+use Rattle.vhdl_expand_rules.specs.Expansion.{Design, expanded_design}
 
 pub record ObjectFits (o : Object) : Type 0 where
   pub starts : length o.starts ≡ size o.kind
@@ -20,4 +20,4 @@ abbrev mutual
   PartsFit (inner label i rest) = InstanceFits i × PartsFit rest
 
 abbrev pub EachDesignFits : Type 0
-EachDesignFits = (units : Units) (top : List ℕ) (design : Design) → expanded units top ≡ Ok design → InstanceFits design.top
+EachDesignFits = (units : Units) (top : List ℕ) (design : Design) → expanded_design units top ≡ Ok design → InstanceFits design.top

@@ -6,11 +6,11 @@ use Rattle.rtl_model.specs.bodies.Fits.{Scope, IsWidth}
 use Rattle.vhdl_names_rules.specs.units.Units as u
 use Rattle.vhdl_names_rules.specs.units.Units.{Form}
 use Rattle.vhdl_names_rules.specs.sound.Expressions.{Inside, port_form}
-use Rattle.vhdl_expand_rules.specs.Kinds.{Kind, one, vector, enumeration, bounds_size, size, element_type}
+use Rattle.vhdl_expand_rules.specs.Kinds.{ObjectKind, one, vector, enumeration, bounds_size, size, element_type}
 use Rattle.vhdl_expand_rules.specs.Site.{Constant, Site, elements_count}
 
 -- What a form has become: a vector has 1 to 64 elements, an enumeration 1 to 256 literals.
-abbrev pub IsOf : Form → Kind → Type 0
+abbrev pub IsOf : Form → ObjectKind → Type 0
 IsOf u.element one = ⊤
 IsOf (u.vector r) (vector b) = IsWidth (bounds_size b)
 IsOf (u.enumeration m) (enumeration n) = (m ≡ n) × (1 ≤ n) × (n ≤ 256)
@@ -27,11 +27,11 @@ pub record IsSite (i : Inside) (at : Site) : Type 0 where
   pub variables : AllZip IsOf i.variables at.variables
 
 -- the types of the elements of things of these kinds, in order
-abbrev pub kinds_types : List Kind → List ElementType
+abbrev pub kinds_types : List ObjectKind → List ElementType
 kinds_types [] = []
 kinds_types (k ∷ ks) = replicate (size k) (element_type k) ++ kinds_types ks
 
--- In an expanded body an element of a port or signal stands where a flat net's body has a net, and each is its own target.
+-- In an expanded body an element of a port or signal stands where a flat netlist's body has a net, and each is its own target.
 abbrev pub scope_at : Site → Scope
 scope_at at = record {
   nets = kinds_types at.ports ++ kinds_types at.signals;

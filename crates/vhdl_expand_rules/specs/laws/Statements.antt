@@ -1,6 +1,6 @@
 -- A body that stands soundly in a unit is expanded to one that fits (IEEE 1076-2008, clause 10).
 use Rattle.std.specs.Prelude.{◌≡◌, true, Ok}
-use Rattle.rtl_model.specs.bodies.Body as b
+use Rattle.rtl_model.specs.bodies.Body as bodies
 use Rattle.rtl_model.specs.bodies.Fits.{Fits}
 use Rattle.vhdl_names_rules.specs.units.Statements.{Statements}
 use Rattle.vhdl_names_rules.specs.sound.Expressions.{Inside}
@@ -11,5 +11,5 @@ use Rattle.vhdl_expand_rules.specs.laws.Sites.{IsSite, scope_at}
 
 abbrev pub EachBodyFits : Type 0
 EachBodyFits =
-    (i : Inside) (at : Site) (s : Statements) (body : b.Stmts) → IsSite i at → statements_fit i s ≡ true → statements at s ≡ Ok body
+    (i : Inside) (at : Site) (s : Statements) (body : bodies.Stmts) → IsSite i at → statements_fit i s ≡ true → statements at s ≡ Ok body
     → Fits (scope_at at) body

@@ -4,28 +4,28 @@
 use Rattle.std.specs.Prelude.{◌≡◌, ℕ, ◌<◌, ◌≤◌, ⊤, Bool, true, false, All, List, [], ◌∷◌, ◌++◌, length, map, replicate, slice_get, Some, None, Ok, IsTrue, Contains}
 use Rattle.std.specs.List.{range_with_len}
 use Rattle.std.specs.List.Sorted.{IsStrictlyIncreasing}
-use Rattle.rtl_model.specs.bodies.Body as b
+use Rattle.rtl_model.specs.bodies.Body as bodies
 use Rattle.rtl_model.specs.bodies.Body.{Stmts}
 use Rattle.rtl_model.specs.bodies.Types.{ElementType, nine_valued, limit_of, HasType}
 use Rattle.rtl_model.specs.bodies.Fits.{Scope, IsWidth, Fits}
 use Rattle.vhdl_names_rules.specs.units.Units.{Units}
 use Rattle.vhdl_names_rules.specs.sound.Units.{are_sound}
-use Rattle.vhdl_expand_rules.specs.Kinds.{Kind, one, vector, enumeration, bounds_size, size, element_type}
+use Rattle.vhdl_expand_rules.specs.Kinds.{ObjectKind, one, vector, enumeration, bounds_size, size, element_type}
 use Rattle.vhdl_expand_rules.specs.Site.{elements_count}
 use Rattle.vhdl_expand_rules.specs.Tree.{Role, input, output, internal, Object, Variable, Process, Instance, instance, Parts, no_parts, process, inner, objects_of}
 use Rattle.vhdl_expand_rules.specs.Declarations.{is_input}
-use Rattle.vhdl_expand_rules.specs.Expansion.{Design, expanded}
+use Rattle.vhdl_expand_rules.specs.Expansion.{Design, expanded_design}
 use Rattle.vhdl_expand_rules.specs.laws.Sites.{kinds_types}
 
 -- ---- objects and variables
 
 -- a vector has 1 to 64 elements, an enumeration 1 to 256 literals
-abbrev pub IsKind : Kind → Type 0
+abbrev pub IsKind : ObjectKind → Type 0
 IsKind one = ⊤
 IsKind (vector b) = IsWidth (bounds_size b)
 IsKind (enumeration n) = (1 ≤ n) × (n ≤ 256)
 
-abbrev pub object_kinds : List Object → List Kind
+abbrev pub object_kinds : List Object → List ObjectKind
 object_kinds os = map (λ (o : Object). o.kind) os
 
 -- the types of the elements of these objects, and the roles of the objects that they are elements of
@@ -65,25 +65,25 @@ pub record VariableIsSound (v : Variable) : Type 0 where
 -- each element of a signal that a body assigns is one of these
 module _ (Is : ℕ → Type 0) where
   abbrev mutual
-    pub StmtAssigns : b.Stmt → Type 0
-    StmtAssigns b.nothing = ⊤
-    StmtAssigns (b.assign es v) = All Is es
-    StmtAssigns (b.set es v) = ⊤
-    StmtAssigns (b.if_of bs) = BranchesAssign bs
-    StmtAssigns (b.case_of v alts) = AlternativesAssign alts
+    pub StmtAssigns : bodies.Stmt → Type 0
+    StmtAssigns bodies.null_of = ⊤
+    StmtAssigns (bodies.assign es v) = All Is es
+    StmtAssigns (bodies.set es v) = ⊤
+    StmtAssigns (bodies.if_of bs) = BranchesAssign bs
+    StmtAssigns (bodies.case_of v alts) = AlternativesAssign alts
 
     pub Assigns : Stmts → Type 0
-    Assigns b.done = ⊤
-    Assigns (b.step s rest) = StmtAssigns s × Assigns rest
+    Assigns bodies.done = ⊤
+    Assigns (bodies.step s rest) = StmtAssigns s × Assigns rest
 
-    pub BranchesAssign : b.Branches → Type 0
-    BranchesAssign b.no_else = ⊤
-    BranchesAssign (b.otherwise s) = Assigns s
-    BranchesAssign (b.branch t s bs) = Assigns s × BranchesAssign bs
+    pub BranchesAssign : bodies.Branches → Type 0
+    BranchesAssign bodies.no_else = ⊤
+    BranchesAssign (bodies.otherwise s) = Assigns s
+    BranchesAssign (bodies.branch t s bs) = Assigns s × BranchesAssign bs
 
-    pub AlternativesAssign : b.Alternatives → Type 0
-    AlternativesAssign (b.others s) = Assigns s
-    AlternativesAssign (b.alternative choices s alts) = Assigns s × AlternativesAssign alts
+    pub AlternativesAssign : bodies.Alternatives → Type 0
+    AlternativesAssign (bodies.others s) = Assigns s
+    AlternativesAssign (bodies.alternative choices s alts) = Assigns s × AlternativesAssign alts
 
 -- what an expanded body stands in: elements have the place of nets, and each is its own target
 abbrev pub body_scope : List Object → List Variable → Scope
@@ -117,4 +117,4 @@ pub record DesignIsSound (design : Design) : Type 0 where
   pub not_joined : All (λ (o : Object). o.actual ≡ None) (objects_of design.top)
 
 abbrev pub EachTreeIsSound : Type 0
-EachTreeIsSound = (units : Units) (top : List ℕ) (design : Design) → IsTrue (are_sound units) → expanded units top ≡ Ok design → DesignIsSound design
+EachTreeIsSound = (units : Units) (top : List ℕ) (design : Design) → IsTrue (are_sound units) → expanded_design units top ≡ Ok design → DesignIsSound design

@@ -2,15 +2,15 @@
 use Rattle.std.specs.Prelude.{ℕ, List}
 use Rattle.std.specs.List.{range_with_len}
 use Rattle.vhdl_expand_rules.specs.declared.kind.Bounds.{Bounds}
-use Rattle.vhdl_expand_rules.specs.declared.kind.Kind.{Kind}
-use Rattle.vhdl_expand_rules.specs.declared.kind.Kind.TheVariants as k
+use Rattle.vhdl_expand_rules.specs.declared.kind.ObjectKind.{ObjectKind}
+use Rattle.vhdl_expand_rules.specs.declared.kind.ObjectKind.TheVariants as k
 use Rattle.vhdl_expand_rules.specs.declared.kind.Run.{Run}
 use Rattle.vhdl_expand_rules.specs.Kinds as definition
 
 abbrev pub bounds_view : Bounds → definition.Bounds
 bounds_view b = record { left = b.left; direction = b.direction; right = b.right }
 
-abbrev pub kind_view : Kind → definition.Kind
+abbrev pub kind_view : ObjectKind → definition.ObjectKind
 kind_view k.One = definition.one
 kind_view (k.Vector b) = definition.vector (bounds_view b)
 kind_view (k.Enumeration count) = definition.enumeration count

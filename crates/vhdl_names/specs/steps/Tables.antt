@@ -5,13 +5,13 @@ use Rattle.vhdl_names_rules.specs.Visibility.{Name}
 use Rattle.vhdl_names_rules.specs.Interfaces.{EntityView}
 use Rattle.vhdl_names_labels.specs.Once.{names_view, one_name}
 use Rattle.vhdl_names_instances.specs.Table.{Seen, seen, seens_view}
-use Rattle.vhdl_names_instances.specs.declared.instances.Entities.{Entities}
+use Rattle.vhdl_names_instances.specs.declared.instances.InstanceEntities.{InstanceEntities}
 
 pub record TableView : Type 0 where
   pub names : List Name
   pub formals : List Seen
 
-abbrev pub table_view : Entities → TableView
+abbrev pub table_view : InstanceEntities → TableView
 table_view t = record { names = names_view t.names; formals = seens_view t.formals }
 
 abbrev pub with_seen : TableView → EntityView → Option TableView

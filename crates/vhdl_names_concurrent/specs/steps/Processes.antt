@@ -2,7 +2,7 @@
 use Rattle.std.specs.Prelude.{List, Option, Some}
 use Rattle.vhdl_tree.specs.Tree as t
 use Rattle.vhdl_tree.specs.Tree.{Ident}
-use Rattle.vhdl_names_rules.specs.units.Expressions.{Place}
+use Rattle.vhdl_names_rules.specs.units.Expressions.{SignalPart}
 use Rattle.vhdl_names_rules.specs.units.Statements as s
 use Rattle.vhdl_names_rules.specs.units.Units as u
 use Rattle.vhdl_names_rules.specs.declared.fault.NameProblem.TheVariants.{Twice, WrongKind}
@@ -13,7 +13,7 @@ use Rattle.vhdl_names_rules.specs.Statements.{signal, statements, statement_labe
 use Rattle.vhdl_names_rules.specs.Concurrent.{sensitivity, label_of}
 use Rattle.vhdl_names_declarations.specs.Entered.{entering_variables}
 
-abbrev pub place_of : Sight → t.Name → Option Place
+abbrev pub place_of : Sight → t.Name → Option SignalPart
 place_of sight n = signal sight n >>= λ x. Some x.place
 
 -- what is in sight behind the variables of a process, and these

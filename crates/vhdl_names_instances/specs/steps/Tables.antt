@@ -1,14 +1,14 @@
 -- What instances see of an entity, in the order in which the code comes to its declarations.
 use Rattle.std.specs.Prelude.{ℕ, List, [], ◌∷◌, ◌++◌, Option, Some, None, slice_get, if◌then◌else◌}
 use Rattle.vhdl_names_rules.specs.Rules.{◌>>=◌}
-use Rattle.vhdl_names_rules.specs.Visibility as m
+use Rattle.vhdl_names_rules.specs.Visibility as visibility
 use Rattle.vhdl_names_rules.specs.Visibility.{Name, Meaning, Declared, is_generic}
 use Rattle.vhdl_names_labels.specs.Once.{one_name}
 use Rattle.vhdl_names_instances.specs.Table.{Seen}
 use Rattle.vhdl_names_instances.specs.declared.actuals.PortType.{PortType}
 
 abbrev pub port_type : Meaning → Option PortType
-port_type (m.port k mode kind) = Some (record { mode = mode; kind = kind })
+port_type (visibility.port k mode kind) = Some (record { mode = mode; kind = kind })
 port_type _ = None
 
 abbrev pub with_generic : Seen → Name → Option Seen

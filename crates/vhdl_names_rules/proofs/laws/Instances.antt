@@ -5,10 +5,10 @@ use Rattle.std.specs.Option.{is_some}
 use Rattle.std.proofs.lemmas.List.{length-map, length-append}
 use Rattle.vhdl_tree.specs.Tree as t
 use Rattle.vhdl_tree.specs.Tree.{Expr, Association, ContextItem}
-use Rattle.vhdl_names_rules.specs.units.Expressions.{Place}
+use Rattle.vhdl_names_rules.specs.units.Expressions.{SignalPart}
 use Rattle.vhdl_names_rules.specs.units.Units as u
 use Rattle.vhdl_names_rules.specs.Rules.{◌>>=◌, each, if_any, all_of}
-use Rattle.vhdl_names_rules.specs.Visibility as m
+use Rattle.vhdl_names_rules.specs.Visibility as visibility
 use Rattle.vhdl_names_rules.specs.Visibility.{Name, Meaning, Declared, declare, are_distinct, ends, names_of, numbered, Sight, meaning, with_declared, Declares, followed_by}
 use Rattle.vhdl_names_rules.specs.Packages.{context, no_context, sight_of}
 use Rattle.vhdl_names_rules.specs.Expressions.{static}
@@ -90,8 +90,8 @@ of_generic sight g x e =
     let c = comes (if_any (static sight) g.default) _ x b.rest in
     let P : Declares u.Generic → Type 0 = λ x. Kinds (length x.analysed) 0 x in
     subst P (some_is _ x c.rest) (record {
-      generics_are = all_numbered generic_name m.generic _ (λ n k. refl) _ (names_of g.names);
-      ports_are = none_numbered port_formal m.generic (λ n k. refl) _ (names_of g.names);
+      generics_are = all_numbered generic_name visibility.generic _ (λ n k. refl) _ (names_of g.names);
+      ports_are = none_numbered port_formal visibility.generic (λ n k. refl) _ (names_of g.names);
     })
 
 of_port : (sight : Sight) (p : t.Port) (x : Declares u.Port) → port sight p ≡ Some x → Kinds 0 (length x.analysed) x
@@ -102,8 +102,8 @@ of_port sight p x e =
     let c = comes (if_any (fixed_value sight a.value.type) p.default) _ x b.rest in
     let P : Declares u.Port → Type 0 = λ x. Kinds 0 (length x.analysed) x in
     subst P (some_is _ x c.rest) (record {
-      generics_are = none_numbered generic_name (λ k. m.port k (mode_of p.mode) b.value) (λ n k. refl) _ (names_of p.names);
-      ports_are = all_numbered port_formal (λ k. m.port k (mode_of p.mode) b.value) _ (λ n k. refl) _ (names_of p.names);
+      generics_are = none_numbered generic_name (λ k. visibility.port k (mode_of p.mode) b.value) (λ n k. refl) _ (names_of p.names);
+      ports_are = all_numbered port_formal (λ k. visibility.port k (mode_of p.mode) b.value) _ (λ n k. refl) _ (names_of p.names);
     })
 
 -- as many formals as generics and ports
@@ -143,7 +143,7 @@ each_length f (x ∷ xs) ys e =
     let d = comes (each f xs) (λ ys. Some (c.value ∷ ys)) ys c.rest in
     ap length (sym (some_is _ ys d.rest)) ∙ ap suc (each_length f xs d.value d.is)
 
-ports_length : (sight : Sight) (fs : List Formal) (es : List (Option Expr)) (ps : List (Option Place)) → length fs ≡ length es
+ports_length : (sight : Sight) (fs : List Formal) (es : List (Option Expr)) (ps : List (Option SignalPart)) → length fs ≡ length es
     → port_actuals sight fs es ≡ Some ps → length ps ≡ length fs
 ports_length sight [] [] ps l e = ap length (sym (some_is _ ps e))
 ports_length sight [] (x ∷ es) ps l e = absurd (omega arith)

@@ -8,8 +8,8 @@ use Rattle.vhdl_tree.specs.Tree as t
 use Rattle.vhdl_names_rules.specs.declared.kind.ObjectType.{ObjectType}
 use Rattle.vhdl_names_rules.specs.declared.kind.ObjectType.TheVariants.{Elements}
 use Rattle.vhdl_names_rules.specs.units.Expressions as e
-use Rattle.vhdl_names_rules.specs.units.Expressions.{Signal, Part, Place}
-use Rattle.vhdl_names_rules.specs.Visibility as m
+use Rattle.vhdl_names_rules.specs.units.Expressions.{Signal, Part, SignalPart}
+use Rattle.vhdl_names_rules.specs.Visibility as visibility
 use Rattle.vhdl_names_rules.specs.Visibility.{Meaning, Sight, meaning}
 use Rattle.vhdl_names_rules.specs.Names.{Suffix, part_of}
 use Rattle.vhdl_names_rules.specs.Expressions.{typed_suffix}
@@ -27,14 +27,14 @@ driven_if (Some p) s mode x e =
     (ap (λ (x : SignalName). x.place.signal) (sym h), ap (λ (x : SignalName). x.mode) (sym h))
 
 by_meaning : (d : Meaning) (suffix : Suffix) (x : SignalName) → as_signal d suffix ≡ Some x → is_input x.mode ≡ false → IsDriven (Some d) x.place.signal
-by_meaning (m.port k Out kind) suffix x h i =
+by_meaning (visibility.port k Out kind) suffix x h i =
     let d = driven_if (part_of (Elements kind) suffix) (e.port k) (Some Out) x h in
     inl (k, kind, refl, d.0)
-by_meaning (m.port k In kind) suffix x h i =
+by_meaning (visibility.port k In kind) suffix x h i =
     let d = driven_if (part_of (Elements kind) suffix) (e.port k) (Some In) x h in
     let g : true ≡ is_input x.mode = ap is_input (sym d.1) in
     absurd (cc)
-by_meaning (m.signal k type) suffix x h i =
+by_meaning (visibility.signal k type) suffix x h i =
     let d = driven_if (part_of type suffix) (e.Signal.signal k) None x h in
     inr (k, type, refl, d.0)
 by_meaning _ suffix x h i = absurd (cc)

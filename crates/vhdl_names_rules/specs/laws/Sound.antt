@@ -3,14 +3,14 @@ use Rattle.std.specs.Prelude.{◌≡◌, ℕ, ◌⊎◌, List, length, slice_get
 use Rattle.vhdl_tree.specs.declared.declaration.Mode.TheVariants.{Out}
 use Rattle.vhdl_tree.specs.Tree as t
 use Rattle.vhdl_tree.specs.Tree.{File, Ident, Expr}
-use Rattle.vhdl_names_rules.specs.declared.kind.Kind.{Kind}
+use Rattle.vhdl_names_rules.specs.declared.kind.ElementKind.{ElementKind}
 use Rattle.vhdl_names_rules.specs.declared.kind.ObjectType.{ObjectType}
 use Rattle.vhdl_names_rules.specs.units.Expressions as e
-use Rattle.vhdl_names_rules.specs.units.Expressions.{Signal, Place}
+use Rattle.vhdl_names_rules.specs.units.Expressions.{Signal, SignalPart}
 use Rattle.vhdl_names_rules.specs.units.Units as u
 use Rattle.vhdl_names_rules.specs.units.Units.{Units}
 use Rattle.vhdl_names_rules.specs.Rules.{each}
-use Rattle.vhdl_names_rules.specs.Visibility as m
+use Rattle.vhdl_names_rules.specs.Visibility as visibility
 use Rattle.vhdl_names_rules.specs.Visibility.{Meaning, Sight, meaning}
 use Rattle.vhdl_names_rules.specs.Interfaces.{EntityView}
 use Rattle.vhdl_names_rules.specs.Statements.{SignalName, target}
@@ -20,8 +20,8 @@ use Rattle.vhdl_names_rules.specs.Files.{entities_of, viewed, units_of}
 -- a name of this meaning is an out port, or a signal, of this number
 abbrev pub IsDriven : Option Meaning → Signal → Type 0
 IsDriven o x =
-    ((k : ℕ) × (kind : Kind) × (o ≡ Some (m.port k Out kind)) × (x ≡ e.port k))
-    ⊎ ((k : ℕ) × (type : ObjectType) × (o ≡ Some (m.signal k type)) × (x ≡ e.Signal.signal k))
+    ((k : ℕ) × (kind : ElementKind) × (o ≡ Some (visibility.port k Out kind)) × (x ≡ e.port k))
+    ⊎ ((k : ℕ) × (type : ObjectType) × (o ≡ Some (visibility.signal k type)) × (x ≡ e.Signal.signal k))
 
 -- No target is an in port.
 abbrev pub TargetsAreDriven : Type 0
@@ -30,7 +30,7 @@ TargetsAreDriven = (sight : Sight) (n : t.Name) (x : SignalName) → target sigh
 
 -- Nor is the actual of an out port.
 abbrev pub ActualsAreDriven : Type 0
-ActualsAreDriven = (sight : Sight) (f : Formal) (n : t.Name) (actual : Expr) (p : Place) → f.mode ≡ Out → as_name actual ≡ Some n
+ActualsAreDriven = (sight : Sight) (f : Formal) (n : t.Name) (actual : Expr) (p : SignalPart) → f.mode ≡ Out → as_name actual ≡ Some n
     → port_actual sight f actual ≡ Some p → IsDriven (meaning sight n.identifier.text) p.signal
 
 -- An instance is of a unit of the file, and has an entry for each of its generics and ports.

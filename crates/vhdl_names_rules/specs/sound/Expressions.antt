@@ -4,7 +4,7 @@ use Rattle.std.specs.Prelude.{ℕ, ◌==◌, nat_lt, Bool, true, false, not, ◌
 use Rattle.vhdl_names_rules.specs.declared.operator.VectorOperator.{VectorOperator}
 use Rattle.vhdl_names_rules.specs.declared.operator.VectorOperator.TheVariants as v
 use Rattle.vhdl_names_rules.specs.units.Expressions as e
-use Rattle.vhdl_names_rules.specs.units.Expressions.{Static, Range, StaticTest, Signal, Part, Place, Vector, Value, Test}
+use Rattle.vhdl_names_rules.specs.units.Expressions.{Static, Range, StaticTest, Signal, Part, SignalPart, Vector, Value, Test}
 use Rattle.vhdl_names_rules.specs.units.Units as u
 use Rattle.vhdl_names_rules.specs.units.Units.{Form, Fixed, Units}
 use Rattle.vhdl_names_rules.specs.Rules.{◌>>=◌, then_some}
@@ -67,7 +67,7 @@ abbrev pub signal_form : Inside → Signal → Option Form
 signal_form i (e.port k) = slice_get (map port_form i.ports) k
 signal_form i (e.Signal.signal k) = slice_get i.signals k
 
-abbrev pub place_shape : Inside → Place → Option Shape
+abbrev pub place_shape : Inside → SignalPart → Option Shape
 place_shape i p = signal_form i p.signal >>= λ f. part_shape i f p.part
 
 -- ---- vectors and values
@@ -169,7 +169,7 @@ values_fit i x y = value_fits_beside i (value_shape i x) y
 -- ---- truths
 
 -- no loop's parameter stands in the place of an edge
-abbrev pub edge_fits : Inside → Place → Bool
+abbrev pub edge_fits : Inside → SignalPart → Bool
 edge_fits i p = fits_shape one (place_shape (record i { loops = 0 }) p)
 
 abbrev pub test_fits : Inside → Test → Bool

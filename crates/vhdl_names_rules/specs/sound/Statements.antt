@@ -4,7 +4,7 @@ use Rattle.std.specs.List.{list_all}
 use Rattle.vhdl_tree.specs.declared.declaration.Mode.{Mode}
 use Rattle.vhdl_tree.specs.declared.declaration.Mode.TheVariants.{In, Out}
 use Rattle.vhdl_names_rules.specs.units.Expressions as e
-use Rattle.vhdl_names_rules.specs.units.Expressions.{Static, Range, StaticTest, Signal, Part, Place, Vector, Value, Test}
+use Rattle.vhdl_names_rules.specs.units.Expressions.{Static, Range, StaticTest, Signal, Part, SignalPart, Vector, Value, Test}
 use Rattle.vhdl_names_rules.specs.units.Statements as s
 use Rattle.vhdl_names_rules.specs.units.Units as u
 use Rattle.vhdl_names_rules.specs.units.Units.{Form, Fixed, Units}
@@ -51,12 +51,12 @@ selector_fits i x = is_some (value_shape i x)
 
 unfoldable mutual
   pub statement_fits : Inside → s.Statement → Bool
-  statement_fits i s.nothing = true
+  statement_fits i s.null_of = true
   statement_fits i (s.assign p g) = is_driven i p.signal && given_fits_target i (place_shape i p) g
   statement_fits i (s.set k p g) = given_fits_target i (slice_get i.variables k >>= λ f. part_shape i f p) g
-  statement_fits i (s.choose bs) = branches_fit i bs
-  statement_fits i (s.select x alts) = selector_fits i x && alternatives_fit i (value_shape i x) alts
-  statement_fits i (s.loop r body) = range_fits i r && statements_fit (within_loop i) body
+  statement_fits i (s.if_of bs) = branches_fit i bs
+  statement_fits i (s.case_of x alts) = selector_fits i x && alternatives_fit i (value_shape i x) alts
+  statement_fits i (s.for_of r body) = range_fits i r && statements_fit (within_loop i) body
 
   pub statements_fit : Inside → s.Statements → Bool
   statements_fit i s.done = true

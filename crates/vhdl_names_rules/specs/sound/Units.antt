@@ -3,7 +3,7 @@ use Rattle.std.specs.Prelude.{suc, ◌==◌, nat_lt, nat_le, Bool, true, false, 
 use Rattle.std.specs.List.{list_all}
 use Rattle.vhdl_tree.specs.declared.declaration.Mode.{Mode}
 use Rattle.vhdl_tree.specs.declared.declaration.Mode.TheVariants.{In, Out}
-use Rattle.vhdl_names_rules.specs.units.Expressions.{Static, Signal, Place}
+use Rattle.vhdl_names_rules.specs.units.Expressions.{Static, Signal, SignalPart}
 use Rattle.vhdl_names_rules.specs.units.Units as u
 use Rattle.vhdl_names_rules.specs.units.Units.{Form, Fixed, Units}
 use Rattle.vhdl_names_rules.specs.sound.Expressions.{Inside, Shape, one, vector, static_fits, range_fits, static_test_fits, shape_of, place_shape, is_elements, position_fits, fits_shape}
@@ -87,12 +87,12 @@ abbrev pub may_join : Inside → Mode → Signal → Bool
 may_join i In x = true
 may_join i Out x = is_driven i x
 
-abbrev pub actual_fits : Inside → u.Port → Option Place → Bool
+abbrev pub actual_fits : Inside → u.Port → Option SignalPart → Bool
 actual_fits i f None = true
 actual_fits i f (Some p) = fits_shape (shape_of f.object.form) (place_shape i p) && may_join i f.mode p.signal
 
 -- an actual for each formal
-abbrev pub actuals_fit : Inside → List u.Port → List (Option Place) → Bool
+abbrev pub actuals_fit : Inside → List u.Port → List (Option SignalPart) → Bool
 actuals_fit i [] [] = true
 actuals_fit i (f ∷ fs) (p ∷ ps) = actual_fits i f p && actuals_fit i fs ps
 actuals_fit i _ _ = false

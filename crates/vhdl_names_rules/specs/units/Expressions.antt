@@ -49,14 +49,14 @@ pub data Part : Type 0 where
   element : Static → Part
   slice : Range → Part
 
-pub record Place : Type 0 where
+pub record SignalPart : Type 0 where
   pub signal : Signal
   pub part : Part
 
 -- ---- one element of the nine values, or a vector of them
 
 pub data Vector : Type 0 where
-  of_signal : Place → Vector
+  of_signal : SignalPart → Vector
   of_variable : ℕ → Part → Vector
   of_constant : ℕ → Part → Vector
   -- A character literal with no parentheses round it, nor round the operand on its left: an edge test is `event p` with
@@ -100,7 +100,7 @@ pub data Test : Type 0 where
   compared_to : Cmp → Vector → Static → Test
   compared_with : Cmp → Static → Vector → Test
   -- rising_edge and falling_edge
-  edge : Edge → Place → Test
-  event : Place → Test
+  edge : Edge → SignalPart → Test
+  event : SignalPart → Test
   negated : Test → Test
   both : Logic → Test → Test → Test

@@ -1,7 +1,7 @@
 -- Analysed sequential statements (IEEE 1076-2008, clause 10).
 use Rattle.std.specs.Prelude.{ℕ, List}
 use Rattle.vhdl_values.specs.declared.scalar.Nine.{Nine}
-use Rattle.vhdl_names_rules.specs.units.Expressions.{Range, Part, Place, Vector, Value, Test}
+use Rattle.vhdl_names_rules.specs.units.Expressions.{Range, Part, SignalPart, Vector, Value, Test}
 
 -- what is assigned: a value, or (others => e), one element for each of the target's
 pub data Given : Type 0 where
@@ -15,14 +15,14 @@ pub data Choice : Type 0 where
 
 mutual
   pub data Statement : Type 0 where
-    nothing : Statement
+    null_of : Statement
     -- to a signal, and to the variable of this number
-    assign : Place → Given → Statement
+    assign : SignalPart → Given → Statement
     set : ℕ → Part → Given → Statement
-    choose : Branches → Statement
-    select : Value → Alternatives → Statement
+    if_of : Branches → Statement
+    case_of : Value → Alternatives → Statement
     -- its parameter is the loop parameter with as many others round it as it has loops
-    loop : Range → Statements → Statement
+    for_of : Range → Statements → Statement
 
   pub data Statements : Type 0 where
     done : Statements

@@ -3,7 +3,7 @@ use Rattle.std.specs.Prelude.{ℕ, Bool, List, Option}
 use Rattle.vhdl_values.specs.declared.scalar.Nine.{Nine}
 use Rattle.vhdl_tree.specs.declared.declaration.Mode.{Mode}
 use Rattle.vhdl_names_rules.specs.declared.operator.IntegerType.{IntegerType}
-use Rattle.vhdl_names_rules.specs.units.Expressions.{Static, Range, StaticTest, Place}
+use Rattle.vhdl_names_rules.specs.units.Expressions.{Static, Range, StaticTest, SignalPart}
 use Rattle.vhdl_names_rules.specs.units.Statements.{Statements}
 
 -- ---- declarations
@@ -52,7 +52,7 @@ pub data Declaration : Type 0 where
 -- ---- concurrent statements
 
 pub data Sensitivity : Type 0 where
-  listed : List Place → Sensitivity
+  listed : List SignalPart → Sensitivity
   -- ( all )
   every : Sensitivity
   -- of a concurrent assignment: what it reads
@@ -69,7 +69,7 @@ pub record Instance : Type 0 where
   pub label : List ℕ
   pub unit : ℕ
   pub generics : List (Option Static)
-  pub ports : List (Option Place)
+  pub ports : List (Option SignalPart)
 
 mutual
   pub data Concurrent : Type 0 where

@@ -4,7 +4,7 @@ use Rattle.vhdl_names_rules.specs.declared.vector.Signal.{Signal}
 use Rattle.vhdl_names_rules.specs.declared.vector.Signal.TheVariants as g
 use Rattle.vhdl_names_rules.specs.declared.vector.Part.{Part}
 use Rattle.vhdl_names_rules.specs.declared.vector.Part.TheVariants as p
-use Rattle.vhdl_names_rules.specs.declared.vector.Place.{Place}
+use Rattle.vhdl_names_rules.specs.declared.vector.SignalPart.{SignalPart}
 use Rattle.vhdl_names_rules.specs.declared.vector.Vector.{Vector}
 use Rattle.vhdl_names_rules.specs.declared.vector.Vector.TheVariants as v
 use Rattle.vhdl_names_rules.specs.declared.vector.Vector.TheBlock.{Row_of-VectorLink, end_of-VectorLink, more_of-VectorLink}
@@ -25,7 +25,7 @@ part_view p.Whole = u.whole
 part_view (p.Element s) = u.Part.element (static_view s)
 part_view (p.Slice r) = u.slice (range_view r)
 
-abbrev pub place_view : Place → u.Place
+abbrev pub place_view : SignalPart → u.SignalPart
 place_view x = record { signal = signal_view x.signal; part = part_view x.part }
 
 abbrev mutual

@@ -9,7 +9,7 @@ use Rattle.vhdl_names_rules.specs.units.Statements as s
 use Rattle.vhdl_names_rules.specs.units.Units as u
 use Rattle.vhdl_names_rules.specs.Rules.{◌>>=◌, ◌>>◌, met, each, if_any}
 use Rattle.vhdl_names_rules.specs.Visibility.{Sight}
-use Rattle.vhdl_names_rules.specs.Expressions.{typed, condition, given}
+use Rattle.vhdl_names_rules.specs.Expressions.{typed, condition, value_given}
 use Rattle.vhdl_names_rules.specs.Choices.{choices, covered, selector, arranged}
 use Rattle.vhdl_names_rules.specs.Statements.{SignalName, target}
 use Rattle.vhdl_names_rules.specs.Concurrent as rules
@@ -24,7 +24,7 @@ use Rattle.vhdl_names_labels.proofs.Lists.{bound, inner}
 
 module _ (sight : Sight) (n : t.Name) (x : SignalName) (found : target sight n ≡ Some x) where
   assigned_by : (v : t.Value) → rules.assigned sight x v ≡ assigned sight n v
-  assigned_by v = ap (λ o. o >>= λ x. given sight x.type v >>= λ g. Some (s.assign x.place g)) (sym found)
+  assigned_by v = ap (λ o. o >>= λ x. value_given sight x.type v >>= λ g. Some (s.assign x.place g)) (sym found)
 
   last_by : (o : Option t.Value) → rules.last_branch sight x o ≡ (if_any (steps.alone sight n) o >>= λ last. Some (last_of last))
   last_by None = refl
@@ -56,11 +56,11 @@ module _ (sight : Sight) (n : t.Name) (x : SignalName) (found : target sight n �
       go (Some y) None r e l h = refl
       go (Some y) (Some c) r e l h = end y c r e l h
 
-  chosen_by_all : (bs : List t.Branch) (o : Option t.Value) → option_map s.choose (rules.branches sight x bs o) ≡ steps.conditional sight n bs o
-  chosen_by_all bs o = ap (option_map s.choose) (branches_by bs o) ∙ go (each (steps.waveform sight n) bs) (if_any (steps.alone sight n) o)
+  chosen_by_all : (bs : List t.Branch) (o : Option t.Value) → option_map s.if_of (rules.branches sight x bs o) ≡ steps.conditional sight n bs o
+  chosen_by_all bs o = ap (option_map s.if_of) (branches_by bs o) ∙ go (each (steps.waveform sight n) bs) (if_any (steps.alone sight n) o)
     where
-      go : (e : Option (List Guarded)) (l : Option (Option (List s.Statement))) → option_map s.choose (e >>= λ gs. l >>= λ last. Some (branches_of gs (last_of last)))
-          ≡ (e >>= λ gs. l >>= λ last. Some (s.choose (branches_of gs (last_of last))))
+      go : (e : Option (List Guarded)) (l : Option (Option (List s.Statement))) → option_map s.if_of (e >>= λ gs. l >>= λ last. Some (branches_of gs (last_of last)))
+          ≡ (e >>= λ gs. l >>= λ last. Some (s.if_of (branches_of gs (last_of last))))
       go None l = refl
       go (Some gs) None = refl
       go (Some gs) (Some last) = refl
@@ -116,47 +116,47 @@ selected_gives sight label a =
     rest : ObjectType × Value → Option u.Concurrent
     rest by = target sight a.target >>= λ x. covered sight by.0 (steps.choice_lists a.waveforms)
         >>= λ cs. each (λ (w : t.Waveform). option_map rules.alone (rules.assigned sight x w.value)) a.waveforms
-        >>= λ bodies. arranged cs bodies >>= λ all. Some (assigning label (s.select by.1 all))
+        >>= λ bodies. arranged cs bodies >>= λ all. Some (assigning label (s.case_of by.1 all))
 
     steps_rest : ObjectType × Value → Option u.Concurrent
     steps_rest by = target sight a.target >>= λ _. each (steps.chosen sight by.0 a.target) a.waveforms
-        >>= λ all. cover by.0 (steps.choice_lists a.waveforms) (all_choices all) >>= λ _. but_last all >>= λ d. Some (assigning label (s.select by.1 (put_together d)))
+        >>= λ all. cover by.0 (steps.choice_lists a.waveforms) (all_choices all) >>= λ _. but_last all >>= λ d. Some (assigning label (s.case_of by.1 (put_together d)))
 
     by_parts : ObjectType × Value → Option u.Concurrent
-    by_parts by = steps.parts sight by.0 a >>= λ d. Some (assigning label (s.select by.1 (put_together d)))
+    by_parts by = steps.parts sight by.0 a >>= λ d. Some (assigning label (s.case_of by.1 (put_together d)))
 
     apart : (by : ObjectType × Value) (o : Option SignalName) (h : Option (List Chosen))
-        → (o >>= λ _. h >>= λ all. cover by.0 (steps.choice_lists a.waveforms) (all_choices all) >>= λ _. but_last all >>= λ d. Some (assigning label (s.select by.1 (put_together d))))
-        ≡ ((o >>= λ _. h >>= λ all. cover by.0 (steps.choice_lists a.waveforms) (all_choices all) >>= λ _. but_last all) >>= λ d. Some (assigning label (s.select by.1 (put_together d))))
+        → (o >>= λ _. h >>= λ all. cover by.0 (steps.choice_lists a.waveforms) (all_choices all) >>= λ _. but_last all >>= λ d. Some (assigning label (s.case_of by.1 (put_together d))))
+        ≡ ((o >>= λ _. h >>= λ all. cover by.0 (steps.choice_lists a.waveforms) (all_choices all) >>= λ _. but_last all) >>= λ d. Some (assigning label (s.case_of by.1 (put_together d))))
     apart by None h = refl
     apart by (Some x) None = refl
     apart by (Some x) (Some all) = end (cover by.0 (steps.choice_lists a.waveforms) (all_choices all)) (but_last all)
       where
         end : (c : Option (Unit {0})) (d : Option Divided)
-            → (c >>= λ _. d >>= λ d. Some (assigning label (s.select by.1 (put_together d)))) ≡ ((c >>= λ _. d) >>= λ d. Some (assigning label (s.select by.1 (put_together d))))
+            → (c >>= λ _. d >>= λ d. Some (assigning label (s.case_of by.1 (put_together d)))) ≡ ((c >>= λ _. d) >>= λ d. Some (assigning label (s.case_of by.1 (put_together d))))
         end None d = refl
         end (Some u) d = refl
 
     outer_rules : (f : Option (List (List s.Choice))) (g : Option (List s.Statements)) (value : Value)
-        → (f >>= λ cs. g >>= λ bodies. arranged cs bodies >>= λ all. Some (assigning label (s.select value all)))
-        ≡ option_map (assigning label) (f >>= λ cs. g >>= λ bodies. arranged cs bodies >>= λ all. Some (s.select value all))
+        → (f >>= λ cs. g >>= λ bodies. arranged cs bodies >>= λ all. Some (assigning label (s.case_of value all)))
+        ≡ option_map (assigning label) (f >>= λ cs. g >>= λ bodies. arranged cs bodies >>= λ all. Some (s.case_of value all))
     outer_rules None g value = refl
     outer_rules (Some cs) None value = refl
     outer_rules (Some cs) (Some bodies) value = last (arranged cs bodies)
       where
-        last : (o : Option s.Alternatives) → (o >>= λ all. Some (assigning label (s.select value all))) ≡ option_map (assigning label) (o >>= λ all. Some (s.select value all))
+        last : (o : Option s.Alternatives) → (o >>= λ all. Some (assigning label (s.case_of value all))) ≡ option_map (assigning label) (o >>= λ all. Some (s.case_of value all))
         last None = refl
         last (Some all) = refl
 
     outer_steps : (h : Option (List Chosen)) (by : ObjectType × Value)
         → option_map (assigning label) (by_steps sight by.0 by.1 true (steps.choice_lists a.waveforms) h)
-        ≡ (h >>= λ all. cover by.0 (steps.choice_lists a.waveforms) (all_choices all) >>= λ _. but_last all >>= λ d. Some (assigning label (s.select by.1 (put_together d))))
+        ≡ (h >>= λ all. cover by.0 (steps.choice_lists a.waveforms) (all_choices all) >>= λ _. but_last all >>= λ d. Some (assigning label (s.case_of by.1 (put_together d))))
     outer_steps None by = refl
     outer_steps (Some all) by = asked (cover by.0 (steps.choice_lists a.waveforms) (all_choices all)) (but_last all)
       where
         asked : (c : Option (Unit {0})) (d : Option Divided)
-            → option_map (assigning label) (c >>= λ _. met true >> (d >>= λ d. Some (s.select by.1 (put_together d))))
-            ≡ (c >>= λ _. d >>= λ d. Some (assigning label (s.select by.1 (put_together d))))
+            → option_map (assigning label) (c >>= λ _. met true >> (d >>= λ d. Some (s.case_of by.1 (put_together d))))
+            ≡ (c >>= λ _. d >>= λ d. Some (assigning label (s.case_of by.1 (put_together d))))
         asked None d = refl
         asked (Some u) None = refl
         asked (Some u) (Some d) = refl
@@ -164,9 +164,9 @@ selected_gives sight label a =
     go : (by : ObjectType × Value) (o : Option SignalName) → target sight a.target ≡ o
         → (o >>= λ x. covered sight by.0 (steps.choice_lists a.waveforms)
         >>= λ cs. each (λ (w : t.Waveform). option_map rules.alone (rules.assigned sight x w.value)) a.waveforms
-        >>= λ bodies. arranged cs bodies >>= λ all. Some (assigning label (s.select by.1 all)))
+        >>= λ bodies. arranged cs bodies >>= λ all. Some (assigning label (s.case_of by.1 all)))
         ≡ (o >>= λ _. each (steps.chosen sight by.0 a.target) a.waveforms
-        >>= λ all. cover by.0 (steps.choice_lists a.waveforms) (all_choices all) >>= λ _. but_last all >>= λ d. Some (assigning label (s.select by.1 (put_together d))))
+        >>= λ all. cover by.0 (steps.choice_lists a.waveforms) (all_choices all) >>= λ _. but_last all >>= λ d. Some (assigning label (s.case_of by.1 (put_together d))))
     go by None e = refl
     go by (Some x) e =
         outer_rules (covered sight by.0 (steps.choice_lists a.waveforms)) (each (λ (w : t.Waveform). option_map rules.alone (rules.assigned sight x w.value)) a.waveforms) by.1

@@ -61,7 +61,7 @@ abbrev pub selection : Sight → Option Ident → t.Expr → List t.Alternative 
 selection sight label e alts end = do
   by ← selected_by sight e
   d ← parts sight by.0 label alts end
-  Some (s.select by.1 (alternatives_of d.alternatives (statements_of d.last)))
+  Some (s.case_of by.1 (alternatives_of d.alternatives (statements_of d.last)))
 
 -- ---- tables of choices
 

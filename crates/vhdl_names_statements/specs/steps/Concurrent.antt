@@ -31,7 +31,7 @@ abbrev pub conditional : Sight → t.Name → List t.Branch → Option t.Value �
 conditional sight n bs o = do
   gs ← each (waveform sight n) bs
   last ← if_any (alone sight n) o
-  Some (s.choose (branches_of gs (last_of last)))
+  Some (s.if_of (branches_of gs (last_of last)))
 
 abbrev pub body : Sight → t.Name → List t.Branch → Option t.Value → Option s.Statement
 body sight n [] (Some v) = assigned sight n v
@@ -66,4 +66,4 @@ abbrev pub selected : Sight → Option Ident → t.SelectedAssignment → Option
 selected sight label a = do
   by ← selected_by sight a.selector
   d ← parts sight by.0 a
-  Some (assigning label (s.select by.1 (alternatives_of d.alternatives (statements_of d.last))))
+  Some (assigning label (s.case_of by.1 (alternatives_of d.alternatives (statements_of d.last))))

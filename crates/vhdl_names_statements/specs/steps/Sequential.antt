@@ -6,7 +6,7 @@ use Rattle.vhdl_names_rules.specs.units.Statements as s
 use Rattle.vhdl_names_rules.specs.declared.fault.NameProblem.TheVariants.{WrongKind}
 use Rattle.vhdl_names_rules.specs.Rules.{◌>>=◌, ◌>>◌, rule, each, if_any}
 use Rattle.vhdl_names_rules.specs.Visibility.{Sight, Declared, label_ends, within_loop}
-use Rattle.vhdl_names_rules.specs.Expressions.{static_range, condition, given}
+use Rattle.vhdl_names_rules.specs.Expressions.{static_range, condition, value_given}
 use Rattle.vhdl_names_rules.specs.Statements.{statement, target, variable}
 use Rattle.vhdl_names_units.specs.views.Sequential.{Guarded, guarded_by, statements_of, branches_of, last_of}
 
@@ -15,13 +15,13 @@ use Rattle.vhdl_names_units.specs.views.Sequential.{Guarded, guarded_by, stateme
 abbrev pub assigned : Sight → t.Name → t.Value → Option s.Statement
 assigned sight n v = do
   x ← target sight n
-  g ← given sight x.type v
+  g ← value_given sight x.type v
   Some (s.assign x.place g)
 
 abbrev pub set : Sight → t.Name → t.Value → Option s.Statement
 set sight n v = do
   x ← variable sight n
-  g ← given sight x.type v
+  g ← value_given sight x.type v
   Some (s.set x.number x.part g)
 
 -- ---- lists of statements
@@ -45,7 +45,7 @@ conditional sight label bs o end = do
   gs ← each (guarded sight) bs
   last ← if_any (all_labelled sight) o
   rule WrongKind (label_ends label end)
-  Some (s.choose (branches_of gs (last_of last)))
+  Some (s.if_of (branches_of gs (last_of last)))
 
 -- what a loop over this parameter does in a turn
 abbrev pub turn : Sight → Ident → List t.Sequential → Option (List s.Statement)
@@ -56,7 +56,7 @@ repetition sight label n r body end = do
   range ← static_range sight r
   found ← turn sight n body
   rule WrongKind (label_ends label end)
-  Some (s.loop range (statements_of found))
+  Some (s.for_of range (statements_of found))
 
 -- with one more parameter, the innermost
 abbrev pub in_loop : Sight → Declared → Sight

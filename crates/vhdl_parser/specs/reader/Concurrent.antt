@@ -1,8 +1,8 @@
 -- How the parser reads concurrent statements.
 use Rattle.std.specs.Prelude.{ℕ, zero, suc, Bool, true, false, ◌||◌, if◌then◌else◌, List, [], Vec, Option, Some, None}
 use Rattle.std.specs.Global.{Global}
-use Rattle.vhdl_lexer.specs.declared.token.Kind.{Kind}
-use Rattle.vhdl_lexer.specs.declared.token.Kind.TheVariants as k
+use Rattle.vhdl_lexer.specs.declared.token.TokenKind.{TokenKind}
+use Rattle.vhdl_lexer.specs.declared.token.TokenKind.TheVariants as k
 use Rattle.vhdl_tree.specs.declared.concurrent.Concurrent as code_concurrent
 use Rattle.vhdl_tree.specs.declared.expression.Identifier as code_identifier
 use Rattle.vhdl_tree.specs.View.{option_ident_view, concurrents_view}
@@ -26,7 +26,7 @@ assign n label = do
   pure (record { label = label; target = target; branches = w.branches; otherwise = w.otherwise })
 
 -- whether a statement begins, where statements stand
-abbrev pub begins_concurrent : Option Kind → Bool
+abbrev pub begins_concurrent : Option TokenKind → Bool
 begins_concurrent (Some k.Identifier) = true
 begins_concurrent (Some k.With) = true
 begins_concurrent (Some k.Process) = true
@@ -51,7 +51,7 @@ sees_component ts = sees_both k.Identifier k.Generic ts || (sees_both k.Identifi
 unfoldable pub named_with : ℕ → Ident → Parser Concurrent
 named_with n label = λ ts. if sees_component ts then instance_with n label ts else assign_with n (Some label) ts
 
-abbrev pub unlabelled_by : ℕ → Option Kind → Parser Concurrent
+abbrev pub unlabelled_by : ℕ → Option TokenKind → Parser Concurrent
 unlabelled_by n (Some k.With) = select_with n None
 unlabelled_by n (Some k.Process) = process_with n None
 unlabelled_by n (Some k.Identifier) = assign_with n None
@@ -105,7 +105,7 @@ module _ (n : ℕ) (inner : Parser (List Concurrent)) where
     condition ← expr m
     generate_rest inner label at (if_holds condition)
 
-  abbrev pub labelled_by : Ident → Option Kind → Parser Concurrent
+  abbrev pub labelled_by : Ident → Option TokenKind → Parser Concurrent
   labelled_by label (Some k.With) = select_with n (Some label)
   labelled_by label (Some k.Process) = process_with n (Some label)
   labelled_by label (Some k.Entity) = instance_with n label

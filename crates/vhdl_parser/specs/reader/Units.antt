@@ -1,7 +1,7 @@
 -- How the parser reads entities, architectures and files.
 use Rattle.std.specs.Prelude.{ℕ, List, [], Option, Some}
-use Rattle.vhdl_lexer.specs.declared.token.Kind.{Kind}
-use Rattle.vhdl_lexer.specs.declared.token.Kind.TheVariants as k
+use Rattle.vhdl_lexer.specs.declared.token.TokenKind.{TokenKind}
+use Rattle.vhdl_lexer.specs.declared.token.TokenKind.TheVariants as k
 use Rattle.vhdl_tree.specs.Tree.{Entity, Architecture, LibraryUnit, entity, architecture, DesignUnit, File}
 use Rattle.vhdl_tree.specs.Levels.{most_open}
 use Rattle.vhdl_parser_expressions.specs.reader.Input.{Parser, ◌>>=◌, ◌>>◌, ◌<$>◌, pure, refuse, is_kind, is_more, choose, test, expect, eat, identifier, optional, many}
@@ -41,7 +41,7 @@ architecture_unit = do
   expect k.Semicolon
   pure (record { at = at; name = name; entity = of_entity; declarations = ds; statements = found; end_word = word; end_name = last })
 
-abbrev pub library_unit_by : Option Kind → Parser LibraryUnit
+abbrev pub library_unit_by : Option TokenKind → Parser LibraryUnit
 library_unit_by (Some k.Entity) = entity <$> entity_unit
 library_unit_by (Some k.Architecture) = architecture <$> architecture_unit
 library_unit_by _ = refuse

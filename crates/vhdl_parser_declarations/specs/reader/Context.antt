@@ -1,7 +1,7 @@
 -- How the parser reads context clauses.
 use Rattle.std.specs.Prelude.{List, [], Bool, true, false, Option, Some}
-use Rattle.vhdl_lexer.specs.declared.token.Kind.{Kind}
-use Rattle.vhdl_lexer.specs.declared.token.Kind.TheVariants as k
+use Rattle.vhdl_lexer.specs.declared.token.TokenKind.{TokenKind}
+use Rattle.vhdl_lexer.specs.declared.token.TokenKind.TheVariants as k
 use Rattle.vhdl_tree.specs.Tree.{Selected, ContextItem, library, uses}
 use Rattle.vhdl_parser_expressions.specs.reader.Input.{Parser, ◌>>=◌, ◌>>◌, pure, is_kind, test, expect, identifier, many, separated}
 use Rattle.vhdl_parser_statements.specs.reader.Subtypes.{idents}
@@ -35,7 +35,7 @@ use_clause = do
 unfoldable pub context_item : Parser ContextItem
 context_item = test (is_kind k.Library) library_clause use_clause
 
-abbrev pub begins_context : Option Kind → Bool
+abbrev pub begins_context : Option TokenKind → Bool
 begins_context (Some k.Library) = true
 begins_context (Some k.Use) = true
 begins_context _ = false

@@ -1,7 +1,7 @@
 -- How the parser reads generics, ports and declarations.
 use Rattle.std.specs.Prelude.{ℕ, Bool, true, false, List, [], Option, Some, None}
-use Rattle.vhdl_lexer.specs.declared.token.Kind.{Kind}
-use Rattle.vhdl_lexer.specs.declared.token.Kind.TheVariants as k
+use Rattle.vhdl_lexer.specs.declared.token.TokenKind.{TokenKind}
+use Rattle.vhdl_lexer.specs.declared.token.TokenKind.TheVariants as k
 use Rattle.vhdl_tree.specs.declared.declaration.Mode.{Mode}
 use Rattle.vhdl_tree.specs.declared.declaration.Mode.TheVariants.{In, Out}
 use Rattle.vhdl_tree.specs.Tree.{Expr, Value, Generic, Port, Signals, Constants, Enumeration, Component, Declaration, signals, constants, enumeration, component}
@@ -43,7 +43,7 @@ generics n = do
 unfoldable pub optional_generics : ℕ → Parser (Option (List Generic))
 optional_generics n = optional (is_kind k.Generic) (generics n)
 
-abbrev pub mode_by : Option Kind → Parser (Option Mode)
+abbrev pub mode_by : Option TokenKind → Parser (Option Mode)
 mode_by (Some k.In) = expect k.In >> pure (Some In)
 mode_by (Some k.Out) = expect k.Out >> pure (Some Out)
 mode_by _ = pure None
@@ -124,7 +124,7 @@ component_of n = do
   pure (record { name = name; is_word = word; generics = gs; ports = ps; end_name = last })
 
 module _ (n : ℕ) where
-  abbrev pub declaration_by : Option Kind → Parser Declaration
+  abbrev pub declaration_by : Option TokenKind → Parser Declaration
   declaration_by (Some k.Signal) = signals <$> signals_of n
   declaration_by (Some k.Constant) = constants <$> constants_of n
   declaration_by (Some k.Type) = enumeration <$> enumeration_of n
@@ -134,7 +134,7 @@ module _ (n : ℕ) where
   unfoldable pub declaration : Parser Declaration
   declaration = choose declaration_by
 
-abbrev pub begins_declaration : Option Kind → Bool
+abbrev pub begins_declaration : Option TokenKind → Bool
 begins_declaration (Some k.Signal) = true
 begins_declaration (Some k.Constant) = true
 begins_declaration (Some k.Type) = true

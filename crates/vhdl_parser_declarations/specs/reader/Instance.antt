@@ -1,7 +1,7 @@
 -- How the parser reads instances.
 use Rattle.std.specs.Prelude.{ℕ, List}
-use Rattle.vhdl_lexer.specs.declared.token.Kind.{Kind}
-use Rattle.vhdl_lexer.specs.declared.token.Kind.TheVariants as k
+use Rattle.vhdl_lexer.specs.declared.token.TokenKind.{TokenKind}
+use Rattle.vhdl_lexer.specs.declared.token.TokenKind.TheVariants as k
 use Rattle.vhdl_tree.specs.Tree.{Ident, Association, Instantiated, entity_unit, component_unit, Instance}
 use Rattle.vhdl_parser_expressions.specs.reader.Input.{Parser, ◌>>=◌, ◌>>◌, pure, is_kind, test, expect, eat, identifier, optional, below}
 use Rattle.vhdl_parser_expressions.specs.reader.Expressions.{associations}
@@ -32,7 +32,7 @@ of_component = do
 unfoldable pub instantiated : ℕ → Parser Instantiated
 instantiated n = test (is_kind k.Entity) (of_entity n) of_component
 
-unfoldable pub map_of : ℕ → Kind → Parser (List Association)
+unfoldable pub map_of : ℕ → TokenKind → Parser (List Association)
 map_of n word = do
   expect word
   expect k.Map

@@ -1,7 +1,7 @@
 -- How the parser reads expressions.
 use Rattle.std.specs.Prelude.{ℕ, zero, suc, if◌then◌else◌, List, [], ◌∷◌, length, Option, Some, None}
-use Rattle.vhdl_lexer.specs.declared.token.Kind.{Kind}
-use Rattle.vhdl_lexer.specs.declared.token.Kind.TheVariants as k
+use Rattle.vhdl_lexer.specs.declared.token.TokenKind.{TokenKind}
+use Rattle.vhdl_lexer.specs.declared.token.TokenKind.TheVariants as k
 use Rattle.vhdl_tree.specs.declared.operator.Operator.{Operator}
 use Rattle.vhdl_tree.specs.declared.operator.Operator.TheVariants.{And, Or, Xor, Xnor, Nand, Nor, Equal, NotEqual, Less, LessEqual, Greater, GreaterEqual, Add, Subtract, Concatenate, Multiply, Divide, Modulo, Remainder}
 use Rattle.vhdl_parser_expressions.specs.declared.operator.Level.{Level}
@@ -19,7 +19,7 @@ abbrev pub name_expr : Name → Expr
 name_expr n = named n.identifier n.suffix n.attribute
 
 -- the operator of a level that a token is
-abbrev pub logical_at : Option Kind → Option Operator
+abbrev pub logical_at : Option TokenKind → Option Operator
 logical_at (Some k.And) = Some And
 logical_at (Some k.Or) = Some Or
 logical_at (Some k.Xor) = Some Xor
@@ -28,7 +28,7 @@ logical_at (Some k.Nand) = Some Nand
 logical_at (Some k.Nor) = Some Nor
 logical_at _ = None
 
-abbrev pub relation_at : Option Kind → Option Operator
+abbrev pub relation_at : Option TokenKind → Option Operator
 relation_at (Some k.Equal) = Some Equal
 relation_at (Some k.NotEqual) = Some NotEqual
 relation_at (Some k.Less) = Some Less
@@ -37,38 +37,38 @@ relation_at (Some k.Greater) = Some Greater
 relation_at (Some k.GreaterEqual) = Some GreaterEqual
 relation_at _ = None
 
-abbrev pub adding_at : Option Kind → Option Operator
+abbrev pub adding_at : Option TokenKind → Option Operator
 adding_at (Some k.Plus) = Some Add
 adding_at (Some k.Minus) = Some Subtract
 adding_at (Some k.Ampersand) = Some Concatenate
 adding_at _ = None
 
-abbrev pub multiplying_at : Option Kind → Option Operator
+abbrev pub multiplying_at : Option TokenKind → Option Operator
 multiplying_at (Some k.Star) = Some Multiply
 multiplying_at (Some k.Slash) = Some Divide
 multiplying_at (Some k.Mod) = Some Modulo
 multiplying_at (Some k.Rem) = Some Remainder
 multiplying_at _ = None
 
-abbrev pub operator_at : Level → Option Kind → Option Operator
+abbrev pub operator_at : Level → Option TokenKind → Option Operator
 operator_at Logical next = logical_at next
 operator_at Relation next = relation_at next
 operator_at Adding next = adding_at next
 operator_at Multiplying next = multiplying_at next
 
 -- the operator that a chain of a level goes on with, by its last one and the next token
-unfoldable pub next_operator : Level → Operator → Option Kind → Option Operator
+unfoldable pub next_operator : Level → Operator → Option TokenKind → Option Operator
 next_operator Logical last next = if repeats last then (if is_kind (kind_of last) next then Some last else None) else None
 next_operator Relation last next = None
 next_operator Adding last next = adding_at next
 next_operator Multiplying last next = multiplying_at next
 
-abbrev pub sign_at : Option Kind → Option Sign
+abbrev pub sign_at : Option TokenKind → Option Sign
 sign_at (Some k.Plus) = Some Plus
 sign_at (Some k.Minus) = Some Minus
 sign_at _ = None
 
-abbrev pub direction_at : Option Kind → Option Direction
+abbrev pub direction_at : Option TokenKind → Option Direction
 direction_at (Some k.To) = Some To
 direction_at (Some k.Downto) = Some Downto
 direction_at _ = None
@@ -121,7 +121,7 @@ module _ (inside : Parser Expr) where
     a ← optional (is_kind k.Tick) attribute
     pure (record { identifier = n; suffix = s; attribute = a })
 
-  abbrev pub primary_by : Option Kind → Parser Expr
+  abbrev pub primary_by : Option TokenKind → Parser Expr
   primary_by (Some k.Identifier) = name_expr <$> name
   primary_by (Some k.Integer) = (λ l. integer l.0 l.1) <$> text k.Integer
   primary_by (Some k.Character) = (λ c. character c.0 c.1) <$> input.literal

@@ -1,8 +1,8 @@
 -- What a parser reads from, and the steps that every rule is made of.
 use Rattle.std.specs.Prelude.{◌≡◌, ◌≢◌, ℕ, zero, suc, Bool, true, false, ◌&&◌, if◌then◌else◌, List, [], ◌∷◌, ◌++◌, length, slice_index, Option, Some, None, Result, Ok, Err}
 use Rattle.std.specs.Borrow.{Bor}
-use Rattle.vhdl_lexer.specs.declared.token.Kind.{Kind}
-use Rattle.vhdl_lexer.specs.declared.token.Kind.TheVariants as k
+use Rattle.vhdl_lexer.specs.declared.token.TokenKind.{TokenKind}
+use Rattle.vhdl_lexer.specs.declared.token.TokenKind.TheVariants as k
 use Rattle.vhdl_lexer.specs.declared.token.Token.{Token}
 use Rattle.vhdl_parser_expressions.specs.declared.stop.Stop.{Stop}
 use Rattle.vhdl_parser_expressions.specs.declared.stop.Stop.TheVariants.{Unexpected, EndOfFile, TooDeep, NoMemory}
@@ -53,49 +53,49 @@ refuse = λ ts. Err (refusal ts, ts)
 abbrev pub too_deep : {A : Type 0} → Parser A
 too_deep = λ ts. Err (TooDeep, ts)
 
-unfoldable pub next_kind : List Lexeme → Option Kind
+unfoldable pub next_kind : List Lexeme → Option TokenKind
 next_kind [] = None
 next_kind (l ∷ ts) = Some l.kind
 
-abbrev pub is_kind : Kind → Option Kind → Bool
+abbrev pub is_kind : TokenKind → Option TokenKind → Bool
 is_kind kind None = false
 is_kind kind (Some next) = same_kind next kind
 
 -- whether the next token is of this kind
-abbrev pub sees : Kind → List Lexeme → Bool
+abbrev pub sees : TokenKind → List Lexeme → Bool
 sees kind ts = is_kind kind (next_kind ts)
 
-abbrev pub is_more : Option Kind → Bool
+abbrev pub is_more : Option TokenKind → Bool
 is_more None = false
 is_more (Some kind) = true
 
-unfoldable pub second_kind : List Lexeme → Option Kind
+unfoldable pub second_kind : List Lexeme → Option TokenKind
 second_kind [] = None
 second_kind (l ∷ ts) = next_kind ts
 
 -- whether the next two tokens are of these kinds
-abbrev pub sees_both : Kind → Kind → List Lexeme → Bool
+abbrev pub sees_both : TokenKind → TokenKind → List Lexeme → Bool
 sees_both first second ts = is_kind first (next_kind ts) && is_kind second (second_kind ts)
 
 -- goes on by whether the next two tokens are of these kinds
-abbrev pub test_both : {A : Type 0} → Kind → Kind → Parser A → Parser A → Parser A
+abbrev pub test_both : {A : Type 0} → TokenKind → TokenKind → Parser A → Parser A → Parser A
 test_both first second p q = λ ts. if sees_both first second ts then p ts else q ts
 
 -- goes on by the kind of the next token
-abbrev pub choose : {A : Type 0} → (Option Kind → Parser A) → Parser A
+abbrev pub choose : {A : Type 0} → (Option TokenKind → Parser A) → Parser A
 choose by = λ ts. by (next_kind ts) ts
 
 -- goes on by whether the next token begins something
-abbrev pub test : {A : Type 0} → (Option Kind → Bool) → Parser A → Parser A → Parser A
+abbrev pub test : {A : Type 0} → (Option TokenKind → Bool) → Parser A → Parser A → Parser A
 test begins p q = λ ts. if begins (next_kind ts) then p ts else q ts
 
 -- the next token, which is of this kind
-unfoldable pub token : Kind → Parser Lexeme
+unfoldable pub token : TokenKind → Parser Lexeme
 token k [] = Err (EndOfFile, [])
 token k (l ∷ ts) = if same_kind l.kind k then Ok (l, ts) else Err (Unexpected, l ∷ ts)
 
 -- where it starts
-unfoldable pub expect : Kind → Parser ℕ
+unfoldable pub expect : TokenKind → Parser ℕ
 expect k = (λ l. l.at) <$> token k
 
 unfoldable pub identifier : Parser Ident
@@ -106,7 +106,7 @@ unfoldable pub literal : Parser (ℕ × ℕ)
 literal = (λ l. (l.at, slice_index l.text 1)) <$> token k.Character
 
 -- where the token of another literal stands, and its bytes
-unfoldable pub text : Kind → Parser (ℕ × List ℕ)
+unfoldable pub text : TokenKind → Parser (ℕ × List ℕ)
 text kind = (λ l. (l.at, l.text)) <$> token kind
 
 -- what a function that parses ensures: the outcome, seen by view, and the tokens that are left, unless memory fails
@@ -120,23 +120,23 @@ Takes source tokens p (Ok r) = p (lexemes source tokens) ≡ Ok (lexeme source r
 Takes source tokens p (Err e) = p (lexemes source tokens) ≡ Err (e, lexemes source tokens)
 
 -- takes a token of this kind, if it comes next
-unfoldable pub eat : Kind → Parser Bool
+unfoldable pub eat : TokenKind → Parser Bool
 eat k = test (is_kind k) (expect k >> pure true) (pure false)
 
 -- an item, if one begins
-unfoldable pub optional : {A : Type 0} → (Option Kind → Bool) → Parser A → Parser (Option A)
+unfoldable pub optional : {A : Type 0} → (Option TokenKind → Bool) → Parser A → Parser (Option A)
 optional begins item = test begins (Some <$> item) (pure None)
 
 -- Items while one begins, after those found. The number bounds the turns, and each turn takes a token.
-unfoldable pub many_from : {A : Type 0} → (Option Kind → Bool) → Parser A → ℕ → List A → Parser (List A)
+unfoldable pub many_from : {A : Type 0} → (Option TokenKind → Bool) → Parser A → ℕ → List A → Parser (List A)
 many_from begins item zero found = pure found
 many_from begins item (suc n) found = test begins (do x ← item; many_from begins item n (found ++ x ∷ [])) (pure found)
 
-abbrev pub many : {A : Type 0} → (Option Kind → Bool) → Parser A → List A → Parser (List A)
+abbrev pub many : {A : Type 0} → (Option TokenKind → Bool) → Parser A → List A → Parser (List A)
 many begins item found = λ ts. many_from begins item (length ts) found ts
 
 -- item { separator item }
-unfoldable pub separated : {A : Type 0} → Kind → Parser A → Parser (List A)
+unfoldable pub separated : {A : Type 0} → TokenKind → Parser A → Parser (List A)
 separated separator item = do
   first ← item
   many (is_kind separator) (expect separator >> item) (first ∷ [])

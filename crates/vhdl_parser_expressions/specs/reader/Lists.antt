@@ -5,7 +5,7 @@ use Rattle.std.specs.Fn.{Shared}
 use Rattle.std.specs.Global.{Global}
 use Rattle.vhdl_parser_expressions.specs.declared.stop.Stop.{Stop}
 use Rattle.vhdl_parser_expressions.specs.declared.stop.Stop.TheVariants.{NoMemory}
-use Rattle.vhdl_lexer.specs.declared.token.Kind.{Kind}
+use Rattle.vhdl_lexer.specs.declared.token.TokenKind.{TokenKind}
 use Rattle.vhdl_tree.specs.Lexeme.{Lexeme}
 use Rattle.vhdl_parser_expressions.specs.reader.Input.{expect, sees}
 
@@ -31,13 +31,13 @@ pub data Collects {T : Type 0} (begins : List Lexeme → Bool → Type 0) (item 
   no_memory : {n : ℕ} {found : List T} {ts rest : List Lexeme} → Collects begins item n found ts (Err NoMemory) rest
 
 -- What follows a separator, by what the reads of an item may give and leave.
-pub data Follows {T : Type 0} (separator : Kind) (item : List Lexeme → Result T Stop → List Lexeme → Type 0) : List Lexeme → Result T Stop →
+pub data Follows {T : Type 0} (separator : TokenKind) (item : List Lexeme → Result T Stop → List Lexeme → Type 0) : List Lexeme → Result T Stop →
     List Lexeme → Type 0 where
   item_follows : {ts us rest : List Lexeme} {at : ℕ} {r : Result T Stop} → expect separator ts ≡ Ok (at, us) → item us r rest → Follows separator item ts r rest
   none_follows : {ts rest : List Lexeme} {e : Stop} → (e ≢ NoMemory → expect separator ts ≡ Err (e, rest)) → Follows separator item ts (Err e) rest
 
 -- Items with separators between them, one at least.
-pub data Separates {T : Type 0} (separator : Kind) (item : List Lexeme → Result T Stop → List Lexeme → Type 0) : List Lexeme →
+pub data Separates {T : Type 0} (separator : TokenKind) (item : List Lexeme → Result T Stop → List Lexeme → Type 0) : List Lexeme →
     Result (Vec T Global) Stop → List Lexeme → Type 0 where
   first_refused : {ts rest : List Lexeme} {e : Stop} → item ts (Err e) rest → Separates separator item ts (Err e) rest
   first_read : {ts us rest : List Lexeme} {x : T} {r : Result (Vec T Global) Stop} → item ts (Ok x) us →

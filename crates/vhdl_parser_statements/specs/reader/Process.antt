@@ -1,7 +1,7 @@
 -- How the parser reads processes.
 use Rattle.std.specs.Prelude.{ℕ, List, [], Vec, Option}
 use Rattle.std.specs.Global.{Global}
-use Rattle.vhdl_lexer.specs.declared.token.Kind.TheVariants as k
+use Rattle.vhdl_lexer.specs.declared.token.TokenKind.TheVariants as k
 use Rattle.vhdl_tree.specs.declared.expression.Identifier as code_identifier
 use Rattle.vhdl_tree.specs.declared.sequential.Sequential as code_sequential
 use Rattle.vhdl_tree.specs.Tree.{Ident, Name, Variables, Process, Sensitivity, absent, every, listed, Sequential}

@@ -1,8 +1,8 @@
 -- How the parser reads sequential statements.
 use Rattle.std.specs.Prelude.{ℕ, zero, suc, Bool, true, false, List, [], Option, Some, None}
-use Rattle.vhdl_lexer.specs.declared.token.Kind.{Kind}
-use Rattle.vhdl_lexer.specs.declared.token.Kind.TheVariants as k
-use Rattle.vhdl_tree.specs.Tree.{Ident, Name, Value, Statement, nothing, assigned, variable_assigned, conditional, selection, loop, Sequential, Conditional, Alternative, statements_of, conditionals_of, alternatives_of, otherwise_of, guarded_by, chosen_by}
+use Rattle.vhdl_lexer.specs.declared.token.TokenKind.{TokenKind}
+use Rattle.vhdl_lexer.specs.declared.token.TokenKind.TheVariants as k
+use Rattle.vhdl_tree.specs.Tree.{Ident, Name, Value, Statement, null_of, assigned, variable_assigned, if_of, case_of, for_of, Sequential, Conditional, Alternative, statements_of, conditionals_of, alternatives_of, otherwise_of, guarded_by, chosen_by}
 use Rattle.vhdl_parser_expressions.specs.reader.Input.{Parser, ◌>>=◌, ◌>>◌, ◌<$>◌, pure, refuse, too_deep, is_kind, choose, test_both, expect, identifier, optional, many, separated, below}
 use Rattle.vhdl_parser_expressions.specs.reader.Expressions.{expr, inside, name, value, range, choices}
 
@@ -19,17 +19,17 @@ unfoldable pub null_statement : Parser Statement
 null_statement = do
   at ← expect k.Null
   expect k.Semicolon
-  pure (nothing at)
+  pure (null_of at)
 
 -- behind its target
-unfoldable pub assigned_value : ℕ → Kind → Parser Value
+unfoldable pub assigned_value : ℕ → TokenKind → Parser Value
 assigned_value n sign = do
   expect sign
   v ← value n
   expect k.Semicolon
   pure v
 
-abbrev pub assign_by : ℕ → Name → Option Kind → Parser Statement
+abbrev pub assign_by : ℕ → Name → Option TokenKind → Parser Statement
 assign_by n target (Some k.LessEqual) = assigned target <$> assigned_value n k.LessEqual
 assign_by n target (Some k.Assign) = variable_assigned target <$> assigned_value n k.Assign
 assign_by n target _ = refuse
@@ -40,7 +40,7 @@ assign n = do
   choose (assign_by n target)
 
 -- end word [ id ] ;
-unfoldable pub end_of : Kind → Parser (Option Ident)
+unfoldable pub end_of : TokenKind → Parser (Option Ident)
 end_of word = do
   expect k.End
   expect word
@@ -49,7 +49,7 @@ end_of word = do
   pure last
 
 -- whether a statement begins, where statements stand
-abbrev pub begins_sequential : Option Kind → Bool
+abbrev pub begins_sequential : Option TokenKind → Bool
 begins_sequential (Some k.Identifier) = true
 begins_sequential (Some k.Null) = true
 begins_sequential (Some k.If) = true
@@ -78,7 +78,7 @@ module _ (m : ℕ) (inner : Parser (List Sequential)) where
     found ← branches
     otherwise ← optional (is_kind k.Else) else_part
     last ← end_of k.If
-    pure (conditional at (conditionals_of found) (otherwise_of otherwise) last)
+    pure (if_of at (conditionals_of found) (otherwise_of otherwise) last)
 
   unfoldable pub alternative_part : Parser Alternative
   alternative_part = do
@@ -98,7 +98,7 @@ module _ (m : ℕ) (inner : Parser (List Sequential)) where
     expect k.When
     all ← alternatives
     last ← end_of k.Case
-    pure (selection at selector (alternatives_of all) last)
+    pure (case_of at selector (alternatives_of all) last)
 
   unfoldable pub for_rest : ℕ → Parser Statement
   for_rest at = do
@@ -108,7 +108,7 @@ module _ (m : ℕ) (inner : Parser (List Sequential)) where
     expect k.Loop
     found ← inner
     last ← end_of k.Loop
-    pure (loop at parameter r (statements_of found) last)
+    pure (for_of at parameter r (statements_of found) last)
 
 -- Where so many levels may be opened. The second parameter reads statements one level down.
 module _ (n : ℕ) (deeper : Parser (List Sequential)) where
@@ -130,7 +130,7 @@ module _ (n : ℕ) (deeper : Parser (List Sequential)) where
     m ← below n
     for_rest m deeper at
 
-  abbrev pub statement_by : Option Kind → Parser Statement
+  abbrev pub statement_by : Option TokenKind → Parser Statement
   statement_by (Some k.Identifier) = assign n
   statement_by (Some k.Null) = null_statement
   statement_by (Some k.If) = if_statement

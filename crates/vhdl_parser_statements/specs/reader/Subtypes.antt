@@ -1,8 +1,8 @@
 -- How the parser reads identifiers, subtypes and declarations of objects with a default.
 use Rattle.std.specs.Prelude.{ℕ, List, Vec, Option}
 use Rattle.std.specs.Global.{Global}
-use Rattle.vhdl_lexer.specs.declared.token.Kind.{Kind}
-use Rattle.vhdl_lexer.specs.declared.token.Kind.TheVariants as k
+use Rattle.vhdl_lexer.specs.declared.token.TokenKind.{TokenKind}
+use Rattle.vhdl_lexer.specs.declared.token.TokenKind.TheVariants as k
 use Rattle.vhdl_tree.specs.declared.expression.Identifier as code_identifier
 use Rattle.vhdl_tree.specs.declared.expression.Value as code_value
 use Rattle.vhdl_tree.specs.declared.declaration.Subtype as code_subtype
@@ -45,7 +45,7 @@ pub record Objects : Type 0 where
   pub default : Option Value
 
 -- word ids : subtype [ := value ] ;
-unfoldable pub objects : ℕ → Kind → Parser Objects
+unfoldable pub objects : ℕ → TokenKind → Parser Objects
 objects n word = do
   expect word
   names ← idents

@@ -1,7 +1,7 @@
 -- How the parser reads what concurrent assignments assign.
 use Rattle.std.specs.Prelude.{ℕ, zero, suc, List, [], ◌∷◌, ◌++◌, length, Vec, Option, Some, None}
 use Rattle.std.specs.Global.{Global}
-use Rattle.vhdl_lexer.specs.declared.token.Kind.TheVariants as k
+use Rattle.vhdl_lexer.specs.declared.token.TokenKind.TheVariants as k
 use Rattle.vhdl_tree.specs.declared.concurrent.Branch as code
 use Rattle.vhdl_tree.specs.declared.expression.Value as code_value
 use Rattle.vhdl_tree.specs.declared.expression.Expr as code_expr

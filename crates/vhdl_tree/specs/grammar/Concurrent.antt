@@ -1,6 +1,6 @@
 -- Concurrent statements (IEEE 1076-2008, 11): how they are spelled, and which are well formed.
 use Rattle.std.specs.Prelude.{ℕ, Option, Some, None, List, [], ◌∷◌, ◌++◌}
-use Rattle.vhdl_lexer.specs.declared.token.Kind.TheVariants as k
+use Rattle.vhdl_lexer.specs.declared.token.TokenKind.TheVariants as k
 use Rattle.vhdl_tree.specs.Tree.{Value, Branch, Assignment, Scheme, for_each, if_holds, Concurrent, assignment, selected, process, instance, generated, Concurrents, no_concurrents, concurrent}
 use Rattle.vhdl_tree.specs.Pieces.{Piece, some, one_at, word_at, spell_option, spell_word, IsEach, IsOption}
 use Rattle.vhdl_tree.specs.grammar.Expressions.{spell, spell_name, spell_value, spell_range, IsExpr, IsName, IsValue, IsRange}

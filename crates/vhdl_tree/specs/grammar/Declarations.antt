@@ -1,6 +1,6 @@
 -- Generics, ports and declarations (IEEE 1076-2008, 6): how they are spelled, and which are well formed.
 use Rattle.std.specs.Prelude.{List, [], ◌∷◌, ◌++◌}
-use Rattle.vhdl_lexer.specs.declared.token.Kind.TheVariants as k
+use Rattle.vhdl_lexer.specs.declared.token.TokenKind.TheVariants as k
 use Rattle.vhdl_tree.specs.declared.declaration.Mode.{Mode}
 use Rattle.vhdl_tree.specs.declared.declaration.Mode.TheVariants.{In, Out}
 use Rattle.vhdl_tree.specs.Tree.{Expr, Generic, Port, Signals, Constants, Enumeration, Component, Declaration, signals, constants, enumeration, component}

@@ -1,7 +1,7 @@
 -- Expressions (IEEE 1076-2008, 9.1): how they are spelled, and which are well formed.
 use Rattle.std.specs.Prelude.{◌≡◌, ℕ, ◌≤◌, ◌<◌, ◌⊎◌, Bool, true, false, Option, Some, None, List, [], ◌∷◌, ◌++◌}
-use Rattle.vhdl_lexer.specs.declared.token.Kind.{Kind}
-use Rattle.vhdl_lexer.specs.declared.token.Kind.TheVariants as k
+use Rattle.vhdl_lexer.specs.declared.token.TokenKind.{TokenKind}
+use Rattle.vhdl_lexer.specs.declared.token.TokenKind.TheVariants as k
 use Rattle.vhdl_tree.specs.declared.operator.Operator.{Operator}
 use Rattle.vhdl_tree.specs.declared.operator.Operator.TheVariants.{And, Or, Xor, Xnor, Nand, Nor, Equal, NotEqual, Less, LessEqual, Greater, GreaterEqual, Add, Subtract, Concatenate, Multiply, Divide, Modulo, Remainder}
 use Rattle.vhdl_tree.specs.declared.operator.Sign.{Sign}
@@ -13,7 +13,7 @@ use Rattle.vhdl_tree.specs.Pieces.{Piece, some, one_at, word_at, literal_at, tex
 
 -- ---- spelling
 
-abbrev pub kind_of : Operator → Kind
+abbrev pub kind_of : Operator → TokenKind
 kind_of And = k.And
 kind_of Or = k.Or
 kind_of Xor = k.Xor
@@ -34,11 +34,11 @@ kind_of Divide = k.Slash
 kind_of Modulo = k.Mod
 kind_of Remainder = k.Rem
 
-abbrev pub sign_kind : Sign → Kind
+abbrev pub sign_kind : Sign → TokenKind
 sign_kind Plus = k.Plus
 sign_kind Minus = k.Minus
 
-abbrev pub direction_kind : Direction → Kind
+abbrev pub direction_kind : Direction → TokenKind
 direction_kind To = k.To
 direction_kind Downto = k.Downto
 

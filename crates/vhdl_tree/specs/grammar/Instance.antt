@@ -1,7 +1,7 @@
 -- Instances (IEEE 1076-2008, 11.7): how they are spelled, and which are well formed.
 use Rattle.std.specs.Prelude.{List, [], ◌∷◌, ◌++◌}
-use Rattle.vhdl_lexer.specs.declared.token.Kind.{Kind}
-use Rattle.vhdl_lexer.specs.declared.token.Kind.TheVariants as k
+use Rattle.vhdl_lexer.specs.declared.token.TokenKind.{TokenKind}
+use Rattle.vhdl_lexer.specs.declared.token.TokenKind.TheVariants as k
 use Rattle.vhdl_tree.specs.Tree.{Ident, Association, Instantiated, entity_unit, component_unit, Instance}
 use Rattle.vhdl_tree.specs.Pieces.{Piece, some, spell_ident, spell_word, spell_option, IsOption}
 use Rattle.vhdl_tree.specs.grammar.Expressions.{spell_associations, AreAssociations}
@@ -17,7 +17,7 @@ spell_instantiated (entity_unit library name chosen) =
 spell_instantiated (component_unit word name) = spell_word k.Component word ++ spell_ident name
 
 -- generic map ( assoc { , assoc } ) | port map ( assoc { , assoc } )
-abbrev pub spell_map : Kind → List Association → List Piece
+abbrev pub spell_map : TokenKind → List Association → List Piece
 spell_map word all = some word ∷ (some k.Map ∷ (some k.LeftParen ∷ (spell_associations all ++ some k.RightParen ∷ [])))
 
 -- instance = ( .. ) [ generic map ( .. ) ] [ port map ( .. ) ] ;

@@ -1,6 +1,6 @@
 -- Processes and selected assignments (IEEE 1076-2008, 11.3, 11.6): how they are spelled, and which are well formed.
 use Rattle.std.specs.Prelude.{List, [], ◌∷◌, ◌++◌}
-use Rattle.vhdl_lexer.specs.declared.token.Kind.TheVariants as k
+use Rattle.vhdl_lexer.specs.declared.token.TokenKind.TheVariants as k
 use Rattle.vhdl_tree.specs.Tree.{Variables, Process, Sensitivity, absent, every, listed, Waveform, SelectedAssignment, statements_of}
 use Rattle.vhdl_tree.specs.Pieces.{Piece, some, one_at, spell_idents, spell_word, spell_option, spell_each, spell_list, IsAny, IsEach, IsList, IsOption}
 use Rattle.vhdl_tree.specs.grammar.Expressions.{spell, spell_name, spell_value, spell_choices, IsExpr, IsName, IsValue, AreChoices}

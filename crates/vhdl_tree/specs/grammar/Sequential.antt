@@ -1,8 +1,8 @@
 -- Sequential statements (IEEE 1076-2008, 10): how they are spelled, and which are well formed.
 use Rattle.std.specs.Prelude.{Option, List, [], ◌∷◌, ◌++◌}
-use Rattle.vhdl_lexer.specs.declared.token.Kind.{Kind}
-use Rattle.vhdl_lexer.specs.declared.token.Kind.TheVariants as k
-use Rattle.vhdl_tree.specs.Tree.{Ident, Statement, nothing, assigned, variable_assigned, conditional, selection, loop, Statements, no_statements, statement, Conditionals, no_conditionals, guarded, Otherwise, no_else, else_do, Alternatives, no_alternatives, alternative, Sequential}
+use Rattle.vhdl_lexer.specs.declared.token.TokenKind.{TokenKind}
+use Rattle.vhdl_lexer.specs.declared.token.TokenKind.TheVariants as k
+use Rattle.vhdl_tree.specs.Tree.{Ident, Statement, null_of, assigned, variable_assigned, if_of, case_of, for_of, Statements, no_statements, statement, Conditionals, no_conditionals, guarded, Otherwise, no_else, else_do, Alternatives, no_alternatives, alternative, Sequential}
 use Rattle.vhdl_tree.specs.Pieces.{Piece, some, one_at, word_at, spell_ident, spell_option}
 use Rattle.vhdl_tree.specs.grammar.Expressions.{spell, spell_name, spell_value, spell_range, spell_choices, IsExpr, IsName, IsValue, IsRange, AreChoices}
 
@@ -11,24 +11,24 @@ abbrev pub spell_label : Ident → List Piece
 spell_label n = word_at n.at n.text ∷ (some k.Colon ∷ [])
 
 -- end if | end case | end loop, [ id ] ;
-abbrev pub spell_end : Kind → Option Ident → List Piece
+abbrev pub spell_end : TokenKind → Option Ident → List Piece
 spell_end word label = some k.End ∷ (some word ∷ (spell_option spell_ident label ++ some k.Semicolon ∷ []))
 
 abbrev mutual
   pub spell_statement : Statement → List Piece
   -- seq = null ;
-  spell_statement (nothing at) = one_at k.Null at ∷ (some k.Semicolon ∷ [])
+  spell_statement (null_of at) = one_at k.Null at ∷ (some k.Semicolon ∷ [])
   -- seq = name <= value ;
   spell_statement (assigned target value) = spell_name target ++ (some k.LessEqual ∷ (spell_value value ++ some k.Semicolon ∷ []))
   -- seq = name := value ;
   spell_statement (variable_assigned target value) = spell_name target ++ (some k.Assign ∷ (spell_value value ++ some k.Semicolon ∷ []))
   -- if = if expr then { seq } { elsif expr then { seq } } [ else { seq } ] end if [ id ] ;
-  spell_statement (conditional at branches otherwise label) = one_at k.If at ∷ (spell_conditionals branches ++ (spell_else otherwise ++ spell_end k.If label))
+  spell_statement (if_of at branches otherwise label) = one_at k.If at ∷ (spell_conditionals branches ++ (spell_else otherwise ++ spell_end k.If label))
   -- case = case expr is alt { alt } end case [ id ] ;
-  spell_statement (selection at selector alternatives label) =
+  spell_statement (case_of at selector alternatives label) =
       one_at k.Case at ∷ (spell selector ++ (some k.Is ∷ (spell_alternatives alternatives ++ spell_end k.Case label)))
   -- for = for id in range loop { seq } end loop [ id ] ;
-  spell_statement (loop at parameter range statements label) =
+  spell_statement (for_of at parameter range statements label) =
       one_at k.For at ∷ (word_at parameter.at parameter.text ∷ (some k.In ∷ (spell_range range ++ (some k.Loop ∷
       (spell_statements statements ++ spell_end k.Loop label)))))
 
@@ -63,12 +63,12 @@ spell_sequential s = spell_option spell_label s.label ++ spell_statement s.state
 
 abbrev mutual
   pub IsStatement : Statement → Type 0
-  IsStatement (nothing at) = Unit {0}
+  IsStatement (null_of at) = Unit {0}
   IsStatement (assigned target value) = IsName target × IsValue value
   IsStatement (variable_assigned target value) = IsName target × IsValue value
-  IsStatement (conditional at branches otherwise label) = AreBranches branches × IsElse otherwise
-  IsStatement (selection at selector alternatives label) = IsExpr selector × AreCases alternatives
-  IsStatement (loop at parameter range statements label) = IsRange range × AreStatements statements
+  IsStatement (if_of at branches otherwise label) = AreBranches branches × IsElse otherwise
+  IsStatement (case_of at selector alternatives label) = IsExpr selector × AreCases alternatives
+  IsStatement (for_of at parameter range statements label) = IsRange range × AreStatements statements
 
   pub AreStatements : Statements → Type 0
   AreStatements no_statements = Unit {0}

@@ -1,6 +1,6 @@
 -- Subtypes and defaults (IEEE 1076-2008, 6.3, 6.4.2): how they are spelled, and which are well formed.
 use Rattle.std.specs.Prelude.{List, [], ◌∷◌, ◌++◌}
-use Rattle.vhdl_lexer.specs.declared.token.Kind.TheVariants as k
+use Rattle.vhdl_lexer.specs.declared.token.TokenKind.TheVariants as k
 use Rattle.vhdl_tree.specs.Tree.{Range, Value, Subtype}
 use Rattle.vhdl_tree.specs.Pieces.{Piece, some, spell_ident, spell_option, IsOption}
 use Rattle.vhdl_tree.specs.grammar.Expressions.{spell_value, spell_range, IsRange}

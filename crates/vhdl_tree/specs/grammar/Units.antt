@@ -1,7 +1,7 @@
 -- Files, context clauses, entities and architectures (IEEE 1076-2008, 3.2, 3.3, 13): how they are spelled, and which are well formed.
 use Rattle.std.specs.Prelude.{Bool, Option, List, [], ◌∷◌, ◌++◌}
-use Rattle.vhdl_lexer.specs.declared.token.Kind.{Kind}
-use Rattle.vhdl_lexer.specs.declared.token.Kind.TheVariants as k
+use Rattle.vhdl_lexer.specs.declared.token.TokenKind.{TokenKind}
+use Rattle.vhdl_lexer.specs.declared.token.TokenKind.TheVariants as k
 use Rattle.vhdl_tree.specs.Tree.{Ident, Entity, Architecture, Selected, ContextItem, library, uses, LibraryUnit, entity, architecture, DesignUnit, File}
 use Rattle.vhdl_tree.specs.Pieces.{Piece, some, one_at, spell_ident, spell_idents, spell_word, spell_option, spell_each, spell_list, IsAny, IsEach, IsList, IsOption}
 use Rattle.vhdl_tree.specs.grammar.Concurrent.{spell_concurrent, IsConcurrent}
@@ -17,7 +17,7 @@ spell_context (library names) = some k.Library ∷ (spell_idents names ++ some k
 spell_context (uses all) = some k.Use ∷ (spell_list k.Comma spell_selected all ++ some k.Semicolon ∷ [])
 
 -- end [ word ] [ id ] ;
-abbrev pub spell_end : Kind → Bool → Option Ident → List Piece
+abbrev pub spell_end : TokenKind → Bool → Option Ident → List Piece
 spell_end word has_word name = some k.End ∷ (spell_word word has_word ++ (spell_option spell_ident name ++ some k.Semicolon ∷ []))
 
 -- entity = entity id is [ generics ] [ ports ] end [ entity ] [ id ] ;

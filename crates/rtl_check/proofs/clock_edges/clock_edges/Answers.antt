@@ -1,6 +1,6 @@
 use Rattle.std.proofs.Common.{◌++◌, ℕ, List, get_or, take, sym, ap, subst, ◌∙◌}
 use Rattle.std.proofs.lemmas.List.{take_more, take_all}
-use Rattle.rtl_model.specs.simulation.Net.{Edge, Rising, Falling, To1, To0}
+use Rattle.rtl_model.specs.simulation.Netlist.{Edge, Rising, Falling, To1, To0}
 use Rattle.rtl_model.specs.simulation.Report.{AreClocks}
 use Rattle.rtl_check.specs.Views.{core}
 use Rattle.rtl_check.specs.ClockEdges.{nets_by, edges_at, pairs_of}

@@ -1,7 +1,7 @@
 use Rattle.std.proofs.Common.{◌||◌, Bool, List, sym, ap, ◌∙◌}
 use Rattle.std.specs.List.{list_any}
 use Rattle.std.proofs.lemmas.List.{take_all}
-use Rattle.rtl_model.specs.simulation.Net as m
+use Rattle.rtl_model.specs.simulation.Netlist as m
 use Rattle.rtl_net.specs.declared.net.Source.{Source}
 use Rattle.rtl_net.specs.Nets.{source_view}
 use Rattle.rtl_net_facts.specs.Reading.{is_in}

@@ -1,6 +1,6 @@
 use Rattle.std.proofs.Common.{◌≡◌, ◌<◌, ◌≤◌, ℕ, length, map, sym, ap, subst, ◌∙◌, arith}
 use Rattle.rtl_check_levels.specs.Feeding as t
-use Rattle.rtl_check_levels.specs.declared.order.Order.{Order}
+use Rattle.rtl_check_levels.specs.declared.order.LevelOrder.{LevelOrder}
 use Rattle.rtl_check_levels.specs.Orders.{IsOrder}
 use Rattle.rtl_check_levels.specs.Rounds.{IsRound}
 use Rattle.rtl_check.specs.Views.{core, fault_view}
@@ -29,9 +29,9 @@ returns-in_ok-push-in-Looped-clause-judged c =
     let faults = c.in_ok-faults.faults in
     looped n faults.items c.push.new.self.items c.in-Looped.processes (none_of faults (sym c.is_empty.ensures ∙ c.if-not-is_empty.false)) c.in_ok-faults.ensures (c.in_ok-push-in-Looped).ensures.items
     (c.tables_are_of_nets.ensures.loops n c.in_ok-table.table.items c.in-Looped.processes.items c.in_ok-table.ensures
-    (subst (λ (xs : t.Table). IsRound xs c.in-Looped.processes.items) c.deref.ensures.value (subst (λ (o : Order). IsOrder c.deref.result.now o) c.in-Looped.is c.in_ok-levels.ensures).0))
+    (subst (λ (xs : t.Table). IsRound xs c.in-Looped.processes.items) c.deref.ensures.value (subst (λ (o : LevelOrder). IsOrder c.deref.result.now o) c.in-Looped.is c.in_ok-levels.ensures).0))
 
 pub returns-in_ok-push-in-Looped-clause-once : goal.returns-in_ok-push-in-Looped-clause-once
 returns-in_ok-push-in-Looped-clause-once c =
     looped_once c.in_ok-faults.faults.items c.push.new.self.items c.in-Looped.processes (none_of c.in_ok-faults.faults (sym c.is_empty.ensures ∙ c.if-not-is_empty.false))
-    (c.in_ok-push-in-Looped).ensures.items (subst (λ (o : Order). IsOrder c.deref.result.now o) c.in-Looped.is c.in_ok-levels.ensures).1
+    (c.in_ok-push-in-Looped).ensures.items (subst (λ (o : LevelOrder). IsOrder c.deref.result.now o) c.in-Looped.is c.in_ok-levels.ensures).1

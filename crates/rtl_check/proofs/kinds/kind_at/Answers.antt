@@ -1,7 +1,7 @@
 use Rattle.std.proofs.Common.{◌≡◌, ℕ, List, get_or, sym, ap, subst, ◌∙◌}
 use Rattle.rtl_model.specs.bodies.Reads.{events}
 use Rattle.rtl_model.specs.bodies.Kinds as k
-use Rattle.rtl_model.specs.simulation.Net as m
+use Rattle.rtl_model.specs.simulation.Netlist as m
 use Rattle.rtl_net.specs.declared.body.Statement.{Statement}
 use Rattle.rtl_net.specs.declared.process.Process.{Process}
 use Rattle.rtl_net.specs.Nets.{body_of}

@@ -3,7 +3,7 @@ use Rattle.std.specs.List.Sorted.{IsStrictlyIncreasing}
 use Rattle.std.proofs.lemmas.List.{length-append}
 use Rattle.rtl_model.specs.bodies.Reads.{events}
 use Rattle.rtl_model.specs.bodies.Kinds as m
-use Rattle.rtl_model.specs.simulation.Net as n
+use Rattle.rtl_model.specs.simulation.Netlist as n
 use Rattle.rtl_net.specs.declared.body.Statement.{Statement}
 use Rattle.rtl_net.specs.declared.process.Process.{Process}
 use Rattle.rtl_net.specs.Nets.{body_of}

@@ -1,6 +1,6 @@
 use Rattle.std.proofs.Common.{◌≡◌, ◌<◌, ℕ, length, get_or}
-use Rattle.rtl_model.specs.simulation.Net.{process}
-use Rattle.rtl_net_facts.specs.declared.kinds.Kind.TheVariants as k
+use Rattle.rtl_model.specs.simulation.Netlist.{process}
+use Rattle.rtl_net_facts.specs.declared.kinds.ProcessKind.TheVariants as k
 use Rattle.rtl_check.specs.Views.{core, IsKind}
 use Rattle.rtl_check.proofs.kinds.kinds_of.Given as goal
 

@@ -1,5 +1,5 @@
 use Rattle.std.proofs.Common.{◌<◌, ℕ, Contains}
-use Rattle.rtl_model.specs.simulation.Net.{Edge, IsClockedBy}
+use Rattle.rtl_model.specs.simulation.Netlist.{Edge, IsClockedBy}
 use Rattle.rtl_check.specs.Views.{core}
 use Rattle.rtl_check.proofs.listed_clocks.are_listed.Given as goal
 

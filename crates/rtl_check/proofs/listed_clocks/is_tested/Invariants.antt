@@ -1,5 +1,5 @@
 use Rattle.std.proofs.Common.{◌<◌, ℕ}
-use Rattle.rtl_model.specs.simulation.Net.{IsClockedBy}
+use Rattle.rtl_model.specs.simulation.Netlist.{IsClockedBy}
 use Rattle.rtl_check.specs.Views.{core}
 use Rattle.rtl_check.proofs.listed_clocks.is_tested.Given as goal
 

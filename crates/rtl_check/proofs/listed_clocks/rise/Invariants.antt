@@ -1,6 +1,6 @@
 use Rattle.std.proofs.Common.{◌<◌, ℕ, suc, get_or}
 use Rattle.rtl_model.specs.basics.Lists.{IsLess}
-use Rattle.rtl_model.specs.simulation.Net.{Edge}
+use Rattle.rtl_model.specs.simulation.Netlist.{Edge}
 use Rattle.rtl_model.specs.simulation.Report.{clock_key}
 use Rattle.rtl_check.proofs.listed_clocks.rise.Given as goal
 

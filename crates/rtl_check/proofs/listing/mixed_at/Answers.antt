@@ -1,5 +1,5 @@
 use Rattle.std.proofs.Common.{◌≡◌, sym, ◌∙◌}
-use Rattle.rtl_model.specs.simulation.Net as n
+use Rattle.rtl_model.specs.simulation.Netlist as n
 use Rattle.rtl_check.specs.Views.{core, IsClocking}
 use Rattle.rtl_check.proofs.Processes.{kind_at}
 use Rattle.rtl_check.proofs.Firsts.{not_mixed}

@@ -1,7 +1,7 @@
 use Rattle.rtl_check.specs.Views.{core}
-use Rattle.rtl_check.specs.Listing.{below_place, Adds}
+use Rattle.rtl_check.specs.Listing.{below_place, AddsFaults}
 use Rattle.rtl_check.specs.Rules.{rule_number}
 use Rattle.rtl_check.proofs.rules.by_rule.Given as goal
 
 abbrev pub invariant-loop-process : goal.invariant-loop-process
-invariant-loop-process l = Adds (core l.net) (below_place (rule_number l.rule) l.process) l.initial.faults.items l.faults.items
+invariant-loop-process l = AddsFaults (core l.net) (below_place (rule_number l.rule) l.process) l.initial.faults.items l.faults.items

@@ -3,7 +3,7 @@ use Rattle.std.specs.List.{range_with_len}
 use Rattle.std.proofs.lemmas.List.{length-map, take_more, take_all}
 use Rattle.rtl_model.proofs.basics.Lists.{get_or-map_within}
 use Rattle.rtl_net.specs.declared.process.Variable.{Variable}
-use Rattle.rtl_check.specs.declared.variables.Place.{Place}
+use Rattle.rtl_check.specs.declared.variables.VariableElement.{VariableElement}
 use Rattle.rtl_check.specs.Places.{place_in, places_from, widths}
 use Rattle.rtl_check.proofs.Elements.{places_push}
 use Rattle.rtl_check.proofs.variables.places_of.Goals as goal
@@ -25,7 +25,7 @@ loop-variable-preserved c =
     let at : get_or ws i 0 ≡ w = get_or-map_within (λ (v : Variable). length v.starts.items) vs i x 0 l ∙ ap (λ (v : Variable). length v.starts.items) (sym c.index-variables-variable.is) in
     let so_many : 0 + length (take i ws) ≡ i = counted ws i m in
     c.in_ok-push_places.ensures ∙ (ap (λ (n : ℕ). c.loop-variable.places.items ++ map (place_in i) (range_with_len 0 n)) c.len.ensures.value
-    ∙ (ap (λ (ps : List Place). ps ++ map (place_in i) (range_with_len 0 w)) c.loop-variable.invariant
+    ∙ (ap (λ (ps : List VariableElement). ps ++ map (place_in i) (range_with_len 0 w)) c.loop-variable.invariant
     ∙ (ap (λ (k : ℕ). places_from 0 (take i ws) ++ map (place_in k) (range_with_len 0 w)) (sym so_many)
     ∙ (sym (places_push (take i ws) 0 w) ∙ ap (places_from 0) (ap (λ (n : ℕ). take i ws ++ n ∷ []) (sym at) ∙ sym (take_more ws i 0 m))))))
 

@@ -6,7 +6,7 @@ use Rattle.rtl_net.specs.declared.process.Variable.{Variable}
 use Rattle.rtl_net.specs.Bodies.{statements_of}
 use Rattle.rtl_net.specs.Nets.{body_of}
 use Rattle.rtl_check.specs.declared.fault.CheckFault.TheVariants as f
-use Rattle.rtl_check.specs.declared.variables.Place.{Place}
+use Rattle.rtl_check.specs.declared.variables.VariableElement.{VariableElement}
 use Rattle.rtl_check.specs.Places.{widths, places_from, added_if}
 use Rattle.rtl_check.proofs.StoredLists.{elements_first, element_done, elements_all}
 use Rattle.rtl_check.proofs.variables.stored_at.Goals as goal
@@ -30,11 +30,11 @@ loop-element-preserved c =
     let are : places.items ≡ places_from 0 (widths x.variables.items) = c.in_ok-places.ensures ∙ ap (λ (vs : List Variable). places_from 0 (widths vs)) c.deref.ensures.value in
     let d = c.index.result.now in
     let l : e < length places.items = subst (λ (n : ℕ). e < n) (c.len-element-end.ensures ∙ places.ok.0) c.loop-element-test.true in
-    let pl : d ≡ get_or (places_from 0 (widths x.variables.items)) e d = c.index.ensures ∙ ap (λ (ps : List Place). get_or ps e d) are in
-    element_done net p x c.requires at e d c.args.faults.now.items c.loop-element.faults.items c.push_stored.new.faults.items (subst (λ (ps : List Place). e < length ps) are l)
+    let pl : d ≡ get_or (places_from 0 (widths x.variables.items)) e d = c.index.ensures ∙ ap (λ (ps : List VariableElement). get_or ps e d) are in
+    element_done net p x c.requires at e d c.args.faults.now.items c.loop-element.faults.items c.push_stored.new.faults.items (subst (λ (ps : List VariableElement). e < length ps) are l)
     (c.in_ok-push_stored.ensures
     ∙ (ap (λ (xs : List Statement). c.loop-element.faults.items ++ added_if (stores_element e (statements_of xs)) (f.StoredVariable p d.variable d.place)) (c.deref-in-loop-element).ensures.value
-    ∙ ap (λ (q : Place). c.loop-element.faults.items ++ added_if (stores_element e (body_of x)) (f.StoredVariable p q.variable q.place)) pl))
+    ∙ ap (λ (q : VariableElement). c.loop-element.faults.items ++ added_if (stores_element e (body_of x)) (f.StoredVariable p q.variable q.place)) pl))
     c.loop-element.invariant
 
 pub returns : goal.returns
@@ -47,4 +47,4 @@ returns c =
     let places = c.in_ok-places.places in
     let are : places.items ≡ places_from 0 (widths x.variables.items) = c.in_ok-places.ensures ∙ ap (λ (vs : List Variable). places_from 0 (widths vs)) c.deref.ensures.value in
     let l : length places.items ≤ e = subst (λ (n : ℕ). n ≤ e) (c.len-element-end.ensures ∙ places.ok.0) c.loop-element-test.false in
-    elements_all net p x c.requires at e c.args.faults.now.items c.loop-element.faults.items (subst (λ (ps : List Place). length ps ≤ e) are l) c.loop-element.invariant
+    elements_all net p x c.requires at e c.args.faults.now.items c.loop-element.faults.items (subst (λ (ps : List VariableElement). length ps ≤ e) are l) c.loop-element.invariant

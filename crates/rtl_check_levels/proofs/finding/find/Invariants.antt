@@ -1,17 +1,17 @@
 use Rattle.std.proofs.Common.{ℕ, ◌<◌}
-use Rattle.rtl_check_levels.specs.Finding.{IsFinding, IsPlaced, work_left}
+use Rattle.rtl_check_levels.specs.Finding.{IsFinding, IsRanked, work_left}
 use Rattle.rtl_check_levels.proofs.finding.find.Given as goal
 
 abbrev pub invariant-loop-q : goal.invariant-loop-q
 invariant-loop-q l = record {
   sound : IsFinding l.table l.finding;
-  placed : (r : ℕ) → r < l.q → IsPlaced l.table l.finding r;
+  placed : (r : ℕ) → r < l.q → IsRanked l.table l.finding r;
 }
 
 abbrev pub invariant-loop-waiters : goal.invariant-loop-waiters
 invariant-loop-waiters l = record {
   sound : IsFinding l.table l.finding;
-  placed : (r : ℕ) → IsPlaced l.table l.finding r;
+  placed : (r : ℕ) → IsRanked l.table l.finding r;
 }
 
 abbrev pub decreases-loop-waiters : goal.decreases-loop-waiters

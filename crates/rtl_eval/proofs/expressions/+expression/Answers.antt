@@ -1,6 +1,6 @@
 use Rattle.std.proofs.Common.{◌≡◌, arith, ◌+◌, List, length, drop, ap, sym, ◌∙◌, subst}
 use Rattle.vhdl_values.specs.declared.scalar.Nine.{Nine}
-use Rattle.rtl_model.specs.bodies.Body as m
+use Rattle.rtl_model.specs.bodies.Body as bodies
 use Rattle.rtl_model.specs.bodies.Values.{operated, elements_of}
 use Rattle.rtl_model.specs.bodies.Fits.{IsWidth, operated_width, FitsOperands, FitsExpr}
 use Rattle.rtl_net.specs.declared.body.Expr.{Expr}
@@ -16,14 +16,14 @@ pub chain-operate-left-requires-clause-operands : goal.chain-operate-left-requir
 chain-operate-left-requires-clause-operands t c =
     let x = c.link-item.result in
     let now = chain_at (seen_of c.args.seen) c.loop-link.left c.args.links.now c.loop-link.link-index x c.loop-link-test.true c.link-item.is c.loop-link.invariant.1 in
-    let fit = operands_fit (seen_of c.args.seen) now.scope (operator_view x.operator) (m.constant c.loop-link.left) (expr_view x.operand) (fits_first now.scope (m.binary (operator_view x.operator) (m.constant c.loop-link.left) (expr_view x.operand)) (drop (c.loop-link.link-index + 1) c.args.links.now) now.fits) in
+    let fit = operands_fit (seen_of c.args.seen) now.scope (operator_view x.operator) (bodies.constant c.loop-link.left) (expr_view x.operand) (fits_first now.scope (bodies.binary (operator_view x.operator) (bodies.constant c.loop-link.left) (expr_view x.operand)) (drop (c.loop-link.link-index + 1) c.args.links.now) now.fits) in
     subst (λ (v : List Nine). FitsOperands (operator_view x.operator) (length c.loop-link.left) (length v)) (sym c.value.ensures) fit.0
 
 pub chain-operate-left-requires-clause-width : goal.chain-operate-left-requires-clause-width
 chain-operate-left-requires-clause-width t c =
     let x = c.link-item.result in
     let now = chain_at (seen_of c.args.seen) c.loop-link.left c.args.links.now c.loop-link.link-index x c.loop-link-test.true c.link-item.is c.loop-link.invariant.1 in
-    let fit = operands_fit (seen_of c.args.seen) now.scope (operator_view x.operator) (m.constant c.loop-link.left) (expr_view x.operand) (fits_first now.scope (m.binary (operator_view x.operator) (m.constant c.loop-link.left) (expr_view x.operand)) (drop (c.loop-link.link-index + 1) c.args.links.now) now.fits) in
+    let fit = operands_fit (seen_of c.args.seen) now.scope (operator_view x.operator) (bodies.constant c.loop-link.left) (expr_view x.operand) (fits_first now.scope (bodies.binary (operator_view x.operator) (bodies.constant c.loop-link.left) (expr_view x.operand)) (drop (c.loop-link.link-index + 1) c.args.links.now) now.fits) in
     subst (λ (v : List Nine). IsWidth (operated_width (operator_view x.operator) (length c.loop-link.left) (length v))) (sym c.value.ensures) fit.1
 
 pub chain-loop-link-preserved : goal.chain-loop-link-preserved
@@ -34,12 +34,12 @@ chain-loop-link-preserved t c =
     let ls = c.args.links.now in
     let i = c.loop-link.link-index in
     let now = chain_at seen left ls i x c.loop-link-test.true c.link-item.is c.loop-link.invariant.1 in
-    let both = m.binary (operator_view x.operator) (m.constant left) (expr_view x.operand) in
+    let both = bodies.binary (operator_view x.operator) (bodies.constant left) (expr_view x.operand) in
     let e : c.operate-left.result ≡ elements_of seen both = c.operate-left.ensures ∙ ap (operated (operator_view x.operator) left) c.value.ensures in (
-      same_value seen (m.constant c.operate-left.result) both (drop (i + 1) ls) e
-          ∙ (ap (λ (ys : List Link). elements_of seen (links_of (m.constant left) ys)) (sym (rest_at ls i x c.loop-link-test.true c.link-item.is)) ∙ c.loop-link.invariant.0),
-      subst (λ (v : List Nine). Within seen (λ scope. FitsExpr scope (links_of (m.constant v) (drop (i + 1) ls)))) (sym e)
-          (within-map seen (λ scope. FitsExpr scope (links_of both (drop (i + 1) ls))) (λ scope. FitsExpr scope (links_of (m.constant (elements_of seen both)) (drop (i + 1) ls)))
+      same_value seen (bodies.constant c.operate-left.result) both (drop (i + 1) ls) e
+          ∙ (ap (λ (ys : List Link). elements_of seen (links_of (bodies.constant left) ys)) (sym (rest_at ls i x c.loop-link-test.true c.link-item.is)) ∙ c.loop-link.invariant.0),
+      subst (λ (v : List Nine). Within seen (λ scope. FitsExpr scope (links_of (bodies.constant v) (drop (i + 1) ls)))) (sym e)
+          (within-map seen (λ scope. FitsExpr scope (links_of both (drop (i + 1) ls))) (λ scope. FitsExpr scope (links_of (bodies.constant (elements_of seen both)) (drop (i + 1) ls)))
           (λ scope f. fits_reduced seen scope both (drop (i + 1) ls) f) now),
     )
 
@@ -51,8 +51,8 @@ value-returns-in-Chain t c =
     let whole = ap expr_view c.in-Chain.is ∙ view_chain c.in-Chain.first c.in-Chain.rest in
     let e : c.value-in-Chain.result ≡ elements_of seen (expr_view first) = c.value-in-Chain.ensures ∙ ap (λ (x : Expr). elements_of seen (expr_view x)) c.deref-in-Chain.ensures in
     c.chain.ensures
-    ∙ (ap (λ (ys : List Link). elements_of seen (links_of (m.constant c.value-in-Chain.result) ys)) c.deref-in-Chain-2.ensures.value
-    ∙ (same_value seen (m.constant c.value-in-Chain.result) (expr_view first) ls e ∙ ap (elements_of seen) (sym whole)))
+    ∙ (ap (λ (ys : List Link). elements_of seen (links_of (bodies.constant c.value-in-Chain.result) ys)) c.deref-in-Chain-2.ensures.value
+    ∙ (same_value seen (bodies.constant c.value-in-Chain.result) (expr_view first) ls e ∙ ap (elements_of seen) (sym whole)))
 
 pub chain-value-requires : goal.chain-value-requires
 chain-value-requires t c =

@@ -1,6 +1,6 @@
 use Rattle.std.proofs.Common.{◌<◌, length, map, drop, ap, ◌∙◌, arith, subst}
 use Rattle.std.proofs.lemmas.List.{drop_all, length-map}
-use Rattle.rtl_model.specs.bodies.Body as m
+use Rattle.rtl_model.specs.bodies.Body as bodies
 use Rattle.rtl_model.specs.bodies.Values.{Seen, value_of}
 use Rattle.rtl_net.specs.Indices.{numbers}
 use Rattle.rtl_net.specs.Bodies.{value_view, statement_view, statements_of}
@@ -20,21 +20,21 @@ run-assign-requires-clause-as_many t c =
     let o = c.args.out.now in
     let v = value_view c.in-Assign.value in
     let codes = c.evaluate-value.ensures ∙ ap (λ (seen : Seen). value_of seen v) c.seeing.ensures in
-    (places_fit c.args.nets o (numbers c.in-Assign.places) (codes_of c.evaluate-value.result) v (part c.args.nets o c.args.statement.now (m.assign (numbers c.in-Assign.places) v) c.requires (ap statement_view c.in-Assign.is)) codes).0
+    (places_fit c.args.nets o (numbers c.in-Assign.places) (codes_of c.evaluate-value.result) v (part c.args.nets o c.args.statement.now (bodies.assign (numbers c.in-Assign.places) v) c.requires (ap statement_view c.in-Assign.is)) codes).0
 
 pub run-assign-requires-clause-there : goal.run-assign-requires-clause-there
 run-assign-requires-clause-there t c =
     let o = c.args.out.now in
     let v = value_view c.in-Assign.value in
     let codes = c.evaluate-value.ensures ∙ ap (λ (seen : Seen). value_of seen v) c.seeing.ensures in
-    (places_fit c.args.nets o (numbers c.in-Assign.places) (codes_of c.evaluate-value.result) v (part c.args.nets o c.args.statement.now (m.assign (numbers c.in-Assign.places) v) c.requires (ap statement_view c.in-Assign.is)) codes).1
+    (places_fit c.args.nets o (numbers c.in-Assign.places) (codes_of c.evaluate-value.result) v (part c.args.nets o c.args.statement.now (bodies.assign (numbers c.in-Assign.places) v) c.requires (ap statement_view c.in-Assign.is)) codes).1
 
 pub run-returns-in-Assign : goal.run-returns-in-Assign
 run-returns-in-Assign t c =
     let o = c.args.out.now in
     let v = value_view c.in-Assign.value in
     let codes = c.evaluate-value.ensures ∙ ap (λ (seen : Seen). value_of seen v) c.seeing.ensures in
-    whole c.args.nets o c.args.statement.now (m.assign (numbers c.in-Assign.places) v) c.assign.new.out (ap statement_view c.in-Assign.is)
+    whole c.args.nets o c.args.statement.now (bodies.assign (numbers c.in-Assign.places) v) c.assign.new.out (ap statement_view c.in-Assign.is)
     (does_assign (numbers c.in-Assign.places) (value_of (seen_by c.args.nets o) v) (codes_of c.evaluate-value.result) o c.assign.new.out codes c.assign.ensures)
 
 pub run-set-requires-clause-as_many : goal.run-set-requires-clause-as_many
@@ -42,14 +42,14 @@ run-set-requires-clause-as_many t c =
     let o = c.args.out.now in
     let v = value_view c.in-Set.value in
     let codes = c.evaluate-value-in-Set.ensures ∙ ap (λ (seen : Seen). value_of seen v) c.seeing-in-Set.ensures in
-    (elements_fit c.args.nets o (numbers c.in-Set.elements) (codes_of c.evaluate-value-in-Set.result) v (part c.args.nets o c.args.statement.now (m.set (numbers c.in-Set.elements) v) c.requires (ap statement_view c.in-Set.is)) codes).0
+    (elements_fit c.args.nets o (numbers c.in-Set.elements) (codes_of c.evaluate-value-in-Set.result) v (part c.args.nets o c.args.statement.now (bodies.set (numbers c.in-Set.elements) v) c.requires (ap statement_view c.in-Set.is)) codes).0
 
 pub run-set-requires-clause-there : goal.run-set-requires-clause-there
 run-set-requires-clause-there t c =
     let o = c.args.out.now in
     let v = value_view c.in-Set.value in
     let codes = c.evaluate-value-in-Set.ensures ∙ ap (λ (seen : Seen). value_of seen v) c.seeing-in-Set.ensures in
-    (elements_fit c.args.nets o (numbers c.in-Set.elements) (codes_of c.evaluate-value-in-Set.result) v (part c.args.nets o c.args.statement.now (m.set (numbers c.in-Set.elements) v) c.requires (ap statement_view c.in-Set.is)) codes).1
+    (elements_fit c.args.nets o (numbers c.in-Set.elements) (codes_of c.evaluate-value-in-Set.result) v (part c.args.nets o c.args.statement.now (bodies.set (numbers c.in-Set.elements) v) c.requires (ap statement_view c.in-Set.is)) codes).1
 
 -- ---- an if
 

@@ -1,5 +1,5 @@
 use Rattle.std.proofs.Common.{◌≡◌, arith, ◌∙◌, ◌+◌, List, drop, ap, sym}
-use Rattle.rtl_model.specs.bodies.Body as m
+use Rattle.rtl_model.specs.bodies.Body as bodies
 use Rattle.rtl_model.specs.bodies.Tests as spec
 use Rattle.rtl_model.specs.bodies.Fits.{FitsTest}
 use Rattle.rtl_net.specs.declared.body.Test.{Test}
@@ -19,8 +19,8 @@ is_met-returns-in-Combined t c =
     let whole = ap test_view c.in-Combined.is ∙ view_combined c.in-Combined.first c.in-Combined.rest in
     let e : c.is_met-in-Combined.result ≡ spec.is_met seen (test_view first) = c.is_met-in-Combined.ensures ∙ ap (λ (x : Test). spec.is_met seen (test_view x)) c.deref-in-Combined.ensures in
     c.chain.ensures
-    ∙ (ap (λ (ys : List TestLink). spec.is_met seen (test_links_of (m.decided c.is_met-in-Combined.result) ys)) c.deref-in-Combined-2.ensures.value
-    ∙ (same_met seen (m.decided c.is_met-in-Combined.result) (test_view first) ls e ∙ ap (spec.is_met seen) (sym whole)))
+    ∙ (ap (λ (ys : List TestLink). spec.is_met seen (test_links_of (bodies.decided c.is_met-in-Combined.result) ys)) c.deref-in-Combined-2.ensures.value
+    ∙ (same_met seen (bodies.decided c.is_met-in-Combined.result) (test_view first) ls e ∙ ap (spec.is_met seen) (sym whole)))
 
 pub chain-loop-link-preserved : goal.chain-loop-link-preserved
 chain-loop-link-preserved t c =
@@ -30,12 +30,12 @@ chain-loop-link-preserved t c =
     let ls = c.args.links.now in
     let i = c.loop-link.link-index in
     let now = test_chain_at seen left ls i x c.loop-link-test.true c.link-item.is c.loop-link.invariant.1 in
-    let both = m.combined x.operator (m.decided left) (test_view x.operand) in
+    let both = bodies.combined x.operator (bodies.decided left) (test_view x.operand) in
     let e : c.logical-left.result ≡ spec.is_met seen both = c.logical-left.ensures ∙ ap (spec.truth x.operator left) c.is_met.ensures in (
-      same_met seen (m.decided c.logical-left.result) both (drop (i + 1) ls) e
-          ∙ (ap (λ (ys : List TestLink). spec.is_met seen (test_links_of (m.decided left) ys)) (sym (rest_at ls i x c.loop-link-test.true c.link-item.is)) ∙ c.loop-link.invariant.0),
-      within-map seen (λ scope. FitsTest scope (test_links_of both (drop (i + 1) ls))) (λ scope. FitsTest scope (test_links_of (m.decided c.logical-left.result) (drop (i + 1) ls)))
-          (λ scope f. test_fits_too scope both (m.decided c.logical-left.result) (drop (i + 1) ls) tt f) now,
+      same_met seen (bodies.decided c.logical-left.result) both (drop (i + 1) ls) e
+          ∙ (ap (λ (ys : List TestLink). spec.is_met seen (test_links_of (bodies.decided left) ys)) (sym (rest_at ls i x c.loop-link-test.true c.link-item.is)) ∙ c.loop-link.invariant.0),
+      within-map seen (λ scope. FitsTest scope (test_links_of both (drop (i + 1) ls))) (λ scope. FitsTest scope (test_links_of (bodies.decided c.logical-left.result) (drop (i + 1) ls)))
+          (λ scope f. test_fits_too scope both (bodies.decided c.logical-left.result) (drop (i + 1) ls) tt f) now,
     )
 
 pub chain-is_met-requires : goal.chain-is_met-requires

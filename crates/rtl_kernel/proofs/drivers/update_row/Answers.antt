@@ -8,7 +8,7 @@ use Rattle.rtl_net_layout.specs.Groups.{Grouping}
 use Rattle.rtl_net.specs.Nets.{flat}
 use Rattle.rtl_kernel.specs.drivers.Brought.{AreAloneAlike}
 use Rattle.rtl_kernel.specs.drivers.Transactions.{nets_of}
-use Rattle.rtl_kernel.specs.drivers.Updates.{Takes, IsTaken}
+use Rattle.rtl_kernel.specs.drivers.Updates.{TakesEntries, IsTaken}
 use Rattle.rtl_kernel.proofs.Updating.{takes_none, takes_then, taken_values, left_all, left_one, none_left}
 use Rattle.rtl_kernel.proofs.drivers.update_row.Goals as goal
 
@@ -61,8 +61,8 @@ loop-span-preserved c =
     let many : length new ≡ old.len = omega (arith, done.as_many, old.ok.0) in
     let kept = (with_items old new).items in
     let same : kept ≡ new = with_items_is old new many in
-    let takes : Takes wiring (nets_of drives) entries old.items c.loop-span.nets c.loop-span.noted kept c.update_span.new.nets c.update_span.new.noted =
-    subst (λ (vs : List ℕ). Takes wiring (nets_of drives) entries old.items c.loop-span.nets c.loop-span.noted vs c.update_span.new.nets c.update_span.new.noted) (sym same) done in
+    let takes : TakesEntries wiring (nets_of drives) entries old.items c.loop-span.nets c.loop-span.noted kept c.update_span.new.nets c.update_span.new.noted =
+    subst (λ (vs : List ℕ). TakesEntries wiring (nets_of drives) entries old.items c.loop-span.nets c.loop-span.noted vs c.update_span.new.nets c.update_span.new.noted) (sym same) done in
     let taken : (k : ℕ) → k < span.len → IsTaken entries kept (span.first + k) =
     λ k l v e. ap (λ (vs : List ℕ). get_or vs (span.first + k) 0) same
     ∙ c.update_span.ensures.taken k l v e in

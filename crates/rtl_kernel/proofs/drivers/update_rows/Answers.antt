@@ -2,7 +2,7 @@ use Rattle.std.proofs.Common.{◌<◌, All, ℕ, List, Option, Vec, arith, refl,
 use Rattle.std.specs.Global.{Global}
 use Rattle.std.proofs.lemmas.List.{length-map, map-set}
 use Rattle.rtl_model.proofs.basics.Lists.{get_or-map_within}
-use Rattle.rtl_model.specs.simulation.Cycle.{driven}
+use Rattle.rtl_model.specs.simulation.Cycle.{driver_values}
 use Rattle.rtl_eval.specs.Runs.{Outcome}
 use Rattle.rtl_net.specs.Nets.{flat}
 use Rattle.rtl_net.specs.declared.process.Process.{Process}
@@ -111,7 +111,7 @@ loop-process-preserved c =
     (updating_one wiring c.args.active.now ps c.args.outcomes.now.items (rows c.args.drivers.now.items) c.args.nets.now c.args.noted.now c.loop-process.process-index
     c.loop-process.outcomes.items (rows drivers) c.loop-process.nets c.loop-process.noted I p o c.clear.new.self c.update_row.new.values.items c.update_row.new.nets c.update_row.new.noted
     refl in_outcomes (rw length-map in_rows)
-    (sym c.index_mut-outcome.ensures.value) c.clear.ensures (c.update_row.ensures.values ∙ ap (driven o.entries) (sym row)) as_many
+    (sym c.index_mut-outcome.ensures.value) c.clear.ensures (c.update_row.ensures.values ∙ ap (driver_values o.entries) (sym row)) as_many
     (subst (λ (xs : List ℕ). Brings wiring (targets_of ps p) xs c.update_row.new.values.items c.loop-process.nets c.loop-process.noted c.update_row.new.nets c.update_row.new.noted) (sym row) brings))
 
 pub returns-clause-drivers : goal.returns-clause-drivers

@@ -1,7 +1,7 @@
 use Rattle.std.proofs.Common.{◌≡◌, ℕ, List, ◌++◌, ap, sym, ◌∙◌, take, get_or, map}
 use Rattle.std.proofs.lemmas.List.{length-map, take_all, take_more}
 use Rattle.rtl_model.proofs.basics.Lists.{get_or-map_within}
-use Rattle.rtl_model.specs.nets.FlatNet.{FlatVariable, element_starts}
+use Rattle.rtl_model.specs.nets.FlatNetlist.{FlatVariable, element_starts}
 use Rattle.rtl_net.specs.Nets.{variable_view}
 use Rattle.rtl_kernel.proofs.Started.{element_starts-push}
 use Rattle.rtl_kernel.proofs.starts.variable_starts.Goals as goal

@@ -1,5 +1,5 @@
 use Rattle.std.proofs.Common.{◌≡◌, take, map}
-use Rattle.rtl_model.specs.nets.FlatNet.{element_starts}
+use Rattle.rtl_model.specs.nets.FlatNetlist.{element_starts}
 use Rattle.rtl_net.specs.Nets.{variable_view}
 use Rattle.rtl_kernel.proofs.starts.variable_starts.Given as goal
 

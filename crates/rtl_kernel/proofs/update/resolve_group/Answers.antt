@@ -1,7 +1,7 @@
 use Rattle.std.proofs.Common.{◌<◌, arith, refl, sym, ◌∙◌, length, get_or, set}
 use Rattle.std.proofs.lemmas.Bool.{eqb-true, eqb-false}
 use Rattle.std.proofs.lemmas.List.{length-set, get_or-set_same, get_or-set_other}
-use Rattle.rtl_model.specs.nets.CoreNet.{core_net}
+use Rattle.rtl_model.specs.nets.CoreNetlist.{core_netlist}
 use Rattle.rtl_net.specs.Nets.{flat, source_view}
 use Rattle.rtl_kernel.specs.drivers.Rows.{rows}
 use Rattle.rtl_kernel.proofs.Resolved.{none_resolved, one_resolved, kept_value, resolution_is, no_sources, source_in}
@@ -12,7 +12,7 @@ pub loop-each-init : goal.loop-each-init
 loop-each-init c = record {
   groups = refl;
   before = refl;
-  resolved = none_resolved (core_net (flat c.args.net.now)) (rows c.args.drivers.now) _ c.args.values.now.current (λ n h. omega (arith, h.0, h.1));
+  resolved = none_resolved (core_netlist (flat c.args.net.now)) (rows c.args.drivers.now) _ c.args.values.now.current (λ n h. omega (arith, h.0, h.1));
 }
 
 pub resolution-requires-clause-there : goal.resolution-requires-clause-there
@@ -39,7 +39,7 @@ loop-each-preserved c =
           rw (w.values-is, w.set.ensures) (record {
             groups = I.groups;
             before = I.before;
-            resolved = one_resolved (core_net net) drivers c.first-first.result n old mid (set mid n v) c.loop-each.auto.each I.resolved (length-set mid n v)
+            resolved = one_resolved (core_netlist net) drivers c.first-first.result n old mid (set mid n v) c.loop-each.auto.each I.resolved (length-set mid n v)
                 (get_or-set_same mid n v 0 within ∙ w.resolution.ensures ∙ resolution_is net drivers n (get_or old n 0) sources there c.sources-sources.ensures some)
                 (λ m ne. get_or-set_other mid n m v 0 ne);
           })
@@ -48,7 +48,7 @@ loop-each-preserved c =
           rw (w.values-is) (record {
             groups = I.groups;
             before = I.before;
-            resolved = one_resolved (core_net net) drivers c.first-first.result n old mid mid c.loop-each.auto.each I.resolved refl
-                (kept_value (core_net net) drivers c.first-first.result n old mid (omega (arith, there, c.requires.as_many)) (no_sources net n sources there c.sources-sources.ensures none) I.resolved) (λ m ne. refl);
+            resolved = one_resolved (core_netlist net) drivers c.first-first.result n old mid mid c.loop-each.auto.each I.resolved refl
+                (kept_value (core_netlist net) drivers c.first-first.result n old mid (omega (arith, there, c.requires.as_many)) (no_sources net n sources there c.sources-sources.ensures none) I.resolved) (λ m ne. refl);
           })
     ]

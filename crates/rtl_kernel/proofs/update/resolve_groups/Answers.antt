@@ -2,7 +2,7 @@ use Rattle.std.proofs.Common.{◌≡◌, ℕ, List, refl, subst, ◌∙◌, get_
 use Rattle.std.proofs.lemmas.List.{take_all}
 use Rattle.std.specs.Prelude.{Contains}
 use Rattle.rtl_net_layout.specs.Groups.{Grouping}
-use Rattle.rtl_model.specs.nets.CoreNet.{core_net}
+use Rattle.rtl_model.specs.nets.CoreNetlist.{core_netlist}
 use Rattle.rtl_model.proofs.basics.Lists.{Contains-none}
 use Rattle.rtl_net.specs.Nets.{flat}
 use Rattle.rtl_kernel.specs.drivers.Resolved.{AreResolved}
@@ -15,7 +15,7 @@ pub loop-group-init : goal.loop-group-init
 loop-group-init c = record {
   groups = refl;
   before = refl;
-  resolved = none_resolved (core_net (flat c.args.net.now)) (rows c.args.drivers.now) _ c.args.values.now.current (λ n h. Contains-none (group_of c.args.values.now n) h);
+  resolved = none_resolved (core_netlist (flat c.args.net.now)) (rows c.args.drivers.now) _ c.args.values.now.current (λ n h. Contains-none (group_of c.args.values.now n) h);
 }
 
 pub resolve_group-requires-clause-group : goal.resolve_group-requires-clause-group
@@ -23,7 +23,7 @@ resolve_group-requires-clause-group c = rw (c.loop-group.invariant.groups) (c.re
 
 pub loop-group-preserved : goal.loop-group-preserved
 loop-group-preserved c =
-    let net = core_net (flat c.args.net.now) in
+    let net = core_netlist (flat c.args.net.now) in
     let drivers = rows c.args.drivers.now in
     let groups = c.args.groups.now in
     let i = c.loop-group.group-index in
@@ -42,5 +42,5 @@ loop-group-preserved c =
 pub returns-clause-current : goal.returns-clause-current
 returns-clause-current c =
     let v = c.args.values.now in
-    subst (λ (gs : List ℕ). AreResolved (core_net (flat c.args.net.now)) (rows c.args.drivers.now) (λ n. Contains gs (group_of v n)) v.current c.loop-group.values.current)
+    subst (λ (gs : List ℕ). AreResolved (core_netlist (flat c.args.net.now)) (rows c.args.drivers.now) (λ n. Contains gs (group_of v n)) v.current c.loop-group.values.current)
     (take_all c.loop-group.group-index c.args.groups.now c.loop-group-test.false) c.loop-group.invariant.resolved

@@ -1,7 +1,7 @@
 use Rattle.std.proofs.Common.{◌≡◌, subst, ◌∙◌}
 use Rattle.std.proofs.lemmas.Result.{IfOk-weaker}
 use Rattle.rtl_model.specs.simulation.Moments.{SettlesTo, IsUnsettled}
-use Rattle.rtl_net.specs.Nets.{NetView}
+use Rattle.rtl_net.specs.Nets.{NetlistView}
 use Rattle.rtl_check.specs.Views.{core}
 use Rattle.rtl_stim.specs.Stimuli.{inputs_at}
 use Rattle.rtl_machine.specs.Evaluated.{IsFirstOf}
@@ -16,7 +16,7 @@ unreachable-requires c =
     let state = c.args.kernel.now.state in
     let synchronous = c.accepted_nets_are_synchronous.ensures net bound (inputs_at s) c.nets-count.ensures.elaborated c.requires.accepted c.requires.raceless in
     never_unsettled net s bound synchronous.0 synchronous.1 state c.requires.begun c.settle.new.self.state
-    (subst (λ (n : NetView). IsUnsettled (core n) state bound c.settle.new.self.state) c.requires.net c.in-Err.ensures.settled)
+    (subst (λ (n : NetlistView). IsUnsettled (core n) state bound c.settle.new.self.state) c.requires.net c.in-Err.ensures.settled)
 
 pub returns-clause-first : goal.returns-clause-first
 returns-clause-first c =
@@ -26,7 +26,7 @@ returns-clause-first c =
     let state = c.args.kernel.now.state in
     let settled = c.settle.new.self.state in
     let synchronous = c.accepted_nets_are_synchronous.ensures net bound (inputs_at s) c.nets-count.ensures.elaborated c.requires.accepted c.requires.raceless in
-    let to = subst (λ (n : NetView). SettlesTo (core n) state c.in-Ok.field-0 settled) c.requires.net c.in-Ok.ensures.settled.0 in
+    let to = subst (λ (n : NetlistView). SettlesTo (core n) state c.in-Ok.field-0 settled) c.requires.net c.in-Ok.ensures.settled.0 in
     IfOk-weaker c.from_slice.result (λ values. values.items ≡ c.values.result.now) (λ values. IsFirstOf net s bound values.items)
     (λ values is. first_is net s bound synchronous.0 synchronous.1 state c.requires.begun c.in-Ok.field-0 settled values.items to (is ∙ c.values.ensures.value))
     c.from_slice.ensures.items

@@ -1,5 +1,5 @@
 use Rattle.std.proofs.Common.{◌≡◌, ◌<◌, ◌++◌, length, map, take, ap, sym, ◌∙◌, arith}
-use Rattle.rtl_model.specs.nets.FlatNet.{drivers_of, all_drivers_of}
+use Rattle.rtl_model.specs.nets.FlatNetlist.{drivers_of, all_drivers_of}
 use Rattle.rtl_net.specs.declared.process.Process.{Process}
 use Rattle.rtl_net.specs.Nets.{process_view}
 use Rattle.rtl_net.specs.steps.Tables.{nets_of}

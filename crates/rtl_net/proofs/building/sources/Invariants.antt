@@ -1,5 +1,5 @@
 use Rattle.std.proofs.Common.{◌≡◌, ℕ, ◌<◌, length, map, take}
-use Rattle.rtl_model.specs.nets.FlatNet.{all_drivers_of}
+use Rattle.rtl_model.specs.nets.FlatNetlist.{all_drivers_of}
 use Rattle.rtl_net.specs.Nets.{process_view}
 use Rattle.rtl_net.specs.steps.Tables.{sources_at}
 use Rattle.rtl_net.proofs.building.sources.Given as goal

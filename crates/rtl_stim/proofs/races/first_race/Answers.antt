@@ -1,7 +1,7 @@
 use Rattle.std.proofs.Common.{◌<◌, ℕ, List, ⊎_elim, sym, subst, ◌∙◌, arith}
 use Rattle.std.proofs.Math.Nat.{eq-or-lt_of_le}
 use Rattle.std.proofs.lemmas.Bool.{cases_lt}
-use Rattle.rtl_model.specs.nets.CoreNet.{core_net}
+use Rattle.rtl_model.specs.nets.CoreNetlist.{core_netlist}
 use Rattle.rtl_net.specs.Nets.{flat}
 use Rattle.rtl_stim.specs.Quiet.{HasNoneHere, IsRaceHere}
 use Rattle.rtl_stim.proofs.Racing.{none_if_quiet, no_race, first}
@@ -39,7 +39,7 @@ returns-clause-none c =
     let f = flat c.args.net.now in
     let s = c.args.stimulus.now in
     let clocks = c.args.clocks.now in
-    (times_show_races s).none (core_net f) (λ t h.
+    (times_show_races s).none (core_netlist f) (λ t h.
     let none : HasNoneHere s clocks f.inputs t =
     ⊎_elim (λ after. none_if_quiet f s clocks c.requires.clocks c.requires.inputs t (c.in_default.ensures.quiet t after (omega (arith, h.within)))) (λ past. c.loop-time.invariant t h.later past) (cases_lt c.loop-time.now t) in
     no_race f s clocks c.requires.clocks c.requires.inputs t none h.race)

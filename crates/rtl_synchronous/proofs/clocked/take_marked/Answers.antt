@@ -1,7 +1,7 @@
 use Rattle.std.proofs.Common.{◌≡◌, ◌<◌, ◌≤◌, ℕ, false, List, [], Option, Contains, All, length, get_or, set, below_more, ap, sym, subst, ◌∙◌, arith}
 use Rattle.std.specs.Prelude.{⊤}
 use Rattle.std.proofs.lemmas.List.{get_or_default, get_or-set_other, get_or-set_same, length-set}
-use Rattle.rtl_model.specs.simulation.Net.{process}
+use Rattle.rtl_model.specs.simulation.Netlist.{process}
 use Rattle.rtl_model.proofs.simulation.Faultless.{faultless}
 use Rattle.rtl_model.proofs.simulation.Leveled.{leveled}
 use Rattle.rtl_eval.specs.Runs.{Outcome}

@@ -1,6 +1,6 @@
 use Rattle.std.proofs.Common.{ℕ, List, ap, sym, ◌∙◌, arith}
 use Rattle.std.proofs.lemmas.List.{drop_all, length-set}
-use Rattle.rtl_model.specs.simulation.Cycle.{changed}
+use Rattle.rtl_model.specs.simulation.Cycle.{with_changes}
 use Rattle.rtl_kernel.specs.kernel.Simulation.{each_given}
 use Rattle.rtl_kernel.proofs.Changing.{changed_more}
 use Rattle.rtl_kernel.proofs.Started.{given_at, length-given}
@@ -24,5 +24,5 @@ returns c =
     let done = drop_all c.loop-number.number cs (omega (arith, length-given c.args.nets.now c.args.given.now c.requires.as_many, c.loop-number-test.false)) in
     record {
       as_many = I.as_many;
-      each = λ m. sym (ap (λ (xs : List (ℕ × ℕ)). changed xs c.loop-number.values.items m) done) ∙ I.rest m;
+      each = λ m. sym (ap (λ (xs : List (ℕ × ℕ)). with_changes xs c.loop-number.values.items m) done) ∙ I.rest m;
     }

@@ -1,6 +1,6 @@
 use Rattle.std.proofs.Common.{◌≡◌, ℕ, Bool, true, false, List, Option, None, get_or, ap, sym, ◌∙◌}
 use Rattle.std.specs.Prelude.{⊤}
-use Rattle.rtl_model.specs.simulation.Net.{process}
+use Rattle.rtl_model.specs.simulation.Netlist.{process}
 use Rattle.rtl_model.proofs.nets.InRange.{keeps_range}
 use Rattle.rtl_eval.specs.Runs.{Outcome}
 use Rattle.rtl_kernel.specs.drivers.Transactions.{no_outcome}

@@ -1,7 +1,7 @@
 use Rattle.std.proofs.Common.{◌≡◌, ◌<◌, ℕ, List, [], get_or, length, ap, sym, subst, ◌∙◌, arith, Contains}
 use Rattle.std.proofs.lemmas.List.{length-map}
 use Rattle.std.proofs.lemmas.List.Elements.{Contains-get_or}
-use Rattle.rtl_kernel.specs.wakes.Woken.{Adds, wakers_of}
+use Rattle.rtl_kernel.specs.wakes.Woken.{AddsPlaces, wakers_of}
 use Rattle.rtl_kernel.proofs.Grouped.{wakers_at}
 use Rattle.rtl_synchronous.proofs.Marking.{marks_one}
 use Rattle.rtl_synchronous.proofs.marks.mark_followers.Goals as goal
@@ -23,4 +23,4 @@ returns-then-values-net c =
     let row : c.listed.result.now ≡ get_or (wakers_of groups) net [] =
     c.listed.ensures ∙ ap (λ (ns : List ℕ). get_or groups.listed (get_or ns net 0) []) c.of_net.ensures.value ∙ sym (wakers_at groups net within) in
     marks_one (wakers_of groups) c.args.values.now net c.args.value c.args.marks.now.items c.mark.new.marks.items c.mark.ensures.as_many
-    (subst (λ (xs : List ℕ). Adds xs c.args.marks.now.items c.mark.new.marks.items) row c.mark.ensures.marks)
+    (subst (λ (xs : List ℕ). AddsPlaces xs c.args.marks.now.items c.mark.new.marks.items) row c.mark.ensures.marks)

@@ -2,7 +2,7 @@ use Rattle.std.proofs.Common.{◌≡◌, ◌<◌, ◌+◌, ℕ, List, [], get_or
 use Rattle.std.proofs.lemmas.List.{length-map, with_items_is}
 use Rattle.std.proofs.lemmas.List.Elements.{Contains-get_or}
 use Rattle.rtl_kernel.specs.values.TwoValues.{IsWritten}
-use Rattle.rtl_kernel.specs.wakes.Woken.{Adds, wakers_of}
+use Rattle.rtl_kernel.specs.wakes.Woken.{AddsPlaces, wakers_of}
 use Rattle.rtl_kernel.proofs.Grouped.{wakers_at}
 use Rattle.rtl_synchronous.specs.Marks.{IsOfRun}
 use Rattle.rtl_synchronous.proofs.Marking.{marks_none, marks_run}
@@ -49,7 +49,7 @@ returns-then-differ-clause-marks c =
     let together : (k : ℕ) → k < length given → get_or (wakers_of groups) (first + k) [] ≡ get_or (wakers_of groups) first [] =
     λ k l. wakers_at groups (first + k) (omega (arith, l, c.requires.there, c.requires.each_net, many)) ∙ ap (λ (g : ℕ). get_or groups.listed g []) (c.requires.together k l) ∙ sym (wakers_at groups first within) in
     marks_run (wakers_of groups) c.args.values.now.items _ first given c.args.marks.now.items c.mark.new.marks.items c.requires.some together (returns-then-differ-clause-written c) c.mark.ensures.as_many
-    (subst (λ (xs : List ℕ). Adds xs c.args.marks.now.items c.mark.new.marks.items) row c.mark.ensures.marks)
+    (subst (λ (xs : List ℕ). AddsPlaces xs c.args.marks.now.items c.mark.new.marks.items) row c.mark.ensures.marks)
 
 pub returns-else-differ-clause-marks : goal.returns-else-differ-clause-marks
 returns-else-differ-clause-marks c = marks_none (wakers_of c.args.groups.now) (IsOfRun c.args.first (length c.args.given.now)) c.args.values.now.items c.args.marks.now.items

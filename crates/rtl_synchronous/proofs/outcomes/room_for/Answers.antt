@@ -1,6 +1,6 @@
 use Rattle.std.proofs.Common.{◌≡◌, ◌<◌, List, length, map, None, ap, ◌∙◌, arith, get_or}
 use Rattle.std.proofs.lemmas.List.{get_or_default, length-map, length-replicate}
-use Rattle.rtl_model.specs.nets.FlatNet.{element_starts}
+use Rattle.rtl_model.specs.nets.FlatNetlist.{element_starts}
 use Rattle.rtl_eval.specs.Runs.{Outcome}
 use Rattle.rtl_net.specs.Nets.{flat, process_view, variable_view}
 use Rattle.rtl_net.specs.declared.process.Process.{Process}

@@ -1,8 +1,8 @@
 use Rattle.std.proofs.Common.{◌≡◌, ◌<◌, length, ap, ◌∙◌, get_or, refl}
 use Rattle.std.proofs.lemmas.List.{get_or_default}
 use Rattle.std.proofs.lemmas.List.FromFn.{length-map-range_with_len}
-use Rattle.rtl_model.specs.nets.FlatNet.{FlatProcess, process_at}
-use Rattle.rtl_model.specs.nets.CoreNet.{part_effect}
+use Rattle.rtl_model.specs.nets.FlatNetlist.{FlatProcess, process_at}
+use Rattle.rtl_model.specs.nets.CoreNetlist.{part_effect}
 use Rattle.rtl_eval.specs.Runs.{Outcome}
 use Rattle.rtl_kernel.specs.drivers.Transactions.{no_outcome}
 use Rattle.rtl_kernel.proofs.Running.{room_ran}

@@ -1,6 +1,6 @@
 use Rattle.std.proofs.Common.{◌≡◌, ◌<◌, ℕ, List, [], Option, Contains, All, length, ap, sym, subst, ◌∙◌, get_or}
 use Rattle.std.proofs.lemmas.List.{get_or_default}
-use Rattle.rtl_model.specs.simulation.Net.{process}
+use Rattle.rtl_model.specs.simulation.Netlist.{process}
 use Rattle.rtl_model.proofs.nets.InRange.{keeps_range}
 use Rattle.rtl_eval.specs.Runs.{Outcome}
 use Rattle.rtl_kernel.specs.drivers.Transactions.{nets_of, no_outcome}

@@ -1,6 +1,6 @@
 use Rattle.std.proofs.Common.{◌≡◌, ℕ, List, [], ◌∷◌, ◌++◌, get_or, ap, sym, ◌∙◌}
 use Rattle.std.proofs.lemmas.List.{map_more}
-use Rattle.rtl_model.specs.simulation.Net.{process}
+use Rattle.rtl_model.specs.simulation.Netlist.{process}
 use Rattle.rtl_net.specs.declared.process.Process.{Process}
 use Rattle.rtl_synchronous.specs.Kept.{core}
 use Rattle.rtl_synchronous.proofs.Wired.{wakes_are}

@@ -1,6 +1,6 @@
 use Rattle.std.proofs.Common.{◌≡◌, ◌<◌, Bool, not, List, [], ◌∷◌, ◌++◌, length, get_or, ap, sym, ◌∙◌}
 use Rattle.std.proofs.lemmas.List.{map_more}
-use Rattle.rtl_model.specs.simulation.Net.{no_process, process}
+use Rattle.rtl_model.specs.simulation.Netlist.{no_process, process}
 use Rattle.rtl_net.specs.declared.process.Process.{Process}
 use Rattle.rtl_synchronous.specs.Kept.{core}
 use Rattle.rtl_synchronous.specs.Scheduled.{clocked_wakes}

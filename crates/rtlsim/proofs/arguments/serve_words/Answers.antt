@@ -3,7 +3,7 @@ use Rattle.rtlsim_commands.specs.Served.{Outputs}
 use Rattle.rtl_sink.specs.Read.{ReaderState}
 use Rattle.rtlsim_words.specs.Words.{IsOfWords, SayNothing}
 use Rattle.rtlsim.specs.Inputs.{Reading, GivesNamed}
-use Rattle.rtlsim.specs.Tools.{Serves, ServesFirstLine}
+use Rattle.rtlsim.specs.Tools.{ServesCall, ServesFirstLine}
 use Rattle.rtlsim.proofs.Refusing.{refuses_for}
 use Rattle.rtlsim.proofs.Serving.{is_none, is_some, of_reader, serves_none, serves_some}
 use Rattle.rtlsim.proofs.arguments.serve_words.Goals as goal
@@ -27,14 +27,14 @@ returns-in-Ok g c =
     let inputs = c.tool_with.new.inputs in
     let after : ReaderState = record { left = g.R.Read.remaining inputs.reader.reader; failed = inputs.reader.failed } in
     let o : Outputs = record { out = g.O.Sink.state c.args.out.now; out_after = g.O.Sink.state c.tool_with.new.out; err = g.E.Sink.state c.args.err.now; err_after = g.E.Sink.state c.tool_with.new.err } in
-    let served : Serves Gives (map (λ (word : Bor (List ℕ)). word.now) c.deref.result.now) old after c.tool_with.result o =
-    of_reader (λ (s : ReaderState). Serves Gives (map (λ (word : Bor (List ℕ)). word.now) c.deref.result.now) s after c.tool_with.result o) _ _ _
+    let served : ServesCall Gives (map (λ (word : Bor (List ℕ)). word.now) c.deref.result.now) old after c.tool_with.result o =
+    of_reader (λ (s : ReaderState). ServesCall Gives (map (λ (word : Bor (List ℕ)). word.now) c.deref.result.now) s after c.tool_with.result o) _ _ _
     c.new-reader.ensures.left c.new-reader.ensures.intact c.tool_with.ensures in
-    let of_items : Serves Gives (map (λ (word : Bor (List ℕ)). word.now) c.in-Ok.words.items) old after c.tool_with.result o =
-    subst (λ (words : List (Bor (List ℕ))). Serves Gives (map (λ (word : Bor (List ℕ)). word.now) words) old after c.tool_with.result o) c.deref.ensures.value served in (
+    let of_items : ServesCall Gives (map (λ (word : Bor (List ℕ)). word.now) c.in-Ok.words.items) old after c.tool_with.result o =
+    subst (λ (words : List (Bor (List ℕ))). ServesCall Gives (map (λ (word : Bor (List ℕ)). word.now) words) old after c.tool_with.result o) c.deref.ensures.value served in (
       after,
       serves_some string_bytes Gives old after c.tool_with.result o c.args.args.now (is_some _ _ c.is_empty.ensures c.if-is_empty.false)
-          (subst (λ (words : List (List ℕ)). Serves Gives words old after c.tool_with.result o) c.in-Ok.ensures of_items),
+          (subst (λ (words : List (List ℕ)). ServesCall Gives words old after c.tool_with.result o) c.in-Ok.ensures of_items),
     )
 
 pub returns-in-Err : goal.returns-in-Err

@@ -4,7 +4,7 @@ use Rattle.vhdl_expand_rules.specs.declared.fault.ElabProblem.TheVariants.{TooMa
 use Rattle.vhdl_expand_rules.specs.Elab.{Elab, ◌>>◌, unless}
 use Rattle.vhdl_expand_rules.specs.Expansion.{Design}
 use Rattle.vhdl_expand_tree.specs.Views.{design_view}
-use Rattle.vhdl_elab_rules.specs.Numbering.{numbered}
+use Rattle.vhdl_elab_rules.specs.Numbering.{numbered_design}
 use Rattle.vhdl_elab_rules.specs.Limits.{counts, is_within_limits}
 use Rattle.vhdl_elab_rules.specs.Elaboration.{Elaborated, connected}
 use Rattle.vhdl_expand_bodies.specs.Results.{Expands}
@@ -14,23 +14,23 @@ use Rattle.vhdl_connect.proofs.Made.{as-many-uses, as-many-defaults}
 use Rattle.vhdl_connect.proofs.connection.connect.Goals as goal
 
 -- within the limits connection is wiring
-is-wired : (design : Design) → is_within_limits (counts (numbered design)) ≡ true → connected design ≡ wired (numbered design)
+is-wired : (design : Design) → is_within_limits (counts (numbered_design design)) ≡ true → connected design ≡ wired (numbered_design design)
 unfolding connected
-is-wired design h = ap (λ t. unless TooMany t >> wired (numbered design)) h
+is-wired design h = ap (λ t. unless TooMany t >> wired (numbered_design design)) h
 
 pub wire-requires-clause-uses : goal.wire-requires-clause-uses
-wire-requires-clause-uses c = as-many-uses (numbered (design_view c.args.design)) c.in_ok-made.made c.in_ok-made.ensures
+wire-requires-clause-uses c = as-many-uses (numbered_design (design_view c.args.design)) c.in_ok-made.made c.in_ok-made.ensures
 
 pub wire-requires-clause-defaults : goal.wire-requires-clause-defaults
-wire-requires-clause-defaults c = as-many-defaults (numbered (design_view c.args.design)) c.in_ok-made.made c.in_ok-made.ensures
+wire-requires-clause-defaults c = as-many-defaults (numbered_design (design_view c.args.design)) c.in_ok-made.made c.in_ok-made.ensures
 
 pub returns-clause-given : goal.returns-clause-given
 returns-clause-given c =
     let design = design_view c.args.design in
-    subst (λ (r : Elab Elaborated). Expands (λ p. net_shown (assembled p)) (as_shown r) c.wire.result) (sym (is-wired design c.requires.within)) (c.wire.ensures.given (numbered design) c.in_ok-made.ensures c.requires.there)
+    subst (λ (r : Elab Elaborated). Expands (λ p. net_shown (assembled p)) (as_shown r) c.wire.result) (sym (is-wired design c.requires.within)) (c.wire.ensures.given (numbered_design design) c.in_ok-made.ensures c.requires.there)
 
 pub returns-clause-reads : goal.returns-clause-reads
-returns-clause-reads c = c.wire.ensures.reads (numbered (design_view c.args.design)) c.in_ok-made.ensures c.requires.there
+returns-clause-reads c = c.wire.ensures.reads (numbered_design (design_view c.args.design)) c.in_ok-made.ensures c.requires.there
 
 pub returns-clause-idle : goal.returns-clause-idle
-returns-clause-idle c = c.wire.ensures.idle (numbered (design_view c.args.design)) c.in_ok-made.ensures c.requires.there
+returns-clause-idle c = c.wire.ensures.idle (numbered_design (design_view c.args.design)) c.in_ok-made.ensures c.requires.there

@@ -4,7 +4,7 @@ use Rattle.std.proofs.lemmas.Grind.{common_steps}
 use Rattle.vhdl_names_rules.specs.units.Units.{Entity}
 use Rattle.vhdl_names_units.specs.views.Units.{entity_view, units_view}
 use Rattle.vhdl_expand_rules.specs.declared.fault.ElabFault.TheVariants.{NoMemory}
-use Rattle.vhdl_expand_rules.specs.Expansion.{expanded, instance_of}
+use Rattle.vhdl_expand_rules.specs.Expansion.{expanded_design, instance_of}
 use Rattle.vhdl_expand_rules.proofs.Steps.{given}
 use Rattle.vhdl_expand_tree.specs.Costs.{charged, instance_costs}
 use Rattle.vhdl_expand_tree.specs.Views.{budget_view, instance_view}
@@ -27,7 +27,7 @@ returns-in_err-declared c =
     let us = units_view c.args.units.now in
     let named = ap (λ n. find (λ (e : Entity). bytes_eq e.name n) us) (sym (c.deref-2.ensures.value ∙ c.in_ok-name.ensures))
     ∙ ap (λ es. find (λ (e : Entity). bytes_eq e.name c.deref-2.result.now) (map entity_view es)) (sym c.deref.ensures.value) ∙ c.in-Some.ensures in
-    let stopped : c.in_err-declared.field-0.0 ≢ NoMemory → IsErr (within_limits (expanded us c.args.top.now)) =
+    let stopped : c.in_err-declared.field-0.0 ≢ NoMemory → IsErr (within_limits (expanded_design us c.args.top.now)) =
     λ n. no_top_interface us c.args.top.now (entity_view c.in-Some.unit.now) named (c.in_err-declared.ensures n) in
     first_of (search rules, grind (arith, common_steps))
 
@@ -45,7 +45,7 @@ returns-in_err-top c =
     ∙ ap (λ es. find (λ (e : Entity). bytes_eq e.name c.deref-2.result.now) (map entity_view es)) (sym c.deref.ensures.value) ∙ c.in-Some.ensures in
     let same = ap (λ b. charged b instance_costs (instance_of us 32 e d)) (sym c.whole-left.ensures)
     ∙ ap (λ es. charged (budget_view c.whole-left.result) instance_costs (instance_of (map entity_view es) 32 e d)) (sym c.deref-3.ensures.value) in
-    let stopped : c.in_err-top.field-0.0 ≢ NoMemory → IsErr (within_limits (expanded us c.args.top.now)) =
+    let stopped : c.in_err-top.field-0.0 ≢ NoMemory → IsErr (within_limits (expanded_design us c.args.top.now)) =
     λ n. no_instance us c.args.top.now e d named c.in_ok-declared.ensures (subst (λ r. IsErr r) (sym same) (c.in_err-top.ensures n)) in
     first_of (search rules, grind (arith, common_steps))
 

@@ -6,7 +6,7 @@ use Rattle.vhdl_expand_tree.specs.Views.{object_view, role_view}
 use Rattle.vhdl_names_units.specs.views.Answers.{fixed_view, form_view}
 use Rattle.vhdl_names_units.specs.views.Declarations as units
 use Rattle.vhdl_expand_rules.specs.declared.fault.ElabFault.TheVariants.{NoMemory}
-use Rattle.vhdl_expand_rules.specs.Kinds.{Kind}
+use Rattle.vhdl_expand_rules.specs.Kinds.{ObjectKind}
 use Rattle.vhdl_expand_rules.specs.views.Kinds.{kind_view}
 use Rattle.vhdl_expand_objects.specs.Objects.{named_object, next_object}
 use Rattle.vhdl_expand_objects.specs.Views.{declared_view}
@@ -49,7 +49,7 @@ loop-name-preserved c =
     let role = role_view c.args.role in
     let v = λ (n : Identifier). named_object objects n.text.items in
     let d = declared_view c.loop-name.declared in
-    let shape : Kind × List ℕ = (kind_view c.in_ok-shape.shape.kind, c.in_ok-shape.shape.starts.items) in
+    let shape : ObjectKind × List ℕ = (kind_view c.in_ok-shape.shape.kind, c.in_ok-shape.shape.starts.items) in
     let below : c.loop-name.name-index < length c.as_slice-names.result.now = first_of (search rules, omega arith) in
     record {
       rest = one_goes (next_object role) v _ d _ c.as_slice-names.result.now c.loop-name.name-index c.name-item.result below c.name-item.is c.loop-name.invariant.rest

@@ -104,7 +104,7 @@ of_conditional-returns-in_err-charge_statement t c =
     let x = out-If c.args.conditional.now in
     let gs = analysed.branches_view x.branches in
     let last = analysed.last_of (analysed.option_statements_view x.otherwise) in
-    let stopped : IsErr (paid (budget_view c.args.budget.now) (statement_costs at (units.choose (analysed.branches_of gs last)))) =
+    let stopped : IsErr (paid (budget_view c.args.budget.now) (statement_costs at (units.if_of (analysed.branches_of gs last)))) =
     choose_stops at (budget_view c.args.budget.now) gs last c.in_err-charge_statement.ensures.spent in
     first_of (search rules, grind (arith, common_steps))
 
@@ -114,7 +114,7 @@ of_conditional-returns-in_err-of_branches t c =
     let x = out-If c.args.conditional.now in
     let gs = analysed.branches_view x.branches in
     let last = analysed.last_of (analysed.option_statements_view x.otherwise) in
-    let stopped : c.in_err-of_branches.field-0.0 ≢ NoMemory → IsErr (paid (budget_view c.args.budget.now) (statement_costs at (units.choose (analysed.branches_of gs last)))) =
+    let stopped : c.in_err-of_branches.field-0.0 ≢ NoMemory → IsErr (paid (budget_view c.args.budget.now) (statement_costs at (units.if_of (analysed.branches_of gs last)))) =
     λ n. branches_stop at (budget_view c.args.budget.now) gs last _ c.in_ok-charge_statement.ensures.spent
     (subst (λ r. IsErr r) (sym (same_branches at _ _ _ c.deref.ensures.value)) (c.in_err-of_branches.ensures n)) in
     first_of (search rules, grind (arith, common_steps))
@@ -165,7 +165,7 @@ pub of_loop-returns-in_err-turns : goal.of_loop-returns-in_err-turns
 of_loop-returns-in_err-turns t c =
     let at = integers_view c.args.integers.now in
     let body = analysed.statements_of (analysed.statements_view c.args.repeated.now.statements) in
-    let stopped : IsErr (paid (budget_view c.args.budget.now) (statement_costs at (units.loop (range_view c.args.repeated.now.range) body))) =
+    let stopped : IsErr (paid (budget_view c.args.budget.now) (statement_costs at (units.for_of (range_view c.args.repeated.now.range) body))) =
     range_stops at (budget_view c.args.budget.now) (range_view c.args.repeated.now.range) body c.in_err-turns.ensures in
     first_of (search rules, grind (arith, common_steps))
 
@@ -173,7 +173,7 @@ pub of_loop-returns-in_err-charge_turns : goal.of_loop-returns-in_err-charge_tur
 of_loop-returns-in_err-charge_turns t c =
     let at = integers_view c.args.integers.now in
     let body = analysed.statements_of (analysed.statements_view c.args.repeated.now.statements) in
-    let stopped : IsErr (paid (budget_view c.args.budget.now) (statement_costs at (units.loop (range_view c.args.repeated.now.range) body))) =
+    let stopped : IsErr (paid (budget_view c.args.budget.now) (statement_costs at (units.for_of (range_view c.args.repeated.now.range) body))) =
     count_stops at (budget_view c.args.budget.now) (range_view c.args.repeated.now.range) body c.in_ok-turns.turns.direction c.in_ok-turns.turns.first c.in_ok-turns.turns.count
     c.in_ok-turns.ensures c.in_err-charge_turns.ensures.spent in
     first_of (search rules, grind (arith, common_steps))
@@ -203,7 +203,7 @@ of_loop-returns-in_err-of_turn t c =
     let f : SFits w32 c.in_ok-parameter.parameter = search rules in
     let fixed : to_z w32 (of_z w32 c.in_ok-parameter.parameter) ≡ c.in_ok-parameter.parameter = omega (arith, ints) in
     let stopped : c.in_err-of_turn.field-0.0 ≢ NoMemory
-    → IsErr (paid (budget_view c.args.budget.now) (statement_costs at (units.loop (range_view c.args.repeated.now.range) body))) =
+    → IsErr (paid (budget_view c.args.budget.now) (statement_costs at (units.for_of (range_view c.args.repeated.now.range) body))) =
     λ n. turns_stop (λ i. statements_costs (in_turn at i) body) c.in_ok-turns.turns.direction c.in_ok-turns.turns.first c.in_ok-turns.turns.count _ _ c.loop-turn.turn c.in_ok-parameter.parameter
     c.loop-turn-test.true same c.loop-turn.invariant (subst (λ r. IsErr r) (sym (same_turn at _ body _ _ fixed)) (c.in_err-of_turn.ensures n)) in
     first_of (search rules, grind (arith, common_steps))

@@ -4,7 +4,7 @@ use Rattle.std.proofs.lemmas.List.{length-map}
 use Rattle.vhdl_names_rules.specs.declared.fault.NameFault.TheVariants.{NoMemory}
 use Rattle.vhdl_names_rules.specs.Declarations as d
 use Rattle.vhdl_names_rules.specs.Declarations.{within}
-use Rattle.vhdl_names_rules.specs.Visibility as m
+use Rattle.vhdl_names_rules.specs.Visibility as visibility
 use Rattle.vhdl_names_rules.specs.Visibility.{names_of, all_declared, with_declared, count_of}
 use Rattle.vhdl_tree.specs.View as tree
 use Rattle.vhdl_tree.specs.View.{ident_view}
@@ -24,16 +24,16 @@ returns-in_err-hide-clause-given c =
     let f : c.in_err-hide.field-0.0 ≢ NoMemory → entering d.constants (sight_view c.args.sight.now) (tree.constants_view c.args.declaration.now) ≡ None =
     λ n. constants_is s g
     ∙ refused (λ s. s.region) with_declared s (names_of g.names) (constant_number s) k.declared_as (k.declarations g.names)
-    (ap (λ l. more s.region (all_declared m.unfinished (names_of (map ident_view l)))) (sym c.deref.ensures.value) ∙ c.in_err-hide.ensures n) (k.constant (within s g.names) g) in
+    (ap (λ l. more s.region (all_declared visibility.unfinished (names_of (map ident_view l)))) (sym c.deref.ensures.value) ∙ c.in_err-hide.ensures n) (k.constant (within s g.names) g) in
     first_of (search rules, grind (arith, common_steps))
 
 pub returns-in_err-typed-clause-given : goal.returns-in_err-typed-clause-given
 returns-in_err-typed-clause-given c =
     let s = sight_view c.args.sight.now in
     let g = tree.constants_view c.args.declaration.now in
-    let hid : more (sight_view c.args.sight.now).region (all_declared m.unfinished (names_of (tree.constants_view c.args.declaration.now).names)) ≡ Some (region_view c.hide.new.region) =
-    ap (λ l. more (sight_view c.args.sight.now).region (all_declared m.unfinished (names_of (map ident_view l)))) (sym c.deref.ensures.value) ∙ c.in_ok-hide.ensures in
-    let along = ap (λ r. k.constant (record s { region = r }) g) (more_is s.region (all_declared m.unfinished (names_of g.names)) (region_view c.hide.new.region) hid) in
+    let hid : more (sight_view c.args.sight.now).region (all_declared visibility.unfinished (names_of (tree.constants_view c.args.declaration.now).names)) ≡ Some (region_view c.hide.new.region) =
+    ap (λ l. more (sight_view c.args.sight.now).region (all_declared visibility.unfinished (names_of (map ident_view l)))) (sym c.deref.ensures.value) ∙ c.in_ok-hide.ensures in
+    let along = ap (λ r. k.constant (record s { region = r }) g) (more_is s.region (all_declared visibility.unfinished (names_of g.names)) (region_view c.hide.new.region) hid) in
     let f : c.in_err-typed.field-0.0 ≢ NoMemory → entering d.constants (sight_view c.args.sight.now) (tree.constants_view c.args.declaration.now) ≡ None =
     λ n. constants_is s g
     ∙ unknown (λ s. s.region) with_declared s (names_of g.names) (constant_number s) k.declared_as (k.declarations g.names) (k.constant (within s g.names) g) (sym along ∙ c.in_err-typed.ensures n) in
@@ -46,8 +46,8 @@ settle-requires-clause-place c =
 
 pub settle-requires-clause-number : goal.settle-requires-clause-number
 settle-requires-clause-number c =
-    let i = first_below m.is_integer_constant c.args.sight.now.region.entries c.args.integers c.requires.integers in
-    let j = first_below m.is_constant c.args.sight.now.region.entries c.args.constants c.requires.constants in
+    let i = first_below visibility.is_integer_constant c.args.sight.now.region.entries c.args.integers c.requires.integers in
+    let j = first_below visibility.is_constant c.args.sight.now.region.entries c.args.constants c.requires.constants in
     number_below c.args.integers c.args.constants c.len-first.result (k.constant_view c.in_ok-typed.typed) c.number_of-number.result c.number_of-number.ensures
     (omega (arith, i, c.len-first.ensures.len)) (omega (arith, j, c.len-first.ensures.len))
 
@@ -55,15 +55,15 @@ pub returns-clause-given : goal.returns-clause-given
 returns-clause-given c =
     let s = sight_view c.args.sight.now in
     let g = tree.constants_view c.args.declaration.now in
-    let hid : more (sight_view c.args.sight.now).region (all_declared m.unfinished (names_of (tree.constants_view c.args.declaration.now).names)) ≡ Some (region_view c.hide.new.region) =
-    ap (λ l. more (sight_view c.args.sight.now).region (all_declared m.unfinished (names_of (map ident_view l)))) (sym c.deref.ensures.value) ∙ c.in_ok-hide.ensures in
-    let along = ap (λ r. k.constant (record s { region = r }) g) (more_is s.region (all_declared m.unfinished (names_of g.names)) (region_view c.hide.new.region) hid) in
+    let hid : more (sight_view c.args.sight.now).region (all_declared visibility.unfinished (names_of (tree.constants_view c.args.declaration.now).names)) ≡ Some (region_view c.hide.new.region) =
+    ap (λ l. more (sight_view c.args.sight.now).region (all_declared visibility.unfinished (names_of (map ident_view l)))) (sym c.deref.ensures.value) ∙ c.in_ok-hide.ensures in
+    let along = ap (λ r. k.constant (record s { region = r }) g) (more_is s.region (all_declared visibility.unfinished (names_of g.names)) (region_view c.hide.new.region) hid) in
     let size : c.len-first.result ≡ length (region_view c.args.sight.now.region) = c.len-first.ensures.len ∙ sym (length-map c.args.sight.now.region.entries entry_view) in
     let x : TypedConstant = k.constant_view c.in_ok-typed.typed in
     let first = c.len-first.result in
     let hidden = region_view c.hide.new.region in
     let number : c.number_of-number.result ≡ constant_number (sight_view c.args.sight.now) (k.constant_view c.in_ok-typed.typed) =
-    c.number_of-number.ensures ∙ ap (λ i. k.number i c.args.constants x) c.requires.integers ∙ ap (λ j. k.number (count_of m.is_integer_constant s.region) j x) c.requires.constants in
+    c.number_of-number.ensures ∙ ap (λ i. k.number i c.args.constants x) c.requires.integers ∙ ap (λ j. k.number (count_of visibility.is_integer_constant s.region) j x) c.requires.constants in
     constants_is s g
     ∙ known (λ s. s.region) with_declared s (names_of g.names) (constant_number s) k.declared_as (k.declarations g.names) hidden hid (k.constant (within s g.names) g) x (sym along ∙ c.in_ok-typed.ensures)
     ∙ ap (λ r. Some (record s { region = r }, k.declarations g.names x)) (settled_region (k.declared_as x) (constant_number s x) first s.region hidden (region_view c.settle.new.region) (names_of g.names) size hid

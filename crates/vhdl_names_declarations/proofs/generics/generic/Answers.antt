@@ -9,7 +9,7 @@ use Rattle.vhdl_names_rules.specs.Rules.{◌>>=◌}
 use Rattle.vhdl_names_rules.specs.Declarations as d
 use Rattle.vhdl_names_rules.specs.Declarations.{for_each}
 use Rattle.vhdl_names_rules.specs.views.Integers.{static_view}
-use Rattle.vhdl_names_rules.specs.Visibility as m
+use Rattle.vhdl_names_rules.specs.Visibility as visibility
 use Rattle.vhdl_names_rules.specs.Visibility.{names_of, all_declared, with_declared}
 use Rattle.vhdl_tree.specs.View.{ident_view, generic_view}
 use Rattle.vhdl_names_types.specs.Views.{region_view, sight_view, entry_view}
@@ -25,8 +25,8 @@ returns-in_err-hide-clause-given c =
     let g = generic_view c.args.generic.now in
     let f : c.in_err-hide.field-0.0 ≢ NoMemory → entering d.generic (sight_view c.args.sight.now) (generic_view c.args.generic.now) ≡ None =
     λ n. generic_is s g c.args.number c.requires
-    ∙ refused (λ s. s.region) with_declared s (names_of g.names) (λ x. c.args.number) (λ x. m.generic) (generics_of g)
-    (ap (λ l. more s.region (all_declared m.unfinished (names_of (map ident_view l)))) (sym c.deref.ensures.value) ∙ c.in_err-hide.ensures n) (typed_generic s g) in
+    ∙ refused (λ s. s.region) with_declared s (names_of g.names) (λ x. c.args.number) (λ x. visibility.generic) (generics_of g)
+    (ap (λ l. more s.region (all_declared visibility.unfinished (names_of (map ident_view l)))) (sym c.deref.ensures.value) ∙ c.in_err-hide.ensures n) (typed_generic s g) in
     first_of (search rules, grind (arith, common_steps))
 
 pub returns-in_err-integer_type-clause-given : goal.returns-in_err-integer_type-clause-given
@@ -35,7 +35,7 @@ returns-in_err-integer_type-clause-given c =
     let g = generic_view c.args.generic.now in
     let f : c.in_err-integer_type.field-0.0 ≢ NoMemory → entering d.generic (sight_view c.args.sight.now) (generic_view c.args.generic.now) ≡ None =
     λ n. generic_is s g c.args.number c.requires
-    ∙ unknown (λ s. s.region) with_declared s (names_of g.names) (λ x. c.args.number) (λ x. m.generic) (generics_of g) (typed_generic s g) (c.in_err-integer_type.ensures n) in
+    ∙ unknown (λ s. s.region) with_declared s (names_of g.names) (λ x. c.args.number) (λ x. visibility.generic) (generics_of g) (typed_generic s g) (c.in_err-integer_type.ensures n) in
     first_of (search rules, grind (arith, common_steps))
 
 pub settle-requires-clause-place : goal.settle-requires-clause-place
@@ -45,19 +45,19 @@ settle-requires-clause-place c =
 
 pub settle-requires-clause-number : goal.settle-requires-clause-number
 settle-requires-clause-number c =
-    let h = first_below m.is_generic c.args.sight.now.region.entries c.args.number c.requires in
+    let h = first_below visibility.is_generic c.args.sight.now.region.entries c.args.number c.requires in
     omega (arith, h, c.len-first.ensures.len)
 
 pub returns-clause-given : goal.returns-clause-given
 returns-clause-given c =
     let s = sight_view c.args.sight.now in
     let g = generic_view c.args.generic.now in
-    let hid : more s.region (all_declared m.unfinished (names_of g.names)) ≡ Some (region_view c.hide.new.region) =
-    ap (λ l. more s.region (all_declared m.unfinished (names_of (map ident_view l)))) (sym c.deref.ensures.value) ∙ c.in_ok-hide.ensures in
+    let hid : more s.region (all_declared visibility.unfinished (names_of g.names)) ≡ Some (region_view c.hide.new.region) =
+    ap (λ l. more s.region (all_declared visibility.unfinished (names_of (map ident_view l)))) (sym c.deref.ensures.value) ∙ c.in_ok-hide.ensures in
     let size : c.len-first.result ≡ length (region_view c.args.sight.now.region) = c.len-first.ensures.len ∙ sym (length-map c.args.sight.now.region.entries entry_view) in
     let x : IntegerType × Option Static = (c.in_ok-integer_type.integer_type, option_map static_view c.in_ok-integer_type.default) in
     generic_is s g c.args.number c.requires
-    ∙ known (λ s. s.region) with_declared s (names_of g.names) (λ x. c.args.number) (λ x. m.generic) (generics_of g) (region_view c.hide.new.region) hid (typed_generic s g) x c.in_ok-integer_type.ensures
-    ∙ ap (λ r. Some (record s { region = r }, generics_of g x)) (settled_region m.generic c.args.number c.len-first.result s.region (region_view c.hide.new.region) (region_view c.settle.new.region) (names_of g.names) size hid c.in_ok-settle.ensures)
+    ∙ known (λ s. s.region) with_declared s (names_of g.names) (λ x. c.args.number) (λ x. visibility.generic) (generics_of g) (region_view c.hide.new.region) hid (typed_generic s g) x c.in_ok-integer_type.ensures
+    ∙ ap (λ r. Some (record s { region = r }, generics_of g x)) (settled_region visibility.generic c.args.number c.len-first.result s.region (region_view c.hide.new.region) (region_view c.settle.new.region) (names_of g.names) size hid c.in_ok-settle.ensures)
     ∙ ap (λ l. Some (record s { region = region_view c.settle.new.region }, for_each (λ n. record { type = x.0; default = x.1 }) l))
     (sym (c.in_ok-names.ensures ∙ ap (map ident_view) c.deref-2.ensures.value))

@@ -7,7 +7,7 @@ use Rattle.vhdl_names_rules.specs.units.Units.{Fixed}
 use Rattle.vhdl_names_rules.specs.Subtypes.{Subtype, object}
 use Rattle.vhdl_names_rules.specs.Declarations as d
 use Rattle.vhdl_names_rules.specs.Declarations.{for_each, within, within_variables, mode_of}
-use Rattle.vhdl_names_rules.specs.Visibility as m
+use Rattle.vhdl_names_rules.specs.Visibility as visibility
 use Rattle.vhdl_names_rules.specs.Visibility.{names_of, all_declared, with_declared, with_variables}
 use Rattle.vhdl_tree.specs.View as tree
 use Rattle.vhdl_tree.specs.View.{ident_view}
@@ -26,16 +26,16 @@ returns-in_err-hide-clause-given c =
     let f : c.in_err-hide.field-0.0 ≢ NoMemory → entering d.signals (sight_view c.args.sight.now) (tree.signals_view c.args.declaration.now) ≡ None =
     λ n. signals_is s g c.args.number c.requires
     ∙ refused (λ s. s.region) with_declared s (names_of g.names) (λ x. c.args.number) signal_class (signals_of g)
-    (ap (λ l. more s.region (all_declared m.unfinished (names_of (map ident_view l)))) (sym c.deref.ensures.value) ∙ c.in_err-hide.ensures n) (typed_object (within s g.names) g.subtype g.default) in
+    (ap (λ l. more s.region (all_declared visibility.unfinished (names_of (map ident_view l)))) (sym c.deref.ensures.value) ∙ c.in_err-hide.ensures n) (typed_object (within s g.names) g.subtype g.default) in
     first_of (search rules, grind (arith, common_steps))
 
 pub returns-in_err-subtype-clause-given : goal.returns-in_err-subtype-clause-given
 returns-in_err-subtype-clause-given c =
     let s = sight_view c.args.sight.now in
     let g = tree.signals_view c.args.declaration.now in
-    let hid : more (sight_view c.args.sight.now).region (all_declared m.unfinished (names_of (tree.signals_view c.args.declaration.now).names)) ≡ Some (region_view c.hide.new.region) =
-    ap (λ l. more (sight_view c.args.sight.now).region (all_declared m.unfinished (names_of (map ident_view l)))) (sym c.deref.ensures.value) ∙ c.in_ok-hide.ensures in
-    let along = ap (λ r. typed_object (record s { region = r }) g.subtype g.default) (more_is s.region (all_declared m.unfinished (names_of g.names)) (region_view c.hide.new.region) hid) in
+    let hid : more (sight_view c.args.sight.now).region (all_declared visibility.unfinished (names_of (tree.signals_view c.args.declaration.now).names)) ≡ Some (region_view c.hide.new.region) =
+    ap (λ l. more (sight_view c.args.sight.now).region (all_declared visibility.unfinished (names_of (map ident_view l)))) (sym c.deref.ensures.value) ∙ c.in_ok-hide.ensures in
+    let along = ap (λ r. typed_object (record s { region = r }) g.subtype g.default) (more_is s.region (all_declared visibility.unfinished (names_of g.names)) (region_view c.hide.new.region) hid) in
     let f : c.in_err-subtype.field-0.0 ≢ NoMemory → entering d.signals (sight_view c.args.sight.now) (tree.signals_view c.args.declaration.now) ≡ None =
     λ n. signals_is s g c.args.number c.requires
     ∙ unknown (λ s. s.region) with_declared s (names_of g.names) (λ x. c.args.number) signal_class (signals_of g) (typed_object (within s g.names) g.subtype g.default) (sym along ∙ c.in_err-subtype.ensures n) in
@@ -45,9 +45,9 @@ pub returns-clause-given : goal.returns-clause-given
 returns-clause-given c =
     let s = sight_view c.args.sight.now in
     let g = tree.signals_view c.args.declaration.now in
-    let hid : more (sight_view c.args.sight.now).region (all_declared m.unfinished (names_of (tree.signals_view c.args.declaration.now).names)) ≡ Some (region_view c.hide.new.region) =
-    ap (λ l. more (sight_view c.args.sight.now).region (all_declared m.unfinished (names_of (map ident_view l)))) (sym c.deref.ensures.value) ∙ c.in_ok-hide.ensures in
-    let along = ap (λ r. typed_object (record s { region = r }) g.subtype g.default) (more_is s.region (all_declared m.unfinished (names_of g.names)) (region_view c.hide.new.region) hid) in
+    let hid : more (sight_view c.args.sight.now).region (all_declared visibility.unfinished (names_of (tree.signals_view c.args.declaration.now).names)) ≡ Some (region_view c.hide.new.region) =
+    ap (λ l. more (sight_view c.args.sight.now).region (all_declared visibility.unfinished (names_of (map ident_view l)))) (sym c.deref.ensures.value) ∙ c.in_ok-hide.ensures in
+    let along = ap (λ r. typed_object (record s { region = r }) g.subtype g.default) (more_is s.region (all_declared visibility.unfinished (names_of g.names)) (region_view c.hide.new.region) hid) in
     let size : c.len-first.result ≡ length (region_view c.args.sight.now.region) = c.len-first.ensures.len ∙ sym (length-map c.args.sight.now.region.entries entry_view) in
     let x : Subtype × Option Fixed = (subtype_view c.in_ok-subtype.subtype, option_map fixed_view c.in_ok-subtype.default) in
     signals_is s g c.args.number c.requires

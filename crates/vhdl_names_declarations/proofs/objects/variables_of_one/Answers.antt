@@ -7,7 +7,7 @@ use Rattle.vhdl_names_rules.specs.units.Units.{Fixed}
 use Rattle.vhdl_names_rules.specs.Subtypes.{Subtype, object}
 use Rattle.vhdl_names_rules.specs.Declarations as d
 use Rattle.vhdl_names_rules.specs.Declarations.{for_each, within, within_variables, mode_of}
-use Rattle.vhdl_names_rules.specs.Visibility as m
+use Rattle.vhdl_names_rules.specs.Visibility as visibility
 use Rattle.vhdl_names_rules.specs.Visibility.{names_of, all_declared, with_declared, with_variables}
 use Rattle.vhdl_tree.specs.View as tree
 use Rattle.vhdl_tree.specs.View.{ident_view}
@@ -26,16 +26,16 @@ returns-in_err-hide c =
     let f : c.in_err-hide.field-0.0 ≢ NoMemory → entering_variables d.variables (sight_view c.args.sight.now) (tree.variables_view c.args.declaration.now) ≡ None =
     λ n. variables_is s g c.args.number c.requires
     ∙ refused (λ s. s.variables) with_variables s (names_of g.names) (λ x. c.args.number) variable_class (variables_of g)
-    (ap (λ l. more s.variables (all_declared m.unfinished (names_of (map ident_view l)))) (sym c.deref.ensures.value) ∙ c.in_err-hide.ensures n) (typed_object (within_variables s g.names) g.subtype g.default) in
+    (ap (λ l. more s.variables (all_declared visibility.unfinished (names_of (map ident_view l)))) (sym c.deref.ensures.value) ∙ c.in_err-hide.ensures n) (typed_object (within_variables s g.names) g.subtype g.default) in
     first_of (search rules, grind (arith, common_steps))
 
 pub returns-in_err-subtype : goal.returns-in_err-subtype
 returns-in_err-subtype c =
     let s = sight_view c.args.sight.now in
     let g = tree.variables_view c.args.declaration.now in
-    let hid : more (sight_view c.args.sight.now).variables (all_declared m.unfinished (names_of (tree.variables_view c.args.declaration.now).names)) ≡ Some (region_view c.hide.new.region) =
-    ap (λ l. more (sight_view c.args.sight.now).variables (all_declared m.unfinished (names_of (map ident_view l)))) (sym c.deref.ensures.value) ∙ c.in_ok-hide.ensures in
-    let along = ap (λ r. typed_object (record s { variables = r }) g.subtype g.default) (more_is s.variables (all_declared m.unfinished (names_of g.names)) (region_view c.hide.new.region) hid) in
+    let hid : more (sight_view c.args.sight.now).variables (all_declared visibility.unfinished (names_of (tree.variables_view c.args.declaration.now).names)) ≡ Some (region_view c.hide.new.region) =
+    ap (λ l. more (sight_view c.args.sight.now).variables (all_declared visibility.unfinished (names_of (map ident_view l)))) (sym c.deref.ensures.value) ∙ c.in_ok-hide.ensures in
+    let along = ap (λ r. typed_object (record s { variables = r }) g.subtype g.default) (more_is s.variables (all_declared visibility.unfinished (names_of g.names)) (region_view c.hide.new.region) hid) in
     let f : c.in_err-subtype.field-0.0 ≢ NoMemory → entering_variables d.variables (sight_view c.args.sight.now) (tree.variables_view c.args.declaration.now) ≡ None =
     λ n. variables_is s g c.args.number c.requires
     ∙ unknown (λ s. s.variables) with_variables s (names_of g.names) (λ x. c.args.number) variable_class (variables_of g) (typed_object (within_variables s g.names) g.subtype g.default) (sym along ∙ c.in_err-subtype.ensures n) in
@@ -45,9 +45,9 @@ pub returns : goal.returns
 returns c =
     let s = sight_view c.args.sight.now in
     let g = tree.variables_view c.args.declaration.now in
-    let hid : more (sight_view c.args.sight.now).variables (all_declared m.unfinished (names_of (tree.variables_view c.args.declaration.now).names)) ≡ Some (region_view c.hide.new.region) =
-    ap (λ l. more (sight_view c.args.sight.now).variables (all_declared m.unfinished (names_of (map ident_view l)))) (sym c.deref.ensures.value) ∙ c.in_ok-hide.ensures in
-    let along = ap (λ r. typed_object (record s { variables = r }) g.subtype g.default) (more_is s.variables (all_declared m.unfinished (names_of g.names)) (region_view c.hide.new.region) hid) in
+    let hid : more (sight_view c.args.sight.now).variables (all_declared visibility.unfinished (names_of (tree.variables_view c.args.declaration.now).names)) ≡ Some (region_view c.hide.new.region) =
+    ap (λ l. more (sight_view c.args.sight.now).variables (all_declared visibility.unfinished (names_of (map ident_view l)))) (sym c.deref.ensures.value) ∙ c.in_ok-hide.ensures in
+    let along = ap (λ r. typed_object (record s { variables = r }) g.subtype g.default) (more_is s.variables (all_declared visibility.unfinished (names_of g.names)) (region_view c.hide.new.region) hid) in
     let size : c.len-first.result ≡ length (region_view c.args.sight.now.variables) = c.len-first.ensures.len ∙ sym (length-map c.args.sight.now.variables.entries entry_view) in
     let x : Subtype × Option Fixed = (subtype_view c.in_ok-subtype.subtype, option_map fixed_view c.in_ok-subtype.default) in
     variables_is s g c.args.number c.requires

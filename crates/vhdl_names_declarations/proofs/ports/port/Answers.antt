@@ -7,7 +7,7 @@ use Rattle.vhdl_names_rules.specs.units.Units.{Fixed}
 use Rattle.vhdl_names_rules.specs.Subtypes.{Subtype, object}
 use Rattle.vhdl_names_rules.specs.Declarations as d
 use Rattle.vhdl_names_rules.specs.Declarations.{for_each, within, within_variables, mode_of}
-use Rattle.vhdl_names_rules.specs.Visibility as m
+use Rattle.vhdl_names_rules.specs.Visibility as visibility
 use Rattle.vhdl_names_rules.specs.Visibility.{names_of, all_declared, with_declared, with_variables}
 use Rattle.vhdl_tree.specs.View as tree
 use Rattle.vhdl_tree.specs.View.{ident_view}
@@ -19,7 +19,7 @@ use Rattle.vhdl_names_declarations.specs.Typed.{typed_object, typed_port}
 use Rattle.vhdl_names_declarations.proofs.Classes.{port_is, port_class, ports_of, port_with, map-map}
 use Rattle.vhdl_names_declarations.proofs.Turns.{refused, unknown, known, settled_region, grows_by, first_below, more_is}
 use Rattle.vhdl_names_declarations.proofs.ports.port.Goals as goal
-use Rattle.vhdl_names_rules.specs.declared.kind.Kind.{Kind}
+use Rattle.vhdl_names_rules.specs.declared.kind.ElementKind.{ElementKind}
 
 pub returns-in_err-hide-clause-given : goal.returns-in_err-hide-clause-given
 returns-in_err-hide-clause-given c =
@@ -28,15 +28,15 @@ returns-in_err-hide-clause-given c =
     let f : c.in_err-hide.field-0.0 ≢ NoMemory → entering d.port (sight_view c.args.sight.now) (tree.port_view c.args.port.now) ≡ None =
     λ n. port_is s g c.args.number c.requires
     ∙ refused (λ s. s.region) with_declared s (names_of g.names) (λ x. c.args.number) (port_class g) (ports_of g)
-    (ap (λ l. more s.region (all_declared m.unfinished (names_of (map ident_view l)))) (sym c.deref.ensures.value) ∙ c.in_err-hide.ensures n) (typed_port s g) in
+    (ap (λ l. more s.region (all_declared visibility.unfinished (names_of (map ident_view l)))) (sym c.deref.ensures.value) ∙ c.in_err-hide.ensures n) (typed_port s g) in
     first_of (search rules, grind (arith, common_steps))
 
 pub returns-in_err-subtype-clause-given : goal.returns-in_err-subtype-clause-given
 returns-in_err-subtype-clause-given c =
     let s = sight_view c.args.sight.now in
     let g = tree.port_view c.args.port.now in
-    let hid : more (sight_view c.args.sight.now).region (all_declared m.unfinished (names_of (tree.port_view c.args.port.now).names)) ≡ Some (region_view c.hide.new.region) =
-    ap (λ l. more (sight_view c.args.sight.now).region (all_declared m.unfinished (names_of (map ident_view l)))) (sym c.deref.ensures.value) ∙ c.in_ok-hide.ensures in
+    let hid : more (sight_view c.args.sight.now).region (all_declared visibility.unfinished (names_of (tree.port_view c.args.port.now).names)) ≡ Some (region_view c.hide.new.region) =
+    ap (λ l. more (sight_view c.args.sight.now).region (all_declared visibility.unfinished (names_of (map ident_view l)))) (sym c.deref.ensures.value) ∙ c.in_ok-hide.ensures in
     let f : c.in_err-subtype.field-0.0 ≢ NoMemory → entering d.port (sight_view c.args.sight.now) (tree.port_view c.args.port.now) ≡ None =
     λ n. port_is s g c.args.number c.requires
     ∙ unknown (λ s. s.region) with_declared s (names_of g.names) (λ x. c.args.number) (port_class g) (ports_of g) (typed_port s g) (c.in_err-subtype.ensures n) in
@@ -46,14 +46,14 @@ pub returns-clause-given : goal.returns-clause-given
 returns-clause-given c =
     let s = sight_view c.args.sight.now in
     let g = tree.port_view c.args.port.now in
-    let hid : more (sight_view c.args.sight.now).region (all_declared m.unfinished (names_of (tree.port_view c.args.port.now).names)) ≡ Some (region_view c.hide.new.region) =
-    ap (λ l. more (sight_view c.args.sight.now).region (all_declared m.unfinished (names_of (map ident_view l)))) (sym c.deref.ensures.value) ∙ c.in_ok-hide.ensures in
+    let hid : more (sight_view c.args.sight.now).region (all_declared visibility.unfinished (names_of (tree.port_view c.args.port.now).names)) ≡ Some (region_view c.hide.new.region) =
+    ap (λ l. more (sight_view c.args.sight.now).region (all_declared visibility.unfinished (names_of (map ident_view l)))) (sym c.deref.ensures.value) ∙ c.in_ok-hide.ensures in
     let size : c.len-first.result ≡ length (region_view c.args.sight.now.region) = c.len-first.ensures.len ∙ sym (length-map c.args.sight.now.region.entries entry_view) in
-    let x : Subtype × Kind × Option Fixed = (subtype_view c.in_ok-subtype.subtype, c.in_ok-subtype.kind, option_map fixed_view c.in_ok-subtype.default) in
+    let x : Subtype × ElementKind × Option Fixed = (subtype_view c.in_ok-subtype.subtype, c.in_ok-subtype.kind, option_map fixed_view c.in_ok-subtype.default) in
     port_is s g c.args.number c.requires
     ∙ known (λ s. s.region) with_declared s (names_of g.names) (λ x. c.args.number) (port_class g) (ports_of g) (region_view c.hide.new.region) hid (typed_port s g) x (c.in_ok-subtype.ensures)
     ∙ ap (λ r. Some (record s { region = r }, (ports_of g) x)) (settled_region (port_class g x) c.args.number c.len-first.result s.region (region_view c.hide.new.region) (region_view c.settle.new.region) (names_of g.names) size hid
-    (c.in_ok-settle.ensures ∙ ap (λ w. settled (λ k. m.port k w x.1) c.args.number c.len-first.result (region_view c.hide.new.region)) c.mode_of-mode.ensures))
+    (c.in_ok-settle.ensures ∙ ap (λ w. settled (λ k. visibility.port k w x.1) c.args.number c.len-first.result (region_view c.hide.new.region)) c.mode_of-mode.ensures))
     ∙ ap (λ l. Some (record s { region = region_view c.settle.new.region }, l))
     (ap (λ w. map (λ n. port_with w (object x.0 x.2 n)) (names_of g.names)) (sym c.mode_of-mode.ensures)
     ∙ sym (ap (map (port_with c.mode_of-mode.result)) (c.in_ok-objects.ensures ∙ ap (λ l. for_each (object x.0 x.2) (map ident_view l)) c.deref-2.ensures.value)

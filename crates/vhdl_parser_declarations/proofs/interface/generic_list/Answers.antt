@@ -1,5 +1,5 @@
 use Rattle.std.proofs.Common.{rules}
-use Rattle.vhdl_lexer.specs.declared.token.Kind.TheVariants as k
+use Rattle.vhdl_lexer.specs.declared.token.TokenKind.TheVariants as k
 use Rattle.vhdl_tree.specs.View.{generic_view}
 use Rattle.vhdl_parser_declarations.specs.reader.Declarations.{generic}
 use Rattle.vhdl_parser_expressions.proofs.Lists.{reads_separated}

@@ -1,5 +1,5 @@
 use Rattle.std.proofs.Common.{rules}
-use Rattle.vhdl_lexer.specs.declared.token.Kind.TheVariants as k
+use Rattle.vhdl_lexer.specs.declared.token.TokenKind.TheVariants as k
 use Rattle.vhdl_tree.specs.View.{variables_view}
 use Rattle.vhdl_parser_expressions.specs.reader.Input.{is_kind}
 use Rattle.vhdl_parser_statements.specs.reader.Process.{variables}

@@ -1,5 +1,5 @@
 use Rattle.std.proofs.Common.{◌≡◌, ◌+◌, ◌-◌, ◌*◌}
-use Rattle.vhdl_lexer.specs.declared.token.Kind.TheVariants as k
+use Rattle.vhdl_lexer.specs.declared.token.TokenKind.TheVariants as k
 use Rattle.vhdl_tree.specs.View.{sequentials_view, conditionals_view, alternatives_view}
 use Rattle.vhdl_parser_expressions.specs.reader.Input.{◌>>◌, is_kind, expect, many_from}
 use Rattle.vhdl_parser_statements.specs.reader.Sequential as read

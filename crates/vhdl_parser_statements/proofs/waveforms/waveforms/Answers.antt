@@ -1,5 +1,5 @@
 use Rattle.std.proofs.Common.{rules}
-use Rattle.vhdl_lexer.specs.declared.token.Kind.TheVariants as k
+use Rattle.vhdl_lexer.specs.declared.token.TokenKind.TheVariants as k
 use Rattle.vhdl_tree.specs.View.{waveform_view}
 use Rattle.vhdl_parser_statements.specs.reader.Waveforms.{waveform}
 use Rattle.vhdl_parser_expressions.proofs.Lists.{reads_separated}

@@ -1,7 +1,7 @@
 use Rattle.std.proofs.Common.{ℕ, List, get_or, take, All, subst}
 use Rattle.std.proofs.lemmas.List.Elements.{All-more}
 use Rattle.std.proofs.lemmas.List.{take_all}
-use Rattle.rtl_check_levels.specs.Finding.{IsPlaced}
+use Rattle.rtl_check_levels.specs.Finding.{IsRanked}
 use Rattle.rtl_check_levels.proofs.Growing.{grows_on, placed_grows}
 use Rattle.rtl_check_levels.proofs.finding.Finding.place_all.Goals as goal
 
@@ -15,7 +15,7 @@ loop-q-preserved c =
     record {
       sound = e.sound;
       grows = grows_on c.args.self.now c.loop-q.self c.place.new.self v.grows e.grows;
-      placed = All-more (IsPlaced table c.place.new.self) ps i 0 c.loop-q-test.true
+      placed = All-more (IsRanked table c.place.new.self) ps i 0 c.loop-q-test.true
           (λ k d h. placed_grows table c.loop-q.self c.place.new.self (get_or (take i ps) k d) e.grows (v.placed k d h)) e.placed;
     }
 
@@ -24,4 +24,4 @@ returns-clause-placed c =
     let ps = c.args.processes.now in
     let i = c.loop-q.q-index in
     let l = c.loop-q-test.false in
-    subst (λ (xs : List ℕ). All (IsPlaced c.args.table.now c.loop-q.self) xs) (take_all i ps l) c.loop-q.invariant.placed
+    subst (λ (xs : List ℕ). All (IsRanked c.args.table.now c.loop-q.self) xs) (take_all i ps l) c.loop-q.invariant.placed

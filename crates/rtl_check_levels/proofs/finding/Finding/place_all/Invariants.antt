@@ -1,10 +1,10 @@
 use Rattle.std.proofs.Common.{All, take}
-use Rattle.rtl_check_levels.specs.Finding.{IsFinding, IsPlaced, Grows}
+use Rattle.rtl_check_levels.specs.Finding.{IsFinding, IsRanked, Grows}
 use Rattle.rtl_check_levels.proofs.finding.Finding.place_all.Given as goal
 
 abbrev pub invariant-loop-q : goal.invariant-loop-q
 invariant-loop-q l = record {
   sound : IsFinding l.table l.self;
   grows : Grows l.initial.self l.self;
-  placed : All (IsPlaced l.table l.self) (take l.q-index l.processes);
+  placed : All (IsRanked l.table l.self) (take l.q-index l.processes);
 }

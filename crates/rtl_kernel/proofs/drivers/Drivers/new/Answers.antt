@@ -1,7 +1,7 @@
 use Rattle.std.proofs.Common.{◌≡◌, ℕ, ◌+◌, List, [], ◌∷◌, ◌++◌, length, map, take, replicate, get_or, Option, None, Vec, IsSome, Contains, ap, sym, subst, ◌∙◌, arith, length-append}
 use Rattle.std.specs.Global.{Global}
 use Rattle.std.proofs.lemmas.List.{length-map, take_all}
-use Rattle.rtl_model.specs.nets.FlatNet.{element_starts}
+use Rattle.rtl_model.specs.nets.FlatNetlist.{element_starts}
 use Rattle.rtl_eval.specs.Runs.{Outcome}
 use Rattle.rtl_net.specs.Nets.{variable_view}
 use Rattle.rtl_net.specs.declared.process.Variable.{Variable}

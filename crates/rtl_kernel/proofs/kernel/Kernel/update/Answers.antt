@@ -2,7 +2,7 @@ use Rattle.std.proofs.Common.{◌≡◌, ℕ, [], length, get_or, ap, sym, subst
 use Rattle.std.proofs.lemmas.List.{length-map}
 use Rattle.rtl_net_layout.specs.Groups.{Grouping}
 use Rattle.rtl_net_layout.specs.Cuts.{AreCutsOf}
-use Rattle.rtl_model.specs.nets.CoreNet.{core_net}
+use Rattle.rtl_model.specs.nets.CoreNetlist.{core_netlist}
 use Rattle.rtl_net.specs.Nets.{flat}
 use Rattle.rtl_kernel.specs.drivers.Brought.{AreAloneAlike}
 use Rattle.rtl_kernel.specs.drivers.Resolved.{AreResolved}
@@ -58,10 +58,10 @@ resume-requires-clause-processes g c =
     (subst (λ (h : Grouping). Contains (get_or (wakers_of h) n []) p) same h))
 
 -- the nets of noted groups are resolved
-resolved : (g : _) (c : goal.After-resume g) → AreResolved (core_net (flat c.self.inside.net.now)) c.update.new.self.drivers
+resolved : (g : _) (c : goal.After-resume g) → AreResolved (core_netlist (flat c.self.inside.net.now)) c.update.new.self.drivers
     (λ n. Contains c.update.new.noted.members (get_or c.self.inside.values.groups.of_net n 0)) c.update.new.nets.current c.resolve_groups.new.values.current
 resolved g c =
-    subst (λ (h : Grouping). AreResolved (core_net (flat c.self.inside.net.now)) c.update.new.self.drivers (λ n. Contains c.update.new.noted.members (get_or h.of_net n 0))
+    subst (λ (h : Grouping). AreResolved (core_netlist (flat c.self.inside.net.now)) c.update.new.self.drivers (λ n. Contains c.update.new.noted.members (get_or h.of_net n 0))
     c.update.new.nets.current c.resolve_groups.new.values.current)
     (c.update.ensures.brings.groups_stay ∙ ap (λ (v : TwoValues). v.groups) c.begin.ensures)
     (rw (c.values.ensures, c.members.ensures.value) at c.resolve_groups.ensures.current)

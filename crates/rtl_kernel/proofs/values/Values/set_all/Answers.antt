@@ -1,6 +1,6 @@
 use Rattle.std.proofs.Common.{◌+◌, ap, ◌∙◌, drop, length}
 use Rattle.std.proofs.lemmas.List.{length-map, length-set}
-use Rattle.rtl_model.specs.simulation.Cycle.{changed}
+use Rattle.rtl_model.specs.simulation.Cycle.{with_changes}
 use Rattle.rtl_kernel.specs.kernel.Simulation.{changes_of}
 use Rattle.rtl_kernel.specs.values.TwoValues.{TwoValues}
 use Rattle.rtl_kernel.proofs.Changing.{changed_more, set_at}
@@ -15,7 +15,7 @@ loop-net-preserved c =
       groups = ap (λ (v : TwoValues). v.groups) c.set.ensures ∙ I.groups;
       before = ap (λ (v : TwoValues). v.before) c.set.ensures ∙ I.before;
       as_many = ap (λ (v : TwoValues). length v.current) c.set.ensures ∙ length-set _ _ _ ∙ I.as_many;
-      rest = λ m. ap (λ (v : TwoValues). changed (drop (i + 1) (changes_of cs)) v.current m) c.set.ensures
+      rest = λ m. ap (λ (v : TwoValues). with_changes (drop (i + 1) (changes_of cs)) v.current m) c.set.ensures
           ∙ changed_more (changes_of cs) i _ c.code.result c.loop-net.self.current c.args.self.now.current (rw length-map c.loop-net-test.true)
           (set_at cs i c.code.result _ c.loop-net-test.true c.code.ensures.code) I.rest m;
     }

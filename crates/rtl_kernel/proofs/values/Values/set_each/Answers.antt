@@ -1,6 +1,6 @@
 use Rattle.std.proofs.Common.{ℕ, ◌+◌, List, ap, sym, ◌∙◌, arith, drop, length}
 use Rattle.std.proofs.lemmas.List.{drop_all, length-set}
-use Rattle.rtl_model.specs.simulation.Cycle.{changed}
+use Rattle.rtl_model.specs.simulation.Cycle.{with_changes}
 use Rattle.rtl_kernel.specs.kernel.Simulation.{each_given}
 use Rattle.rtl_kernel.specs.values.TwoValues.{TwoValues}
 use Rattle.rtl_kernel.proofs.Changing.{changed_more}
@@ -16,7 +16,7 @@ loop-number-preserved c =
       groups = ap (λ (v : TwoValues). v.groups) c.set.ensures ∙ I.groups;
       before = ap (λ (v : TwoValues). v.before) c.set.ensures ∙ I.before;
       as_many = ap (λ (v : TwoValues). length v.current) c.set.ensures ∙ length-set _ _ _ ∙ I.as_many;
-      rest = λ m. ap (λ (v : TwoValues). changed (drop (i + 1) cs) v.current m) c.set.ensures
+      rest = λ m. ap (λ (v : TwoValues). with_changes (drop (i + 1) cs) v.current m) c.set.ensures
           ∙ changed_more cs i _ c.code.result c.loop-number.self.current c.args.self.now.current (rw (length-given c.args.nets.now c.args.values.now c.requires.as_many) c.loop-number-test.true)
           (given_at c.args.nets.now c.args.values.now i 0 c.code.result _ c.loop-number-test.true (rw (c.requires.as_many) c.loop-number-test.true) c.code.ensures.code) I.rest m;
     }
@@ -28,5 +28,5 @@ returns-clause-current c =
     let done = drop_all c.loop-number.number cs (omega (arith, length-given c.args.nets.now c.args.values.now c.requires.as_many, c.loop-number-test.false)) in
     record {
       as_many = I.as_many;
-      each = λ m. sym (ap (λ (xs : List (ℕ × ℕ)). changed xs c.loop-number.self.current m) done) ∙ I.rest m;
+      each = λ m. sym (ap (λ (xs : List (ℕ × ℕ)). with_changes xs c.loop-number.self.current m) done) ∙ I.rest m;
     }

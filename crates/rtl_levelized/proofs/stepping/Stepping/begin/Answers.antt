@@ -1,5 +1,5 @@
 use Rattle.std.proofs.Common.{ℕ, List, length, ap, subst, refl, ◌∙◌}
-use Rattle.rtl_net.specs.Nets.{NetView}
+use Rattle.rtl_net.specs.Nets.{NetlistView}
 use Rattle.rtl_sink.specs.Written.{Goes}
 use Rattle.rtl_vcd.specs.Trace.{first_text}
 use Rattle.rtl_machine.specs.declared.fault.MachineFault.TheVariants.{Memory, Output}
@@ -58,4 +58,4 @@ returns-clause-begins g c run synchronous same =
 
 pub returns-clause-as_many : goal.returns-clause-as_many
 returns-clause-as_many g c =
-    ap length c.in_ok-from_slice.ensures.items ∙ c.values-2.ensures.as_many ∙ ap (λ (n : NetView). length n.types) c.requires.net
+    ap length c.in_ok-from_slice.ensures.items ∙ c.values-2.ensures.as_many ∙ ap (λ (n : NetlistView). length n.types) c.requires.net

@@ -1,6 +1,6 @@
 use Rattle.std.proofs.Common.{◌≡◌, ◌++◌, length, map, ap, ◌∙◌, arith}
-use Rattle.rtl_model.specs.simulation.Net.{Idle}
-use Rattle.rtl_model.specs.nets.FlatNet.{all_drivers_of}
+use Rattle.rtl_model.specs.simulation.Netlist.{Idle}
+use Rattle.rtl_model.specs.nets.FlatNetlist.{all_drivers_of}
 use Rattle.std.proofs.lemmas.List.{length-map}
 use Rattle.rtl_net.specs.Nets.{type_of, process_view, signal_view}
 use Rattle.rtl_net.specs.Names.{element_from}

@@ -1,6 +1,6 @@
 use Rattle.std.proofs.Common.{◌<◌, map, length, ap, ◌∙◌, arith}
 use Rattle.std.proofs.lemmas.List.{length-map}
-use Rattle.rtl_model.specs.nets.FlatNet.{flat_sources}
+use Rattle.rtl_model.specs.nets.FlatNetlist.{flat_sources}
 use Rattle.rtl_net.specs.Nets.{flat, type_of, source_view}
 use Rattle.rtl_net.specs.NetOf.{net_of}
 use Rattle.rtl_net.proofs.Tables.{tabled-at}

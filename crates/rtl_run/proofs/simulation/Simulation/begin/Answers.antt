@@ -1,5 +1,5 @@
 use Rattle.std.proofs.Common.{ℕ, List, length, Err, sym, ap, subst, ◌∙◌, refl}
-use Rattle.rtl_net.specs.Nets.{NetView}
+use Rattle.rtl_net.specs.Nets.{NetlistView}
 use Rattle.rtl_model.specs.simulation.Moments.{SettlesTo, IsUnsettled}
 use Rattle.rtl_vcd.specs.Trace.{first_text}
 use Rattle.rtl_sink.specs.Written.{Goes}
@@ -18,7 +18,7 @@ returns-in_err-deltas-clause-begins g c start begun =
     let out = g.W.Sink.state c.args.out.now in
     let state = c.settle.new.kernel.state in
     let said = c.in_err-deltas.ensures.settled in
-    let unsettled = subst (λ (n : NetView). IsUnsettled (core n) c.args.kernel.now.state limit state) c.requires.net said.1 in
+    let unsettled = subst (λ (n : NetlistView). IsUnsettled (core n) c.args.kernel.now.state limit state) c.requires.net said.1 in
     err_with (Begins net s limit start out state) c.from_residual.result c.in_err-deltas.field-0.0 c.from_residual.ensures.1
     (subst (λ (f : RunFault). Begins net s limit start out state (Err f)) (sym said.0) (never_begins net s limit start out c.args.kernel.now.state state begun c.requires.intact unsettled))
 
@@ -30,7 +30,7 @@ returns-in_err-first-clause-begins g c start begun =
     let state = c.settle.new.kernel.state in
     let new = g.W.Sink.state c.first.new.out in
     let said = c.in_ok-deltas.ensures.settled in
-    let to = subst (λ (n : NetView). SettlesTo (core n) c.args.kernel.now.state c.in_ok-deltas.deltas state) c.requires.net said.0 in
+    let to = subst (λ (n : NetlistView). SettlesTo (core n) c.args.kernel.now.state c.in_ok-deltas.deltas state) c.requires.net said.0 in
     let text = subst (λ (vs : List ℕ). Goes (g.W.Sink.state c.args.out.now) new (first_text net.signals vs)) c.values.ensures.value c.first.ensures.text in
     err_with (Begins net s limit start new state) c.from_residual-in_err-first.result Output c.from_residual-in_err-first.ensures.1 (
       first_leaves net s limit start (begun.text.whole c.requires.intact).0 (g.W.Sink.state c.args.out.now) new c.in_ok-deltas.deltas c.args.kernel.now.state state begun to said.1 text,
@@ -45,7 +45,7 @@ returns-in_err-from_slice-clause-begins g c start begun =
     let state = c.settle.new.kernel.state in
     let new = g.W.Sink.state c.first.new.out in
     let said = c.in_ok-deltas.ensures.settled in
-    let to = subst (λ (n : NetView). SettlesTo (core n) c.args.kernel.now.state c.in_ok-deltas.deltas state) c.requires.net said.0 in
+    let to = subst (λ (n : NetlistView). SettlesTo (core n) c.args.kernel.now.state c.in_ok-deltas.deltas state) c.requires.net said.0 in
     let text = subst (λ (vs : List ℕ). Goes (g.W.Sink.state c.args.out.now) new (first_text net.signals vs)) c.values.ensures.value c.first.ensures.text in
     err_with (Begins net s limit start new state) c.from_residual-in_err-from_slice.result Memory c.from_residual-in_err-from_slice.ensures.1 (
       first_leaves net s limit start (begun.text.whole c.requires.intact).0 (g.W.Sink.state c.args.out.now) new c.in_ok-deltas.deltas c.args.kernel.now.state state begun to said.1 text,
@@ -60,12 +60,12 @@ returns-clause-begins g c start begun =
     let state = c.settle.new.kernel.state in
     let new = g.W.Sink.state c.first.new.out in
     let said = c.in_ok-deltas.ensures.settled in
-    let to = subst (λ (n : NetView). SettlesTo (core n) c.args.kernel.now.state c.in_ok-deltas.deltas state) c.requires.net said.0 in
+    let to = subst (λ (n : NetlistView). SettlesTo (core n) c.args.kernel.now.state c.in_ok-deltas.deltas state) c.requires.net said.0 in
     let text = subst (λ (vs : List ℕ). Goes (g.W.Sink.state c.args.out.now) new (first_text net.signals vs)) c.values.ensures.value c.first.ensures.text in
     let items = c.in_ok-from_slice.ensures.items ∙ c.values-2.ensures.value in (
       begins net s limit start (g.W.Sink.state c.args.out.now) new _ c.in_ok-deltas.deltas c.args.kernel.now.state state begun to said.1 text c.in_ok-first.ensures.ok refl (sym items) refl refl refl,
       refl,
       record { deltas = c.in_ok-deltas.deltas; settled = (c.args.kernel.now.state, begun.begun, to) },
-      ap length items ∙ sym (ap length c.values-2.ensures.value) ∙ c.values-2.ensures.as_many ∙ ap (λ (n : NetView). length n.types) (c.settle.ensures.net ∙ c.requires.net),
+      ap length items ∙ sym (ap length c.values-2.ensures.value) ∙ c.values-2.ensures.as_many ∙ ap (λ (n : NetlistView). length n.types) (c.settle.ensures.net ∙ c.requires.net),
       items,
     )

@@ -1,5 +1,5 @@
 use Rattle.std.proofs.Common.{◌≡◌, ℕ, List, Err, sym, subst, ◌∙◌, arith}
-use Rattle.rtl_net.specs.Nets.{NetView}
+use Rattle.rtl_net.specs.Nets.{NetlistView}
 use Rattle.rtl_model.specs.simulation.Moments.{SettlesTo, IsUnsettled}
 use Rattle.rtl_vcd.specs.Trace.{moment_text, are_some, changes}
 use Rattle.rtl_sink.specs.Written.{Goes}
@@ -18,7 +18,7 @@ returns-in_err-deltas-clause-goes_on g c start come next =
     let out = g.W.Sink.state c.args.out.now in
     let state = c.settle.new.kernel.state in
     let said = c.in_err-deltas.ensures.settled in
-    let unsettled = subst (λ (n : NetView). IsUnsettled (core n) c.args.kernel.now.state limit state) c.requires.net said.1 in
+    let unsettled = subst (λ (n : NetlistView). IsUnsettled (core n) c.args.kernel.now.state limit state) c.requires.net said.1 in
     err_with (GoesOn net s limit start out c.args.progress.now c.args.time c.args.progress.now state) c.from_residual.result c.in_err-deltas.field-0.0 c.from_residual.ensures.1
     (subst (λ (f : RunFault). GoesOn net s limit start out c.args.progress.now c.args.time c.args.progress.now state (Err f)) (sym said.0)
     (never_more net s limit start out out c.args.progress.now c.args.time c.args.kernel.now.state come next state unsettled))
@@ -32,10 +32,10 @@ returns-in_err-is_printed-clause-goes_on g c start come next =
     let out = g.W.Sink.state c.args.out.now in
     let new = g.W.Sink.state c.moment.new.out in
     let said = c.in_ok-deltas.ensures.settled in
-    let to = subst (λ (n : NetView). SettlesTo (core n) c.args.kernel.now.state c.in_ok-deltas.deltas state) c.requires.net said.0 in
+    let to = subst (λ (n : NetlistView). SettlesTo (core n) c.args.kernel.now.state c.in_ok-deltas.deltas state) c.requires.net said.0 in
     let text = subst (λ (vs : List ℕ). Goes out new (moment_text net.signals c.args.time c.args.progress.now.values.items vs)) c.values.ensures.value
     (subst (λ (vs : List ℕ). Goes out new (moment_text net.signals c.args.time vs c.values.result.now)) c.deref.ensures.value
-    (subst (λ (n : NetView). Goes out new (moment_text n.signals c.args.time c.deref.result.now c.values.result.now)) c.requires.blocks c.moment.ensures.text)) in
+    (subst (λ (n : NetlistView). Goes out new (moment_text n.signals c.args.time c.deref.result.now c.values.result.now)) c.requires.blocks c.moment.ensures.text)) in
     err_with (GoesOn net s limit start new c.args.progress.now c.args.time c.args.progress.now state) c.from_residual-in_err-is_printed.result Output c.from_residual-in_err-is_printed.ensures.1 (
       next_leaves net s limit start out new c.args.progress.now c.args.time c.args.kernel.now.state come next c.in_ok-deltas.deltas state to said.1 text (come.text.whole c.requires.intact).0,
       c.in_err-is_printed.ensures.err,
@@ -50,13 +50,13 @@ returns-clause-goes_on g c start come next =
     let out = g.W.Sink.state c.args.out.now in
     let new = g.W.Sink.state c.moment.new.out in
     let said = c.in_ok-deltas.ensures.settled in
-    let to = subst (λ (n : NetView). SettlesTo (core n) c.args.kernel.now.state c.in_ok-deltas.deltas state) c.requires.net said.0 in
+    let to = subst (λ (n : NetlistView). SettlesTo (core n) c.args.kernel.now.state c.in_ok-deltas.deltas state) c.requires.net said.0 in
     let text = subst (λ (vs : List ℕ). Goes out new (moment_text net.signals c.args.time c.args.progress.now.values.items vs)) c.values.ensures.value
     (subst (λ (vs : List ℕ). Goes out new (moment_text net.signals c.args.time vs c.values.result.now)) c.deref.ensures.value
-    (subst (λ (n : NetView). Goes out new (moment_text n.signals c.args.time c.deref.result.now c.values.result.now)) c.requires.blocks c.moment.ensures.text)) in
+    (subst (λ (n : NetlistView). Goes out new (moment_text n.signals c.args.time c.deref.result.now c.values.result.now)) c.requires.blocks c.moment.ensures.text)) in
     let some = subst (λ (vs : List ℕ). c.in_ok-is_printed.is_printed ≡ are_some (changes net.signals c.args.progress.now.values.items vs)) c.values.ensures.value
     (subst (λ (vs : List ℕ). c.in_ok-is_printed.is_printed ≡ are_some (changes net.signals vs c.values.result.now)) c.deref.ensures.value
-    (subst (λ (n : NetView). c.in_ok-is_printed.is_printed ≡ are_some (changes n.signals c.deref.result.now c.values.result.now)) c.requires.blocks c.in_ok-is_printed.ensures.printed)) in (
+    (subst (λ (n : NetlistView). c.in_ok-is_printed.is_printed ≡ are_some (changes n.signals c.deref.result.now c.values.result.now)) c.requires.blocks c.in_ok-is_printed.ensures.printed)) in (
       goes_further net s limit start out new c.args.progress.now c.args.time c.args.kernel.now.state come next c.in_ok-deltas.deltas state to said.1 text
           c.add.new.self c.in_ok-is_printed.is_printed c.in_ok-is_printed.ensures.ok some c.add.ensures.now (c.add.ensures.values ∙ c.values-2.ensures.value) c.add.ensures.printed c.add.ensures.moments c.add.ensures.most,
       omega (arith, c.add.ensures.moments),

@@ -1,7 +1,7 @@
 use Rattle.std.proofs.Common.{List, subst}
 use Rattle.vhdl_values.specs.declared.scalar.Nine.{Nine}
-use Rattle.rtl_model.specs.nets.CoreNet.{core_net}
-use Rattle.rtl_model.specs.simulation.Cycle.{started}
+use Rattle.rtl_model.specs.nets.CoreNetlist.{core_netlist}
+use Rattle.rtl_model.specs.simulation.Cycle.{start_state}
 use Rattle.rtl_model.specs.simulation.Moments.{HasRun}
 use Rattle.rtl_model.proofs.simulation.Order.{HasRun-done}
 use Rattle.rtl_net.specs.Nets.{flat}
@@ -32,13 +32,13 @@ returns-in_err-kernel g c =
     (nothing_leaves c.args.self.now.net.now c.args.self.now.stimulus.now c.args.self.now.limit out, c.requires.intact)
 
 pub run_moments-requires-clause-ready : goal.run_moments-requires-clause-ready
-run_moments-requires-clause-ready g c = HasRun-done (core_net (flat c.in_ok-kernel.kernel.net)) c.in_ok-kernel.kernel.state c.start.new.self.state c.start.ensures.ran
+run_moments-requires-clause-ready g c = HasRun-done (core_netlist (flat c.in_ok-kernel.kernel.net)) c.in_ok-kernel.kernel.state c.start.new.self.state c.start.ensures.ran
 
 pub run_moments-requires-clause-begun : goal.run_moments-requires-clause-begun
 run_moments-requires-clause-begun g c =
     let net = c.args.self.now.net.now in
     let s = c.args.self.now.stimulus.now in
     let state = c.start.new.self.state in
-    let ran = subst (λ (k : Simulation). HasRun (core_net (flat k.net)) k.state state) c.in_ok-kernel.ensures c.start.ensures.ran in
-    let run = subst (λ (vs : List Nine). HasRun (core net) (started (core net) (initial_inputs (flat net) vs)) state) c.initial.ensures ran in
+    let ran = subst (λ (k : Simulation). HasRun (core_netlist (flat k.net)) k.state state) c.in_ok-kernel.ensures c.start.ensures.ran in
+    let run = subst (λ (vs : List Nine). HasRun (core net) (start_state (core net) (initial_inputs (flat net) vs)) state) c.initial.ensures ran in
     first_begun net c.nets-count.ensures.elaborated s c.requires.ports c.requires.inputs state run

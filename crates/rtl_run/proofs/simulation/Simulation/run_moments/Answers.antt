@@ -1,6 +1,6 @@
 use Rattle.std.proofs.Common.{ℕ, List, length, sym, ap, subst, ◌∙◌, arith}
-use Rattle.rtl_model.specs.nets.CoreNet.{core_net}
-use Rattle.rtl_model.specs.simulation.Cycle.{given, changed}
+use Rattle.rtl_model.specs.nets.CoreNetlist.{core_netlist}
+use Rattle.rtl_model.specs.simulation.Cycle.{after_inputs, with_changes}
 use Rattle.rtl_model.proofs.simulation.Order.{HasRun-done}
 use Rattle.rtl_net.specs.Nets.{flat}
 use Rattle.rtl_kernel.specs.kernel.Simulation.{changes_of}
@@ -76,9 +76,9 @@ refill-requires-clause-waited g c =
 
 pub go_on-requires-clause-ready : goal.go_on-requires-clause-ready
 go_on-requires-clause-ready g c =
-    let net = core_net (flat c.loop-time.kernel.net) in
+    let net = core_netlist (flat c.loop-time.kernel.net) in
     let state = c.loop-time.kernel.state in
-    HasRun-done net (given net (changed (changes_of c.changes.result.now) state.now) state) c.apply.new.self.state c.apply.ensures.ran
+    HasRun-done net (after_inputs net (with_changes (changes_of c.changes.result.now) state.now) state) c.apply.new.self.state c.apply.ensures.ran
 
 pub go_on-requires-clause-room : goal.go_on-requires-clause-room
 go_on-requires-clause-room g c =

@@ -3,7 +3,7 @@ use Rattle.std.specs.Prelude.{◌↔◌, Contains, option_map}
 use Rattle.std.proofs.lemmas.List.{with_items_is}
 use Rattle.rtl_model.specs.bodies.Reads.{reads}
 use Rattle.rtl_net.specs.Bodies.{statements_of}
-use Rattle.vhdl_elab_rules.specs.Bodies.{connected}
+use Rattle.vhdl_elab_rules.specs.Bodies.{connected_body}
 use Rattle.vhdl_connect_bodies.proofs.Reading.{reads_connected}
 use Rattle.vhdl_expand_tree.specs.Views.{process_view, variable_view}
 use Rattle.vhdl_connect_processes.specs.Located.{driver_in, of_variable}
@@ -17,8 +17,8 @@ returns c =
     let same = with_items_is c.replace-body.result c.connect_body.new.body (c.connect_body.auto.body ∙ c.deref_mut.ensures.len) in
     let made =
     ap statements_of same ∙ c.in_ok-connect_body.ensures
-    ∙ (λ i. connected nets (c.deref.ensures.value i) (statements_of (c.deref_mut.ensures.value i)))
-    ∙ ap (λ v. connected nets drives (statements_of v.items)) c.replace-body.ensures.value in
+    ∙ (λ i. connected_body nets (c.deref.ensures.value i) (statements_of (c.deref_mut.ensures.value i)))
+    ∙ ap (λ v. connected_body nets drives (statements_of v.items)) c.replace-body.ensures.value in
     let found = ap (λ xs. reads (statements_of xs)) c.deref-2.ensures.value ∙ ap reads made ∙ reads_connected nets drives old in
     record {
       drivers = c.in_ok-drives.ensures ∙ ap (map (driver_in nets c.args.self.now.defaults.now)) c.deref-4.ensures.value;

@@ -1,6 +1,6 @@
 use Rattle.std.proofs.Common.{rules, arith}
 use Rattle.std.proofs.lemmas.Grind.{common_steps}
-use Rattle.vhdl_lexer.specs.declared.token.Kind.TheVariants as k
+use Rattle.vhdl_lexer.specs.declared.token.TokenKind.TheVariants as k
 use Rattle.vhdl_tree.specs.View.{exprs_view, pairs_view}
 use Rattle.vhdl_parser_expressions.specs.reader.Input.{is_kind, many_from}
 use Rattle.vhdl_tree.specs.Tree.{all_joined}

@@ -4,7 +4,7 @@ use Rattle.std.specs.List.{range_with_len}
 use Rattle.vhdl_expand_tree.specs.Views.{object_view}
 use Rattle.vhdl_connect.specs.Made.{element_view}
 use Rattle.vhdl_connect.specs.Adding.{static_at}
-use Rattle.vhdl_connect.proofs.place.Place.push_elements.Given as goal
+use Rattle.vhdl_connect.proofs.place.InstancePlace.push_elements.Given as goal
 
 abbrev pub invariant-loop-k : goal.invariant-loop-k
 invariant-loop-k l = record {

@@ -4,7 +4,7 @@ use Rattle.std.proofs.lemmas.Grind.{common_steps}
 use Rattle.vhdl_expand_tree.specs.Views.{parts_of, budget_view}
 use Rattle.vhdl_expand.specs.Making.{adding, made_turns, progress_view}
 use Rattle.vhdl_expand.proofs.Making as making
-use Rattle.vhdl_expand.proofs.progress.Progress.add_turns.Goals as goal
+use Rattle.vhdl_expand.proofs.progress.TreeProgress.add_turns.Goals as goal
 
 pub returns : goal.returns
 returns c =

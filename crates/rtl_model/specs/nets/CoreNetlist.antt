@@ -1,4 +1,4 @@
--- What a flat net is to a simulation: bodies as their effects, values resolved by std_logic_1164's table, and its edges.
+-- What a flat netlist is to a simulation: bodies as their effects, values resolved by std_logic_1164's table, and its edges.
 use Rattle.std.specs.Prelude.{ℕ, zero, suc, ◌+◌, Bool, false, ◌&&◌, ◌==◌, nat_lt, if◌then◌else◌, List, [], ◌∷◌, length, map, slice_index, Option, Some, None}
 use Rattle.std.specs.List.{range_with_len}
 use Rattle.vhdl_values.specs.Scalar.{code_of, value_of_code}
@@ -12,8 +12,8 @@ use Rattle.rtl_model.specs.bodies.Assigns.{of_drivers, must_assign}
 use Rattle.rtl_model.specs.bodies.Stored.{stores_element}
 use Rattle.rtl_model.specs.bodies.Kinds.{ResetPart, Clocking, clocking}
 use Rattle.rtl_model.specs.bodies.Types.{limit_of}
-use Rattle.rtl_model.specs.nets.FlatNet.{FlatNet, FlatProcess, FlatVariable, targets, starts, element_starts, flat_sources}
-use Rattle.rtl_model.specs.simulation.Net.{Net, Process, Kind, Combinational, Clocked, Mixed, Reset, Edge}
+use Rattle.rtl_model.specs.nets.FlatNetlist.{FlatNetlist, FlatProcess, FlatVariable, targets, starts, element_starts, flat_sources}
+use Rattle.rtl_model.specs.simulation.Netlist.{Netlist, Process, ProcessKind, Combinational, Clocked, Mixed, Reset, Edge}
 
 -- ---- processes
 
@@ -31,7 +31,7 @@ core_reset p None = None
 core_reset p (Some r) = Some (record { net = r.test.net; value = r.test.value; entries = part_effect p r.branch [] [] })
 
 -- clocked; else combinational, where no edge test and no `'event` stands in the body; else mixed
-abbrev pub core_kind : FlatProcess → Option Clocking → (events : List ℕ) → Kind
+abbrev pub core_kind : FlatProcess → Option Clocking → (events : List ℕ) → ProcessKind
 core_kind p (Some c) ns = Clocked c.test.clock c.test.edge (core_reset p c.reset)
 core_kind p None [] = Combinational
 core_kind p None (n ∷ ns) = Mixed
@@ -85,8 +85,8 @@ core_resolve vs = code_of (resolved (map value_of_code vs))
 abbrev pub core_edges : Edge → (old new : ℕ) → Bool
 core_edges edge old new = has_edge edge (value_of_code old) (value_of_code new)
 
-abbrev pub core_net : FlatNet → Net
-core_net net = record {
+abbrev pub core_netlist : FlatNetlist → Netlist
+core_netlist net = record {
   inputs = net.inputs;
   start = net.start;
   limits = map limit_of net.types;

@@ -3,7 +3,7 @@ use Rattle.vhdl_expand_rules.specs.Site.{elements_count}
 use Rattle.vhdl_expand_bodies.specs.declared.site.Placed.{Placed}
 use Rattle.vhdl_expand_bodies.specs.Sites.{ArePlaced, placed_kind}
 use Rattle.vhdl_expand_bodies.proofs.Placing.{nothing_placed}
-use Rattle.vhdl_expand_objects.proofs.declared.Declared.site.Goals as goal
+use Rattle.vhdl_expand_objects.proofs.declared.InstanceObjects.site.Goals as goal
 
 pub returns-clause-placed : goal.returns-clause-placed
 returns-clause-placed c =

@@ -5,7 +5,7 @@ use Rattle.vhdl_expand_tree.specs.Views.{object_view}
 use Rattle.vhdl_connect.specs.Made.{element_view}
 use Rattle.vhdl_connect.specs.Adding.{static_at}
 use Rattle.vhdl_connect.proofs.Adding.{run_more, none_shown}
-use Rattle.vhdl_connect.proofs.place.Place.push_elements.Goals as goal
+use Rattle.vhdl_connect.proofs.place.InstancePlace.push_elements.Goals as goal
 
 pub loop-k-preserved : goal.loop-k-preserved
 loop-k-preserved c =

@@ -16,10 +16,10 @@ pub record Reset : Type 0 where
 
 -- A clocked process acts at one edge of one net, its clock, and at its reset if it has one. What is neither clocked nor
 -- combinational is mixed. (Where no process has a reset, whatever is said of resets below says nothing.)
-pub data Kind : Type 0 where
-  Combinational : Kind
-  Clocked : (clock : ℕ) → (edge : Edge) → (reset : Option Reset) → Kind
-  Mixed : Kind
+pub data ProcessKind : Type 0 where
+  Combinational : ProcessKind
+  Clocked : (clock : ℕ) → (edge : Edge) → (reset : Option Reset) → ProcessKind
+  Mixed : ProcessKind
 
 -- A process has one driver for each place of `drives`, which names the driver's net (14.7.2).
 pub record Process : Type 0 where
@@ -32,7 +32,7 @@ pub record Process : Type 0 where
   -- perhaps several times
   pub reads : List ℕ
   pub acting_reads : List ℕ
-  pub kind : Kind
+  pub kind : ProcessKind
   -- from the valuations before and now, at each driver's place the value that the body assigns, if it assigns one
   pub effect : (before now : List ℕ) → List (Option ℕ)
   -- of a clocked process, the effect of the branch under its edge, in a valuation
@@ -48,7 +48,7 @@ pub data Source : Type 0 where
   Driver : (process : ℕ) → (place : ℕ) → Source
   Idle : (value : ℕ) → Source
 
-pub record Net : Type 0 where
+pub record Netlist : Type 0 where
   -- the nets of the top's in ports
   pub inputs : List ℕ
   -- what each net starts with; there are as many nets
@@ -77,40 +77,40 @@ no_process = record {
   stores = λ variable place. false;
 }
 
-abbrev pub process : Net → ℕ → Process
+abbrev pub process : Netlist → ℕ → Process
 process net p = slice_index_or net.processes p no_process
 
-abbrev pub sources_of : Net → ℕ → List Source
+abbrev pub sources_of : Netlist → ℕ → List Source
 sources_of net n = slice_index_or net.sources n []
 
-abbrev pub IsInput : Net → ℕ → Type 0
+abbrev pub IsInput : Netlist → ℕ → Type 0
 IsInput net n = IsTrue (list_any (λ m. m == n) net.inputs)
 
 -- process p has a driver at this place
-abbrev pub HasPlace : Net → ℕ → ℕ → Type 0
+abbrev pub HasPlace : Netlist → ℕ → ℕ → Type 0
 HasPlace net p place = place < length (process net p).drives
 
 -- the net of the driver at this place of process p
-abbrev pub target : Net → ℕ → ℕ → ℕ
+abbrev pub target : Netlist → ℕ → ℕ → ℕ
 target net p place = slice_index (process net p).drives place
 
-abbrev pub IsCombinational : Net → ℕ → Type 0
+abbrev pub IsCombinational : Netlist → ℕ → Type 0
 IsCombinational net p = (p < length net.processes) × ((process net p).kind ≡ Combinational)
 
 -- process p is clocked by this edge of this net, with or without a reset
-abbrev pub IsClockedBy : Net → ℕ → ℕ → Edge → Type 0
+abbrev pub IsClockedBy : Netlist → ℕ → ℕ → Edge → Type 0
 IsClockedBy net p clock edge = (reset : Option Reset) × ((process net p).kind ≡ Clocked clock edge reset)
 
 -- the reset of a process, if it has one
-abbrev pub kind_reset : Kind → Option Reset
+abbrev pub kind_reset : ProcessKind → Option Reset
 kind_reset (Clocked clock edge reset) = reset
 kind_reset Combinational = None
 kind_reset Mixed = None
 
-abbrev pub reset_of : Net → ℕ → Option Reset
+abbrev pub reset_of : Netlist → ℕ → Option Reset
 reset_of net p = kind_reset (process net p).kind
 
-abbrev pub HasReset : Net → ℕ → Reset → Type 0
+abbrev pub HasReset : Netlist → ℕ → Reset → Type 0
 HasReset net p reset = reset_of net p ≡ Some reset
 
 -- whether a reset's test holds in these values of the nets

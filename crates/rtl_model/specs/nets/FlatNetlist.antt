@@ -1,11 +1,11 @@
--- A flat net: what a design is after elaboration (IEEE 1076-2008, 14.2 to 14.4), as plain data. Nets, processes and the
+-- A flat netlist: what a design is after elaboration (IEEE 1076-2008, 14.2 to 14.4), as plain data. Nets, processes and the
 -- drivers of a process are numbered from 0 by their places in these lists.
 use Rattle.std.specs.Prelude.{◌≡◌, ℕ, suc, ◌<◌, ◌==◌, if◌then◌else◌, All, List, [], ◌∷◌, ◌++◌, length, map, replicate, slice_index_or}
 use Rattle.std.specs.List.Sorted.{IsStrictlyIncreasing}
 use Rattle.rtl_model.specs.bodies.Body.{Stmts, done}
 use Rattle.rtl_model.specs.bodies.Types.{ElementType, nine_valued, enumeration, limit_of, IsByte, HasType, KeepsTypes}
 use Rattle.rtl_model.specs.bodies.Fits.{Scope, IsWidth, Fits}
-use Rattle.rtl_model.specs.simulation.Net.{Source, Driver, Idle}
+use Rattle.rtl_model.specs.simulation.Netlist.{Source, Driver, Idle}
 
 -- a driver of a process: its net, and the value that it starts with (14.7.2)
 pub record FlatDriver : Type 0 where
@@ -26,7 +26,7 @@ pub record FlatProcess : Type 0 where
   pub variables : List FlatVariable
   pub body : Stmts
 
-pub record FlatNet : Type 0 where
+pub record FlatNetlist : Type 0 where
   -- the type of each net
   pub types : List ElementType
   -- what each net starts with
@@ -41,7 +41,7 @@ pub record FlatNet : Type 0 where
 abbrev pub no_flat_process : FlatProcess
 no_flat_process = record { drivers = []; wakes = []; variables = []; body = done }
 
-abbrev pub process_at : FlatNet → ℕ → FlatProcess
+abbrev pub process_at : FlatNetlist → ℕ → FlatProcess
 process_at net p = slice_index_or net.processes p no_flat_process
 
 -- ---- drivers and variables of a process
@@ -79,7 +79,7 @@ all_drivers_of n p [] = []
 all_drivers_of n p (q ∷ qs) = drivers_of n p 0 (targets q) ++ all_drivers_of n (suc p) qs
 
 -- The sources of net n: its drivers, by process and place, and after them its idle out ports.
-abbrev pub flat_sources : FlatNet → (n : ℕ) → List Source
+abbrev pub flat_sources : FlatNetlist → (n : ℕ) → List Source
 flat_sources net n = all_drivers_of n 0 net.processes ++ map Idle (slice_index_or net.idle n [])
 
 -- ---- in range
@@ -102,9 +102,9 @@ pub record ProcessInRange (types : List ElementType) (p : FlatProcess) : Type 0 
   pub variables : All VariableInRange p.variables
   pub body : Fits (scope_of types p) p.body
 
--- The invariant of a flat net: every net, place, element and value is in range, and every length is one that a vector can
+-- The invariant of a flat netlist: every net, place, element and value is in range, and every length is one that a vector can
 -- have.
-pub record IsInRange (net : FlatNet) : Type 0 where
+pub record IsInRange (net : FlatNetlist) : Type 0 where
   pub types_fit : All IsByte net.types
   pub each_starts : length net.start ≡ length net.types
   pub each_has_idle : length net.idle ≡ length net.types
