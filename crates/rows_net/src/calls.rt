@@ -4,12 +4,12 @@ ghost use Rattle.rtl_sink.specs.Written.{IsIntact};
 ghost use Rattle.rtl_stim.specs.Ports.{HasOwnPorts};
 
 use crate::row::Row;
+use rtl_eval::trees;
 use rtl_kernel::Pick;
-use rtl_stim::{MapAgenda, StimFault, Stimulus};
 use rtl_net::Net;
 use rtl_run::{RunFault, Simulation, Summary};
 use rtl_sink::Sink;
-use rtl_eval::trees;
+use rtl_stim::{MapAgenda, StimFault, Stimulus};
 use std::alloc::{AllocError, Global};
 
 /// What comes of a row's simulation, in words; the trace goes out.

@@ -1,7 +1,7 @@
 //! What each process of a net drives, reads and is sensitive to, in words.
 
-use rtlsim_listing::net_name;
 use rtl_net::{Net, SignalKind, Variable};
+use rtlsim_listing::net_name;
 use std::alloc::{AllocError, Global};
 use vhdl_values::Nine;
 

@@ -3,10 +3,10 @@
 use crate::change::change;
 use rows_tables::{Frame, Teller};
 use rtl_check::{Report, Verdict, check, stored};
-use rtlsim_listing::{show_check, show_faults};
 use rtl_net::Net;
 use rtl_recheck::recheck;
 use rtl_sink::Out;
+use rtlsim_listing::{show_check, show_faults};
 use std::alloc::{AllocError, Global};
 use vhdl_source::open;
 

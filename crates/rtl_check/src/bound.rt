@@ -8,8 +8,8 @@ ghost use Rattle.rtl_check.specs.Views.{core, AreKinds};
 ghost use Rattle.rtl_check.specs.Rules.{AreClockNets};
 ghost use Rattle.rtl_check.specs.Bounds as b;
 
-use rtl_net_facts::ProcessKind;
 use rtl_net::{Net, Source};
+use rtl_net_facts::ProcessKind;
 
 /// Whether a source is a driver.
 fn is_driver(source: Source) -> bool

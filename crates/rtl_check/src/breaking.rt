@@ -11,8 +11,8 @@ ghost use Rattle.rtl_check.specs.Views.{tested};
 ghost use Rattle.rtl_check.specs.Rules.{is_data, clocked_breaks, combinational_breaks, breaks};
 
 use crate::rule::Rule;
-use rtl_net_facts::{Clocking, ProcessKind, assigned_nets, contains_rising, sort_once};
 use rtl_net::{Driver, NoMemory, Process};
+use rtl_net_facts::{Clocking, ProcessKind, assigned_nets, contains_rising, sort_once};
 use std::alloc::Global;
 
 /// Those of some nets that aren't among others.
@@ -158,7 +158,9 @@ pub fn breaking_nets(
 {
     match kind {
         ProcessKind::Combinational => combinational_nets(alloc, rule, process),
-        ProcessKind::Clocked(clocking) => clocked_nets(alloc, inputs, clocks, rule, process, clocking),
+        ProcessKind::Clocked(clocking) => clocked_nets(
+            alloc, inputs, clocks, rule, process, clocking,
+        ),
         ProcessKind::Mixed => Ok(Vec::new(alloc)),
     }
 }

@@ -8,8 +8,8 @@ ghost use Rattle.rtl_check.specs.Views.{core, AreKinds};
 ghost use Rattle.rtl_check.specs.Rules.{AreClockNets};
 ghost use Rattle.rtl_check.specs.ClockEdges.{tests, pair_if, edges_at, nets_by, AreEdgeNets, AreAllEdgeNets};
 
-use rtl_net_facts::{ProcessKind, contains_rising, sort_once};
 use rtl_net::{Net, NoMemory};
+use rtl_net_facts::{ProcessKind, contains_rising, sort_once};
 use std::alloc::Global;
 use vhdl_values::Edge;
 

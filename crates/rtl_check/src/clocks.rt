@@ -5,8 +5,8 @@ ghost use Rattle.rtl_net_facts.specs.Reading.{is_in};
 ghost use Rattle.rtl_check.specs.Views.{core, AreKinds};
 ghost use Rattle.rtl_check.specs.Rules.{AreClockNets, has_clock};
 
-use rtl_net_facts::{ProcessKind, sort_once};
 use rtl_net::{Net, NoMemory};
+use rtl_net_facts::{ProcessKind, sort_once};
 use std::alloc::Global;
 
 /// Appends the clock of a process of this kind, if it has one.

@@ -9,8 +9,8 @@ ghost use Rattle.rtl_net_facts.specs.Reading.{is_in};
 ghost use Rattle.rtl_check.specs.Views.{core, AreKinds};
 ghost use Rattle.rtl_check.specs.Feeders.{combinational_at, feeds_by, IsRow};
 
-use rtl_net_facts::ProcessKind;
 use rtl_net::{Net, NoMemory, Source, nets_meet_the_laws};
+use rtl_net_facts::ProcessKind;
 use std::alloc::Global;
 
 /// Whether there is a process of this number that is combinational.
@@ -28,7 +28,11 @@ fn is_combinational(kinds: &[ProcessKind], process: usize) -> bool
 }
 
 /// Appends the process of a driver, if it is combinational.
-fn push_feeder(kinds: &[ProcessKind], source: Source, feeders: &mut Vec<usize>) -> Result<(), NoMemory>
+fn push_feeder(
+    kinds: &[ProcessKind],
+    source: Source,
+    feeders: &mut Vec<usize>,
+) -> Result<(), NoMemory>
     ensures { OnOk result ((p : ℕ) → is_in p feeders.new.items ≡ (is_in p feeders.old.items || feeds_by kinds.now p (source_view source))) }
 {
     match source {

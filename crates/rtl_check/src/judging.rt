@@ -8,9 +8,9 @@ ghost use Rattle.rtl_check.specs.Judging.{IsJudged, JudgesLoopsOnce};
 use crate::fault::CheckFault;
 use crate::faults::faults_of;
 use crate::graph::table_of;
-use rtl_net_facts::ProcessKind;
-use rtl_check_levels::{Levels, LevelOrder, order_of, tables_are_of_nets};
+use rtl_check_levels::{LevelOrder, Levels, order_of, tables_are_of_nets};
 use rtl_net::{Net, NoMemory};
+use rtl_net_facts::ProcessKind;
 use std::alloc::Global;
 
 /// What the rules find of a net.
@@ -24,7 +24,12 @@ pub enum Judged {
 
 /// Judges a net: all its faults but loops, in order; or else a loop; or else levels. A loop is looked for only where there
 /// is no other fault. It takes memory for its faults, and for what feeds what.
-pub fn judge(alloc: Global, net: &Net, kinds: &[ProcessKind], clocks: &[usize]) -> Result<Judged, NoMemory>
+pub fn judge(
+    alloc: Global,
+    net: &Net,
+    kinds: &[ProcessKind],
+    clocks: &[usize],
+) -> Result<Judged, NoMemory>
     requires kinds { AreKinds (core net.now) kinds.now }
     requires clocks { AreClockNets (core net.now) clocks.now }
     ensures judged { IfOk result (IsJudged (core net.now)) }

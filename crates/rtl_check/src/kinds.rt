@@ -4,8 +4,8 @@ ghost use Rattle.std.specs.Prelude.{◌<◌, length, IfOk};
 ghost use Rattle.rtl_model.specs.simulation.Netlist as m;
 ghost use Rattle.rtl_check.specs.Views.{core, AreKinds, IsKind};
 
-use rtl_net_facts::{ProcessKind, kind_of};
 use rtl_net::{Net, NoMemory};
+use rtl_net_facts::{ProcessKind, kind_of};
 use std::alloc::Global;
 
 /// The kind of each process.

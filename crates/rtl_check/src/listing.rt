@@ -5,8 +5,8 @@ ghost use Rattle.rtl_check.specs.Views.{core, AreKinds};
 ghost use Rattle.rtl_check.specs.Listing.{numbered, one_place, AddsFaults};
 
 use crate::fault::CheckFault;
-use rtl_net_facts::ProcessKind;
 use rtl_net::{Net, NoMemory};
+use rtl_net_facts::ProcessKind;
 
 /// Appends the fault of a net that has two sources or more.
 fn two_drivers_at(net: &Net, number: usize, faults: &mut Vec<CheckFault>) -> Result<(), NoMemory>

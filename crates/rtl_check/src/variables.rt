@@ -10,8 +10,8 @@ ghost use Rattle.rtl_check.specs.Listing.{numbered, one_place, AddsFaults};
 ghost use Rattle.rtl_check.specs.Places.{place_in, places_from, widths, added_if};
 
 use crate::fault::CheckFault;
-use rtl_net_facts::body_stores;
 use rtl_net::{Net, NoMemory, Statement, Variable};
+use rtl_net_facts::body_stores;
 use std::alloc::Global;
 
 /// An element of a process's variables: the variable's number, and the element's place from the left.
@@ -22,7 +22,11 @@ pub struct VariableElement {
 }
 
 /// Appends so many elements of a variable.
-fn push_places(variable: usize, len: usize, places: &mut Vec<VariableElement>) -> Result<(), NoMemory>
+fn push_places(
+    variable: usize,
+    len: usize,
+    places: &mut Vec<VariableElement>,
+) -> Result<(), NoMemory>
     ensures { OnOk result (places.new.items ≡ places.old.items ++ map (place_in variable) (range_with_len 0 len)) }
 {
     for place in 0..len {

@@ -11,4 +11,4 @@ mod order;
 mod rounds;
 
 pub use laws::tables_are_of_nets;
-pub use order::{Levels, LevelOrder, order_of};
+pub use order::{LevelOrder, Levels, order_of};

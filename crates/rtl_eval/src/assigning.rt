@@ -6,8 +6,8 @@ ghost use Rattle.rtl_net.specs.Indices.{numbers};
 ghost use Rattle.rtl_eval.specs.Evaluations.{codes_of};
 ghost use Rattle.rtl_eval.specs.Running.{assigned};
 
-use crate::evaluated::Evaluated;
 use crate::drives::Drives;
+use crate::evaluated::Evaluated;
 use rtl_net::Indices;
 
 /// A value's elements, from the left, to the drivers at these places.

@@ -23,8 +23,8 @@ use crate::starts::{start_values, variable_starts};
 use crate::values::Values;
 use crate::worklist::Worklist;
 use rtl_eval::{Drives, Exec, Span};
-use rtl_net_layout::{Cut, Cuts};
 use rtl_net::{Driver, Net, Process};
+use rtl_net_layout::{Cut, Cuts};
 use std::alloc::{AllocError, Global};
 use std::marker::Model;
 

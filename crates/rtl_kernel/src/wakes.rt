@@ -7,8 +7,8 @@ ghost use Rattle.rtl_net_layout.specs.Groups.{AreRuns};
 ghost use Rattle.rtl_net.specs.Nets.{flat};
 ghost use Rattle.rtl_net.specs.declared.process.Process.{Process};
 
-use rtl_net_layout::{Groups, Lists};
 use rtl_net::{Net, Process, Signal};
+use rtl_net_layout::{Groups, Lists};
 use std::alloc::{AllocError, Global};
 
 /// A net's nets in groups that the same processes wake on, and that have one source each, or none of them just one.

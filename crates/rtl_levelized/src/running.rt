@@ -8,9 +8,9 @@ use crate::stepping::Stepping;
 use crate::summary::LevelSummary;
 use rtl_eval_code::codes;
 use rtl_machine::{MachineFault, SLOTS, admit};
-use rtl_stim::Wheel;
 use rtl_net::Net;
 use rtl_sink::Sink;
+use rtl_stim::Wheel;
 use std::alloc::Global;
 
 /// Simulates a net under the stimulus that a text says, as the synchronous machine that it is: at each moment the clocked processes

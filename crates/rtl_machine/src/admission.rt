@@ -10,8 +10,8 @@ ghost use Rattle.rtl_machine.specs.Admitted.{IsAdmitted, RefusesNet};
 
 use crate::fault::MachineFault;
 use rtl_check::{Report, Verdict, check};
-use rtl_stim::{StimFault, Stimulus, first_race};
 use rtl_net::Net;
+use rtl_stim::{StimFault, Stimulus, first_race};
 use std::alloc::Global;
 
 /// A stimulus without a race, of an accepted netlist, whose processes have these levels and whose moments settle within the bound.

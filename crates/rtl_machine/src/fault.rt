@@ -5,8 +5,8 @@ ghost use Rattle.rtl_machine.specs.declared.fault.MachineFault.TheVariants.{Memo
 ghost use Rattle.rtl_machine.specs.Faults.{of_stim};
 
 use rtl_check::CheckFault;
-use rtl_stim::StimFault;
 use rtl_sink::WriteFailed;
+use rtl_stim::StimFault;
 use rtl_vcd::VcdFault;
 use std::alloc::AllocError;
 

@@ -7,8 +7,8 @@ ghost use Rattle.rtl_sink.specs.Written.{Goes};
 ghost use Rattle.rtl_machine.specs.Evaluated as spec;
 ghost use Rattle.rtl_machine.specs.Evaluated.{port_lines, port_text, port_line, letters};
 
-use rtl_net_facts::contains_rising;
 use rtl_net::{Net, Signal};
+use rtl_net_facts::contains_rising;
 use rtl_sink::{Sink, push_text};
 use vhdl_values::Nine;
 

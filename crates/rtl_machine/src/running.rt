@@ -14,14 +14,14 @@ ghost use Rattle.rtl_machine.specs.Answered.{RunsNet};
 use crate::admission::admit;
 use crate::fault::MachineFault;
 use crate::laws::accepted_nets_are_synchronous;
-use rtl_eval_code::codes;
 use rtl_eval::Exec;
+use rtl_eval_code::codes;
 use rtl_kernel::Pick;
 use rtl_model::simulation_laws;
-use rtl_stim::{Agenda, Wheel};
 use rtl_net::Net;
 use rtl_run::{RunFault, Simulation, Summary};
 use rtl_sink::Sink;
+use rtl_stim::{Agenda, Wheel};
 use std::alloc::Global;
 
 /// How many slots the agenda of a simulation has.

@@ -9,8 +9,8 @@ ghost use Rattle.rtl_check.specs.Views.{tested};
 ghost use Rattle.rtl_recheck.specs.Kept.{AreWithin, HasNoClockAsData, ClockedKeeps, clock_nets};
 
 use rtl_check::is_used;
-use rtl_net_facts::{Clocking, contains_rising};
 use rtl_net::Process;
+use rtl_net_facts::{Clocking, contains_rising};
 use vhdl_values::Edge;
 
 /// Whether all of some nets are among others.

@@ -12,8 +12,8 @@ use crate::clocked::{are_within, clocked_keeps};
 use crate::paths::covers;
 use crate::variables::stores_nothing;
 use rtl_check::kind_at;
-use rtl_net_facts::ProcessKind;
 use rtl_net::{Net, Process};
+use rtl_net_facts::ProcessKind;
 use vhdl_values::Edge;
 
 /// Whether a combinational process assigns each net that it drives on every syntactic path.
@@ -40,7 +40,12 @@ fn combinational_keeps(process: &Process) -> bool
 }
 
 /// Whether a process of this kind breaks no rule.
-fn keeps_by(inputs: &[usize], clocks: &[(usize, Edge)], process: &Process, kind: ProcessKind) -> bool
+fn keeps_by(
+    inputs: &[usize],
+    clocks: &[(usize, Edge)],
+    process: &Process,
+    kind: ProcessKind,
+) -> bool
     requires inputs { IsStrictlyIncreasing inputs.now }
     requires clocks { RisesBy clock_key clocks.now }
     requires wakes { IsStrictlyIncreasing process.now.wakes.items }

@@ -19,9 +19,9 @@ use crate::progress::Progress;
 use crate::summary::{RunFault, Summary};
 use rtl_eval::Exec;
 use rtl_kernel::{Kernel, Pick};
-use rtl_stim::{Agenda, Stimulus};
 use rtl_net::Net;
 use rtl_sink::Sink;
+use rtl_stim::{Agenda, Stimulus};
 use rtl_vcd::{Blocks, end, first, header};
 use std::alloc::Global;
 

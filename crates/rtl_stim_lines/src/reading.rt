@@ -69,7 +69,12 @@ impl Said {
     }
 
     /// Takes in the lines of a text.
-    fn read_lines(&mut self, alloc: Global, inputs: &InputTable, text: &[u8]) -> Result<(), StimFault>
+    fn read_lines(
+        &mut self,
+        alloc: Global,
+        inputs: &InputTable,
+        text: &[u8],
+    ) -> Result<(), StimFault>
         requires vectors { AreVectors (inputs_view inputs.now) }
         requires each { vec_len self.old.courses ≡ length (inputs_view inputs.now) }
         ensures said { Leads (after_lines (inputs_view inputs.now) 1 (lines_of text.now) (Ok (said_view self.old))) (said_view self.new) result }

@@ -14,8 +14,8 @@ ghost use Rattle.rtl_synchronous.specs.Running.{IsWritten, TakesOver, TakesPart,
 use crate::marks::set_run;
 use crate::schedule::Schedule;
 use rtl_eval::{Drives, Exec, Span};
-use rtl_net_layout::{Cut, Groups};
 use rtl_net::{Driver, Net};
+use rtl_net_layout::{Cut, Groups};
 
 /// Runs the body of a process; what it assigns is what its run leaves.
 pub fn run<E: Exec>(

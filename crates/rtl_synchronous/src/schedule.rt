@@ -9,8 +9,8 @@ ghost use Rattle.rtl_synchronous.specs.Scheduled.{IsSchedule, clocked_wakes, wak
 
 use crate::order::order_of;
 use crate::targets::target_lists;
-use rtl_net_layout::{Cuts, Groups, Lists};
 use rtl_net::Net;
+use rtl_net_layout::{Cuts, Groups, Lists};
 use std::alloc::{AllocError, Global};
 
 /// The combinational processes in the order in which they are run, the ranks of those that are sensitive to each net, and the

@@ -3,8 +3,8 @@
 ghost use Rattle.std.specs.Prelude.{◌≡◌, IfOk};
 ghost use Rattle.rtl_kernel.specs.drivers.Transactions.{all_targets, nets_of};
 
-use rtl_net_layout::Lists;
 use rtl_net::{Driver, Process};
+use rtl_net_layout::Lists;
 use std::alloc::{AllocError, Global};
 
 /// The nets of the drivers of each process.

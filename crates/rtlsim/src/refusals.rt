@@ -7,8 +7,8 @@ ghost use Rattle.rtlsim_words.specs.Words.{IsOfWords};
 ghost use Rattle.rtlsim.specs.Tools.{RefusesWords, input_text, input_status};
 
 use crate::inputs::InputFault;
-use rtlsim_commands::{Status, ended_by_writes, push_memory};
 use rtl_sink::{Sink, push_text};
+use rtlsim_commands::{Status, ended_by_writes, push_memory};
 use rtlsim_words::Refused;
 use std::alloc::Global;
 

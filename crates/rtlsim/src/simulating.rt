@@ -10,10 +10,10 @@ ghost use Rattle.rtlsim.specs.Tools.{ReadsInputs, SimulatesWords};
 use crate::files::read_both;
 use crate::inputs::Inputs;
 use crate::refusals::refuse_input;
+use rtl_sink::Sink;
 use rtlsim_commands::{
     Forward, Front, Pick, Reverse, Status, serve_run, serve_run_event, serve_run_levels,
 };
-use rtl_sink::Sink;
 use rtlsim_words::Order;
 use std::alloc::Global;
 

@@ -7,8 +7,8 @@ ghost use Rattle.rtlsim.specs.Streams.{Ends, GoesOut, GoesToWriters, RunsArgumen
 ghost use Rattle.rtlsim_commands.specs.Served as served;
 
 use crate::arguments::serve_arguments;
-use rtlsim_commands::{Front, Status, push_memory};
 use rtl_sink::{Out, Sink, push_text};
+use rtlsim_commands::{Front, Status, push_memory};
 use std::io::{BufWriter, Read, Write};
 use std::rt::{Env, Files};
 

@@ -12,8 +12,8 @@ use crate::first_line::serve_reader_line;
 use crate::inputs::{Inputs, Standard};
 use crate::refusals::{refuse_input, refuse_words};
 use crate::simulating::{Names, perform_levels, perform_run};
-use rtlsim_commands::{Front, Status, serve_check, serve_check_dot, serve_eval, serve_net};
 use rtl_sink::{Reader, Sink};
+use rtlsim_commands::{Front, Status, serve_check, serve_check_dot, serve_eval, serve_net};
 use rtlsim_words::{Request, parse_words};
 use std::alloc::Global;
 

@@ -11,18 +11,18 @@ mod titles;
 
 use crate::status::Status;
 pub(crate) use layers::{elab_notice, lex_notice, name_notice, stim_notice, syntax_notice};
-pub(crate) use notice::{Notice, FaultPlace};
+pub(crate) use notice::{FaultPlace, Notice};
 use rtl_check::CheckFault;
-use rtlsim_listing::ListingFault;
 use rtl_machine::MachineFault;
-use rtl_stim::StimFault;
 use rtl_run::RunFault;
+use rtl_stim::StimFault;
+use rtlsim_listing::ListingFault;
 use std::alloc::AllocError;
-use vhdl_source_rules::SourceFault;
 use vhdl_expand_rules::ElabFault;
 use vhdl_lexer::LexFault;
 use vhdl_names_rules::NameFault;
 use vhdl_parser::SyntaxFault;
+use vhdl_source_rules::SourceFault;
 
 /// Why a call of this library is refused, by the first layer that refuses. Each layer's want of memory is `Memory`.
 #[derive(Drop)]

@@ -21,16 +21,16 @@ pub use machine::{eval, eval_net, run, run_levels, run_net, run_net_levels};
 pub use rtl_check::CheckFault;
 pub use rtl_kernel::{Forward, Pick, Reverse};
 pub use rtl_levelized::LevelSummary;
-pub use rtl_stim::StimFault;
 pub use rtl_net::Net;
 pub use rtl_run::Summary;
 pub use rtl_sink::Sink;
+pub use rtl_stim::StimFault;
 pub use running::{MAX_DELTAS, run_event, run_events};
 pub use serving::{
     ended_by_writes, serve_check, serve_check_dot, serve_eval, serve_net, serve_run,
     serve_run_event, serve_run_levels,
 };
 pub use status::Status;
-pub use vhdl_source_rules::{Front, SourceFault};
 pub use vhdl_expand_rules::{ElabFault, ElabProblem};
 pub use vhdl_names_rules::{NameFault, NameProblem};
+pub use vhdl_source_rules::{Front, SourceFault};

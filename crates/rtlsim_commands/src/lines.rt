@@ -13,15 +13,15 @@ ghost use Rattle.rtlsim_commands.specs.Told.{TellsFault, summary_line, levels_li
 ghost use Rattle.rtlsim_commands.specs.Faults as faults;
 
 use crate::faults::{
-    Fault, Notice, FaultPlace, elab_notice, lex_notice, name_notice, stim_notice, syntax_notice,
+    Fault, FaultPlace, Notice, elab_notice, lex_notice, name_notice, stim_notice, syntax_notice,
 };
 use crate::status::Status;
 use rtl_levelized::LevelSummary;
-use rtlsim_listing::{ListingFault, net_name, show_faults};
-use rtl_stim::StimFault;
 use rtl_net::Net;
 use rtl_run::Summary;
 use rtl_sink::{Sink, finish, push_number, push_text};
+use rtl_stim::StimFault;
+use rtlsim_listing::{ListingFault, net_name, show_faults};
 use std::alloc::Global;
 use vhdl_source_rules::SourceFault;
 

@@ -9,9 +9,9 @@ ghost use Rattle.rtlsim_commands.specs.Places.{IsTold};
 
 use crate::faults::Fault;
 use rtl_check::{Verdict, check};
-use rtlsim_listing;
 use rtl_net::Net;
 use rtl_sink::Sink;
+use rtlsim_listing;
 use std::alloc::Global;
 use vhdl_source_rules::Front;
 

@@ -12,10 +12,10 @@ use rtl_check::stored;
 use rtl_eval_code::codes;
 use rtl_kernel::Pick;
 use rtl_machine::SLOTS;
-use rtl_stim::{Stimulus, Wheel};
 use rtl_net::Net;
 use rtl_run::{Simulation, Summary};
 use rtl_sink::Sink;
+use rtl_stim::{Stimulus, Wheel};
 use std::alloc::Global;
 use vhdl_source_rules::Front;
 

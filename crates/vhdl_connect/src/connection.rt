@@ -12,12 +12,12 @@ ghost use Rattle.vhdl_elab_laws.specs.Shown.{as_shown, net_shown};
 ghost use Rattle.vhdl_connect.specs.Ready.{InstanceIsReady};
 ghost use Rattle.vhdl_connect.specs.Wired.{NetsAreThere};
 
+use crate::walk::number;
 use crate::wiring::wire;
 use rtl_net::Parts;
 use std::alloc::Global;
-use vhdl_expand_tree::Design;
 use vhdl_expand_rules::ElabFault;
-use crate::walk::number;
+use vhdl_expand_tree::Design;
 
 /// The parts of the flat netlist of a design within the limits, where it breaks no rule of a design as a whole (IEEE 1076-2008,
 /// 6.4.2.3, 14.7.2, 14.7.3): its instances, nets and processes are numbered and its nets are wired. It takes the memory of the

@@ -10,8 +10,8 @@ ghost use Rattle.vhdl_connect.specs.Adding.{own_starts, own_types};
 
 use rtl_net::NetKind;
 use std::alloc::AllocError;
-use vhdl_expand_tree::Object;
 use vhdl_expand_rules::ObjectKind;
+use vhdl_expand_tree::Object;
 
 /// What an element starts with.
 pub(crate) fn start_at(starts: &[u8], element: usize) -> u8

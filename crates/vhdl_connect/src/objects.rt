@@ -39,7 +39,11 @@ impl Made {
     }
 
     /// Adds the objects of an instance, and gives the number of their elements. Their names are taken out of the tree.
-    fn objects(&mut self, place: &InstancePlace, objects: &mut [Object]) -> Result<usize, AllocError>
+    fn objects(
+        &mut self,
+        place: &InstancePlace,
+        objects: &mut [Object],
+    ) -> Result<usize, AllocError>
         ensures count { IfOk result (λ n. n ≡ elements_count (map object_view objects.old)) }
         ensures made { OnOk result (Declares place.now 0 (map object_view objects.old) self.old self.new) }
     {

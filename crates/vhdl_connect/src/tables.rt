@@ -6,12 +6,12 @@ ghost use Rattle.std.specs.List.{list_any, zip};
 ghost use Rattle.vhdl_connect_processes.specs.Held.{items_at};
 ghost use Rattle.vhdl_connect.specs.Tables as tables;
 
+use crate::made::Element;
 use rtl_net::IdlePort;
 use smallvec::SmallVec;
 use std::alloc::{AllocError, Global};
 use vhdl_connect_processes::{Sources, Use};
 use vhdl_expand_tree::Role;
-use crate::made::Element;
 
 /// The nets of the top's in ports, in order. It takes the memory of the list.
 pub fn inputs(alloc: Global, elements: &[Element]) -> Result<Vec<usize>, AllocError>

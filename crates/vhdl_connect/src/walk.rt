@@ -8,13 +8,13 @@ ghost use Rattle.vhdl_connect.specs.Made.{IsMade};
 ghost use Rattle.vhdl_connect.specs.Ready.{InstanceIsReady, PartsAreReady};
 ghost use Rattle.vhdl_connect.specs.Walking.{above_at, IsIn};
 
+use crate::made::Made;
+use crate::place::InstancePlace;
 use rtl_net::Scope;
 use std::alloc::{AllocError, Global};
 use std::mem;
 use vhdl_connect_processes::{Round, defaults_of, element_nets};
 use vhdl_expand_tree::{Design, Instance, InstancePart};
-use crate::made::Made;
-use crate::place::InstancePlace;
 
 /// What an instance stands in: the number of the instance, and the nets of that one's elements.
 #[derive(Clone, Copy)]

@@ -4,12 +4,12 @@ ghost use Rattle.std.specs.Prelude.{◌≡◌, ◌≢◌, length, IfOk, IfErr};
 ghost use Rattle.vhdl_expand_rules.specs.declared.fault.ElabFault.TheVariants.{NoMemory};
 ghost use Rattle.vhdl_connect.specs.Wires.{IsWires, IsRefused};
 
+use crate::made::Made;
 use crate::tables::{idle_ports, inputs, read_of_shared, two_unresolved};
 use rtl_net::IdlePort;
 use std::alloc::Global;
 use vhdl_connect_processes::{held, starts};
 use vhdl_expand_rules::{ElabFault, ElabProblem};
-use crate::made::Made;
 
 /// What is told of a design as a whole.
 #[derive(Drop)]

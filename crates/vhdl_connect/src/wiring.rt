@@ -9,12 +9,12 @@ ghost use Rattle.vhdl_elab_laws.specs.Shown.{as_shown, net_shown};
 ghost use Rattle.vhdl_connect.specs.Made.{IsMade};
 ghost use Rattle.vhdl_connect.specs.Wired.{wired, NetsAreThere};
 
+use crate::made::Made;
 use crate::settled::settle;
 use crate::wires::told;
 use rtl_net::Parts;
 use std::alloc::Global;
 use vhdl_expand_rules::ElabFault;
-use crate::made::Made;
 
 /// The parts of the flat netlist of the numbered design that these tables are made of, where it breaks no rule of a design as a
 /// whole: an unresolved element with two sources, and an out port with several sources that is read. It takes the memory of a

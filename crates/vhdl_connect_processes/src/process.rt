@@ -67,7 +67,10 @@ fn variable(alloc: Global, from: &mut vhdl_expand_tree::Variable) -> Result<Vari
 }
 
 /// Variables, taken out of the tree. It takes the memory of the list.
-fn variables(alloc: Global, from: &mut [vhdl_expand_tree::Variable]) -> Result<Vec<Variable>, AllocError>
+fn variables(
+    alloc: Global,
+    from: &mut [vhdl_expand_tree::Variable],
+) -> Result<Vec<Variable>, AllocError>
     ensures { IfOk result (λ v. map net_variable v.items ≡ map of_variable (map variable_view from.old)) }
 {
     let mut taken = Vec::new(alloc);

@@ -8,8 +8,8 @@ ghost use Rattle.vhdl_expand_tree.specs.Views.{object_view, part_before, parts_o
 ghost use Rattle.vhdl_connect_processes.specs.Uses.{AreUses, one_more, listed_by};
 
 use std::alloc::{AllocError, Global};
-use vhdl_expand_tree::{Object, InstancePart, Process, Role, Sensitivity};
 use vhdl_expand_drivers::read_of;
+use vhdl_expand_tree::{InstancePart, Object, Process, Role, Sensitivity};
 
 /// How many sources an element has of its own.
 #[derive(Clone, Copy)]
@@ -167,7 +167,11 @@ fn unused(alloc: Global, elements: usize) -> Result<Vec<Use>, AllocError>
 
 /// What the parts of an instance do with its first so many elements. It takes the memory of the list and of lists of what bodies
 /// read, and time to sort these.
-pub fn uses_in(alloc: Global, parts: &[InstancePart], elements: usize) -> Result<Vec<Use>, AllocError>
+pub fn uses_in(
+    alloc: Global,
+    parts: &[InstancePart],
+    elements: usize,
+) -> Result<Vec<Use>, AllocError>
     ensures length { IfOk result (λ uses. length uses.items ≡ elements) }
     ensures each { IfOk result (λ uses. AreUses (driven_in (parts_of parts.now)) (read_in (parts_of parts.now)) uses.items) }
 {

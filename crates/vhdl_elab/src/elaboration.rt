@@ -10,10 +10,10 @@ ghost use Rattle.vhdl_elab_laws.specs.Shown.{as_shown, net_shown};
 
 use rtl_net::Net;
 use std::alloc::Global;
-use vhdl_expand_rules::ElabFault;
-use vhdl_expand::expand;
-use vhdl_names_units::Units;
 use vhdl_connect::connect;
+use vhdl_expand::expand;
+use vhdl_expand_rules::ElabFault;
+use vhdl_names_units::Units;
 
 /// Elaborates the design whose top is the entity of this name, in letters of either case. The generics of the top have their
 /// defaults, and its ports are joined to nothing. It takes the memory of the tree of instances and then of the net, within the

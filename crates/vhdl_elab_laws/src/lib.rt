@@ -3,4 +3,3 @@
 
 pub mod net_laws;
 pub mod port_laws;
-

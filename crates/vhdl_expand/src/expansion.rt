@@ -14,9 +14,9 @@ ghost use Rattle.vhdl_expand_objects.specs.Views.{declared_view};
 
 use crate::walk::Walk;
 use std::alloc::{AllocError, Global};
-use vhdl_expand_tree::{Budget, Design};
-use vhdl_expand_rules::{ElabFault, ElabProblem, Integers};
 use vhdl_expand_objects::{InstanceObjects, interface};
+use vhdl_expand_rules::{ElabFault, ElabProblem, Integers};
+use vhdl_expand_tree::{Budget, Design};
 use vhdl_names_units::{Entity, Units};
 
 /// How many instances may be nested, the top among them.

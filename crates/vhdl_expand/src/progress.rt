@@ -4,8 +4,8 @@ ghost use Rattle.std.specs.Prelude.{Ok};
 ghost use Rattle.vhdl_expand_bodies.specs.Results.{Expands};
 ghost use Rattle.vhdl_expand.specs.Making.{TurnsFit, progress_view, adding, made_turns};
 
-use vhdl_expand_tree::{Budget, InstancePart};
 use vhdl_expand_rules::ElabFault;
+use vhdl_expand_tree::{Budget, InstancePart};
 
 /// What is made of an instance so far: its parts, in order of the text, and how many turns its generates have; and what is left
 /// of the limits.

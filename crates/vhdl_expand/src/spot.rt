@@ -4,8 +4,8 @@ ghost use Rattle.std.specs.Prelude.{◌≡◌};
 ghost use Rattle.vhdl_expand_bodies.specs.Sites.{IsSite};
 ghost use Rattle.vhdl_expand.specs.Spots.{spot_view, within};
 
-use vhdl_expand_rules::Integers;
 use vhdl_expand_bodies::Site;
+use vhdl_expand_rules::Integers;
 
 /// Where concurrent statements stand: what is known there, and the labels of the generates round them, each with a dot behind it.
 pub(crate) struct Spot<'a> {

@@ -22,14 +22,16 @@ use crate::prefix::{branch_prefix, labelled, turn_prefix};
 use crate::progress::TreeProgress;
 use crate::spot::Spot;
 use std::alloc::Global;
-use vhdl_expand_tree::{Budget, Instance, InstancePart};
+use vhdl_expand_objects::{
+    InstanceObjects, associations, charge_own_nets, declarations, interface,
+};
+use vhdl_expand_processes::process;
 use vhdl_expand_rules::{ElabFault, ElabProblem, Turns};
+use vhdl_expand_tree::{Budget, Instance, InstancePart};
 use vhdl_names_rules::{StaticRange, StaticTest};
-use vhdl_expand_objects::{InstanceObjects, associations, charge_own_nets, declarations, interface};
-use vhdl_tree::Direction;
 use vhdl_names_units as analysed;
 use vhdl_names_units::{Concurrent, Entity, Generate, Scheme};
-use vhdl_expand_processes::process;
+use vhdl_tree::Direction;
 
 /// The units in which instances are made, of which so many may be nested from here on.
 #[derive(Clone, Copy)]
@@ -143,7 +145,9 @@ impl Walk<'_> {
         )?;
         let instance = self.instance(unit, declared, at, &mut so_far.left)?;
         let label = labelled(self.alloc, spot.prefix, &written.label.text)?;
-        so_far.parts.push(InstancePart::Instance { label, instance })?;
+        so_far
+            .parts
+            .push(InstancePart::Instance { label, instance })?;
         Ok(())
     }
 

@@ -26,9 +26,9 @@ use crate::site::Site;
 use rtl_net::{Alternative, Branch, Choice, Statement};
 use std::alloc::Global;
 use vhdl_expand_rules::{ElabFault, Turns};
-use vhdl_tree::Direction;
 use vhdl_names_units as analysed;
 use vhdl_names_units::{Case, If, Loop};
+use vhdl_tree::Direction;
 
 /// Puts a statement behind others.
 #[tactic(auto, using(crate::proofs::Sequences::statements_push))]

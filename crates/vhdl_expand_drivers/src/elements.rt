@@ -17,8 +17,8 @@ use crate::names::names_in;
 use crate::targets::targets_of;
 use rtl_net_facts::sort_once;
 use std::alloc::{AllocError, Global};
-use vhdl_expand_rules::{ElabFault, Run, is_static_part};
 use vhdl_expand_bodies::Site;
+use vhdl_expand_rules::{ElabFault, Run, is_static_part};
 use vhdl_names_rules::{Part, SignalPart};
 use vhdl_names_units::Statement;
 

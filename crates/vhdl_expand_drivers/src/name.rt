@@ -6,7 +6,7 @@ ghost use Rattle.vhdl_names_rules.specs.views.Vectors.{place_view, signal_view};
 ghost use Rattle.vhdl_expand_drivers.specs.Named.{named_by, whole_of};
 
 use std::alloc::AllocError;
-use vhdl_names_rules::{SignalPart, Signal};
+use vhdl_names_rules::{Signal, SignalPart};
 
 /// A name as it stands in the text, or the whole of a signal or port.
 #[derive(Clone, Copy)]
@@ -16,7 +16,10 @@ pub enum Name<'a> {
 }
 
 /// Puts a name behind others.
-pub(crate) fn add_place<'a>(name: &'a SignalPart, found: &mut Vec<Name<'a>>) -> Result<(), AllocError>
+pub(crate) fn add_place<'a>(
+    name: &'a SignalPart,
+    found: &mut Vec<Name<'a>>,
+) -> Result<(), AllocError>
     ensures { OnOk result (named_by found.new ≡ named_by found.old ++ place_view name.now ∷ []) }
 {
     found.push(Name::Written(name))?;

@@ -9,8 +9,8 @@ ghost use Rattle.rtl_net.specs.Bodies.{expr_view, value_view, test_view, stateme
 ghost use Rattle.rtl_net.specs.Indices.{numbers};
 ghost use Rattle.vhdl_expand_drivers.specs.Reads.{link_reads, test_link_reads, statement_reads, branch_reads, alternative_reads};
 
-use rtl_net_facts::sort_once;
 use rtl_net::{Alternative, Branch, Expr, Indices, Link, Statement, Test, TestLink, Value};
+use rtl_net_facts::sort_once;
 use std::alloc::{AllocError, Global};
 
 /// What a body reads, rising. It takes the memory of a list of all nets or elements that the body's names have, and time to sort it.

@@ -14,8 +14,8 @@ ghost use Rattle.vhdl_expand_drivers.specs.Starting.{codes_of, encoded_as};
 
 use smallvec::SmallVec;
 use std::alloc::{AllocError, Global};
-use vhdl_expand_rules::{ElabFault, ElabProblem, Integers, ObjectKind};
 use vhdl_expand_bodies::Site;
+use vhdl_expand_rules::{ElabFault, ElabProblem, Integers, ObjectKind};
 use vhdl_names_rules::Static;
 use vhdl_names_units::{Fixed, Form};
 use vhdl_values::{Nine, Vec9};

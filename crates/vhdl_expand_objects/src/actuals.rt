@@ -14,9 +14,9 @@ ghost use Rattle.vhdl_expand_objects.specs.Walks.{stepwise};
 
 use crate::declared::InstanceObjects;
 use std::alloc::{AllocError, Global};
-use vhdl_expand_tree::{Object, Role};
-use vhdl_expand_rules::{ElabFault, ElabProblem, Run};
 use vhdl_expand_bodies::Site;
+use vhdl_expand_rules::{ElabFault, ElabProblem, Run};
+use vhdl_expand_tree::{Object, Role};
 use vhdl_names_rules::SignalPart;
 use vhdl_names_units::{Entity, Ports};
 

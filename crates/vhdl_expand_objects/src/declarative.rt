@@ -16,12 +16,12 @@ use crate::declared::InstanceObjects;
 use crate::generics::generics;
 use crate::objects::{add_objects, add_ports};
 use std::alloc::Global;
-use vhdl_expand_tree::Role;
-use vhdl_expand_rules::{ElabFault, Integers};
 use vhdl_expand_bodies::Constant;
+use vhdl_expand_rules::{ElabFault, Integers};
+use vhdl_expand_tree::Role;
 use vhdl_names_rules::{IntegerType, Static};
-use vhdl_tree::Identifier;
 use vhdl_names_units::{Declaration, Entity, Fixed, Form};
+use vhdl_tree::Identifier;
 
 /// What is known of an instance of an entity where its architecture begins: the values of its generics, of which those with an
 /// actual are computed where these integers are known, and its ports. A fault is NoGeneric, GenericRange, StaticError, Length,

@@ -19,9 +19,9 @@ ghost use Rattle.vhdl_expand_objects.specs.Views.{declared_view, within_generate
 use crate::shape::Shape;
 use crate::values::constant;
 use std::alloc::{AllocError, Global};
-use vhdl_expand_tree::{Object, Role};
-use vhdl_expand_rules::{ElabFault, Integers};
 use vhdl_expand_bodies::{Constant, Layout, Site};
+use vhdl_expand_rules::{ElabFault, Integers};
+use vhdl_expand_tree::{Object, Role};
 use vhdl_names_rules::{IntegerType, Static};
 use vhdl_names_units::{Fixed, Form, Objects};
 

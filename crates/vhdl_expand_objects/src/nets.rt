@@ -6,8 +6,8 @@ ghost use Rattle.vhdl_expand_rules.specs.views.Integers.{Makes};
 ghost use Rattle.vhdl_expand_tree.specs.Costs.{nets, spent};
 ghost use Rattle.vhdl_expand_tree.specs.Views.{budget_view, object_view};
 
-use vhdl_expand_tree::{Budget, Object};
 use vhdl_expand_rules::ElabFault;
+use vhdl_expand_tree::{Budget, Object};
 
 /// How many elements of an object aren't those of an actual.
 fn own_elements(object: &Object) -> usize

@@ -11,10 +11,10 @@ ghost use Rattle.vhdl_expand_objects.specs.Walks.{stepwise};
 
 use crate::declared::InstanceObjects;
 use std::alloc::Global;
-use vhdl_expand_tree::Role;
 use vhdl_expand_rules::ElabFault;
-use vhdl_tree::Mode;
+use vhdl_expand_tree::Role;
 use vhdl_names_units::{Objects, Ports};
+use vhdl_tree::Mode;
 
 /// Puts the ports or signals of one declaration behind those before them; a fault is StaticError, Length, Index or TooWide. What
 /// they are and start with is computed once.

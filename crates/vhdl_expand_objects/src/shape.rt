@@ -12,12 +12,12 @@ ghost use Rattle.vhdl_expand_objects.specs.Objects.{named_object, shape_of, shap
 
 use smallvec::SmallVec;
 use std::alloc::{AllocError, Global};
-use vhdl_expand_tree::{Object, Role};
-use vhdl_expand_rules::{ElabFault, ObjectKind};
 use vhdl_expand_bodies::Site;
 use vhdl_expand_drivers::{kind, starts};
-use vhdl_tree::Identifier;
+use vhdl_expand_rules::{ElabFault, ObjectKind};
+use vhdl_expand_tree::{Object, Role};
 use vhdl_names_units::Objects;
+use vhdl_tree::Identifier;
 
 /// What an object is, and what its elements start with, from the left.
 #[derive(Drop)]

@@ -10,10 +10,10 @@ ghost use Rattle.vhdl_expand_drivers.specs.Starting.{encoded_as};
 ghost use Rattle.vhdl_names_units.specs.views.Answers.{fixed_view, form_view};
 ghost use Rattle.vhdl_expand_objects.specs.Constants.{constant_of};
 
-use vhdl_expand_rules::{ElabFault, ElabProblem};
 use vhdl_expand_bodies::{Constant, Site};
-use vhdl_names_rules::Static;
 use vhdl_expand_drivers::kind;
+use vhdl_expand_rules::{ElabFault, ElabProblem};
+use vhdl_names_rules::Static;
 use vhdl_names_units::{Fixed, Form};
 use vhdl_values::{Nine, Vec9};
 

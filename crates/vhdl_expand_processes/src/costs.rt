@@ -18,10 +18,10 @@ ghost use Rattle.vhdl_expand_processes.specs.Unrolled as definition;
 ghost use Rattle.vhdl_expand_processes.specs.Unrolled.{paid, both, together, in_turn, guarded_costs, chosen_costs};
 
 use std::alloc::Global;
-use vhdl_expand_tree::Budget;
 use vhdl_expand_rules::{ElabFault, Integers, Turns};
-use vhdl_tree::Direction;
+use vhdl_expand_tree::Budget;
 use vhdl_names_units::{Alternative, Branch, Case, If, Loop, Statement};
+use vhdl_tree::Direction;
 
 /// Takes what a body costs from the budget: a turn for each turn of its loops, and a statement for each statement of the unrolled
 /// body. A fault is StaticError, or TooMany where a loop has more than 4,096 turns or the budget has less left; `at` is the byte of

@@ -15,12 +15,12 @@ ghost use Rattle.vhdl_expand_processes.specs.Processes.{turns_paid, process_step
 use crate::costs::charge_body;
 use crate::variables::{body, charge_variables, variables};
 use std::alloc::{AllocError, Global};
-use vhdl_expand_tree::{Budget, Process, Sensitivity};
-use vhdl_expand_rules::{ElabFault, Integers};
 use vhdl_expand_bodies::Site;
 use vhdl_expand_drivers::{drives, listed, read_elements};
-use vhdl_tree::Identifier;
+use vhdl_expand_rules::{ElabFault, Integers};
+use vhdl_expand_tree::{Budget, Process, Sensitivity};
 use vhdl_names_units as analysed;
+use vhdl_tree::Identifier;
 
 /// A byte of the source as a word; those beyond it are all the last.
 fn byte(at: usize) -> u32

@@ -21,13 +21,13 @@ ghost use Rattle.vhdl_expand_processes.specs.Variables.{variable_kind, HasWidth}
 
 use rtl_net::Statement;
 use std::alloc::{AllocError, Global};
-use vhdl_expand_tree::{Budget, Variable};
-use vhdl_expand_rules::{ElabFault, Integers};
 use vhdl_expand_bodies::{Layout, Site};
 use vhdl_expand_drivers::{kind, starts};
-use vhdl_tree::Identifier;
+use vhdl_expand_rules::{ElabFault, Integers};
+use vhdl_expand_tree::{Budget, Variable};
 use vhdl_names_units as analysed;
 use vhdl_names_units::Objects;
+use vhdl_tree::Identifier;
 
 /// The variable of this name among those of a declaration; a fault is StaticError, Length, Index or TooWide.
 #[tactic(auto, unfolding(vhdl_expand_rules::specs::Declarations::variable))]

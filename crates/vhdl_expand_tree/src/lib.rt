@@ -6,4 +6,4 @@ pub mod count_laws;
 mod tree;
 
 pub use budget::Budget;
-pub use tree::{Design, Instance, Object, InstancePart, Process, Role, Sensitivity, Variable};
+pub use tree::{Design, Instance, InstancePart, Object, Process, Role, Sensitivity, Variable};

@@ -194,7 +194,10 @@ pub const RESERVED_WORDS: [&[(&[u8], TokenKind)]; 26] = [
         (b"configuration", TokenKind::Configuration),
         (b"constant", TokenKind::Constant),
     ],
-    &[(b"disconnect", TokenKind::Disconnect), (b"downto", TokenKind::Downto)],
+    &[
+        (b"disconnect", TokenKind::Disconnect),
+        (b"downto", TokenKind::Downto),
+    ],
     &[
         (b"else", TokenKind::Else),
         (b"elsif", TokenKind::Elsif),

@@ -9,7 +9,7 @@ ghost use Rattle.vhdl_lexer.specs.Scan as scan;
 
 use crate::byte::{ByteClass, begins, is_word_byte};
 use crate::fault::LexFault;
-use crate::token::{TokenKind, RESERVED_WORDS};
+use crate::token::{RESERVED_WORDS, TokenKind};
 
 /// How many letters, digits and underscores the text begins with.
 pub fn run(text: &[u8]) -> usize

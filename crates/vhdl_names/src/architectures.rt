@@ -17,16 +17,16 @@ ghost use Rattle.vhdl_names_units.specs.views.Units.{architecture_view};
 
 use crate::outline::{Described, Outline, architecture_of};
 use std::alloc::Global;
-use vhdl_names_concurrent::concurrents;
 use vhdl_names_components::declarations;
+use vhdl_names_concurrent::concurrents;
 use vhdl_names_declarations::{declare_labels, ends};
 use vhdl_names_instances;
 use vhdl_names_interfaces::{Entities, EntityInterface, architecture_sight};
 use vhdl_names_labels::{copied, earlier_in};
 use vhdl_names_rules::NameFault;
-use vhdl_tree as syntax;
 use vhdl_names_types::{Region, Sight};
 use vhdl_names_units::{Architecture, Declaration};
+use vhdl_tree as syntax;
 
 /// Each label, also those behind one that stands twice. It fails for want of memory alone.
 fn declare_each(

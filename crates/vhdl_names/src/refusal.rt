@@ -18,8 +18,8 @@ use vhdl_names_instances;
 use vhdl_names_interfaces::Entities;
 use vhdl_names_labels::earlier_in;
 use vhdl_names_rules::{NameFault, NameProblem};
-use vhdl_tree::{Architecture, ContextItem, DesignUnit, File, LibraryUnit};
 use vhdl_names_units;
+use vhdl_tree::{Architecture, ContextItem, DesignUnit, File, LibraryUnit};
 
 /// The names of a file's entities, and its architectures, but for what is at fault.
 fn outline_past_faults<'a>(alloc: Global, file: &'a File, told: &mut NameFault) -> Outline<'a>

@@ -20,8 +20,8 @@ use std::alloc::{AllocError, Global};
 use std::vec;
 use vhdl_names_interfaces::{Entities, EntityInterface};
 use vhdl_names_rules::NameFault;
-use vhdl_tree::{File, Identifier};
 use vhdl_names_units::{Architecture, Entity, Units};
+use vhdl_tree::{File, Identifier};
 
 /// The next architecture, if the next entity has one.
 fn next_of(rest: &mut vec::IntoIter<Option<Architecture>>) -> Option<Architecture>

@@ -21,9 +21,9 @@ use vhdl_names_declarations::enumeration::enumeration;
 use vhdl_names_declarations::objects::signals;
 use vhdl_names_interfaces::Entities;
 use vhdl_names_rules::NameFault;
-use vhdl_tree as syntax;
 use vhdl_names_types::Sight;
 use vhdl_names_units::Declaration;
+use vhdl_tree as syntax;
 
 /// One declaration, whose objects are numbered from here on. Nothing is analysed of a type or a
 /// component.

@@ -19,8 +19,8 @@ use std::mem;
 use vhdl_names_declarations::{declare, ends};
 use vhdl_names_interfaces::{Entities, entity_named, interface_of};
 use vhdl_names_rules::{NameFault, NameProblem};
-use vhdl_tree::{Component, Entity, Identifier};
 use vhdl_names_types::{Meaning, Region, Sight};
+use vhdl_tree::{Component, Entity, Identifier};
 
 /// A name that stands in a region is Twice in it if it is declared once more.
 fn is_new(region: &Region, name: &Identifier) -> Result<(), NameFault>

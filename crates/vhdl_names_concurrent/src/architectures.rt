@@ -18,15 +18,15 @@ ghost use Rattle.vhdl_names_units.specs.views.Concurrent as views;
 use crate::processes::process;
 use crate::schemes::scheme;
 use std::alloc::Global;
-use vhdl_names_statements::{assignment, selected};
 use vhdl_names_declarations::labels_are_distinct;
 use vhdl_names_instances::{InstanceEntities, instance_in_turn};
 use vhdl_names_labels::{copied, earlier_in, ends};
 use vhdl_names_rules::NameFault;
-use vhdl_tree as syntax;
-use vhdl_tree::Identifier;
+use vhdl_names_statements::{assignment, selected};
 use vhdl_names_types::{Declared, Meaning, Sight};
 use vhdl_names_units::Concurrent;
+use vhdl_tree as syntax;
+use vhdl_tree::Identifier;
 
 /// The sight within a for-generate.
 fn enter_parameter(

@@ -15,19 +15,23 @@ ghost use Rattle.vhdl_names_units.specs.views.Sequential.{body_view};
 use crate::labels::statement_labels_are_distinct;
 use indexmap::IndexMap;
 use std::alloc::Global;
-use vhdl_names_statements::analysed;
 use vhdl_names_declarations::objects::variables;
+use vhdl_names_expressions::signal;
 use vhdl_names_labels::{copied_label, earlier_in, label_ends};
 use vhdl_names_rules::{NameFault, NameProblem, SignalPart};
+use vhdl_names_statements::analysed;
+use vhdl_names_types::Sight;
+use vhdl_names_units::{Process, Sensitivity, Statement};
 use vhdl_tree as syntax;
 use vhdl_tree::Identifier;
-use vhdl_names_types::Sight;
-use vhdl_names_expressions::signal;
-use vhdl_names_units::{Process, Sensitivity, Statement};
 
 /// The signals of a list of names.
 #[tactic(auto, using(vhdl_names_labels::proofs::Lists::each_in_turn))]
-fn places(alloc: Global, sight: &Sight, names: &[syntax::Name]) -> Result<Vec<SignalPart>, NameFault>
+fn places(
+    alloc: Global,
+    sight: &Sight,
+    names: &[syntax::Name],
+) -> Result<Vec<SignalPart>, NameFault>
     ensures { Gives all_places_view (each (steps.place_of (sight_view sight.now)) (map tree.name_view names.now)) result }
 {
     let mut all = Vec::new(alloc);

@@ -9,11 +9,11 @@ ghost use Rattle.vhdl_names_types.specs.Views.{sight_view};
 ghost use Rattle.vhdl_names_units.specs.views.Concurrent.{generated};
 
 use std::alloc::Global;
-use vhdl_names_rules::NameFault;
-use vhdl_tree as syntax;
-use vhdl_names_types::Sight;
 use vhdl_names_expressions::{static_condition, static_range};
+use vhdl_names_rules::NameFault;
+use vhdl_names_types::Sight;
 use vhdl_names_units::Scheme;
+use vhdl_tree as syntax;
 
 /// A parameter's range, or a condition over static integers.
 pub fn scheme(alloc: Global, sight: &Sight, scheme: &syntax::Scheme) -> Result<Scheme, NameFault>

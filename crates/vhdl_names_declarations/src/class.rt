@@ -6,8 +6,8 @@ ghost use Rattle.vhdl_names_types.specs.Views.{meaning_view};
 
 use std::alloc::{AllocError, Global};
 use vhdl_names_rules::{ElementKind, ObjectType};
-use vhdl_tree::Mode;
 use vhdl_names_types::Meaning;
+use vhdl_tree::Mode;
 use vhdl_values::Nine;
 
 /// The class and type of objects, which are numbered from 0 within their class.

@@ -18,11 +18,11 @@ use crate::names::copied_names;
 use crate::ports::kind_of;
 use crate::region::{hide, settle};
 use std::alloc::{AllocError, Global};
-use vhdl_names_rules::{IntegerType, ElementKind, NameFault, NameProblem, Static};
-use vhdl_tree::{Constants, Expr, Identifier, Value};
-use vhdl_names_types::{Meaning, Sight, meaning_of};
 use vhdl_names_expressions::{fixed_value, static_integer, subtype};
+use vhdl_names_rules::{ElementKind, IntegerType, NameFault, NameProblem, Static};
+use vhdl_names_types::{Meaning, Sight, meaning_of};
 use vhdl_names_units::{Declaration, Fixed, Form};
+use vhdl_tree::{Constants, Expr, Identifier, Value};
 use vhdl_values::Nine;
 
 /// What constants of one declaration are: of a type of integers, or of the nine values.
@@ -110,7 +110,10 @@ fn class_of(alloc: Global, constant: &Constant) -> Result<ObjectClass, AllocErro
 {
     match constant {
         Constant::Integer(..) => Ok(ObjectClass::Integer),
-        Constant::Other(kind, _, value) => Ok(ObjectClass::Constant(*kind, declaring(alloc, value)?)),
+        Constant::Other(kind, _, value) => Ok(ObjectClass::Constant(
+            *kind,
+            declaring(alloc, value)?,
+        )),
     }
 }
 

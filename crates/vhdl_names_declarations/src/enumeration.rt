@@ -11,8 +11,8 @@ ghost use Rattle.vhdl_names_types.specs.Views.{region_view, sight_view};
 use crate::region::declare;
 use std::alloc::Global;
 use vhdl_names_rules::{NameFault, NameProblem};
-use vhdl_tree::{Enumeration, Identifier};
 use vhdl_names_types::{Meaning, Region, Sight};
+use vhdl_tree::{Enumeration, Identifier};
 
 /// The literals of an enumeration, by position.
 fn literals(

@@ -19,11 +19,11 @@ use crate::counts::Counts;
 use crate::names::copied_names;
 use crate::region::{hide, settle};
 use std::alloc::Global;
-use vhdl_names_rules::{IntegerType, NameFault, NameProblem, Static};
-use vhdl_tree::{Expr, Generic};
-use vhdl_names_types::{Meaning, Sight, meaning_of};
 use vhdl_names_expressions::static_integer;
+use vhdl_names_rules::{IntegerType, NameFault, NameProblem, Static};
+use vhdl_names_types::{Meaning, Sight, meaning_of};
 use vhdl_names_units::Generics;
+use vhdl_tree::{Expr, Generic};
 
 /// A type of integers, whose mark is at byte `at`; another type is a TypeMismatch, another name is
 /// of WrongKind.
@@ -84,7 +84,13 @@ fn generic(
     let typed = generic_type(alloc, sight, generic);
     hide(alloc, &mut sight.region, &generic.names)?;
     let (integer_type, default) = typed?;
-    settle(alloc, &mut sight.region, first, number, &ObjectClass::Generic)?;
+    settle(
+        alloc,
+        &mut sight.region,
+        first,
+        number,
+        &ObjectClass::Generic,
+    )?;
     let names = copied_names(alloc, &generic.names)?;
     Ok(Generics {
         names,

@@ -18,8 +18,8 @@ use crate::region::declare;
 use indexmap::IndexMap;
 use std::alloc::Global;
 use vhdl_names_rules::NameFault;
-use vhdl_tree::{Concurrent, Identifier};
 use vhdl_names_types::{Meaning, Region};
+use vhdl_tree::{Concurrent, Identifier};
 
 /// A label, if there is one.
 fn declare_if_any(

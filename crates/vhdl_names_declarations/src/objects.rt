@@ -19,11 +19,11 @@ use crate::counts::Counts;
 use crate::names::copied_names;
 use crate::region::{hide, settle};
 use std::alloc::{AllocError, Global};
-use vhdl_names_rules::{NameFault, ObjectType};
-use vhdl_tree::{Identifier, Signals, Subtype as TreeSubtype, Value, Variables};
-use vhdl_names_types::Sight;
 use vhdl_names_expressions::{fixed_value, subtype};
+use vhdl_names_rules::{NameFault, ObjectType};
+use vhdl_names_types::Sight;
 use vhdl_names_units::{Declaration, Fixed, Objects, Subtype};
+use vhdl_tree::{Identifier, Signals, Subtype as TreeSubtype, Value, Variables};
 
 /// A default for objects of a type, if there is one.
 pub fn fixed_if_any(

@@ -12,7 +12,7 @@ use crate::context::Context;
 use crate::region::declare_name;
 use indexmap::IndexMap;
 use std::alloc::Global;
-use vhdl_names_rules::{Function, IntegerType, ElementKind, NameFault};
+use vhdl_names_rules::{ElementKind, Function, IntegerType, NameFault};
 use vhdl_names_types::{Meaning, Region, Sight};
 use vhdl_values::Edge;
 

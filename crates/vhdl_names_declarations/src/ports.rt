@@ -16,11 +16,11 @@ use crate::counts::Counts;
 use crate::objects::{fixed_if_any, objects};
 use crate::region::{hide, settle};
 use std::alloc::Global;
-use vhdl_names_rules::{ElementKind, NameFault, NameProblem, ObjectType};
-use vhdl_tree::{Mode, Port};
-use vhdl_names_types::Sight;
 use vhdl_names_expressions::subtype;
+use vhdl_names_rules::{ElementKind, NameFault, NameProblem, ObjectType};
+use vhdl_names_types::Sight;
 use vhdl_names_units::{Fixed, Ports, Subtype};
+use vhdl_tree::{Mode, Port};
 
 /// A type of the nine values, whose mark is at byte `at`; ports and constants of an enumeration are
 /// left out.

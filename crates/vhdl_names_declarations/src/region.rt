@@ -13,8 +13,8 @@ ghost use Rattle.vhdl_names_types.specs.Views.{meaning_view, region_view};
 use crate::class::ObjectClass;
 use std::alloc::{AllocError, Global};
 use vhdl_names_rules::{NameFault, NameProblem};
-use vhdl_tree::Identifier;
 use vhdl_names_types::{Meaning, Region};
+use vhdl_tree::Identifier;
 
 /// One more declaration of a name at byte `at`, which is refused as Twice where the region has the
 /// name. It takes the memory of the name and its entry.

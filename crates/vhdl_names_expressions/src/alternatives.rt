@@ -15,9 +15,9 @@ use crate::expressions::start;
 use crate::literals::{literal_problem, literal_values, name_of};
 use std::alloc::Global;
 use vhdl_names_rules::{ElementKind, NameFault, NameProblem, ObjectType};
-use vhdl_tree::{Choice as TreeChoice, Expr, Name, Suffix};
 use vhdl_names_types::{Meaning, Sight, meaning_of};
 use vhdl_names_units::Choice;
+use vhdl_tree::{Choice as TreeChoice, Expr, Name, Suffix};
 
 /// What is wrong with a name of this meaning as a choice.
 fn choice_problem(meaning: &Meaning) -> NameProblem {

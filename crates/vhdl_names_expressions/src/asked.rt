@@ -15,9 +15,9 @@ ghost use Rattle.vhdl_names_units.specs.views.Answers.{given_view, selector_view
 use crate::expressions::{start, typed};
 use std::alloc::Global;
 use vhdl_names_rules::{ElementKind, NameFault, NameProblem, ObjectType, StaticTest, Test, Value};
-use vhdl_tree::{Expr, Value as TreeValue};
 use vhdl_names_types::{Sight, Typed};
 use vhdl_names_units::Given;
+use vhdl_tree::{Expr, Value as TreeValue};
 
 /// The truth that an operand is, which starts at byte `at`; one element is one.
 fn as_test(operand: Typed, at: usize) -> Result<Test, NameFault>

@@ -15,11 +15,11 @@ ghost use Rattle.vhdl_names_types.specs.Views.{meaning_view, sight_view, typed_v
 
 use std::alloc::Global;
 use vhdl_names_rules::{NameFault, NameProblem, Static, StaticRange};
-use vhdl_tree::{Chain, Expr, Link, Name, Range, Suffix};
 use vhdl_names_types::{
     Meaning, Sight, Typed, TypedSuffix, attributed, bit_string_literal, character_literal, denoted,
     enclosed, integer_literal, inverse, meaning_of, operated, signed, string_literal,
 };
+use vhdl_tree::{Chain, Expr, Link, Name, Range, Suffix};
 
 /// The byte at which an expression starts.
 pub fn start(e: &Expr) -> usize {

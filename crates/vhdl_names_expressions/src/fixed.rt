@@ -14,10 +14,10 @@ ghost use Rattle.vhdl_names_units.specs.views.Answers.{fixed_view};
 use crate::expressions::{start, typed_suffix};
 use crate::literals::{literal_problem, literal_values, name_of};
 use std::alloc::Global;
-use vhdl_names_rules::{Function, ElementKind, NameFault, NameProblem, ObjectType, nine_of};
-use vhdl_tree::{Expr, Name, Value as TreeValue};
+use vhdl_names_rules::{ElementKind, Function, NameFault, NameProblem, ObjectType, nine_of};
 use vhdl_names_types::{Meaning, Sight, Typed, TypedSuffix, meaning_of, two_arguments};
 use vhdl_names_units::Fixed;
+use vhdl_tree::{Expr, Name, Value as TreeValue};
 
 /// What is wrong with a name of this meaning as the value of a constant.
 fn value_problem(meaning: &Meaning) -> NameProblem {
@@ -36,7 +36,9 @@ fn constant_value(kind: ElementKind, meaning: &Meaning, at: usize) -> Result<Fix
     match (kind, meaning) {
         (ElementKind::Element, Meaning::Constant(k, ElementKind::Element, _))
         | (ElementKind::LogicVector, Meaning::Constant(k, ElementKind::LogicVector, _))
-        | (ElementKind::Unsigned, Meaning::Constant(k, ElementKind::Unsigned, _)) => Ok(Fixed::Constant(*k)),
+        | (ElementKind::Unsigned, Meaning::Constant(k, ElementKind::Unsigned, _)) => Ok(
+            Fixed::Constant(*k),
+        ),
         _ => Err(value_problem(meaning).at(at)),
     }
 }

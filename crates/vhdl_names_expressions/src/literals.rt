@@ -10,8 +10,8 @@ ghost use Rattle.vhdl_names_expressions.specs.Chosen.{as_name, character_values 
 use crate::expressions::start;
 use std::alloc::Global;
 use vhdl_names_rules::{ElementKind, NameFault, NameProblem, nine_of};
-use vhdl_tree::{Expr, Name};
 use vhdl_names_types::{bit_string_values, string_values};
+use vhdl_tree::{Expr, Name};
 use vhdl_values::Nine;
 
 /// The name that an expression is.
@@ -33,7 +33,12 @@ pub(crate) fn name_of(e: &Expr) -> Option<&Name>
 }
 
 /// The values of a character literal at byte `at`, which is one element.
-fn character_values(alloc: Global, kind: ElementKind, code: u8, at: usize) -> Result<Vec<Nine>, NameFault>
+fn character_values(
+    alloc: Global,
+    kind: ElementKind,
+    code: u8,
+    at: usize,
+) -> Result<Vec<Nine>, NameFault>
     ensures { Gives (λ v. v.items) (character_values_of kind code) result }
 {
     match (kind, nine_of(code)) {
@@ -60,7 +65,11 @@ pub(crate) fn literal_problem(e: &Expr) -> NameProblem {
 /// The values of a literal as it stands: a character for one element, a string or a bit string for a
 /// vector. It takes the memory of a list.
 #[tactic(auto, using(crate::proofs::Choosing::literal_character, crate::proofs::Choosing::literal_string, crate::proofs::Choosing::literal_bits, crate::proofs::Choosing::no_literal, crate::proofs::Choosing::chain_is_no_literal))]
-pub(crate) fn literal_values(alloc: Global, kind: ElementKind, e: &Expr) -> Result<Vec<Nine>, NameFault>
+pub(crate) fn literal_values(
+    alloc: Global,
+    kind: ElementKind,
+    e: &Expr,
+) -> Result<Vec<Nine>, NameFault>
     ensures { Gives (λ v. v.items) (subtypes.literal_values kind (view e.now)) result }
 {
     match e {

@@ -10,10 +10,10 @@ ghost use Rattle.vhdl_names_units.specs.views.Answers.{signal_name_view, variabl
 
 use crate::expressions::typed_suffix;
 use std::alloc::Global;
-use vhdl_names_rules::{NameFault, NameProblem, ObjectType, SignalPart, Signal};
-use vhdl_tree::{Mode, Name};
+use vhdl_names_rules::{NameFault, NameProblem, ObjectType, Signal, SignalPart};
 use vhdl_names_types::{Meaning, Sight, TypedSuffix, meaning_of, part_of};
 use vhdl_names_units::{SignalName, VariableName};
+use vhdl_tree::{Mode, Name};
 
 /// What is wrong with a name of this meaning where an object is wanted.
 fn object_problem(meaning: &Meaning) -> NameProblem {

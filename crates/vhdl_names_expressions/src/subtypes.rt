@@ -12,9 +12,9 @@ ghost use Rattle.vhdl_names_units.specs.views.Answers.{subtype_view};
 use crate::expressions::static_range;
 use std::alloc::Global;
 use vhdl_names_rules::{ElementKind, NameFault, NameProblem, ObjectType};
-use vhdl_tree::{Range, Subtype as TreeSubtype};
 use vhdl_names_types::{Meaning, Sight, meaning_of};
 use vhdl_names_units::{Form, Subtype};
+use vhdl_tree::{Range, Subtype as TreeSubtype};
 
 /// What is wrong with a type mark: it is no type, or its range is missing or too much.
 fn mark_problem(meaning: &Meaning) -> NameProblem {

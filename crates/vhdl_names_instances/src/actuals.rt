@@ -16,11 +16,11 @@ ghost use Rattle.vhdl_names_types.specs.Views.{sight_view};
 ghost use Rattle.vhdl_names_units.specs.views.Answers.{signal_name_view};
 
 use std::alloc::Global;
-use vhdl_names_rules::{ElementKind, NameFault, NameProblem, ObjectType, SignalPart, Static};
-use vhdl_tree::{Expr, Mode, Name, Suffix};
-use vhdl_names_types::{Meaning, Sight};
 use vhdl_names_expressions::{signal, start, static_integer};
+use vhdl_names_rules::{ElementKind, NameFault, NameProblem, ObjectType, SignalPart, Static};
+use vhdl_names_types::{Meaning, Sight};
 use vhdl_names_units::SignalName;
+use vhdl_tree::{Expr, Mode, Name, Suffix};
 
 /// A port as it is associated: its mode and kind.
 #[derive(Clone, Copy)]
@@ -112,7 +112,12 @@ fn actual_signal(alloc: Global, sight: &Sight, name: &Name) -> Result<SignalName
 
 /// The actual of a port: the name of a signal or port, or of a part of one.
 #[tactic(auto, unfolding(vhdl_names_rules::specs::Instances::port_actual))]
-fn port_actual(alloc: Global, sight: &Sight, port: PortType, e: &Expr) -> Result<SignalPart, NameFault>
+fn port_actual(
+    alloc: Global,
+    sight: &Sight,
+    port: PortType,
+    e: &Expr,
+) -> Result<SignalPart, NameFault>
     ensures { Gives place_view (rules.port_actual (sight_view sight.now) (steps.formal port) (view e.now)) result }
 {
     match as_name(e) {

@@ -10,9 +10,9 @@ ghost use Rattle.vhdl_tree.specs.View.{view, option_ident_view, association_view
 
 use indexmap::IndexSet;
 use std::alloc::{AllocError, Global};
+use vhdl_names_expressions::start;
 use vhdl_names_rules::{NameFault, NameProblem};
 use vhdl_tree::{Actual, Association, Expr};
-use vhdl_names_expressions::start;
 
 /// Names in order, each of which stands once.
 pub type Names = IndexSet<Vec<u8>>;

@@ -19,10 +19,10 @@ use crate::maps::maps;
 use std::alloc::Global;
 use vhdl_names_labels::{copied, earlier_in, is_text};
 use vhdl_names_rules::{NameFault, NameProblem};
-use vhdl_tree as syntax;
-use vhdl_tree::{Association, Identifier, Instantiated};
 use vhdl_names_types::{Meaning, Sight, meaning_of};
 use vhdl_names_units::Instance;
+use vhdl_tree as syntax;
+use vhdl_tree::{Association, Identifier, Instantiated};
 
 /// What instances see of an entity: the name of its architecture, if the file has one, its
 /// generics, and its ports with their types.
@@ -137,7 +137,11 @@ fn as_component(meaning: &Meaning, at: usize) -> Result<usize, NameFault>
 }
 
 /// The number of the entity that is instantiated.
-fn instantiated(entities: &InstanceEntities, sight: &Sight, unit: &Instantiated) -> Result<usize, NameFault>
+fn instantiated(
+    entities: &InstanceEntities,
+    sight: &Sight,
+    unit: &Instantiated,
+) -> Result<usize, NameFault>
     ensures { Gives (λ k. k) (steps.instantiated (names_view entities.now.names) (seens_view entities.now.formals)
         (sight_view sight.now) (tree.instantiated_view unit.now)) result }
 {

@@ -10,5 +10,5 @@ mod tables;
 
 pub use actuals::PortType;
 pub use associations::{Names, add_name, associated};
-pub use instances::{InstanceEntities, Formals, instance, instance_in_turn};
+pub use instances::{Formals, InstanceEntities, instance, instance_in_turn};
 pub use tables::formals_of;

@@ -7,9 +7,9 @@ use indexmap::IndexSet;
 use std::alloc::{AllocError, Global};
 use vhdl_names_labels::earlier_in;
 use vhdl_names_rules::NameFault;
+use vhdl_names_types::Sight;
 use vhdl_tree as syntax;
 use vhdl_tree::Association;
-use vhdl_names_types::Sight;
 
 /// A generic map, association by association: the formal, then the actual.
 fn generic_map(

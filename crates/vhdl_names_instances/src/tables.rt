@@ -14,8 +14,8 @@ use crate::instances::Formals;
 use indexmap::IndexSet;
 use std::alloc::{AllocError, Global};
 use vhdl_names_rules::NameFault;
-use vhdl_tree::Identifier;
 use vhdl_names_types::{Meaning, Region};
+use vhdl_tree::Identifier;
 
 fn is_generic(meaning: &Meaning) -> bool
     ensures { result ≡ visibility.is_generic (meaning_view meaning.now) }

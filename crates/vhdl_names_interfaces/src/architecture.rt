@@ -13,8 +13,8 @@ use indexmap::IndexMap;
 use std::alloc::{AllocError, Global};
 use vhdl_names_declarations::{context_after, copied_values, declare_name, sight_of};
 use vhdl_names_rules::NameFault;
-use vhdl_tree::ContextItem;
 use vhdl_names_types::{Meaning, Region, Sight};
+use vhdl_tree::ContextItem;
 
 /// A copy of what a name is declared to be. It takes the memory of a constant's literal.
 fn copied_meaning(alloc: Global, meaning: &Meaning) -> Result<Meaning, AllocError>

@@ -19,9 +19,9 @@ use vhdl_names_declarations::generics::generics;
 use vhdl_names_declarations::ports::ports;
 use vhdl_names_declarations::{Context, context_after, ends, sight_of};
 use vhdl_names_rules::NameFault;
-use vhdl_tree::{ContextItem, Entity, Generic, Identifier, Port};
 use vhdl_names_types::{Region, Sight};
 use vhdl_names_units::{Generics, Ports};
+use vhdl_tree::{ContextItem, Entity, Generic, Identifier, Port};
 
 /// An entity as its architecture and its instances see it.
 #[derive(Drop)]

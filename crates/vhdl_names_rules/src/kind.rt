@@ -74,7 +74,10 @@ impl ElementKind {
     {
         match self {
             ElementKind::Element => other == ElementKind::Element,
-            ElementKind::LogicVector => matches!(other, ElementKind::LogicVector | ElementKind::OpenVector),
+            ElementKind::LogicVector => matches!(
+                other,
+                ElementKind::LogicVector | ElementKind::OpenVector
+            ),
             ElementKind::Unsigned => other.is_number(),
             ElementKind::OpenVector => false,
         }

@@ -13,8 +13,8 @@ mod vector;
 
 pub use fault::{NameFault, NameProblem};
 pub use integer::{Static, StaticLink, StaticRange, StaticStart};
-pub use kind::{Function, ElementKind, ObjectType};
+pub use kind::{ElementKind, Function, ObjectType};
 pub use literal::nine_of;
 pub use operator::{Arithmetic, IntegerType, Numeric, VectorOperator};
 pub use test::{StaticTest, StaticTestLink, StaticTestStart, Test, TestLink, TestStart};
-pub use vector::{Part, SignalPart, Signal, Value, Vector, VectorLink, VectorStart};
+pub use vector::{Part, Signal, SignalPart, Value, Vector, VectorLink, VectorStart};

@@ -15,13 +15,13 @@ ghost use Rattle.vhdl_names_units.specs.views.Sequential as views;
 use crate::choices::{but_last, covered, first_fault};
 use crate::statements::assigned;
 use std::alloc::{AllocError, Global};
+use vhdl_names_expressions::{choices, condition, selector, target};
 use vhdl_names_labels::copied_label;
 use vhdl_names_rules::{NameFault, ObjectType};
+use vhdl_names_types::Sight;
+use vhdl_names_units::{Alternative, Branch, Process, Sensitivity, Statement};
 use vhdl_tree as syntax;
 use vhdl_tree::Identifier;
-use vhdl_names_types::Sight;
-use vhdl_names_expressions::{choices, condition, selector, target};
-use vhdl_names_units::{Alternative, Branch, Process, Sensitivity, Statement};
 
 /// A statement alone.
 fn single(alloc: Global, statement: Statement) -> Result<Vec<Statement>, AllocError>

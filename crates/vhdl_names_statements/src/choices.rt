@@ -17,12 +17,12 @@ ghost use Rattle.vhdl_names_units.specs.views.Sequential as views;
 
 use indexmap::IndexSet;
 use std::alloc::{AllocError, Global};
+use vhdl_names_expressions::{choices, start};
 use vhdl_names_labels::{earlier, earlier_in};
 use vhdl_names_rules::{NameFault, NameProblem, ObjectType};
-use vhdl_tree as syntax;
 use vhdl_names_types::Sight;
-use vhdl_names_expressions::{choices, start};
 use vhdl_names_units::{Alternative, Choice, Statement};
+use vhdl_tree as syntax;
 
 /// What tells choices apart: the places of their values among the nine, or 9 and a position.
 type Keys = IndexSet<Vec<usize>>;

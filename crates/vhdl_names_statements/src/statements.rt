@@ -18,12 +18,12 @@ ghost use Rattle.vhdl_names_statements.specs.steps.Sequential as steps;
 use crate::choices::{but_last, choice_lists, covered, first_fault};
 use crate::held::ended;
 use std::alloc::Global;
+use vhdl_names_expressions::{choices, condition, given, selector, static_range, target, variable};
 use vhdl_names_rules::{NameFault, ObjectType};
+use vhdl_names_types::{Declared, Meaning, Sight};
+use vhdl_names_units::{Alternative, Branch, Statement};
 use vhdl_tree as syntax;
 use vhdl_tree::Identifier;
-use vhdl_names_types::{Declared, Meaning, Sight};
-use vhdl_names_expressions::{choices, condition, given, selector, static_range, target, variable};
-use vhdl_names_units::{Alternative, Branch, Statement};
 
 /// An assignment to a signal.
 pub(crate) fn assigned(

@@ -15,7 +15,8 @@ ghost use Rattle.vhdl_names_types.specs.Views.{typed_view, typed_suffix_view};
 use crate::parts::sole_argument;
 use crate::types::{Typed, TypedSuffix};
 use vhdl_names_rules::{
-    ElementKind, NameFault, NameProblem, Part, SignalPart, Static, StaticLink, StaticStart, Test, Vector,
+    ElementKind, NameFault, NameProblem, Part, SignalPart, Static, StaticLink, StaticStart, Test,
+    Vector,
 };
 use vhdl_values::Edge;
 

@@ -1,6 +1,6 @@
 //! What names are declared to be (IEEE 1076-2008, 6.1).
 
-use vhdl_names_rules::{Function, IntegerType, ElementKind, ObjectType};
+use vhdl_names_rules::{ElementKind, Function, IntegerType, ObjectType};
 use vhdl_tree::Mode;
 use vhdl_values::Nine;
 

@@ -19,7 +19,8 @@ use crate::parts::{if_plain, part, sole_argument, two_arguments};
 use crate::types::{Typed, TypedSuffix};
 use std::alloc::Global;
 use vhdl_names_rules::{
-    Function, ElementKind, NameFault, NameProblem, ObjectType, SignalPart, Signal, Static, Test, Value, Vector,
+    ElementKind, Function, NameFault, NameProblem, ObjectType, Signal, SignalPart, Static, Test,
+    Value, Vector,
 };
 use vhdl_tree::Identifier;
 
@@ -67,9 +68,12 @@ fn conversion_of(kind: ElementKind, operand: Option<Typed>, at: usize) -> Result
     ensures { Gives typed_view (conversion kind (option_map typed_view operand)) result }
 {
     match operand {
-        Some(Typed::Elements(ElementKind::LogicVector | ElementKind::Unsigned | ElementKind::OpenVector, vector)) => {
-            Ok(Typed::Elements(kind, vector))
-        }
+        Some(
+            Typed::Elements(
+                ElementKind::LogicVector | ElementKind::Unsigned | ElementKind::OpenVector,
+                vector,
+            ),
+        ) => { Ok(Typed::Elements(kind, vector)) }
         _operand => Err(NameProblem::TypeMismatch.at(at)),
     }
 }

@@ -12,8 +12,8 @@ ghost use Rattle.vhdl_names_types.specs.Views.{typed_view};
 use crate::types::Typed;
 use std::alloc::Global;
 use vhdl_names_rules::{
-    Arithmetic, ElementKind, NameFault, NameProblem, Numeric, Static, StaticTest, Test, Value, Vector,
-    VectorLink, VectorOperator,
+    Arithmetic, ElementKind, NameFault, NameProblem, Numeric, Static, StaticTest, Test, Value,
+    Vector, VectorLink, VectorOperator,
 };
 use vhdl_tree::Operator;
 use vhdl_values::{Cmp, Logic};
@@ -195,7 +195,9 @@ fn equality(at: usize, comparison: Cmp, operands: (Typed, Typed)) -> Result<Type
         Typed::Elements(j, x) => match right {
             Typed::Elements(k, y) => match j.common(k) {
                 None => Err(problem.at(at)),
-                Some(ElementKind::Unsigned) => Ok(Typed::Truth(Test::Compared(comparison, at, x, y))),
+                Some(ElementKind::Unsigned) => Ok(Typed::Truth(Test::Compared(
+                    comparison, at, x, y,
+                ))),
                 Some(_) => Ok(same(comparison, at, Value::Elements(x), Value::Elements(y))),
             },
             Typed::Integer(t) => match j {

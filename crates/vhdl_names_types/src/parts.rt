@@ -31,12 +31,19 @@ pub fn two_arguments(mut arguments: Vec<Typed>) -> Option<(Typed, Typed)>
 }
 
 /// The element of a vector at an index.
-fn element(kind: ElementKind, index: Option<Typed>, at: usize) -> Result<(Part, ElementKind), NameFault>
+fn element(
+    kind: ElementKind,
+    index: Option<Typed>,
+    at: usize,
+) -> Result<(Part, ElementKind), NameFault>
     ensures { Gives (λ p. (part_view p.0, p.1)) (indexed kind (option_map typed_view index)) result }
 {
     match index {
         Some(Typed::Integer(index)) => match kind {
-            ElementKind::LogicVector | ElementKind::Unsigned => Ok((Part::Element(index), ElementKind::Element)),
+            ElementKind::LogicVector | ElementKind::Unsigned => Ok((
+                Part::Element(index),
+                ElementKind::Element,
+            )),
             _ => Err(NameProblem::TypeMismatch.at(at)),
         },
         _index => Err(NameProblem::TypeMismatch.at(at)),
@@ -45,7 +52,11 @@ fn element(kind: ElementKind, index: Option<Typed>, at: usize) -> Result<(Part, 
 
 /// The part of an object of a kind that stands behind its name at byte `at`, and its kind.
 #[tactic(auto, using(crate::proofs::Meant::part_indexed))]
-pub(crate) fn part(kind: ElementKind, suffix: TypedSuffix, at: usize) -> Result<(Part, ElementKind), NameFault>
+pub(crate) fn part(
+    kind: ElementKind,
+    suffix: TypedSuffix,
+    at: usize,
+) -> Result<(Part, ElementKind), NameFault>
     ensures { Gives (λ p. (part_view p.0, p.1)) (rules.part kind (typed_suffix_view suffix)) result }
 {
     match suffix {

@@ -6,9 +6,9 @@ ghost use Rattle.vhdl_parser.specs.reader.Concurrent as read;
 ghost use Rattle.vhdl_parser.specs.reader.Concurrent.{generate_body_view};
 ghost use Rattle.vhdl_parser_expressions.specs.reader.Input.{Reads};
 
+use vhdl_lexer::TokenKind;
 use vhdl_parser_declarations::instance;
 use vhdl_parser_expressions::{Parser, Stop, below};
-use vhdl_lexer::TokenKind;
 use vhdl_parser_statements::{
     conditional_waveforms, end_of, optional_label, process, selected_assignment,
 };
@@ -109,7 +109,9 @@ fn unlabelled(parser: &mut Parser<'_>, levels: usize) -> Result<Concurrent, Stop
     match parser.peek() {
         Some(TokenKind::With) => selected(parser, levels, None),
         Some(TokenKind::Process) => process_statement(parser, levels, None),
-        Some(TokenKind::Identifier) => Ok(Concurrent::Assignment(assignment(parser, levels, None)?)),
+        Some(TokenKind::Identifier) => Ok(Concurrent::Assignment(assignment(
+            parser, levels, None,
+        )?)),
         _ => Err(parser.refuse()),
     }
 }
@@ -149,7 +151,9 @@ fn labelled(parser: &mut Parser<'_>, levels: usize, label: Identifier) -> Result
     match parser.peek() {
         Some(TokenKind::With) => selected(parser, levels, Some(label)),
         Some(TokenKind::Process) => process_statement(parser, levels, Some(label)),
-        Some(TokenKind::Entity) | Some(TokenKind::Component) => instance_statement(parser, levels, label),
+        Some(TokenKind::Entity) | Some(TokenKind::Component) => instance_statement(
+            parser, levels, label,
+        ),
         Some(TokenKind::For) => for_generate(parser, levels, label),
         Some(TokenKind::If) => if_generate(parser, levels, label),
         Some(TokenKind::Identifier) => instance_or_assignment(parser, levels, label),

@@ -16,8 +16,8 @@ ghost use Rattle.vhdl_tree.specs.grammar.Units.{spell_file, IsFile};
 use crate::fault::SyntaxFault;
 use crate::unit::file;
 use std::alloc::Global;
-use vhdl_parser_expressions::{Parser, Stop};
 use vhdl_lexer::Token;
+use vhdl_parser_expressions::{Parser, Stop};
 use vhdl_tree::File;
 
 /// The tree that the tokens of a source spell, by the grammar of docs/LANGUAGE.md.

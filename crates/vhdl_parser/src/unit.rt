@@ -7,9 +7,9 @@ ghost use Rattle.vhdl_parser_expressions.specs.reader.Input.{Reads};
 ghost use Rattle.vhdl_parser.specs.reader.Units as read;
 
 use crate::concurrent::concurrents;
+use vhdl_lexer::TokenKind;
 use vhdl_parser_declarations::{context_clause, declarations, optional_generics, optional_ports};
 use vhdl_parser_expressions::{Parser, Stop, many};
-use vhdl_lexer::TokenKind;
 use vhdl_tree::{Architecture, DesignUnit, Entity, File, LibraryUnit, MAX_OPEN};
 
 #[tactic(auto, unfolding(crate::specs::reader::Units::entity_unit))]

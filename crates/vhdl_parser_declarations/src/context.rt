@@ -6,8 +6,8 @@ ghost use Rattle.vhdl_parser_expressions.specs.reader.Input as input;
 ghost use Rattle.vhdl_parser_expressions.specs.reader.Input.{Reads};
 ghost use Rattle.vhdl_parser_declarations.specs.reader.Context as read;
 
-use vhdl_parser_expressions::{Parser, Stop, many, separated};
 use vhdl_lexer::TokenKind;
+use vhdl_parser_expressions::{Parser, Stop, many, separated};
 use vhdl_parser_statements::identifiers;
 use vhdl_tree::{ContextItem, Selected};
 

@@ -7,8 +7,8 @@ ghost use Rattle.vhdl_parser_expressions.specs.reader.Input as input;
 ghost use Rattle.vhdl_parser_expressions.specs.reader.Input.{Reads};
 
 use crate::interface::{optional_generics, optional_ports};
-use vhdl_parser_expressions::{Parser, Stop, below, many};
 use vhdl_lexer::TokenKind;
+use vhdl_parser_expressions::{Parser, Stop, below, many};
 use vhdl_parser_statements::{identifiers, object_declaration, subtype};
 use vhdl_tree::{Component, Constants, Declaration, Enumeration, Signals, Value};
 
@@ -105,8 +105,10 @@ fn begins_declaration(parser: &Parser<'_>) -> bool
     ensures { result ≡ read.begins_declaration (input.next_kind parser.now) }
 {
     match parser.peek() {
-        Some(TokenKind::Signal) | Some(TokenKind::Constant) | Some(TokenKind::Type) | Some(TokenKind::Component) =>
-            true,
+        Some(TokenKind::Signal)
+        | Some(TokenKind::Constant)
+        | Some(TokenKind::Type)
+        | Some(TokenKind::Component) => true,
         _ => false,
     }
 }

@@ -7,8 +7,8 @@ ghost use Rattle.vhdl_parser_expressions.specs.reader.Input as input;
 ghost use Rattle.vhdl_parser_expressions.specs.reader.Input.{Reads};
 ghost use Rattle.vhdl_parser_declarations.specs.reader.Instance as read;
 
-use vhdl_parser_expressions::{Parser, Stop, below};
 use vhdl_lexer::TokenKind;
+use vhdl_parser_expressions::{Parser, Stop, below};
 use vhdl_tree::{Association, Identifier, Instance, Instantiated};
 
 #[tactic(auto, unfolding(crate::specs::reader::Instance::chosen))]

@@ -5,8 +5,8 @@ ghost use Rattle.vhdl_tree.specs.View.{view, option_expr_view, generic_view, gen
 ghost use Rattle.vhdl_parser_declarations.specs.reader.Declarations as read;
 ghost use Rattle.vhdl_parser_expressions.specs.reader.Input.{Reads};
 
-use vhdl_parser_expressions::{Parser, Stop, below, separated};
 use vhdl_lexer::TokenKind;
+use vhdl_parser_expressions::{Parser, Stop, below, separated};
 use vhdl_parser_statements::{identifiers, optional_default, subtype};
 use vhdl_tree::{Expr, Generic, Mode, Port};
 
@@ -51,7 +51,11 @@ fn generic(parser: &mut Parser<'_>, levels: usize) -> Result<Generic, Stop>
 fn generic_list(parser: &mut Parser<'_>, levels: usize) -> Result<Vec<Generic>, Stop>
     ensures { Reads generics_view (read.generic_list levels parser.old) result parser.new }
 {
-    separated(parser, TokenKind::Semicolon, |parser| generic(parser, levels))
+    separated(
+        parser,
+        TokenKind::Semicolon,
+        |parser| generic(parser, levels),
+    )
 }
 
 #[tactic(auto, unfolding(crate::specs::reader::Declarations::generics))]

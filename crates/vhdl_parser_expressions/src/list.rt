@@ -36,7 +36,11 @@ where
 
 /// One item or more that `item` reads, with separators between them. Where `item` stops, so does this. It
 /// takes the memory of the list.
-pub fn separated<T, I>(parser: &mut Parser<'_>, separator: TokenKind, item: I) -> Result<Vec<T>, Stop>
+pub fn separated<T, I>(
+    parser: &mut Parser<'_>,
+    separator: TokenKind,
+    item: I,
+) -> Result<Vec<T>, Stop>
 where
     T: Drop,
     I: Fn(&mut Parser<'_>) -> Result<T, Stop> + Drop,

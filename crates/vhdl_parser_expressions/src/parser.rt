@@ -12,7 +12,7 @@ ghost use Rattle.vhdl_parser_expressions.specs.reader.Input.{Reads, Takes};
 use crate::stop::Stop;
 use std::alloc::{AllocError, Global};
 use std::marker::Model;
-use vhdl_lexer::{TokenKind, Token};
+use vhdl_lexer::{Token, TokenKind};
 use vhdl_tree::{Identifier, Literal};
 
 /// A place among the tokens of a source. Contracts see it as the lexemes that are ahead.

@@ -7,8 +7,8 @@ ghost use Rattle.vhdl_parser_statements.specs.reader.Behind.{start};
 ghost use Rattle.vhdl_parser_statements.specs.reader.Sequential as read;
 
 use crate::sequential::end_of;
-use vhdl_parser_expressions::{Parser, Stop};
 use vhdl_lexer::TokenKind;
+use vhdl_parser_expressions::{Parser, Stop};
 use vhdl_tree::Identifier;
 
 /// What was read, and behind it a token of this kind.

@@ -7,8 +7,8 @@ ghost use Rattle.vhdl_parser_statements.specs.reader.Subtypes as read;
 ghost use Rattle.vhdl_parser_statements.specs.reader.Subtypes.{objects_view};
 
 use crate::behind::followed;
-use vhdl_parser_expressions::{Parser, Stop, below, separated};
 use vhdl_lexer::TokenKind;
+use vhdl_parser_expressions::{Parser, Stop, below, separated};
 use vhdl_tree::{Identifier, Range, Subtype, Value};
 
 /// One identifier or more, with commas between.

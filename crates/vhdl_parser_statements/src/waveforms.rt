@@ -9,8 +9,8 @@ ghost use Rattle.vhdl_parser_statements.specs.reader.Waveforms as read;
 ghost use Rattle.vhdl_parser_statements.specs.reader.Waveforms.{part_view, conditional_view};
 
 use crate::behind::followed;
-use vhdl_parser_expressions::{Parser, Stop, separated};
 use vhdl_lexer::TokenKind;
+use vhdl_parser_expressions::{Parser, Stop, separated};
 use vhdl_tree::{Branch, Expr, SelectedAssignment, Value, Waveform};
 
 #[tactic(auto, unfolding(crate::specs::reader::Waveforms::condition))]
@@ -118,7 +118,11 @@ pub fn selected_assignment(
     let target = parser.name(levels)?;
     let parts = followed(parser, (selector, target), TokenKind::LessEqual)?;
     let waveforms = waveforms(parser, levels)?;
-    let ((selector, target), waveforms) = followed(parser, (parts, waveforms), TokenKind::Semicolon)?;
+    let ((selector, target), waveforms) = followed(
+        parser,
+        (parts, waveforms),
+        TokenKind::Semicolon,
+    )?;
     Ok(SelectedAssignment {
         at,
         selector,

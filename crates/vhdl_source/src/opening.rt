@@ -14,15 +14,15 @@ ghost use Rattle.vhdl_names_units.specs.views.Units.{units_view};
 
 use rtl_net::Net;
 use std::alloc::Global;
-use vhdl_source_rules::{Front, SourceFault};
 use vhdl_elab::elaborate;
 use vhdl_expand_rules::ElabFault;
-use vhdl_names::analyse;
 use vhdl_lexer::lex;
+use vhdl_names::analyse;
 use vhdl_names_rules::NameFault;
-use vhdl_parser::parse;
-use vhdl_tree::File;
 use vhdl_names_units::Units;
+use vhdl_parser::parse;
+use vhdl_source_rules::{Front, SourceFault};
+use vhdl_tree::File;
 
 /// The netlist of a source: `source` has the bytes of one file, `top` the name of an entity in it, in letters of either case. The
 /// file is read, its names and types are analysed, and its top is elaborated (IEEE 1076-2008, clauses 15, 12 and 14). It takes

@@ -6,7 +6,7 @@ ghost use Rattle.rtlsim_commands.specs.Notices as notices;
 ghost use Rattle.rtlsim_commands.specs.Notices.{entry_of, lex_entry, syntax_entry, names_entry, elab_entry, stim_entry};
 
 use super::titles::{elab_number, elab_title, name_number, name_title};
-use super::{Notice, FaultPlace};
+use super::{FaultPlace, Notice};
 use rtl_stim::StimFault;
 use vhdl_expand_rules::ElabFault;
 use vhdl_lexer::LexFault;
@@ -99,7 +99,12 @@ pub(crate) fn stim_notice(fault: &StimFault) -> Option<Notice>
 {
     match *fault {
         StimFault::InLine { problem, line } => {
-            Notice::some("stim", problem.number(), problem.title(), FaultPlace::Line(line))
+            Notice::some(
+                "stim",
+                problem.number(),
+                problem.title(),
+                FaultPlace::Line(line),
+            )
         }
         StimFault::NoStop => Notice::some("stim", 6, "NoStop", FaultPlace::Nowhere),
         StimFault::Race { time, .. } => Notice::some("stim", 8, "Race", FaultPlace::Time(time)),
