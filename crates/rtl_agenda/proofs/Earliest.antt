@@ -53,12 +53,6 @@ pub unfilled : (chain : List Timed) → is_filled chain ≡ false → chain ≡ 
 unfilled [] is = refl
 unfilled (x ∷ xs) is = absurd (cc)
 
--- a lower bound of a chain's times, by a bound of the answer
-pub none_earlier_than : (o : Option ℕ) (t bound : ℕ) (chain : List Timed) → o ≡ Some t → t ≤ bound → All (λ (x : Timed). bound ≤ x.0) chain → NoneIsEarlier o chain
-none_earlier_than o t bound chain is le all =
-    let P : Option ℕ → Type 0 = λ p. NoneIsEarlier p chain in
-    subst P (sym is) (λ k d within. let h = all k d within in omega arith)
-
 -- ---- times by their remainders
 
 pub ahead : (n a b : ℕ) → 0 < n → b ≤ a → b % n ≤ a % n → b + (a % n - b % n) ≤ a

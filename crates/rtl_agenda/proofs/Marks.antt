@@ -3,28 +3,10 @@ use Rattle.std.proofs.Common.{◌≡◌, ◌≢◌, ◌⊎◌, ℕ, ◌+◌, ◌
 use Rattle.std.specs.Prelude.{◌==◌}
 use Rattle.std.specs.Int.{bit_at, trailing_zeros, w64}
 use Rattle.std.proofs.lemmas.Bool.{cases_eq, cases_lt}
-use Rattle.std.proofs.lemmas.List.{get_or-set_same, get_or-set_other, get_or_past}
+use Rattle.std.proofs.lemmas.List.{get_or-set_same, get_or-set_other}
 use Rattle.std.proofs.lemmas.Nat.{shr-shr}
 use Rattle.std.proofs.lemmas.Nat.Bits.{bit_at-zero, bit_at-trailing_zeros, bit_at_above}
 use Rattle.rtl_agenda.specs.Occupied.{is_marked}
-
--- words that are all 0 mark no slot
-pub none_marked : (words : List ℕ) → ((i : ℕ) → get_or words i 0 ≡ 0) → (s : ℕ) → is_marked words s ≡ false
-none_marked words zeros s = ap (λ n. n == 1) (ap (λ n. bit_at n (s % 64)) (zeros (s / 64)) ∙ bit_at-zero (s % 64))
-
-zeros_past : (words : List ℕ) (n : ℕ) → length words ≡ n → ((k d : ℕ) → k < n → get_or words k d ≡ 0) → (i : ℕ) → get_or words i 0 ≡ 0
-zeros_past words n long each i = by (cases_lt i n)
-  where
-    by : (i < n) ⊎ (n ≤ i) → get_or words i 0 ≡ 0
-    by (inl inside) = each i 0 inside
-    by (inr past) = get_or_past words i 0 (omega arith)
-
-pub none_marked_new : (words : List ℕ) (n : ℕ) → length words ≡ n → ((k d : ℕ) → k < n → get_or words k d ≡ 0) → (s : ℕ) → is_marked words s ≡ false
-none_marked_new words n long each = none_marked words (zeros_past words n long each)
-
--- a slot past the words isn't marked
-pub unmarked_past : (words : List ℕ) (s : ℕ) → length words ≤ s / 64 → is_marked words s ≡ false
-unmarked_past words s past = ap (λ n. n == 1) (ap (λ n. bit_at n (s % 64)) (get_or_past words (s / 64) 0 past) ∙ bit_at-zero (s % 64))
 
 -- a word that is written changes the bit of a slot alone
 module _ (words : List ℕ) (slot word : ℕ) (within : slot / 64 < length words) where

@@ -1,20 +1,17 @@
 -- What the bound on delta cycles counts, by the kinds of processes and the clocks.
-use Rattle.std.proofs.Common.{◌≡◌, ℕ, ◌<◌, Bool, true, false, ◌==◌, not, List, [], ◌∷◌, length, get_or, map, refl, sym, ap, ◌∙◌, arith, Option, Some, None}
-use Rattle.std.specs.Prelude.{option_map}
-use Rattle.std.specs.Option.{is_some}
+use Rattle.std.proofs.Common.{◌≡◌, ℕ, ◌<◌, Bool, true, false, ◌==◌, not, List, [], ◌∷◌, length, get_or, map, refl, sym, ap, ◌∙◌, arith, Option}
 use Rattle.std.specs.List.{list_any}
 use Rattle.std.proofs.lemmas.Bool.{ne_eqb}
 use Rattle.std.proofs.lemmas.List.{get_or_default}
 use Rattle.rtl_model.specs.nets.FlatNetlist.{flat_sources}
 use Rattle.rtl_model.specs.simulation.Netlist as m
-use Rattle.rtl_model.specs.simulation.Netlist.{Netlist, Process, Reset, Source, process, no_process, kind_reset, sources_of}
+use Rattle.rtl_model.specs.simulation.Netlist.{Netlist, Process, Reset, Source, process, no_process, sources_of}
 use Rattle.rtl_model.specs.simulation.Levels.{is_clocked, has_clocked, is_driver, has_late_reset}
 use Rattle.rtl_model.proofs.basics.Lists.{any_true, all_none, in_contains, contains_in, Contains-none, Contains-first}
 use Rattle.rtl_net.specs.declared.net.Source.{Source as Kept}
 use Rattle.rtl_net.specs.Nets.{NetlistView, flat, source_view}
 use Rattle.rtl_net_facts.specs.declared.kinds.ProcessKind.{ProcessKind}
-use Rattle.rtl_net_facts.specs.declared.kinds.ProcessKind.TheVariants as k
-use Rattle.rtl_check.specs.Views.{core, IsKind, reset_net}
+use Rattle.rtl_check.specs.Views.{core}
 use Rattle.rtl_check.specs.Rules.{AreClockNets}
 use Rattle.rtl_check.specs.Bounds as b
 use Rattle.rtl_check.proofs.Processes.{clock_there}
@@ -43,18 +40,6 @@ some_clocked net (n ∷ ns) cs =
     nonzero e = omega (arith, e)
 
 -- ---- resets
-
-is_some_map : (o : Option Reset) → is_some (option_map reset_net o) ≡ is_some o
-is_some_map None = refl
-is_some_map (Some r) = refl
-
-pub resets_is : (q : Process) (kind : ProcessKind) → IsKind q kind → b.resets kind ≡ is_some (kind_reset q.kind)
-resets_is q k.Combinational d = sym (ap (λ (x : m.ProcessKind). is_some (kind_reset x)) d)
-resets_is q (k.Clocked c) d = ap is_some (sym d.reset_is) ∙ (is_some_map d.reset ∙ sym (ap (λ (x : m.ProcessKind). is_some (kind_reset x)) d.kind))
-resets_is q k.Mixed d = sym (ap (λ (x : m.ProcessKind). is_some (kind_reset x)) d)
-
-pub late_here : (net : Netlist) (p : ℕ) → p < length net.processes → b.is_late net (process net p) ≡ true → has_late_reset net ≡ true
-late_here net p l t = any_true (b.is_late net) net.processes (process net p) (p, l, get_or_default net.processes p (process net p) no_process l) t
 
 pub none_late : (net : Netlist) → ((p : ℕ) → p < length net.processes → b.is_late net (process net p) ≡ false) → has_late_reset net ≡ false
 none_late net each = all_none (b.is_late net) net.processes no_process each

@@ -35,9 +35,6 @@ at_mixed p (f.StoredVariable q v t) e = absurd cc
 pub not_mixed : (net : Netlist) (p : ℕ) (old : List CheckFault) → ((process net p).kind ≡ Mixed → ⊥) → AddsFaults net (one_place 2 p) old old
 not_mixed net p old odd = adds_nothing net (one_place 2 p) old (λ x is e. odd (subst (IsFault net) (at_mixed p x e) is))
 
-pub is_mixed : (net : Netlist) (p : ℕ) (old new : List CheckFault) → new ≡ old ++ c.Mixed p ∷ [] → (process net p).kind ≡ Mixed → AddsFaults net (one_place 2 p) old new
-is_mixed net p old new e is = adds_one net (one_place 2 p) old new (c.Mixed p) e is (eq-eqb p p refl) (λ y h t. at_mixed p y t)
-
 -- ---- two drivers
 
 module _ (net : NetlistView) where

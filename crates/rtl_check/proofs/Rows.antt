@@ -1,5 +1,5 @@
 -- The table of a net, by rows.
-use Rattle.std.proofs.Common.{◌≡◌, ℕ, zero, suc, ◌+◌, ◌<◌, ◌≤◌, Bool, true, false, ◌||◌, ◌==◌, List, [], ◌∷◌, ◌++◌, length, get_or, map, refl, sym, ap, subst, ◌∙◌, arith, ◌⊎◌, inl, inr, Option, Some, None, Contains}
+use Rattle.std.proofs.Common.{◌≡◌, ℕ, ◌+◌, ◌<◌, ◌≤◌, Bool, true, false, ◌||◌, ◌==◌, List, [], ◌∷◌, ◌++◌, length, get_or, map, refl, sym, ap, subst, ◌∙◌, arith, ◌⊎◌, inl, inr, Option, Some, None, Contains}
 use Rattle.std.specs.Prelude.{IsSome}
 use Rattle.std.specs.Global.{Vec}
 use Rattle.std.specs.List.{list_any}
@@ -81,9 +81,6 @@ module _ (net : Netlist) (kinds : List ProcessKind) (ks : AreKinds net kinds) wh
 
 -- ---- a row
 
-pub row_none : (net : Netlist) (kinds : List ProcessKind) → AreKinds net kinds → (q : ℕ) → combinational_at kinds q ≡ false → IsRow net q None
-row_none net kinds ks q t c = let h : true ≡ false = sym (combinational_from net kinds ks q c) ∙ t in cc
-
 pub row_some : (net : NetlistView) (kinds : List ProcessKind) → AreKinds (core net) kinds → IsWired (core net) → (q : ℕ) (x : Process) → q < length net.processes → x ≡ get_or net.processes q x
     → ((n : ℕ) → Contains x.wakes.items n → n < length net.types) → combinational_at kinds q ≡ true → (feeders : Vec ℕ)
     → ((p : ℕ) → is_in p feeders.items ≡ list_any (λ n. list_any (feeds_by kinds p) (flat_sources (flat net) n)) x.wakes.items) → IsRow (core net) q (Some feeders)
@@ -109,27 +106,6 @@ row_some net kinds ks wired q x there at nets t feeders are = (c, λ p. (to p, f
         ∙ feeds_from (core net) kinds ks wired p q (flat_sources (flat net)) same h))
 
 -- ---- the table
-
-get_or-push : {X : Type 0} (xs : List X) (x d : X) → get_or (xs ++ x ∷ []) (length xs) d ≡ x
-get_or-push [] x d = refl
-get_or-push (y ∷ ys) x d = get_or-push ys x d
-
-get_or-push_below : {X : Type 0} (xs : List X) (x : X) (p : ℕ) (d : X) → p < length xs → get_or (xs ++ x ∷ []) p d ≡ get_or xs p d
-get_or-push_below [] x p d l = absurd (omega arith)
-get_or-push_below (y ∷ ys) x zero d l = refl
-get_or-push_below (y ∷ ys) x (suc p) d l = get_or-push_below ys x p d (omega arith)
-
-pub rows_more : (net : Netlist) (table new : t.Table) (i : ℕ) (row : Option (Vec ℕ)) → length table ≡ i → ((q : ℕ) → q < i → IsRow net q (get_or table q None))
-    → new ≡ table ++ row ∷ [] → IsRow net i row → (q : ℕ) → q < i + 1 → IsRow net q (get_or new q None)
-rows_more net table new i row many so_far is now q l = subst (λ (rs : t.Table). IsRow net q (get_or rs q None)) (sym is) (go (cases_lt q i))
-  where
-    go : (q < i) ⊎ (i ≤ q) → IsRow net q (get_or (table ++ row ∷ []) q None)
-    go (inl h) = subst (IsRow net q) (sym (get_or-push_below table row q None (rw many h))) (so_far q h)
-    go (inr h) =
-        let e : q ≡ length table = omega (arith, many) in
-        let g : i ≡ q = omega arith in
-        subst (λ (j : ℕ). IsRow net q (get_or (table ++ row ∷ []) j None)) (sym e)
-        (subst (IsRow net q) (sym (get_or-push table row None)) (subst (λ (j : ℕ). IsRow net j row) g now))
 
 row_in : (net : Netlist) (q : ℕ) (o : Option (Vec ℕ)) → IsRow net q o → IsSome o → IsCombinational net q
 row_in net q None h s = absurd cc

@@ -7,7 +7,6 @@ use Rattle.rtl_model.specs.simulation.Netlist as m
 use Rattle.rtl_model.specs.simulation.Netlist.{Netlist, Edge, Reset, IsCombinational, IsClockedBy, process}
 use Rattle.rtl_model.specs.simulation.Accepted.{Feeds}
 use Rattle.rtl_model.specs.simulation.Elaborated.{IsWired}
-use Rattle.rtl_check.specs.declared.standing.Highest.{Highest}
 use Rattle.rtl_check.specs.Standing.{level_of, highest_of, StandsAs, Stands, ShowFroms, HasNoMixed}
 use Rattle.rtl_check.proofs.Processes.{clock_there}
 use Rattle.rtl_check.proofs.Highest.{Reaches, highest_is}
@@ -20,9 +19,6 @@ module _ (net : Netlist) (levels from : List (Option ℕ)) (wired : IsWired net)
       go m.Combinational e = inl (l, e)
       go (m.Clocked clock edge reset) e = inr (clock, (edge, (reset, e)))
       go m.Mixed e = absurd (clear p e)
-
-  highest : (q : ℕ) → Highest
-  highest q = highest_of net levels q
 
   reaches : (p q : ℕ) → Feeds net p q → Reaches net levels p q
   reaches p q f = (f.place, f.drives, f.wakes)

@@ -1,5 +1,5 @@
 -- A net's faults, or its loop.
-use Rattle.std.proofs.Common.{◌≡◌, ◌==◌, ℕ, zero, suc, true, false, List, [], ◌∷◌, ◌++◌, length, map, refl, sym, ap, subst, ◌∙◌, arith, inl, inr, Vec, Global, vec_len}
+use Rattle.std.proofs.Common.{◌≡◌, ◌==◌, ℕ, zero, suc, true, false, List, [], ◌∷◌, ◌++◌, length, map, refl, sym, ap, subst, ◌∙◌, arith, inr, Vec, Global, vec_len}
 use Rattle.std.specs.Prelude.{IsTrue, ◌↔◌}
 use Rattle.std.proofs.lemmas.Bool.{eqb-true}
 use Rattle.rtl_model.specs.simulation.Netlist.{Netlist}
@@ -13,13 +13,6 @@ use Rattle.rtl_check.specs.declared.fault.CheckFault.{CheckFault}
 use Rattle.rtl_check.specs.declared.fault.CheckFault.TheVariants as c
 use Rattle.rtl_check.specs.Views.{fault_view}
 use Rattle.rtl_check.specs.Verdicts.{AreLoopsOnce}
-
-some_faults : (xs : List CheckFault) → (length xs == 0) ≡ false → map fault_view xs ≡ [] → ⊥
-some_faults [] e h = cc
-some_faults (x ∷ xs) e h = cc
-
-pub faulty : (net : Netlist) (xs : Vec CheckFault Global) → (vec_len xs == 0) ≡ false → AreFaultsButLoops net (map fault_view xs.items) → AreFaults net (map fault_view xs.items)
-faulty net xs e h = inl (h, λ none. some_faults xs.items (sym (ap (λ (n : ℕ). n == 0) xs.ok.0) ∙ e) none)
 
 no_items : (xs : List CheckFault) → (length xs == 0) ≡ true → xs ≡ []
 no_items [] e = refl

@@ -27,9 +27,6 @@ some_within (x ∷ xs) (suc q) h = let l = some_within xs q h in omega arith
 
 -- ---- growing
 
-pub grows_same : (f : Finding) → Grows f f
-grows_same f = record { levels = λ p level e. e; waits = λ p q h. h; less = omega arith }
-
 pub grows_on : (a b c : Finding) → Grows a b → Grows b c → Grows a c
 grows_on a b c g h = record {
   levels = λ p level e. h.levels p level (g.levels p level e);
@@ -75,8 +72,3 @@ module _ (table : Table) (old mid new : Finding) (released : List ℕ) (r : ℕ)
     where
       go : {o p q s t : ℕ} → p ≡ o → s < t → q ≤ 2 * p + s → q < 2 * o + t
       go e l m = omega arith
-
-pub same_placed : (table : Table) (old new : Finding) → new.levels ≡ old.levels → new.waiting ≡ old.waiting → (r : ℕ) → IsRanked table old r → IsRanked table new r
-same_placed table old new e f r h inside unplaced =
-    let (p, c, k) = h inside (subst (λ (ls : Vec (Option ℕ)). level_of ls.items r ≡ None) e unplaced) in
-    (p, subst (λ (ws : Vec (Vec ℕ)). Contains (waiters ws.items p) r) (sym f) c, k)

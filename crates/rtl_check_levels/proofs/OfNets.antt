@@ -13,9 +13,6 @@ use Rattle.rtl_check_levels.specs.OfNets.{IsTableOf}
 some_same : {a b : ℕ} → Some a ≡ Some b → a ≡ b
 some_same e = cc
 
-apart : {o : Option ℕ} {a : ℕ} → o ≡ None → o ≡ Some a → ⊥
-apart a b = cc
-
 module _ (n : Netlist) (table : Table) (levels from : List (Option ℕ)) (greatest : ℕ) (t : IsTableOf n table) (h : AreLevels table levels from greatest) where
   -- what is known of a combinational process that has this level
   stands : (q below : ℕ) → IsCombinational n q → level_of levels q ≡ Some (suc below) → IsHighest (feeders_of table q) levels below (get_or from q None)

@@ -4,9 +4,6 @@ use Rattle.std.specs.Prelude.{IfSome, MatchOption}
 use Rattle.std.proofs.lemmas.List.Elements.{Contains-push, Contains-push_cases, Contains-append_left}
 use Rattle.rtl_check_levels.specs.Levels.{level_of, IsHighest, GivesWay}
 
-some_is : {x y : ℕ} → Some x ≡ Some y → x ≡ y
-some_is e = cc
-
 -- what is known of each process
 abbrev Below : List (Option ℕ) → (level : ℕ) → Option ℕ → ℕ → Type 0
 Below levels level process p = (b : ℕ) × (level_of levels p ≡ Some b) × (b ≤ level) × (b ≡ level → IfSome process (λ f. f ≤ p))

@@ -3,7 +3,7 @@ use Rattle.std.proofs.Common.{◌≡◌, ℕ, ◌<◌, ◌≤◌, ◌∷◌, ◌
 use Rattle.std.specs.Prelude.{IsSome}
 use Rattle.std.specs.Global.{Vec}
 use Rattle.std.proofs.lemmas.List.{get_or_default, get_or_read}
-use Rattle.rtl_check_levels.specs.Feeding.{Table, feeders_of, listed, IsClosed, IsIn}
+use Rattle.rtl_check_levels.specs.Feeding.{Table, feeders_of, listed, IsClosed}
 use Rattle.rtl_check_levels.specs.Levels.{level_of}
 use Rattle.rtl_check_levels.specs.declared.finding.Finding.{Finding}
 use Rattle.rtl_check_levels.specs.Finding.{IsFinding, WaitingSoFar, Waits, waiters}
@@ -17,9 +17,6 @@ there table q closed k d l = some_within table (get_or (feeders_of table q) k d)
 
 pub feeders_are : (table : Table) (q : ℕ) (r : Option (Vec ℕ)) (v : Vec ℕ) → q < length table → r ≡ get_or table q r → r ≡ Some v → feeders_of table q ≡ v.items
 feeders_are table q r v l e f = ap listed (sym (get_or_read table q r l e None) ∙ f)
-
-pub no_feeders : (table : Table) (q : ℕ) (r : Option (Vec ℕ)) → q < length table → r ≡ get_or table q r → r ≡ None → IsIn table q → ⊥
-no_feeders table q r l e f i = let g : get_or table q None ≡ None = sym (get_or_read table q r l e None) ∙ f in cc
 
 module _ (table : Table) (f : Finding) (q at p : ℕ) (fs : List ℕ) (v w : Vec ℕ) (sound : IsFinding table f) (closed : IsClosed table) (inside : q < length table)
     (feeds : feeders_of table q ≡ fs) (within : at < length fs) (is : p ≡ get_or fs at p) (read : w ≡ get_or f.waiting.items p w) (items : v.items ≡ w.items ++ q ∷ []) where

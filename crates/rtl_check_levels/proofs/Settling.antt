@@ -153,7 +153,3 @@ below_fits table levels from greatest q below process h inside unplaced high =
     at : (o : Option ℕ) → MatchOption o (below ≡ 0) (λ f. Contains (feeders_of table q) f × (level_of levels f ≡ Some below)) → below + open_count levels ≤ length table
     at None e = let l = count_by-le-length is_open levels in let n = h.each_process in omega arith
     at (Some f) (c, e) = h.small f below e
-
--- no level is 0
-pub from_one : (table : Table) (levels from : List (Option ℕ)) (greatest : ℕ) → LevelsSoFar table levels from greatest → (p : ℕ) → level_of levels p ≢ Some 0
-from_one table levels from greatest h p e = let (b, l, k) = h.stand p 0 e in omega arith

@@ -79,22 +79,6 @@ left_behind spans i d place l h other = by (left_of spans i d place l h)
 
 -- ---- what is written
 
-pub length-written : (first : ℕ) (values : List ℕ) (entries : List (Option ℕ)) → length (written first values entries) ≡ length entries
-length-written first [] entries = refl
-length-written first (v ∷ vs) entries = length-written (first + 1) vs (set entries first (Some v)) ∙ length-set entries first (Some v)
-
--- nothing is written where there are no values
-pub none_written : (first : ℕ) (values : List ℕ) (entries : List (Option ℕ)) → length values ≡ 0 → written first values entries ≡ entries
-none_written first [] entries none = refl
-none_written first (v ∷ vs) entries none = absurd (omega arith)
-
-pub written_more : (first : ℕ) (values : List ℕ) (i : ℕ) (entries : List (Option ℕ)) → i < length values
-    → written (first + (i + 1)) (drop (i + 1) values) (set entries (first + i) (Some (get_or values i 0))) ≡ written (first + i) (drop i values) entries
-written_more first values i entries l =
-    let next : first + (i + 1) ≡ first + i + 1 = omega arith in
-    ap (λ (n : ℕ). written n (drop (i + 1) values) (set entries (first + i) (Some (get_or values i 0)))) next
-    ∙ sym (ap (λ (vs : List ℕ). written (first + i) vs entries) (at_drop_more (λ (vs : List ℕ). vs) values i 0 l))
-
 -- where the places were free, they are listed behind those that were
 pub listed_written : (first : ℕ) (values : List ℕ) (entries : List (Option ℕ)) (places : List ℕ) → AreAssigned entries places
     → ((k : ℕ) → k < length values → first + k < length entries) → ((k : ℕ) → k < length values → entry entries (first + k) ≡ None)

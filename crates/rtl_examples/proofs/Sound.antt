@@ -217,12 +217,6 @@ forgets_all inputs p h which place s = go (element_number p.variables which plac
 abbrev is_sound : FlatNetlist → (number : ℕ → ℕ) → Bool
 is_sound net number = (is_in_range net && is_connected net) && (is_accepted (core_netlist net) number && all_in forgets net.processes)
 
--- a net that passes the first two, accepted or not
-pub fits_by : (net : FlatNetlist) → (is_in_range net && is_connected net) ≡ true → IsInRange net × IsConnected net
-fits_by net h =
-    let (d, e) = and_parts (is_in_range net) (is_connected net) h in
-    (in_range net d, connected_by net (in_range net d) e)
-
 pub sound_by : (net : FlatNetlist) (number : ℕ → ℕ) → is_sound net number ≡ true → IsSound net
 sound_by net number h =
     let (a, b) = and_parts (is_in_range net && is_connected net) _ h in

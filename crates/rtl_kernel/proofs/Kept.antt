@@ -42,10 +42,6 @@ module _ {E : Type 0} (process : E → FlatProcess) (types : E → List ElementT
   pub all_before : length v.before ≡ length net.types
   all_before = K.sound.in_range.before.each_net ∙ K.in_range.each_starts
 
-  -- the groups are those of the net
-  pub groups_there : length (wakers_of v.groups) ≡ length net.types
-  groups_there = length-map v.groups.of_net _ ∙ K.each_net
-
   pub now_typed : KeepsTypes net.types v.current
   now_typed = keeps_types (flat net) K.in_range K.connected v.current K.sound.in_range.now
 

@@ -18,13 +18,6 @@ module _ (net : Netlist) (drivers : List (List ℕ)) where
   pub none_resolved : (is_one : ℕ → Type 0) (values : List ℕ) → ((n : ℕ) → is_one n → ⊥) → AreResolved net drivers is_one values values
   none_resolved is_one values none = record { as_many = refl; resolved = λ n l h. absurd (none n h); others = λ n l h. refl }
 
-  -- the same nets
-  pub resolved_same : (P Q : ℕ → Type 0) (old new : List ℕ) → ((n : ℕ) → n < length old → P n → Q n) → ((n : ℕ) → n < length old → Q n → P n)
-      → AreResolved net drivers P old new → AreResolved net drivers Q old new
-  resolved_same P Q old new to from R = record {
-    as_many = R.as_many;
-    resolved = λ n l q. R.resolved n l (from n l q);
-    others = λ n l h. R.others n l (λ p. h (to n l p));
   }
 
   -- nets up to one, and that one

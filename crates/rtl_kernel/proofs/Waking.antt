@@ -28,9 +28,6 @@ differ_more xs x D new j k j_in k_in e =
 
 -- ---- marks
 
-pub adds_none : (marks : List Bool) → AddsPlaces [] marks marks
-adds_none marks = record { kept = λ p h. h; added = λ p h. absurd (Contains-none p h); no_other = λ p h. inl h }
-
 -- a mark is set
 pub adds_set : (marks : List Bool) (x : ℕ) → x < length marks → AddsPlaces (x ∷ []) marks (set marks x true)
 adds_set marks x within = record { kept = λ p h. kept p h (cases_eq p x); added = λ p (k, l, e). added p k l e; no_other = λ p h. other p h (cases_eq p x) }

@@ -1,5 +1,5 @@
 -- Why a net or a stimulus is not admitted.
-use Rattle.std.proofs.Common.{◌≡◌, ℕ, List, Result, Ok, Err, refl, sym, ap, subst}
+use Rattle.std.proofs.Common.{◌≡◌, ℕ, List, Result, Ok, Err, sym, subst}
 use Rattle.std.specs.Prelude.{IsErrAnd}
 use Rattle.rtl_model.specs.simulation.Accepted.{IsAccepted}
 use Rattle.rtl_net.specs.Nets.{NetlistView}
@@ -10,9 +10,7 @@ use Rattle.rtl_stim.specs.Ports.{inputs_of}
 use Rattle.rtl_stim.specs.Stimuli.{IsRead}
 use Rattle.rtl_machine.specs.declared.fault.MachineFault.{MachineFault}
 use Rattle.rtl_machine.specs.Faults.{of_stim}
-use Rattle.rtl_sink.specs.Written.{SinkState}
 use Rattle.rtl_machine.specs.Admitted.{RefusesNet}
-use Rattle.rtl_machine.specs.Answered.{IsNetRefused}
 use Rattle.rtl_machine.proofs.BadLines.{never_race}
 
 -- an answer that is this fault
@@ -26,12 +24,3 @@ refused_text net text NoMemory accepted read = tt
 refused_text net text (InLine problem line) accepted read = (accepted, read (λ e. cc))
 refused_text net text NoStop accepted read = (accepted, read (λ e. cc))
 refused_text net text (Race time input clock) accepted read = absurd (never_race (inputs_of net) text time input clock (read (λ e. cc)))
-
-pub err_is : {A : Type 0} (answer : Result A MachineFault) (fault : MachineFault) → IsErrAnd answer (λ f. f ≡ fault) → answer ≡ Err fault
-err_is (Ok x) fault is = absurd is
-err_is (Err f) fault is = ap (λ (g : MachineFault). Err g) is
-
--- nothing is written, and the answer is this fault
-pub refused : {A : Type 0} (net : NetlistView) (text : List ℕ) (sink : SinkState) (answer : Result A MachineFault) (fault : MachineFault)
-    → IsErrAnd answer (λ f. f ≡ fault) → RefusesNet net text fault → IsNetRefused net text sink sink answer
-refused net text sink answer fault is why = record { fault = fault; is = err_is answer fault is; why = why; nothing = refl }

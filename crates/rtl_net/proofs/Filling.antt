@@ -1,5 +1,5 @@
 -- How the tables of sources and owners are filled.
-use Rattle.std.proofs.Common.{◌≡◌, ℕ, zero, suc, ◌+◌, ◌<◌, ◌⊎◌, inl, inr, Bool, true, false, ◌==◌, if◌then◌else◌, List, [], ◌∷◌, ◌++◌, length, map, set, slice_index_or, Option, Some, None, refl, sym, ap, ◌∙◌, arith, get_or-set_same, get_or-set_other, length-set, eq-eqb, ne_eqb}
+use Rattle.std.proofs.Common.{◌≡◌, ℕ, suc, ◌+◌, ◌<◌, ◌⊎◌, inl, inr, Bool, true, false, ◌==◌, if◌then◌else◌, List, [], ◌∷◌, ◌++◌, length, map, set, slice_index_or, Option, Some, None, refl, sym, ap, ◌∙◌, arith, get_or-set_same, get_or-set_other, length-set, eq-eqb, ne_eqb}
 use Rattle.std.specs.Prelude.{option_map}
 use Rattle.std.proofs.lemmas.List.{append_assoc, append-nil, length-map, map-set}
 use Rattle.std.proofs.lemmas.Bool.{cases_eq}
@@ -38,9 +38,6 @@ seen-set f xs k n x d l = ap (λ ys. slice_index_or ys n d) (map-set f xs k x) �
 abbrev pub one_at : (k : ℕ) → core.Source → (n : ℕ) → List core.Source
 one_at k x n = if k == n then x ∷ [] else []
 
-pub adds-none : (table : List (SmallVec Source)) → AddsSources (λ n. []) table table
-adds-none table = record { as_many = refl; each = λ n l. sym (append-nil (sources_at table n)) }
-
 pub adds-then : (f g : ℕ → List core.Source) (old mid new : List (SmallVec Source)) → AddsSources f old mid → AddsSources g mid new → AddsSources (λ n. f n ++ g n) old new
 adds-then f g old mid new a b = record {
   as_many = b.as_many ∙ a.as_many;
@@ -61,12 +58,6 @@ adds-one old k v x l e = record { as_many = length-set old k v; each = λ n m. s
     go n (inr other) =
         ap (λ b. if b then shown v else sources_at old n) (ne_eqb k n other) ∙ sym (append-nil (sources_at old n))
         ∙ sym (ap (λ b. sources_at old n ++ (if b then x ∷ [] else [])) (ne_eqb k n other))
-
-pub none-push : (table : List (SmallVec Source)) (v : SmallVec Source) → v.items ≡ [] → ((n : ℕ) → sources_at table n ≡ []) → (n : ℕ) → sources_at (table ++ v ∷ []) n ≡ []
-none-push [] v e h zero = ap (map source_view) e
-none-push [] v e h (suc n) = refl
-none-push (x ∷ xs) v e h zero = h 0
-none-push (x ∷ xs) v e h (suc n) = none-push xs v e (λ k. h (suc k)) n
 
 -- ---- one more driver, idle port or process
 
@@ -148,9 +139,6 @@ abbrev pub from_place : (k : ℕ) → Option ℕ → Option ℕ
 from_place k None = None
 from_place k (Some j) = Some (k + j)
 
-pub owns-none : (signal k : ℕ) (owners : List Owner) → Owns (λ n. element_at signal (from_place k (place_in [] n))) owners owners
-owns-none signal k owners = record { as_many = refl; each = λ n d l. refl }
-
 pub owns-one : (signal k m : ℕ) (ms : List ℕ) (o : Owner) (old mid : List Owner) → owner_view o ≡ record { signal = signal; place = k } → m < length mid
     → Owns (λ n. element_at signal (from_place (suc k) (place_in ms n))) old mid → Owns (λ n. element_at signal (from_place k (place_in (m ∷ ms) n))) old (set mid m o)
 owns-one signal k m ms o old mid e l w = record {
@@ -166,13 +154,6 @@ owns-one signal k m ms o old mid e l w = record {
     go n d true p h = e ∙ ap (λ x. record { signal = signal; place = x }) first
     go n d false None h = h
     go n d false (Some j) h = h ∙ ap (λ x. record { signal = signal; place = x }) (let s : suc k + j ≡ k + suc j = omega arith in s)
-
-pub owns-all : (signal : ℕ) (nets : List ℕ) (old new : List Owner) → Owns (λ n. element_at signal (from_place 0 (place_in nets n))) old new → Owns (λ n. element_at signal (place_in nets n)) old new
-owns-all signal nets old new w = record { as_many = w.as_many; each = λ n d l. w.each n d l ∙ go n d (place_in nets n) }
-  where
-    go : (n : ℕ) (d : Element) (p : Option ℕ) → owner_or (element_at signal (from_place 0 p)) (owner_at old n d) ≡ owner_or (element_at signal p) (owner_at old n d)
-    go n d None = refl
-    go n d (Some j) = ap (λ x. record { signal = signal; place = x }) (let s : 0 + j ≡ j = omega arith in s)
 
 pub owns-signal : (number : ℕ) (s : SignalView) (ss : List SignalView) (n : ℕ) (e : Element) (old new : List Owner) → n < length old
     → Owns (λ m. element_at number (place_in s.nets m)) old new → (element_from (suc number) ss n ≡ Some e → owner_at old n e ≡ e)

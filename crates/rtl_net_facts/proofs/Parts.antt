@@ -1,7 +1,6 @@
 -- What nodes of bodies look at, assign and store, by their parts in lists.
-use Rattle.std.proofs.Common.{◌≡◌, ℕ, ◌+◌, ◌<◌, ◌≤◌, Bool, true, false, ◌&&◌, ◌||◌, not, List, [], ◌∷◌, length, get_or, drop, refl, sym, ap, ◌∙◌, Vec, Some, None, Global}
+use Rattle.std.proofs.Common.{◌≡◌, ℕ, ◌+◌, ◌<◌, ◌≤◌, Bool, false, ◌&&◌, ◌||◌, List, [], ◌∷◌, refl, sym, ap, ◌∙◌, Vec, Some, None, Global}
 use Rattle.std.specs.List.{list_any, list_all}
-use Rattle.std.proofs.lemmas.List.{at_drop_more, at_drop_all}
 use Rattle.rtl_net.specs.declared.body.Expr.{Expr}
 use Rattle.rtl_net.specs.declared.body.Expr.TheVariants as ve
 use Rattle.rtl_net.specs.declared.body.Test.{Test}
@@ -123,30 +122,3 @@ module _ (e : ℕ) where
 
   abbrev pub rest_stores : List Statement → Bool
   rest_stores xs = stores_element e (statements_of xs)
-
-  module _ (xs : List Statement) (i : ℕ) where
-    stores_at : (x : Statement) → i < length xs → x ≡ get_or xs i x
-        → rest_stores (drop i xs) ≡ (stmt_stores e (statement_view x) || (not (stmt_must_assign (is_element e) (statement_view x)) && rest_stores (drop (i + 1) xs)))
-    stores_at x l is = at_drop_more rest_stores xs i x l
-        ∙ ap (λ (y : Statement). stmt_stores e (statement_view y) || (not (stmt_must_assign (is_element e) (statement_view y)) && rest_stores (drop (i + 1) xs))) (sym is)
-
-    pub stores_found : (x : Statement) → i < length xs → x ≡ get_or xs i x → rest_stores (drop i xs) ≡ rest_stores xs → stmt_stores e (statement_view x) ≡ true
-        → true ≡ rest_stores xs
-    stores_found x l is inv t =
-        sym (ap (λ (b : Bool). b || (not (stmt_must_assign (is_element e) (statement_view x)) && rest_stores (drop (i + 1) xs))) t) ∙ (sym (stores_at x l is) ∙ inv)
-
-    passes : (x : Statement) → i < length xs → x ≡ get_or xs i x → rest_stores (drop i xs) ≡ rest_stores xs → stmt_stores e (statement_view x) ≡ false
-        → (not (stmt_must_assign (is_element e) (statement_view x)) && rest_stores (drop (i + 1) xs)) ≡ rest_stores xs
-    passes x l is inv t =
-        sym (ap (λ (b : Bool). b || (not (stmt_must_assign (is_element e) (statement_view x)) && rest_stores (drop (i + 1) xs))) t) ∙ (sym (stores_at x l is) ∙ inv)
-
-    pub stores_ends : (x : Statement) → i < length xs → x ≡ get_or xs i x → rest_stores (drop i xs) ≡ rest_stores xs → stmt_stores e (statement_view x) ≡ false
-        → stmt_must_assign (is_element e) (statement_view x) ≡ true → false ≡ rest_stores xs
-    stores_ends x l is inv t a = sym (ap (λ (b : Bool). not b && rest_stores (drop (i + 1) xs)) a) ∙ passes x l is inv t
-
-    pub stores_goes : (x : Statement) → i < length xs → x ≡ get_or xs i x → rest_stores (drop i xs) ≡ rest_stores xs → stmt_stores e (statement_view x) ≡ false
-        → stmt_must_assign (is_element e) (statement_view x) ≡ false → rest_stores (drop (i + 1) xs) ≡ rest_stores xs
-    stores_goes x l is inv t a = sym (ap (λ (b : Bool). not b && rest_stores (drop (i + 1) xs)) a) ∙ passes x l is inv t
-
-    pub stores_end : length xs ≤ i → rest_stores (drop i xs) ≡ rest_stores xs → false ≡ rest_stores xs
-    stores_end l inv = sym (at_drop_all rest_stores xs i l) ∙ inv

@@ -2,7 +2,7 @@
 use Rattle.std.proofs.Common.{◌≡◌, ℕ, zero, suc, ◌+◌, ◌<◌, ◌≤◌, List, [], ◌∷◌, ◌++◌, length, get_or, set, take, replicate, refl, sym, ap, subst, ◌∙◌, arith, add-one, ◌⊎◌, inl, inr, Contains, Vec}
 use Rattle.std.specs.Global.{Global}
 use Rattle.std.proofs.lemmas.Bool.{cases_eq, cases_lt}
-use Rattle.std.proofs.lemmas.List.{get_or-map, get_or-set_same, get_or-set_other, get_or_past, get_or-take, length-take-le, take_more, take_all}
+use Rattle.std.proofs.lemmas.List.{get_or-map, get_or-set_same, get_or-set_other, get_or_past, get_or-take, length-take-le, take_more}
 use Rattle.std.proofs.lemmas.List.Elements.{Contains-append_left, Contains-push, Contains-push_cases}
 use Rattle.rtl_net_layout.specs.Lists.{rows}
 use Rattle.rtl_net_layout.specs.steps.Listed.{IsListedIn, AreListedByFirst}
@@ -37,8 +37,6 @@ none_at (suc k) (suc n) = none_at k n
 -- ---- one process
 
 module _ (process : ℕ) (first : List ℕ) where
-  pub listed_none : (nets : List ℕ) (old : List (List ℕ)) → IsListedIn process (take 0 nets) first old old
-  listed_none nets old = record { kept = λ g p h. h; added = λ g l h. absurd (contains_none (get_or first g 0) h); no_other = λ g p l h. inl h }
 
   wider : (nets : List ℕ) (net g p : ℕ) (old : List (List ℕ)) → Contains (get_or old g []) p ⊎ ((p ≡ process) × Contains nets (get_or first g 0))
       → Contains (get_or old g []) p ⊎ ((p ≡ process) × Contains (nets ++ net ∷ []) (get_or first g 0))
@@ -55,8 +53,6 @@ module _ (process : ℕ) (first : List ℕ) where
       no_other = λ g p l h. other g p l h (cases_eq g group);
     })
       where
-        row : List ℕ
-        row = get_or mid group [] ++ process ∷ []
 
         at_group : get_or (set mid group (get_or mid group [] ++ process ∷ [])) group [] ≡ get_or mid group [] ++ process ∷ []
         at_group = get_or-set_same mid group (get_or mid group [] ++ process ∷ []) [] there
@@ -135,6 +131,3 @@ module _ (nets_of : List (List ℕ)) (first : List ℕ) where
               let past = get_or_past (take k nets_of) p [] (rw (length-take-le k nets_of (omega arith)) le) in
               absurd (contains_none (get_or first g 0) (subst (λ (xs : List ℕ). Contains xs (get_or first g 0)) past old))
       from g p l (inr (e, h)) = rw (e, at_k) h
-
-  pub by_first_all : (k : ℕ) (listed : List (List ℕ)) → length nets_of ≤ k → AreListedByFirst (take k nets_of) first listed → AreListedByFirst nets_of first listed
-  by_first_all k listed done A = subst (λ (ns : List (List ℕ)). AreListedByFirst ns first listed) (take_all k nets_of done) A

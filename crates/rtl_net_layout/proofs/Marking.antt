@@ -1,7 +1,7 @@
 -- Marks of the nets that begin a group.
-use Rattle.std.proofs.Common.{◌≡◌, ◌↔◌, ℕ, zero, suc, ◌+◌, ◌-◌, ◌<◌, ◌≤◌, Bool, true, false, List, [], ◌∷◌, ◌++◌, length, get_or, set, take, refl, sym, ap, subst, ◌∙◌, arith, add-one, ◌⊎◌, inl, inr, Contains}
+use Rattle.std.proofs.Common.{◌≡◌, ◌↔◌, ℕ, zero, suc, ◌+◌, ◌-◌, ◌<◌, ◌≤◌, Bool, true, false, List, [], ◌∷◌, ◌++◌, length, get_or, take, refl, sym, ap, subst, ◌∙◌, arith, add-one, ◌⊎◌, inl, inr, Contains}
 use Rattle.std.proofs.lemmas.Bool.{cases_eq, cases_lt, false≢true}
-use Rattle.std.proofs.lemmas.List.{get_or-set_same, get_or-set_other, get_or_past, get_or_default, get_or-take, get_or_append_left, get_or_push, length-set, length-take-le, take_all}
+use Rattle.std.proofs.lemmas.List.{get_or_past, get_or_default, get_or-take, get_or_append_left, get_or_push, length-take-le, take_all}
 use Rattle.std.proofs.lemmas.List.Elements.{Contains-get_or}
 use Rattle.rtl_net_layout.specs.steps.Marks.{IsMarked, IsUnmarked, KeepsMarks, AreListedAlike, AreDeclaredAlike, AreMarkedApart, IsTold, after}
 
@@ -10,18 +10,8 @@ contains_none x (k, l, e) = omega arith
 
 -- ---- marks that are kept
 
-pub keeps_all : (marks : List Bool) → KeepsMarks marks marks
-keeps_all marks = record { as_many = refl; kept = λ n h. h }
-
 pub keeps_then : (old mid new : List Bool) → KeepsMarks old mid → KeepsMarks mid new → KeepsMarks old new
 keeps_then old mid new A B = record { as_many = B.as_many ∙ A.as_many; kept = λ n h. B.kept n (A.kept n h) }
-
-pub keeps_set : (marks : List Bool) (net : ℕ) → net < length marks → KeepsMarks marks (set marks net true)
-keeps_set marks net within = record { as_many = length-set marks net true; kept = λ n h. by n h (cases_eq n net) }
-  where
-    by : (n : ℕ) → IsMarked marks n → (n ≡ net) ⊎ (n ≡ net → ⊥) → IsMarked (set marks net true) n
-    by n h (inl e) = rw e (get_or-set_same marks net true true within)
-    by n h (inr other) = get_or-set_other marks net n true true other ∙ h
 
 pub unmarked_before : (old new : List Bool) (n : ℕ) → KeepsMarks old new → IsUnmarked new n → IsUnmarked old n
 unmarked_before old new n K h = by (get_or old n true) refl

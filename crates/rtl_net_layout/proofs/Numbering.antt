@@ -5,16 +5,6 @@ use Rattle.std.proofs.lemmas.List.{get_or_append_left, get_or_push, length_push}
 use Rattle.rtl_net_layout.specs.steps.Marks.{IsMarked, IsUnmarked}
 use Rattle.rtl_net_layout.specs.steps.Numbered.{IsNumbered}
 
-pub none_numbered : (begins : List Bool) → IsNumbered begins [] []
-none_numbered begins = record {
-  runs = record {
-    there = λ n l. absurd (omega arith);
-    in_order = λ m n le l. absurd (omega arith);
-    begins = λ g l. absurd (omega arith);
-    is_first = λ n l. absurd (omega arith);
-  };
-  last = λ n e. absurd (omega arith);
-  same = λ n l e. absurd (omega arith);
 }
 
 -- a net that isn't marked isn't the first
@@ -38,17 +28,7 @@ module _ (marks : List Bool) (of_net first : List ℕ) (N : IsNumbered marks of_
       let e = N.last (net - 1) (omega arith) in
       omega (arith, h, e)
 
-  -- no net, no group
-  none_yet : net ≡ 0 → length first ≡ 0
-  none_yet e = by (cases_lt 0 (length first))
-    where
-      by : (0 < length first) ⊎ (length first ≤ 0) → length first ≡ 0
-      by (inl l) = absurd (omega (arith, (N.runs.begins 0 l).0, e))
-      by (inr l) = omega arith
-
   module _ (g : ℕ) where
-    grown : List ℕ
-    grown = of_net ++ g ∷ []
 
     abbrev old_at : (n : ℕ) → n < net → get_or (of_net ++ g ∷ []) n 0 ≡ get_or of_net n 0
     old_at n l = get_or_append_left of_net (g ∷ []) 0 n l
@@ -67,16 +47,6 @@ module _ (marks : List Bool) (of_net first : List ℕ) (N : IsNumbered marks of_
 
   -- ---- a group of its own
 
-  pub numbered_first : IsNumbered marks (of_net ++ length first ∷ []) (first ++ length of_net ∷ [])
-  numbered_first = record {
-    runs = record {
-      there = λ n l. there n (cases_lt n net) (omega (arith, l, length_push of_net g));
-      in_order = in_order_more g (omega arith);
-      begins = λ h l. begins h (cases_lt h g) (omega (arith, l, length_push first net));
-      is_first = λ n l. is_first n (cases_lt n net) (omega (arith, l, length_push of_net g));
-    };
-    last = λ n e. omega (arith, new_at g n (omega (arith, e, length_push of_net g)), length_push first net);
-    same = λ n l e. same n e (cases_lt (n + 1) net) (omega (arith, l, length_push of_net g));
   }
     where
       g : ℕ

@@ -33,10 +33,6 @@ ends_more [] last more E l = absurd E
 ends_more (a ∷ []) last more E l = (omega (arith, E, l), refl)
 ends_more (a ∷ b ∷ starts) last more E l = (E.0, ends_more (b ∷ starts) last more E.1 l)
 
-pub some_start : (starts : List ℕ) (last : ℕ) → EndAt starts last → 0 < length starts
-some_start [] last E = absurd E
-some_start (a ∷ starts) last E = omega arith
-
 module _ {X : Type 0} where
   -- ---- how many lists
 

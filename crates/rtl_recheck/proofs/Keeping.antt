@@ -43,11 +43,6 @@ within_from ns others none n a = go (cases_Bool (is_in n others))
     go (inl t) = t
     go (inr e) = absurd (none n (and_from (is_in n ns) (not (is_in n others)) a (not_from_false (is_in n others) e)))
 
-not_both : (a b : Bool) → (a ≡ true → b ≡ true → ⊥) → (a && b) ≡ false
-not_both true true h = absurd (h refl refl)
-not_both true false h = refl
-not_both false b h = refl
-
 false_from : (b : Bool) → (b ≡ true → ⊥) → b ≡ false
 false_from true h = absurd (h refl)
 false_from false h = refl

@@ -3,7 +3,6 @@ use Rattle.std.proofs.Common.{◌≡◌, ℕ, suc, ◌+◌, ◌<◌, ◌≤◌, 
 use Rattle.std.specs.Prelude.{if◌then◌else◌, IsErrAnd, IsTrue}
 use Rattle.std.proofs.Common.{inl, inr}
 use Rattle.std.proofs.KnownBytes.{Appends-nil}
-use Rattle.rtl_run.specs.declared.summary.Summary.{Summary}
 use Rattle.rtl_run.specs.Running.{IsGreatest}
 use Rattle.rtl_model.specs.simulation.Cycle.{State, is_quiet}
 use Rattle.rtl_model.specs.simulation.Moments.{Begun, SettlesTo, IsUnsettled}
@@ -18,7 +17,7 @@ use Rattle.rtl_run.specs.declared.progress.Progress.{Progress}
 use Rattle.rtl_run.specs.declared.summary.RunFault.{RunFault}
 use Rattle.rtl_run.specs.Simulated.{Settled, core, AreMoments}
 use Rattle.rtl_run.specs.Traced.{text_so_far, whole_text}
-use Rattle.rtl_run.specs.Answered.{IsWhole, StopsAt, LeavesBeginning, Answers}
+use Rattle.rtl_run.specs.Answered.{IsWhole, StopsAt, LeavesBeginning}
 use Rattle.rtl_run.specs.Running.{last_values, last_printed_of, HasBegun, HasCome, HasSettledIn, IsNextMoment}
 use Rattle.rtl_run.proofs.Texts.{text_more, last_more, text_end, values_more}
 use Rattle.rtl_run.proofs.Moments.{one_more, greatest_one, greatest_more, are_more, are_none, is_most}
@@ -29,8 +28,6 @@ err_with P (Ok x) fault is p = absurd is
 err_with P (Err f) fault is p = subst (λ (g : RunFault). P (Err g)) (sym is) p
 
 module _ (net : NetlistView) (s : StimulusView) (limit : ℕ) (start : SinkState) where
-  abbrev Answer : SinkState → Result Summary RunFault → Type 0
-  Answer new = Answers net s limit start new
 
   -- ---- the first moment
 
@@ -189,10 +186,6 @@ module _ (net : NetlistView) (s : StimulusView) (limit : ℕ) (start : SinkState
       is = inr (every, refl);
       taken = whole_goes.beginning intact;
     }
-
-  -- a beginning of the trace so far
-  pub come_leaves : (mid : SinkState) (p : Progress) → IsIntact start → HasCome net s limit start mid p → LeavesBeginning net s limit start mid
-  come_leaves mid p intact C = record { settled = C.first ∷ C.rest; are = C.are; text = _; is = inl refl; taken = C.text.beginning intact }
 
   -- nothing but a beginning of the header
   pub header_leaves : (new : SinkState) → IsIntact start → Goes start new (header_text net.scopes net.signals) → LeavesBeginning net s limit start new

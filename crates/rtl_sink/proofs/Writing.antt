@@ -3,7 +3,7 @@ use Rattle.std.proofs.Common.{◌≡◌, ℕ, ◌+◌, ◌≤◌, List, ◌++◌
 use Rattle.std.proofs.KnownBytes.{Appends-nil, Appends-trans, Appends-kept, Keeps-refl, Keeps-trans}
 use Rattle.std.specs.Io.KnownBytes.{Appends}
 use Rattle.std.proofs.Math.Seq.{take-append-add, take-length}
-use Rattle.std.proofs.lemmas.List.{take-append-le, length-take-le, take-append-drop, take_min, take_more, take_all}
+use Rattle.std.proofs.lemmas.List.{take-append-le, length-take-le, take-append-drop, take_min, take_more}
 use Rattle.std.specs.Prelude.{◌==◌, flat_map}
 use Rattle.std.proofs.lemmas.Grind.{flat_map-append}
 use Rattle.std.proofs.lemmas.Bool.Decides.{nat_tests}
@@ -73,8 +73,3 @@ Goes-next a b c head text xs i d lt p q =
     let e : head ++ flat_map text (take (i + 1) xs) ≡ (head ++ flat_map text (take i xs)) ++ text (get_or xs i d) =
     rw (take_more xs i d lt, flat_map-append, append-nil) (sym (append_assoc head _ _)) in
     rw e (Goes-append a b c _ _ p q)
-
--- the texts of all elements
-pub Goes-all : {A : Type 0} (a b : SinkState) (head : List ℕ) (text : A → List ℕ) (xs : List A) (i : ℕ) → length xs ≤ i →
-    Goes a b (head ++ flat_map text (take i xs)) → Goes a b (head ++ flat_map text xs)
-Goes-all a b head text xs i all p = rw (← take_all i xs all) p

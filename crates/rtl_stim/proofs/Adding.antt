@@ -11,9 +11,6 @@ use Rattle.rtl_stim.specs.Numbered.{numbered}
 use Rattle.rtl_stim.specs.Pushes.{Push, AddsTo, KeepsTaken, gathered}
 use Rattle.rtl_stim.proofs.Values.{first_or_later}
 
-pub keeps : (s : AgendaState) → KeepsTaken s s
-keeps s = record { last = refl; taken = refl }
-
 pub keeps_on : (s t u : AgendaState) → KeepsTaken s t → KeepsTaken t u → KeepsTaken s u
 keeps_on s t u h k = record { last = k.last ∙ h.last; taken = k.taken ∙ h.taken }
 

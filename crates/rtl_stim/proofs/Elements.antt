@@ -1,21 +1,15 @@
 -- What is pushed of an input's elements.
-use Rattle.std.proofs.Common.{◌≡◌, ◌≢◌, ℕ, ◌+◌, ◌<◌, Bool, List, ◌∷◌, ◌++◌, length, map, take, drop, get_or, filter, sym, ap, subst, ◌∙◌, arith}
-use Rattle.std.specs.Prelude.{Contains, All, AllPairs, slice_get, Some}
-use Rattle.std.specs.Ordering.{nat_cmp}
-use Rattle.std.specs.List.Sorted.{IsStrictlySortedBy}
+use Rattle.std.proofs.Common.{◌≡◌, ◌≢◌, ℕ, ◌+◌, ◌<◌, List, ◌∷◌, ◌++◌, length, map, take, get_or, sym, ap, ◌∙◌, arith}
+use Rattle.std.specs.Prelude.{Contains, AllPairs}
 use Rattle.std.proofs.lemmas.List.{length-map, length-take-le, get_or-map, get_or-take}
-use Rattle.std.proofs.lemmas.List.Elements.{All-contains, All-filter}
-use Rattle.std.proofs.lemmas.List.Kept.{AllPairs-from_increasing}
-use Rattle.std.proofs.lemmas.Map.Keys.{IsStrictlyIncreasing-from_sorted}
 use Rattle.std.proofs.lemmas.Option.{get_or_from_slice_get, slice_get_within}
 use Rattle.rtl_agenda.specs.Agenda.{Change}
 use Rattle.rtl_stim_lines.specs.declared.inputs.Element.{Element as KeptElement}
 use Rattle.rtl_stim_lines.specs.View.{element_view}
 use Rattle.rtl_stim_lines.specs.Inputs.{Element}
 use Rattle.rtl_stim_lines.specs.Courses.{Course}
-use Rattle.rtl_stim.specs.Pushes.{Push, gathered, element_pushes}
-use Rattle.rtl_stim.proofs.Inputs.{all_before, split_at}
-use Rattle.rtl_stim.proofs.Adding.{gathered_from, pushed_from}
+use Rattle.rtl_stim.specs.Pushes.{Push, element_pushes}
+use Rattle.rtl_stim.proofs.Adding.{pushed_from}
 
 -- the elements before one have other nets than it
 pub net_is_new : (course : Course) (t s : ℕ) (es : List KeptElement) (i : ℕ) (d : KeptElement) → AllPairs (λ n m. n ≢ m) (map (λ e. e.net) es) → i < length es → (x : Change)
@@ -32,19 +26,3 @@ net_is_new course t s es i d own within x pushed same =
     let net : x.0 ≡ (get_or es k d).net = ap (λ (p : Push). p.1.0) from.3 ∙ ap (λ (e : Element). e.net) is in
     own k i 0 before (omega (arith, length-map es (λ (e : KeptElement). e.net), within))
     (get_or-map (λ (e : KeptElement). e.net) es k d 0 (omega arith) ∙ sym net ∙ same ∙ sym (get_or-map (λ (e : KeptElement). e.net) es i d 0 within))
-
--- what is pushed at times before one is at other times
-pub time_is_new : (course : Course) (es : List Element) (keys : List ℕ) (p : ℕ → Bool) (i t : ℕ) (x : Change) → IsStrictlySortedBy nat_cmp keys → slice_get keys i ≡ Some t
-    → Contains (gathered (element_pushes course es) (filter p (take i keys))) (t, x) → ⊥
-time_is_new course es keys p i t x sorted at pushed =
-    let within : i < length keys = slice_get_within keys i t at in
-    let is : get_or keys i t ≡ t = get_or_from_slice_get keys i t t at in
-    let R : ℕ → ℕ → Type 0 = λ a b. a < b in
-    let rise : AllPairs R (take i keys ++ get_or keys i t ∷ drop (i + 1) keys) =
-    subst (AllPairs R) (split_at keys i t within) (AllPairs-from_increasing keys (IsStrictlyIncreasing-from_sorted keys sorted)) in
-    let lower : All (λ k. k < get_or keys i t) (take i keys) = all_before R (take i keys) (drop (i + 1) keys) (get_or keys i t) rise in
-    let from = gathered_from (element_pushes course es) (filter p (take i keys)) (t, x) pushed in
-    let less : from.0 < get_or keys i t = All-contains (λ k. k < get_or keys i t) (filter p (take i keys)) from.0 (All-filter p (λ k. k < get_or keys i t) (take i keys) lower) from.1 in
-    let made = pushed_from course from.0 0 es (t, x) from.2 in
-    let same : t ≡ from.0 = ap (λ (q : Push). q.0) made.3 in
-    omega (arith, less, is, same)

@@ -3,7 +3,6 @@ use Rattle.std.proofs.Common.{◌≡◌, ℕ, suc, zero, ◌+◌, true, false, c
 use Rattle.std.specs.Prelude.{◌≢◌, ◌==◌, slice_get, Contains, AllPairs}
 use Rattle.std.proofs.lemmas.Bool.Decides.{nat_tests}
 use Rattle.std.proofs.lemmas.List.Elements.{Contains-append_left, Contains-append_right}
-use Rattle.std.proofs.lemmas.Option.{get_or_from_slice_get, slice_get_within}
 use Rattle.rtl_stim_lines.specs.Inputs.{Input, Element}
 use Rattle.rtl_stim_lines.specs.Courses.{Course, course_value}
 use Rattle.rtl_stim_lines.specs.Times.{nets_of, all_nets, element_value, value_of}
@@ -40,9 +39,6 @@ pub own_apart : (ns ms : List ℕ) (n : ℕ) → Own (ns ++ ms) → Contains ns 
 own_apart [] ms n h (k, within, is) right = omega (arith, within)
 own_apart (m ∷ ns) ms n h left right =
     first_or_later m n ns left ⊥ (λ e. h.0 (subst (Contains (ns ++ ms)) (sym e) (Contains-append_right ns ms n right))) (λ there. own_apart ns ms n h.1 there right)
-
-pub there_at : {X : Type 0} (xs : List X) (k : ℕ) (x : X) → slice_get xs k ≡ Some x → Contains xs x
-there_at xs k x is = (k, slice_get_within xs k x is, get_or_from_slice_get xs k x x is)
 
 -- ---- elements
 

@@ -1,5 +1,5 @@
 -- What is set last.
-use Rattle.std.proofs.Common.{◌≡◌, ℕ, Bool, true, false, cond, not, nat_lt, List, [], ◌∷◌, ◌++◌, Option, Some, None, refl, ap, sym, ◌∙◌, arith}
+use Rattle.std.proofs.Common.{◌≡◌, ℕ, Bool, true, false, cond, not, nat_lt, List, [], ◌∷◌, ◌++◌, Option, Some, refl, ap, sym, ◌∙◌, arith}
 use Rattle.std.specs.Prelude.{◌==◌, nat_le, filter, option_map}
 use Rattle.std.specs.Ordering.{is_lt, nat_cmp}
 use Rattle.std.specs.declared.cmp.Ordering.TheVariants.{Less, Equal, Greater}
@@ -25,9 +25,6 @@ not_after t [] = refl
 not_after t (e ∷ es) =
     ap (λ b. cond b (e ∷ entries_between nat_cmp Unbounded (Included t) es) (entries_between nat_cmp Unbounded (Included t) es)) (tested (nat_lt t e.0) (t == e.0) t e.0 refl)
     ∙ ap (λ r. cond (nat_le e.0 t) (e ∷ r) r) (not_after t es)
-
-pub none_set : (t : ℕ) (es : List (ℕ × List Nine)) → entries_between nat_cmp Unbounded (Included t) es ≡ [] → set_by es t ≡ None
-none_set t es h = ap last_of (sym (not_after t es) ∙ h)
 
 pub last_set : (t : ℕ) (es front : List (ℕ × List Nine)) (e : ℕ × List Nine) → entries_between nat_cmp Unbounded (Included t) es ≡ front ++ e ∷ [] → set_by es t ≡ Some e
 last_set t es front e h = ap last_of (sym (not_after t es) ∙ h) ∙ last_push front e

@@ -1,5 +1,5 @@
 -- A machine's step keeps what holds of it.
-use Rattle.std.proofs.Common.{◌≡◌, ℕ, ◌<◌, ◌≤◌, Bool, true, false, List, [], length, get_or, map, replicate, Option, None, zero, suc, refl, sym, ap, subst, ◌∙◌, arith, ◌⊎◌, inl, inr, Contains, All}
+use Rattle.std.proofs.Common.{◌≡◌, ℕ, ◌<◌, ◌≤◌, Bool, true, false, List, [], length, get_or, map, Option, None, sym, ap, subst, ◌∙◌, ◌⊎◌, inl, inr, Contains, All}
 use Rattle.std.specs.Prelude.{⊤}
 use Rattle.std.proofs.lemmas.Bool.{cases_lt}
 use Rattle.std.proofs.lemmas.List.{get_or_past, length-map}
@@ -137,11 +137,6 @@ module _ (net : Netlist) (levels : List (Option ℕ)) (greatest : ℕ) (V : AreL
       let (level, e, _) = V.combinational p c in
       let f = get_or-map_within without_level levels p None false (rw (V.each_process) c.0) ∙ ap without_level e in
       cc
-
-pub all_marked : (n k : ℕ) → k < n → get_or (replicate n true) k false ≡ true
-all_marked zero k l = absurd (omega arith)
-all_marked (suc n) zero l = refl
-all_marked (suc n) (suc k) l = all_marked n k (omega arith)
 
 module _ {E : Type 0} (process : E → FlatProcess) (types : E → List ElementType) (most : E → ℕ) (net : NetlistView) (bodies : List E) (order : List ℕ) (readers clocked : List (List ℕ))
     (runs : List Outcome) (may : MayRun process types most net bodies runs) (S : IsSchedule (core net) order readers clocked)

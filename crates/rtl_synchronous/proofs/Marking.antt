@@ -77,13 +77,6 @@ module _ (index : List (List ℕ)) where
       other k (inl h) = inl h
       other k (inr c) = inr (first, record { at = 0; within = some; is = omega arith }, c)
 
-  -- a value that the net has
-  pub marks_same : (v : List ℕ) (net value : ℕ) (a : List Bool) → net < length v → get_or v net 0 ≡ value → Marks index (λ n. n ≡ net) v (set v net value) a a
-  marks_same v net value a within has = record {
-    as_many = refl;
-    kept = λ k h. h;
-    followed = λ n k differs f. absurd (differs (same n (cases_eq n net)));
-    no_other = λ k h. inl h;
   }
     where
       same : (n : ℕ) → (n ≡ net) ⊎ (n ≡ net → ⊥) → get_or v n 0 ≡ get_or (set v net value) n 0

@@ -1,12 +1,11 @@
 -- Room for the runs of processes, one process after the other.
-use Rattle.std.proofs.Common.{◌≡◌, ℕ, ◌+◌, ◌<◌, ◌≤◌, List, [], ◌∷◌, ◌++◌, length, get_or, refl, sym, ap, subst, ◌∙◌, arith, length-append, ◌⊎◌, inl, inr}
+use Rattle.std.proofs.Common.{◌≡◌, ℕ, ◌+◌, ◌<◌, ◌≤◌, List, [], ◌∷◌, ◌++◌, length, get_or, sym, ap, subst, ◌∙◌, arith, length-append, ◌⊎◌, inl, inr}
 use Rattle.std.proofs.lemmas.Bool.{cases_lt}
 use Rattle.std.proofs.lemmas.List.{get_or_append_left}
 use Rattle.std.proofs.Math.Seq.{get_or-append_seam}
 use Rattle.rtl_model.specs.nets.FlatNetlist.{FlatNetlist, process_at}
 use Rattle.rtl_eval.specs.Runs.{IsOf, Outcome}
 use Rattle.rtl_kernel.specs.drivers.Transactions.{no_outcome}
-use Rattle.rtl_kernel.specs.kernel.Kept.{HaveRoom}
 
 -- the first processes have the room that their bodies' runs want
 pub record HaveRoomTo {E : Type 0} (most : E → ℕ) (net : FlatNetlist) (bodies : List E) (many : ℕ) (outcomes : List Outcome) : Type 0 where
@@ -15,8 +14,6 @@ pub record HaveRoomTo {E : Type 0} (most : E → ℕ) (net : FlatNetlist) (bodie
   pub room : (p : ℕ) (e : E) → p < many → most (get_or bodies p e) ≤ (get_or outcomes p no_outcome).room
 
 module _ {E : Type 0} (most : E → ℕ) (net : FlatNetlist) (bodies : List E) where
-  pub room_none : HaveRoomTo most net bodies 0 []
-  room_none = record { as_many = refl; own = λ p l. absurd (omega arith); room = λ p e l. absurd (omega arith) }
 
   pub room_more : (k : ℕ) (os : List Outcome) (o : Outcome) → HaveRoomTo most net bodies k os → IsOf (process_at net k) o → ((e : E) → most (get_or bodies k e) ≤ o.room)
       → HaveRoomTo most net bodies (k + 1) (os ++ o ∷ [])
@@ -40,9 +37,4 @@ module _ {E : Type 0} (most : E → ℕ) (net : FlatNetlist) (bodies : List E) w
       rooms p e l (inl less) = rw (before p less) (H.room p e less)
       rooms p e l (inr le) = let is : p ≡ k = omega arith in rw (last p is) (subst (λ (j : ℕ). most (get_or bodies j e) ≤ o.room) (sym is) (room e))
 
-  pub room_all : (k : ℕ) (os : List Outcome) → k ≡ length net.processes → length bodies ≡ length net.processes → HaveRoomTo most net bodies k os → HaveRoom most net bodies os
-  room_all k os all many H = record {
-    as_many = H.as_many ∙ all;
-    own = λ p l. H.own p (rw (← H.as_many) l);
-    room = λ p e l. H.room p e (omega (arith, l, all, many));
   }

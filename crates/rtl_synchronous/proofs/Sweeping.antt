@@ -1,5 +1,5 @@
 -- A sweep in order of rank settles all combinational processes.
-use Rattle.std.proofs.Common.{◌≡◌, ℕ, ◌+◌, ◌<◌, ◌≤◌, Bool, true, false, List, [], length, get_or, set, refl, sym, subst, ◌∙◌, arith, ◌⊎◌, inl, inr, Contains}
+use Rattle.std.proofs.Common.{◌≡◌, ℕ, ◌+◌, ◌<◌, ◌≤◌, Bool, true, false, List, [], length, get_or, set, sym, subst, ◌∙◌, arith, ◌⊎◌, inl, inr, Contains}
 use Rattle.std.proofs.lemmas.Bool.{cases_Bool, cases_eq, cases_lt}
 use Rattle.std.proofs.lemmas.List.{get_or-set_same, get_or-set_other, get_or_past, get_or_default, length-map, length-set}
 use Rattle.rtl_model.specs.basics.Valuations.{AgreeOn}
@@ -58,10 +58,6 @@ module _ (net : Netlist) (order : List ℕ) (readers clocked : List (List ℕ)) 
         by : (get_or v n 0 ≡ get_or w n 0) ⊎ (get_or v n 0 ≡ get_or w n 0 → ⊥) → get_or v n 0 ≡ get_or w n 0
         by (inl e) = e
         by (inr differs) = let h = M.followed n k differs (follows n k l ((faultless net A).reads_wake (at k) n (at_rank k l) reads)) in cc
-
-    pub sweeping_start : (v : List ℕ) (dirty : List Bool) → length dirty ≡ length order → ((k : ℕ) → k < length order → get_or dirty k false ≡ false → IsSettled net v (at k))
-        → IsSweeping net order 0 v v dirty
-    sweeping_start v dirty many clean = record { each_net = refl; each_rank = many; clean = clean; ahead = λ k h. omega arith; on_others = λ n h. refl }
 
     module _ (from : ℕ) (v w : List ℕ) (dirty : List Bool) (I : IsSweeping net order from v w dirty) where
       pub sweeping_skip : get_or dirty from false ≡ false → IsSweeping net order (from + 1) v w dirty

@@ -1,5 +1,5 @@
 -- Entries of several processes that are taken over, process by process.
-use Rattle.std.proofs.Common.{◌≡◌, ℕ, ◌+◌, ◌<◌, ◌≤◌, Bool, true, false, List, length, get_or, Option, Some, None, refl, sym, ap, subst, ◌∙◌, arith, ◌⊎◌, inl, inr, ◌==◌}
+use Rattle.std.proofs.Common.{◌≡◌, ℕ, ◌+◌, ◌<◌, ◌≤◌, Bool, true, false, List, length, get_or, Option, Some, None, sym, ap, subst, ◌∙◌, arith, ◌⊎◌, inl, inr, ◌==◌}
 use Rattle.std.specs.List.{list_any}
 use Rattle.std.proofs.lemmas.Bool.{cases_lt, cases_Bool}
 use Rattle.std.proofs.lemmas.List.{get_or_past, get_or_default}
@@ -21,8 +21,6 @@ pub record AreTaking (net : Netlist) (marked : List Bool) (entries : ℕ → Lis
   pub others : (n : ℕ) → ((p place : ℕ) → p < i → get_or marked p false ≡ true → HasPlace net p place → target net p place ≡ n → ⊥) → get_or w n 0 ≡ get_or v n 0
 
 module _ (net : Netlist) (L : Leveled net) (marked : List Bool) (entries : ℕ → List (Option ℕ)) where
-  pub none_taken : (v : List ℕ) → AreTaking net marked entries 0 v v
-  none_taken v = record { each_net = refl; taken = λ p place l. absurd (omega arith); others = λ n h. refl }
 
   module _ (i : ℕ) (v w : List ℕ) (T : AreTaking net marked entries i v w) where
     pub one_skipped : get_or marked i false ≡ false → AreTaking net marked entries (i + 1) v w

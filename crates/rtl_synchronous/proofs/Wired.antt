@@ -2,7 +2,7 @@
 use Rattle.std.proofs.Common.{◌≡◌, ℕ, ◌<◌, ◌≤◌, true, false, List, [], length, get_or, map, Option, sym, ap, subst, ◌∙◌, arith, ◌⊎◌, inl, inr, All}
 use Rattle.std.proofs.lemmas.Bool.{cases_Bool, cases_lt}
 use Rattle.std.proofs.lemmas.List.Elements.{All-map}
-use Rattle.std.proofs.lemmas.List.{get_or-set_other, get_or-set_same, get_or_default, get_or_past, length-map}
+use Rattle.std.proofs.lemmas.List.{get_or-set_same, get_or_default, get_or_past, length-map}
 use Rattle.rtl_model.specs.bodies.Types.{ElementType}
 use Rattle.rtl_model.specs.nets.CoreNetlist.{core_process}
 use Rattle.rtl_model.specs.nets.FlatNetlist.{FlatProcess, IsInRange, element_starts, no_flat_process, process_at}
@@ -33,9 +33,6 @@ module _ (entries : List (Option ℕ)) (p : ℕ) (old new : List Outcome) (R : H
   ran_entries l =
       ap (λ (os : List Outcome). (get_or os p no_outcome).entries) R.is
       ∙ ap (λ (o : Outcome). o.entries) (get_or-set_same old p R.outcome no_outcome l) ∙ R.leaves.entries_are
-
-  pub ran_others : (q : ℕ) → (q ≡ p → ⊥) → get_or new q no_outcome ≡ get_or old q no_outcome
-  ran_others q ne = ap (λ (os : List Outcome). get_or os q no_outcome) R.is ∙ get_or-set_other old p q R.outcome no_outcome ne
 
 module _ (net : NetlistView) where
   pub wakes_there : IsInRange (flat net) → (p : ℕ) → All (λ n. n < length net.types) (process (core net) p).wakes

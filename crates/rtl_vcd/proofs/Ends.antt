@@ -1,6 +1,6 @@
 -- Runs: their nets, values and lines.
-use Rattle.std.proofs.Common.{◌≡◌, ℕ, zero, suc, ◌+◌, ◌-◌, ◌<◌, ◌≤◌, true, false, List, [], ◌∷◌, ◌++◌, length, map, take, drop, get_or, slice_index, sym, ap, subst, ◌∙◌, arith, append_assoc, ⊎_elim}
-use Rattle.std.specs.Prelude.{Option, IfSome, codes, slice_index_or}
+use Rattle.std.proofs.Common.{◌≡◌, ℕ, zero, suc, ◌+◌, ◌-◌, ◌<◌, ◌≤◌, List, [], ◌∷◌, ◌++◌, length, map, take, drop, get_or, slice_index, sym, ap, subst, ◌∙◌, arith, ⊎_elim}
+use Rattle.std.specs.Prelude.{Option, IfSome, slice_index_or}
 use Rattle.std.specs.Str.{bytes_eq}
 use Rattle.std.specs.List.{range_with_len}
 use Rattle.std.proofs.lemmas.List.{append_cancel_left, append_cancel_right, get_or-take, get_or-drop, get_or-map, get_or_append_left, length-take, length-take-le, length-drop, length-map, length-append, take_more, map-append}
@@ -10,13 +10,12 @@ use Rattle.std.proofs.lemmas.List.FromFn.{length-range_with_len, get_or-range_wi
 use Rattle.std.proofs.lemmas.List.Elements.{All-get_or}
 use Rattle.std.proofs.lemmas.Simd.{pick_l-range_with_len}
 use Rattle.rtl_net.specs.declared.signal.Signal.{Signal}
-use Rattle.rtl_net.specs.declared.signal.SignalKind.TheVariants.{One, Vector}
 use Rattle.rtl_net.specs.Nets.{SignalView, signal_view}
 use Rattle.rtl_vcd.specs.declared.ready.Run.{Run}
 use Rattle.rtl_vcd.specs.Values.{code, character, value_change}
 use Rattle.rtl_vcd.specs.Trace.{printed}
 use Rattle.rtl_vcd.specs.Shown.{IsShown}
-use Rattle.rtl_vcd.specs.Ready.{IsRun, AreReady, beginning, behind}
+use Rattle.rtl_vcd.specs.Ready.{IsRun, AreReady, beginning}
 use Rattle.rtl_vcd.proofs.Names.{part_of_names}
 use Rattle.rtl_vcd.proofs.Printing.{same_test}
 
@@ -58,36 +57,11 @@ run_tells k s r old new is before after =
     (λ e. one ∙ ap (λ cs. beginning r.is_vector ++ cs ++ take r.end.len r.end.bytes) e ∙ sym other)
     (λ e. append_cancel_left (beginning r.is_vector) xs ys (append_cancel_right (beginning r.is_vector ++ xs) (beginning r.is_vector ++ ys) (take r.end.len r.end.bytes) (sym one ∙ e ∙ other)))
 
-one_line : (values code : List ℕ) → map character values ++ code ++ codes "\n" ≡ beginning false ++ map character values ++ (behind false ++ code ++ codes "\n")
-one_line values code = append_assoc (map character values) code (codes "\n")
-
-vector_line : (values code : List ℕ)
-    → codes "b" ++ map character values ++ codes " " ++ code ++ codes "\n" ≡ beginning true ++ map character values ++ (behind true ++ code ++ codes "\n")
-vector_line values code =
-    let head = codes "b" ++ map character values in
-    append_assoc (head ++ codes " ") code (codes "\n") ∙ append_assoc head (codes " ") (code ++ codes "\n")
-    ∙ ap (λ xs. head ++ xs) (sym (append_assoc (codes " ") code (codes "\n")))
-
 module _ (k : ℕ) (s : SignalView) (r : Run) (nets : s.nets ≡ range_with_len (slice_index s.nets 0) (length s.nets)) (first : r.first ≡ slice_index s.nets 0)
     (count : r.count ≡ length s.nets) where
-  placed : s.nets ≡ range_with_len r.first r.count
-  placed = nets ∙ ap (λ a. range_with_len a (length s.nets)) (sym first) ∙ ap (range_with_len r.first) (sym count)
 
-  -- a name of one element, and a vector
-  pub one_run : s.kind ≡ One → r.is_vector ≡ false → take r.end.len r.end.bytes ≡ behind false ++ code k ++ codes "\n" → IsRun k s r
-  one_run kind is end = record {
-    nets = placed;
-    line = λ values. ap (λ d. value_change d (code k) values) kind ∙ one_line values (code k)
-        ∙ ap (λ b. beginning b ++ map character values ++ (behind false ++ code k ++ codes "\n")) (sym is)
-        ∙ ap (λ e. beginning r.is_vector ++ map character values ++ e) (sym end);
   }
 
-  pub vector_run : (left right : ℕ) → s.kind ≡ Vector left right → r.is_vector ≡ true → take r.end.len r.end.bytes ≡ behind true ++ code k ++ codes "\n" → IsRun k s r
-  vector_run left right kind is end = record {
-    nets = placed;
-    line = λ values. ap (λ d. value_change d (code k) values) kind ∙ vector_line values (code k)
-        ∙ ap (λ b. beginning b ++ map character values ++ (behind true ++ code k ++ codes "\n")) (sym is)
-        ∙ ap (λ e. beginning r.is_vector ++ map character values ++ e) (sym end);
   }
 
 -- one name more

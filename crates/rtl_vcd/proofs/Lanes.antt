@@ -1,10 +1,9 @@
 -- Values as characters, lane by lane.
-use Rattle.std.proofs.Common.{◌≡◌, ℕ, Bool, true, not, cond, eqb, List, [], ◌∷◌, ◌+◌, length, map, take, drop, get_or, Fits, w8, refl, ap, ◌∙◌, ◌≤◌, ◌%◌, ◌^◌, sym, arith, ⊎_elim}
+use Rattle.std.proofs.Common.{◌≡◌, ℕ, Bool, true, not, cond, eqb, List, [], ◌∷◌, ◌+◌, length, map, get_or, Fits, w8, refl, ap, ◌∙◌, ◌≤◌, ◌%◌, ◌^◌, sym, arith, ⊎_elim}
 use Rattle.std.specs.Prelude.{◌==◌}
 use Rattle.std.proofs.lemmas.Bool.{agree_below, agree_below_at, eqb-true, eqb-false, cases_Bool, false_from_ne_true, both_ways}
-use Rattle.std.proofs.lemmas.Simd.{map-map, chunk-fits, length-chunk, length-zip2, tops_compared, mask_l-mod}
+use Rattle.std.proofs.lemmas.Simd.{map-map, chunk-fits, length-zip2, tops_compared, mask_l-mod}
 use Rattle.std.proofs.lemmas.Slice.Eq.{bytes_eq-Decides}
-use Rattle.std.proofs.lemmas.List.{length-map}
 use Rattle.std.specs.Str.{bytes_eq}
 use lib.Lanes.{Each1, chunk, sel_l, top, zip2, mask_l}
 use Rattle.rtl_vcd.specs.Values.{character}
@@ -54,10 +53,6 @@ same_mask (x ∷ xs) =
     ⊎_elim (λ same. let none : ◌≡◌ {A = ℕ} (cond (differ_at x x) 1 0) 0 = ap (λ b. cond (not b) 1 0) same in omega (arith, none, same_mask xs))
     (λ other. absurd (eqb-false x x other refl))
     (cases_Bool (eqb x x))
-
--- as many as were looked at
-pub length_of : (n at : ℕ) (values : List ℕ) {xs : List ℕ} → xs ≡ map character (take n (drop at values)) → at + n ≤ length values → length xs ≡ n
-length_of n at values e le = ap length e ∙ length-map (chunk at n values) character ∙ length-chunk at n values le
 
 -- whether the mask is 0 tells whether two vectors are the same
 pub differ_tells : (xs ys : List ℕ) → length xs ≡ length ys → length xs ≤ 64

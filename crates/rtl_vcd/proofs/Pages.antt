@@ -12,10 +12,6 @@ Passes-nil a held = record { gone = []; goes = Goes-nil a; kept = append-nil hel
 pub Passes-held : (a : SinkState) (held text : List ℕ) → Passes a a held (held ++ text) text
 Passes-held a held text = record { gone = []; goes = Goes-nil a; kept = refl }
 
--- the page goes to the sink, and text behind it
-pub Passes-put : (a b : SinkState) (held : List ℕ) → Goes a b held → Passes a b held [] []
-Passes-put a b held goes = record { gone = held; goes = goes; kept = refl }
-
 pub Passes-by : (a b c : SinkState) (held text : List ℕ) → Goes a b held → Goes b c text → Passes a c held [] text
 Passes-by a b c held text first goes = record { gone = held ++ text; goes = Goes-append a b c held text first goes; kept = sym (append-nil (held ++ text)) }
 

@@ -1,4 +1,3 @@
 pub mod Refusing
-pub mod Reading
 pub mod Serving
 pub mod Buffers

@@ -6,7 +6,7 @@ use Rattle.rtl_check.specs.Views.{core, fault_view}
 use Rattle.rtl_check.specs.declared.fault.CheckFault.{CheckFault}
 use Rattle.rtl_model.specs.simulation.Faults.{AreStored}
 use Rattle.rtl_check.specs.declared.checking.Verdict.{Verdict}
-use Rattle.rtlsim_commands.specs.Faults.{of_listing, of_run, of_stim}
+use Rattle.rtlsim_commands.specs.Faults.{of_listing, of_run}
 use Rattle.rtlsim_commands.specs.Listed.{Writes, AnswersVerdict}
 use Rattle.rtlsim_commands.specs.Simulated.{HasNoneStored, Simulates, RunsEvents, most_deltas}
 use Rattle.rtlsim_commands.specs.declared.faults.Fault.{Fault}
@@ -14,7 +14,6 @@ use Rattle.rtlsim_commands.specs.declared.faults.Fault.TheVariants.{Memory}
 use Rattle.rtlsim_listing.specs.Printing.{IsListed}
 use Rattle.rtlsim_listing.specs.declared.fault.ListingFault.{ListingFault}
 use Rattle.rtlsim_listing.specs.declared.fault.ListingFault.TheVariants as listing
-use Rattle.rtl_stim.specs.Ports.{inputs_of}
 use Rattle.rtl_stim.specs.Stimuli.{StimulusView, IsRead}
 use Rattle.rtl_net.specs.Nets.{NetlistView}
 use Rattle.rtl_run.specs.Answered.{Answers}
@@ -22,9 +21,6 @@ use Rattle.rtl_run.specs.declared.summary.RunFault.{RunFault}
 use Rattle.rtl_run.specs.declared.summary.RunFault.TheVariants as run
 use Rattle.rtl_run.specs.declared.summary.Summary.{Summary}
 use Rattle.rtl_sink.specs.Written.{SinkState}
-use Rattle.rtl_stim_lines.specs.Reading.{schedule_of}
-use Rattle.rtl_stim_lines.specs.declared.faults.StimFault.{StimFault}
-use Rattle.rtl_stim_lines.specs.declared.faults.StimFault.TheVariants as stim
 
 -- a listing that fails
 writes_listing : (A : Type 0) (text : List ℕ) (fault : ListingFault) (old new : SinkState) → IsListed {T = Unit {0}} (Err fault) old new text → Writes {A = A} text (Err (of_listing fault)) old new
@@ -55,20 +51,6 @@ module _ (text_of : NetlistView → Verdict → List ℕ) (net : NetlistView) wh
 pub unrun : (text : List ℕ) (net : NetlistView) (answer : Result Summary Fault) (old : SinkState) → IsErrAnd answer (λ f. f ≡ Memory) → RunsEvents text net answer old old
 unrun text net (Ok x) old h = absurd h
 unrun text net (Err f) old h = let P : Fault → Type 0 = λ x. RunsEvents text net (Err x) old old in subst P (sym h) (inr refl)
-
--- a stimulus that is refused
-unread_fault : (text : List ℕ) (net : NetlistView) (fault : StimFault) (old : SinkState) → HasNoneStored net → (fault ≢ stim.NoMemory → schedule_of (inputs_of net) text ≡ Err fault)
-    → RunsEvents text net (Err (of_stim fault)) old old
-unread_fault text net (stim.InLine problem line) old none h = (none, h (λ e. cc), refl)
-unread_fault text net stim.NoStop old none h = (none, h (λ e. cc), refl)
-unread_fault text net (stim.Race time input clock) old none h = (none, h (λ e. cc), refl)
-unread_fault text net stim.NoMemory old none h = inr refl
-
-pub unread : (text : List ℕ) (net : NetlistView) (answer : Result Summary Fault) (fault : StimFault) (old : SinkState) → IsErrAnd answer (λ f. f ≡ of_stim fault) → HasNoneStored net
-    → (fault ≢ stim.NoMemory → schedule_of (inputs_of net) text ≡ Err fault) → RunsEvents text net answer old old
-unread text net (Ok x) fault old h none read = absurd h
-unread text net (Err f) fault old h none read =
-    let P : Fault → Type 0 = λ x. RunsEvents text net (Err x) old old in subst P (sym h) (unread_fault text net fault old none read)
 
 -- no variable is stored
 pub none_stored : (net : NetlistView) (faults : List CheckFault) (count : ℕ) → AreStored (core net) (map fault_view faults) → count ≡ length faults → count ≡ 0 → HasNoneStored net

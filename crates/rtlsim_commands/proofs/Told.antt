@@ -4,9 +4,8 @@ use Rattle.std.specs.Prelude.{IsErrAnd}
 use Rattle.std.proofs.Math.Seq.{take-length}
 use Rattle.rtlsim_commands.specs.Faults.{of_source, status_of}
 use Rattle.rtlsim_commands.specs.Lines.{fault_lines}
-use Rattle.rtlsim_commands.specs.Places.{IsTold}
 use Rattle.rtlsim_commands.specs.Served.{Outputs, Serves, ended}
-use Rattle.rtlsim_commands.specs.Told.{TellsFault, TellsText, Done}
+use Rattle.rtlsim_commands.specs.Told.{Done}
 use Rattle.rtlsim_commands.specs.declared.faults.Fault.{Fault}
 use Rattle.rtlsim_commands.specs.declared.status.Status.{Status}
 use Rattle.rtlsim_commands.proofs.Refused.{nameless, source_told}
@@ -15,7 +14,6 @@ use Rattle.rtlsim_listing.specs.declared.fault.ListingFault.{ListingFault}
 use Rattle.rtlsim_listing.specs.declared.fault.ListingFault.TheVariants as listing
 use Rattle.rtl_net.specs.Nets.{NetlistView}
 use Rattle.rtl_sink.specs.Written.{SinkState, IsIntact, HasFailed, TakesAll, TakesBeginning, Goes}
-use Rattle.vhdl_source_rules.specs.Designs.{IsNetOf}
 use Rattle.vhdl_source_rules.specs.Faults.{LiesIn}
 use Rattle.vhdl_source_rules.specs.Refusals.{Refuses}
 use Rattle.vhdl_source_rules.specs.declared.fault.SourceFault.{SourceFault}
@@ -28,12 +26,6 @@ goes_whole old new text intact all = record {
   nothing = λ failed. absurd (true≢false (sym failed ∙ intact));
 }
 
--- a beginning of it, to one that then failed
-pub goes_failed : (old new : SinkState) (text : List ℕ) → IsIntact old → HasFailed new → TakesBeginning old new text → Goes old new text
-goes_failed old new text intact failed part = record {
-  whole = λ ok. absurd (true≢false (sym failed ∙ ok));
-  beginning = λ ok. part;
-  nothing = λ broken. absurd (true≢false (sym broken ∙ intact));
 }
 
 -- a text that is the same
@@ -65,26 +57,6 @@ module _ {A : Type 0} (Does : NetlistView → Result A Fault → SinkState → S
     ends = ends;
   }
 
-  -- the command refuses
-  pub serves_failed : (net : NetlistView) (fault : Fault) (said : Status) → IsNetOf source top net → Does net (Err fault) o.out o.out_after → IsTold (length source) fault
-      → TellsFault net fault o.err o.err_after said → outcome ≡ ended said o.out_after o.err_after → Serves Does done source top outcome o
-  serves_failed net fault said is does placed tells ends = record {
-    answer = Err fault;
-    output = inl (net, is, does);
-    placed = placed;
-    said = said;
-    told = (net, (λ named. is), tells);
-    ends = ends;
   }
 
-  -- the command has done its work
-  pub serves_done : (net : NetlistView) (x : A) → IsNetOf source top net → Does net (Ok x) o.out o.out_after → TellsText (done.text x) o.err o.err_after
-      → outcome ≡ ended (done.status x) o.out_after o.err_after → Serves Does done source top outcome o
-  serves_done net x is does tells ends = record {
-    answer = Ok x;
-    output = inl (net, is, does);
-    placed = tt;
-    said = done.status x;
-    told = (tells, refl);
-    ends = ends;
   }

@@ -3,7 +3,6 @@ pub mod Uses
 mod Placing
 mod Walking
 pub mod Ready
-mod Zipped
 mod Seen
 mod Settling
 mod Shown

@@ -1,8 +1,7 @@
 -- Located processes as processes of the flat netlist.
-use Rattle.std.proofs.Common.{◌≡◌, ℕ, zero, suc, ◌+◌, ◌<◌, ◌≤◌, ◌⊎◌, inl, inr, List, [], ◌∷◌, length, get_or, set, map, All, refl, sym, ap, ◌∙◌, subst, arith, get_or-set_same, get_or-set_other, length-set}
+use Rattle.std.proofs.Common.{◌≡◌, ℕ, zero, suc, ◌+◌, ◌<◌, ◌≤◌, ◌⊎◌, List, [], ◌∷◌, length, get_or, set, map, All, refl, sym, ap, ◌∙◌, subst, arith, get_or-set_same}
 use Rattle.std.specs.Prelude.{slice_index}
 use Rattle.std.specs.List.{AllZip}
-use Rattle.std.proofs.lemmas.Bool.{cases_eq}
 use Rattle.std.proofs.lemmas.List.Elements.{All-map}
 use Rattle.rtl_net.specs.declared.process.Variable.{Variable}
 use Rattle.rtl_net.specs.declared.process.Process.{Process}
@@ -105,15 +104,6 @@ pub record AreUnwoken (i : ℕ) (old now : List Process) : Type 0 where
   pub first : (k : ℕ) (d : Process) → k < i → IsUnwoken (get_or old k d) (get_or now k d)
   pub others : (k : ℕ) (d : Process) → i ≤ k → get_or now k d ≡ get_or old k d
 
-pub none-yet : (ps : List Process) → AreUnwoken 0 ps ps
-none-yet ps = record { long = refl; first = λ k d l. absurd (omega (arith, l)); others = λ k d l. refl }
-
-pub one-more : (i : ℕ) (old now : List Process) (d y : Process) → i < length now → y ≡ record (get_or now i d) { wakes = y.wakes } → y.wakes.items ≡ [] → AreUnwoken i old now
-    → AreUnwoken (i + 1) old (set now i y)
-one-more i old now d y l same none h = record {
-  long = length-set now i y ∙ h.long;
-  first = λ k e b. go k e b (cases_eq k i);
-  others = λ k e b. get_or-set_other now i k y e (λ z. absurd (omega (arith, z, b))) ∙ h.others k e (omega (arith, b));
 }
   where
     there : (e : Process) → get_or now i d ≡ get_or old i e
@@ -126,10 +116,6 @@ one-more i old now d y l same none h = record {
 
     mine : (e : Process) → IsUnwoken (get_or old i e) (get_or (set now i y) i e)
     mine e = subst (λ (q : Process). IsUnwoken (get_or old i e) q) (sym (get_or-set_same now i y e l)) (record { same = subst (λ (p : Process). y ≡ record p { wakes = y.wakes }) (there e) same; none = none })
-
-    go : (k : ℕ) (e : Process) → k < i + 1 → (k ≡ i) ⊎ (k ≡ i → ⊥) → IsUnwoken (get_or old k e) (get_or (set now i y) k e)
-    go k e b (inl z) = subst (λ m. IsUnwoken (get_or old m e) (get_or (set now i y) m e)) (sym z) (mine e)
-    go k e b (inr z) = subst (λ (q : Process). IsUnwoken (get_or old k e) q) (sym (get_or-set_other now i k y e z)) (h.first k e (omega (arith, b, z)))
 
 pub all-unwoken : (n : ℕ) (xs : List Located) (old now : List Process) → n ≡ 0 → AllZip IsLocated xs old → length now ≡ length old → ((k : ℕ) (d : Process) → k < length now → IsUnwoken (get_or old k d) (get_or now k d))
     → AllZip (IsSettled n) xs now

@@ -28,7 +28,7 @@ use Rattle.vhdl_connect.specs.Made.{element_view, IsLocated, IsMade}
 use Rattle.vhdl_connect.specs.Adding.{statics_from}
 use Rattle.vhdl_connect.specs.Placing.{AddsPlaced}
 use Rattle.vhdl_connect.specs.declared.walk.Above.{Above}
-use Rattle.vhdl_connect.specs.Ready.{ProcessIsReady, InstanceIsReady, PartsAreReady}
+use Rattle.vhdl_connect.specs.Ready.{InstanceIsReady, PartsAreReady}
 use Rattle.vhdl_connect.specs.Walking.{above_at, IsIn}
 use Rattle.vhdl_connect.proofs.Placing.{placed_made}
 
@@ -107,9 +107,6 @@ pub others_ready : (rest more : Parts) (x : InstancePart) → rest ≡ part_befo
 others_ready rest more x h k = (ready-before x more (subst PartsAreReady h k)).1
 
 -- ---- a process
-
-pub process_ready : (x : InstancePart) (q : Process) → x ≡ p.Process q → PartsAreReady (alone x) → ProcessIsReady (process_view q)
-process_ready x q is h = (subst (λ y. PartsAreReady (alone y)) is h).0
 
 zip-push : {A B : Type 0} (R : A → B → Type 0) (xs : List A) (ys : List B) (x : A) (y : B) → AllZip R xs ys → R x y → AllZip R (xs ++ x ∷ []) (ys ++ y ∷ [])
 zip-push R [] [] x y h k = (k, tt)

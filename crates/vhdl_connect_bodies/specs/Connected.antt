@@ -7,13 +7,10 @@ use Rattle.rtl_net.specs.declared.body.TestLink.{TestLink}
 use Rattle.rtl_net.specs.declared.body.Branch.{Branch}
 use Rattle.rtl_net.specs.declared.body.Alternative.{Alternative}
 use Rattle.vhdl_values.specs.declared.kinds.Logic.{Logic}
-use Rattle.vhdl_elab_rules.specs.Bodies.{net_of, connected_expr, connected_value, connected_test, connected_stmt, connected_body}
+use Rattle.vhdl_elab_rules.specs.Bodies.{connected_expr, connected_value, connected_test, connected_stmt, connected_body}
 use Rattle.vhdl_connect_bodies.specs.declared.connection.Connection.{Connection}
 
 -- ---- what a connection makes of the parts of a body
-
-abbrev pub net_in : Connection → ℕ → ℕ
-net_in c = net_of c.nets.now c.drives.now
 
 abbrev pub expr_in : Connection → bodies.Expr → bodies.Expr
 expr_in c = connected_expr c.nets.now c.drives.now

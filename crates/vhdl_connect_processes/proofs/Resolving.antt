@@ -1,6 +1,6 @@
 -- The resolution of one value and of several.
-use Rattle.std.proofs.Common.{◌≡◌, ℕ, ◌+◌, ◌<◌, List, [], ◌∷◌, ◌++◌, length, get_or, map, Result, refl, sym, ap, ◌∙◌, arith}
-use Rattle.std.specs.Prelude.{IfOk, slice_index}
+use Rattle.std.proofs.Common.{◌≡◌, ℕ, ◌+◌, ◌<◌, List, [], ◌∷◌, ◌++◌, length, get_or, map, refl, sym, ap, ◌∙◌, arith}
+use Rattle.std.specs.Prelude.{slice_index}
 use Rattle.std.specs.List.{range_with_len}
 use Rattle.std.proofs.lemmas.List.FromFn.{map-range_with_len_more}
 use Rattle.vhdl_values.specs.declared.scalar.Nine.{Nine}
@@ -11,23 +11,10 @@ use Rattle.smallvec.specs.SmallVec.{SmallVec}
 use Rattle.vhdl_connect_processes.specs.Held.{items_at, start_with}
 use Rattle.vhdl_connect_processes.proofs.Holding.{shown_there}
 
-pub one_passes : (vs : List ℕ) (d : ℕ) → length vs ≡ 1 → get_or vs 0 d ≡ core_resolve vs
-one_passes [] d h = absurd (omega (arith, h))
-one_passes (v ∷ []) d h = refl
-one_passes (v ∷ w ∷ vs) d h = absurd (omega (arith, h))
-
 pub several_resolve : (vs : List ℕ) (r : Nine) (code : ℕ) → 0 < length vs → (length vs ≡ 1 → ⊥) → r ≡ resolved (map value_of_code vs) → code ≡ code_of r → code ≡ core_resolve vs
 several_resolve [] r code some h e k = absurd (omega (arith, some))
 several_resolve (v ∷ []) r code some h e k = absurd (h refl)
 several_resolve (v ∷ w ∷ vs) r code some h e k = k ∙ ap code_of e
-
-pub started : {E : Type 0} (r : Result ℕ E) (default : ℕ) (vs : List ℕ) → 0 < length vs → IfOk r (λ v. v ≡ core_resolve vs) → IfOk r (λ v. v ≡ start_with default vs)
-started r default [] some h = absurd (omega (arith, some))
-started r default (v ∷ vs) some h = h
-
-pub not_started : (default : ℕ) (vs : List ℕ) → length vs ≡ 0 → default ≡ start_with default vs
-not_started default [] h = refl
-not_started default (v ∷ vs) h = absurd (omega (arith, h))
 
 -- ---- one net more
 

@@ -96,13 +96,6 @@ miss-one m n later l = by (m == n) refl
     by false e = refl
     by true e = absurd (let s : m ≡ n = eqb-true m n e in omega (arith, s, l))
 
-miss-other : (m n : ℕ) (later : Option ℕ) → n < m → cond (m == n) (Some 0) (option_map suc later) ≡ option_map suc later
-miss-other m n later l = by (m == n) refl
-  where
-    by : (b : Bool) → (m == n) ≡ b → cond b (Some 0) (option_map suc later) ≡ option_map suc later
-    by false e = refl
-    by true e = absurd (let s : m ≡ n = eqb-true m n e in omega (arith, s, l))
-
 hit-one : (m : ℕ) (later : Option ℕ) → cond (m == m) (Some 0) (option_map suc later) ≡ Some 0
 hit-one m later = ap (λ (b : Bool). cond b (Some 0) (option_map suc later)) (eq-eqb m m refl)
 

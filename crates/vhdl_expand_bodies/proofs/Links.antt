@@ -62,10 +62,6 @@ module _ (at : Site) where
       (sym (so_far ∙ ap (λ left. steps.all_linked at now left) (next-left ls i k below is)))
       (err_first (steps.linked at now k) _ h)
 
-  -- all
-  pub links_end : (begun now : bodies.Expr) (ls left : List VectorLink) → left ≡ [] → steps.all_linked at begun ls ≡ steps.all_linked at now left → steps.all_linked at begun ls ≡ Ok now
-  links_end begun now ls left h so_far = so_far ∙ ap (λ ks. steps.all_linked at now ks) h
-
   -- ---- a chain grouped from the left
 
   linked-step : (t : u.Vector) (k : VectorLink) → vector at (views.linked t k) ≡ (vector at t >>= λ d. steps.linked at d k)

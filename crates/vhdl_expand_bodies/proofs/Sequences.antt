@@ -45,10 +45,6 @@ after_stops : (made : bodies.Stmts) (r q : Elab bodies.Stmts) → IsErr (after m
 after_stops made (Ok x) q h = absurd cc
 after_stops made (Err p) q h = refl
 
-pub after_none : (r : Elab bodies.Stmts) → after bodies.done r ≡ r
-after_none (Ok x) = refl
-after_none (Err p) = refl
-
 next-left : {X : Type 0} (xs : List X) (i : ℕ) (x : X) → i < length xs → x ≡ get_or xs i x → drop i xs ≡ x ∷ drop (i + 1) xs
 next-left xs i x h e = drop-cons xs i x h ∙ ap (λ y. y ∷ drop (suc i) xs) (sym e) ∙ ap (λ j. x ∷ drop j xs) (sym (add-one i))
 
@@ -144,12 +140,6 @@ abbrev pub behind : {B : Type 0} → List B → Elab (List B) → Elab (List B)
 behind made more = more >>= λ ys. given (made ++ ys)
 
 module _ {A B X : Type 0} (f : A → Elab B) (v : X → A) where
-  pub each_begins : (xs : List X) → each f (map v xs) ≡ behind [] (each f (map v xs))
-  each_begins xs = go (each f (map v xs))
-    where
-      go : (r : Elab (List B)) → r ≡ behind [] r
-      go (Ok ys) = refl
-      go (Err p) = refl
 
   pub each_goes : (total : Elab (List B)) (made more : List B) (xs : List X) (i : ℕ) (x : X) (y : B) → i < length xs → x ≡ get_or xs i x
       → total ≡ behind made (each f (map v (drop i xs))) → f (v x) ≡ Ok y → more ≡ made ++ y ∷ [] → total ≡ behind more (each f (map v (drop (i + 1) xs)))

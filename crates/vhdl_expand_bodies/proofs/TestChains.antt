@@ -22,7 +22,7 @@ use Rattle.vhdl_names_rules.specs.units.Expressions as u
 use Rattle.vhdl_names_rules.proofs.rows.Vectors as rows
 use Rattle.vhdl_names_rules.proofs.rows.Tests.{view_chain}
 use Rattle.vhdl_expand_rules.specs.Elab.{Elab, ◌>>=◌}
-use Rattle.vhdl_expand_rules.specs.Site.{Site, signal_elements, the_element}
+use Rattle.vhdl_expand_rules.specs.Site.{Site, signal_elements}
 use Rattle.vhdl_expand_rules.specs.Expressions.{levelled, test}
 use Rattle.vhdl_expand_rules.proofs.Chains.{bind-assoc, err_first}
 use Rattle.vhdl_expand_rules.proofs.Steps.{given, ok}
@@ -72,10 +72,6 @@ links-push left (x ∷ xs) y = links-push (bodies.combined x.operator left (net.
 abbrev one_more : bodies.Test → Elab bodies.Test
 one_more t = Ok t
 
-pub level_one : (at : Site) (plain : Bool) (p : u.SignalPart) (x : Nine) (f e : ℕ)
-    → signal_elements at p.signal p.part ≡ Ok (range_with_len f 1) → the_element (given (range_with_len f 1)) ≡ Ok e → steps.level at plain p x ≡ Ok (bodies.level plain e x)
-level_one at plain p x f e there same = ap (λ r. r >>= λ es. one_more (levelled plain es x)) there ∙ ap (λ n. one_more (bodies.level plain n x)) (ok f e same)
-
 pub level_given : (at : Site) (plain : Bool) (p : u.SignalPart) (x : Nine) (f len : ℕ) (es : List ℕ) (vs : List Nine)
     → signal_elements at p.signal p.part ≡ Ok (range_with_len f len) → 1 ≤ len → (len ≡ 1 → ⊥) → given (range_with_len f len) ≡ Ok es → vs ≡ replicate 1 x
     → steps.level at plain p x ≡ Ok (bodies.equal (bodies.elements (bodies.signal es)) (bodies.elements (bodies.constant vs)))
@@ -104,10 +100,6 @@ module _ (at : Site) where
       subst (λ (r : Elab bodies.Test). IsErr r)
       (sym (so_far ∙ ap (λ left. steps.all_linked at now left) (next-left ls i k below is)))
       (err_first (steps.linked at now k) _ h)
-
-  -- all
-  pub links_end : (begun now : bodies.Test) (ls left : List TestLink) → left ≡ [] → steps.all_linked at begun ls ≡ steps.all_linked at now left → steps.all_linked at begun ls ≡ Ok now
-  links_end begun now ls left h so_far = so_far ∙ ap (λ ks. steps.all_linked at now ks) h
 
   -- an operator with its right operand, behind a chain
   pub link_given : (first : bodies.Test) (rest more : List m.TestLink) (k : TestLink) (x : m.TestLink)

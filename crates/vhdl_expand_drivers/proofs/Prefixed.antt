@@ -53,13 +53,7 @@ module _ {A X : Type 0} (f : A → Elab (List ℕ)) (v : X → A) where
   ends : (total : Elab (List ℕ)) (made : List ℕ) (xs : List X) (i : ℕ) → length xs ≤ i → total ≡ behind made (all (drop i xs)) → total ≡ Ok made
   ends total made xs i h so_far = so_far ∙ ap (λ zs. behind made (all zs)) (none_left xs i h) ∙ ap given (append-nil made)
 
-begins : (r : Elab (List ℕ)) → r ≡ behind [] r
-begins (Ok xs) = refl
-begins (Err p) = refl
-
 module _ {X : Type 0} (at : Site) (v : X → SignalPart) where
-  pub prefixes_begin : (xs : List X) → prefixes_elements at (map v xs) ≡ behind [] (prefixes_elements at (map v xs))
-  prefixes_begin xs = begins (prefixes_elements at (map v xs))
 
   pub prefixes_go : (total : Elab (List ℕ)) (made more es : List ℕ) (xs : List X) (i : ℕ) (x : X) → i < length xs → x ≡ get_or xs i x
       → total ≡ behind made (prefixes_elements at (map v (drop i xs))) → place_elements at (prefix (v x)) ≡ Ok es → more ≡ made ++ es
@@ -75,9 +69,6 @@ module _ {X : Type 0} (at : Site) (v : X → SignalPart) where
   pub prefixes_end : (total : Elab (List ℕ)) (made : List ℕ) (xs : List X) (i : ℕ) → length xs ≤ i → total ≡ behind made (prefixes_elements at (map v (drop i xs))) → total ≡ Ok made
   unfolding prefixes_elements
   prefixes_end total made xs i h so_far = ends (λ p. place_elements at (prefix p)) v total made xs i h so_far
-
-  pub names_begin : (xs : List X) → names_elements at (map v xs) ≡ behind [] (names_elements at (map v xs))
-  names_begin xs = begins (names_elements at (map v xs))
 
   pub names_go : (total : Elab (List ℕ)) (made more es : List ℕ) (xs : List X) (i : ℕ) (x : X) → i < length xs → x ≡ get_or xs i x
       → total ≡ behind made (names_elements at (map v (drop i xs))) → place_elements at (v x) ≡ Ok es → more ≡ made ++ es

@@ -1,8 +1,8 @@
 -- What a walk over a list puts behind what stands there.
 use Rattle.std.proofs.Common.{◌≡◌, ℕ, zero, suc, ◌+◌, ◌<◌, ◌≤◌, List, [], ◌∷◌, ◌++◌, length, get_or, map, drop, drop-cons, add-one, Result, refl, sym, subst, ap, ◌∙◌, arith}
-use Rattle.std.specs.Prelude.{flat_map, OnOk}
+use Rattle.std.specs.Prelude.{OnOk}
 use Rattle.std.specs.List.{range_with_len}
-use Rattle.std.proofs.lemmas.List.{append_assoc, append-nil}
+use Rattle.std.proofs.lemmas.List.{append_assoc}
 use Rattle.std.proofs.lemmas.List.FromFn.{map-range_with_len_more}
 
 pub next-left : {X : Type 0} (xs : List X) (i : ℕ) (x : X) → i < length xs → x ≡ get_or xs i x → drop i xs ≡ x ∷ drop (i + 1) xs
@@ -13,16 +13,6 @@ none_left [] zero h = refl
 none_left [] (suc i) h = refl
 none_left (x ∷ xs) zero h = absurd (omega arith)
 none_left (x ∷ xs) (suc i) h = none_left xs i (omega arith)
-
-module _ {X B : Type 0} (f : X → List B) where
-  pub walk_goes : (total now new : List B) (xs : List X) (i : ℕ) (x : X) → i < length xs → x ≡ get_or xs i x
-      → total ≡ now ++ flat_map f (drop i xs) → new ≡ now ++ f x → total ≡ new ++ flat_map f (drop (i + 1) xs)
-  walk_goes total now new xs i x below is so_far h =
-      so_far ∙ ap (λ ys. now ++ flat_map f ys) (next-left xs i x below is)
-      ∙ sym (append_assoc now (f x) (flat_map f (drop (i + 1) xs))) ∙ ap (λ m. m ++ flat_map f (drop (i + 1) xs)) (sym h)
-
-  pub walk_ends : (total now : List B) (xs : List X) (i : ℕ) → length xs ≤ i → total ≡ now ++ flat_map f (drop i xs) → now ≡ total
-  walk_ends total now xs i h so_far = sym (so_far ∙ ap (λ ys. now ++ flat_map f ys) (none_left xs i h) ∙ append-nil now)
 
 -- the same by another name
 pub adds_along : {A E B : Type 0} (r : Result A E) (new old xs ys : List B) → ys ≡ xs → OnOk r (new ≡ old ++ xs) → OnOk r (new ≡ old ++ ys)

@@ -1,24 +1,22 @@
 -- Constants, one after another, and what is known of an instance where its architecture begins.
-use Rattle.std.proofs.Common.{◌≡◌, List, [], ◌∷◌, ◌++◌, map, Option, Ok, Err, refl, sym, ap, ◌∙◌, ℤ}
+use Rattle.std.proofs.Common.{◌≡◌, List, [], ◌∷◌, ◌++◌, map, Ok, Err, refl, sym, ap, ◌∙◌, ℤ}
 use Rattle.std.specs.Prelude.{IsErr}
 use Rattle.std.proofs.lemmas.List.{map-append}
 use Rattle.vhdl_names_rules.specs.declared.operator.IntegerType.{IntegerType}
 use Rattle.vhdl_names_rules.specs.units.Expressions.{Static}
 use Rattle.vhdl_names_rules.specs.units.Units as u
-use Rattle.vhdl_names_rules.specs.units.Units.{Entity, Fixed, Form}
+use Rattle.vhdl_names_rules.specs.units.Units.{Fixed, Form}
 use Rattle.vhdl_expand_rules.specs.Elab.{Elab, ◌>>=◌}
-use Rattle.vhdl_expand_rules.specs.Integers.{Integers, integer_of}
+use Rattle.vhdl_expand_rules.specs.Integers.{integer_of}
 use Rattle.vhdl_expand_rules.specs.Kinds.{kind_of, size}
 use Rattle.vhdl_expand_rules.specs.Site as definition
-use Rattle.vhdl_expand_rules.specs.Site.{Site, no_integers}
-use Rattle.vhdl_expand_rules.specs.Declarations.{InstanceObjects, declaration, fixed, generics, interface, ports, with_constant, with_integer}
+use Rattle.vhdl_expand_rules.specs.Site.{Site}
+use Rattle.vhdl_expand_rules.specs.Declarations.{InstanceObjects, declaration, fixed, with_constant, with_integer}
 use Rattle.vhdl_expand_rules.proofs.Steps.{given, ok, bound}
 use Rattle.vhdl_expand_rules.proofs.Chains.{err_first}
 use Rattle.vhdl_expand_bodies.specs.declared.constant.Constant.{Constant}
 use Rattle.vhdl_expand_bodies.specs.Sites.{constant_view}
 use Rattle.vhdl_expand_objects.specs.Constants.{constant_of}
-use Rattle.vhdl_expand_objects.specs.Generics.{generics_alone}
-use Rattle.vhdl_expand_objects.specs.Objects.{of_generics}
 
 pub integer_step : (d : InstanceObjects) (type : IntegerType) (s : Static) (x : ℤ) (new : InstanceObjects) → integer_of type d.site.integers s ≡ Ok x
     → new ≡ record d { site = with_integer d.site x } → declaration d (u.Declaration.integer type s) ≡ Ok new
@@ -60,15 +58,3 @@ pub constant_pushed : (xs ys : List Constant) (x : Constant) → ys ≡ xs ++ x 
 constant_pushed xs ys x h = ap (map constant_view) h ∙ map-append constant_view xs (x ∷ [])
 
 -- ---- where the architecture begins
-
-pub interface_goes : (above : Integers) (actuals : List (Option Static)) (unit : Entity) (values : List ℤ) (d : InstanceObjects)
-    → generics above no_integers actuals unit.generics ≡ Ok (generics_alone values) → d ≡ of_generics values → interface above actuals unit ≡ ports d unit.ports
-unfolding interface
-interface_goes above actuals unit values d h e =
-    ap (λ r. r >>= λ (i : Integers). ports (record { site = record definition.no_site { integers = i }; objects = [] }) unit.ports) h
-    ∙ ap (λ (x : InstanceObjects). ports x unit.ports) (sym e)
-
-pub interface_stops : (above : Integers) (actuals : List (Option Static)) (unit : Entity) → IsErr (generics above no_integers actuals unit.generics) → IsErr (interface above actuals unit)
-unfolding interface
-interface_stops above actuals unit h =
-    err_first (generics above no_integers actuals unit.generics) (λ (i : Integers). ports (record { site = record definition.no_site { integers = i }; objects = [] }) unit.ports) h

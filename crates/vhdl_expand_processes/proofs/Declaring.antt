@@ -66,10 +66,6 @@ behind-stops made (Err problem) q h = refl
 next-left : {X : Type 0} (xs : List X) (i : ℕ) (x : X) → i < length xs → x ≡ get_or xs i x → drop i xs ≡ x ∷ drop (i + 1) xs
 next-left xs i x h e = drop-cons xs i x h ∙ ap (λ y. y ∷ drop (suc i) xs) (sym e) ∙ ap (λ j. x ∷ drop j xs) (sym (add-one i))
 
-pub groups_begin : {B : Type 0} (r : Elab (List B)) → r ≡ behind [] r
-groups_begin (Ok back) = refl
-groups_begin (Err problem) = refl
-
 module _ {A B X : Type 0} (f : A → Elab B) (g : X → List A) where
   pub groups_go : (total : Elab (List B)) (made new : List B) (xs : List X) (i : ℕ) (x : X) → i < length xs → x ≡ get_or xs i x
       → total ≡ behind made (each f (flat_map g (drop i xs))) → behind made (each f (g x)) ≡ Ok new → total ≡ behind new (each f (flat_map g (drop (i + 1) xs)))

@@ -1,5 +1,5 @@
 -- The value of a chain of operators on static integers.
-use Rattle.std.proofs.Common.{◌≡◌, ℕ, suc, ◌<◌, List, [], ◌∷◌, length, get_or, drop, drop-cons, Result, Ok, Err, Box, Vec, Global, refl, sym, ap, ◌∙◌, subst, ℤ}
+use Rattle.std.proofs.Common.{◌≡◌, ℕ, ◌<◌, List, [], ◌∷◌, Result, Ok, Err, Box, Vec, Global, refl, sym, ap, ◌∙◌, subst, ℤ}
 use Rattle.std.specs.Prelude.{IsErr}
 use Rattle.vhdl_names_rules.specs.declared.operator.Arithmetic.{Arithmetic}
 use Rattle.vhdl_names_rules.specs.declared.integer.Static.TheVariants as s
@@ -75,28 +75,3 @@ chain-err at e start links st h j given =
     (chained-err at (start_view st) links.items given)
 
 -- ---- one operator after another
-
-next : (at : Integers) (value : ℤ) (ls : List StaticLink) (i : ℕ) (l : StaticLink) → i < length ls → l ≡ get_or ls i l
-    → all_operated at value (drop i ls) ≡ (integer at (static_view l.operand) >>= λ y. operated l.operator value y >>= λ z. all_operated at z (drop (suc i) ls))
-next at value ls i l h e = ap (all_operated at value) (drop-cons ls i l h)
-    ∙ ap (λ (k : StaticLink). all_operated at value (k ∷ drop (suc i) ls)) (sym e)
-
-pub goes_on : (at : Integers) (first value y z : ℤ) (ls : List StaticLink) (i : ℕ) (l : StaticLink) → i < length ls → l ≡ get_or ls i l
-    → all_operated at first ls ≡ all_operated at value (drop i ls) → integer at (static_view l.operand) ≡ Ok y → operated l.operator value y ≡ Ok z
-    → all_operated at first ls ≡ all_operated at z (drop (suc i) ls)
-goes_on at first value y z ls i l h e so_far given done = so_far ∙ next at value ls i l h e
-    ∙ ap (λ (r : Elab ℤ). r >>= λ a. operated l.operator value a >>= λ b. all_operated at b (drop (suc i) ls)) given
-    ∙ ap (λ (r : Elab ℤ). r >>= λ b. all_operated at b (drop (suc i) ls)) done
-
-pub operand_stops : (at : Integers) (first value : ℤ) (ls : List StaticLink) (i : ℕ) (l : StaticLink) → i < length ls → l ≡ get_or ls i l
-    → all_operated at first ls ≡ all_operated at value (drop i ls) → IsErr (integer at (static_view l.operand)) → IsErr (all_operated at first ls)
-operand_stops at first value ls i l h e so_far given =
-    subst (λ (r : Elab ℤ). IsErr r) (sym (so_far ∙ next at value ls i l h e)) (err_first (integer at (static_view l.operand)) _ given)
-
-pub operator_stops : (at : Integers) (first value y : ℤ) (ls : List StaticLink) (i : ℕ) (l : StaticLink) → i < length ls → l ≡ get_or ls i l
-    → all_operated at first ls ≡ all_operated at value (drop i ls) → integer at (static_view l.operand) ≡ Ok y → IsErr (operated l.operator value y)
-    → IsErr (all_operated at first ls)
-operator_stops at first value y ls i l h e so_far given stopped =
-    subst (λ (r : Elab ℤ). IsErr r)
-    (sym (so_far ∙ next at value ls i l h e ∙ ap (λ (r : Elab ℤ). r >>= λ a. operated l.operator value a >>= λ b. all_operated at b (drop (suc i) ls)) given))
-    (err_first (operated l.operator value y) _ stopped)

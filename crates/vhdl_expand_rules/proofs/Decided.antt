@@ -1,5 +1,5 @@
 -- The truth of a chain of operators on truths over static integers.
-use Rattle.std.proofs.Common.{◌≡◌, ℕ, suc, ◌<◌, List, [], ◌∷◌, length, get_or, drop, drop-cons, Result, Ok, Err, Box, Vec, Global, sym, ap, ◌∙◌, subst, Bool}
+use Rattle.std.proofs.Common.{◌≡◌, ℕ, ◌<◌, List, [], ◌∷◌, Result, Ok, Err, Box, Vec, Global, sym, ap, ◌∙◌, subst, Bool}
 use Rattle.std.specs.Prelude.{IsErr}
 use Rattle.vhdl_values.specs.declared.kinds.Logic.{Logic}
 use Rattle.vhdl_names_rules.specs.declared.test.StaticTest.TheVariants as s
@@ -74,20 +74,3 @@ chain-err at e start links st h j given =
     (chained-err at (static_start_view st) links.items given)
 
 -- ---- one operator after another
-
-next : (at : Integers) (value : Bool) (ls : List StaticTestLink) (i : ℕ) (l : StaticTestLink) → i < length ls → l ≡ get_or ls i l
-    → all_decided at value (drop i ls) ≡ (decision at (static_test_view l.operand) >>= λ y. decided l.operator value y >>= λ z. all_decided at z (drop (suc i) ls))
-next at value ls i l h e = ap (all_decided at value) (drop-cons ls i l h)
-    ∙ ap (λ (k : StaticTestLink). all_decided at value (k ∷ drop (suc i) ls)) (sym e)
-
-pub goes_on : (at : Integers) (first value y z : Bool) (ls : List StaticTestLink) (i : ℕ) (l : StaticTestLink) → i < length ls → l ≡ get_or ls i l
-    → all_decided at first ls ≡ all_decided at value (drop i ls) → decision at (static_test_view l.operand) ≡ Ok y → decided l.operator value y ≡ Ok z
-    → all_decided at first ls ≡ all_decided at z (drop (suc i) ls)
-goes_on at first value y z ls i l h e so_far given done = so_far ∙ next at value ls i l h e
-    ∙ ap (λ (r : Elab Bool). r >>= λ a. decided l.operator value a >>= λ b. all_decided at b (drop (suc i) ls)) given
-    ∙ ap (λ (r : Elab Bool). r >>= λ b. all_decided at b (drop (suc i) ls)) done
-
-pub operand_stops : (at : Integers) (first value : Bool) (ls : List StaticTestLink) (i : ℕ) (l : StaticTestLink) → i < length ls → l ≡ get_or ls i l
-    → all_decided at first ls ≡ all_decided at value (drop i ls) → IsErr (decision at (static_test_view l.operand)) → IsErr (all_decided at first ls)
-operand_stops at first value ls i l h e so_far given =
-    subst (λ (r : Elab Bool). IsErr r) (sym (so_far ∙ next at value ls i l h e)) (err_first (decision at (static_test_view l.operand)) _ given)

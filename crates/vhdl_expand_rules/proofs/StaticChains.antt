@@ -1,5 +1,5 @@
 -- Whether a chain of operators on static integers is static.
-use Rattle.std.proofs.Common.{◌≡◌, ℕ, suc, ◌<◌, Bool, true, false, ◌&&◌, List, [], ◌∷◌, length, get_or, drop, drop-cons, Box, Vec, Global, refl, sym, ap, ◌∙◌}
+use Rattle.std.proofs.Common.{◌≡◌, ℕ, ◌<◌, Bool, true, false, ◌&&◌, List, [], ◌∷◌, Box, Vec, Global, refl, sym, ap, ◌∙◌}
 use Rattle.vhdl_names_rules.specs.declared.integer.Static.TheVariants as s
 use Rattle.vhdl_names_rules.specs.declared.integer.Static.{Static}
 use Rattle.vhdl_names_rules.specs.declared.integer.StaticLink.{StaticLink}
@@ -43,8 +43,3 @@ pub start_goes_on : (e : Static) (start : Box StaticStart Global) (links : Vec S
     → c ≡ is_static (static_view e)
 start_goes_on e start links st ls b c h j k first goes rest =
     rest ∙ sym (chain-static e start links st ls h j k ∙ ap (λ (d : Bool). d && all_static ls) (sym first ∙ goes))
-
--- the operands that are left
-pub static-next : (ls : List StaticLink) (i : ℕ) (l : StaticLink) → i < length ls → l ≡ get_or ls i l
-    → all_static (drop i ls) ≡ (is_static (static_view l.operand) && all_static (drop (suc i) ls))
-static-next ls i l h e = ap all_static (drop-cons ls i l h) ∙ ap (λ (k : StaticLink). all_static (k ∷ drop (suc i) ls)) (sym e)

@@ -3,7 +3,6 @@ use Rattle.std.proofs.Common.{◌≡◌, Ok, Err, refl, sym, ap, ◌∙◌, subs
 use Rattle.std.specs.Prelude.{IsErr}
 use Rattle.vhdl_expand_rules.specs.declared.fault.ElabProblem.{ElabProblem}
 use Rattle.vhdl_expand_rules.specs.Elab.{Elab, ◌>>=◌}
-use Rattle.vhdl_expand_rules.proofs.Steps.{given}
 use Rattle.vhdl_expand_rules.proofs.Chains.{err_first}
 
 abbrev pub wrong : {A : Type 0} → ElabProblem → Elab A
@@ -24,18 +23,6 @@ alike_trans a b = record { gives = λ x h. a.gives x (b.gives x h); stops = λ h
 
 pub alike_after : {A : Type 0} {p q r : Elab A} → p ≡ q → Alike q r → Alike p r
 alike_after e a = alike_trans (alike_same e) a
-
-pub alike_sym : {A : Type 0} (p q : Elab A) → Alike p q → Alike q p
-alike_sym (Ok x) (Ok y) a = record { gives = λ z h. sym (a.gives y refl) ∙ h; stops = λ h. absurd cc }
-alike_sym (Ok x) (Err problem) a = absurd (impossible x (a.stops refl))
-  where
-    impossible : {A : Type 0} (x : A) → IsErr (given x) → ⊥
-    impossible x h = cc
-alike_sym (Err problem) (Ok y) a = absurd (impossible y (a.gives y refl))
-  where
-    impossible : {A : Type 0} (y : A) → wrong problem ≡ given y → ⊥
-    impossible y h = cc
-alike_sym (Err problem) (Err other) a = record { gives = λ z h. absurd cc; stops = λ h. refl }
 
 pub alike_then : {A B : Type 0} (p q : Elab A) (f g : A → Elab B) → Alike p q → ((x : A) → Alike (f x) (g x)) → Alike (p >>= f) (q >>= g)
 alike_then p (Ok x) f g a h = alike_after (ap (λ r. r >>= f) (a.gives x refl)) (h x)

@@ -23,10 +23,6 @@ pub not_true : (a : Bool) → not a ≡ true → a ≡ false
 not_true true h = absurd (true≢false (sym h))
 not_true false h = refl
 
-pub decided : (a : Bool) → (a ≡ true) ⊎ (a ≡ false)
-decided true = inl refl
-decided false = inr refl
-
 -- a text that begins with a byte is that byte and more
 pub begins_with : (b : ℕ) (text : List ℕ) → begins b text ≡ true → (after : List ℕ) × (text ≡ b ∷ after)
 begins_with b [] h = absurd (true≢false (sym h))

@@ -41,9 +41,6 @@ faulty at p b q text e f = subst (λ x. Met at x text) (err_same p q e) (record 
 some_none : {A : Type 0} (text : List ℕ) → ◌≡◌ {A = Option (List ℕ)} (Some text) None → A
 some_none text e = absurd (cc)
 
-rest_same : (a b : ℕ) (xs ys : List ℕ) → ◌≡◌ {A = List ℕ} (a ∷ xs) (b ∷ ys) → xs ≡ ys
-rest_same a b xs ys e = ap (λ (x : List ℕ). drop 1 x) e
-
 -- ---- a problem met is one
 
 number_faulty : (at : ℕ) → (last : Option TokenKind) (b : ℕ) (after : List ℕ) (p : LexFault) → is_ascii_digit b ≡ true → front at last (b ∷ after) ≡ Err p → Met at p (b ∷ after)

@@ -22,10 +22,6 @@ digit_pair b c e = grind (arith, nat_tests)
 word_pair : (b c : ℕ) → begins_word b ≡ true → pair b c ≡ None
 word_pair b c e = grind (arith, nat_tests)
 
--- the byte is looked at as a delimiter's first
-pub IsMark : ℕ → Type 0
-IsMark b = (is_ascii_digit b ≡ false) × (begins_word b ≡ false) × ((b == quote) ≡ false) × ((b == tick) ≡ false)
-
 pub front_mark : (at : ℕ) → (last : Option TokenKind) (b : ℕ) (rest : List ℕ) → is_ascii_digit b ≡ false → begins_word b ≡ false → (b == quote) ≡ false → (b == tick) ≡ false → front at last (b ∷ rest) ≡ mark at b rest
 unfolding front
 front_mark at last b rest d w q t = rw (d, w, q, t) refl

@@ -8,7 +8,6 @@ use Rattle.std.proofs.lemmas.Bool.Decides.{nat_tests}
 use Rattle.vhdl_lexer.specs.declared.token.TokenKind.{TokenKind}
 use Rattle.vhdl_lexer.specs.Words.{Word, reserved_words, kind_among, is_identifier, word_kind}
 use Rattle.vhdl_lexer.specs.Scan.{has_letter, words_of}
-use Rattle.vhdl_lexer.proofs.Choices.{both_true}
 
 -- the words of each small letter, from `a` to `z`
 pub words_at : (i letter : ℕ) → i < 26 → 97 + i ≡ to_ascii_lowercase letter →
@@ -38,10 +37,6 @@ pub word_kind-letter : (text : List ℕ) → is_identifier text ≡ true → kin
 unfolding word_kind
 word_kind-letter [] h = absurd (true≢false (sym h))
 word_kind-letter (b ∷ text) h = kind_among-letter b text reserved_words
-
-pub first_letter : (text : List ℕ) → is_identifier text ≡ true → is_ascii_alphabetic (get_or text 0 0) ≡ true
-first_letter [] h = absurd (true≢false (sym h))
-first_letter (b ∷ text) h = (both_true _ _ h).0
 
 pub letter_index : (b : ℕ) → is_ascii_alphabetic b ≡ true → (97 + (to_ascii_lowercase b - 97) ≡ to_ascii_lowercase b) × (to_ascii_lowercase b - 97 < 26)
 letter_index b h = (grind (arith, nat_tests), grind (arith, nat_tests))

@@ -43,9 +43,6 @@ begins_word-word b e = ⊎_elim (letter_word b) (underscore_word b) (either_true
 pub begins_word-digit : (b : ℕ) → begins_word b ≡ true → is_ascii_digit b ≡ false
 begins_word-digit b e = grind (arith, nat_tests)
 
-pub digit-begins_word : (b : ℕ) → is_ascii_digit b ≡ true → begins_word b ≡ false
-digit-begins_word b e = grind (arith, nat_tests)
-
 pub letter_begins : (b : ℕ) → is_ascii_alphabetic b ≡ true → begins_word b ≡ true
 letter_begins b e = ap (λ t. t || b == underscore) e
 

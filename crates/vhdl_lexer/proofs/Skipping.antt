@@ -94,9 +94,6 @@ comment_more b (s ∷ text) left e second c = record {
   stands = c.skipped.stands;
 }
 
-tails_same : (a b : ℕ) (xs ys : List ℕ) → a ∷ xs ≡ b ∷ ys → xs ≡ ys
-tails_same a b xs ys e = ap (λ (x : List ℕ). drop 1 x) e
-
 stays_open : (b : ℕ) (text : List ℕ) → is_separator b ≡ false → (b == dash && begins dash text) ≡ false → has_close (drop 1 text) ≡ false → Stands (b ∷ text)
 stays_open b text s d o = (s, d, λ body e. ap has_close (sym (ap (λ (x : List ℕ). drop 2 x) e)) ∙ o)
 

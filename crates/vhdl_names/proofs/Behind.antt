@@ -7,7 +7,7 @@ use Rattle.vhdl_names_rules.specs.declared.fault.NameFault.{NameFault}
 use Rattle.vhdl_names_rules.specs.declared.fault.NameFault.TheVariants.{NoMemory}
 use Rattle.vhdl_names_rules.specs.Rules.{◌>>=◌, ◌>>◌, met, if_any}
 use Rattle.vhdl_names_rules.specs.Visibility.{Name, Declared, Sight, Declares, are_distinct, ends, with_declared}
-use Rattle.vhdl_names_rules.specs.Packages.{Context, context, sight_of}
+use Rattle.vhdl_names_rules.specs.Packages.{context, sight_of}
 use Rattle.vhdl_names_rules.specs.Declarations.{in_order}
 use Rattle.vhdl_names_rules.specs.Interfaces.{EntityView, declared_names}
 use Rattle.vhdl_names_rules.specs.Concurrent.{concurrents, concurrent_labels}
@@ -105,31 +105,3 @@ module _ (all : List EntityView) (as' : List Keyed) (n : Name) (e : EntityInterf
       ap of_any (sym h) ∙ ap (λ o. o >>= λ y. let r : Option (Option u.Architecture) = Some (Some y) in r) (whatever_name all n e p.0 p.1 ∙ k)
 
 -- ---- declarations bring no variables in sight
-
-abbrev first : {A : Type 0} → Sight → Option (Sight × A) → Sight
-first s None = s
-first s (Some p) = p.0
-
-pub no_variables : {A B : Type 0} (declares : Sight → A → Option (Declares B)) (c : Context) (region : List Declared) (s w : Sight) (ds : A) (y : List B)
-    → Some (sight_of c region) ≡ Some s → entering declares s ds ≡ Some (w, y) → w.variables ≡ []
-no_variables {A} {B} declares c region s w ds y h k = go (declares s ds) k
-  where
-    empty : s.variables ≡ []
-    empty = let same : sight_of c region ≡ s = cc in ap (λ (s : Sight). s.variables) (sym same)
-
-    ruled : (x : Declares B) (b : Bool) → (met b >>= λ _. Some (pair (with_declared s x.declared) x.analysed)) ≡ Some (w, y) → w.variables ≡ []
-    ruled x true q = sym (ap (λ o. (first s o).variables) q) ∙ empty
-    ruled x false q = cc
-
-    go : (o : Option (Declares B)) → (o >>= entered s) ≡ Some (w, y) → w.variables ≡ []
-    go None q = cc
-    go (Some x) q = ruled x (are_distinct (declared_names (s.region ++ x.declared))) q
-
--- where what is in sight behind context items is there
-pub none_behind : {A B : Type 0} (declares : Sight → A → Option (Declares B)) (e : EntityView) (items : List ContextItem) (s w : Sight) (ds : A) (y : List B)
-    → sight_behind e items ≡ Some s → entering declares s ds ≡ Some (w, y) → w.variables ≡ []
-none_behind declares e items s w ds y h k = go (context e.context items) h
-  where
-    go : (o : Option Context) → (o >>= λ c. let r : Option Sight = Some (sight_of c e.interface.declared) in r) ≡ Some s → w.variables ≡ []
-    go None q = cc
-    go (Some c) q = no_variables declares c e.interface.declared s w ds y q k

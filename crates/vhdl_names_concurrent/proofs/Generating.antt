@@ -19,11 +19,6 @@ use Rattle.vhdl_names_labels.proofs.Lists.{bound}
 use Rattle.vhdl_names_concurrent.specs.steps.Concurrents as steps
 use Rattle.vhdl_names_concurrent.specs.steps.Concurrents.{in_generate}
 
--- no variables are in sight within a generate where none are outside
-pub still_outside : (sight : Sight) (k : t.Scheme) → sight.variables ≡ [] → (sight_within sight k).variables ≡ []
-still_outside sight (t.for_each n r) e = e
-still_outside sight (t.if_holds x) e = e
-
 module _ (f : Sight → Ident → t.Instance → Option u.Instance) where
   each_statement : (sight : Sight) (cs : List t.Concurrent) → steps.concurrents f sight (t.concurrents_of cs) ≡ option_map concurrents_of (steps.all f sight cs)
   each_statement sight [] = refl

@@ -1,9 +1,9 @@
 -- Actuals, one after another.
-use Rattle.std.proofs.Common.{◌≡◌, ℕ, zero, suc, ◌≤◌, Bool, true, false, List, [], ◌∷◌, ◌++◌, map, drop, length, Option, Some, None, Box, Global, refl, ap, sym, ◌∙◌}
+use Rattle.std.proofs.Common.{◌≡◌, ℕ, zero, suc, ◌≤◌, Bool, true, false, List, [], ◌∷◌, ◌++◌, map, drop, Option, Some, None, Box, Global, refl, ap, sym, ◌∙◌}
 use Rattle.std.specs.Prelude.{option_map, slice_get}
 use Rattle.std.specs.Borrow.{Bor}
 use Rattle.std.proofs.lemmas.Option.{slice_get-map}
-use Rattle.std.proofs.lemmas.List.{drop_all, append_assoc, append-nil}
+use Rattle.std.proofs.lemmas.List.{append_assoc, append-nil}
 use Rattle.vhdl_tree.specs.Tree as t
 use Rattle.vhdl_tree.specs.Tree.{Pair, all_joined}
 use Rattle.vhdl_tree.specs.View.{view, pair_view}
@@ -88,6 +88,3 @@ module _ (sight : Sight) where
 
     pub actuals_end : entry sight ps es i ≡ Some None → whole ≡ Some ys
     actuals_end e = by_entry (Some None) e ∙ ap Some (append-nil ys)
-
-    pub ports_end : length ps ≤ i → whole ≡ Some ys
-    ports_end le = h ∙ ap (λ qs. behind ys (port_actuals sight qs (drop i es))) (drop_all i ps le) ∙ ap Some (append-nil ys)

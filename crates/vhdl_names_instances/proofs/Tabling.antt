@@ -1,7 +1,6 @@
 -- What instances see of an entity, declaration by declaration.
-use Rattle.std.proofs.Common.{◌≡◌, ℕ, zero, suc, ◌+◌, ◌≤◌, arith, List, [], ◌∷◌, map, drop, length, Option, Some, None, Vec, Global, refl, ap, sym, ◌∙◌}
+use Rattle.std.proofs.Common.{◌≡◌, ℕ, zero, suc, ◌+◌, ◌≤◌, arith, List, [], ◌∷◌, map, drop, Option, Some, None, Vec, Global, refl, ap, sym, ◌∙◌}
 use Rattle.std.specs.Prelude.{option_map, slice_get}
-use Rattle.std.proofs.lemmas.List.{drop_all}
 use Rattle.std.proofs.lemmas.Option.{slice_get-map}
 use Rattle.vhdl_names_rules.specs.Rules.{◌>>=◌}
 use Rattle.vhdl_names_rules.specs.Visibility.{Declared}
@@ -31,6 +30,3 @@ module _ (whole : Option Seen) (f : Seen) (ds : List Declared) (i : ℕ) (h : wh
   declared_goes g e =
       let s : suc i ≡ i + 1 = omega arith in
       h ∙ unrolled f ds i ∙ ap (λ o. o >>= λ g. in_turn with_declared g (drop (suc i) ds)) e ∙ ap (λ j. in_turn with_declared g (drop j ds)) s
-
-  pub declared_ends : length ds ≤ i → whole ≡ Some f
-  declared_ends le = h ∙ ap (in_turn with_declared f) (drop_all i ds le)

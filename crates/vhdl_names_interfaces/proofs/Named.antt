@@ -12,9 +12,6 @@ use Rattle.vhdl_names_rules.specs.Interfaces.{EntityView}
 use Rattle.vhdl_names_interfaces.specs.declared.interface.EntityInterface.{EntityInterface}
 use Rattle.vhdl_names_interfaces.specs.Views.{entity_view, named_view, one_more}
 
-abbrev Entry : Type 0
-Entry = Vec ℕ Global × EntityInterface
-
 abbrev pub entry_view : Vec ℕ Global × EntityInterface → EntityView
 entry_view e = named_view e.0.items e.1
 

@@ -138,9 +138,6 @@ keeps_all xs k x h = h
 pub keeps_before : {A : Type 0} (xs ys : List A) → Keeps xs (xs ++ ys)
 keeps_before xs ys k x h = get_before xs ys k x h
 
-pub keeps_none : {A : Type 0} (ys : List A) → Keeps [] ys
-keeps_none ys k x h = absurd cc
-
 pub same_numbers : (i : Inside) → HasNumbers i i
 same_numbers i = record { generics = omega arith; integers = omega arith; generates = omega arith; loops = omega arith }
 

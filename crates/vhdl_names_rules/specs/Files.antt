@@ -99,7 +99,3 @@ units_of f = do
   rule Undeclared (stand_after f.units)
   entities ← each (viewed f.units) (entities_of f.units)
   each (unit entities f.units) entities
-
--- the file is well typed, with these units
-abbrev pub IsUnits : File → Units → Type 0
-IsUnits f units = units_of f ≡ Some units

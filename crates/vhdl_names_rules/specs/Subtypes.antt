@@ -59,11 +59,6 @@ literal_values Unsigned (t.string at text) = values_of_string text
 literal_values Unsigned (t.bits at text) = values_of_bits text
 literal_values _ _ = None
 
--- an identifier with nothing behind it
-abbrev pub simple_name : Expr → Option Name
-simple_name (t.named n t.plain None) = Some n.text
-simple_name _ = None
-
 -- ---- the value of a constant that is no integer, and of a default
 
 -- a constant of the same kind, or a literal of the same enumeration

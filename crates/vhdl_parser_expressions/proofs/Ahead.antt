@@ -2,9 +2,9 @@
 use Rattle.std.proofs.Common.{◌≡◌, ℕ, ◌≤◌, Bool, true, false, cond, List, [], ◌∷◌, ◌++◌, length, length-append, refl, sym, ap, ◌∙◌, subst, arith}
 use Rattle.vhdl_lexer.specs.declared.token.TokenKind.{TokenKind}
 use Rattle.vhdl_tree.specs.Lexeme.{Lexeme, same_kind}
-use Rattle.vhdl_parser_expressions.specs.reader.Input.{Outcome, Parser, and_then, next_kind, second_kind, test_both, sees_both}
+use Rattle.vhdl_parser_expressions.specs.reader.Input.{Outcome, Parser, next_kind, second_kind, test_both, sees_both}
 use Rattle.vhdl_parser_expressions.proofs.Steps.{kind_same}
-use Rattle.vhdl_parser_expressions.proofs.Steady.{left_of, Twins, both_read, both_refuse, took, Steady, steady_same, steady_cond}
+use Rattle.vhdl_parser_expressions.proofs.Steady.{left_of, Twins, both_read, both_refuse, took, Steady, steady_cond}
 
 -- a first token of this kind is taken
 abbrev pub Eager : {A : Type 0} → TokenKind → Parser A → Type 0
@@ -68,12 +68,3 @@ module _ (first second : TokenKind) where
 
   pub steady_both : {A : Type 0} {p q : Parser A} → Steady p → Steady q → Eager first p → Eager first q → Steady (test_both first second p q)
   steady_both way other eager_way eager_other = steady_by (sees_both first second) first sees_two sees_one way other eager_way eager_other
-
-  -- with what follows
-  pub steady_both_then : {A B : Type 0} (p q : Parser A) (f : A → Parser B) → Steady (λ ts. and_then (p ts) f) → Steady (λ ts. and_then (q ts) f) →
-      Eager first (λ ts. and_then (p ts) f) → Eager first (λ ts. and_then (q ts) f) → Steady (λ ts. and_then (test_both first second p q ts) f)
-  steady_both_then {A} {B} p q f way other eager_way eager_other = steady_same (λ ts. inward (sees_both first second ts) (p ts) (q ts)) (steady_both way other eager_way eager_other)
-    where
-      inward : (b : Bool) (x y : Outcome A) → cond {A = Outcome B} b (and_then x f) (and_then y f) ≡ and_then (cond {A = Outcome A} b x y) f
-      inward true x y = refl
-      inward false x y = refl

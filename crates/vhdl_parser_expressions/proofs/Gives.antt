@@ -1,12 +1,11 @@
 -- What is spelled is read, or refused for its depth: one lemma for each way in which readers are made.
-use Rattle.std.proofs.Common.{◌≡◌, ℕ, zero, suc, ◌≤◌, Bool, true, false, cond, List, [], ◌∷◌, ◌++◌, length, slice_index, Ok, Err, Option, Some, None, inl, inr, refl, sym, ap, ◌∙◌, subst, append_assoc, append-nil, length-append, arith}
+use Rattle.std.proofs.Common.{◌≡◌, ℕ, zero, suc, ◌≤◌, Bool, true, false, cond, List, [], ◌∷◌, ◌++◌, length, Ok, Option, Some, None, inl, inr, refl, sym, ap, ◌∙◌, subst, append_assoc, append-nil, length-append, arith}
 use Rattle.vhdl_lexer.specs.declared.token.TokenKind.{TokenKind}
 use Rattle.vhdl_lexer.specs.declared.token.TokenKind.TheVariants as k
-use Rattle.vhdl_parser_expressions.specs.declared.stop.Stop.TheVariants.{TooDeep}
 use Rattle.vhdl_tree.specs.Lexeme.{Lexeme, same_kind}
 use Rattle.vhdl_tree.specs.Tree.{Ident}
 use Rattle.vhdl_tree.specs.Pieces.{Piece, some, one_at, word_at, literal_at, text_at, Is, Spells, spell_word, spell_option, spell_each, spell_list, IsEach, IsList, IsOption}
-use Rattle.vhdl_parser_expressions.specs.reader.Input.{Outcome, Parser, and_then, token, expect, identifier, literal, next_kind, is_kind, test, eat, optional, many_from, many, separated, below}
+use Rattle.vhdl_parser_expressions.specs.reader.Input.{Outcome, Parser, and_then, token, expect, identifier, next_kind, is_kind, test, eat, optional, many_from, many, separated, below}
 use Rattle.vhdl_parser_expressions.proofs.Steps.{spells_split, spells_length, kind_same, takes}
 use Rattle.vhdl_parser_expressions.proofs.Yields.{Yields, yields_is, yields_bind}
 
@@ -99,19 +98,11 @@ module _ {B : Type 0} {b : B} {ps : List Piece} {G : Option TokenKind → Type 0
   g_ident {i} f next = g_take f (λ l. record { at = l.at; text = l.text }) k.Identifier (word_at i.at i.text) (λ l h. h.0)
       (λ l h. let e : ◌≡◌ {A = Ident} i (record { at = l.at; text = l.text }) = rw (h.1, h.2) in subst (λ x. Gives (f x) b ps G) e next)
 
-  pub g_literal : {at code : ℕ} (f : (ℕ × ℕ) → Parser B) → Gives (f (at, code)) b ps G → Gives (λ ts. and_then (literal ts) f) b (literal_at at code ∷ ps) G
-  unfolding literal
-  g_literal {at} {code} f next = g_take f (λ l. (l.at, slice_index l.text 1)) k.Character (literal_at at code) (λ l h. h.0)
-      (λ l h. let e : ◌≡◌ {A = ℕ × ℕ} (at, code) (l.at, slice_index l.text 1) = rw (h.1, h.2) in subst (λ x. Gives (f x) b ps G) e next)
-
   -- where some depth refuses, nothing is owed
   pub g_below : (f : ℕ → Parser B) (n : ℕ) → ((m : ℕ) → n ≡ suc m → Gives (f m) b ps G) → Gives (λ ts. and_then (below n ts) f) b ps G
   unfolding below
   g_below f zero next = record { reads = λ ts rest h g. inr (ts, refl) }
   g_below f (suc m) next = next m refl
-
-  pub g_none : Gives (λ ts. Err (TooDeep, ts)) b ps G
-  g_none = record { reads = λ ts rest h g. inr (ts, refl) }
 
 -- ---- choices
 
@@ -219,7 +210,3 @@ separated_gives {A} {item} {part} {Part} {F} separator same goes_on each (x ∷ 
 -- a rule, where more is known of what follows
 pub g_weaken : {A : Type 0} {p : Parser A} {a : A} {ps : List Piece} {F G : Option TokenKind → Type 0} → ((next : Option TokenKind) → G next → F next) → Gives p a ps F → Gives p a ps G
 g_weaken weaker w = record { reads = λ ts rest h g. w.reads ts rest h (weaker (next_kind rest) g) }
-
--- a rule that is the last part
-pub g_last : {A : Type 0} {p : Parser A} {a : A} {ps : List Piece} {F : Option TokenKind → Type 0} → Gives p a ps F → Gives p a (ps ++ []) F
-g_last {A} {p} {a} {ps} {F} w = subst (λ qs. Gives p a qs F) (sym (append-nil ps)) w

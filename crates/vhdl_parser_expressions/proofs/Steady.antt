@@ -4,7 +4,7 @@ use Rattle.vhdl_lexer.specs.declared.token.TokenKind.{TokenKind}
 use Rattle.vhdl_parser_expressions.specs.declared.stop.Stop.{Stop}
 use Rattle.vhdl_parser_expressions.specs.declared.stop.Stop.TheVariants.{Unexpected, TooDeep}
 use Rattle.vhdl_tree.specs.Lexeme.{Lexeme, same_kind}
-use Rattle.vhdl_parser_expressions.specs.reader.Input.{Outcome, Parser, and_then, token, expect, next_kind, is_kind, refusal, test, many_from, many, separated, below}
+use Rattle.vhdl_parser_expressions.specs.reader.Input.{Outcome, Parser, and_then, token, next_kind, refusal, test, many_from, many}
 use Rattle.vhdl_parser_expressions.proofs.Steps.{bind_ok, token_ok}
 
 -- the tokens at which an outcome stands
@@ -143,12 +143,6 @@ steady_cond one other false = other
 pub steady_test : {A : Type 0} {p q : Parser A} (begins : Option TokenKind → Bool) → Steady p → Steady q → Steady (test begins p q)
 steady_test {A} {p} {q} begins one other = steady_choose {by = λ next ts. cond {A = Outcome A} (begins next) (p ts) (q ts)} (λ next. steady_cond one other (begins next))
 
--- the level below
-pub steady_below : (n : ℕ) → Steady (below n)
-unfolding below
-steady_below zero = steady_deep
-steady_below (suc n) = steady_pure
-
 -- ---- repetitions, of which each turn takes a token
 
 -- where it reads, it takes a token
@@ -202,13 +196,3 @@ advances_then {A} {B} {p} f on short ts b rest h =
 
 pub advances_token : (kind : TokenKind) → Advances (token kind)
 advances_token kind ts l rest h = let e = ap (λ us. length us) (token_ok kind ts l rest h).first in omega (arith, e)
-
-pub steady_separated : {A : Type 0} {item : Parser A} (separator : TokenKind) → Steady item → Steady (separated separator item)
-unfolding separated expect
-steady_separated {A} {item} separator each = steady_then each (λ ts first rest h. steady_many (is_kind separator) refl next next_on (first ∷ []))
-  where
-    next : Steady (λ ts. and_then (expect separator ts) (λ _. item))
-    next = steady_then (steady_take (λ l. l.at) separator) (λ ts at rest h. each)
-
-    next_on : Advances (λ ts. and_then (expect separator ts) (λ _. item))
-    next_on = advances_then (λ _. item) (advances_then (λ l us. Ok (l.at, us)) (advances_token separator) (λ l us. omega arith)) (λ a us. each.shorter us)

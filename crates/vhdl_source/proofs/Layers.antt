@@ -1,11 +1,9 @@
 -- From the tree of a source to its net.
-use Rattle.std.proofs.Common.{◌≡◌, ◌≢◌, ℕ, ◌≤◌, List, None, Some, Result, Ok, Err, refl, arith}
-use Rattle.std.specs.Prelude.{IsTrue, IsErr, IsErrAnd, IfOk, IfErr, min}
+use Rattle.std.proofs.Common.{◌≡◌, ◌≢◌, ℕ, ◌≤◌, List, None, Some, Result, Ok, Err, arith}
+use Rattle.std.specs.Prelude.{IsTrue, IsErrAnd, IfOk, IfErr}
 use Rattle.vhdl_lexer.proofs.Reached.{cut_within}
 use Rattle.vhdl_tree.specs.Tree.{File}
 use Rattle.vhdl_names_rules.specs.Files.{units_of}
-use Rattle.vhdl_names_rules.specs.declared.fault.NameFault.{NameFault}
-use Rattle.vhdl_names_rules.specs.declared.fault.NameFault.TheVariants as names
 use Rattle.vhdl_names_rules.specs.sound.Named.{are_named}
 use Rattle.vhdl_names_rules.specs.sound.Units.{are_sound}
 use Rattle.vhdl_names_rules.specs.units.Units as u
@@ -13,11 +11,6 @@ use Rattle.vhdl_names_laws.specs.Words.{HasWords}
 use Rattle.vhdl_names_laws.proofs.Units.{units_are_sound}
 use Rattle.vhdl_names_laws.proofs.Named.{units_are_named, small_ports_distinct}
 use Rattle.vhdl_names_laws.proofs.Spelled.{spelled_files_have_words}
-use Rattle.vhdl_expand_rules.specs.Elab.{Elab as Expanded}
-use Rattle.vhdl_expand_rules.specs.declared.fault.ElabFault.{ElabFault}
-use Rattle.vhdl_expand_rules.specs.declared.fault.ElabFault.TheVariants as elab
-use Rattle.vhdl_elab_rules.specs.Elaboration.{Elaborated, elaborated_net}
-use Rattle.vhdl_elab_laws.specs.Shown.{as_shown, net_shown}
 use Rattle.vhdl_elab_laws.proofs.Nets.{each-has-its-names}
 use Rattle.vhdl_elab_laws.proofs.Ports.{each-has-own-ports}
 use Rattle.rtl_net.specs.Nets.{NetlistView}
@@ -25,10 +18,8 @@ use Rattle.rtl_stim.specs.Ports.{HasOwnPorts}
 use Rattle.vhdl_source_rules.specs.Sources.{IsFileOf}
 use Rattle.vhdl_source_rules.specs.Designs.{IsNetOf}
 use Rattle.vhdl_source_rules.specs.Refusals.{Refuses}
-use Rattle.vhdl_source_rules.specs.Faults.{of_name, of_elab, LiesIn}
-use Rattle.vhdl_source.specs.Steps.{HasNameFault, HasElabFault, ShowsTop, GivesNet, name_within, elab_within}
+use Rattle.vhdl_source.specs.Steps.{ShowsTop, GivesNet}
 use Rattle.vhdl_source_rules.specs.declared.fault.SourceFault.{SourceFault}
-use Rattle.vhdl_source_rules.specs.declared.fault.SourceFault.TheVariants.{Lex, Syntax, Name, Elab, NoMemory}
 
 -- ---- the units of a source's file
 
@@ -59,54 +50,7 @@ own_ports source top net h =
 
 -- ---- what the layers' answers are
 
-pub shows_top : (units : u.Units) (top : List ℕ) (net : NetlistView) → as_shown (elaborated_net units top) ≡ Ok (net_shown net) → ShowsTop units top net
-shows_top units top net = by (elaborated_net units top) refl
-  where
-    by : (given : Expanded Elaborated) → elaborated_net units top ≡ given → as_shown given ≡ Ok (net_shown net) → ShowsTop units top net
-    by (Ok x) is e = record { design = x; is = is; shows = cc }
-    by (Err problem) is e = absurd (cc)
-
-is_err : (given : Expanded Elaborated) → IsErr (as_shown given) → IsErr given
-is_err (Ok x) h = h
-is_err (Err problem) h = h
-
-pub elab_fault : (units : u.Units) (top : List ℕ) (size : ℕ) (fault : ElabFault) → (fault ≢ elab.NoMemory → IsErr (as_shown (elaborated_net units top))) → HasElabFault units top (of_elab (elab_within size fault))
-elab_fault units top size (elab.At problem at) h = is_err (elaborated_net units top) (h (λ e. cc))
-elab_fault units top size elab.NoMemory h = tt
-
-pub name_fault : (file : File) (size : ℕ) (fault : NameFault) → (fault ≢ names.NoMemory → units_of file ≡ None) → HasNameFault file (of_name (name_within size fault))
-name_fault file size (names.At problem at) h = h (λ e. cc)
-name_fault file size names.NoMemory h = tt
-
-min_within : (at size : ℕ) → min at size ≤ size
-min_within at size = omega arith
-
-pub elab_lies : (size : ℕ) (fault : ElabFault) → LiesIn size (of_elab (elab_within size fault))
-elab_lies size (elab.At problem at) = min_within at size
-elab_lies size elab.NoMemory = tt
-
-pub name_lies : (size : ℕ) (fault : NameFault) → LiesIn size (of_name (name_within size fault))
-name_lies size (names.At problem at) = min_within at size
-name_lies size names.NoMemory = tt
-
 -- ---- why the source is refused
-
-pub name_refuses : (source top : List ℕ) (file : File) (fault : SourceFault) → IsFileOf source file → HasNameFault file fault → Refuses source top fault
-name_refuses source top file (Lex x) read h = absurd h
-name_refuses source top file (Syntax x) read h = absurd h
-name_refuses source top file (Name (names.At problem at)) read h = record { file = file; read = read; ill_typed = h }
-name_refuses source top file (Name names.NoMemory) read h = absurd h
-name_refuses source top file (Elab x) read h = absurd h
-name_refuses source top file NoMemory read h = tt
-
-pub elab_refuses : (source top : List ℕ) (file : File) (units : u.Units) (fault : SourceFault) → IsFileOf source file → units_of file ≡ Some units → HasElabFault units top fault → Refuses source top fault
-elab_refuses source top file units (Lex x) read typed h = absurd h
-elab_refuses source top file units (Syntax x) read typed h = absurd h
-elab_refuses source top file units (Name x) read typed h = absurd h
-elab_refuses source top file units (Elab (elab.At problem at)) read typed h =
-    record { units = units; analysed = record { file = file; read = read; well_typed = typed }; refused = h }
-elab_refuses source top file units (Elab elab.NoMemory) read typed h = absurd h
-elab_refuses source top file units NoMemory read typed h = tt
 
 -- ---- the whole
 

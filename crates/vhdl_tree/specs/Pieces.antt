@@ -78,8 +78,3 @@ IsList P (x ∷ xs) = P x × IsEach P xs
 abbrev pub IsOption : {A : Type 0} → (A → Type 0) → Option A → Type 0
 IsOption P None = Unit {0}
 IsOption P (Some x) = P x
-
--- none stands there
-abbrev pub IsAbsent : {A : Type 0} → Option A → Type 0
-IsAbsent None = Unit {0}
-IsAbsent (Some x) = ⊥

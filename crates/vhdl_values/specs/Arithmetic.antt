@@ -22,7 +22,3 @@ difference_of a b =
 -- as long as both together
 abbrev pub product_of : List Nine → List Nine → List Nine
 product_of a b = number_or_x (all_good a && all_good b) (length a + length b) (number_of a * number_of b)
-
--- a natural number as the other operand of `+`, `-` or `*`: modulo 2 ^ the vector's length, as a vector of that length
-abbrev pub natural_beside : List Nine → ℕ → List Nine
-natural_beside vs n = digits_of (length vs) n

@@ -95,9 +95,6 @@ module _ (roles : List Role) where
 abbrev pub NotJoined : Object → Type 0
 NotJoined o = o.actual ≡ None
 
-plus-assoc : (a b c : ℕ) → a + (b + c) ≡ a + b + c
-plus-assoc a b c = omega arith
-
 -- a role at each place, from this one on
 abbrev pub RoleAt : List Role → Role → ℕ → Type 0
 RoleAt roles r n = slice_get roles n ≡ Some r

@@ -62,9 +62,6 @@ pub record Step (before : List ElementType) (d : Numbered) : Type 0 where
 then-step : (before between : List ElementType) (more : List ElementType) (d : Numbered) → between ≡ before ++ more → Step between d → Step before d
 then-step before between more d e s = record { so_far = s.so_far; more = more ++ s.more; grown = s.grown ∙ ap (λ (ts : List ElementType). ts ++ s.more) e ∙ append_assoc before more s.more }
 
-still-typed : (before after more : List ElementType) (os : List Object) (ns : List ℕ) → after ≡ before ++ more → AllZip (HasType before) (object_types os) ns → AllZip (HasType after) (object_types os) ns
-still-typed before after more os ns e h = subst (λ (ts : List ElementType). AllZip (HasType ts) (object_types os) ns) (sym e) (more-types before more (object_types os) ns h)
-
 -- ---- an instance is placed
 
 pub place-step : (os outer : List Object) (a : Above) (label : List ℕ) (turns : ℕ) (parts : Parts) (d : Numbered) → All (ObjectIsSound outer) os → All ObjectFits os → SoFar d

@@ -34,10 +34,6 @@ with_one n e = t.named (word n) (t.arguments (t.expr e t.no_exprs)) None
 abbrev pub with_two : List ℕ → Expr → Expr → Expr
 with_two n d e = t.named (word n) (t.arguments (t.expr d (t.expr e t.no_exprs))) None
 
--- n ( d downto e )
-abbrev pub slice : List ℕ → Expr → Expr → Expr
-slice n d e = t.named (word n) (t.sliced d Downto e) None
-
 -- n'event
 abbrev pub event : List ℕ → Expr
 event n = t.named (word n) t.plain (Some (word (codes "event")))

@@ -37,11 +37,6 @@ elements_are_nine one h = refl
 elements_are_nine vector h = refl
 elements_are_nine (state count) h = absurd cc
 
-vectors_are_elements : (s : Shape) → is_vector s ≡ true → is_elements s ≡ true
-vectors_are_elements one h = refl
-vectors_are_elements vector h = refl
-vectors_are_elements (state count) h = absurd cc
-
 pub vector_width : (at : Site) (s : Shape) (e : bodies.Expr) → IsVector at s e → IsWidth (width e)
 vector_width at s e h = is_width s (width e) h.width
 

@@ -64,11 +64,6 @@ made {A} {B} f (a ∷ xs) ys k x e at =
         let m = more k at in
         record { value = m.value; is = m.is; at = ap (λ ys. slice_get ys (suc k)) (sym g) ∙ m.at }
 
--- a fact that follows whatever a rule gives
-pub through : {A B C : Type 0} (o : Option A) (f : A → Option B) (y : B) → (o >>= f) ≡ Some y → ((x : A) → f x ≡ Some y → C) → C
-through None f y e more = absurd (cc)
-through (Some x) f y e more = more x e
-
 pub some_is : {A : Type 0} (x y : A) → Some x ≡ Some y → x ≡ y
 some_is x y e = cc
 

@@ -79,10 +79,6 @@ same_shape vector vector = true
 same_shape (state m) (state n) = m == n
 same_shape _ _ = false
 
-abbrev pub is_one : Shape → Bool
-is_one one = true
-is_one _ = false
-
 abbrev pub is_vector : Shape → Bool
 is_vector vector = true
 is_vector _ = false
