@@ -60,10 +60,6 @@ run_tells k s r old new is before after =
 module _ (k : ℕ) (s : SignalView) (r : Run) (nets : s.nets ≡ range_with_len (slice_index s.nets 0) (length s.nets)) (first : r.first ≡ slice_index s.nets 0)
     (count : r.count ≡ length s.nets) where
 
-  }
-
-  }
-
 -- one name more
 ready_more : (names : List SignalView) (runs : List (Option Run)) (s : SignalView) (r : Option Run) → AreReady 0 names runs → IfSome r (IsRun (length names) s)
     → AreReady 0 (names ++ s ∷ []) (runs ++ r ∷ [])
