@@ -13,53 +13,70 @@ use Rattle.vhdl_lexer.specs.declared.fault.LexFault.{LexFault}
 use Rattle.vhdl_names_rules.specs.declared.fault.NameProblem.{NameProblem}
 use Rattle.vhdl_parser.specs.declared.fault.SyntaxFault.{SyntaxFault}
 
-abbrev pub before : Place → List ℕ
-before place = take place.at place.text.now
+-- a byte of a file's text
+pub record Spot : Type 0 where
+  pub file : List ℕ
+  pub text : List ℕ
+  pub at : ℕ
 
-abbrev pub after : Place → List ℕ
-after place = drop place.at place.text.now
+abbrev pub spot_of : Place → Spot
+spot_of place = record { file = place.file.now; text = place.text.now; at = place.at }
+
+-- under what a fault is told
+pub record Heading : Type 0 where
+  pub layer : List ℕ
+  pub number : ℕ
+  pub name : List ℕ
+
+abbrev pub heading_of : Title → Heading
+heading_of title = record { layer = title.layer.now; number = title.number; name = title.name.now }
+
+abbrev pub before : Spot → List ℕ
+before spot = take spot.at spot.text
+
+abbrev pub after : Spot → List ℕ
+after spot = drop spot.at spot.text
 
 -- "FILE:LINE:COLUMN: "
 abbrev pub position_text : (file : List ℕ) → Position → List ℕ
 position_text file p = file ++ codes ":" ++ decimal p.line ++ codes ":" ++ decimal p.column ++ codes ": "
 
 -- "LAYER NUMBER NAME: "
-abbrev pub title_text : Title → List ℕ
-title_text title = title.layer.now ++ codes " " ++ decimal title.number ++ codes " " ++ title.name.now ++ codes ": "
+abbrev pub title_text : Heading → List ℕ
+title_text h = h.layer ++ codes " " ++ decimal h.number ++ codes " " ++ h.name ++ codes ": "
 
 abbrev pub help_line : (help : List ℕ) → List ℕ
 help_line help = codes "help: " ++ help ++ codes "\n"
 
 -- the first line up to its sentence, which editors read
-abbrev pub head_text : (file before : List ℕ) → Title → List ℕ
-head_text file before title = position_text file (position_behind before) ++ title_text title
+abbrev pub head_text : (file before : List ℕ) → Heading → List ℕ
+head_text file before h = position_text file (position_behind before) ++ title_text h
 
 -- what is wrong; the line of the source, and the mark; the help
 abbrev pub said_text : (before after sentence help : List ℕ) → List ℕ
 said_text before after sentence help = sentence ++ codes "\n" ++ line_text before after ++ caret_text before ++ help_line help
 
-abbrev pub explained : Place → Title → (subject sentence help : List ℕ) → List ℕ
-explained place title subject sentence help =
-    head_text place.file.now (before place) title ++ subject ++ said_text (before place) (after place) sentence help
+abbrev pub explained : Spot → Heading → (subject sentence help : List ℕ) → List ℕ
+explained spot h subject sentence help = head_text spot.file (before spot) h ++ subject ++ said_text (before spot) (after spot) sentence help
 
 -- ---- of each layer
 
-abbrev pub lex_explained : Place → Title → LexFault → List ℕ
-lex_explained place title fault = explained place title (subject (after place)) (lex_sentence fault) (lex_help fault)
+abbrev pub lex_explained : Spot → Heading → LexFault → List ℕ
+lex_explained spot h fault = explained spot h (subject (after spot)) (lex_sentence fault) (lex_help fault)
 
-abbrev pub syntax_explained : Place → Title → SyntaxFault → List ℕ
-syntax_explained place title fault =
-    explained place title (subject (after place)) (syntax_sentence fault (unexpected_form (before place) (after place)))
-        (syntax_help fault (unexpected_form (before place) (after place)))
+abbrev pub syntax_explained : Spot → Heading → SyntaxFault → List ℕ
+syntax_explained spot h fault =
+    explained spot h (subject (after spot)) (syntax_sentence fault (unexpected_form (before spot) (after spot)))
+    (syntax_help fault (unexpected_form (before spot) (after spot)))
 
-abbrev pub name_explained : Place → Title → NameProblem → List ℕ
-name_explained place title problem =
-    explained place title (subject (after place)) (name_sentence problem (left_out_form (after place))) (name_help problem (left_out_form (after place)))
+abbrev pub name_explained : Spot → Heading → NameProblem → List ℕ
+name_explained spot h problem =
+    explained spot h (subject (after spot)) (name_sentence problem (left_out_form (after spot))) (name_help problem (left_out_form (after spot)))
 
 -- of an entity that isn't there the word says nothing
 abbrev pub elab_subject : ElabProblem → (after : List ℕ) → List ℕ
 elab_subject NoTop after = codes ""
 elab_subject problem after = subject after
 
-abbrev pub elab_explained : Place → Title → ElabProblem → List ℕ
-elab_explained place title problem = explained place title (elab_subject problem (after place)) (elab_sentence problem) (elab_help problem)
+abbrev pub elab_explained : Spot → Heading → ElabProblem → List ℕ
+elab_explained spot h problem = explained spot h (elab_subject problem (after spot)) (elab_sentence problem) (elab_help problem)

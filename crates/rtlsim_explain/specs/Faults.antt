@@ -25,7 +25,7 @@ lex_sentence lex.NoMemory = codes "couldn't be read for want of memory"
 
 -- what a designer does about it
 abbrev pub lex_help : LexFault → List ℕ
-lex_help (lex.BadByte at) = codes "outside of comments and strings write letters, digits and VHDL's signs: no accents, no typographic quotes, no byte order mark"
+lex_help (lex.BadByte at) = codes "outside of comments and strings write ASCII letters, digits and VHDL's signs: no accents, no typographic quotes"
 lex_help (lex.OpenComment at) = codes "close it by */, or begin each line of it with --"
 lex_help (lex.OpenString at) = codes "put the closing quotation mark on the same line, and join long strings by &"
 lex_help (lex.BadIdentifier at) = codes "drop the underscore at the beginning or end, or the second of two"
@@ -68,10 +68,10 @@ name_sentence names.NoSensitivity form = codes "has no sensitivity list"
 -- what a designer does about it
 abbrev pub name_help : NameProblem → (form : Form) → List ℕ
 name_help names.LeftOut form = form_help form
-name_help names.Undeclared form = codes "correct its spelling, or declare it above; the entity of a component has to stand in the same text"
+name_help names.Undeclared form = codes "correct its spelling, or declare it above; entities of instances and components stand in the same text: join the files"
 name_help names.Twice form = codes "give one of the two another name, or drop it"
 name_help names.WrongKind form = codes "see what it is declared as: signals take <=, variables :=, and a name at an end repeats the one at the beginning"
-name_help names.TypeMismatch form = codes "convert it by unsigned(..) or std_logic_vector(..); an index is a static number, so look up v(p) by a loop that compares p"
+name_help names.TypeMismatch form = codes "convert it by unsigned(..) or std_logic_vector(..); an index is static: for v(p) write a loop that compares p"
 name_help names.NotVisible form = codes "write library ieee; use ieee.std_logic_1164.all; and, for unsigned, use ieee.numeric_std.all; before the entity"
 name_help names.WriteOfIn form = codes "declare it as out, or assign a signal"
 name_help names.NoOthers form = codes "add when others => as the last choice; std_logic has nine values and not two"

@@ -3,7 +3,7 @@ use Rattle.std.specs.Prelude.{ℕ, ◌==◌, if◌then◌else◌, List, [], ◌�
 use Rattle.std.specs.Str.{str_eq_ignore_ascii_case}
 use Rattle.rtlsim_explain.specs.Words.{word_at, last_solid, begins_line, ends_operand}
 use Rattle.rtlsim_explain.specs.declared.form.Form.{Form}
-use Rattle.rtlsim_explain.specs.declared.form.Form.TheVariants.{WholeNumbers, RangeAttribute, Array, Record, OtherType, Subprogram, Package, Attribute, Alias, Subtype, Mode, Wait, Delay, Message, Block, OtherLoop, Conditional, Aggregate, Comma, Reduction, MixedLogic, Shift, Absolute, Power, Qualified, SecondIndex, Equality, ListEnd, NewLine, Slip, DynamicIndex, Signed, Other}
+use Rattle.rtlsim_explain.specs.declared.form.Form.TheVariants.{WholeNumbers, RangeAttribute, Array, Record, OtherType, Subprogram, Package, Attribute, Alias, Subtype, Mode, Wait, Delay, Message, Block, OtherLoop, Conditional, Aggregate, Comma, Reduction, MixedLogic, Shift, Absolute, Power, Qualified, SecondIndex, Equality, Equalities, Declaration, ListEnd, NewLine, Slip, DynamicIndex, Signed, Other}
 
 -- ---- words
 
@@ -71,6 +71,10 @@ unread =
     (codes "*", Power) ∷
     (codes "(", SecondIndex) ∷
     (codes "=", Equality) ∷
+    (codes "constant", Declaration) ∷
+    (codes "type", Declaration) ∷
+    (codes "signal", Declaration) ∷
+    (codes "component", Declaration) ∷
     (codes ")", ListEnd) ∷
     []
 
@@ -92,9 +96,9 @@ left_out =
     []
 
 -- a word's form in such a table, in capitals or small letters
-abbrev pub form_among : List FormWord → (word : List ℕ) → (else : Form) → Form
-form_among [] word other = other
-form_among (w ∷ words) word other = if str_eq_ignore_ascii_case w.0 word then w.1 else form_among words word other
+abbrev pub form_among : List FormWord → (word : List ℕ) → (fallback : Form) → Form
+form_among [] word fallback = fallback
+form_among (w ∷ words) word fallback = if str_eq_ignore_ascii_case w.0 word then w.1 else form_among words word fallback
 
 -- ---- what stands before the word
 
@@ -103,14 +107,16 @@ abbrev pub slip : (before : List ℕ) → Form
 slip before = if begins_line before then (if ends_operand (last_solid before) then NewLine else Slip) else Slip
 
 -- some words are told by what stands before them as well: by a tick, an operand's end, a `;` or a star, or as the first of their line
-abbrev pub form_behind : (last : ℕ) → (slip form : Form) → Form
-form_behind last other WholeNumbers = if last == 39 then RangeAttribute else WholeNumbers
-form_behind last other Reduction = if ends_operand last then MixedLogic else Reduction
-form_behind last other SecondIndex = if last == 39 then Qualified else if last == 41 then SecondIndex else other
-form_behind last other ListEnd = if last == 59 then ListEnd else other
-form_behind last other Power = if last == 42 then Power else other
+abbrev pub form_behind : (last : ℕ) → (fallback form : Form) → Form
+form_behind last fallback WholeNumbers = if last == 39 then RangeAttribute else WholeNumbers
+form_behind last fallback Reduction = if ends_operand last then MixedLogic else Reduction
+form_behind last fallback SecondIndex = if last == 39 then Qualified else if last == 41 then SecondIndex else fallback
+form_behind last fallback ListEnd = if last == 59 then ListEnd else fallback
+form_behind last fallback Power = if last == 42 then Power else fallback
+form_behind last fallback Equality = if last == 61 then Equalities else Equality
 form_behind last NewLine Conditional = NewLine
-form_behind last other form = form
+form_behind last NewLine Declaration = NewLine
+form_behind last fallback form = form
 
 -- what stands at a byte where nothing of the language can stand
 abbrev pub unexpected_form : (before after : List ℕ) → Form
@@ -150,6 +156,8 @@ form_sentence Power = codes "isn't read here: ** isn't served"
 form_sentence Qualified = codes "isn't read here: qualified expressions aren't served"
 form_sentence SecondIndex = codes "isn't read here: a name has one index or slice"
 form_sentence Equality = codes "doesn't assign: it compares two values"
+form_sentence Equalities = codes "follows another =, and one = compares"
+form_sentence Declaration = codes "can't stand here: a process declares variables alone, and no declaration stands among statements"
 form_sentence ListEnd = codes "ends the list, but a `;` stands before it"
 form_sentence NewLine = codes "can't stand here, at the beginning of a line"
 form_sentence Slip = codes "can't stand here"
@@ -186,9 +194,11 @@ form_help Power = codes "write the power as a number or as a generic"
 form_help Qualified = codes "leave out the type and the tick, or write a conversion: unsigned(..)"
 form_help SecondIndex = codes "assign the first part to a signal or variable, and index that"
 form_help Equality = codes "assign a signal by <= and a variable by :="
+form_help Equalities = codes "write a = b where both are equal, and a /= b where they differ"
+form_help Declaration = codes "declare it in the architecture, before its begin"
 form_help ListEnd = codes "drop the `;` behind the last port or generic"
 form_help NewLine = codes "if what stands before it ends a statement or declaration, put the missing `;` there"
-form_help Slip = codes "see whether a word, a parenthesis or a `;` before it is missing or misspelt"
+form_help Slip = codes "see whether a word as then or is, an end if, a parenthesis or a `;` before it is missing or misspelt"
 form_help DynamicIndex = codes "compare in a loop: for i in 0 to 3 loop if p = i then y <= v(i); end if; end loop;"
 form_help Signed = codes "use unsigned, with the sign extended by hand"
 form_help Other = codes "see docs/LANGUAGE.md for what is read, and for the way round"

@@ -1,5 +1,5 @@
 -- The word at a byte, and what stands before it.
-use Rattle.std.specs.Prelude.{ℕ, zero, suc, ◌==◌, ◌&&◌, ◌||◌, Bool, true, false, if◌then◌else◌, List, [], ◌∷◌, ◌++◌, take, codes}
+use Rattle.std.specs.Prelude.{ℕ, ◌==◌, ◌&&◌, ◌||◌, Bool, true, if◌then◌else◌, List, [], ◌∷◌, ◌++◌, length, take, codes}
 use Rattle.vhdl_lexer.specs.Bytes.{is_separator, is_printable, is_word_byte}
 use Rattle.vhdl_lexer.specs.Scan.{run}
 use Rattle.rtlsim_explain.specs.Places.{line_before}
@@ -46,11 +46,14 @@ ends_operand byte = is_word_byte byte || byte == 41 || byte == 34 || byte == 39
 
 -- ---- how a sentence names it
 
--- the word in ticks; a byte that can't be printed, and the end of the text, have no word
+-- a word in ticks
+abbrev pub quoted : (word : List ℕ) → List ℕ
+quoted word = codes "`" ++ word ++ codes "` "
+
+-- a byte that can't be printed, and the end of the text, have no word
 abbrev pub subject_of : (word after : List ℕ) → List ℕ
-subject_of word [] = codes "the end of the text "
-subject_of [] (byte ∷ bytes) = codes "this byte "
-subject_of (letter ∷ letters) (byte ∷ bytes) = codes "`" ++ letter ∷ letters ++ codes "` "
+subject_of word after =
+    if length after == 0 then codes "the end of the text " else if length word == 0 then codes "this byte " else quoted word
 
 abbrev pub subject : (after : List ℕ) → List ℕ
 subject after = subject_of (word_at after) after

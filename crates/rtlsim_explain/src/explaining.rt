@@ -30,8 +30,8 @@ pub struct Title {
 }
 
 /// Explains why a source has no tokens.
-pub fn explain_lex<S: Sink>(place: Place<'_>, title: Title, fault: &LexFault, sink: &mut S)
-    ensures { Goes (S.state sink.old) (S.state sink.new) (spec.lex_explained place title fault.now) }
+pub fn explain_lex<S: Sink>(place: Place<'_>, title: Title, fault: LexFault, sink: &mut S)
+    ensures { Goes (S.state sink.old) (S.state sink.new) (spec.lex_explained (spec.spot_of place.entry) (spec.heading_of title.entry) fault) }
 {
     let (before, after) = place.halves();
     push_head(place.file, before, title, sink);
@@ -40,35 +40,53 @@ pub fn explain_lex<S: Sink>(place: Place<'_>, title: Title, fault: &LexFault, si
 }
 
 /// Explains why the tokens are no file.
-pub fn explain_syntax<S: Sink>(place: Place<'_>, title: Title, fault: &SyntaxFault, sink: &mut S)
-    ensures { Goes (S.state sink.old) (S.state sink.new) (spec.syntax_explained place title fault.now) }
+pub fn explain_syntax<S: Sink>(place: Place<'_>, title: Title, fault: SyntaxFault, sink: &mut S)
+    ensures { Goes (S.state sink.old) (S.state sink.new) (spec.syntax_explained (spec.spot_of place.entry) (spec.heading_of title.entry) fault) }
 {
     let (before, after) = place.halves();
     let form = unexpected_form(before, after);
     push_head(place.file, before, title, sink);
     push_subject(after, sink);
-    push_said(before, after, syntax_sentence(fault, form), syntax_help(fault, form), sink);
+    push_said(
+        before,
+        after,
+        syntax_sentence(fault, form),
+        syntax_help(fault, form),
+        sink,
+    );
 }
 
 /// Explains which rule on names or types is broken.
 pub fn explain_name<S: Sink>(place: Place<'_>, title: Title, problem: NameProblem, sink: &mut S)
-    ensures { Goes (S.state sink.old) (S.state sink.new) (spec.name_explained place title problem) }
+    ensures { Goes (S.state sink.old) (S.state sink.new) (spec.name_explained (spec.spot_of place.entry) (spec.heading_of title.entry) problem) }
 {
     let (before, after) = place.halves();
     let form = left_out_form(after);
     push_head(place.file, before, title, sink);
     push_subject(after, sink);
-    push_said(before, after, name_sentence(problem, form), name_help(problem, form), sink);
+    push_said(
+        before,
+        after,
+        name_sentence(problem, form),
+        name_help(problem, form),
+        sink,
+    );
 }
 
 /// Explains why a source's units have no such design.
 pub fn explain_elab<S: Sink>(place: Place<'_>, title: Title, problem: ElabProblem, sink: &mut S)
-    ensures { Goes (S.state sink.old) (S.state sink.new) (spec.elab_explained place title problem) }
+    ensures { Goes (S.state sink.old) (S.state sink.new) (spec.elab_explained (spec.spot_of place.entry) (spec.heading_of title.entry) problem) }
 {
     let (before, after) = place.halves();
     push_head(place.file, before, title, sink);
     push_elab_subject(problem, after, sink);
-    push_said(before, after, elab_sentence(problem), elab_help(problem), sink);
+    push_said(
+        before,
+        after,
+        elab_sentence(problem),
+        elab_help(problem),
+        sink,
+    );
 }
 
 /// Writes the word at a problem of elaboration, if the problem is one of that word.
@@ -83,7 +101,7 @@ fn push_elab_subject<S: Sink>(problem: ElabProblem, after: &[u8], sink: &mut S)
 
 /// Writes where a fault is, and its title.
 fn push_head<S: Sink>(file: &[u8], before: &[u8], title: Title, sink: &mut S)
-    ensures { Goes (S.state sink.old) (S.state sink.new) (spec.head_text file.now before.now title) }
+    ensures { Goes (S.state sink.old) (S.state sink.new) (spec.head_text file.now before.now (spec.heading_of title.entry)) }
 {
     push_position(file, position_behind(before), sink);
     push_title(title, sink);
@@ -103,7 +121,7 @@ fn push_position<S: Sink>(file: &[u8], position: Position, sink: &mut S)
 
 /// Writes under what a fault is told.
 pub(crate) fn push_title<S: Sink>(title: Title, sink: &mut S)
-    ensures { Goes (S.state sink.old) (S.state sink.new) (spec.title_text title) }
+    ensures { Goes (S.state sink.old) (S.state sink.new) (spec.title_text (spec.heading_of title.entry)) }
 {
     push_text(sink, title.layer.as_bytes());
     push_text(sink, b" ");

@@ -29,7 +29,7 @@ pub(crate) fn lex_help(fault: LexFault) -> &'static str
     ensures { result.now ≡ spec.lex_help fault }
 {
     match fault {
-        LexFault::BadByte { .. } => "outside of comments and strings write letters, digits and VHDL's signs: no accents, no typographic quotes, no byte order mark",
+        LexFault::BadByte { .. } => "outside of comments and strings write ASCII letters, digits and VHDL's signs: no accents, no typographic quotes",
         LexFault::OpenComment { .. } => "close it by */, or begin each line of it with --",
         LexFault::OpenString { .. } => "put the closing quotation mark on the same line, and join long strings by &",
         LexFault::BadIdentifier { .. } => "drop the underscore at the beginning or end, or the second of two",
@@ -88,10 +88,10 @@ pub(crate) fn name_help(problem: NameProblem, form: Form) -> &'static str
 {
     match problem {
         NameProblem::LeftOut => form.help(),
-        NameProblem::Undeclared => "correct its spelling, or declare it above; the entity of a component has to stand in the same text",
+        NameProblem::Undeclared => "correct its spelling, or declare it above; entities of instances and components stand in the same text: join the files",
         NameProblem::Twice => "give one of the two another name, or drop it",
         NameProblem::WrongKind => "see what it is declared as: signals take <=, variables :=, and a name at an end repeats the one at the beginning",
-        NameProblem::TypeMismatch => "convert it by unsigned(..) or std_logic_vector(..); an index is a static number, so look up v(p) by a loop that compares p",
+        NameProblem::TypeMismatch => "convert it by unsigned(..) or std_logic_vector(..); an index is static: for v(p) write a loop that compares p",
         NameProblem::NotVisible => "write library ieee; use ieee.std_logic_1164.all; and, for unsigned, use ieee.numeric_std.all; before the entity",
         NameProblem::WriteOfIn => "declare it as out, or assign a signal",
         NameProblem::NoOthers => "add when others => as the last choice; std_logic has nine values and not two",

@@ -4,7 +4,7 @@ ghost use Rattle.std.specs.Prelude.{◌≡◌};
 ghost use Rattle.rtlsim_explain.specs.Forms as spec;
 
 /// What stands where nothing of the language can stand.
-#[derive(Clone, Copy, PartialEq, Eq, Debug)]
+#[derive(Clone, Copy)]
 pub(crate) enum Form {
     /// Signals, ports and variables of integer, natural or positive, with a range or without.
     WholeNumbers,
@@ -60,6 +60,10 @@ pub(crate) enum Form {
     SecondIndex,
     /// `=` where an assignment stands.
     Equality,
+    /// Two signs of equality.
+    Equalities,
+    /// A declaration among statements, or in a process.
+    Declaration,
     /// A `;` behind the last of a list.
     ListEnd,
     /// The first word of a line, behind a line that may lack its `;`.
@@ -107,6 +111,8 @@ impl Form {
             Form::Qualified => "isn't read here: qualified expressions aren't served",
             Form::SecondIndex => "isn't read here: a name has one index or slice",
             Form::Equality => "doesn't assign: it compares two values",
+            Form::Equalities => "follows another =, and one = compares",
+            Form::Declaration => "can't stand here: a process declares variables alone, and no declaration stands among statements",
             Form::ListEnd => "ends the list, but a `;` stands before it",
             Form::NewLine => "can't stand here, at the beginning of a line",
             Form::Slip => "can't stand here",
@@ -148,9 +154,11 @@ impl Form {
             Form::Qualified => "leave out the type and the tick, or write a conversion: unsigned(..)",
             Form::SecondIndex => "assign the first part to a signal or variable, and index that",
             Form::Equality => "assign a signal by <= and a variable by :=",
+            Form::Equalities => "write a = b where both are equal, and a /= b where they differ",
+            Form::Declaration => "declare it in the architecture, before its begin",
             Form::ListEnd => "drop the `;` behind the last port or generic",
             Form::NewLine => "if what stands before it ends a statement or declaration, put the missing `;` there",
-            Form::Slip => "see whether a word, a parenthesis or a `;` before it is missing or misspelt",
+            Form::Slip => "see whether a word as then or is, an end if, a parenthesis or a `;` before it is missing or misspelt",
             Form::DynamicIndex => "compare in a loop: for i in 0 to 3 loop if p = i then y <= v(i); end if; end loop;",
             Form::Signed => "use unsigned, with the sign extended by hand",
             Form::Other => "see docs/LANGUAGE.md for what is read, and for the way round",
@@ -159,7 +167,7 @@ impl Form {
 }
 
 /// The words at which a form begins that the grammar hasn't, each with the form.
-pub(crate) const UNREAD: [(&[u8], Form); 59] = [
+pub(crate) const UNREAD: [(&[u8], Form); 63] = [
     (b"range", Form::WholeNumbers),
     (b"array", Form::Array),
     (b"record", Form::Record),
@@ -218,6 +226,10 @@ pub(crate) const UNREAD: [(&[u8], Form); 59] = [
     (b"*", Form::Power),
     (b"(", Form::SecondIndex),
     (b"=", Form::Equality),
+    (b"constant", Form::Declaration),
+    (b"type", Form::Declaration),
+    (b"signal", Form::Declaration),
+    (b"component", Form::Declaration),
     (b")", Form::ListEnd),
 ];
 

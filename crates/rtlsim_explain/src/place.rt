@@ -3,6 +3,7 @@
 ghost use Rattle.std.specs.Prelude.{◌≡◌, ◌≤◌, length, take, drop, flat_map};
 ghost use Rattle.std.specs.List.{prefix_len};
 ghost use Rattle.rtl_sink.specs.Written.{Goes};
+ghost use Rattle.rtl_stim_lines.specs.Lines as lines;
 ghost use Rattle.rtlsim_explain.specs.Places as spec;
 
 use rtl_sink::{Sink, push_text};
@@ -21,8 +22,8 @@ pub struct Place<'a> {
 impl<'a> Place<'a> {
     /// What stands before the byte, and what stands from it on.
     pub(crate) fn halves(self) -> (&'a [u8], &'a [u8])
-        ensures before { result.0.now ≡ take self.at self.text.now }
-        ensures after { result.1.now ≡ drop self.at self.text.now }
+        ensures before { result.0.now ≡ take self.entry.at self.entry.text.now }
+        ensures after { result.1.now ≡ drop self.entry.at self.entry.text.now }
     {
         if self.at <= self.text.len() {
             self.text.split_at(self.at)
@@ -33,7 +34,7 @@ impl<'a> Place<'a> {
 }
 
 /// A place as editors tell it, from line 1 and column 1 on.
-#[derive(Clone, Copy, PartialEq, Eq, Debug)]
+#[derive(Clone, Copy)]
 pub(crate) struct Position {
     pub line: usize,
     pub column: usize,
@@ -73,7 +74,7 @@ pub(crate) fn line_before(before: &[u8]) -> &[u8]
 }
 
 /// What stands of its line from a byte on, without the carriage return at the line's end.
-fn line_after(after: &[u8]) -> &[u8]
+pub(crate) fn line_after(after: &[u8]) -> &[u8]
     ensures { result.now ≡ spec.line_after after.now }
 {
     without_return(&after[..line_len(after)])
@@ -89,7 +90,7 @@ fn line_len(after: &[u8]) -> usize
 
 /// A line without the carriage return at its end.
 fn without_return(line: &[u8]) -> &[u8]
-    ensures { result.now ≡ spec.without_return line.now }
+    ensures { result.now ≡ lines.without_return line.now }
 {
     match line {
         [front @ .., b'\r'] => front,

@@ -25,10 +25,10 @@ pub(crate) fn left_out_form(after: &[u8]) -> Form
 }
 
 /// The form that begins with a word.
-fn unread_among(word: &[u8], other: Form) -> Form
-    ensures { result ≡ spec.form_among spec.unread word.now other }
+fn unread_among(word: &[u8], fallback: Form) -> Form
+    ensures { result ≡ spec.form_among spec.unread word.now fallback }
 {
-    form_among(&UNREAD, word, other)
+    form_among(&UNREAD, word, fallback)
 }
 
 /// Whether two texts are one word, in capitals or small letters.
@@ -39,8 +39,8 @@ fn is_same_word(first: &[u8], second: &[u8]) -> bool
 }
 
 /// The form of a word in a table, or the other form.
-fn form_among(mut words: &[(&[u8], Form)], word: &[u8], other: Form) -> Form
-    ensures { result ≡ spec.form_among (map (λ w. (w.0.now, w.1)) words.entry.now) word.now other }
+fn form_among(mut words: &[(&[u8], Form)], word: &[u8], fallback: Form) -> Form
+    ensures { result ≡ spec.form_among (map (λ w. (w.0.now, w.1)) words.entry.now) word.now fallback }
 {
     while let [first, rest @ ..] = words {
         if is_same_word(first.0, word) {
@@ -48,7 +48,7 @@ fn form_among(mut words: &[(&[u8], Form)], word: &[u8], other: Form) -> Form
         }
         words = rest;
     }
-    other
+    fallback
 }
 
 /// What no form begins with.
@@ -63,17 +63,18 @@ fn slip(before: &[u8]) -> Form
 }
 
 /// The form of a word behind a text that ends with this byte.
-fn form_behind(last: u8, other: Form, form: Form) -> Form
-    ensures { result ≡ spec.form_behind last other form }
+fn form_behind(last: u8, fallback: Form, form: Form) -> Form
+    ensures { result ≡ spec.form_behind last fallback form }
 {
-    match (other, form) {
+    match (fallback, form) {
         (_, Form::WholeNumbers) if last == b'\'' => Form::RangeAttribute,
         (_, Form::Reduction) if ends_operand(last) => Form::MixedLogic,
         (_, Form::SecondIndex) if last == b'\'' => Form::Qualified,
-        (_, Form::SecondIndex) if last != b')' => other,
-        (_, Form::ListEnd) if last != b';' => other,
-        (_, Form::Power) if last != b'*' => other,
-        (Form::NewLine, Form::Conditional) => Form::NewLine,
+        (_, Form::SecondIndex) if last != b')' => fallback,
+        (_, Form::ListEnd) if last != b';' => fallback,
+        (_, Form::Power) if last != b'*' => fallback,
+        (_, Form::Equality) if last == b'=' => Form::Equalities,
+        (Form::NewLine, Form::Conditional | Form::Declaration) => Form::NewLine,
         _ => form,
     }
 }

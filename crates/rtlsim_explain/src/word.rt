@@ -129,13 +129,20 @@ pub(crate) fn push_subject<S: Sink>(after: &[u8], sink: &mut S)
 fn push_subject_of<S: Sink>(word: &[u8], after: &[u8], sink: &mut S)
     ensures { Goes (S.state sink.old) (S.state sink.new) (spec.subject_of word.now after.now) }
 {
-    match (word, after) {
-        (_, []) => push_text(sink, b"the end of the text "),
-        ([], _) => push_text(sink, b"this byte "),
-        _ => {
-            push_text(sink, b"`");
-            push_text(sink, word);
-            push_text(sink, b"` ");
-        }
+    if after.is_empty() {
+        push_text(sink, b"the end of the text ");
+    } else if word.is_empty() {
+        push_text(sink, b"this byte ");
+    } else {
+        push_quoted(word, sink);
     }
+}
+
+/// Writes a word in ticks.
+fn push_quoted<S: Sink>(word: &[u8], sink: &mut S)
+    ensures { Goes (S.state sink.old) (S.state sink.new) (spec.quoted word.now) }
+{
+    push_text(sink, b"`");
+    push_text(sink, word);
+    push_text(sink, b"` ");
 }
