@@ -7,6 +7,4 @@ pub mod Forms
 pub mod Faults
 -- explanations
 pub mod Explained
-pub mod Ranges
-pub mod Rejected
 pub mod Stimuli

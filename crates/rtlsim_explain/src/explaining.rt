@@ -31,7 +31,7 @@ pub struct Title {
 
 /// Explains why a source has no tokens.
 pub fn explain_lex<S: Sink>(place: Place<'_>, title: Title, fault: LexFault, sink: &mut S)
-    ensures { Goes (S.state sink.old) (S.state sink.new) (spec.lex_explained (spec.spot_of place.entry) (spec.heading_of title.entry) fault) }
+    ensures { Goes (S.state sink.old) (S.state sink.new) (spec.lex_explained (spec.spot_of place.entry) (spec.heading_of title) fault) }
 {
     let (before, after) = place.halves();
     push_head(place.file, before, title, sink);
@@ -41,7 +41,7 @@ pub fn explain_lex<S: Sink>(place: Place<'_>, title: Title, fault: LexFault, sin
 
 /// Explains why the tokens are no file.
 pub fn explain_syntax<S: Sink>(place: Place<'_>, title: Title, fault: SyntaxFault, sink: &mut S)
-    ensures { Goes (S.state sink.old) (S.state sink.new) (spec.syntax_explained (spec.spot_of place.entry) (spec.heading_of title.entry) fault) }
+    ensures { Goes (S.state sink.old) (S.state sink.new) (spec.syntax_explained (spec.spot_of place.entry) (spec.heading_of title) fault) }
 {
     let (before, after) = place.halves();
     let form = unexpected_form(before, after);
@@ -58,7 +58,7 @@ pub fn explain_syntax<S: Sink>(place: Place<'_>, title: Title, fault: SyntaxFaul
 
 /// Explains which rule on names or types is broken.
 pub fn explain_name<S: Sink>(place: Place<'_>, title: Title, problem: NameProblem, sink: &mut S)
-    ensures { Goes (S.state sink.old) (S.state sink.new) (spec.name_explained (spec.spot_of place.entry) (spec.heading_of title.entry) problem) }
+    ensures { Goes (S.state sink.old) (S.state sink.new) (spec.name_explained (spec.spot_of place.entry) (spec.heading_of title) problem) }
 {
     let (before, after) = place.halves();
     let form = left_out_form(after);
@@ -75,7 +75,7 @@ pub fn explain_name<S: Sink>(place: Place<'_>, title: Title, problem: NameProble
 
 /// Explains why a source's units have no such design.
 pub fn explain_elab<S: Sink>(place: Place<'_>, title: Title, problem: ElabProblem, sink: &mut S)
-    ensures { Goes (S.state sink.old) (S.state sink.new) (spec.elab_explained (spec.spot_of place.entry) (spec.heading_of title.entry) problem) }
+    ensures { Goes (S.state sink.old) (S.state sink.new) (spec.elab_explained (spec.spot_of place.entry) (spec.heading_of title) problem) }
 {
     let (before, after) = place.halves();
     push_head(place.file, before, title, sink);
@@ -101,7 +101,7 @@ fn push_elab_subject<S: Sink>(problem: ElabProblem, after: &[u8], sink: &mut S)
 
 /// Writes where a fault is, and its title.
 fn push_head<S: Sink>(file: &[u8], before: &[u8], title: Title, sink: &mut S)
-    ensures { Goes (S.state sink.old) (S.state sink.new) (spec.head_text file.now before.now (spec.heading_of title.entry)) }
+    ensures { Goes (S.state sink.old) (S.state sink.new) (spec.head_text file.now before.now (spec.heading_of title)) }
 {
     push_position(file, position_behind(before), sink);
     push_title(title, sink);
@@ -121,7 +121,7 @@ fn push_position<S: Sink>(file: &[u8], position: Position, sink: &mut S)
 
 /// Writes under what a fault is told.
 pub(crate) fn push_title<S: Sink>(title: Title, sink: &mut S)
-    ensures { Goes (S.state sink.old) (S.state sink.new) (spec.title_text (spec.heading_of title.entry)) }
+    ensures { Goes (S.state sink.old) (S.state sink.new) (spec.title_text (spec.heading_of title)) }
 {
     push_text(sink, title.layer.as_bytes());
     push_text(sink, b" ");

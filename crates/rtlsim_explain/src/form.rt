@@ -84,7 +84,8 @@ impl Form {
         ensures { result.now ≡ spec.form_sentence self }
     {
         match self {
-            Form::WholeNumbers => "isn't read here: signals, ports and variables of whole numbers aren't served",
+            Form::WholeNumbers =>
+                "isn't read here: signals, ports and variables of whole numbers aren't served",
             Form::RangeAttribute => "isn't read here: of the attributes only 'event is served",
             Form::Array => "isn't read here: array types aren't served",
             Form::Record => "isn't read here: records and selected names aren't served",
@@ -99,12 +100,16 @@ impl Form {
             Form::Delay => "isn't read here: assignments have no delay",
             Form::Message => "isn't read here: messages and assertions aren't served",
             Form::Block => "isn't read here: blocks, guards and configurations aren't served",
-            Form::OtherLoop => "isn't read here: a loop is `for i in range loop`, and goes through its whole range",
+            Form::OtherLoop =>
+                "isn't read here: a loop is `for i in range loop`, and goes through its whole range",
             Form::Conditional => "isn't read here: inside a process an assignment has no when",
-            Form::Aggregate => "isn't read here: the only aggregate is (others => value), and a formal is a whole port",
-            Form::Comma => "can't stand here: (a, b) isn't read, and ports, generics and statements are parted by `;`",
+            Form::Aggregate =>
+                "isn't read here: the only aggregate is (others => value), and a formal is a whole port",
+            Form::Comma =>
+                "can't stand here: (a, b) isn't read, and ports, generics and statements are parted by `;`",
             Form::Reduction => "isn't read here: a logical operator stands between two operands",
-            Form::MixedLogic => "can't follow here: different logical operators need parentheses between them, and so do nand and nor",
+            Form::MixedLogic =>
+                "can't follow here: different logical operators need parentheses between them, and so do nand and nor",
             Form::Shift => "isn't read here: shifts and rotations aren't operators here",
             Form::Absolute => "isn't read here: there are no absolute values",
             Form::Power => "isn't read here: ** isn't served",
@@ -112,7 +117,8 @@ impl Form {
             Form::SecondIndex => "isn't read here: a name has one index or slice",
             Form::Equality => "doesn't assign: it compares two values",
             Form::Equalities => "follows another =, and one = compares",
-            Form::Declaration => "can't stand here: a process declares variables alone, and no declaration stands among statements",
+            Form::Declaration =>
+                "can't stand here: a process declares variables alone, and no declaration stands among statements",
             Form::ListEnd => "ends the list, but a `;` stands before it",
             Form::NewLine => "can't stand here, at the beginning of a line",
             Form::Slip => "can't stand here",
@@ -127,39 +133,55 @@ impl Form {
         ensures { result.now ≡ spec.form_help self }
     {
         match self {
-            Form::WholeNumbers => "declare it as unsigned(7 downto 0), as wide as it needs, and write n + 1 or n = 5 as before",
+            Form::WholeNumbers =>
+                "declare it as unsigned(7 downto 0), as wide as it needs, and write n + 1 or n = 5 as before",
             Form::RangeAttribute => "write the bounds themselves, or a generic in their place",
-            Form::Array => "take one vector of at most 64 elements and slices of it, or a signal for each word",
-            Form::Record => "declare a signal for each element of the record, and write names without a library or package before them",
+            Form::Array =>
+                "take one vector of at most 64 elements and slices of it, or a signal for each word",
+            Form::Record =>
+                "declare a signal for each element of the record, and write names without a library or package before them",
             Form::OtherType => "use std_logic, std_logic_vector, unsigned or an enumeration",
-            Form::Subprogram => "write the computation as a process with a variable, or as an entity of its own",
+            Form::Subprogram =>
+                "write the computation as a process with a variable, or as an entity of its own",
             Form::Package => "declare its constants and types in the architecture that uses them",
             Form::Attribute => "leave the line out; it changes nothing that is simulated",
             Form::Alias => "write the name itself, or assign it to a signal of the other name",
             Form::Subtype => "write the type with its range at each declaration",
             Form::Mode => "take an in port and an out port; an out port can be read",
-            Form::Wait => "give the process a sensitivity list, or write process (all); what a testbench waits for stands in the stimulus",
+            Form::Wait =>
+                "give the process a sensitivity list, or write process (all); what a testbench waits for stands in the stimulus",
             Form::Delay => "leave out the delay; inputs change at times that the stimulus says",
             Form::Message => "leave it out, and look at the trace",
-            Form::Block => "write the statements in the architecture, and name the entity in the instance: entity work.name",
+            Form::Block =>
+                "write the statements in the architecture, and name the entity in the instance: entity work.name",
             Form::OtherLoop => "write a for loop over all turns, with an if inside it",
-            Form::Conditional => "write if .. then .. else .. end if, or the assignment outside of the process",
-            Form::Aggregate => "write a & b for (a, b); assign (others => '0') first and then the element that differs",
-            Form::Comma => "write a & b for the vector (a, b), or `;` where one declaration ends and the next begins",
-            Form::Reduction => "assign a variable the first element, and go on in a loop: for i in 1 to 7 loop p := p xor v(i); end loop;",
+            Form::Conditional =>
+                "write if .. then .. else .. end if, or the assignment outside of the process",
+            Form::Aggregate =>
+                "write a & b for (a, b); assign (others => '0') first and then the element that differs",
+            Form::Comma =>
+                "write a & b for the vector (a, b), or `;` where one declaration ends and the next begins",
+            Form::Reduction =>
+                "assign a variable the first element, and go on in a loop: for i in 1 to 7 loop p := p xor v(i); end loop;",
             Form::MixedLogic => "put parentheses: (a and b) or c",
-            Form::Shift => "write shift_left(p, 1) or shift_right(p, 1) of unsigned, or slices and &",
-            Form::Absolute => "compare with 0, and subtract in the branch where the number is negative",
+            Form::Shift =>
+                "write shift_left(p, 1) or shift_right(p, 1) of unsigned, or slices and &",
+            Form::Absolute =>
+                "compare with 0, and subtract in the branch where the number is negative",
             Form::Power => "write the power as a number or as a generic",
-            Form::Qualified => "leave out the type and the tick, or write a conversion: unsigned(..)",
+            Form::Qualified =>
+                "leave out the type and the tick, or write a conversion: unsigned(..)",
             Form::SecondIndex => "assign the first part to a signal or variable, and index that",
             Form::Equality => "assign a signal by <= and a variable by :=",
             Form::Equalities => "write a = b where both are equal, and a /= b where they differ",
             Form::Declaration => "declare it in the architecture, before its begin",
             Form::ListEnd => "drop the `;` behind the last port or generic",
-            Form::NewLine => "if what stands before it ends a statement or declaration, put the missing `;` there",
-            Form::Slip => "see whether a word as then or is, an end if, a parenthesis or a `;` before it is missing or misspelt",
-            Form::DynamicIndex => "compare in a loop: for i in 0 to 3 loop if p = i then y <= v(i); end if; end loop;",
+            Form::NewLine =>
+                "if what stands before it ends a statement or declaration, put the missing `;` there",
+            Form::Slip =>
+                "see whether a word as then or is, an end if, a parenthesis or a `;` before it is missing or misspelt",
+            Form::DynamicIndex =>
+                "compare in a loop: for i in 0 to 3 loop if p = i then y <= v(i); end if; end loop;",
             Form::Signed => "use unsigned, with the sign extended by hand",
             Form::Other => "see docs/LANGUAGE.md for what is read, and for the way round",
         }

@@ -1,24 +1,18 @@
 //! Explanations of faults, for a designer: the file, line and column, what is wrong in the design's own words, the line with a mark
 //! under the place, and what to do about it.
 //!
-//! `specs/Explained.antt` says what is written of a fault of a source, `specs/Rejected.antt` of the checker's faults, and
-//! `specs/Stimuli.antt` of those of a stimulus and a run. `specs/Places.antt` has lines and columns; `specs/Forms.antt` and
-//! `specs/Faults.antt` are the table of what is said.
+//! `specs/Explained.antt` says what is written of a fault of a source, and `specs/Stimuli.antt` of those of a stimulus and a run.
+//! `specs/Places.antt` has lines and columns; `specs/Forms.antt` and `specs/Faults.antt` are the table of what is said.
 #![tactic(auto)]
 
 mod explaining;
 mod fault;
 mod form;
-mod naming;
 mod place;
-mod ranges;
-mod rejected;
-mod rejection;
 mod stimulus;
 mod unread;
 mod word;
 
 pub use explaining::{Title, explain_elab, explain_lex, explain_name, explain_syntax};
 pub use place::Place;
-pub use rejection::explain_rejection;
 pub use stimulus::{explain_stim, explain_unsettled};

@@ -15,10 +15,12 @@ use rtlsim_listing::{ListingFault, net_name};
 use std::alloc::Global;
 
 /// What a designer does about a race.
-const RACE_HELP: &str = "let the input change at another time than the clock's edge, as real data does: at that edge the order would count";
+const RACE_HELP: &str =
+    "let the input change at another time than the clock's edge, as real data does: at that edge the order would count";
 
 /// What a designer does about a moment that doesn't settle.
-const SETTLE_HELP: &str = "see what check tells: processes that feed each other in a circle, or a latch or clock that is made inside";
+const SETTLE_HELP: &str =
+    "see what check tells: processes that feed each other in a circle, or a latch or clock that is made inside";
 
 /// Explains why a stimulus is refused, whose text shows the line, or a NAME=VALUE word, without a text. It takes the memory of two names
 /// at a race.
@@ -37,10 +39,17 @@ pub fn explain_stim<S: Sink>(
 ) -> Result<(), ListingFault>
     requires intact { IsIntact (S.state sink.old) }
     ensures { IsListed result (S.state sink.old) (S.state sink.new)
-        (spec.stim_explained file.now (option_map (λ t. t.now) text) (said.heading_of title.entry) net.now fault) }
+        (spec.stim_explained file.now (option_map (λ t. t.now) text.entry) (said.heading_of title) net.now fault) }
 {
     match fault {
-        StimFault::Race { time, input, clock } => explain_race(alloc, file, net, title, (time, input, clock), sink),
+        StimFault::Race { time, input, clock } => explain_race(
+            alloc,
+            file,
+            net,
+            title,
+            (time, input, clock),
+            sink,
+        ),
         _ => {
             push_plain(file, text, title, fault, sink);
             Ok(finish(sink)?)
@@ -58,7 +67,7 @@ fn explain_race<S: Sink>(
     sink: &mut S,
 ) -> Result<(), ListingFault>
     requires intact { IsIntact (S.state sink.old) }
-    ensures { IsListed result (S.state sink.old) (S.state sink.new) (spec.race_explained file.now (said.heading_of title.entry) net.now race.0 race.1 race.2) }
+    ensures { IsListed result (S.state sink.old) (S.state sink.new) (spec.race_explained file.now (said.heading_of title) net.now race.0 race.1 race.2) }
 {
     let (time, input, clock) = race;
     let input = net_name(alloc, net, input)?;
@@ -68,8 +77,15 @@ fn explain_race<S: Sink>(
 }
 
 /// Writes the explanation of a race between two nets of these names.
-fn push_race<S: Sink>(file: &[u8], title: Title, time: u64, input: &[u8], clock: &[u8], sink: &mut S)
-    ensures { Goes (S.state sink.old) (S.state sink.new) (spec.race_between file.now (said.heading_of title.entry) time input.now clock.now) }
+fn push_race<S: Sink>(
+    file: &[u8],
+    title: Title,
+    time: u64,
+    input: &[u8],
+    clock: &[u8],
+    sink: &mut S,
+)
+    ensures { Goes (S.state sink.old) (S.state sink.new) (spec.race_between file.now (said.heading_of title) time input.now clock.now) }
 {
     push_file_head(file, title, sink);
     push_text(sink, b"at ");
@@ -83,8 +99,14 @@ fn push_race<S: Sink>(file: &[u8], title: Title, time: u64, input: &[u8], clock:
 }
 
 /// Writes the explanation of a fault that names no net.
-fn push_plain<S: Sink>(file: &[u8], text: Option<&[u8]>, title: Title, fault: StimFault, sink: &mut S)
-    ensures { Goes (S.state sink.old) (S.state sink.new) (spec.plain_explained file.now (option_map (λ t. t.now) text) (said.heading_of title.entry) fault) }
+fn push_plain<S: Sink>(
+    file: &[u8],
+    text: Option<&[u8]>,
+    title: Title,
+    fault: StimFault,
+    sink: &mut S,
+)
+    ensures { Goes (S.state sink.old) (S.state sink.new) (spec.plain_explained file.now (option_map (λ t. t.now) text.entry) (said.heading_of title) fault) }
 {
     match fault {
         StimFault::InLine { problem, line } => push_line(file, text, title, problem, line, sink),
@@ -102,7 +124,7 @@ fn push_line<S: Sink>(
     line: usize,
     sink: &mut S,
 )
-    ensures { Goes (S.state sink.old) (S.state sink.new) (spec.line_explained file.now (option_map (λ t. t.now) text) (said.heading_of title.entry) problem line) }
+    ensures { Goes (S.state sink.old) (S.state sink.new) (spec.line_explained file.now (option_map (λ t. t.now) text.entry) (said.heading_of title) problem line) }
 {
     push_line_head(file, title, line, sink);
     push_text(sink, line_sentence(problem).as_bytes());
@@ -113,7 +135,7 @@ fn push_line<S: Sink>(
 
 /// Writes that no line says when to stop.
 fn push_stop<S: Sink>(file: &[u8], title: Title, sink: &mut S)
-    ensures { Goes (S.state sink.old) (S.state sink.new) (spec.stop_explained file.now (said.heading_of title.entry)) }
+    ensures { Goes (S.state sink.old) (S.state sink.new) (spec.stop_explained file.now (said.heading_of title)) }
 {
     push_file_head(file, title, sink);
     push_text(sink, b"no line says when the run stops\n");
@@ -122,7 +144,7 @@ fn push_stop<S: Sink>(file: &[u8], title: Title, sink: &mut S)
 
 /// Writes a fault's line and title.
 fn push_line_head<S: Sink>(file: &[u8], title: Title, line: usize, sink: &mut S)
-    ensures { Goes (S.state sink.old) (S.state sink.new) (spec.line_head file.now (said.heading_of title.entry) line) }
+    ensures { Goes (S.state sink.old) (S.state sink.new) (spec.line_head file.now (said.heading_of title) line) }
 {
     push_text(sink, file);
     push_text(sink, b":");
@@ -133,7 +155,7 @@ fn push_line_head<S: Sink>(file: &[u8], title: Title, line: usize, sink: &mut S)
 
 /// Writes a fault's file and title.
 fn push_file_head<S: Sink>(file: &[u8], title: Title, sink: &mut S)
-    ensures { Goes (S.state sink.old) (S.state sink.new) (spec.file_head file.now (said.heading_of title.entry)) }
+    ensures { Goes (S.state sink.old) (S.state sink.new) (spec.file_head file.now (said.heading_of title)) }
 {
     push_text(sink, file);
     push_text(sink, b": ");
@@ -142,7 +164,7 @@ fn push_file_head<S: Sink>(file: &[u8], title: Title, sink: &mut S)
 
 /// Writes the line of this number, where there is a text.
 fn push_shown<S: Sink>(line: usize, text: Option<&[u8]>, sink: &mut S)
-    ensures { Goes (S.state sink.old) (S.state sink.new) (spec.shown_line line (option_map (λ t. t.now) text)) }
+    ensures { Goes (S.state sink.old) (S.state sink.new) (spec.shown_line line (option_map (λ t. t.now) text.entry)) }
 {
     let Some(text) = text else {
         push_text(sink, b"");
@@ -154,7 +176,7 @@ fn push_shown<S: Sink>(line: usize, text: Option<&[u8]>, sink: &mut S)
 
 /// What stands behind so many lines.
 fn behind_lines(mut count: usize, mut bytes: &[u8]) -> &[u8]
-    ensures { result.now ≡ spec.behind_lines count.entry bytes.entry.now }
+    ensures { result.now ≡ spec.behind_lines count bytes.entry.now }
 {
     while let [byte, rest @ ..] = bytes {
         if count == 0 {
@@ -176,7 +198,8 @@ fn line_sentence(problem: StimProblem) -> &'static str
         StimProblem::BadLine => "the line isn't understood",
         StimProblem::NotAnInput => "the name is no in port of the top",
         StimProblem::BadValue => "the value doesn't fit the input",
-        StimProblem::SetTwice => "the input is set a second time at this time, or has a second clock",
+        StimProblem::SetTwice =>
+            "the input is set a second time at this time, or has a second clock",
         StimProblem::ClockAndSet => "the input is a clock, and is set too",
         StimProblem::TimeTooLarge => "the time is above 1000000000000000 ns",
     }
@@ -187,9 +210,11 @@ fn line_help(problem: StimProblem) -> &'static str
     ensures { result.now ≡ spec.line_help problem }
 {
     match problem {
-        StimProblem::BadLine => "write at TIME NAME VALUE, clock NAME FIRST HALF or, once, stop TIME, all in small letters; # begins a line of comment",
+        StimProblem::BadLine =>
+            "write at TIME NAME VALUE, clock NAME FIRST HALF or, once, stop TIME, all in small letters; # begins a line of comment",
         StimProblem::NotAnInput => "see the spelling of the port; only in ports of the top are set",
-        StimProblem::BadValue => "write for each element one of U X 0 1 Z W L H -, the leftmost first; a clock has one element",
+        StimProblem::BadValue =>
+            "write for each element one of U X 0 1 Z W L H -, the leftmost first; a clock has one element",
         StimProblem::SetTwice => "drop one of the two",
         StimProblem::ClockAndSet => "drop the clock, or what sets the input",
         StimProblem::TimeTooLarge => "write a time in whole nanoseconds up to that",
@@ -198,7 +223,7 @@ fn line_help(problem: StimProblem) -> &'static str
 
 /// Explains that a moment doesn't settle.
 pub fn explain_unsettled<S: Sink>(file: &[u8], title: Title, time: u64, sink: &mut S)
-    ensures { Goes (S.state sink.old) (S.state sink.new) (spec.settle_explained file.now (said.heading_of title.entry) time) }
+    ensures { Goes (S.state sink.old) (S.state sink.new) (spec.settle_explained file.now (said.heading_of title) time) }
 {
     push_file_head(file, title, sink);
     push_text(sink, b"at ");

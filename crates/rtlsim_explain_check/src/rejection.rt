@@ -3,7 +3,7 @@
 ghost use Rattle.std.specs.Prelude.{◌≡◌, ◌++◌, IfOk, OnOk};
 ghost use Rattle.rtl_check.specs.Views.{fault_view};
 ghost use Rattle.rtl_sink.specs.Written.{IsIntact};
-ghost use Rattle.rtlsim_explain.specs.Rejected as spec;
+ghost use Rattle.rtlsim_explain_check.specs.Rejected as spec;
 ghost use Rattle.rtlsim_listing.specs.Printing.{IsListed};
 
 use crate::naming::{culprits, element};

@@ -1,5 +1,5 @@
 -- Elements of one vector, told as a range by the names of the first and the last.
-use Rattle.std.specs.Prelude.{ℕ, ◌-◌, nat_le, nat_lt, ◌==◌, ◌&&◌, ◌||◌, Bool, false, if◌then◌else◌, List, [], ◌∷◌, ◌++◌, length, take, bytes_eq, slice_index_or, Option, Some, None, codes}
+use Rattle.std.specs.Prelude.{ℕ, ◌+◌, ◌-◌, nat_le, nat_lt, ◌==◌, ◌&&◌, ◌||◌, Bool, false, if◌then◌else◌, List, [], ◌∷◌, ◌++◌, length, take, bytes_eq, slice_index_or, Option, Some, None, codes}
 use Rattle.vhdl_lexer.specs.Literals.{integer_of, greatest_integer}
 
 -- ---- an element's name, as `alu.b(7)`

@@ -7,8 +7,7 @@ use Rattle.rtl_model.specs.simulation.Accepted.{Fault, TwoDrivers, MixedProcess,
 use Rattle.rtl_net.specs.Names.{net_name, process_name}
 use Rattle.rtl_net.specs.Nets.{NetlistView}
 use Rattle.rtl_net.specs.declared.process.Variable.{Variable}
-use Rattle.rtlsim_explain.specs.Explained.{help_line}
-use Rattle.rtlsim_explain.specs.Ranges.{follows, range_text}
+use Rattle.rtlsim_explain_check.specs.Ranges.{follows, range_text}
 use Rattle.rtlsim_listing.specs.CheckText.{source_name, member_text, variable_of}
 
 -- ---- what is said of each fault
@@ -99,7 +98,7 @@ head file net fault = file ++ codes ": " ++ opening fault ++ culprits net fault 
 
 -- how a paragraph ends whose last range began with this name
 abbrev pub ended : NetlistView → (first : List ℕ) → (before : Fault) → List ℕ
-ended net first before = range_text first (element net before) ++ closing before ++ codes "\n" ++ help_line (fault_help before)
+ended net first before = range_text first (element net before) ++ closing before ++ codes "\nhelp: " ++ fault_help before ++ codes "\n"
 
 abbrev pub is_same_cause : (file : List ℕ) → NetlistView → (before fault : Fault) → Bool
 is_same_cause file net before fault = bytes_eq (head file net before) (head file net fault)
@@ -145,7 +144,7 @@ told file net all first before [] = ended net first before
 told file net all first before (fault ∷ faults) =
     if is_left_out all (fault_view fault) then told file net all first before faults
     else link file net first before (fault_view fault)
-        ++ told file net all (first_of file net first before (fault_view fault)) (fault_view fault) faults
+    ++ told file net all (first_of file net first before (fault_view fault)) (fault_view fault) faults
 
 -- the first fault's range begins with its own name
 abbrev pub told_from : (file : List ℕ) → NetlistView → (all : List CheckFault) → (begin : Fault) → List CheckFault → List ℕ

@@ -1,7 +1,7 @@
 use Rattle.std.proofs.Common.{◌≡◌, ℕ, ◌≤◌, ◌<◌, nat_le, cond, true, false, Option, Some, None, refl, arith}
 use Rattle.std.proofs.lemmas.Bool.Decides.{nat_tests}
 use Rattle.std.specs.Prelude.{IfSome, IfNone}
-use Rattle.rtlsim_explain.proofs.ranges.number_in.Goals as goal
+use Rattle.rtlsim_explain_check.proofs.ranges.number_in.Goals as goal
 
 read : (answer : Option ℕ) (number most : ℕ) → IfSome answer (λ n. n ≡ number) → IfSome answer (λ n. n ≤ most) → IfNone answer (most < number)
     → answer ≡ cond (nat_le number most) (Some number) None

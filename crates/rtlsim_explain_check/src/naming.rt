@@ -4,7 +4,7 @@ ghost use Rattle.std.specs.Prelude.{◌≡◌, ◌++◌, codes, flat_map, slice_
 ghost use Rattle.rtl_check.specs.Views.{fault_view};
 ghost use Rattle.rtl_model.specs.simulation.Accepted as f;
 ghost use Rattle.rtl_net.specs.Nets.{source_view};
-ghost use Rattle.rtlsim_explain.specs.Rejected as spec;
+ghost use Rattle.rtlsim_explain_check.specs.Rejected as spec;
 ghost use Rattle.rtlsim_listing.specs.CheckText.{member_text, variable_of};
 
 use rtl_check::CheckFault;
@@ -56,12 +56,7 @@ fn members(alloc: Global, net: &Net, processes: &[usize]) -> Result<Vec<u8>, NoM
 }
 
 /// Appends the name of a loop's process behind a space.
-fn push_member(
-    alloc: Global,
-    net: &Net,
-    process: usize,
-    text: &mut Vec<u8>,
-) -> Result<(), NoMemory>
+fn push_member(alloc: Global, net: &Net, process: usize, text: &mut Vec<u8>) -> Result<(), NoMemory>
     ensures { OnOk result (text.new.items ≡ text.old.items ++ member_text net.now process) }
 {
     text.extend_from_slice(b" ")?;
@@ -82,7 +77,9 @@ pub(crate) fn element(alloc: Global, net: &Net, fault: &CheckFault) -> Result<Ve
         | CheckFault::Latch { net: number, .. } => net_name(alloc, net, *number),
         CheckFault::Mixed { .. } | CheckFault::Loop { .. } => Ok(Vec::new(alloc)),
         CheckFault::StoredVariable {
-            process, variable, ..
+            process,
+            variable,
+            ..
         } => variable_name(alloc, net, *process, *variable),
     }
 }

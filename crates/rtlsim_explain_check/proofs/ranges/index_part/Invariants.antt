@@ -1,6 +1,6 @@
 use Rattle.std.proofs.Common.{◌≡◌, ◌≤◌, [], length}
-use Rattle.rtlsim_explain.specs.Ranges.{behind_open}
-use Rattle.rtlsim_explain.proofs.ranges.index_part.Given as goal
+use Rattle.rtlsim_explain_check.specs.Ranges.{behind_open}
+use Rattle.rtlsim_explain_check.proofs.ranges.index_part.Given as goal
 
 abbrev pub invariant-loop-bytes : goal.invariant-loop-bytes
 invariant-loop-bytes l = record {

@@ -1,7 +1,7 @@
 //! Elements of one vector, told as a range.
 
 ghost use Rattle.std.specs.Prelude.{◌≡◌, ◌≤◌, ◌++◌, length, IfSome, OnOk};
-ghost use Rattle.rtlsim_explain.specs.Ranges as spec;
+ghost use Rattle.rtlsim_explain_check.specs.Ranges as spec;
 ghost use Rattle.vhdl_lexer.specs.Literals.{greatest_integer};
 
 use rtl_net::NoMemory;

@@ -2,7 +2,7 @@
 
 ghost use Rattle.std.specs.Prelude.{◌≡◌};
 ghost use Rattle.rtl_check.specs.Views.{fault_view};
-ghost use Rattle.rtlsim_explain.specs.Rejected as spec;
+ghost use Rattle.rtlsim_explain_check.specs.Rejected as spec;
 
 use rtl_check::CheckFault;
 
@@ -18,7 +18,8 @@ pub(crate) fn opening(fault: &CheckFault) -> &'static str
         CheckFault::ClockAsData { .. } => "fault 5 ClockAsData: process ",
         CheckFault::MissingSensitivity { .. } => "fault 6 MissingSensitivity: process ",
         CheckFault::Latch { .. } => "fault 7 Latch: process ",
-        CheckFault::Loop { .. } => "fault 8 Loop: in a circle of processes each is sensitive to what the next drives, and the last to what the first drives:",
+        CheckFault::Loop { .. } =>
+            "fault 8 Loop: in a circle of processes each is sensitive to what the next drives, and the last to what the first drives:",
         CheckFault::StoredVariable { .. } => "fault 9 StoredVariable: process ",
     }
 }
@@ -29,7 +30,8 @@ pub(crate) fn middle(fault: &CheckFault) -> &'static str
 {
     match fault {
         CheckFault::TwoDrivers { .. } => " both drive ",
-        CheckFault::Mixed { .. } => " has an edge or an event, and is none of the registers that are read",
+        CheckFault::Mixed { .. } =>
+            " has an edge or an event, and is none of the registers that are read",
         CheckFault::ClockNotInput { .. } => " has the clock ",
         CheckFault::EdgeNotSensitive { .. } => " is clocked or reset by ",
         CheckFault::ClockAsData { .. } => " uses as data or as a reset the clock ",
@@ -62,15 +64,22 @@ pub(crate) fn fault_help(fault: &CheckFault) -> &'static str
     ensures { result.now ≡ spec.fault_help (fault_view fault.now) }
 {
     match fault {
-        CheckFault::TwoDrivers { .. } => "let one of them drive it, or give each a signal of its own and choose between these",
-        CheckFault::Mixed { .. } => "write a register as one if: its asynchronous reset first, the edge as the only other branch, and enables inside that",
-        CheckFault::ClockNotInput { .. } => "clock it by an input of the top, and let what gates or divides it be an enable inside the edge",
+        CheckFault::TwoDrivers { .. } =>
+            "let one of them drive it, or give each a signal of its own and choose between these",
+        CheckFault::Mixed { .. } =>
+            "write a register as one if: its asynchronous reset first, the edge as the only other branch, and enables inside that",
+        CheckFault::ClockNotInput { .. } =>
+            "clock it by an input of the top, and let what gates or divides it be an enable inside the edge",
         CheckFault::EdgeNotSensitive { .. } => "add it to the sensitivity list",
-        CheckFault::ClockAsData { .. } => "take a signal that is no clock, or an enable that changes with the other data",
-        CheckFault::MissingSensitivity { .. } => "add it to the sensitivity list, or write process (all)",
-        CheckFault::Latch { .. } => "assign a default before the if or case, or add the else or the choice that leaves it out",
-        CheckFault::Loop { .. } => "put a register into the circle, or split the process whose outputs don't depend on all of its inputs",
-        CheckFault::StoredVariable { .. } => "assign it at the beginning of the process, or make it a signal",
+        CheckFault::ClockAsData { .. } =>
+            "take a signal that is no clock, or an enable that changes with the other data",
+        CheckFault::MissingSensitivity { .. } =>
+            "add it to the sensitivity list, or write process (all)",
+        CheckFault::Latch { .. } =>
+            "assign a default before the if or case, or add the else or the choice that leaves it out",
+        CheckFault::Loop { .. } =>
+            "put a register into the circle, or split the process whose outputs don't depend on all of its inputs",
+        CheckFault::StoredVariable { .. } =>
+            "assign it at the beginning of the process, or make it a signal",
     }
 }
-

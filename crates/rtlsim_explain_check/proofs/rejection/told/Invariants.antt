@@ -1,7 +1,7 @@
 use Rattle.std.proofs.Common.{◌≡◌, ◌++◌, length}
 use Rattle.rtl_check.specs.Views.{fault_view}
-use Rattle.rtlsim_explain.specs.Rejected.{told, element}
-use Rattle.rtlsim_explain.proofs.rejection.told.Given as goal
+use Rattle.rtlsim_explain_check.specs.Rejected.{told, element}
+use Rattle.rtlsim_explain_check.proofs.rejection.told.Given as goal
 
 -- what is told of those that are left is the rest of the text
 abbrev pub invariant-loop-left : goal.invariant-loop-left

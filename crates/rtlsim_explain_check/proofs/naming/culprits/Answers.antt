@@ -1,4 +1,4 @@
-use Rattle.rtlsim_explain.proofs.naming.culprits.Goals as goal
+use Rattle.rtlsim_explain_check.proofs.naming.culprits.Goals as goal
 
 pub returns-in-TwoDrivers : goal.returns-in-TwoDrivers
 returns-in-TwoDrivers c = rw c.in-TwoDrivers.is c.both_sources.ensures
