@@ -37,10 +37,14 @@ behind_lines zero bytes = bytes
 behind_lines (suc count) [] = []
 behind_lines (suc count) (byte ∷ bytes) = if ends_line byte then behind_lines count bytes else behind_lines (suc count) bytes
 
--- the line of this number, from 1, where there is a text
+-- the line of this number, from 1
+abbrev pub numbered_line : (line : ℕ) → (text : List ℕ) → List ℕ
+numbered_line line text = line_after (behind_lines (line - 1) text) ++ codes "\n"
+
+-- the same, where there is a text
 abbrev pub shown_line : (line : ℕ) → Option (List ℕ) → List ℕ
 shown_line line None = []
-shown_line line (Some text) = line_after (behind_lines (line - 1) text) ++ codes "\n"
+shown_line line (Some text) = numbered_line line text
 
 -- ---- explanations
 

@@ -166,10 +166,16 @@ fn push_file_head<S: Sink>(file: &[u8], title: Title, sink: &mut S)
 fn push_shown<S: Sink>(line: usize, text: Option<&[u8]>, sink: &mut S)
     ensures { Goes (S.state sink.old) (S.state sink.new) (spec.shown_line line (option_map (λ t. t.now) text.entry)) }
 {
-    let Some(text) = text else {
-        push_text(sink, b"");
-        return;
-    };
+    match text {
+        None => push_text(sink, b""),
+        Some(text) => push_numbered(line, text, sink),
+    }
+}
+
+/// Writes the line of this number of a text.
+fn push_numbered<S: Sink>(line: usize, text: &[u8], sink: &mut S)
+    ensures { Goes (S.state sink.old) (S.state sink.new) (spec.numbered_line line text.now) }
+{
     push_text(sink, line_after(behind_lines(line.saturating_sub(1), text)));
     push_text(sink, b"\n");
 }
