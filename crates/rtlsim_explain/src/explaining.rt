@@ -1,9 +1,7 @@
 //! Explanations of a source's faults.
 
-ghost use Rattle.std.specs.Prelude.{◌≡◌, ◌++◌, codes};
 ghost use Rattle.rtl_sink.specs.Written.{Goes};
 ghost use Rattle.rtlsim_explain.specs.Explained as spec;
-ghost use Rattle.rtlsim_explain.specs.Words as words;
 
 use crate::fault::{
     elab_help, elab_sentence, lex_help, lex_sentence, name_help, name_sentence, syntax_help,

@@ -1,6 +1,6 @@
 //! The names of what a fault is told of.
 
-ghost use Rattle.std.specs.Prelude.{◌≡◌, ◌++◌, codes, flat_map, slice_get, IfOk, OnOk};
+ghost use Rattle.std.specs.Prelude.{◌≡◌, ◌++◌, flat_map, slice_get, IfOk, OnOk};
 ghost use Rattle.rtl_check.specs.Views.{fault_view};
 ghost use Rattle.rtl_model.specs.simulation.Accepted as f;
 ghost use Rattle.rtl_net.specs.Nets.{source_view};
