@@ -18,8 +18,6 @@ module _ (net : Netlist) (drivers : List (List ℕ)) where
   pub none_resolved : (is_one : ℕ → Type 0) (values : List ℕ) → ((n : ℕ) → is_one n → ⊥) → AreResolved net drivers is_one values values
   none_resolved is_one values none = record { as_many = refl; resolved = λ n l h. absurd (none n h); others = λ n l h. refl }
 
-  }
-
   -- nets up to one, and that one
   pub one_resolved : (first n : ℕ) (old mid new : List ℕ) → first ≤ n → AreResolved net drivers (λ m. (first ≤ m) × (m < n)) old mid
       → length new ≡ length mid → get_or new n 0 ≡ net_value net drivers (sources_of net n) (get_or old n 0) → ((m : ℕ) → (m ≡ n → ⊥) → get_or new m 0 ≡ get_or mid m 0)

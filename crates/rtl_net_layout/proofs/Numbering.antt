@@ -5,8 +5,6 @@ use Rattle.std.proofs.lemmas.List.{get_or_append_left, get_or_push, length_push}
 use Rattle.rtl_net_layout.specs.steps.Marks.{IsMarked, IsUnmarked}
 use Rattle.rtl_net_layout.specs.steps.Numbered.{IsNumbered}
 
-}
-
 -- a net that isn't marked isn't the first
 pub some_before : (marks : List Bool) (of_net : List ℕ) (net : ℕ) → length of_net ≡ net → IsMarked marks 0 → IsUnmarked marks net → 0 < length of_net
 some_before marks of_net net next marked unmarked = by (cases_lt 0 (length of_net))
@@ -46,41 +44,6 @@ module _ (marks : List Bool) (of_net first : List ℕ) (N : IsNumbered marks of_
         by (inr n_out) (inr m_out) n_last = omega (arith, new_at m (omega arith), new_at n (omega arith))
 
   -- ---- a group of its own
-
-  }
-    where
-      g : ℕ
-      g = length first
-
-      there : (n : ℕ) → (n < net) ⊎ (net ≤ n) → n < net + 1 → get_or (of_net ++ length first ∷ []) n 0 < length (first ++ length of_net ∷ [])
-      there n (inl l) _ = omega (arith, N.runs.there n l, old_at (length first) n l, length_push first net)
-      there n (inr l) m = omega (arith, new_at (length first) n (omega arith), length_push first net)
-
-      begins : (h : ℕ) → (h < length first) ⊎ (length first ≤ h) → h < length first + 1
-          → (get_or (first ++ length of_net ∷ []) h 0 < length (of_net ++ length first ∷ [])) × (get_or (of_net ++ length first ∷ []) (get_or (first ++ length of_net ∷ []) h 0) 0 ≡ h)
-      begins h (inl l) _ =
-          let (there, is) = N.runs.begins h l in
-          let e = get_or_append_left first (net ∷ []) 0 h l in
-          rw e (omega (arith, there, length_push of_net (length first)), old_at (length first) (get_or first h 0) there ∙ is)
-      begins h (inr l) m =
-          let e = get_or_push first net 0 h (omega arith) in
-          rw e (omega (arith, length_push of_net (length first)), new_at (length first) net refl ∙ omega arith)
-
-      is_first : (n : ℕ) → (n < net) ⊎ (net ≤ n) → n < net + 1 → get_or (first ++ length of_net ∷ []) (get_or (of_net ++ length first ∷ []) n 0) 0 ≤ n
-      is_first n (inl l) _ =
-          rw (old_at (length first) n l, get_or_append_left first (net ∷ []) 0 (get_or of_net n 0) (N.runs.there n l)) (N.runs.is_first n l)
-      is_first n (inr l) m =
-          let e : n ≡ net = omega arith in
-          rw (new_at (length first) n e, get_or_push first net 0 (length first) refl) (omega arith)
-
-      same : (n : ℕ) → get_or (of_net ++ length first ∷ []) (n + 1) 0 ≡ get_or (of_net ++ length first ∷ []) n 0 → (n + 1 < net) ⊎ (net ≤ n + 1) → n + 1 < net + 1
-          → IsUnmarked marks (n + 1)
-      same n e (inl l) _ = N.same n l (sym (old_at (length first) (n + 1) l) ∙ e ∙ old_at (length first) n (omega arith))
-      same n e (inr l) m =
-          let new = new_at (length first) (n + 1) (omega arith) in
-          let old = old_at (length first) n (omega arith) in
-          let below = below_last n (omega arith) in
-          absurd (omega (arith, e, new, old, below))
 
   -- ---- in the group of the net before it
 

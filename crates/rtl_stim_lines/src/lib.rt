@@ -17,6 +17,9 @@ mod words;
 
 pub use courses::Course;
 pub use faults::{StimFault, StimProblem};
+pub use forms::{Form, form_of};
 pub use inputs::{Element, Input, InputTable, add_input};
-pub use reading::read_schedule;
+pub use numbers::{LATEST, Time, time_of};
+pub use reading::{line_end, read_schedule};
 pub use schedule::Schedule;
+pub use words::{says_nothing, without_return, words_of};

@@ -45,7 +45,7 @@ pub fn read_schedule(alloc: Global, text: &[u8], inputs: &InputTable) -> Result<
 }
 
 /// Where the first line of a text ends that a line feed ends.
-fn line_end(text: &[u8]) -> Option<usize>
+pub fn line_end(text: &[u8]) -> Option<usize>
     ensures end { result ≡ position ends_line text.now }
     ensures within { IfSome result (λ end. end < length text.now) }
 {

@@ -77,8 +77,3 @@ module _ (index : List (List ℕ)) where
       other k (inl h) = inl h
       other k (inr c) = inr (first, record { at = 0; within = some; is = omega arith }, c)
 
-  }
-    where
-      same : (n : ℕ) → (n ≡ net) ⊎ (n ≡ net → ⊥) → get_or v n 0 ≡ get_or (set v net value) n 0
-      same n (inl e) = rw e (has ∙ sym (get_or-set_same v net value 0 within))
-      same n (inr ne) = sym (get_or-set_other v net n value 0 ne)

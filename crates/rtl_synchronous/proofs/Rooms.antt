@@ -37,4 +37,3 @@ module _ {E : Type 0} (most : E → ℕ) (net : FlatNetlist) (bodies : List E) w
       rooms p e l (inl less) = rw (before p less) (H.room p e less)
       rooms p e l (inr le) = let is : p ≡ k = omega arith in rw (last p is) (subst (λ (j : ℕ). most (get_or bodies j e) ≤ o.room) (sym is) (room e))
 
-  }

@@ -26,8 +26,6 @@ goes_whole old new text intact all = record {
   nothing = λ failed. absurd (true≢false (sym failed ∙ intact));
 }
 
-}
-
 -- a text that is the same
 pub goes_along : (old new : SinkState) (x y : List ℕ) → x ≡ y → Goes old new x → Goes old new y
 goes_along old new x y e h = subst (λ (t : List ℕ). Goes old new t) e h
@@ -57,6 +55,3 @@ module _ {A : Type 0} (Does : NetlistView → Result A Fault → SinkState → S
     ends = ends;
   }
 
-  }
-
-  }

@@ -104,19 +104,6 @@ pub record AreUnwoken (i : ℕ) (old now : List Process) : Type 0 where
   pub first : (k : ℕ) (d : Process) → k < i → IsUnwoken (get_or old k d) (get_or now k d)
   pub others : (k : ℕ) (d : Process) → i ≤ k → get_or now k d ≡ get_or old k d
 
-}
-  where
-    there : (e : Process) → get_or now i d ≡ get_or old i e
-    there e = within now i d e l ∙ h.others i e (omega arith)
-      where
-        within : (ps : List Process) (i : ℕ) (d e : Process) → i < length ps → get_or ps i d ≡ get_or ps i e
-        within [] i d e l = absurd (omega (arith, l))
-        within (p ∷ ps) zero d e l = refl
-        within (p ∷ ps) (suc i) d e l = within ps i d e (omega (arith, l))
-
-    mine : (e : Process) → IsUnwoken (get_or old i e) (get_or (set now i y) i e)
-    mine e = subst (λ (q : Process). IsUnwoken (get_or old i e) q) (sym (get_or-set_same now i y e l)) (record { same = subst (λ (p : Process). y ≡ record p { wakes = y.wakes }) (there e) same; none = none })
-
 pub all-unwoken : (n : ℕ) (xs : List Located) (old now : List Process) → n ≡ 0 → AllZip IsLocated xs old → length now ≡ length old → ((k : ℕ) (d : Process) → k < length now → IsUnwoken (get_or old k d) (get_or now k d))
     → AllZip (IsSettled n) xs now
 unfolding in_order

@@ -3,7 +3,7 @@ use Rattle.std.proofs.Common.{◌≡◌, ℕ, ◌≤◌, ◌<◌, Bool, true, fa
 use denote.Enum.Bare.{same_true, true_same}
 use Rattle.vhdl_lexer.specs.declared.token.TokenKind.{TokenKind}
 use Rattle.vhdl_lexer.specs.declared.token.TokenKind.TheVariants as k
-use Rattle.vhdl_lexer.specs.contracts.token.Kind.{the_type}
+use Rattle.vhdl_lexer.specs.contracts.token.TokenKind.{the_type}
 use Rattle.vhdl_tree.specs.declared.operator.Operator.{Operator}
 use Rattle.vhdl_tree.specs.declared.operator.Operator.TheVariants.{And, Or, Xor, Xnor, Nand, Nor, Equal, NotEqual, Less, LessEqual, Greater, GreaterEqual, Add, Subtract, Concatenate, Multiply, Divide, Modulo, Remainder}
 use Rattle.vhdl_parser_expressions.specs.declared.operator.Level.{Level}

@@ -2,7 +2,7 @@
 use Rattle.std.proofs.Common.{◌≡◌, ℕ, Bool, true, false, cond, List, [], ◌∷◌, ◌++◌, length, Result, Ok, Err, ◌⊎◌, inl, inr, refl, sym, ap, ◌∙◌, subst, rules, arith, ◌+◌}
 use denote.Enum.Bare.{same_true, true_same}
 use Rattle.vhdl_lexer.specs.declared.token.TokenKind.{TokenKind}
-use Rattle.vhdl_lexer.specs.contracts.token.Kind.{the_type}
+use Rattle.vhdl_lexer.specs.contracts.token.TokenKind.{the_type}
 use Rattle.vhdl_parser_expressions.specs.declared.stop.Stop.{Stop}
 use Rattle.vhdl_parser_expressions.specs.declared.stop.Stop.TheVariants.{Unexpected, EndOfFile, TooDeep}
 use Rattle.vhdl_tree.specs.Lexeme.{Lexeme, same_kind}
