@@ -154,15 +154,15 @@ get_or-push_below (y ∷ ys) x (suc p) d l = get_or-push_below ys x p d (omega a
 
 -- ---- kinds
 
-pub kind_at : (net : Netlist) (kinds : List c.Kind) → AreKinds net kinds → (p : ℕ) → p < length kinds → (d kind : c.Kind) → get_or kinds p d ≡ kind → IsKind (process net p) kind
+pub kind_at : (net : Netlist) (kinds : List c.ProcessKind) → AreKinds net kinds → (p : ℕ) → p < length kinds → (d kind : c.ProcessKind) → get_or kinds p d ≡ kind → IsKind (process net p) kind
 kind_at net kinds a p l d kind e =
     let there : p < length net.processes = rw (← a.each_process) l in
     subst (IsKind (process net p)) (get_or_default kinds p ck.Mixed d l ∙ e) (a.each p there)
 
 -- one kind more
-pub kinds_more : (net : Netlist) (kinds new : List c.Kind) (i : ℕ) (kind : c.Kind) → length kinds ≡ i → ((p : ℕ) → p < i → IsKind (process net p) (get_or kinds p ck.Mixed))
+pub kinds_more : (net : Netlist) (kinds new : List c.ProcessKind) (i : ℕ) (kind : c.ProcessKind) → length kinds ≡ i → ((p : ℕ) → p < i → IsKind (process net p) (get_or kinds p ck.Mixed))
     → new ≡ kinds ++ kind ∷ [] → IsKind (process net i) kind → (p : ℕ) → p < i + 1 → IsKind (process net p) (get_or new p ck.Mixed)
-kinds_more net kinds new i kind many so_far is now p l = subst (λ (ks : List c.Kind). IsKind (process net p) (get_or ks p ck.Mixed)) (sym is) (go (cases_lt p i))
+kinds_more net kinds new i kind many so_far is now p l = subst (λ (ks : List c.ProcessKind). IsKind (process net p) (get_or ks p ck.Mixed)) (sym is) (go (cases_lt p i))
   where
     go : (p < i) ⊎ (i ≤ p) → IsKind (process net p) (get_or (kinds ++ kind ∷ []) p ck.Mixed)
     go (inl m) = subst (IsKind (process net p)) (sym (get_or-push_below kinds kind p ck.Mixed (rw many m))) (so_far p m)

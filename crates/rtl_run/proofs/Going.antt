@@ -28,7 +28,6 @@ err_with P (Ok x) fault is p = absurd is
 err_with P (Err f) fault is p = subst (λ (g : RunFault). P (Err g)) (sym is) p
 
 module _ (net : NetlistView) (s : StimulusView) (limit : ℕ) (start : SinkState) where
-
   -- ---- the first moment
 
   pub one_are : (k : ℕ) (begun state : State) → Begun (core net) (inputs_at s) 0 begun → SettlesTo (core net) begun k state → k ≤ limit

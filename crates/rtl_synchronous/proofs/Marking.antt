@@ -76,4 +76,3 @@ module _ (index : List (List ℕ)) where
       other : (k : ℕ) → (get_or a k false ≡ true) ⊎ Contains (get_or index first []) k → (get_or a k false ≡ true) ⊎ ((n : ℕ) × IsOfRun first (length given) n × Follows index n k)
       other k (inl h) = inl h
       other k (inr c) = inr (first, record { at = 0; within = some; is = omega arith }, c)
-

@@ -14,7 +14,6 @@ pub record HaveRoomTo {E : Type 0} (most : E → ℕ) (net : FlatNetlist) (bodie
   pub room : (p : ℕ) (e : E) → p < many → most (get_or bodies p e) ≤ (get_or outcomes p no_outcome).room
 
 module _ {E : Type 0} (most : E → ℕ) (net : FlatNetlist) (bodies : List E) where
-
   pub room_more : (k : ℕ) (os : List Outcome) (o : Outcome) → HaveRoomTo most net bodies k os → IsOf (process_at net k) o → ((e : E) → most (get_or bodies k e) ≤ o.room)
       → HaveRoomTo most net bodies (k + 1) (os ++ o ∷ [])
   room_more k os o H own room = record {
@@ -36,4 +35,3 @@ module _ {E : Type 0} (most : E → ℕ) (net : FlatNetlist) (bodies : List E) w
       rooms : (p : ℕ) (e : E) → p < k + 1 → (p < k) ⊎ (k ≤ p) → most (get_or bodies p e) ≤ (get_or (os ++ o ∷ []) p no_outcome).room
       rooms p e l (inl less) = rw (before p less) (H.room p e less)
       rooms p e l (inr le) = let is : p ≡ k = omega arith in rw (last p is) (subst (λ (j : ℕ). most (get_or bodies j e) ≤ o.room) (sym is) (room e))
-

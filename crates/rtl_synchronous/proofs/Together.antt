@@ -21,7 +21,6 @@ pub record AreTaking (net : Netlist) (marked : List Bool) (entries : ℕ → Lis
   pub others : (n : ℕ) → ((p place : ℕ) → p < i → get_or marked p false ≡ true → HasPlace net p place → target net p place ≡ n → ⊥) → get_or w n 0 ≡ get_or v n 0
 
 module _ (net : Netlist) (L : Leveled net) (marked : List Bool) (entries : ℕ → List (Option ℕ)) where
-
   module _ (i : ℕ) (v w : List ℕ) (T : AreTaking net marked entries i v w) where
     pub one_skipped : get_or marked i false ≡ false → AreTaking net marked entries (i + 1) v w
     one_skipped none = record {

@@ -57,9 +57,6 @@ run_tells k s r old new is before after =
     (λ e. one ∙ ap (λ cs. beginning r.is_vector ++ cs ++ take r.end.len r.end.bytes) e ∙ sym other)
     (λ e. append_cancel_left (beginning r.is_vector) xs ys (append_cancel_right (beginning r.is_vector ++ xs) (beginning r.is_vector ++ ys) (take r.end.len r.end.bytes) (sym one ∙ e ∙ other)))
 
-module _ (k : ℕ) (s : SignalView) (r : Run) (nets : s.nets ≡ range_with_len (slice_index s.nets 0) (length s.nets)) (first : r.first ≡ slice_index s.nets 0)
-    (count : r.count ≡ length s.nets) where
-
 -- one name more
 ready_more : (names : List SignalView) (runs : List (Option Run)) (s : SignalView) (r : Option Run) → AreReady 0 names runs → IfSome r (IsRun (length names) s)
     → AreReady 0 (names ++ s ∷ []) (runs ++ r ∷ [])

@@ -54,4 +54,3 @@ module _ {A : Type 0} (Does : NetlistView → Result A Fault → SinkState → S
     told = (no_net, (λ named. absurd (true≢false (sym named ∙ nameless fault))), inl (goes no_net, refl));
     ends = ends;
   }
-

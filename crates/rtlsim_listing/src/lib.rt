@@ -16,6 +16,6 @@ mod sources;
 
 pub use checking::{show_check, show_dot, show_faults};
 pub use fault::ListingFault;
-pub use names::net_name;
+pub use names::{net_name, process_name, source_name};
 pub use nets::show_net;
 pub use rtl_sink::{Out, Sink, WriteFailed};

@@ -71,9 +71,9 @@ module _ (units : Units) (levels : ℕ) where
 abbrev pub nothing_yet : Counts → Progress
 nothing_yet left = record { made = record { parts = no_parts; turns = 0 }; left = left }
 
-abbrev pub progress_view : code.Progress → Progress
+abbrev pub progress_view : code.TreeProgress → Progress
 progress_view p = record { made = record { parts = parts_of p.parts.items; turns = p.turns }; left = budget_view p.left }
 
 -- the turns that it has, and those that may still be made, fit a word together
-abbrev pub TurnsFit : code.Progress → Type 0
+abbrev pub TurnsFit : code.TreeProgress → Type 0
 TurnsFit p = p.turns + p.left.turns ≤ 4294967295

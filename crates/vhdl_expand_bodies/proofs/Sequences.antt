@@ -140,7 +140,6 @@ abbrev pub behind : {B : Type 0} → List B → Elab (List B) → Elab (List B)
 behind made more = more >>= λ ys. given (made ++ ys)
 
 module _ {A B X : Type 0} (f : A → Elab B) (v : X → A) where
-
   pub each_goes : (total : Elab (List B)) (made more : List B) (xs : List X) (i : ℕ) (x : X) (y : B) → i < length xs → x ≡ get_or xs i x
       → total ≡ behind made (each f (map v (drop i xs))) → f (v x) ≡ Ok y → more ≡ made ++ y ∷ [] → total ≡ behind more (each f (map v (drop (i + 1) xs)))
   each_goes total made more xs i x y below is so_far h pushed =

@@ -54,7 +54,6 @@ module _ {A X : Type 0} (f : A → Elab (List ℕ)) (v : X → A) where
   ends total made xs i h so_far = so_far ∙ ap (λ zs. behind made (all zs)) (none_left xs i h) ∙ ap given (append-nil made)
 
 module _ {X : Type 0} (at : Site) (v : X → SignalPart) where
-
   pub prefixes_go : (total : Elab (List ℕ)) (made more es : List ℕ) (xs : List X) (i : ℕ) (x : X) → i < length xs → x ≡ get_or xs i x
       → total ≡ behind made (prefixes_elements at (map v (drop i xs))) → place_elements at (prefix (v x)) ≡ Ok es → more ≡ made ++ es
       → total ≡ behind more (prefixes_elements at (map v (drop (i + 1) xs)))

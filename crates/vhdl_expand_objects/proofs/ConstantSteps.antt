@@ -56,5 +56,3 @@ constant_refused d form f h =
 
 pub constant_pushed : (xs ys : List Constant) (x : Constant) → ys ≡ xs ++ x ∷ [] → map constant_view ys ≡ map constant_view xs ++ constant_view x ∷ []
 constant_pushed xs ys x h = ap (map constant_view) h ∙ map-append constant_view xs (x ∷ [])
-
--- ---- where the architecture begins

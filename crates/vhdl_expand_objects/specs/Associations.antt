@@ -17,7 +17,7 @@ use Rattle.vhdl_expand_objects.specs.Objects.{named_object}
 abbrev pub any_port : Ports → u.Port
 any_port ports = record { mode = ports.mode; object = named_object ports.objects [] }
 
-abbrev pub places_view : List (Option code.Place) → List (Option SignalPart)
+abbrev pub places_view : List (Option code.SignalPart) → List (Option SignalPart)
 places_view actuals = map (option_map place_view) actuals
 
 -- the ports that are associated, and those behind them

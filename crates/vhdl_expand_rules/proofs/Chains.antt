@@ -73,5 +73,3 @@ chain-err at e start links st h j given =
     subst (λ (r : Elab ℤ). IsErr r)
     (sym (ap (λ (a : Static). integer at (static_view a)) h ∙ ap (integer at) (view_chain start links) ∙ ap (λ (a : StaticStart). integer at (static_chained (start_view a) links.items)) (sym j)))
     (chained-err at (start_view st) links.items given)
-
--- ---- one operator after another

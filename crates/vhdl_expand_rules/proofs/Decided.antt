@@ -72,5 +72,3 @@ chain-err at e start links st h j given =
     subst (λ (r : Elab Bool). IsErr r)
     (sym (ap (λ (a : StaticTest). decision at (static_test_view a)) h ∙ ap (decision at) (view_static_chain start links) ∙ ap (λ (a : StaticTestStart). decision at (static_test_chained (static_start_view a) links.items)) (sym j)))
     (chained-err at (static_start_view st) links.items given)
-
--- ---- one operator after another

@@ -103,5 +103,3 @@ module _ (all : List EntityView) (as' : List Keyed) (n : Name) (e : EntityInterf
   pub own_goes : (x : u.Architecture) → architecture all (i.entity_view e) p.0 p.1 ≡ Some x → steps.own all as' (named_view n e) ≡ Some (Some x)
   own_goes x k =
       ap of_any (sym h) ∙ ap (λ o. o >>= λ y. let r : Option (Option u.Architecture) = Some (Some y) in r) (whatever_name all n e p.0 p.1 ∙ k)
-
--- ---- declarations bring no variables in sight

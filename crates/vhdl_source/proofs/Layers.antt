@@ -48,10 +48,6 @@ own_ports source top net h =
     each-has-own-ports h.has.units top h.design net (file_sound source analysed.file h.has.units analysed.read analysed.well_typed)
     (small_ports_distinct analysed.file h.has.units (words source analysed.file analysed.read) analysed.well_typed) h.has.is h.shows
 
--- ---- what the layers' answers are
-
--- ---- why the source is refused
-
 -- ---- the whole
 
 module _ (source top : List ℕ) (file : File) (units : u.Units) (read : IsFileOf source file) (typed : units_of file ≡ Some units) where

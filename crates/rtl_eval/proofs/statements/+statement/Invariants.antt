@@ -1,7 +1,10 @@
 use Rattle.std.proofs.Common.{◌+◌, drop}
+use Rattle.rtl_model.specs.bodies.Effect.{effect}
 use Rattle.rtl_model.specs.bodies.Fits.{Fits}
+use Rattle.rtl_model.specs.bodies.Variables.{variables_after}
 use Rattle.rtl_net.specs.Bodies.{statements_of}
-use Rattle.rtl_eval.specs.Running.{IsReady}
+use Rattle.rtl_eval.specs.Runs.{Outcome}
+use Rattle.rtl_eval.specs.Running.{seen_by, IsReady, Does}
 use Rattle.rtl_eval.proofs.StatementWeights.{weight, weight_of, branches_weight, otherwise_weight, alternatives_weight}
 use Rattle.rtl_eval.proofs.statements.+statement.Given as goal
 
@@ -9,6 +12,9 @@ use Rattle.rtl_eval.proofs.statements.+statement.Given as goal
 abbrev pub invariant-run_all-loop-statement : goal.invariant-run_all-loop-statement
 invariant-run_all-loop-statement l = record {
   ready : IsReady l.nets l.out (λ scope. Fits scope (statements_of (drop l.statement-index l.statements)));
+  leads : (last : Outcome)
+      → Does (effect (seen_by l.nets l.out) (statements_of (drop l.statement-index l.statements))) (variables_after (seen_by l.nets l.out) (statements_of (drop l.statement-index l.statements))) l.out last
+      → Does (effect (seen_by l.nets l.initial.out) (statements_of l.statements)) (variables_after (seen_by l.nets l.initial.out) (statements_of l.statements)) l.initial.out last;
 }
 
 abbrev pub decreases-run_all : goal.decreases-run_all
