@@ -41,7 +41,7 @@ pub(crate) fn choice(len: Width, choice: &analysed::Choice, at: usize) -> Result
 
 impl Site<'_> {
     /// What is assigned to so many elements; a fault is StaticError, Length, Index or TooWide.
-    #[tactic(auto, unfolding(vhdl_expand_rules::specs::Statements::given))]
+    #[tactic(auto, unfolding(vhdl_expand_rules::specs::Statements::value_given))]
     fn assigned(
         &self,
         alloc: Global,

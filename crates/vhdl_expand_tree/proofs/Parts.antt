@@ -6,21 +6,21 @@ use Rattle.vhdl_expand_rules.specs.Tree.{Parts, no_parts, process, inner, follow
 use Rattle.vhdl_expand_tree.specs.declared.tree.Object.{Object}
 use Rattle.vhdl_expand_tree.specs.declared.tree.InstancePart.{InstancePart}
 use Rattle.vhdl_expand_tree.specs.declared.tree.InstancePart.TheVariants as p
-use Rattle.vhdl_expand_tree.specs.declared.tree.InstancePart.TheBlock.{Row_of-Part, end_of-Part, more_of-Part, items-the_row-Part, hidden-the_row-Part-0, items_hidden-the_row-Part-0}
+use Rattle.vhdl_expand_tree.specs.declared.tree.InstancePart.TheBlock.{Row_of-InstancePart, end_of-InstancePart, more_of-InstancePart, items-the_row-InstancePart, hidden-the_row-InstancePart-0, items_hidden-the_row-InstancePart-0}
 use Rattle.vhdl_expand_tree.specs.Views.{objects_view, part_before, parts_row, parts_of, parts_view}
 use Rattle.vhdl_expand_tree.specs.Costs.{plus, parts_costs}
 use Rattle.vhdl_expand_tree.proofs.Charging.{plus-none, plus-assoc}
 
 -- ---- the parts of an instance in another, as contracts see them
 
-rows : (n : Count) (row : Row_of-Part n) → parts_row row ≡ parts_of (items-the_row-Part n row)
-rows n end_of-Part = refl
-rows n (more_of-Part x rest) = ap (λ r. part_before r x) (rows _ rest)
+rows : (n : Count) (row : Row_of-InstancePart n) → parts_row row ≡ parts_of (items-the_row-InstancePart n row)
+rows n end_of-InstancePart = refl
+rows n (more_of-InstancePart x rest) = ap (λ r. part_before r x) (rows _ rest)
 
 pub view_instance : (rest : Parts) (label : Vec ℕ Global) (objects : Vec Object Global) (turns : ℕ) (parts : Vec InstancePart Global)
     → part_before rest (p.Instance label (record { objects = objects; turns = turns; parts = parts })) ≡ inner label.items (instance (objects_view objects) turns (parts_view parts)) rest
 view_instance rest label objects turns parts =
-    ap (λ r. inner label.items (instance (objects_view objects) turns r) rest) (rows _ (hidden-the_row-Part-0 parts) ∙ ap parts_of (items_hidden-the_row-Part-0 parts))
+    ap (λ r. inner label.items (instance (objects_view objects) turns r) rest) (rows _ (hidden-the_row-InstancePart-0 parts) ∙ ap parts_of (items_hidden-the_row-InstancePart-0 parts))
 
 -- ---- behind one another
 

@@ -16,7 +16,7 @@ use Rattle.vhdl_expand_tree.specs.declared.tree.Process.{Process}
 use Rattle.vhdl_expand_tree.specs.declared.tree.Instance.{Instance}
 use Rattle.vhdl_expand_tree.specs.declared.tree.InstancePart.{InstancePart}
 use Rattle.vhdl_expand_tree.specs.declared.tree.InstancePart.TheVariants as p
-use Rattle.vhdl_expand_tree.specs.declared.tree.InstancePart.TheBlock.{Row_of-Part, end_of-Part, more_of-Part}
+use Rattle.vhdl_expand_tree.specs.declared.tree.InstancePart.TheBlock.{Row_of-InstancePart, end_of-InstancePart, more_of-InstancePart}
 use Rattle.vhdl_expand_tree.specs.declared.tree.Design.{Design}
 use Rattle.vhdl_expand_tree.specs.declared.budget.Budget.{Budget}
 
@@ -75,9 +75,9 @@ abbrev mutual
   part_before rest (p.Instance' label objects turns shape parts) =
       tree.inner label.items (tree.instance (map object_view objects.items) turns (parts_row parts)) rest
 
-  pub parts_row : {n : _} → Row_of-Part n → tree.Parts
-  parts_row end_of-Part = tree.no_parts
-  parts_row (more_of-Part x rest) = part_before (parts_row rest) x
+  pub parts_row : {n : _} → Row_of-InstancePart n → tree.Parts
+  parts_row end_of-InstancePart = tree.no_parts
+  parts_row (more_of-InstancePart x rest) = part_before (parts_row rest) x
 
 -- the same of a list
 abbrev pub parts_of : List InstancePart → tree.Parts
