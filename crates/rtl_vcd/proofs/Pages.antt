@@ -1,5 +1,7 @@
 -- Text by way of a page.
-use Rattle.std.proofs.Common.{ℕ, List, [], ◌++◌, refl, sym, ap, ◌∙◌, subst, append_assoc, append-nil}
+use Rattle.std.proofs.Common.{◌≡◌, ℕ, ◌+◌, ◌-◌, ◌≤◌, List, [], ◌++◌, length, take, refl, sym, ap, ◌∙◌, subst, arith, append_assoc, append-nil, length-take-le, take-add, take-take, take_at, drop_at}
+use Rattle.std.proofs.lemmas.Slice.{take-put_mid}
+use borrow.Rule.Slice.PartMut.{put_mid}
 use Rattle.rtl_sink.specs.Written.{SinkState, Goes}
 use Rattle.rtl_sink.proofs.Writing.{Goes-nil, Goes-append}
 use Rattle.rtl_vcd.specs.Pages.{Passes}
@@ -28,3 +30,13 @@ Passes-append a b c h i j x y p q = record {
 -- what the page holds in the end goes to the sink
 pub Passes-whole : (a b c : SinkState) (holds text : List ℕ) → Passes a b [] holds text → Goes b c holds → Goes a c text
 Passes-whole a b c holds text p q = subst (Goes a c) (sym p.kept) (Goes-append a b c p.gone holds p.goes q)
+
+-- a part of a page's room is written, and the first bytes of it count
+pub text_more : (bytes text : List ℕ) (len many : ℕ) → len + length text ≤ length bytes → many ≤ length text
+    → take (len + many) (put_mid len (len + length text - len) bytes text) ≡ take len bytes ++ take many text
+text_more bytes text len many within few =
+    let front = length-take-le len bytes (omega arith) in
+    let all = take-put_mid len (len + length text - len) bytes text (len + length text) refl (omega arith) in
+    sym (take-take (len + many) (len + length text) (put_mid len (len + length text - len) bytes text) (omega arith)) ∙ ap (take (len + many)) all
+    ∙ take-add len many (take len bytes ++ text)
+    ∙ (λ k. take_at (take len bytes) text len front k ++ take many (drop_at (take len bytes) text len front k))

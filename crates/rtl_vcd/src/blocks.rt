@@ -11,6 +11,9 @@ use std::alloc::{AllocError, Global};
 /// The most names of a block.
 const NAMES: usize = 64;
 
+/// How many names are looked at as fast as their nets are compared.
+const FEW: usize = 2;
+
 /// How many nets for each name of a block are compared at most.
 const REACH: usize = 128;
 
@@ -61,7 +64,7 @@ impl Block {
         (self.greatest - self.least) / REACH < self.names
     }
 
-    /// Whether the nets from the least to the greatest are compared and have the same values in both.
+    /// Whether the nets from the least to the greatest are compared and have the same values in both. Of few names each is looked at.
     pub(crate) fn is_quiet(&self, old: &[u8], new: &[u8]) -> bool
         requires order { self.now.least ≤ self.now.greatest }
         requires before { self.now.greatest < length old.now }
@@ -69,7 +72,7 @@ impl Block {
         ensures { result ≡ true → (n : ℕ) → self.now.least ≤ n → n ≤ self.now.greatest → slice_index old.now n ≡ slice_index new.now n }
     {
         let beyond = self.greatest + 1;
-        self.is_dense() && old[self.least..beyond] == new[self.least..beyond]
+        self.names > FEW && self.is_dense() && old[self.least..beyond] == new[self.least..beyond]
     }
 }
 

@@ -2,11 +2,11 @@
 
 ghost use Rattle.std.specs.Prelude.{◌≡◌, ◌+◌, ◌<◌, ◌≤◌, ◌++◌, not, length, map, take, drop, IfSome, IfNone};
 ghost use Rattle.std.specs.Str.{bytes_eq};
-ghost use Rattle.arrayvec.specs.ArrayVec.{array_vec_len};
 ghost use Rattle.rtl_vcd.specs.Values.{character};
 
 use crate::change::is_other_character;
-use crate::line::{self, PAGE, Page};
+use crate::line;
+use crate::page::{PAGE, Page};
 use std::simd::prelude::*;
 
 /// What so many values from this place on print as.
@@ -22,21 +22,15 @@ fn characters<const LANES: usize>(values: &[u8], at: usize) -> Simd<u8, LANES>
     are_digits.select(digits, others)
 }
 
-/// Appends these bytes.
-pub(crate) fn push_bytes(page: &mut Page, bytes: &[u8])
-    requires room { array_vec_len page.old + length bytes.now ≤ PAGE }
-    ensures bytes { page.new.items ≡ page.old.items ++ bytes.now }
-    ensures len { array_vec_len page.new ≡ array_vec_len page.old + length bytes.now }
-{
-    let _fits = page.try_extend_from_slice(bytes);
-}
-
 /// Appends what these values print as.
 pub(crate) fn push_run(page: &mut Page, values: &[u8])
-    requires room { array_vec_len page.old + length values.now ≤ PAGE }
-    ensures characters { page.new.items ≡ page.old.items ++ map character values.now }
-    ensures len { array_vec_len page.new ≡ array_vec_len page.old + length values.now }
+    requires room { length page.old + length values.now ≤ PAGE }
+    ensures characters { page.new ≡ page.old ++ map character values.now }
+    ensures len { length page.new ≡ length page.old + length values.now }
 {
+    if values.len() < 8 {
+        return push_each(page, values);
+    }
     let done = push_lanes::<16>(page, values);
     let more = done + push_lanes::<8>(page, &values[done..]);
     push_each(page, &values[more..]);
@@ -45,14 +39,14 @@ pub(crate) fn push_run(page: &mut Page, values: &[u8])
 /// The same, so many values at a time, from the first on and as far as there are so many. Answers how many are printed.
 fn push_lanes<const LANES: usize>(page: &mut Page, values: &[u8]) -> usize
     requires lanes { 0 < LANES }
-    requires room { array_vec_len page.old + length values.now ≤ PAGE }
+    requires room { length page.old + length values.now ≤ PAGE }
     ensures within { result ≤ length values.now }
-    ensures characters { page.new.items ≡ page.old.items ++ map character (take result values.now) }
-    ensures len { array_vec_len page.new ≡ array_vec_len page.old + result }
+    ensures characters { page.new ≡ page.old ++ map character (take result values.now) }
+    ensures len { length page.new ≡ length page.old + result }
 {
     let mut at = 0;
     while values.len() - at >= LANES {
-        push_bytes(page, &characters::<LANES>(values, at).to_array());
+        page.push_all(&characters::<LANES>(values, at).to_array());
         at += LANES;
     }
     at
@@ -60,9 +54,9 @@ fn push_lanes<const LANES: usize>(page: &mut Page, values: &[u8]) -> usize
 
 /// The same, one value at a time.
 fn push_each(page: &mut Page, values: &[u8])
-    requires room { array_vec_len page.old + length values.now ≤ PAGE }
-    ensures characters { page.new.items ≡ page.old.items ++ map character values.now }
-    ensures len { array_vec_len page.new ≡ array_vec_len page.old + length values.now }
+    requires room { length page.old + length values.now ≤ PAGE }
+    ensures characters { page.new ≡ page.old ++ map character values.now }
+    ensures len { length page.new ≡ length page.old + length values.now }
 {
     for value in values {
         page.push(line::character(*value));
@@ -74,6 +68,9 @@ pub(crate) fn is_other_run(old: &[u8], new: &[u8]) -> bool
     requires { length old.now ≡ length new.now }
     ensures { result ≡ not (bytes_eq (map character old.now) (map character new.now)) }
 {
+    if old.len() < 8 {
+        return is_other_each(old, new);
+    }
     let Some(done) = alike_lanes::<16>(old, new) else {
         return true;
     };

@@ -23,11 +23,4 @@ impl End {
             len: text.len() as u8,
         }
     }
-
-    pub(crate) fn text(&self) -> &[u8]
-        ensures value { result.now ≡ take self.now.len self.now.bytes }
-        ensures short { length result.now ≤ 12 }
-    {
-        &self.bytes[..self.len as usize]
-    }
 }

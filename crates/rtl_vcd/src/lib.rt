@@ -13,6 +13,7 @@ mod heading;
 mod laws;
 mod line;
 mod moment;
+mod page;
 mod ready;
 mod trace;
 

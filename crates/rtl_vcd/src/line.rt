@@ -12,12 +12,6 @@ pub(crate) const LINE: usize = 77;
 /// Room for the longest change.
 pub type Line = ArrayVec<u8, 77>;
 
-/// How many bytes a page has room for.
-pub(crate) const PAGE: usize = 1024;
-
-/// What was printed and hasn't gone to the sink yet.
-pub(crate) type Page = ArrayVec<u8, 1024>;
-
 /// What one of the nine values, by its code, prints as.
 pub fn character(value: u8) -> u8
     ensures { result ≡ spec.character value }

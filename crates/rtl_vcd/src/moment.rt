@@ -8,11 +8,11 @@ ghost use Rattle.rtl_vcd.specs.Blocks.{AreBlocks, changes_from, continued};
 ghost use Rattle.rtl_vcd.specs.Ready.{AreReady};
 ghost use Rattle.rtl_vcd.specs.Shown.{IsShown};
 ghost use Rattle.rtl_vcd.specs.Pages.{Passes};
-ghost use Rattle.arrayvec.specs.ArrayVec.{array_vec_len};
 
 use crate::blocks::{Block, blocks_of};
 use crate::fault::VcdFault;
-use crate::line::{LINE, PAGE, Page};
+use crate::line::LINE;
+use crate::page::{PAGE, Page};
 use crate::ready::{Run, is_otherwise, push_ready, runs_of};
 use crate::trace::{push_time, written};
 use rtl_net::{Net, Signal};
@@ -137,12 +137,13 @@ fn push_moment<W: Sink>(
         }
         next = end;
     }
-    push_text(out, &page);
+    push_text(out, page.text());
     is_printed
 }
 
 /// The changes of these names, the first of them being number `first`, behind their time where that isn't printed yet. Answers
 /// whether it is printed then. The last of what is printed stays in the page.
+#[inline(never)]
 fn push_changes<W: Sink>(
     names: &[Signal],
     runs: &[Option<Run>],
@@ -156,7 +157,7 @@ fn push_changes<W: Sink>(
     requires after { All (IsShown (length step.now.new.now)) (map signal_view names.now) }
     requires runs { AreReady first (map signal_view names.now) runs.now }
     requires room { first + length names.now < 18446744073709551616 }
-    ensures text { Passes (W.state out.old) (W.state out.new) page.old.items page.new.items
+    ensures text { Passes (W.state out.old) (W.state out.new) page.old page.new
         (continued is_printed step.now.time (changes_from first (map signal_view names.now) step.now.old.now step.now.new.now)) }
     ensures printed { result ≡ (is_printed || are_some (changes_from first (map signal_view names.now) step.now.old.now step.now.new.now)) }
 {
@@ -176,15 +177,15 @@ fn push_changes<W: Sink>(
 
 /// Makes room for a line in the page, behind the time where that isn't printed yet.
 fn make_way<W: Sink>(time: u64, is_printed: bool, page: &mut Page, out: &mut W)
-    ensures room { array_vec_len page.new + 77 ≤ PAGE }
-    ensures text { Passes (W.state out.old) (W.state out.new) page.old.items page.new.items (if is_printed then [] else (time_line time)) }
+    ensures room { length page.new + 77 ≤ PAGE }
+    ensures text { Passes (W.state out.old) (W.state out.new) page.old page.new (if is_printed then [] else (time_line time)) }
 {
     if !is_printed {
         put_page(page, out);
         push_time(out, time);
         return;
     }
-    if page.remaining_capacity() >= LINE {
+    if page.room() >= LINE {
         return;
     }
     put_page(page, out);
@@ -192,9 +193,9 @@ fn make_way<W: Sink>(time: u64, is_printed: bool, page: &mut Page, out: &mut W)
 
 /// Hands the page to the sink.
 fn put_page<W: Sink>(page: &mut Page, out: &mut W)
-    ensures empty { page.new.items ≡ [] }
-    ensures text { Goes (W.state out.old) (W.state out.new) page.old.items }
+    ensures empty { page.new ≡ [] }
+    ensures text { Goes (W.state out.old) (W.state out.new) page.old }
 {
-    push_text(out, page);
+    push_text(out, page.text());
     page.clear();
 }

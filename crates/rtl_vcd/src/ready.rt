@@ -11,9 +11,10 @@ ghost use Rattle.rtl_vcd.specs.Shown.{IsShown};
 ghost use Rattle.rtl_vcd.specs.Ready.{IsRun, AreReady, beginning, behind};
 
 use crate::change::{change_line, prints_otherwise};
-use crate::characters::{is_other_run, push_bytes, push_run};
+use crate::characters::{is_other_run, push_run};
 use crate::ending::End;
-use crate::line::{PAGE, Page, push_code};
+use crate::line::push_code;
+use crate::page::{PAGE, Page};
 use arrayvec::ArrayVec;
 use rtl_net::{Net, Signal, SignalKind};
 use std::alloc::{AllocError, Global};
@@ -53,15 +54,15 @@ impl Run {
     fn push(&self, page: &mut Page, values: &[u8])
         requires there { self.now.first + self.now.count ≤ length values.now }
         requires short { self.now.count ≤ 64 }
-        requires room { array_vec_len page.old + 77 ≤ PAGE }
-        ensures { page.new.items ≡ page.old.items ++ beginning self.now.is_vector ++ map character (take self.now.count (drop self.now.first values.now)) ++ take self.now.end.len self.now.end.bytes }
+        requires room { length page.old + 77 ≤ PAGE }
+        ensures { page.new ≡ page.old ++ beginning self.now.is_vector ++ map character (take self.now.count (drop self.now.first values.now)) ++ take self.now.end.len self.now.end.bytes }
     {
         let first = self.first as usize;
         if self.is_vector {
             page.push(b'b');
         }
         push_run(page, &values[first..first + self.count as usize]);
-        push_bytes(page, self.end.text());
+        page.push_first(&self.end.bytes, self.end.len as usize);
     }
 
     /// Whether its elements print otherwise where the nets have the values `new` than where they have `old`.
@@ -157,13 +158,23 @@ pub(crate) fn push_ready(
 )
     requires shown { IsShown (length values.now) (signal_view signal.now) }
     requires ready { IfSome run.now (IsRun number (signal_view signal.now)) }
-    requires room { array_vec_len page.old + 77 ≤ PAGE }
-    ensures { page.new.items ≡ page.old.items ++ printed number (signal_view signal.now) values.now }
+    requires room { length page.old + 77 ≤ PAGE }
+    ensures { page.new ≡ page.old ++ printed number (signal_view signal.now) values.now }
 {
     match run {
         Some(run) => run.push(page, values),
-        None => push_bytes(page, &change_line(number, signal, values)),
+        None => push_change(page, number, signal, values),
     }
+}
+
+/// The same, of a name that isn't ready.
+#[inline(never)]
+fn push_change(page: &mut Page, number: usize, signal: &Signal, values: &[u8])
+    requires shown { IsShown (length values.now) (signal_view signal.now) }
+    requires room { length page.old + 77 ≤ PAGE }
+    ensures { page.new ≡ page.old ++ printed number (signal_view signal.now) values.now }
+{
+    page.push_all(&change_line(number, signal, values));
 }
 
 /// Whether the name with this number prints otherwise where the nets have the values `new` than where they have `old`.

@@ -12,4 +12,4 @@ returns c =
     let m = c.in-Some-alike_lanes.more in
     let old = c.args.old.now in
     let new = c.args.new.now in
-    c.is_other_each.ensures ∙ ap not (rest_tells (n + m) old new (further_alike n m old new c.in-Some.ensures.alike c.in-Some-alike_lanes.ensures.alike))
+    c.is_other_each-2.ensures ∙ ap not (rest_tells (n + m) old new (further_alike n m old new c.in-Some.ensures.alike c.in-Some-alike_lanes.ensures.alike))

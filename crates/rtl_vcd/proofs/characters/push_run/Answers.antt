@@ -10,6 +10,6 @@ returns-clause-characters c =
     let m = c.push_lanes.result in
     let next = map character (take m (take (length values - n) (drop n values))) in
     let last = map character (take (length values - (n + m)) (drop (n + m) values)) in
-    c.push_each.ensures.characters
+    c.push_each-2.ensures.characters
     ∙ ap (λ t. t ++ last) (c.push_lanes.ensures.characters ∙ ap (λ t. t ++ next) c.push_lanes-done.ensures.characters)
-    ∙ three_parts c.args.page.now.items values n m
+    ∙ three_parts c.args.page.now values n m

@@ -39,7 +39,7 @@ pub loop-place-preserved-then-not-is_otherwise : goal.loop-place-preserved-then-
 loop-place-preserved-then-not-is_otherwise g c =
     let same = changes_same c.args.first c.args.names.now c.loop-place.place c.index-names-place.result c.loop-place-test.true c.index-names-place.is
     c.args.step.now.old.now c.args.step.now.new.now c.is_otherwise.result c.is_otherwise.ensures c.if-not-is_otherwise.true in
-    subst (λ xs. Passes (g.W.Sink.state c.args.out.now) (g.W.Sink.state c.loop-place.out) c.args.page.now.items c.loop-place.page.items (continued c.args.is_printed c.args.step.now.time xs)
+    subst (λ xs. Passes (g.W.Sink.state c.args.out.now) (g.W.Sink.state c.loop-place.out) c.args.page.now c.loop-place.page (continued c.args.is_printed c.args.step.now.time xs)
     × (c.loop-place.printed ≡ (c.args.is_printed || are_some xs)))
     (sym same) c.loop-place.invariant
 
@@ -52,10 +52,10 @@ loop-place-preserved g c =
     let first = g.W.Sink.state c.args.out.now in
     let before = g.W.Sink.state c.loop-place.out in
     let after = g.W.Sink.state c.make_way.new.out in
-    let start = c.args.page.now.items in
-    let held = c.loop-place.page.items in
-    let way = c.make_way.new.page.items in
-    let holds = c.push_ready.new.page.items in
+    let start = c.args.page.now in
+    let held = c.loop-place.page in
+    let way = c.make_way.new.page in
+    let holds = c.push_ready.new.page in
     let earlier = changes_from c.args.first (map signal_view (take place names)) c.args.step.now.old.now c.args.step.now.new.now in
     let line = printed (c.args.first + place) name c.args.step.now.new.now in
     let some = printed_is_some (c.args.first + place) name c.args.step.now.new.now in

@@ -8,6 +8,6 @@ use Rattle.rtl_vcd.proofs.moment.push_changes.Given as goal
 -- the changes of the names before this one are printed, the last of them in the page
 abbrev pub invariant-loop-place : goal.invariant-loop-place
 invariant-loop-place g l =
-    Passes (g.W.Sink.state l.initial.out) (g.W.Sink.state l.out) l.initial.page.items l.page.items
+    Passes (g.W.Sink.state l.initial.out) (g.W.Sink.state l.out) l.initial.page l.page
     (continued l.is_printed l.step.time (changes_from l.first (map signal_view (take l.place l.names)) l.step.old.now l.step.new.now))
     × (l.printed ≡ (l.is_printed || are_some (changes_from l.first (map signal_view (take l.place l.names)) l.step.old.now l.step.new.now)))

@@ -53,13 +53,13 @@ loop-block-preserved g c =
     let here = this_block (length net.types) c.args.blocks.now c.loop-block.block-index none next names c.loop-block-test.true I.2 I.3 in
     let first = g.W.Sink.state c.args.out.now in
     let before = g.W.Sink.state c.loop-block.out in
-    let held = c.loop-block.page.items in
+    let held = c.loop-block.page in
     let earlier = changes_from 0 (take next names) old new in
     let part = changes_from next (take block.names (drop next names)) old new in
     elim c.if-not-is_quiet.branch [
       | then-not-is_quiet w ↦
           let after = g.W.Sink.state w.push_changes-is_printed.new.out in
-          let holds = w.push_changes-is_printed.new.page.items in
+          let holds = w.push_changes-is_printed.new.page in
           let listed = part_of_names c.signals-signals.result.now next block.names ∙ ap (λ ss. take block.names (drop next ss)) c.signals-signals.ensures in
           let pushed = subst (λ ss. Passes before after held holds (continued c.loop-block.is_printed time (changes_from next ss old new))) listed w.push_changes-is_printed.ensures.text in
           let is = subst (λ ss. w.push_changes-is_printed.result ≡ (c.loop-block.is_printed || are_some (changes_from next ss old new))) listed w.push_changes-is_printed.ensures.printed in
@@ -86,7 +86,7 @@ loop-block-preserved g c =
 pub returns-clause-text : goal.returns-clause-text
 returns-clause-text g c =
     let all = all_taken (length c.args.net.now.types) c.args.blocks.now c.loop-block.block-index c.loop-block.next c.args.net.now.signals c.loop-block-test.false c.loop-block.invariant.3 in
-    let rest = subst (Goes (g.W.Sink.state c.loop-block.out) (g.W.Sink.state c.push_text.new.sink)) c.deref.ensures.0 c.push_text.ensures in
+    let rest = subst (Goes (g.W.Sink.state c.loop-block.out) (g.W.Sink.state c.push_text.new.sink)) c.text.ensures c.push_text.ensures in
     subst (λ ss. Goes (g.W.Sink.state c.args.out.now) (g.W.Sink.state c.push_text.new.sink)
     (stamped c.args.step.now.time (changes_from 0 ss c.args.step.now.old.now c.args.step.now.new.now))) all
     (Passes-whole _ _ _ _ _ c.loop-block.invariant.0 rest)

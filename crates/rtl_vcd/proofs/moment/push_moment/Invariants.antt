@@ -7,7 +7,7 @@ use Rattle.rtl_vcd.proofs.moment.push_moment.Given as goal
 -- the names before the next one are printed, the last of them in the page, and those from there on stand in the blocks that are left
 abbrev pub invariant-loop-block : goal.invariant-loop-block
 invariant-loop-block g l =
-    Passes (g.W.Sink.state l.initial.out) (g.W.Sink.state l.out) [] l.page.items (stamped l.step.time (changes_from 0 (take l.next l.net.signals) l.step.old.now l.step.new.now))
+    Passes (g.W.Sink.state l.initial.out) (g.W.Sink.state l.out) [] l.page (stamped l.step.time (changes_from 0 (take l.next l.net.signals) l.step.old.now l.step.new.now))
     × (l.is_printed ≡ are_some (changes_from 0 (take l.next l.net.signals) l.step.old.now l.step.new.now))
     × (l.next ≤ length l.net.signals)
     × AreBlocks (length l.net.types) (drop l.block-index l.blocks) (drop l.next l.net.signals)

@@ -25,7 +25,7 @@ returns-in-Some c =
     let is = subst (λ r. IfSome r (IsRun c.args.number name)) c.in-Some.is c.requires.ready in
     let there = (within (length c.args.values.now) c.args.number name c.in-Some.run' c.requires.shown is).0 in
     let r = c.in-Some.run' in
-    let page = c.args.page.now.items in
+    let page = c.args.page.now in
     c.push.ensures
     ∙ behind_page page (beginning r.is_vector) (map character (take r.count (drop r.first c.args.values.now))) (take r.end.len r.end.bytes)
     ∙ ap (λ t. page ++ t) (sym (run_prints c.args.number name r c.args.values.now is there))

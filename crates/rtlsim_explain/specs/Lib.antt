@@ -1,0 +1,10 @@
+-- Explanations of faults, for a designer. In order of reading:
+-- where a fault is told
+pub mod Places
+pub mod Words
+-- what is said of it
+pub mod Forms
+pub mod Faults
+-- explanations
+pub mod Explained
+pub mod Stimuli

@@ -1,0 +1,3 @@
+-- Explanations of the checker's faults. In order of reading:
+pub mod Ranges
+pub mod Rejected

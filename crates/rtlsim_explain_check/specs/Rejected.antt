@@ -1,0 +1,157 @@
+-- What is written of the checker's faults: a paragraph for each cause, which names the file, the fault and its processes, then all nets that
+-- it is told of, elements of a vector as a range, and what to do about it.
+use Rattle.std.specs.Prelude.{ℕ, ◌==◌, ◌&&◌, ◌||◌, Bool, false, if◌then◌else◌, List, [], ◌∷◌, ◌++◌, flat_map, bytes_eq, slice_get, Option, Some, None, codes}
+use Rattle.rtl_check.specs.Views.{fault_view}
+use Rattle.rtl_check.specs.declared.fault.CheckFault.{CheckFault}
+use Rattle.rtl_model.specs.simulation.Accepted.{Fault, TwoDrivers, MixedProcess, ClockNotInput, EdgeNotSensitive, ClockAsData, MissingSensitivity, Latch, Loop, StoredVariable}
+use Rattle.rtl_net.specs.Names.{net_name, process_name}
+use Rattle.rtl_net.specs.Nets.{NetlistView}
+use Rattle.rtl_net.specs.declared.process.Variable.{Variable}
+use Rattle.rtlsim_explain_check.specs.Ranges.{follows, range_text}
+use Rattle.rtlsim_listing.specs.CheckText.{source_name, member_text, variable_of}
+
+-- ---- what is said of each fault
+
+-- before the processes
+abbrev pub opening : Fault → List ℕ
+opening (TwoDrivers n first second) = codes "fault 1 TwoDrivers: "
+opening (MixedProcess process) = codes "fault 2 Mixed: process "
+opening (ClockNotInput process n) = codes "fault 3 ClockNotInput: process "
+opening (EdgeNotSensitive process n) = codes "fault 4 EdgeNotSensitive: process "
+opening (ClockAsData process n) = codes "fault 5 ClockAsData: process "
+opening (MissingSensitivity process n) = codes "fault 6 MissingSensitivity: process "
+opening (Latch process n) = codes "fault 7 Latch: process "
+opening (Loop processes) = codes "fault 8 Loop: in a circle of processes each is sensitive to what the next drives, and the last to what the first drives:"
+opening (StoredVariable process variable place) = codes "fault 9 StoredVariable: process "
+
+-- behind the processes
+abbrev pub middle : Fault → List ℕ
+middle (TwoDrivers n first second) = codes " both drive "
+middle (MixedProcess process) = codes " has an edge or an event, and is none of the registers that are read"
+middle (ClockNotInput process n) = codes " has the clock "
+middle (EdgeNotSensitive process n) = codes " is clocked or reset by "
+middle (ClockAsData process n) = codes " uses as data or as a reset the clock "
+middle (MissingSensitivity process n) = codes " reads "
+middle (Latch process n) = codes " leaves out, on some path, the assignment of "
+middle (Loop processes) = codes ""
+middle (StoredVariable process variable place) = codes " may read, before it assigns it, the variable "
+
+-- behind the nets
+abbrev pub closing : Fault → List ℕ
+closing (TwoDrivers n first second) = codes ""
+closing (MixedProcess process) = codes ""
+closing (ClockNotInput process n) = codes ", which is no input of the top"
+closing (EdgeNotSensitive process n) = codes ", and isn't sensitive to it"
+closing (ClockAsData process n) = codes ""
+closing (MissingSensitivity process n) = codes ", and isn't sensitive to it"
+closing (Latch process n) = codes ", so that it would keep its value"
+closing (Loop processes) = codes ""
+closing (StoredVariable process variable place) = codes ", which would so keep its value from run to run"
+
+-- what a designer does about it
+abbrev pub fault_help : Fault → List ℕ
+fault_help (TwoDrivers n first second) = codes "let one of them drive it, or give each a signal of its own and choose between these"
+fault_help (MixedProcess process) = codes "write a register as one if: its asynchronous reset first, the edge as the only other branch, and enables inside that"
+fault_help (ClockNotInput process n) = codes "clock it by an input of the top, and let what gates or divides it be an enable inside the edge"
+fault_help (EdgeNotSensitive process n) = codes "add it to the sensitivity list"
+fault_help (ClockAsData process n) = codes "take a signal that is no clock, or an enable that changes with the other data"
+fault_help (MissingSensitivity process n) = codes "add it to the sensitivity list, or write process (all)"
+fault_help (Latch process n) = codes "assign a default before the if or case, or add the else or the choice that leaves it out"
+fault_help (Loop processes) = codes "put a register into the circle, or split the process whose outputs don't depend on all of its inputs"
+fault_help (StoredVariable process variable place) = codes "assign it at the beginning of the process, or make it a signal"
+
+-- ---- processes and nets
+
+-- the processes that it is told of, and idle ports by that word
+abbrev pub culprits : NetlistView → Fault → List ℕ
+culprits net (TwoDrivers n first second) = source_name net first ++ codes " and " ++ source_name net second
+culprits net (MixedProcess process) = process_name net process
+culprits net (ClockNotInput process n) = process_name net process
+culprits net (EdgeNotSensitive process n) = process_name net process
+culprits net (ClockAsData process n) = process_name net process
+culprits net (MissingSensitivity process n) = process_name net process
+culprits net (Latch process n) = process_name net process
+culprits net (Loop processes) = flat_map (member_text net) processes
+culprits net (StoredVariable process variable place) = process_name net process
+
+abbrev pub name_of_variable : Option Variable → List ℕ
+name_of_variable None = []
+name_of_variable (Some v) = v.name.items
+
+-- the net that it is told of, or the variable as a whole
+abbrev pub element : NetlistView → Fault → List ℕ
+element net (TwoDrivers n first second) = net_name net n
+element net (MixedProcess process) = []
+element net (ClockNotInput process n) = net_name net n
+element net (EdgeNotSensitive process n) = net_name net n
+element net (ClockAsData process n) = net_name net n
+element net (MissingSensitivity process n) = net_name net n
+element net (Latch process n) = net_name net n
+element net (Loop processes) = []
+element net (StoredVariable process variable place) = name_of_variable (variable_of variable (slice_get net.processes process))
+
+-- ---- paragraphs
+
+-- how a paragraph begins: one that begins so is the same cause
+abbrev pub head : (file : List ℕ) → NetlistView → Fault → List ℕ
+head file net fault = file ++ codes ": " ++ opening fault ++ culprits net fault ++ middle fault
+
+-- how a paragraph ends whose last range began with this name
+abbrev pub ended : NetlistView → (first : List ℕ) → (before : Fault) → List ℕ
+ended net first before = range_text first (element net before) ++ closing before ++ codes "\nhelp: " ++ fault_help before ++ codes "\n"
+
+abbrev pub is_same_cause : (file : List ℕ) → NetlistView → (before fault : Fault) → Bool
+is_same_cause file net before fault = bytes_eq (head file net before) (head file net fault)
+
+-- the fault's net is that before, or the element beside it
+abbrev pub is_same_range : NetlistView → (before fault : Fault) → Bool
+is_same_range net before fault = bytes_eq (element net before) (element net fault) || follows (element net before) (element net fault)
+
+abbrev pub goes_on : (file : List ℕ) → NetlistView → (before fault : Fault) → Bool
+goes_on file net before fault = is_same_cause file net before fault && is_same_range net before fault
+
+-- what stands between the fault before and this one, where the range ends that began with this name
+abbrev pub apart : (file : List ℕ) → NetlistView → (first : List ℕ) → (before fault : Fault) → List ℕ
+apart file net first before fault =
+    if is_same_cause file net before fault then range_text first (element net before) ++ codes ", "
+    else ended net first before ++ head file net fault
+
+abbrev pub link : (file : List ℕ) → NetlistView → (first : List ℕ) → (before fault : Fault) → List ℕ
+link file net first before fault = if goes_on file net before fault then [] else apart file net first before fault
+
+-- the name that the range begins with in which the fault's net is
+abbrev pub first_of : (file : List ℕ) → NetlistView → (first : List ℕ) → (before fault : Fault) → List ℕ
+first_of file net first before fault = if goes_on file net before fault then first else element net fault
+
+-- ---- the explanation
+
+abbrev pub is_gated : (n : ℕ) → Fault → Bool
+is_gated n (ClockNotInput process m) = m == n
+is_gated n _ = false
+
+-- where a net is no clock that may be, that it is read is no cause of its own
+abbrev pub any_gated : (n : ℕ) → List CheckFault → Bool
+any_gated n [] = false
+any_gated n (fault ∷ faults) = is_gated n (fault_view fault) || any_gated n faults
+
+abbrev pub is_left_out : (all : List CheckFault) → Fault → Bool
+is_left_out all (ClockAsData process n) = any_gated n all
+is_left_out all _ = false
+
+-- what is written of these faults behind the fault before, whose range began with this name
+abbrev pub told : (file : List ℕ) → NetlistView → (all : List CheckFault) → (first : List ℕ) → (before : Fault) → List CheckFault → List ℕ
+told file net all first before [] = ended net first before
+told file net all first before (fault ∷ faults) =
+    if is_left_out all (fault_view fault) then told file net all first before faults
+    else link file net first before (fault_view fault)
+    ++ told file net all (first_of file net first before (fault_view fault)) (fault_view fault) faults
+
+-- the first fault's range begins with its own name
+abbrev pub told_from : (file : List ℕ) → NetlistView → (all : List CheckFault) → (begin : Fault) → List CheckFault → List ℕ
+told_from file net all begin faults = told file net all (element net begin) begin faults
+
+-- the first of them begins a paragraph
+abbrev pub rejection_explained : (file : List ℕ) → NetlistView → List CheckFault → List ℕ
+rejection_explained file net [] = []
+rejection_explained file net (fault ∷ faults) =
+    head file net (fault_view fault) ++ told_from file net (fault ∷ faults) (fault_view fault) faults
