@@ -21,7 +21,7 @@ through process types net stands_for bodies run = record {
 abbrev of_number : NetlistView → ℕ → ProcessOf
 of_number net number = record { net = net; number = number }
 
--- the trees of a net's processes run its bodies
+-- the trees of a netlist's processes run its bodies
 pub trees_run : (net : NetlistView) (trees : List ProcessOf) → trees ≡ processes_of net → RunBodies process_of (λ (p : ProcessOf). p.net.types) (flat net) trees
 trees_run net trees e = subst (λ (ts : List ProcessOf). RunBodies process_of (λ (p : ProcessOf). p.net.types) (flat net) ts) (sym e) (record {
   as_many = many ∙ sym (length-map net.processes process_view);

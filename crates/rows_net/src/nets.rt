@@ -42,7 +42,7 @@ pub fn net_named(alloc: Global, name: &str) -> Option<Net>
     }
 }
 
-/// The text of a net's name, and its top.
+/// The text of a netlist's name, and its top.
 fn text_of(name: &str) -> (&'static str, &'static str) {
     match name.as_bytes() {
         b"counter" => (COUNTER, "cnt"),

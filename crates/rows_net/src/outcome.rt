@@ -6,7 +6,7 @@ use std::alloc::{AllocError, Global};
 use vhdl_expand_rules::{ElabFault, ElabProblem};
 use vhdl_source::{SourceFault, open};
 
-/// What each process of a net drives, reads and is sensitive to, and what its variables start with.
+/// What each process of a netlist drives, reads and is sensitive to, and what its variables start with.
 #[derive(Clone, Copy)]
 pub struct Processes;
 

@@ -1,11 +1,11 @@
-//! What each process of a net drives, reads and is sensitive to, in words.
+//! What each process of a netlist drives, reads and is sensitive to, in words.
 
 use rtl_net::{Net, SignalKind, Variable};
 use rtlsim_listing::net_name;
 use std::alloc::{AllocError, Global};
 use vhdl_values::Nine;
 
-/// The processes of a net, with `; ` between them: each with its number, the names of nets, and its variables with the values
+/// The processes of a netlist, with `; ` between them: each with its number, the names of nets, and its variables with the values
 /// that they start with.
 pub fn processes_of(alloc: Global, net: &Net) -> Result<String, AllocError> {
     let mut told = String::new(alloc);

@@ -2,7 +2,7 @@
 
 use std::alloc::{AllocError, Global};
 
-/// A net under a stimulus, and what must come of it.
+/// A netlist under a stimulus, and what must come of it.
 #[derive(Drop)]
 pub struct Row<'a> {
     /// The first line as it stands in the table: the net's name, and how many delta cycles a moment may take.

@@ -1,4 +1,4 @@
-//! Simulations, row by row: a net under a stimulus, with the trace and the answer that it must have.
+//! Simulations, row by row: a netlist under a stimulus, with the trace and the answer that it must have.
 //!
 //! `data/traces.rows` tells how a row is written. Each row is simulated in several ways: with the processes in order and in
 //! the reverse order, and with outputs that take a byte a call, and that fail. What is printed is what the first way gives,

@@ -16,7 +16,7 @@ use std::cell::Cell;
 use std::io;
 use vhdl_values::Nine;
 
-/// Starts a net, whose bodies have this form, and prints what it comes to at each step.
+/// Starts a netlist, whose bodies have this form, and prints what it comes to at each step.
 pub fn tell_course<P: Pick>(
     rt: &(impl Print + AllocGlobal),
     course: &Course,
@@ -79,7 +79,7 @@ fn tell_stamped<E: Exec, P: Pick>(
     tell_steps(rt, net, bodies, &mut kernel, course, pick)
 }
 
-/// Prints what a net comes to behind its start.
+/// Prints what a netlist comes to behind its start.
 fn tell_steps<E: Exec, P: Pick>(
     rt: &impl Print,
     net: &Net,
@@ -140,7 +140,7 @@ fn change<E: Exec, P: Pick>(
     }
 }
 
-/// Lets a net settle, and prints what it comes to.
+/// Lets a netlist settle, and prints what it comes to.
 fn tell_step<E: Exec, P: Pick>(
     rt: &impl Print,
     kernel: &mut Kernel<'_, Stamped<'_, E>>,

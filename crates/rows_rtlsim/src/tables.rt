@@ -11,7 +11,7 @@ use std::alloc::{AllocError, Global};
 pub enum Told {
     /// Whether names and types are right.
     Names,
-    /// The lines of the net.
+    /// The lines of the netlist.
     Lines,
     /// How many nets and processes the net has.
     Counts,

@@ -1,4 +1,4 @@
--- The clocks of a net, by the kinds of its processes.
+-- The clocks of a netlist, by the kinds of its processes.
 use Rattle.std.proofs.Common.{◌≡◌, ℕ, ◌<◌, true, List, length, get_or, sym, subst, ◌∙◌}
 use Rattle.std.specs.List.{list_any}
 use Rattle.std.specs.List.Sorted.{IsStrictlyIncreasing}

@@ -86,7 +86,7 @@ rule_adds net r p nets old new rise to from pushed = record {
         let (n, e) = at_rule r p x t in
         subst (Contains (map (fault_of r p) nets)) (sym e) (into_map (fault_of r p) nets n (in_contains nets n (from n (subst (IsFault net) e h))))
 
--- ---- of a process of a net
+-- ---- of a process of a netlist
 
 pub if_done : {T E : Type 0} (P Q : Type 0) (r : Result T E) → (P → Q) → OnOk r P → OnOk r Q
 if_done P Q (Ok v) on h = on h

@@ -1,4 +1,4 @@
--- What is found of a net: faults, or levels.
+-- What is found of a netlist: faults, or levels.
 use Rattle.std.specs.Prelude.{⊤, [], map}
 use Rattle.rtl_model.specs.simulation.Netlist.{Netlist}
 use Rattle.rtl_model.specs.simulation.Faults.{AreFaults, AreFaultsButLoops}

@@ -56,7 +56,7 @@ breaks inputs clocks p k.Mixed rule n = false
 
 -- ---- lists
 
--- the clocks of a net, rising
+-- the clocks of a netlist, rising
 pub record AreClockNets (net : Netlist) (clocks : List ℕ) : Type 0 where
   pub rise : IsStrictlyIncreasing clocks
   pub are : (n : ℕ) → IsTrue (is_in n clocks) ↔ f.IsClock net n

@@ -10,7 +10,7 @@ use Rattle.rtl_check.specs.declared.checking.Verdict.{Verdict}
 use Rattle.rtl_check.specs.declared.checking.Verdict.TheVariants.{Yes, No}
 use Rattle.rtl_check.specs.Views.{fault_view}
 
--- the report on the net: an accepted netlist has no other
+-- the report on the netlist: an accepted netlist has no other
 abbrev pub IsReportOf : Netlist → Report → Type 0
 IsReportOf net r = IsReport net r.levels.items r.from.items r.clocks.items r.bound
 

@@ -12,7 +12,7 @@ use Rattle.rtl_net_facts.specs.Reading.{is_in}
 use Rattle.rtl_check.specs.declared.fault.CheckFault.{CheckFault}
 use Rattle.rtl_check.specs.declared.fault.CheckFault.TheVariants as c
 
--- the net as the theory of simulation has it
+-- the netlist as the theory of simulation has it
 abbrev pub core : NetlistView → m.Netlist
 core net = core_netlist (flat net)
 

@@ -91,7 +91,7 @@ pub fn one_if(so: bool) -> u32
     if so { 1 } else { 0 }
 }
 
-/// The bound on delta cycles of a net with this greatest level.
+/// The bound on delta cycles of a netlist with this greatest level.
 pub fn bound_of(net: &Net, kinds: &[ProcessKind], clocks: &[usize], greatest: u32) -> u32
     requires kinds { AreKinds (core net.now) kinds.now }
     requires clocks { AreClockNets (core net.now) clocks.now }

@@ -140,7 +140,7 @@ fn combinational_nets(alloc: Global, rule: Rule, process: &Process) -> Result<Ve
     }
 }
 
-/// The nets of a process that break a rule, rising; inputs and clocks are those of the whole net, rising too.
+/// The nets of a process that break a rule, rising; inputs and clocks are those of the whole netlist, rising too.
 pub fn breaking_nets(
     alloc: Global,
     inputs: &[usize],

@@ -14,7 +14,7 @@ use rtl_model::simulation_laws;
 use rtl_net::{Net, NoMemory};
 use std::alloc::Global;
 
-/// What the checker says of a net.
+/// What the checker says of a netlist.
 #[derive(Drop)]
 pub enum Verdict {
     /// It is accepted, and this is the report on it.
@@ -25,7 +25,7 @@ pub enum Verdict {
 }
 
 /// Whether a netlist is accepted: yes, with the report on it, just where it has no fault; else no, with its faults. A loop is
-/// looked for only where there is no other fault. It takes time in proportion to the net, but for the logarithms of sorted
+/// looked for only where there is no other fault. It takes time in proportion to the netlist, but for the logarithms of sorted
 /// lists, and memory for the kinds of processes, for what feeds what, and for the answer.
 pub fn check(alloc: Global, net: &Net) -> Result<Verdict, NoMemory>
     ensures verdict { IfOk result (IsVerdict (core net.now)) }

@@ -1,4 +1,4 @@
-//! The clocks of a net.
+//! The clocks of a netlist.
 
 ghost use Rattle.std.specs.Prelude.{◌≡◌, ◌||◌, ℕ, IfOk, OnOk};
 ghost use Rattle.rtl_net_facts.specs.Reading.{is_in};

@@ -1,4 +1,4 @@
-//! Faults of a net.
+//! Faults of a netlist.
 
 use rtl_net::Source;
 

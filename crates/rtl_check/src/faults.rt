@@ -1,4 +1,4 @@
-//! All faults of a net but loops.
+//! All faults of a netlist but loops.
 
 ghost use Rattle.std.specs.Prelude.{map, IfOk};
 ghost use Rattle.rtl_model.specs.simulation.Faults.{AreFaultsButLoops};
@@ -14,7 +14,7 @@ use rtl_net::{Net, NoMemory};
 use rtl_net_facts::ProcessKind;
 use std::alloc::Global;
 
-/// All faults of a net but loops, in order.
+/// All faults of a netlist but loops, in order.
 pub fn faults_of(
     alloc: Global,
     net: &Net,

@@ -89,7 +89,7 @@ fn row_of(
     Ok(Some(feeders))
 }
 
-/// The combinational processes of a net, each with those that feed it. It takes time in proportion to sensitivities and
+/// The combinational processes of a netlist, each with those that feed it. It takes time in proportion to sensitivities and
 /// the drivers of their nets, and memory for the table.
 pub fn table_of(
     alloc: Global,

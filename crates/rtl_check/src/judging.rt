@@ -1,4 +1,4 @@
-//! The faults of a net, or the levels of its combinational processes where none is found.
+//! The faults of a netlist, or the levels of its combinational processes where none is found.
 
 ghost use Rattle.std.specs.Prelude.{IfOk};
 ghost use Rattle.rtl_check.specs.Views.{core, AreKinds};
@@ -13,7 +13,7 @@ use rtl_net::{Net, NoMemory};
 use rtl_net_facts::ProcessKind;
 use std::alloc::Global;
 
-/// What the rules find of a net.
+/// What the rules find of a netlist.
 #[derive(Drop)]
 pub enum Judged {
     /// All its faults but loops, in order, or else one loop.
@@ -22,7 +22,7 @@ pub enum Judged {
     Leveled(Levels),
 }
 
-/// Judges a net: all its faults but loops, in order; or else a loop; or else levels. A loop is looked for only where there
+/// Judges a netlist: all its faults but loops, in order; or else a loop; or else levels. A loop is looked for only where there
 /// is no other fault. It takes memory for its faults, and for what feeds what.
 pub fn judge(
     alloc: Global,

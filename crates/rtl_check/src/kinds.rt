@@ -1,4 +1,4 @@
-//! The kinds of all processes of a net.
+//! The kinds of all processes of a netlist.
 
 ghost use Rattle.std.specs.Prelude.{◌<◌, length, IfOk};
 ghost use Rattle.rtl_model.specs.simulation.Netlist as m;

@@ -1,4 +1,4 @@
-//! Whether a list has the pairs of net and edge that a net's clocked processes test, without memory.
+//! Whether a list has the pairs of net and edge that a netlist's clocked processes test, without memory.
 
 ghost use Rattle.std.specs.Prelude.{◌≡◌, ◌↔◌, ◌<◌, ℕ, Option, length, IsTrue, Contains};
 ghost use Rattle.rtl_model.specs.basics.Lists.{IsLess, RisesBy};
@@ -117,7 +117,7 @@ fn rise(clocks: &[(usize, Edge)]) -> bool
     true
 }
 
-/// Whether these are the pairs of net and edge that a net's clocked processes test, each once: by net, then in the order of
+/// Whether these are the pairs of net and edge that a netlist's clocked processes test, each once: by net, then in the order of
 /// edges. It takes no memory, and time by the product of clocks and processes at most.
 pub fn are_clocks(net: &Net, clocks: &[(usize, Edge)]) -> bool
     ensures { IsTrue result ↔ AreClocks (core net.now) clocks.now }

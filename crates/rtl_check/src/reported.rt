@@ -1,4 +1,4 @@
-//! Whether a report is the report on a net, without memory.
+//! Whether a report is the report on a netlist, without memory.
 
 ghost use Rattle.std.specs.Prelude.{◌≡◌, ◌↔◌, ◌<◌, length, IsTrue};
 ghost use Rattle.rtl_model.specs.simulation.Netlist as m;
@@ -61,7 +61,7 @@ fn some_is_late(net: &Net) -> bool
     false
 }
 
-/// Whether this is the bound on delta cycles of a net with this greatest level.
+/// Whether this is the bound on delta cycles of a netlist with this greatest level.
 fn is_bound(net: &Net, clocks: &[(usize, Edge)], greatest: u32, bound: u32) -> bool
     requires { r.AreClocks (core net.now) clocks.now }
     ensures { IsTrue result ↔ (bound ≡ l.bound (core net.now) greatest) }
@@ -71,7 +71,7 @@ fn is_bound(net: &Net, clocks: &[(usize, Edge)], greatest: u32, bound: u32) -> b
     bound as u64 == greatest as u64 + registers as u64 + late as u64
 }
 
-/// Whether these make a report on a net.
+/// Whether these make a report on a netlist.
 fn make_report(
     net: &Net,
     levels: &[Option<u32>],
@@ -91,7 +91,7 @@ fn make_report(
     is_bound(net, clocks, greatest_of(levels), bound)
 }
 
-/// Whether a report is the report on a net in which each process is clocked or combinational: in its levels, its froms, its
+/// Whether a report is the report on a netlist in which each process is clocked or combinational: in its levels, its froms, its
 /// clocks and its bound. It takes no memory, and time by the product of clocks and processes at most.
 pub fn is_report(net: &Net, report: &Report) -> bool
     ensures { HasNoMixed (core net.now) → IsTrue result ↔ IsReportOf (core net.now) report.now }

@@ -30,7 +30,7 @@ pub struct Report {
     pub bound: u32,
 }
 
-/// The report on a net whose combinational processes have these levels.
+/// The report on a netlist whose combinational processes have these levels.
 pub fn report_of(
     alloc: Global,
     net: &Net,

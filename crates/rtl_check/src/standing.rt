@@ -1,4 +1,4 @@
-//! Whether levels and froms are those of a net, by comparing each process with those that drive what it is sensitive to.
+//! Whether levels and froms are those of a netlist, by comparing each process with those that drive what it is sensitive to.
 
 ghost use Rattle.std.specs.Prelude.{◌≡◌, ◌<◌, ◌↔◌, length, slice_index_or, IsTrue, None};
 ghost use Rattle.rtl_model.specs.simulation.Netlist as m;
@@ -137,8 +137,8 @@ fn stands(net: &Net, levels: &[Option<u32>], from: &[Option<usize>], process: us
     stands_as(highest, kind, level_at(levels, process), from[process])
 }
 
-/// Whether levels and froms are those of a net in which each process is clocked or combinational. It takes no memory, and
-/// time in proportion to the net.
+/// Whether levels and froms are those of a netlist in which each process is clocked or combinational. It takes no memory, and
+/// time in proportion to the netlist.
 pub fn are_levels(net: &Net, levels: &[Option<u32>], from: &[Option<usize>]) -> bool
     ensures { s.HasNoMixed (core net.now) → IsTrue result ↔ s.ShowFroms (core net.now) levels.now from.now }
 {

@@ -100,7 +100,7 @@ pub fn stored_variables(
     Ok(())
 }
 
-/// The variables of a net that are stored: all faults of that kind, in order, whatever other faults there are. It takes
+/// The variables of a netlist that are stored: all faults of that kind, in order, whatever other faults there are. It takes
 /// memory for the elements of one process's variables, and for the list.
 pub fn stored(alloc: Global, net: &Net) -> Result<Vec<CheckFault>, NoMemory>
     ensures { IfOk result (λ faults. AreStored (core net.now) (map fault_view faults.items)) }

@@ -14,7 +14,7 @@ pub record IsTableOf (n : Netlist) (table : Table) : Type 0 where
   pub combinational : (q : ℕ) → IsIn table q ↔ IsCombinational n q
   pub feeds : (p q : ℕ) → Feeds table p q ↔ net.Feeds n p q
 
--- The levels of a net's table are those of a report on the net, and there is no loop.
+-- The levels of a net's table are those of a report on the netlist, and there is no loop.
 abbrev pub LevelsAreOfNets : Type 0
 LevelsAreOfNets =
     (n : Netlist) (table : Table) (levels from : List (Option ℕ)) (greatest : ℕ) (clocks : List (ℕ × Edge)) → IsTableOf n table

@@ -1,5 +1,9 @@
-//! The run of a process's body as a tree, over the statements and expressions of rtl_net, and the parts of a run that other
-//! forms of bodies share: vectors of nets, operators, choices and assignments.
+//! Bodies that run: `Exec`, what runs a process's body; `Drives`, what a run leaves; and `Tree`, a body as the statements and
+//! expressions of rtl_net have it. The parts of a run that other forms of bodies share stand here too: vectors of nets,
+//! operators, choices and assignments.
+//!
+//! `specs/Runs.antt` and `specs/Running.antt` say what a run leaves, `specs/Spans.antt` and `specs/Listed.antt` how places that
+//! have an entry are listed, and `specs/Trees.antt` what contracts see of a `Tree`.
 #![tactic(auto)]
 
 mod assigning;

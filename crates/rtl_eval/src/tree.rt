@@ -11,7 +11,7 @@ use rtl_net::Net;
 use std::alloc::{AllocError, Global};
 use std::marker::Model;
 
-/// The body of one process of a net, as something that runs: it goes over the statements and expressions as the net has
+/// The body of one process of a netlist, as something that runs: it goes over the statements and expressions as the netlist has
 /// them.
 #[derive(Drop)]
 pub struct Tree<'a> {
@@ -56,7 +56,7 @@ impl<'a> Exec for Tree<'a> {
     }
 }
 
-/// The bodies of a net's processes, in the processes' order. It takes the memory of a list.
+/// The bodies of a netlist's processes, in the processes' order. It takes the memory of a list.
 pub fn trees(alloc: Global, net: &Net) -> Result<Vec<Tree<'_>>, AllocError>
     ensures { IfOk result (λ trees. trees.items ≡ processes_of net.now) }
 {

@@ -1,4 +1,4 @@
--- Faults, reports and races of small nets.
+-- Faults, reports and races of small netlists.
 use Rattle.std.proofs.Common.{◌≡◌, ℕ, zero, suc, ◌<◌, ◌≤◌, true, ◌==◌, [], ◌∷◌, None, refl, sym, ap, subst, arith, ◌⊎◌, inl, inr, Contains, if◌then◌else◌}
 use Rattle.vhdl_values.specs.Numbers.{digits_of}
 use Rattle.rtl_model.specs.nets.CoreNetlist.{core_netlist}

@@ -46,7 +46,7 @@ latch = record {
       [];
 }
 
--- The run with s at '0' assigns nothing, and no valuation solves the net's equations: what is combinational and accepted
+-- The run with s at '0' assigns nothing, and no valuation solves the netlist's equations: what is combinational and accepted
 -- would have no value.
 pub record LatchWouldPass : Type 0 where
   pub right : branches_must_assign (of_drivers (λ place. place == 0)) latch_branches ≡ false

@@ -1,4 +1,4 @@
--- Small bodies and nets on which the definitions are tried. In order of reading:
+-- Small bodies and netlists on which the definitions are tried. In order of reading:
 pub mod Bodies
 pub mod Circuits
 pub mod Counter

@@ -1,5 +1,5 @@
--- Wrong definitions, each with a small net on which it differs from the right one. Where a law asks for an elaborated and
--- accepted net, the net is one (`fit`).
+-- Wrong definitions, each with a small netlist on which it differs from the right one. Where a law asks for an elaborated and
+-- accepted netlist, this is one (`fit`).
 use Rattle.std.specs.Prelude.{◌≡◌, ℕ, suc, zero, ◌<◌, Bool, true, false, ◌==◌, List}
 use Rattle.std.specs.Prelude.{[], ◌∷◌, slice_index, slice_index_or, slice_set, map, Some, None, Contains, if◌then◌else◌}
 use Rattle.std.specs.List.{list_any}

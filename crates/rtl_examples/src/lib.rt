@@ -1,5 +1,6 @@
-//! Small bodies and nets on which the definitions of `rtl_model` and `rtlsim_listing` are tried: what they compute and what is
-//! printed of them, that the premises of its laws can be met, and that wrong definitions would differ. Each example is the contract of a function that does nothing.
+//! Small bodies and netlists on which the definitions of `rtl_model` and `rtlsim_listing` are tried: what they compute and what
+//! is printed of them, that the premises of its laws can be met, and that wrong definitions would differ. Each example is the
+//! contract of a function that does nothing.
 #![tactic(auto)]
 
 pub mod body_examples;

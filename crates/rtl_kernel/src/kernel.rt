@@ -26,7 +26,7 @@ use std::alloc::{AllocError, Global};
 use std::marker::Model;
 use vhdl_values::Nine;
 
-/// A simulation of a net. What a cycle costs goes by the drivers, nets and processes that it touches; `new` takes all
+/// A simulation of a netlist. What a cycle costs goes by the drivers, nets and processes that it touches; `new` takes all
 /// memory, and no other call takes any.
 #[derive(Drop)]
 pub struct Kernel<'a, E: Exec> {
@@ -60,7 +60,7 @@ impl<'a, E: Exec> Model for Kernel<'a, E> {
 }
 
 impl<'a, E: Exec> Kernel<'a, E> {
-    /// A simulation that is to be started: of this net, whose k-th process the k-th body runs, with a value for each of the
+    /// A simulation that is to be started: of this netlist, whose k-th process the k-th body runs, with a value for each of the
     /// net's inputs, in their order.
     ///
     /// It takes the room of all later calls.

@@ -24,7 +24,7 @@ each_trace_is_the_one meets one net s is_net accepted bound other_bound text oth
 
 -- ---- both commands
 
--- a text says one stimulus of a net
+-- a text says one stimulus of a netlist
 same_stimulus : (net : NetlistView) (text : List ℕ) (a b : ℕ) (s t : StimulusView) → IsAdmitted net text a s → IsAdmitted net text b t → s ≡ t
 same_stimulus net text a b s t A B = λ i. record { inputs = (A.says.0 ∙ sym B.says.0) i; schedule = same_schedule i }
   where

@@ -1,4 +1,4 @@
--- What `run_levels` answers on a net. It refuses what `run` refuses, for the same reasons and in the same order (`IsRefused`), and
+-- What `run_levels` answers on a netlist. It refuses what `run` refuses, for the same reasons and in the same order (`IsRefused`), and
 -- writes the trace that `run` writes: the same definition of the machine's trace (`IsTrace`).
 use Rattle.std.specs.Prelude.{◌≡◌, ℕ, ◌⊎◌, List, length, Result, Ok, Err}
 use Rattle.rtl_net.specs.Nets.{NetlistView}

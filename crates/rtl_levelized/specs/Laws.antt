@@ -27,7 +27,7 @@ pub record AreAlike (old one other : SinkState) (summary : Summary) (levels : Le
   pub count : summary.moments ≡ levels.moments
   pub within : summary.most_deltas ≤ levels.bound
 
--- Of one net and one text, `run` and `run_levels` into sinks that are alike before: where both come to their end, they have written
+-- Of one netlist and one text, `run` and `run_levels` into sinks that are alike before: where both come to their end, they have written
 -- the same bytes.
 abbrev pub EachRunIsWrittenAlike : Type 0
 EachRunIsWrittenAlike =

@@ -5,7 +5,7 @@ ghost use Rattle.rtl_levelized.specs.Laws.{EachTraceIsTheOne, EachRunIsWrittenAl
 use rtl_model::simulation_laws;
 use rtl_net::nets_meet_the_laws;
 
-/// An accepted net has one trace under a stimulus, since the synchronous machine has one run.
+/// An accepted netlist has one trace under a stimulus, since the synchronous machine has one run.
 pub fn each_trace_is_the_one()
     ensures { EachTraceIsTheOne }
 {

@@ -18,7 +18,7 @@ use Rattle.rtl_machine.specs.declared.fault.MachineFault.TheVariants.{Rejected, 
 use Rattle.rtl_machine.specs.Synchronous.{SaysYes, IsRaceless}
 
 module _ (net : NetlistView) (text : List ℕ) where
-  -- The checker says yes with this bound, the text says this stimulus of the net's inputs, and it has no race.
+  -- The checker says yes with this bound, the text says this stimulus of the netlist's inputs, and it has no race.
   pub record IsAdmitted (bound : ℕ) (s : StimulusView) : Type 0 where
     pub accepted : SaysYes (core net) bound
     pub says : IsRead net text (Ok s)

@@ -1,4 +1,4 @@
--- What `run` and `eval` answer on a net: nothing is written before the checker, the stimulus and the search for a race have passed.
+-- What `run` and `eval` answer on a netlist: nothing is written before the checker, the stimulus and the search for a race have passed.
 use Rattle.std.specs.Prelude.{◌≡◌, ℕ, ◌⊎◌, List, Result, Err}
 use Rattle.rtl_net.specs.Nets.{NetlistView}
 use Rattle.rtl_sink.specs.Written.{SinkState}
@@ -8,7 +8,7 @@ use Rattle.rtl_machine.specs.declared.fault.MachineFault.{MachineFault}
 use Rattle.rtl_machine.specs.Traced.{Traces}
 use Rattle.rtl_machine.specs.Admitted.{IsAdmitted, RefusesNet}
 
--- the net and the stimulus are admitted, and this is done with them
+-- the netlist and the stimulus are admitted, and this is done with them
 pub record Admits (net : NetlistView) (text : List ℕ) (Done : StimulusView → (bound : ℕ) → Type 0) : Type 0 where
   pub bound : ℕ
   pub stimulus : StimulusView

@@ -32,7 +32,7 @@ abbrev pub port_lines : NetlistView → (valuation : List ℕ) → List ℕ
 port_lines net valuation = flat_map (port_text net valuation) net.signals
 
 module _ (net : NetlistView) (s : StimulusView) (bound : ℕ) where
-  -- the net is a synchronous machine under the stimulus, and this is the first valuation of its run
+  -- the netlist is a synchronous machine under the stimulus, and this is the first valuation of its run
   pub record IsFirstOf (valuation : List ℕ) : Type 0 where
     pub run : ℕ → List ℕ
     pub synchronous : IsSynchronous (core net) bound (inputs_at s) run

@@ -11,7 +11,7 @@ use Rattle.rtl_net.specs.Nets.{NetlistView}
 use Rattle.rtl_net.specs.Elaborated.{IsNet}
 use Rattle.rtl_check.specs.Views.{core}
 
--- The checker says yes with this bound: the net has no fault, and the bound is its report's.
+-- The checker says yes with this bound: the netlist has no fault, and the bound is its report's.
 pub record SaysYes (net : Netlist) (bound : ℕ) : Type 0 where
   pub accepted : IsAccepted net
   pub levels : List (Option ℕ)
@@ -23,12 +23,12 @@ pub record SaysYes (net : Netlist) (bound : ℕ) : Type 0 where
 abbrev pub IsRaceless : Netlist → (stimulus : ℕ → ℕ → ℕ) → Type 0
 IsRaceless net stimulus = (last : ℕ) → HasNoRace net stimulus last
 
--- for these inputs and registers one valuation solves the net's equations, and no other
+-- for these inputs and registers one valuation solves the netlist's equations, and no other
 abbrev pub HasOneSolution : Netlist → (inputs registers : ℕ → ℕ) → Type 0
 HasOneSolution net inputs registers =
     (v : List ℕ) × Solves net inputs registers v × ((w : List ℕ) → Solves net inputs registers w → w ≡ v)
 
--- Under this stimulus the event-driven simulation of the net is the synchronous machine with this run, whose m-th
+-- Under this stimulus the event-driven simulation of the netlist is the synchronous machine with this run, whose m-th
 -- valuation is the one at moment m. Orders of processes are all those that the standard leaves open
 -- (IEEE 1076-2008, 14.7.5.3): the simulation may be in a state by any of them.
 pub record IsSynchronous (net : Netlist) (bound : ℕ) (stimulus : ℕ → ℕ → ℕ) (run : ℕ → List ℕ) : Type 0 where

@@ -22,7 +22,7 @@ abbrev pub machine_text : NetlistView → StimulusView → (run : ℕ → List �
 machine_text net s run = trace_text net.scopes net.signals (run 0) (run_at (λ m. run (suc m)) (behind_first (moments s))) s.schedule.stop
 
 module _ (net : NetlistView) (s : StimulusView) (bound : ℕ) where
-  -- the net is a synchronous machine under the stimulus, and this is the trace of its run
+  -- the netlist is a synchronous machine under the stimulus, and this is the trace of its run
   pub record IsTrace (text : List ℕ) : Type 0 where
     pub run : ℕ → List ℕ
     pub synchronous : IsSynchronous (core net) bound (inputs_at s) run

@@ -22,7 +22,7 @@ pub struct Admitted {
     pub levels: Vec<Option<u32>>,
 }
 
-/// Checks a net, reads the text of a stimulus for it, and looks for a race. It takes the checker's memory and the
+/// Checks a netlist, reads the text of a stimulus for it, and looks for a race. It takes the checker's memory and the
 /// stimulus's.
 ///
 /// # Errors
@@ -51,7 +51,7 @@ pub fn admit(alloc: Global, net: &Net, text: &[u8]) -> Result<Admitted, MachineF
     })
 }
 
-/// The checker's report on a net.
+/// The checker's report on a netlist.
 fn accept(alloc: Global, net: &Net) -> Result<Report, MachineFault>
     ensures accepted { IfOk result (λ report. IsAccepted (core net.now)) }
     ensures report { IfOk result (IsReportOf (core net.now)) }

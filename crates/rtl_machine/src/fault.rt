@@ -1,4 +1,4 @@
-//! Why a net is not simulated as a machine.
+//! Why a netlist is not simulated as a machine.
 
 ghost use Rattle.std.specs.Prelude.{◌≡◌};
 ghost use Rattle.rtl_machine.specs.declared.fault.MachineFault.TheVariants.{Memory, Output};
@@ -10,7 +10,7 @@ use rtl_stim::StimFault;
 use rtl_vcd::VcdFault;
 use std::alloc::AllocError;
 
-/// Why a net is not simulated, or what is written of it not the whole.
+/// Why a netlist is not simulated, or what is written of it not the whole.
 #[derive(Drop)]
 pub enum MachineFault {
     /// What the checker found, in order.

@@ -1,4 +1,4 @@
-//! The lines of a net's out ports.
+//! The lines of a netlist's out ports.
 
 ghost use Rattle.std.specs.Prelude.{◌≡◌, ◌≤◌, length, slice_index};
 ghost use Rattle.vhdl_values.specs.Scalar.{letter_of, value_of_code};

@@ -1,5 +1,5 @@
 //! The semantics of a flat netlist: what its bodies do, how it is simulated, when it is accepted, and the laws that tie an
-//! accepted net's simulation to the synchronous machine. Definitions alone stand here, with the laws over them, each the
+//! accepted netlist's simulation to the synchronous machine. Definitions alone stand here, with the laws over them, each the
 //! contract of a function that does nothing.
 #![tactic(auto)]
 

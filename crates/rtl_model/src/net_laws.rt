@@ -19,27 +19,27 @@ pub fn forgets_variables()
     ensures { EachForgets }
 {}
 
-/// In a net in range all nets that a process wakes on and reads are there, and all variable elements that it stores.
+/// In a netlist in range all nets that a process wakes on and reads are there, and all variable elements that it stores.
 pub fn in_range_is_safe()
     ensures { InRangeIsSafe }
 {}
 
-/// The bodies of a net in range assign values of their targets' types.
+/// The bodies of a netlist in range assign values of their targets' types.
 pub fn bodies_keep_range()
     ensures { EachKeepsRange }
 {}
 
-/// A net that is in range and connected has all that the laws of simulation ask.
+/// A netlist that is in range and connected has all that the laws of simulation ask.
 pub fn connected_is_elaborated()
     ensures { EachIsElaborated }
 {}
 
-/// Drivers at the start, idle ports and resolution have values of their nets' types, where a net is in range and connected.
+/// Drivers at the start, idle ports and resolution have values of their nets' types, where a netlist is in range and connected.
 pub fn sources_keep_range()
     ensures { EachSourceKeepsRange }
 {}
 
-/// Whatever a net in range and connected settles in, accepted or not, has values of the nets' types where the stimulus has.
+/// Whatever a netlist in range and connected settles in, accepted or not, has values of the nets' types where the stimulus has.
 pub fn states_are_in_range()
     ensures { EachStateIsInRange }
 {}

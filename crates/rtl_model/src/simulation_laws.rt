@@ -2,12 +2,12 @@
 
 ghost use Rattle.rtl_model.specs.simulation.Laws.{EachChangeIsMade, EachClockShowsRaces, EachDependsOnPast, EachEndsAtLast, EachFaultIsListed, EachInputHolds, EachMomentComes, EachRunShows, EachStaysConsistent, EachTakesInputsAlone, EveryOrderIsOne, IsTheMachine, LevelsAreShown, LevelsExist, OneGreatestCount, OneMachineRun, OneReport, OneSolution, OrderIsFree, ReportsAreShown, ReportsLeadDown, RunsInRange, SettlesInBound, SettlesOrNot, SolutionsInRange, StatesInRange};
 
-/// Two orders of one cycle's Runs end in the same state, in every net.
+/// Two orders of one cycle's Runs end in the same state, in every netlist.
 pub fn order_is_free()
     ensures { OrderIsFree }
 {}
 
-/// Two whole simulations of a net under one stimulus agree at each moment, whatever their orders: in the state after its
+/// Two whole simulations of a netlist under one stimulus agree at each moment, whatever their orders: in the state after its
 /// first cycle, in the number of its delta cycles, and in the state where it settles.
 pub fn simulations_agree()
     ensures { EveryOrderIsOne }
@@ -18,7 +18,7 @@ pub fn levels_exist()
     ensures { LevelsExist }
 {}
 
-/// An accepted net has no more than one report.
+/// An accepted netlist has no more than one report.
 pub fn one_report()
     ensures { OneReport }
 {}
@@ -65,7 +65,7 @@ pub fn is_the_machine()
     ensures { IsTheMachine }
 {}
 
-/// The steps of a simulation keep the values of a state in range, so whatever a net settles in, accepted or not, has values
+/// The steps of a simulation keep the values of a state in range, so whatever a netlist settles in, accepted or not, has values
 /// of the nets' types where the stimulus has.
 pub fn states_in_range()
     ensures { StatesInRange }
@@ -120,7 +120,7 @@ pub fn clocks_show_races()
     ensures { EachClockShowsRaces }
 {}
 
-/// A net has one list of faults, unless it has loops alone; and it has one at all only where it isn't accepted.
+/// A netlist has one list of faults, unless it has loops alone; and it has one at all only where it isn't accepted.
 pub fn faults_are_listed()
     ensures { EachFaultIsListed }
 {}

@@ -151,7 +151,7 @@ pub signal-at : (xs : List Signal) (k : ℕ) (x : Signal) (s : SignalView) → k
 signal-at xs k x s l e h =
     ap signal_view e ∙ some-same _ _ (sym (ap (option_map signal_view) (slice_get-get_or xs k x l)) ∙ sym (slice_get-map signal_view xs k) ∙ h)
 
--- ---- the tables of a net
+-- ---- the tables of a netlist
 
 pub kept-element : (i : Inside) → IsKept i → (n : ℕ) (o : Owner) → n < length (net_of i).types → o ≡ slice_index_or i.owners.items n o → element_of (net_of i) n ≡ Some (owner_view o)
 kept-element i kept n o l e =

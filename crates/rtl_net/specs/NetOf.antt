@@ -1,4 +1,4 @@
--- How a net is kept, and what holds of its tables.
+-- How a netlist is kept, and what holds of its tables.
 use Rattle.std.specs.Prelude.{◌≡◌, ℕ, List, [], ◌∷◌, length, map, Some}
 use Rattle.std.specs.List.{range_with_len}
 use Rattle.rtl_model.specs.nets.FlatNetlist.{flat_sources}

@@ -1,4 +1,4 @@
--- What contracts see of a net: the flat netlist of rtl_model, and beside it the names of its parts.
+-- What contracts see of a netlist: the flat netlist of rtl_model, and beside it the names of its parts.
 use Rattle.std.specs.Prelude.{ℕ, Bool, List, [], map, slice_index_or, Option, None}
 use Rattle.rtl_model.specs.bodies.Body.{Stmts}
 use Rattle.rtl_model.specs.bodies.Types.{ElementType, nine_valued, enumeration}

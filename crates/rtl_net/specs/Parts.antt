@@ -1,4 +1,4 @@
--- The net of given parts.
+-- The netlist of given parts.
 use Rattle.std.specs.Prelude.{ℕ, ◌<◌, ◌==◌, if◌then◌else◌, All, List, [], ◌∷◌, length, map}
 use Rattle.std.specs.List.{range_with_len}
 use Rattle.rtl_net.specs.declared.building.IdlePort.{IdlePort}

@@ -1,4 +1,4 @@
-//! A net of its parts, with the tables that `Net` keeps beside them.
+//! A netlist of its parts, with the tables that `Net` keeps beside them.
 
 ghost use Rattle.std.specs.Prelude.{◌≡◌, ℕ, ◌<◌, ◌++◌, [], All, length, map, Some, IfOk, OnOk};
 ghost use Rattle.rtl_model.specs.nets.FlatNetlist.{drivers_of, all_drivers_of};
@@ -24,7 +24,7 @@ pub struct IdlePort {
     pub start: u8,
 }
 
-/// What a net is made of.
+/// What a netlist is made of.
 #[derive(Drop)]
 pub struct Parts {
     /// The type of each net.
@@ -43,7 +43,7 @@ pub struct Parts {
 }
 
 impl Net {
-    /// The net of these parts. It takes the memory of two tables over its nets, in time proportional to drivers, idle
+    /// The netlist of these parts. It takes the memory of two tables over its nets, in time proportional to drivers, idle
     /// ports and elements of signals.
     pub fn new(alloc: Global, parts: Parts) -> Result<Net, NoMemory>
         requires elaborated { IsNet (assembled parts) }

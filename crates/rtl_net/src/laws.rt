@@ -1,4 +1,4 @@
-//! What holds of every net, over `specs/Laws.antt`.
+//! What holds of every netlist, over `specs/Laws.antt`.
 
 ghost use Rattle.rtl_net.specs.Laws.{EachNetMeetsTheLaws};
 

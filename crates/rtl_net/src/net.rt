@@ -46,7 +46,7 @@ pub(crate) struct Owner {
     pub(crate) place: usize,
 }
 
-/// The flat net of an elaborated design (IEEE 1076-2008, 14.2 to 14.4), with the names of its parts. Nets, processes,
+/// The flat netlist of an elaborated design (IEEE 1076-2008, 14.2 to 14.4), with the names of its parts. Nets, processes,
 /// scopes and signals are numbered from 0, in order of the text. No call but the names takes memory.
 #[derive(Drop)]
 pub struct Net {
@@ -77,7 +77,7 @@ impl Model for Net {
 }
 
 impl Net {
-    /// How many nets there are. A caller in another crate also learns here what holds of every net.
+    /// How many nets there are. A caller in another crate also learns here what holds of every netlist.
     pub fn nets(&self) -> usize
         ensures count { result ≡ length self.now.types }
         ensures elaborated { IsNet self.now }

@@ -54,7 +54,6 @@ module _ (of_net targets : List ℕ) where
       numbers_are = λ place l. by place l (cases_lt place end);
     }
       where
-
         old : (place : ℕ) → place < end → get_or (numbers ++ replicate cut.len (length cuts)) place 0 ≡ get_or numbers place 0
         old place l = get_or_append_left numbers (replicate cut.len (length cuts)) 0 place (omega (arith, C.each_number))
 

@@ -4,7 +4,6 @@ use Rattle.std.proofs.lemmas.Bool.{cases_lt}
 use Rattle.rtl_net_layout.specs.Groups.{AreRuns}
 
 module _ (of_net first : List ℕ) (R : AreRuns of_net first) (g : ℕ) (there : g < length first) where
-
   from_begin : (n : ℕ) → n < length of_net → get_or of_net n 0 ≡ g → get_or first g 0 ≤ n
   from_begin n l is = subst (λ (h : ℕ). get_or first h 0 ≤ n) is (R.is_first n l)
 

@@ -37,7 +37,6 @@ none_at (suc k) (suc n) = none_at k n
 -- ---- one process
 
 module _ (process : ℕ) (first : List ℕ) where
-
   wider : (nets : List ℕ) (net g p : ℕ) (old : List (List ℕ)) → Contains (get_or old g []) p ⊎ ((p ≡ process) × Contains nets (get_or first g 0))
       → Contains (get_or old g []) p ⊎ ((p ≡ process) × Contains (nets ++ net ∷ []) (get_or first g 0))
   wider nets net g p old (inl h) = inl h
@@ -53,7 +52,6 @@ module _ (process : ℕ) (first : List ℕ) where
       no_other = λ g p l h. other g p l h (cases_eq g group);
     })
       where
-
         at_group : get_or (set mid group (get_or mid group [] ++ process ∷ [])) group [] ≡ get_or mid group [] ++ process ∷ []
         at_group = get_or-set_same mid group (get_or mid group [] ++ process ∷ []) [] there
 

@@ -27,7 +27,6 @@ module _ (marks : List Bool) (of_net first : List ℕ) (N : IsNumbered marks of_
       omega (arith, h, e)
 
   module _ (g : ℕ) where
-
     abbrev old_at : (n : ℕ) → n < net → get_or (of_net ++ g ∷ []) n 0 ≡ get_or of_net n 0
     old_at n l = get_or_append_left of_net (g ∷ []) 0 n l
 

@@ -61,7 +61,7 @@ same_clocks ns n = in_filter (λ k. is_in k ns) (range_with_len 0 (above ns)) n 
         never true = refl
         never false = refl
 
--- ---- the clocks of a net
+-- ---- the clocks of a netlist
 
 pub pair_of : (xs : List (ℕ × Edge)) (n : ℕ) → is_in n (clock_nets xs) ≡ true → (edge : Edge) × Contains xs (n, edge)
 pair_of [] n t = absurd cc

@@ -1,4 +1,4 @@
-//! Whether the processes of a net keep the rules.
+//! Whether the processes of a netlist keep the rules.
 
 ghost use Rattle.std.specs.Prelude.{◌≡◌, ◌↔◌, ◌<◌, length, IsTrue};
 ghost use Rattle.std.specs.List.Sorted.{IsStrictlyIncreasing};
@@ -58,7 +58,7 @@ fn keeps_by(
     }
 }
 
-/// Whether a process of a net with these clocks breaks no rule.
+/// Whether a process of a netlist with these clocks breaks no rule.
 fn keeps_rules(net: &Net, clocks: &[(usize, Edge)], process: usize) -> bool
     requires there { process < length net.now.processes }
     requires clocks { AreClocks (core net.now) clocks.now }
@@ -70,7 +70,7 @@ fn keeps_rules(net: &Net, clocks: &[(usize, Edge)], process: usize) -> bool
     keeps_by(inputs, clocks, &processes[process], kind_at(net, process))
 }
 
-/// Whether each process of a net with these clocks breaks no rule and stores no variable.
+/// Whether each process of a netlist with these clocks breaks no rule and stores no variable.
 pub fn all_keep(net: &Net, clocks: &[(usize, Edge)]) -> bool
     requires { AreClocks (core net.now) clocks.now }
     ensures { IsTrue result ↔ AllKeep (core net.now) }
@@ -98,7 +98,7 @@ fn is_not_mixed(kind: ProcessKind) -> bool
     }
 }
 
-/// Whether each process of a net is clocked or combinational.
+/// Whether each process of a netlist is clocked or combinational.
 pub fn has_no_mixed(net: &Net) -> bool
     ensures { IsTrue result ↔ HasNoMixed (core net.now) }
 {

@@ -1,4 +1,4 @@
--- The simulation of a net under a stimulus, moment by moment (IEEE 1076-2008, 14.7.5).
+-- The simulation of a netlist under a stimulus, moment by moment (IEEE 1076-2008, 14.7.5).
 use Rattle.std.specs.Prelude.{◌≡◌, ℕ, ◌≤◌, List, length, slice_get, Some}
 use Rattle.rtl_model.specs.nets.CoreNetlist.{core_netlist}
 use Rattle.rtl_model.specs.simulation.Netlist.{Netlist}

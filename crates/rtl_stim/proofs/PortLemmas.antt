@@ -1,4 +1,4 @@
--- The in ports of a net's top.
+-- The in ports of a netlist's top.
 use Rattle.std.proofs.Common.{◌≡◌, ℕ, ◌+◌, ◌<◌, ◌≤◌, true, false, cond, List, [], ◌∷◌, ◌++◌, length, map, take, drop, filter, get_or, sym, ap, subst, ◌∙◌, arith, append-nil}
 use Rattle.std.specs.Prelude.{◌≢◌, All, AllPairs}
 use Rattle.std.proofs.lemmas.List.{map-append, length-map, get_or-map}

@@ -18,7 +18,7 @@ pub record HasRaceAtTime (net : Netlist) (s : StimulusView) (t : ℕ) : Type 0 w
   pub within : t ≤ s.schedule.stop
   pub race : IsRace net (code_at s (t - 1)) (code_at s t)
 
--- Each moment after the first is such a time, nothing changes at any other, and the races of a net are those at times.
+-- Each moment after the first is such a time, nothing changes at any other, and the races of a netlist are those at times.
 pub record ShowsRaces (s : StimulusView) : Type 0 where
   pub each_moment : (m : ℕ) → suc m < length (moments s) → ChangesAtTime s m
   pub other_times : (t : ℕ) → 0 < t → t ≤ s.schedule.stop

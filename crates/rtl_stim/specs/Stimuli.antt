@@ -1,4 +1,4 @@
--- What contracts see of a stimulus of a net: its inputs with their courses, and the stop.
+-- What contracts see of a stimulus of a netlist: its inputs with their courses, and the stop.
 use Rattle.std.specs.Prelude.{◌≡◌, ◌≢◌, ℕ, List, map, Result, Ok, Err}
 use Rattle.vhdl_values.specs.declared.scalar.Nine.{Nine}
 use Rattle.vhdl_values.specs.Scalar.{code_of}
@@ -32,7 +32,7 @@ moments s = times.moments s.schedule
 abbrev pub inputs_at : StimulusView → (m net : ℕ) → ℕ
 inputs_at s = at_moments (moments s) (code_at s)
 
--- A stimulus is what the text says of the net's inputs. It is refused for want of memory, or with the text's fault.
+-- A stimulus is what the text says of the netlist's inputs. It is refused for want of memory, or with the text's fault.
 abbrev pub IsRead : NetlistView → (text : List ℕ) → Result StimulusView StimFault → Type 0
 IsRead net text (Ok s) = (s.inputs ≡ inputs_of net) × (schedule_of (inputs_of net) text ≡ Ok s.schedule)
 IsRead net text (Err fault) = fault ≢ NoMemory → schedule_of (inputs_of net) text ≡ Err fault

@@ -1,6 +1,6 @@
-//! Stimuli of nets: `Stimulus`, which a text says of the in ports of a net's top, and what an agenda is filled with.
+//! Stimuli of netlists: `Stimulus`, which a text says of the in ports of a netlist's top, and what an agenda is filled with.
 //!
-//! `specs/Ports.antt` says which inputs a net has, and `specs/Stimuli.antt` what a stimulus is.
+//! `specs/Ports.antt` says which inputs a netlist has, and `specs/Stimuli.antt` what a stimulus is.
 #![tactic(auto)]
 
 mod filling;

@@ -138,7 +138,7 @@ fn race_at(
     Some(Race { time, input, clock })
 }
 
-/// The earliest race of a net whose clocks these are, with the lowest data input that changes and the lowest clock with an
+/// The earliest race of a netlist whose clocks these are, with the lowest data input that changes and the lowest clock with an
 /// active edge; `None` exactly where no moment up to the stop has one. It takes no memory, and passes over the edges of
 /// clocks at which no other input may change.
 pub fn first_race(net: &Net, clocks: &[(usize, Edge)], stimulus: &Stimulus) -> Option<Race>

@@ -1,4 +1,4 @@
-//! From a text to the stimulus of a net.
+//! From a text to the stimulus of a netlist.
 
 ghost use Rattle.std.specs.Prelude.{◌≡◌, ◌<◌, ◌++◌, length, map, vec_len, IfOk, OnOk};
 ghost use Rattle.rtl_stim_lines.specs.Filling.{HaveOwnNets};
@@ -16,7 +16,7 @@ use std::alloc::{AllocError, Global};
 use vhdl_values::Nine;
 
 impl Stimulus {
-    /// Reads the text of a stimulus for a net. It takes memory for each in port of the top and for each line, and none
+    /// Reads the text of a stimulus for a netlist. It takes memory for each in port of the top and for each line, and none
     /// for the edges of a clock.
     ///
     /// # Errors

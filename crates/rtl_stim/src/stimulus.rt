@@ -12,7 +12,7 @@ use rtl_stim_lines::{Element, InputTable, Schedule};
 use std::marker::Model;
 use vhdl_values::Nine;
 
-/// A stimulus of a net: the value of each input at each time, in ns, up to a stop.
+/// A stimulus of a netlist: the value of each input at each time, in ns, up to a stop.
 #[derive(Drop)]
 pub struct Stimulus {
     pub(crate) inputs: InputTable,

@@ -1,4 +1,4 @@
--- What callers see of a machine: the net that it simulates, and the values that all nets have settled in.
+-- What callers see of a machine: the netlist that it simulates, and the values that all nets have settled in.
 use Rattle.std.specs.Prelude.{ℕ, List}
 use Rattle.rtl_net.specs.Nets.{NetlistView}
 

@@ -67,7 +67,7 @@ impl<'a, E: Exec> Model for Machine<'a, E> {
 
 impl<'a, E: Exec> Machine<'a, E> {
     /// The machine of an accepted netlist at its first moment. The k-th body runs the k-th process, and the k-th level is its level;
-    /// there is a value for each of the net's inputs, in their order.
+    /// there is a value for each of the netlist's inputs, in their order.
     pub fn new(
         alloc: Global,
         net: &'a Net,

@@ -1,4 +1,4 @@
--- The names of a net in blocks.
+-- The names of a netlist in blocks.
 use Rattle.std.specs.Prelude.{◌≡◌, ℕ, ◌<◌, ◌≤◌, Bool, true, false, List, [], ◌∷◌, All, take, drop, length}
 use Rattle.rtl_net.specs.Nets.{SignalView}
 use Rattle.rtl_vcd.specs.declared.blocks.Block.{Block}

@@ -92,7 +92,7 @@ fn bounds(nets: &[usize]) -> (usize, usize)
     (least, greatest)
 }
 
-/// The blocks of a net's names.
+/// The blocks of a netlist's names.
 pub(crate) fn blocks_of(alloc: Global, net: &Net) -> Result<Vec<Block>, AllocError>
     ensures { IfOk result (λ bs. AreBlocks (length net.now.types) bs.items net.now.signals) }
 {

@@ -20,7 +20,7 @@ use rtl_sink::{Sink, push_text};
 use std::alloc::{AllocError, Global};
 use std::marker::Model;
 
-/// The names of a net in blocks, so that a moment passes over those whose nets keep their values. Contracts see the net.
+/// The names of a netlist in blocks, so that a moment passes over those whose nets keep their values. Contracts see the netlist.
 #[derive(Drop)]
 pub struct Blocks<'a> {
     net: &'a Net,
@@ -47,7 +47,7 @@ impl<'a> Model for Blocks<'a> {
 }
 
 impl<'a> Blocks<'a> {
-    /// The blocks of the net's names, and the names that stand on nets one behind the other, ready to print. They take three words
+    /// The blocks of the netlist's names, and the names that stand on nets one behind the other, ready to print. They take three words
     /// for each block, and for each name: a block has 64 names where the nets of these stand close to one another, and else fewer.
     pub fn new(alloc: Global, net: &'a Net) -> Result<Blocks<'a>, AllocError>
         ensures { IfOk result (λ b. b ≡ net.now) }
@@ -102,7 +102,7 @@ struct Step<'a> {
     new: &'a [u8],
 }
 
-/// The changes of the net's names, which stand in these blocks, behind their time. Answers whether there are any.
+/// The changes of the netlist's names, which stand in these blocks, behind their time. Answers whether there are any.
 fn push_moment<W: Sink>(
     net: &Net,
     blocks: &[Block],

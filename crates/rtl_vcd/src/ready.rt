@@ -77,7 +77,7 @@ impl Run {
     }
 }
 
-/// The names of a net, as far as they are runs.
+/// The names of a netlist, as far as they are runs.
 pub(crate) fn runs_of(alloc: Global, net: &Net) -> Result<Vec<Option<Run>>, AllocError>
     ensures { IfOk result (λ rs. AreReady 0 net.now.signals rs.items) }
 {

@@ -45,7 +45,7 @@ abbrev pub stim_line : NetlistView → StimFault → List ℕ
 stim_line net (Race time input clock) = race_line net time input clock
 stim_line net fault = told_line (stim_entry fault)
 
--- what tells a fault, with the names of the net that has it
+-- what tells a fault, with the names of the netlist that has it
 abbrev pub fault_lines : NetlistView → Fault → List ℕ
 fault_lines net (Lex fault) = told_line (lex_entry fault)
 fault_lines net (Syntax fault) = told_line (syntax_entry fault)

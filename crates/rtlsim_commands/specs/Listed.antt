@@ -18,11 +18,11 @@ Writes text (Err Output) old new = HasFailed new × TakesBeginning old new text
 Writes text (Err Memory) old new = TakesBeginning old new text
 Writes text (Err _) old new = ⊥
 
--- the lines of the net
+-- the lines of the netlist
 abbrev pub ListsNet : NetlistView → Result (Unit {0}) Fault → (old new : SinkState) → Type 0
 ListsNet net answer old new = Writes (net_text net) answer old new
 
--- the text of the checker's verdict on the net, in which a loop stands once round
+-- the text of the checker's verdict on the netlist, in which a loop stands once round
 pub record WritesVerdict (text_of : NetlistView → Verdict → List ℕ) (net : NetlistView) (answer : Result Bool Fault) (old new : SinkState) : Type 0 where
   pub verdict : Verdict
   pub is : IsVerdict (core net) verdict

@@ -1,4 +1,4 @@
-//! The commands: each opens a source, does its work on the net, and writes to a sink; and how their faults are told.
+//! The commands: each opens a source, does its work on the netlist, and writes to a sink; and how their faults are told.
 //!
 //! Each call that opens a source has a type for its first parameter that does so, by the contract of `Front`.
 //!

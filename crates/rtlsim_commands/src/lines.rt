@@ -25,7 +25,7 @@ use rtlsim_listing::{ListingFault, net_name, show_faults};
 use std::alloc::Global;
 use vhdl_source_rules::SourceFault;
 
-/// Writes the lines that tell a fault, with the names of the net that has it, and answers the status. It takes the memory of a few
+/// Writes the lines that tell a fault, with the names of the netlist that has it, and answers the status. It takes the memory of a few
 /// names at a time; where that is refused it tells so in their place.
 pub fn tell_fault<E: Sink>(alloc: Global, net: &Net, fault: &Fault, err: &mut E) -> Status
     requires intact { IsIntact (E.state err.old) }
@@ -78,7 +78,7 @@ pub fn push_memory<S: Sink>(sink: &mut S)
     push_text(sink, b"rtlsim: memory\n");
 }
 
-/// Writes what tells a fault of a net.
+/// Writes what tells a fault of a netlist.
 fn push_fault<S: Sink>(
     alloc: Global,
     net: &Net,

@@ -1,4 +1,4 @@
-//! The lines of a net, and of the checker's verdict on it.
+//! The lines of a netlist, and of the checker's verdict on it.
 
 ghost use Rattle.std.specs.Prelude.{◌≡◌, IfErr, length};
 ghost use Rattle.rtl_check.specs.Verdicts as verdicts;
@@ -36,7 +36,7 @@ pub fn show_net<F: Front, S: Sink>(
     list_net(&net, out)
 }
 
-/// Writes the lines of a net. It takes memory for one name at a time.
+/// Writes the lines of a netlist. It takes memory for one name at a time.
 ///
 /// # Errors
 ///
@@ -69,7 +69,7 @@ pub fn show_check<F: Front, S: Sink>(
     check_net(alloc, &net, out)
 }
 
-/// Checks a net, writes the lines of the verdict, and answers whether it is yes. It takes memory in proportion to the net.
+/// Checks a netlist, writes the lines of the verdict, and answers whether it is yes. It takes memory in proportion to the netlist.
 ///
 /// # Errors
 ///
@@ -103,7 +103,7 @@ pub fn show_check_dot<F: Front, S: Sink>(
     check_net_dot(alloc, &net, out)
 }
 
-/// Checks a net, draws its levels where the verdict is yes and writes its lines else, and answers whether it is yes. It takes memory in
+/// Checks a netlist, draws its levels where the verdict is yes and writes its lines else, and answers whether it is yes. It takes memory in
 /// proportion to the net.
 ///
 /// # Errors

@@ -45,7 +45,7 @@ pub fn run<F: Front, P: Pick, S: Sink>(
     run_net(alloc, &net, stimulus, pick, out)
 }
 
-/// Simulates a net under a stimulus, as `run` does the netlist of a source.
+/// Simulates a netlist under a stimulus, as `run` does the netlist of a source.
 ///
 /// # Errors
 ///
@@ -91,7 +91,7 @@ pub fn run_levels<F: Front, S: Sink>(
     run_net_levels(alloc, &net, stimulus, out)
 }
 
-/// Simulates a net under a stimulus, as `run_levels` does the netlist of a source.
+/// Simulates a netlist under a stimulus, as `run_levels` does the netlist of a source.
 ///
 /// # Errors
 ///
@@ -112,7 +112,7 @@ pub fn run_net_levels<S: Sink>(
     }
 }
 
-/// Writes, for each out port of the top in order of declaration, the line `NAME=VALUE` with its value once the net of the source
+/// Writes, for each out port of the top in order of declaration, the line `NAME=VALUE` with its value once the netlist of the source
 /// has settled under these inputs: `source` has the bytes of the file, `top` the name of an entity in it, in letters of either
 /// case, and each of `sets` is a text NAME=VALUE. It takes memory for the source's net and for the values of the nets.
 ///
@@ -136,7 +136,7 @@ pub fn eval<F: Front, S: Sink>(
     eval_net(alloc, &net, sets, out)
 }
 
-/// Evaluates a net, as `eval` does the netlist of a source.
+/// Evaluates a netlist, as `eval` does the netlist of a source.
 ///
 /// # Errors
 ///

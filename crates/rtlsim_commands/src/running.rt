@@ -51,7 +51,7 @@ pub fn run_event<F: Front, P: Pick, S: Sink>(
     run_events(alloc, &net, stimulus, pick, out)
 }
 
-/// Simulates a net under a stimulus, by events, and writes the trace, as `run_event` does for the netlist of a source.
+/// Simulates a netlist under a stimulus, by events, and writes the trace, as `run_event` does for the netlist of a source.
 ///
 /// # Errors
 ///

@@ -206,7 +206,7 @@ fn refuse_source<O: Sink, E: Sink>(fault: SourceFault, out: &O, err: &mut E) -> 
     ended_by_writes(said, out, err)
 }
 
-/// Tells a fault of a net with its names, and answers the status.
+/// Tells a fault of a netlist with its names, and answers the status.
 fn refuse_net<O: Sink, E: Sink>(
     alloc: Global,
     net: &Net,

@@ -119,7 +119,7 @@ abbrev pub graph_text : NetlistView → Report → List ℕ
 graph_text net r =
     columns_text (greatest_level r.levels.items) ++ lines (process_lines net r.levels.items) (length r.levels.items) ++ codes "}\n"
 
--- the graph of a net that the checker accepts, and the faults of another
+-- the graph of a netlist that the checker accepts, and the faults of another
 abbrev pub dot_text : NetlistView → Verdict → List ℕ
 dot_text net (Yes report) = graph_text net report
 dot_text net (No faults) = rejection_text net faults.items

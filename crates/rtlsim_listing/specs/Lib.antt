@@ -1,4 +1,4 @@
--- The lines of a net and of a verdict. In order of reading:
+-- The lines of a netlist and of a verdict. In order of reading:
 pub mod NetText
 pub mod CheckText
 pub mod DotText

@@ -14,7 +14,7 @@ use rtl_net::{Net, NoMemory};
 use rtl_sink::{Sink, finish};
 use std::alloc::Global;
 
-/// Writes the checker's verdict on a net: `yes` with the greatest level, the bound and the level of each combinational process,
+/// Writes the checker's verdict on a netlist: `yes` with the greatest level, the bound and the level of each combinational process,
 /// or `no` with a line for each fault. It takes the memory of a few names at a time. Where a verdict names what the net
 /// doesn't have, as one on another net may, nothing stands for the name.
 ///
@@ -55,7 +55,7 @@ pub fn show_dot<W: Sink>(
     Ok(())
 }
 
-/// Writes the checker's no: `no`, and a line for each of these faults of a net, as `show_check` does.
+/// Writes the checker's no: `no`, and a line for each of these faults of a netlist, as `show_check` does.
 ///
 /// # Errors
 ///

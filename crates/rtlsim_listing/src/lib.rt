@@ -1,4 +1,4 @@
-//! What is printed of a net and of the checker's verdict on it, in lines.
+//! What is printed of a netlist and of the checker's verdict on it, in lines.
 //!
 //! `specs/NetText.antt` and `specs/CheckText.antt` define the lines, `specs/DotText.antt` the graph of an accepted netlist's levels, and
 //! `specs/Printing.antt` says what goes out of them where the sink fails or memory is refused.

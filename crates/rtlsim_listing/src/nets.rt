@@ -1,4 +1,4 @@
-//! The lines of a net.
+//! The lines of a netlist.
 
 ghost use Rattle.std.specs.Prelude.{◌<◌, length};
 ghost use Rattle.rtl_sink.specs.Written.{IsIntact, Goes};

@@ -1,4 +1,4 @@
--- The flat net of a numbered design, none of whose rules is broken.
+-- The flat netlist of a numbered design, none of whose rules is broken.
 use Rattle.std.specs.Prelude.{◌<◌, not, All, Ok}
 use Rattle.std.specs.List.{AllByRecursion}
 use Rattle.vhdl_expand_rules.specs.declared.fault.ElabProblem.TheVariants.{TwoUnresolved, ReadOfShared}

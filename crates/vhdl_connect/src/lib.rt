@@ -1,4 +1,6 @@
-//! The parts of the flat netlist of a design (IEEE 1076-2008, 6.4.2.3, 14.7.2, 14.7.3).
+//! The flat netlist of a design, from the tree of its instances: `number` takes the tree apart into the tables of the netlist,
+//! `wire` gives these their inputs, sources, idle ports and starts, and `connect` is both (IEEE 1076-2008, 6.4.2.3, 14.7.2,
+//! 14.7.3).
 #![tactic(auto)]
 
 mod connection;

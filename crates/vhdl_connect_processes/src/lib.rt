@@ -1,4 +1,5 @@
-//! The flat net of a design's tree of instances (IEEE 1076-2008, 14.2, 14.7.2, 14.7.3).
+//! Processes of the flat netlist of a design, and what an instance drives and reads of its elements' nets (IEEE 1076-2008, 14.2,
+//! 14.7.2, 14.7.3).
 #![tactic(auto)]
 
 mod kind;

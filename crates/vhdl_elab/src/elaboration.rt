@@ -16,7 +16,7 @@ use vhdl_expand_rules::ElabFault;
 use vhdl_names_units::Units;
 
 /// Elaborates the design whose top is the entity of this name, in letters of either case. The generics of the top have their
-/// defaults, and its ports are joined to nothing. It takes the memory of the tree of instances and then of the net, within the
+/// defaults, and its ports are joined to nothing. It takes the memory of the tree of instances and then of the netlist, within the
 /// limits of elaboration.
 pub fn elaborate(alloc: Global, units: &Units, top: &[u8]) -> Result<Net, ElabFault>
     requires sound { IsTrue (are_sound (units_view units.now)) }

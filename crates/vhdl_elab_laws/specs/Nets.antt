@@ -8,7 +8,7 @@ use Rattle.vhdl_names_rules.specs.sound.Named.{are_named}
 use Rattle.vhdl_elab_rules.specs.Elaboration.{Elaborated, elaborated_net}
 use Rattle.vhdl_elab_laws.specs.Shown.{Shows}
 
--- A net that shows what is elaborated from sound and named units, and whose processes list what their bodies read, is a net.
+-- A netlist that shows what is elaborated from sound and named units, and whose processes list what their bodies read, is one in the sense of rtl_net.
 abbrev pub EachElaboratedIsNet : Type 0
 EachElaboratedIsNet =
     (units : Units) (top : List ℕ) (x : Elaborated) (net : NetlistView) → IsTrue (are_sound units) → IsTrue (are_named units)

@@ -57,7 +57,7 @@ as_shown given = do
   x ← given
   Ok (shown x)
 
--- ---- of a net of the code
+-- ---- of a netlist of the code
 
 abbrev pub net_variable_shown : Variable → List ℕ × SignalKind
 net_variable_shown v = (v.name.items, v.kind)

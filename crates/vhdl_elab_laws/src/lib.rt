@@ -1,4 +1,7 @@
-//! The ports of an elaborated netlist's top, as a stimulus speaks of them.
+//! Laws over elaborated netlists: what a `Net` shows of one, with its names, and the ports of its top, as a stimulus speaks of
+//! them.
+//!
+//! `specs/Shown.antt` says what it is to show a netlist, `specs/Nets.antt`, `specs/Names.antt` and `specs/Ports.antt` have the laws.
 #![tactic(auto)]
 
 pub mod net_laws;

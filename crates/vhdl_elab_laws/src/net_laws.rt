@@ -4,13 +4,13 @@ ghost use Rattle.vhdl_elab_laws.specs.Names.{EachHasItsNames};
 ghost use Rattle.vhdl_elab_laws.specs.Nets.{EachElaboratedIsNet};
 ghost use Rattle.vhdl_elab_laws.specs.Prefixes.{EachTreeIsDotted};
 
-/// A net that shows what is elaborated from sound and named units, and whose processes list what their bodies read, meets
+/// A netlist that shows what is elaborated from sound and named units, and whose processes list what their bodies read, meets
 /// all that holds of every `Net`.
 pub fn elaborated_are_nets()
     ensures { EachElaboratedIsNet }
 {}
 
-/// Nets and processes have the names that rtl_net makes of the scopes, signals and processes of a net that shows them.
+/// Nets and processes have the names that rtl_net makes of the scopes, signals and processes of a netlist that shows them.
 pub fn names_are_alike()
     ensures { EachHasItsNames }
 {}

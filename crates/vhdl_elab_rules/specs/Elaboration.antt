@@ -1,5 +1,5 @@
 -- Elaboration of a design (IEEE 1076-2008, clause 14): its units and the name of its top are expanded, the instances, nets
--- and processes are numbered, and the net is wired. It is refused where an expansion is, and where the design as a whole
+-- and processes are numbered, and the netlist is wired. It is refused where an expansion is, and where the design as a whole
 -- breaks a rule.
 use Rattle.std.specs.Prelude.{ℕ, not, List, map, flat_map, Ok}
 use Rattle.std.specs.List.{enumerate_from}
@@ -34,7 +34,7 @@ net_of d = record {
   process_names = process_names d;
 }
 
--- the net of a design, none of whose rules is broken
+-- the netlist of a design, none of whose rules is broken
 unfoldable pub connected : Design → Elab Elaborated
 connected design = do
   let d = numbered_design design

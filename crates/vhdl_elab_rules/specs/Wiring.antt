@@ -1,4 +1,4 @@
--- The flat net of a design whose instances, nets and processes are numbered (IEEE 1076-2008, 6.4.2.3, 14.7.2, 14.7.3).
+-- The flat netlist of a design whose instances, nets and processes are numbered (IEEE 1076-2008, 6.4.2.3, 14.7.2, 14.7.3).
 use Rattle.std.specs.Prelude.{ℕ, ◌+◌, Bool, true, false, not, ◌&&◌, ◌==◌, List, [], ◌∷◌, ◌++◌, map, filter, flat_map, count_by, slice_index, is_none}
 use Rattle.std.specs.List.{range_with_len}
 use Rattle.rtl_model.specs.bodies.Types.{ElementType}

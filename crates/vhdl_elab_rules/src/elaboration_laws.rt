@@ -33,18 +33,18 @@ pub fn bodies_fit_the_net()
     ensures { EachBodyIsConnected }
 {}
 
-/// In a net of sound units each element has a net of its type, and each process is in range.
+/// In a netlist of sound units each element has a net of its type, and each process is in range.
 pub fn processes_fit_the_net()
     ensures { EachProcessFits }
 {}
 
-/// In a net of sound units idle ports hold values of their nets' types, nothing drives the top's in ports, and a net with
+/// In a netlist of sound units idle ports hold values of their nets' types, nothing drives the top's in ports, and a net with
 /// sources starts with their resolution.
 pub fn nets_are_wired()
     ensures { EachNetIsWired }
 {}
 
-/// A net that is elaborated from sound units is in range and connected, so that the laws of simulation hold of it, and it
+/// A netlist that is elaborated from sound units is in range and connected, so that the laws of simulation hold of it, and it
 /// is within the limits.
 pub fn nets_are_sound()
     ensures sound { EachNetIsSound }
@@ -56,14 +56,14 @@ pub fn scopes_follow_the_text()
     ensures { EachScopeFollows }
 {}
 
-/// In a net of sound units each signal has as many nets as its kind has elements, of its elements' type, and each variable
+/// In a netlist of sound units each signal has as many nets as its kind has elements, of its elements' type, and each variable
 /// starts with as many values.
 pub fn signals_fit_the_net()
     ensures signals { EachSignalFits }
     ensures variables { EachVariableFits }
 {}
 
-/// In a net of named units each scope has a label, each signal and variable a name, and each process a scope that is there.
+/// In a netlist of named units each scope has a label, each signal and variable a name, and each process a scope that is there.
 pub fn parts_have_names()
     ensures { EachHasNames }
 {}

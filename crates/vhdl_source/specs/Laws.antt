@@ -30,6 +30,6 @@ EachRefusedHasNone =
     (source top : List ℕ) (fault : SourceFault) (design : Elaborated)
     → IsBehindLexer fault → Refuses source top fault → HasDesign source top design → ⊥
 
--- A stimulus can speak of the net's ports.
+-- A stimulus can speak of the netlist's ports.
 abbrev pub EachNetHasOwnPorts : Type 0
 EachNetHasOwnPorts = (source top : List ℕ) (net : NetlistView) → IsNetOf source top net → HasOwnPorts net

@@ -35,7 +35,7 @@ abbrev pub GivesUnits : File → Result Units SourceFault → Type 0
 GivesUnits file (Ok units) = rules.units_of file ≡ Some (units_view units)
 GivesUnits file (Err fault) = HasNameFault file fault
 
--- the units have this net
+-- the units have this netlist
 pub record ShowsTop (units : u.Units) (top : List ℕ) (net : NetlistView) : Type 0 where
   pub design : Elaborated
   pub is : elaborated_net units top ≡ Ok design

@@ -1,4 +1,4 @@
-//! From a source to its net.
+//! From a source to its netlist.
 
 ghost use Rattle.std.specs.Prelude.{◌≡◌, IsTrue, IfOk, IfErr, List, ℕ, length};
 ghost use Rattle.rtl_stim.specs.Ports.{HasOwnPorts};
@@ -26,7 +26,7 @@ use vhdl_tree::File;
 
 /// The netlist of a source: `source` has the bytes of one file, `top` the name of an entity in it, in letters of either case. The
 /// file is read, its names and types are analysed, and its top is elaborated (IEEE 1076-2008, clauses 15, 12 and 14). It takes
-/// memory in proportion to the source and to the net, within the limits of elaboration.
+/// memory in proportion to the source and to the netlist, within the limits of elaboration.
 ///
 /// # Errors
 ///
@@ -73,7 +73,7 @@ fn units_of(alloc: Global, file: &File, size: usize) -> Result<Units, SourceFaul
     }
 }
 
-/// The net of a top of some units, whose source has `size` bytes.
+/// The netlist of a top of some units, whose source has `size` bytes.
 fn net_of(alloc: Global, units: &Units, top: &[u8], size: usize) -> Result<Net, SourceFault>
     requires sound { IsTrue (are_sound (units_view units.now)) }
     requires named { IsTrue (are_named (units_view units.now)) }

@@ -1,4 +1,4 @@
--- The design of a source under a top, and the net that shows it (IEEE 1076-2008, clauses 3, 13 and 14).
+-- The design of a source under a top, and the netlist that shows it (IEEE 1076-2008, clauses 3, 13 and 14).
 use Rattle.std.specs.Prelude.{◌≡◌, ℕ, List, Some, Ok}
 use Rattle.rtl_net.specs.Nets.{NetlistView}
 use Rattle.vhdl_elab_rules.specs.Elaboration.{Elaborated, elaborated_net}
@@ -21,7 +21,7 @@ pub record HasDesign (source top : List ℕ) (design : Elaborated) : Type 0 wher
   pub analysed : HasUnits source units
   pub is : elaborated_net units top ≡ Ok design
 
--- The net shows the source's design: its nets, sources, starts and bodies, its scopes and signals are the design's, and so are the
+-- The netlist shows the source's design: its nets, sources, starts and bodies, its scopes and signals are the design's, and so are the
 -- names of its nets and processes.
 pub record IsNetOf (source top : List ℕ) (net : NetlistView) : Type 0 where
   pub design : Elaborated

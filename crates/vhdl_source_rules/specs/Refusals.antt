@@ -1,4 +1,4 @@
--- Why a source has no net under a top: the first layer that refuses, each where its own definition does.
+-- Why a source has no netlist under a top: the first layer that refuses, each where its own definition does.
 use Rattle.std.specs.Prelude.{◌≡◌, ℕ, List, None, IsErr}
 use Rattle.vhdl_elab_rules.specs.Elaboration.{elaborated_net}
 use Rattle.vhdl_expand_rules.specs.declared.fault.ElabFault.TheVariants as elab

@@ -1,4 +1,4 @@
-//! Why a source has no net.
+//! Why a source has no netlist.
 
 ghost use Rattle.std.specs.Prelude.{◌≡◌};
 ghost use Rattle.vhdl_source_rules.specs.Faults.{of_lex, of_syntax, of_name, of_elab};
@@ -9,7 +9,7 @@ use vhdl_lexer::LexFault;
 use vhdl_names_rules::NameFault;
 use vhdl_parser::SyntaxFault;
 
-/// Why a source has no net with this top, by the first layer that refuses it. A layer's want of memory is `NoMemory`.
+/// Why a source has no netlist with this top, by the first layer that refuses it. A layer's want of memory is `NoMemory`.
 #[derive(Clone, Copy, PartialEq, Eq, Debug, Error)]
 pub enum SourceFault {
     /// The source has no tokens.

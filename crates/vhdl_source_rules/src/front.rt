@@ -1,4 +1,4 @@
-//! From the bytes of a source to its net, for whoever reads sources.
+//! From the bytes of a source to its netlist, for whoever reads sources.
 
 ghost use Rattle.std.specs.Prelude.{IfOk, IfErr, length};
 ghost use Rattle.rtl_stim.specs.Ports.{HasOwnPorts};
@@ -13,7 +13,7 @@ use std::alloc::Global;
 /// Whatever turns sources into nets.
 pub trait Front {
     /// The netlist of a source: `source` has the bytes of one file, `top` the name of an entity in it, in letters of either case
-    /// (IEEE 1076-2008, 13.5 and clause 14). It takes memory in proportion to the source and to the net.
+    /// (IEEE 1076-2008, 13.5 and clause 14). It takes memory in proportion to the source and to the netlist.
     ///
     /// # Errors
     ///

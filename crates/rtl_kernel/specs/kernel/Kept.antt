@@ -47,7 +47,7 @@ pub record IsSound (net : FlatNetlist) (s : State) : Type 0 where
   -- what is still to run has no transaction
   pub fresh : (p : ℕ) → IsToRun s p → IsActive s.pending p → ⊥
 
--- what a kernel keeps is of its net, and fits together
+-- what a kernel keeps is of its netlist, and fits together
 pub record IsKernel {E : Type 0} (process : E → FlatProcess) (types : E → List ElementType) (most : E → ℕ)
     (net : NetlistView) (bodies : List E) (cuts : Cutting) (values : TwoValues) (drivers : Transactions) (resumed : ToRun) (noted : Numbers) : Type 0 where
   pub in_range : IsInRange (flat net)

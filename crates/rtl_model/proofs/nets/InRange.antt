@@ -1,4 +1,4 @@
--- The bodies of a net in range assign values of their targets' types, and read nothing that isn't there.
+-- The bodies of a netlist in range assign values of their targets' types, and read nothing that isn't there.
 use Rattle.std.proofs.Common.{◌≡◌, ℕ, zero, suc, ◌+◌, ◌<◌, ◌≤◌, List, [], ◌∷◌, ◌++◌, length, get_or, map, replicate, slice_index, Option, Some, None}
 use Rattle.std.proofs.Common.{refl, sym, ap, ◌∙◌, subst, arith, ◌⊎◌, inl, inr, All, length-append}
 use Rattle.std.proofs.lemmas.List.{length-map, length-replicate, get_or_past}

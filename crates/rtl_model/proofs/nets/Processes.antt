@@ -26,7 +26,7 @@ use Rattle.rtl_model.proofs.bodies.Assigned.{each_run_assigns}
 use Rattle.rtl_model.proofs.bodies.Looking.{looks_at_reads}
 use Rattle.rtl_model.proofs.bodies.Clocking.{clocked_is, each_kind_is_as_said, follows_its_edge, resets_read_nothing}
 
--- ---- a process of the net
+-- ---- a process of the netlist
 
 pub process-core_net : (net : FlatNetlist) (p : ℕ) → c.process (core_netlist net) p ≡ core_process net.inputs (flat.process_at net p)
 process-core_net net p = get_or-map (core_process net.inputs) net.processes p flat.no_flat_process

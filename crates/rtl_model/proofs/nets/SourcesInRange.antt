@@ -1,4 +1,4 @@
--- The sources of a net in range give values of its type.
+-- The sources of a netlist in range give values of its type.
 use Rattle.std.proofs.Common.{◌≡◌, ℕ, ◌<◌, ◌≤◌, List, [], ◌∷◌, length, get_or, map, slice_index, refl, ap, subst, arith, Contains}
 use Rattle.std.proofs.lemmas.List.{length-map}
 use Rattle.vhdl_values.specs.Scalar.{value_of_code}

@@ -42,7 +42,6 @@ module _ (net : Netlist) (wired : IsWired net) where
   same_driver s p place e =
       ap (λ (row : List ℕ). get_or row place 0) (driven_all_at s.pending s.drivers p) ∙ go (cases_lt place (length (get_or s.drivers p [])))
     where
-
       go : (place < length (get_or s.drivers p [])) ⊎ (length (get_or s.drivers p []) ≤ place) → get_or (driver_values (get_or s.pending p []) (get_or s.drivers p [])) place 0 ≡ get_or (get_or s.drivers p []) place 0
       go (inl l) = driven_at (get_or s.pending p []) (get_or s.drivers p []) place l ∙ ap (λ (o : Option ℕ). entry_or o (get_or (get_or s.drivers p []) place 0)) e
       go (inr l) =

@@ -1,4 +1,4 @@
--- A net has one list of faults, unless it has loops alone; and one at all only where it isn't accepted.
+-- A netlist has one list of faults, unless it has loops alone; and one at all only where it isn't accepted.
 use Rattle.std.proofs.Common.{◌≡◌, ℕ, Bool, true, false, List, [], ◌∷◌, refl, subst, arith, ◌⊎◌, inl, inr, IsTrue}
 use Rattle.std.proofs.lemmas.Bool.{false_from_ne_true}
 use Rattle.rtl_model.specs.simulation.Netlist.{Netlist, process}

@@ -1,4 +1,4 @@
--- An accepted net has one machine run under each stimulus.
+-- An accepted netlist has one machine run under each stimulus.
 use Rattle.std.proofs.Common.{◌≡◌, ℕ, zero, suc, Bool, false, List, [], ◌∷◌, get_or, None, sym, ap, ◌∙◌, subst}
 use Rattle.rtl_model.specs.basics.Valuations.{clocked_entry}
 use Rattle.rtl_model.proofs.simulation.Faultless.{Faultless, faultless}

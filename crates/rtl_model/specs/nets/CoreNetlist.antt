@@ -75,7 +75,7 @@ core_process inputs p =
       stores = λ variable place. stores_one p.body (element_number p.variables variable place);
     }
 
--- ---- the net
+-- ---- the netlist
 
 -- one value is passed on as it is, an enumeration's too; several are of the nine and are resolved by the table
 abbrev pub core_resolve : List ℕ → ℕ

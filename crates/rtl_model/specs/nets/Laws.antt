@@ -1,4 +1,4 @@
--- What the laws of simulation ask of a net, of each flat net: of its values and bodies always, of its wiring where it is
+-- What the laws of simulation ask of a netlist, of each flat one: of its values and bodies always, of its wiring where it is
 -- connected. So whoever makes a flat netlist owes facts about its wiring alone; and then the laws hold of it as they stand.
 use Rattle.std.specs.Prelude.{◌≡◌, ◌≢◌, ◌↔◌, ℕ, ◌<◌, ◌≤◌, false, All, List, [], length, Option, Some, None, IsTrue}
 use Rattle.rtl_model.specs.bodies.Effect.{effect_of}
@@ -19,7 +19,7 @@ use Rattle.rtl_model.specs.simulation.Machine.{Solves, IsMachineRun}
 use Rattle.rtl_model.specs.simulation.Range.{KeepsRange, SourcesKeepRange, StateInRange, AreInputs}
 use Rattle.rtl_model.specs.simulation.Laws.{HasNoReset}
 
--- ---- of every flat net
+-- ---- of every flat netlist
 
 abbrev pub EachHasValues : Type 0
 EachHasValues = (net : FlatNetlist) → HasValues (core_netlist net)

@@ -48,7 +48,7 @@ pub data Fault : Type 0 where
   Loop : (processes : List ℕ) → Fault
   StoredVariable : (process variable place : ℕ) → Fault
 
--- the net has this fault
+-- the netlist has this fault
 abbrev pub IsFault : Netlist → Fault → Type 0
 -- n has two sources or more, these being the first two
 IsFault net (TwoDrivers n first second) = (more : List Source) × (sources_of net n ≡ first ∷ second ∷ more)

@@ -1,4 +1,4 @@
--- What holds of every net that was elaborated: of its wiring, of the nine values' resolution and edges, and of its bodies.
+-- What holds of every netlist that was elaborated: of its wiring, of the nine values' resolution and edges, and of its bodies.
 use Rattle.std.specs.Prelude.{◌≡◌, ℕ, ◌<◌, false, List, [], ◌∷◌, length, slice_index, slice_index_or, map, None, IsSome, IsTrue, Contains}
 use Rattle.rtl_model.specs.basics.Valuations.{AgreeOn, clocked_entry}
 use Rattle.rtl_model.specs.simulation.Netlist.{Netlist, Source, Driver, Reset, Edge, process, sources_of, target}

@@ -1,4 +1,4 @@
--- The list of a net's faults: all but loops, in order, each once; or else one loop.
+-- The list of a netlist's faults: all but loops, in order, each once; or else one loop.
 use Rattle.std.specs.Prelude.{◌≡◌, ◌≢◌, ℕ, ◌⊎◌, ◌↔◌, Bool, not, ◌==◌, IsTrue, List, [], ◌∷◌, Contains}
 use Rattle.rtl_model.specs.basics.Lists.{RisesBy}
 use Rattle.rtl_model.specs.simulation.Netlist.{Netlist}
@@ -37,7 +37,7 @@ is_no_loop fault = not (fault_number fault == 8)
 abbrev pub is_of_stored : Fault → Bool
 is_of_stored fault = fault_number fault == 9
 
--- these are the net's faults of some kind, in order, each once
+-- these are the netlist's faults of some kind, in order, each once
 pub record AreFaultsOf (net : Netlist) (among : Fault → Bool) (faults : List Fault) : Type 0 where
   pub are : (fault : Fault) → Contains faults fault ↔ (IsFault net fault × IsTrue (among fault))
   pub rise : RisesBy fault_key faults
@@ -56,6 +56,6 @@ pub record IsOneLoop (net : Netlist) (faults : List Fault) : Type 0 where
   pub loop : IsLoop net processes
   pub no_other : AreFaultsButLoops net []
 
--- what a checker lists of a net that isn't accepted
+-- what a checker lists of a netlist that isn't accepted
 abbrev pub AreFaults : Netlist → List Fault → Type 0
 AreFaults net faults = (AreFaultsButLoops net faults × (faults ≢ [])) ⊎ IsOneLoop net faults

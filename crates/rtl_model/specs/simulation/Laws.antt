@@ -13,7 +13,7 @@ use Rattle.rtl_model.specs.simulation.Races.{IsRace, HasNoRace, IsRaceOf, IsFirs
 use Rattle.rtl_model.specs.simulation.Machine.{Solves, IsMachineRun}
 use Rattle.rtl_model.specs.simulation.Range.{IsValuation, KeepsRange, SourcesKeepRange, StateInRange, AreInputs, AreRegisters}
 
--- ---- of every net
+-- ---- of every netlist
 
 -- two orders of one cycle's Runs end in the same state
 abbrev pub OrderIsFree : Type 0
@@ -132,7 +132,7 @@ pub record ClocksShowRaces (net : Netlist) (clocks : List (ℕ × Edge)) : Type 
 abbrev pub EachClockShowsRaces : Type 0
 EachClockShowsRaces = (net : Netlist) (clocks : List (ℕ × Edge)) → AreClocks net clocks → ClocksShowRaces net clocks
 
--- A net has one list of faults, unless it has loops alone; and one at all only where it isn't accepted.
+-- A netlist has one list of faults, unless it has loops alone; and one at all only where it isn't accepted.
 pub record FaultsAreListed (net : Netlist) : Type 0 where
   pub one_of : (among : Fault → Bool) (faults other : List Fault) → AreFaultsOf net among faults → AreFaultsOf net among other → faults ≡ other
   pub one_list : (faults other : List Fault) → AreFaults net faults → AreFaults net other
@@ -151,7 +151,7 @@ pub record StepsKeepRange (net : Netlist) : Type 0 where
   pub gives : (inputs : ℕ → ℕ) (s : State) → AreInputs net inputs → StateInRange net s → StateInRange net (after_inputs net inputs s)
   pub runs : (p : ℕ) (s : State) → StateInRange net s → StateInRange net (after_run net p s)
 
--- So whatever a net settles in, accepted or not, has values of the nets' types, where the stimulus has.
+-- So whatever a netlist settles in, accepted or not, has values of the nets' types, where the stimulus has.
 abbrev pub StatesInRange : Type 0
 StatesInRange =
     (net : Netlist) → IsWired net → KeepsRange net → SourcesKeepRange net

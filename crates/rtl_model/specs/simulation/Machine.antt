@@ -8,7 +8,7 @@ use Rattle.rtl_model.specs.simulation.Netlist.{Netlist, Edge, process, target, r
 abbrev pub IsDriven : Netlist → ℕ → Type 0
 IsDriven net n = (p : ℕ) × (place : ℕ) × HasPlace net p place × (target net p place ≡ n)
 
--- the valuation v solves the net's equations for these inputs and registers
+-- the valuation v solves the netlist's equations for these inputs and registers
 pub record Solves (net : Netlist) (inputs registers : ℕ → ℕ) (v : List ℕ) : Type 0 where
   pub each_net : length v ≡ length net.start
   pub on_inputs : (n : ℕ) → IsInput net n → slice_index v n ≡ inputs n

@@ -1,4 +1,4 @@
--- What a net is to a simulation: its processes, where each net's value comes from, and how values are resolved and
+-- What a netlist is to a simulation: its processes, where each net's value comes from, and how values are resolved and
 -- compared (IEEE 1076-2008, 14.7.2 and 14.7.3). Nets, processes and values are numbers: a net and a process by its place
 -- in the elaborated design, a value by its place in its type. A valuation is the list of all nets' values.
 use Rattle.std.specs.Prelude.{false, ◌≡◌, ℕ, ◌<◌, Bool, List, [], length, slice_index, slice_index_or, map, Option, Some, None, IsTrue, ◌==◌}

@@ -1,4 +1,4 @@
--- How the tables of a net are filled.
+-- How the tables of a netlist are filled.
 use Rattle.std.specs.Prelude.{◌≡◌, ℕ, ◌<◌, List, [], ◌++◌, length, map, slice_index_or, Option, Some, None}
 use Rattle.smallvec.specs.SmallVec.{SmallVec}
 use Rattle.rtl_model.specs.simulation.Netlist as core

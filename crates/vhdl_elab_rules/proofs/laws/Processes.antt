@@ -1,4 +1,4 @@
--- The processes of a net of sound units are in range.
+-- The processes of a netlist of sound units are in range.
 use Rattle.std.proofs.Common.{◌≡◌, ℕ, ◌<◌, List, [], ◌∷◌, ◌++◌, length, map, replicate, Ok, All, refl, sym, ap, ◌∙◌, subst, arith}
 use Rattle.std.specs.Prelude.{slice_index, IsTrue}
 use Rattle.std.proofs.lemmas.Option.{slice_get_within}

@@ -1,4 +1,4 @@
--- The parts of a net that is elaborated from named units have names and labels, and a process stands in a scope that is there
+-- The parts of a netlist that is elaborated from named units have names and labels, and a process stands in a scope that is there
 -- (IEEE 1076-2008, 16.2.5).
 use Rattle.std.specs.Prelude.{◌≡◌, ◌≢◌, ℕ, ◌<◌, All, List, [], length, Ok, IsTrue, IfSome}
 use Rattle.vhdl_names_rules.specs.units.Units.{Units}
@@ -6,7 +6,7 @@ use Rattle.vhdl_names_rules.specs.sound.Named.{are_named}
 use Rattle.vhdl_elab_rules.specs.Names.{Scope, Signal, NamedVariable, NamedProcess}
 use Rattle.vhdl_elab_rules.specs.Elaboration.{Elaborated, elaborated_net}
 
--- a process of a net with so many scopes
+-- a process of a netlist with so many scopes
 pub record ProcessHasName (scopes : ℕ) (p : NamedProcess) : Type 0 where
   pub scope : p.scope < scopes
   pub label : IfSome p.label (λ label. label ≢ [])

@@ -7,7 +7,7 @@ use Rattle.vhdl_names_rules.specs.units.Units.{Units}
 use Rattle.vhdl_elab_rules.specs.Names.{Scope}
 use Rattle.vhdl_elab_rules.specs.Elaboration.{Elaborated, elaborated_net}
 
--- what contracts see of a scope in a net
+-- what contracts see of a scope in a netlist
 abbrev pub scope_views : List Scope → List ScopeView
 scope_views scopes = map (λ (s : Scope). record { label = s.label; parent = s.parent }) scopes
 

@@ -20,7 +20,7 @@ kind_view one = g.One
 kind_view (vector b) = g.Vector b.left b.right
 kind_view (enumeration count) = g.Enumeration count
 
--- of a net with these types and so many scopes
+-- of a netlist with these types and so many scopes
 pub record SignalFits (types : List ElementType) (scopes : ℕ) (s : Signal) : Type 0 where
   pub scope : s.scope < scopes
   pub width : IsWidth (length s.nets)

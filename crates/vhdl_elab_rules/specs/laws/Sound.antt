@@ -1,4 +1,4 @@
--- What the laws of flat netlists ask of a net holds of every net that is elaborated from sound units: each value, net, place and
+-- What the laws of flat netlists ask of a netlist holds of every netlist that is elaborated from sound units: each value, net, place and
 -- length is in range, nothing inside drives the top's in ports, nets start with the resolution of their sources, and several
 -- sources meet at nets of the nine values alone (IEEE 1076-2008, 14.7).
 use Rattle.std.specs.Prelude.{◌≡◌, ℕ, ◌≤◌, List, length, Ok, IsTrue}

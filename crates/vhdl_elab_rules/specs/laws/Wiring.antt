@@ -1,4 +1,4 @@
--- The wiring of a net of sound units: idle ports hold values of their nets' types, the top's in ports are elements of the nine
+-- The wiring of a netlist of sound units: idle ports hold values of their nets' types, the top's in ports are elements of the nine
 -- values that nothing inside drives, and a net with sources starts with their resolution (IEEE 1076-2008, 14.7.3, 14.7.5.2).
 use Rattle.std.specs.Prelude.{◌≡◌, ℕ, ◌<◌, All, List, [], map, slice_index, slice_index_or, Contains, Ok, IsTrue}
 use Rattle.std.specs.List.Sorted.{IsStrictlyIncreasing}

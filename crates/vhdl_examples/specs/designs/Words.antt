@@ -76,7 +76,7 @@ entity name ports declarations statements = record {
   architecture = Some (record { declarations = declarations; statements = together statements });
 }
 
--- ---- what is shown of a net
+-- ---- what is shown of a netlist
 
 -- the numbers, starts, inputs and sources of nets, and names
 pub record Shown : Type 0 where
