@@ -1,5 +1,7 @@
 //! Explanations of sources that are refused.
 
+ghost use Rattle.vhdl_lexer.specs.Cut.{AreWithin};
+
 use crate::source::{source_of, written_of};
 use rows_tables::{Frame, Teller};
 use rtl_sink::Out;
@@ -45,7 +47,9 @@ fn lexed(alloc: Global, source: &[u8], fault: LexFault) -> Result<String, AllocE
 }
 
 /// The explanation of a fault of the parser, if there is one.
-fn parsed(alloc: Global, source: &[u8], tokens: &[Token]) -> Result<String, AllocError> {
+fn parsed(alloc: Global, source: &[u8], tokens: &[Token]) -> Result<String, AllocError>
+    requires within { AreWithin source.now tokens.now }
+{
     match parse(alloc, source, tokens) {
         Ok(_) => String::from_str(alloc, "read"),
         Err(fault) => refused(alloc, source, fault),
