@@ -11,6 +11,6 @@ mod running;
 mod stepping;
 mod summary;
 
-pub use running::run_levels;
+pub use running::{run_levels, run_levels_watched};
 pub use stepping::Stepping;
 pub use summary::LevelSummary;

@@ -1,7 +1,10 @@
 //! The levelized simulation of a net under a text.
 
+ghost use Rattle.std.specs.Prelude.{IfOk};
 ghost use Rattle.rtl_stim.specs.Ports.{HasOwnPorts};
 ghost use Rattle.rtl_sink.specs.Written.{IsIntact};
+ghost use Rattle.rtl_machine.specs.Answered.{Admits};
+ghost use Rattle.rtl_machine.specs.Watched.{IsToldRun};
 ghost use Rattle.rtl_levelized.specs.Answered.{RunsLevels};
 
 use crate::stepping::Stepping;
@@ -11,6 +14,7 @@ use rtl_machine::{MachineFault, SLOTS, admit};
 use rtl_net::Net;
 use rtl_sink::Sink;
 use rtl_stim::Wheel;
+use rtl_watch::{Unwatched, Watch};
 use std::alloc::Global;
 
 /// Simulates a net under the stimulus that a text says, as the synchronous machine that it is: at each moment the clocked processes
@@ -33,6 +37,26 @@ pub fn run_levels<W: Sink>(
     requires intact { IsIntact (W.state out.old) }
     ensures { RunsLevels net.now text.now (W.state out.old) (W.state out.new) result }
 {
+    run_levels_watched(alloc, net, text, &mut Unwatched, out)
+}
+
+/// The same, and the watch is told the machine's valuation at each moment, as soon as it is known until when that stands.
+///
+/// # Errors
+///
+/// As `run_levels`.
+pub fn run_levels_watched<V: Watch, W: Sink>(
+    alloc: Global,
+    net: &Net,
+    text: &[u8],
+    watch: &mut V,
+    out: &mut W,
+) -> Result<LevelSummary, MachineFault>
+    requires ports { HasOwnPorts net.now }
+    requires intact { IsIntact (W.state out.old) }
+    ensures runs { RunsLevels net.now text.now (W.state out.old) (W.state out.new) result }
+    ensures told { IfOk result (λ _. Admits net.now text.now (λ s bound. IsToldRun net.now s bound (λ stands. V.told watch.old stands watch.new))) }
+{
     let _count = net.nets();
     let admitted = admit(alloc, net, text)?;
     let bodies = codes(alloc, net)?;
@@ -46,5 +70,5 @@ pub fn run_levels<W: Sink>(
     let Ok(mut agenda) = Wheel::new(alloc, SLOTS) else {
         return Err(MachineFault::Memory);
     };
-    stepping.trace(alloc, &mut agenda, out)
+    stepping.trace(alloc, &mut agenda, watch, out)
 }

@@ -9,6 +9,7 @@ ghost use Rattle.rtl_net.specs.Nets.{flat};
 ghost use Rattle.rtl_check.specs.Views.{core};
 ghost use Rattle.rtl_sink.specs.Written.{SinkState, IsIntact};
 ghost use Rattle.rtl_stim_lines.specs.Filling.{Waits};
+ghost use Rattle.rtl_machine.specs.Watched.{IsToldRun};
 ghost use Rattle.rtl_machine.specs.Synchronous.{SaysYes, IsRaceless, IsSynchronous};
 ghost use Rattle.rtl_levelized.specs.Answered.{TracesLevels};
 ghost use Rattle.rtl_levelized.specs.Running.{Begins, GoesOn, HasCome, IsNext};
@@ -22,6 +23,7 @@ use rtl_sink::Sink;
 use rtl_stim::{Agenda, Stimulus};
 use rtl_synchronous::{Machine, laws};
 use rtl_vcd::{Blocks, end, first, header};
+use rtl_watch::Watch;
 use std::alloc::Global;
 
 /// What is simulated: an accepted netlist, whose k-th process the k-th body runs and the k-th level is of, under a stimulus without a race,
@@ -36,17 +38,19 @@ pub struct Stepping<'a, E: Exec> {
 }
 
 impl<E: Exec> Stepping<'_, E> {
-    /// Simulates from 0 to the stimulus's stop, and writes the trace. The agenda is new: nothing waits in it.
+    /// Simulates from 0 to the stimulus's stop, and writes the trace. The agenda is new: nothing waits in it. The watch is told the
+    /// machine's valuation at each moment, as soon as it is known until when that stands.
     ///
     /// It takes the machine's memory, the agenda's, that of the names' blocks, and a byte for each net.
     ///
     /// # Errors
     ///
     /// `Memory` and `Output`, which leave a beginning of the trace.
-    pub fn trace<A: Agenda, W: Sink>(
+    pub fn trace<A: Agenda, V: Watch, W: Sink>(
         &self,
         alloc: Global,
         agenda: &mut A,
+        watch: &mut V,
         out: &mut W,
     ) -> Result<LevelSummary, MachineFault>
         requires accepted { SaysYes (core self.now.net.now) self.now.bound }
@@ -58,7 +62,8 @@ impl<E: Exec> Stepping<'_, E> {
         requires waiting { (A.state agenda.old).waiting ≡ [] }
         requires last { (A.state agenda.old).last ≡ None }
         requires intact { IsIntact (W.state out.old) }
-        ensures { TracesLevels self.now.net.now self.now.stimulus.now self.now.bound (W.state out.old) (W.state out.new) result }
+        ensures traces { TracesLevels self.now.net.now self.now.stimulus.now self.now.bound (W.state out.old) (W.state out.new) result }
+        ensures told { IfOk result (λ _. IsToldRun self.now.net.now self.now.stimulus.now self.now.bound (λ stands. V.told watch.old stands watch.new)) }
     {
         accepted_nets_are_synchronous();
         laws::each_machine_goes_on_alike();
@@ -67,17 +72,18 @@ impl<E: Exec> Stepping<'_, E> {
         let blocks = Blocks::new(alloc, self.net)?;
         let initial = self.stimulus.initial();
         let mut machine = Machine::new(alloc, self.net, self.bodies, self.levels, initial)?;
-        self.run_moments(alloc, &blocks, &mut machine, agenda, out)
+        self.run_moments(alloc, &blocks, &mut machine, agenda, watch, out)
     }
 
-    /// Takes the moments one by one, with a machine at the first, and writes the trace. What the stimulus gives behind 0 waits in the
-    /// agenda.
-    fn run_moments<A: Agenda, W: Sink>(
+    /// Takes the moments one by one, with a machine at the first, and writes the trace; the watch is told of each. What the
+    /// stimulus gives behind 0 waits in the agenda.
+    fn run_moments<A: Agenda, V: Watch, W: Sink>(
         &self,
         alloc: Global,
         blocks: &Blocks<'_>,
         machine: &mut Machine<'_, E>,
         agenda: &mut A,
+        watch: &mut V,
         out: &mut W,
     ) -> Result<LevelSummary, MachineFault>
         requires blocks { blocks.now ≡ self.now.net.now }
@@ -90,17 +96,20 @@ impl<E: Exec> Stepping<'_, E> {
         requires inputs { self.now.stimulus.now.inputs ≡ inputs_of self.now.net.now }
         requires waits { Waits self.now.stimulus.now.inputs self.now.stimulus.now.schedule 0 (A.state agenda.old).waiting }
         requires intact { IsIntact (W.state out.old) }
-        ensures { TracesLevels self.now.net.now self.now.stimulus.now self.now.bound (W.state out.old) (W.state out.new) result }
+        ensures traces { TracesLevels self.now.net.now self.now.stimulus.now self.now.bound (W.state out.old) (W.state out.new) result }
+        ensures told { IfOk result (λ _. IsToldRun self.now.net.now self.now.stimulus.now self.now.bound (λ stands. V.told watch.old stands watch.new)) }
     {
         laws::each_machine_goes_on_alike();
         let _count = self.net.nets();
         let stop = self.stimulus.stop();
         let mut progress = self.begin(alloc, machine, out)?;
         while let Some(time) = agenda.next() {
+            watch.stood(machine.values(), time);
             machine.step(agenda.changes());
             self.stimulus.refill(time, agenda)?;
             self.go_on(time, blocks, machine, &mut progress, out)?;
         }
+        watch.stood(machine.values(), stop + 1);
         end(progress.printed, stop, out)?;
         Ok(LevelSummary {
             moments: progress.moments,

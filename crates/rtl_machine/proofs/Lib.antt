@@ -3,6 +3,7 @@ pub mod BadLines
 pub mod Refusals
 pub mod Texts
 pub mod Traces
+pub mod Told
 pub mod Codes
 pub mod FirstMoment
 pub mod Saying

@@ -1,5 +1,6 @@
 pub mod Synchronous
 pub mod Traced
+pub mod Watched
 pub mod Faults
 pub mod Admitted
 pub mod Answered

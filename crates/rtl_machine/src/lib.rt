@@ -1,7 +1,7 @@
 //! Accepted nets as synchronous machines: what the checker's yes means for a simulation, and the calls that rest on it.
 //!
 //! `specs/Synchronous.antt` has the settling theorem, `specs/Traced.antt`, `specs/Admitted.antt` and `specs/Answered.antt` say
-//! what `run` answers, and `specs/Words.antt` and `specs/Evaluated.antt` what `eval` does.
+//! what `run` answers, `specs/Watched.antt` what a watch is told meanwhile, and `specs/Words.antt` and `specs/Evaluated.antt` what `eval` does.
 //!
 //! Both ask that the ports of the net's top have names of their own, and that the elements of its in ports are the net's inputs,
 //! in their order (`HasOwnPorts` of rtl_stim). A net that a front gives has that (`Front::open` of vhdl_source_rules). Whoever makes
@@ -21,4 +21,4 @@ pub use evaluation::eval;
 pub use fault::MachineFault;
 pub use laws::{accepted_nets_are_synchronous, each_word_sets};
 pub use rtl_run::Summary;
-pub use running::{SLOTS, run, trace};
+pub use running::{SLOTS, run, run_watched, trace, trace_watched};

@@ -1,6 +1,6 @@
 //! The simulation of a net as a machine, with its trace.
 
-ghost use Rattle.std.specs.Prelude.{◌≡◌, [], None};
+ghost use Rattle.std.specs.Prelude.{◌≡◌, [], None, IfOk};
 ghost use Rattle.rtl_kernel.specs.kernel.Kept.{RunBodies};
 ghost use Rattle.rtl_stim.specs.Ports.{HasOwnPorts, inputs_of};
 ghost use Rattle.rtl_stim.specs.Stimuli.{inputs_at};
@@ -9,7 +9,8 @@ ghost use Rattle.rtl_check.specs.Views.{core};
 ghost use Rattle.rtl_sink.specs.Written.{IsIntact};
 ghost use Rattle.rtl_machine.specs.Synchronous.{SaysYes, IsRaceless};
 ghost use Rattle.rtl_machine.specs.Traced.{Traces};
-ghost use Rattle.rtl_machine.specs.Answered.{RunsNet};
+ghost use Rattle.rtl_machine.specs.Answered.{Admits, RunsNet};
+ghost use Rattle.rtl_machine.specs.Watched.{IsToldRun};
 
 use crate::admission::admit;
 use crate::fault::MachineFault;
@@ -22,6 +23,7 @@ use rtl_net::Net;
 use rtl_run::{RunFault, Simulation, Summary};
 use rtl_sink::Sink;
 use rtl_stim::{Agenda, Wheel};
+use rtl_watch::{Unwatched, Watch};
 use std::alloc::Global;
 
 /// How many slots the agenda of a simulation has.
@@ -48,6 +50,27 @@ pub fn run<P: Pick, W: Sink>(
     requires intact { IsIntact (W.state out.old) }
     ensures { RunsNet net.now text.now (W.state out.old) (W.state out.new) result }
 {
+    run_watched(alloc, net, text, pick, &mut Unwatched, out)
+}
+
+/// The same, and the watch is told the machine's valuation at each moment, as soon as it is known until when that stands.
+///
+/// # Errors
+///
+/// As `run`.
+pub fn run_watched<P: Pick, V: Watch, W: Sink>(
+    alloc: Global,
+    net: &Net,
+    text: &[u8],
+    pick: &mut P,
+    watch: &mut V,
+    out: &mut W,
+) -> Result<Summary, MachineFault>
+    requires ports { HasOwnPorts net.now }
+    requires intact { IsIntact (W.state out.old) }
+    ensures runs { RunsNet net.now text.now (W.state out.old) (W.state out.new) result }
+    ensures told { IfOk result (λ _. Admits net.now text.now (λ s bound. IsToldRun net.now s bound (λ stands. V.told watch.old stands watch.new))) }
+{
     let _count = net.nets();
     let admitted = admit(alloc, net, text)?;
     let bodies = codes(alloc, net)?;
@@ -60,7 +83,7 @@ pub fn run<P: Pick, W: Sink>(
     let Ok(mut agenda) = Wheel::new(alloc, SLOTS) else {
         return Err(MachineFault::Memory);
     };
-    trace(alloc, &simulation, &mut agenda, pick, out)
+    trace_watched(alloc, &simulation, &mut agenda, pick, watch, out)
 }
 
 /// Simulates an accepted netlist under a stimulus without a race, with the bound of its report as the limit, and writes the trace.
@@ -88,10 +111,38 @@ pub fn trace<E: Exec, A: Agenda, P: Pick, W: Sink>(
     requires intact { IsIntact (W.state out.old) }
     ensures { Traces simulation.now.net.now simulation.now.stimulus.now simulation.now.limit (W.state out.old) (W.state out.new) result }
 {
+    trace_watched(alloc, simulation, agenda, pick, &mut Unwatched, out)
+}
+
+/// The same, and the watch is told the machine's valuation at each moment.
+///
+/// # Errors
+///
+/// As `trace`.
+pub fn trace_watched<E: Exec, A: Agenda, P: Pick, V: Watch, W: Sink>(
+    alloc: Global,
+    simulation: &Simulation<'_, E>,
+    agenda: &mut A,
+    pick: &mut P,
+    watch: &mut V,
+    out: &mut W,
+) -> Result<Summary, MachineFault>
+    requires accepted { SaysYes (core simulation.now.net.now) simulation.now.limit }
+    requires raceless { IsRaceless (core simulation.now.net.now) (inputs_at simulation.now.stimulus.now) }
+    requires bodies { RunBodies E.process E.types (flat simulation.now.net.now) simulation.now.bodies.now }
+    requires ports { HasOwnPorts simulation.now.net.now }
+    requires inputs { simulation.now.stimulus.now.inputs ≡ inputs_of simulation.now.net.now }
+    requires waiting { (A.state agenda.old).waiting ≡ [] }
+    requires last { (A.state agenda.old).last ≡ None }
+    requires intact { IsIntact (W.state out.old) }
+    ensures traces { Traces simulation.now.net.now simulation.now.stimulus.now simulation.now.limit (W.state out.old) (W.state out.new) result }
+    ensures told { IfOk result (λ _. IsToldRun simulation.now.net.now simulation.now.stimulus.now simulation.now.limit
+        (λ stands. V.told watch.old stands watch.new)) }
+{
     accepted_nets_are_synchronous();
     simulation_laws::one_greatest_count();
     let _count = simulation.net.nets();
-    match simulation.run(alloc, agenda, pick, out) {
+    match simulation.run_watched(alloc, agenda, pick, watch, out) {
         Ok(summary) => Ok(summary),
         Err(RunFault::NoSettling { .. }) => unreachable!(),
         Err(RunFault::Memory) => Err(MachineFault::Memory),

@@ -1,5 +1,6 @@
 pub mod Texts
 pub mod Steps
 pub mod Turns
+pub mod Stands
 pub mod Moments
 pub mod Going

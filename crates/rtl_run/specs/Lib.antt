@@ -1,4 +1,5 @@
 pub mod Simulated
 pub mod Traced
 pub mod Answered
+pub mod Watched
 pub mod Running

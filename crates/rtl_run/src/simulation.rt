@@ -14,6 +14,7 @@ ghost use Rattle.rtl_run.specs.declared.summary.RunFault.TheVariants.{NoSettling
 ghost use Rattle.rtl_run.specs.Answered.{Answers};
 ghost use Rattle.rtl_run.specs.Running.{HasBegun, Begins, HasCome, IsNextMoment, GoesOn};
 ghost use Rattle.rtl_run.specs.Simulated.{core};
+ghost use Rattle.rtl_run.specs.Watched.{IsToldAll};
 
 use crate::progress::Progress;
 use crate::summary::{RunFault, Summary};
@@ -23,6 +24,7 @@ use rtl_net::Net;
 use rtl_sink::Sink;
 use rtl_stim::{Agenda, Stimulus};
 use rtl_vcd::{Blocks, end, first, header};
+use rtl_watch::{Unwatched, Watch};
 use std::alloc::Global;
 
 /// What is simulated: a net, whose k-th process the k-th body runs, under a stimulus, with so many delta cycles at most in each
@@ -59,23 +61,49 @@ impl<E: Exec> Simulation<'_, E> {
         requires intact { IsIntact (W.state out.old) }
         ensures { Answers self.now.net.now self.now.stimulus.now self.now.limit (W.state out.old) (W.state out.new) result }
     {
+        self.run_watched(alloc, agenda, pick, &mut Unwatched, out)
+    }
+
+    /// The same, and the watch is told what each moment settles to, as soon as it is known until when that stands.
+    ///
+    /// # Errors
+    ///
+    /// As `run`.
+    pub fn run_watched<A: Agenda, P: Pick, V: Watch, W: Sink>(
+        &self,
+        alloc: Global,
+        agenda: &mut A,
+        pick: &mut P,
+        watch: &mut V,
+        out: &mut W,
+    ) -> Result<Summary, RunFault>
+        requires bodies { RunBodies E.process E.types (flat self.now.net.now) self.now.bodies.now }
+        requires ports { HasOwnPorts self.now.net.now }
+        requires inputs { self.now.stimulus.now.inputs ≡ inputs_of self.now.net.now }
+        requires waiting { (A.state agenda.old).waiting ≡ [] }
+        requires last { (A.state agenda.old).last ≡ None }
+        requires intact { IsIntact (W.state out.old) }
+        ensures answers { Answers self.now.net.now self.now.stimulus.now self.now.limit (W.state out.old) (W.state out.new) result }
+        ensures told { IfOk result (λ _. IsToldAll self.now.net.now self.now.stimulus.now (λ stands. V.told watch.old stands watch.new)) }
+    {
         let _count = self.net.nets();
         self.stimulus.load(agenda)?;
         let blocks = Blocks::new(alloc, self.net)?;
         let mut kernel = Kernel::new(alloc, self.net, self.bodies, self.stimulus.initial())?;
         kernel.start(pick);
-        self.run_moments(alloc, &blocks, &mut kernel, agenda, pick, out)
+        self.run_moments(alloc, &blocks, &mut kernel, agenda, pick, watch, out)
     }
 
-    /// Lets each moment settle, with a kernel that is to begin the first, and writes the trace. What the stimulus gives behind 0
-    /// waits in the agenda.
-    fn run_moments<A: Agenda, P: Pick, W: Sink>(
+    /// Lets each moment settle, with a kernel that is to begin the first, and writes the trace; the watch is told of each. What
+    /// the stimulus gives behind 0 waits in the agenda.
+    fn run_moments<A: Agenda, P: Pick, V: Watch, W: Sink>(
         &self,
         alloc: Global,
         blocks: &Blocks<'_>,
         kernel: &mut Kernel<'_, E>,
         agenda: &mut A,
         pick: &mut P,
+        watch: &mut V,
         out: &mut W,
     ) -> Result<Summary, RunFault>
         requires blocks { blocks.now ≡ self.now.net.now }
@@ -86,17 +114,20 @@ impl<E: Exec> Simulation<'_, E> {
         requires inputs { self.now.stimulus.now.inputs ≡ inputs_of self.now.net.now }
         requires waits { Waits self.now.stimulus.now.inputs self.now.stimulus.now.schedule 0 (A.state agenda.old).waiting }
         requires intact { IsIntact (W.state out.old) }
-        ensures { Answers self.now.net.now self.now.stimulus.now self.now.limit (W.state out.old) (W.state out.new) result }
+        ensures answers { Answers self.now.net.now self.now.stimulus.now self.now.limit (W.state out.old) (W.state out.new) result }
+        ensures told { IfOk result (λ _. IsToldAll self.now.net.now self.now.stimulus.now (λ stands. V.told watch.old stands watch.new)) }
     {
         let _count = self.net.nets();
         let stop = self.stimulus.stop();
         header(self.net, out)?;
         let mut progress = self.begin(alloc, kernel, pick, out)?;
         while let Some(time) = agenda.next() {
+            watch.stood(&progress.values, time);
             kernel.apply(agenda.changes(), pick);
             self.stimulus.refill(time, agenda)?;
             self.go_on(time, blocks, kernel, &mut progress, pick, out)?;
         }
+        watch.stood(&progress.values, stop + 1);
         end(progress.printed, stop, out)?;
         Ok(progress.summary)
     }

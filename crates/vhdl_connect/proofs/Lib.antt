@@ -6,4 +6,4 @@ pub mod Ready
 mod Seen
 mod Settling
 mod Shown
-mod Tables
+mod Lengths

@@ -10,7 +10,7 @@ use Rattle.vhdl_elab_rules.specs.Elaboration.{Elaborated, connected}
 use Rattle.vhdl_expand_bodies.specs.Results.{Expands}
 use Rattle.vhdl_elab_laws.specs.Shown.{as_shown, net_shown}
 use Rattle.vhdl_connect.specs.Wired.{wired}
-use Rattle.vhdl_connect.proofs.Tables.{as-many-uses, as-many-defaults}
+use Rattle.vhdl_connect.proofs.Lengths.{as-many-uses, as-many-defaults}
 use Rattle.vhdl_connect.proofs.connection.connect.Goals as goal
 
 -- within the limits connection is wiring

@@ -13,7 +13,7 @@ use Rattle.vhdl_connect.specs.Made.{IsMade, IsLocated}
 use Rattle.vhdl_connect.specs.Settled.{NetsAreBelow, IsSettled}
 use Rattle.vhdl_connect.specs.Wired.{wired, NetsAreThere}
 use Rattle.vhdl_connect.proofs.Shown.{IsTold, reads-all, is-refused, is-shown}
-use Rattle.vhdl_connect.proofs.Tables.{settled-told, idle-there}
+use Rattle.vhdl_connect.proofs.Lengths.{settled-told, idle-there}
 use Rattle.vhdl_connect.proofs.wiring.wire.Goals as goal
 
 -- the tables with these processes, written over theirs

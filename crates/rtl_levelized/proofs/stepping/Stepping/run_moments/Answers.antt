@@ -1,19 +1,21 @@
-use Rattle.std.proofs.Common.{ℕ, suc, List, refl, sym, ap, subst, ◌∙◌, arith}
+use Rattle.std.proofs.Common.{ℕ, suc, ◌+◌, List, [], ◌∷◌, ◌++◌, refl, sym, ap, subst, ◌∙◌, arith}
 use Rattle.rtl_stim_lines.specs.Filling.{Waits}
 use Rattle.rtl_agenda.specs.Agenda.{Change}
 use Rattle.rtl_stim.proofs.Next.{each_begins_at_zero}
 use Rattle.rtl_sink.specs.Written.{Goes}
 use Rattle.rtl_vcd.specs.Trace.{end_text}
 use Rattle.rtl_run.proofs.Steps.{no_moment}
+use Rattle.rtl_run.proofs.Stands.{one_stand_more, until_next, until_end, one_behind}
 use Rattle.rtl_machine.specs.declared.fault.MachineFault.TheVariants.{Memory, Output}
 use Rattle.rtl_machine.proofs.Refusals.{err_with}
 use Rattle.rtl_levelized.specs.Answered.{TracesLevels}
 use Rattle.rtl_levelized.proofs.Going.{come_leaves, end_leaves, is_whole, is_at_last}
+use Rattle.rtl_levelized.proofs.Stands.{stands_none, stands_more}
 use Rattle.rtl_levelized.proofs.Turns.{comes_next, changes_inputs, changes_race, steps_to, is_next}
 use Rattle.rtl_levelized.proofs.stepping.Stepping.run_moments.Goals as goal
 
-pub returns-in_err-progress : goal.returns-in_err-progress
-returns-in_err-progress g c =
+pub returns-in_err-progress-clause-traces : goal.returns-in_err-progress-clause-traces
+returns-in_err-progress-clause-traces g c =
     let net = c.args.self.now.net.now in
     let s = c.args.self.now.stimulus.now in
     let bound = c.args.self.now.bound in
@@ -40,6 +42,10 @@ loop-time-init g c =
       m = 0;
       is_last = sym has.1;
       values = run.2;
+      stands = [];
+      are = stands_none s run.0;
+      many = refl;
+      told = g.met.V.Watch.nothing c.args.watch.now;
       waits = subst (λ (now : ℕ). Waits s.inputs s.schedule now (g.A.Agenda.state c.args.agenda.now).waiting) (sym (each_begins_at_zero s).1 ∙ last.0) c.requires.waits;
     }
 
@@ -83,8 +89,8 @@ refill-requires-clause-waited g c =
     let turn = comes_next s c.stop-stop.ensures.holds p I.m I.is_last last.1 last.0 (g.A.Agenda.state c.loop-time.agenda) (g.met.A.Agenda.orderly c.loop-time.agenda) I.waits c.in-Some.time behind c.in-Some.ensures.least in
     (p.now, turn.after, subst (λ (waiting : List (ℕ × List Change)). Waits s.inputs s.schedule p.now waiting) c.in-Some.ensures.least I.waits)
 
-pub returns-in_err-refill : goal.returns-in_err-refill
-returns-in_err-refill g c =
+pub returns-in_err-refill-clause-traces : goal.returns-in_err-refill-clause-traces
+returns-in_err-refill-clause-traces g c =
     let net = c.args.self.now.net.now in
     let s = c.args.self.now.stimulus.now in
     let bound = c.args.self.now.bound in
@@ -144,11 +150,16 @@ loop-time-preserved g c =
       m = suc I.m;
       is_last = ap suc I.is_last ∙ sym has.1;
       values = now;
+      stands = I.stands ++ record { values = c.values.result.now; until = c.in-Some.time } ∷ [];
+      are = stands_more s I.run I.stands I.are I.m I.many c.values.result.now c.in-Some.time
+          (c.values.ensures.value ∙ I.values) (sym (until_next s I.m c.in-Some.time behind.taken turn.next));
+      many = one_stand_more I.stands _ ∙ ap suc I.many;
+      told = c.stood.ensures c.args.watch.now I.stands I.told;
       waits = subst (λ (time : ℕ). Waits s.inputs s.schedule time (g.A.Agenda.state c.refill.new.agenda).waiting) (sym has.2) c.in_ok-refill.ensures.waits;
     }
 
-pub returns-in_err-go_on : goal.returns-in_err-go_on
-returns-in_err-go_on g c =
+pub returns-in_err-go_on-clause-traces : goal.returns-in_err-go_on-clause-traces
+returns-in_err-go_on-clause-traces g c =
     let net = c.args.self.now.net.now in
     let s = c.args.self.now.stimulus.now in
     let bound = c.args.self.now.bound in
@@ -163,8 +174,8 @@ returns-in_err-go_on g c =
     err_with (TracesLevels net s bound out (g.W.Sink.state c.go_on.new.out)) c.from_residual-in_err-go_on.result c.in_err-go_on.field-0.0 c.from_residual-in_err-go_on.ensures.1
     (c.in_err-go_on.ensures.goes_on I.run I.synchronous out c.requires.intact I.come (is_next net s I.run p I.m c.in-Some.time behind.taken turn c.step.new.self.values now))
 
-pub returns-in_err-end : goal.returns-in_err-end
-returns-in_err-end g c =
+pub returns-in_err-end-clause-traces : goal.returns-in_err-end-clause-traces
+returns-in_err-end-clause-traces g c =
     let net = c.args.self.now.net.now in
     let s = c.args.self.now.stimulus.now in
     let bound = c.args.self.now.bound in
@@ -181,8 +192,8 @@ returns-in_err-end g c =
       c.in_err-end.ensures.err,
     )
 
-pub returns : goal.returns
-returns g c =
+pub returns-clause-traces : goal.returns-clause-traces
+returns-clause-traces g c =
     let net = c.args.self.now.net.now in
     let s = c.args.self.now.stimulus.now in
     let bound = c.args.self.now.bound in
@@ -195,3 +206,24 @@ returns g c =
     let all = no_moment s c.stop-stop.ensures.holds I.m last.1 before (g.met.A.Agenda.orderly c.loop-time.agenda) waits c.in_default.ensures.empty in
     let text = subst (λ (stop : ℕ). Goes (g.W.Sink.state c.loop-time.out) (g.W.Sink.state c.end.new.out) (end_text p.printed stop)) c.stop-stop.ensures.stop c.end.ensures.text in
     is_whole net s bound I.run I.synchronous out (g.W.Sink.state c.loop-time.out) (g.W.Sink.state c.end.new.out) p I.come (I.come.count ∙ sym I.is_last ∙ all) text _ c.in_ok-end.ensures.ok refl refl
+
+pub returns-clause-told : goal.returns-clause-told
+returns-clause-told g c =
+    let net = c.args.self.now.net.now in
+    let s = c.args.self.now.stimulus.now in
+    let out = g.W.Sink.state c.args.out.now in
+    let I = c.loop-time.invariant in
+    let p = c.loop-time.progress in
+    let last = is_at_last net s I.run out (g.W.Sink.state c.loop-time.out) p I.come I.m I.is_last in
+    let before = g.A.Agenda.state c.loop-time.agenda in
+    let waits = subst (λ (now : ℕ). Waits s.inputs s.schedule now before.waiting) (sym last.0) I.waits in
+    let all = no_moment s c.stop-stop.ensures.holds I.m last.1 before (g.met.A.Agenda.orderly c.loop-time.agenda) waits c.in_default.ensures.empty in
+    record {
+      run = I.run;
+      synchronous = I.synchronous;
+      stands = _;
+      are = stands_more s I.run I.stands I.are I.m I.many _ _
+          (c.values-2.ensures.value ∙ I.values) (ap (λ (stop : ℕ). stop + 1) c.stop-stop.ensures.stop ∙ one_behind s.schedule.stop ∙ sym (until_end s I.m all));
+      all = one_stand_more I.stands _ ∙ ap suc I.many ∙ all;
+      told = c.stood-2.ensures c.args.watch.now I.stands I.told;
+    }

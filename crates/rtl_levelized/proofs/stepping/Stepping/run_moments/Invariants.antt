@@ -2,11 +2,13 @@ use Rattle.std.proofs.Common.{◌≡◌, ℕ, suc, ◌-◌, List, length}
 use Rattle.rtl_check.specs.Views.{core}
 use Rattle.rtl_stim_lines.specs.Filling.{Waits}
 use Rattle.rtl_stim.specs.Stimuli.{inputs_at}
+use Rattle.rtl_watch.specs.Stands.{Stand}
+use Rattle.rtl_machine.specs.Watched.{AreStandsOf}
 use Rattle.rtl_machine.specs.Synchronous.{IsSynchronous}
 use Rattle.rtl_levelized.specs.Running.{HasCome}
 use Rattle.rtl_levelized.proofs.stepping.Stepping.run_moments.Given as goal
 
--- the moments so far went out, the machine has the run's valuation at the last of them, and what comes after it waits
+-- the moments so far went out, the watch was told of those before the last, the machine has the run's valuation at the last of them, and what comes after it waits
 abbrev pub invariant-loop-time : goal.invariant-loop-time
 invariant-loop-time g l = record {
   net : l.machine.net ≡ l.self.net.now;
@@ -17,6 +19,10 @@ invariant-loop-time g l = record {
   m : ℕ;
   is_last : suc m ≡ l.progress.moments;
   values : l.machine.values ≡ run m;
+  stands : List Stand;
+  are : AreStandsOf l.self.stimulus.now run stands;
+  many : length stands ≡ m;
+  told : g.V.Watch.told l.fn.watch stands l.watch;
   waits : Waits l.self.stimulus.now.inputs l.self.stimulus.now.schedule l.progress.now (g.A.Agenda.state l.agenda).waiting;
 }
 

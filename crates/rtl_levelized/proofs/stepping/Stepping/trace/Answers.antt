@@ -12,8 +12,8 @@ use Rattle.rtl_levelized.proofs.Going.{nothing_leaves}
 use Rattle.rtl_levelized.proofs.Turns.{first_is}
 use Rattle.rtl_levelized.proofs.stepping.Stepping.trace.Goals as goal
 
-pub returns-in_err-load : goal.returns-in_err-load
-returns-in_err-load g c =
+pub returns-in_err-load-clause-traces : goal.returns-in_err-load-clause-traces
+returns-in_err-load-clause-traces g c =
     let net = c.args.self.now.net.now in
     let s = c.args.self.now.stimulus.now in
     let bound = c.args.self.now.bound in
@@ -21,8 +21,8 @@ returns-in_err-load g c =
     let run = c.accepted_nets_are_synchronous.ensures net bound (inputs_at s) c.nets-count.ensures.elaborated c.requires.accepted c.requires.raceless in
     err_with (TracesLevels net s bound out out) c.from_residual.result Memory c.from_residual.ensures.1 (nothing_leaves net s bound run.0 run.1 out, c.requires.intact)
 
-pub returns-in_err-blocks : goal.returns-in_err-blocks
-returns-in_err-blocks g c =
+pub returns-in_err-blocks-clause-traces : goal.returns-in_err-blocks-clause-traces
+returns-in_err-blocks-clause-traces g c =
     let net = c.args.self.now.net.now in
     let s = c.args.self.now.stimulus.now in
     let bound = c.args.self.now.bound in
@@ -30,8 +30,8 @@ returns-in_err-blocks g c =
     let run = c.accepted_nets_are_synchronous.ensures net bound (inputs_at s) c.nets-count.ensures.elaborated c.requires.accepted c.requires.raceless in
     err_with (TracesLevels net s bound out out) c.from_residual-in_err-blocks.result Memory c.from_residual-in_err-blocks.ensures.1 (nothing_leaves net s bound run.0 run.1 out, c.requires.intact)
 
-pub returns-in_err-machine : goal.returns-in_err-machine
-returns-in_err-machine g c =
+pub returns-in_err-machine-clause-traces : goal.returns-in_err-machine-clause-traces
+returns-in_err-machine-clause-traces g c =
     let net = c.args.self.now.net.now in
     let s = c.args.self.now.stimulus.now in
     let bound = c.args.self.now.bound in

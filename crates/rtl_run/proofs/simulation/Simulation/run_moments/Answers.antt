@@ -1,4 +1,4 @@
-use Rattle.std.proofs.Common.{ℕ, List, length, sym, ap, subst, ◌∙◌, arith}
+use Rattle.std.proofs.Common.{ℕ, suc, ◌+◌, List, [], ◌∷◌, ◌++◌, length, refl, sym, ap, subst, ◌∙◌, arith}
 use Rattle.rtl_model.specs.nets.CoreNetlist.{core_netlist}
 use Rattle.rtl_model.specs.simulation.Cycle.{after_inputs, with_changes}
 use Rattle.rtl_model.proofs.simulation.Order.{HasRun-done}
@@ -13,18 +13,19 @@ use Rattle.rtl_run.specs.declared.summary.RunFault.TheVariants.{Output}
 use Rattle.rtl_run.specs.Answered.{Answers}
 use Rattle.rtl_run.proofs.Steps.{no_moment}
 use Rattle.rtl_run.proofs.Going.{err_with, header_leaves, end_leaves, is_whole, at_last, settled_quiet}
+use Rattle.rtl_run.proofs.Stands.{stands_none, stands_more, one_stand_more, until_next, until_end, one_behind}
 use Rattle.rtl_run.proofs.Turns.{comes_next, changes_inputs, begins_next}
 use Rattle.rtl_run.proofs.simulation.Simulation.run_moments.Goals as goal
 
-pub returns-in_err-header : goal.returns-in_err-header
-returns-in_err-header g c =
+pub returns-in_err-header-clause-answers : goal.returns-in_err-header-clause-answers
+returns-in_err-header-clause-answers g c =
     let out = g.W.Sink.state c.args.out.now in
     let new = g.W.Sink.state c.header.new.out in
     err_with (Answers c.args.self.now.net.now c.args.self.now.stimulus.now c.args.self.now.limit out new) c.from_residual.result Output c.from_residual.ensures.1
     (header_leaves c.args.self.now.net.now c.args.self.now.stimulus.now c.args.self.now.limit out new c.requires.intact c.header.ensures.text, c.in_err-header.ensures.err)
 
-pub returns-in_err-progress : goal.returns-in_err-progress
-returns-in_err-progress g c =
+pub returns-in_err-progress-clause-answers : goal.returns-in_err-progress-clause-answers
+returns-in_err-progress-clause-answers g c =
     let net = c.args.self.now.net.now in
     let s = c.args.self.now.stimulus.now in
     let limit = c.args.self.now.limit in
@@ -54,6 +55,10 @@ loop-time-init g c =
       there = last.1;
       at = last.0;
       settled = has.2;
+      stands = [];
+      are = stands_none net s;
+      many = refl;
+      told = g.met.V.Watch.nothing c.args.watch.now;
       waits = subst (λ (now : ℕ). Waits s.inputs s.schedule now (g.A.Agenda.state c.args.agenda.now).waiting) zero c.requires.waits;
     }
 
@@ -125,11 +130,16 @@ loop-time-preserved g c =
       there = last.1;
       at = last.0;
       settled = has.3;
+      stands = I.stands ++ record { values = c.deref.result.now; until = c.in-Some.time } ∷ [];
+      are = stands_more net s limit I.m c.in-Some.time c.loop-time.kernel.state I.stands I.are I.many I.settled c.deref.result.now
+          (sym I.values ∙ sym c.deref.ensures.value) (sym (until_next s I.m c.in-Some.time behind.taken turn.next));
+      many = one_stand_more I.stands _ ∙ ap suc I.many ∙ I.is_last;
+      told = c.stood.ensures c.args.watch.now I.stands I.told;
       waits = subst (λ (now : ℕ). Waits s.inputs s.schedule now (g.A.Agenda.state c.refill.new.agenda).waiting) (sym has.2) c.in_ok-refill.ensures.waits;
     }
 
-pub returns-in_err-go_on : goal.returns-in_err-go_on
-returns-in_err-go_on g c =
+pub returns-in_err-go_on-clause-answers : goal.returns-in_err-go_on-clause-answers
+returns-in_err-go_on-clause-answers g c =
     let net = c.args.self.now.net.now in
     let s = c.args.self.now.stimulus.now in
     let I = c.loop-time.invariant in
@@ -141,8 +151,8 @@ returns-in_err-go_on g c =
     err_with (Answers net s limit out (g.W.Sink.state c.go_on.new.out)) c.from_residual-in_err-go_on.result c.in_err-go_on.field-0.0 c.from_residual-in_err-go_on.ensures.1
     (c.in_err-go_on.ensures.goes_on out I.come is_next)
 
-pub returns-in_err-end : goal.returns-in_err-end
-returns-in_err-end g c =
+pub returns-in_err-end-clause-answers : goal.returns-in_err-end-clause-answers
+returns-in_err-end-clause-answers g c =
     let net = c.args.self.now.net.now in
     let s = c.args.self.now.stimulus.now in
     let limit = c.args.self.now.limit in
@@ -157,8 +167,8 @@ returns-in_err-end g c =
       c.in_err-end.ensures.err,
     )
 
-pub returns : goal.returns
-returns g c =
+pub returns-clause-answers : goal.returns-clause-answers
+returns-clause-answers g c =
     let net = c.args.self.now.net.now in
     let s = c.args.self.now.stimulus.now in
     let limit = c.args.self.now.limit in
@@ -169,3 +179,20 @@ returns g c =
     let all = no_moment s c.stop-stop.ensures.holds I.m I.there before (g.met.A.Agenda.orderly c.loop-time.agenda) waits c.in_default.ensures.empty in
     let text = subst (λ (stop : ℕ). Goes (g.W.Sink.state c.loop-time.out) (g.W.Sink.state c.end.new.out) (end_text c.loop-time.progress.printed stop)) c.stop-stop.ensures.stop c.end.ensures.text in
     is_whole net s limit out (g.W.Sink.state c.loop-time.out) (g.W.Sink.state c.end.new.out) c.loop-time.progress I.come (sym I.is_last ∙ all) text c.in_ok-end.ensures.ok
+
+pub returns-clause-told : goal.returns-clause-told
+returns-clause-told g c =
+    let net = c.args.self.now.net.now in
+    let s = c.args.self.now.stimulus.now in
+    let limit = c.args.self.now.limit in
+    let I = c.loop-time.invariant in
+    let before = g.A.Agenda.state c.loop-time.agenda in
+    let waits = subst (λ (now : ℕ). Waits s.inputs s.schedule now before.waiting) (sym I.at) I.waits in
+    let all = no_moment s c.stop-stop.ensures.holds I.m I.there before (g.met.A.Agenda.orderly c.loop-time.agenda) waits c.in_default.ensures.empty in
+    record {
+      stands = _;
+      are = stands_more net s limit I.m _ c.loop-time.kernel.state I.stands I.are I.many I.settled _
+          (sym I.values ∙ sym c.deref-2.ensures.value) (ap (λ (stop : ℕ). stop + 1) c.stop-stop.ensures.stop ∙ one_behind s.schedule.stop ∙ sym (until_end s I.m all));
+      all = one_stand_more I.stands _ ∙ ap suc I.many ∙ all;
+      told = c.stood-2.ensures c.args.watch.now I.stands I.told;
+    }

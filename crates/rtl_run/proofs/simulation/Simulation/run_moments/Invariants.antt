@@ -1,13 +1,15 @@
-use Rattle.std.proofs.Common.{◌≡◌, ℕ, suc, ◌<◌, ◌-◌, length, IsTrue}
+use Rattle.std.proofs.Common.{◌≡◌, ℕ, suc, ◌<◌, ◌-◌, List, length, IsTrue}
 use Rattle.std.specs.Prelude.{slice_index}
 use Rattle.rtl_model.specs.simulation.Cycle.{is_quiet}
 use Rattle.rtl_model.specs.simulation.Moments.{HasNoneToRun}
 use Rattle.rtl_stim_lines.specs.Filling.{Waits}
 use Rattle.rtl_stim.specs.Stimuli.{moments}
+use Rattle.rtl_watch.specs.Stands.{Stand}
+use Rattle.rtl_run.specs.Watched.{AreStands}
 use Rattle.rtl_run.specs.Running.{HasCome, HasSettledIn}
 use Rattle.rtl_run.proofs.simulation.Simulation.run_moments.Given as goal
 
--- the last moment so far, m, has settled, and what comes after it waits
+-- the last moment so far, m, has settled, the watch was told of those before it, and what comes after it waits
 abbrev pub invariant-loop-time : goal.invariant-loop-time
 invariant-loop-time g l = record {
   net : l.kernel.net ≡ l.self.net.now;
@@ -21,6 +23,10 @@ invariant-loop-time g l = record {
   there : m < length (moments l.self.stimulus.now);
   at : slice_index (moments l.self.stimulus.now) m ≡ l.progress.now;
   settled : HasSettledIn l.self.net.now l.self.stimulus.now l.self.limit m l.kernel.state;
+  stands : List Stand;
+  are : AreStands l.self.net.now l.self.stimulus.now stands;
+  many : length stands ≡ m;
+  told : g.V.Watch.told l.fn.watch stands l.watch;
   waits : Waits l.self.stimulus.now.inputs l.self.stimulus.now.schedule l.progress.now (g.A.Agenda.state l.agenda).waiting;
 }
 

@@ -11,22 +11,22 @@ use Rattle.rtl_run.specs.Simulated.{core}
 use Rattle.rtl_run.specs.Answered.{Answers}
 use Rattle.rtl_run.proofs.Steps.{first_begun}
 use Rattle.rtl_run.proofs.Going.{err_with, nothing_leaves}
-use Rattle.rtl_run.proofs.simulation.Simulation.run.Goals as goal
+use Rattle.rtl_run.proofs.simulation.Simulation.run_watched.Goals as goal
 
-pub returns-in_err-load : goal.returns-in_err-load
-returns-in_err-load g c =
+pub returns-in_err-load-clause-answers : goal.returns-in_err-load-clause-answers
+returns-in_err-load-clause-answers g c =
     let out = g.W.Sink.state c.args.out.now in
     err_with (Answers c.args.self.now.net.now c.args.self.now.stimulus.now c.args.self.now.limit out out) c.from_residual.result Memory c.from_residual.ensures.1
     (nothing_leaves c.args.self.now.net.now c.args.self.now.stimulus.now c.args.self.now.limit out, c.requires.intact)
 
-pub returns-in_err-blocks : goal.returns-in_err-blocks
-returns-in_err-blocks g c =
+pub returns-in_err-blocks-clause-answers : goal.returns-in_err-blocks-clause-answers
+returns-in_err-blocks-clause-answers g c =
     let out = g.W.Sink.state c.args.out.now in
     err_with (Answers c.args.self.now.net.now c.args.self.now.stimulus.now c.args.self.now.limit out out) c.from_residual-in_err-blocks.result Memory c.from_residual-in_err-blocks.ensures.1
     (nothing_leaves c.args.self.now.net.now c.args.self.now.stimulus.now c.args.self.now.limit out, c.requires.intact)
 
-pub returns-in_err-kernel : goal.returns-in_err-kernel
-returns-in_err-kernel g c =
+pub returns-in_err-kernel-clause-answers : goal.returns-in_err-kernel-clause-answers
+returns-in_err-kernel-clause-answers g c =
     let out = g.W.Sink.state c.args.out.now in
     err_with (Answers c.args.self.now.net.now c.args.self.now.stimulus.now c.args.self.now.limit out out) c.from_residual-in_err-kernel.result Memory c.from_residual-in_err-kernel.ensures.1
     (nothing_leaves c.args.self.now.net.now c.args.self.now.stimulus.now c.args.self.now.limit out, c.requires.intact)

@@ -1,0 +1,4 @@
+mod Order
+mod Seeing
+mod Parts
+mod Wanting

@@ -1,0 +1,53 @@
+-- Whether what is expected holds of what stands. At a time the values stand that were settled at the last moment before it or at it: the
+-- first values that end behind it. Where none stand any more, behind the stop, nothing that is expected holds.
+use Rattle.std.specs.Prelude.{ℕ, ◌==◌, ◌&&◌, nat_lt, Bool, true, List, [], ◌∷◌, map, Option, Some, None, slice_index, if◌then◌else◌}
+use Rattle.rtl_watch.specs.Stands.{Stand}
+use Rattle.rtl_expect.specs.declared.expected.Wanted.{Wanted}
+use Rattle.rtl_expect.specs.Expected.{Expectation}
+
+-- the values that stand at a time
+abbrev pub standing_at : List Stand → (time : ℕ) → Option (List ℕ)
+standing_at [] time = None
+standing_at (stand ∷ stands) time = if nat_lt time stand.until then Some stand.values else standing_at stands time
+
+-- what is wanted is any value, or the one that is found
+abbrev pub is_code : Option ℕ → (found : ℕ) → Bool
+is_code None found = true
+is_code (Some code) found = found == code
+
+abbrev pub found_at : (values : List ℕ) → Wanted → ℕ
+found_at values w = slice_index values w.net
+
+abbrev pub is_met : (values : List ℕ) → Wanted → Bool
+is_met values w = is_code w.code (found_at values w)
+
+abbrev pub are_met : (values : List ℕ) → List Wanted → Bool
+are_met values [] = true
+are_met values (w ∷ ws) = is_met values w && are_met values ws
+
+-- an expectation that doesn't hold: its line, time and signal, and what was found of each net; nothing, where no values stand
+pub record Difference : Type 0 where
+  pub line : ℕ
+  pub time : ℕ
+  pub signal : ℕ
+  pub found : Option (List ℕ)
+
+abbrev pub differs : Expectation → (found : Option (List ℕ)) → Difference
+differs e found = record { line = e.line; time = e.time; signal = e.signal; found = found }
+
+-- of an expectation and the values that stand at its time
+abbrev pub difference_in : Expectation → Option (List ℕ) → Option Difference
+difference_in e None = Some (differs e None)
+difference_in e (Some values) = if are_met values e.wanted then None else Some (differs e (Some (map (found_at values) e.wanted)))
+
+abbrev pub difference_at : List Stand → Expectation → Option Difference
+difference_at stands e = difference_in e (standing_at stands e.time)
+
+abbrev pub or_later : Option Difference → Option Difference → Option Difference
+or_later None later = later
+or_later (Some difference) later = Some difference
+
+-- the first that doesn't hold; None where all hold
+abbrev pub first_difference : List Stand → List Expectation → Option Difference
+first_difference stands [] = None
+first_difference stands (e ∷ es) = or_later (difference_at stands e) (first_difference stands es)

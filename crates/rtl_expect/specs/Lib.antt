@@ -1,0 +1,7 @@
+-- In order of reading:
+pub mod Expected
+pub mod Lines
+pub mod Differences
+pub mod Faults
+pub mod Watching
+pub mod Reading

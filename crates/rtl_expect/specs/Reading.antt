@@ -1,0 +1,24 @@
+-- What the steps of reading answer.
+use Rattle.std.specs.Prelude.{◌≡◌, ◌≢◌, ℕ, List, Vec, Result, Ok, Err}
+use Rattle.std.specs.Global.{Global}
+use Rattle.rtl_net.specs.Nets.{NetlistView}
+use Rattle.rtl_expect.specs.declared.expectation.Expectation.{Expectation as KeptExpectation}
+use Rattle.rtl_expect.specs.declared.faults.ExpectFault.{ExpectFault}
+use Rattle.rtl_expect.specs.declared.faults.ExpectFault.TheVariants.{NoMemory}
+use Rattle.rtl_expect.specs.Expected.{Expectation}
+use Rattle.rtl_expect.specs.Lines.{expectations_of}
+use Rattle.rtl_expect.specs.Watching.{AreInOrder, expectation_view, list_view}
+
+-- What a function answered is what is asked: it leaves these expectations where that is Ok. It refuses for want of memory, or with that
+-- fault.
+abbrev pub Leads : {B : Type 0} → Result (List Expectation) ExpectFault → (left : List Expectation) → Result B ExpectFault → Type 0
+Leads asked left (Ok b) = asked ≡ Ok left
+Leads asked left (Err fault) = fault ≢ NoMemory → asked ≡ Err fault
+
+abbrev pub IsExpected : Result Expectation ExpectFault → Result KeptExpectation ExpectFault → Type 0
+IsExpected asked (Ok e) = asked ≡ Ok (expectation_view e)
+IsExpected asked (Err fault) = fault ≢ NoMemory → asked ≡ Err fault
+
+abbrev pub AreListed : NetlistView → (text : List ℕ) → Result (Vec KeptExpectation Global) ExpectFault → Type 0
+AreListed net text (Ok list) = (expectations_of net text ≡ Ok (list_view list)) × AreInOrder (list_view list)
+AreListed net text (Err fault) = fault ≢ NoMemory → expectations_of net text ≡ Err fault

@@ -1,0 +1,89 @@
+//! Why a file of expected values is refused.
+
+ghost use Rattle.std.specs.Prelude.{◌≡◌};
+ghost use Rattle.rtl_expect.specs.declared.faults.ExpectFault.TheVariants.{NoMemory};
+
+use std::alloc::{AllocError, AllocFailed};
+use thiserror::Error;
+
+/// What is wrong with a line of a file of expected values.
+#[derive(Clone, Copy, PartialEq, Eq, Debug, Error)]
+pub enum ExpectProblem {
+    /// No `at`, a wrong count of words, or no number where one has to stand.
+    #[error("the line is not understood")]
+    BadLine,
+    /// A name that no port and no signal of the top has.
+    #[error("no signal of the top has this name")]
+    NotASignal,
+    /// A value of another length than the signal's, or with another character than the nine; no position of the enumeration.
+    #[error("the value does not fit the signal")]
+    BadValue,
+    /// A time above 10^15 ns.
+    #[error("the time is too large")]
+    TimeTooLarge,
+}
+
+impl ExpectProblem {
+    ghost use Rattle.rtl_expect.specs.Faults.{problem_number, problem_title};
+
+    /// The number under which it is told. 1 and 2 are a value that differs, and a time behind the stop.
+    pub fn number(self) -> u8
+        ensures { result ≡ problem_number self }
+    {
+        match self {
+            ExpectProblem::BadLine => 3,
+            ExpectProblem::NotASignal => 4,
+            ExpectProblem::BadValue => 5,
+            ExpectProblem::TimeTooLarge => 6,
+        }
+    }
+
+    /// The name under which it is told.
+    pub fn title(self) -> &'static str
+        ensures { result.now ≡ problem_title self }
+    {
+        match self {
+            ExpectProblem::BadLine => "BadLine",
+            ExpectProblem::NotASignal => "NotASignal",
+            ExpectProblem::BadValue => "BadValue",
+            ExpectProblem::TimeTooLarge => "TimeTooLarge",
+        }
+    }
+
+    /// The fault of this problem in a line.
+    pub(crate) fn in_line(self, line: usize) -> ExpectFault
+        ensures { result ≡ ExpectFault.InLine self line }
+    {
+        ExpectFault::InLine {
+            problem: self,
+            line,
+        }
+    }
+}
+
+/// Why a file of expected values is refused. `line` counts from 1.
+#[derive(Clone, Copy, PartialEq, Eq, Debug, Error)]
+pub enum ExpectFault {
+    /// This is wrong with a line.
+    #[error("{problem}, in line {line}")]
+    InLine { problem: ExpectProblem, line: usize },
+    /// Memory was refused.
+    #[error("out of memory")]
+    NoMemory,
+}
+
+impl From<AllocError> for ExpectFault {
+    ghost from_gives = { λ _ fault. fault ≡ NoMemory };
+
+    fn from(_refused: AllocError) -> ExpectFault {
+        ExpectFault::NoMemory
+    }
+}
+
+impl<T: Drop> From<AllocFailed<T>> for ExpectFault {
+    ghost from_gives = { λ _ fault. fault ≡ NoMemory };
+
+    fn from(_refused: AllocFailed<T>) -> ExpectFault {
+        ExpectFault::NoMemory
+    }
+}

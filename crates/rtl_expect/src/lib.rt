@@ -1,0 +1,16 @@
+//! Expected values of a simulation: which value a signal of the top has at a time.
+//!
+//! `specs/Expected.antt` says what is expected, `specs/Lines.antt` which lines a file of expected values has, and
+//! `specs/Differences.antt` which expectation is the first that doesn't hold.
+#![tactic(auto)]
+
+mod difference;
+mod expectation;
+mod expected;
+mod faults;
+mod reading;
+mod watching;
+
+pub use difference::Difference;
+pub use faults::{ExpectFault, ExpectProblem};
+pub use watching::Expectations;
