@@ -55,11 +55,7 @@ pub fn tell_fault<E: Sink>(
 }
 
 /// Writes the line that tells why a source is refused, and its explanation where that is asked for, and answers the status.
-pub fn tell_source_fault<E: Sink>(
-    telling: &Telling<'_>,
-    fault: SourceFault,
-    err: &mut E,
-) -> Status
+pub fn tell_source_fault<E: Sink>(telling: &Telling<'_>, fault: SourceFault, err: &mut E) -> Status
     ensures told { (net : NetlistView) → Goes (E.state err.old) (E.state err.new) (told telling.now net (of_source fault)) }
     ensures status { result ≡ faults.status_of (of_source fault) }
 {

@@ -8,7 +8,6 @@ use Rattle.rtlsim_words.specs.Extras as extras
 use Rattle.rtlsim_words.specs.declared.extras.Call.{Call}
 use Rattle.rtlsim_words.specs.Taking.{after}
 
-
 pub after_leaves : (before : Parts) (word : Word) (p : Option Parts)
     → after before (leaves word p) ≡ after (parts before.with before.explains (before.left ++ word ∷ [])) p
 after_leaves before word None = refl

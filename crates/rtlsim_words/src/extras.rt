@@ -64,7 +64,7 @@ impl<'a> Taken<'a> {
         ensures read { IfOk result (λ taken. MatchOption taken
             (after (taken_parts self.old) (parts_of (word.now ∷ map (λ w. w.now) others.now)) ≡ None)
             (λ count. after (taken_parts self.old) (parts_of (word.now ∷ map (λ w. w.now) others.now))
-                ≡ after (taken_parts self.new) (parts_of (map (λ w. w.now) (drop count others.now))))) }
+            ≡ after (taken_parts self.new) (parts_of (map (λ w. w.now) (drop count others.now))))) }
         ensures within { IfOk result (λ taken. IfSome taken (λ count. count ≤ length others.now)) }
     {
         if word == "--" {
@@ -131,7 +131,7 @@ impl<'a> Taken<'a> {
         ensures read { IfOk result (λ taken. MatchOption taken
             (after (taken_parts self.old) (file_first (map (λ w. w.now) others.now)) ≡ None)
             (λ count. after (taken_parts self.old) (file_first (map (λ w. w.now) others.now))
-                ≡ after (taken_parts self.new) (parts_of (map (λ w. w.now) (drop count others.now))))) }
+            ≡ after (taken_parts self.new) (parts_of (map (λ w. w.now) (drop count others.now))))) }
         ensures within { IfOk result (λ taken. IfSome taken (λ count. count ≤ length others.now)) }
     {
         let [name, ..] = others else {
@@ -146,7 +146,7 @@ impl<'a> Taken<'a> {
         ensures read { IfOk result (λ taken. MatchOption taken
             (after (taken_parts self.old) (order_first (map (λ w. w.now) others.now)) ≡ None)
             (λ count. after (taken_parts self.old) (order_first (map (λ w. w.now) others.now))
-                ≡ after (taken_parts self.new) (parts_of (map (λ w. w.now) (drop count others.now))))) }
+            ≡ after (taken_parts self.new) (parts_of (map (λ w. w.now) (drop count others.now))))) }
         ensures within { IfOk result (λ taken. IfSome taken (λ count. count ≤ length others.now)) }
     {
         let [name, ..] = others else {
