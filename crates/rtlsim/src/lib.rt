@@ -6,13 +6,16 @@
 #![tactic(auto)]
 
 mod arguments;
-mod files;
 mod first_line;
 mod halves;
 mod inputs;
+mod performing;
+mod prepared;
 mod refusals;
+mod requests;
 mod simulating;
 mod streams;
+mod texts;
 mod tools;
 
 pub use first_line::tool_first_line;
@@ -20,9 +23,9 @@ pub use halves::halves_at_line;
 pub use inputs::{InputFault, Inputs, MAX_INPUT, Named, Standard, read_input};
 pub use rtlsim_commands::{
     CheckFault, ElabFault, ElabProblem, Fault, Forward, Front, LevelSummary, NameFault,
-    NameProblem, Net, Pick, Reverse, Sink, Status, StimFault, Summary, eval, run, run_event,
-    run_levels, show_check, show_check_dot, show_net,
+    NameProblem, Net, Pick, Reverse, Sink, SourceFile, Status, StimFault, Summary, Telling, eval,
+    run, run_event, run_levels, show_check, show_check_dot, show_net,
 };
-pub use rtlsim_words::{Order, Refused, Request, parse_words};
+pub use rtlsim_words::{Call, Extras, Order, Refused, Request, parse_words};
 pub use streams::{Ended, program};
 pub use tools::{perform, tool, tool_with};
