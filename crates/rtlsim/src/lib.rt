@@ -1,8 +1,8 @@
 //! The simulator as one library: from the bytes of a source to the bytes of the answer.
 //!
 //! The commands are those of rtlsim_commands, and so is `Front`, by whose contract each call that has it for its first type parameter
-//! opens sources. `specs/Tools.antt` says what the program does for its words, and `specs/Inputs.antt` what
-//! the files are that it reads.
+//! opens sources. `specs/Tools.antt` says what the program does for its words, `specs/Requests.antt` which files it reads for them, and
+//! `specs/Inputs.antt` what a read gives.
 #![tactic(auto)]
 
 mod arguments;
@@ -27,5 +27,5 @@ pub use rtlsim_commands::{
     run, run_event, run_levels, show_check, show_check_dot, show_net,
 };
 pub use rtlsim_words::{Call, Extras, Order, Refused, Request, parse_words};
-pub use streams::{Ended, program};
+pub use streams::{Ended, exit_code, program};
 pub use tools::{perform, tool, tool_with};
