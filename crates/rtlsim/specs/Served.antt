@@ -1,5 +1,5 @@
 -- What commands do with what was read.
-use Rattle.std.specs.Prelude.{◌≡◌, ℕ, Bool, true, false, List, Option, Some, None, map, option_map, unwrap_or}
+use Rattle.std.specs.Prelude.{◌≡◌, ℕ, Bool, true, false, List, map, option_map, unwrap_or}
 use Rattle.rtlsim.specs.Requests.{TextsView, set_form, sets_of, stimulus_of, top_of}
 use Rattle.rtlsim_commands.specs.Listed.{ListsNet, ChecksNetTold, DrawsNetTold}
 use Rattle.rtlsim_commands.specs.Machine.{RunsMachine, RunsMachineByLevels, EvaluatesMachine}
@@ -8,7 +8,7 @@ use Rattle.rtlsim_commands.specs.Simulated.{RunsEvents}
 use Rattle.rtlsim_commands.specs.Told.{quiet, verdict, summary, levels}
 use Rattle.rtlsim_commands.specs.declared.status.Status.{Status}
 use Rattle.rtlsim_commands.specs.declared.telling.Telling.{Telling}
-use Rattle.rtlsim_files.specs.Files.{FileView, file_view, joined}
+use Rattle.rtlsim_files.specs.Files.{file_view, joined}
 use Rattle.rtlsim_words.specs.declared.extras.Call.{Call}
 use Rattle.rtlsim_words.specs.declared.request.Request.{Request}
 use Rattle.rtlsim_words.specs.declared.request.Request.TheVariants.{Eval, Net, Check, Dot, Run, Levels}

@@ -1,6 +1,6 @@
 -- What the program does for its words.
 use Rattle.std.specs.List.{after_first, slice_split}
-use Rattle.std.specs.Prelude.{◌≡◌, ◌==◌, ◌⊎◌, not, filter, length, [], ◌∷◌, Option, Some, None, ℕ, List, Bool, true, false, map, IsUtf8}
+use Rattle.std.specs.Prelude.{◌≡◌, ◌==◌, ◌⊎◌, not, filter, length, [], ◌∷◌, Option, Some, None, ℕ, List, IsUtf8}
 use Rattle.rtlsim_commands.specs.Lines.{memory_line, input_line}
 use Rattle.rtlsim_commands.specs.Served.{Outputs, ended}
 use Rattle.rtlsim_commands.specs.declared.status.Status.{Status}

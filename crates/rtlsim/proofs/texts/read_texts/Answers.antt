@@ -1,4 +1,4 @@
-use Rattle.std.proofs.Common.{◌≡◌, ℕ, List, Bor, Option, Some, map, ap, subst}
+use Rattle.std.proofs.Common.{ℕ, List, Bor, Option, Some, map, ap, subst}
 use Rattle.rtlsim.specs.Reads.{GivesAll, GivesMain}
 use Rattle.rtlsim.specs.Requests.{stimulus_of, texts}
 use Rattle.rtlsim.specs.Texts.{read_view, texts_of}
