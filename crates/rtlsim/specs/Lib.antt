@@ -1,7 +1,10 @@
 -- the program
 pub mod Tools
+pub mod Requests
+pub mod Reads
+pub mod Served
 pub mod Inputs
 pub mod Halves
 pub mod Lines
-pub mod Both
+pub mod Texts
 pub mod Streams

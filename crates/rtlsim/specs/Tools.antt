@@ -1,20 +1,17 @@
 -- What the program does for its words.
 use Rattle.std.specs.List.{after_first, slice_split}
-use Rattle.std.specs.Prelude.{◌≡◌, ◌==◌, ◌⊎◌, not, filter, length, [], ◌∷◌, Option, Some, None, ℕ, List, Bool, true, false, map, IsUtf8}
+use Rattle.std.specs.Prelude.{◌≡◌, ◌==◌, ◌⊎◌, not, filter, length, [], ◌∷◌, Option, Some, None, ℕ, List, IsUtf8}
 use Rattle.rtlsim_commands.specs.Lines.{memory_line, input_line}
-use Rattle.rtlsim_commands.specs.Listed.{ListsNet, ChecksNet, DrawsNet}
-use Rattle.rtlsim_commands.specs.Machine.{RunsMachine, RunsMachineByLevels, EvaluatesMachine}
-use Rattle.rtlsim_commands.specs.Served.{Outputs, ended, Serves as ServesSource}
-use Rattle.rtlsim_commands.specs.Simulated.{RunsEvents}
-use Rattle.rtlsim_commands.specs.Told.{quiet, verdict, summary, levels}
+use Rattle.rtlsim_commands.specs.Served.{Outputs, ended}
 use Rattle.rtlsim_commands.specs.declared.status.Status.{Status}
 use Rattle.rtlsim_commands.specs.declared.status.Status.TheVariants as status
 use Rattle.rtl_sink.specs.Read.{ReaderState}
 use Rattle.rtl_sink.specs.Written.{Goes}
-use Rattle.rtlsim_words.specs.Words.{Says, SayNothing}
-use Rattle.rtlsim_words.specs.declared.request.Request.{Request}
-use Rattle.rtlsim_words.specs.declared.request.Request.TheVariants.{Eval, Net, Check, Dot, Run, Levels}
-use Rattle.rtlsim.specs.Inputs.{Reading, GivesWhole, GivesBoth, held}
+use Rattle.rtlsim_words.specs.Extras.{Says, SayNothing}
+use Rattle.rtlsim_words.specs.declared.extras.Call.{Call}
+use Rattle.rtlsim.specs.Inputs.{Reading, GivesWhole, held}
+use Rattle.rtlsim.specs.Requests.{GivesTexts}
+use Rattle.rtlsim.specs.Served.{ServesTexts}
 use Rattle.rtl_stim_lines.specs.Lines.{ends_line}
 use Rattle.rtlsim.specs.Lines.{first_line_of}
 use Rattle.rtlsim.specs.declared.inputs.InputFault.{InputFault}
@@ -40,26 +37,9 @@ abbrev pub ReadsInputs : {A : Type 0} → (Gives : Option A → Type 0) → (Ser
 ReadsInputs {A} Gives Served outcome o =
     ((fault : InputFault) × (fault ≡ Failed → Gives None) × TellsInput fault outcome o) ⊎ ((given : A) × Gives (Some given) × Served given)
 
--- what is done with a source and the text of a stimulus, by events alone where `is_event` says so; no order of processes counts
-abbrev pub SimulatesWords : (is_event : Bool) → (text source top : List ℕ) → (outcome : Status) → Outputs → Type 0
-SimulatesWords true text source top outcome o = ServesSource (RunsEvents text) summary source top outcome o
-SimulatesWords false text source top outcome o = ServesSource (RunsMachine text) summary source top outcome o
-
--- What is done for a request. Its files are read first; then its command serves the source, as `Served` of the commands says.
-abbrev pub Performs : Reading → Request → (old new : ReaderState) → (outcome : Status) → Outputs → Type 0
-Performs Gives (Eval file top sets) old new outcome o =
-    ReadsInputs (Gives old new file.now) (λ source. ServesSource (EvaluatesMachine (map (λ set. set.now) sets.items)) quiet source top.now outcome o) outcome o
-Performs Gives (Net file top) old new outcome o =
-    ReadsInputs (Gives old new file.now) (λ source. ServesSource ListsNet quiet source top.now outcome o) outcome o
-Performs Gives (Check file top) old new outcome o =
-    ReadsInputs (Gives old new file.now) (λ source. ServesSource ChecksNet verdict source top.now outcome o) outcome o
-Performs Gives (Dot file top) old new outcome o =
-    ReadsInputs (Gives old new file.now) (λ source. ServesSource DrawsNet verdict source top.now outcome o) outcome o
-Performs Gives (Run is_event order file top stimulus) old new outcome o =
-    ReadsInputs (GivesBoth Gives file.now stimulus.now old new) (λ both. SimulatesWords is_event both.1 both.0 top.now outcome o) outcome o
-Performs Gives (Levels file top stimulus) old new outcome o =
-    ReadsInputs (GivesBoth Gives file.now stimulus.now old new)
-    (λ both. ServesSource (RunsMachineByLevels both.1) levels both.0 top.now outcome o) outcome o
+-- What is done for a call. Its files are read first; then its command serves the source.
+unfoldable pub Performs : Reading → Call → (old new : ReaderState) → (outcome : Status) → Outputs → Type 0
+Performs Gives call old new outcome o = ReadsInputs (GivesTexts Gives call old new) (λ texts. ServesTexts call texts outcome o) outcome o
 
 -- the words are refused for this reason, or for want of memory, with a text on the standard error and nothing else
 pub record RefusesWords (Reason : Type 0) (outcome : Status) (o : Outputs) : Type 0 where
@@ -69,10 +49,10 @@ pub record RefusesWords (Reason : Type 0) (outcome : Status) (o : Outputs) : Typ
   pub status : (Reason × (outcome ≡ ended status.Words o.out_after o.err_after))
       ⊎ ((outcome ≡ ended status.Memory o.out_after o.err_after) × (text ≡ memory_line))
 
--- what the program does: it serves a request that its words say, or refuses words that say none
+-- what the program does: it serves a call that its words say, or refuses words that say none
 abbrev pub ServesCall : Reading → (words : List (List ℕ)) → (old new : ReaderState) → (outcome : Status) → Outputs → Type 0
 ServesCall Gives words old new outcome o =
-    ((request : Request) × Says words request × Performs Gives request old new outcome o) ⊎ RefusesWords (SayNothing words) outcome o
+    ((call : Call) × Says words call × Performs Gives call old new outcome o) ⊎ RefusesWords (SayNothing words) outcome o
 
 -- ---- words in the first line of the input
 

@@ -6,7 +6,7 @@ ghost use Rattle.rtlsim.specs.Inputs.{GivesWhole, GivesFile, GivesNamed, GivesSt
 ghost use Rattle.rtlsim.specs.declared.inputs.InputFault.TheVariants.{Failed, NoMemory};
 
 use rtl_sink::{In, Reader};
-use std::alloc::{AllocError, Global};
+use std::alloc::{AllocError, AllocFailed, Global};
 use std::fs;
 use std::io::ErrorKind;
 use std::rt::Files;
@@ -33,6 +33,14 @@ impl From<AllocError> for InputFault {
     ghost from_gives = { λ _ fault. fault ≡ NoMemory };
 
     fn from(_refused: AllocError) -> InputFault {
+        InputFault::NoMemory
+    }
+}
+
+impl<T: Drop> From<AllocFailed<T>> for InputFault {
+    ghost from_gives = { λ _ fault. fault ≡ NoMemory };
+
+    fn from(_refused: AllocFailed<T>) -> InputFault {
         InputFault::NoMemory
     }
 }

@@ -1,18 +1,21 @@
 //! The simulator as one library: from the bytes of a source to the bytes of the answer.
 //!
 //! The commands are those of rtlsim_commands, and so is `Front`, by whose contract each call that has it for its first type parameter
-//! opens sources. `specs/Tools.antt` says what the program does for its words, and `specs/Inputs.antt` what
-//! the files are that it reads.
+//! opens sources. `specs/Tools.antt` says what the program does for its words, `specs/Requests.antt` which files it reads for them, and
+//! `specs/Inputs.antt` what a read gives.
 #![tactic(auto)]
 
 mod arguments;
-mod files;
 mod first_line;
 mod halves;
 mod inputs;
+mod performing;
+mod prepared;
 mod refusals;
+mod requests;
 mod simulating;
 mod streams;
+mod texts;
 mod tools;
 
 pub use first_line::tool_first_line;
@@ -20,9 +23,9 @@ pub use halves::halves_at_line;
 pub use inputs::{InputFault, Inputs, MAX_INPUT, Named, Standard, read_input};
 pub use rtlsim_commands::{
     CheckFault, ElabFault, ElabProblem, Fault, Forward, Front, LevelSummary, NameFault,
-    NameProblem, Net, Pick, Reverse, Sink, Status, StimFault, Summary, eval, run, run_event,
-    run_levels, show_check, show_check_dot, show_net,
+    NameProblem, Net, Pick, Reverse, Sink, SourceFile, Status, StimFault, Summary, Telling, eval,
+    run, run_event, run_levels, show_check, show_check_dot, show_net,
 };
-pub use rtlsim_words::{Order, Refused, Request, parse_words};
-pub use streams::{Ended, program};
+pub use rtlsim_words::{Call, Extras, Order, Refused, Request, parse_words};
+pub use streams::{Ended, exit_code, program};
 pub use tools::{perform, tool, tool_with};

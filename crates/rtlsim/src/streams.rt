@@ -1,15 +1,19 @@
 //! The program over a reader and two writers, as the system gives them.
 
 ghost use Rattle.std.specs.Prelude.{◌≡◌, Option, List, ℕ};
+ghost use Rattle.std.specs.Process.{exit_status};
 ghost use Rattle.rtl_sink.specs.Written.{IsIntact};
 ghost use Rattle.rtlsim.specs.Inputs.{GivesNamed};
 ghost use Rattle.rtlsim.specs.Streams.{Ends, GoesOut, GoesToWriters, RunsArguments, ServesArguments, TellsLoss, TellsMemory};
 ghost use Rattle.rtlsim_commands.specs.Served as served;
+ghost use Rattle.rtlsim_commands.specs.Status.{code_of};
+ghost use Rattle.rtlsim_commands.specs.declared.status.Status.{Status};
 
 use crate::arguments::serve_arguments;
 use rtl_sink::{Out, Sink, push_text};
 use rtlsim_commands::{Front, Status, push_memory};
 use std::io::{BufWriter, Read, Write};
+use std::process::ExitCode;
 use std::rt::{Env, Files};
 
 /// What the program ends with: its status, and the writers of its two streams.
@@ -40,6 +44,22 @@ pub fn program<
         return refuse_memory(stdout, stderr);
     };
     run_arguments::<F, _, _, _, _>(rt, reader, Out::new(output), Out::new(errors))
+}
+
+/// The program, as `program` runs it, with what the process ends with: the number of the program's status.
+pub fn exit_code<
+    F: Front,
+    T: Files + Env + AllocGlobal,
+    R: Read + Drop,
+    O: Write + Copy + Drop,
+    E: Write + Copy + Drop,
+>(rt: &T, reader: R, stdout: O, stderr: E) -> ExitCode
+    ensures { (status : Status) × (out : Option (List ℕ)) × (err : Option (List ℕ)) × (exit_status result ≡ code_of status)
+        × RunsArguments (GivesNamed T.File.remaining) (R.remaining reader) status
+        (record { out = O.contents stdout; out_after = out; err = E.contents stderr; err_after = err }) }
+{
+    let ended = program::<F, _, _, _, _>(rt, reader, stdout, stderr);
+    ExitCode::from(ended.status.code())
 }
 
 /// Tells that memory was refused, where no buffers can be had.

@@ -7,14 +7,14 @@ ghost use Rattle.rtl_sink.specs.Written.{IsIntact};
 ghost use Rattle.rtlsim.specs.Inputs.{GivesStandardAlone};
 ghost use Rattle.rtlsim.specs.Tools.{Performs, ServesCall, ServesWords};
 
-use crate::files::read_eval;
 use crate::first_line::serve_reader_line;
 use crate::inputs::{Inputs, Standard};
+use crate::performing::perform_texts;
 use crate::refusals::{refuse_input, refuse_words};
-use crate::simulating::{Names, perform_levels, perform_run};
+use crate::texts::read_texts;
 use rtl_sink::{Reader, Sink};
-use rtlsim_commands::{Front, Status, serve_check, serve_check_dot, serve_eval, serve_net};
-use rtlsim_words::{Request, parse_words};
+use rtlsim_commands::{Front, Status};
+use rtlsim_words::{Call, parse_words};
 use std::alloc::Global;
 
 /// The program where each file is `@`: does what the words ask for, or without words what those of the
@@ -54,62 +54,29 @@ pub fn tool_with<F: Front, I: Inputs, O: Sink, E: Sink>(
         (record { out = O.state out.old; out_after = O.state out.new; err = E.state err.old; err_after = E.state err.new }) }
 {
     match parse_words(alloc, words) {
-        Ok(request) => perform::<F, _, _, _>(alloc, &request, inputs, out, err),
+        Ok(call) => perform::<F, _, _, _>(alloc, &call, inputs, out, err),
         Err(refused) => refuse_words(&refused, out, err),
     }
 }
 
-/// Does what is asked for: reads the file, or the source and the stimulus, by `inputs`, and then does what the command does
-/// with the source: writes the result to `out` and what is told of it to `err`, and answers the status. It takes memory for
-/// the files, and as the command does.
+/// Does what is asked for: reads the files before the source, the source and the stimulus by `inputs`, and then does what the command
+/// does with the joined source: writes the result to `out` and what is told of it to `err`, and answers the status. It takes memory for
+/// the files, once more for the source where it is that of several, and as the command does.
+#[tactic(auto, unfolding(crate::specs::Tools::Performs))]
 pub fn perform<F: Front, I: Inputs, O: Sink, E: Sink>(
     alloc: Global,
-    request: &Request<'_>,
+    call: &Call<'_>,
     inputs: &mut I,
     out: &mut O,
     err: &mut E,
 ) -> Status
     requires out { IsIntact (O.state out.old) }
     requires err { IsIntact (E.state err.old) }
-    ensures { Performs I.gives request.now (I.state inputs.old) (I.state inputs.new) result
+    ensures { Performs I.gives call.now (I.state inputs.old) (I.state inputs.new) result
         (record { out = O.state out.old; out_after = O.state out.new; err = E.state err.old; err_after = E.state err.new }) }
 {
-    match request {
-        Request::Eval { file, top, sets } => match read_eval(alloc, inputs, file, sets) {
-            Ok((source, sets)) => {
-                serve_eval::<F, _, _>(alloc, &source, top.as_bytes(), &sets, out, err)
-            }
-            Err(fault) => refuse_input(fault, out, err),
-        },
-        Request::Net { file, top } => match inputs.read(alloc, file) {
-            Ok(source) => serve_net::<F, _, _>(alloc, &source, top.as_bytes(), out, err),
-            Err(fault) => refuse_input(fault, out, err),
-        },
-        Request::Check { file, top } => match inputs.read(alloc, file) {
-            Ok(source) => serve_check::<F, _, _>(alloc, &source, top.as_bytes(), out, err),
-            Err(fault) => refuse_input(fault, out, err),
-        },
-        Request::Dot { file, top } => match inputs.read(alloc, file) {
-            Ok(source) => serve_check_dot::<F, _, _>(alloc, &source, top.as_bytes(), out, err),
-            Err(fault) => refuse_input(fault, out, err),
-        },
-        Request::Run {
-            is_event,
-            order,
-            file,
-            top,
-            stimulus,
-        } => {
-            let names = Names::new(file, top, stimulus);
-            perform_run::<F, _, _, _>(alloc, *is_event, *order, &names, inputs, out, err)
-        }
-        Request::Levels {
-            file,
-            top,
-            stimulus,
-        } => {
-            let names = Names::new(file, top, stimulus);
-            perform_levels::<F, _, _, _>(alloc, &names, inputs, out, err)
-        }
+    match read_texts(alloc, call, inputs) {
+        Ok(texts) => perform_texts::<F, _, _>(alloc, call, &texts, out, err),
+        Err(fault) => refuse_input(fault, out, err),
     }
 }

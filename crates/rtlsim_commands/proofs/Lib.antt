@@ -1,3 +1,5 @@
 pub mod Refused
 pub mod Listed
 pub mod Told
+pub mod Places
+pub mod Parts

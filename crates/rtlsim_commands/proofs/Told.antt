@@ -3,9 +3,10 @@ use Rattle.std.proofs.Common.{◌≡◌, ℕ, List, [], length, Result, Ok, Err,
 use Rattle.std.specs.Prelude.{IsErrAnd}
 use Rattle.std.proofs.Math.Seq.{take-length}
 use Rattle.rtlsim_commands.specs.Faults.{of_source, status_of}
-use Rattle.rtlsim_commands.specs.Lines.{fault_lines}
+use Rattle.rtlsim_commands.specs.Explanations.{told}
 use Rattle.rtlsim_commands.specs.Served.{Outputs, Serves, ended}
 use Rattle.rtlsim_commands.specs.Told.{Done}
+use Rattle.rtlsim_commands.specs.declared.telling.Telling.{Telling}
 use Rattle.rtlsim_commands.specs.declared.faults.Fault.{Fault}
 use Rattle.rtlsim_commands.specs.declared.status.Status.{Status}
 use Rattle.rtlsim_commands.proofs.Refused.{nameless, source_told}
@@ -41,11 +42,11 @@ listed_failed (Err f) old new text h failed part = rw h (failed, part)
 no_net : NetlistView
 no_net = record { types = []; starts = []; idle = []; inputs = []; processes = []; scopes = []; signals = [] }
 
-module _ {A : Type 0} (Does : NetlistView → Result A Fault → SinkState → SinkState → Type 0) (done : Done A) (source top : List ℕ) (outcome : Status) (o : Outputs) where
+module _ {A : Type 0} (Does : NetlistView → Result A Fault → SinkState → SinkState → Type 0) (done : Done A) (telling : Telling) (source top : List ℕ) (outcome : Status) (o : Outputs) where
   -- the source is refused
   pub serves_refused : (fault : SourceFault) → Refuses source top fault → LiesIn (length source) fault → o.out_after ≡ o.out
-      → ((net : NetlistView) → Goes o.err o.err_after (fault_lines net (of_source fault))) → outcome ≡ ended (status_of (of_source fault)) o.out_after o.err_after
-      → Serves Does done source top outcome o
+      → ((net : NetlistView) → Goes o.err o.err_after (told telling net (of_source fault))) → outcome ≡ ended (status_of (of_source fault)) o.out_after o.err_after
+      → Serves Does done telling source top outcome o
   serves_refused fault refuses lies same goes ends = record {
     answer = Err (of_source fault);
     output = inr (fault, refl, refuses, same);

@@ -9,6 +9,7 @@ pub mod Places
 pub mod Titles
 pub mod Notices
 pub mod Lines
+pub mod Explanations
 pub mod Status
 pub mod Told
 pub mod Served

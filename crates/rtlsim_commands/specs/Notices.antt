@@ -74,3 +74,7 @@ stim_entry stim.NoStop = some_entry (codes "stim") 6 (codes "NoStop") Nowhere
 -- a race has names in its line, which no notice has
 stim_entry (stim.Race time input clock) = some_entry (codes "stim") 8 (codes "Race") (Time time)
 stim_entry stim.NoMemory = None
+
+-- a moment that doesn't settle
+abbrev pub settle_entry : (time : ℕ) → Entry
+settle_entry time = entry (codes "settle") 1 (codes "NoSettling") (Time time)

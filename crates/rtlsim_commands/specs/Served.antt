@@ -6,6 +6,7 @@ use Rattle.rtlsim_commands.specs.Told.{Done, Tells}
 use Rattle.rtlsim_commands.specs.declared.faults.Fault.{Fault}
 use Rattle.rtlsim_commands.specs.declared.status.Status.{Status}
 use Rattle.rtlsim_commands.specs.declared.status.Status.TheVariants as status
+use Rattle.rtlsim_commands.specs.declared.telling.Telling.{Telling}
 use Rattle.rtl_net.specs.Nets.{NetlistView}
 use Rattle.rtl_sink.specs.Written.{SinkState}
 
@@ -25,11 +26,11 @@ abbrev pub ended : Status → (out err : SinkState) → Status
 ended outcome out err = ended_by (out.failed || err.failed) outcome
 
 -- The command answers on the source; what is told of the answer goes to the standard error, and decides the status.
-pub record Serves {A : Type 0} (Does : NetlistView → Result A Fault → SinkState → SinkState → Type 0) (done : Done A) (source top : List ℕ)
+pub record Serves {A : Type 0} (Does : NetlistView → Result A Fault → SinkState → SinkState → Type 0) (done : Done A) (telling : Telling) (source top : List ℕ)
     (outcome : Status) (o : Outputs) : Type 0 where
   pub answer : Result A Fault
   pub output : Opens Does source top answer o.out o.out_after
   pub placed : IfErr answer (IsTold (length source))
   pub said : Status
-  pub told : Tells done source top answer o.err o.err_after said
+  pub told : Tells done telling source top answer o.err o.err_after said
   pub ends : outcome ≡ ended said o.out_after o.err_after

@@ -10,7 +10,9 @@ mod notice;
 mod titles;
 
 use crate::status::Status;
-pub(crate) use layers::{elab_notice, lex_notice, name_notice, stim_notice, syntax_notice};
+pub(crate) use layers::{
+    elab_notice, lex_notice, name_notice, settle_notice, stim_notice, syntax_notice,
+};
 pub(crate) use notice::{FaultPlace, Notice};
 use rtl_check::CheckFault;
 use rtl_machine::MachineFault;

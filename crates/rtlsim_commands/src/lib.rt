@@ -6,6 +6,7 @@
 //! `specs/Simulated.antt` what `run --event` does, `specs/Machine.antt` what `run`, `run --levels` and `eval` do, and `specs/Told.antt` what is told of an answer.
 #![tactic(auto)]
 
+mod explaining;
 mod faults;
 mod lines;
 mod listing;
@@ -13,6 +14,7 @@ mod machine;
 mod running;
 mod serving;
 mod status;
+mod telling;
 
 pub use faults::Fault;
 pub use lines::{push_memory, tell_fault, tell_levels, tell_source_fault, tell_summary};
@@ -25,12 +27,14 @@ pub use rtl_net::Net;
 pub use rtl_run::Summary;
 pub use rtl_sink::Sink;
 pub use rtl_stim::StimFault;
+pub use rtlsim_files::SourceFile;
 pub use running::{MAX_DELTAS, run_event, run_events};
 pub use serving::{
     ended_by_writes, serve_check, serve_check_dot, serve_eval, serve_net, serve_run,
     serve_run_event, serve_run_levels,
 };
 pub use status::Status;
+pub use telling::Telling;
 pub use vhdl_expand_rules::{ElabFault, ElabProblem};
 pub use vhdl_names_rules::{NameFault, NameProblem};
 pub use vhdl_source_rules::{Front, SourceFault};

@@ -1,37 +1,50 @@
 //! The lines that tell faults.
 
-ghost use Rattle.std.specs.Prelude.{◌≡◌, ◌++◌, codes, decimal, true, false, IfErr};
+ghost use Rattle.std.specs.Prelude.{◌≡◌, ◌++◌, codes, decimal, map, true, false, IfErr};
 ghost use Rattle.std.specs.Option.{option_map};
 ghost use Rattle.rtlsim_listing.specs.Printing.{IsListed};
 ghost use Rattle.rtlsim_listing.specs.declared.fault.ListingFault.TheVariants.{Memory};
 ghost use Rattle.rtl_net.specs.Nets.{NetlistView};
 ghost use Rattle.rtl_sink.specs.Written.{Goes, IsIntact};
 ghost use Rattle.rtlsim_commands.specs.Faults.{has_names, of_source};
-ghost use Rattle.rtlsim_commands.specs.Lines.{place_text, notice_text, told_line, race_line, stim_line, fault_lines, memory_line};
+ghost use Rattle.rtlsim_commands.specs.Explanations.{told};
+ghost use Rattle.rtlsim_files.specs.Files.{file_view, spot_view};
+ghost use Rattle.rtlsim_commands.specs.Lines.{byte_text, spot_text, place_text, notice_text, told_line, race_line, stim_line, fault_lines, memory_line};
 ghost use Rattle.rtlsim_commands.specs.Notices.{entry_of};
 ghost use Rattle.rtlsim_commands.specs.Told.{TellsFault, summary_line, levels_line};
 ghost use Rattle.rtlsim_commands.specs.Faults as faults;
 
+use crate::explaining::{explain_fault, explain_nameless};
 use crate::faults::{
-    Fault, FaultPlace, Notice, elab_notice, lex_notice, name_notice, stim_notice, syntax_notice,
+    Fault, FaultPlace, Notice, elab_notice, lex_notice, name_notice, settle_notice, stim_notice,
+    syntax_notice,
 };
 use crate::status::Status;
+use crate::telling::Telling;
 use rtl_levelized::LevelSummary;
 use rtl_net::Net;
 use rtl_run::Summary;
 use rtl_sink::{Sink, finish, push_number, push_text};
 use rtl_stim::StimFault;
+use rtlsim_files::{FilePlace, SourceFile, place_in};
 use rtlsim_listing::{ListingFault, net_name, show_faults};
 use std::alloc::Global;
 use vhdl_source_rules::SourceFault;
 
-/// Writes the lines that tell a fault, with the names of the netlist that has it, and answers the status. It takes the memory of a few
+/// Writes the lines that tell a fault, with the names of the netlist that has it, and its explanation where that is asked for, and answers
+/// the status. It takes the memory of a few
 /// names at a time; where that is refused it tells so in their place.
-pub fn tell_fault<E: Sink>(alloc: Global, net: &Net, fault: &Fault, err: &mut E) -> Status
+pub fn tell_fault<E: Sink>(
+    alloc: Global,
+    telling: &Telling<'_>,
+    net: &Net,
+    fault: &Fault,
+    err: &mut E,
+) -> Status
     requires intact { IsIntact (E.state err.old) }
-    ensures { TellsFault net.now fault.now (E.state err.old) (E.state err.new) result }
+    ensures { TellsFault telling.now net.now fault.now (E.state err.old) (E.state err.new) result }
 {
-    match push_fault(alloc, net, fault, err) {
+    match push_told(alloc, telling, net, fault, err) {
         Ok(()) => fault.status(),
         Err(ListingFault::Write) => fault.status(),
         Err(ListingFault::Memory) => {
@@ -41,13 +54,14 @@ pub fn tell_fault<E: Sink>(alloc: Global, net: &Net, fault: &Fault, err: &mut E)
     }
 }
 
-/// Writes the line that tells why a source is refused, and answers the status.
-pub fn tell_source_fault<E: Sink>(fault: SourceFault, err: &mut E) -> Status
-    ensures told { (net : NetlistView) → Goes (E.state err.old) (E.state err.new) (fault_lines net (of_source fault)) }
+/// Writes the line that tells why a source is refused, and its explanation where that is asked for, and answers the status.
+pub fn tell_source_fault<E: Sink>(telling: &Telling<'_>, fault: SourceFault, err: &mut E) -> Status
+    ensures told { (net : NetlistView) → Goes (E.state err.old) (E.state err.new) (told telling.now net (of_source fault)) }
     ensures status { result ≡ faults.status_of (of_source fault) }
 {
     let fault = Fault::from(fault);
-    push_nameless(err, &fault);
+    push_nameless(telling.files, &fault, err);
+    explain_nameless(telling, &fault, err);
     fault.status()
 }
 
@@ -78,22 +92,39 @@ pub fn push_memory<S: Sink>(sink: &mut S)
     push_text(sink, b"rtlsim: memory\n");
 }
 
-/// Writes what tells a fault of a netlist.
-fn push_fault<S: Sink>(
+/// Writes what tells a fault of a netlist, and its explanation where that is asked for.
+fn push_told<S: Sink>(
     alloc: Global,
+    telling: &Telling<'_>,
     net: &Net,
     fault: &Fault,
     sink: &mut S,
 ) -> Result<(), ListingFault>
     requires intact { IsIntact (S.state sink.old) }
-    ensures listed { IsListed result (S.state sink.old) (S.state sink.new) (fault_lines net.now fault.now) }
+    ensures listed { IsListed result (S.state sink.old) (S.state sink.new) (told telling.now net.now fault.now) }
+    ensures named { IfErr result (λ e. e ≡ Memory → has_names fault.now ≡ true) }
+{
+    push_fault(alloc, telling.files, net, fault, sink)?;
+    explain_fault(alloc, telling, net, fault, sink)
+}
+
+/// Writes the lines that tell a fault of a netlist.
+fn push_fault<S: Sink>(
+    alloc: Global,
+    files: &[SourceFile<'_>],
+    net: &Net,
+    fault: &Fault,
+    sink: &mut S,
+) -> Result<(), ListingFault>
+    requires intact { IsIntact (S.state sink.old) }
+    ensures listed { IsListed result (S.state sink.old) (S.state sink.new) (fault_lines (map file_view files.now) net.now fault.now) }
     ensures named { IfErr result (λ e. e ≡ Memory → has_names fault.now ≡ true) }
 {
     match fault {
         Fault::Rejected(faults) => show_faults(alloc, net, faults, sink),
-        Fault::Stim(stim) => push_stim(alloc, net, *stim, sink),
+        Fault::Stim(stim) => push_stim(alloc, files, net, *stim, sink),
         _ => {
-            push_nameless(sink, fault);
+            push_nameless(files, fault, sink);
             Ok(finish(sink)?)
         }
     }
@@ -102,18 +133,19 @@ fn push_fault<S: Sink>(
 /// Writes the line of a fault of a stimulus.
 fn push_stim<S: Sink>(
     alloc: Global,
+    files: &[SourceFile<'_>],
     net: &Net,
     stim: StimFault,
     sink: &mut S,
 ) -> Result<(), ListingFault>
     requires intact { IsIntact (S.state sink.old) }
-    ensures listed { IsListed result (S.state sink.old) (S.state sink.new) (stim_line net.now stim) }
+    ensures listed { IsListed result (S.state sink.old) (S.state sink.new) (stim_line (map file_view files.now) net.now stim) }
     ensures named { IfErr result (λ e. e ≡ Memory → has_names (Fault.Stim stim) ≡ true) }
 {
     match stim {
         StimFault::Race { time, input, clock } => push_race(alloc, net, time, input, clock, sink),
         _ => {
-            push_nameless(sink, &Fault::Stim(stim));
+            push_nameless(files, &Fault::Stim(stim), sink);
             Ok(finish(sink)?)
         }
     }
@@ -143,32 +175,29 @@ fn push_race<S: Sink>(
 }
 
 /// Writes what tells a fault whose line has no names.
-fn push_nameless<S: Sink>(sink: &mut S, fault: &Fault)
+fn push_nameless<S: Sink>(files: &[SourceFile<'_>], fault: &Fault, sink: &mut S)
     requires nameless { has_names fault.now ≡ false }
-    ensures { (net : NetlistView) → Goes (S.state sink.old) (S.state sink.new) (fault_lines net fault.now) }
+    ensures { (net : NetlistView) → Goes (S.state sink.old) (S.state sink.new) (fault_lines (map file_view files.now) net fault.now) }
 {
     match fault {
-        Fault::Lex(lex) => push_notice(sink, lex_notice(lex)),
-        Fault::Syntax(syntax) => push_notice(sink, syntax_notice(syntax)),
-        Fault::Name(names) => push_notice(sink, name_notice(names)),
-        Fault::Elab(elab) => push_notice(sink, elab_notice(elab)),
-        Fault::Stim(stim) => push_notice(sink, stim_notice(stim)),
-        Fault::NoSettling { time } => {
-            let notice = Notice::some("settle", 1, "NoSettling", FaultPlace::Time(*time));
-            push_notice(sink, notice)
-        }
+        Fault::Lex(lex) => push_notice(files, lex_notice(lex), sink),
+        Fault::Syntax(syntax) => push_notice(files, syntax_notice(syntax), sink),
+        Fault::Name(names) => push_notice(files, name_notice(names), sink),
+        Fault::Elab(elab) => push_notice(files, elab_notice(elab), sink),
+        Fault::Stim(stim) => push_notice(files, stim_notice(stim), sink),
+        Fault::NoSettling { time } => push_notice(files, settle_notice(*time), sink),
         Fault::Output => push_text(sink, b"rtlsim: output\n"),
         Fault::Memory | Fault::Rejected(_) => push_memory(sink),
     }
 }
 
 /// Writes the line of a notice, or that memory was refused.
-fn push_notice<S: Sink>(sink: &mut S, notice: Option<Notice>)
-    ensures { Goes (S.state sink.old) (S.state sink.new) (told_line (option_map entry_of notice)) }
+fn push_notice<S: Sink>(files: &[SourceFile<'_>], notice: Option<Notice>, sink: &mut S)
+    ensures { Goes (S.state sink.old) (S.state sink.new) (told_line (map file_view files.now) (option_map entry_of notice)) }
 {
     match notice {
         Some(notice) => {
-            push_told(sink, &notice);
+            push_noticed(files, &notice, sink);
             push_text(sink, b"\n");
         }
         None => push_memory(sink),
@@ -176,8 +205,8 @@ fn push_notice<S: Sink>(sink: &mut S, notice: Option<Notice>)
 }
 
 /// Writes a notice.
-fn push_told<S: Sink>(sink: &mut S, notice: &Notice)
-    ensures { Goes (S.state sink.old) (S.state sink.new) (notice_text (entry_of notice.now)) }
+fn push_noticed<S: Sink>(files: &[SourceFile<'_>], notice: &Notice, sink: &mut S)
+    ensures { Goes (S.state sink.old) (S.state sink.new) (notice_text (map file_view files.now) (entry_of notice.now)) }
 {
     push_text(sink, b"rtlsim: ");
     push_text(sink, notice.layer.as_bytes());
@@ -185,19 +214,40 @@ fn push_told<S: Sink>(sink: &mut S, notice: &Notice)
     push_number(sink, u64::from(notice.number));
     push_text(sink, b" ");
     push_text(sink, notice.name.as_bytes());
-    push_place(sink, notice.place);
+    push_place(files, notice.place, sink);
 }
 
 /// Writes where a fault is found.
-fn push_place<S: Sink>(sink: &mut S, place: FaultPlace)
-    ensures { Goes (S.state sink.old) (S.state sink.new) (place_text place) }
+fn push_place<S: Sink>(files: &[SourceFile<'_>], place: FaultPlace, sink: &mut S)
+    ensures { Goes (S.state sink.old) (S.state sink.new) (place_text (map file_view files.now) place) }
 {
     match place {
         FaultPlace::Nowhere => {}
-        FaultPlace::Byte(at) => push_counted(sink, b" at ", at as u64),
+        FaultPlace::Byte(at) => push_byte(files, at, sink),
         FaultPlace::Line(line) => push_counted(sink, b" line ", line as u64),
         FaultPlace::Time(time) => push_counted(sink, b" ", time),
     }
+}
+
+/// Writes at which byte a fault is found, and of several files in which.
+#[tactic(auto, using(crate::proofs::Places::one_file, crate::proofs::Places::several_files))]
+fn push_byte<S: Sink>(files: &[SourceFile<'_>], at: usize, sink: &mut S)
+    ensures { Goes (S.state sink.old) (S.state sink.new) (byte_text (map file_view files.now) at) }
+{
+    if files.len() < 2 {
+        push_counted(sink, b" at ", at as u64);
+    } else {
+        push_file_byte(place_in(files, at), sink);
+    }
+}
+
+/// Writes a byte of a file.
+fn push_file_byte<S: Sink>(place: FilePlace<'_>, sink: &mut S)
+    ensures { Goes (S.state sink.old) (S.state sink.new) (spot_text (spot_view place.entry)) }
+{
+    push_counted(sink, b" at ", place.at as u64);
+    push_text(sink, b" in ");
+    push_text(sink, place.file.name);
 }
 
 /// Writes a text and a number.

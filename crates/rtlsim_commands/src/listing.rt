@@ -1,17 +1,24 @@
 //! The lines of a netlist, and of the checker's verdict on it.
 
-ghost use Rattle.std.specs.Prelude.{◌≡◌, IfErr, length};
+ghost use Rattle.std.specs.Prelude.{◌≡◌, [], if◌then◌else◌, IfErr, length};
 ghost use Rattle.rtl_check.specs.Verdicts as verdicts;
 ghost use Rattle.rtl_sink.specs.Written.{IsIntact};
-ghost use Rattle.rtlsim_commands.specs.Listed.{ListsNet, ChecksNet, DrawsNet};
+ghost use Rattle.rtlsim_commands.specs.Listed.{ListsNet, ChecksNet, ChecksNetTold, DrawsNet, DrawsNetTold};
+ghost use Rattle.rtlsim_commands.specs.Explanations.{verdict_explained, with_explanation};
+ghost use Rattle.rtlsim_listing.specs.CheckText.{check_text};
+ghost use Rattle.rtlsim_listing.specs.DotText.{dot_text};
+ghost use Rattle.rtlsim_listing.specs.Printing.{IsListed};
 ghost use Rattle.rtlsim_commands.specs.Opened.{Opens};
 ghost use Rattle.rtlsim_commands.specs.Places.{IsTold};
 
 use crate::faults::Fault;
+use crate::telling::Telling;
 use rtl_check::{Verdict, check};
 use rtl_net::Net;
-use rtl_sink::Sink;
+use rtl_sink::{Sink, finish};
+use rtlsim_explain_check::explain_rejection;
 use rtlsim_listing;
+use rtlsim_listing::ListingFault;
 use std::alloc::Global;
 use vhdl_source_rules::Front;
 
@@ -116,6 +123,95 @@ pub fn check_net_dot<S: Sink>(alloc: Global, net: &Net, out: &mut S) -> Result<b
     let verdict = check(alloc, net)?;
     rtlsim_listing::show_dot(alloc, net, &verdict, out)?;
     Ok(is_yes(&verdict))
+}
+
+/// Checks a netlist and writes the lines of the verdict, as `check_net` does, and below them the explanation of its faults where that is
+/// asked for.
+///
+/// # Errors
+///
+/// As `check_net`.
+pub fn check_net_told<S: Sink>(
+    alloc: Global,
+    telling: &Telling<'_>,
+    net: &Net,
+    out: &mut S,
+) -> Result<bool, Fault>
+    requires intact { IsIntact (S.state out.old) }
+    ensures { ChecksNetTold telling.now net.now result (S.state out.old) (S.state out.new) }
+{
+    let verdict = check(alloc, net)?;
+    show_lines(alloc, telling, net, &verdict, out)?;
+    Ok(is_yes(&verdict))
+}
+
+/// Checks a netlist and draws its levels where the verdict is yes, as `check_net_dot` does; else writes what `check_net_told` does.
+///
+/// # Errors
+///
+/// As `check_net`.
+pub fn check_net_dot_told<S: Sink>(
+    alloc: Global,
+    telling: &Telling<'_>,
+    net: &Net,
+    out: &mut S,
+) -> Result<bool, Fault>
+    requires intact { IsIntact (S.state out.old) }
+    ensures { DrawsNetTold telling.now net.now result (S.state out.old) (S.state out.new) }
+{
+    let verdict = check(alloc, net)?;
+    show_graph(alloc, telling, net, &verdict, out)?;
+    Ok(is_yes(&verdict))
+}
+
+/// Writes the lines of a verdict, and the explanation of its faults where that is asked for.
+fn show_lines<S: Sink>(
+    alloc: Global,
+    telling: &Telling<'_>,
+    net: &Net,
+    verdict: &Verdict,
+    out: &mut S,
+) -> Result<(), ListingFault>
+    requires intact { IsIntact (S.state out.old) }
+    ensures { IsListed result (S.state out.old) (S.state out.new) (with_explanation check_text telling.now net.now verdict.now) }
+{
+    rtlsim_listing::show_check(alloc, net, verdict, out)?;
+    show_explanation(alloc, telling, net, verdict, out)
+}
+
+/// Writes the graph of a verdict or its lines, and the explanation of its faults where that is asked for.
+fn show_graph<S: Sink>(
+    alloc: Global,
+    telling: &Telling<'_>,
+    net: &Net,
+    verdict: &Verdict,
+    out: &mut S,
+) -> Result<(), ListingFault>
+    requires intact { IsIntact (S.state out.old) }
+    ensures { IsListed result (S.state out.old) (S.state out.new) (with_explanation dot_text telling.now net.now verdict.now) }
+{
+    rtlsim_listing::show_dot(alloc, net, verdict, out)?;
+    show_explanation(alloc, telling, net, verdict, out)
+}
+
+/// Writes the explanation of a verdict's faults where that is asked for.
+fn show_explanation<S: Sink>(
+    alloc: Global,
+    telling: &Telling<'_>,
+    net: &Net,
+    verdict: &Verdict,
+    out: &mut S,
+) -> Result<(), ListingFault>
+    requires intact { IsIntact (S.state out.old) }
+    ensures { IsListed result (S.state out.old) (S.state out.new)
+        (if telling.now.explains then verdict_explained telling.now net.now verdict.now else []) }
+{
+    match verdict {
+        Verdict::No(faults) if telling.explains => {
+            explain_rejection(alloc, telling.files, net, faults, out)
+        }
+        _ => Ok(finish(out)?),
+    }
 }
 
 /// Whether a verdict is yes.

@@ -4,8 +4,8 @@ ghost use Rattle.std.specs.Prelude.{◌≡◌, map};
 ghost use Rattle.rtl_net.specs.Nets.{NetlistView};
 ghost use Rattle.rtl_sink.specs.Written.{IsIntact, Goes};
 ghost use Rattle.rtlsim_commands.specs.Faults.{of_source, status_of};
-ghost use Rattle.rtlsim_commands.specs.Lines.{fault_lines};
-ghost use Rattle.rtlsim_commands.specs.Listed.{ListsNet, ChecksNet, DrawsNet};
+ghost use Rattle.rtlsim_commands.specs.Explanations as explained;
+ghost use Rattle.rtlsim_commands.specs.Listed.{ListsNet, ChecksNetTold, DrawsNetTold};
 ghost use Rattle.rtlsim_commands.specs.Machine.{RunsMachine, RunsMachineByLevels, EvaluatesMachine};
 ghost use Rattle.rtlsim_commands.specs.Served.{Serves, ended};
 ghost use Rattle.rtlsim_commands.specs.Simulated.{RunsEvents};
@@ -13,10 +13,11 @@ ghost use Rattle.rtlsim_commands.specs.Told as told;
 
 use crate::faults::Fault;
 use crate::lines::{tell_fault, tell_levels, tell_source_fault, tell_summary};
-use crate::listing::{check_net, check_net_dot, list_net};
+use crate::listing::{check_net_dot_told, check_net_told, list_net};
 use crate::machine::{eval_net, run_net, run_net_levels};
 use crate::running::run_events;
 use crate::status::Status;
+use crate::telling::Telling;
 use rtl_kernel::Pick;
 use rtl_levelized::LevelSummary;
 use rtl_net::Net;
@@ -30,21 +31,22 @@ pub fn serve_net<F: Front, O: Sink, E: Sink>(
     alloc: Global,
     source: &[u8],
     top: &[u8],
+    telling: &Telling<'_>,
     out: &mut O,
     err: &mut E,
 ) -> Status
     requires out { IsIntact (O.state out.old) }
     requires err { IsIntact (E.state err.old) }
-    ensures { Serves ListsNet told.quiet source.now top.now result
+    ensures { Serves ListsNet told.quiet telling.now source.now top.now result
         (record { out = O.state out.old; out_after = O.state out.new; err = E.state err.old; err_after = E.state err.new }) }
 {
     let net = match F::open(alloc, source, top) {
         Ok(net) => net,
-        Err(fault) => return refuse_source(fault, out, err),
+        Err(fault) => return refuse_source(telling, fault, out, err),
     };
     match list_net(&net, out) {
         Ok(()) => ended_by_writes(Status::Done, out, err),
-        Err(fault) => refuse_net(alloc, &net, &fault, out, err),
+        Err(fault) => refuse_net(alloc, telling, &net, &fault, out, err),
     }
 }
 
@@ -53,21 +55,22 @@ pub fn serve_check<F: Front, O: Sink, E: Sink>(
     alloc: Global,
     source: &[u8],
     top: &[u8],
+    telling: &Telling<'_>,
     out: &mut O,
     err: &mut E,
 ) -> Status
     requires out { IsIntact (O.state out.old) }
     requires err { IsIntact (E.state err.old) }
-    ensures { Serves ChecksNet told.verdict source.now top.now result
+    ensures { Serves (ChecksNetTold telling.now) told.verdict telling.now source.now top.now result
         (record { out = O.state out.old; out_after = O.state out.new; err = E.state err.old; err_after = E.state err.new }) }
 {
     let net = match F::open(alloc, source, top) {
         Ok(net) => net,
-        Err(fault) => return refuse_source(fault, out, err),
+        Err(fault) => return refuse_source(telling, fault, out, err),
     };
-    match check_net(alloc, &net, out) {
+    match check_net_told(alloc, telling, &net, out) {
         Ok(yes) => ended_by_writes(verdict_status(yes), out, err),
-        Err(fault) => refuse_net(alloc, &net, &fault, out, err),
+        Err(fault) => refuse_net(alloc, telling, &net, &fault, out, err),
     }
 }
 
@@ -77,21 +80,22 @@ pub fn serve_check_dot<F: Front, O: Sink, E: Sink>(
     alloc: Global,
     source: &[u8],
     top: &[u8],
+    telling: &Telling<'_>,
     out: &mut O,
     err: &mut E,
 ) -> Status
     requires out { IsIntact (O.state out.old) }
     requires err { IsIntact (E.state err.old) }
-    ensures { Serves DrawsNet told.verdict source.now top.now result
+    ensures { Serves (DrawsNetTold telling.now) told.verdict telling.now source.now top.now result
         (record { out = O.state out.old; out_after = O.state out.new; err = E.state err.old; err_after = E.state err.new }) }
 {
     let net = match F::open(alloc, source, top) {
         Ok(net) => net,
-        Err(fault) => return refuse_source(fault, out, err),
+        Err(fault) => return refuse_source(telling, fault, out, err),
     };
-    match check_net_dot(alloc, &net, out) {
+    match check_net_dot_told(alloc, telling, &net, out) {
         Ok(yes) => ended_by_writes(verdict_status(yes), out, err),
-        Err(fault) => refuse_net(alloc, &net, &fault, out, err),
+        Err(fault) => refuse_net(alloc, telling, &net, &fault, out, err),
     }
 }
 
@@ -101,6 +105,7 @@ pub fn serve_run_event<F: Front, P: Pick, O: Sink, E: Sink>(
     alloc: Global,
     source: &[u8],
     top: &[u8],
+    telling: &Telling<'_>,
     stimulus: &[u8],
     pick: &mut P,
     out: &mut O,
@@ -108,16 +113,16 @@ pub fn serve_run_event<F: Front, P: Pick, O: Sink, E: Sink>(
 ) -> Status
     requires out { IsIntact (O.state out.old) }
     requires err { IsIntact (E.state err.old) }
-    ensures { Serves (RunsEvents stimulus.now) told.summary source.now top.now result
+    ensures { Serves (RunsEvents stimulus.now) told.summary telling.now source.now top.now result
         (record { out = O.state out.old; out_after = O.state out.new; err = E.state err.old; err_after = E.state err.new }) }
 {
     let net = match F::open(alloc, source, top) {
         Ok(net) => net,
-        Err(fault) => return refuse_source(fault, out, err),
+        Err(fault) => return refuse_source(telling, fault, out, err),
     };
     match run_events(alloc, &net, stimulus, pick, out) {
         Ok(summary) => end_run(summary, out, err),
-        Err(fault) => refuse_net(alloc, &net, &fault, out, err),
+        Err(fault) => refuse_net(alloc, telling, &net, &fault, out, err),
     }
 }
 
@@ -127,6 +132,7 @@ pub fn serve_run<F: Front, P: Pick, O: Sink, E: Sink>(
     alloc: Global,
     source: &[u8],
     top: &[u8],
+    telling: &Telling<'_>,
     stimulus: &[u8],
     pick: &mut P,
     out: &mut O,
@@ -134,16 +140,16 @@ pub fn serve_run<F: Front, P: Pick, O: Sink, E: Sink>(
 ) -> Status
     requires out { IsIntact (O.state out.old) }
     requires err { IsIntact (E.state err.old) }
-    ensures { Serves (RunsMachine stimulus.now) told.summary source.now top.now result
+    ensures { Serves (RunsMachine stimulus.now) told.summary telling.now source.now top.now result
         (record { out = O.state out.old; out_after = O.state out.new; err = E.state err.old; err_after = E.state err.new }) }
 {
     let net = match F::open(alloc, source, top) {
         Ok(net) => net,
-        Err(fault) => return refuse_source(fault, out, err),
+        Err(fault) => return refuse_source(telling, fault, out, err),
     };
     match run_net(alloc, &net, stimulus, pick, out) {
         Ok(summary) => end_run(summary, out, err),
-        Err(fault) => refuse_net(alloc, &net, &fault, out, err),
+        Err(fault) => refuse_net(alloc, telling, &net, &fault, out, err),
     }
 }
 
@@ -153,22 +159,23 @@ pub fn serve_run_levels<F: Front, O: Sink, E: Sink>(
     alloc: Global,
     source: &[u8],
     top: &[u8],
+    telling: &Telling<'_>,
     stimulus: &[u8],
     out: &mut O,
     err: &mut E,
 ) -> Status
     requires out { IsIntact (O.state out.old) }
     requires err { IsIntact (E.state err.old) }
-    ensures { Serves (RunsMachineByLevels stimulus.now) told.levels source.now top.now result
+    ensures { Serves (RunsMachineByLevels stimulus.now) told.levels telling.now source.now top.now result
         (record { out = O.state out.old; out_after = O.state out.new; err = E.state err.old; err_after = E.state err.new }) }
 {
     let net = match F::open(alloc, source, top) {
         Ok(net) => net,
-        Err(fault) => return refuse_source(fault, out, err),
+        Err(fault) => return refuse_source(telling, fault, out, err),
     };
     match run_net_levels(alloc, &net, stimulus, out) {
         Ok(summary) => end_levels(summary, out, err),
-        Err(fault) => refuse_net(alloc, &net, &fault, out, err),
+        Err(fault) => refuse_net(alloc, telling, &net, &fault, out, err),
     }
 }
 
@@ -178,47 +185,54 @@ pub fn serve_eval<F: Front, O: Sink, E: Sink>(
     alloc: Global,
     source: &[u8],
     top: &[u8],
+    telling: &Telling<'_>,
     sets: &[&[u8]],
     out: &mut O,
     err: &mut E,
 ) -> Status
     requires out { IsIntact (O.state out.old) }
     requires err { IsIntact (E.state err.old) }
-    ensures { Serves (EvaluatesMachine (map (λ set. set.now) sets.now)) told.quiet source.now top.now result
+    ensures { Serves (EvaluatesMachine (map (λ set. set.now) sets.now)) told.quiet telling.now source.now top.now result
         (record { out = O.state out.old; out_after = O.state out.new; err = E.state err.old; err_after = E.state err.new }) }
 {
     let net = match F::open(alloc, source, top) {
         Ok(net) => net,
-        Err(fault) => return refuse_source(fault, out, err),
+        Err(fault) => return refuse_source(telling, fault, out, err),
     };
     match eval_net(alloc, &net, sets, out) {
         Ok(()) => ended_by_writes(Status::Done, out, err),
-        Err(fault) => refuse_net(alloc, &net, &fault, out, err),
+        Err(fault) => refuse_net(alloc, telling, &net, &fault, out, err),
     }
 }
 
 /// Tells why a source is refused, and answers the status.
-fn refuse_source<O: Sink, E: Sink>(fault: SourceFault, out: &O, err: &mut E) -> Status
-    ensures told { (net : NetlistView) → Goes (E.state err.old) (E.state err.new) (fault_lines net (of_source fault)) }
+fn refuse_source<O: Sink, E: Sink>(
+    telling: &Telling<'_>,
+    fault: SourceFault,
+    out: &O,
+    err: &mut E,
+) -> Status
+    ensures told { (net : NetlistView) → Goes (E.state err.old) (E.state err.new) (explained.told telling.now net (of_source fault)) }
     ensures status { result ≡ ended (status_of (of_source fault)) (O.state out.now) (E.state err.new) }
 {
-    let said = tell_source_fault(fault, err);
+    let said = tell_source_fault(telling, fault, err);
     ended_by_writes(said, out, err)
 }
 
 /// Tells a fault of a netlist with its names, and answers the status.
 fn refuse_net<O: Sink, E: Sink>(
     alloc: Global,
+    telling: &Telling<'_>,
     net: &Net,
     fault: &Fault,
     out: &O,
     err: &mut E,
 ) -> Status
     requires { IsIntact (E.state err.old) }
-    ensures { (said : Status) × told.TellsFault net.now fault.now (E.state err.old) (E.state err.new) said
+    ensures { (said : Status) × told.TellsFault telling.now net.now fault.now (E.state err.old) (E.state err.new) said
         × (result ≡ ended said (O.state out.now) (E.state err.new)) }
 {
-    let said = tell_fault(alloc, net, fault, err);
+    let said = tell_fault(alloc, telling, net, fault, err);
     ended_by_writes(said, out, err)
 }
 

@@ -1,5 +1,5 @@
 -- What is written of the faults of a stimulus, of NAME=VALUE words and of a run.
-use Rattle.std.specs.Prelude.{ℕ, zero, suc, ◌-◌, if◌then◌else◌, List, [], ◌∷◌, ◌++◌, Option, Some, None, codes, decimal}
+use Rattle.std.specs.Prelude.{ℕ, zero, suc, ◌-◌, Bool, true, false, if◌then◌else◌, List, [], ◌∷◌, ◌++◌, Option, Some, None, codes, decimal}
 use Rattle.rtl_net.specs.Names.{net_name}
 use Rattle.rtl_net.specs.Nets.{NetlistView}
 use Rattle.rtl_stim_lines.specs.Lines.{ends_line}
@@ -81,6 +81,11 @@ abbrev pub plain_explained : (file : List ℕ) → (text : Option (List ℕ)) �
 plain_explained file text h (InLine problem line) = line_explained file text h problem line
 plain_explained file text h NoStop = stop_explained file h
 plain_explained file text h _ = []
+
+-- a race names nets
+abbrev pub is_race : StimFault → Bool
+is_race (Race time input clock) = true
+is_race _ = false
 
 abbrev pub stim_explained : (file : List ℕ) → (text : Option (List ℕ)) → Heading → NetlistView → StimFault → List ℕ
 stim_explained file text h net (Race time input clock) = race_explained file h net time input clock

@@ -1,10 +1,11 @@
 //! Explanations of the faults of a stimulus, of NAME=VALUE words and of a run.
 
-ghost use Rattle.std.specs.Prelude.{◌≡◌, option_map};
+ghost use Rattle.std.specs.Prelude.{◌≡◌, true, IfErr, option_map};
 ghost use Rattle.rtl_sink.specs.Written.{Goes, IsIntact};
 ghost use Rattle.rtlsim_explain.specs.Explained as said;
 ghost use Rattle.rtlsim_explain.specs.Stimuli as spec;
 ghost use Rattle.rtlsim_listing.specs.Printing.{IsListed};
+ghost use Rattle.rtlsim_listing.specs.declared.fault.ListingFault.TheVariants.{Memory};
 
 use crate::explaining::{Title, push_help, push_title};
 use crate::place::line_after;
@@ -38,8 +39,9 @@ pub fn explain_stim<S: Sink>(
     sink: &mut S,
 ) -> Result<(), ListingFault>
     requires intact { IsIntact (S.state sink.old) }
-    ensures { IsListed result (S.state sink.old) (S.state sink.new)
+    ensures listed { IsListed result (S.state sink.old) (S.state sink.new)
         (spec.stim_explained file.now (option_map (λ t. t.now) text.entry) (said.heading_of title) net.now fault) }
+    ensures named { IfErr result (λ e. e ≡ Memory → spec.is_race fault ≡ true) }
 {
     match fault {
         StimFault::Race { time, input, clock } => explain_race(

@@ -1,11 +1,10 @@
 //! The program: the library over the system's arguments, files and standard streams.
 #![tactic(auto)]
 
-use rtlsim::program;
+use rtlsim::exit_code;
 use std::process::ExitCode;
 use vhdl_source::Vhdl;
 
 fn main(rt: HostRuntime) -> ExitCode {
-    let ended = program::<Vhdl, _, _, _, _>(&rt, rt.reader(), rt.stdout(), rt.stderr());
-    ExitCode::from(ended.status.code())
+    exit_code::<Vhdl, _, _, _, _>(&rt, rt.reader(), rt.stdout(), rt.stderr())
 }

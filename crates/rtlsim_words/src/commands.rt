@@ -7,17 +7,20 @@ use std::alloc::{AllocError, Global};
 static ORDERS: [&str; 2] = ["forward", "reverse"];
 
 /// How simulations are asked for.
-static RUN_USAGE: &str = "rtlsim run [--event] [--order <ORDER>] <FILE> <TOP> <STIM>
-       rtlsim run --levels <FILE> <TOP> <STIM>";
+static RUN_USAGE: &str =
+    "rtlsim run [--event] [--order <ORDER>] [--with <FILE>]... [--explain] <FILE> <TOP> <STIM>
+       rtlsim run --levels [--with <FILE>]... [--explain] <FILE> <TOP> <STIM>";
 
 /// What stands below the help of all commands.
-static EXAMPLES: &str = "FILE or STIM may be @, the standard input.
+static EXAMPLES: &str =
+    "A FILE or STIM may be @, the standard input. Files of --with stand before the source's, in order.
 
 Examples:
   rtlsim eval and2.vhd and2 a=L b=H
   rtlsim net counter.vhd counter
   rtlsim check counter.vhd counter
   rtlsim check --dot counter.vhd counter
+  rtlsim check --explain --with alu.vhd --with fetch.vhd cpu.vhd cpu
   rtlsim run counter.vhd counter counter.stim
   rtlsim run --levels counter.vhd counter counter.stim
   rtlsim run --event --order reverse counter.vhd counter counter.stim";
@@ -25,7 +28,7 @@ Examples:
 /// The commands.
 pub fn command<'a>(alloc: Global) -> Result<Command<'a>, AllocError> {
     let net = design_command(alloc, "net", "Prints the nets and what drives each")?
-        .override_usage("rtlsim net <FILE> <TOP>")
+        .override_usage("rtlsim net [--with <FILE>]... [--explain] <FILE> <TOP>")
         .after_help("Example: rtlsim net counter.vhd counter");
     Command::new(alloc, "rtlsim")
         .version("0.1.0")
@@ -53,10 +56,21 @@ fn design_command<'a>(
     name: &'a str,
     about: &'a str,
 ) -> Result<Command<'a>, AllocError> {
+    let with = Arg::new(alloc, "with")
+        .long("with")
+        .value_name("FILE")
+        .help("A file whose text stands before the source's; any number")
+        .action(ArgAction::Append);
+    let explain = Arg::new(alloc, "explain")
+        .long("explain")
+        .help("Explains each fault: its place, the line, and what to do")
+        .action(ArgAction::SetTrue);
     Command::new(alloc, name)
         .about(about)
         .arg(operand(alloc, "FILE", "The source, or @ for the standard input"))?
-        .arg(operand(alloc, "TOP", "The entity at the top"))
+        .arg(operand(alloc, "TOP", "The entity at the top"))?
+        .arg(with)?
+        .arg(explain)
 }
 
 /// The command that evaluates a design.
@@ -66,7 +80,7 @@ fn eval_command<'a>(alloc: Global) -> Result<Command<'a>, AllocError> {
         .num_args(0..)
         .action(ArgAction::Append);
     design_command(alloc, "eval", "Prints the outputs under these inputs")?
-        .override_usage("rtlsim eval <FILE> <TOP> [NAME=VALUE]...")
+        .override_usage("rtlsim eval [--with <FILE>]... [--explain] <FILE> <TOP> [NAME=VALUE]...")
         .after_help("Example: rtlsim eval and2.vhd and2 a=L b=H")
         .arg(sets)
 }
@@ -78,7 +92,7 @@ fn check_command<'a>(alloc: Global) -> Result<Command<'a>, AllocError> {
         .help("Draws the levels of one that is, as a graph of Graphviz")
         .action(ArgAction::SetTrue);
     design_command(alloc, "check", "Says whether the design is sure to settle")?
-        .override_usage("rtlsim check [--dot] <FILE> <TOP>")
+        .override_usage("rtlsim check [--dot] [--with <FILE>]... [--explain] <FILE> <TOP>")
         .after_help("Example: rtlsim check counter.vhd counter")
         .arg(dot)
 }

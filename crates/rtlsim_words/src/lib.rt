@@ -6,8 +6,10 @@
 
 mod arguments;
 mod commands;
+mod extras;
 mod reading;
 mod request;
 
+pub use extras::{Call, Extras};
 pub use reading::parse_words;
 pub use request::{Order, Refused, Request};

@@ -1,6 +1,9 @@
 //! The request that words say.
 
-ghost use Rattle.std.specs.Prelude.{◌≡◌, ◌≢◌, ◌<◌, IfOk, IfErr, IsErr, IfSome, IfNone, Some, None, length, codes, map};
+ghost use Rattle.std.specs.Prelude.{◌≡◌, ◌∷◌, ◌≢◌, ◌<◌, IfOk, IfErr, IsErr, IfSome, IfNone, Some, None, length, codes, map};
+ghost use Rattle.rtlsim_words.specs.Extras as extras;
+ghost use Rattle.rtlsim_words.specs.Extras.{SaysParts, parts};
+ghost use Rattle.rtlsim_words.specs.declared.extras.Call.{Call};
 ghost use Rattle.rtlsim_words.specs.Words.{Says, SayNothing, Asks, IsOfWords, event_flag};
 ghost use Rattle.rtlsim_words.specs.declared.arguments.Flag.TheVariants.{Levels, Dot};
 ghost use Rattle.rtlsim_words.specs.declared.request.Request.{Request};
@@ -9,6 +12,7 @@ ghost use Rattle.clap.specs.declared.error.kind.ErrorKind.TheVariants.{OutOfMemo
 
 use crate::arguments::{Arguments, Flag, read_arguments};
 use crate::commands::command;
+use crate::extras::{Call, Extras, Taken, is_read_once, take_extras};
 use crate::request::{Order, Refused, Request};
 use clap::Error;
 use clap::error::ErrorKind;
@@ -18,16 +22,74 @@ use std::alloc::{AllocError, Global};
 ///
 /// # Errors
 ///
-/// - `Words` where they say no request, as where they ask for help.
+/// - `Words` where they say no call, as where they ask for help.
 /// - `NoMemory` where memory was refused.
-pub fn parse_words<'a>(alloc: Global, words: &'a [&'a str]) -> Result<Request<'a>, Refused>
-    ensures said { IfOk result (λ request. Says (map (λ word. word.now) words.now) request) }
-    ensures refused { IfErr result (λ refused. IsOfWords refused → SayNothing (map (λ word. word.now) words.now)) }
+pub fn parse_words<'a>(alloc: Global, words: &'a [&'a str]) -> Result<Call<'a>, Refused>
+    ensures said { IfOk result (λ call. extras.Says (map (λ word. word.now) words.now) call) }
+    ensures refused { IfErr result (λ refused. IsOfWords refused → extras.SayNothing (map (λ word. word.now) words.now)) }
 {
-    match request_of(alloc, words)? {
-        Some(request) => Ok(request),
+    match call_of(alloc, words)? {
+        Some(call) => Ok(call),
         None => Err(Refused::Words(refusal_text(alloc, words)?)),
     }
+}
+
+/// The call that the words say.
+#[tactic(auto, unfolding(crate::specs::Extras::SayNothing))]
+fn call_of<'a>(alloc: Global, words: &[&'a str]) -> Result<Option<Call<'a>>, AllocError>
+    ensures said { IfOk result (λ asked. IfSome asked (λ call. extras.Says (map (λ word. word.now) words.now) call)) }
+    ensures none { IfOk result (λ asked. IfNone asked (extras.SayNothing (map (λ word. word.now) words.now))) }
+{
+    let [command, others @ ..] = words else {
+        return Ok(None);
+    };
+    let Some(taken) = take_extras(alloc, others)? else {
+        return Ok(None);
+    };
+    let Taken {
+        with,
+        explains,
+        left,
+    } = taken;
+    call_with(alloc, command, with, explains, &left)
+}
+
+/// The call of a command, with what was taken out of the words behind it.
+fn call_with<'a>(
+    alloc: Global,
+    command: &'a str,
+    with: Vec<&'a str>,
+    explains: bool,
+    left: &[&'a str],
+) -> Result<Option<Call<'a>>, AllocError>
+    ensures said { IfOk result (λ asked. IfSome asked (λ call.
+        SaysParts command.now (parts (map (λ name. name.now) with.entry.items) explains (map (λ word. word.now) left.now)) call)) }
+    ensures none { IfOk result (λ asked. IfNone asked ((call : Call)
+        → SaysParts command.now (parts (map (λ name. name.now) with.entry.items) explains (map (λ word. word.now) left.now)) call → ⊥)) }
+{
+    if !is_read_once(&with, left) {
+        return Ok(None);
+    }
+    let words = begun_with(alloc, command, left)?;
+    let Some(request) = request_of(alloc, &words)? else {
+        return Ok(None);
+    };
+    let extras = Extras { with, explains };
+    Ok(Some(Call { request, extras }))
+}
+
+/// A command and the words behind it.
+fn begun_with<'a>(
+    alloc: Global,
+    command: &'a str,
+    others: &[&'a str],
+) -> Result<Vec<&'a str>, AllocError>
+    ensures { IfOk result (λ words. map (λ word. word.now) words.items ≡ command.now ∷ map (λ word. word.now) others.now) }
+{
+    let mut words = Vec::with_capacity(alloc, others.len().saturating_add(1))?;
+    words.push(command)?;
+    words.extend_from_slice(others)?;
+    Ok(words)
 }
 
 /// The request that the words say.

@@ -1,9 +1,9 @@
 //! The notices of the layers' faults.
 
-ghost use Rattle.std.specs.Prelude.{◌≡◌};
+ghost use Rattle.std.specs.Prelude.{◌≡◌, Some};
 ghost use Rattle.std.specs.Option.{option_map};
 ghost use Rattle.rtlsim_commands.specs.Notices as notices;
-ghost use Rattle.rtlsim_commands.specs.Notices.{entry_of, lex_entry, syntax_entry, names_entry, elab_entry, stim_entry};
+ghost use Rattle.rtlsim_commands.specs.Notices.{entry_of, lex_entry, syntax_entry, names_entry, elab_entry, stim_entry, settle_entry};
 
 use super::titles::{elab_number, elab_title, name_number, name_title};
 use super::{FaultPlace, Notice};
@@ -110,4 +110,11 @@ pub(crate) fn stim_notice(fault: &StimFault) -> Option<Notice>
         StimFault::Race { time, .. } => Notice::some("stim", 8, "Race", FaultPlace::Time(time)),
         StimFault::NoMemory => None,
     }
+}
+
+/// What the printed line of a moment tells that doesn't settle.
+pub(crate) fn settle_notice(time: u64) -> Option<Notice>
+    ensures { option_map entry_of result ≡ Some (settle_entry time) }
+{
+    Notice::some("settle", 1, "NoSettling", FaultPlace::Time(time))
 }

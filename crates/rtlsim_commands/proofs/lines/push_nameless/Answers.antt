@@ -13,7 +13,7 @@ pub returns-in-Elab : goal.returns-in-Elab
 returns-in-Elab g c net = rw c.in-Elab.is (rw c.elab_notice.ensures at c.push_notice-in-Elab.ensures)
 
 pub returns-in-NoSettling : goal.returns-in-NoSettling
-returns-in-NoSettling g c net = rw c.in-NoSettling.is (rw c.some-notice.ensures at c.push_notice-in-NoSettling.ensures)
+returns-in-NoSettling g c net = rw c.in-NoSettling.is (rw c.settle_notice.ensures at c.push_notice-in-NoSettling.ensures)
 
 pub returns-in-Output : goal.returns-in-Output
 returns-in-Output g c net = rw c.in-Output.is c.push_text.ensures

@@ -1,15 +1,8 @@
-use Rattle.rtl_sink.proofs.Writing.{Goes-append}
+use Rattle.rtlsim_commands.proofs.Parts.{listed_behind, listed_before}
 use Rattle.rtlsim_commands.proofs.lines.push_told.Goals as goal
 
-pub returns : goal.returns
-returns g c =
-    let layer = rw c.as_bytes.ensures.value at c.push_text-2.ensures in
-    let name = rw c.as_bytes-2.ensures.value at c.push_text-5.ensures in
-    let number = rw c.from.ensures at c.push_number.ensures in
-    Goes-append _ _ _ _ _
-    (Goes-append _ _ _ _ _
-    (Goes-append _ _ _ _ _
-    (Goes-append _ _ _ _ _ (Goes-append _ _ _ _ _ (Goes-append _ _ _ _ _ c.push_text.ensures layer) c.push_text-3.ensures) number)
-    c.push_text-4.ensures)
-    name)
-    c.push_place.ensures
+pub returns-in_err-push_fault-clause-listed : goal.returns-in_err-push_fault-clause-listed
+returns-in_err-push_fault-clause-listed g c = listed_before _ _ _ _ _ _ c.from_residual.ensures.1 c.in_err-push_fault.ensures.listed
+
+pub returns-clause-listed : goal.returns-clause-listed
+returns-clause-listed g c = listed_behind _ _ _ _ _ _ c.in_ok-push_fault.ensures.listed.1 c.explain_fault.ensures.listed

@@ -1,9 +1,9 @@
 use Rattle.std.proofs.Common.{refl}
-use Rattle.rtlsim_commands.specs.Listed.{DrawsNet}
+use Rattle.rtlsim_commands.specs.Listed.{DrawsNetTold}
 use Rattle.rtlsim_commands.specs.Told as told
 use Rattle.rtlsim_commands.proofs.Told.{serves_refused}
 use Rattle.rtlsim_commands.proofs.serving.serve_check_dot.Goals as goal
 
 pub returns-in-Err : goal.returns-in-Err
 returns-in-Err g c =
-    serves_refused DrawsNet told.verdict _ _ _ _ c.in-Err.fault c.in-Err.ensures.refused c.in-Err.ensures.told refl c.refuse_source.ensures.told c.refuse_source.ensures.status
+    serves_refused (DrawsNetTold c.args.telling.now) told.verdict c.args.telling.now _ _ _ _ c.in-Err.fault c.in-Err.ensures.refused c.in-Err.ensures.told refl c.refuse_source.ensures.told c.refuse_source.ensures.status

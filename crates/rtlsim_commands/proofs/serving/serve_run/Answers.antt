@@ -6,4 +6,4 @@ use Rattle.rtlsim_commands.proofs.serving.serve_run.Goals as goal
 
 pub returns-in-Err : goal.returns-in-Err
 returns-in-Err g c =
-    serves_refused (RunsMachine c.args.stimulus.now) told.summary _ _ _ _ c.in-Err.fault c.in-Err.ensures.refused c.in-Err.ensures.told refl c.refuse_source.ensures.told c.refuse_source.ensures.status
+    serves_refused (RunsMachine c.args.stimulus.now) told.summary c.args.telling.now _ _ _ _ c.in-Err.fault c.in-Err.ensures.refused c.in-Err.ensures.told refl c.refuse_source.ensures.told c.refuse_source.ensures.status

@@ -1,5 +1,5 @@
 use Rattle.std.proofs.Common.{◌≡◌, map, take}
-use Rattle.rtlsim.proofs.files.bytes_of.Given as goal
+use Rattle.rtlsim.proofs.prepared.bytes_of.Given as goal
 
 -- the bytes of the texts so far
 abbrev pub invariant-loop-text : goal.invariant-loop-text

@@ -1,0 +1,96 @@
+//! What commands are given of what was read.
+
+ghost use Rattle.std.specs.Prelude.{◌≡◌, ◌∷◌, ◌++◌, [], IfOk, map};
+ghost use Rattle.rtlsim.specs.Requests as requests;
+ghost use Rattle.rtlsim.specs.Texts.{source_by, texts_view};
+ghost use Rattle.rtlsim_files.specs.Files as joining;
+ghost use Rattle.rtlsim_files.specs.Files.{file_view};
+
+use crate::requests::sets_of;
+use crate::texts::Texts;
+use rtlsim_files::{SourceFile, joined};
+use rtlsim_words::Request;
+use std::alloc::{AllocError, Global};
+
+/// The files of a source, and the words that set inputs as bytes.
+#[derive(Drop)]
+pub(crate) struct Prepared<'a> {
+    /// The files of the source, in order.
+    pub files: Vec<SourceFile<'a>>,
+    /// Their texts joined, where there are several.
+    joined: Vec<u8>,
+    pub sets: Vec<&'a [u8]>,
+}
+
+impl Prepared<'_> {
+    ghost use Rattle.std.specs.Prelude.{◌≡◌, map};
+    ghost use Rattle.rtlsim.specs.Texts.{source_by};
+    ghost use Rattle.rtlsim_files.specs.Files.{file_view};
+
+    /// The text of the source.
+    pub(crate) fn source(&self) -> &[u8]
+        ensures { result.now ≡ source_by self.now.joined.items (map file_view self.now.files.items) }
+    {
+        match self.files.as_slice() {
+            [file] => file.text,
+            _ => &self.joined,
+        }
+    }
+}
+
+/// What commands are given. It takes memory for the files' list and the words', and for the text where it is that of several files.
+pub(crate) fn prepare<'b>(
+    alloc: Global,
+    request: &'b Request<'_>,
+    texts: &'b Texts<'_>,
+) -> Result<Prepared<'b>, AllocError>
+    ensures files { IfOk result (λ p. map file_view p.files.items ≡ (texts_view texts.now).files) }
+    ensures source { IfOk result (λ p. source_by p.joined.items (map file_view p.files.items) ≡ joining.joined (texts_view texts.now).files) }
+    ensures sets { IfOk result (λ p. map (λ set. set.now) p.sets.items ≡ requests.sets_of request.now) }
+{
+    let files = files_of(alloc, texts)?;
+    let joined = joined_where_several(alloc, &files)?;
+    let sets = bytes_of(alloc, sets_of(request))?;
+    Ok(Prepared {
+        files,
+        joined,
+        sets,
+    })
+}
+
+/// The files of the source, in order.
+fn files_of<'b>(alloc: Global, texts: &'b Texts<'_>) -> Result<Vec<SourceFile<'b>>, AllocError>
+    ensures { IfOk result (λ files. map file_view files.items ≡ (texts_view texts.now).files) }
+{
+    let mut files = Vec::new(alloc);
+    for file in &texts.before {
+        files.push(file.file())?;
+    }
+    let (text, _stimulus) = texts.main.texts();
+    files.push(SourceFile {
+        name: texts.file.as_bytes(),
+        text,
+    })?;
+    Ok(files)
+}
+
+/// The text of several files; that of one is its own.
+fn joined_where_several(alloc: Global, files: &[SourceFile<'_>]) -> Result<Vec<u8>, AllocError>
+    ensures { IfOk result (λ text. source_by text.items (map file_view files.now) ≡ joining.joined (map file_view files.now)) }
+{
+    match files {
+        [_] => Ok(Vec::new(alloc)),
+        _ => joined(alloc, files),
+    }
+}
+
+/// The bytes of each text.
+fn bytes_of<'a>(alloc: Global, texts: &[&'a str]) -> Result<Vec<&'a [u8]>, AllocError>
+    ensures { IfOk result (λ all. map (λ bytes. bytes.now) all.items ≡ map (λ text. text.now) texts.now) }
+{
+    let mut all = Vec::with_capacity(alloc, texts.len())?;
+    for text in texts {
+        all.push(text.as_bytes())?;
+    }
+    Ok(all)
+}

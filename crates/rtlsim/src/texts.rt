@@ -1,0 +1,144 @@
+//! What calls read.
+
+ghost use Rattle.std.specs.Prelude.{◌≡◌, Some, None, IfOk, IfErr, map, option_map};
+ghost use Rattle.rtlsim.specs.Requests.{GivesTexts};
+ghost use Rattle.rtlsim.specs.Reads.{GivesAll, GivesMain};
+ghost use Rattle.rtlsim.specs.Texts.{read_view, texts_of, texts_view};
+ghost use Rattle.rtlsim.specs.declared.inputs.InputFault.TheVariants.{Failed};
+
+use crate::halves::halves_at_line;
+use crate::inputs::{InputFault, Inputs};
+use crate::requests::{file_of, stimulus_of};
+use rtlsim_files::SourceFile;
+use rtlsim_words::Call;
+use std::alloc::Global;
+
+/// What was read for a call.
+#[derive(Drop)]
+pub(crate) struct Texts<'a> {
+    /// The files whose texts stand before the source's, in order.
+    pub before: Vec<ReadFile<'a>>,
+    /// The name of the source.
+    pub file: &'a str,
+    /// The source, with the stimulus.
+    pub main: Main,
+}
+
+/// A file and its bytes.
+#[derive(Drop)]
+pub(crate) struct ReadFile<'a> {
+    pub name: &'a str,
+    pub text: Vec<u8>,
+}
+
+/// A source, and a stimulus if there is one.
+#[derive(Drop)]
+pub(crate) enum Main {
+    /// The source alone.
+    Alone(Vec<u8>),
+    /// One after the other.
+    Apart { source: Vec<u8>, stimulus: Vec<u8> },
+    /// In one input, between which a line `@` stands.
+    Together(Vec<u8>),
+}
+
+impl Main {
+    ghost use Rattle.std.specs.Prelude.{◌≡◌};
+    ghost use Rattle.rtlsim.specs.Texts.{texts_of};
+
+    /// The text of the source, and that of the stimulus, which is empty where there is none.
+    pub(crate) fn texts(&self) -> (&[u8], &[u8])
+        ensures source { result.0.now ≡ (texts_of self.now).0 }
+        ensures stimulus { result.1.now ≡ (texts_of self.now).1 }
+    {
+        match self {
+            Main::Alone(source) => (source, &[]),
+            Main::Apart { source, stimulus } => (source, stimulus),
+            Main::Together(all) => halves_at_line(all),
+        }
+    }
+}
+
+impl ReadFile<'_> {
+    ghost use Rattle.std.specs.Prelude.{◌≡◌};
+    ghost use Rattle.rtlsim.specs.Texts.{read_view};
+    ghost use Rattle.rtlsim_files.specs.Files.{file_view};
+
+    /// Its name and bytes.
+    pub(crate) fn file(&self) -> SourceFile<'_>
+        ensures { file_view result ≡ read_view self.now }
+    {
+        SourceFile {
+            name: self.name.as_bytes(),
+            text: &self.text,
+        }
+    }
+}
+
+/// Reads the files that a call names: those before the source, the source and the stimulus.
+pub(crate) fn read_texts<'a, I: Inputs>(
+    alloc: Global,
+    call: &Call<'a>,
+    inputs: &mut I,
+) -> Result<Texts<'a>, InputFault>
+    ensures given { IfOk result (λ texts. GivesTexts I.gives call.now (I.state inputs.old) (I.state inputs.new) (Some (texts_view texts))) }
+    ensures failed { IfErr result (λ fault. fault ≡ Failed → GivesTexts I.gives call.now (I.state inputs.old) (I.state inputs.new) None) }
+{
+    let file = file_of(&call.request);
+    let before = read_files(alloc, &call.extras.with, inputs)?;
+    let main = read_main(alloc, file, stimulus_of(&call.request), inputs)?;
+    Ok(Texts { before, file, main })
+}
+
+/// Reads the files of these names, in order.
+fn read_files<'a, I: Inputs>(
+    alloc: Global,
+    names: &[&'a str],
+    inputs: &mut I,
+) -> Result<Vec<ReadFile<'a>>, InputFault>
+    ensures given { IfOk result (λ files. GivesAll I.gives (map (λ name. name.now) names.now) (I.state inputs.old) (I.state inputs.new) (Some (map read_view files.items))) }
+    ensures failed { IfErr result (λ fault. fault ≡ Failed → GivesAll I.gives (map (λ name. name.now) names.now) (I.state inputs.old) (I.state inputs.new) None) }
+{
+    let mut files = Vec::new(alloc);
+    let mut left = names;
+    while let [name, others @ ..] = left {
+        let text = inputs.read(alloc, name)?;
+        files.push(ReadFile { name, text })?;
+        left = others;
+    }
+    Ok(files)
+}
+
+/// Reads a source, and then a stimulus if one is named; where both are the standard input, one input has both.
+fn read_main<I: Inputs>(
+    alloc: Global,
+    file: &str,
+    stimulus: Option<&str>,
+    inputs: &mut I,
+) -> Result<Main, InputFault>
+    ensures given { IfOk result (λ main. GivesMain I.gives file.now (option_map (λ name. name.now) stimulus.entry) (I.state inputs.old) (I.state inputs.new) (Some (texts_of main))) }
+    ensures failed { IfErr result (λ fault. fault ≡ Failed → GivesMain I.gives file.now (option_map (λ name. name.now) stimulus.entry) (I.state inputs.old) (I.state inputs.new) None) }
+{
+    match stimulus {
+        None => Ok(Main::Alone(inputs.read(alloc, file)?)),
+        Some(stimulus) => read_both(alloc, file, stimulus, inputs),
+    }
+}
+
+/// Reads a source and a stimulus.
+fn read_both<I: Inputs>(
+    alloc: Global,
+    file: &str,
+    stimulus: &str,
+    inputs: &mut I,
+) -> Result<Main, InputFault>
+    ensures given { IfOk result (λ main. GivesMain I.gives file.now (Some stimulus.now) (I.state inputs.old) (I.state inputs.new) (Some (texts_of main))) }
+    ensures failed { IfErr result (λ fault. fault ≡ Failed → GivesMain I.gives file.now (Some stimulus.now) (I.state inputs.old) (I.state inputs.new) None) }
+{
+    if file == "@" && stimulus == "@" {
+        return Ok(Main::Together(inputs.read(alloc, file)?));
+    }
+    let source = inputs.read(alloc, file)?;
+    let stimulus = inputs.read(alloc, stimulus)?;
+    Ok(Main::Apart { source, stimulus })
+}

@@ -1,0 +1,2 @@
+-- A source of several files.
+pub mod Files
