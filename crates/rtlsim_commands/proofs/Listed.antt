@@ -1,5 +1,5 @@
 -- What a listing answers as a command.
-use Rattle.std.proofs.Common.{◌≡◌, ◌≢◌, ℕ, Bool, List, [], length, Result, Ok, Err, map, inl, inr, refl, sym, ◌∙◌, subst, ◌∷◌, arith}
+use Rattle.std.proofs.Common.{◌≡◌, ℕ, Bool, List, [], length, Result, Ok, Err, map, inl, inr, refl, sym, ◌∙◌, subst, ◌∷◌, arith}
 use Rattle.std.specs.Prelude.{IsErrAnd}
 use Rattle.rtl_check.specs.Verdicts.{IsVerdict, ListsLoopsOnce}
 use Rattle.rtl_check.specs.Views.{core, fault_view}

@@ -1,7 +1,7 @@
 -- A listing behind another.
-use Rattle.std.proofs.Common.{◌≡◌, List, [], ◌++◌, ℕ, Result, Ok, Err, refl, append-nil}
+use Rattle.std.proofs.Common.{◌≡◌, List, ◌++◌, ℕ, Result, Ok, Err}
 use Rattle.std.specs.Prelude.{IsErrAnd}
-use Rattle.rtl_sink.specs.Written.{SinkState, IsIntact, TakesAll, TakesBeginning}
+use Rattle.rtl_sink.specs.Written.{SinkState, TakesAll}
 use Rattle.rtl_sink.proofs.Writing.{TakesBeginning-after, TakesBeginning-append}
 use Rattle.std.proofs.KnownBytes.{Appends-trans}
 use Rattle.rtlsim_listing.specs.Printing.{IsListed}

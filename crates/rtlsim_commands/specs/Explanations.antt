@@ -1,5 +1,5 @@
 -- What is told below the lines of a fault: an explanation, where one is asked for.
-use Rattle.std.specs.Prelude.{ℕ, Bool, true, false, if◌then◌else◌, List, [], ◌∷◌, ◌++◌, Option, Some, None, map, option_map, codes}
+use Rattle.std.specs.Prelude.{ℕ, Bool, true, false, if◌then◌else◌, List, [], ◌++◌, Option, Some, None, map, option_map}
 use Rattle.rtl_check.specs.declared.checking.Verdict.{Verdict}
 use Rattle.rtl_check.specs.declared.checking.Verdict.TheVariants as verdict
 use Rattle.rtl_net.specs.Nets.{NetlistView}
@@ -9,12 +9,12 @@ use Rattle.rtlsim_commands.specs.Notices.{Entry, lex_entry, syntax_entry, names_
 use Rattle.rtlsim_commands.specs.declared.faults.Fault.{Fault}
 use Rattle.rtlsim_commands.specs.declared.faults.Fault.TheVariants.{Lex, Syntax, Name, Elab, Rejected, Stim, NoSettling, Memory, Output}
 use Rattle.rtlsim_commands.specs.declared.faults.notice.FaultPlace.{FaultPlace}
-use Rattle.rtlsim_commands.specs.declared.faults.notice.FaultPlace.TheVariants.{Nowhere, Byte, Line, Time}
+use Rattle.rtlsim_commands.specs.declared.faults.notice.FaultPlace.TheVariants.{Byte}
 use Rattle.rtlsim_commands.specs.declared.telling.Telling.{Telling}
 use Rattle.rtlsim_explain.specs.Explained.{Spot, Heading, lex_explained, syntax_explained, name_explained, elab_explained}
 use Rattle.rtlsim_explain.specs.Stimuli.{stim_explained, settle_explained}
 use Rattle.rtlsim_explain_check.specs.Rejected.{rejection_explained}
-use Rattle.rtlsim_files.specs.Files.{FileView, file_view, spot_in}
+use Rattle.rtlsim_files.specs.Files.{FileView, file_view, source_name, spot_in}
 use Rattle.vhdl_expand_rules.specs.declared.fault.ElabFault.{ElabFault}
 use Rattle.vhdl_expand_rules.specs.declared.fault.ElabFault.TheVariants as elab
 use Rattle.vhdl_lexer.specs.declared.fault.LexFault.{LexFault}
@@ -24,15 +24,6 @@ use Rattle.vhdl_parser.specs.declared.fault.SyntaxFault.{SyntaxFault}
 
 abbrev pub files_of : Telling → List FileView
 files_of telling = map file_view telling.files.now
-
--- the name of the last of these files, or this where there is none
-abbrev pub last_name : (name : List ℕ) → List FileView → List ℕ
-last_name name [] = name
-last_name name (file ∷ files) = last_name file.name files
-
--- the name by which the source as a whole is told: that of its last file
-abbrev pub source_name : List FileView → List ℕ
-source_name files = last_name [] files
 
 -- ---- faults of a byte of the source
 
@@ -88,7 +79,7 @@ explanation telling net (Lex fault) = lex_said (files_of telling) fault
 explanation telling net (Syntax fault) = syntax_said (files_of telling) fault
 explanation telling net (Name fault) = name_said (files_of telling) fault
 explanation telling net (Elab fault) = elab_said (files_of telling) fault
-explanation telling net (Rejected faults) = rejection_explained (source_name (files_of telling)) net faults.items
+explanation telling net (Rejected faults) = rejection_explained (files_of telling) net faults.items
 explanation telling net (Stim fault) = stimulus_explained telling net fault (stim_entry fault)
 explanation telling net (NoSettling time) = settle_explained (source_name (files_of telling)) (heading (settle_entry time)) time
 explanation telling net Memory = []
@@ -107,7 +98,7 @@ told telling net fault = fault_lines (files_of telling) net fault ++ (if telling
 
 abbrev pub verdict_explained : Telling → NetlistView → Verdict → List ℕ
 verdict_explained telling net (verdict.Yes report) = []
-verdict_explained telling net (verdict.No faults) = rejection_explained (source_name (files_of telling)) net faults.items
+verdict_explained telling net (verdict.No faults) = rejection_explained (files_of telling) net faults.items
 
 -- a verdict's text, and below it the explanation of its faults where that is asked for
 abbrev pub with_explanation : (text_of : NetlistView → Verdict → List ℕ) → Telling → NetlistView → Verdict → List ℕ

@@ -8,7 +8,7 @@ ghost use Rattle.rtlsim_commands.specs.Faults.{has_names};
 ghost use Rattle.rtlsim_commands.specs.Notices.{entry_of, settle_entry};
 ghost use Rattle.rtlsim_explain.specs.Explained.{spot_of, heading_of};
 ghost use Rattle.rtlsim_explain.specs.Stimuli.{settle_explained};
-ghost use Rattle.rtlsim_files.specs.Files.{file_view};
+ghost use Rattle.rtlsim_files.specs.Files.{file_view, source_name};
 ghost use Rattle.rtlsim_listing.specs.Printing.{IsListed};
 ghost use Rattle.rtlsim_listing.specs.declared.fault.ListingFault.TheVariants.{Memory};
 
@@ -25,7 +25,7 @@ use rtlsim_explain::{
     explain_unsettled,
 };
 use rtlsim_explain_check::explain_rejection;
-use rtlsim_files::{SourceFile, place_in};
+use rtlsim_files::{SourceFile, place_in, source_name};
 use rtlsim_listing::ListingFault;
 use std::alloc::Global;
 use vhdl_expand_rules::ElabFault;
@@ -66,9 +66,7 @@ fn push_explanation<S: Sink>(
     ensures named { IfErr result (λ e. e ≡ Memory → has_names fault.now ≡ true) }
 {
     match fault {
-        Fault::Rejected(faults) => {
-            explain_rejection(alloc, source_name(telling.files), net, faults, sink)
-        }
+        Fault::Rejected(faults) => explain_rejection(alloc, telling.files, net, faults, sink),
         Fault::Stim(stim) => explain_stimulus(alloc, telling, net, *stim, sink),
         _ => {
             push_nameless_explanation(telling, fault, sink);
@@ -175,7 +173,7 @@ fn explain_elaboration<S: Sink>(files: &[SourceFile<'_>], fault: ElabFault, sink
 /// Explains a moment that doesn't settle.
 fn explain_moment<S: Sink>(files: &[SourceFile<'_>], time: u64, sink: &mut S)
     ensures { Goes (S.state sink.old) (S.state sink.new)
-        (settle_explained (spec.source_name (map file_view files.now)) (spec.heading (settle_entry time)) time) }
+        (settle_explained (source_name (map file_view files.now)) (spec.heading (settle_entry time)) time) }
 {
     match settle_notice(time) {
         Some(notice) => explain_unsettled(source_name(files), title_of(&notice), time, sink),
@@ -215,17 +213,4 @@ fn title_of(notice: &Notice) -> Title
         number: notice.number,
         name: notice.name,
     }
-}
-
-/// The name by which the source as a whole is told.
-pub(crate) fn source_name<'a>(files: &[SourceFile<'a>]) -> &'a [u8]
-    ensures { result.now ≡ spec.source_name (map file_view files.now) }
-{
-    let mut name: &[u8] = &[];
-    let mut left = files;
-    while let [file, others @ ..] = left {
-        name = file.name;
-        left = others;
-    }
-    name
 }

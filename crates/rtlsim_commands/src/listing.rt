@@ -11,7 +11,6 @@ ghost use Rattle.rtlsim_listing.specs.Printing.{IsListed};
 ghost use Rattle.rtlsim_commands.specs.Opened.{Opens};
 ghost use Rattle.rtlsim_commands.specs.Places.{IsTold};
 
-use crate::explaining::source_name;
 use crate::faults::Fault;
 use crate::telling::Telling;
 use rtl_check::{Verdict, check};
@@ -209,7 +208,7 @@ fn show_explanation<S: Sink>(
 {
     match verdict {
         Verdict::No(faults) if telling.explains => {
-            explain_rejection(alloc, source_name(telling.files), net, faults, out)
+            explain_rejection(alloc, telling.files, net, faults, out)
         }
         _ => Ok(finish(out)?),
     }

@@ -14,5 +14,5 @@ mod unread;
 mod word;
 
 pub use explaining::{Title, explain_elab, explain_lex, explain_name, explain_syntax};
-pub use place::Place;
+pub use place::{Place, Position, line_after, line_before, position_behind};
 pub use stimulus::{explain_stim, explain_unsettled};

@@ -21,7 +21,7 @@ pub struct Place<'a> {
 
 impl<'a> Place<'a> {
     /// What stands before the byte, and what stands from it on.
-    pub(crate) fn halves(self) -> (&'a [u8], &'a [u8])
+    pub fn halves(self) -> (&'a [u8], &'a [u8])
         ensures before { result.0.now ≡ take self.entry.at self.entry.text.now }
         ensures after { result.1.now ≡ drop self.entry.at self.entry.text.now }
     {
@@ -35,13 +35,13 @@ impl<'a> Place<'a> {
 
 /// A place as editors tell it, from line 1 and column 1 on.
 #[derive(Clone, Copy)]
-pub(crate) struct Position {
+pub struct Position {
     pub line: usize,
     pub column: usize,
 }
 
 /// Where the byte behind these bytes stands.
-pub(crate) fn position_behind(mut before: &[u8]) -> Position
+pub fn position_behind(mut before: &[u8]) -> Position
     ensures { result ≡ spec.position_behind before.entry.now }
 {
     let mut line = 1;
@@ -59,7 +59,7 @@ pub(crate) fn position_behind(mut before: &[u8]) -> Position
 }
 
 /// What stands of its line before a byte that these bytes lead to.
-pub(crate) fn line_before(before: &[u8]) -> &[u8]
+pub fn line_before(before: &[u8]) -> &[u8]
     ensures { result.now ≡ spec.line_before before.now }
 {
     let mut line = before;
@@ -74,7 +74,7 @@ pub(crate) fn line_before(before: &[u8]) -> &[u8]
 }
 
 /// What stands of its line from a byte on, without the carriage return at the line's end.
-pub(crate) fn line_after(after: &[u8]) -> &[u8]
+pub fn line_after(after: &[u8]) -> &[u8]
     ensures { result.now ≡ spec.line_after after.now }
 {
     without_return(&after[..line_len(after)])

@@ -1,5 +1,5 @@
--- What is written of the checker's faults: a paragraph for each cause, which names the file, the fault and its processes, then all nets that
--- it is told of, elements of a vector as a range, and what to do about it.
+-- What is written of the checker's faults: a paragraph for each cause, which tells the place of its first process, the fault and its
+-- processes, then all nets that it is told of, elements of a vector as a range, the line of the place, and what to do about it.
 use Rattle.std.specs.Prelude.{ℕ, ◌==◌, ◌&&◌, ◌||◌, Bool, false, if◌then◌else◌, List, [], ◌∷◌, ◌++◌, flat_map, bytes_eq, slice_get, Option, Some, None, codes}
 use Rattle.rtl_check.specs.Views.{fault_view}
 use Rattle.rtl_check.specs.declared.fault.CheckFault.{CheckFault}
@@ -7,7 +7,10 @@ use Rattle.rtl_model.specs.simulation.Accepted.{Fault, TwoDrivers, MixedProcess,
 use Rattle.rtl_net.specs.Names.{net_name, process_name}
 use Rattle.rtl_net.specs.Nets.{NetlistView}
 use Rattle.rtl_net.specs.declared.process.Variable.{Variable}
+use Rattle.rtlsim_explain.specs.Explained.{help_line}
+use Rattle.rtlsim_explain_check.specs.Placed.{place_of, place_text, shown_text}
 use Rattle.rtlsim_explain_check.specs.Ranges.{follows, range_text}
+use Rattle.rtlsim_files.specs.Files.{FileView}
 use Rattle.rtlsim_listing.specs.CheckText.{source_name, member_text, variable_of}
 
 -- ---- what is said of each fault
@@ -92,36 +95,42 @@ element net (StoredVariable process variable place) = name_of_variable (variable
 
 -- ---- paragraphs
 
--- how a paragraph begins: one that begins so is the same cause
-abbrev pub head : (file : List ℕ) → NetlistView → Fault → List ℕ
-head file net fault = file ++ codes ": " ++ opening fault ++ culprits net fault ++ middle fault
+-- what a paragraph is told of: another with the same is the same cause
+abbrev pub cause : NetlistView → Fault → List ℕ
+cause net fault = opening fault ++ culprits net fault ++ middle fault
+
+-- how a paragraph begins
+abbrev pub head : List FileView → NetlistView → Fault → List ℕ
+head files net fault = place_text files (place_of net fault) ++ cause net fault
 
 -- how a paragraph ends whose last range began with this name
-abbrev pub ended : NetlistView → (first : List ℕ) → (before : Fault) → List ℕ
-ended net first before = range_text first (element net before) ++ closing before ++ codes "\nhelp: " ++ fault_help before ++ codes "\n"
+abbrev pub ended : List FileView → NetlistView → (first : List ℕ) → (before : Fault) → List ℕ
+ended files net first before =
+    range_text first (element net before) ++ closing before ++ codes "\n" ++ shown_text files (place_of net before)
+    ++ help_line (fault_help before)
 
-abbrev pub is_same_cause : (file : List ℕ) → NetlistView → (before fault : Fault) → Bool
-is_same_cause file net before fault = bytes_eq (head file net before) (head file net fault)
+abbrev pub is_same_cause : NetlistView → (before fault : Fault) → Bool
+is_same_cause net before fault = bytes_eq (cause net before) (cause net fault)
 
 -- the fault's net is that before, or the element beside it
 abbrev pub is_same_range : NetlistView → (before fault : Fault) → Bool
 is_same_range net before fault = bytes_eq (element net before) (element net fault) || follows (element net before) (element net fault)
 
-abbrev pub goes_on : (file : List ℕ) → NetlistView → (before fault : Fault) → Bool
-goes_on file net before fault = is_same_cause file net before fault && is_same_range net before fault
+abbrev pub goes_on : NetlistView → (before fault : Fault) → Bool
+goes_on net before fault = is_same_cause net before fault && is_same_range net before fault
 
 -- what stands between the fault before and this one, where the range ends that began with this name
-abbrev pub apart : (file : List ℕ) → NetlistView → (first : List ℕ) → (before fault : Fault) → List ℕ
-apart file net first before fault =
-    if is_same_cause file net before fault then range_text first (element net before) ++ codes ", "
-    else ended net first before ++ head file net fault
+abbrev pub apart : List FileView → NetlistView → (first : List ℕ) → (before fault : Fault) → List ℕ
+apart files net first before fault =
+    if is_same_cause net before fault then range_text first (element net before) ++ codes ", "
+    else ended files net first before ++ head files net fault
 
-abbrev pub link : (file : List ℕ) → NetlistView → (first : List ℕ) → (before fault : Fault) → List ℕ
-link file net first before fault = if goes_on file net before fault then [] else apart file net first before fault
+abbrev pub link : List FileView → NetlistView → (first : List ℕ) → (before fault : Fault) → List ℕ
+link files net first before fault = if goes_on net before fault then [] else apart files net first before fault
 
 -- the name that the range begins with in which the fault's net is
-abbrev pub first_of : (file : List ℕ) → NetlistView → (first : List ℕ) → (before fault : Fault) → List ℕ
-first_of file net first before fault = if goes_on file net before fault then first else element net fault
+abbrev pub first_of : NetlistView → (first : List ℕ) → (before fault : Fault) → List ℕ
+first_of net first before fault = if goes_on net before fault then first else element net fault
 
 -- ---- the explanation
 
@@ -139,19 +148,19 @@ is_left_out all (ClockAsData process n) = any_gated n all
 is_left_out all _ = false
 
 -- what is written of these faults behind the fault before, whose range began with this name
-abbrev pub told : (file : List ℕ) → NetlistView → (all : List CheckFault) → (first : List ℕ) → (before : Fault) → List CheckFault → List ℕ
-told file net all first before [] = ended net first before
-told file net all first before (fault ∷ faults) =
-    if is_left_out all (fault_view fault) then told file net all first before faults
-    else link file net first before (fault_view fault)
-    ++ told file net all (first_of file net first before (fault_view fault)) (fault_view fault) faults
+abbrev pub told : List FileView → NetlistView → (all : List CheckFault) → (first : List ℕ) → (before : Fault) → List CheckFault → List ℕ
+told files net all first before [] = ended files net first before
+told files net all first before (fault ∷ faults) =
+    if is_left_out all (fault_view fault) then told files net all first before faults
+    else link files net first before (fault_view fault)
+    ++ told files net all (first_of net first before (fault_view fault)) (fault_view fault) faults
 
 -- the first fault's range begins with its own name
-abbrev pub told_from : (file : List ℕ) → NetlistView → (all : List CheckFault) → (begin : Fault) → List CheckFault → List ℕ
-told_from file net all begin faults = told file net all (element net begin) begin faults
+abbrev pub told_from : List FileView → NetlistView → (all : List CheckFault) → (begin : Fault) → List CheckFault → List ℕ
+told_from files net all begin faults = told files net all (element net begin) begin faults
 
 -- the first of them begins a paragraph
-abbrev pub rejection_explained : (file : List ℕ) → NetlistView → List CheckFault → List ℕ
-rejection_explained file net [] = []
-rejection_explained file net (fault ∷ faults) =
-    head file net (fault_view fault) ++ told_from file net (fault ∷ faults) (fault_view fault) faults
+abbrev pub rejection_explained : List FileView → NetlistView → List CheckFault → List ℕ
+rejection_explained files net [] = []
+rejection_explained files net (fault ∷ faults) =
+    head files net (fault_view fault) ++ told_from files net (fault ∷ faults) (fault_view fault) faults

@@ -5,6 +5,7 @@
 #![tactic(auto)]
 
 mod naming;
+mod placing;
 mod ranges;
 mod rejected;
 mod rejection;

@@ -1,5 +1,5 @@
 -- A source of several files: its text is theirs, with a line feed between, and each of its bytes is one of a file.
-use Rattle.std.specs.Prelude.{◌≡◌, ◌⊎◌, ℕ, ◌+◌, ◌-◌, nat_le, if◌then◌else◌, List, [], ◌∷◌, ◌++◌, length, take, drop}
+use Rattle.std.specs.Prelude.{◌≡◌, ◌⊎◌, ℕ, ◌-◌, nat_le, if◌then◌else◌, List, [], ◌∷◌, ◌++◌, length, take, drop}
 use Rattle.rtlsim_files.specs.declared.file.SourceFile.{SourceFile}
 use Rattle.rtlsim_files.specs.declared.file.FilePlace.{FilePlace}
 
@@ -42,6 +42,15 @@ spot_in [] at = spot no_file at
 spot_in (file ∷ []) at = spot file at
 spot_in (file ∷ next ∷ files) at =
     if nat_le at (length file.text) then spot file at else spot_in (next ∷ files) (at - length file.text - 1)
+
+-- the name of the last of these files, or this where there is none
+abbrev pub last_name : (name : List ℕ) → List FileView → List ℕ
+last_name name [] = name
+last_name name (file ∷ files) = last_name file.name files
+
+-- the name by which the source as a whole is told: that of its last file
+abbrev pub source_name : List FileView → List ℕ
+source_name files = last_name [] files
 
 -- ---- a byte told by its own file is the byte of the joined text
 

@@ -9,4 +9,4 @@ mod places;
 
 pub use file::{FilePlace, SourceFile};
 pub use joining::joined;
-pub use places::place_in;
+pub use places::{place_in, source_name};

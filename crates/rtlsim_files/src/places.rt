@@ -1,6 +1,7 @@
 //! Where a byte of a joined text stands.
 
 ghost use Rattle.std.specs.Prelude.{◌≡◌, map};
+ghost use Rattle.rtlsim_files.specs.Files as spec;
 ghost use Rattle.rtlsim_files.specs.Files.{file_view, spot_in, spot_view};
 
 use crate::file::{FilePlace, SourceFile};
@@ -26,4 +27,17 @@ pub fn place_in<'a>(files: &[SourceFile<'a>], at: usize) -> FilePlace<'a>
         },
         at,
     }
+}
+
+/// The name by which the source as a whole is told: that of its last file.
+pub fn source_name<'a>(files: &[SourceFile<'a>]) -> &'a [u8]
+    ensures { result.now ≡ spec.source_name (map file_view files.now) }
+{
+    let mut name: &[u8] = &[];
+    let mut left = files;
+    while let [file, others @ ..] = left {
+        name = file.name;
+        left = others;
+    }
+    name
 }

@@ -1,7 +1,6 @@
 use Rattle.std.proofs.Common.{◌≡◌, [], length, map}
-use Rattle.rtlsim_commands.specs.Explanations.{last_name}
-use Rattle.rtlsim_files.specs.Files.{file_view}
-use Rattle.rtlsim_commands.proofs.explaining.source_name.Given as goal
+use Rattle.rtlsim_files.specs.Files.{file_view, last_name}
+use Rattle.rtlsim_files.proofs.places.source_name.Given as goal
 
 -- the last of those that are left is the last of all
 abbrev pub invariant-loop-left : goal.invariant-loop-left
