@@ -91,8 +91,12 @@ abbrev pub place_text : List FileView → Option ℕ → List ℕ
 place_text files None = codes ",\"file\":null,\"line\":null,\"column\":null"
 place_text files (Some at) = spot_text (spot_in files at)
 
+-- a fault, with the text of its place
+abbrev pub fault_at : NetlistView → (place : List ℕ) → Fault → List ℕ
+fault_at net place fault = title fault ++ culprits net fault ++ subject net fault ++ place ++ codes "}"
+
 abbrev pub fault_text : List FileView → NetlistView → Fault → List ℕ
-fault_text files net fault = title fault ++ culprits net fault ++ subject net fault ++ place_text files (place_of net fault) ++ codes "}"
+fault_text files net fault = fault_at net (place_text files (place_of net fault)) fault
 
 abbrev pub found_text : List FileView → NetlistView → CheckFault → List ℕ
 found_text files net fault = fault_text files net (fault_view fault)

@@ -1,6 +1,6 @@
 //! Where a fault is told.
 
-ghost use Rattle.std.specs.Prelude.{◌≡◌, ◌++◌, map, slice_get, OnOk};
+ghost use Rattle.std.specs.Prelude.{◌≡◌, ◌++◌, map, slice_get, IfOk, OnOk};
 ghost use Rattle.rtl_check.specs.Views.{fault_view};
 ghost use Rattle.rtl_model.specs.simulation.Accepted.{Loop};
 ghost use Rattle.rtl_net.specs.Nets.{source_view};
@@ -14,6 +14,7 @@ use rtl_check::CheckFault;
 use rtl_net::{Net, NoMemory, Source};
 use rtlsim_explain::{Place, Position, position_behind};
 use rtlsim_files::{FilePlace, SourceFile, place_in};
+use std::alloc::Global;
 
 /// The byte of the source at which the first process of a fault is declared, if it has one.
 pub(crate) fn place_of(net: &Net, fault: &CheckFault) -> Option<usize>
@@ -69,8 +70,46 @@ fn process_of(source: Source) -> Option<usize>
     }
 }
 
+/// A place and its text.
+#[derive(Drop)]
+pub(crate) struct PlaceText {
+    pub at: Option<usize>,
+    pub text: Vec<u8>,
+}
+
+/// The text of a place. It takes a walk over the file up to there.
+pub(crate) fn text_at(
+    alloc: Global,
+    files: &[SourceFile<'_>],
+    at: Option<usize>,
+) -> Result<PlaceText, NoMemory>
+    ensures place { IfOk result (λ told. told.at ≡ at) }
+    ensures text { IfOk result (λ told. told.text.items ≡ spec.place_text (map file_view files.now) at) }
+{
+    let mut text = Vec::new(alloc);
+    push_place(files, at, &mut text)?;
+    Ok(PlaceText { at, text })
+}
+
+/// The text of a place, behind that of another: of the same place it is kept.
+pub(crate) fn next_text_at(
+    alloc: Global,
+    files: &[SourceFile<'_>],
+    before: PlaceText,
+    at: Option<usize>,
+) -> Result<PlaceText, NoMemory>
+    requires before { before.text.items ≡ spec.place_text (map file_view files.now) before.at }
+    ensures place { IfOk result (λ told. told.at ≡ at) }
+    ensures text { IfOk result (λ told. told.text.items ≡ spec.place_text (map file_view files.now) at) }
+{
+    if before.at == at {
+        return Ok(before);
+    }
+    text_at(alloc, files, at)
+}
+
 /// Appends a place.
-pub(crate) fn push_place(
+fn push_place(
     files: &[SourceFile<'_>],
     place: Option<usize>,
     text: &mut Vec<u8>,

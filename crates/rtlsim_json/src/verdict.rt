@@ -1,6 +1,7 @@
 //! The object of a verdict.
 
 ghost use Rattle.std.specs.Prelude.{◌≡◌, ◌++◌, flat_map, map, IfOk, OnOk};
+ghost use Rattle.rtl_check.specs.Views.{fault_view};
 ghost use Rattle.rtl_sink.specs.Written.{IsIntact};
 ghost use Rattle.rtlsim_files.specs.Files.{file_view};
 ghost use Rattle.rtlsim_json.specs.Json as spec;
@@ -9,7 +10,7 @@ ghost use Rattle.rtlsim_listing.specs.CheckText as listing;
 ghost use Rattle.rtlsim_listing.specs.Printing.{IsListed};
 
 use crate::naming::{push_culprits, push_subject, title};
-use crate::placing::{place_of, push_place};
+use crate::placing::{PlaceText, next_text_at, place_of, text_at};
 use crate::values::push_number;
 use rtl_check::{CheckFault, Report, Verdict};
 use rtl_net::{Net, NoMemory};
@@ -111,47 +112,52 @@ fn push_faults(
 {
     text.extend_from_slice(b"[")?;
     if let [first, others @ ..] = faults {
-        push_fault(alloc, files, net, first, text)?;
-        push_others(alloc, files, net, others, text)?;
+        let place = text_at(alloc, files, place_of(net, first))?;
+        push_fault(alloc, net, &place.text, first, text)?;
+        push_others(alloc, files, net, place, others, text)?;
     }
     text.extend_from_slice(b"]")?;
     Ok(())
 }
 
-/// Appends the faults behind the first.
+/// Appends the faults behind the first, whose place's text is given.
 fn push_others(
     alloc: Global,
     files: &[SourceFile<'_>],
     net: &Net,
+    first: PlaceText,
     faults: &[CheckFault],
     text: &mut Vec<u8>,
 ) -> Result<(), NoMemory>
+    requires first { first.text.items ≡ spec.place_text (map file_view files.now) first.at }
     ensures { OnOk result (text.new.items
         ≡ text.old.items ++ flat_map (next_text (spec.found_text (map file_view files.now) net.now)) faults.now) }
 {
+    let mut place = first;
     let mut left = faults;
     while let [fault, others @ ..] = left {
+        place = next_text_at(alloc, files, place, place_of(net, fault))?;
         text.extend_from_slice(b",")?;
-        push_fault(alloc, files, net, fault, text)?;
+        push_fault(alloc, net, &place.text, fault, text)?;
         left = others;
     }
     Ok(())
 }
 
-/// Appends the object of a fault.
+/// Appends the object of a fault, with the text of its place.
 fn push_fault(
     alloc: Global,
-    files: &[SourceFile<'_>],
     net: &Net,
+    place: &[u8],
     fault: &CheckFault,
     text: &mut Vec<u8>,
 ) -> Result<(), NoMemory>
-    ensures { OnOk result (text.new.items ≡ text.old.items ++ spec.found_text (map file_view files.now) net.now fault.now) }
+    ensures { OnOk result (text.new.items ≡ text.old.items ++ spec.fault_at net.now place.now (fault_view fault.now)) }
 {
     text.extend_from_slice(title(fault).as_bytes())?;
     push_culprits(alloc, net, fault, text)?;
     push_subject(alloc, net, fault, text)?;
-    push_place(files, place_of(net, fault), text)?;
+    text.extend_from_slice(place)?;
     text.extend_from_slice(b"}")?;
     Ok(())
 }
