@@ -5,17 +5,17 @@
 _rtlsim_commands='eval net check run'
 _rtlsim_words_of() {
     case $1 in
-    eval) echo --help ;;
+    eval) echo --with --explain --help ;;
     eval1) echo FILE ;;
     eval2) echo TOP ;;
     eval3) echo NAME=VALUE ;;
-    net) echo --help ;;
+    net) echo --with --explain --help ;;
     net1) echo FILE ;;
     net2) echo TOP ;;
-    check) echo --dot --help ;;
+    check) echo --with --explain --dot --help ;;
     check1) echo FILE ;;
     check2) echo TOP ;;
-    run) echo --event --order --levels --help ;;
+    run) echo --with --explain --event --order --levels --help ;;
     run--order) echo forward reverse ;;
     run1) echo FILE ;;
     run2) echo TOP ;;

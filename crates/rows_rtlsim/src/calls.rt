@@ -132,11 +132,11 @@ fn by_line<R: Files + AllocGlobal>(
 /// The library's call over the input. It tells a fault by its answer, and so the error output is the row's.
 fn by_library(alloc: Global, row: &Row<'_>) -> Result<Answer, AllocError> {
     let mut answer = Answer::new(alloc);
-    let Ok(request) = parse_words(alloc, &row.words) else {
+    let Ok(call) = parse_words(alloc, &row.words) else {
         return Ok(answer);
     };
     let mut out = Out::new(Vec::new(alloc));
-    answer.status = match call(alloc, &request, &row.input, &mut out) {
+    answer.status = match answer_by_library(alloc, &call.request, &row.input, &mut out) {
         Ok(status) => status.code(),
         Err(fault) => fault.status().code(),
     };
@@ -146,7 +146,7 @@ fn by_library(alloc: Global, row: &Row<'_>) -> Result<Answer, AllocError> {
 }
 
 /// Makes the call of a request, and gives the status where it succeeds.
-fn call<S: Sink>(
+fn answer_by_library<S: Sink>(
     alloc: Global,
     request: &Request<'_>,
     input: &[u8],

@@ -23,11 +23,13 @@ use std::{fs, io};
 use tables::Told;
 
 /// The tables of calls, in the folder in which the program runs.
-const TABLES: [&str; 17] = [
+const TABLES: [&str; 19] = [
     "values.txt",
     "refused.txt",
     "inputs.txt",
     "words.txt",
+    "several.txt",
+    "explain.txt",
     "net.txt",
     "check.txt",
     "check_faults.txt",

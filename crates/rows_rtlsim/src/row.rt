@@ -60,6 +60,7 @@ impl<'a> Row<'a> {
             b"<<" => self.input.extend_from_slice(&fs::read(rt, text)?)?,
             b"<*" => self.push_spaces(text.parse::<usize>().unwrap_or(0))?,
             b"!" => self.push_error(rt.alloc(), text)?,
+            b"!|" => self.answer.push_error(text)?,
             b"!~" => self.parts.push(text)?,
             b"=" => self.answer.status = text.parse::<u8>().unwrap_or(u8::MAX),
             b"by" => self.calls = text,
@@ -143,9 +144,17 @@ impl<'a> Row<'a> {
         text_of(text).split('\n').next().unwrap_or("")
     }
 
+    /// Whether an option of this name stands among the words.
+    fn has_option(&self, name: &str) -> bool {
+        self.words.iter().any(|word| word.starts_with(name))
+    }
+
     /// The calls by which a row is made that names none.
     fn usual_calls(&self) -> &'static str {
-        if !self.parts.is_empty() {
+        if self.has_option("--with") {
+            return "files line";
+        }
+        if !self.parts.is_empty() || self.has_option("--explain") {
             return "tool files line";
         }
         if self.words.is_empty() {

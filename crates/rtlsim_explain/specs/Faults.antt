@@ -68,7 +68,7 @@ name_sentence names.NoSensitivity form = codes "has no sensitivity list"
 -- what a designer does about it
 abbrev pub name_help : NameProblem → (form : Form) → List ℕ
 name_help names.LeftOut form = form_help form
-name_help names.Undeclared form = codes "correct its spelling, or declare it above; entities of instances and components stand in the same text: join the files"
+name_help names.Undeclared form = codes "correct its spelling, or declare it above; where it is an entity in another file, give that file by --with"
 name_help names.Twice form = codes "give one of the two another name, or drop it"
 name_help names.WrongKind form = codes "see what it is declared as: signals take <=, variables :=, and a name at an end repeats the one at the beginning"
 name_help names.TypeMismatch form = codes "convert it by unsigned(..) or std_logic_vector(..); an index is static: for v(p) write a loop that compares p"
@@ -98,7 +98,7 @@ elab_sentence elab.TooMany = codes "goes past the limits: 65536 processes, 65536
 
 -- what a designer does about it
 abbrev pub elab_help : ElabProblem → List ℕ
-elab_help elab.NoTop = codes "see the spelling of TOP; join the files of all entities that are used, each with its architecture"
+elab_help elab.NoTop = codes "see the spelling of TOP; the architecture stands in the same file, or in one that is given by --with"
 elab_help elab.NoGeneric = codes "give it in the generic map; of the top, give the generic a default in its declaration"
 elab_help elab.GenericRange = codes "a natural is at least 0, a positive at least 1, and all are at most 2147483647"
 elab_help elab.StaticError = codes "see whether it divides by 0, leaves the whole numbers, or is negative where a length or count stands"

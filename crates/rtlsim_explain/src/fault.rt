@@ -98,7 +98,7 @@ pub(crate) fn name_help(problem: NameProblem, form: Form) -> &'static str
     match problem {
         NameProblem::LeftOut => form.help(),
         NameProblem::Undeclared =>
-            "correct its spelling, or declare it above; entities of instances and components stand in the same text: join the files",
+            "correct its spelling, or declare it above; where it is an entity in another file, give that file by --with",
         NameProblem::Twice => "give one of the two another name, or drop it",
         NameProblem::WrongKind =>
             "see what it is declared as: signals take <=, variables :=, and a name at an end repeats the one at the beginning",
@@ -145,7 +145,7 @@ pub(crate) fn elab_help(problem: ElabProblem) -> &'static str
 {
     match problem {
         ElabProblem::NoTop =>
-            "see the spelling of TOP; join the files of all entities that are used, each with its architecture",
+            "see the spelling of TOP; the architecture stands in the same file, or in one that is given by --with",
         ElabProblem::NoGeneric =>
             "give it in the generic map; of the top, give the generic a default in its declaration",
         ElabProblem::GenericRange =>

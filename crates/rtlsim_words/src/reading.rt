@@ -18,6 +18,13 @@ use clap::Error;
 use clap::error::ErrorKind;
 use std::alloc::{AllocError, Global};
 
+/// What is told of words that clap has nothing against.
+static READ_TWICE: &str =
+    "error: the standard input, @, is named twice: where a file of --with is @, no other FILE or STIM may be
+
+For more information, try '--help'.
+";
+
 /// Reads the words after the program's name. It takes memory in proportion to their number.
 ///
 /// # Errors
@@ -250,7 +257,7 @@ fn dot_of<'a>(operands: &[&'a str]) -> Option<Request<'a>>
 /// What clap tells of words that say no request: a mistake, or the help that is asked for.
 fn refusal_text<'a>(alloc: Global, words: &'a [&'a str]) -> Result<String, AllocError> {
     match command(alloc)?.try_get_matches_from(words) {
-        Ok(_) => String::from_str(alloc, "error: the words say no request\n"),
+        Ok(_) => String::from_str(alloc, READ_TWICE),
         Err(error) => error_text(alloc, &error),
     }
 }
