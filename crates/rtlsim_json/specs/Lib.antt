@@ -1,0 +1,3 @@
+-- Verdicts as JSON. In order of reading:
+pub mod Values
+pub mod Json
