@@ -3,10 +3,11 @@ use Rattle.std.specs.Prelude.{◌≡◌, ◌⊎◌, ℕ, Bool, List, Result, Ok,
 use Rattle.rtl_check.specs.Verdicts.{IsVerdict, ListsLoopsOnce, is_yes}
 use Rattle.rtl_check.specs.Views.{core}
 use Rattle.rtl_check.specs.declared.checking.Verdict.{Verdict}
-use Rattle.rtlsim_commands.specs.Explanations.{with_explanation}
+use Rattle.rtlsim_commands.specs.Explanations.{files_of, with_explanation}
 use Rattle.rtlsim_commands.specs.declared.faults.Fault.{Fault}
 use Rattle.rtlsim_commands.specs.declared.faults.Fault.TheVariants.{Memory, Output}
 use Rattle.rtlsim_commands.specs.declared.telling.Telling.{Telling}
+use Rattle.rtlsim_json.specs.Json.{json_text}
 use Rattle.rtlsim_listing.specs.CheckText.{check_text}
 use Rattle.rtlsim_listing.specs.DotText.{dot_text}
 use Rattle.rtlsim_listing.specs.NetText.{net_text}
@@ -47,6 +48,10 @@ DrawsNet net answer old new = AnswersVerdict dot_text net answer old new
 -- the same, with explanations of the faults where they are asked for
 abbrev pub ChecksNetTold : Telling → NetlistView → Result Bool Fault → (old new : SinkState) → Type 0
 ChecksNetTold telling net answer old new = AnswersVerdict (with_explanation check_text telling) net answer old new
+
+-- the verdict as an object of JSON
+abbrev pub ChecksNetJson : Telling → NetlistView → Result Bool Fault → (old new : SinkState) → Type 0
+ChecksNetJson telling net answer old new = AnswersVerdict (json_text (files_of telling)) net answer old new
 
 abbrev pub DrawsNetTold : Telling → NetlistView → Result Bool Fault → (old new : SinkState) → Type 0
 DrawsNetTold telling net answer old new = AnswersVerdict (with_explanation dot_text telling) net answer old new

@@ -30,8 +30,8 @@ pub use rtl_stim::StimFault;
 pub use rtlsim_files::SourceFile;
 pub use running::{MAX_DELTAS, run_event, run_events};
 pub use serving::{
-    ended_by_writes, serve_check, serve_check_dot, serve_eval, serve_net, serve_run,
-    serve_run_event, serve_run_levels,
+    ended_by_writes, serve_check, serve_check_dot, serve_check_json, serve_eval, serve_net,
+    serve_run, serve_run_event, serve_run_levels,
 };
 pub use status::Status;
 pub use telling::Telling;

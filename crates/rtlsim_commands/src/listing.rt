@@ -3,7 +3,7 @@
 ghost use Rattle.std.specs.Prelude.{◌≡◌, [], if◌then◌else◌, IfErr, length};
 ghost use Rattle.rtl_check.specs.Verdicts as verdicts;
 ghost use Rattle.rtl_sink.specs.Written.{IsIntact};
-ghost use Rattle.rtlsim_commands.specs.Listed.{ListsNet, ChecksNet, ChecksNetTold, DrawsNet, DrawsNetTold};
+ghost use Rattle.rtlsim_commands.specs.Listed.{ListsNet, ChecksNet, ChecksNetJson, ChecksNetTold, DrawsNet, DrawsNetTold};
 ghost use Rattle.rtlsim_commands.specs.Explanations.{verdict_explained, with_explanation};
 ghost use Rattle.rtlsim_listing.specs.CheckText.{check_text};
 ghost use Rattle.rtlsim_listing.specs.DotText.{dot_text};
@@ -17,6 +17,7 @@ use rtl_check::{Verdict, check};
 use rtl_net::Net;
 use rtl_sink::{Sink, finish};
 use rtlsim_explain_check::explain_rejection;
+use rtlsim_json::show_check_json;
 use rtlsim_listing;
 use rtlsim_listing::ListingFault;
 use std::alloc::Global;
@@ -161,6 +162,26 @@ pub fn check_net_dot_told<S: Sink>(
 {
     let verdict = check(alloc, net)?;
     show_graph(alloc, telling, net, &verdict, out)?;
+    Ok(is_yes(&verdict))
+}
+
+/// Checks a netlist, writes the verdict as an object of JSON, and answers whether it is yes. Places are told by the files. It takes memory
+/// in proportion to the netlist.
+///
+/// # Errors
+///
+/// As `check_net`.
+pub fn check_net_json<S: Sink>(
+    alloc: Global,
+    telling: &Telling<'_>,
+    net: &Net,
+    out: &mut S,
+) -> Result<bool, Fault>
+    requires intact { IsIntact (S.state out.old) }
+    ensures { ChecksNetJson telling.now net.now result (S.state out.old) (S.state out.new) }
+{
+    let verdict = check(alloc, net)?;
+    show_check_json(alloc, telling.files, net, &verdict, out)?;
     Ok(is_yes(&verdict))
 }
 

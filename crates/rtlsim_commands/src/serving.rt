@@ -5,7 +5,7 @@ ghost use Rattle.rtl_net.specs.Nets.{NetlistView};
 ghost use Rattle.rtl_sink.specs.Written.{IsIntact, Goes};
 ghost use Rattle.rtlsim_commands.specs.Faults.{of_source, status_of};
 ghost use Rattle.rtlsim_commands.specs.Explanations as explained;
-ghost use Rattle.rtlsim_commands.specs.Listed.{ListsNet, ChecksNetTold, DrawsNetTold};
+ghost use Rattle.rtlsim_commands.specs.Listed.{ListsNet, ChecksNetJson, ChecksNetTold, DrawsNetTold};
 ghost use Rattle.rtlsim_commands.specs.Machine.{RunsMachine, RunsMachineByLevels, EvaluatesMachine};
 ghost use Rattle.rtlsim_commands.specs.Served.{Serves, ended};
 ghost use Rattle.rtlsim_commands.specs.Simulated.{RunsEvents};
@@ -13,7 +13,7 @@ ghost use Rattle.rtlsim_commands.specs.Told as told;
 
 use crate::faults::Fault;
 use crate::lines::{tell_fault, tell_levels, tell_source_fault, tell_summary};
-use crate::listing::{check_net_dot_told, check_net_told, list_net};
+use crate::listing::{check_net_dot_told, check_net_json, check_net_told, list_net};
 use crate::machine::{eval_net, run_net, run_net_levels};
 use crate::running::run_events;
 use crate::status::Status;
@@ -94,6 +94,30 @@ pub fn serve_check_dot<F: Front, O: Sink, E: Sink>(
         Err(fault) => return refuse_source(telling, fault, out, err),
     };
     match check_net_dot_told(alloc, telling, &net, out) {
+        Ok(yes) => ended_by_writes(verdict_status(yes), out, err),
+        Err(fault) => refuse_net(alloc, telling, &net, &fault, out, err),
+    }
+}
+
+/// Checks the netlist of a source, writes the verdict as an object of JSON to `out` and the lines of a fault to `err`, and answers the status.
+pub fn serve_check_json<F: Front, O: Sink, E: Sink>(
+    alloc: Global,
+    source: &[u8],
+    top: &[u8],
+    telling: &Telling<'_>,
+    out: &mut O,
+    err: &mut E,
+) -> Status
+    requires out { IsIntact (O.state out.old) }
+    requires err { IsIntact (E.state err.old) }
+    ensures { Serves (ChecksNetJson telling.now) told.verdict telling.now source.now top.now result
+        (record { out = O.state out.old; out_after = O.state out.new; err = E.state err.old; err_after = E.state err.new }) }
+{
+    let net = match F::open(alloc, source, top) {
+        Ok(net) => net,
+        Err(fault) => return refuse_source(telling, fault, out, err),
+    };
+    match check_net_json(alloc, telling, &net, out) {
         Ok(yes) => ended_by_writes(verdict_status(yes), out, err),
         Err(fault) => refuse_net(alloc, telling, &net, &fault, out, err),
     }

@@ -8,7 +8,7 @@ use Rattle.rtlsim_words.specs.declared.request.Order.{Order}
 use Rattle.rtlsim_words.specs.declared.request.Order.TheVariants.{Forward, Reverse}
 use Rattle.rtlsim_words.specs.declared.request.Request.{Request}
 use Rattle.rtlsim_words.specs.declared.arguments.Flag.{Flag}
-use Rattle.rtlsim_words.specs.declared.arguments.Flag.TheVariants.{Event, Levels, Dot}
+use Rattle.rtlsim_words.specs.declared.arguments.Flag.TheVariants.{Event, Levels, Dot, Json}
 use Rattle.rtlsim_words.specs.declared.arguments.WordKind.{WordKind}
 use Rattle.rtlsim_words.specs.declared.arguments.WordKind.TheVariants.{Operand, Dashes, FlagIs, OrderNext, OrderIs, Unknown}
 use Rattle.rtlsim_words.specs.Words.{Word, is_option, flag_name, order_name, Mixes, Orders, Asks, SayNothing}
@@ -36,9 +36,10 @@ option_means word =
     (tested _ word (codes "--event") refl (FlagIs Event) _ (λ e. e)
     (tested _ word (codes "--levels") refl (FlagIs Levels) _ (λ e. e)
     (tested _ word (codes "--dot") refl (FlagIs Dot) _ (λ e. e)
+    (tested _ word (codes "--json") refl (FlagIs Json) _ (λ e. e)
     (tested _ word (codes "--order") refl OrderNext _ (λ e. e)
     (tested _ word (codes "--order=forward") refl (OrderIs Forward) _ (λ e. e)
-    (tested _ word (codes "--order=reverse") refl (OrderIs Reverse) Unknown (λ e. e) tt))))))
+    (tested _ word (codes "--order=reverse") refl (OrderIs Reverse) Unknown (λ e. e) tt)))))))
 
 kind_means : (b : Bool) (word : Word) → is_option word ≡ b → Means (if not b then Operand else option_kind word) word
 kind_means true word e = option_means word
@@ -223,6 +224,7 @@ flag_kind : (given : Flag) → kind_of (flag_name given) ≡ FlagIs given
 flag_kind Event = refl
 flag_kind Levels = refl
 flag_kind Dot = refl
+flag_kind Json = refl
 
 named_order : (given : Order) → order_named (order_name given) ≡ Some given
 named_order Forward = refl

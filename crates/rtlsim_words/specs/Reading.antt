@@ -5,7 +5,7 @@ use Rattle.rtlsim_words.specs.declared.request.Order.{Order}
 use Rattle.rtlsim_words.specs.declared.request.Order.TheVariants.{Forward, Reverse}
 use Rattle.rtlsim_words.specs.declared.arguments.Arguments.{Arguments}
 use Rattle.rtlsim_words.specs.declared.arguments.Flag.{Flag}
-use Rattle.rtlsim_words.specs.declared.arguments.Flag.TheVariants.{Event, Levels, Dot}
+use Rattle.rtlsim_words.specs.declared.arguments.Flag.TheVariants.{Event, Levels, Dot, Json}
 use Rattle.rtlsim_words.specs.declared.arguments.WordKind.{WordKind}
 use Rattle.rtlsim_words.specs.declared.arguments.WordKind.TheVariants.{Operand, Dashes, FlagIs, OrderNext, OrderIs, Unknown}
 
@@ -15,9 +15,10 @@ option_kind word =
     else (if bytes_eq word (codes "--event") then FlagIs Event
     else (if bytes_eq word (codes "--levels") then FlagIs Levels
     else (if bytes_eq word (codes "--dot") then FlagIs Dot
+    else (if bytes_eq word (codes "--json") then FlagIs Json
     else (if bytes_eq word (codes "--order") then OrderNext
     else (if bytes_eq word (codes "--order=forward") then OrderIs Forward
-    else (if bytes_eq word (codes "--order=reverse") then OrderIs Reverse else Unknown))))))
+    else (if bytes_eq word (codes "--order=reverse") then OrderIs Reverse else Unknown)))))))
 
 -- what a word is, by itself
 abbrev pub kind_of : Word → WordKind

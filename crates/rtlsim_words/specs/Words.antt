@@ -8,7 +8,7 @@ use Rattle.rtlsim_words.specs.declared.request.Order.TheVariants.{Forward, Rever
 use Rattle.rtlsim_words.specs.declared.request.Refused.{Refused}
 use Rattle.rtlsim_words.specs.declared.request.Refused.TheVariants as refused
 use Rattle.rtlsim_words.specs.declared.request.Request.{Request}
-use Rattle.rtlsim_words.specs.declared.request.Request.TheVariants.{Eval, Net, Check, Dot, Run, Levels}
+use Rattle.rtlsim_words.specs.declared.request.Request.TheVariants.{Eval, Net, Check, Dot, Json, Run, Levels}
 
 abbrev pub Word : Type 0
 Word = List ℕ
@@ -17,6 +17,7 @@ abbrev pub flag_name : Flag → Word
 flag_name flags.Event = codes "--event"
 flag_name flags.Levels = codes "--levels"
 flag_name flags.Dot = codes "--dot"
+flag_name flags.Json = codes "--json"
 
 abbrev pub order_name : Order → Word
 order_name Forward = codes "forward"
@@ -59,6 +60,8 @@ Asks (Check file top) command flag order operands =
     (command ≡ codes "check") × (flag ≡ None) × (order ≡ None) × (operands ≡ file.now ∷ top.now ∷ [])
 Asks (Dot file top) command flag order operands =
     (command ≡ codes "check") × (flag ≡ Some flags.Dot) × (order ≡ None) × (operands ≡ file.now ∷ top.now ∷ [])
+Asks (Json file top) command flag order operands =
+    (command ≡ codes "check") × (flag ≡ Some flags.Json) × (order ≡ None) × (operands ≡ file.now ∷ top.now ∷ [])
 Asks (Run is_event in_order file top stimulus) command flag order operands =
     (command ≡ codes "run") × (flag ≡ event_flag is_event) × (in_order ≡ unwrap_or order Forward)
     × (operands ≡ file.now ∷ top.now ∷ stimulus.now ∷ [])

@@ -14,6 +14,7 @@ pub enum Flag {
     Event,
     Levels,
     Dot,
+    Json,
 }
 
 /// The options and operands of a command, as far as they are read: at most one flag, and at most one order.
@@ -143,6 +144,9 @@ fn kind_of(word: &str) -> WordKind
     }
     if word == "--dot" {
         return WordKind::FlagIs(Flag::Dot);
+    }
+    if word == "--json" {
+        return WordKind::FlagIs(Flag::Json);
     }
     if word == "--order" {
         return WordKind::OrderNext;

@@ -91,10 +91,16 @@ fn check_command<'a>(alloc: Global) -> Result<Command<'a>, AllocError> {
         .long("dot")
         .help("Draws the levels of one that is, as a graph of Graphviz")
         .action(ArgAction::SetTrue);
+    let json = Arg::new(alloc, "json")
+        .long("json")
+        .help("Prints the verdict as an object of JSON, for tools")
+        .conflicts_with("dot")?
+        .action(ArgAction::SetTrue);
     design_command(alloc, "check", "Says whether the design is sure to settle")?
-        .override_usage("rtlsim check [--dot] [--with <FILE>]... [--explain] <FILE> <TOP>")
+        .override_usage("rtlsim check [--dot | --json] [--with <FILE>]... [--explain] <FILE> <TOP>")
         .after_help("Example: rtlsim check counter.vhd counter")
-        .arg(dot)
+        .arg(dot)?
+        .arg(json)
 }
 
 /// The command that simulates a design.

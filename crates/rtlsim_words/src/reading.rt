@@ -5,7 +5,7 @@ ghost use Rattle.rtlsim_words.specs.Extras as extras;
 ghost use Rattle.rtlsim_words.specs.Extras.{SaysParts, parts};
 ghost use Rattle.rtlsim_words.specs.declared.extras.Call.{Call};
 ghost use Rattle.rtlsim_words.specs.Words.{Says, SayNothing, Asks, IsOfWords, event_flag};
-ghost use Rattle.rtlsim_words.specs.declared.arguments.Flag.TheVariants.{Levels, Dot};
+ghost use Rattle.rtlsim_words.specs.declared.arguments.Flag.TheVariants.{Levels, Dot, Json};
 ghost use Rattle.rtlsim_words.specs.declared.request.Request.{Request};
 ghost use Rattle.clap.specs.Values.{kind_of};
 ghost use Rattle.clap.specs.declared.error.kind.ErrorKind.TheVariants.{OutOfMemory};
@@ -176,6 +176,7 @@ fn check_with<'a>(
     match flag {
         None => check_of(operands),
         Some(Flag::Dot) => dot_of(operands),
+        Some(Flag::Json) => json_of(operands),
         _ => None,
     }
 }
@@ -250,6 +251,16 @@ fn dot_of<'a>(operands: &[&'a str]) -> Option<Request<'a>>
 {
     match operands {
         [file, top] => Some(Request::Dot { file, top }),
+        _ => None,
+    }
+}
+
+fn json_of<'a>(operands: &[&'a str]) -> Option<Request<'a>>
+    ensures asked { IfSome result (λ request. Asks request (codes "check") (Some Json) None (map (λ word. word.now) operands.now)) }
+    ensures none { IfNone result (length operands.now ≢ 2) }
+{
+    match operands {
+        [file, top] => Some(Request::Json { file, top }),
         _ => None,
     }
 }

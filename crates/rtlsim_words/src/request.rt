@@ -39,6 +39,11 @@ pub enum Request<'a> {
         file: &'a str,
         top: &'a str,
     },
+    /// Says as an object of JSON whether a design is sure to settle.
+    Json {
+        file: &'a str,
+        top: &'a str,
+    },
     /// Prints the trace of a design under a stimulus; with `is_event` by events alone, without the checker.
     Run {
         is_event: bool,
