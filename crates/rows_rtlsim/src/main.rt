@@ -23,7 +23,7 @@ use std::{fs, io};
 use tables::Told;
 
 /// The tables of calls, in the folder in which the program runs.
-const TABLES: [&str; 19] = [
+const TABLES: [&str; 20] = [
     "values.txt",
     "refused.txt",
     "inputs.txt",
@@ -38,6 +38,7 @@ const TABLES: [&str; 19] = [
     "check_resets.txt",
     "check_variables.txt",
     "dot.txt",
+    "json.txt",
     "event.txt",
     "run.txt",
     "levels.txt",
