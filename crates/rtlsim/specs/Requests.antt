@@ -6,7 +6,7 @@ use Rattle.rtlsim_files.specs.Files.{FileView}
 use Rattle.rtlsim_words.specs.Extras.{with_of}
 use Rattle.rtlsim_words.specs.declared.extras.Call.{Call}
 use Rattle.rtlsim_words.specs.declared.request.Request.{Request}
-use Rattle.rtlsim_words.specs.declared.request.Request.TheVariants.{Eval, Net, Check, Dot, Run, Levels}
+use Rattle.rtlsim_words.specs.declared.request.Request.TheVariants.{Eval, Net, Check, Dot, Json, Run, Levels}
 
 -- the name of the source
 abbrev pub file_of : Request → List ℕ
@@ -14,6 +14,7 @@ file_of (Eval file top sets) = file.now
 file_of (Net file top) = file.now
 file_of (Check file top) = file.now
 file_of (Dot file top) = file.now
+file_of (Json file top) = file.now
 file_of (Run is_event order file top stimulus) = file.now
 file_of (Levels file top stimulus) = file.now
 
@@ -22,6 +23,7 @@ top_of (Eval file top sets) = top.now
 top_of (Net file top) = top.now
 top_of (Check file top) = top.now
 top_of (Dot file top) = top.now
+top_of (Json file top) = top.now
 top_of (Run is_event order file top stimulus) = top.now
 top_of (Levels file top stimulus) = top.now
 

@@ -1,7 +1,7 @@
 -- What commands do with what was read.
 use Rattle.std.specs.Prelude.{◌≡◌, ℕ, Bool, true, false, List, map, option_map, unwrap_or}
 use Rattle.rtlsim.specs.Requests.{TextsView, set_form, sets_of, stimulus_of, top_of}
-use Rattle.rtlsim_commands.specs.Listed.{ListsNet, ChecksNetTold, DrawsNetTold}
+use Rattle.rtlsim_commands.specs.Listed.{ListsNet, ChecksNetJson, ChecksNetTold, DrawsNetTold}
 use Rattle.rtlsim_commands.specs.Machine.{RunsMachine, RunsMachineByLevels, EvaluatesMachine}
 use Rattle.rtlsim_commands.specs.Served.{Outputs, Serves as ServesSource}
 use Rattle.rtlsim_commands.specs.Simulated.{RunsEvents}
@@ -11,7 +11,7 @@ use Rattle.rtlsim_commands.specs.declared.telling.Telling.{Telling}
 use Rattle.rtlsim_files.specs.Files.{file_view, joined}
 use Rattle.rtlsim_words.specs.declared.extras.Call.{Call}
 use Rattle.rtlsim_words.specs.declared.request.Request.{Request}
-use Rattle.rtlsim_words.specs.declared.request.Request.TheVariants.{Eval, Net, Check, Dot, Run, Levels}
+use Rattle.rtlsim_words.specs.declared.request.Request.TheVariants.{Eval, Net, Check, Dot, Json, Run, Levels}
 
 -- the commands tell of these files, this stimulus, and explain faults where that is asked for
 pub record IsToldOf (call : Call) (texts : TextsView) (telling : Telling) : Type 0 where
@@ -32,6 +32,7 @@ module _ (telling : Telling) (source top : List ℕ) (outcome : Status) (o : Out
   ServesBy (Net file entity) sets text = ServesSource ListsNet quiet telling source top outcome o
   ServesBy (Check file entity) sets text = ServesSource (ChecksNetTold telling) verdict telling source top outcome o
   ServesBy (Dot file entity) sets text = ServesSource (DrawsNetTold telling) verdict telling source top outcome o
+  ServesBy (Json file entity) sets text = ServesSource (ChecksNetJson telling) verdict telling source top outcome o
   ServesBy (Run is_event order file entity stimulus) sets text = ServesRun is_event text
   ServesBy (Levels file entity stimulus) sets text = ServesSource (RunsMachineByLevels text) levels telling source top outcome o
 

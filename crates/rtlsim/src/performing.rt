@@ -17,7 +17,8 @@ use crate::simulating::{Job, simulate};
 use crate::texts::Texts;
 use rtl_sink::Sink;
 use rtlsim_commands::{
-    Front, Status, Telling, serve_check, serve_check_dot, serve_eval, serve_net, serve_run_levels,
+    Front, Status, Telling, serve_check, serve_check_dot, serve_check_json, serve_eval, serve_net,
+    serve_run_levels,
 };
 use rtlsim_words::{Call, Request};
 use std::alloc::Global;
@@ -89,6 +90,7 @@ fn perform_job<F: Front, O: Sink, E: Sink>(
         Request::Net { .. } => serve_net::<F, _, _>(alloc, source, top, telling, out, err),
         Request::Check { .. } => serve_check::<F, _, _>(alloc, source, top, telling, out, err),
         Request::Dot { .. } => serve_check_dot::<F, _, _>(alloc, source, top, telling, out, err),
+        Request::Json { .. } => serve_check_json::<F, _, _>(alloc, source, top, telling, out, err),
         Request::Run {
             is_event,
             order,

@@ -14,6 +14,7 @@ pub(crate) fn file_of<'a>(request: &Request<'a>) -> &'a str
         | Request::Net { file, .. }
         | Request::Check { file, .. }
         | Request::Dot { file, .. }
+        | Request::Json { file, .. }
         | Request::Run { file, .. }
         | Request::Levels { file, .. } => *file,
     }
@@ -28,6 +29,7 @@ pub(crate) fn top_of<'b>(request: &'b Request<'_>) -> &'b str
         | Request::Net { top, .. }
         | Request::Check { top, .. }
         | Request::Dot { top, .. }
+        | Request::Json { top, .. }
         | Request::Run { top, .. }
         | Request::Levels { top, .. } => *top,
     }
