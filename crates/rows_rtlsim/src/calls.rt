@@ -169,6 +169,8 @@ fn answer_by_library<S: Sink>(
                 return Ok(Status::Rejected);
             }
         }
+        // The library has no call that writes the object of a source's verdict.
+        Request::Json { .. } => return Ok(Status::Failed),
         Request::Run {
             is_event,
             order: Order::Forward,

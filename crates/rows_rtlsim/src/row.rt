@@ -154,7 +154,7 @@ impl<'a> Row<'a> {
         if self.has_option("--with") {
             return "files line";
         }
-        if !self.parts.is_empty() || self.has_option("--explain") {
+        if !self.parts.is_empty() || self.has_option("--explain") || self.has_option("--json") {
             return "tool files line";
         }
         if self.words.is_empty() {
