@@ -12,7 +12,7 @@ _rtlsim_words_of() {
     net) echo --with --explain --help ;;
     net1) echo FILE ;;
     net2) echo TOP ;;
-    check) echo --with --explain --dot --help ;;
+    check) echo --with --explain --dot --json --help ;;
     check1) echo FILE ;;
     check2) echo TOP ;;
     run) echo --with --explain --event --order --levels --help ;;

@@ -61,6 +61,7 @@ complete -c rtlsim -n __rtlsim_is_first -a check -d 'Says whether the design is 
 complete -c rtlsim -n '__rtlsim_is check' -l with -x -a '' -d 'A file whose text stands before the source'\''s; any number'
 complete -c rtlsim -n '__rtlsim_is check' -l explain -d 'Explains each fault: its place, the line, and what to do'
 complete -c rtlsim -n '__rtlsim_is check' -l dot -d 'Draws the levels of one that is, as a graph of Graphviz'
+complete -c rtlsim -n '__rtlsim_is check' -l json -d 'Prints the verdict as an object of JSON, for tools'
 complete -c rtlsim -n '__rtlsim_is_at check 1' -F -d 'The source, or @ for the standard input'
 complete -c rtlsim -n '__rtlsim_is_at check 2' -a '(__rtlsim_tops)' -d 'The entity at the top'
 complete -c rtlsim -n __rtlsim_is_first -a run -d 'Prints the trace under a stimulus'
