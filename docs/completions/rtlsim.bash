@@ -6,16 +6,20 @@ _rtlsim_commands='eval net check run'
 _rtlsim_words_of() {
     case $1 in
     eval) echo --with --explain --help ;;
+    eval--with) echo FILE ;;
     eval1) echo FILE ;;
     eval2) echo TOP ;;
     eval3) echo NAME=VALUE ;;
     net) echo --with --explain --help ;;
+    net--with) echo FILE ;;
     net1) echo FILE ;;
     net2) echo TOP ;;
     check) echo --with --explain --dot --json --help ;;
+    check--with) echo FILE ;;
     check1) echo FILE ;;
     check2) echo TOP ;;
     run) echo --with --explain --event --order --levels --help ;;
+    run--with) echo FILE ;;
     run--order) echo forward reverse ;;
     run1) echo FILE ;;
     run2) echo TOP ;;
@@ -28,7 +32,7 @@ _rtlsim_words_of() {
 _rtlsim_operands() {
     local at
     for ((at = 2; at < COMP_CWORD; at++)); do
-        case ${COMP_WORDS[at - 1]} in --order) continue ;; esac
+        case ${COMP_WORDS[at - 1]} in --order | --with) continue ;; esac
         case ${COMP_WORDS[at]} in -?*) ;; *) echo "${COMP_WORDS[at]}" ;; esac
     done
 }
@@ -38,11 +42,21 @@ _rtlsim_tops() {
     sed -n 's/^[[:space:]]*[Ee][Nn][Tt][Ii][Tt][Yy][[:space:]]\{1,\}\([[:alnum:]_]\{1,\}\)[[:space:]].*/\1/p' "$1" 2>/dev/null
 }
 
+# The names of files that begin so.
+_rtlsim_files() {
+    compopt -o filenames 2>/dev/null
+    mapfile -t COMPREPLY < <(compgen -f -- "$1")
+}
+
 _rtlsim() {
     local word=${COMP_WORDS[COMP_CWORD]} command=${COMP_WORDS[1]} before=${COMP_WORDS[COMP_CWORD - 1]} operands kind
     COMPREPLY=()
     if [ "$COMP_CWORD" -eq 1 ]; then
         mapfile -t COMPREPLY < <(compgen -W "$_rtlsim_commands --help --version" -- "$word")
+        return
+    fi
+    if [ "$(_rtlsim_words_of "$command$before")" = FILE ]; then
+        _rtlsim_files "$word"
         return
     fi
     if [ -n "$(_rtlsim_words_of "$command$before")" ]; then
@@ -58,10 +72,7 @@ _rtlsim() {
     mapfile -t operands < <(_rtlsim_operands)
     kind=$(_rtlsim_words_of "$command$((${#operands[@]} + 1))")
     case $kind in
-    FILE | STIM)
-        compopt -o filenames 2>/dev/null
-        mapfile -t COMPREPLY < <(compgen -f -- "$word")
-        ;;
+    FILE | STIM) _rtlsim_files "$word" ;;
     TOP) mapfile -t COMPREPLY < <(compgen -W "$(_rtlsim_tops "${operands[0]}")" -- "$word") ;;
     esac
 }
