@@ -1,4 +1,4 @@
-//! The commands: each opens a source, does its work on the netlist, and writes to a sink; and how their faults are told.
+//! The commands: each opens a source, does its work on the netlist, and writes to a sink; and what is told of its answer.
 //!
 //! Each call that opens a source has a type for its first parameter that does so, by the contract of `Front`.
 //!
@@ -6,18 +6,11 @@
 //! `specs/Simulated.antt` what `run --event` does, `specs/Machine.antt` what `run`, `run --levels` and `eval` do, and `specs/Told.antt` what is told of an answer.
 #![tactic(auto)]
 
-mod explaining;
-mod faults;
-mod lines;
 mod listing;
 mod machine;
 mod running;
 mod serving;
-mod status;
-mod telling;
 
-pub use faults::Fault;
-pub use lines::{push_memory, tell_fault, tell_levels, tell_source_fault, tell_summary};
 pub use listing::{check_net, check_net_dot, list_net, show_check, show_check_dot, show_net};
 pub use machine::{eval, eval_net, run, run_levels, run_net, run_net_levels};
 pub use rtl_check::CheckFault;
@@ -27,14 +20,15 @@ pub use rtl_net::Net;
 pub use rtl_run::Summary;
 pub use rtl_sink::Sink;
 pub use rtl_stim::StimFault;
+pub use rtlsim_faults::{
+    Fault, Status, Telling, push_memory, tell_fault, tell_levels, tell_source_fault, tell_summary,
+};
 pub use rtlsim_files::SourceFile;
 pub use running::{MAX_DELTAS, run_event, run_events};
 pub use serving::{
     ended_by_writes, serve_check, serve_check_dot, serve_check_json, serve_eval, serve_net,
     serve_run, serve_run_event, serve_run_levels,
 };
-pub use status::Status;
-pub use telling::Telling;
 pub use vhdl_expand_rules::{ElabFault, ElabProblem};
 pub use vhdl_names_rules::{NameFault, NameProblem};
 pub use vhdl_source_rules::{Front, SourceFault};

@@ -5,9 +5,9 @@ ghost use Rattle.rtl_stim.specs.Ports.{HasOwnPorts};
 ghost use Rattle.rtl_sink.specs.Written.{IsIntact};
 ghost use Rattle.rtlsim_commands.specs.Machine.{RunsMachine, RunsMachineByLevels, EvaluatesMachine};
 ghost use Rattle.rtlsim_commands.specs.Opened.{Opens};
-ghost use Rattle.rtlsim_commands.specs.Places.{IsTold};
+ghost use Rattle.rtlsim_faults.specs.Places.{IsTold};
 
-use crate::faults::Fault;
+use rtlsim_faults::Fault;
 use rtl_kernel::Pick;
 use rtl_levelized;
 use rtl_levelized::LevelSummary;

@@ -4,10 +4,10 @@ ghost use Rattle.std.specs.Prelude.{◌≡◌, IfErr, length};
 ghost use Rattle.rtl_stim.specs.Ports.{HasOwnPorts};
 ghost use Rattle.rtl_sink.specs.Written.{IsIntact};
 ghost use Rattle.rtlsim_commands.specs.Opened.{Opens};
-ghost use Rattle.rtlsim_commands.specs.Places.{IsTold};
+ghost use Rattle.rtlsim_faults.specs.Places.{IsTold};
 ghost use Rattle.rtlsim_commands.specs.Simulated.{RunsEvents, most_deltas};
 
-use crate::faults::Fault;
+use rtlsim_faults::Fault;
 use rtl_check::stored;
 use rtl_eval_code::codes;
 use rtl_kernel::Pick;

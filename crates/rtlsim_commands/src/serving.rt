@@ -3,21 +3,21 @@
 ghost use Rattle.std.specs.Prelude.{◌≡◌, map};
 ghost use Rattle.rtl_net.specs.Nets.{NetlistView};
 ghost use Rattle.rtl_sink.specs.Written.{IsIntact, Goes};
-ghost use Rattle.rtlsim_commands.specs.Faults.{of_source, status_of};
-ghost use Rattle.rtlsim_commands.specs.Explanations as explained;
+ghost use Rattle.rtlsim_faults.specs.Faults.{of_source, status_of};
+ghost use Rattle.rtlsim_faults.specs.Explanations as explained;
 ghost use Rattle.rtlsim_commands.specs.Listed.{ListsNet, ChecksNetJson, ChecksNetTold, DrawsNetTold};
 ghost use Rattle.rtlsim_commands.specs.Machine.{RunsMachine, RunsMachineByLevels, EvaluatesMachine};
 ghost use Rattle.rtlsim_commands.specs.Served.{Serves, ended};
 ghost use Rattle.rtlsim_commands.specs.Simulated.{RunsEvents};
 ghost use Rattle.rtlsim_commands.specs.Told as told;
 
-use crate::faults::Fault;
-use crate::lines::{tell_fault, tell_levels, tell_source_fault, tell_summary};
+use rtlsim_faults::Fault;
+use rtlsim_faults::{tell_fault, tell_levels, tell_source_fault, tell_summary};
 use crate::listing::{check_net_dot_told, check_net_json, check_net_told, list_net};
 use crate::machine::{eval_net, run_net, run_net_levels};
 use crate::running::run_events;
-use crate::status::Status;
-use crate::telling::Telling;
+use rtlsim_faults::Status;
+use rtlsim_faults::Telling;
 use rtl_kernel::Pick;
 use rtl_levelized::LevelSummary;
 use rtl_net::Net;
