@@ -1,7 +1,7 @@
 -- How lists of remarks grow.
-use Rattle.std.proofs.Common.{◌≡◌, ℕ, zero, suc, ◌+◌, ◌<◌, List, [], ◌∷◌, ◌++◌, length, get_or, take, map, refl, sym, ap, ◌∙◌, arith, append_assoc, append-nil}
+use Rattle.std.proofs.Common.{◌≡◌, ℕ, zero, suc, ◌+◌, ◌<◌, Bool, true, false, ◌||◌, List, [], ◌∷◌, ◌++◌, length, get_or, take, map, refl, sym, ap, ◌∙◌, arith, append_assoc, append-nil}
 use Rattle.std.specs.Prelude.{flat_map}
-use Rattle.std.specs.List.{range_with_len}
+use Rattle.std.specs.List.{list_any, range_with_len}
 use Rattle.std.proofs.lemmas.Grind.{flat_map-append}
 use Rattle.std.proofs.lemmas.List.{take_more, length-take}
 use Rattle.rtl_net.specs.declared.process.Process.{Process}
@@ -42,3 +42,18 @@ next_process f ps i p old mid new l at before q =
     ap (of_processes f 0) (take_more ps i p l ∙ ap (λ x. take i ps ++ x ∷ []) (sym at)) ∙ of_processes_more f 0 (take i ps) p
     ∙ ap (λ k. of_processes f 0 (take i ps) ++ f k p) many in
     q ∙ ap (λ xs. xs ++ f i p) before ∙ append_assoc old (of_processes f 0 (take i ps)) (f i p) ∙ ap (λ xs. old ++ xs) (sym grown)
+
+-- ---- searches
+
+pub any_mapped : {X Y : Type 0} (p : Y → Bool) (h : X → Y) (xs : List X) → list_any p (map h xs) ≡ list_any (λ x. p (h x)) xs
+any_mapped p h [] = refl
+any_mapped p h (x ∷ xs) = ap (λ b. p (h x) || b) (any_mapped p h xs)
+
+pub any_here : {X : Type 0} (p : X → Bool) (xs : List X) (i : ℕ) (d : X) → i < length xs → p (get_or xs i d) ≡ true → list_any p xs ≡ true
+any_here p [] i d l t = absurd (omega arith)
+any_here p (x ∷ xs) zero d l t = ap (λ b. b || list_any p xs) t
+any_here p (x ∷ xs) (suc i) d l t = ap (λ b. p x || b) (any_here p xs i d (omega arith) t) ∙ either (p x)
+  where
+    either : (b : Bool) → (b || true) ≡ true
+    either true = refl
+    either false = refl

@@ -1,13 +1,12 @@
 //! Remarks on processes.
 
-ghost use Rattle.std.specs.Prelude.{◌≡◌, ◌<◌, ◌||◌, ◌++◌, ℕ, length, map, slice_index_or, IfOk, OnOk};
+ghost use Rattle.std.specs.Prelude.{◌≡◌, ◌||◌, ◌++◌, ℕ, map, IfOk, OnOk};
 ghost use Rattle.std.specs.List.{filter};
 ghost use Rattle.std.specs.List.Sorted.{IsStrictlyIncreasing};
 ghost use Rattle.rtl_model.specs.bodies.Kinds.{clocking};
 ghost use Rattle.rtl_net.specs.Nets.{body_of};
 ghost use Rattle.rtl_net_facts.specs.Reading.{is_in};
 ghost use Rattle.rtl_remarks.specs.Remarks as spec;
-ghost use Rattle.rtl_remarks.specs.Remarks.{NotReset, ClockRead};
 ghost use Rattle.rtl_remarks.specs.Tables.{AreThose};
 
 use crate::remark::Remark;

@@ -1,0 +1,15 @@
+use Rattle.std.proofs.Common.{sym, ◌∙◌}
+use Rattle.rtl_model.specs.bodies.Kinds.{clocking}
+use Rattle.rtl_model.specs.bodies.Reads.{events}
+use Rattle.rtl_net.specs.Nets.{body_of}
+use Rattle.rtl_remarks.proofs.ResetBranches.{none_of_combinational, none_of_mixed, as_clocked}
+use Rattle.rtl_remarks.proofs.resets.has_reset.Goals as goal
+
+pub returns-in-Combinational : goal.returns-in-Combinational
+returns-in-Combinational c = let b = body_of c.args.process.now in none_of_combinational (clocking c.args.inputs.now b) (events b) ?
+
+pub returns-in-Mixed : goal.returns-in-Mixed
+returns-in-Mixed c = let b = body_of c.args.process.now in none_of_mixed (clocking c.args.inputs.now b) (events b) ?
+
+pub returns-in-Clocked : goal.returns-in-Clocked
+returns-in-Clocked c = let b = body_of c.args.process.now in ?
