@@ -5,6 +5,9 @@
     design_cases.py run FILE PROGRAM [ARG..]  PROGRAM run [ARG..] on each, and what differs from GHDL; designs that the checker
                                               is to refuse are run with --event alone
     design_cases.py check FILE PROGRAM        yes on each design without a fault, else no with its fault; no on each faulty twin
+    design_cases.py make_plain N SEED FILE    as make, with no weak letter in stimuli and literals, so that a 0 or 1 of GHDL's trace is one
+    design_cases.py expect FILE PROGRAM       PROGRAM run --expect (also --levels, --event) of such designs with GHDL's values in a file: all
+                                              hold; and with one letter turned over, that line is told
 
 A design has registers on one or two clocks, with and without resets, combinational processes with variables and loops,
 concurrent assignments, enumerations, generates, and instances that share nets. By construction it has no loop, and a value
@@ -13,6 +16,7 @@ a clock made by logic, a latch, an edge beside other conditions, a sensitivity t
 """
 import collections, json, random, re, subprocess, sys, tempfile
 
+import designs
 from designs import HEAD, Design, Signal, beside
 
 NINE = "01010101010101LHXUZW-"
@@ -129,7 +133,7 @@ def twins(r, text):
     edit("Latch", r"^(  (?:p\d+: )?\w+ <= (?:(?! when )[^;])* when (?:(?! else )[^;])*) else [^;]*;$", lambda m: m.group(1) + ";")
     return out
 
-# the three commands
+# the commands
 
 def make(n, seed, path):
     r, done, tried, refused = random.Random(seed), 0, 0, collections.Counter()
@@ -187,7 +191,49 @@ def check(path, program):
     print("%d verdicts, %d bad" % (sum(told.values()), bad), sorted(told.items()))
     return 1 if bad else 0
 
+# expected values
+
+def settled(c):
+    """[(time, name, digits)]: GHDL's values of all names, at each time at which one changes"""
+    now, out = {}, []
+    for t, new in c["values"]:
+        now.update(new)
+        out += [(t, n, v) for n, v in now.items()]
+    return out
+
+def turned(r, lines):
+    """the lines, in one of which a 0 or a 1 is the other, and which one that is"""
+    places = [(k, i) for k, l in enumerate(lines) for i in range(len(l[2])) if l[2][i] in "01"]
+    if not places: return None
+    k, i = r.choice(places)
+    t, n, v = lines[k]
+    return lines[:k] + [(t, n, v[:i] + "10"[int(v[i])] + v[i + 1:])] + lines[k + 1:], k
+
+def expect(path, program):
+    """GHDL's digits are those of the trace: what it prints as x is any value here"""
+    bad = total = count = 0
+    for c in map(json.loads, open(path)):
+        r, all_values = random.Random(c["source"]), settled(c)
+        lines = [(t, n, v.replace("x", "-")) for t, n, v in r.sample(all_values, min(200, len(all_values)))]
+        changed = turned(r, lines)
+        for words in ([["--event"]] if c["fault"] else [[], ["--levels"], ["--event"]]):
+            for wanted, wrong in [(lines, None)] + ([changed] if changed else []):
+                total += 1; count += len(wanted)
+                text = "".join("at %d %s %s\n" % l for l in wanted)
+                files = {"s.vhd": c["source"], "t.stim": c["stimulus"], "e.expect": text}
+                status, _, told = call(program, ["run"] + words + ["--expect", "e.expect", "s.vhd", c["top"], "t.stim"], files)
+                head = "" if wrong is None else "rtlsim: expect 1 Differs %d %s is " % wanted[wrong][:2]
+                good = status == 0 if wrong is None else status == 9 and told.startswith(head) and told.endswith(" line %d" % (wrong + 1))
+                if good and wrong is not None:
+                    found = told[len(head):].split(" ")[0]
+                    good = all(f == w or w == "-" for f, w in zip(found, lines[wrong][2])) and len(found) == len(lines[wrong][2])
+                if not good: bad += 1; print(c["top"], words, "status", status, told, wanted[wrong] if wrong is not None else "")
+    print("%d runs, %d bad, %d expected values" % (total, bad, count))
+    return 1 if bad else 0
+
 if __name__ == "__main__":
-    if sys.argv[1] == "make": make(int(sys.argv[2]), int(sys.argv[3]), sys.argv[4])
+    if sys.argv[1] == "make_plain": NINE, designs.LETTERS = "01", "01"
+    if sys.argv[1] in ("make", "make_plain"): make(int(sys.argv[2]), int(sys.argv[3]), sys.argv[4])
     elif sys.argv[1] == "run": sys.exit(run(sys.argv[2], sys.argv[3], sys.argv[4:]))
+    elif sys.argv[1] == "expect": sys.exit(expect(sys.argv[2], sys.argv[3]))
     else: sys.exit(check(sys.argv[2], sys.argv[3]))

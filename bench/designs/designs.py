@@ -5,6 +5,7 @@ import re
 HEAD = "library ieee; use ieee.std_logic_1164.all; use ieee.numeric_std.all;\n"
 LOGIC = ["and", "or", "xor", "nand", "nor", "xnor"]
 ORDER = ["=", "/=", "<", "<=", ">", ">="]
+LETTERS = "01010101LHXZ"  # of the literals
 
 class Signal:
     """kind: s one element, v std_logic_vector, u unsigned, e an enumeration, whose literals stand in words"""
@@ -45,7 +46,7 @@ class Design:
 
     def literal(self, s):
         if s.kind == "e": return self.r.choice(s.words[1:])
-        return ("'%s'" if s.kind == "s" else '"%s"') % "".join(self.r.choice("01010101LHXZ") for _ in range(s.width))
+        return ("'%s'" if s.kind == "s" else '"%s"') % "".join(self.r.choice(LETTERS) for _ in range(s.width))
 
     def scalar(self, deep):
         r, k = self.r, self.r.random()

@@ -1,5 +1,3 @@
 pub mod Refused
 pub mod Listed
 pub mod Told
-pub mod Places
-pub mod Parts

@@ -6,11 +6,11 @@ use Rattle.rtl_check.specs.Views.{core, fault_view}
 use Rattle.rtl_check.specs.declared.fault.CheckFault.{CheckFault}
 use Rattle.rtl_model.specs.simulation.Faults.{AreStored}
 use Rattle.rtl_check.specs.declared.checking.Verdict.{Verdict}
-use Rattle.rtlsim_commands.specs.Faults.{of_listing, of_run}
+use Rattle.rtlsim_faults.specs.Faults.{of_listing, of_run}
 use Rattle.rtlsim_commands.specs.Listed.{Writes, AnswersVerdict}
 use Rattle.rtlsim_commands.specs.Simulated.{HasNoneStored, Simulates, RunsEvents, most_deltas}
-use Rattle.rtlsim_commands.specs.declared.faults.Fault.{Fault}
-use Rattle.rtlsim_commands.specs.declared.faults.Fault.TheVariants.{Memory}
+use Rattle.rtlsim_faults.specs.declared.faults.Fault.{Fault}
+use Rattle.rtlsim_faults.specs.declared.faults.Fault.TheVariants.{Memory}
 use Rattle.rtlsim_listing.specs.Printing.{IsListed}
 use Rattle.rtlsim_listing.specs.declared.fault.ListingFault.{ListingFault}
 use Rattle.rtlsim_listing.specs.declared.fault.ListingFault.TheVariants as listing

@@ -1,15 +1,15 @@
 -- What a source that is refused answers, and where faults are told.
 use Rattle.std.proofs.Common.{◌≡◌, ℕ, Bool, false, List, Result, Ok, Err, inl, inr, refl, ap}
 use Rattle.std.specs.Prelude.{IfErr, IsErrAnd}
-use Rattle.rtlsim_commands.specs.Faults.{of_source, has_names}
+use Rattle.rtlsim_faults.specs.Faults.{of_source, of_machine}
 use Rattle.rtl_check.specs.declared.checking.Verdict.{Verdict}
 use Rattle.rtlsim_commands.specs.Listed.{Writes, ListsNet, AnswersVerdict}
-use Rattle.rtlsim_commands.specs.Machine.{of_machine, as_answer}
+use Rattle.rtlsim_commands.specs.Machine.{as_answer}
 use Rattle.rtlsim_commands.specs.Opened.{Opens}
-use Rattle.rtlsim_commands.specs.Places.{IsTold}
+use Rattle.rtlsim_faults.specs.Places.{IsTold}
 use Rattle.rtlsim_commands.specs.Simulated.{RunsEvents}
-use Rattle.rtlsim_commands.specs.declared.faults.Fault.{Fault}
-use Rattle.rtlsim_commands.specs.declared.faults.Fault.TheVariants.{Lex, Syntax, Name, Elab, Rejected, Stim, NoSettling, Memory, Output}
+use Rattle.rtlsim_faults.specs.declared.faults.Fault.{Fault}
+use Rattle.rtlsim_faults.specs.declared.faults.Fault.TheVariants.{Lex, Syntax, Name, Elab, Rejected, Stim, NoSettling, Memory, Output}
 use Rattle.rtl_machine.specs.declared.fault.MachineFault.{MachineFault}
 use Rattle.rtl_machine.specs.declared.fault.MachineFault.TheVariants as machine
 use Rattle.rtl_net.specs.Nets.{NetlistView}
@@ -18,19 +18,12 @@ use Rattle.rtl_sink.specs.Written.{SinkState}
 use Rattle.vhdl_source_rules.specs.Faults.{LiesIn}
 use Rattle.vhdl_source_rules.specs.Refusals.{Refuses}
 use Rattle.vhdl_source_rules.specs.declared.fault.SourceFault.{SourceFault}
-use Rattle.vhdl_source_rules.specs.declared.fault.SourceFault.TheVariants as source
+use Rattle.rtlsim_faults.proofs.Refused.{source_told}
 
 pub opens_refused : {A : Type 0} (Does : NetlistView → Result A Fault → SinkState → SinkState → Type 0) (file top : List ℕ) (answer : Result A Fault) (fault : SourceFault) (old : SinkState)
     → IsErrAnd answer (λ f. f ≡ of_source fault) → Refuses file top fault → Opens Does file top answer old old
 opens_refused Does file top (Ok x) fault old h r = absurd h
 opens_refused Does file top (Err f) fault old h r = inr (fault, ap (λ (x : Fault). Err x) h, r, refl)
-
-pub source_told : (size : ℕ) (fault : SourceFault) → LiesIn size fault → IsTold size (of_source fault)
-source_told size (source.Lex x) h = h
-source_told size (source.Syntax x) h = h
-source_told size (source.Name x) h = h
-source_told size (source.Elab x) h = h
-source_told size source.NoMemory h = tt
 
 pub refused_told : {A : Type 0} (answer : Result A Fault) (fault : SourceFault) (size : ℕ) → IsErrAnd answer (λ f. f ≡ of_source fault) → LiesIn size fault → IfErr answer (IsTold size)
 refused_told (Ok x) fault size h lies = absurd h
@@ -73,14 +66,6 @@ runs_fault text net Output size old new h = tt
 pub runs_told : (text : List ℕ) (net : NetlistView) (answer : Result Summary Fault) (size : ℕ) (old new : SinkState) → RunsEvents text net answer old new → IfErr answer (IsTold size)
 runs_told text net (Ok x) size old new h = tt
 runs_told text net (Err fault) size old new h = runs_fault text net fault size old new h
-
--- a source's fault has no names in its line
-pub nameless : (fault : SourceFault) → has_names (of_source fault) ≡ false
-nameless (source.Lex x) = refl
-nameless (source.Syntax x) = refl
-nameless (source.Name x) = refl
-nameless (source.Elab x) = refl
-nameless source.NoMemory = refl
 
 -- ---- of the synchronous machine
 

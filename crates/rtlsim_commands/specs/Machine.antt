@@ -1,23 +1,16 @@
 -- What `run`, `run --levels` and `eval` do on a netlist: the calls of rtl_machine and rtl_levelized, with their faults as those of a
 -- command.
 use Rattle.std.specs.Prelude.{◌≡◌, ℕ, List, Result, Ok, Err}
-use Rattle.rtlsim_commands.specs.declared.faults.Fault.{Fault}
-use Rattle.rtlsim_commands.specs.declared.faults.Fault.TheVariants.{Rejected, Stim, Memory, Output}
+use Rattle.rtlsim_faults.specs.Faults.{of_machine}
+use Rattle.rtlsim_faults.specs.declared.faults.Fault.{Fault}
 use Rattle.rtl_levelized.specs.Answered.{RunsLevels}
 use Rattle.rtl_levelized.specs.declared.summary.LevelSummary.{LevelSummary}
 use Rattle.rtl_machine.specs.Answered.{RunsNet}
 use Rattle.rtl_machine.specs.Evaluated.{Evaluates}
 use Rattle.rtl_machine.specs.declared.fault.MachineFault.{MachineFault}
-use Rattle.rtl_machine.specs.declared.fault.MachineFault.TheVariants as machine
 use Rattle.rtl_net.specs.Nets.{NetlistView}
 use Rattle.rtl_run.specs.declared.summary.Summary.{Summary}
 use Rattle.rtl_sink.specs.Written.{SinkState}
-
-abbrev pub of_machine : MachineFault → Fault
-of_machine (machine.Rejected faults) = Rejected faults
-of_machine (machine.Stim fault) = Stim fault
-of_machine machine.Memory = Memory
-of_machine machine.Output = Output
 
 abbrev pub as_answer : {A : Type 0} → Result A MachineFault → Result A Fault
 as_answer (Ok x) = Ok x

@@ -1,7 +1,7 @@
 -- What a command answers that opens a source and then does its work on the netlist.
 use Rattle.std.specs.Prelude.{◌≡◌, ◌⊎◌, ℕ, List, Result, Err}
-use Rattle.rtlsim_commands.specs.Faults.{of_source}
-use Rattle.rtlsim_commands.specs.declared.faults.Fault.{Fault}
+use Rattle.rtlsim_faults.specs.Faults.{of_source}
+use Rattle.rtlsim_faults.specs.declared.faults.Fault.{Fault}
 use Rattle.rtl_net.specs.Nets.{NetlistView}
 use Rattle.rtl_sink.specs.Written.{SinkState}
 use Rattle.vhdl_source_rules.specs.Designs.{IsNetOf}

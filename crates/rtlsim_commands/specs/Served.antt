@@ -1,12 +1,12 @@
 -- What a command leaves on both outputs, and the status that it ends with.
 use Rattle.std.specs.Prelude.{◌≡◌, ◌||◌, ℕ, Bool, true, false, List, length, Result, IfErr}
 use Rattle.rtlsim_commands.specs.Opened.{Opens}
-use Rattle.rtlsim_commands.specs.Places.{IsTold}
+use Rattle.rtlsim_faults.specs.Places.{IsTold}
 use Rattle.rtlsim_commands.specs.Told.{Done, Tells}
-use Rattle.rtlsim_commands.specs.declared.faults.Fault.{Fault}
-use Rattle.rtlsim_commands.specs.declared.status.Status.{Status}
-use Rattle.rtlsim_commands.specs.declared.status.Status.TheVariants as status
-use Rattle.rtlsim_commands.specs.declared.telling.Telling.{Telling}
+use Rattle.rtlsim_faults.specs.declared.faults.Fault.{Fault}
+use Rattle.rtlsim_faults.specs.declared.status.Status.{Status}
+use Rattle.rtlsim_faults.specs.declared.status.Status.TheVariants as status
+use Rattle.rtlsim_faults.specs.declared.telling.Telling.{Telling}
 use Rattle.rtl_net.specs.Nets.{NetlistView}
 use Rattle.rtl_sink.specs.Written.{SinkState}
 

@@ -2,8 +2,8 @@
 -- 1364-2005, clause 18).
 use Rattle.std.specs.Prelude.{◌≡◌, ◌≢◌, ◌⊎◌, ℕ, List, [], map, Result, Ok, Err}
 use Rattle.rtl_check.specs.Views.{core, fault_view}
-use Rattle.rtlsim_commands.specs.declared.faults.Fault.{Fault}
-use Rattle.rtlsim_commands.specs.declared.faults.Fault.TheVariants.{Rejected, Stim, NoSettling, Memory, Output}
+use Rattle.rtlsim_faults.specs.declared.faults.Fault.{Fault}
+use Rattle.rtlsim_faults.specs.declared.faults.Fault.TheVariants.{Rejected, Stim, NoSettling, Memory, Output}
 use Rattle.rtl_model.specs.simulation.Faults.{AreStored}
 use Rattle.rtl_stim.specs.Ports.{inputs_of}
 use Rattle.rtl_stim.specs.Stimuli.{StimulusView, IsRead}

@@ -1,30 +1,16 @@
 -- What is told of a command's answer on the standard error, and the status that the program ends with.
-use Rattle.std.specs.Prelude.{◌≡◌, ◌⊎◌, ℕ, Bool, true, false, List, [], ◌∷◌, ◌++◌, codes, decimal, Result, Ok, Err}
-use Rattle.rtlsim_commands.specs.Faults.{status_of, has_names}
-use Rattle.rtlsim_commands.specs.Explanations.{told}
-use Rattle.rtlsim_commands.specs.Lines.{memory_line}
-use Rattle.rtlsim_commands.specs.declared.faults.Fault.{Fault}
-use Rattle.rtlsim_commands.specs.declared.status.Status.{Status}
-use Rattle.rtlsim_commands.specs.declared.status.Status.TheVariants as status
-use Rattle.rtlsim_commands.specs.declared.telling.Telling.{Telling}
+use Rattle.std.specs.Prelude.{◌≡◌, ℕ, Bool, true, false, List, [], ◌∷◌, Result, Ok, Err}
+use Rattle.rtlsim_faults.specs.Faults.{has_names}
+use Rattle.rtlsim_faults.specs.Told.{TellsFault, summary_line, levels_line}
+use Rattle.rtlsim_faults.specs.declared.faults.Fault.{Fault}
+use Rattle.rtlsim_faults.specs.declared.status.Status.{Status}
+use Rattle.rtlsim_faults.specs.declared.status.Status.TheVariants as status
+use Rattle.rtlsim_faults.specs.declared.telling.Telling.{Telling}
 use Rattle.rtl_levelized.specs.declared.summary.LevelSummary.{LevelSummary}
 use Rattle.rtl_net.specs.Nets.{NetlistView}
 use Rattle.rtl_run.specs.declared.summary.Summary.{Summary}
-use Rattle.rtl_sink.specs.Written.{SinkState, TakesBeginning, Goes}
+use Rattle.rtl_sink.specs.Written.{SinkState, Goes}
 use Rattle.vhdl_source_rules.specs.Designs.{IsNetOf}
-
--- The fault is told, with the net's names; or, where memory for its names is refused, a beginning of that, and
--- then the refusal.
-pub record TellsInPart (telling : Telling) (net : NetlistView) (fault : Fault) (old new : SinkState) : Type 0 where
-  pub named : has_names fault ≡ true
-  pub between : SinkState
-  pub part : TakesBeginning old between (told telling net fault)
-  pub memory : Goes between new memory_line
-
-abbrev pub TellsFault : Telling → NetlistView → Fault → (old new : SinkState) → (outcome : Status) → Type 0
-TellsFault telling net fault old new outcome =
-    (Goes old new (told telling net fault) × (outcome ≡ status_of fault))
-    ⊎ (TellsInPart telling net fault old new × (outcome ≡ status.Memory))
 
 -- a fault whose lines have names is one of the source's net
 abbrev pub HasNet : (source top : List ℕ) → Fault → NetlistView → Type 0
@@ -57,14 +43,8 @@ verdict_status false = status.Rejected
 abbrev pub verdict : Done Bool
 verdict = record { text = λ yes. []; status = verdict_status }
 
-abbrev pub summary_line : Summary → List ℕ
-summary_line s = codes "moments " ++ decimal s.moments ++ codes " deltas " ++ decimal s.most_deltas ++ codes "\n"
-
 abbrev pub summary : Done Summary
 summary = record { text = summary_line; status = λ s. status.Done }
-
-abbrev pub levels_line : LevelSummary → List ℕ
-levels_line s = codes "moments " ++ decimal s.moments ++ codes " bound " ++ decimal s.bound ++ codes "\n"
 
 abbrev pub levels : Done LevelSummary
 levels = record { text = levels_line; status = λ s. status.Done }

@@ -4,15 +4,15 @@ ghost use Rattle.std.specs.Prelude.{◌≡◌, [], if◌then◌else◌, IfErr, l
 ghost use Rattle.rtl_check.specs.Verdicts as verdicts;
 ghost use Rattle.rtl_sink.specs.Written.{IsIntact};
 ghost use Rattle.rtlsim_commands.specs.Listed.{ListsNet, ChecksNet, ChecksNetJson, ChecksNetTold, DrawsNet, DrawsNetTold};
-ghost use Rattle.rtlsim_commands.specs.Explanations.{verdict_explained, with_explanation};
+ghost use Rattle.rtlsim_faults.specs.Explanations.{verdict_explained, with_explanation};
 ghost use Rattle.rtlsim_listing.specs.CheckText.{check_text};
 ghost use Rattle.rtlsim_listing.specs.DotText.{dot_text};
 ghost use Rattle.rtlsim_listing.specs.Printing.{IsListed};
 ghost use Rattle.rtlsim_commands.specs.Opened.{Opens};
-ghost use Rattle.rtlsim_commands.specs.Places.{IsTold};
+ghost use Rattle.rtlsim_faults.specs.Places.{IsTold};
 
-use crate::faults::Fault;
-use crate::telling::Telling;
+use rtlsim_faults::Fault;
+use rtlsim_faults::Telling;
 use rtl_check::{Verdict, check};
 use rtl_net::Net;
 use rtl_sink::{Sink, finish};

@@ -1,4 +1,4 @@
-use Rattle.rtlsim_commands.proofs.Parts.{listed_behind, listed_before}
+use Rattle.rtlsim_faults.proofs.Parts.{listed_behind, listed_before}
 use Rattle.rtlsim_commands.proofs.listing.show_lines.Goals as goal
 
 pub returns-in_err-show_check : goal.returns-in_err-show_check

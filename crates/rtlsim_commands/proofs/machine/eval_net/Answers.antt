@@ -1,5 +1,5 @@
 use Rattle.std.proofs.Common.{Ok, Err, refl, ap}
-use Rattle.rtlsim_commands.specs.declared.faults.Fault.{Fault}
+use Rattle.rtlsim_faults.specs.declared.faults.Fault.{Fault}
 use Rattle.rtlsim_commands.proofs.machine.eval_net.Goals as goal
 
 pub returns-in-Ok : goal.returns-in-Ok

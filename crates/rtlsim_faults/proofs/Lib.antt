@@ -1,0 +1,4 @@
+pub mod Refused
+pub mod Told
+pub mod Places
+pub mod Parts

@@ -1,0 +1,9 @@
+-- faults, and how they are told
+pub mod Faults
+pub mod Places
+pub mod Titles
+pub mod Notices
+pub mod Lines
+pub mod Explanations
+pub mod Status
+pub mod Told

@@ -1,0 +1,16 @@
+//! The faults of the commands, and how they are told: their lines, what stands below them, and the status with which the program ends.
+//!
+//! `specs/Faults.antt` says what a layer's fault is to a caller, `specs/Lines.antt` and `specs/Explanations.antt` what is told of it, and
+//! `specs/Told.antt` how that goes out.
+#![tactic(auto)]
+
+mod explaining;
+mod faults;
+mod lines;
+mod status;
+mod telling;
+
+pub use faults::Fault;
+pub use lines::{push_memory, tell_fault, tell_levels, tell_source_fault, tell_summary};
+pub use status::Status;
+pub use telling::Telling;
