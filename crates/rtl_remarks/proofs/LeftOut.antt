@@ -49,13 +49,13 @@ left_are p o branch v t a targets assigned ds es is et ea those are ed ee eo = r
 
 driven_there : (types : List ElementType) (ds : List Driver) → All (DriverInRange types) (map driver_view ds) → (n : ℕ) → is_in n (driven ds) ≡ true → n < length types
 driven_there types [] all n t = absurd cc
-driven_there types (d ∷ ds) all n t = by (d.net == n) refl t
+driven_there types (d ∷ ds) all n t = by (d.net == n) refl t (driven_there types ds (λ k x l. all (suc k) x (omega (arith, l))) n)
   where
-    by : (b : Bool) → (d.net == n) ≡ b → (b || is_in n (driven ds)) ≡ true → n < length types
-    by true e t =
+    by : (b : Bool) → (d.net == n) ≡ b → (b || is_in n (driven ds)) ≡ true → (is_in n (driven ds) ≡ true → n < length types) → n < length types
+    by true e t later =
         let (ty, has, low) = all 0 (driver_view d) (omega arith) in
         subst (λ m. m < length types) (eqb-true d.net n e) (slice_get_within types d.net ty has)
-    by false e t = driven_there types ds (λ k x l. all (suc k) x (omega (arith, l))) n t
+    by false e t later = later t
 
 module _ (net : NetlistView) (elaborated : IsNet net) (number : ℕ) (p : Process) (there : number < length net.processes) (at : p ≡ get_or net.processes number p) where
   in_range : ProcessInRange net.types (process_view p)

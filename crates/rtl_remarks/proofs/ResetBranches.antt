@@ -1,6 +1,7 @@
 -- Clocked bodies with a reset, and the first branch of their if.
 use Rattle.std.proofs.Common.{◌≡◌, ℕ, ◌+◌, ◌<◌, Bool, true, false, List, [], ◌∷◌, length, get_or, vec_len, ◌==◌, refl, sym, ap, ◌∙◌, subst, arith, Vec, Global, Option, Some, None, ◌⊎◌, inl, inr}
 use Rattle.std.specs.Prelude.{option_map}
+use Rattle.std.specs.Option.{is_some}
 use Rattle.std.proofs.lemmas.Bool.{eqb-true}
 use Rattle.rtl_model.specs.bodies.Body as bodies
 use Rattle.rtl_model.specs.bodies.Body.{Stmt, Stmts, done, step, if_of, branch, no_else, otherwise}
@@ -28,18 +29,14 @@ pub none_of_mixed : (o : Option k.Clocking) (ns : List ℕ) → d.Mixed ≡ kind
 none_of_mixed None ns e = refl
 none_of_mixed (Some c) ns e = absurd cc
 
-abbrev some_net : Option ℕ → Bool
-some_net None = false
-some_net (Some n) = true
-
-reset_there : (r : Option k.ResetPart) → some_net (option_map part_net r) ≡ is_there (branch_of_reset r)
+reset_there : (r : Option k.ResetPart) → is_some (option_map part_net r) ≡ is_there (branch_of_reset r)
 reset_there None = refl
 reset_there (Some r) = refl
 
-pub as_clocked : (o : Option k.Clocking) (ns : List ℕ) (c : Clocking) → d.Clocked c ≡ kind_view o ns → some_net c.reset ≡ has_reset o
+pub as_clocked : (o : Option k.Clocking) (ns : List ℕ) (c : Clocking) → d.Clocked c ≡ kind_view o ns → is_some c.reset ≡ has_reset o
 as_clocked None [] c e = absurd cc
 as_clocked None (n ∷ ns) c e = absurd cc
-as_clocked (Some x) ns c e = let same : c ≡ clocking_view x = cc in ap (λ (y : Clocking). some_net y.reset) same ∙ reset_there x.reset
+as_clocked (Some x) ns c e = let same : c ≡ clocking_view x = cc in ap (λ (y : Clocking). is_some y.reset) same ∙ reset_there x.reset
 
 pub clock_of_combinational : (n : ℕ) (o : Option k.Clocking) (ns : List ℕ) → d.Combinational ≡ kind_view o ns → is_clock_of n o ≡ false
 clock_of_combinational n None ns e = refl
@@ -106,11 +103,11 @@ module _ (body : List Statement) (x : Statement) (one : length body ≡ 1) (only
       go [] l h = no_branch (option_map (λ v. v.items) last) ∙ sym h
       go (b ∷ bs) l h = absurd (omega arith)
 
-  pub the_first : (b : Branch) → 0 < length branches.items → b ≡ get_or branches.items 0 b → Some (statements_of b.statements.items) ≡ first_branch (statements_of body)
-  the_first b l at = go branches.items l at spelled
+  pub the_first : (b : Branch) → (vec_len branches == 0) ≡ false → b ≡ get_or branches.items 0 b → Some (statements_of b.statements.items) ≡ first_branch (statements_of body)
+  the_first b e at = go branches.items (sym (ap (λ (n : ℕ). n == 0) branches.ok.0) ∙ e) at spelled
     where
-      go : (bs : List Branch) → 0 < length bs → b ≡ get_or bs 0 b
+      go : (bs : List Branch) → (length bs == 0) ≡ false → b ≡ get_or bs 0 b
           → first_branch (statements_of body) ≡ first_branch (step (if_of (branches_of (otherwise_of (option_map (λ v. v.items) last)) bs)) done)
           → Some (statements_of b.statements.items) ≡ first_branch (statements_of body)
-      go [] l e h = absurd (omega arith)
+      go [] l e h = absurd cc
       go (a ∷ bs) l e h = ap (λ (y : Branch). Some (statements_of y.statements.items)) e ∙ sym h

@@ -94,24 +94,16 @@ same-rising (x ∷ xs) (y ∷ ys) a h k same =
     rest n e k' false t s =
         sym (ap (λ b. b || is_in n xs) t) ∙ s ∙ ap (λ m. (m == n) || is_in n ys) (sym e) ∙ ap (λ b. b || is_in n ys) t
 
+differ : (a n : ℕ) → (a == n) ≡ false → a ≡ n → ⊥
+differ a n e same = let z : true ≡ false = sym (eq-eqb a n same) ∙ e in cc
+
 in-run : (count a n : ℕ) → a ≤ n → n < a + count → is_in n (range_with_len a count) ≡ true
 in-run zero a n l m = absurd (omega (arith, l, m))
-in-run (suc count) a n l m = by (a == n) refl
+in-run (suc count) a n l m = by (a == n) refl (λ k. in-run count (a + 1) n k (omega (arith, m)))
   where
-    by : (b : Bool) → (a == n) ≡ b → (b || is_in n (range_with_len (a + 1) count)) ≡ true
-    by true e = refl
-    by false e = in-run count (a + 1) n (above (cases n)) (omega (arith, m))
-      where
-        cases : (n : ℕ) → (a ≡ n) ⊎ (a ≡ n → ⊥)
-        cases n = split (a == n) refl
-          where
-            split : (b : Bool) → (a == n) ≡ b → (a ≡ n) ⊎ (a ≡ n → ⊥)
-            split true t = inl (eqb-true a n t)
-            split false t = inr (λ same. let z : true ≡ false = sym (eq-eqb a n same) ∙ t in cc)
-
-        above : (a ≡ n) ⊎ (a ≡ n → ⊥) → a + 1 ≤ n
-        above (inl same) = absurd (let z : true ≡ false = sym (eq-eqb a n same) ∙ e in cc)
-        above (inr other) = omega (arith, l, other)
+    by : (b : Bool) → (a == n) ≡ b → (a + 1 ≤ n → is_in n (range_with_len (a + 1) count) ≡ true) → (b || is_in n (range_with_len (a + 1) count)) ≡ true
+    by true e later = refl
+    by false e later = later (let other : a ≡ n → ⊥ = differ a n e in omega (arith, l, other))
 
 -- numbers of which something is so, all of them below a bound, are those of all below it of which it is so
 pub those_are : (f : ℕ → Bool) (xs : List ℕ) (count : ℕ) → AreThose f xs → ((n : ℕ) → f n ≡ true → n < count) → xs ≡ filter f (range_with_len 0 count)

@@ -36,7 +36,10 @@ fn push_undriven_at(
         return Ok(());
     }
     if let Some(process) = readers[number] {
-        remarks.push(Remark::Undriven { process, net: number })?;
+        remarks.push(Remark::Undriven {
+            process,
+            net: number,
+        })?;
     }
     Ok(())
 }

@@ -48,11 +48,7 @@ pub(crate) fn push_not_reset(
 // ---- clocks
 
 /// Appends the clock of a process, if it has one.
-fn push_clock(
-    inputs: &[usize],
-    process: &Process,
-    clocks: &mut Vec<usize>,
-) -> Result<(), NoMemory>
+fn push_clock(inputs: &[usize], process: &Process, clocks: &mut Vec<usize>) -> Result<(), NoMemory>
     requires { IsStrictlyIncreasing inputs.now }
     ensures { OnOk result ((n : ℕ) → is_in n clocks.new.items ≡ (is_in n clocks.old.items || spec.is_clock_of n (clocking inputs.now (body_of process.now)))) }
 {
@@ -94,7 +90,10 @@ fn push_each_clock(
 {
     for read in reads {
         if contains_rising(clocks, *read) {
-            remarks.push(Remark::ClockRead { process, net: *read })?;
+            remarks.push(Remark::ClockRead {
+                process,
+                net: *read,
+            })?;
         }
     }
     Ok(())

@@ -75,11 +75,14 @@ pub(crate) fn is_same(before: Remark, remark: Remark) -> bool
     ensures { result ≡ spec.is_same before remark }
 {
     match (before, remark) {
-        (Remark::Undriven { process, .. }, Remark::Undriven { process: other, .. }) => process == other,
+        (Remark::Undriven { process, .. }, Remark::Undriven { process: other, .. }) => process
+            == other,
         (Remark::Unassigned { .. }, Remark::Unassigned { .. }) => true,
         (Remark::IdlePort { .. }, Remark::IdlePort { .. }) => true,
-        (Remark::NotReset { process, .. }, Remark::NotReset { process: other, .. }) => process == other,
-        (Remark::ClockRead { process, .. }, Remark::ClockRead { process: other, .. }) => process == other,
+        (Remark::NotReset { process, .. }, Remark::NotReset { process: other, .. }) => process
+            == other,
+        (Remark::ClockRead { process, .. }, Remark::ClockRead { process: other, .. }) => process
+            == other,
         _ => false,
     }
 }

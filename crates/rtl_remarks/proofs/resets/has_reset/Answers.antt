@@ -6,10 +6,12 @@ use Rattle.rtl_remarks.proofs.ResetBranches.{none_of_combinational, none_of_mixe
 use Rattle.rtl_remarks.proofs.resets.has_reset.Goals as goal
 
 pub returns-in-Combinational : goal.returns-in-Combinational
-returns-in-Combinational c = let b = body_of c.args.process.now in none_of_combinational (clocking c.args.inputs.now b) (events b) ?
+returns-in-Combinational c = let b = body_of c.args.process.now in none_of_combinational (clocking c.args.inputs.now b) (events b) (sym c.in-Combinational.is ∙ c.kind_of.ensures)
 
 pub returns-in-Mixed : goal.returns-in-Mixed
-returns-in-Mixed c = let b = body_of c.args.process.now in none_of_mixed (clocking c.args.inputs.now b) (events b) ?
+returns-in-Mixed c = let b = body_of c.args.process.now in none_of_mixed (clocking c.args.inputs.now b) (events b) (sym c.in-Mixed.is ∙ c.kind_of.ensures)
 
 pub returns-in-Clocked : goal.returns-in-Clocked
-returns-in-Clocked c = let b = body_of c.args.process.now in ?
+returns-in-Clocked c =
+    let b = body_of c.args.process.now in
+    c.is_some.ensures ∙ as_clocked (clocking c.args.inputs.now b) (events b) c.in-Clocked.clocking (sym c.in-Clocked.is ∙ c.kind_of.ensures)
