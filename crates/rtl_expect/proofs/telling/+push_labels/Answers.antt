@@ -1,5 +1,4 @@
-use Rattle.std.proofs.Common.{◌≡◌, ◌<◌, ◌++◌, List, ℕ, length, map, Some, sym, ap, subst, ◌∙◌, arith}
-use Rattle.std.specs.Prelude.{codes}
+use Rattle.std.proofs.Common.{◌≡◌, ◌<◌, List, ℕ, length, map, Some, sym, ap, subst, ◌∙◌, arith}
 use Rattle.std.proofs.lemmas.List.{length-map}
 use Rattle.rtl_sink.specs.Written.{Goes}
 use Rattle.rtl_sink.proofs.Writing.{Goes-append, Goes-nil}
@@ -10,13 +9,13 @@ use Rattle.rtl_expect.proofs.Naming.{labels-of_top, labels-in_parent}
 use Rattle.rtl_expect.proofs.telling.+push_labels.Goals as goal
 
 pub push_labels-requires : goal.push_labels-requires
-push_labels-requires g t c =
+push_labels-requires g t c κs within =
     let d = c.index-scopes-scope.result in
     let scopes = map scope_view c.args.scopes.now in
     let l : c.args.scope < length scopes = omega (arith, c.requires.there, length-map c.args.scopes.now scope_view) in
     let e : parent_of scopes c.args.scope ≡ Some c.in-Some.parent = parent-at c.args.scopes.now c.args.scope d c.requires.there ∙ ap (λ (s : Scope). s.parent) (sym c.index-scopes-scope.is) ∙ c.in-Some.is in
     let b = parent-before scopes c.requires.scopes c.args.scope c.in-Some.parent l e in
-    (omega (arith, b, c.decreases), (c.requires.scopes, omega (arith, b, c.requires.there)))
+    (omega (arith, b, c.decreases), (within, (c.requires.scopes, omega (arith, b, c.requires.there))))
 
 pub returns-in-Some : goal.returns-in-Some
 returns-in-Some g t c =

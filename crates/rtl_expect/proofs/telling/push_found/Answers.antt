@@ -1,9 +1,9 @@
-use Rattle.std.proofs.Common.{◌≡◌, ◌<◌, List, ℕ, length, map, Option, Some, None, sym, ap, subst, ◌∙◌, arith}
+use Rattle.std.proofs.Common.{◌≡◌, ◌<◌, List, length, Option, Some, sym, ap, subst, arith}
 use Rattle.std.specs.Prelude.{slice_get}
 use Rattle.std.proofs.lemmas.Bool.Decides.{nat_tests}
 use Rattle.std.proofs.lemmas.List.{length-map}
 use Rattle.rtl_sink.specs.Written.{Goes}
-use Rattle.rtl_sink.proofs.Writing.{Goes-append, Goes-nil}
+use Rattle.rtl_sink.proofs.Writing.{Goes-append}
 use Rattle.rtl_net.specs.Nets.{ScopeView, SignalView, scope_view, signal_view}
 use Rattle.rtl_expect.specs.Names.{full_name}
 use Rattle.rtl_expect.specs.Telling.{of_signal_found}
