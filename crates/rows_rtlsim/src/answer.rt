@@ -32,6 +32,12 @@ impl Answer {
         self.err.extend_from_slice(b"\n")
     }
 
+    /// Adds a text that replaces its line to the error output.
+    pub fn push_progress(&mut self, text: &str) -> Result<(), AllocError> {
+        self.err.push(b'\r')?;
+        self.err.extend_from_slice(text.as_bytes())
+    }
+
     /// Whether it is that of these.
     pub fn is(&self, status: u8, out: &[u8], err: &[u8]) -> bool {
         self.status == status && self.out.as_slice() == out && self.err.as_slice() == err

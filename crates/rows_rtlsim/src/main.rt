@@ -23,7 +23,7 @@ use std::{fs, io};
 use tables::Told;
 
 /// The tables of calls, in the folder in which the program runs.
-const TABLES: [&str; 20] = [
+const TABLES: [&str; 23] = [
     "values.txt",
     "refused.txt",
     "inputs.txt",
@@ -43,6 +43,9 @@ const TABLES: [&str; 20] = [
     "run.txt",
     "levels.txt",
     "examples.txt",
+    "expected.txt",
+    "examples_expected.txt",
+    "progress.txt",
     "sizes.txt",
 ];
 

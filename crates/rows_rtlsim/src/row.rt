@@ -61,6 +61,7 @@ impl<'a> Row<'a> {
             b"<*" => self.push_spaces(text.parse::<usize>().unwrap_or(0))?,
             b"!" => self.push_error(rt.alloc(), text)?,
             b"!|" => self.answer.push_error(text)?,
+            b"!\\r" => self.answer.push_progress(text)?,
             b"!~" => self.parts.push(text)?,
             b"=" => self.answer.status = text.parse::<u8>().unwrap_or(u8::MAX),
             b"by" => self.calls = text,

@@ -1,7 +1,9 @@
 -- In order of reading:
+pub mod Names
 pub mod Expected
 pub mod Lines
 pub mod Differences
+pub mod Telling
 pub mod Faults
 pub mod Watching
 pub mod Reading

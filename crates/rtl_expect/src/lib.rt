@@ -1,7 +1,7 @@
 //! Expected values of a simulation: which value a signal of the top has at a time.
 //!
 //! `specs/Expected.antt` says what is expected, `specs/Lines.antt` which lines a file of expected values has, and
-//! `specs/Differences.antt` which expectation is the first that doesn't hold.
+//! `specs/Differences.antt` which expectation is the first that doesn't hold; `specs/Telling.antt` has the line that tells it.
 #![tactic(auto)]
 
 mod difference;
@@ -9,8 +9,10 @@ mod expectation;
 mod expected;
 mod faults;
 mod reading;
+mod telling;
 mod watching;
 
 pub use difference::Difference;
 pub use faults::{ExpectFault, ExpectProblem};
+pub use telling::push_difference;
 pub use watching::Expectations;

@@ -7,7 +7,7 @@ use Rattle.rtl_stim_lines.specs.declared.faults.StimFault.{StimFault}
 use Rattle.rtlsim_faults.specs.Lines.{fault_lines}
 use Rattle.rtlsim_faults.specs.Notices.{Entry, lex_entry, syntax_entry, names_entry, elab_entry, stim_entry, settle_entry}
 use Rattle.rtlsim_faults.specs.declared.faults.Fault.{Fault}
-use Rattle.rtlsim_faults.specs.declared.faults.Fault.TheVariants.{Lex, Syntax, Name, Elab, Rejected, Stim, NoSettling, Memory, Output}
+use Rattle.rtlsim_faults.specs.declared.faults.Fault.TheVariants.{Lex, Syntax, Name, Elab, Rejected, Stim, Expect, Differs, NoSettling, Memory, Output}
 use Rattle.rtlsim_faults.specs.declared.faults.notice.FaultPlace.{FaultPlace}
 use Rattle.rtlsim_faults.specs.declared.faults.notice.FaultPlace.TheVariants.{Byte}
 use Rattle.rtlsim_faults.specs.declared.telling.Telling.{Telling}
@@ -82,6 +82,8 @@ explanation telling net (Elab fault) = elab_said (files_of telling) fault
 explanation telling net (Rejected faults) = rejection_explained (files_of telling) net faults.items
 explanation telling net (Stim fault) = stimulus_explained telling net fault (stim_entry fault)
 explanation telling net (NoSettling time) = settle_explained (source_name (files_of telling)) (heading (settle_entry time)) time
+explanation telling net (Expect fault) = []
+explanation telling net (Differs difference) = []
 explanation telling net Memory = []
 explanation telling net Output = []
 

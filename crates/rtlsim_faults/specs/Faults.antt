@@ -1,11 +1,13 @@
 -- What a layer's fault is to the caller of a command, and the status that it ends with.
 use Rattle.std.specs.Prelude.{Bool, true, false}
 use Rattle.rtlsim_faults.specs.declared.faults.Fault.{Fault}
-use Rattle.rtlsim_faults.specs.declared.faults.Fault.TheVariants.{Lex, Syntax, Name, Elab, Rejected, Stim, NoSettling, Memory, Output}
+use Rattle.rtlsim_faults.specs.declared.faults.Fault.TheVariants.{Lex, Syntax, Name, Elab, Rejected, Stim, Expect, Differs, NoSettling, Memory, Output}
 use Rattle.rtlsim_faults.specs.declared.status.Status.{Status}
 use Rattle.rtlsim_faults.specs.declared.status.Status.TheVariants as status
 use Rattle.rtlsim_listing.specs.declared.fault.ListingFault.{ListingFault}
 use Rattle.rtlsim_listing.specs.declared.fault.ListingFault.TheVariants as listing
+use Rattle.rtl_expect.specs.declared.faults.ExpectFault.{ExpectFault}
+use Rattle.rtl_expect.specs.declared.faults.ExpectFault.TheVariants as expect
 use Rattle.rtl_machine.specs.declared.fault.MachineFault.{MachineFault}
 use Rattle.rtl_machine.specs.declared.fault.MachineFault.TheVariants as machine
 use Rattle.rtl_run.specs.declared.summary.RunFault.{RunFault}
@@ -29,6 +31,10 @@ of_source source.NoMemory = Memory
 abbrev pub of_stim : StimFault → Fault
 of_stim stim.NoMemory = Memory
 of_stim fault = Stim fault
+
+abbrev pub of_expect : ExpectFault → Fault
+of_expect expect.NoMemory = Memory
+of_expect fault = Expect fault
 
 abbrev pub of_run : RunFault → Fault
 of_run (run.NoSettling time) = NoSettling time
@@ -57,12 +63,21 @@ status_of (Elab fault) = status.Source
 status_of (Rejected faults) = status.Rejected
 status_of (Stim stim.NoMemory) = status.Memory
 status_of (Stim fault) = status.Stimulus
+status_of (Expect expect.NoMemory) = status.Memory
+status_of (Expect fault) = status.Stimulus
+status_of (Differs difference) = status.Differs
 status_of (NoSettling time) = status.Unsettled
 status_of Memory = status.Memory
 status_of Output = status.Failed
 
--- the lines of a fault name nets or processes
+-- the lines of a fault name signals, nets or processes
 abbrev pub has_names : Fault → Bool
 has_names (Rejected faults) = true
 has_names (Stim (stim.Race time input clock)) = true
+has_names (Differs difference) = true
 has_names _ = false
+
+-- these names take memory
+abbrev pub takes_memory : Fault → Bool
+takes_memory (Differs difference) = false
+takes_memory fault = has_names fault

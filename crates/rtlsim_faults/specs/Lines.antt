@@ -1,10 +1,12 @@
 -- The lines that tell faults.
 use Rattle.std.specs.Prelude.{ℕ, List, [], ◌∷◌, Option, Some, None, ◌++◌, codes, decimal}
-use Rattle.rtlsim_faults.specs.Notices.{Entry, lex_entry, syntax_entry, names_entry, elab_entry, stim_entry, settle_entry}
+use Rattle.rtlsim_faults.specs.Notices.{Entry, lex_entry, syntax_entry, names_entry, elab_entry, stim_entry, expect_entry, settle_entry}
 use Rattle.rtlsim_faults.specs.declared.faults.Fault.{Fault}
-use Rattle.rtlsim_faults.specs.declared.faults.Fault.TheVariants.{Lex, Syntax, Name, Elab, Rejected, Stim, NoSettling, Memory, Output}
+use Rattle.rtlsim_faults.specs.declared.faults.Fault.TheVariants.{Lex, Syntax, Name, Elab, Rejected, Stim, Expect, Differs, NoSettling, Memory, Output}
 use Rattle.rtlsim_faults.specs.declared.faults.notice.FaultPlace.{FaultPlace}
 use Rattle.rtlsim_faults.specs.declared.faults.notice.FaultPlace.TheVariants.{Nowhere, Byte, Line, Time}
+use Rattle.rtl_expect.specs.Telling.{difference_line}
+use Rattle.rtl_expect.specs.Watching.{difference_view}
 use Rattle.rtlsim_listing.specs.CheckText.{rejection_text}
 use Rattle.rtl_net.specs.Names.{net_name}
 use Rattle.rtl_net.specs.Nets.{NetlistView}
@@ -63,6 +65,8 @@ fault_lines files net (Name fault) = told_line files (names_entry fault)
 fault_lines files net (Elab fault) = told_line files (elab_entry fault)
 fault_lines files net (Rejected faults) = rejection_text net faults.items
 fault_lines files net (Stim fault) = stim_line files net fault
+fault_lines files net (Expect fault) = told_line files (expect_entry fault)
+fault_lines files net (Differs difference) = difference_line net (difference_view difference)
 fault_lines files net (NoSettling time) = told_line files (Some (settle_entry time))
 fault_lines files net Memory = memory_line
 fault_lines files net Output = output_line

@@ -9,6 +9,9 @@ use Rattle.vhdl_lexer.specs.declared.fault.LexFault.TheVariants as lex
 use Rattle.vhdl_parser.specs.Fault as parser
 use Rattle.vhdl_parser.specs.declared.fault.SyntaxFault.{SyntaxFault}
 use Rattle.vhdl_parser.specs.declared.fault.SyntaxFault.TheVariants as syntax
+use Rattle.rtl_expect.specs.Faults as expected
+use Rattle.rtl_expect.specs.declared.faults.ExpectFault.{ExpectFault}
+use Rattle.rtl_expect.specs.declared.faults.ExpectFault.TheVariants as expect
 use Rattle.rtl_stim_lines.specs.StimFaults as stimulus
 use Rattle.vhdl_names_rules.specs.declared.fault.NameFault.{NameFault}
 use Rattle.vhdl_names_rules.specs.declared.fault.NameFault.TheVariants as names
@@ -74,6 +77,10 @@ stim_entry stim.NoStop = some_entry (codes "stim") 6 (codes "NoStop") Nowhere
 -- a race has names in its line, which no notice has
 stim_entry (stim.Race time input clock) = some_entry (codes "stim") 8 (codes "Race") (Time time)
 stim_entry stim.NoMemory = None
+
+abbrev pub expect_entry : ExpectFault → Option Entry
+expect_entry (expect.InLine problem line) = some_entry (codes "expect") (expected.problem_number problem) (expected.problem_title problem) (Line line)
+expect_entry expect.NoMemory = None
 
 -- a moment that doesn't settle
 abbrev pub settle_entry : (time : ℕ) → Entry

@@ -1,7 +1,7 @@
 -- The exit statuses.
 use Rattle.std.specs.Prelude.{ℕ}
 use Rattle.rtlsim_faults.specs.declared.status.Status.{Status}
-use Rattle.rtlsim_faults.specs.declared.status.Status.TheVariants.{Done, Words, Source, Rejected, Stimulus, Unsettled, Memory, Failed}
+use Rattle.rtlsim_faults.specs.declared.status.Status.TheVariants.{Done, Words, Source, Rejected, Stimulus, Unsettled, Memory, Failed, Differs}
 
 abbrev pub code_of : Status → ℕ
 code_of Done = 0
@@ -12,3 +12,4 @@ code_of Stimulus = 5
 code_of Unsettled = 6
 code_of Memory = 7
 code_of Failed = 8
+code_of Differs = 9

@@ -1,6 +1,6 @@
 -- What is told of a fault and of a run that is done, on the standard error.
 use Rattle.std.specs.Prelude.{◌≡◌, ◌⊎◌, ℕ, true, List, ◌++◌, codes, decimal}
-use Rattle.rtlsim_faults.specs.Faults.{status_of, has_names}
+use Rattle.rtlsim_faults.specs.Faults.{status_of, takes_memory}
 use Rattle.rtlsim_faults.specs.Explanations.{told}
 use Rattle.rtlsim_faults.specs.Lines.{memory_line}
 use Rattle.rtlsim_faults.specs.declared.faults.Fault.{Fault}
@@ -15,7 +15,7 @@ use Rattle.rtl_sink.specs.Written.{SinkState, TakesBeginning, Goes}
 -- The fault is told, with the net's names; or, where memory for its names is refused, a beginning of that, and
 -- then the refusal.
 pub record TellsInPart (telling : Telling) (net : NetlistView) (fault : Fault) (old new : SinkState) : Type 0 where
-  pub named : has_names fault ≡ true
+  pub named : takes_memory fault ≡ true
   pub between : SinkState
   pub part : TakesBeginning old between (told telling net fault)
   pub memory : Goes between new memory_line

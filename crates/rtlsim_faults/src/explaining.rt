@@ -4,7 +4,7 @@ ghost use Rattle.std.specs.Prelude.{◌≡◌, [], if◌then◌else◌, true, fa
 ghost use Rattle.rtl_net.specs.Nets.{NetlistView};
 ghost use Rattle.rtl_sink.specs.Written.{Goes, IsIntact};
 ghost use Rattle.rtlsim_faults.specs.Explanations as spec;
-ghost use Rattle.rtlsim_faults.specs.Faults.{has_names};
+ghost use Rattle.rtlsim_faults.specs.Faults.{has_names, takes_memory};
 ghost use Rattle.rtlsim_faults.specs.Notices.{entry_of, settle_entry};
 ghost use Rattle.rtlsim_explain.specs.Explained.{spot_of, heading_of};
 ghost use Rattle.rtlsim_explain.specs.Stimuli.{settle_explained};
@@ -44,7 +44,7 @@ pub(crate) fn explain_fault<S: Sink>(
     requires intact { IsIntact (S.state sink.old) }
     ensures listed { IsListed result (S.state sink.old) (S.state sink.new)
         (if telling.now.explains then spec.explanation telling.now net.now fault.now else []) }
-    ensures named { IfErr result (λ e. e ≡ Memory → has_names fault.now ≡ true) }
+    ensures named { IfErr result (λ e. e ≡ Memory → takes_memory fault.now ≡ true) }
 {
     if telling.explains {
         push_explanation(alloc, telling, net, fault, sink)
@@ -63,11 +63,12 @@ fn push_explanation<S: Sink>(
 ) -> Result<(), ListingFault>
     requires intact { IsIntact (S.state sink.old) }
     ensures listed { IsListed result (S.state sink.old) (S.state sink.new) (spec.explanation telling.now net.now fault.now) }
-    ensures named { IfErr result (λ e. e ≡ Memory → has_names fault.now ≡ true) }
+    ensures named { IfErr result (λ e. e ≡ Memory → takes_memory fault.now ≡ true) }
 {
     match fault {
         Fault::Rejected(faults) => explain_rejection(alloc, telling.files, net, faults, sink),
         Fault::Stim(stim) => explain_stimulus(alloc, telling, net, *stim, sink),
+        Fault::Differs(_) => Ok(finish(sink)?),
         _ => {
             push_nameless_explanation(telling, fault, sink);
             Ok(finish(sink)?)
@@ -85,7 +86,7 @@ fn explain_stimulus<S: Sink>(
 ) -> Result<(), ListingFault>
     requires intact { IsIntact (S.state sink.old) }
     ensures listed { IsListed result (S.state sink.old) (S.state sink.new) (spec.explanation telling.now net.now (Fault.Stim fault)) }
-    ensures named { IfErr result (λ e. e ≡ Memory → has_names (Fault.Stim fault) ≡ true) }
+    ensures named { IfErr result (λ e. e ≡ Memory → takes_memory (Fault.Stim fault) ≡ true) }
 {
     let Some(notice) = stim_notice(&fault) else {
         return Ok(finish(sink)?);

@@ -1,7 +1,7 @@
 //! Why a call of this library is refused.
 
 ghost use Rattle.std.specs.Prelude.{◌≡◌};
-ghost use Rattle.rtlsim_faults.specs.Faults.{of_source, of_stim, of_run, of_machine, of_listing};
+ghost use Rattle.rtlsim_faults.specs.Faults.{of_source, of_stim, of_expect, of_run, of_machine, of_listing};
 ghost use Rattle.rtlsim_faults.specs.declared.faults.Fault.TheVariants.{Memory};
 
 mod layers;
@@ -10,10 +10,11 @@ mod titles;
 
 use crate::status::Status;
 pub(crate) use layers::{
-    elab_notice, lex_notice, name_notice, settle_notice, stim_notice, syntax_notice,
+    elab_notice, expect_notice, lex_notice, name_notice, settle_notice, stim_notice, syntax_notice,
 };
 pub(crate) use notice::{FaultPlace, Notice};
 use rtl_check::CheckFault;
+use rtl_expect::{Difference, ExpectFault};
 use rtl_machine::MachineFault;
 use rtl_run::RunFault;
 use rtl_stim::StimFault;
@@ -40,6 +41,10 @@ pub enum Fault {
     Rejected(Vec<CheckFault>),
     /// The stimulus is refused.
     Stim(StimFault),
+    /// The expected values are refused.
+    Expect(ExpectFault),
+    /// The first value that isn't the expected one.
+    Differs(Difference),
     /// The simulation does not settle at this time, in ns.
     NoSettling { time: u64 },
     /// Memory was refused.
@@ -62,10 +67,12 @@ impl Fault {
             | Fault::Name(NameFault::NoMemory)
             | Fault::Elab(ElabFault::NoMemory)
             | Fault::Stim(StimFault::NoMemory)
+            | Fault::Expect(ExpectFault::NoMemory)
             | Fault::Memory => Status::Memory,
             Fault::Lex(_) | Fault::Syntax(_) | Fault::Name(_) | Fault::Elab(_) => Status::Source,
             Fault::Rejected(_) => Status::Rejected,
-            Fault::Stim(_) => Status::Stimulus,
+            Fault::Stim(_) | Fault::Expect(_) => Status::Stimulus,
+            Fault::Differs(_) => Status::Differs,
             Fault::NoSettling { .. } => Status::Unsettled,
             Fault::Output => Status::Failed,
         }
@@ -93,6 +100,17 @@ impl From<StimFault> for Fault {
         match stim {
             StimFault::NoMemory => Fault::Memory,
             _ => Fault::Stim(stim),
+        }
+    }
+}
+
+impl From<ExpectFault> for Fault {
+    ghost from_gives = { λ expect fault. fault ≡ of_expect expect };
+
+    fn from(expect: ExpectFault) -> Fault {
+        match expect {
+            ExpectFault::NoMemory => Fault::Memory,
+            ExpectFault::InLine { .. } => Fault::Expect(expect),
         }
     }
 }

@@ -6,7 +6,7 @@ ghost use Rattle.rtlsim_listing.specs.Printing.{IsListed};
 ghost use Rattle.rtlsim_listing.specs.declared.fault.ListingFault.TheVariants.{Memory};
 ghost use Rattle.rtl_net.specs.Nets.{NetlistView};
 ghost use Rattle.rtl_sink.specs.Written.{Goes, IsIntact};
-ghost use Rattle.rtlsim_faults.specs.Faults.{has_names, of_source};
+ghost use Rattle.rtlsim_faults.specs.Faults.{has_names, takes_memory, of_source};
 ghost use Rattle.rtlsim_faults.specs.Explanations.{told};
 ghost use Rattle.rtlsim_files.specs.Files.{file_view, spot_view};
 ghost use Rattle.rtlsim_faults.specs.Lines.{byte_text, spot_text, place_text, notice_text, told_line, race_line, stim_line, fault_lines, memory_line};
@@ -16,11 +16,12 @@ ghost use Rattle.rtlsim_faults.specs.Faults as faults;
 
 use crate::explaining::{explain_fault, explain_nameless};
 use crate::faults::{
-    Fault, FaultPlace, Notice, elab_notice, lex_notice, name_notice, settle_notice, stim_notice,
-    syntax_notice,
+    Fault, FaultPlace, Notice, elab_notice, expect_notice, lex_notice, name_notice, settle_notice,
+    stim_notice, syntax_notice,
 };
 use crate::status::Status;
 use crate::telling::Telling;
+use rtl_expect::push_difference;
 use rtl_levelized::LevelSummary;
 use rtl_net::Net;
 use rtl_run::Summary;
@@ -102,7 +103,7 @@ fn push_told<S: Sink>(
 ) -> Result<(), ListingFault>
     requires intact { IsIntact (S.state sink.old) }
     ensures listed { IsListed result (S.state sink.old) (S.state sink.new) (told telling.now net.now fault.now) }
-    ensures named { IfErr result (λ e. e ≡ Memory → has_names fault.now ≡ true) }
+    ensures named { IfErr result (λ e. e ≡ Memory → takes_memory fault.now ≡ true) }
 {
     push_fault(alloc, telling.files, net, fault, sink)?;
     explain_fault(alloc, telling, net, fault, sink)
@@ -118,11 +119,15 @@ fn push_fault<S: Sink>(
 ) -> Result<(), ListingFault>
     requires intact { IsIntact (S.state sink.old) }
     ensures listed { IsListed result (S.state sink.old) (S.state sink.new) (fault_lines (map file_view files.now) net.now fault.now) }
-    ensures named { IfErr result (λ e. e ≡ Memory → has_names fault.now ≡ true) }
+    ensures named { IfErr result (λ e. e ≡ Memory → takes_memory fault.now ≡ true) }
 {
     match fault {
         Fault::Rejected(faults) => show_faults(alloc, net, faults, sink),
         Fault::Stim(stim) => push_stim(alloc, files, net, *stim, sink),
+        Fault::Differs(difference) => {
+            push_difference(net, difference, sink);
+            Ok(finish(sink)?)
+        }
         _ => {
             push_nameless(files, fault, sink);
             Ok(finish(sink)?)
@@ -140,7 +145,7 @@ fn push_stim<S: Sink>(
 ) -> Result<(), ListingFault>
     requires intact { IsIntact (S.state sink.old) }
     ensures listed { IsListed result (S.state sink.old) (S.state sink.new) (stim_line (map file_view files.now) net.now stim) }
-    ensures named { IfErr result (λ e. e ≡ Memory → has_names (Fault.Stim stim) ≡ true) }
+    ensures named { IfErr result (λ e. e ≡ Memory → takes_memory (Fault.Stim stim) ≡ true) }
 {
     match stim {
         StimFault::Race { time, input, clock } => push_race(alloc, net, time, input, clock, sink),
@@ -185,9 +190,10 @@ fn push_nameless<S: Sink>(files: &[SourceFile<'_>], fault: &Fault, sink: &mut S)
         Fault::Name(names) => push_notice(files, name_notice(names), sink),
         Fault::Elab(elab) => push_notice(files, elab_notice(elab), sink),
         Fault::Stim(stim) => push_notice(files, stim_notice(stim), sink),
+        Fault::Expect(expect) => push_notice(files, expect_notice(expect), sink),
         Fault::NoSettling { time } => push_notice(files, settle_notice(*time), sink),
         Fault::Output => push_text(sink, b"rtlsim: output\n"),
-        Fault::Memory | Fault::Rejected(_) => push_memory(sink),
+        Fault::Memory | Fault::Rejected(_) | Fault::Differs(_) => push_memory(sink),
     }
 }
 

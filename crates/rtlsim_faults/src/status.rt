@@ -13,7 +13,7 @@ pub enum Status {
     Source,
     /// The checker says no.
     Rejected,
-    /// The stimulus is refused, or it has a race.
+    /// The stimulus is refused, or it has a race; or the expected values are refused.
     Stimulus,
     /// The simulation does not settle.
     Unsettled,
@@ -21,6 +21,8 @@ pub enum Status {
     Memory,
     /// An input or an output failed.
     Failed,
+    /// A value isn't the expected one.
+    Differs,
 }
 
 impl Status {
@@ -39,6 +41,7 @@ impl Status {
             Status::Unsettled => 6,
             Status::Memory => 7,
             Status::Failed => 8,
+            Status::Differs => 9,
         }
     }
 }

@@ -8,8 +8,8 @@ static ORDERS: [&str; 2] = ["forward", "reverse"];
 
 /// How simulations are asked for.
 static RUN_USAGE: &str =
-    "rtlsim run [--event] [--order <ORDER>] [--with <FILE>]... [--explain] <FILE> <TOP> <STIM>
-       rtlsim run --levels [--with <FILE>]... [--explain] <FILE> <TOP> <STIM>";
+    "rtlsim run [--event] [--order <ORDER>] [--expect <FILE>] [--progress] [--with <FILE>]... [--explain] <FILE> <TOP> <STIM>
+       rtlsim run --levels [--expect <FILE>] [--progress] [--with <FILE>]... [--explain] <FILE> <TOP> <STIM>";
 
 /// What stands below the help of all commands.
 static EXAMPLES: &str =
@@ -23,6 +23,7 @@ Examples:
   rtlsim check --explain --with alu.vhd --with fetch.vhd cpu.vhd cpu
   rtlsim run counter.vhd counter counter.stim
   rtlsim run --levels counter.vhd counter counter.stim
+  rtlsim run --expect counter.expect counter.vhd counter counter.stim
   rtlsim run --event --order reverse counter.vhd counter counter.stim";
 
 /// The commands.
@@ -119,11 +120,21 @@ fn run_command<'a>(alloc: Global) -> Result<Command<'a>, AllocError> {
         .conflicts_with("event")?
         .conflicts_with("order")?
         .action(ArgAction::SetTrue);
+    let expect = Arg::new(alloc, "expect")
+        .long("expect")
+        .value_name("FILE")
+        .help("Compare with the values that FILE expects");
+    let progress = Arg::new(alloc, "progress")
+        .long("progress")
+        .help("Show how far the run is")
+        .action(ArgAction::SetTrue);
     design_command(alloc, "run", "Prints the trace under a stimulus")?
         .override_usage(RUN_USAGE)
         .after_help("Example: rtlsim run counter.vhd counter counter.stim")
         .arg(operand(alloc, "STIM", "The stimulus, or @ for the standard input"))?
         .arg(event)?
         .arg(order)?
-        .arg(levels)
+        .arg(levels)?
+        .arg(expect)?
+        .arg(progress)
 }

@@ -2,7 +2,8 @@
 
 ghost use Rattle.std.specs.Prelude.{◌≡◌, ◌∷◌, ◌≢◌, ◌<◌, IfOk, IfErr, IsErr, IfSome, IfNone, Some, None, length, codes, map};
 ghost use Rattle.rtlsim_words.specs.Extras as extras;
-ghost use Rattle.rtlsim_words.specs.Extras.{SaysParts, parts};
+ghost use Rattle.rtlsim_words.specs.Extras.{SaysParts};
+ghost use Rattle.rtlsim_words.specs.Taking.{taken_parts};
 ghost use Rattle.rtlsim_words.specs.declared.extras.Call.{Call};
 ghost use Rattle.rtlsim_words.specs.Words.{Says, SayNothing, Asks, IsOfWords, event_flag};
 ghost use Rattle.rtlsim_words.specs.declared.arguments.Flag.TheVariants.{Levels, Dot, Json};
@@ -12,7 +13,7 @@ ghost use Rattle.clap.specs.declared.error.kind.ErrorKind.TheVariants.{OutOfMemo
 
 use crate::arguments::{Arguments, Flag, read_arguments};
 use crate::commands::command;
-use crate::extras::{Call, Extras, Taken, is_read_once, take_extras};
+use crate::extras::{Call, Taken, take_extras};
 use crate::request::{Order, Refused, Request};
 use clap::Error;
 use clap::error::ErrorKind;
@@ -20,7 +21,7 @@ use std::alloc::{AllocError, Global};
 
 /// What is told of words that clap has nothing against.
 static READ_TWICE: &str =
-    "error: the standard input, @, is named twice: where a file of --with is @, no other FILE or STIM may be
+    "error: the standard input, @, is named twice: where a file of --with or --expect is @, no other FILE or STIM may be
 
 For more information, try '--help'.
 ";
@@ -53,35 +54,26 @@ fn call_of<'a>(alloc: Global, words: &[&'a str]) -> Result<Option<Call<'a>>, All
     let Some(taken) = take_extras(alloc, others)? else {
         return Ok(None);
     };
-    let Taken {
-        with,
-        explains,
-        left,
-    } = taken;
-    call_with(alloc, command, with, explains, &left)
+    call_with(alloc, command, taken)
 }
 
 /// The call of a command, with what was taken out of the words behind it.
 fn call_with<'a>(
     alloc: Global,
     command: &'a str,
-    with: Vec<&'a str>,
-    explains: bool,
-    left: &[&'a str],
+    taken: Taken<'a>,
 ) -> Result<Option<Call<'a>>, AllocError>
-    ensures said { IfOk result (λ asked. IfSome asked (λ call.
-        SaysParts command.now (parts (map (λ name. name.now) with.entry.items) explains (map (λ word. word.now) left.now)) call)) }
-    ensures none { IfOk result (λ asked. IfNone asked ((call : Call)
-        → SaysParts command.now (parts (map (λ name. name.now) with.entry.items) explains (map (λ word. word.now) left.now)) call → ⊥)) }
+    ensures said { IfOk result (λ asked. IfSome asked (λ call. SaysParts command.now (taken_parts taken.entry) call)) }
+    ensures none { IfOk result (λ asked. IfNone asked ((call : Call) → SaysParts command.now (taken_parts taken.entry) call → ⊥)) }
 {
-    if !is_read_once(&with, left) {
+    if !(taken.may_stand_with(command) && taken.is_read_once()) {
         return Ok(None);
     }
-    let words = begun_with(alloc, command, left)?;
+    let words = begun_with(alloc, command, &taken.left)?;
     let Some(request) = request_of(alloc, &words)? else {
         return Ok(None);
     };
-    let extras = Extras { with, explains };
+    let extras = taken.extras;
     Ok(Some(Call { request, extras }))
 }
 

@@ -3,10 +3,11 @@
 ghost use Rattle.std.specs.Prelude.{◌≡◌, Some};
 ghost use Rattle.std.specs.Option.{option_map};
 ghost use Rattle.rtlsim_faults.specs.Notices as notices;
-ghost use Rattle.rtlsim_faults.specs.Notices.{entry_of, lex_entry, syntax_entry, names_entry, elab_entry, stim_entry, settle_entry};
+ghost use Rattle.rtlsim_faults.specs.Notices.{entry_of, lex_entry, syntax_entry, names_entry, elab_entry, stim_entry, expect_entry, settle_entry};
 
 use super::titles::{elab_number, elab_title, name_number, name_title};
 use super::{FaultPlace, Notice};
+use rtl_expect::ExpectFault;
 use rtl_stim::StimFault;
 use vhdl_expand_rules::ElabFault;
 use vhdl_lexer::LexFault;
@@ -109,6 +110,23 @@ pub(crate) fn stim_notice(fault: &StimFault) -> Option<Notice>
         StimFault::NoStop => Notice::some("stim", 6, "NoStop", FaultPlace::Nowhere),
         StimFault::Race { time, .. } => Notice::some("stim", 8, "Race", FaultPlace::Time(time)),
         StimFault::NoMemory => None,
+    }
+}
+
+/// What the printed line of a fault of a file of expected values tells.
+pub(crate) fn expect_notice(fault: &ExpectFault) -> Option<Notice>
+    ensures { option_map entry_of result ≡ expect_entry fault.now }
+{
+    match *fault {
+        ExpectFault::InLine { problem, line } => {
+            Notice::some(
+                "expect",
+                problem.number(),
+                problem.title(),
+                FaultPlace::Line(line),
+            )
+        }
+        ExpectFault::NoMemory => None,
     }
 }
 

@@ -7,7 +7,7 @@ pub(crate) enum FaultPlace {
     Nowhere,
     /// At a byte of the source, counted from 0.
     Byte(usize),
-    /// In a line of the stimulus, counted from 1.
+    /// In a line of the stimulus or of the expected values, counted from 1.
     Line(usize),
     /// At a time, in ns.
     Time(u64),

@@ -1,0 +1,21 @@
+-- The full name of a signal within the top: the labels of the instances that lead to it from the top, and its own name, joined by dots. A
+-- signal of the top has its own name alone.
+use Rattle.std.specs.Prelude.{ℕ, zero, suc, List, [], ◌++◌, Option, Some, None, codes}
+use Rattle.rtl_net.specs.Nets.{ScopeView, SignalView, label_at, parent_of}
+
+-- the scope's label and a dot, behind those of the scopes round it; nothing for the top, which stands in no other scope
+abbrev pub labels_behind : (labels_of : ℕ → List ℕ) → (parent : Option ℕ) → (label : List ℕ) → List ℕ
+labels_behind labels_of None label = []
+labels_behind labels_of (Some p) label = labels_of p ++ label ++ codes "."
+
+-- the same, with so many steps up at most
+abbrev pub labels_within : (steps : ℕ) → List ScopeView → (scope : ℕ) → List ℕ
+labels_within zero scopes k = []
+labels_within (suc steps) scopes k = labels_behind (labels_within steps scopes) (parent_of scopes k) (label_at scopes k)
+
+-- The labels from the top to a scope, each before a dot. A parent's number is less than its scope's: as many steps as that lead to the top.
+abbrev pub labels : List ScopeView → (scope : ℕ) → List ℕ
+labels scopes k = labels_within k scopes k
+
+abbrev pub full_name : List ScopeView → SignalView → List ℕ
+full_name scopes s = labels scopes s.scope ++ s.name

@@ -1,0 +1,117 @@
+//! The line that tells what differs.
+
+ghost use Rattle.std.specs.Prelude.{◌≡◌, ◌<◌, ◌≤◌, length, map, slice_get, slice_index};
+ghost use Rattle.vhdl_values.specs.Scalar.{letter_of, value_of_code};
+ghost use Rattle.rtl_sink.specs.Written.{Goes};
+ghost use Rattle.rtl_net.specs.Nets.{scope_view, signal_view};
+ghost use Rattle.rtl_net.specs.Elaborated.{AreScopes};
+ghost use Rattle.rtl_expect.specs.Names as names;
+ghost use Rattle.rtl_expect.specs.Telling as spec;
+ghost use Rattle.rtl_expect.specs.Watching.{difference_view};
+
+use crate::difference::{Codes, Difference};
+use rtl_net::{Net, Scope, Signal, SignalKind};
+use rtl_sink::{Sink, push_number, push_text};
+use vhdl_values::Nine;
+
+/// Writes the line that tells a difference from what a net's signals were expected to be: `rtlsim: expect 1 Differs TIME NAME is VALUE line
+/// LINE`, the time in ns, or `rtlsim: expect 2 AfterStop line LINE`. It takes no memory.
+pub fn push_difference<S: Sink>(net: &Net, difference: &Difference, sink: &mut S)
+    ensures { Goes (S.state sink.old) (S.state sink.new) (spec.difference_line net.now (difference_view difference.now)) }
+{
+    push_text(sink, b"rtlsim: expect ");
+    push_differing(net, difference, sink);
+    push_text(sink, b" line ");
+    push_number(sink, difference.line as u64);
+    push_text(sink, b"\n");
+}
+
+/// Writes what differs.
+fn push_differing<S: Sink>(net: &Net, difference: &Difference, sink: &mut S)
+    ensures { Goes (S.state sink.old) (S.state sink.new)
+        (spec.difference_text net.now (difference_view difference.now) (difference_view difference.now).found) }
+{
+    match &difference.found {
+        None => push_text(sink, b"2 AfterStop"),
+        Some(found) => {
+            push_text(sink, b"1 Differs ");
+            push_found(net, difference.time, difference.signal, found, sink);
+        }
+    }
+}
+
+/// Writes what was found of the signal of this number at a time.
+fn push_found<S: Sink>(net: &Net, time: u64, number: usize, found: &Codes, sink: &mut S)
+    ensures { Goes (S.state sink.old) (S.state sink.new)
+        (spec.of_signal_found net.now time (slice_get net.now.signals number) found.now.items) }
+{
+    let _count = net.nets();
+    let Some(signal) = net.signals().get(number) else {
+        return;
+    };
+    push_number(sink, time);
+    push_text(sink, b" ");
+    push_name(net.scopes(), signal, sink);
+    push_text(sink, b" is ");
+    push_value(signal.kind, found, sink);
+}
+
+/// Writes a signal's full name.
+fn push_name<S: Sink>(scopes: &[Scope], signal: &Signal, sink: &mut S)
+    requires scopes { AreScopes (map scope_view scopes.now) }
+    requires there { signal.now.scope < length scopes.now }
+    ensures { Goes (S.state sink.old) (S.state sink.new) (names.full_name (map scope_view scopes.now) (signal_view signal.now)) }
+{
+    push_labels(scopes, signal.scope, sink);
+    push_text(sink, &signal.name);
+}
+
+/// Writes the labels from the top to a scope, each before a dot.
+fn push_labels<S: Sink>(scopes: &[Scope], scope: usize, sink: &mut S)
+    requires scopes { AreScopes (map scope_view scopes.now) }
+    requires there { scope < length scopes.now }
+    ensures { Goes (S.state sink.old) (S.state sink.new) (names.labels (map scope_view scopes.now) scope) }
+{
+    let found = &scopes[scope];
+    if let Some(parent) = found.parent {
+        push_labels(scopes, parent, sink);
+        push_text(sink, &found.label);
+        push_text(sink, b".");
+    }
+}
+
+/// Writes the value of a signal of this kind.
+fn push_value<S: Sink>(kind: SignalKind, found: &Codes, sink: &mut S)
+    ensures { Goes (S.state sink.old) (S.state sink.new) (spec.found_text kind found.now.items) }
+{
+    match kind {
+        SignalKind::Enumeration { .. } => push_number(sink, position(found)),
+        _ => push_text(sink, &letters(found)),
+    }
+}
+
+/// The position that the first of these codes is.
+fn position(found: &[u8]) -> u64
+    ensures { result ≡ slice_index found.now 0 }
+{
+    u64::from(found.first().copied().unwrap_or(0))
+}
+
+/// The letters of the values with these codes.
+fn letters(found: &[u8]) -> Codes
+    requires few { length found.now ≤ 64 }
+    ensures { result.items ≡ spec.letters_of found.now }
+{
+    let mut letters = Codes::new();
+    for code in found {
+        letters.push(letter(*code));
+    }
+    letters
+}
+
+/// The letter of the value with this code.
+fn letter(code: u8) -> u8
+    ensures { result ≡ letter_of (value_of_code code) }
+{
+    Nine::from_code(code).unwrap_or(Nine::X).byte()
+}
