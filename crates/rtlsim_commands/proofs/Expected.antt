@@ -3,7 +3,7 @@ use Rattle.std.proofs.Common.{◌≡◌, ℕ, List, Option, Some, None, Result, 
 use Rattle.std.specs.Prelude.{IsErrAnd, option_map}
 use Rattle.rtlsim_commands.specs.Expected.{Expects, RunsComparing, RunsExpecting, unless_differs}
 use Rattle.rtlsim_commands.specs.Machine.{as_answer}
-use Rattle.rtlsim_commands.specs.Watched.{IfWhole, Watched}
+use Rattle.rtlsim_commands.specs.Watched.{IfWhole}
 use Rattle.rtlsim_commands.proofs.Watched.{watched_failed}
 use Rattle.rtlsim_faults.specs.Faults.{of_expect, of_machine}
 use Rattle.rtlsim_faults.specs.declared.faults.Fault.{Fault}
@@ -22,14 +22,14 @@ use Rattle.rtl_sink.specs.Written.{SinkState}
 use Rattle.rtl_watch.specs.Stands.{Stand}
 
 -- the synchronous machine's faults are none of expected values
-pub unexpecting : {A : Type 0} (given : Result A MachineFault) (f : ExpectFault) → Err {A = A} (Expect f) ≡ as_answer given → ⊥
+pub unexpecting : {A : Type 0} (given : Result A MachineFault) (f : ExpectFault) → as_answer given ≡ Err (Expect f) → ⊥
 unexpecting (Ok x) f e = cc
 unexpecting (Err (machine.Rejected faults)) f e = cc
 unexpecting (Err (machine.Stim fault)) f e = cc
 unexpecting (Err machine.Memory) f e = cc
 unexpecting (Err machine.Output) f e = cc
 
-pub undiffering : {A : Type 0} (given : Result A MachineFault) (d : Difference) → Err {A = A} (Differs d) ≡ as_answer given → ⊥
+pub undiffering : {A : Type 0} (given : Result A MachineFault) (d : Difference) → as_answer given ≡ Err (Differs d) → ⊥
 undiffering (Ok x) d e = cc
 undiffering (Err (machine.Rejected faults)) d e = cc
 undiffering (Err (machine.Stim fault)) d e = cc
@@ -47,10 +47,10 @@ module _ {A : Type 0} (Runs : NetlistView → Result A Fault → (old new : Sink
   unread_part (InLine problem line) So = tt
   unread_part NoMemory So = tt
 
-  pub refused : (So : NetlistView → Type 0) (answer : Result A Fault) (fault : ExpectFault) → IsErrAnd answer (λ f. f ≡ of_expect fault) → AreRead net expected (Err fault)
-      → Watched (RunsExpecting Runs Sees expected) So net answer old old
+  pub refused : (So : Type 0) (answer : Result A Fault) (fault : ExpectFault) → IsErrAnd answer (λ f. f ≡ of_expect fault) → AreRead net expected (Err fault)
+      → RunsExpecting Runs Sees expected net answer old old × IfWhole answer So
   refused So answer fault h read =
-      watched_failed (RunsExpecting Runs Sees expected) So net answer (of_expect fault) old old h (unread fault read) (unread_part fault (So net))
+      watched_failed (RunsExpecting Runs Sees expected) So net answer (of_expect fault) old old h (unread fault read) (unread_part fault So)
 
   module _ (new : SinkState) (es : List Expectation) (read : expectations_of net expected ≡ Ok es) where
     -- the run fails
@@ -81,18 +81,18 @@ module _ {A : Type 0} (Runs : NetlistView → Result A Fault → (old new : Sink
       unrun_part So Memory h = tt
       unrun_part So Output h = tt
 
-      pub failed : (So : NetlistView → Type 0) (answer : Result A Fault) (fault : Fault) → IsErrAnd answer (λ f. f ≡ fault) → Runs net (Err fault) old new
-          → Watched (RunsExpecting Runs Sees expected) So net answer old new
+      pub failed : (So : Type 0) (answer : Result A Fault) (fault : Fault) → IsErrAnd answer (λ f. f ≡ fault) → Runs net (Err fault) old new
+          → RunsExpecting Runs Sees expected net answer old new × IfWhole answer So
       failed So answer fault h runs =
-          watched_failed (RunsExpecting Runs Sees expected) So net answer fault old new h (unrun fault runs) (unrun_part (So net) fault runs)
+          watched_failed (RunsExpecting Runs Sees expected) So net answer fault old new h (unrun fault runs) (unrun_part So fault runs)
 
     -- the run is whole
     module _ (so : (P Q : List Stand → Type 0) → ((stands : List Stand) → P stands → Q stands) → Sees P net → Sees Q net) where
       pub whole : (x : A) (d : Option Difference) (answer : Result A Fault) (Told Seen : List Stand → Type 0) → answer ≡ unless_differs x d → Runs net (Ok x) old new → Sees Told net
           → ((stands : List Stand) → Told stands → option_map difference_view d ≡ first_difference stands es) → ((stands : List Stand) → Told stands → Seen stands)
-          → Watched (RunsExpecting Runs Sees expected) (Sees Seen) net answer old new
+          → RunsExpecting Runs Sees expected net answer old new × IfWhole answer (Sees Seen net)
       whole x None answer Told Seen is runs sees first seen =
-          let P : Result A Fault → Type 0 = λ r. Watched (RunsExpecting Runs Sees expected) (Sees Seen) net r old new in
+          let P : Result A Fault → Type 0 = λ r. RunsExpecting Runs Sees expected net r old new × IfWhole r (Sees Seen net) in
           subst P (sym is) (
             record {
               expectations = es;
@@ -102,7 +102,7 @@ module _ {A : Type 0} (Runs : NetlistView → Result A Fault → (old new : Sink
             so Told Seen seen sees,
           )
       whole x (Some d) answer Told Seen is runs sees first seen =
-          let P : Result A Fault → Type 0 = λ r. Watched (RunsExpecting Runs Sees expected) (Sees Seen) net r old new in
+          let P : Result A Fault → Type 0 = λ r. RunsExpecting Runs Sees expected net r old new × IfWhole r (Sees Seen net) in
           subst P (sym is) (
             record {
               expectations = es;

@@ -1,5 +1,5 @@
 -- What is seen of a simulation.
-use Rattle.std.proofs.Common.{◌≡◌, List, Result, Ok, Err, sym, subst}
+use Rattle.std.proofs.Common.{◌≡◌, ℕ, List, Result, Ok, Err, sym, subst}
 use Rattle.std.specs.Prelude.{IsErrAnd}
 use Rattle.rtlsim_commands.specs.Watched.{OfMachine, OfEvents, IfWhole, Watched}
 use Rattle.rtlsim_faults.specs.Faults.{of_machine, of_run}
@@ -37,18 +37,23 @@ of_events_so text net P Q go h = record {
 
 -- ---- faults that end a run come without the whole trace
 
-pub machine_part : {A : Type 0} (fault : MachineFault) (So : Type 0) → IfWhole {A = A} (Err (of_machine fault)) So
-machine_part (machine.Rejected faults) So = tt
-machine_part (machine.Stim fault) So = tt
-machine_part machine.Memory So = tt
-machine_part machine.Output So = tt
+pub machine_part : (A : Type 0) (fault : MachineFault) (So : Type 0) → IfWhole {A = A} (Err (of_machine fault)) So
+machine_part A (machine.Rejected faults) So = tt
+machine_part A (machine.Stim fault) So = tt
+machine_part A machine.Memory So = tt
+machine_part A machine.Output So = tt
 
-pub run_part : {A : Type 0} (fault : RunFault) (So : Type 0) → IfWhole {A = A} (Err (of_run fault)) So
-run_part (run.NoSettling time) So = tt
-run_part run.Memory So = tt
-run_part run.Output So = tt
+pub run_part : (A : Type 0) (fault : RunFault) (So : Type 0) → IfWhole {A = A} (Err (of_run fault)) So
+run_part A (run.NoSettling time) So = tt
+run_part A run.Memory So = tt
+run_part A run.Output So = tt
 
-pub watched_failed : {A : Type 0} (Does : NetlistView → Result A Fault → SinkState → SinkState → Type 0) (So : NetlistView → Type 0) (net : NetlistView) (answer : Result A Fault)
-    (fault : Fault) (old new : SinkState) → IsErrAnd answer (λ f. f ≡ fault) → Does net (Err fault) old new → IfWhole {A = A} (Err fault) (So net) → Watched Does So net answer old new
+pub watched_failed : {A : Type 0} (Does : NetlistView → Result A Fault → SinkState → SinkState → Type 0) (So : Type 0) (net : NetlistView) (answer : Result A Fault) (fault : Fault)
+    (old new : SinkState) → IsErrAnd answer (λ f. f ≡ fault) → Does net (Err fault) old new → IfWhole {A = A} (Err fault) So → Does net answer old new × IfWhole answer So
 watched_failed Does So net (Ok x) fault old new h does part = absurd h
-watched_failed Does So net (Err f) fault old new h does part = let P : Fault → Type 0 = λ x. Watched Does So net (Err x) old new in subst P (sym h) (does, part)
+watched_failed {A} Does So net (Err f) fault old new h does part =
+    let P : Fault → Type 0 = λ x. Does net (Err x) old new × IfWhole {A = A} (Err x) So in subst P (sym h) (does, part)
+
+pub watched_so : {A : Type 0} (Does : NetlistView → Result A Fault → SinkState → SinkState → Type 0) (Sees : NetlistView → Type 0) (net : NetlistView) (answer : Result A Fault)
+    (old new : SinkState) → Does net answer old new × IfWhole answer (Sees net) → Watched Does Sees net answer old new
+watched_so Does Sees net answer old new h = record { does = h.0; sees = h.1 }

@@ -27,6 +27,7 @@ IfWhole (Err (Differs difference)) So = So
 IfWhole (Err _) So = ⊤
 
 -- The command does this, and where the whole trace went out, a watch has seen this.
-abbrev pub Watched : {A : Type 0} → (Does : NetlistView → Result A Fault → SinkState → SinkState → Type 0) → (Sees : NetlistView → Type 0) → NetlistView → Result A Fault
-    → (old new : SinkState) → Type 0
-Watched Does Sees net answer old new = Does net answer old new × IfWhole answer (Sees net)
+pub record Watched {A : Type 0} (Does : NetlistView → Result A Fault → SinkState → SinkState → Type 0) (Sees : NetlistView → Type 0) (net : NetlistView)
+    (answer : Result A Fault) (old new : SinkState) : Type 0 where
+  pub does : Does net answer old new
+  pub sees : IfWhole answer (Sees net)
