@@ -3,7 +3,7 @@ use Rattle.std.proofs.Common.{◌≡◌, ℕ, Bool, true, false, List, [], ◌�
 use Rattle.std.proofs.lemmas.Bool.Decides.{nat_tests}
 use Rattle.std.specs.Prelude.{◌==◌}
 use Rattle.rtlsim_commands.specs.Served.{Outputs}
-use Rattle.rtlsim_commands.specs.declared.status.Status.{Status}
+use Rattle.rtlsim_faults.specs.declared.status.Status.{Status}
 use Rattle.rtl_sink.specs.Read.{ReaderState}
 use Rattle.rtlsim.specs.Inputs.{Reading}
 use Rattle.rtlsim.specs.Tools.{ServesCall, ServesFirstLine, ServesWords}
