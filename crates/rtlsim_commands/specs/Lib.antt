@@ -3,6 +3,8 @@ pub mod Opened
 pub mod Listed
 pub mod Simulated
 pub mod Machine
+pub mod Watched
+pub mod Expected
 -- what is told of it
 pub mod Told
 pub mod Served

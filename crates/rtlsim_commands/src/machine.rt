@@ -5,6 +5,7 @@ ghost use Rattle.rtl_stim.specs.Ports.{HasOwnPorts};
 ghost use Rattle.rtl_sink.specs.Written.{IsIntact};
 ghost use Rattle.rtlsim_commands.specs.Machine.{RunsMachine, RunsMachineByLevels, EvaluatesMachine};
 ghost use Rattle.rtlsim_commands.specs.Opened.{Opens};
+ghost use Rattle.rtlsim_commands.specs.Watched.{Watched, OfMachine};
 ghost use Rattle.rtlsim_faults.specs.Places.{IsTold};
 
 use rtlsim_faults::Fault;
@@ -15,6 +16,7 @@ use rtl_machine;
 use rtl_net::Net;
 use rtl_run::Summary;
 use rtl_sink::Sink;
+use rtl_watch::Watch;
 use std::alloc::Global;
 use vhdl_source_rules::Front;
 
@@ -67,6 +69,30 @@ pub fn run_net<P: Pick, S: Sink>(
     }
 }
 
+/// Simulates a netlist as `run_net` does, and the watch is told what each moment settles to.
+///
+/// # Errors
+///
+/// As `run`, from `Rejected` on.
+pub fn run_net_watched<P: Pick, V: Watch, S: Sink>(
+    alloc: Global,
+    net: &Net,
+    stimulus: &[u8],
+    pick: &mut P,
+    watch: &mut V,
+    out: &mut S,
+) -> Result<Summary, Fault>
+    requires ports { HasOwnPorts net.now }
+    requires intact { IsIntact (S.state out.old) }
+    ensures { Watched (RunsMachine stimulus.now) (OfMachine stimulus.now (λ stands. V.told watch.old stands watch.new)) net.now result
+        (S.state out.old) (S.state out.new) }
+{
+    match rtl_machine::run_watched(alloc, net, stimulus, pick, watch, out) {
+        Ok(summary) => Ok(summary),
+        Err(fault) => Err(Fault::from(fault)),
+    }
+}
+
 /// Simulates the netlist of a source under a stimulus, where `run` does, and writes the trace that it writes: at each moment the clocked
 /// processes that an input wakes run once, and then the combinational ones in order of level. `source` has the bytes of the file,
 /// `top` the name of an entity in it, in letters of either case, `stimulus` the lines of the stimulus, with times in ns. It answers
@@ -107,6 +133,29 @@ pub fn run_net_levels<S: Sink>(
     ensures { RunsMachineByLevels stimulus.now net.now result (S.state out.old) (S.state out.new) }
 {
     match rtl_levelized::run_levels(alloc, net, stimulus, out) {
+        Ok(summary) => Ok(summary),
+        Err(fault) => Err(Fault::from(fault)),
+    }
+}
+
+/// Simulates a netlist as `run_net_levels` does, and the watch is told what each moment settles to.
+///
+/// # Errors
+///
+/// As `run`, from `Rejected` on.
+pub fn run_net_levels_watched<V: Watch, S: Sink>(
+    alloc: Global,
+    net: &Net,
+    stimulus: &[u8],
+    watch: &mut V,
+    out: &mut S,
+) -> Result<LevelSummary, Fault>
+    requires ports { HasOwnPorts net.now }
+    requires intact { IsIntact (S.state out.old) }
+    ensures { Watched (RunsMachineByLevels stimulus.now) (OfMachine stimulus.now (λ stands. V.told watch.old stands watch.new)) net.now result
+        (S.state out.old) (S.state out.new) }
+{
+    match rtl_levelized::run_levels_watched(alloc, net, stimulus, watch, out) {
         Ok(summary) => Ok(summary),
         Err(fault) => Err(Fault::from(fault)),
     }

@@ -6,6 +6,7 @@ ghost use Rattle.rtl_sink.specs.Written.{IsIntact};
 ghost use Rattle.rtlsim_commands.specs.Opened.{Opens};
 ghost use Rattle.rtlsim_faults.specs.Places.{IsTold};
 ghost use Rattle.rtlsim_commands.specs.Simulated.{RunsEvents, most_deltas};
+ghost use Rattle.rtlsim_commands.specs.Watched.{Watched, OfEvents};
 
 use rtlsim_faults::Fault;
 use rtl_check::stored;
@@ -16,6 +17,7 @@ use rtl_net::Net;
 use rtl_run::{Simulation, Summary};
 use rtl_sink::Sink;
 use rtl_stim::{Stimulus, Wheel};
+use rtl_watch::{Unwatched, Watch};
 use std::alloc::Global;
 use vhdl_source_rules::Front;
 
@@ -67,6 +69,27 @@ pub fn run_events<P: Pick, S: Sink>(
     requires intact { IsIntact (S.state out.old) }
     ensures { RunsEvents stimulus.now net.now result (S.state out.old) (S.state out.new) }
 {
+    run_events_watched(alloc, net, stimulus, pick, &mut Unwatched, out)
+}
+
+/// Simulates a netlist as `run_events` does, and the watch is told what each moment settles to.
+///
+/// # Errors
+///
+/// As `run_event`, from `Rejected` on.
+pub fn run_events_watched<P: Pick, V: Watch, S: Sink>(
+    alloc: Global,
+    net: &Net,
+    stimulus: &[u8],
+    pick: &mut P,
+    watch: &mut V,
+    out: &mut S,
+) -> Result<Summary, Fault>
+    requires ports { HasOwnPorts net.now }
+    requires intact { IsIntact (S.state out.old) }
+    ensures { Watched (RunsEvents stimulus.now) (OfEvents stimulus.now (λ stands. V.told watch.old stands watch.new)) net.now result
+        (S.state out.old) (S.state out.new) }
+{
     let stored = stored(alloc, net)?;
     if !stored.is_empty() {
         return Err(Fault::Rejected(stored));
@@ -82,6 +105,6 @@ pub fn run_events<P: Pick, S: Sink>(
     let Ok(mut agenda) = Wheel::new(alloc, SLOTS) else {
         return Err(Fault::Memory);
     };
-    let summary = simulation.run(alloc, &mut agenda, pick, out)?;
+    let summary = simulation.run_watched(alloc, &mut agenda, pick, watch, out)?;
     Ok(summary)
 }

@@ -2,7 +2,7 @@ use Rattle.std.proofs.Common.{refl}
 use Rattle.rtlsim_commands.specs.Machine.{RunsMachineByLevels}
 use Rattle.rtlsim_commands.specs.Told as told
 use Rattle.rtlsim_commands.proofs.Told.{serves_refused}
-use Rattle.rtlsim_commands.proofs.serving.serve_run_levels.Goals as goal
+use Rattle.rtlsim_commands.proofs.simulating.serve_run_levels.Goals as goal
 
 pub returns-in-Err : goal.returns-in-Err
 returns-in-Err g c =

@@ -1,0 +1,37 @@
+//! Two watches at once.
+
+ghost use Rattle.std.specs.Prelude.{◌≡◌};
+ghost use Rattle.std.proofs.Common.{refl};
+ghost use Rattle.rtl_expect.specs.Watching.{IsToldOf, fresh_has_seen};
+
+use rtl_expect::Expectations;
+use rtl_watch::Watch;
+
+/// Compares with what is expected, and lets another watch look on.
+pub(crate) struct Both<'a, V: Watch> {
+    pub(crate) expected: Expectations,
+    pub(crate) other: &'a mut V,
+}
+
+impl<'a, V: Watch> Both<'a, V> {
+    /// Nothing has been told yet.
+    pub(crate) fn new(expected: Expectations, other: &'a mut V) -> Both<'a, V>
+        ensures same_reference { result.other.ghost_name ≡ other.entry.ghost_name }
+        ensures other { result.other.now ≡ other.old }
+        ensures expected { result.expected ≡ expected }
+    {
+        Both { expected, other }
+    }
+}
+
+impl<V: Watch> Watch for Both<'_, V> {
+    ghost told = { λ start stands now. (now.other.ghost_name ≡ start.other.ghost_name)
+        × IsToldOf start.expected stands now.expected × V.told start.other.now stands now.other.now };
+
+    fn stood(&mut self, values: &[u8], until: u64) {
+        self.expected.stood(values, until);
+        self.other.stood(values, until);
+    }
+
+    ghost nothing = { λ watch. (refl, fresh_has_seen watch.expected, V.nothing watch.other.now) };
+}

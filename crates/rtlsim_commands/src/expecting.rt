@@ -1,0 +1,111 @@
+//! Simulations that are compared with what is expected of them.
+
+ghost use Rattle.std.specs.Prelude.{◌≡◌};
+ghost use Rattle.rtl_stim.specs.Ports.{HasOwnPorts};
+ghost use Rattle.rtl_sink.specs.Written.{IsIntact};
+ghost use Rattle.rtlsim_commands.specs.Expected as spec;
+ghost use Rattle.rtlsim_commands.specs.Expected.{RunsMachineExpecting, RunsMachineByLevelsExpecting, RunsEventsExpecting};
+ghost use Rattle.rtlsim_commands.specs.Watched.{Watched, OfMachine, OfEvents};
+
+use crate::both::Both;
+use crate::machine::{run_net_levels_watched, run_net_watched};
+use crate::running::run_events_watched;
+use rtl_expect::{Difference, Expectations};
+use rtl_kernel::Pick;
+use rtl_levelized::LevelSummary;
+use rtl_net::Net;
+use rtl_run::Summary;
+use rtl_sink::Sink;
+use rtl_watch::Watch;
+use rtlsim_faults::Fault;
+use std::alloc::Global;
+
+/// Simulates a netlist as `run_net` does, and compares with what the lines of `expected` say. It takes memory for each of them.
+///
+/// # Errors
+///
+/// - `Expect`: the first bad line of `expected`, before anything is simulated.
+/// - `Differs`: the first value that isn't the expected one, once the whole trace was written.
+/// - Else as `run_net`.
+pub fn run_net_expecting<P: Pick, V: Watch, S: Sink>(
+    alloc: Global,
+    net: &Net,
+    stimulus: &[u8],
+    expected: &[u8],
+    pick: &mut P,
+    watch: &mut V,
+    out: &mut S,
+) -> Result<Summary, Fault>
+    requires ports { HasOwnPorts net.now }
+    requires intact { IsIntact (S.state out.old) }
+    ensures { Watched (RunsMachineExpecting stimulus.now expected.now) (OfMachine stimulus.now (λ stands. V.told watch.old stands watch.new)) net.now result
+        (S.state out.old) (S.state out.new) }
+{
+    let expected = Expectations::read(alloc, net, expected)?;
+    let mut both = Both::new(expected, watch);
+    let summary = run_net_watched(alloc, net, stimulus, pick, &mut both, out)?;
+    unless_differs(summary, both.expected.difference())
+}
+
+/// Simulates a netlist as `run_net_levels` does, and compares with what the lines of `expected` say. It takes memory for each of them.
+///
+/// # Errors
+///
+/// - `Expect`: the first bad line of `expected`, before anything is simulated.
+/// - `Differs`: the first value that isn't the expected one, once the whole trace was written.
+/// - Else as `run_net_levels`.
+pub fn run_net_levels_expecting<V: Watch, S: Sink>(
+    alloc: Global,
+    net: &Net,
+    stimulus: &[u8],
+    expected: &[u8],
+    watch: &mut V,
+    out: &mut S,
+) -> Result<LevelSummary, Fault>
+    requires ports { HasOwnPorts net.now }
+    requires intact { IsIntact (S.state out.old) }
+    ensures { Watched (RunsMachineByLevelsExpecting stimulus.now expected.now) (OfMachine stimulus.now (λ stands. V.told watch.old stands watch.new)) net.now result
+        (S.state out.old) (S.state out.new) }
+{
+    let expected = Expectations::read(alloc, net, expected)?;
+    let mut both = Both::new(expected, watch);
+    let summary = run_net_levels_watched(alloc, net, stimulus, &mut both, out)?;
+    unless_differs(summary, both.expected.difference())
+}
+
+/// Simulates a netlist as `run_events` does, and compares with what the lines of `expected` say. It takes memory for each of them.
+///
+/// # Errors
+///
+/// - `Expect`: the first bad line of `expected`, before anything is simulated.
+/// - `Differs`: the first value that isn't the expected one, once the whole trace was written.
+/// - Else as `run_events`.
+pub fn run_events_expecting<P: Pick, V: Watch, S: Sink>(
+    alloc: Global,
+    net: &Net,
+    stimulus: &[u8],
+    expected: &[u8],
+    pick: &mut P,
+    watch: &mut V,
+    out: &mut S,
+) -> Result<Summary, Fault>
+    requires ports { HasOwnPorts net.now }
+    requires intact { IsIntact (S.state out.old) }
+    ensures { Watched (RunsEventsExpecting stimulus.now expected.now) (OfEvents stimulus.now (λ stands. V.told watch.old stands watch.new)) net.now result
+        (S.state out.old) (S.state out.new) }
+{
+    let expected = Expectations::read(alloc, net, expected)?;
+    let mut both = Both::new(expected, watch);
+    let summary = run_events_watched(alloc, net, stimulus, pick, &mut both, out)?;
+    unless_differs(summary, both.expected.difference())
+}
+
+/// The answer of a run, unless a value isn't the expected one.
+fn unless_differs<A: Drop>(answer: A, difference: Option<Difference>) -> Result<A, Fault>
+    ensures { result ≡ spec.unless_differs answer difference }
+{
+    match difference {
+        None => Ok(answer),
+        Some(difference) => Err(Fault::Differs(difference)),
+    }
+}
