@@ -1,5 +1,5 @@
 -- The sinks of a call: the output, the errors, and what shows how far a run is.
-use Rattle.std.specs.Prelude.{◌≡◌, ℕ, Bool, true, false, ⊤, List, [], ◌++◌}
+use Rattle.std.specs.Prelude.{◌≡◌, ℕ, Bool, true, false, ⊤, List}
 use Rattle.rtl_progress.specs.Shown.{whole_text}
 use Rattle.rtl_progress.specs.Stops.{stop_of}
 use Rattle.rtl_sink.specs.Written.{SinkState, Goes}

@@ -34,7 +34,15 @@ pub(crate) fn serve_arguments<
         (record { out = O.state out.old; out_after = O.state out.new; err = E.state err.old; err_after = E.state err.new; progress = G.state progress.old; progress_after = G.state progress.new }) }
 {
     match words_of(rt) {
-        Ok(words) => serve_words::<F, _, _, _, _, _>(rt.alloc(), rt, &words, reader, out, err, progress),
+        Ok(words) => serve_words::<F, _, _, _, _, _>(
+            rt.alloc(),
+            rt,
+            &words,
+            reader,
+            out,
+            err,
+            progress,
+        ),
         Err(refused) => refuse_words(&refused, out, err),
     }
 }

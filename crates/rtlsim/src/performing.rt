@@ -1,10 +1,10 @@
 //! What is done for a call once its files are read.
 
-ghost use Rattle.std.specs.Prelude.{◌≡◌, ◌⊎◌, map, option_map, unwrap_or};
+ghost use Rattle.std.specs.Prelude.{◌≡◌, ◌⊎◌, false, map, option_map, unwrap_or};
 ghost use Rattle.rtl_sink.specs.Written.{IsIntact};
 ghost use Rattle.rtlsim.specs.Requests as requests;
 ghost use Rattle.rtlsim.specs.Served.{ServesBy, ServesTexts};
-ghost use Rattle.rtlsim.specs.Sinks.{Sinks, IsSilent, ShowsIf, outputs};
+ghost use Rattle.rtlsim.specs.Sinks.{Sinks, ShowsIf, outputs};
 ghost use Rattle.rtlsim.specs.Texts.{texts_view};
 ghost use Rattle.rtlsim.specs.Tools.{Silently, TellsInput};
 ghost use Rattle.rtlsim.specs.declared.inputs.InputFault.TheVariants.{NoMemory};
@@ -59,7 +59,15 @@ pub(crate) fn perform_texts<'b, F: Front, O: Sink, E: Sink, G: Sink>(
         stimulus,
         expected: texts.expected(),
     };
-    perform_shown::<F, _, _, _>(alloc, request, &job, call.extras.shows_progress, out, err, progress)
+    perform_shown::<F, _, _, _>(
+        alloc,
+        request,
+        &job,
+        call.extras.shows_progress,
+        out,
+        err,
+        progress,
+    )
 }
 
 /// The name of the stimulus, or what stands for it.

@@ -35,8 +35,13 @@ pub fn tool<F: Front, R: Reader, O: Sink, E: Sink, G: Sink>(
         (record { out = O.state out.old; out_after = O.state out.new; err = E.state err.old; err_after = E.state err.new; progress = G.state progress.old; progress_after = G.state progress.new }) }
 {
     if words.is_empty() {
-        return serve_reader_line::<F, _, _, _, _>(alloc, &mut input.reader, out, err, progress)
-            .code();
+        return serve_reader_line::<F, _, _, _, _>(
+            alloc,
+            &mut input.reader,
+            out,
+            err,
+            progress,
+        ).code();
     }
     tool_with::<F, _, _, _, _>(alloc, words, input, out, err, progress).code()
 }
