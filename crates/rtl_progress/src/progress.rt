@@ -35,7 +35,11 @@ impl<'a, G: Sink> Progress<'a, G> {
     pub fn end(self)
         ensures { Goes (G.state self.entry.sink.now) (G.state self.exit.0.now) (text_of_end self.entry.shown) }
     {
-        let Progress { sink, shown, .. } = self;
+        let Progress {
+            sink,
+            stop: _stop,
+            shown,
+        } = self;
         if shown > 0 {
             push_text(sink, b"\n");
         }
