@@ -1,3 +1,4 @@
+mod Naming
 mod Order
 mod Seeing
 mod Parts

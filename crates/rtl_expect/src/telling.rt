@@ -1,6 +1,6 @@
 //! The line that tells what differs.
 
-ghost use Rattle.std.specs.Prelude.{◌≡◌, ◌<◌, length, map, slice_get, slice_index};
+ghost use Rattle.std.specs.Prelude.{◌≡◌, ◌<◌, ◌≤◌, length, map, slice_get, slice_index};
 ghost use Rattle.vhdl_values.specs.Scalar.{letter_of, value_of_code};
 ghost use Rattle.rtl_sink.specs.Written.{Goes};
 ghost use Rattle.rtl_net.specs.Nets.{scope_view, signal_view};
@@ -98,8 +98,9 @@ fn position(found: &[u8]) -> u64
 }
 
 /// The letters of the values with these codes.
-fn letters(found: &Codes) -> Codes
-    ensures { result.items ≡ spec.letters_of found.now.items }
+fn letters(found: &[u8]) -> Codes
+    requires few { length found.now ≤ 64 }
+    ensures { result.items ≡ spec.letters_of found.now }
 {
     let mut letters = Codes::new();
     for code in found {

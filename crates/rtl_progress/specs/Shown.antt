@@ -27,6 +27,14 @@ abbrev pub shown_text : (stop shown : ℕ) → List Stand → List ℕ
 shown_text stop shown [] = []
 shown_text stop shown (x ∷ xs) = text_of_more shown (hundredths stop x.until) ++ shown_text stop (max shown (hundredths stop x.until)) xs
 
+-- the line in which something was shown is ended
+abbrev pub text_of_end : (shown : ℕ) → List ℕ
+text_of_end shown = if nat_lt 0 shown then codes "\n" else []
+
+-- what is shown of a simulation in which these stood, from its beginning to its end
+abbrev pub whole_text : (stop : ℕ) → List Stand → List ℕ
+whole_text stop stands = shown_text stop 0 stands ++ text_of_end (shown_after stop 0 stands)
+
 -- that went to the sink, and is noted as shown
 pub record HasShown (stop shown : ℕ) (old : SinkState) (stands : List Stand) (new_stop new_shown : ℕ) (new : SinkState) : Type 0 where
   pub same_stop : new_stop ≡ stop

@@ -3,7 +3,7 @@
 ghost use Rattle.std.specs.Prelude.{◌≡◌};
 ghost use Rattle.std.proofs.Common.{refl};
 ghost use Rattle.rtl_sink.specs.Written.{Goes};
-ghost use Rattle.rtl_progress.specs.Shown.{hundredths, text_of_hundredths, HasShown, nothing_shown};
+ghost use Rattle.rtl_progress.specs.Shown.{hundredths, text_of_hundredths, text_of_end, HasShown, nothing_shown};
 
 use rtl_sink::{Sink, push_number, push_text};
 use rtl_watch::Watch;
@@ -28,6 +28,20 @@ impl<'a, G: Sink> Progress<'a, G> {
             sink,
             stop,
             shown: 0,
+        }
+    }
+
+    /// Ends the line in which something was shown, if something was.
+    pub fn end(self)
+        ensures { Goes (G.state self.entry.sink.now) (G.state self.exit.0.now) (text_of_end self.entry.shown) }
+    {
+        let Progress {
+            sink,
+            stop: _stop,
+            shown,
+        } = self;
+        if shown > 0 {
+            push_text(sink, b"\n");
         }
     }
 }

@@ -10,4 +10,6 @@ mod ranges;
 mod rejected;
 mod rejection;
 
+pub use placing::{at_process, place_of, place_text};
+pub use ranges::{follows, push_range};
 pub use rejection::explain_rejection;

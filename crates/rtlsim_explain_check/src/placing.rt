@@ -17,10 +17,17 @@ use rtlsim_files::{FilePlace, SourceFile, place_in, source_name};
 use std::alloc::Global;
 
 /// The byte of the source at which the first process of a fault is declared, if it has one.
-pub(crate) fn place_of(net: &Net, fault: &CheckFault) -> Option<usize>
+pub fn place_of(net: &Net, fault: &CheckFault) -> Option<usize>
     ensures { result ≡ spec.place_of net.now (fault_view fault.now) }
 {
-    declared_at(net, first_process(fault)?)
+    at_process(net, first_process(fault))
+}
+
+/// The byte of the source at which a process is declared, where one is named that is there.
+pub fn at_process(net: &Net, process: Option<usize>) -> Option<usize>
+    ensures { result ≡ spec.at_process net.now process }
+{
+    declared_at(net, process?)
 }
 
 /// The byte of the source at which a process is declared.
@@ -70,8 +77,8 @@ fn process_of(source: Source) -> Option<usize>
     }
 }
 
-/// A place as editors read it; the source's name where there is none. It takes memory for the text.
-pub(crate) fn place_text(
+/// A place as editors read it, `FILE:LINE:COLUMN: `; the source's name, `FILE: `, where there is none. It takes memory for the text.
+pub fn place_text(
     alloc: Global,
     files: &[SourceFile<'_>],
     place: Option<usize>,

@@ -66,7 +66,7 @@ fn are_beside(first: Option<u32>, second: Option<u32>) -> bool
 }
 
 /// Whether the second name is that of the element beside the first.
-pub(crate) fn follows(first: &[u8], second: &[u8]) -> bool
+pub fn follows(first: &[u8], second: &[u8]) -> bool
     ensures { result ≡ spec.follows first.now second.now }
 {
     let both_end = ends_index(first) && ends_index(second);
@@ -95,8 +95,8 @@ fn direction(first: &[u8], last: &[u8]) -> &'static [u8]
     }
 }
 
-/// Appends the range from the first name to the last, or the one name.
-pub(crate) fn push_range(first: &[u8], last: &[u8], text: &mut Vec<u8>) -> Result<(), NoMemory>
+/// Appends the range from the first name to the last, as `alu.b(7 downto 0)`, or the one name. It takes memory where the text grows.
+pub fn push_range(first: &[u8], last: &[u8], text: &mut Vec<u8>) -> Result<(), NoMemory>
     ensures { OnOk result (text.new.items ≡ text.old.items ++ spec.range_text first.now last.now) }
 {
     if first == last {

@@ -1,74 +1,16 @@
 //! Where a fault is told.
 
-ghost use Rattle.std.specs.Prelude.{◌≡◌, ◌++◌, map, slice_get, IfOk, OnOk};
-ghost use Rattle.rtl_check.specs.Views.{fault_view};
-ghost use Rattle.rtl_model.specs.simulation.Accepted.{Loop};
-ghost use Rattle.rtl_net.specs.Nets.{source_view};
+ghost use Rattle.std.specs.Prelude.{◌≡◌, ◌++◌, map, IfOk, OnOk};
 ghost use Rattle.rtlsim_explain.specs.Places.{position_behind};
 ghost use Rattle.rtlsim_explain_check.specs.Placed as placed;
 ghost use Rattle.rtlsim_files.specs.Files.{file_view, spot_view};
 ghost use Rattle.rtlsim_json.specs.Json as spec;
 
 use crate::values::{push_number, push_string};
-use rtl_check::CheckFault;
-use rtl_net::{Net, NoMemory, Source};
+use rtl_net::NoMemory;
 use rtlsim_explain::{Place, Position, position_behind};
 use rtlsim_files::{FilePlace, SourceFile, place_in};
 use std::alloc::Global;
-
-/// The byte of the source at which the first process of a fault is declared, if it has one.
-pub(crate) fn place_of(net: &Net, fault: &CheckFault) -> Option<usize>
-    ensures { result ≡ placed.place_of net.now (fault_view fault.now) }
-{
-    declared_at(net, first_process(fault)?)
-}
-
-/// The byte of the source at which a process is declared.
-fn declared_at(net: &Net, process: usize) -> Option<usize>
-    ensures { result ≡ placed.declared_at (slice_get net.now.processes process) }
-{
-    match net.processes().get(process) {
-        Some(process) => Some(process.at as usize),
-        None => None,
-    }
-}
-
-/// The first process that a fault is told of.
-fn first_process(fault: &CheckFault) -> Option<usize>
-    ensures { result ≡ placed.first_process (fault_view fault.now) }
-{
-    match fault {
-        CheckFault::TwoDrivers { first, .. } => process_of(*first),
-        CheckFault::Mixed { process }
-        | CheckFault::ClockNotInput { process, .. }
-        | CheckFault::EdgeNotSensitive { process, .. }
-        | CheckFault::ClockAsData { process, .. }
-        | CheckFault::MissingSensitivity { process, .. }
-        | CheckFault::Latch { process, .. }
-        | CheckFault::StoredVariable { process, .. } => Some(*process),
-        CheckFault::Loop { processes } => first_of(processes),
-    }
-}
-
-/// The first of a loop's processes.
-fn first_of(processes: &[usize]) -> Option<usize>
-    ensures { result ≡ placed.first_process (Loop processes.now) }
-{
-    match processes {
-        [process, ..] => Some(*process),
-        [] => None,
-    }
-}
-
-/// The process of a driver; an idle port has none.
-fn process_of(source: Source) -> Option<usize>
-    ensures { result ≡ placed.process_of (source_view source) }
-{
-    match source {
-        Source::Driven { process, .. } => Some(process),
-        Source::Idle { .. } => None,
-    }
-}
 
 /// A place and its text.
 #[derive(Drop)]

@@ -10,11 +10,12 @@ ghost use Rattle.rtlsim_listing.specs.CheckText as listing;
 ghost use Rattle.rtlsim_listing.specs.Printing.{IsListed};
 
 use crate::naming::{push_culprits, push_subject, title};
-use crate::placing::{PlaceText, next_text_at, place_of, text_at};
+use crate::placing::{PlaceText, next_text_at, text_at};
 use crate::values::push_number;
 use rtl_check::{CheckFault, Report, Verdict};
 use rtl_net::{Net, NoMemory};
 use rtl_sink::{Sink, finish, push_text};
+use rtlsim_explain_check::place_of;
 use rtlsim_files::SourceFile;
 use rtlsim_listing::ListingFault;
 use std::alloc::Global;

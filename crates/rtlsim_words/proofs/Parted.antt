@@ -54,7 +54,7 @@ or_true false = refl
 
 explained : (before p : Parts) (b : Bool) → before.explains ≡ false → p.explains ≡ b
     → after before (explains_once (Some p)) ≡ after (record before { explains = true }) (Some p)
-explained before p true none there = simp (none, there) refl
+explained before p true none there = simp there refl
 explained before p false none there = simp (none, there) refl
 
 pub explains_first : (before : Parts) (p : Option Parts) → before.explains ≡ false
@@ -63,7 +63,7 @@ explains_first before None none = refl
 explains_first before (Some p) none = explained before p p.explains none refl
 
 explained_twice : (before p : Parts) (b : Bool) → before.explains ≡ true → p.explains ≡ b → after before (explains_once (Some p)) ≡ None
-explained_twice before p true one there = simp (one, there) refl
+explained_twice before p true one there = simp there refl
 explained_twice before p false one there = simp (one, there) refl
 
 pub explains_twice : (before : Parts) (p : Option Parts) → before.explains ≡ true → after before (explains_once p) ≡ None
@@ -72,7 +72,7 @@ explains_twice before (Some p) one = explained_twice before p p.explains one ref
 
 progressed : (before p : Parts) (b : Bool) → before.shows_progress ≡ false → p.shows_progress ≡ b
     → after before (progresses_once (Some p)) ≡ after (record before { shows_progress = true }) (Some p)
-progressed before p true none there = simp (none, there, or_true) refl
+progressed before p true none there = simp (there, or_true) refl
 progressed before p false none there = simp (none, there) refl
 
 pub progresses_first : (before : Parts) (p : Option Parts) → before.shows_progress ≡ false
@@ -81,7 +81,7 @@ progresses_first before None none = refl
 progresses_first before (Some p) none = progressed before p p.shows_progress none refl
 
 progressed_twice : (before p : Parts) (b : Bool) → before.shows_progress ≡ true → p.shows_progress ≡ b → after before (progresses_once (Some p)) ≡ None
-progressed_twice before p true one there = simp (one, there) refl
+progressed_twice before p true one there = simp there refl
 progressed_twice before p false one there = simp (one, there, or_true) refl
 
 pub progresses_twice : (before : Parts) (p : Option Parts) → before.shows_progress ≡ true → after before (progresses_once p) ≡ None
@@ -90,7 +90,7 @@ progresses_twice before (Some p) one = progressed_twice before p p.shows_progres
 
 expected_first : (before p : Parts) (name : Word) (o : Option Word) → before.expected ≡ None → p.expected ≡ o
     → after before (expects_once name (Some p)) ≡ after (record before { expected = Some name }) (Some p)
-expected_first before p name (Some other) none there = simp (none, there, or_true) refl
+expected_first before p name (Some other) none there = simp (there, or_true) refl
 expected_first before p name None none there = simp (none, there) refl
 
 pub expects_first : (before : Parts) (name : Word) (p : Option Parts) → before.expected ≡ None
@@ -100,7 +100,7 @@ expects_first before name (Some p) none = expected_first before p name p.expecte
 
 expected_twice : (before p : Parts) (name : Word) (o : Option Word) → is_some before.expected ≡ true → p.expected ≡ o
     → after before (expects_once name (Some p)) ≡ None
-expected_twice before p name (Some other) one there = simp (one, there) refl
+expected_twice before p name (Some other) one there = simp there refl
 expected_twice before p name None one there = simp (one, there, or_true) refl
 
 pub expects_twice : (before : Parts) (name : Word) (p : Option Parts) → is_some before.expected ≡ true → after before (expects_once name p) ≡ None

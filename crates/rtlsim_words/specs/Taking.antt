@@ -1,5 +1,5 @@
 -- How these options are taken out of words from the left. `Extras` says what they are; whoever calls this crate needs no more.
-use Rattle.std.specs.Prelude.{Bool, ◌&&◌, ◌||◌, if◌then◌else◌, List, ◌++◌, Option, Some, None, is_some, option_map, map}
+use Rattle.std.specs.Prelude.{Bool, ◌&&◌, ◌||◌, if◌then◌else◌, ◌++◌, Option, Some, None, is_some, map}
 use Rattle.std.specs.Option.{option_or}
 use Rattle.rtlsim_words.specs.Extras.{Parts, with_of, expected_of}
 use Rattle.rtlsim_words.specs.declared.extras.Taken.{Taken}

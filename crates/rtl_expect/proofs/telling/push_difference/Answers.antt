@@ -1,0 +1,8 @@
+use Rattle.rtl_sink.proofs.Writing.{Goes-append}
+use Rattle.rtl_expect.proofs.telling.push_difference.Goals as goal
+
+pub returns : goal.returns
+returns g c =
+    Goes-append _ _ _ _ _
+    (Goes-append _ _ _ _ _ (Goes-append _ _ _ _ _ (Goes-append _ _ _ _ _ c.push_text.ensures c.push_differing.ensures) c.push_text-2.ensures) c.push_number.ensures)
+    c.push_text-3.ensures

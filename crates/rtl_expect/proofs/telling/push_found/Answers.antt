@@ -1,0 +1,30 @@
+use Rattle.std.proofs.Common.{◌≡◌, ◌<◌, List, length, Option, Some, sym, ap, subst, arith}
+use Rattle.std.specs.Prelude.{slice_get}
+use Rattle.std.proofs.lemmas.Bool.Decides.{nat_tests}
+use Rattle.std.proofs.lemmas.List.{length-map}
+use Rattle.rtl_sink.specs.Written.{Goes}
+use Rattle.rtl_sink.proofs.Writing.{Goes-append}
+use Rattle.rtl_net.specs.Nets.{ScopeView, SignalView, scope_view, signal_view}
+use Rattle.rtl_expect.specs.Names.{full_name}
+use Rattle.rtl_expect.specs.Telling.{of_signal_found}
+use Rattle.rtl_expect.proofs.Naming.{signal_at, scope_there}
+use Rattle.rtl_expect.proofs.telling.push_found.Goals as goal
+
+pub push_name-requires-clause-there : goal.push_name-requires-clause-there
+push_name-requires-clause-there g c =
+    let lookup = c.in-Some.ensures.lookup in
+    let there : c.args.number < length c.signals.result.now = let is = lookup.0 in grind (arith, nat_tests, is) in
+    let within = scope_there c.args.net.now c.nets-count.ensures.elaborated c.signals.result.now c.signals.ensures c.args.number c.in-Some.signal.now _ there lookup.1 in
+    omega (arith, within, ap length c.scopes.ensures, length-map c.scopes.result.now scope_view)
+
+pub returns : goal.returns
+returns g c =
+    let state = g.S.Sink.state in
+    let lookup = c.in-Some.ensures.lookup in
+    let there : c.args.number < length c.signals.result.now = let is = lookup.0 in grind (arith, nat_tests, is) in
+    let signal : slice_get c.args.net.now.signals c.args.number ≡ Some (signal_view c.in-Some.signal.now) =
+    signal_at c.args.net.now c.signals.result.now c.signals.ensures c.args.number c.in-Some.signal.now _ there lookup.1 in
+    let name = subst (λ (scopes : List ScopeView). Goes (state c.push_text.new.sink) (state c.push_name.new.sink) (full_name scopes (signal_view c.in-Some.signal.now)))
+    c.scopes.ensures c.push_name.ensures in
+    subst (λ (found : Option SignalView). Goes (state c.args.sink.now) (state c.push_value.new.sink) (of_signal_found c.args.net.now c.args.time found c.args.found.now.items)) (sym signal)
+    (Goes-append _ _ _ _ _ (Goes-append _ _ _ _ _ (Goes-append _ _ _ _ _ (Goes-append _ _ _ _ _ c.push_number.ensures c.push_text.ensures) name) c.push_text-2.ensures) c.push_value.ensures)

@@ -1,0 +1,10 @@
+use Rattle.std.proofs.Common.{List, ℕ, subst}
+use Rattle.rtl_sink.specs.Written.{Goes}
+use Rattle.rtl_sink.proofs.Writing.{Goes-append}
+use Rattle.rtl_expect.proofs.telling.push_name.Goals as goal
+
+pub returns : goal.returns
+returns g c =
+    let state = g.S.Sink.state in
+    let name = subst (λ (text : List ℕ). Goes (state c.push_labels.new.sink) (state c.push_text.new.sink) text) c.deref.ensures.value c.push_text.ensures in
+    Goes-append _ _ _ _ _ c.push_labels.ensures name

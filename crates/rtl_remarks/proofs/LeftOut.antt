@@ -1,0 +1,76 @@
+-- The nets that a reset leaves out, as a list.
+use Rattle.std.proofs.Common.{◌≡◌, ℕ, suc, ◌<◌, Bool, true, false, not, ◌==◌, ◌&&◌, List, [], ◌∷◌, length, get_or, map, refl, sym, ap, ◌∙◌, subst, arith, Option, Some, None, Result, Ok, Err}
+use Rattle.std.specs.Prelude.{All, ◌||◌, IfOk}
+use Rattle.std.specs.List.{filter}
+use Rattle.std.proofs.lemmas.Bool.{and_parts, eqb-true}
+use Rattle.std.proofs.lemmas.List.{length-map}
+use Rattle.std.proofs.lemmas.Option.{slice_get_within}
+use Rattle.std.proofs.lemmas.List.Kept.{IsStrictlyIncreasing-filter}
+use Rattle.std.specs.List.Sorted.{IsStrictlyIncreasing}
+use Rattle.rtl_model.specs.bodies.Assigns.{must_assign}
+use Rattle.rtl_model.specs.bodies.Body.{Stmts}
+use Rattle.rtl_model.specs.bodies.Kinds.{clocking}
+use Rattle.rtl_model.specs.bodies.Types.{ElementType, HasType}
+use Rattle.rtl_model.specs.nets.FlatNetlist.{FlatProcess, DriverInRange, ProcessInRange}
+use Rattle.rtl_model.proofs.basics.Lists.{get_or-map_within}
+use Rattle.rtl_net.specs.declared.body.Statement.{Statement}
+use Rattle.rtl_net.specs.declared.process.Driver.{Driver}
+use Rattle.rtl_net.specs.declared.process.Process.{Process}
+use Rattle.rtl_net.specs.Bodies.{statements_of}
+use Rattle.rtl_net.specs.Nets.{NetlistView, body_of, driver_view, process_view}
+use Rattle.rtl_net.specs.Elaborated.{IsNet}
+use Rattle.rtl_net_facts.specs.Paths.{driven, to_net}
+use Rattle.rtl_net_facts.specs.Reading.{is_in}
+use Rattle.rtl_net_facts.proofs.EveryPath.{in_filter}
+use Rattle.rtl_remarks.specs.declared.remark.Remark.{Remark}
+use Rattle.rtl_remarks.specs.declared.remark.Remark.TheVariants.{NotReset}
+use Rattle.rtl_remarks.specs.Remarks.{leaves_out, reset_branch, not_reset}
+use Rattle.rtl_remarks.specs.Tables.{AreThose}
+use Rattle.rtl_remarks.proofs.Rising.{those_are}
+
+pub if_ok : {T E : Type 0} (P Q : T → Type 0) (r : Result T E) → ((v : T) → P v → Q v) → IfOk r P → IfOk r Q
+if_ok P Q (Ok v) on h = on v h
+if_ok P Q (Err e) on h = h
+
+-- what of the driven nets isn't assigned by the branch
+pub left_are : (p : Process) (o : Option Stmts) (branch : List Statement) (v t a targets assigned : List ℕ) (ds es : List Driver) → v ≡ filter (λ n. not (is_in n a)) t → t ≡ targets → a ≡ assigned
+    → AreThose (λ n. is_in n (driven ds)) targets → ((n : ℕ) → is_in n assigned ≡ must_assign (to_net es n) (statements_of branch)) → ds ≡ p.drives.items → es ≡ p.drives.items
+    → Some (statements_of branch) ≡ o → AreThose (leaves_out p o) v
+left_are p o branch v t a targets assigned ds es is et ea those are ed ee eo = record {
+  rise = subst IsStrictlyIncreasing (sym (is ∙ ap (filter (λ n. not (is_in n a))) et)) (IsStrictlyIncreasing-filter (λ n. not (is_in n a)) targets those.rise);
+  are = λ n.
+      ap (is_in n) is ∙ in_filter (λ m. not (is_in m a)) t n
+      ∙ ap (λ b. b && not (is_in n a)) (ap (is_in n) et ∙ those.are n ∙ ap (λ xs. is_in n (driven xs)) ed)
+      ∙ ap (λ b. is_in n (driven p.drives.items) && not b) (ap (is_in n) ea ∙ are n ∙ ap (λ xs. must_assign (to_net xs n) (statements_of branch)) ee)
+      ∙ ap (λ x. leaves_out p x n) eo;
+}
+
+-- ---- they are nets that are there
+
+driven_there : (types : List ElementType) (ds : List Driver) → All (DriverInRange types) (map driver_view ds) → (n : ℕ) → is_in n (driven ds) ≡ true → n < length types
+driven_there types [] all n t = absurd cc
+driven_there types (d ∷ ds) all n t = by (d.net == n) refl t (driven_there types ds (λ k x l. all (suc k) x (omega (arith, l))) n)
+  where
+    by : (b : Bool) → (d.net == n) ≡ b → (b || is_in n (driven ds)) ≡ true → (is_in n (driven ds) ≡ true → n < length types) → n < length types
+    by true e t later =
+        let (ty, has, low) = all 0 (driver_view d) (omega arith) in
+        subst (λ m. m < length types) (eqb-true d.net n e) (slice_get_within types d.net ty has)
+    by false e t later = later t
+
+module _ (net : NetlistView) (elaborated : IsNet net) (number : ℕ) (p : Process) (there : number < length net.processes) (at : p ≡ get_or net.processes number p) where
+  in_range : ProcessInRange net.types (process_view p)
+  in_range =
+      let same : get_or (map process_view net.processes) number (process_view p) ≡ process_view p = get_or-map_within process_view net.processes number p (process_view p) there ∙ ap process_view (sym at) in
+      let h : ProcessInRange net.types (get_or (map process_view net.processes) number (process_view p)) = elaborated.in_range.processes number (process_view p) (rw (length-map net.processes process_view) there) in
+      subst (ProcessInRange net.types) same h
+
+  below : (o : Option Stmts) (n : ℕ) → leaves_out p o n ≡ true → n < length net.types
+  below None n t = absurd cc
+  below (Some branch) n t =
+      let (a, b) = and_parts (is_in n (driven p.drives.items)) (not (must_assign (to_net p.drives.items n) branch)) t in
+      driven_there net.types p.drives.items in_range.drivers n a
+
+  pub left_remarks : (left : List ℕ) → AreThose (leaves_out p (reset_branch (clocking net.inputs (body_of p)))) left → map (λ n. NotReset number n) left ≡ not_reset net number p
+  left_remarks left those =
+      let o = reset_branch (clocking net.inputs (body_of p)) in
+      ap (map (λ n. NotReset number n)) (those_are (leaves_out p o) left (length net.types) those (below o))

@@ -1,0 +1,4 @@
+mod LeftOut
+mod Listed
+mod ResetBranches
+mod Rising

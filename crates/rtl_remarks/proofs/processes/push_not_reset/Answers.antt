@@ -1,0 +1,24 @@
+use Rattle.std.proofs.Common.{◌≡◌, ℕ, ◌<◌, ◌++◌, List, length, get_or, map, ap, subst, ◌∙◌}
+use Rattle.rtl_model.specs.bodies.Kinds.{clocking}
+use Rattle.rtl_net.specs.declared.process.Process.{Process}
+use Rattle.rtl_net.specs.Nets.{body_of}
+use Rattle.rtl_remarks.specs.declared.remark.Remark.TheVariants.{NotReset}
+use Rattle.rtl_remarks.specs.Remarks.{not_reset, leaves_out, reset_branch}
+use Rattle.rtl_remarks.specs.Tables.{AreThose}
+use Rattle.rtl_remarks.proofs.LeftOut.{left_remarks}
+use Rattle.rtl_remarks.proofs.Listed.{next_process}
+use Rattle.rtl_remarks.proofs.processes.push_not_reset.Goals as goal
+
+pub loop-number-preserved : goal.loop-number-preserved
+loop-number-preserved c =
+    let net = c.args.net.now in
+    let i = c.loop-number.number in
+    let p = c.index-processes-number.result in
+    let l : i < length net.processes = subst (λ (ps : List Process). i < length ps) c.processes-processes.ensures c.loop-number-test.true in
+    let at : p ≡ get_or net.processes i p = c.index-processes-number.is ∙ ap (λ (ps : List Process). get_or ps i p) c.processes-processes.ensures in
+    let left = c.in_ok-left.left.items in
+    let those : AreThose (leaves_out p (reset_branch (clocking net.inputs (body_of p)))) left =
+    subst (λ (ins : List ℕ). AreThose (leaves_out p (reset_branch (clocking ins (body_of p)))) left) c.inputs-inputs.ensures c.in_ok-left.ensures in
+    next_process (not_reset net) net.processes i p _ _ _ l at c.loop-number.invariant
+    (c.in_ok-push_each_left.ensures
+    ∙ ap (λ xs. c.loop-number.remarks.items ++ xs) (ap (map (λ n. NotReset i n)) c.deref.ensures.value ∙ left_remarks net c.nets-count.ensures.elaborated i p l at left those))

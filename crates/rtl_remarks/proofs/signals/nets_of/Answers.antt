@@ -1,0 +1,20 @@
+use Rattle.std.proofs.Common.{ap, sym, ◌∙◌, ◌&&◌}
+use Rattle.std.specs.List.{list_any}
+use Rattle.std.proofs.lemmas.List.{take_all}
+use Rattle.rtl_net.specs.Nets.{SignalView, signal_view}
+use Rattle.rtl_net.specs.declared.signal.Signal.{Signal}
+use Rattle.rtl_net_facts.specs.Reading.{is_in}
+use Rattle.rtl_remarks.specs.Remarks.{is_of}
+use Rattle.rtl_remarks.specs.Tables.{takes}
+use Rattle.rtl_remarks.proofs.Listed.{any_mapped}
+use Rattle.rtl_remarks.proofs.signals.nets_of.Goals as goal
+
+pub returns : goal.returns
+returns c = record {
+  rise = c.sort_once.ensures.rise;
+  are = λ n.
+      c.sort_once.ensures.same n ∙ c.loop-signal.invariant n
+      ∙ ap (list_any (λ (s : Signal). takes c.args.which (signal_view s) && is_in n s.nets.items)) (take_all c.loop-signal.signal-index c.signals-signals.result.now c.loop-signal-test.false)
+      ∙ sym (any_mapped (λ (s : SignalView). takes c.args.which s && is_in n s.nets) signal_view c.signals-signals.result.now)
+      ∙ ap (λ ss. is_of (takes c.args.which) ss n) c.signals-signals.ensures;
+}

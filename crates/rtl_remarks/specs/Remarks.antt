@@ -1,0 +1,106 @@
+-- Remarks on a netlist, whatever the checker says of it: a signal that is read and that nothing drives; an out port that nothing assigns,
+-- of the top or of an instance; a register that its reset's branch leaves out; a clock that combinational logic reads as data.
+use Rattle.std.specs.Prelude.{ℕ, suc, Bool, true, false, not, ◌&&◌, ◌==◌, if◌then◌else◌, List, [], ◌∷◌, ◌++◌, length, map, flat_map, slice_get, Option, Some, None}
+use Rattle.std.specs.List.{list_any, filter, range_with_len}
+use Rattle.rtl_model.specs.basics.Lists.{is_empty}
+use Rattle.rtl_model.specs.bodies.Assigns.{must_assign}
+use Rattle.rtl_model.specs.bodies.Body.{Stmts}
+use Rattle.rtl_model.specs.bodies.Kinds.{Clocking, ResetPart, clocking}
+use Rattle.rtl_model.specs.bodies.Reads.{events}
+use Rattle.rtl_model.specs.nets.FlatNetlist.{flat_sources}
+use Rattle.rtl_model.specs.simulation.Netlist.{Source, Driver, Idle}
+use Rattle.rtl_net.specs.declared.process.Process.{Process}
+use Rattle.rtl_net.specs.Nets.{NetlistView, SignalView, flat, body_of}
+use Rattle.rtl_net_facts.specs.Paths.{driven, to_net}
+use Rattle.rtl_net_facts.specs.Reading.{is_in}
+use Rattle.rtl_remarks.specs.declared.remark.Remark.{Remark}
+use Rattle.rtl_remarks.specs.declared.remark.Remark.TheVariants.{Undriven, Unassigned, IdlePort, NotReset, ClockRead}
+
+-- ---- nets
+
+abbrev pub is_signal : SignalView → Bool
+is_signal s = not s.port
+
+abbrev pub is_top_port : SignalView → Bool
+is_top_port s = s.port && (s.scope == 0)
+
+-- one of these has the net as an element
+abbrev pub is_of : (these : SignalView → Bool) → List SignalView → (n : ℕ) → Bool
+is_of these signals n = list_any (λ s. these s && is_in n s.nets) signals
+
+-- no process drives it, no out port of an instance, and it's no in port of the top
+abbrev pub has_no_driver : NetlistView → (n : ℕ) → Bool
+has_no_driver net n = not (is_in n net.inputs) && is_empty (flat_sources (flat net) n)
+
+-- of these processes, the first of which has this number, the first that reads the net
+abbrev pub reader_from : (number : ℕ) → List Process → (n : ℕ) → Option ℕ
+reader_from number [] n = None
+reader_from number (p ∷ ps) n = if is_in n p.reads.items then Some number else reader_from (suc number) ps n
+
+abbrev pub read_by : (n : ℕ) → (reader : Option ℕ) → List Remark
+read_by n None = []
+read_by n (Some process) = Undriven process n ∷ []
+
+-- a signal, no port, that nothing drives and some process reads: told of the first that does
+abbrev pub undriven : NetlistView → (n : ℕ) → List Remark
+undriven net n = if is_of is_signal net.signals n && has_no_driver net n then read_by n (reader_from 0 net.processes n) else []
+
+-- an out port of the top that nothing drives
+abbrev pub unassigned : NetlistView → (n : ℕ) → List Remark
+unassigned net n = if is_of is_top_port net.signals n && has_no_driver net n then Unassigned n ∷ [] else []
+
+abbrev pub is_idle : Source → Bool
+is_idle (Driver process place) = false
+is_idle (Idle value) = true
+
+-- an out port of an instance, which nothing inside drives, is a source of the net
+abbrev pub idle : NetlistView → (n : ℕ) → List Remark
+idle net n = if list_any is_idle (flat_sources (flat net) n) then IdlePort n ∷ [] else []
+
+-- ---- processes
+
+abbrev pub branch_of_reset : Option ResetPart → Option Stmts
+branch_of_reset None = None
+branch_of_reset (Some r) = Some r.branch
+
+-- the branch that a clocked process runs while its reset holds
+abbrev pub reset_branch : Option Clocking → Option Stmts
+reset_branch None = None
+reset_branch (Some c) = branch_of_reset c.reset
+
+abbrev pub leaves_out : Process → Option Stmts → (n : ℕ) → Bool
+leaves_out p None n = false
+leaves_out p (Some branch) n = is_in n (driven p.drives.items) && not (must_assign (to_net p.drives.items n) branch)
+
+-- the nets that the process drives and the branch of its reset doesn't assign
+abbrev pub not_reset : NetlistView → (number : ℕ) → Process → List Remark
+not_reset net number p =
+    map (λ n. NotReset number n) (filter (leaves_out p (reset_branch (clocking net.inputs (body_of p)))) (range_with_len 0 (length net.types)))
+
+abbrev pub is_clock_of : (n : ℕ) → Option Clocking → Bool
+is_clock_of n None = false
+is_clock_of n (Some c) = c.test.clock == n
+
+-- some process is clocked by the net
+abbrev pub is_clock : NetlistView → (n : ℕ) → Bool
+is_clock net n = list_any (λ p. is_clock_of n (clocking net.inputs (body_of p))) net.processes
+
+-- of a combinational process, the clocks that it reads
+abbrev pub clocks_read : NetlistView → (number : ℕ) → Process → List Remark
+clocks_read net number p = if is_empty (events (body_of p)) then map (λ n. ClockRead number n) (filter (is_clock net) p.reads.items) else []
+
+-- ---- the netlist
+
+-- of these processes, the first of which has this number
+abbrev pub of_processes : (remarks : ℕ → Process → List Remark) → (number : ℕ) → List Process → List Remark
+of_processes remarks number [] = []
+of_processes remarks number (p ∷ ps) = remarks number p ++ of_processes remarks (suc number) ps
+
+abbrev pub of_nets : (remarks : ℕ → List Remark) → (count : ℕ) → List Remark
+of_nets remarks count = flat_map remarks (range_with_len 0 count)
+
+-- one kind after the other, each by net, or by process and net
+abbrev pub remarks_of : NetlistView → List Remark
+remarks_of net =
+    of_nets (undriven net) (length net.types) ++ of_nets (unassigned net) (length net.types) ++ of_nets (idle net) (length net.types)
+    ++ of_processes (not_reset net) 0 net.processes ++ of_processes (clocks_read net) 0 net.processes

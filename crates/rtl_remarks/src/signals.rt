@@ -1,0 +1,55 @@
+//! The nets of a netlist's signals.
+
+ghost use Rattle.std.specs.Prelude.{◌≡◌, ◌&&◌, ◌||◌, ℕ, IfOk, OnOk};
+ghost use Rattle.rtl_net.specs.Nets.{signal_view};
+ghost use Rattle.rtl_net_facts.specs.Reading.{is_in};
+ghost use Rattle.rtl_remarks.specs.Remarks as spec;
+ghost use Rattle.rtl_remarks.specs.Tables.{takes, AreThose};
+
+use rtl_net::{Net, NoMemory, Signal};
+use rtl_net_facts::sort_once;
+use std::alloc::Global;
+
+/// Which signals.
+#[derive(Clone, Copy)]
+pub(crate) enum Which {
+    /// Signals that are no ports.
+    Signals,
+    /// Ports of the top.
+    TopPorts,
+}
+
+impl Which {
+    /// Whether a signal is one of them.
+    fn takes(self, signal: &Signal) -> bool
+        ensures { result ≡ takes self (signal_view signal.now) }
+    {
+        match self {
+            Which::Signals => !signal.port,
+            Which::TopPorts => signal.port && signal.scope == 0,
+        }
+    }
+}
+
+/// Appends the nets of a signal, if it is one of these.
+fn push_nets(which: Which, signal: &Signal, nets: &mut Vec<usize>) -> Result<(), NoMemory>
+    ensures { OnOk result ((n : ℕ) → is_in n nets.new.items ≡ (is_in n nets.old.items || (takes which (signal_view signal.now) && is_in n signal.now.nets.items))) }
+{
+    if which.takes(signal) {
+        nets.extend_from_slice(signal.nets.as_slice())?;
+    }
+    Ok(())
+}
+
+/// The nets of these signals, rising.
+pub(crate) fn nets_of(alloc: Global, net: &Net, which: Which) -> Result<Vec<usize>, NoMemory>
+    ensures { IfOk result (λ nets. AreThose (spec.is_of (takes which) net.now.signals) nets.items) }
+{
+    let mut nets = Vec::new(alloc);
+    let signals = net.signals();
+    for signal in signals {
+        push_nets(which, signal, &mut nets)?;
+    }
+    sort_once(&mut nets);
+    Ok(nets)
+}
