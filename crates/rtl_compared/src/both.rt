@@ -20,5 +20,5 @@ impl<A: Watch, B: Watch> Watch for Both<'_, A, B> {
         self.other.stood(values, until);
     }
 
-    ghost nothing = { λ watch. (refl, (A.nothing watch.own, B.nothing watch.other.now)) };
+    ghost nothing = { λ watch. (refl, A.nothing watch.own, B.nothing watch.other.now) };
 }

@@ -55,8 +55,10 @@ pub fn run_compared<P: Pick, V: Watch, W: Sink>(
         own: expected,
         other: watch,
     };
-    match run_watched(alloc, net, text, pick, &mut both, out) {
-        Ok(summary) => Ok((summary, both.own.difference())),
+    let answer = run_watched(alloc, net, text, pick, &mut both, out);
+    let Both { own, other: _other } = both;
+    match answer {
+        Ok(summary) => Ok((summary, own.difference())),
         Err(fault) => Err(fault),
     }
 }
@@ -88,8 +90,10 @@ pub fn run_levels_compared<V: Watch, W: Sink>(
         own: expected,
         other: watch,
     };
-    match run_levels_watched(alloc, net, text, &mut both, out) {
-        Ok(summary) => Ok((summary, both.own.difference())),
+    let answer = run_levels_watched(alloc, net, text, &mut both, out);
+    let Both { own, other: _other } = both;
+    match answer {
+        Ok(summary) => Ok((summary, own.difference())),
         Err(fault) => Err(fault),
     }
 }
@@ -128,8 +132,10 @@ pub fn simulate_compared<E: Exec, A: Agenda, P: Pick, V: Watch, W: Sink>(
         own: expected,
         other: watch,
     };
-    match simulation.run_watched(alloc, agenda, pick, &mut both, out) {
-        Ok(summary) => Ok((summary, both.own.difference())),
+    let answer = simulation.run_watched(alloc, agenda, pick, &mut both, out);
+    let Both { own, other: _other } = both;
+    match answer {
+        Ok(summary) => Ok((summary, own.difference())),
         Err(fault) => Err(fault),
     }
 }

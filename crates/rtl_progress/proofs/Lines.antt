@@ -1,16 +1,14 @@
 -- Reading a text line by line, and a line word by word.
 use Rattle.std.proofs.Common.{◌≡◌, ℕ, zero, suc, ◌+◌, ◌-◌, ◌<◌, ◌≤◌, Bool, true, false, cond, not, nat_lt, List, [], ◌∷◌, length, take, drop, filter, position, Option, Some, None, refl, ap, sym, ◌∙◌, subst, arith}
-use Rattle.std.specs.Prelude.{nat_le, unwrap_or, option_map, bytes_eq, codes, slice_index_or, ◌==◌, if◌then◌else◌}
+use Rattle.std.specs.Prelude.{unwrap_or, bytes_eq, codes, slice_index_or, ◌==◌, if◌then◌else◌}
 use Rattle.std.specs.List.{slice_split, onto_first, position_or_len}
 use Rattle.std.specs.Option.{option_or}
 use Rattle.std.proofs.lemmas.List.Splits.{slice_split_first, slice_split-cons_yes, slice_split-cons_no}
+use Rattle.std.proofs.lemmas.List.{take_rest}
+use Rattle.std.proofs.lemmas.List.Sums.{prefix_len-le-length}
 use Rattle.std.proofs.lemmas.Bool.Decides.{nat_tests}
 use Rattle.rtl_stim_lines.specs.Lines.{Word, ends_line, without_return, as_lines, lines_of, is_blank, is_word, words_of}
-use Rattle.rtl_stim_lines.specs.Forms.{Form, Stop, Clock, form_of, at_form, clock_form, stop_form, number_of}
-use Rattle.rtl_stim_lines.specs.Bounded.{bounded}
-use Rattle.rtl_stim_lines.specs.Reading.{latest_time}
-use Rattle.rtl_stim_lines.specs.declared.numbers.Time.{Time}
-use Rattle.rtl_stim_lines.specs.declared.numbers.Time.TheVariants as time
+use Rattle.rtl_stim_lines.specs.Forms.{Clock, form_of, at_form, clock_form, number_of}
 use Rattle.rtl_progress.specs.Stops.{stop_said, stop_in, first_stop, stop_of}
 
 -- ---- lines
@@ -99,15 +97,34 @@ more_than_none false n e = omega arith
 
 word_part : (x : ℕ) (xs : List ℕ) (n : ℕ) (parts : List (List ℕ)) → 0 < n → filter is_word (take n (x ∷ xs) ∷ parts) ≡ take n (x ∷ xs) ∷ filter is_word parts
 word_part x xs zero parts h = absurd (omega arith)
-word_part x xs (suc n) parts h = refl
+word_part x xs (suc n) parts h =
+    let some : is_word (x ∷ take n xs) ≡ true = grind (arith, nat_tests) in
+    ap (λ (b : Bool). cond b ((x ∷ take n xs) ∷ filter is_word parts) (filter is_word parts)) some
 
-pub word_first : (line : List ℕ) → 0 < length line → is_blank (slice_index_or line 0 0) ≡ false
+word_first : (line : List ℕ) → 0 < length line → is_blank (slice_index_or line 0 0) ≡ false
     → words_of line ≡ take (position_or_len is_blank line) line ∷ words_of (drop (position_or_len is_blank line) line)
 word_first [] h e = absurd (omega arith)
 word_first (x ∷ xs) h e =
     let (parts, is, behind) = cut (x ∷ xs) in
     ap (filter is_word) is ∙ word_part x xs (position_or_len is_blank (x ∷ xs)) parts (more_than_none (is_blank x) (position_or_len is_blank xs) e)
     ∙ ap (λ (words : List Word). take (position_or_len is_blank (x ∷ xs)) (x ∷ xs) ∷ words) behind
+
+pub first_cut : (line : List ℕ) (n : ℕ) → n ≡ position_or_len is_blank line → 0 < length line → is_blank (slice_index_or line 0 0) ≡ false
+    → words_of line ≡ take n line ∷ words_of (take (length line - n) (drop n line))
+first_cut line n is h e =
+    word_first line h e ∙ ap (λ (k : ℕ). take k line ∷ words_of (drop k line)) (sym is)
+    ∙ ap (λ (rest : List ℕ). take n line ∷ words_of rest) (sym (take_rest line n))
+
+pub before_blank : (line : List ℕ) (n : ℕ) → position is_blank line ≡ Some n → (n ≡ position_or_len is_blank line) × (n ≤ length line)
+before_blank line n h =
+    let at = placed (nat_lt (position_or_len is_blank line) (length line)) (position_or_len is_blank line) (length line) n refl h in
+    (sym at.0, omega (arith, at.0, at.1))
+
+pub before_end : (line : List ℕ) → position is_blank line ≡ None → length line ≡ position_or_len is_blank line
+before_end line h =
+    let over = nowhere (nat_lt (position_or_len is_blank line) (length line)) (position_or_len is_blank line) (length line) refl h in
+    let within = prefix_len-le-length (λ x. not (is_blank x)) line in
+    omega arith
 
 -- ---- what they say
 
@@ -136,32 +153,10 @@ more_words first second third [] = refl
 more_words first second third (fourth ∷ []) = four_words (bytes_eq first (codes "at")) (bytes_eq first (codes "clock")) second third fourth
 more_words first second third (fourth ∷ fifth ∷ words) = refl
 
--- the time that was read, if it is one
-abbrev pub time_said : Option Time → Option ℕ
-time_said None = None
-time_said (Some (time.At t)) = Some t
-time_said (Some time.TooLarge) = None
-
-timed : (n : Option ℕ) → stop_said (stop_form n) ≡ time_said (option_map bounded n)
-timed None = refl
-timed (Some n) = go (nat_le n latest_time)
-  where
-    go : (b : Bool) → (if b then Some n else None) ≡ time_said (Some (if b then time.At n else time.TooLarge))
-    go true = refl
-    go false = refl
-
-pub none_without : (line : List ℕ) → words_of line ≡ [] → stop_in line ≡ None
-none_without line e = ap (λ (words : List Word). stop_said (form_of words)) e
-
-pub none_of_one : (line keyword : Word) → words_of line ≡ keyword ∷ [] → stop_in line ≡ None
-none_of_one line keyword e = ap (λ (words : List Word). stop_said (form_of words)) e
-
 pub none_of_more : (line first second third : Word) (words : List Word) → words_of line ≡ first ∷ second ∷ third ∷ words → stop_in line ≡ None
 none_of_more line first second third words e = ap (λ (words : List Word). stop_said (form_of words)) e ∙ more_words first second third words
 
-pub none_of_other : (line keyword time : Word) → words_of line ≡ keyword ∷ time ∷ [] → bytes_eq keyword (codes "stop") ≡ false → stop_in line ≡ None
-none_of_other line keyword time e other = ap (λ (words : List Word). stop_said (form_of words)) e ∙ rw other refl
-
-pub stop_timed : (line keyword time : Word) → words_of line ≡ keyword ∷ time ∷ [] → bytes_eq keyword (codes "stop") ≡ true
-    → stop_in line ≡ time_said (option_map bounded (number_of time))
-stop_timed line keyword time e same = ap (λ (words : List Word). stop_said (form_of words)) e ∙ rw same (timed (number_of time))
+pub none_of_other : (line keyword time : Word) (words : List Word) → words_of line ≡ keyword ∷ time ∷ words → bytes_eq keyword (codes "stop") ≡ false
+    → stop_in line ≡ None
+none_of_other line keyword time [] e other = ap (λ (words : List Word). stop_said (form_of words)) e ∙ rw other refl
+none_of_other line keyword time (third ∷ words) e other = none_of_more line keyword time third words e

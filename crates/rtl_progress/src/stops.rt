@@ -1,6 +1,6 @@
 //! When a stimulus says to stop.
 
-ghost use Rattle.std.specs.Prelude.{◌≡◌, ◌∷◌, [], false, slice_index_or, IfNone, IfSome};
+ghost use Rattle.std.specs.Prelude.{◌≡◌, ◌≤◌, ◌∷◌, [], false, length, position, slice_index_or, IfNone, IfSome};
 ghost use Rattle.std.specs.List.{position_or_len};
 ghost use Rattle.rtl_stim_lines.specs.Lines as lines;
 ghost use Rattle.rtl_stim_lines.specs.Lines.{words_of};
@@ -23,12 +23,16 @@ pub fn stop_of(text: &[u8]) -> u64
 }
 
 /// The time at which a line says to stop, if it does.
+#[tactic(auto, using(crate::proofs::Lines::none_of_more, crate::proofs::Lines::none_of_other))]
 fn stop_in(line: &[u8]) -> Option<u64>
     ensures { result ≡ stops.stop_in line.now }
 {
     let (keyword, behind) = first_word(line)?;
     let (time, behind) = first_word(behind)?;
-    if keyword != b"stop".as_slice() || first_word(behind).is_some() {
+    if keyword != b"stop".as_slice() {
+        return None;
+    }
+    if first_word(behind).is_some() {
         return None;
     }
     match time_of(time)? {
@@ -63,10 +67,20 @@ fn without_blanks(line: &[u8]) -> &[u8]
 }
 
 /// How many bytes stand before the first blank.
+#[tactic(auto, using(crate::proofs::Lines::before_blank, crate::proofs::Lines::before_end))]
 fn word_len(line: &[u8]) -> usize
-    ensures { result ≡ position_or_len lines.is_blank line.now }
+    ensures len { result ≡ position_or_len lines.is_blank line.now }
+    ensures within { result ≤ length line.now }
 {
-    line.iter()
-        .position(|byte| *byte == b' ' || *byte == b'\t')
-        .unwrap_or(line.len())
+    match first_blank(line) {
+        Some(blank) => blank,
+        None => line.len(),
+    }
+}
+
+/// Where the first blank stands.
+fn first_blank(line: &[u8]) -> Option<usize>
+    ensures { result ≡ position lines.is_blank line.now }
+{
+    line.iter().position(|byte| *byte == b' ' || *byte == b'\t')
 }
