@@ -156,11 +156,11 @@ impl<'a> Row<'a> {
         if self.has_option("--with") {
             return "files line";
         }
-        if self.has_option("--progress") {
-            return "tool stream files line shows";
-        }
         if !self.parts.is_empty() || self.has_option("--explain") || self.has_option("--json") {
             return "tool files line";
+        }
+        if self.has_option("--progress") {
+            return "tool stream files line shows";
         }
         if self.words.is_empty() {
             return "tool line reads writes";
