@@ -32,7 +32,7 @@ _rtlsim_words_of() {
 _rtlsim_operands() {
     local at
     for ((at = 2; at < COMP_CWORD; at++)); do
-        case ${COMP_WORDS[at - 1]} in --order | --with) continue ;; esac
+        case ${COMP_WORDS[at - 1]} in --order | --with | --expect) continue ;; esac
         case ${COMP_WORDS[at]} in -?*) ;; *) echo "${COMP_WORDS[at]}" ;; esac
     done
 }

@@ -6,7 +6,7 @@ function __rtlsim_words
     for word in (commandline -opc)
         if test $is_value = yes
             set is_value no
-        else if contains -- $word --order --with
+        else if contains -- $word --order --with --expect
             set is_value yes
         else if not string match -q -- '-?*' $word
             echo $word

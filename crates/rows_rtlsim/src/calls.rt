@@ -36,6 +36,7 @@ pub fn wrong_answer<R: Files + AllocGlobal>(
         b"library" => by_library(rt.alloc(), row)?,
         b"reads" => return wrong_by_reads(rt.alloc(), row),
         b"writes" => return wrong_by_writes(rt.alloc(), row),
+        b"shows" => return Ok(wrong_by_shows(rt.alloc(), row)),
         _ => return Err(io::Error::from(ErrorKind::InvalidData)),
     };
     Ok(unless_told(row, answer))
@@ -53,10 +54,12 @@ fn unless_told(row: &Row<'_>, answer: Answer) -> Option<Answer> {
 /// Whether an answer is the row's.
 fn is_told(row: &Row<'_>, answer: &Answer) -> bool {
     if row.parts.is_empty() {
-        return answer.is(row.answer.status, &row.answer.out, &row.answer.err);
+        return answer.is(row.answer.status, &row.answer.out, &row.answer.err)
+            && answer.shows(&row.answer.progress);
     }
     answer.status == row.answer.status
         && answer.out.is_empty()
+        && answer.shows(b"")
         && answer.err.ends_with(b"\n")
         && row
             .parts
@@ -69,11 +72,20 @@ pub fn by_tool<R: Reader + Drop>(alloc: Global, words: &[&str], reader: R) -> An
     let mut input = Standard { reader };
     let mut out = Out::new(Vec::new(alloc));
     let mut err = Out::new(Vec::new(alloc));
-    let status = tool::<Vhdl, _, _, _>(alloc, words, &mut input, &mut out, &mut err);
+    let mut progress = Out::new(Vec::new(alloc));
+    let status = tool::<Vhdl, _, _, _, _>(
+        alloc,
+        words,
+        &mut input,
+        &mut out,
+        &mut err,
+        &mut progress,
+    );
     Answer {
         status,
         out: out.into_inner(),
         err: err.into_inner(),
+        progress: progress.into_inner(),
     }
 }
 
@@ -81,21 +93,24 @@ pub fn by_tool<R: Reader + Drop>(alloc: Global, words: &[&str], reader: R) -> An
 fn by_files<R: Files + AllocGlobal>(rt: &R, row: &Row<'_>) -> Answer {
     let mut out = Out::new(Vec::new(rt.alloc()));
     let mut err = Out::new(Vec::new(rt.alloc()));
+    let mut progress = Out::new(Vec::new(rt.alloc()));
     let mut inputs = Named {
         files: rt,
         reader: row.input.as_slice(),
     };
-    let status = tool_with::<Vhdl, _, _, _>(
+    let status = tool_with::<Vhdl, _, _, _, _>(
         rt.alloc(),
         &row.words,
         &mut inputs,
         &mut out,
         &mut err,
+        &mut progress,
     );
     Answer {
         status: status.code(),
         out: out.into_inner(),
         err: err.into_inner(),
+        progress: progress.into_inner(),
     }
 }
 
@@ -114,18 +129,21 @@ fn by_line<R: Files + AllocGlobal>(
     all.extend_from_slice(&row.input)?;
     let mut out = Out::new(Vec::new(rt.alloc()));
     let mut err = Out::new(Vec::new(rt.alloc()));
+    let mut progress = Out::new(Vec::new(rt.alloc()));
     let mut reader = all.as_slice();
-    let status = tool_first_line::<Vhdl, _, _, _, _>(
+    let status = tool_first_line::<Vhdl, _, _, _, _, _>(
         rt.alloc(),
         rt,
         &mut reader,
         &mut out,
         &mut err,
+        &mut progress,
     );
     Ok(Answer {
         status: status.code(),
         out: out.into_inner(),
         err: err.into_inner(),
+        progress: progress.into_inner(),
     })
 }
 
@@ -241,37 +259,56 @@ fn wrong_by_writes(alloc: Global, row: &Row<'_>) -> io::Result<Option<Answer>> {
         (Failure::Stuck, 1),
     ] {
         for writes in 0..row.answer.out.len().min(most) {
-            let answer = by_writers(alloc, row, (writes, failure), never);
+            let answer = by_writers(alloc, row, [(writes, failure), never, never]);
             if !answer.is(8, &row.answer.out[..writes], b"rtlsim: output\n") {
                 return Ok(Some(answer));
             }
         }
         for writes in 0..row.answer.err.len().min(most) {
-            let answer = by_writers(alloc, row, never, (writes, failure));
+            let answer = by_writers(alloc, row, [never, (writes, failure), never]);
             if !answer.is(8, &row.answer.out, &row.answer.err[..writes]) {
                 return Ok(Some(answer));
             }
         }
     }
-    Ok(unless_told(row, by_writers(alloc, row, never, never)))
+    Ok(unless_told(row, by_writers(alloc, row, [never; 3])))
 }
 
-/// `tool` over outputs that fail after so many writes.
-fn by_writers(
-    alloc: Global,
-    row: &Row<'_>,
-    out_fails: (usize, Failure),
-    err_fails: (usize, Failure),
-) -> Answer {
+/// `tool`, where each write of what shows how far a run is fails in turn: a beginning of that went out, and all else is the row's.
+fn wrong_by_shows(alloc: Global, row: &Row<'_>) -> Option<Answer> {
+    let never = (usize::MAX, Failure::Once);
+    for writes in 0..row.answer.progress.len() {
+        let answer = by_writers(alloc, row, [never, never, (writes, Failure::Once)]);
+        if !answer.is(row.answer.status, &row.answer.out, &row.answer.err)
+            || !answer.shows(&row.answer.progress[..writes])
+        {
+            return Some(answer);
+        }
+    }
+    unless_told(row, by_writers(alloc, row, [never; 3]))
+}
+
+/// `tool` over outputs, the third of which shows how far a run is, that fail after so many writes.
+fn by_writers(alloc: Global, row: &Row<'_>, fails: [(usize, Failure); 3]) -> Answer {
+    let [out_fails, err_fails, progress_fails] = fails;
     let mut input = Standard {
         reader: row.input.as_slice(),
     };
     let mut out = Out::new(FailingWriter::new(alloc, out_fails.0, out_fails.1));
     let mut err = Out::new(FailingWriter::new(alloc, err_fails.0, err_fails.1));
-    let status = tool::<Vhdl, _, _, _>(alloc, &row.words, &mut input, &mut out, &mut err);
+    let mut progress = Out::new(FailingWriter::new(alloc, progress_fails.0, progress_fails.1));
+    let status = tool::<Vhdl, _, _, _, _>(
+        alloc,
+        &row.words,
+        &mut input,
+        &mut out,
+        &mut err,
+        &mut progress,
+    );
     Answer {
         status,
         out: out.into_inner().taken,
         err: err.into_inner().taken,
+        progress: progress.into_inner().taken,
     }
 }

@@ -62,6 +62,7 @@ impl<'a> Row<'a> {
             b"!" => self.push_error(rt.alloc(), text)?,
             b"!|" => self.answer.push_error(text)?,
             b"!\\r" => self.answer.push_progress(text)?,
+            b"!\\n" => self.answer.end_progress()?,
             b"!~" => self.parts.push(text)?,
             b"=" => self.answer.status = text.parse::<u8>().unwrap_or(u8::MAX),
             b"by" => self.calls = text,
@@ -157,6 +158,9 @@ impl<'a> Row<'a> {
         }
         if !self.parts.is_empty() || self.has_option("--explain") || self.has_option("--json") {
             return "tool files line";
+        }
+        if self.has_option("--progress") {
+            return "tool stream files line shows";
         }
         if self.words.is_empty() {
             return "tool line reads writes";

@@ -2,3 +2,4 @@ pub mod Refusing
 pub mod Serving
 pub mod Buffers
 pub mod Reading
+pub mod Watching

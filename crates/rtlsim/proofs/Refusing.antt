@@ -2,7 +2,7 @@
 use Rattle.std.proofs.Common.{inl, inr}
 use Rattle.rtlsim_commands.specs.Served.{Outputs}
 use Rattle.rtlsim.specs.Tools.{RefusesWords}
-use Rattle.rtlsim_commands.specs.declared.status.Status.{Status}
+use Rattle.rtlsim_faults.specs.declared.status.Status.{Status}
 
 -- a reason for a reason
 pub refuses_for : {A B : Type 0} {outcome : Status} {o : Outputs} → (A → B) → RefusesWords A outcome o → RefusesWords B outcome o

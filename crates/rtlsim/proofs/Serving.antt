@@ -2,10 +2,10 @@
 use Rattle.std.proofs.Common.{◌≡◌, ℕ, Bool, true, false, List, [], ◌∷◌, Option, length, map, refl, sym, subst, ◌∙◌, arith}
 use Rattle.std.proofs.lemmas.Bool.Decides.{nat_tests}
 use Rattle.std.specs.Prelude.{◌==◌}
-use Rattle.rtlsim_commands.specs.Served.{Outputs}
-use Rattle.rtlsim_commands.specs.declared.status.Status.{Status}
+use Rattle.rtlsim_faults.specs.declared.status.Status.{Status}
 use Rattle.rtl_sink.specs.Read.{ReaderState}
 use Rattle.rtlsim.specs.Inputs.{Reading}
+use Rattle.rtlsim.specs.Sinks.{Sinks}
 use Rattle.rtlsim.specs.Tools.{ServesCall, ServesFirstLine, ServesWords}
 
 -- a test of a length
@@ -21,7 +21,7 @@ pub of_reader : (P : ReaderState → Type 0) (left same : Option (List ℕ)) (fa
 of_reader P left same failed bytes intact p =
     subst (λ (b : Bool). P (record { left = same; failed = b })) intact (subst (λ (l : Option (List ℕ)). P (record { left = l; failed = failed })) bytes p)
 
-module _ {A : Type 0} (text : A → List ℕ) (Gives : Reading) (old new : ReaderState) (outcome : Status) (o : Outputs) where
+module _ {A : Type 0} (text : A → List ℕ) (Gives : Reading) (old new : ReaderState) (outcome : Status) (o : Sinks) where
   pub serves_none : (xs : List A) → length xs ≡ 0 → ServesFirstLine Gives old new outcome o → ServesWords Gives (map text xs) old new outcome o
   serves_none [] empty s = s
   serves_none (x ∷ xs) empty s = absurd (cc)

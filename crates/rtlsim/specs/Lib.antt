@@ -1,5 +1,6 @@
 -- the program
 pub mod Tools
+pub mod Sinks
 pub mod Requests
 pub mod Reads
 pub mod Served

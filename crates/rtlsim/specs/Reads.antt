@@ -28,6 +28,11 @@ module _ (Gives : Reading) where
   abbrev pub GivesOne : (name : List ℕ) → Given (List ℕ)
   GivesOne name = λ old new given. Gives old new name given
 
+  -- the file of a name, if one is named
+  abbrev pub GivesMaybe : (name : Option (List ℕ)) → Given (Option (List ℕ))
+  GivesMaybe None = Without None
+  GivesMaybe (Some name) = Made Some (GivesOne name)
+
   -- the files of these names in order, each with its name
   abbrev pub GivesAll : (names : List (List ℕ)) → Given (List FileView)
   GivesAll [] = Without []

@@ -1,9 +1,9 @@
 -- What a call names, and what is read for it.
 use Rattle.std.specs.Prelude.{ℕ, List, [], ◌∷◌, ◌++◌, Option, Some, None, codes, map}
 use Rattle.rtlsim.specs.Inputs.{Reading}
-use Rattle.rtlsim.specs.Reads.{Given, GivesAll, GivesMain, Made, Then}
+use Rattle.rtlsim.specs.Reads.{Given, GivesAll, GivesMain, GivesMaybe, Made, Then}
 use Rattle.rtlsim_files.specs.Files.{FileView}
-use Rattle.rtlsim_words.specs.Extras.{with_of}
+use Rattle.rtlsim_words.specs.Extras.{expected_of, with_of}
 use Rattle.rtlsim_words.specs.declared.extras.Call.{Call}
 use Rattle.rtlsim_words.specs.declared.request.Request.{Request}
 use Rattle.rtlsim_words.specs.declared.request.Request.TheVariants.{Eval, Net, Check, Dot, Json, Run, Levels}
@@ -42,16 +42,23 @@ sets_of _ = []
 abbrev pub set_form : List ℕ
 set_form = codes "NAME=VALUE"
 
--- what was read: the files of the source in order, and the text of the stimulus, which is empty where there is none
+-- what was read: the files of the source in order, the text of the stimulus, which is empty where there is none, and that of what is expected
 pub record TextsView : Type 0 where
   pub files : List FileView
   pub stimulus : List ℕ
+  pub expected : Option (List ℕ)
 
--- of the files before the source's, and of that with the stimulus
-abbrev pub texts : (file : List ℕ) → List FileView × (List ℕ × List ℕ) → TextsView
-texts file read = record { files = read.0 ++ record { name = file; text = read.1.0 } ∷ []; stimulus = read.1.1 }
+-- of the files before the source's, of that with the stimulus, and of the file of what is expected
+abbrev pub texts : (file : List ℕ) → List FileView × ((List ℕ × List ℕ) × Option (List ℕ)) → TextsView
+texts file read = record {
+  files = read.0 ++ record { name = file; text = read.1.0.0 } ∷ [];
+  stimulus = read.1.0.1;
+  expected = read.1.1;
+}
 
 -- The files of a call, in the order in which they are read.
 abbrev pub GivesTexts : Reading → Call → Given TextsView
 GivesTexts Gives call =
-    Made (texts (file_of call.request)) (Then (GivesAll Gives (with_of call.extras)) (GivesMain Gives (file_of call.request) (stimulus_of call.request)))
+    Made (texts (file_of call.request))
+    (Then (GivesAll Gives (with_of call.extras))
+    (Then (GivesMain Gives (file_of call.request) (stimulus_of call.request)) (GivesMaybe Gives (expected_of call.extras))))

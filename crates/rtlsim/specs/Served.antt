@@ -1,13 +1,17 @@
 -- What commands do with what was read.
-use Rattle.std.specs.Prelude.{◌≡◌, ℕ, Bool, true, false, List, map, option_map, unwrap_or}
+use Rattle.std.specs.Prelude.{◌≡◌, ℕ, Bool, true, false, List, Option, Some, None, map, option_map, unwrap_or}
 use Rattle.rtlsim.specs.Requests.{TextsView, set_form, sets_of, stimulus_of, top_of}
+use Rattle.rtl_watch.specs.Stands.{Stand}
+use Rattle.rtlsim.specs.Sinks.{Sinks, IsSilent, ShowsIf, outputs}
+use Rattle.rtlsim_commands.specs.Expected.{RunsEventsExpecting, RunsMachineByLevelsExpecting, RunsMachineExpecting}
 use Rattle.rtlsim_commands.specs.Listed.{ListsNet, ChecksNetJson, ChecksNetTold, DrawsNetTold}
 use Rattle.rtlsim_commands.specs.Machine.{RunsMachine, RunsMachineByLevels, EvaluatesMachine}
 use Rattle.rtlsim_commands.specs.Served.{Outputs, Serves as ServesSource}
 use Rattle.rtlsim_commands.specs.Simulated.{RunsEvents}
 use Rattle.rtlsim_commands.specs.Told.{quiet, verdict, summary, levels}
-use Rattle.rtlsim_commands.specs.declared.status.Status.{Status}
-use Rattle.rtlsim_commands.specs.declared.telling.Telling.{Telling}
+use Rattle.rtlsim_commands.specs.Watched.{OfEvents, OfMachine, Watched}
+use Rattle.rtlsim_faults.specs.declared.status.Status.{Status}
+use Rattle.rtlsim_faults.specs.declared.telling.Telling.{Telling}
 use Rattle.rtlsim_files.specs.Files.{file_view, joined}
 use Rattle.rtlsim_words.specs.declared.extras.Call.{Call}
 use Rattle.rtlsim_words.specs.declared.request.Request.{Request}
@@ -20,24 +24,40 @@ pub record IsToldOf (call : Call) (texts : TextsView) (telling : Telling) : Type
   pub text : option_map (λ text. text.now) telling.stimulus_text ≡ option_map (λ name. texts.stimulus) (stimulus_of call.request)
   pub explains : telling.explains ≡ call.extras.explains
 
-module _ (telling : Telling) (source top : List ℕ) (outcome : Status) (o : Outputs) where
-  -- a simulation under the text of a stimulus, by events alone where `is_event` says so; no order of processes counts
-  abbrev pub ServesRun : (is_event : Bool) → (text : List ℕ) → Type 0
-  ServesRun true text = ServesSource (RunsEvents text) summary telling source top outcome o
-  ServesRun false text = ServesSource (RunsMachine text) summary telling source top outcome o
+module _ (telling : Telling) (source top : List ℕ) (outcome : Status) (o : Outputs) (Holds : List Stand → Type 0) where
+  -- A run under the text of a stimulus, compared with what is expected if that is given. This holds of what is seen of it where it writes the
+  -- whole trace. No order of processes counts
+  abbrev pub ServesMachine : (text : List ℕ) → (expected : Option (List ℕ)) → Type 0
+  ServesMachine text None = ServesSource (Watched (RunsMachine text) (OfMachine text Holds)) summary telling source top outcome o
+  ServesMachine text (Some expected) = ServesSource (Watched (RunsMachineExpecting text expected) (OfMachine text Holds)) summary telling source top outcome o
 
-  -- the command of a request serves the source, with the words that set inputs and the text of the stimulus
-  abbrev pub ServesBy : Request → (sets : List (List ℕ)) → (text : List ℕ) → Type 0
-  ServesBy (Eval file entity words) sets text = ServesSource (EvaluatesMachine sets) quiet telling source top outcome o
-  ServesBy (Net file entity) sets text = ServesSource ListsNet quiet telling source top outcome o
-  ServesBy (Check file entity) sets text = ServesSource (ChecksNetTold telling) verdict telling source top outcome o
-  ServesBy (Dot file entity) sets text = ServesSource (DrawsNetTold telling) verdict telling source top outcome o
-  ServesBy (Json file entity) sets text = ServesSource (ChecksNetJson telling) verdict telling source top outcome o
-  ServesBy (Run is_event order file entity stimulus) sets text = ServesRun is_event text
-  ServesBy (Levels file entity stimulus) sets text = ServesSource (RunsMachineByLevels text) levels telling source top outcome o
+  abbrev pub ServesEvents : (text : List ℕ) → (expected : Option (List ℕ)) → Type 0
+  ServesEvents text None = ServesSource (Watched (RunsEvents text) (OfEvents text Holds)) summary telling source top outcome o
+  ServesEvents text (Some expected) = ServesSource (Watched (RunsEventsExpecting text expected) (OfEvents text Holds)) summary telling source top outcome o
 
--- The command of a call serves the source of the files.
-pub record ServesTexts (call : Call) (texts : TextsView) (outcome : Status) (o : Outputs) : Type 0 where
+  abbrev pub ServesLevels : (text : List ℕ) → (expected : Option (List ℕ)) → Type 0
+  ServesLevels text None = ServesSource (Watched (RunsMachineByLevels text) (OfMachine text Holds)) levels telling source top outcome o
+  ServesLevels text (Some expected) = ServesSource (Watched (RunsMachineByLevelsExpecting text expected) (OfMachine text Holds)) levels telling source top outcome o
+
+  -- by events alone where `is_event` says so
+  abbrev pub ServesRun : (is_event : Bool) → (text : List ℕ) → (expected : Option (List ℕ)) → Type 0
+  ServesRun true text expected = ServesEvents text expected
+  ServesRun false text expected = ServesMachine text expected
+
+  -- the command of a request serves the source, with the words that set inputs, the text of the stimulus and that of what is expected
+  abbrev pub ServesBy : Request → (sets : List (List ℕ)) → (text : List ℕ) → (expected : Option (List ℕ)) → Type 0
+  ServesBy (Eval file entity words) sets text expected = ServesSource (EvaluatesMachine sets) quiet telling source top outcome o
+  ServesBy (Net file entity) sets text expected = ServesSource ListsNet quiet telling source top outcome o
+  ServesBy (Check file entity) sets text expected = ServesSource (ChecksNetTold telling) verdict telling source top outcome o
+  ServesBy (Dot file entity) sets text expected = ServesSource (DrawsNetTold telling) verdict telling source top outcome o
+  ServesBy (Json file entity) sets text expected = ServesSource (ChecksNetJson telling) verdict telling source top outcome o
+  ServesBy (Run is_event order file entity stimulus) sets text expected = ServesRun is_event text expected
+  ServesBy (Levels file entity stimulus) sets text expected = ServesLevels text expected
+
+-- The command of a call serves the source of the files. How far a run is is shown where the call asks for it, and nothing where it doesn't.
+pub record ServesTexts (call : Call) (texts : TextsView) (outcome : Status) (s : Sinks) : Type 0 where
   pub telling : Telling
   pub told : IsToldOf call texts telling
-  pub serves : ServesBy telling (joined texts.files) (top_of call.request) outcome o call.request (sets_of call.request) texts.stimulus
+  pub serves : ServesBy telling (joined texts.files) (top_of call.request) outcome (outputs s) (ShowsIf call.extras.shows_progress texts.stimulus s)
+      call.request (sets_of call.request) texts.stimulus texts.expected
+  pub silent : call.extras.shows_progress ≡ false → IsSilent s

@@ -1,21 +1,24 @@
--- What the program leaves in the writers of its two streams, and the status that it ends with.
+-- What the program leaves in its writers, and the status that it ends with.
 use Rattle.std.specs.Prelude.{◌≡◌, ◌⊎◌, ⊤, ℕ, List, Option, Some, None, Bool, true, false, not}
 use Rattle.std.specs.Io.KnownBytes.{Keeps, append_known}
-use Rattle.rtlsim_commands.specs.Lines.{memory_line, output_line}
-use Rattle.rtlsim_commands.specs.Served.{Outputs, ended_by}
-use Rattle.rtlsim_commands.specs.declared.status.Status.{Status}
-use Rattle.rtlsim_commands.specs.declared.status.Status.TheVariants as status
+use Rattle.rtlsim_faults.specs.Lines.{memory_line, output_line}
+use Rattle.rtlsim_commands.specs.Served.{ended_by}
+use Rattle.rtlsim_faults.specs.declared.status.Status.{Status}
+use Rattle.rtlsim_faults.specs.declared.status.Status.TheVariants as status
 use Rattle.rtl_sink.specs.Read.{ReaderState}
 use Rattle.rtl_sink.specs.Written.{SinkState, Goes}
 use Rattle.rtlsim.specs.Inputs.{Reading}
-use Rattle.rtlsim.specs.Tools.{RefusesWords, ServesWords}
+use Rattle.rtlsim.specs.Sinks.{Sinks}
+use Rattle.rtlsim.specs.Tools.{RefusesWords, ServesWords, Silently}
 
--- what the two writers hold before a call and after it, where it is known
+-- what the writers of the two streams, and that of how far a run is, hold before a call and after it, where it is known
 pub record Writers : Type 0 where
   pub out : Option (List ℕ)
   pub out_after : Option (List ℕ)
   pub err : Option (List ℕ)
   pub err_after : Option (List ℕ)
+  pub progress : Option (List ℕ)
+  pub progress_after : Option (List ℕ)
 
 -- what was taken is in the writer: all of it, or where the writer failed a beginning
 abbrev pub GoesOut : (is_out : Bool) → (taken held : Option (List ℕ)) → Type 0
@@ -42,12 +45,15 @@ pub record Ends (outcome : Status) (out err : SinkState) (result : Status) (out_
   pub errors : GoesOut is_told told.taken err_held
   pub status : result ≡ ended_by (not is_told) (ended_by (not is_out) outcome)
 
--- what is done with two sinks goes out to their writers
-pub record GoesToWriters (Does : Status → Outputs → Type 0) (result : Status) (out err : SinkState) (out_held err_held : Option (List ℕ)) : Type 0 where
+-- What is done with three sinks goes out to their writers, to the third at once.
+pub record GoesToWriters (Does : Status → Sinks → Type 0) (result : Status) (out err progress : SinkState)
+    (out_held err_held progress_held : Option (List ℕ)) : Type 0 where
   pub outcome : Status
   pub out_after : SinkState
   pub err_after : SinkState
-  pub does : Does outcome (record { out = out; out_after = out_after; err = err; err_after = err_after })
+  pub progress_after : SinkState
+  pub does : Does outcome (record { out = out; out_after = out_after; err = err; err_after = err_after; progress = progress; progress_after = progress_after })
+  pub shown : progress_after.taken ≡ progress_held
   pub ends : Ends outcome out_after err_after result out_held err_held
 
 -- that memory for buffers was refused is told, and nothing else is done
@@ -59,13 +65,14 @@ pub record TellsMemory (result : Status) (err err_held : Option (List ℕ)) : Ty
 
 -- The program for its words, or where it has none, since they are no text or memory for them is refused. The standard input has
 -- these bytes left.
-abbrev pub ServesArguments : Reading → (words : Option (List (List ℕ))) → (left : Option (List ℕ)) → (outcome : Status) → Outputs → Type 0
-ServesArguments Gives None left outcome o = RefusesWords ⊤ outcome o
-ServesArguments Gives (Some words) left outcome o =
-    (after : ReaderState) × ServesWords Gives words (record { left = left; failed = false }) after outcome o
+abbrev pub ServesArguments : Reading → (words : Option (List (List ℕ))) → (left : Option (List ℕ)) → (outcome : Status) → Sinks → Type 0
+ServesArguments Gives None left outcome s = Silently (RefusesWords ⊤ outcome) s
+ServesArguments Gives (Some words) left outcome s =
+    (after : ReaderState) × ServesWords Gives words (record { left = left; failed = false }) after outcome s
 
--- The program between a reader's bytes and two writers. Which words the system passes isn't known.
+-- The program between a reader's bytes and its writers. Which words the system passes isn't known.
 abbrev pub RunsArguments : Reading → (left : Option (List ℕ)) → (result : Status) → Writers → Type 0
 RunsArguments Gives left result w =
-    (TellsMemory result w.err w.err_after × (w.out_after ≡ w.out))
-    ⊎ ((words : Option (List (List ℕ))) × GoesToWriters (ServesArguments Gives words left) result (fresh w.out) (fresh w.err) w.out_after w.err_after)
+    (TellsMemory result w.err w.err_after × (w.out_after ≡ w.out) × (w.progress_after ≡ w.progress))
+    ⊎ ((words : Option (List (List ℕ)))
+    × GoesToWriters (ServesArguments Gives words left) result (fresh w.out) (fresh w.err) (fresh w.progress) w.out_after w.err_after w.progress_after)

@@ -1,10 +1,10 @@
 -- What the program does for its words.
 use Rattle.std.specs.List.{after_first, slice_split}
 use Rattle.std.specs.Prelude.{◌≡◌, ◌==◌, ◌⊎◌, not, filter, length, [], ◌∷◌, Option, Some, None, ℕ, List, IsUtf8}
-use Rattle.rtlsim_commands.specs.Lines.{memory_line, input_line}
+use Rattle.rtlsim_faults.specs.Lines.{memory_line, input_line}
 use Rattle.rtlsim_commands.specs.Served.{Outputs, ended}
-use Rattle.rtlsim_commands.specs.declared.status.Status.{Status}
-use Rattle.rtlsim_commands.specs.declared.status.Status.TheVariants as status
+use Rattle.rtlsim_faults.specs.declared.status.Status.{Status}
+use Rattle.rtlsim_faults.specs.declared.status.Status.TheVariants as status
 use Rattle.rtl_sink.specs.Read.{ReaderState}
 use Rattle.rtl_sink.specs.Written.{Goes}
 use Rattle.rtlsim_words.specs.Extras.{Says, SayNothing}
@@ -12,6 +12,7 @@ use Rattle.rtlsim_words.specs.declared.extras.Call.{Call}
 use Rattle.rtlsim.specs.Inputs.{Reading, GivesWhole, held}
 use Rattle.rtlsim.specs.Requests.{GivesTexts}
 use Rattle.rtlsim.specs.Served.{ServesTexts}
+use Rattle.rtlsim.specs.Sinks.{Sinks, IsSilent, outputs}
 use Rattle.rtl_stim_lines.specs.Lines.{ends_line}
 use Rattle.rtlsim.specs.Lines.{first_line_of}
 use Rattle.rtlsim.specs.declared.inputs.InputFault.{InputFault}
@@ -32,14 +33,18 @@ pub record TellsInput (fault : InputFault) (outcome : Status) (o : Outputs) : Ty
   pub told : Goes o.err o.err_after (input_text fault)
   pub status : outcome ≡ ended (input_status fault) o.out_after o.err_after
 
+-- this is done, and nothing is shown of a run
+abbrev pub Silently : (Outputs → Type 0) → Sinks → Type 0
+Silently Does s = Does (outputs s) × IsSilent s
+
 -- What was read is served; or that reading failed is told.
-abbrev pub ReadsInputs : {A : Type 0} → (Gives : Option A → Type 0) → (Served : A → Type 0) → (outcome : Status) → Outputs → Type 0
-ReadsInputs {A} Gives Served outcome o =
-    ((fault : InputFault) × (fault ≡ Failed → Gives None) × TellsInput fault outcome o) ⊎ ((given : A) × Gives (Some given) × Served given)
+abbrev pub ReadsInputs : {A : Type 0} → (Gives : Option A → Type 0) → (Served : A → Type 0) → (outcome : Status) → Sinks → Type 0
+ReadsInputs {A} Gives Served outcome s =
+    ((fault : InputFault) × (fault ≡ Failed → Gives None) × Silently (TellsInput fault outcome) s) ⊎ ((given : A) × Gives (Some given) × Served given)
 
 -- What is done for a call. Its files are read first; then its command serves the source.
-unfoldable pub Performs : Reading → Call → (old new : ReaderState) → (outcome : Status) → Outputs → Type 0
-Performs Gives call old new outcome o = ReadsInputs (GivesTexts Gives call old new) (λ texts. ServesTexts call texts outcome o) outcome o
+unfoldable pub Performs : Reading → Call → (old new : ReaderState) → (outcome : Status) → Sinks → Type 0
+Performs Gives call old new outcome s = ReadsInputs (GivesTexts Gives call old new) (λ texts. ServesTexts call texts outcome s) outcome s
 
 -- the words are refused for this reason, or for want of memory, with a text on the standard error and nothing else
 pub record RefusesWords (Reason : Type 0) (outcome : Status) (o : Outputs) : Type 0 where
@@ -50,9 +55,9 @@ pub record RefusesWords (Reason : Type 0) (outcome : Status) (o : Outputs) : Typ
       ⊎ ((outcome ≡ ended status.Memory o.out_after o.err_after) × (text ≡ memory_line))
 
 -- what the program does: it serves a call that its words say, or refuses words that say none
-abbrev pub ServesCall : Reading → (words : List (List ℕ)) → (old new : ReaderState) → (outcome : Status) → Outputs → Type 0
-ServesCall Gives words old new outcome o =
-    ((call : Call) × Says words call × Performs Gives call old new outcome o) ⊎ RefusesWords (SayNothing words) outcome o
+abbrev pub ServesCall : Reading → (words : List (List ℕ)) → (old new : ReaderState) → (outcome : Status) → Sinks → Type 0
+ServesCall Gives words old new outcome s =
+    ((call : Call) × Says words call × Performs Gives call old new outcome s) ⊎ Silently (RefusesWords (SayNothing words) outcome) s
 
 -- ---- words in the first line of the input
 
@@ -61,15 +66,15 @@ abbrev pub words_in : List ℕ → List (List ℕ)
 words_in line = filter (λ word. not (length word == 0)) (slice_split (λ byte. byte == 32) line)
 
 -- the same for the words of a line, which have to be text
-abbrev pub ServesLine : Reading → (line : List ℕ) → (old new : ReaderState) → (outcome : Status) → Outputs → Type 0
-ServesLine Gives line old new outcome o = ServesCall Gives (words_in line) old new outcome o ⊎ RefusesWords (¬ (IsUtf8 line)) outcome o
+abbrev pub ServesLine : Reading → (line : List ℕ) → (old new : ReaderState) → (outcome : Status) → Sinks → Type 0
+ServesLine Gives line old new outcome s = ServesCall Gives (words_in line) old new outcome s ⊎ Silently (RefusesWords (¬ (IsUtf8 line)) outcome) s
 
 -- without words: those of the input's first line count, and the rest of the input is held as the standard input
-abbrev pub ServesFirstLine : Reading → (old new : ReaderState) → (outcome : Status) → Outputs → Type 0
-ServesFirstLine Gives old new outcome o =
-    ReadsInputs (GivesWhole old new) (λ all. (left : List ℕ) × ServesLine Gives (first_line_of all) (held (after_first ends_line all)) (held left) outcome o) outcome o
+abbrev pub ServesFirstLine : Reading → (old new : ReaderState) → (outcome : Status) → Sinks → Type 0
+ServesFirstLine Gives old new outcome s =
+    ReadsInputs (GivesWhole old new) (λ all. (left : List ℕ) × ServesLine Gives (first_line_of all) (held (after_first ends_line all)) (held left) outcome s) outcome s
 
 -- the program for its words; without words, for those of the input's first line
-abbrev pub ServesWords : Reading → (words : List (List ℕ)) → (old new : ReaderState) → (outcome : Status) → Outputs → Type 0
-ServesWords Gives [] old new outcome o = ServesFirstLine Gives old new outcome o
-ServesWords Gives (word ∷ words) old new outcome o = ServesCall Gives (word ∷ words) old new outcome o
+abbrev pub ServesWords : Reading → (words : List (List ℕ)) → (old new : ReaderState) → (outcome : Status) → Sinks → Type 0
+ServesWords Gives [] old new outcome s = ServesFirstLine Gives old new outcome s
+ServesWords Gives (word ∷ words) old new outcome s = ServesCall Gives (word ∷ words) old new outcome s

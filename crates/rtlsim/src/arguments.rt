@@ -26,14 +26,23 @@ pub(crate) fn serve_arguments<
     R: Read + Drop,
     O: Sink,
     E: Sink,
->(rt: &T, reader: R, out: &mut O, err: &mut E) -> Status
+    G: Sink,
+>(rt: &T, reader: R, out: &mut O, err: &mut E, progress: &mut G) -> Status
     requires out { IsIntact (O.state out.old) }
     requires err { IsIntact (E.state err.old) }
     ensures { (words : Option (List (List ℕ))) × ServesArguments (GivesNamed T.File.remaining) words (R.remaining reader) result
-        (record { out = O.state out.old; out_after = O.state out.new; err = E.state err.old; err_after = E.state err.new }) }
+        (record { out = O.state out.old; out_after = O.state out.new; err = E.state err.old; err_after = E.state err.new; progress = G.state progress.old; progress_after = G.state progress.new }) }
 {
     match words_of(rt) {
-        Ok(words) => serve_words::<F, _, _, _, _>(rt.alloc(), rt, &words, reader, out, err),
+        Ok(words) => serve_words::<F, _, _, _, _, _>(
+            rt.alloc(),
+            rt,
+            &words,
+            reader,
+            out,
+            err,
+            progress,
+        ),
         Err(refused) => refuse_words(&refused, out, err),
     }
 }
@@ -53,28 +62,29 @@ fn words_of<T: Env + AllocGlobal>(rt: &T) -> Result<Vec<String>, Refused> {
 }
 
 /// Does what the words ask for; without words, what the first line of the input asks for.
-fn serve_words<F: Front, T: Files, R: Read + Drop, O: Sink, E: Sink>(
+fn serve_words<F: Front, T: Files, R: Read + Drop, O: Sink, E: Sink, G: Sink>(
     alloc: Global,
     files: &T,
     args: &[String],
     reader: R,
     out: &mut O,
     err: &mut E,
+    progress: &mut G,
 ) -> Status
     requires out { IsIntact (O.state out.old) }
     requires err { IsIntact (E.state err.old) }
     ensures { (after : ReaderState) × ServesWords (GivesNamed T.File.remaining) (map string_bytes args.now)
         (record { left = R.remaining reader; failed = false }) after result
-        (record { out = O.state out.old; out_after = O.state out.new; err = E.state err.old; err_after = E.state err.new }) }
+        (record { out = O.state out.old; out_after = O.state out.new; err = E.state err.old; err_after = E.state err.new; progress = G.state progress.old; progress_after = G.state progress.new }) }
 {
     let mut reader = In::new(reader);
     if args.is_empty() {
-        return tool_first_line::<F, _, _, _, _>(alloc, files, &mut reader, out, err);
+        return tool_first_line::<F, _, _, _, _, _>(alloc, files, &mut reader, out, err, progress);
     }
     match texts_of(alloc, args) {
         Ok(words) => {
             let mut inputs = Named { files, reader };
-            tool_with::<F, _, _, _>(alloc, &words, &mut inputs, out, err)
+            tool_with::<F, _, _, _, _>(alloc, &words, &mut inputs, out, err, progress)
         }
         Err(refused) => refuse_words(&Refused::from(refused), out, err),
     }

@@ -22,17 +22,18 @@ use std::rt::Files;
 /// The program without words: does what the words of the first line of the input ask for, cut at runs of
 /// spaces, as `tool_with` does; `@` is what stands after that line. Where the input can't be read, or the
 /// line isn't UTF-8, it tells so.
-pub fn tool_first_line<F: Front, T: Files, R: Reader, O: Sink, E: Sink>(
+pub fn tool_first_line<F: Front, T: Files, R: Reader, O: Sink, E: Sink, G: Sink>(
     alloc: Global,
     files: &T,
     reader: &mut R,
     out: &mut O,
     err: &mut E,
+    progress: &mut G,
 ) -> Status
     requires out { IsIntact (O.state out.old) }
     requires err { IsIntact (E.state err.old) }
     ensures { ServesFirstLine (GivesNamed T.File.remaining) (R.state reader.old) (R.state reader.new) result
-        (record { out = O.state out.old; out_after = O.state out.new; err = E.state err.old; err_after = E.state err.new }) }
+        (record { out = O.state out.old; out_after = O.state out.new; err = E.state err.old; err_after = E.state err.new; progress = G.state progress.old; progress_after = G.state progress.new }) }
 {
     match read_input(alloc, reader) {
         Ok(all) => {
@@ -41,49 +42,51 @@ pub fn tool_first_line<F: Front, T: Files, R: Reader, O: Sink, E: Sink>(
                 files,
                 reader: rest,
             };
-            serve_line::<F, _, _, _>(alloc, line, &mut inputs, out, err)
+            serve_line::<F, _, _, _, _>(alloc, line, &mut inputs, out, err, progress)
         }
         Err(fault) => refuse_input(fault, out, err),
     }
 }
 
 /// The same, where `@` is the only file.
-pub(crate) fn serve_reader_line<F: Front, R: Reader, O: Sink, E: Sink>(
+pub(crate) fn serve_reader_line<F: Front, R: Reader, O: Sink, E: Sink, G: Sink>(
     alloc: Global,
     reader: &mut R,
     out: &mut O,
     err: &mut E,
+    progress: &mut G,
 ) -> Status
     requires out { IsIntact (O.state out.old) }
     requires err { IsIntact (E.state err.old) }
     ensures { ServesFirstLine GivesStandardAlone (R.state reader.old) (R.state reader.new) result
-        (record { out = O.state out.old; out_after = O.state out.new; err = E.state err.old; err_after = E.state err.new }) }
+        (record { out = O.state out.old; out_after = O.state out.new; err = E.state err.old; err_after = E.state err.new; progress = G.state progress.old; progress_after = G.state progress.new }) }
 {
     match read_input(alloc, reader) {
         Ok(all) => {
             let (line, rest) = first_line(&all);
             let mut inputs = Standard { reader: rest };
-            serve_line::<F, _, _, _>(alloc, line, &mut inputs, out, err)
+            serve_line::<F, _, _, _, _>(alloc, line, &mut inputs, out, err, progress)
         }
         Err(fault) => refuse_input(fault, out, err),
     }
 }
 
 /// Does what the words of a line ask for.
-fn serve_line<F: Front, I: Inputs, O: Sink, E: Sink>(
+fn serve_line<F: Front, I: Inputs, O: Sink, E: Sink, G: Sink>(
     alloc: Global,
     line: &[u8],
     inputs: &mut I,
     out: &mut O,
     err: &mut E,
+    progress: &mut G,
 ) -> Status
     requires out { IsIntact (O.state out.old) }
     requires err { IsIntact (E.state err.old) }
     ensures { ServesLine I.gives line.now (I.state inputs.old) (I.state inputs.new) result
-        (record { out = O.state out.old; out_after = O.state out.new; err = E.state err.old; err_after = E.state err.new }) }
+        (record { out = O.state out.old; out_after = O.state out.new; err = E.state err.old; err_after = E.state err.new; progress = G.state progress.old; progress_after = G.state progress.new }) }
 {
     match read_words(alloc, line) {
-        Ok(words) => tool_with::<F, _, _, _>(alloc, &words, inputs, out, err),
+        Ok(words) => tool_with::<F, _, _, _, _>(alloc, &words, inputs, out, err, progress),
         Err(refused) => refuse_words(&refused, out, err),
     }
 }

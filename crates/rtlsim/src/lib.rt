@@ -9,6 +9,7 @@ mod arguments;
 mod first_line;
 mod halves;
 mod inputs;
+mod job;
 mod performing;
 mod prepared;
 mod refusals;

@@ -1,40 +1,43 @@
 //! What is done for a call once its files are read.
 
-ghost use Rattle.std.specs.Prelude.{◌≡◌, ◌⊎◌, map, option_map, unwrap_or};
+ghost use Rattle.std.specs.Prelude.{◌≡◌, ◌⊎◌, false, map, option_map, unwrap_or};
 ghost use Rattle.rtl_sink.specs.Written.{IsIntact};
 ghost use Rattle.rtlsim.specs.Requests as requests;
 ghost use Rattle.rtlsim.specs.Served.{ServesBy, ServesTexts};
+ghost use Rattle.rtlsim.specs.Sinks.{Sinks, ShowsIf, outputs};
 ghost use Rattle.rtlsim.specs.Texts.{texts_view};
-ghost use Rattle.rtlsim.specs.Tools.{TellsInput};
+ghost use Rattle.rtlsim.specs.Tools.{Silently, TellsInput};
 ghost use Rattle.rtlsim.specs.declared.inputs.InputFault.TheVariants.{NoMemory};
-ghost use Rattle.rtlsim_commands.specs.Served.{Outputs};
 
 use crate::inputs::InputFault;
+use crate::job::Job;
 use crate::prepared::prepare;
 use crate::refusals::refuse_input;
 use crate::requests::{stimulus_of, top_of};
-use crate::simulating::{Job, simulate};
+use crate::simulating::{simulate, simulate_levels};
 use crate::texts::Texts;
+use rtl_progress::{Progress, stop_of};
 use rtl_sink::Sink;
+use rtl_watch::{Unwatched, Watch};
 use rtlsim_commands::{
     Front, Status, Telling, serve_check, serve_check_dot, serve_check_json, serve_eval, serve_net,
-    serve_run_levels,
 };
 use rtlsim_words::{Call, Request};
 use std::alloc::Global;
 
 /// Does what is asked for with what was read, or tells that memory was refused before.
-pub(crate) fn perform_texts<'b, F: Front, O: Sink, E: Sink>(
+pub(crate) fn perform_texts<'b, F: Front, O: Sink, E: Sink, G: Sink>(
     alloc: Global,
     call: &'b Call<'_>,
     texts: &'b Texts<'_>,
     out: &mut O,
     err: &mut E,
+    progress: &mut G,
 ) -> Status
     requires out { IsIntact (O.state out.old) }
     requires err { IsIntact (E.state err.old) }
-    ensures { let o : Outputs = record { out = O.state out.old; out_after = O.state out.new; err = E.state err.old; err_after = E.state err.new } in
-        TellsInput NoMemory result o ⊎ ServesTexts call.now (texts_view texts.now) result o }
+    ensures { let s : Sinks = record { out = O.state out.old; out_after = O.state out.new; err = E.state err.old; err_after = E.state err.new; progress = G.state progress.old; progress_after = G.state progress.new } in
+        Silently (TellsInput NoMemory result) s ⊎ ServesTexts call.now (texts_view texts.now) result s }
 {
     let request = &call.request;
     let prepared = match prepare(alloc, request, texts) {
@@ -54,8 +57,17 @@ pub(crate) fn perform_texts<'b, F: Front, O: Sink, E: Sink>(
         telling: &telling,
         sets: &prepared.sets,
         stimulus,
+        expected: texts.expected(),
     };
-    perform_job::<F, _, _>(alloc, request, &job, out, err)
+    perform_shown::<F, _, _, _>(
+        alloc,
+        request,
+        &job,
+        call.extras.shows_progress,
+        out,
+        err,
+        progress,
+    )
 }
 
 /// The name of the stimulus, or what stands for it.
@@ -68,11 +80,38 @@ fn stimulus_name<'b>(request: &'b Request<'_>) -> &'b [u8]
     }
 }
 
-/// Does what is asked for.
-fn perform_job<F: Front, O: Sink, E: Sink>(
+/// Does what is asked for, and shows how far a run is where `shows` says so.
+fn perform_shown<F: Front, O: Sink, E: Sink, G: Sink>(
     alloc: Global,
     request: &Request<'_>,
     job: &Job<'_>,
+    shows: bool,
+    out: &mut O,
+    err: &mut E,
+    progress: &mut G,
+) -> Status
+    requires out { IsIntact (O.state out.old) }
+    requires err { IsIntact (E.state err.old) }
+    ensures serves { let s : Sinks = record { out = O.state out.old; out_after = O.state out.new; err = E.state err.old; err_after = E.state err.new; progress = G.state progress.old; progress_after = G.state progress.new } in
+        ServesBy job.now.telling.now job.now.source.now job.now.top.now result (outputs s) (ShowsIf shows job.now.stimulus.now s)
+        request.now (map (λ set. set.now) job.now.sets.now) job.now.stimulus.now (option_map (λ text. text.now) job.now.expected) }
+    ensures silent { shows ≡ false → G.state progress.new ≡ G.state progress.old }
+{
+    if !shows {
+        return perform_job::<F, _, _, _>(alloc, request, job, &mut Unwatched, out, err);
+    }
+    let mut watch = Progress::new(progress, stop_of(job.stimulus));
+    let status = perform_job::<F, _, _, _>(alloc, request, job, &mut watch, out, err);
+    watch.end();
+    status
+}
+
+/// Does what is asked for, while this watch looks on where it is a run.
+fn perform_job<F: Front, V: Watch, O: Sink, E: Sink>(
+    alloc: Global,
+    request: &Request<'_>,
+    job: &Job<'_>,
+    watch: &mut V,
     out: &mut O,
     err: &mut E,
 ) -> Status
@@ -80,7 +119,8 @@ fn perform_job<F: Front, O: Sink, E: Sink>(
     requires err { IsIntact (E.state err.old) }
     ensures { ServesBy job.now.telling.now job.now.source.now job.now.top.now result
         (record { out = O.state out.old; out_after = O.state out.new; err = E.state err.old; err_after = E.state err.new })
-        request.now (map (λ set. set.now) job.now.sets.now) job.now.stimulus.now }
+        (λ stands. V.told watch.old stands watch.new)
+        request.now (map (λ set. set.now) job.now.sets.now) job.now.stimulus.now (option_map (λ text. text.now) job.now.expected) }
 {
     let (source, top, telling) = (job.source, job.top, job.telling);
     match request {
@@ -95,9 +135,7 @@ fn perform_job<F: Front, O: Sink, E: Sink>(
             is_event,
             order,
             ..
-        } => simulate::<F, _, _>(alloc, *is_event, *order, job, out, err),
-        Request::Levels { .. } => {
-            serve_run_levels::<F, _, _>(alloc, source, top, telling, job.stimulus, out, err)
-        }
+        } => simulate::<F, _, _, _>(alloc, *is_event, *order, job, watch, out, err),
+        Request::Levels { .. } => simulate_levels::<F, _, _, _>(alloc, job, watch, out, err),
     }
 }

@@ -1,63 +1,141 @@
-//! Simulations that are asked for.
+//! Runs that are asked for.
 
+ghost use Rattle.std.specs.Prelude.{option_map};
 ghost use Rattle.rtl_sink.specs.Written.{IsIntact};
-ghost use Rattle.rtlsim.specs.Served.{ServesRun};
+ghost use Rattle.rtlsim.specs.Served.{ServesEvents, ServesLevels, ServesMachine, ServesRun};
 
+use crate::job::Job;
 use rtl_sink::Sink;
-use rtlsim_commands::{Forward, Front, Pick, Reverse, Status, Telling, serve_run, serve_run_event};
+use rtl_watch::Watch;
+use rtlsim_commands::{
+    Forward, Front, Pick, Reverse, Status, serve_run, serve_run_event, serve_run_event_expecting,
+    serve_run_expecting, serve_run_levels, serve_run_levels_expecting,
+};
 use rtlsim_words::Order;
 use std::alloc::Global;
 
-/// What commands are given.
-#[derive(Clone, Copy)]
-pub(crate) struct Job<'a> {
-    pub source: &'a [u8],
-    pub top: &'a [u8],
-    pub telling: &'a Telling<'a>,
-    /// The words that set inputs.
-    pub sets: &'a [&'a [u8]],
-    /// The text of the stimulus, which is empty where there is none.
-    pub stimulus: &'a [u8],
-}
-
-/// Simulates a source, by events alone where `is_event` says so, with its processes in this order.
-pub(crate) fn simulate<F: Front, O: Sink, E: Sink>(
+/// Runs a source while this watch looks on, by events alone where `is_event` says so, with its processes in this order.
+pub(crate) fn simulate<F: Front, V: Watch, O: Sink, E: Sink>(
     alloc: Global,
     is_event: bool,
     order: Order,
     job: &Job<'_>,
+    watch: &mut V,
     out: &mut O,
     err: &mut E,
 ) -> Status
     requires out { IsIntact (O.state out.old) }
     requires err { IsIntact (E.state err.old) }
     ensures { ServesRun job.now.telling.now job.now.source.now job.now.top.now result
-        (record { out = O.state out.old; out_after = O.state out.new; err = E.state err.old; err_after = E.state err.new }) is_event job.now.stimulus.now }
+        (record { out = O.state out.old; out_after = O.state out.new; err = E.state err.old; err_after = E.state err.new })
+        (λ stands. V.told watch.old stands watch.new) is_event job.now.stimulus.now (option_map (λ text. text.now) job.now.expected) }
 {
     match order {
-        Order::Forward => simulate_by::<F, _, _, _>(alloc, is_event, &mut Forward, job, out, err),
-        Order::Reverse => simulate_by::<F, _, _, _>(alloc, is_event, &mut Reverse, job, out, err),
+        Order::Forward => {
+            simulate_by::<F, _, _, _, _>(alloc, is_event, &mut Forward, job, watch, out, err)
+        }
+        Order::Reverse => {
+            simulate_by::<F, _, _, _, _>(alloc, is_event, &mut Reverse, job, watch, out, err)
+        }
     }
 }
 
-/// Simulates a source, with its processes in the order of the picker.
-fn simulate_by<F: Front, P: Pick, O: Sink, E: Sink>(
+/// Runs a source, with its processes in the order of the picker.
+fn simulate_by<F: Front, P: Pick, V: Watch, O: Sink, E: Sink>(
     alloc: Global,
     is_event: bool,
     pick: &mut P,
     job: &Job<'_>,
+    watch: &mut V,
     out: &mut O,
     err: &mut E,
 ) -> Status
     requires out { IsIntact (O.state out.old) }
     requires err { IsIntact (E.state err.old) }
     ensures { ServesRun job.now.telling.now job.now.source.now job.now.top.now result
-        (record { out = O.state out.old; out_after = O.state out.new; err = E.state err.old; err_after = E.state err.new }) is_event job.now.stimulus.now }
+        (record { out = O.state out.old; out_after = O.state out.new; err = E.state err.old; err_after = E.state err.new })
+        (λ stands. V.told watch.old stands watch.new) is_event job.now.stimulus.now (option_map (λ text. text.now) job.now.expected) }
 {
-    let (source, top, telling) = (job.source, job.top, job.telling);
     if is_event {
-        serve_run_event::<F, _, _, _>(alloc, source, top, telling, job.stimulus, pick, out, err)
+        simulate_events::<F, _, _, _, _>(alloc, pick, job, watch, out, err)
     } else {
-        serve_run::<F, _, _, _>(alloc, source, top, telling, job.stimulus, pick, out, err)
+        simulate_machine::<F, _, _, _, _>(alloc, pick, job, watch, out, err)
+    }
+}
+
+/// Runs a source by events, compared with what is expected if that is given.
+fn simulate_events<F: Front, P: Pick, V: Watch, O: Sink, E: Sink>(
+    alloc: Global,
+    pick: &mut P,
+    job: &Job<'_>,
+    watch: &mut V,
+    out: &mut O,
+    err: &mut E,
+) -> Status
+    requires out { IsIntact (O.state out.old) }
+    requires err { IsIntact (E.state err.old) }
+    ensures { ServesEvents job.now.telling.now job.now.source.now job.now.top.now result
+        (record { out = O.state out.old; out_after = O.state out.new; err = E.state err.old; err_after = E.state err.new })
+        (λ stands. V.told watch.old stands watch.new) job.now.stimulus.now (option_map (λ text. text.now) job.now.expected) }
+{
+    let (source, top, telling, stimulus) = (job.source, job.top, job.telling, job.stimulus);
+    match job.expected {
+        None => serve_run_event::<F, _, _, _, _>(
+            alloc, source, top, telling, stimulus, pick, watch, out, err,
+        ),
+        Some(expected) => serve_run_event_expecting::<F, _, _, _, _>(
+            alloc, source, top, telling, stimulus, expected, pick, watch, out, err,
+        ),
+    }
+}
+
+/// Runs a source as a synchronous machine, compared with what is expected if that is given.
+fn simulate_machine<F: Front, P: Pick, V: Watch, O: Sink, E: Sink>(
+    alloc: Global,
+    pick: &mut P,
+    job: &Job<'_>,
+    watch: &mut V,
+    out: &mut O,
+    err: &mut E,
+) -> Status
+    requires out { IsIntact (O.state out.old) }
+    requires err { IsIntact (E.state err.old) }
+    ensures { ServesMachine job.now.telling.now job.now.source.now job.now.top.now result
+        (record { out = O.state out.old; out_after = O.state out.new; err = E.state err.old; err_after = E.state err.new })
+        (λ stands. V.told watch.old stands watch.new) job.now.stimulus.now (option_map (λ text. text.now) job.now.expected) }
+{
+    let (source, top, telling, stimulus) = (job.source, job.top, job.telling, job.stimulus);
+    match job.expected {
+        None => serve_run::<F, _, _, _, _>(
+            alloc, source, top, telling, stimulus, pick, watch, out, err,
+        ),
+        Some(expected) => serve_run_expecting::<F, _, _, _, _>(
+            alloc, source, top, telling, stimulus, expected, pick, watch, out, err,
+        ),
+    }
+}
+
+/// Runs a source by levels, compared with what is expected if that is given.
+pub(crate) fn simulate_levels<F: Front, V: Watch, O: Sink, E: Sink>(
+    alloc: Global,
+    job: &Job<'_>,
+    watch: &mut V,
+    out: &mut O,
+    err: &mut E,
+) -> Status
+    requires out { IsIntact (O.state out.old) }
+    requires err { IsIntact (E.state err.old) }
+    ensures { ServesLevels job.now.telling.now job.now.source.now job.now.top.now result
+        (record { out = O.state out.old; out_after = O.state out.new; err = E.state err.old; err_after = E.state err.new })
+        (λ stands. V.told watch.old stands watch.new) job.now.stimulus.now (option_map (λ text. text.now) job.now.expected) }
+{
+    let (source, top, telling, stimulus) = (job.source, job.top, job.telling, job.stimulus);
+    match job.expected {
+        None => serve_run_levels::<F, _, _, _>(
+            alloc, source, top, telling, stimulus, watch, out, err,
+        ),
+        Some(expected) => serve_run_levels_expecting::<F, _, _, _>(
+            alloc, source, top, telling, stimulus, expected, watch, out, err,
+        ),
     }
 }

@@ -1,4 +1,4 @@
-//! The program over a reader and two writers, as the system gives them.
+//! The program over a reader and writers, as the system gives them.
 
 ghost use Rattle.std.specs.Prelude.{◌≡◌, Option, List, ℕ};
 ghost use Rattle.std.specs.Process.{exit_status};
@@ -6,8 +6,8 @@ ghost use Rattle.rtl_sink.specs.Written.{IsIntact};
 ghost use Rattle.rtlsim.specs.Inputs.{GivesNamed};
 ghost use Rattle.rtlsim.specs.Streams.{Ends, GoesOut, GoesToWriters, RunsArguments, ServesArguments, TellsLoss, TellsMemory};
 ghost use Rattle.rtlsim_commands.specs.Served as served;
-ghost use Rattle.rtlsim_commands.specs.Status.{code_of};
-ghost use Rattle.rtlsim_commands.specs.declared.status.Status.{Status};
+ghost use Rattle.rtlsim_faults.specs.Status.{code_of};
+ghost use Rattle.rtlsim_faults.specs.declared.status.Status.{Status};
 
 use crate::arguments::serve_arguments;
 use rtl_sink::{Out, Sink, push_text};
@@ -16,34 +16,42 @@ use std::io::{BufWriter, Read, Write};
 use std::process::ExitCode;
 use std::rt::{Env, Files};
 
-/// What the program ends with: its status, and the writers of its two streams.
+/// What the program ends with: its status, the writers of its two streams, and that to which how far a run is went.
 #[derive(Drop)]
-pub struct Ended<O, E> {
+pub struct Ended<O, E, P> {
     pub status: Status,
     pub stdout: O,
     pub stderr: E,
+    pub progress: P,
 }
 
 /// The program over the system's arguments and files, a reader and two writers: does what the arguments ask for, as `tool_with`
 /// does, or `tool_first_line` where there are none, and sees that all that it prints and tells goes out, in as few writes as it
-/// can. The status is that of what was done, or `Failed` where something didn't go out.
+/// can. The status is that of what was done, or `Failed` where something didn't go out. How far a run is goes to `progress` at once.
 pub fn program<
     F: Front,
     T: Files + Env + AllocGlobal,
     R: Read + Drop,
     O: Write + Copy + Drop,
     E: Write + Copy + Drop,
->(rt: &T, reader: R, stdout: O, stderr: E) -> Ended<O, E>
+    P: Write + Drop,
+>(rt: &T, reader: R, stdout: O, stderr: E, progress: P) -> Ended<O, E, P>
     ensures { RunsArguments (GivesNamed T.File.remaining) (R.remaining reader) result.status
-        (record { out = O.contents stdout; out_after = O.contents result.stdout; err = E.contents stderr; err_after = E.contents result.stderr }) }
+        (record { out = O.contents stdout; out_after = O.contents result.stdout; err = E.contents stderr; err_after = E.contents result.stderr; progress = P.contents progress; progress_after = P.contents result.progress }) }
 {
     let Ok(output) = BufWriter::new(rt.alloc(), stdout) else {
-        return refuse_memory(stdout, stderr);
+        return refuse_memory(stdout, stderr, progress);
     };
     let Ok(errors) = BufWriter::new(rt.alloc(), stderr) else {
-        return refuse_memory(stdout, stderr);
+        return refuse_memory(stdout, stderr, progress);
     };
-    run_arguments::<F, _, _, _, _>(rt, reader, Out::new(output), Out::new(errors))
+    run_arguments::<F, _, _, _, _, _>(
+        rt,
+        reader,
+        Out::new(output),
+        Out::new(errors),
+        Out::new(progress),
+    )
 }
 
 /// The program, as `program` runs it, with what the process ends with: the number of the program's status.
@@ -53,18 +61,20 @@ pub fn exit_code<
     R: Read + Drop,
     O: Write + Copy + Drop,
     E: Write + Copy + Drop,
->(rt: &T, reader: R, stdout: O, stderr: E) -> ExitCode
-    ensures { (status : Status) × (out : Option (List ℕ)) × (err : Option (List ℕ)) × (exit_status result ≡ code_of status)
-        × RunsArguments (GivesNamed T.File.remaining) (R.remaining reader) status
-        (record { out = O.contents stdout; out_after = out; err = E.contents stderr; err_after = err }) }
+    P: Write + Drop,
+>(rt: &T, reader: R, stdout: O, stderr: E, progress: P) -> ExitCode
+    ensures { (status : Status) × (out : Option (List ℕ)) × (err : Option (List ℕ)) × (shown : Option (List ℕ))
+        × (exit_status result ≡ code_of status) × RunsArguments (GivesNamed T.File.remaining) (R.remaining reader) status
+        (record { out = O.contents stdout; out_after = out; err = E.contents stderr; err_after = err; progress = P.contents progress; progress_after = shown }) }
 {
-    let ended = program::<F, _, _, _, _>(rt, reader, stdout, stderr);
+    let ended = program::<F, _, _, _, _, _>(rt, reader, stdout, stderr, progress);
     ExitCode::from(ended.status.code())
 }
 
 /// Tells that memory was refused, where no buffers can be had.
-fn refuse_memory<O, E: Write + Drop>(stdout: O, stderr: E) -> Ended<O, E>
+fn refuse_memory<O, E: Write + Drop, P>(stdout: O, stderr: E, progress: P) -> Ended<O, E, P>
     ensures kept { result.stdout ≡ stdout }
+    ensures silent { result.progress ≡ progress }
     ensures told { TellsMemory result.status (E.contents stderr) (E.contents result.stderr) }
 {
     let mut err = Out::new(stderr);
@@ -73,6 +83,7 @@ fn refuse_memory<O, E: Write + Drop>(stdout: O, stderr: E) -> Ended<O, E>
         status: ended_by(err.failed(), Status::Memory),
         stdout,
         stderr: err.into_inner(),
+        progress,
     }
 }
 
@@ -83,24 +94,34 @@ fn run_arguments<
     R: Read + Drop,
     O: Write + Drop,
     E: Write + Drop,
->(rt: &T, reader: R, mut out: Out<BufWriter<O>>, mut err: Out<BufWriter<E>>) -> Ended<O, E>
+    P: Write + Drop,
+>(
+    rt: &T,
+    reader: R,
+    mut out: Out<BufWriter<O>>,
+    mut err: Out<BufWriter<E>>,
+    mut shown: Out<P>,
+) -> Ended<O, E, P>
     requires out { IsIntact (⟦<Out<BufWriter<O>> as Sink>⟧.state out) }
     requires err { IsIntact (⟦<Out<BufWriter<E>> as Sink>⟧.state err) }
     ensures { (words : Option (List (List ℕ)))
         × GoesToWriters (ServesArguments (GivesNamed T.File.remaining) words (R.remaining reader)) result.status
-        (⟦<Out<BufWriter<O>> as Sink>⟧.state out) (⟦<Out<BufWriter<E>> as Sink>⟧.state err) (O.contents result.stdout) (E.contents result.stderr) }
+        (⟦<Out<BufWriter<O>> as Sink>⟧.state out) (⟦<Out<BufWriter<E>> as Sink>⟧.state err) (⟦<Out<P> as Sink>⟧.state shown)
+        (O.contents result.stdout) (E.contents result.stderr) (P.contents result.progress) }
 {
-    let outcome = serve_arguments::<F, _, _, _, _>(rt, reader, &mut out, &mut err);
-    end(outcome, out, err)
+    let outcome = serve_arguments::<F, _, _, _, _, _>(rt, reader, &mut out, &mut err, &mut shown);
+    end(outcome, out, err, shown.into_inner())
 }
 
 /// Sees that what both outputs took goes out, and that it is told where the first doesn't.
-fn end<O: Write + Drop, E: Write + Drop>(
+fn end<O: Write + Drop, E: Write + Drop, P>(
     outcome: Status,
     out: Out<BufWriter<O>>,
     mut err: Out<BufWriter<E>>,
-) -> Ended<O, E>
-    ensures { Ends outcome (⟦<Out<BufWriter<O>> as Sink>⟧.state out) (⟦<Out<BufWriter<E>> as Sink>⟧.state err) result.status
+    progress: P,
+) -> Ended<O, E, P>
+    ensures kept { result.progress ≡ progress }
+    ensures ends { Ends outcome (⟦<Out<BufWriter<O>> as Sink>⟧.state out) (⟦<Out<BufWriter<E>> as Sink>⟧.state err) result.status
         (O.contents result.stdout) (E.contents result.stderr) }
 {
     let had_failed = out.failed();
@@ -111,6 +132,7 @@ fn end<O: Write + Drop, E: Write + Drop>(
         status: ended_by(!is_told, ended_by(!is_out, outcome)),
         stdout,
         stderr,
+        progress,
     }
 }
 

@@ -2,7 +2,7 @@
 
 ghost use Rattle.std.specs.Prelude.{◌≡◌, Some, None, IfOk, IfErr, map, option_map};
 ghost use Rattle.rtlsim.specs.Requests.{GivesTexts};
-ghost use Rattle.rtlsim.specs.Reads.{GivesAll, GivesMain};
+ghost use Rattle.rtlsim.specs.Reads.{GivesAll, GivesMain, GivesMaybe};
 ghost use Rattle.rtlsim.specs.Texts.{read_view, texts_of, texts_view};
 ghost use Rattle.rtlsim.specs.declared.inputs.InputFault.TheVariants.{Failed};
 
@@ -22,6 +22,8 @@ pub(crate) struct Texts<'a> {
     pub file: &'a str,
     /// The source, with the stimulus.
     pub main: Main,
+    /// What is expected of a run, if that is given.
+    pub expected: Option<Vec<u8>>,
 }
 
 /// A file and its bytes.
@@ -40,6 +42,21 @@ pub(crate) enum Main {
     Apart { source: Vec<u8>, stimulus: Vec<u8> },
     /// In one input, between which a line `@` stands.
     Together(Vec<u8>),
+}
+
+impl Texts<'_> {
+    ghost use Rattle.std.specs.Prelude.{◌≡◌, option_map};
+    ghost use Rattle.rtlsim.specs.Texts.{texts_view};
+
+    /// What is expected of a run, if that is given.
+    pub(crate) fn expected(&self) -> Option<&[u8]>
+        ensures { option_map (λ text. text.now) result ≡ (texts_view self.now).expected }
+    {
+        match &self.expected {
+            Some(text) => Some(text),
+            None => None,
+        }
+    }
 }
 
 impl Main {
@@ -75,7 +92,7 @@ impl ReadFile<'_> {
     }
 }
 
-/// Reads the files that a call names: those before the source, the source and the stimulus.
+/// Reads the files that a call names: those before the source, the source, the stimulus, and that of what is expected.
 pub(crate) fn read_texts<'a, I: Inputs>(
     alloc: Global,
     call: &Call<'a>,
@@ -87,7 +104,13 @@ pub(crate) fn read_texts<'a, I: Inputs>(
     let file = file_of(&call.request);
     let before = read_files(alloc, &call.extras.with, inputs)?;
     let main = read_main(alloc, file, stimulus_of(&call.request), inputs)?;
-    Ok(Texts { before, file, main })
+    let expected = read_maybe(alloc, call.extras.expected, inputs)?;
+    Ok(Texts {
+        before,
+        file,
+        main,
+        expected,
+    })
 }
 
 /// Reads the files of these names, in order.
@@ -141,4 +164,19 @@ fn read_both<I: Inputs>(
     let source = inputs.read(alloc, file)?;
     let stimulus = inputs.read(alloc, stimulus)?;
     Ok(Main::Apart { source, stimulus })
+}
+
+/// Reads a file, if one is named.
+fn read_maybe<I: Inputs>(
+    alloc: Global,
+    name: Option<&str>,
+    inputs: &mut I,
+) -> Result<Option<Vec<u8>>, InputFault>
+    ensures given { IfOk result (λ text. GivesMaybe I.gives (option_map (λ name. name.now) name.entry) (I.state inputs.old) (I.state inputs.new) (Some (option_map (λ text. text.items) text))) }
+    ensures failed { IfErr result (λ fault. fault ≡ Failed → GivesMaybe I.gives (option_map (λ name. name.now) name.entry) (I.state inputs.old) (I.state inputs.new) None) }
+{
+    match name {
+        None => Ok(None),
+        Some(name) => Ok(Some(inputs.read(alloc, name)?)),
+    }
 }

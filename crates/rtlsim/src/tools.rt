@@ -1,8 +1,8 @@
-//! The program, over any inputs and two sinks.
+//! The program, over any inputs and sinks.
 
 ghost use Rattle.std.specs.Prelude.{◌≡◌, map};
-ghost use Rattle.rtlsim_commands.specs.Status.{code_of};
-ghost use Rattle.rtlsim_commands.specs.declared.status.Status.{Status};
+ghost use Rattle.rtlsim_faults.specs.Status.{code_of};
+ghost use Rattle.rtlsim_faults.specs.declared.status.Status.{Status};
 ghost use Rattle.rtl_sink.specs.Written.{IsIntact};
 ghost use Rattle.rtlsim.specs.Inputs.{GivesStandardAlone};
 ghost use Rattle.rtlsim.specs.Tools.{Performs, ServesCall, ServesWords};
@@ -18,65 +18,76 @@ use rtlsim_words::{Call, parse_words};
 use std::alloc::Global;
 
 /// The program where each file is `@`: does what the words ask for, or without words what those of the
-/// input's first line ask for, with the standard input alone, and answers the exit status.
-pub fn tool<F: Front, R: Reader, O: Sink, E: Sink>(
+/// input's first line ask for, with the standard input alone, and answers the exit status. How far a run is goes to `progress`, where that
+/// is asked for.
+pub fn tool<F: Front, R: Reader, O: Sink, E: Sink, G: Sink>(
     alloc: Global,
     words: &[&str],
     input: &mut Standard<R>,
     out: &mut O,
     err: &mut E,
+    progress: &mut G,
 ) -> u8
     requires out { IsIntact (O.state out.old) }
     requires err { IsIntact (E.state err.old) }
     ensures { (outcome : Status) × (result ≡ code_of outcome)
         × ServesWords GivesStandardAlone (map (λ word. word.now) words.now) (R.state input.old.reader) (R.state input.new.reader) outcome
-        (record { out = O.state out.old; out_after = O.state out.new; err = E.state err.old; err_after = E.state err.new }) }
+        (record { out = O.state out.old; out_after = O.state out.new; err = E.state err.old; err_after = E.state err.new; progress = G.state progress.old; progress_after = G.state progress.new }) }
 {
     if words.is_empty() {
-        return serve_reader_line::<F, _, _, _>(alloc, &mut input.reader, out, err).code();
+        return serve_reader_line::<F, _, _, _, _>(
+            alloc,
+            &mut input.reader,
+            out,
+            err,
+            progress,
+        ).code();
     }
-    tool_with::<F, _, _, _>(alloc, words, input, out, err).code()
+    tool_with::<F, _, _, _, _>(alloc, words, input, out, err, progress).code()
 }
 
 /// Does what the words ask for: reads the files that they name by `inputs`, writes the result to `out` and
 /// what is told of it to `err`, and answers the status. Words that are no command are refused with a text
-/// on `err`. It takes memory for the words and the files, and as the command does.
-pub fn tool_with<F: Front, I: Inputs, O: Sink, E: Sink>(
+/// on `err`. How far a run is goes to `progress` while it runs, where that is asked for; what can't be written
+/// there is left out. It takes memory for the words and the files, and as the command does.
+pub fn tool_with<F: Front, I: Inputs, O: Sink, E: Sink, G: Sink>(
     alloc: Global,
     words: &[&str],
     inputs: &mut I,
     out: &mut O,
     err: &mut E,
+    progress: &mut G,
 ) -> Status
     requires out { IsIntact (O.state out.old) }
     requires err { IsIntact (E.state err.old) }
     ensures { ServesCall I.gives (map (λ word. word.now) words.now) (I.state inputs.old) (I.state inputs.new) result
-        (record { out = O.state out.old; out_after = O.state out.new; err = E.state err.old; err_after = E.state err.new }) }
+        (record { out = O.state out.old; out_after = O.state out.new; err = E.state err.old; err_after = E.state err.new; progress = G.state progress.old; progress_after = G.state progress.new }) }
 {
     match parse_words(alloc, words) {
-        Ok(call) => perform::<F, _, _, _>(alloc, &call, inputs, out, err),
+        Ok(call) => perform::<F, _, _, _, _>(alloc, &call, inputs, out, err, progress),
         Err(refused) => refuse_words(&refused, out, err),
     }
 }
 
-/// Does what is asked for: reads the files before the source, the source and the stimulus by `inputs`, and then does what the command
-/// does with the joined source: writes the result to `out` and what is told of it to `err`, and answers the status. It takes memory for
-/// the files, once more for the source where it is that of several, and as the command does.
+/// Does what is asked for: reads the files before the source, the source, the stimulus and what is expected by `inputs`, and then does what
+/// the command does with the joined source: writes the result to `out`, what is told of it to `err`, and how far a run is to `progress`,
+/// and answers the status. It takes memory for the files, once more for the source where it is that of several, and as the command does.
 #[tactic(auto, unfolding(crate::specs::Tools::Performs))]
-pub fn perform<F: Front, I: Inputs, O: Sink, E: Sink>(
+pub fn perform<F: Front, I: Inputs, O: Sink, E: Sink, G: Sink>(
     alloc: Global,
     call: &Call<'_>,
     inputs: &mut I,
     out: &mut O,
     err: &mut E,
+    progress: &mut G,
 ) -> Status
     requires out { IsIntact (O.state out.old) }
     requires err { IsIntact (E.state err.old) }
     ensures { Performs I.gives call.now (I.state inputs.old) (I.state inputs.new) result
-        (record { out = O.state out.old; out_after = O.state out.new; err = E.state err.old; err_after = E.state err.new }) }
+        (record { out = O.state out.old; out_after = O.state out.new; err = E.state err.old; err_after = E.state err.new; progress = G.state progress.old; progress_after = G.state progress.new }) }
 {
     match read_texts(alloc, call, inputs) {
-        Ok(texts) => perform_texts::<F, _, _>(alloc, call, &texts, out, err),
+        Ok(texts) => perform_texts::<F, _, _, _>(alloc, call, &texts, out, err, progress),
         Err(fault) => refuse_input(fault, out, err),
     }
 }

@@ -1,3 +1,5 @@
 pub mod Refused
 pub mod Listed
+pub mod Watched
+pub mod Expected
 pub mod Told

@@ -62,7 +62,7 @@ pub began : (text : List ℕ) (net : NetlistView) (s : StimulusView) (answer : R
     → Answers net s most_deltas old new answer → Simulates text net answer old new
 began text net s answer old new none said answers = record { none_stored = none; stimulus = s; said = said; answers = answers }
 
-failed_run : (text : List ℕ) (net : NetlistView) (fault : RunFault) (old new : SinkState) → Simulates text net (Err fault) old new → RunsEvents text net (Err (of_run fault)) old new
+pub failed_run : (text : List ℕ) (net : NetlistView) (fault : RunFault) (old new : SinkState) → Simulates text net (Err fault) old new → RunsEvents text net (Err (of_run fault)) old new
 failed_run text net (run.NoSettling time) old new h = h
 failed_run text net run.Memory old new h = inl h
 failed_run text net run.Output old new h = h

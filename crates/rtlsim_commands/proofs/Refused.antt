@@ -3,18 +3,20 @@ use Rattle.std.proofs.Common.{◌≡◌, ℕ, Bool, false, List, Result, Ok, Err
 use Rattle.std.specs.Prelude.{IfErr, IsErrAnd}
 use Rattle.rtlsim_faults.specs.Faults.{of_source, of_machine}
 use Rattle.rtl_check.specs.declared.checking.Verdict.{Verdict}
+use Rattle.rtlsim_commands.specs.Expected.{RunsExpecting}
 use Rattle.rtlsim_commands.specs.Listed.{Writes, ListsNet, AnswersVerdict}
 use Rattle.rtlsim_commands.specs.Machine.{as_answer}
 use Rattle.rtlsim_commands.specs.Opened.{Opens}
 use Rattle.rtlsim_faults.specs.Places.{IsTold}
 use Rattle.rtlsim_commands.specs.Simulated.{RunsEvents}
 use Rattle.rtlsim_faults.specs.declared.faults.Fault.{Fault}
-use Rattle.rtlsim_faults.specs.declared.faults.Fault.TheVariants.{Lex, Syntax, Name, Elab, Rejected, Stim, NoSettling, Memory, Output}
+use Rattle.rtlsim_faults.specs.declared.faults.Fault.TheVariants.{Lex, Syntax, Name, Elab, Rejected, Stim, Expect, Differs, NoSettling, Memory, Output}
 use Rattle.rtl_machine.specs.declared.fault.MachineFault.{MachineFault}
 use Rattle.rtl_machine.specs.declared.fault.MachineFault.TheVariants as machine
 use Rattle.rtl_net.specs.Nets.{NetlistView}
 use Rattle.rtl_run.specs.declared.summary.Summary.{Summary}
 use Rattle.rtl_sink.specs.Written.{SinkState}
+use Rattle.rtl_watch.specs.Stands.{Stand}
 use Rattle.vhdl_source_rules.specs.Faults.{LiesIn}
 use Rattle.vhdl_source_rules.specs.Refusals.{Refuses}
 use Rattle.vhdl_source_rules.specs.declared.fault.SourceFault.{SourceFault}
@@ -38,6 +40,8 @@ writes_fault A text (Name x) size old new h = absurd h
 writes_fault A text (Elab x) size old new h = absurd h
 writes_fault A text (Rejected x) size old new h = tt
 writes_fault A text (Stim x) size old new h = tt
+writes_fault A text (Expect x) size old new h = tt
+writes_fault A text (Differs x) size old new h = tt
 writes_fault A text (NoSettling x) size old new h = tt
 writes_fault A text Memory size old new h = tt
 writes_fault A text Output size old new h = tt
@@ -59,6 +63,8 @@ runs_fault text net (Name x) size old new h = absurd h
 runs_fault text net (Elab x) size old new h = absurd h
 runs_fault text net (Rejected x) size old new h = tt
 runs_fault text net (Stim x) size old new h = tt
+runs_fault text net (Expect x) size old new h = tt
+runs_fault text net (Differs x) size old new h = tt
 runs_fault text net (NoSettling x) size old new h = tt
 runs_fault text net Memory size old new h = tt
 runs_fault text net Output size old new h = tt
@@ -78,3 +84,20 @@ machine_fault size machine.Output = tt
 pub machine_told : {A : Type 0} (given : Result A MachineFault) (answer : Result A Fault) (size : ℕ) → answer ≡ as_answer given → IfErr answer (IsTold size)
 machine_told (Ok x) answer size e = rw e tt
 machine_told (Err fault) answer size e = rw e (machine_fault size fault)
+
+-- ---- of runs that are compared
+
+pub expecting_told : {A : Type 0} (Runs : NetlistView → Result A Fault → (old new : SinkState) → Type 0) (Sees : (List Stand → Type 0) → NetlistView → Type 0) (expected : List ℕ)
+    (net : NetlistView) (fault : Fault) (size : ℕ) (old new : SinkState) → ((f : Fault) → Runs net (Err f) old new → IsTold size f) → RunsExpecting Runs Sees expected net (Err fault) old new
+    → IsTold size fault
+expecting_told Runs Sees expected net (Lex x) size old new told h = told (Lex x) h.holds
+expecting_told Runs Sees expected net (Syntax x) size old new told h = told (Syntax x) h.holds
+expecting_told Runs Sees expected net (Name x) size old new told h = told (Name x) h.holds
+expecting_told Runs Sees expected net (Elab x) size old new told h = told (Elab x) h.holds
+expecting_told Runs Sees expected net (Rejected x) size old new told h = tt
+expecting_told Runs Sees expected net (Stim x) size old new told h = tt
+expecting_told Runs Sees expected net (Expect x) size old new told h = tt
+expecting_told Runs Sees expected net (Differs x) size old new told h = tt
+expecting_told Runs Sees expected net (NoSettling x) size old new told h = tt
+expecting_told Runs Sees expected net Memory size old new told h = tt
+expecting_told Runs Sees expected net Output size old new told h = tt

@@ -1,7 +1,9 @@
 -- What is told of an answer.
-use Rattle.std.proofs.Common.{◌≡◌, List, [], length, Result, Err, inl, inr, refl, sym, ◌∙◌, true≢false}
+use Rattle.std.proofs.Common.{◌≡◌, ℕ, List, [], length, Result, Err, inl, inr, refl, sym, ◌∙◌, true≢false}
 use Rattle.rtlsim_faults.specs.Faults.{of_source, status_of}
 use Rattle.rtlsim_faults.specs.Explanations.{told}
+use Rattle.rtlsim_faults.specs.Places.{IsTold}
+use Rattle.rtlsim_faults.specs.Told.{TellsFault}
 use Rattle.rtlsim_faults.specs.declared.telling.Telling.{Telling}
 use Rattle.rtlsim_faults.specs.declared.faults.Fault.{Fault}
 use Rattle.rtlsim_faults.specs.declared.status.Status.{Status}
@@ -10,6 +12,7 @@ use Rattle.rtlsim_commands.specs.Served.{Outputs, Serves, ended}
 use Rattle.rtlsim_commands.specs.Told.{Done}
 use Rattle.rtl_net.specs.Nets.{NetlistView}
 use Rattle.rtl_sink.specs.Written.{SinkState, Goes}
+use Rattle.vhdl_source_rules.specs.Designs.{IsNetOf}
 use Rattle.vhdl_source_rules.specs.Faults.{LiesIn}
 use Rattle.vhdl_source_rules.specs.Refusals.{Refuses}
 use Rattle.vhdl_source_rules.specs.declared.fault.SourceFault.{SourceFault}
@@ -29,4 +32,16 @@ module _ {A : Type 0} (Does : NetlistView → Result A Fault → SinkState → S
     said = status_of (of_source fault);
     told = (no_net, (λ named. absurd (true≢false (sym named ∙ nameless fault))), inl (goes no_net, refl));
     ends = ends;
+  }
+
+  -- the work on its netlist ends with a fault
+  pub serves_faulty : (net : NetlistView) (fault : Fault) → IsNetOf source top net → Does net (Err fault) o.out o.out_after → IsTold (length source) fault
+      → (said : Status) × TellsFault telling net fault o.err o.err_after said × (outcome ≡ ended said o.out_after o.err_after) → Serves Does done telling source top outcome o
+  serves_faulty net fault is does placed tells = record {
+    answer = Err fault;
+    output = inl (net, is, does);
+    placed = placed;
+    said = tells.0;
+    told = (net, (λ named. is), tells.1);
+    ends = tells.2;
   }

@@ -1,5 +1,5 @@
 -- What `net` and `check` write of a net.
-use Rattle.std.specs.Prelude.{◌≡◌, ◌⊎◌, ℕ, Bool, List, Result, Ok, Err}
+use Rattle.std.specs.Prelude.{◌≡◌, ◌⊎◌, ℕ, Bool, if◌then◌else◌, List, [], ◌++◌, Result, Ok, Err}
 use Rattle.rtl_check.specs.Verdicts.{IsVerdict, ListsLoopsOnce, is_yes}
 use Rattle.rtl_check.specs.Views.{core}
 use Rattle.rtl_check.specs.declared.checking.Verdict.{Verdict}
@@ -10,6 +10,7 @@ use Rattle.rtlsim_faults.specs.declared.telling.Telling.{Telling}
 use Rattle.rtlsim_json.specs.Json.{json_text}
 use Rattle.rtlsim_listing.specs.CheckText.{check_text}
 use Rattle.rtlsim_listing.specs.DotText.{dot_text}
+use Rattle.rtlsim_remarks.specs.RemarkText.{remarks_text}
 use Rattle.rtlsim_listing.specs.NetText.{net_text}
 use Rattle.rtl_net.specs.Nets.{NetlistView}
 use Rattle.rtl_sink.specs.Written.{SinkState, IsIntact, HasFailed, TakesAll, TakesBeginning}
@@ -45,13 +46,17 @@ ChecksNet net answer old new = AnswersVerdict check_text net answer old new
 abbrev pub DrawsNet : NetlistView → Result Bool Fault → (old new : SinkState) → Type 0
 DrawsNet net answer old new = AnswersVerdict dot_text net answer old new
 
--- the same, with explanations of the faults where they are asked for
+-- the lines with explanations of the faults, and below them the remarks on the netlist, where they are asked for
+abbrev pub with_remarks : Telling → NetlistView → Verdict → List ℕ
+with_remarks telling net v = with_explanation check_text telling net v ++ (if telling.explains then remarks_text (files_of telling) net else [])
+
 abbrev pub ChecksNetTold : Telling → NetlistView → Result Bool Fault → (old new : SinkState) → Type 0
-ChecksNetTold telling net answer old new = AnswersVerdict (with_explanation check_text telling) net answer old new
+ChecksNetTold telling net answer old new = AnswersVerdict (with_remarks telling) net answer old new
 
 -- the verdict as an object of JSON
 abbrev pub ChecksNetJson : Telling → NetlistView → Result Bool Fault → (old new : SinkState) → Type 0
 ChecksNetJson telling net answer old new = AnswersVerdict (json_text (files_of telling)) net answer old new
 
+-- the graph, or the lines with explanations; a graph stays one, so no remarks stand below it
 abbrev pub DrawsNetTold : Telling → NetlistView → Result Bool Fault → (old new : SinkState) → Type 0
 DrawsNetTold telling net answer old new = AnswersVerdict (with_explanation dot_text telling) net answer old new

@@ -8,20 +8,10 @@ use rtl_expect::Expectations;
 use rtl_watch::Watch;
 
 /// Compares with what is expected, and lets another watch look on.
+#[derive(Drop)]
 pub(crate) struct Both<'a, V: Watch> {
     pub(crate) expected: Expectations,
     pub(crate) other: &'a mut V,
-}
-
-impl<'a, V: Watch> Both<'a, V> {
-    /// Nothing has been told yet.
-    pub(crate) fn new(expected: Expectations, other: &'a mut V) -> Both<'a, V>
-        ensures same_reference { result.other.ghost_name ≡ other.entry.ghost_name }
-        ensures other { result.other.now ≡ other.old }
-        ensures expected { result.expected ≡ expected }
-    {
-        Both { expected, other }
-    }
 }
 
 impl<V: Watch> Watch for Both<'_, V> {

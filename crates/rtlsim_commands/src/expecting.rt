@@ -42,9 +42,13 @@ pub fn run_net_expecting<P: Pick, V: Watch, S: Sink>(
         (S.state out.old) (S.state out.new) }
 {
     let expected = Expectations::read(alloc, net, expected)?;
-    let mut both = Both::new(expected, watch);
+    let mut both = Both {
+        expected,
+        other: watch,
+    };
     let summary = run_net_watched(alloc, net, stimulus, pick, &mut both, out)?;
-    unless_differs(summary, both.expected.difference())
+    let Both { expected, other: _watch } = both;
+    unless_differs(summary, expected.difference())
 }
 
 /// Simulates a netlist as `run_net_levels` does, and compares with what the lines of `expected` say. It takes memory for each of them.
@@ -68,9 +72,13 @@ pub fn run_net_levels_expecting<V: Watch, S: Sink>(
         (S.state out.old) (S.state out.new) }
 {
     let expected = Expectations::read(alloc, net, expected)?;
-    let mut both = Both::new(expected, watch);
+    let mut both = Both {
+        expected,
+        other: watch,
+    };
     let summary = run_net_levels_watched(alloc, net, stimulus, &mut both, out)?;
-    unless_differs(summary, both.expected.difference())
+    let Both { expected, other: _watch } = both;
+    unless_differs(summary, expected.difference())
 }
 
 /// Simulates a netlist as `run_events` does, and compares with what the lines of `expected` say. It takes memory for each of them.
@@ -95,9 +103,13 @@ pub fn run_events_expecting<P: Pick, V: Watch, S: Sink>(
         (S.state out.old) (S.state out.new) }
 {
     let expected = Expectations::read(alloc, net, expected)?;
-    let mut both = Both::new(expected, watch);
+    let mut both = Both {
+        expected,
+        other: watch,
+    };
     let summary = run_events_watched(alloc, net, stimulus, pick, &mut both, out)?;
-    unless_differs(summary, both.expected.difference())
+    let Both { expected, other: _watch } = both;
+    unless_differs(summary, expected.difference())
 }
 
 /// The answer of a run, unless a value isn't the expected one.

@@ -3,11 +3,12 @@
 ghost use Rattle.std.specs.Prelude.{◌≡◌, [], if◌then◌else◌, IfErr, length};
 ghost use Rattle.rtl_check.specs.Verdicts as verdicts;
 ghost use Rattle.rtl_sink.specs.Written.{IsIntact};
-ghost use Rattle.rtlsim_commands.specs.Listed.{ListsNet, ChecksNet, ChecksNetJson, ChecksNetTold, DrawsNet, DrawsNetTold};
-ghost use Rattle.rtlsim_faults.specs.Explanations.{verdict_explained, with_explanation};
+ghost use Rattle.rtlsim_commands.specs.Listed.{ListsNet, ChecksNet, ChecksNetJson, ChecksNetTold, DrawsNet, DrawsNetTold, with_remarks};
+ghost use Rattle.rtlsim_faults.specs.Explanations.{files_of, verdict_explained, with_explanation};
 ghost use Rattle.rtlsim_listing.specs.CheckText.{check_text};
 ghost use Rattle.rtlsim_listing.specs.DotText.{dot_text};
 ghost use Rattle.rtlsim_listing.specs.Printing.{IsListed};
+ghost use Rattle.rtlsim_remarks.specs.RemarkText.{remarks_text};
 ghost use Rattle.rtlsim_commands.specs.Opened.{Opens};
 ghost use Rattle.rtlsim_faults.specs.Places.{IsTold};
 
@@ -20,6 +21,7 @@ use rtlsim_explain_check::explain_rejection;
 use rtlsim_json::show_check_json;
 use rtlsim_listing;
 use rtlsim_listing::ListingFault;
+use rtlsim_remarks::show_remarks;
 use std::alloc::Global;
 use vhdl_source_rules::Front;
 
@@ -126,8 +128,8 @@ pub fn check_net_dot<S: Sink>(alloc: Global, net: &Net, out: &mut S) -> Result<b
     Ok(is_yes(&verdict))
 }
 
-/// Checks a netlist and writes the lines of the verdict, as `check_net` does, and below them the explanation of its faults where that is
-/// asked for.
+/// Checks a netlist and writes the lines of the verdict, as `check_net` does, and below them the explanation of its faults and the remarks
+/// on the netlist, where these are asked for.
 ///
 /// # Errors
 ///
@@ -142,7 +144,7 @@ pub fn check_net_told<S: Sink>(
     ensures { ChecksNetTold telling.now net.now result (S.state out.old) (S.state out.new) }
 {
     let verdict = check(alloc, net)?;
-    show_lines(alloc, telling, net, &verdict, out)?;
+    show_told(alloc, telling, net, &verdict, out)?;
     Ok(is_yes(&verdict))
 }
 
@@ -183,6 +185,39 @@ pub fn check_net_json<S: Sink>(
     let verdict = check(alloc, net)?;
     show_check_json(alloc, telling.files, net, &verdict, out)?;
     Ok(is_yes(&verdict))
+}
+
+/// Writes the lines of a verdict, and the explanation of its faults and the remarks where they are asked for.
+fn show_told<S: Sink>(
+    alloc: Global,
+    telling: &Telling<'_>,
+    net: &Net,
+    verdict: &Verdict,
+    out: &mut S,
+) -> Result<(), ListingFault>
+    requires intact { IsIntact (S.state out.old) }
+    ensures { IsListed result (S.state out.old) (S.state out.new) (with_remarks telling.now net.now verdict.now) }
+{
+    show_lines(alloc, telling, net, verdict, out)?;
+    show_asked_remarks(alloc, telling, net, out)
+}
+
+/// Writes the remarks on a netlist, where explanations are asked for.
+fn show_asked_remarks<S: Sink>(
+    alloc: Global,
+    telling: &Telling<'_>,
+    net: &Net,
+    out: &mut S,
+) -> Result<(), ListingFault>
+    requires intact { IsIntact (S.state out.old) }
+    ensures { IsListed result (S.state out.old) (S.state out.new)
+        (if telling.now.explains then remarks_text (files_of telling.now) net.now else []) }
+{
+    if telling.explains {
+        show_remarks(alloc, telling.files, net, out)
+    } else {
+        Ok(finish(out)?)
+    }
 }
 
 /// Writes the lines of a verdict, and the explanation of its faults where that is asked for.

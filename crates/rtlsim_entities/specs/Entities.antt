@@ -1,6 +1,6 @@
--- The entities that a text shows: at the beginning of a line, blanks aside, stand the words `entity`, a name and `is`, in letters of either
--- case (IEEE 1076-2008, 3.2.1).
-use Rattle.std.specs.Prelude.{ℕ, ◌==◌, ◌&&◌, ◌||◌, not, Bool, true, false, if◌then◌else◌, List, [], ◌∷◌, ◌++◌, length, take, drop, codes, flat_map, Option, Some, None}
+-- The entities that a text shows an architecture of: at the beginning of a line or behind a `;`, blanks aside, stand the words `architecture`,
+-- a name, `of`, the entity's name and `is`, in letters of either case (IEEE 1076-2008, 3.3.1).
+use Rattle.std.specs.Prelude.{ℕ, ◌==◌, ◌&&◌, ◌||◌, Bool, true, false, if◌then◌else◌, List, [], ◌∷◌, ◌++◌, take, drop, codes, flat_map, Option, Some, None}
 use Rattle.std.specs.List.{prefix_len}
 use Rattle.std.specs.Char.{is_ascii_alphanumeric}
 use Rattle.std.specs.Str.{str_eq_ignore_ascii_case}
@@ -33,27 +33,34 @@ behind_spaces text = drop (prefix_len is_space text) text
 abbrev pub behind_word : List ℕ → List ℕ
 behind_word text = behind_spaces (drop (prefix_len is_in_word text) text)
 
+-- what stands two words further
+abbrev pub two_further : List ℕ → List ℕ
+two_further text = behind_word (behind_word text)
+
+abbrev pub begins_with : (word : List ℕ) → List ℕ → Bool
+begins_with word text = str_eq_ignore_ascii_case (word_of text) word
+
 -- ---- entities
 
--- a text that begins with `entity NAME is`
-abbrev pub begins_entity : List ℕ → Bool
-begins_entity text =
-    str_eq_ignore_ascii_case (word_of text) (codes "entity") && str_eq_ignore_ascii_case (word_of (behind_word (behind_word text))) (codes "is")
+-- a text that begins with `architecture X of NAME is`
+abbrev pub begins_architecture : List ℕ → Bool
+begins_architecture text =
+    begins_with (codes "architecture") text && begins_with (codes "of") (two_further text) && begins_with (codes "is") (two_further (two_further text))
 
--- its name
+-- its NAME
 abbrev pub names_at : List ℕ → List (List ℕ)
-names_at text = if begins_entity text then word_of (behind_word text) ∷ [] else []
+names_at text = if begins_architecture text then word_of (behind_word (two_further text)) ∷ [] else []
 
 -- a name, or none, as a list
 abbrev pub names_of_option : Option (List ℕ) → List (List ℕ)
 names_of_option None = []
 names_of_option (Some name) = name ∷ []
 
--- nothing but blanks stands in its line before what is behind this byte; `begins`: before the byte
+-- what is behind this byte begins a line, or stands behind a `;`, blanks aside; `begins`: what is from the byte on does
 abbrev pub begins_behind : (byte : ℕ) → (begins : Bool) → Bool
-begins_behind byte begins = is_feed byte || (begins && is_blank byte)
+begins_behind byte begins = is_feed byte || byte == 59 || (begins && is_blank byte)
 
--- the names in a text; `begins`: nothing but blanks stands before it in its line
+-- the names in a text; `begins`: it begins a line, or stands behind a `;`
 abbrev pub names_from : (begins : Bool) → List ℕ → List (List ℕ)
 names_from begins [] = []
 names_from begins (byte ∷ bytes) =

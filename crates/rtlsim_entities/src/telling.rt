@@ -11,7 +11,8 @@ use crate::word::{begins_behind, entity_at};
 use rtl_sink::{Sink, push_text};
 use rtlsim_files::SourceFile;
 
-/// Writes a line with the names of the entities that these files show, in order; nothing where they show none.
+/// Writes a line with the names of the entities that these files show an architecture of, in order and as they are written; nothing where they
+/// show none.
 pub fn push_entities<S: Sink>(files: &[SourceFile<'_>], sink: &mut S)
     ensures { Goes (S.state sink.old) (S.state sink.new) (entities_line (map file_view files.now)) }
 {
@@ -50,8 +51,7 @@ fn push_names<S: Sink>(text: &[u8], is_first: bool, sink: &mut S) -> bool
     is_first
 }
 
-/// Writes the name of the entity whose declaration the text begins with, if it does and begins a line, and answers whether there is still
-/// none.
+/// Writes the name of the entity whose architecture the text begins with, if it does and may, and answers whether there is still none.
 fn push_at<S: Sink>(begins: bool, text: &[u8], is_first: bool, sink: &mut S) -> bool
     ensures { Tells (if begins then spec.names_at text.now else []) is_first (S.state sink.old) result (S.state sink.new) }
 {
@@ -61,7 +61,7 @@ fn push_at<S: Sink>(begins: bool, text: &[u8], is_first: bool, sink: &mut S) -> 
     push_name_at(text, is_first, sink)
 }
 
-/// Writes the name of the entity whose declaration the text begins with, if it does, and answers whether there is still none.
+/// Writes the name of the entity whose architecture the text begins with, if it does, and answers whether there is still none.
 fn push_name_at<S: Sink>(text: &[u8], is_first: bool, sink: &mut S) -> bool
     ensures { Tells (spec.names_at text.now) is_first (S.state sink.old) result (S.state sink.new) }
 {

@@ -18,11 +18,11 @@ fn is_space(byte: u8) -> bool
     is_blank(byte) || byte == b'\n' || byte == b'\r'
 }
 
-/// Whether nothing but blanks stands in its line before what is behind this byte; `begins`: before the byte.
+/// Whether what is behind this byte begins a line, or stands behind a `;`, blanks aside; `begins`: whether what is from the byte on does.
 pub(crate) fn begins_behind(byte: u8, begins: bool) -> bool
     ensures { result ≡ spec.begins_behind byte begins }
 {
-    byte == b'\n' || (begins && is_blank(byte))
+    byte == b'\n' || byte == b';' || (begins && is_blank(byte))
 }
 
 /// A letter, a digit or an underscore.
@@ -63,22 +63,36 @@ fn behind_word(text: &[u8]) -> &[u8]
     &behind[spaces_len(behind)..]
 }
 
-/// The name of the entity whose declaration the text begins with.
+/// What stands two words further.
+fn two_further(text: &[u8]) -> &[u8]
+    ensures { result.now ≡ spec.two_further text.now }
+{
+    behind_word(behind_word(text))
+}
+
+/// Whether the text begins with this word, in letters of either case.
+fn begins_with(word: &[u8], text: &[u8]) -> bool
+    ensures { result ≡ spec.begins_with word.now text.now }
+{
+    word_of(text).eq_ignore_ascii_case(word)
+}
+
+/// Whether the text begins with an architecture.
+fn begins_architecture(text: &[u8]) -> bool
+    ensures { result ≡ spec.begins_architecture text.now }
+{
+    begins_with(b"architecture", text)
+        && begins_with(b"of", two_further(text))
+        && begins_with(b"is", two_further(two_further(text)))
+}
+
+/// The name of the entity whose architecture the text begins with.
 pub(crate) fn entity_at(text: &[u8]) -> Option<&[u8]>
     ensures { spec.names_of_option (option_map (λ name. name.now) result) ≡ spec.names_at text.now }
 {
-    let name = behind_word(text);
-    if begins_entity(text, behind_word(name)) {
-        Some(word_of(name))
+    if begins_architecture(text) {
+        Some(word_of(behind_word(two_further(text))))
     } else {
         None
     }
-}
-
-/// Whether the text begins with `entity`, and what stands two words further with `is`.
-fn begins_entity(text: &[u8], further: &[u8]) -> bool
-    requires { further.now ≡ spec.behind_word (spec.behind_word text.now) }
-    ensures { result ≡ spec.begins_entity text.now }
-{
-    word_of(text).eq_ignore_ascii_case(b"entity") && word_of(further).eq_ignore_ascii_case(b"is")
 }

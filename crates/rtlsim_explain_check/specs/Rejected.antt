@@ -1,12 +1,15 @@
 -- What is written of the checker's faults: a paragraph for each cause, which tells the place of its first process, the fault and its
 -- processes, then all nets that it is told of, elements of a vector as a range, the line of the place, and what to do about it.
-use Rattle.std.specs.Prelude.{ℕ, ◌==◌, ◌&&◌, ◌||◌, Bool, false, if◌then◌else◌, List, [], ◌∷◌, ◌++◌, flat_map, bytes_eq, slice_get, Option, Some, None, codes}
+use Rattle.std.specs.Prelude.{ℕ, ◌==◌, ◌&&◌, ◌||◌, Bool, false, if◌then◌else◌, List, [], ◌∷◌, ◌++◌, bytes_eq, slice_get, Option, Some, None, codes}
 use Rattle.rtl_check.specs.Views.{fault_view}
 use Rattle.rtl_check.specs.declared.fault.CheckFault.{CheckFault}
 use Rattle.rtl_model.specs.simulation.Accepted.{Fault, TwoDrivers, MixedProcess, ClockNotInput, EdgeNotSensitive, ClockAsData, MissingSensitivity, Latch, Loop, StoredVariable}
 use Rattle.rtl_net.specs.Names.{net_name, process_name}
 use Rattle.rtl_net.specs.Nets.{NetlistView}
+use Rattle.rtl_net.specs.declared.process.Process.{Process}
 use Rattle.rtl_net.specs.declared.process.Variable.{Variable}
+use Rattle.rtl_net_facts.specs.Paths.{driven}
+use Rattle.rtl_net_facts.specs.Reading.{is_in}
 use Rattle.rtlsim_explain.specs.Explained.{help_line}
 use Rattle.rtlsim_explain_check.specs.Placed.{place_of, place_text, shown_text}
 use Rattle.rtlsim_explain_check.specs.Ranges.{follows, range_text}
@@ -65,7 +68,39 @@ fault_help (StoredVariable process variable place) = codes "assign it at the beg
 
 -- ---- processes and nets
 
--- the processes that it is told of, and idle ports by that word
+-- the first of these nets that is one of the others
+abbrev pub first_among : (others : List ℕ) → (nets : List ℕ) → Option ℕ
+first_among others [] = None
+first_among others (n ∷ nets) = if is_in n others then Some n else first_among others nets
+
+-- the lowest net to which a process is sensitive and that another drives
+abbrev pub link_net : (process next : Option Process) → Option ℕ
+link_net (Some p) (Some q) = first_among (driven q.drives.items) p.wakes.items
+link_net _ _ = None
+
+abbrev pub name_of_net : NetlistView → Option ℕ → List ℕ
+name_of_net net None = []
+name_of_net net (Some n) = net_name net n
+
+-- a process of a loop, and the net on the way to it from the next
+abbrev pub step_text : NetlistView → (process next : ℕ) → List ℕ
+step_text net process next =
+    member_text net process ++ codes " <- " ++ name_of_net net (link_net (slice_get net.processes process) (slice_get net.processes next)) ++ codes " <-"
+
+abbrev pub first_or : (other : ℕ) → List ℕ → ℕ
+first_or other [] = other
+first_or other (process ∷ processes) = process
+
+-- these processes of a loop, the last with the net on the way from the first, and the first once more
+abbrev pub round_text : NetlistView → (first : ℕ) → List ℕ → List ℕ
+round_text net first [] = member_text net first
+round_text net first (process ∷ processes) = step_text net process (first_or first processes) ++ round_text net first processes
+
+abbrev pub loop_text : NetlistView → List ℕ → List ℕ
+loop_text net [] = []
+loop_text net (process ∷ processes) = round_text net process (process ∷ processes)
+
+-- the processes that it is told of, and idle ports by that word; of a loop the nets too
 abbrev pub culprits : NetlistView → Fault → List ℕ
 culprits net (TwoDrivers n first second) = source_name net first ++ codes " and " ++ source_name net second
 culprits net (MixedProcess process) = process_name net process
@@ -74,7 +109,7 @@ culprits net (EdgeNotSensitive process n) = process_name net process
 culprits net (ClockAsData process n) = process_name net process
 culprits net (MissingSensitivity process n) = process_name net process
 culprits net (Latch process n) = process_name net process
-culprits net (Loop processes) = flat_map (member_text net) processes
+culprits net (Loop processes) = loop_text net processes
 culprits net (StoredVariable process variable place) = process_name net process
 
 abbrev pub name_of_variable : Option Variable → List ℕ

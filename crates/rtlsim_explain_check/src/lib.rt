@@ -9,7 +9,8 @@ mod placing;
 mod ranges;
 mod rejected;
 mod rejection;
+mod rounds;
 
-pub use placing::{at_process, place_of, place_text};
+pub use placing::{at_process, place_of, place_text, push_position};
 pub use ranges::{follows, push_range};
 pub use rejection::explain_rejection;

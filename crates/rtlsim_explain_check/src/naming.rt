@@ -1,12 +1,13 @@
 //! The names of what a fault is told of.
 
-ghost use Rattle.std.specs.Prelude.{◌≡◌, ◌++◌, flat_map, slice_get, IfOk, OnOk};
+ghost use Rattle.std.specs.Prelude.{◌≡◌, slice_get, IfOk};
 ghost use Rattle.rtl_check.specs.Views.{fault_view};
 ghost use Rattle.rtl_model.specs.simulation.Accepted as f;
 ghost use Rattle.rtl_net.specs.Nets.{source_view};
 ghost use Rattle.rtlsim_explain_check.specs.Rejected as spec;
-ghost use Rattle.rtlsim_listing.specs.CheckText.{member_text, variable_of};
+ghost use Rattle.rtlsim_listing.specs.CheckText.{variable_of};
 
+use crate::rounds::loop_text;
 use rtl_check::CheckFault;
 use rtl_net::{Net, NoMemory, Source};
 use rtlsim_listing::{net_name, process_name, source_name};
@@ -25,7 +26,7 @@ pub(crate) fn culprits(alloc: Global, net: &Net, fault: &CheckFault) -> Result<V
         | CheckFault::MissingSensitivity { process, .. }
         | CheckFault::Latch { process, .. }
         | CheckFault::StoredVariable { process, .. } => process_name(alloc, net, *process),
-        CheckFault::Loop { processes } => members(alloc, net, processes),
+        CheckFault::Loop { processes } => loop_text(alloc, net, processes),
     }
 }
 
@@ -42,26 +43,6 @@ fn both_sources(
     text.extend_from_slice(b" and ")?;
     text.extend_from_slice(&source_name(alloc, net, second)?)?;
     Ok(text)
-}
-
-/// The names of a loop's processes, each behind a space.
-fn members(alloc: Global, net: &Net, processes: &[usize]) -> Result<Vec<u8>, NoMemory>
-    ensures { IfOk result (λ text. text.items ≡ flat_map (member_text net.now) processes.now) }
-{
-    let mut text = Vec::new(alloc);
-    for process in processes {
-        push_member(alloc, net, *process, &mut text)?;
-    }
-    Ok(text)
-}
-
-/// Appends the name of a loop's process behind a space.
-fn push_member(alloc: Global, net: &Net, process: usize, text: &mut Vec<u8>) -> Result<(), NoMemory>
-    ensures { OnOk result (text.new.items ≡ text.old.items ++ member_text net.now process) }
-{
-    text.extend_from_slice(b" ")?;
-    text.extend_from_slice(&process_name(alloc, net, process)?)?;
-    Ok(())
 }
 
 /// The name of the net that a fault is told of, or of the variable as a whole.

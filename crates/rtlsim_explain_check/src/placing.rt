@@ -106,8 +106,8 @@ fn spot_text(alloc: Global, place: &FilePlace<'_>) -> Result<Vec<u8>, NoMemory>
     Ok(text)
 }
 
-/// Appends a line and a column.
-fn push_position(position: Position, text: &mut Vec<u8>) -> Result<(), NoMemory>
+/// Appends a line and a column, `:LINE:COLUMN: `. It takes memory where the text grows.
+pub fn push_position(position: Position, text: &mut Vec<u8>) -> Result<(), NoMemory>
     ensures { OnOk result (text.new.items ≡ position_text text.old.items position) }
 {
     text.extend_from_slice(b":")?;

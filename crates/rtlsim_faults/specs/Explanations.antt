@@ -11,12 +11,14 @@ use Rattle.rtlsim_faults.specs.declared.faults.Fault.TheVariants.{Lex, Syntax, N
 use Rattle.rtlsim_faults.specs.declared.faults.notice.FaultPlace.{FaultPlace}
 use Rattle.rtlsim_faults.specs.declared.faults.notice.FaultPlace.TheVariants.{Byte}
 use Rattle.rtlsim_faults.specs.declared.telling.Telling.{Telling}
+use Rattle.rtlsim_entities.specs.Entities.{entities_line}
 use Rattle.rtlsim_explain.specs.Explained.{Spot, Heading, lex_explained, syntax_explained, name_explained, elab_explained}
 use Rattle.rtlsim_explain.specs.Stimuli.{stim_explained, settle_explained}
 use Rattle.rtlsim_explain_check.specs.Rejected.{rejection_explained}
 use Rattle.rtlsim_files.specs.Files.{FileView, file_view, source_name, spot_in}
 use Rattle.vhdl_expand_rules.specs.declared.fault.ElabFault.{ElabFault}
 use Rattle.vhdl_expand_rules.specs.declared.fault.ElabFault.TheVariants as elab
+use Rattle.vhdl_expand_rules.specs.declared.fault.ElabProblem.TheVariants.{NoTop}
 use Rattle.vhdl_lexer.specs.declared.fault.LexFault.{LexFault}
 use Rattle.vhdl_names_rules.specs.declared.fault.NameFault.{NameFault}
 use Rattle.vhdl_names_rules.specs.declared.fault.NameFault.TheVariants as names
@@ -65,6 +67,11 @@ abbrev pub elab_said : List FileView → ElabFault → List ℕ
 elab_said files (elab.At problem at) = at_entry files (λ spot h. elab_explained spot h problem) (elab_entry (elab.At problem at))
 elab_said files elab.NoMemory = []
 
+-- the entities that the source shows, where the top is none of them
+abbrev pub entities_told : List FileView → ElabFault → List ℕ
+entities_told files (elab.At NoTop at) = entities_line files
+entities_told files _ = []
+
 -- ---- faults of a stimulus
 
 abbrev pub stimulus_explained : Telling → NetlistView → StimFault → Option Entry → List ℕ
@@ -78,7 +85,7 @@ abbrev pub explanation : Telling → NetlistView → Fault → List ℕ
 explanation telling net (Lex fault) = lex_said (files_of telling) fault
 explanation telling net (Syntax fault) = syntax_said (files_of telling) fault
 explanation telling net (Name fault) = name_said (files_of telling) fault
-explanation telling net (Elab fault) = elab_said (files_of telling) fault
+explanation telling net (Elab fault) = elab_said (files_of telling) fault ++ entities_told (files_of telling) fault
 explanation telling net (Rejected faults) = rejection_explained (files_of telling) net faults.items
 explanation telling net (Stim fault) = stimulus_explained telling net fault (stim_entry fault)
 explanation telling net (NoSettling time) = settle_explained (source_name (files_of telling)) (heading (settle_entry time)) time
@@ -87,7 +94,7 @@ explanation telling net (Differs difference) = []
 explanation telling net Memory = []
 explanation telling net Output = []
 
--- none of a stimulus
+-- one of a stimulus
 abbrev pub is_stim : Fault → Bool
 is_stim (Stim fault) = true
 is_stim _ = false

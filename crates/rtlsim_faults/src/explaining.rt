@@ -1,6 +1,6 @@
 //! What stands below the lines of a fault.
 
-ghost use Rattle.std.specs.Prelude.{◌≡◌, [], if◌then◌else◌, true, false, IfErr, map, option_map};
+ghost use Rattle.std.specs.Prelude.{◌≡◌, ◌++◌, [], if◌then◌else◌, true, false, IfErr, map, option_map};
 ghost use Rattle.rtl_net.specs.Nets.{NetlistView};
 ghost use Rattle.rtl_sink.specs.Written.{Goes, IsIntact};
 ghost use Rattle.rtlsim_faults.specs.Explanations as spec;
@@ -20,6 +20,7 @@ use crate::telling::Telling;
 use rtl_net::Net;
 use rtl_sink::{Sink, finish, push_text};
 use rtl_stim::StimFault;
+use rtlsim_entities::push_entities;
 use rtlsim_explain::{
     Place, Title, explain_elab, explain_lex, explain_name, explain_stim, explain_syntax,
     explain_unsettled,
@@ -28,7 +29,7 @@ use rtlsim_explain_check::explain_rejection;
 use rtlsim_files::{SourceFile, place_in, source_name};
 use rtlsim_listing::ListingFault;
 use std::alloc::Global;
-use vhdl_expand_rules::ElabFault;
+use vhdl_expand_rules::{ElabFault, ElabProblem};
 use vhdl_lexer::LexFault;
 use vhdl_names_rules::NameFault;
 use vhdl_parser::SyntaxFault;
@@ -159,8 +160,30 @@ fn explain_names<S: Sink>(files: &[SourceFile<'_>], fault: NameFault, sink: &mut
     }
 }
 
-/// Explains why units have no such design.
+/// Explains why units have no such design; where the top is none of the source's entities, these stand below.
 fn explain_elaboration<S: Sink>(files: &[SourceFile<'_>], fault: ElabFault, sink: &mut S)
+    ensures { Goes (S.state sink.old) (S.state sink.new)
+        (spec.elab_said (map file_view files.now) fault ++ spec.entities_told (map file_view files.now) fault) }
+{
+    explain_units(files, fault, sink);
+    tell_entities(files, fault, sink);
+}
+
+/// Writes the entities that a source shows, where the top is none of them.
+fn tell_entities<S: Sink>(files: &[SourceFile<'_>], fault: ElabFault, sink: &mut S)
+    ensures { Goes (S.state sink.old) (S.state sink.new) (spec.entities_told (map file_view files.now) fault) }
+{
+    match fault {
+        ElabFault::At {
+            problem: ElabProblem::NoTop,
+            ..
+        } => push_entities(files, sink),
+        _ => push_text(sink, b""),
+    }
+}
+
+/// Explains which rule of elaboration is broken.
+fn explain_units<S: Sink>(files: &[SourceFile<'_>], fault: ElabFault, sink: &mut S)
     ensures { Goes (S.state sink.old) (S.state sink.new) (spec.elab_said (map file_view files.now) fault) }
 {
     match (fault, placed(files, elab_notice(&fault))) {

@@ -6,5 +6,5 @@ use std::process::ExitCode;
 use vhdl_source::Vhdl;
 
 fn main(rt: HostRuntime) -> ExitCode {
-    exit_code::<Vhdl, _, _, _, _>(&rt, rt.reader(), rt.stdout(), rt.stderr())
+    exit_code::<Vhdl, _, _, _, _, _>(&rt, rt.reader(), rt.stdout(), rt.stderr(), rt.stderr())
 }

@@ -123,7 +123,7 @@ pub record SaysParts (command : Word) (parted : Parts) (call : Call) : Type 0 wh
   pub run : may_stand_with command parted ≡ true
   pub once : is_read_once (files_beside parted.with parted.expected) parted.left ≡ true
 
--- the words say the call: the command, and behind it the options of every command among what says the request
+-- the words say the call: the command, and behind it these options among what says the request
 pub record Says (words : List Word) (call : Call) : Type 0 where
   pub command : Word
   pub behind : List Word

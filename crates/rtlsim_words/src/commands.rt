@@ -123,10 +123,10 @@ fn run_command<'a>(alloc: Global) -> Result<Command<'a>, AllocError> {
     let expect = Arg::new(alloc, "expect")
         .long("expect")
         .value_name("FILE")
-        .help("Compare with the values that FILE expects");
+        .help("Compares with the values that FILE expects");
     let progress = Arg::new(alloc, "progress")
         .long("progress")
-        .help("Show how far the run is")
+        .help("Shows how far the run is")
         .action(ArgAction::SetTrue);
     design_command(alloc, "run", "Prints the trace under a stimulus")?
         .override_usage(RUN_USAGE)

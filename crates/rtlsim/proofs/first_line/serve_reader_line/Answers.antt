@@ -1,7 +1,7 @@
 use Rattle.std.proofs.Common.{◌≡◌, List, ℕ, inr, ap, subst, ◌∙◌}
 use Rattle.std.specs.List.{after_first}
 use Rattle.rtlsim.specs.Inputs.{GivesStandardAlone, held}
-use Rattle.rtlsim_commands.specs.Served.{Outputs}
+use Rattle.rtlsim.specs.Sinks.{Sinks}
 use Rattle.rtl_stim_lines.specs.Lines.{ends_line}
 use Rattle.rtlsim.specs.Lines.{first_line_of}
 use Rattle.rtlsim.specs.Tools.{ServesLine}
@@ -11,7 +11,7 @@ pub returns-in-Ok : goal.returns-in-Ok
 returns-in-Ok g c =
     let all = c.in-Ok.all.items in
     let left = held c.serve_line.new.inputs.reader.now in
-    let o : Outputs = record { out = g.O.Sink.state c.args.out.now; out_after = g.O.Sink.state c.serve_line.new.out; err = g.E.Sink.state c.args.err.now; err_after = g.E.Sink.state c.serve_line.new.err } in
+    let o : Sinks = record { out = g.O.Sink.state c.args.out.now; out_after = g.O.Sink.state c.serve_line.new.out; err = g.E.Sink.state c.args.err.now; err_after = g.E.Sink.state c.serve_line.new.err; progress = g.G.Sink.state c.args.progress.now; progress_after = g.G.Sink.state c.serve_line.new.progress } in
     let line : c.first_line.result.0.now ≡ first_line_of all = c.first_line.ensures.line ∙ ap first_line_of c.deref.ensures.value in
     let rest : c.first_line.result.1.now ≡ after_first ends_line all = c.first_line.ensures.rest ∙ ap (after_first ends_line) c.deref.ensures.value in
     let served : ServesLine GivesStandardAlone c.first_line.result.0.now (held c.first_line.result.1.now) left c.serve_line.result o = c.serve_line.ensures in

@@ -1,4 +1,4 @@
-use Rattle.std.proofs.Common.{ℕ, List, Bor, Option, Some, map, ap, subst}
+use Rattle.std.proofs.Common.{ℕ, List, Bor, Option, Some, map, option_map, ap, subst}
 use Rattle.rtlsim.specs.Reads.{GivesAll, GivesMain}
 use Rattle.rtlsim.specs.Requests.{stimulus_of, texts}
 use Rattle.rtlsim.specs.Texts.{read_view, texts_of}
@@ -9,15 +9,21 @@ pub returns-clause-given : goal.returns-clause-given
 returns-clause-given g c =
     let old = g.I.Inputs.state c.args.inputs.now in
     let between = g.I.Inputs.state c.read_files.new.inputs in
-    let new = g.I.Inputs.state c.read_main.new.inputs in
+    let behind = g.I.Inputs.state c.read_main.new.inputs in
+    let new = g.I.Inputs.state c.read_maybe.new.inputs in
     let before = map read_view c.in_ok-before.before.items in
-    let main = texts_of c.in_ok-main.main in (
-      (before, main),
+    let main = texts_of c.in_ok-main.main in
+    let expected = option_map (λ text. text.items) c.in_ok-expected.expected in (
+      (before, (main, expected)),
       (
         between,
         subst (λ (names : List (Bor (List ℕ))). GivesAll g.I.Inputs.gives (map name_of names) old between (Some before)) c.deref.ensures.value c.in_ok-before.ensures.given,
-        subst (λ (file : List ℕ). GivesMain g.I.Inputs.gives file (stimulus_of c.args.call.now.request) between new (Some main)) c.file_of-file.ensures
-            (subst (λ (stimulus : Option (List ℕ)). GivesMain g.I.Inputs.gives c.file_of-file.result.now stimulus between new (Some main)) c.stimulus_of.ensures c.in_ok-main.ensures.given),
+        (
+          behind,
+          subst (λ (file : List ℕ). GivesMain g.I.Inputs.gives file (stimulus_of c.args.call.now.request) between behind (Some main)) c.file_of-file.ensures
+              (subst (λ (stimulus : Option (List ℕ)). GivesMain g.I.Inputs.gives c.file_of-file.result.now stimulus between behind (Some main)) c.stimulus_of.ensures c.in_ok-main.ensures.given),
+          c.in_ok-expected.ensures.given,
+        ),
       ),
-      ap (λ (file : List ℕ). texts file (before, main)) c.file_of-file.ensures,
+      ap (λ (file : List ℕ). texts file (before, (main, expected))) c.file_of-file.ensures,
     )

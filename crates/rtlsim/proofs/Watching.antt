@@ -1,0 +1,112 @@
+-- What holds of what was seen of a run, by what else does.
+use Rattle.std.proofs.Common.{◌≡◌, ℕ, Bool, true, false, List, Option, Some, None, Result, Ok, Err, inl, inr, ◌++◌, sym, subst}
+use Rattle.rtl_net.specs.Nets.{NetlistView}
+use Rattle.rtl_progress.specs.Shown.{HasShown, shown_after, shown_text, text_of_end, whole_text}
+use Rattle.rtl_progress.specs.Stops.{stop_of}
+use Rattle.rtl_sink.proofs.Writing.{Goes-append}
+use Rattle.rtl_sink.specs.Written.{SinkState, Goes}
+use Rattle.rtl_watch.specs.Stands.{Stand}
+use Rattle.rtlsim.specs.Served.{ServesBy, ServesEvents, ServesLevels, ServesMachine}
+use Rattle.rtlsim.specs.Sinks.{Sinks, ShowsIf}
+use Rattle.rtlsim_commands.specs.Served.{Outputs, Serves}
+use Rattle.rtlsim_commands.specs.Told.{Done}
+use Rattle.rtlsim_commands.specs.Watched.{IfWhole, OfEvents, OfMachine, Watched}
+use Rattle.rtlsim_faults.specs.declared.faults.Fault.{Fault}
+use Rattle.rtlsim_faults.specs.declared.faults.Fault.TheVariants.{Differs}
+use Rattle.rtlsim_faults.specs.declared.status.Status.{Status}
+use Rattle.rtlsim_faults.specs.declared.telling.Telling.{Telling}
+use Rattle.rtlsim_words.specs.declared.request.Request.{Request}
+use Rattle.rtlsim_words.specs.declared.request.Request.TheVariants.{Eval, Net, Check, Dot, Json, Run, Levels}
+
+-- of an answer with the whole trace, or of another
+whole_more : {A P Q : Type 0} → (P → Q) → (answer : Result A Fault) → IfWhole answer P → IfWhole answer Q
+whole_more f (Ok x) p = f p
+whole_more f (Err (Differs d)) p = f p
+whole_more f (Err _) p = tt
+
+watched_more : {A : Type 0} {Does : NetlistView → Result A Fault → SinkState → SinkState → Type 0} {P Q : NetlistView → Type 0} → ((net : NetlistView) → P net → Q net)
+    → (net : NetlistView) (answer : Result A Fault) (old new : SinkState) → Watched Does P net answer old new → Watched Does Q net answer old new
+watched_more f net answer old new w = record { does = w.does; sees = whole_more (f net) answer w.sees }
+
+serves_more : {A : Type 0} {Does : NetlistView → Result A Fault → SinkState → SinkState → Type 0} {P Q : NetlistView → Type 0} {done : Done A} {telling : Telling}
+    {source top : List ℕ} {outcome : Status} {o : Outputs} → ((net : NetlistView) → P net → Q net)
+    → Serves (Watched Does P) done telling source top outcome o → Serves (Watched Does Q) done telling source top outcome o
+serves_more {o = o} f s = record {
+  answer = s.answer;
+  output = elim (s.output) [ inl x ↦ inl (x.0, x.1, watched_more f x.0 s.answer o.out o.out_after x.2) | inr y ↦ inr y ];
+  placed = s.placed;
+  said = s.said;
+  told = s.told;
+  ends = s.ends;
+}
+
+module _ {P Q : List Stand → Type 0} (f : (stands : List Stand) → P stands → Q stands) where
+  machine_more : (text : List ℕ) (net : NetlistView) → OfMachine text P net → OfMachine text Q net
+  machine_more text net m =
+      let told = m.done in
+      record {
+        bound = m.bound;
+        stimulus = m.stimulus;
+        admitted = m.admitted;
+        done = record {
+          run = told.run;
+          synchronous = told.synchronous;
+          stands = told.stands;
+          are = told.are;
+          all = told.all;
+          told = f told.stands told.told;
+        };
+      }
+
+  events_more : (text : List ℕ) (net : NetlistView) → OfEvents text P net → OfEvents text Q net
+  events_more text net e =
+      let told = e.all in
+      record { stimulus = e.stimulus; said = e.said; all = record { stands = told.stands; are = told.are; all = told.all; told = f told.stands told.told } }
+
+  module _ (telling : Telling) (source top : List ℕ) (outcome : Status) (o : Outputs) where
+    serves_machine : (text : List ℕ) (expected : Option (List ℕ)) → ServesMachine telling source top outcome o P text expected → ServesMachine telling source top outcome o Q text expected
+    serves_machine text None s = serves_more (machine_more text) s
+    serves_machine text (Some expected) s = serves_more (machine_more text) s
+
+    serves_events : (text : List ℕ) (expected : Option (List ℕ)) → ServesEvents telling source top outcome o P text expected → ServesEvents telling source top outcome o Q text expected
+    serves_events text None s = serves_more (events_more text) s
+    serves_events text (Some expected) s = serves_more (events_more text) s
+
+    serves_levels : (text : List ℕ) (expected : Option (List ℕ)) → ServesLevels telling source top outcome o P text expected → ServesLevels telling source top outcome o Q text expected
+    serves_levels text None s = serves_more (machine_more text) s
+    serves_levels text (Some expected) s = serves_more (machine_more text) s
+
+    -- this holds of what was seen, and so that does
+    pub serves_by : (request : Request) (sets : List (List ℕ)) (text : List ℕ) (expected : Option (List ℕ))
+        → ServesBy telling source top outcome o P request sets text expected → ServesBy telling source top outcome o Q request sets text expected
+    serves_by (Eval file entity words) sets text expected s = s
+    serves_by (Net file entity) sets text expected s = s
+    serves_by (Check file entity) sets text expected s = s
+    serves_by (Dot file entity) sets text expected s = s
+    serves_by (Json file entity) sets text expected s = s
+    serves_by (Run true order file entity stimulus) sets text expected s = serves_events text expected s
+    serves_by (Run false order file entity stimulus) sets text expected s = serves_machine text expected s
+    serves_by (Levels file entity stimulus) sets text expected s = serves_levels text expected s
+
+-- nothing is to be shown
+pub shows_none : (shows : Bool) → shows ≡ false → (stimulus : List ℕ) (s : Sinks) (stands : List Stand) → ShowsIf shows stimulus s stands
+shows_none false is stimulus s stands = tt
+shows_none true is stimulus s stands = absurd (cc)
+
+-- all is
+pub shows_all : (shows : Bool) → shows ≡ true → (stimulus : List ℕ) (s : Sinks) (stands : List Stand)
+    → Goes s.progress s.progress_after (whole_text (stop_of stimulus) stands) → ShowsIf shows stimulus s stands
+shows_all true is stimulus s stands goes = goes
+shows_all false is stimulus s stands goes = absurd (cc)
+
+-- What was shown while these stood, and behind it the end of its line, is the whole; of sinks over what a watch had lent it.
+pub shows_whole : {G : Type 0} (state : G → SinkState) (text : List ℕ) (stands : List Stand) (before start now after last : G) (stop shown new_stop new_shown : ℕ)
+    → stop ≡ stop_of text → shown ≡ 0 → start ≡ before → last ≡ after → HasShown stop shown (state start) stands new_stop new_shown (state now)
+    → Goes (state now) (state after) (text_of_end new_shown) → Goes (state before) (state last) (whole_text (stop_of text) stands)
+shows_whole {G} state text stands before start now after last stop shown new_stop new_shown stop_is shown_is start_is last_is h e =
+    let whole : Goes (state start) (state after) (shown_text stop shown stands ++ text_of_end (shown_after stop shown stands)) =
+    Goes-append _ _ _ _ _ h.text (subst (λ (n : ℕ). Goes (state now) (state after) (text_of_end n)) h.noted e) in
+    let of_stop = subst (λ (s : ℕ). Goes (state start) (state after) (shown_text s shown stands ++ text_of_end (shown_after s shown stands))) stop_is whole in
+    let of_none = subst (λ (n : ℕ). Goes (state start) (state after) (shown_text (stop_of text) n stands ++ text_of_end (shown_after (stop_of text) n stands))) shown_is of_stop in
+    subst (λ (g : G). Goes (state before) (state g) (whole_text (stop_of text) stands)) (sym last_is)
+    (subst (λ (g : G). Goes (state g) (state after) (whole_text (stop_of text) stands)) start_is of_none)

@@ -1,0 +1,116 @@
+-- Runs that are compared with what is expected.
+use Rattle.std.proofs.Common.{◌≡◌, ℕ, List, Option, Some, None, Result, Ok, Err, inl, inr, refl, sym, subst}
+use Rattle.std.specs.Prelude.{IsErrAnd, option_map}
+use Rattle.rtlsim_commands.specs.Expected.{Expects, RunsComparing, RunsExpecting, unless_differs}
+use Rattle.rtlsim_commands.specs.Machine.{as_answer}
+use Rattle.rtlsim_commands.specs.Watched.{IfWhole}
+use Rattle.rtlsim_commands.proofs.Watched.{watched_failed}
+use Rattle.rtlsim_faults.specs.Faults.{of_expect, of_machine}
+use Rattle.rtlsim_faults.specs.declared.faults.Fault.{Fault}
+use Rattle.rtlsim_faults.specs.declared.faults.Fault.TheVariants.{Lex, Syntax, Name, Elab, Rejected, Stim, Expect, Differs, NoSettling, Memory, Output}
+use Rattle.rtl_expect.specs.Differences.{first_difference}
+use Rattle.rtl_expect.specs.Expected.{Expectation}
+use Rattle.rtl_expect.specs.Lines.{expectations_of}
+use Rattle.rtl_expect.specs.Watching.{AreRead, difference_view}
+use Rattle.rtl_expect.specs.declared.difference.Difference.{Difference}
+use Rattle.rtl_expect.specs.declared.faults.ExpectFault.{ExpectFault}
+use Rattle.rtl_expect.specs.declared.faults.ExpectFault.TheVariants.{InLine, NoMemory}
+use Rattle.rtl_machine.specs.declared.fault.MachineFault.{MachineFault}
+use Rattle.rtl_machine.specs.declared.fault.MachineFault.TheVariants as machine
+use Rattle.rtl_net.specs.Nets.{NetlistView}
+use Rattle.rtl_sink.specs.Written.{SinkState}
+use Rattle.rtl_watch.specs.Stands.{Stand}
+
+-- the synchronous machine's faults are none of expected values
+pub unexpecting : {A : Type 0} (given : Result A MachineFault) (f : ExpectFault) → as_answer given ≡ Err (Expect f) → ⊥
+unexpecting (Ok x) f e = cc
+unexpecting (Err (machine.Rejected faults)) f e = cc
+unexpecting (Err (machine.Stim fault)) f e = cc
+unexpecting (Err machine.Memory) f e = cc
+unexpecting (Err machine.Output) f e = cc
+
+pub undiffering : {A : Type 0} (given : Result A MachineFault) (d : Difference) → as_answer given ≡ Err (Differs d) → ⊥
+undiffering (Ok x) d e = cc
+undiffering (Err (machine.Rejected faults)) d e = cc
+undiffering (Err (machine.Stim fault)) d e = cc
+undiffering (Err machine.Memory) d e = cc
+undiffering (Err machine.Output) d e = cc
+
+module _ {A : Type 0} (Runs : NetlistView → Result A Fault → (old new : SinkState) → Type 0) (Sees : (List Stand → Type 0) → NetlistView → Type 0) (net : NetlistView)
+    (expected : List ℕ) (old : SinkState) where
+  -- the lines are refused
+  unread : (fault : ExpectFault) → AreRead net expected (Err fault) → RunsExpecting Runs Sees expected net (Err (of_expect fault)) old old
+  unread (InLine problem line) h = (h (λ e. cc), refl)
+  unread NoMemory h = inr refl
+
+  unread_part : (fault : ExpectFault) (So : Type 0) → IfWhole {A = A} (Err (of_expect fault)) So
+  unread_part (InLine problem line) So = tt
+  unread_part NoMemory So = tt
+
+  pub refused : (So : Type 0) (answer : Result A Fault) (fault : ExpectFault) → IsErrAnd answer (λ f. f ≡ of_expect fault) → AreRead net expected (Err fault)
+      → RunsExpecting Runs Sees expected net answer old old × IfWhole answer So
+  refused So answer fault h read =
+      watched_failed (RunsExpecting Runs Sees expected) So net answer (of_expect fault) old old h (unread fault read) (unread_part fault So)
+
+  module _ (new : SinkState) (es : List Expectation) (read : expectations_of net expected ≡ Ok es) where
+    -- the run fails
+    module _ (no_expect : (f : ExpectFault) → Runs net (Err (Expect f)) old new → ⊥) (no_differs : (d : Difference) → Runs net (Err (Differs d)) old new → ⊥) where
+      unrun : (fault : Fault) → Runs net (Err fault) old new → RunsExpecting Runs Sees expected net (Err fault) old new
+      unrun (Lex x) h = record { expectations = es; read = read; holds = h }
+      unrun (Syntax x) h = record { expectations = es; read = read; holds = h }
+      unrun (Name x) h = record { expectations = es; read = read; holds = h }
+      unrun (Elab x) h = record { expectations = es; read = read; holds = h }
+      unrun (Rejected x) h = record { expectations = es; read = read; holds = h }
+      unrun (Stim x) h = record { expectations = es; read = read; holds = h }
+      unrun (Expect f) h = absurd (no_expect f h)
+      unrun (Differs d) h = absurd (no_differs d h)
+      unrun (NoSettling time) h = record { expectations = es; read = read; holds = h }
+      unrun Memory h = inl (record { expectations = es; read = read; holds = h })
+      unrun Output h = record { expectations = es; read = read; holds = h }
+
+      unrun_part : (So : Type 0) (fault : Fault) → Runs net (Err fault) old new → IfWhole {A = A} (Err fault) So
+      unrun_part So (Lex x) h = tt
+      unrun_part So (Syntax x) h = tt
+      unrun_part So (Name x) h = tt
+      unrun_part So (Elab x) h = tt
+      unrun_part So (Rejected x) h = tt
+      unrun_part So (Stim x) h = tt
+      unrun_part So (Expect f) h = tt
+      unrun_part So (Differs d) h = absurd (no_differs d h)
+      unrun_part So (NoSettling time) h = tt
+      unrun_part So Memory h = tt
+      unrun_part So Output h = tt
+
+      pub failed : (So : Type 0) (answer : Result A Fault) (fault : Fault) → IsErrAnd answer (λ f. f ≡ fault) → Runs net (Err fault) old new
+          → RunsExpecting Runs Sees expected net answer old new × IfWhole answer So
+      failed So answer fault h runs =
+          watched_failed (RunsExpecting Runs Sees expected) So net answer fault old new h (unrun fault runs) (unrun_part So fault runs)
+
+    -- the run is whole
+    module _ (so : (P Q : List Stand → Type 0) → ((stands : List Stand) → P stands → Q stands) → Sees P net → Sees Q net) where
+      pub whole : (x : A) (d : Option Difference) (answer : Result A Fault) (Told Seen : List Stand → Type 0) → answer ≡ unless_differs x d → Runs net (Ok x) old new → Sees Told net
+          → ((stands : List Stand) → Told stands → option_map difference_view d ≡ first_difference stands es) → ((stands : List Stand) → Told stands → Seen stands)
+          → RunsExpecting Runs Sees expected net answer old new × IfWhole answer (Sees Seen net)
+      whole x None answer Told Seen is runs sees first seen =
+          let P : Result A Fault → Type 0 = λ r. RunsExpecting Runs Sees expected net r old new × IfWhole r (Sees Seen net) in
+          subst P (sym is) (
+            record {
+              expectations = es;
+              read = read;
+              holds = record { runs = runs; first = so Told (λ stands. first_difference stands es ≡ None) (λ stands told. sym (first stands told)) sees };
+            },
+            so Told Seen seen sees,
+          )
+      whole x (Some d) answer Told Seen is runs sees first seen =
+          let P : Result A Fault → Type 0 = λ r. RunsExpecting Runs Sees expected net r old new × IfWhole r (Sees Seen net) in
+          subst P (sym is) (
+            record {
+              expectations = es;
+              read = read;
+              holds = (
+                x,
+                record { runs = runs; first = so Told (λ stands. first_difference stands es ≡ Some (difference_view d)) (λ stands told. sym (first stands told)) sees },
+              );
+            },
+            so Told Seen seen sees,
+          )

@@ -1,0 +1,18 @@
+use Rattle.std.proofs.Common.{Err, refl}
+use Rattle.rtlsim_commands.specs.Machine.{RunsMachineByLevels}
+use Rattle.rtlsim_commands.specs.Told as told
+use Rattle.rtlsim_commands.specs.Watched.{OfMachine}
+use Rattle.rtlsim_commands.proofs.Refused.{expecting_told, machine_told}
+use Rattle.rtlsim_commands.proofs.Told.{serves_refused, serves_faulty}
+use Rattle.rtlsim_commands.proofs.simulating.serve_run_levels_expecting.Goals as goal
+
+pub returns-in-Err : goal.returns-in-Err
+returns-in-Err g c =
+    serves_refused _ told.levels c.args.telling.now _ _ _ _ c.in-Err.fault c.in-Err.ensures.refused c.in-Err.ensures.told refl c.refuse_source.ensures.told c.refuse_source.ensures.status
+
+pub returns : goal.returns
+returns g c =
+    let work = c.in-Err-run_net_levels_expecting in
+    serves_faulty _ told.levels c.args.telling.now _ _ _ _ _ work.fault c.in-Ok.ensures.net work.ensures
+    (expecting_told (RunsMachineByLevels c.args.stimulus.now) (OfMachine c.args.stimulus.now) c.args.expected.now _ work.fault _ _ _ (λ f r. machine_told r.0 (Err f) _ r.1) work.ensures.does)
+    c.refuse_net.ensures
