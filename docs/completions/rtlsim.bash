@@ -18,9 +18,10 @@ _rtlsim_words_of() {
     check--with) echo FILE ;;
     check1) echo FILE ;;
     check2) echo TOP ;;
-    run) echo --with --explain --event --order --levels --help ;;
+    run) echo --with --explain --event --order --levels --expect --progress --help ;;
     run--with) echo FILE ;;
     run--order) echo forward reverse ;;
+    run--expect) echo FILE ;;
     run1) echo FILE ;;
     run2) echo TOP ;;
     run3) echo STIM ;;

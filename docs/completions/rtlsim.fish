@@ -70,6 +70,8 @@ complete -c rtlsim -n '__rtlsim_is run' -l explain -d 'Explains each fault: its 
 complete -c rtlsim -n '__rtlsim_is run' -l event -d 'Simulates by events alone, without the checker'
 complete -c rtlsim -n '__rtlsim_is run' -l order -x -a 'forward reverse' -d 'The order in which resumed processes run'
 complete -c rtlsim -n '__rtlsim_is run' -l levels -d 'Runs each process once a moment, in order of level'
+complete -c rtlsim -n '__rtlsim_is run' -l expect -r -F -d 'Compares with the values that FILE expects'
+complete -c rtlsim -n '__rtlsim_is run' -l progress -d 'Shows how far the run is'
 complete -c rtlsim -n '__rtlsim_is_at run 1' -F -d 'The source, or @ for the standard input'
 complete -c rtlsim -n '__rtlsim_is_at run 2' -a '(__rtlsim_tops)' -d 'The entity at the top'
 complete -c rtlsim -n '__rtlsim_is_at run 3' -F -d 'The stimulus, or @ for the standard input'
