@@ -1,4 +1,5 @@
-mod Naming
+mod Alike
+mod Labels
 mod Order
 mod Seeing
 mod Parts

@@ -1,4 +1,4 @@
--- What is expected: of a signal of the top, at a time, the value of each element. A scalar's or a vector's is told by one letter of the
+-- What is expected: of a signal, at a time, the value of each element. A scalar's or a vector's is told by one letter of the
 -- nine values for each element from the left, where `-` stands for any value; an enumeration's by the position of its literal, from 0,
 -- where `-` stands for any.
 use Rattle.std.specs.Prelude.{ℕ, nat_lt, List, [], ◌∷◌, Option, Some, None, bytes_eq, codes, slice_index, if◌then◌else◌}

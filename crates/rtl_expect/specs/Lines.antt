@@ -1,30 +1,30 @@
 -- What the lines of a file of expected values say: `at TIME NAME VALUE`, times in ns. Lines and words are those of a stimulus.
-use Rattle.std.specs.Prelude.{ℕ, suc, ◌==◌, ◌&&◌, nat_lt, Bool, List, [], ◌∷◌, Option, Some, None, Result, Ok, Err, bytes_eq, if◌then◌else◌}
-use Rattle.rtl_net.specs.Nets.{NetlistView, SignalView}
+use Rattle.std.specs.Prelude.{ℕ, suc, nat_lt, Bool, List, [], ◌∷◌, Option, Some, None, Result, Ok, Err, if◌then◌else◌}
+use Rattle.rtl_net.specs.Nets.{NetlistView, ScopeView, SignalView}
 use Rattle.rtl_stim_lines.specs.Lines.{Word, lines_of, words_of, says_nothing}
 use Rattle.rtl_stim_lines.specs.Forms.{Form, At, Clock, Stop, form_of}
-use Rattle.rtl_stim_lines.specs.Inputs.{small}
 use Rattle.rtl_stim_lines.specs.Reading.{is_too_large}
 use Rattle.rtl_expect.specs.declared.faults.ExpectProblem.{ExpectProblem}
 use Rattle.rtl_expect.specs.declared.faults.ExpectProblem.TheVariants.{BadLine, NotASignal, BadValue, TimeTooLarge}
 use Rattle.rtl_expect.specs.declared.faults.ExpectFault.{ExpectFault}
 use Rattle.rtl_expect.specs.declared.faults.ExpectFault.TheVariants.{InLine}
 use Rattle.rtl_expect.specs.declared.expected.Wanted.{Wanted}
+use Rattle.rtl_expect.specs.Names.{full_name, are_alike}
 use Rattle.rtl_expect.specs.Expected.{Expectation, value_wanted}
 
 -- ---- names
 
--- the name is that of the signal, a port or a signal of the top, in letters of either case
-abbrev pub is_named : (name : Word) → SignalView → Bool
-is_named name s = s.scope == 0 && bytes_eq (small name) (small s.name)
+-- the name is the full name of the port or signal, in letters of either case
+abbrev pub is_named : List ScopeView → (name : Word) → SignalView → Bool
+is_named scopes name s = are_alike name (full_name scopes s)
 
 -- of these signals, the first of which has this number, the first with the name, and its number
-abbrev pub signal_from : (number : ℕ) → List SignalView → (name : Word) → Option (ℕ × SignalView)
-signal_from number [] name = None
-signal_from number (s ∷ ss) name = if is_named name s then Some (number, s) else signal_from (suc number) ss name
+abbrev pub signal_from : List ScopeView → (number : ℕ) → List SignalView → (name : Word) → Option (ℕ × SignalView)
+signal_from scopes number [] name = None
+signal_from scopes number (s ∷ ss) name = if is_named scopes name s then Some (number, s) else signal_from scopes (suc number) ss name
 
 abbrev pub signal_named : NetlistView → (name : Word) → Option (ℕ × SignalView)
-signal_named net name = signal_from 0 net.signals name
+signal_named net name = signal_from net.scopes 0 net.signals name
 
 -- ---- order
 

@@ -1,7 +1,8 @@
 -- The full name of a signal within the top: the labels of the instances that lead to it from the top, and its own name, joined by dots. A
 -- signal of the top has its own name alone.
-use Rattle.std.specs.Prelude.{ℕ, zero, suc, List, [], ◌++◌, Option, Some, None, codes}
+use Rattle.std.specs.Prelude.{ℕ, zero, suc, Bool, List, [], ◌++◌, Option, Some, None, bytes_eq, codes}
 use Rattle.rtl_net.specs.Nets.{ScopeView, SignalView, label_at, parent_of}
+use Rattle.rtl_stim_lines.specs.Inputs.{small}
 
 -- the scope's label and a dot, behind those of the scopes round it; nothing for the top, which stands in no other scope
 abbrev pub labels_behind : (labels_of : ℕ → List ℕ) → (parent : Option ℕ) → (label : List ℕ) → List ℕ
@@ -19,3 +20,7 @@ labels scopes k = labels_within k scopes k
 
 abbrev pub full_name : List ScopeView → SignalView → List ℕ
 full_name scopes s = labels scopes s.scope ++ s.name
+
+-- two names are the same, in letters of either case
+abbrev pub are_alike : List ℕ → List ℕ → Bool
+are_alike name other = bytes_eq (small name) (small other)

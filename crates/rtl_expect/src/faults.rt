@@ -12,8 +12,8 @@ pub enum ExpectProblem {
     /// No `at`, a wrong count of words, or no number where one has to stand.
     #[error("the line is not understood")]
     BadLine,
-    /// A name that no port and no signal of the top has.
-    #[error("no signal of the top has this name")]
+    /// A name that is no port's and no signal's full name.
+    #[error("no signal has this name")]
     NotASignal,
     /// A value of another length than the signal's, or with another character than the nine; no position of the enumeration.
     #[error("the value does not fit the signal")]

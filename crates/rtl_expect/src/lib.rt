@@ -1,4 +1,4 @@
-//! Expected values of a simulation: which value a signal of the top has at a time.
+//! Expected values of a simulation: which value a signal has at a time.
 //!
 //! `specs/Expected.antt` says what is expected, `specs/Lines.antt` which lines a file of expected values has, and
 //! `specs/Differences.antt` which expectation is the first that doesn't hold; `specs/Telling.antt` has the line that tells it.
@@ -8,6 +8,7 @@ mod difference;
 mod expectation;
 mod expected;
 mod faults;
+mod naming;
 mod reading;
 mod telling;
 mod watching;

@@ -1,12 +1,8 @@
 //! Reading a file of expected values.
 
-ghost use Rattle.std.specs.Prelude.{◌≡◌, ◌≤◌, ◌<◌, ◌+◌, ◌∷◌, length, map, take, drop, option_map, IfOk, IfSome, OnOk};
-ghost use Rattle.std.specs.Prelude.{bytes_eq};
+ghost use Rattle.std.specs.Prelude.{◌≡◌, ◌≤◌, ◌<◌, ◌+◌, ◌∷◌, length, map, take, drop, option_map, IfOk, OnOk};
 ghost use Rattle.std.specs.List.{slice_split};
-ghost use Rattle.rtl_model.specs.bodies.Fits.{IsWidth};
-ghost use Rattle.rtl_net.specs.Nets.{signal_view};
 ghost use Rattle.rtl_stim_lines.specs.Lines.{as_lines, ends_line};
-ghost use Rattle.rtl_stim_lines.specs.Inputs.{small};
 ghost use Rattle.rtl_stim_lines.specs.Forms as forms;
 ghost use Rattle.rtl_expect.specs.Expected as wanted;
 ghost use Rattle.rtl_expect.specs.Lines as lines;
@@ -17,6 +13,7 @@ ghost use Rattle.rtl_expect.specs.Reading.{AreListed, IsExpected, Leads};
 use crate::expectation::Expectation;
 use crate::expected::Wanted;
 use crate::faults::{ExpectFault, ExpectProblem};
+use crate::naming::signal_named;
 use rtl_net::{Net, Signal, SignalKind};
 use rtl_stim_lines::{Form, Time, form_of, says_nothing, time_of, without_return, words_of};
 use std::alloc::{AllocError, Global};
@@ -107,34 +104,6 @@ fn expectation_of(
         signal: number,
         wanted,
     })
-}
-
-/// The signal of the top with a name, and its number.
-fn signal_named<'n>(net: &'n Net, name: &[u8]) -> Option<(usize, &'n Signal)>
-    ensures found { option_map (λ p. (p.0, signal_view p.1.now)) result ≡ lines.signal_named net.now name.now }
-    ensures width { IfSome result (λ p. IsWidth (length p.1.now.nets.items)) }
-{
-    let _count = net.nets();
-    for (number, signal) in net.signals().iter().enumerate() {
-        if is_named(name, signal) {
-            return Some((number, signal));
-        }
-    }
-    None
-}
-
-/// Whether a signal is one of the top with this name, in letters of either case.
-fn is_named(name: &[u8], signal: &Signal) -> bool
-    ensures { result ≡ lines.is_named name.now (signal_view signal.now) }
-{
-    signal.scope == 0 && are_alike(name, &signal.name)
-}
-
-/// Whether two names are the same, in letters of either case.
-fn are_alike(name: &[u8], other: &[u8]) -> bool
-    ensures { result ≡ bytes_eq (small name.now) (small other.now) }
-{
-    name.eq_ignore_ascii_case(other)
 }
 
 /// What a text wants of a signal's elements.

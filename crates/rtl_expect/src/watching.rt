@@ -24,7 +24,7 @@ pub struct Expectations {
 }
 
 impl Expectations {
-    /// Reads a file of expected values of a net's top. It takes memory for each line.
+    /// Reads a file of expected values of a net's signals. It takes memory for each line.
     ///
     /// # Errors
     ///

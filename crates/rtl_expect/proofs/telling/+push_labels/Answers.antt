@@ -5,7 +5,7 @@ use Rattle.rtl_sink.proofs.Writing.{Goes-append, Goes-nil}
 use Rattle.rtl_net.specs.declared.signal.Scope.{Scope}
 use Rattle.rtl_net.specs.Nets.{scope_view, parent_of, label_at}
 use Rattle.rtl_net.proofs.Naming.{parent-at, label-at, parent-before}
-use Rattle.rtl_expect.proofs.Naming.{labels-of_top, labels-in_parent}
+use Rattle.rtl_expect.proofs.Labels.{labels-of_top, labels-in_parent}
 use Rattle.rtl_expect.proofs.telling.+push_labels.Goals as goal
 
 pub push_labels-requires : goal.push_labels-requires

@@ -7,7 +7,7 @@ use Rattle.rtl_sink.proofs.Writing.{Goes-append}
 use Rattle.rtl_net.specs.Nets.{ScopeView, SignalView, scope_view, signal_view}
 use Rattle.rtl_expect.specs.Names.{full_name}
 use Rattle.rtl_expect.specs.Telling.{of_signal_found}
-use Rattle.rtl_expect.proofs.Naming.{signal_at, scope_there}
+use Rattle.rtl_expect.proofs.Labels.{signal_at, scope_there}
 use Rattle.rtl_expect.proofs.telling.push_found.Goals as goal
 
 pub push_name-requires-clause-there : goal.push_name-requires-clause-there
