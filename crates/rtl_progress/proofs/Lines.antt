@@ -1,58 +1,51 @@
 -- Reading a text line by line, and a line word by word.
-use Rattle.std.proofs.Common.{◌≡◌, ℕ, zero, suc, ◌+◌, ◌-◌, ◌<◌, ◌≤◌, Bool, true, false, cond, not, nat_lt, List, [], ◌∷◌, length, take, drop, filter, position, Option, Some, None, refl, ap, sym, ◌∙◌, subst, arith}
+use Rattle.std.proofs.Common.{◌≡◌, ℕ, zero, suc, ◌+◌, ◌-◌, ◌<◌, ◌≤◌, Bool, true, false, cond, not, List, [], ◌∷◌, length, take, drop, filter, position, Option, Some, None, refl, ap, sym, ◌∙◌, subst, arith}
 use Rattle.std.specs.Prelude.{unwrap_or, bytes_eq, codes, slice_index_or, ◌==◌, if◌then◌else◌}
 use Rattle.std.specs.List.{slice_split, onto_first, position_or_len}
 use Rattle.std.specs.Option.{option_or}
-use Rattle.std.proofs.lemmas.List.Splits.{slice_split_first, slice_split-cons_yes, slice_split-cons_no}
+use Rattle.std.proofs.lemmas.List.Splits.{slice_split_first, slice_split_none, slice_split-cons_yes, slice_split-cons_no, length-slice_split}
 use Rattle.std.proofs.lemmas.List.{take_rest}
-use Rattle.std.proofs.lemmas.List.Sums.{prefix_len-le-length}
+use Rattle.std.proofs.lemmas.List.Elements.{All-from_get_or}
+use Rattle.std.proofs.lemmas.List.Quantifiers.{position-Some}
+use Rattle.std.proofs.lemmas.List.Sums.{prefix_len-le-length, position_or_len_is, fails_before_first}
 use Rattle.std.proofs.lemmas.Bool.Decides.{nat_tests}
 use Rattle.rtl_stim_lines.specs.Lines.{Word, ends_line, without_return, as_lines, lines_of, is_blank, is_word, words_of}
 use Rattle.rtl_stim_lines.specs.Forms.{Clock, form_of, at_form, clock_form, number_of}
 use Rattle.rtl_progress.specs.Stops.{stop_said, stop_in, first_stop, stop_of}
 
+-- ---- parts of a text
+
+found : (p : ℕ → Bool) (xs : List ℕ) (n : ℕ) → position p xs ≡ Some n → (position_or_len p xs ≡ n) × (n < length xs)
+found p xs n h =
+    let at = position-Some p xs n 0 h in
+    (position_or_len_is p xs n 0 (omega (arith, at.0)) at.2 (λ _. at.1), at.0)
+
+missing : (p : ℕ → Bool) (xs : List ℕ) → position p xs ≡ None → length xs ≤ position_or_len p xs
+missing p xs h = grind (arith, nat_tests)
+
+part_alone : (p : ℕ → Bool) (xs : List ℕ) → position p xs ≡ None → slice_split p xs ≡ xs ∷ []
+part_alone p xs h =
+    let all = missing p xs h in
+    slice_split_none p xs (All-from_get_or (λ (x : ℕ). p x ≡ false) xs 0 (λ i less. fails_before_first p xs i 0 (omega (arith, all, less))))
+
+part_first : (p : ℕ → Bool) (xs : List ℕ) (n : ℕ) → position p xs ≡ Some n → slice_split p xs ≡ take n xs ∷ slice_split p (drop (n + 1) xs)
+part_first p xs n h =
+    let (same, less) = found p xs n h in
+    slice_split_first p xs 0 (omega (arith, same, less)) ∙ ap (λ (k : ℕ). take k xs ∷ slice_split p (drop (k + 1) xs)) same
+
 -- ---- lines
 
-whole : (text : List ℕ) → length text ≤ position_or_len ends_line text → slice_split ends_line text ≡ text ∷ []
-whole [] h = refl
-whole (x ∷ xs) h = go (ends_line x) h (λ more. whole xs more)
-  where
-    go : (b : Bool) → length (x ∷ xs) ≤ cond (not b) (1 + position_or_len ends_line xs) 0
-        → (length xs ≤ position_or_len ends_line xs → slice_split ends_line xs ≡ xs ∷ []) → cond b ([] ∷ slice_split ends_line xs) (onto_first x (slice_split ends_line xs)) ≡ (x ∷ xs) ∷ []
-    go true h more = absurd (omega arith)
-    go false h more = ap (onto_first x) (more (omega arith))
-
-split_some : (text : List ℕ) → (y : List ℕ) × (ys : List (List ℕ)) × (slice_split ends_line text ≡ y ∷ ys)
-split_some [] = ([], [], refl)
-split_some (x ∷ xs) = go (ends_line x) (split_some xs)
-  where
-    go : (b : Bool) → (y : List ℕ) × (ys : List (List ℕ)) × (slice_split ends_line xs ≡ y ∷ ys)
-        → (y : List ℕ) × (ys : List (List ℕ)) × (cond b ([] ∷ slice_split ends_line xs) (onto_first x (slice_split ends_line xs)) ≡ y ∷ ys)
-    go true more = ([], slice_split ends_line xs, refl)
-    go false (y, ys, e) = (x ∷ y, ys, ap (onto_first x) e)
-
-as_lines_more : (part : List ℕ) (parts : List (List ℕ)) (y : List ℕ) (ys : List (List ℕ)) → parts ≡ y ∷ ys → as_lines (part ∷ parts) ≡ without_return part ∷ as_lines parts
-as_lines_more part parts y ys e = rw e refl
-
-placed : (b : Bool) (m n k : ℕ) → nat_lt m n ≡ b → cond b (Some m) None ≡ Some k → (m ≡ k) × (m < n)
-placed true m n k e h = (cc, grind (arith, nat_tests))
-placed false m n k e h = cc
-
-nowhere : (b : Bool) (m n : ℕ) → nat_lt m n ≡ b → cond b (Some m) None ≡ None → n ≤ m
-nowhere true m n e h = cc
-nowhere false m n e h = grind (arith, nat_tests)
+ends_more : (part : List ℕ) (parts : List (List ℕ)) (n : ℕ) → length parts ≡ n + 1 → as_lines (part ∷ parts) ≡ without_return part ∷ as_lines parts
+ends_more part [] n e = absurd (omega (arith, e))
+ends_more part (next ∷ parts) n e = refl
 
 lines_end : (text : List ℕ) → position ends_line text ≡ None → lines_of text ≡ text ∷ []
-lines_end text h = ap as_lines (whole text (nowhere (nat_lt (position_or_len ends_line text) (length text)) (position_or_len ends_line text) (length text) refl h))
+lines_end text h = ap as_lines (part_alone ends_line text h)
 
 lines_more : (text : List ℕ) (k : ℕ) → position ends_line text ≡ Some k → lines_of text ≡ without_return (take k text) ∷ lines_of (drop (k + 1) text)
 lines_more text k h =
-    let at = placed (nat_lt (position_or_len ends_line text) (length text)) (position_or_len ends_line text) (length text) k refl h in
-    let rest = drop (position_or_len ends_line text + 1) text in
-    let more = split_some rest in
-    ap as_lines (slice_split_first ends_line text 0 at.1)
-    ∙ as_lines_more (take (position_or_len ends_line text) text) (slice_split ends_line rest) more.0 more.1 more.2
-    ∙ ap (λ k. without_return (take k text) ∷ lines_of (drop (k + 1) text)) at.0
+    ap as_lines (part_first ends_line text k h)
+    ∙ ends_more (take k text) (slice_split ends_line (drop (k + 1) text)) _ (length-slice_split ends_line (drop (k + 1) text))
 
 -- ---- when they say to stop
 
@@ -117,12 +110,12 @@ first_cut line n is h e =
 
 pub before_blank : (line : List ℕ) (n : ℕ) → position is_blank line ≡ Some n → (n ≡ position_or_len is_blank line) × (n ≤ length line)
 before_blank line n h =
-    let at = placed (nat_lt (position_or_len is_blank line) (length line)) (position_or_len is_blank line) (length line) n refl h in
-    (sym at.0, omega (arith, at.0, at.1))
+    let (same, less) = found is_blank line n h in
+    (sym same, omega (arith, less))
 
 pub before_end : (line : List ℕ) → position is_blank line ≡ None → length line ≡ position_or_len is_blank line
 before_end line h =
-    let over = nowhere (nat_lt (position_or_len is_blank line) (length line)) (position_or_len is_blank line) (length line) refl h in
+    let over = missing is_blank line h in
     let within = prefix_len-le-length (λ x. not (is_blank x)) line in
     omega arith
 
