@@ -6,6 +6,7 @@ HEAD = "library ieee; use ieee.std_logic_1164.all; use ieee.numeric_std.all;\n"
 LOGIC = ["and", "or", "xor", "nand", "nor", "xnor"]
 ORDER = ["=", "/=", "<", "<=", ">", ">="]
 LETTERS = "01010101LHXZ"  # of the literals
+IDLE = "ZZZZ-LHW"  # what a driver that rests gives
 
 class Signal:
     """kind: s one element, v std_logic_vector, u unsigned, e an enumeration, whose literals stand in words"""
@@ -309,7 +310,7 @@ class Design:
         r, s = self.r, self.declare(self.r.choice("suv"), 1)
         s.width = 1 if s.kind == "s" else r.randint(2, 9)
         self.decls[-1] = "signal %s : %s%s;" % (s.name, s.type(), r.choice(["", "", " := " + self.literal(s)]))
-        idle = r.choice("ZZZZ-LHW")
+        idle = r.choice(IDLE)
         for driver in range(2 if self.chance(0.7) else 3):
             n = s.width if s.kind == "s" or driver == 0 or self.chance(0.5) else r.randint(2, s.width)
             part = s.name if s.kind == "s" else s.slice(r.randrange(s.width - n + 1) if n < s.width else 0, n)
