@@ -203,16 +203,19 @@ def settled(c):
 
 def turned(r, lines):
     """the lines, in one of which a 0 or a 1 is the other, and which one that is"""
-    places = [(k, i) for k, l in enumerate(lines) for i in range(len(l[2])) if l[2][i] in "01" and expected(l[1], l[2]) == l[2]]
+    places = [(k, i) for k, l in enumerate(lines) for i in range(len(l[2])) if l[2][i] in "01" and not is_enumeration(l[1])]
     if not places: return None
     k, i = r.choice(places)
     t, n, v = lines[k]
     return lines[:k] + [(t, n, v[:i] + "10"[int(v[i])] + v[i + 1:])] + lines[k + 1:], k
 
+def is_enumeration(name):
+    return re.search(r"(^|\.)e\d+$", name)
+
 def expected(name, digits):
     """how a file of expected values has it: the position of an enumeration's literal in decimal, and what GHDL prints as x as any value"""
-    if re.search(r"(^|\.)e\d+$", name): return str(int(digits, 2))
-    return digits.replace("x", "-")
+    if is_enumeration(name): return str(int(digits, 2))
+    return digits.replace("x", "-").upper()
 
 def expect(path, program):
     bad = total = count = 0
