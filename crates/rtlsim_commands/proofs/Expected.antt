@@ -1,11 +1,11 @@
 -- Runs that are compared with what is expected.
 use Rattle.std.proofs.Common.{◌≡◌, ℕ, List, Option, Some, None, Result, Ok, Err, inl, inr, refl, sym, subst}
 use Rattle.std.specs.Prelude.{IsErrAnd, option_map}
-use Rattle.rtlsim_commands.specs.Expected.{Expects, RunsComparing, RunsExpecting, unless_differs}
+use Rattle.rtlsim_commands.specs.Expected.{RunsExpecting, unless_differs}
 use Rattle.rtlsim_commands.specs.Machine.{as_answer}
 use Rattle.rtlsim_commands.specs.Watched.{IfWhole}
 use Rattle.rtlsim_commands.proofs.Watched.{watched_failed}
-use Rattle.rtlsim_faults.specs.Faults.{of_expect, of_machine}
+use Rattle.rtlsim_faults.specs.Faults.{of_expect}
 use Rattle.rtlsim_faults.specs.declared.faults.Fault.{Fault}
 use Rattle.rtlsim_faults.specs.declared.faults.Fault.TheVariants.{Lex, Syntax, Name, Elab, Rejected, Stim, Expect, Differs, NoSettling, Memory, Output}
 use Rattle.rtl_expect.specs.Differences.{first_difference}

@@ -1,5 +1,5 @@
 -- What a source that is refused answers, and where faults are told.
-use Rattle.std.proofs.Common.{◌≡◌, ℕ, Bool, false, List, Result, Ok, Err, inl, inr, refl, ap}
+use Rattle.std.proofs.Common.{◌≡◌, ℕ, Bool, List, Result, Ok, Err, inl, inr, refl, ap}
 use Rattle.std.specs.Prelude.{IfErr, IsErrAnd}
 use Rattle.rtlsim_faults.specs.Faults.{of_source, of_machine}
 use Rattle.rtl_check.specs.declared.checking.Verdict.{Verdict}

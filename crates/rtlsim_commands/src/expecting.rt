@@ -47,7 +47,10 @@ pub fn run_net_expecting<P: Pick, V: Watch, S: Sink>(
         other: watch,
     };
     let summary = run_net_watched(alloc, net, stimulus, pick, &mut both, out)?;
-    let Both { expected, other: _watch } = both;
+    let Both {
+        expected,
+        other: _watch,
+    } = both;
     unless_differs(summary, expected.difference())
 }
 
@@ -77,7 +80,10 @@ pub fn run_net_levels_expecting<V: Watch, S: Sink>(
         other: watch,
     };
     let summary = run_net_levels_watched(alloc, net, stimulus, &mut both, out)?;
-    let Both { expected, other: _watch } = both;
+    let Both {
+        expected,
+        other: _watch,
+    } = both;
     unless_differs(summary, expected.difference())
 }
 
@@ -108,7 +114,10 @@ pub fn run_events_expecting<P: Pick, V: Watch, S: Sink>(
         other: watch,
     };
     let summary = run_events_watched(alloc, net, stimulus, pick, &mut both, out)?;
-    let Both { expected, other: _watch } = both;
+    let Both {
+        expected,
+        other: _watch,
+    } = both;
     unless_differs(summary, expected.difference())
 }
 

@@ -12,12 +12,11 @@ ghost use Rattle.rtlsim_remarks.specs.RemarkText.{remarks_text};
 ghost use Rattle.rtlsim_commands.specs.Opened.{Opens};
 ghost use Rattle.rtlsim_faults.specs.Places.{IsTold};
 
-use rtlsim_faults::Fault;
-use rtlsim_faults::Telling;
 use rtl_check::{Verdict, check};
 use rtl_net::Net;
 use rtl_sink::{Sink, finish};
 use rtlsim_explain_check::explain_rejection;
+use rtlsim_faults::{Fault, Telling};
 use rtlsim_json::show_check_json;
 use rtlsim_listing;
 use rtlsim_listing::ListingFault;

@@ -8,7 +8,6 @@ ghost use Rattle.rtlsim_commands.specs.Opened.{Opens};
 ghost use Rattle.rtlsim_commands.specs.Watched.{Watched, OfMachine};
 ghost use Rattle.rtlsim_faults.specs.Places.{IsTold};
 
-use rtlsim_faults::Fault;
 use rtl_kernel::Pick;
 use rtl_levelized;
 use rtl_levelized::LevelSummary;
@@ -17,6 +16,7 @@ use rtl_net::Net;
 use rtl_run::Summary;
 use rtl_sink::Sink;
 use rtl_watch::Watch;
+use rtlsim_faults::Fault;
 use std::alloc::Global;
 use vhdl_source_rules::Front;
 

@@ -8,7 +8,6 @@ ghost use Rattle.rtlsim_faults.specs.Places.{IsTold};
 ghost use Rattle.rtlsim_commands.specs.Simulated.{RunsEvents, most_deltas};
 ghost use Rattle.rtlsim_commands.specs.Watched.{Watched, OfEvents};
 
-use rtlsim_faults::Fault;
 use rtl_check::stored;
 use rtl_eval_code::codes;
 use rtl_kernel::Pick;
@@ -18,6 +17,7 @@ use rtl_run::{Simulation, Summary};
 use rtl_sink::Sink;
 use rtl_stim::{Stimulus, Wheel};
 use rtl_watch::{Unwatched, Watch};
+use rtlsim_faults::Fault;
 use std::alloc::Global;
 use vhdl_source_rules::Front;
 

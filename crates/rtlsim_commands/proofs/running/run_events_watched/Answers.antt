@@ -2,7 +2,7 @@ use Rattle.std.proofs.Common.{map, sym, ap, ◌∙◌}
 use Rattle.std.proofs.lemmas.Bool.{eqb-true}
 use Rattle.rtl_run.specs.declared.summary.Summary.{Summary}
 use Rattle.rtlsim_commands.specs.Simulated.{RunsEvents}
-use Rattle.rtlsim_commands.proofs.Listed.{unrun, none_stored, failed_run, began}
+use Rattle.rtlsim_commands.proofs.Listed.{none_stored, failed_run, began}
 use Rattle.rtlsim_commands.proofs.Watched.{watched_failed, watched_so, run_part}
 use Rattle.rtl_machine.proofs.Codes.{run_of, codes_run}
 use Rattle.rtlsim_commands.proofs.running.run_events_watched.Goals as goal
