@@ -1,1 +1,2 @@
 pub mod RemarkText
+pub mod Marks

@@ -4,6 +4,7 @@
 #![tactic(auto)]
 
 mod lines;
+mod places;
 mod said;
 mod showing;
 

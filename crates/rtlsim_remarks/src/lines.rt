@@ -2,12 +2,14 @@
 
 ghost use Rattle.std.specs.Prelude.{◌≡◌, ◌++◌, map, IfOk, OnOk};
 ghost use Rattle.rtlsim_files.specs.Files.{file_view};
+ghost use Rattle.rtlsim_remarks.specs.Marks.{AreMarked};
 ghost use Rattle.rtlsim_remarks.specs.RemarkText as spec;
 
+use crate::places::{MarkedFile, place_text};
 use crate::said::{closing, is_same, middle, net_of, opening, process_of};
 use rtl_net::{Net, NoMemory};
 use rtl_remarks::Remark;
-use rtlsim_explain_check::{at_process, follows, place_text, push_range};
+use rtlsim_explain_check::{at_process, follows, push_range};
 use rtlsim_files::SourceFile;
 use rtlsim_listing::{net_name, process_name};
 use std::alloc::Global;
@@ -16,14 +18,16 @@ use std::alloc::Global;
 pub(crate) fn lines(
     alloc: Global,
     files: &[SourceFile<'_>],
+    marked: &[MarkedFile<'_>],
     net: &Net,
     remarks: &[Remark],
 ) -> Result<Vec<u8>, NoMemory>
+    requires marked { AreMarked (map file_view files.now) marked.now }
     ensures { IfOk result (λ text. text.items ≡ spec.lines (map file_view files.now) net.now remarks.now) }
 {
     match remarks {
         [] => Ok(Vec::new(alloc)),
-        [first, left @ ..] => lines_from(alloc, files, net, *first, left),
+        [first, left @ ..] => lines_from(alloc, files, marked, net, *first, left),
     }
 }
 
@@ -31,10 +35,12 @@ pub(crate) fn lines(
 fn lines_from(
     alloc: Global,
     files: &[SourceFile<'_>],
+    marked: &[MarkedFile<'_>],
     net: &Net,
     begin: Remark,
     remarks: &[Remark],
 ) -> Result<Vec<u8>, NoMemory>
+    requires marked { AreMarked (map file_view files.now) marked.now }
     ensures { IfOk result (λ text. text.items ≡ spec.lines_from (map file_view files.now) net.now (spec.name net.now begin) begin remarks.now) }
 {
     let mut text = Vec::new(alloc);
@@ -44,13 +50,13 @@ fn lines_from(
     while let [remark, others @ ..] = left {
         let next = name(alloc, net, *remark)?;
         if !goes_on(alloc, net, before, *remark)? {
-            push_line(alloc, files, net, &first, before, &mut text)?;
+            push_line(alloc, files, marked, net, &first, before, &mut text)?;
             first = next;
         }
         before = *remark;
         left = others;
     }
-    push_line(alloc, files, net, &first, before, &mut text)?;
+    push_line(alloc, files, marked, net, &first, before, &mut text)?;
     Ok(text)
 }
 
@@ -67,14 +73,16 @@ fn goes_on(alloc: Global, net: &Net, before: Remark, remark: Remark) -> Result<b
 fn push_line(
     alloc: Global,
     files: &[SourceFile<'_>],
+    marked: &[MarkedFile<'_>],
     net: &Net,
     first: &[u8],
     last: Remark,
     text: &mut Vec<u8>,
 ) -> Result<(), NoMemory>
+    requires marked { AreMarked (map file_view files.now) marked.now }
     ensures { OnOk result (text.new.items ≡ text.old.items ++ spec.line (map file_view files.now) net.now first.now last) }
 {
-    push_head(alloc, files, net, last, text)?;
+    push_head(alloc, files, marked, net, last, text)?;
     push_range(first, &name(alloc, net, last)?, text)?;
     text.extend_from_slice(closing(last).as_bytes())?;
     Ok(())
@@ -84,14 +92,16 @@ fn push_line(
 fn push_head(
     alloc: Global,
     files: &[SourceFile<'_>],
+    marked: &[MarkedFile<'_>],
     net: &Net,
     remark: Remark,
     text: &mut Vec<u8>,
 ) -> Result<(), NoMemory>
+    requires marked { AreMarked (map file_view files.now) marked.now }
     ensures { OnOk result (text.new.items ≡ text.old.items ++ spec.head (map file_view files.now) net.now remark) }
 {
     let process = process_of(remark);
-    text.extend_from_slice(&place_text(alloc, files, at_process(net, process))?)?;
+    text.extend_from_slice(&place_text(alloc, files, marked, at_process(net, process))?)?;
     text.extend_from_slice(opening(remark).as_bytes())?;
     text.extend_from_slice(&name_of_process(alloc, net, process)?)?;
     text.extend_from_slice(middle(remark).as_bytes())?;

@@ -7,6 +7,7 @@ ghost use Rattle.rtlsim_listing.specs.Printing.{IsListed};
 ghost use Rattle.rtlsim_remarks.specs.RemarkText as spec;
 
 use crate::lines::lines;
+use crate::places::mark_files;
 use rtl_net::{Net, NoMemory};
 use rtl_remarks::remarks;
 use rtl_sink::{Sink, finish, push_text};
@@ -40,5 +41,6 @@ fn text_of(alloc: Global, files: &[SourceFile<'_>], net: &Net) -> Result<Vec<u8>
     ensures { IfOk result (λ text. text.items ≡ spec.remarks_text (map file_view files.now) net.now) }
 {
     let remarks = remarks(alloc, net)?;
-    lines(alloc, files, net, &remarks)
+    let marked = mark_files(alloc, files)?;
+    lines(alloc, files, &marked, net, &remarks)
 }
