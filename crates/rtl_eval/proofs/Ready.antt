@@ -45,34 +45,34 @@ module _ (nets : Valuations) (o : Outcome) where
   pub whole : (x : Statement) (v : bodies.Stmt) (new : Outcome) → statement_view x ≡ v → DoesOne v new → DoesOne (statement_view x) new
   whole x v new e d = subst (λ (y : bodies.Stmt). DoesOne y new) (sym e) d
 
-  pub if_ready : (x : Statement) (branches : Vec Branch Global) (otherwise : Option (Vec Statement Global)) (bs : List Branch)
-      → IsReady nets o (λ scope. FitsStmt scope (statement_view x)) → x ≡ s.If branches otherwise → bs ≡ branches.items → IsReady nets o (λ scope. FitsBranches scope (branches_of (else_of otherwise) bs))
-  if_ready x branches otherwise bs w is e =
+  pub if_ready : (x : Statement) (at : ℕ) (branches : Vec Branch Global) (otherwise : Option (Vec Statement Global)) (bs : List Branch)
+      → IsReady nets o (λ scope. FitsStmt scope (statement_view x)) → x ≡ s.If at branches otherwise → bs ≡ branches.items → IsReady nets o (λ scope. FitsBranches scope (branches_of (else_of otherwise) bs))
+  if_ready x at branches otherwise bs w is e =
       subst (λ (ys : List Branch). IsReady nets o (λ scope. FitsBranches scope (branches_of (else_of otherwise) ys))) (sym e)
-      (part x (bodies.if_of (branches_of (else_of otherwise) branches.items)) w (ap statement_view is ∙ view_if branches otherwise))
+      (part x (bodies.if_of (branches_of (else_of otherwise) branches.items)) w (ap statement_view is ∙ view_if at branches otherwise))
 
-  pub if_done : (x : Statement) (branches : Vec Branch Global) (otherwise : Option (Vec Statement Global)) (bs : List Branch) (new : Outcome)
-      → x ≡ s.If branches otherwise → bs ≡ branches.items → DoesIf (branches_of (else_of otherwise) bs) new → DoesOne (statement_view x) new
-  if_done x branches otherwise bs new is e d =
-      whole x (bodies.if_of (branches_of (else_of otherwise) branches.items)) new (ap statement_view is ∙ view_if branches otherwise)
+  pub if_done : (x : Statement) (at : ℕ) (branches : Vec Branch Global) (otherwise : Option (Vec Statement Global)) (bs : List Branch) (new : Outcome)
+      → x ≡ s.If at branches otherwise → bs ≡ branches.items → DoesIf (branches_of (else_of otherwise) bs) new → DoesOne (statement_view x) new
+  if_done x at branches otherwise bs new is e d =
+      whole x (bodies.if_of (branches_of (else_of otherwise) branches.items)) new (ap statement_view is ∙ view_if at branches otherwise)
       (subst (λ (ys : List Branch). DoesIf (branches_of (else_of otherwise) ys) new) e d)
 
-  pub case_ready : (x : Statement) (selector : Value) (alternatives : Vec Alternative Global) (others : Vec Statement Global) (xs : List Alternative) (ss : List Statement)
-      → IsReady nets o (λ scope. FitsStmt scope (statement_view x)) → x ≡ s.Case selector alternatives others → xs ≡ alternatives.items → ss ≡ others.items
+  pub case_ready : (x : Statement) (at : ℕ) (selector : Value) (alternatives : Vec Alternative Global) (others : Vec Statement Global) (xs : List Alternative) (ss : List Statement)
+      → IsReady nets o (λ scope. FitsStmt scope (statement_view x)) → x ≡ s.Case at selector alternatives others → xs ≡ alternatives.items → ss ≡ others.items
       → IsReady nets o (λ scope. FitsSomehow scope (alternatives_of (statements_of ss) xs))
-  case_ready x selector alternatives others xs ss w is e f =
+  case_ready x at selector alternatives others xs ss w is e f =
       let v = bodies.case_of (value_view selector) (alternatives_of (statements_of others.items) alternatives.items) in
       subst (λ (ys : List Alternative). IsReady nets o (λ scope. FitsSomehow scope (alternatives_of (statements_of ss) ys))) (sym e)
       (subst (λ (ts : List Statement). IsReady nets o (λ scope. FitsSomehow scope (alternatives_of (statements_of ts) alternatives.items))) (sym f)
       (within-map seen (λ scope. (length o.entries ≡ length scope.targets) × FitsStmt scope v)
       (λ scope. (length o.entries ≡ length scope.targets) × FitsSomehow scope (alternatives_of (statements_of others.items) alternatives.items))
-      (λ scope h. (h.0, (h.1.0, value_width (value_view selector), h.1.2))) (part x v w (ap statement_view is ∙ view_case selector alternatives others))))
+      (λ scope h. (h.0, (h.1.0, value_width (value_view selector), h.1.2))) (part x v w (ap statement_view is ∙ view_case at selector alternatives others))))
 
-  pub case_done : (x : Statement) (selector : Value) (alternatives : Vec Alternative Global) (others : Vec Statement Global) (xs : List Alternative) (ss : List Statement) (value : List ℕ) (new : Outcome)
-      → x ≡ s.Case selector alternatives others → xs ≡ alternatives.items → ss ≡ others.items → value ≡ value_of seen (value_view selector)
+  pub case_done : (x : Statement) (at : ℕ) (selector : Value) (alternatives : Vec Alternative Global) (others : Vec Statement Global) (xs : List Alternative) (ss : List Statement) (value : List ℕ) (new : Outcome)
+      → x ≡ s.Case at selector alternatives others → xs ≡ alternatives.items → ss ≡ others.items → value ≡ value_of seen (value_view selector)
       → DoesCase value (alternatives_of (statements_of ss) xs) new → DoesOne (statement_view x) new
-  case_done x selector alternatives others xs ss value new is e f same d =
-      whole x (bodies.case_of (value_view selector) (alternatives_of (statements_of others.items) alternatives.items)) new (ap statement_view is ∙ view_case selector alternatives others)
+  case_done x at selector alternatives others xs ss value new is e f same d =
+      whole x (bodies.case_of (value_view selector) (alternatives_of (statements_of others.items) alternatives.items)) new (ap statement_view is ∙ view_case at selector alternatives others)
       (subst (λ (v : List ℕ). DoesCase v (alternatives_of (statements_of others.items) alternatives.items) new) same
       (subst (λ (ts : List Statement). DoesCase value (alternatives_of (statements_of ts) alternatives.items) new) f
       (subst (λ (ys : List Alternative). DoesCase value (alternatives_of (statements_of ss) ys) new) e d)))

@@ -45,11 +45,13 @@ fn run(statement: &Statement, nets: Valuations<'_>, out: &mut Drives)
         Statement::If {
             branches,
             otherwise,
+            ..
         } => run_if(branches, otherwise, nets, out),
         Statement::Case {
             selector,
             alternatives,
             others,
+            ..
         } => {
             let value = evaluate(selector, seeing(nets, out));
             run_case(&value, alternatives, others, nets, out);

@@ -1,5 +1,5 @@
 -- The lists in a node of a body, as contracts see them: what a `match` on a node knows, in the words of the views.
-use Rattle.std.proofs.Common.{◌≡◌, map, Vec, Option, Some, None, Global, refl, ap, sym, ◌∙◌}
+use Rattle.std.proofs.Common.{◌≡◌, ℕ, map, Vec, Option, Some, None, Global, refl, ap, sym, ◌∙◌}
 use Rattle.std.specs.Prelude.{option_map}
 use mathlib.Core.Former.{Count}
 use Rattle.rtl_model.specs.bodies.Body as bodies
@@ -72,14 +72,14 @@ view_chain first rest = links-hidden (expr_view first.value) rest
 pub view_combined : (first : _) (rest : Vec TestLink Global) → test_view (t.Combined first rest) ≡ test_links_of (test_view first.value) rest.items
 view_combined first rest = test_links-hidden (test_view first.value) rest
 
-pub view_if : (branches : Vec Branch Global) (otherwise : Option (Vec Statement Global)) →
-    statement_view (s.If branches otherwise) ≡ bodies.if_of (branches_of (otherwise_of (option_map (λ v. v.items) otherwise)) branches.items)
-view_if branches None = ap bodies.if_of (branches-hidden bodies.no_else branches)
-view_if branches (Some v) =
+pub view_if : (at : ℕ) (branches : Vec Branch Global) (otherwise : Option (Vec Statement Global)) →
+    statement_view (s.If at branches otherwise) ≡ bodies.if_of (branches_of (otherwise_of (option_map (λ v. v.items) otherwise)) branches.items)
+view_if at branches None = ap bodies.if_of (branches-hidden bodies.no_else branches)
+view_if at branches (Some v) =
     ap (λ x. bodies.if_of (branches_row (bodies.otherwise x) (hidden-the_row-Branch-1 branches))) (statements-hidden v) ∙ ap bodies.if_of (branches-hidden (bodies.otherwise (statements_of v.items)) branches)
 
-pub view_case : (selector : Value) (alternatives : Vec Alternative Global) (others : Vec Statement Global) →
-    statement_view (s.Case selector alternatives others) ≡ bodies.case_of (value_view selector) (alternatives_of (statements_of others.items) alternatives.items)
-view_case selector alternatives others =
+pub view_case : (at : ℕ) (selector : Value) (alternatives : Vec Alternative Global) (others : Vec Statement Global) →
+    statement_view (s.Case at selector alternatives others) ≡ bodies.case_of (value_view selector) (alternatives_of (statements_of others.items) alternatives.items)
+view_case at selector alternatives others =
     ap (λ x. bodies.case_of (value_view selector) (alternatives_row x (hidden-the_row-Alternative-2 alternatives))) (statements-hidden others)
     ∙ ap (bodies.case_of (value_view selector)) (alternatives-hidden (statements_of others.items) alternatives)

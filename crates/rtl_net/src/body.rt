@@ -122,13 +122,17 @@ pub enum Statement {
         elements: Indices,
         value: Value,
     },
-    /// `if` (10.8): the first branch that holds is taken, else `otherwise`. `else null;` is `Some` of one `Null`.
+    /// `if` (10.8): the first branch that holds is taken, else `otherwise`. `else null;` is `Some` of one `Null`. `at` is the
+    /// byte of the source at which it starts.
     If {
+        at: u32,
         branches: Vec<Branch>,
         otherwise: Option<Vec<Statement>>,
     },
-    /// `case` (10.9). Of a case that names every value and has no `others`, the last alternative stands as `others`.
+    /// `case` (10.9). Of a case that names every value and has no `others`, the last alternative stands as `others`. `at` is
+    /// the byte of the source at which it starts.
     Case {
+        at: u32,
         selector: Value,
         alternatives: Vec<Alternative>,
         others: Vec<Statement>,

@@ -117,22 +117,22 @@ module _ (drives : List Driver) (n : ℕ) where
   pub set_covers : (x : Statement) (es : _) (value : _) → x ≡ vs.Set es value → statement_covers drives n x ≡ false
   set_covers x es value is = ap (statement_covers drives n) is ∙ never (numbers es)
 
-  pub if_covers : (x : Statement) (branches : Vec Branch Global) (v : Vec Statement Global) → x ≡ vs.If branches (Some v)
+  pub if_covers : (x : Statement) (at : ℕ) (branches : Vec Branch Global) (v : Vec Statement Global) → x ≡ vs.If at branches (Some v)
       → statement_covers drives n x ≡ (list_all (branch_covers drives n) branches.items && must_assign (to_net drives n) (statements_of v.items))
-  if_covers x branches v is =
+  if_covers x at branches v is =
       ap (statement_covers drives n) is
-      ∙ (ap (stmt_must_assign (to_net drives n)) (view_if branches (Some v)) ∙ branches_all (bodies.otherwise (statements_of v.items)) branches.items)
+      ∙ (ap (stmt_must_assign (to_net drives n)) (view_if at branches (Some v)) ∙ branches_all (bodies.otherwise (statements_of v.items)) branches.items)
 
-  pub if_alone_covers : (x : Statement) (branches : Vec Branch Global) → x ≡ vs.If branches None → statement_covers drives n x ≡ false
-  if_alone_covers x branches is =
+  pub if_alone_covers : (x : Statement) (at : ℕ) (branches : Vec Branch Global) → x ≡ vs.If at branches None → statement_covers drives n x ≡ false
+  if_alone_covers x at branches is =
       ap (statement_covers drives n) is
-      ∙ (ap (stmt_must_assign (to_net drives n)) (view_if branches None) ∙ (branches_all bodies.no_else branches.items ∙ sym (and_not (list_all (branch_covers drives n) branches.items))))
+      ∙ (ap (stmt_must_assign (to_net drives n)) (view_if at branches None) ∙ (branches_all bodies.no_else branches.items ∙ sym (and_not (list_all (branch_covers drives n) branches.items))))
 
-  pub case_covers : (x : Statement) (selector : Value) (alternatives : Vec Alternative Global) (others : Vec Statement Global) → x ≡ vs.Case selector alternatives others
+  pub case_covers : (x : Statement) (at : ℕ) (selector : Value) (alternatives : Vec Alternative Global) (others : Vec Statement Global) → x ≡ vs.Case at selector alternatives others
       → statement_covers drives n x ≡ (list_all (alternative_covers drives n) alternatives.items && must_assign (to_net drives n) (statements_of others.items))
-  case_covers x selector alternatives others is =
+  case_covers x at selector alternatives others is =
       ap (statement_covers drives n) is
-      ∙ (ap (stmt_must_assign (to_net drives n)) (view_case selector alternatives others) ∙ alternatives_all (statements_of others.items) alternatives.items)
+      ∙ (ap (stmt_must_assign (to_net drives n)) (view_case at selector alternatives others) ∙ alternatives_all (statements_of others.items) alternatives.items)
 
 -- ---- what both lists have, of what so far all have
 

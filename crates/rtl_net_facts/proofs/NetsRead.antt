@@ -74,24 +74,24 @@ module _ (n : ℕ) where
       ap (λ (y : Test). is_in n (test_reads (test_view y))) is
       ∙ (ap (λ (y : bodies.Test). is_in n (test_reads y)) (view_combined first rest) ∙ reads_test_links (test_view first.value) rest.items)
 
-  pub if_reads : (x : Statement) (branches : Vec Branch Global) (v : Vec Statement Global) → x ≡ vs.If branches (Some v)
+  pub if_reads : (x : Statement) (at : ℕ) (branches : Vec Branch Global) (v : Vec Statement Global) → x ≡ vs.If at branches (Some v)
       → is_in n (stmt_reads (statement_view x)) ≡ (list_any (branch_reads n) branches.items || is_in n (reads (statements_of v.items)))
-  if_reads x branches v is =
+  if_reads x at branches v is =
       ap (λ (y : Statement). is_in n (stmt_reads (statement_view y))) is
-      ∙ (ap (λ (y : bodies.Stmt). is_in n (stmt_reads y)) (view_if branches (Some v)) ∙ branches_any (bodies.otherwise (statements_of v.items)) branches.items)
+      ∙ (ap (λ (y : bodies.Stmt). is_in n (stmt_reads y)) (view_if at branches (Some v)) ∙ branches_any (bodies.otherwise (statements_of v.items)) branches.items)
 
-  pub if_alone_reads : (x : Statement) (branches : Vec Branch Global) → x ≡ vs.If branches None
+  pub if_alone_reads : (x : Statement) (at : ℕ) (branches : Vec Branch Global) → x ≡ vs.If at branches None
       → is_in n (stmt_reads (statement_view x)) ≡ list_any (branch_reads n) branches.items
-  if_alone_reads x branches is =
+  if_alone_reads x at branches is =
       ap (λ (y : Statement). is_in n (stmt_reads (statement_view y))) is
-      ∙ (ap (λ (y : bodies.Stmt). is_in n (stmt_reads y)) (view_if branches None)
+      ∙ (ap (λ (y : bodies.Stmt). is_in n (stmt_reads y)) (view_if at branches None)
       ∙ (branches_any bodies.no_else branches.items ∙ sym (or_none (list_any (branch_reads n) branches.items))))
 
-  pub case_reads : (x : Statement) (selector : Value) (alternatives : Vec Alternative Global) (others : Vec Statement Global) → x ≡ vs.Case selector alternatives others
+  pub case_reads : (x : Statement) (at : ℕ) (selector : Value) (alternatives : Vec Alternative Global) (others : Vec Statement Global) → x ≡ vs.Case at selector alternatives others
       → is_in n (stmt_reads (statement_view x))
       ≡ (is_in n (value_reads (value_view selector)) || (list_any (alternative_reads n) alternatives.items || is_in n (reads (statements_of others.items))))
-  case_reads x selector alternatives others is =
+  case_reads x at selector alternatives others is =
       ap (λ (y : Statement). is_in n (stmt_reads (statement_view y))) is
-      ∙ (ap (λ (y : bodies.Stmt). is_in n (stmt_reads y)) (view_case selector alternatives others)
+      ∙ (ap (λ (y : bodies.Stmt). is_in n (stmt_reads y)) (view_case at selector alternatives others)
       ∙ (in_append n (value_reads (value_view selector)) (alternatives_reads (alternatives_of (statements_of others.items) alternatives.items))
       ∙ ap (λ (b : Bool). is_in n (value_reads (value_view selector)) || b) (alternatives_any (statements_of others.items) alternatives.items)))

@@ -58,23 +58,23 @@ alternatives_any last (b ∷ bs) =
     ∙ (ap (λ (c : Bool). alternative_events b || c) (alternatives_any last bs)
     ∙ sym (or_assoc (alternative_events b) (list_any alternative_events bs) (some (events last))))
 
-pub if_events : (x : Statement) (branches : Vec Branch Global) (v : Vec Statement Global) → x ≡ vs.If branches (Some v)
+pub if_events : (x : Statement) (at : ℕ) (branches : Vec Branch Global) (v : Vec Statement Global) → x ≡ vs.If at branches (Some v)
     → some (stmt_events (statement_view x)) ≡ (list_any branch_events branches.items || some (events (statements_of v.items)))
-if_events x branches v is =
+if_events x at branches v is =
     ap (λ (y : Statement). some (stmt_events (statement_view y))) is
-    ∙ (ap (λ (y : bodies.Stmt). some (stmt_events y)) (view_if branches (Some v)) ∙ branches_any (bodies.otherwise (statements_of v.items)) branches.items)
+    ∙ (ap (λ (y : bodies.Stmt). some (stmt_events y)) (view_if at branches (Some v)) ∙ branches_any (bodies.otherwise (statements_of v.items)) branches.items)
 
-pub if_alone_events : (x : Statement) (branches : Vec Branch Global) → x ≡ vs.If branches None
+pub if_alone_events : (x : Statement) (at : ℕ) (branches : Vec Branch Global) → x ≡ vs.If at branches None
     → some (stmt_events (statement_view x)) ≡ list_any branch_events branches.items
-if_alone_events x branches is =
+if_alone_events x at branches is =
     ap (λ (y : Statement). some (stmt_events (statement_view y))) is
-    ∙ (ap (λ (y : bodies.Stmt). some (stmt_events y)) (view_if branches None) ∙ (branches_any bodies.no_else branches.items ∙ sym (or_none (list_any branch_events branches.items))))
+    ∙ (ap (λ (y : bodies.Stmt). some (stmt_events y)) (view_if at branches None) ∙ (branches_any bodies.no_else branches.items ∙ sym (or_none (list_any branch_events branches.items))))
 
-pub case_events : (x : Statement) (selector : Value) (alternatives : Vec Alternative Global) (others : Vec Statement Global) → x ≡ vs.Case selector alternatives others
+pub case_events : (x : Statement) (at : ℕ) (selector : Value) (alternatives : Vec Alternative Global) (others : Vec Statement Global) → x ≡ vs.Case at selector alternatives others
     → some (stmt_events (statement_view x)) ≡ (list_any alternative_events alternatives.items || some (events (statements_of others.items)))
-case_events x selector alternatives others is =
+case_events x at selector alternatives others is =
     ap (λ (y : Statement). some (stmt_events (statement_view y))) is
-    ∙ (ap (λ (y : bodies.Stmt). some (stmt_events y)) (view_case selector alternatives others) ∙ alternatives_any (statements_of others.items) alternatives.items)
+    ∙ (ap (λ (y : bodies.Stmt). some (stmt_events y)) (view_case at selector alternatives others) ∙ alternatives_any (statements_of others.items) alternatives.items)
 
 -- ---- signals in expressions
 

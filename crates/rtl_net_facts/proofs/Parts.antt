@@ -81,41 +81,41 @@ module _ (e : ℕ) where
   pub assign_assigns : (x : Statement) (places : _) (value : _) → x ≡ vs.Assign places value → stmt_must_assign (is_element e) (statement_view x) ≡ false
   assign_assigns x places value is = ap (λ (y : Statement). stmt_must_assign (is_element e) (statement_view y)) is ∙ never (numbers places)
 
-  pub if_assigns : (x : Statement) (branches : Vec Branch Global) (v : Vec Statement Global) → x ≡ vs.If branches (Some v)
+  pub if_assigns : (x : Statement) (at : ℕ) (branches : Vec Branch Global) (v : Vec Statement Global) → x ≡ vs.If at branches (Some v)
       → stmt_must_assign (is_element e) (statement_view x) ≡ (list_all (branch_assigns e) branches.items && must_assign (is_element e) (statements_of v.items))
-  if_assigns x branches v is =
+  if_assigns x at branches v is =
       ap (λ (y : Statement). stmt_must_assign (is_element e) (statement_view y)) is
-      ∙ (ap (stmt_must_assign (is_element e)) (view_if branches (Some v)) ∙ branches_all (bodies.otherwise (statements_of v.items)) branches.items)
+      ∙ (ap (stmt_must_assign (is_element e)) (view_if at branches (Some v)) ∙ branches_all (bodies.otherwise (statements_of v.items)) branches.items)
 
-  pub if_alone_assigns : (x : Statement) (branches : Vec Branch Global) → x ≡ vs.If branches None → stmt_must_assign (is_element e) (statement_view x) ≡ false
-  if_alone_assigns x branches is =
+  pub if_alone_assigns : (x : Statement) (at : ℕ) (branches : Vec Branch Global) → x ≡ vs.If at branches None → stmt_must_assign (is_element e) (statement_view x) ≡ false
+  if_alone_assigns x at branches is =
       ap (λ (y : Statement). stmt_must_assign (is_element e) (statement_view y)) is
-      ∙ (ap (stmt_must_assign (is_element e)) (view_if branches None) ∙ (branches_all bodies.no_else branches.items ∙ sym (and_not (list_all (branch_assigns e) branches.items))))
+      ∙ (ap (stmt_must_assign (is_element e)) (view_if at branches None) ∙ (branches_all bodies.no_else branches.items ∙ sym (and_not (list_all (branch_assigns e) branches.items))))
 
-  pub case_assigns : (x : Statement) (selector : Value) (alternatives : Vec Alternative Global) (others : Vec Statement Global) → x ≡ vs.Case selector alternatives others
+  pub case_assigns : (x : Statement) (at : ℕ) (selector : Value) (alternatives : Vec Alternative Global) (others : Vec Statement Global) → x ≡ vs.Case at selector alternatives others
       → stmt_must_assign (is_element e) (statement_view x) ≡ (list_all (alternative_assigns e) alternatives.items && must_assign (is_element e) (statements_of others.items))
-  case_assigns x selector alternatives others is =
+  case_assigns x at selector alternatives others is =
       ap (λ (y : Statement). stmt_must_assign (is_element e) (statement_view y)) is
-      ∙ (ap (stmt_must_assign (is_element e)) (view_case selector alternatives others) ∙ alternatives_all (statements_of others.items) alternatives.items)
+      ∙ (ap (stmt_must_assign (is_element e)) (view_case at selector alternatives others) ∙ alternatives_all (statements_of others.items) alternatives.items)
 
-  pub if_stores : (x : Statement) (branches : Vec Branch Global) (v : Vec Statement Global) → x ≡ vs.If branches (Some v)
+  pub if_stores : (x : Statement) (at : ℕ) (branches : Vec Branch Global) (v : Vec Statement Global) → x ≡ vs.If at branches (Some v)
       → stmt_stores e (statement_view x) ≡ (list_any (branch_stores e) branches.items || stores_element e (statements_of v.items))
-  if_stores x branches v is =
+  if_stores x at branches v is =
       ap (λ (y : Statement). stmt_stores e (statement_view y)) is
-      ∙ (ap (stmt_stores e) (view_if branches (Some v)) ∙ branches_any (bodies.otherwise (statements_of v.items)) branches.items)
+      ∙ (ap (stmt_stores e) (view_if at branches (Some v)) ∙ branches_any (bodies.otherwise (statements_of v.items)) branches.items)
 
-  pub if_alone_stores : (x : Statement) (branches : Vec Branch Global) → x ≡ vs.If branches None
+  pub if_alone_stores : (x : Statement) (at : ℕ) (branches : Vec Branch Global) → x ≡ vs.If at branches None
       → stmt_stores e (statement_view x) ≡ list_any (branch_stores e) branches.items
-  if_alone_stores x branches is =
+  if_alone_stores x at branches is =
       ap (λ (y : Statement). stmt_stores e (statement_view y)) is
-      ∙ (ap (stmt_stores e) (view_if branches None) ∙ (branches_any bodies.no_else branches.items ∙ sym (or_none (list_any (branch_stores e) branches.items))))
+      ∙ (ap (stmt_stores e) (view_if at branches None) ∙ (branches_any bodies.no_else branches.items ∙ sym (or_none (list_any (branch_stores e) branches.items))))
 
-  pub case_stores : (x : Statement) (selector : Value) (alternatives : Vec Alternative Global) (others : Vec Statement Global) → x ≡ vs.Case selector alternatives others
+  pub case_stores : (x : Statement) (at : ℕ) (selector : Value) (alternatives : Vec Alternative Global) (others : Vec Statement Global) → x ≡ vs.Case at selector alternatives others
       → stmt_stores e (statement_view x)
       ≡ (value_looks_at e (value_view selector) || (list_any (alternative_stores e) alternatives.items || stores_element e (statements_of others.items)))
-  case_stores x selector alternatives others is =
+  case_stores x at selector alternatives others is =
       ap (λ (y : Statement). stmt_stores e (statement_view y)) is
-      ∙ (ap (stmt_stores e) (view_case selector alternatives others)
+      ∙ (ap (stmt_stores e) (view_case at selector alternatives others)
       ∙ ap (λ (b : Bool). value_looks_at e (value_view selector) || b) (alternatives_any (statements_of others.items) alternatives.items))
 
   -- ---- a sequence, one statement at a time

@@ -245,16 +245,16 @@ module _ (inputs : List ℕ) (body : List Statement) (x : Statement) (one : leng
   single : clocked inputs (statements_of body) ≡ clocked inputs (bodies.step (statement_view x) bodies.done)
   single = ap (λ (xs : List Statement). clocked inputs (statements_of xs)) (one_item body x one only)
 
-  pub with_else : (branches : Vec Branch Global) (v : Vec Statement Global) → x ≡ vs.If branches (Some v) → None ≡ clocked inputs (statements_of body)
-  with_else branches v is =
+  pub with_else : (at : ℕ) (branches : Vec Branch Global) (v : Vec Statement Global) → x ≡ vs.If at branches (Some v) → None ≡ clocked inputs (statements_of body)
+  with_else at branches v is =
       sym (single ∙ (ap (λ (y : Statement). clocked inputs (bodies.step (statement_view y) bodies.done)) is
-      ∙ (ap (λ (y : bodies.Stmt). clocked inputs (bodies.step y bodies.done)) (view_if branches (Some v))
+      ∙ (ap (λ (y : bodies.Stmt). clocked inputs (bodies.step y bodies.done)) (view_if at branches (Some v))
       ∙ ap (option_map clocking_view) (if_else inputs (statements_of v.items) branches.items))))
 
-  pub without_else : (branches : Vec Branch Global) → x ≡ vs.If branches None → clocked inputs (if_alone branches.items) ≡ clocked inputs (statements_of body)
-  without_else branches is =
+  pub without_else : (at : ℕ) (branches : Vec Branch Global) → x ≡ vs.If at branches None → clocked inputs (if_alone branches.items) ≡ clocked inputs (statements_of body)
+  without_else at branches is =
       sym (single ∙ (ap (λ (y : Statement). clocked inputs (bodies.step (statement_view y) bodies.done)) is
-      ∙ ap (λ (y : bodies.Stmt). clocked inputs (bodies.step y bodies.done)) (view_if branches None)))
+      ∙ ap (λ (y : bodies.Stmt). clocked inputs (bodies.step y bodies.done)) (view_if at branches None)))
 
 -- ---- kinds
 

@@ -21,6 +21,7 @@ pub fn statement_assigns(statement: &Statement, element: usize) -> bool
         Statement::If {
             branches,
             otherwise,
+            ..
         } => match otherwise {
             Some(last) => all_branches_assign(branches, element) && all_assign(last, element),
             None => false,

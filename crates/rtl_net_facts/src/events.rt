@@ -54,6 +54,7 @@ fn statement_has_event(statement: &Statement) -> bool
         Statement::If {
             branches,
             otherwise,
+            ..
         } => match otherwise {
             Some(last) => branches_have_event(branches) || body_has_event(last),
             None => branches_have_event(branches),

@@ -274,6 +274,7 @@ fn clocking_of(inputs: &[usize], body: &[Statement]) -> Option<Clocking>
         Statement::If {
             branches,
             otherwise,
+            ..
         } => match otherwise {
             Some(_) => None,
             None => clocking_of_branches(inputs, branches),

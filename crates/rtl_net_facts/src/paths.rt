@@ -93,6 +93,7 @@ fn push_assigned(
         Statement::If {
             branches,
             otherwise,
+            ..
         } => match otherwise {
             Some(last) => {
                 let common = assigned_nets(alloc, drives, last)?;

@@ -115,6 +115,7 @@ fn statement_reads(statement: &Statement, net: usize) -> bool
         Statement::If {
             branches,
             otherwise,
+            ..
         } => match otherwise {
             Some(last) => some_branch_reads(branches, net) || body_reads(last, net),
             None => some_branch_reads(branches, net),
@@ -123,6 +124,7 @@ fn statement_reads(statement: &Statement, net: usize) -> bool
             selector,
             alternatives,
             others,
+            ..
         } => {
             if value_reads(selector, net) {
                 return true;

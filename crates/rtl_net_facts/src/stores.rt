@@ -22,6 +22,7 @@ fn statement_stores(statement: &Statement, element: usize) -> bool
         Statement::If {
             branches,
             otherwise,
+            ..
         } => match otherwise {
             Some(last) => some_branch_stores(branches, element) || body_stores(last, element),
             None => some_branch_stores(branches, element),
@@ -30,6 +31,7 @@ fn statement_stores(statement: &Statement, element: usize) -> bool
             selector,
             alternatives,
             others,
+            ..
         } => {
             if value_looks_at(selector, element) {
                 return true;

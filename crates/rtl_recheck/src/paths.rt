@@ -65,6 +65,7 @@ fn statement_covers(statement: &Statement, drives: &[Driver], net: usize) -> boo
         Statement::If {
             branches,
             otherwise,
+            ..
         } => match otherwise {
             Some(last) => branches_cover(branches, drives, net) && covers(last, drives, net),
             None => false,

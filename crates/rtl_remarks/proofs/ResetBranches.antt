@@ -89,11 +89,11 @@ no_branch : (o : Option (List Statement)) → None ≡ first_branch (step (if_of
 no_branch None = refl
 no_branch (Some s) = refl
 
-module _ (body : List Statement) (x : Statement) (one : length body ≡ 1) (only : x ≡ get_or body 0 x) (branches : Vec Branch Global) (last : Option (Vec Statement Global)) (is : x ≡ vs.If branches last) where
+module _ (body : List Statement) (x : Statement) (one : length body ≡ 1) (only : x ≡ get_or body 0 x) (at : ℕ) (branches : Vec Branch Global) (last : Option (Vec Statement Global)) (is : x ≡ vs.If at branches last) where
   spelled : first_branch (statements_of body) ≡ first_branch (step (if_of (branches_of (otherwise_of (option_map (λ v. v.items) last)) branches.items)) done)
   spelled =
       ap (λ (xs : List Statement). first_branch (statements_of xs)) (one_item body x one only)
-      ∙ ap (λ (y : Statement). first_branch (step (statement_view y) done)) is ∙ ap (λ (y : Stmt). first_branch (step y done)) (view_if branches last)
+      ∙ ap (λ (y : Statement). first_branch (step (statement_view y) done)) is ∙ ap (λ (y : Stmt). first_branch (step y done)) (view_if at branches last)
 
   pub no_first : (vec_len branches == 0) ≡ true → None ≡ first_branch (statements_of body)
   no_first e = go branches.items (eqb-true (length branches.items) 0 (sym (ap (λ (n : ℕ). n == 0) branches.ok.0) ∙ e)) spelled

@@ -1,5 +1,5 @@
 -- What the parts of a node become, the node becomes.
-use Rattle.std.proofs.Common.{◌≡◌, List, [], ◌∷◌, length, map, Option, Some, None, Vec, Box, Global, Result, Ok, Err, refl, sym, ap, ◌∙◌}
+use Rattle.std.proofs.Common.{◌≡◌, ℕ, List, [], ◌∷◌, length, map, Option, Some, None, Vec, Box, Global, Result, Ok, Err, refl, sym, ap, ◌∙◌}
 use Rattle.std.specs.Prelude.{OnOk, option_map}
 use Rattle.std.specs.Vec.{with_items}
 use Rattle.std.proofs.lemmas.List.{with_items_is}
@@ -151,48 +151,48 @@ module _ (c : Connection) where
   abbrev items-of : Option (Vec Statement Global) → Option (List Statement)
   items-of = option_map (λ v. v.items)
 
-  if-becomes : (branches over : Vec Branch Global) (more : List Branch) (o p : Option (Vec Statement Global)) → length more ≡ over.len
+  if-becomes : (at : ℕ) (branches over : Vec Branch Global) (more : List Branch) (o p : Option (Vec Statement Global)) → length more ≡ over.len
       → Became branch_view (branch_in c) branches.items more → otherwise_of (items-of p) ≡ branches-made (otherwise_of (items-of o))
-      → statement_view (vs.If (with_items over more) p) ≡ statement_in c (statement_view (vs.If branches o))
-  if-becomes branches over more o p n h e =
-      view_if (with_items over more) p ∙ ap (λ bs. bodies.if_of (branches_of (otherwise_of (items-of p)) bs)) (with_items_is over more n)
+      → statement_view (vs.If at (with_items over more) p) ≡ statement_in c (statement_view (vs.If at branches o))
+  if-becomes at branches over more o p n h e =
+      view_if at (with_items over more) p ∙ ap (λ bs. bodies.if_of (branches_of (otherwise_of (items-of p)) bs)) (with_items_is over more n)
       ∙ ap (λ last. bodies.if_of (branches_of last more)) e ∙ ap bodies.if_of (branches-in (otherwise_of (items-of o)) branches.items more h)
-      ∙ ap (statement_in c) (sym (view_if branches o))
+      ∙ ap (statement_in c) (sym (view_if at branches o))
 
-  pub if_alone : (x : Statement) (branches over : Vec Branch Global) (o p : Option (Vec Statement Global)) (bs more : List Branch)
-      → x ≡ vs.If branches o → p ≡ o → p ≡ None → bs ≡ branches.items → length more ≡ over.len → Became branch_view (branch_in c) bs more
-      → statement_view (vs.If (with_items over more) p) ≡ statement_in c (statement_view x)
-  if_alone x branches over o p bs more h same none j n l =
-      ap (λ q. statement_view (vs.If (with_items over more) q)) none
-      ∙ if-becomes branches over more None None n (l ∙ ap (λ xs. map (branch_in c) (map branch_view xs)) j) refl
-      ∙ ap (λ q. statement_in c (statement_view (vs.If branches q))) (sym none ∙ same) ∙ ap (λ y. statement_in c (statement_view y)) (sym h)
+  pub if_alone : (x : Statement) (at : ℕ) (branches over : Vec Branch Global) (o p : Option (Vec Statement Global)) (bs more : List Branch)
+      → x ≡ vs.If at branches o → p ≡ o → p ≡ None → bs ≡ branches.items → length more ≡ over.len → Became branch_view (branch_in c) bs more
+      → statement_view (vs.If at (with_items over more) p) ≡ statement_in c (statement_view x)
+  if_alone x at branches over o p bs more h same none j n l =
+      ap (λ q. statement_view (vs.If at (with_items over more) q)) none
+      ∙ if-becomes at branches over more None None n (l ∙ ap (λ xs. map (branch_in c) (map branch_view xs)) j) refl
+      ∙ ap (λ q. statement_in c (statement_view (vs.If at branches q))) (sym none ∙ same) ∙ ap (λ y. statement_in c (statement_view y)) (sym h)
 
   module _ {A E : Type 0} where
-    pub if_with_else : (r : Result A E) (x : Statement) (branches over : Vec Branch Global) (o p : Option (Vec Statement Global)) (last under : Vec Statement Global)
-        (bs more : List Branch) (ls tail : List Statement) → x ≡ vs.If branches o → p ≡ o → p ≡ Some last → bs ≡ branches.items → length more ≡ over.len
+    pub if_with_else : (r : Result A E) (x : Statement) (at : ℕ) (branches over : Vec Branch Global) (o p : Option (Vec Statement Global)) (last under : Vec Statement Global)
+        (bs more : List Branch) (ls tail : List Statement) → x ≡ vs.If at branches o → p ≡ o → p ≡ Some last → bs ≡ branches.items → length more ≡ over.len
         → Became branch_view (branch_in c) bs more → ls ≡ last.items → length tail ≡ under.len → OnOk r (Became statement_view (statement_in c) ls tail)
-        → OnOk r (statement_view (vs.If (with_items over more) (Some (with_items under tail))) ≡ statement_in c (statement_view x))
-    if_with_else (Ok y) x branches over o p last under bs more ls tail h same some j n l k z w =
-        if-becomes branches over more (Some last) (Some (with_items under tail)) n (l ∙ ap (λ xs. map (branch_in c) (map branch_view xs)) j)
+        → OnOk r (statement_view (vs.If at (with_items over more) (Some (with_items under tail))) ≡ statement_in c (statement_view x))
+    if_with_else (Ok y) x at branches over o p last under bs more ls tail h same some j n l k z w =
+        if-becomes at branches over more (Some last) (Some (with_items under tail)) n (l ∙ ap (λ xs. map (branch_in c) (map branch_view xs)) j)
         (ap (λ xs. bodies.otherwise (statements_of xs)) (with_items_is under tail z)
         ∙ ap bodies.otherwise (body_becomes last.items tail (w ∙ ap (λ xs. map (statement_in c) (map statement_view xs)) k)))
-        ∙ ap (λ q. statement_in c (statement_view (vs.If branches q))) (sym some ∙ same) ∙ ap (λ v. statement_in c (statement_view v)) (sym h)
-    if_with_else (Err e) x branches over o p last under bs more ls tail h same some j n l k z w = tt
+        ∙ ap (λ q. statement_in c (statement_view (vs.If at branches q))) (sym some ∙ same) ∙ ap (λ v. statement_in c (statement_view v)) (sym h)
+    if_with_else (Err e) x at branches over o p last under bs more ls tail h same some j n l k z w = tt
 
-    pub case_becomes : (r : Result A E) (x : Statement) (selector from new : Value) (alternatives over : Vec Alternative Global) (others under : Vec Statement Global)
-        (as' more : List Alternative) (os tail : List Statement) → x ≡ vs.Case selector alternatives others → from ≡ selector → value_view new ≡ value_in c (value_view from)
+    pub case_becomes : (r : Result A E) (x : Statement) (at : ℕ) (selector from new : Value) (alternatives over : Vec Alternative Global) (others under : Vec Statement Global)
+        (as' more : List Alternative) (os tail : List Statement) → x ≡ vs.Case at selector alternatives others → from ≡ selector → value_view new ≡ value_in c (value_view from)
         → as' ≡ alternatives.items → length more ≡ over.len → Became alternative_view (alternative_in c) as' more → os ≡ others.items → length tail ≡ under.len
         → OnOk r (Became statement_view (statement_in c) os tail)
-        → OnOk r (statement_view (vs.Case new (with_items over more) (with_items under tail)) ≡ statement_in c (statement_view x))
-    case_becomes (Ok y) x selector from new alternatives over others under as' more os tail h same v j n l k z w =
-        view_case new (with_items over more) (with_items under tail)
+        → OnOk r (statement_view (vs.Case at new (with_items over more) (with_items under tail)) ≡ statement_in c (statement_view x))
+    case_becomes (Ok y) x at selector from new alternatives over others under as' more os tail h same v j n l k z w =
+        view_case at new (with_items over more) (with_items under tail)
         ∙ ap (λ e. bodies.case_of e (alternatives_of (statements_of (with_items under tail).items) (with_items over more).items)) (v ∙ ap (λ e. value_in c (value_view e)) same)
         ∙ ap (λ xs. bodies.case_of (value_in c (value_view selector)) (alternatives_of (statements_of xs) (with_items over more).items)) (with_items_is under tail z)
         ∙ ap (λ xs. bodies.case_of (value_in c (value_view selector)) (alternatives_of (statements_of tail) xs)) (with_items_is over more n)
         ∙ ap (λ last. bodies.case_of (value_in c (value_view selector)) (alternatives_of last more)) (body_becomes others.items tail (w ∙ ap (λ xs. map (statement_in c) (map statement_view xs)) k))
         ∙ ap (bodies.case_of (value_in c (value_view selector))) (alternatives-in (statements_of others.items) alternatives.items more (l ∙ ap (λ xs. map (alternative_in c) (map alternative_view xs)) j))
-        ∙ ap (statement_in c) (sym (view_case selector alternatives others)) ∙ ap (λ u. statement_in c (statement_view u)) (sym h)
-    case_becomes (Err e) x selector from new alternatives over others under as' more os tail h same v j n l k z w = tt
+        ∙ ap (statement_in c) (sym (view_case at selector alternatives others)) ∙ ap (λ u. statement_in c (statement_view u)) (sym h)
+    case_becomes (Err e) x at selector from new alternatives over others under as' more os tail h same v j n l k z w = tt
 
     pub branch_becomes : (r : Result A E) (b : Branch) (new : Test) (ls tail : List Statement) → test_view new ≡ test_in c (test_view b.test) → ls ≡ b.statements.items
         → length tail ≡ b.statements.len → OnOk r (Became statement_view (statement_in c) ls tail)

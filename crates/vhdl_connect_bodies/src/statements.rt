@@ -47,6 +47,7 @@ impl Connection<'_> {
             Statement::If {
                 branches,
                 otherwise,
+                ..
             } => {
                 self.connect_branches(branches)?;
                 match otherwise {
@@ -58,6 +59,7 @@ impl Connection<'_> {
                 selector,
                 alternatives,
                 others,
+                ..
             } => {
                 self.connect_value(selector)?;
                 self.connect_alternatives(alternatives)?;

@@ -215,12 +215,12 @@ alternatives-made : (last : bodies.Stmts) (bs : List Alternative) → net.altern
 alternatives-made last [] = refl
 alternatives-made last (x ∷ xs) = ap (bodies.alternative (map net.choice_view x.choices.items) (net.statements_of x.statements.items)) (alternatives-made last xs)
 
-pub if_made : (branches : Vec Branch Global) (otherwise : Option (Vec Statement Global)) → net.statement_view (s.If branches otherwise) ≡ bodies.if_of (steps.branches_before (otherwise_view otherwise) (branches_view branches))
-if_made branches otherwise = view_if branches otherwise ∙ ap bodies.if_of (branches-made (otherwise_view otherwise) branches.items)
+pub if_made : (at : ℕ) (branches : Vec Branch Global) (otherwise : Option (Vec Statement Global)) → net.statement_view (s.If at branches otherwise) ≡ bodies.if_of (steps.branches_before (otherwise_view otherwise) (branches_view branches))
+if_made at branches otherwise = view_if at branches otherwise ∙ ap bodies.if_of (branches-made (otherwise_view otherwise) branches.items)
 
-pub case_made : (v : Value) (alternatives : Vec Alternative Global) (others : Vec Statement Global)
-    → net.statement_view (s.Case v alternatives others) ≡ bodies.case_of (net.value_view v) (steps.alternatives_before (net.statements_of others.items) (alternatives_view alternatives))
-case_made v alternatives others = view_case v alternatives others ∙ ap (bodies.case_of (net.value_view v)) (alternatives-made (net.statements_of others.items) alternatives.items)
+pub case_made : (at : ℕ) (v : Value) (alternatives : Vec Alternative Global) (others : Vec Statement Global)
+    → net.statement_view (s.Case at v alternatives others) ≡ bodies.case_of (net.value_view v) (steps.alternatives_before (net.statements_of others.items) (alternatives_view alternatives))
+case_made at v alternatives others = view_case at v alternatives others ∙ ap (bodies.case_of (net.value_view v)) (alternatives-made (net.statements_of others.items) alternatives.items)
 
 module _ (at : Site) where
   -- a turn of the same value, with the same statements

@@ -1,6 +1,6 @@
 //! Statements, expanded (IEEE 1076-2008, clause 10): loops are the sequences of their turns.
 
-ghost use Rattle.std.specs.Prelude.{◌≡◌, ◌≢◌, map, option_map, IfErr, OnOk, Ok};
+ghost use Rattle.std.specs.Prelude.{◌≡◌, ◌≢◌, ◌-◌, ◌^◌, min, map, option_map, IfErr, OnOk, Ok};
 ghost use Rattle.rtl_model.specs.bodies.Body as bodies;
 ghost use Rattle.rtl_net.specs.Bodies.{statement_view, statements_of, choice_view};
 ghost use Rattle.vhdl_names_rules.specs.units.Statements as units;
@@ -29,6 +29,16 @@ use vhdl_expand_rules::{ElabFault, Turns};
 use vhdl_names_units as analysed;
 use vhdl_names_units::{Case, If, Loop};
 use vhdl_tree::Direction;
+
+/// A byte of the source as a word; those beyond it are all the last.
+fn byte(at: usize) -> u32
+    ensures { result ≡ min at (2 ^ 32 - 1) }
+{
+    match u32::try_from(at) {
+        Ok(at) => at,
+        Err(_) => u32::MAX,
+    }
+}
 
 /// Puts a statement behind others.
 #[tactic(auto, using(crate::proofs::Sequences::statements_push))]
@@ -161,6 +171,7 @@ impl Site<'_> {
         let branches = self.branches(alloc, &conditional.branches, conditional.at)?;
         let (branches, otherwise) = both(branches, self.otherwise(alloc, conditional))?;
         Ok(Statement::If {
+            at: byte(conditional.at),
             branches,
             otherwise,
         })
@@ -242,6 +253,7 @@ impl Site<'_> {
         let others = both(alternatives, self.body(alloc, &selection.others));
         let (selector, (alternatives, others)) = both(selector, others)?;
         Ok(Statement::Case {
+            at: byte(at),
             selector: selector.value,
             alternatives,
             others,

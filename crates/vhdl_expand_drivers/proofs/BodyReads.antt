@@ -60,17 +60,17 @@ each-else : (o : Option (Vec Statement Global)) → branches_reads (otherwise_of
 each-else None = refl
 each-else (Some list) = each_read list.items
 
-if-reads : (x : Statement) (branches : Vec Branch Global) (otherwise : Option (Vec Statement Global)) (bs : List Branch)
-    → x ≡ vs.If branches otherwise → bs ≡ branches.items → statement_reads x ≡ flat_map branch_reads bs ++ last_reads otherwise
-if-reads x branches otherwise bs h j =
-    ap statement_reads h ∙ ap stmt_reads (view_if branches otherwise) ∙ each-branch (otherwise_of (option_items otherwise)) branches.items
+if-reads : (x : Statement) (at : ℕ) (branches : Vec Branch Global) (otherwise : Option (Vec Statement Global)) (bs : List Branch)
+    → x ≡ vs.If at branches otherwise → bs ≡ branches.items → statement_reads x ≡ flat_map branch_reads bs ++ last_reads otherwise
+if-reads x at branches otherwise bs h j =
+    ap statement_reads h ∙ ap stmt_reads (view_if at branches otherwise) ∙ each-branch (otherwise_of (option_items otherwise)) branches.items
     ∙ ap (λ ns. flat_map branch_reads branches.items ++ ns) (each-else otherwise)
     ∙ ap (λ xs. flat_map branch_reads xs ++ last_reads otherwise) (sym j)
 
-pub if_alone : (x : Statement) (branches : Vec Branch Global) (otherwise : Option (Vec Statement Global)) (bs : List Branch) (old mid : List ℕ)
-    → x ≡ vs.If branches otherwise → otherwise ≡ None → bs ≡ branches.items → mid ≡ old ++ flat_map branch_reads bs → mid ≡ old ++ statement_reads x
-if_alone x branches otherwise bs old mid h e j begun =
-    begun ∙ ap (λ ns. old ++ ns) (sym (if-reads x branches otherwise bs h j ∙ ap (λ o. flat_map branch_reads bs ++ last_reads o) e ∙ append-nil (flat_map branch_reads bs)))
+pub if_alone : (x : Statement) (at : ℕ) (branches : Vec Branch Global) (otherwise : Option (Vec Statement Global)) (bs : List Branch) (old mid : List ℕ)
+    → x ≡ vs.If at branches otherwise → otherwise ≡ None → bs ≡ branches.items → mid ≡ old ++ flat_map branch_reads bs → mid ≡ old ++ statement_reads x
+if_alone x at branches otherwise bs old mid h e j begun =
+    begun ∙ ap (λ ns. old ++ ns) (sym (if-reads x at branches otherwise bs h j ∙ ap (λ o. flat_map branch_reads bs ++ last_reads o) e ∙ append-nil (flat_map branch_reads bs)))
 
 -- ---- what the walk puts behind others
 
@@ -93,20 +93,20 @@ module _ {A E : Type 0} (r : Result A E) where
       ∙ ap (λ (y : Test). test_reads (test_view y) ++ flat_map test_link_reads rest.items) (sym j)
       ∙ ap (λ xs. test_reads (test_view f) ++ flat_map test_link_reads xs) (sym k)) begun more
 
-  pub if_adds : (x : Statement) (branches : Vec Branch Global) (otherwise : Option (Vec Statement Global)) (last : Vec Statement Global) (bs : List Branch) (ls : List Statement)
-      (old mid new : List ℕ) → x ≡ vs.If branches otherwise → otherwise ≡ Some last → bs ≡ branches.items → ls ≡ last.items → mid ≡ old ++ flat_map branch_reads bs
+  pub if_adds : (x : Statement) (at : ℕ) (branches : Vec Branch Global) (otherwise : Option (Vec Statement Global)) (last : Vec Statement Global) (bs : List Branch) (ls : List Statement)
+      (old mid new : List ℕ) → x ≡ vs.If at branches otherwise → otherwise ≡ Some last → bs ≡ branches.items → ls ≡ last.items → mid ≡ old ++ flat_map branch_reads bs
       → OnOk r (new ≡ mid ++ flat_map statement_reads ls) → OnOk r (new ≡ old ++ statement_reads x)
-  if_adds x branches otherwise last bs ls old mid new h e j k begun more =
+  if_adds x at branches otherwise last bs ls old mid new h e j k begun more =
       adds_both r old mid new (flat_map branch_reads bs) (flat_map statement_reads ls) (statement_reads x)
-      (if-reads x branches otherwise bs h j ∙ ap (λ o. flat_map branch_reads bs ++ last_reads o) e ∙ ap (λ xs. flat_map branch_reads bs ++ flat_map statement_reads xs) (sym k))
+      (if-reads x at branches otherwise bs h j ∙ ap (λ o. flat_map branch_reads bs ++ last_reads o) e ∙ ap (λ xs. flat_map branch_reads bs ++ flat_map statement_reads xs) (sym k))
       begun more
 
-  pub case_adds : (x : Statement) (selector : Value) (alternatives : Vec Alternative Global) (others : Vec Statement Global) (as' : List Alternative) (os : List Statement) (old first mid new : List ℕ)
-      → x ≡ vs.Case selector alternatives others → as' ≡ alternatives.items → os ≡ others.items → first ≡ old ++ value_reads (value_view selector)
+  pub case_adds : (x : Statement) (at : ℕ) (selector : Value) (alternatives : Vec Alternative Global) (others : Vec Statement Global) (as' : List Alternative) (os : List Statement) (old first mid new : List ℕ)
+      → x ≡ vs.Case at selector alternatives others → as' ≡ alternatives.items → os ≡ others.items → first ≡ old ++ value_reads (value_view selector)
       → mid ≡ first ++ flat_map alternative_reads as' → OnOk r (new ≡ mid ++ flat_map statement_reads os) → OnOk r (new ≡ old ++ statement_reads x)
-  case_adds x selector alternatives others as' os old first mid new h j k begun half more =
+  case_adds x at selector alternatives others as' os old first mid new h j k begun half more =
       adds_both r old first new (value_reads (value_view selector)) (flat_map alternative_reads as' ++ flat_map statement_reads os) (statement_reads x)
-      (ap statement_reads h ∙ ap stmt_reads (view_case selector alternatives others)
+      (ap statement_reads h ∙ ap stmt_reads (view_case at selector alternatives others)
       ∙ ap (λ ns. value_reads (value_view selector) ++ ns) (each-alternative (statements_of others.items) alternatives.items
       ∙ ap (λ ns. flat_map alternative_reads alternatives.items ++ ns) (each_read others.items)
       ∙ ap (λ xs. flat_map alternative_reads xs ++ flat_map statement_reads others.items) (sym j)

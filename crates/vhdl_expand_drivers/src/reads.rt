@@ -187,6 +187,7 @@ fn of_statement(statement: &Statement, found: &mut Vec<usize>) -> Result<(), All
         Statement::If {
             branches,
             otherwise,
+            ..
         } => {
             of_branches(branches, found)?;
             match otherwise {
@@ -198,6 +199,7 @@ fn of_statement(statement: &Statement, found: &mut Vec<usize>) -> Result<(), All
             selector,
             alternatives,
             others,
+            ..
         } => {
             of_value(selector, found)?;
             of_alternatives(alternatives, found)?;

@@ -55,13 +55,13 @@ run-set-requires-clause-there t c =
 
 pub run-run_if-requires : goal.run-run_if-requires
 run-run_if-requires t c = (
-  omega (arith, c.decreases, ap weight c.in-If.is, if_weight c.in-If.branches c.in-If.otherwise, ap branches_weight c.deref.ensures.value),
-  if_ready c.args.nets c.args.out.now c.args.statement.now c.in-If.branches c.in-If.otherwise c.deref.result.now c.requires c.in-If.is c.deref.ensures.value,
+  omega (arith, c.decreases, ap weight c.in-If.is, if_weight c.in-If.at c.in-If.branches c.in-If.otherwise, ap branches_weight c.deref.ensures.value),
+  if_ready c.args.nets c.args.out.now c.args.statement.now c.in-If.at c.in-If.branches c.in-If.otherwise c.deref.result.now c.requires c.in-If.is c.deref.ensures.value,
 )
 
 pub run-returns-in-If : goal.run-returns-in-If
 run-returns-in-If t c =
-    if_done c.args.nets c.args.out.now c.args.statement.now c.in-If.branches c.in-If.otherwise c.deref.result.now c.run_if.new.out c.in-If.is c.deref.ensures.value c.run_if.ensures
+    if_done c.args.nets c.args.out.now c.args.statement.now c.in-If.at c.in-If.branches c.in-If.otherwise c.deref.result.now c.run_if.new.out c.in-If.is c.deref.ensures.value c.run_if.ensures
 
 pub run_if-first_met-requires : goal.run_if-first_met-requires
 run_if-first_met-requires t c = tests_ready c.args.nets c.args.out.now (else_of c.args.otherwise.now) c.args.branches.now _ c.seeing.ensures c.requires
@@ -106,15 +106,15 @@ run_if-returns-in_default t c =
 
 pub run-run_case-requires : goal.run-run_case-requires
 run-run_case-requires t c = (
-  omega (arith, c.decreases, ap weight c.in-Case.is, case_weight c.in-Case.selector c.in-Case.alternatives c.in-Case.others, ap alternatives_weight c.deref-in-Case.ensures.value, ap weight_of c.deref-in-Case-2.ensures.value),
-  case_ready c.args.nets c.args.out.now c.args.statement.now c.in-Case.selector c.in-Case.alternatives c.in-Case.others c.deref-in-Case.result.now c.deref-in-Case-2.result.now
+  omega (arith, c.decreases, ap weight c.in-Case.is, case_weight c.in-Case.at c.in-Case.selector c.in-Case.alternatives c.in-Case.others, ap alternatives_weight c.deref-in-Case.ensures.value, ap weight_of c.deref-in-Case-2.ensures.value),
+  case_ready c.args.nets c.args.out.now c.args.statement.now c.in-Case.at c.in-Case.selector c.in-Case.alternatives c.in-Case.others c.deref-in-Case.result.now c.deref-in-Case-2.result.now
       c.requires c.in-Case.is c.deref-in-Case.ensures.value c.deref-in-Case-2.ensures.value,
 )
 
 pub run-returns-in-Case : goal.run-returns-in-Case
 run-returns-in-Case t c =
     let value = c.evaluate-value-in-Case.ensures ∙ ap (λ (seen : Seen). value_of seen (value_view c.in-Case.selector)) c.seeing-in-Case.ensures in
-    case_done c.args.nets c.args.out.now c.args.statement.now c.in-Case.selector c.in-Case.alternatives c.in-Case.others c.deref-in-Case.result.now c.deref-in-Case-2.result.now
+    case_done c.args.nets c.args.out.now c.args.statement.now c.in-Case.at c.in-Case.selector c.in-Case.alternatives c.in-Case.others c.deref-in-Case.result.now c.deref-in-Case-2.result.now
     (codes_of c.evaluate-value-in-Case.result) c.run_case.new.out c.in-Case.is c.deref-in-Case.ensures.value c.deref-in-Case-2.ensures.value value c.run_case.ensures
 
 pub run_case-run_all-requires : goal.run_case-run_all-requires

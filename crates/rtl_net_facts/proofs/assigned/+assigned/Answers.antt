@@ -29,31 +29,31 @@ pub statement_assigns-returns-then-all_branches_assign : goal.statement_assigns-
 statement_assigns-returns-then-all_branches_assign t c =
     let e = c.args.element in
     let i = c.in-If in
-    let is : c.args.statement.now ≡ vs.If i.branches (Some c.in-Some.last) = i.is ∙ ap (λ (o : Option (Vec Statement Global)). vs.If i.branches o) c.in-Some.is in
+    let is : c.args.statement.now ≡ vs.If i.at i.branches (Some c.in-Some.last) = i.is ∙ ap (λ (o : Option (Vec Statement Global)). vs.If i.at i.branches o) c.in-Some.is in
     and_rest c.all_branches_assign.result _ _ _ _ (c.all_branches_assign.ensures ∙ ap (list_all (branch_assigns e)) c.deref.ensures.value) c.if-all_branches_assign.true
-    (if_assigns e c.args.statement.now i.branches c.in-Some.last is)
+    (if_assigns e c.args.statement.now i.at i.branches c.in-Some.last is)
     (c.all_assign.ensures ∙ ap (λ (xs : List Statement). must_assign (is_element e) (statements_of xs)) c.deref-then-all_branches_assign.ensures.value)
 
 pub statement_assigns-returns-else-all_branches_assign : goal.statement_assigns-returns-else-all_branches_assign
 statement_assigns-returns-else-all_branches_assign t c =
     let e = c.args.element in
     let i = c.in-If in
-    let is : c.args.statement.now ≡ vs.If i.branches (Some c.in-Some.last) = i.is ∙ ap (λ (o : Option (Vec Statement Global)). vs.If i.branches o) c.in-Some.is in
+    let is : c.args.statement.now ≡ vs.If i.at i.branches (Some c.in-Some.last) = i.is ∙ ap (λ (o : Option (Vec Statement Global)). vs.If i.at i.branches o) c.in-Some.is in
     first_false _ _ _ _ (c.all_branches_assign.ensures ∙ ap (list_all (branch_assigns e)) c.deref.ensures.value) c.if-all_branches_assign.false
-    (if_assigns e c.args.statement.now i.branches c.in-Some.last is)
+    (if_assigns e c.args.statement.now i.at i.branches c.in-Some.last is)
 
 pub statement_assigns-returns-in-None : goal.statement_assigns-returns-in-None
 statement_assigns-returns-in-None t c =
     let i = c.in-If in
-    let is : c.args.statement.now ≡ vs.If i.branches None = i.is ∙ ap (λ (o : Option (Vec Statement Global)). vs.If i.branches o) c.in-None.is in
-    sym (if_alone_assigns c.args.element c.args.statement.now i.branches is)
+    let is : c.args.statement.now ≡ vs.If i.at i.branches None = i.is ∙ ap (λ (o : Option (Vec Statement Global)). vs.If i.at i.branches o) c.in-None.is in
+    sym (if_alone_assigns c.args.element c.args.statement.now i.at i.branches is)
 
 pub statement_assigns-returns-then-all_alternatives_assign : goal.statement_assigns-returns-then-all_alternatives_assign
 statement_assigns-returns-then-all_alternatives_assign t c =
     let e = c.args.element in
     let i = c.in-Case in
     and_rest c.all_alternatives_assign.result _ _ _ _ (c.all_alternatives_assign.ensures ∙ ap (list_all (alternative_assigns e)) c.deref-in-Case.ensures.value)
-    c.if-all_alternatives_assign.true (case_assigns e c.args.statement.now i.selector i.alternatives i.others i.is)
+    c.if-all_alternatives_assign.true (case_assigns e c.args.statement.now i.at i.selector i.alternatives i.others i.is)
     (c.all_assign-then-all_alternatives_assign.ensures ∙ ap (λ (xs : List Statement). must_assign (is_element e) (statements_of xs)) c.deref-then-all_alternatives_assign.ensures.value)
 
 pub statement_assigns-returns-else-all_alternatives_assign : goal.statement_assigns-returns-else-all_alternatives_assign
@@ -61,4 +61,4 @@ statement_assigns-returns-else-all_alternatives_assign t c =
     let e = c.args.element in
     let i = c.in-Case in
     first_false _ _ _ _ (c.all_alternatives_assign.ensures ∙ ap (list_all (alternative_assigns e)) c.deref-in-Case.ensures.value) c.if-all_alternatives_assign.false
-    (case_assigns e c.args.statement.now i.selector i.alternatives i.others i.is)
+    (case_assigns e c.args.statement.now i.at i.selector i.alternatives i.others i.is)

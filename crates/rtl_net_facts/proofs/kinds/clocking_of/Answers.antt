@@ -12,12 +12,12 @@ pub returns-in-Some : goal.returns-in-Some
 returns-in-Some c =
     let i = c.in-If in
     let v = c.in-Some.field-0 in
-    let is : c.index-body-0.result ≡ vs.If i.branches (Some v) = i.is ∙ ap (λ (o : Option (Vec Statement Global)). vs.If i.branches o) c.in-Some.is in
-    with_else c.args.inputs.now c.args.body.now c.index-body-0.result c.if-body-ne1.false c.index-body-0.is i.branches v is
+    let is : c.index-body-0.result ≡ vs.If i.at i.branches (Some v) = i.is ∙ ap (λ (o : Option (Vec Statement Global)). vs.If i.at i.branches o) c.in-Some.is in
+    with_else c.args.inputs.now c.args.body.now c.index-body-0.result c.if-body-ne1.false c.index-body-0.is i.at i.branches v is
 
 pub returns-in-None : goal.returns-in-None
 returns-in-None c =
     let i = c.in-If in
-    let is : c.index-body-0.result ≡ vs.If i.branches None = i.is ∙ ap (λ (o : Option (Vec Statement Global)). vs.If i.branches o) c.in-None.is in
+    let is : c.index-body-0.result ≡ vs.If i.at i.branches None = i.is ∙ ap (λ (o : Option (Vec Statement Global)). vs.If i.at i.branches o) c.in-None.is in
     c.clocking_of_branches.ensures ∙ (ap (λ (bs : List Branch). clocked c.args.inputs.now (if_alone bs)) c.deref.ensures.value
-    ∙ without_else c.args.inputs.now c.args.body.now c.index-body-0.result c.if-body-ne1.false c.index-body-0.is i.branches is)
+    ∙ without_else c.args.inputs.now c.args.body.now c.index-body-0.result c.if-body-ne1.false c.index-body-0.is i.at i.branches is)

@@ -43,7 +43,7 @@ pub push_assigned-returns-in_ok-extend_from_slice-in-Some : goal.push_assigned-r
 push_assigned-returns-in_ok-extend_from_slice-in-Some t c =
     let i = c.in-If in
     let ds = c.args.drives.now in
-    let is : c.args.statement.now ≡ vs.If i.branches (Some c.in-Some.last) = i.is ∙ ap (λ (o : Option (Vec Statement Global)). vs.If i.branches o) c.in-Some.is in
+    let is : c.args.statement.now ≡ vs.If i.at i.branches (Some c.in-Some.last) = i.is ∙ ap (λ (o : Option (Vec Statement Global)). vs.If i.at i.branches o) c.in-Some.is in
     let common = c.in_ok-common-in-Some-2.common.items in
     λ n. adds_all n c.extend_from_slice.new.self.items c.args.nets.now.items common _
     ((c.in_ok-extend_from_slice-in-Some).ensures.items ∙ ap (λ (xs : List ℕ). c.args.nets.now.items ++ xs) c.deref-in-Some-2.ensures.value)
@@ -51,13 +51,13 @@ push_assigned-returns-in_ok-extend_from_slice-in-Some t c =
     ∙ (ap (λ (b : Bool). list_all (branch_covers ds n) c.deref-in-Some.result.now && b)
     (c.in_ok-common-in-Some.ensures.are n ∙ ap (λ (xs : List Statement). must_assign (to_net ds n) (statements_of xs)) c.deref.ensures.value)
     ∙ (ap (λ (bs : List Branch). list_all (branch_covers ds n) bs && must_assign (to_net ds n) (statements_of c.in-Some.last.items)) c.deref-in-Some.ensures.value
-    ∙ sym (if_covers ds n c.args.statement.now i.branches c.in-Some.last is))))
+    ∙ sym (if_covers ds n c.args.statement.now i.at i.branches c.in-Some.last is))))
 
 pub push_assigned-returns-in-None : goal.push_assigned-returns-in-None
 push_assigned-returns-in-None t c =
     let i = c.in-If in
-    let is : c.args.statement.now ≡ vs.If i.branches None = i.is ∙ ap (λ (o : Option (Vec Statement Global)). vs.If i.branches o) c.in-None.is in
-    λ n. adds_none n c.args.nets.now.items _ (if_alone_covers c.args.drives.now n c.args.statement.now i.branches is)
+    let is : c.args.statement.now ≡ vs.If i.at i.branches None = i.is ∙ ap (λ (o : Option (Vec Statement Global)). vs.If i.at i.branches o) c.in-None.is in
+    λ n. adds_none n c.args.nets.now.items _ (if_alone_covers c.args.drives.now n c.args.statement.now i.at i.branches is)
 
 pub push_assigned-returns-in_ok-extend_from_slice-in-Case : goal.push_assigned-returns-in_ok-extend_from_slice-in-Case
 push_assigned-returns-in_ok-extend_from_slice-in-Case t c =
@@ -70,4 +70,4 @@ push_assigned-returns-in_ok-extend_from_slice-in-Case t c =
     ∙ (ap (λ (b : Bool). list_all (alternative_covers ds n) c.deref-in-Case-2.result.now && b)
     (c.in_ok-common-in-Case.ensures.are n ∙ ap (λ (xs : List Statement). must_assign (to_net ds n) (statements_of xs)) c.deref-in-Case.ensures.value)
     ∙ (ap (λ (bs : List Alternative). list_all (alternative_covers ds n) bs && must_assign (to_net ds n) (statements_of i.others.items)) c.deref-in-Case-2.ensures.value
-    ∙ sym (case_covers ds n c.args.statement.now i.selector i.alternatives i.others i.is))))
+    ∙ sym (case_covers ds n c.args.statement.now i.at i.selector i.alternatives i.others i.is))))

@@ -32,9 +32,9 @@ statement_covers-returns-then-branches_cover t c =
     let ds = c.args.drives.now in
     let n = c.args.net in
     let i = c.in-If in
-    let is : c.args.statement.now ≡ vs.If i.branches (Some c.in-Some.last) = i.is ∙ ap (λ (o : Option (Vec Statement Global)). vs.If i.branches o) c.in-Some.is in
+    let is : c.args.statement.now ≡ vs.If i.at i.branches (Some c.in-Some.last) = i.is ∙ ap (λ (o : Option (Vec Statement Global)). vs.If i.at i.branches o) c.in-Some.is in
     and_rest c.branches_cover.result _ _ _ _ (c.branches_cover.ensures ∙ ap (list_all (branch_covers ds n)) c.deref.ensures.value) c.if-branches_cover.true
-    (if_covers ds n c.args.statement.now i.branches c.in-Some.last is)
+    (if_covers ds n c.args.statement.now i.at i.branches c.in-Some.last is)
     (c.covers.ensures ∙ ap (λ (xs : List Statement). must_assign (to_net ds n) (statements_of xs)) c.deref-then-branches_cover.ensures.value)
 
 pub statement_covers-returns-else-branches_cover : goal.statement_covers-returns-else-branches_cover
@@ -42,15 +42,15 @@ statement_covers-returns-else-branches_cover t c =
     let ds = c.args.drives.now in
     let n = c.args.net in
     let i = c.in-If in
-    let is : c.args.statement.now ≡ vs.If i.branches (Some c.in-Some.last) = i.is ∙ ap (λ (o : Option (Vec Statement Global)). vs.If i.branches o) c.in-Some.is in
+    let is : c.args.statement.now ≡ vs.If i.at i.branches (Some c.in-Some.last) = i.is ∙ ap (λ (o : Option (Vec Statement Global)). vs.If i.at i.branches o) c.in-Some.is in
     first_false _ _ _ _ (c.branches_cover.ensures ∙ ap (list_all (branch_covers ds n)) c.deref.ensures.value) c.if-branches_cover.false
-    (if_covers ds n c.args.statement.now i.branches c.in-Some.last is)
+    (if_covers ds n c.args.statement.now i.at i.branches c.in-Some.last is)
 
 pub statement_covers-returns-in-None : goal.statement_covers-returns-in-None
 statement_covers-returns-in-None t c =
     let i = c.in-If in
-    let is : c.args.statement.now ≡ vs.If i.branches None = i.is ∙ ap (λ (o : Option (Vec Statement Global)). vs.If i.branches o) c.in-None.is in
-    sym (if_alone_covers c.args.drives.now c.args.net c.args.statement.now i.branches is)
+    let is : c.args.statement.now ≡ vs.If i.at i.branches None = i.is ∙ ap (λ (o : Option (Vec Statement Global)). vs.If i.at i.branches o) c.in-None.is in
+    sym (if_alone_covers c.args.drives.now c.args.net c.args.statement.now i.at i.branches is)
 
 pub statement_covers-returns-then-alternatives_cover : goal.statement_covers-returns-then-alternatives_cover
 statement_covers-returns-then-alternatives_cover t c =
@@ -58,7 +58,7 @@ statement_covers-returns-then-alternatives_cover t c =
     let n = c.args.net in
     let i = c.in-Case in
     and_rest c.alternatives_cover.result _ _ _ _ (c.alternatives_cover.ensures ∙ ap (list_all (alternative_covers ds n)) c.deref-in-Case.ensures.value)
-    c.if-alternatives_cover.true (case_covers ds n c.args.statement.now i.selector i.alternatives i.others i.is)
+    c.if-alternatives_cover.true (case_covers ds n c.args.statement.now i.at i.selector i.alternatives i.others i.is)
     (c.covers-then-alternatives_cover.ensures ∙ ap (λ (xs : List Statement). must_assign (to_net ds n) (statements_of xs)) c.deref-then-alternatives_cover.ensures.value)
 
 pub statement_covers-returns-else-alternatives_cover : goal.statement_covers-returns-else-alternatives_cover
@@ -67,4 +67,4 @@ statement_covers-returns-else-alternatives_cover t c =
     let n = c.args.net in
     let i = c.in-Case in
     first_false _ _ _ _ (c.alternatives_cover.ensures ∙ ap (list_all (alternative_covers ds n)) c.deref-in-Case.ensures.value) c.if-alternatives_cover.false
-    (case_covers ds n c.args.statement.now i.selector i.alternatives i.others i.is)
+    (case_covers ds n c.args.statement.now i.at i.selector i.alternatives i.others i.is)
