@@ -1,5 +1,5 @@
 -- Which faults of a source have a cause that is told already: those of a word that stands in what was taken out.
-use Rattle.std.specs.Prelude.{ℕ, ◌==◌, ◌&&◌, ◌||◌, Bool, true, false, if◌then◌else◌, List, [], ◌∷◌, slice_index_or, slice_range}
+use Rattle.std.specs.Prelude.{ℕ, ◌==◌, ◌&&◌, ◌||◌, nat_lt, Bool, true, false, if◌then◌else◌, List, [], ◌∷◌, length, slice_index_or, slice_range}
 use Rattle.std.specs.Str.{str_eq_ignore_ascii_case}
 use Rattle.vhdl_lexer.specs.declared.token.Token.{Token}
 use Rattle.vhdl_names_rules.specs.declared.fault.NameFault.{NameFault}
@@ -22,13 +22,16 @@ word_at source at (t ∷ ts) = if t.start == at then slice_range source t.start 
 
 -- the token was taken out, since it begins with no blank itself
 abbrev pub is_out : (left : List ℕ) → Token → Bool
-is_out left t = slice_index_or left t.start 0 == 32
+is_out left t = nat_lt t.start (length left) && slice_index_or left t.start 0 == 32
 
--- the word, in letters of either case, is one of these tokens of the source, and was taken out there
+-- the token was taken out, and is this word, in letters of either case
+abbrev pub is_this_out : (source left word : List ℕ) → Token → Bool
+is_this_out source left word t = is_out left t && str_eq_ignore_ascii_case (slice_range source t.start t.end) word
+
+-- one of these tokens is
 abbrev pub is_word_out : (source left word : List ℕ) → List Token → Bool
 is_word_out source left word [] = false
-is_word_out source left word (t ∷ ts) =
-    is_out left t && str_eq_ignore_ascii_case (slice_range source t.start t.end) word || is_word_out source left word ts
+is_word_out source left word (t ∷ ts) = is_this_out source left word t || is_word_out source left word ts
 
 -- the fault of what is left of the source is one of a word that stands in what was taken out
 abbrev pub is_known : (source : List ℕ) → List Token → (left : List ℕ) → NameFault → Bool

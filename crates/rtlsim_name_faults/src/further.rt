@@ -1,6 +1,6 @@
 //! The faults of names of a source behind its first.
 
-ghost use Rattle.std.specs.Prelude.{◌≡◌};
+ghost use Rattle.std.specs.Prelude.{◌≡◌, ◌==◌};
 ghost use Rattle.rtl_sink.specs.Written.{Goes};
 ghost use Rattle.rtlsim_name_faults.specs.Further as spec;
 ghost use Rattle.rtlsim_name_faults.specs.Further.{TellsFurther};
@@ -77,7 +77,7 @@ fn push_behind<F: Front, S: Sink>(
     requires { AreWithin search.now.source.now search.now.tokens.now }
     ensures { TellsBehind (asked_of search.now) result steps more left.items fault (S.state sink.old) (S.state sink.new) }
 {
-    if steps == 0 {
+    if is_none(steps) {
         push_more(sink);
         return true;
     }
@@ -86,7 +86,7 @@ fn push_behind<F: Front, S: Sink>(
             if is_known(search.source, search.tokens, &left, fault) {
                 return push_behind::<F, S>(alloc, search, left, fault, steps - 1, more, sink);
             }
-            if more == 0 {
+            if is_none(more) {
                 push_more(sink);
                 return true;
             }
@@ -102,6 +102,12 @@ fn push_behind<F: Front, S: Sink>(
             false
         }
     }
+}
+
+fn is_none(count: u32) -> bool
+    ensures { result ≡ (count == 0) }
+{
+    count == 0
 }
 
 /// Writes the line below the last fault that is told.

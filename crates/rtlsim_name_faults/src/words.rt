@@ -1,6 +1,6 @@
 //! Words that were taken out of a source.
 
-ghost use Rattle.std.specs.Prelude.{◌≡◌, length};
+ghost use Rattle.std.specs.Prelude.{◌≡◌, ◌==◌, ◌≤◌, length, slice_range};
 ghost use Rattle.std.specs.Str.{str_eq_ignore_ascii_case};
 ghost use Rattle.rtlsim_name_faults.specs.Words as spec;
 ghost use Rattle.vhdl_lexer.specs.Cut.{AreWithin};
@@ -41,12 +41,26 @@ fn word_at<'a>(source: &'a [u8], at: usize, tokens: &[Token]) -> &'a [u8]
 {
     let mut others = tokens;
     while let [token, rest @ ..] = others {
-        if token.start as usize == at {
-            return &source[token.start as usize..token.end as usize];
+        if starts_at(*token, at) {
+            return text_of(source, *token);
         }
         others = rest;
     }
     &[]
+}
+
+fn starts_at(token: Token, at: usize) -> bool
+    ensures { result ≡ (token.start == at) }
+{
+    token.start as usize == at
+}
+
+/// The bytes of a token.
+fn text_of(source: &[u8], token: Token) -> &[u8]
+    requires { (token.start ≤ token.end) × (token.end ≤ length source.now) }
+    ensures { result.now ≡ slice_range source.now token.start token.end }
+{
+    &source[token.start as usize..token.end as usize]
 }
 
 /// Whether the word, in letters of either case, is one of these tokens of the source that were taken out.
@@ -56,12 +70,7 @@ fn is_word_out(source: &[u8], left: &[u8], word: &[u8], tokens: &[Token]) -> boo
 {
     let mut others = tokens;
     while let [token, rest @ ..] = others {
-        if is_out(left, *token)
-            && is_same(
-                &source[token.start as usize..token.end as usize],
-                word,
-            )
-        {
+        if is_this_out(source, left, word, *token) {
             return true;
         }
         others = rest;
@@ -69,14 +78,20 @@ fn is_word_out(source: &[u8], left: &[u8], word: &[u8], tokens: &[Token]) -> boo
     false
 }
 
-/// Whether the token was taken out.
+/// Whether a token was taken out, and is this word.
+fn is_this_out(source: &[u8], left: &[u8], word: &[u8], token: Token) -> bool
+    requires { (token.start ≤ token.end) × (token.end ≤ length source.now) }
+    ensures { result ≡ spec.is_this_out source.now left.now word.now token }
+{
+    is_out(left, token) && is_same(text_of(source, token), word)
+}
+
+/// Whether a token was taken out.
 fn is_out(left: &[u8], token: Token) -> bool
     ensures { result ≡ spec.is_out left.now token }
 {
-    match left.get(token.start as usize) {
-        Some(byte) => *byte == b' ',
-        None => false,
-    }
+    let start = token.start as usize;
+    start < left.len() && left[start] == b' '
 }
 
 fn is_same(first: &[u8], second: &[u8]) -> bool
