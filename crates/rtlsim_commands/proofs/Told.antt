@@ -1,17 +1,17 @@
 -- What is told of an answer.
 use Rattle.std.proofs.Common.{◌≡◌, ℕ, List, [], length, Result, Err, inl, inr, refl, sym, ◌∙◌, true≢false}
 use Rattle.rtlsim_faults.specs.Faults.{of_source, status_of}
-use Rattle.rtlsim_faults.specs.Explanations.{told}
 use Rattle.rtlsim_faults.specs.Places.{IsTold}
 use Rattle.rtlsim_faults.specs.Told.{TellsFault}
 use Rattle.rtlsim_faults.specs.declared.telling.Telling.{Telling}
 use Rattle.rtlsim_faults.specs.declared.faults.Fault.{Fault}
 use Rattle.rtlsim_faults.specs.declared.status.Status.{Status}
 use Rattle.rtlsim_faults.proofs.Refused.{nameless, source_told}
+use Rattle.rtlsim_commands.specs.Refused.{RefusesSource}
 use Rattle.rtlsim_commands.specs.Served.{Outputs, Serves, ended}
 use Rattle.rtlsim_commands.specs.Told.{Done}
 use Rattle.rtl_net.specs.Nets.{NetlistView}
-use Rattle.rtl_sink.specs.Written.{SinkState, Goes}
+use Rattle.rtl_sink.specs.Written.{SinkState}
 use Rattle.vhdl_source_rules.specs.Designs.{IsNetOf}
 use Rattle.vhdl_source_rules.specs.Faults.{LiesIn}
 use Rattle.vhdl_source_rules.specs.Refusals.{Refuses}
@@ -23,14 +23,14 @@ no_net = record { types = []; starts = []; idle = []; inputs = []; processes = [
 module _ {A : Type 0} (Does : NetlistView → Result A Fault → SinkState → SinkState → Type 0) (done : Done A) (telling : Telling) (source top : List ℕ) (outcome : Status) (o : Outputs) where
   -- the source is refused
   pub serves_refused : (fault : SourceFault) → Refuses source top fault → LiesIn (length source) fault → o.out_after ≡ o.out
-      → ((net : NetlistView) → Goes o.err o.err_after (told telling net (of_source fault))) → outcome ≡ ended (status_of (of_source fault)) o.out_after o.err_after
+      → RefusesSource telling source top fault o.err o.err_after → outcome ≡ ended (status_of (of_source fault)) o.out_after o.err_after
       → Serves Does done telling source top outcome o
-  serves_refused fault refuses lies same goes ends = record {
+  serves_refused fault refuses lies same tells ends = record {
     answer = Err (of_source fault);
     output = inr (fault, refl, refuses, same);
     placed = source_told (length source) fault lies;
     said = status_of (of_source fault);
-    told = (no_net, (λ named. absurd (true≢false (sym named ∙ nameless fault))), inl (goes no_net, refl));
+    told = (no_net, (λ named. absurd (true≢false (sym named ∙ nameless fault))), tells.between, inl (tells.first no_net, refl), inr tells.others);
     ends = ends;
   }
 
@@ -42,6 +42,6 @@ module _ {A : Type 0} (Does : NetlistView → Result A Fault → SinkState → S
     output = inl (net, is, does);
     placed = placed;
     said = tells.0;
-    told = (net, (λ named. is), tells.1);
+    told = (net, (λ named. is), o.err_after, tells.1, inl (net, is, refl));
     ends = tells.2;
   }

@@ -8,3 +8,4 @@ pub mod Expected
 -- what is told of it
 pub mod Told
 pub mod Served
+pub mod Refused

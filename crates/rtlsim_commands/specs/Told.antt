@@ -1,15 +1,18 @@
 -- What is told of a command's answer on the standard error, and the status that the program ends with.
-use Rattle.std.specs.Prelude.{◌≡◌, ℕ, Bool, true, false, List, [], ◌∷◌, Result, Ok, Err}
+use Rattle.std.specs.Prelude.{◌≡◌, ◌⊎◌, ℕ, Bool, true, false, if◌then◌else◌, List, [], ◌∷◌, Option, Some, None, Result, Ok, Err}
 use Rattle.rtlsim_faults.specs.Faults.{has_names}
 use Rattle.rtlsim_faults.specs.Told.{TellsFault, summary_line, levels_line}
 use Rattle.rtlsim_faults.specs.declared.faults.Fault.{Fault}
+use Rattle.rtlsim_faults.specs.declared.faults.Fault.TheVariants.{Name}
 use Rattle.rtlsim_faults.specs.declared.status.Status.{Status}
 use Rattle.rtlsim_faults.specs.declared.status.Status.TheVariants as status
 use Rattle.rtlsim_faults.specs.declared.telling.Telling.{Telling}
+use Rattle.rtlsim_name_faults.specs.Further.{TellsFurther}
 use Rattle.rtl_levelized.specs.declared.summary.LevelSummary.{LevelSummary}
 use Rattle.rtl_net.specs.Nets.{NetlistView}
 use Rattle.rtl_run.specs.declared.summary.Summary.{Summary}
 use Rattle.rtl_sink.specs.Written.{SinkState, Goes}
+use Rattle.vhdl_names_rules.specs.declared.fault.NameFault.{NameFault}
 use Rattle.vhdl_source_rules.specs.Designs.{IsNetOf}
 
 -- a fault whose lines have names is one of the source's net
@@ -26,10 +29,26 @@ pub record Done (A : Type 0) : Type 0 where
   pub text : A → List ℕ
   pub status : A → Status
 
+-- the fault of names or types behind which the others are told, where explanations are asked for
+abbrev pub first_of : Fault → (explains : Bool) → Option NameFault
+first_of (Name fault) explains = if explains then Some fault else None
+first_of _ explains = None
+
+-- Behind such a fault the others are told, and else nothing; memory may be refused before all are.
+abbrev pub TellsOthers : Telling → (source top : List ℕ) → Option NameFault → (old new : SinkState) → Type 0
+TellsOthers telling source top None old new = new ≡ old
+TellsOthers telling source top (Some first) old new = (whole : Bool) × TellsFurther telling source top first whole old new
+
+-- of a source that has a netlist nothing is told behind its fault
+abbrev pub TellsBehind : Telling → (source top : List ℕ) → Fault → (old new : SinkState) → Type 0
+TellsBehind telling source top fault old new =
+    ((net : NetlistView) × IsNetOf source top net × (new ≡ old)) ⊎ TellsOthers telling source top (first_of fault telling.explains) old new
+
 abbrev pub Tells : {A : Type 0} → Done A → Telling → (source top : List ℕ) → Result A Fault → (old new : SinkState) → (outcome : Status) → Type 0
 Tells done telling source top (Ok x) old new outcome = TellsText (done.text x) old new × (outcome ≡ done.status x)
 Tells done telling source top (Err fault) old new outcome =
-    (net : NetlistView) × HasNet source top fault net × TellsFault telling net fault old new outcome
+    (net : NetlistView) × HasNet source top fault net
+    × (between : SinkState) × TellsFault telling net fault old between outcome × TellsBehind telling source top fault between new
 
 -- ---- of each command
 

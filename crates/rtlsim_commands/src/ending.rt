@@ -1,11 +1,10 @@
 //! What is told of an answer, and the status that a command ends with.
 
 ghost use Rattle.std.specs.Prelude.{◌≡◌};
-ghost use Rattle.rtl_net.specs.Nets.{NetlistView};
 ghost use Rattle.rtl_sink.specs.Written.{IsIntact, Goes};
-ghost use Rattle.rtlsim_faults.specs.Explanations as explained;
 ghost use Rattle.rtlsim_faults.specs.Faults.{of_source, status_of};
 ghost use Rattle.rtlsim_faults.specs.Told.{TellsFault, summary_line, levels_line};
+ghost use Rattle.rtlsim_commands.specs.Refused.{RefusesSource};
 ghost use Rattle.rtlsim_commands.specs.Served.{ended};
 ghost use Rattle.rtlsim_commands.specs.Told as told;
 
@@ -16,21 +15,60 @@ use rtl_sink::Sink;
 use rtlsim_faults::{
     Fault, Status, Telling, tell_fault, tell_levels, tell_source_fault, tell_summary,
 };
+use rtlsim_name_faults::push_further_faults;
 use std::alloc::Global;
-use vhdl_source_rules::SourceFault;
+use vhdl_names_rules::NameFault;
+use vhdl_source_rules::{Front, SourceFault};
 
-/// Tells why a source is refused, and answers the status.
-pub(crate) fn refuse_source<O: Sink, E: Sink>(
+/// Tells why a source is refused, where it is for a name or type and explanations are asked for its other faults too, and answers the
+/// status.
+pub(crate) fn refuse_source<F: Front, O: Sink, E: Sink>(
+    alloc: Global,
+    source: &[u8],
+    top: &[u8],
     telling: &Telling<'_>,
     fault: SourceFault,
     out: &O,
     err: &mut E,
 ) -> Status
-    ensures told { (net : NetlistView) → Goes (E.state err.old) (E.state err.new) (explained.told telling.now net (of_source fault)) }
+    ensures told { RefusesSource telling.now source.now top.now fault (E.state err.old) (E.state err.new) }
     ensures status { result ≡ ended (status_of (of_source fault)) (O.state out.now) (E.state err.new) }
 {
     let said = tell_source_fault(telling, fault, err);
+    tell_others::<F, E>(alloc, source, top, telling, fault, err);
     ended_by_writes(said, out, err)
+}
+
+/// Tells the other faults of names and types of a source that is refused, where explanations are asked for.
+fn tell_others<F: Front, E: Sink>(
+    alloc: Global,
+    source: &[u8],
+    top: &[u8],
+    telling: &Telling<'_>,
+    fault: SourceFault,
+    err: &mut E,
+)
+    ensures { told.TellsOthers telling.now source.now top.now (told.first_of (of_source fault) telling.now.explains) (E.state err.old) (E.state err.new) }
+{
+    if let Some(first) = first_of(fault, telling.explains) {
+        let _whole = push_further_faults::<F, E>(alloc, telling, source, top, first, err);
+    }
+}
+
+/// The fault of names or types behind which the others are told.
+fn first_of(fault: SourceFault, explains: bool) -> Option<NameFault>
+    ensures { result ≡ told.first_of (of_source fault) explains }
+{
+    match fault {
+        SourceFault::Name(first) => {
+            if explains {
+                Some(first)
+            } else {
+                None
+            }
+        }
+        _ => None,
+    }
 }
 
 /// Tells a fault of a netlist with its names, and answers the status.

@@ -31,7 +31,7 @@ pub fn serve_net<F: Front, O: Sink, E: Sink>(
 {
     let net = match F::open(alloc, source, top) {
         Ok(net) => net,
-        Err(fault) => return refuse_source(telling, fault, out, err),
+        Err(fault) => return refuse_source::<F, O, E>(alloc, source, top, telling, fault, out, err),
     };
     match list_net(&net, out) {
         Ok(()) => ended_by_writes(Status::Done, out, err),
@@ -55,7 +55,7 @@ pub fn serve_check<F: Front, O: Sink, E: Sink>(
 {
     let net = match F::open(alloc, source, top) {
         Ok(net) => net,
-        Err(fault) => return refuse_source(telling, fault, out, err),
+        Err(fault) => return refuse_source::<F, O, E>(alloc, source, top, telling, fault, out, err),
     };
     match check_net_told(alloc, telling, &net, out) {
         Ok(yes) => ended_by_writes(verdict_status(yes), out, err),
@@ -80,7 +80,7 @@ pub fn serve_check_dot<F: Front, O: Sink, E: Sink>(
 {
     let net = match F::open(alloc, source, top) {
         Ok(net) => net,
-        Err(fault) => return refuse_source(telling, fault, out, err),
+        Err(fault) => return refuse_source::<F, O, E>(alloc, source, top, telling, fault, out, err),
     };
     match check_net_dot_told(alloc, telling, &net, out) {
         Ok(yes) => ended_by_writes(verdict_status(yes), out, err),
@@ -104,7 +104,7 @@ pub fn serve_check_json<F: Front, O: Sink, E: Sink>(
 {
     let net = match F::open(alloc, source, top) {
         Ok(net) => net,
-        Err(fault) => return refuse_source(telling, fault, out, err),
+        Err(fault) => return refuse_source::<F, O, E>(alloc, source, top, telling, fault, out, err),
     };
     match check_net_json(alloc, telling, &net, out) {
         Ok(yes) => ended_by_writes(verdict_status(yes), out, err),
@@ -130,7 +130,7 @@ pub fn serve_eval<F: Front, O: Sink, E: Sink>(
 {
     let net = match F::open(alloc, source, top) {
         Ok(net) => net,
-        Err(fault) => return refuse_source(telling, fault, out, err),
+        Err(fault) => return refuse_source::<F, O, E>(alloc, source, top, telling, fault, out, err),
     };
     match eval_net(alloc, &net, sets, out) {
         Ok(()) => ended_by_writes(Status::Done, out, err),

@@ -39,7 +39,7 @@ pub fn serve_run_event<F: Front, P: Pick, V: Watch, O: Sink, E: Sink>(
 {
     let net = match F::open(alloc, source, top) {
         Ok(net) => net,
-        Err(fault) => return refuse_source(telling, fault, out, err),
+        Err(fault) => return refuse_source::<F, O, E>(alloc, source, top, telling, fault, out, err),
     };
     match run_events_watched(alloc, &net, stimulus, pick, watch, out) {
         Ok(summary) => end_run(summary, out, err),
@@ -68,7 +68,7 @@ pub fn serve_run_event_expecting<F: Front, P: Pick, V: Watch, O: Sink, E: Sink>(
 {
     let net = match F::open(alloc, source, top) {
         Ok(net) => net,
-        Err(fault) => return refuse_source(telling, fault, out, err),
+        Err(fault) => return refuse_source::<F, O, E>(alloc, source, top, telling, fault, out, err),
     };
     match run_events_expecting(alloc, &net, stimulus, expected, pick, watch, out) {
         Ok(summary) => end_run(summary, out, err),
@@ -96,7 +96,7 @@ pub fn serve_run<F: Front, P: Pick, V: Watch, O: Sink, E: Sink>(
 {
     let net = match F::open(alloc, source, top) {
         Ok(net) => net,
-        Err(fault) => return refuse_source(telling, fault, out, err),
+        Err(fault) => return refuse_source::<F, O, E>(alloc, source, top, telling, fault, out, err),
     };
     match run_net_watched(alloc, &net, stimulus, pick, watch, out) {
         Ok(summary) => end_run(summary, out, err),
@@ -125,7 +125,7 @@ pub fn serve_run_expecting<F: Front, P: Pick, V: Watch, O: Sink, E: Sink>(
 {
     let net = match F::open(alloc, source, top) {
         Ok(net) => net,
-        Err(fault) => return refuse_source(telling, fault, out, err),
+        Err(fault) => return refuse_source::<F, O, E>(alloc, source, top, telling, fault, out, err),
     };
     match run_net_expecting(alloc, &net, stimulus, expected, pick, watch, out) {
         Ok(summary) => end_run(summary, out, err),
@@ -152,7 +152,7 @@ pub fn serve_run_levels<F: Front, V: Watch, O: Sink, E: Sink>(
 {
     let net = match F::open(alloc, source, top) {
         Ok(net) => net,
-        Err(fault) => return refuse_source(telling, fault, out, err),
+        Err(fault) => return refuse_source::<F, O, E>(alloc, source, top, telling, fault, out, err),
     };
     match run_net_levels_watched(alloc, &net, stimulus, watch, out) {
         Ok(summary) => end_levels(summary, out, err),
@@ -180,7 +180,7 @@ pub fn serve_run_levels_expecting<F: Front, V: Watch, O: Sink, E: Sink>(
 {
     let net = match F::open(alloc, source, top) {
         Ok(net) => net,
-        Err(fault) => return refuse_source(telling, fault, out, err),
+        Err(fault) => return refuse_source::<F, O, E>(alloc, source, top, telling, fault, out, err),
     };
     match run_net_levels_expecting(alloc, &net, stimulus, expected, watch, out) {
         Ok(summary) => end_levels(summary, out, err),

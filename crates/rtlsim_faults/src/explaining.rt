@@ -148,8 +148,8 @@ fn explain_grammar<S: Sink>(files: &[SourceFile<'_>], fault: SyntaxFault, sink: 
     }
 }
 
-/// Explains which rule on names or types is broken.
-fn explain_names<S: Sink>(files: &[SourceFile<'_>], fault: NameFault, sink: &mut S)
+/// Explains which rule on names or types is broken, at its place in these files; of want of memory nothing is said.
+pub fn explain_names<S: Sink>(files: &[SourceFile<'_>], fault: NameFault, sink: &mut S)
     ensures { Goes (S.state sink.old) (S.state sink.new) (spec.name_said (map file_view files.now) fault) }
 {
     match (fault, placed(files, name_notice(&fault))) {

@@ -10,6 +10,7 @@ mod lines;
 mod status;
 mod telling;
 
+pub use explaining::explain_names;
 pub use faults::Fault;
 pub use lines::{push_memory, tell_fault, tell_levels, tell_source_fault, tell_summary};
 pub use status::Status;
