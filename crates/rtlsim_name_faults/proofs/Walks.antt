@@ -14,12 +14,12 @@ rest_is x xs = take_all (length (x ∷ xs) - 1) xs (omega arith)
 
 pub rest_within : (source : List ℕ) (ts : List Token) → 1 ≤ length ts → AreWithin source ts → AreWithin source (rest ts)
 rest_within source [] some within = absurd (omega arith)
-rest_within source (t ∷ ts) some within = rw (rest_is t ts) within.1.1
+rest_within source (t ∷ ts) some within = rw (rest_is t ts) within.2
 
 pub first_within : (source : List ℕ) (d : Token) (ts : List Token) → 1 ≤ length ts → AreWithin source ts
     → ((slice_index_or ts 0 d).start ≤ (slice_index_or ts 0 d).end) × ((slice_index_or ts 0 d).end ≤ length source)
 first_within source d [] some within = absurd (omega arith)
-first_within source d (t ∷ ts) some within = (within.0, within.1.0)
+first_within source d (t ∷ ts) some within = (within.0, within.1)
 
 pub word_more : (source : List ℕ) (at : ℕ) (d : Token) (ts : List Token) → 1 ≤ length ts → ((slice_index_or ts 0 d).start == at) ≡ false
     → word_at source at (rest ts) ≡ word_at source at ts

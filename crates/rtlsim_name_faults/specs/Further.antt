@@ -95,7 +95,7 @@ Further a whole (suc steps) more left fault text =
 abbrev pub FurtherOf : Telling → (source top : List ℕ) → (first : NameFault) → (whole : Bool) → (text : List ℕ) → Type 0
 FurtherOf telling source top first whole text =
     ((tokens : List Token) × Cuts None 0 source tokens
-        × Further (record { files = files_of telling; source = source; tokens = tokens; top = top }) whole most_steps 19 source first text)
+    × Further (record { files = files_of telling; source = source; tokens = tokens; top = top }) whole most_steps 19 source first text)
     ⊎ ((whole ≡ false) × (text ≡ []))
 
 -- the further faults are told; `whole`: no memory was refused

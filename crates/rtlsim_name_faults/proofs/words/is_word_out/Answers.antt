@@ -7,5 +7,6 @@ is_this_out-requires c = first_within _ _ c.loop-others.others.now c.in-len1-up.
 
 pub loop-others-preserved : goal.loop-others-preserved
 loop-others-preserved c = (
-    out_more _ _ _ _ c.loop-others.others.now c.in-len1-up.len_at_least (sym c.is_this_out.ensures ∙ c.if-is_this_out.false) ∙ c.loop-others.invariant.0,
-    rest_within _ c.loop-others.others.now c.in-len1-up.len_at_least c.loop-others.invariant.1)
+  out_more _ _ _ _ c.loop-others.others.now c.in-len1-up.len_at_least (sym c.is_this_out.ensures ∙ c.if-is_this_out.false) ∙ c.loop-others.invariant.0,
+  rest_within _ c.loop-others.others.now c.in-len1-up.len_at_least c.loop-others.invariant.1,
+)

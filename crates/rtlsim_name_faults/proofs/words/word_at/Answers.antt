@@ -7,5 +7,6 @@ text_of-requires c = first_within _ _ c.loop-others.others.now c.in-len1-up.len_
 
 pub loop-others-preserved : goal.loop-others-preserved
 loop-others-preserved c = (
-    word_more _ _ _ c.loop-others.others.now c.in-len1-up.len_at_least (sym c.starts_at.ensures ∙ c.if-starts_at.false) ∙ c.loop-others.invariant.0,
-    rest_within _ c.loop-others.others.now c.in-len1-up.len_at_least c.loop-others.invariant.1)
+  word_more _ _ _ c.loop-others.others.now c.in-len1-up.len_at_least (sym c.starts_at.ensures ∙ c.if-starts_at.false) ∙ c.loop-others.invariant.0,
+  rest_within _ c.loop-others.others.now c.in-len1-up.len_at_least c.loop-others.invariant.1,
+)
