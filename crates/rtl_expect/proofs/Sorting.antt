@@ -1,5 +1,5 @@
 -- A sort that leaves those of one time in the order that they have gives what placing one after another gives.
-use Rattle.std.proofs.Common.{◌≡◌, ℕ, zero, suc, ◌<◌, ◌≤◌, Bool, true, false, nat_lt, List, [], ◌∷◌, ◌++◌, length, map, get_or, filter, refl, sym, ap, subst, ◌∙◌, arith, append_assoc}
+use Rattle.std.proofs.Common.{◌≡◌, ℕ, suc, ◌<◌, ◌≤◌, Bool, true, false, nat_lt, List, [], ◌∷◌, ◌++◌, length, map, get_or, filter, refl, sym, ap, ◌∙◌, arith, append_assoc}
 use Rattle.std.specs.Prelude.{if◌then◌else◌, not, ◌&&◌, cond}
 use Rattle.std.specs.Cmp.{ranks}
 use Rattle.std.specs.Ordering.{is_lt, nat_cmp, MatchOrdering}
@@ -7,7 +7,7 @@ use Rattle.std.specs.declared.cmp.Ordering.{Ordering}
 use Rattle.std.specs.declared.cmp.Ordering.TheVariants.{Less, Equal, Greater}
 use Rattle.std.specs.List.Sorted.{IsNonDecreasingBy, IsStableByKey}
 use Rattle.std.proofs.lemmas.Bool.Decides.{nat_tests}
-use Rattle.std.proofs.lemmas.List.{append-nil}
+use Rattle.std.proofs.lemmas.List.{append-nil, map-append}
 use Rattle.rtl_expect.specs.declared.expectation.Expectation.{Expectation as KeptExpectation}
 use Rattle.rtl_expect.specs.Expected.{Expectation}
 use Rattle.rtl_expect.specs.Lines.{placed}
@@ -80,7 +80,7 @@ module _ (time : ℕ) (e : Expectation) where
           none_at time (x ∷ xs) (less, each_map (λ y. x.time ≤ y.time) (λ y. time < y.time) (λ y from. omega (arith, from, less)) xs order.0))
       by false is more = kept (is_at time x) (at_time time (placed e xs)) (at_time time xs) more
 
-pub all_in_order : (so_far es : List Expectation) → AreInOrder so_far → AreInOrder (all_placed so_far es)
+all_in_order : (so_far es : List Expectation) → AreInOrder so_far → AreInOrder (all_placed so_far es)
 all_in_order so_far [] order = order
 all_in_order so_far (e ∷ es) order = all_in_order (placed e so_far) es (placed_in_order e so_far order)
 
@@ -96,7 +96,7 @@ all_at time so_far (e ∷ es) order =
     joined true = refl
     joined false = refl
 
-pub one_more_placed : (so_far es : List Expectation) (e : Expectation) → all_placed so_far (es ++ e ∷ []) ≡ placed e (all_placed so_far es)
+one_more_placed : (so_far es : List Expectation) (e : Expectation) → all_placed so_far (es ++ e ∷ []) ≡ placed e (all_placed so_far es)
 one_more_placed so_far [] e = refl
 one_more_placed so_far (x ∷ xs) e = one_more_placed (placed x so_far) xs e
 
@@ -118,7 +118,7 @@ same_rest false x xs ys same = same
 all_later : (time : ℕ) (x : Expectation) (xs : List Expectation) → time < x.time → Each (λ y. x.time ≤ y.time) xs → Each (λ y. time < y.time) (x ∷ xs)
 all_later time x xs less from = (less, each_map (λ y. x.time ≤ y.time) (λ y. time < y.time) (λ y more. omega (arith, less, more)) xs from)
 
-pub one_order : (xs ys : List Expectation) → AreInOrder xs → AreInOrder ys → ((time : ℕ) → at_time time xs ≡ at_time time ys) → xs ≡ ys
+one_order : (xs ys : List Expectation) → AreInOrder xs → AreInOrder ys → ((time : ℕ) → at_time time xs ≡ at_time time ys) → xs ≡ ys
 one_order [] [] up up' same = refl
 one_order [] (y ∷ ys) up up' same = absurd (none_before y ys [] tt (same y.time))
 one_order (x ∷ xs) [] up up' same = absurd (none_before x xs [] tt (sym (same x.time)))
@@ -135,11 +135,18 @@ one_order (x ∷ xs) (y ∷ ys) up up' same = by (nat_lt x.time y.time) refl (na
         let times : x.time ≡ y.time = grind (arith, nat_tests, is, is') in
         let first : x ≡ y = same_head x y (at_time x.time xs) (at_time x.time ys) _ _ (first_at x.time x xs refl) (first_at x.time y ys times) (same x.time) in
         let rests : xs ≡ ys = more
-            (λ time. same_rest (is_at time x) x (at_time time xs) (at_time time ys)
-            (same time ∙ ap (λ (z : Expectation). cond (is_at time z) (z ∷ at_time time ys) (at_time time ys)) (sym first))) in
+        (λ time. same_rest (is_at time x) x (at_time time xs) (at_time time ys)
+        (same time ∙ ap (λ (z : Expectation). cond (is_at time z) (z ∷ at_time time ys) (at_time time ys)) (sym first))) in
         ap (λ (z : Expectation). z ∷ xs) first ∙ ap (λ (zs : List Expectation). y ∷ zs) rests
 
 -- ---- in a vector
+
+pub one_more_kept : (list new : List KeptExpectation) (k : KeptExpectation) → new ≡ list ++ k ∷ []
+    → all_placed [] (map expectation_view new) ≡ placed (expectation_view k) (all_placed [] (map expectation_view list))
+one_more_kept list new k is =
+    ap (λ (xs : List KeptExpectation). all_placed [] (map expectation_view xs)) is
+    ∙ ap (all_placed []) (map-append expectation_view list (k ∷ []))
+    ∙ one_more_placed [] (map expectation_view list) (expectation_view k)
 
 view_at : (time : ℕ) (list : List KeptExpectation) → map expectation_view (filter (λ k. is_at time (expectation_view k)) list) ≡ at_time time (map expectation_view list)
 view_at time [] = refl

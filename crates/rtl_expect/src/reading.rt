@@ -5,8 +5,9 @@ ghost use Rattle.std.specs.List.{slice_split};
 ghost use Rattle.rtl_stim_lines.specs.Lines.{as_lines, ends_line};
 ghost use Rattle.rtl_stim_lines.specs.Forms as forms;
 ghost use Rattle.rtl_expect.specs.Expected as wanted;
+ghost use Rattle.rtl_expect.specs.Lines as lines;
 ghost use Rattle.rtl_expect.specs.Lines.{after_line, expected_in, in_line};
-ghost use Rattle.rtl_expect.specs.Watching.{AreInOrder, list_view};
+ghost use Rattle.rtl_expect.specs.Watching.{AreInOrder, expectation_view, list_view};
 ghost use Rattle.rtl_expect.specs.Reading.{AreListed, IsExpected, Leads, all_placed};
 
 use crate::expectation::Expectation;
@@ -71,7 +72,8 @@ fn read_line(
     if says_nothing(&words) {
         return Ok(());
     }
-    list.push(expectation_of(alloc, net, number, &words)?)?;
+    let expectation = expectation_of(alloc, net, number, &words)?;
+    keep(list, expectation)?;
     Ok(())
 }
 
@@ -174,6 +176,15 @@ fn position_wanted(
         }
         _ => Ok(None),
     }
+}
+
+/// Puts an expectation behind those of the lines before.
+fn keep(list: &mut Vec<Expectation>, expectation: Expectation) -> Result<(), AllocError>
+    ensures { OnOk result (all_placed [] (list_view list.new)
+        ≡ lines.placed (expectation_view expectation) (all_placed [] (list_view list.old))) }
+{
+    list.push(expectation)?;
+    Ok(())
 }
 
 /// Puts expectations in order of time; those of one time stay in the order that they have.
