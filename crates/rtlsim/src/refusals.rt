@@ -46,8 +46,8 @@ pub(crate) fn refuse_input<O: Sink, E: Sink>(
     out: &O,
     err: &mut E,
 ) -> Status
-    ensures told { Goes (E.state err.old) (E.state err.new) (unread.fault_text explains fault) }
-    ensures status { result ≡ ended (unread.fault_status fault) (O.state out.now) (E.state err.new) }
+    ensures told { Goes (E.state err.old) (E.state err.new) (unread.fault_text explains (unread.unread_of fault)) }
+    ensures status { result ≡ ended (unread.fault_status (unread.unread_of fault)) (O.state out.now) (E.state err.new) }
 {
     match fault {
         ReadFault::Unread { name, problem } => push_unread(name, problem, explains, err),

@@ -1,4 +1,4 @@
-use Rattle.std.proofs.Common.{ℕ, List, Bor, Option, Some, map, option_map, ap, subst}
+use Rattle.std.proofs.Common.{ℕ, List, Bor, Ok, Option, map, option_map, ap, subst}
 use Rattle.rtlsim.specs.Reads.{GivesAll, GivesMain}
 use Rattle.rtlsim.specs.Requests.{stimulus_of, texts}
 use Rattle.rtlsim.specs.Texts.{read_view, texts_of}
@@ -17,11 +17,11 @@ returns-clause-given g c =
       (before, (main, expected)),
       (
         between,
-        subst (λ (names : List (Bor (List ℕ))). GivesAll g.I.Inputs.gives (map name_of names) old between (Some before)) c.deref.ensures.value c.in_ok-before.ensures.given,
+        subst (λ (names : List (Bor (List ℕ))). GivesAll g.I.Inputs.gives (map name_of names) old between (Ok before)) c.deref.ensures.value c.in_ok-before.ensures.given,
         (
           behind,
-          subst (λ (file : List ℕ). GivesMain g.I.Inputs.gives file (stimulus_of c.args.call.now.request) between behind (Some main)) c.file_of-file.ensures
-              (subst (λ (stimulus : Option (List ℕ)). GivesMain g.I.Inputs.gives c.file_of-file.result.now stimulus between behind (Some main)) c.stimulus_of.ensures c.in_ok-main.ensures.given),
+          subst (λ (file : List ℕ). GivesMain g.I.Inputs.gives file (stimulus_of c.args.call.now.request) between behind (Ok main)) c.file_of-file.ensures
+              (subst (λ (stimulus : Option (List ℕ)). GivesMain g.I.Inputs.gives c.file_of-file.result.now stimulus between behind (Ok main)) c.stimulus_of.ensures c.in_ok-main.ensures.given),
           c.in_ok-expected.ensures.given,
         ),
       ),
