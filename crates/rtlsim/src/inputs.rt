@@ -1,6 +1,6 @@
 //! The files that the words of the command line name.
 
-ghost use Rattle.std.specs.Prelude.{◌≡◌, ◌≤◌, ℕ, List, Ok, Err, IfOk, IfErr, length};
+ghost use Rattle.std.specs.Prelude.{◌≡◌, ◌≤◌, ◌⊎◌, ℕ, List, Ok, Err, IfOk, IfErr, length};
 ghost use Rattle.rtl_sink.specs.Read.{ReaderState};
 ghost use Rattle.rtlsim.specs.Inputs.{Answer, GivesWhole, GivesFile, GivesNamed, GivesStandardAlone, greatest_input};
 ghost use Rattle.rtlsim.specs.declared.problem.InputProblem.{InputProblem};
@@ -29,6 +29,19 @@ pub enum InputFault {
     /// Memory was refused.
     #[error("out of memory")]
     NoMemory,
+}
+
+impl InputFault {
+    /// The fault of a file of this name; a folder that can't be read is told as one.
+    fn of_name<F: Files>(self, files: &F, name: &str) -> InputFault
+        ensures { (result ≡ self) ⊎ (result ≡ Failed InputProblem.Folder) }
+    {
+        if self == InputFault::Failed(InputProblem::ReadFailed) && is_folder(files, name) {
+            InputFault::Failed(InputProblem::Folder)
+        } else {
+            self
+        }
+    }
 }
 
 impl From<AllocError> for InputFault {
@@ -126,10 +139,8 @@ fn read_opened<F: Files>(
     ensures failed { IfErr result (λ fault. (problem : InputProblem) → fault ≡ Failed problem → GivesFile F.File.remaining (Err problem)) }
 {
     match read_input(alloc, &mut In::new(file)) {
-        Err(InputFault::Failed(InputProblem::ReadFailed)) if is_folder(files, name) => Err(
-            InputFault::Failed(InputProblem::Folder),
-        ),
-        answer => answer,
+        Ok(all) => Ok(all),
+        Err(fault) => Err(fault.of_name(files, name)),
     }
 }
 
