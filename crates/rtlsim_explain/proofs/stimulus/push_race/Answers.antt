@@ -3,10 +3,4 @@ use Rattle.rtlsim_explain.proofs.stimulus.push_race.Goals as goal
 
 pub returns : goal.returns
 returns g c =
-    Goes-append _ _ _ _ _
-    (Goes-append _ _ _ _ _
-    (Goes-append _ _ _ _ _
-    (Goes-append _ _ _ _ _ (Goes-append _ _ _ _ _ (Goes-append _ _ _ _ _ c.push_text.ensures c.push_number.ensures) c.push_text-2.ensures) c.push_text-3.ensures)
-    c.push_text-4.ensures)
-    c.push_text-5.ensures)
-    c.push_text-6.ensures
+    Goes-append _ _ _ _ _ (Goes-append _ _ _ _ _ (Goes-append _ _ _ _ _ c.push_race_head.ensures c.push_race_sentence.ensures) c.push_race_line.ensures) c.push_help.ensures
