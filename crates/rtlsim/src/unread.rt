@@ -42,7 +42,7 @@ impl<'a> ReadFault<'a> {
 
     /// The status that the program ends with.
     pub(crate) fn status(self) -> Status
-        ensures { result ≡ unread.fault_status (unread.unread_of self) }
+        ensures { result ≡ unread.fault_status (unread.unread_of self.entry) }
     {
         match self {
             ReadFault::Unread { .. } => Status::Failed,

@@ -1,6 +1,6 @@
 use Rattle.std.proofs.Common.{◌≡◌, List, ℕ, inr, ap, refl, subst, ◌∙◌}
 use Rattle.std.specs.List.{after_first}
-use Rattle.rtlsim.specs.Inputs.{Reading, GivesNamed, held}
+use Rattle.rtlsim.specs.Inputs.{Reading, GivesNamed, GivesWhole, held}
 use Rattle.rtlsim.specs.Sinks.{Sinks}
 use Rattle.rtl_stim_lines.specs.Lines.{ends_line}
 use Rattle.rtlsim.specs.Lines.{first_line_of}
@@ -28,4 +28,4 @@ returns-in-Ok g c =
     ))
 
 pub returns-in-Err : goal.returns-in-Err
-returns-in-Err g c = tells_wordless _ c.in-Err.fault _ c.of.ensures c.in-Err.ensures.failed refl c.refuse_input.ensures.told c.refuse_input.ensures.status refl
+returns-in-Err g c = tells_wordless (GivesWhole (g.R.Reader.state c.args.reader.now) (g.R.Reader.state c.read_input.new.reader)) _ _ _ _ c.in-Err.fault _ c.of.ensures c.in-Err.ensures.failed refl c.refuse_input.ensures.told c.refuse_input.ensures.status refl
