@@ -5,7 +5,6 @@
 #![tactic(auto)]
 
 mod clocked;
-mod paths;
 mod rechecking;
 mod rules;
 mod sources;
