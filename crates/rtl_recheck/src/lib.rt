@@ -11,4 +11,5 @@ mod rules;
 mod sources;
 mod variables;
 
+pub use paths::{covers, places_have, statement_covers};
 pub use rechecking::recheck;

@@ -1,0 +1,129 @@
+//! The first place in the text that leaves out the assignment of a net.
+
+ghost use Rattle.std.specs.Prelude.{◌≡◌, ◌+◌, length, suc};
+ghost use Rattle.rtl_net_facts.specs.Paths.{to_net};
+ghost use Rattle.rtl_latches.specs.Omissions as spec;
+ghost use Rattle.rtl_latches.specs.declared.omission.Omission.TheVariants as o;
+
+use crate::assigning::{assigns, statement_assigns};
+use rtl_net::{Alternative, Branch, Driver, Statement};
+use rtl_recheck::{covers, statement_covers};
+
+/// Where a body leaves out the assignment of a net. `at` is the byte of the source at which the statement starts.
+#[derive(Clone, Copy)]
+pub enum Omission {
+    /// An if without an else, where no condition of it holds.
+    NoElse { at: u32 },
+    /// A branch of an if, counted from 1; the else is the last.
+    Branch { at: u32, number: usize },
+    /// An alternative of a case, counted from 1; the others are the last.
+    Alternative { at: u32, number: usize },
+}
+
+/// Whether a statement assigns a net on some path, and not on all.
+fn leaves_out(statement: &Statement, drives: &[Driver], net: usize) -> bool
+    ensures { result ≡ spec.leaves_out (to_net drives.now net) statement.now }
+{
+    statement_assigns(statement, drives, net) && !statement_covers(statement, drives, net)
+}
+
+/// The first place in the text at which a sequence of a process with these drivers leaves out the assignment of a net, if it
+/// assigns it on some path and not on all. It takes no memory, and time in proportion to the text times how deep it is nested.
+#[cycle(omission)]
+pub fn omission(statements: &[Statement], drives: &[Driver], net: usize) -> Option<Omission>
+    ensures { result ≡ spec.omission_of (to_net drives.now net) statements.now }
+{
+    for statement in statements {
+        if leaves_out(statement, drives, net) {
+            return statement_omission(statement, drives, net);
+        }
+    }
+    None
+}
+
+/// The same of a statement.
+#[cycle(omission)]
+fn statement_omission(statement: &Statement, drives: &[Driver], net: usize) -> Option<Omission>
+    ensures { result ≡ spec.in_statement (to_net drives.now net) statement.now }
+{
+    match statement {
+        Statement::Null => None,
+        Statement::Assign { .. } => None,
+        Statement::Set { .. } => None,
+        Statement::If {
+            at,
+            branches,
+            otherwise,
+        } => match otherwise {
+            None => Some(Omission::NoElse { at: *at }),
+            Some(last) => branches_omission(*at, branches, last, drives, net),
+        },
+        Statement::Case {
+            at,
+            alternatives,
+            others,
+            ..
+        } => alternatives_omission(*at, alternatives, others, drives, net),
+    }
+}
+
+/// The same of the branches of an if, and its else.
+#[cycle(omission)]
+fn branches_omission(
+    at: u32,
+    branches: &[Branch],
+    last: &[Statement],
+    drives: &[Driver],
+    net: usize,
+) -> Option<Omission>
+    ensures { result ≡ spec.branches_omission (to_net drives.now net) at (λ number. spec.part_omission (to_net drives.now net) (o.Branch at number) last.now) 1 branches.now }
+{
+    let mut number = 1;
+    for branch in branches {
+        if !covers(&branch.statements, drives, net) {
+            let itself = Omission::Branch { at, number };
+            return part_omission(itself, &branch.statements, drives, net);
+        }
+        number += 1;
+    }
+    part_omission(Omission::Branch { at, number }, last, drives, net)
+}
+
+/// The same of the alternatives of a case, and its others.
+#[cycle(omission)]
+fn alternatives_omission(
+    at: u32,
+    alternatives: &[Alternative],
+    others: &[Statement],
+    drives: &[Driver],
+    net: usize,
+) -> Option<Omission>
+    ensures { result ≡ spec.alternatives_omission (to_net drives.now net) at (λ number. spec.part_omission (to_net drives.now net) (o.Alternative at number) others.now) 1 alternatives.now }
+{
+    let mut number = 1;
+    for alternative in alternatives {
+        if !covers(&alternative.statements, drives, net) {
+            let itself = Omission::Alternative { at, number };
+            return part_omission(itself, &alternative.statements, drives, net);
+        }
+        number += 1;
+    }
+    part_omission(Omission::Alternative { at, number }, others, drives, net)
+}
+
+/// The same of a branch or an alternative that doesn't assign the net on every path.
+#[cycle(omission)]
+fn part_omission(
+    itself: Omission,
+    statements: &[Statement],
+    drives: &[Driver],
+    net: usize,
+) -> Option<Omission>
+    ensures { result ≡ spec.part_omission (to_net drives.now net) itself statements.now }
+{
+    if assigns(statements, drives, net) {
+        omission(statements, drives, net)
+    } else {
+        Some(itself)
+    }
+}
