@@ -24,7 +24,8 @@ use Rattle.rtl_net_facts.specs.Paths.{driven, to_net}
 use Rattle.rtl_net_facts.proofs.Members.{same_members}
 use Rattle.rtl_check.specs.declared.rule.Rule.{Rule}
 use Rattle.rtl_check.specs.declared.rule.Rule.TheVariants.{ClockNotInput, EdgeNotSensitive, ClockAsData, MissingSensitivity, Latch}
-use Rattle.rtl_check.specs.Views.{core, reset_net, tested, IsClocking, IsKind}
+use Rattle.rtl_net.specs.Core.{core}
+use Rattle.rtl_check.specs.Views.{reset_net, tested, IsClocking, IsKind}
 use Rattle.rtl_check.specs.Rules.{fault_of, is_data, clocked_breaks, combinational_breaks, breaks, AreClockNets}
 use Rattle.rtl_check.proofs.Processes.{many_processes, process_is}
 

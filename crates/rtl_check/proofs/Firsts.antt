@@ -15,7 +15,7 @@ use Rattle.rtl_net.specs.declared.net.Source.{Source}
 use Rattle.rtl_net.specs.Nets.{NetlistView, flat, source_view}
 use Rattle.rtl_check.specs.declared.fault.CheckFault.{CheckFault}
 use Rattle.rtl_check.specs.declared.fault.CheckFault.TheVariants as c
-use Rattle.rtl_check.specs.Views.{core}
+use Rattle.rtl_net.specs.Core.{core}
 use Rattle.rtl_check.specs.Listing.{first_named, one_place, AddsFaults}
 use Rattle.rtl_check.proofs.Joined.{adds_nothing, adds_one}
 

@@ -24,7 +24,8 @@ use Rattle.rtl_net_facts.specs.declared.kinds.ProcessKind as c
 use Rattle.rtl_net_facts.specs.declared.kinds.ProcessKind.TheVariants as ck
 use Rattle.rtl_net_facts.specs.Reading.{is_in}
 use Rattle.rtl_net_facts.specs.Timing.{part_net, kind_view}
-use Rattle.rtl_check.specs.Views.{core, reset_net, IsKind, AreKinds}
+use Rattle.rtl_net.specs.Core.{core}
+use Rattle.rtl_check.specs.Views.{reset_net, IsKind, AreKinds}
 use Rattle.rtl_check.specs.Listing.{first_named}
 
 pub many_processes : (net : NetlistView) → length (core net).processes ≡ length net.processes

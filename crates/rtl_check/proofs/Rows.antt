@@ -19,7 +19,8 @@ use Rattle.rtl_check_levels.specs.OfNets.{IsTableOf}
 use Rattle.rtl_net_facts.specs.declared.kinds.ProcessKind.{ProcessKind}
 use Rattle.rtl_net_facts.specs.declared.kinds.ProcessKind.TheVariants as k
 use Rattle.rtl_net_facts.specs.Reading.{is_in}
-use Rattle.rtl_check.specs.Views.{core, IsKind, AreKinds}
+use Rattle.rtl_net.specs.Core.{core}
+use Rattle.rtl_check.specs.Views.{IsKind, AreKinds}
 use Rattle.rtl_check.specs.Feeders.{combinational_kind, combinational_at, feeds_by, IsRow}
 use Rattle.rtl_check.proofs.Processes.{process_is}
 use Rattle.rtl_check.proofs.Firsts.{sources_there}

@@ -15,7 +15,8 @@ use Rattle.rtl_net.specs.Nets.{NetlistView, body_of}
 use Rattle.rtl_check.specs.declared.fault.CheckFault.{CheckFault}
 use Rattle.rtl_check.specs.declared.fault.CheckFault.TheVariants as c
 use Rattle.rtl_check.specs.declared.variables.VariableElement.{VariableElement}
-use Rattle.rtl_check.specs.Views.{core, fault_view}
+use Rattle.rtl_net.specs.Core.{core}
+use Rattle.rtl_check.specs.Views.{fault_view}
 use Rattle.rtl_check.specs.Listing.{one_place, AddsFaults}
 use Rattle.rtl_check.specs.Places.{widths, places_from, added_if}
 use Rattle.rtl_check.proofs.Joined.{adds_on, adds_nothing, adds_one, lt_next, renamed}

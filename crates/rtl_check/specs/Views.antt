@@ -1,20 +1,15 @@
 -- How the code's faults and kinds are seen.
 use Rattle.std.specs.Prelude.{◌≡◌, ℕ, ◌<◌, ◌||◌, List, ◌∷◌, length, slice_index_or, Option, option_map}
 use Rattle.std.specs.Option.{option_to_list}
-use Rattle.rtl_model.specs.nets.CoreNetlist.{core_netlist}
 use Rattle.rtl_model.specs.simulation.Netlist as m
 use Rattle.rtl_model.specs.simulation.Accepted as f
-use Rattle.rtl_net.specs.Nets.{NetlistView, flat, source_view}
+use Rattle.rtl_net.specs.Nets.{source_view}
 use Rattle.rtl_net_facts.specs.declared.kinds.Clocking.{Clocking}
 use Rattle.rtl_net_facts.specs.declared.kinds.ProcessKind.{ProcessKind}
 use Rattle.rtl_net_facts.specs.declared.kinds.ProcessKind.TheVariants as k
 use Rattle.rtl_net_facts.specs.Reading.{is_in}
 use Rattle.rtl_check.specs.declared.fault.CheckFault.{CheckFault}
 use Rattle.rtl_check.specs.declared.fault.CheckFault.TheVariants as c
-
--- the netlist as the theory of simulation has it
-abbrev pub core : NetlistView → m.Netlist
-core net = core_netlist (flat net)
 
 abbrev pub fault_view : CheckFault → f.Fault
 fault_view (c.TwoDrivers net first second) = f.TwoDrivers net (source_view first) (source_view second)

@@ -4,7 +4,8 @@ ghost use Rattle.std.specs.Prelude.{◌≡◌, ◌<◌, ◌+◌, ◌^◌, length
 ghost use Rattle.rtl_model.specs.simulation.Netlist as m;
 ghost use Rattle.rtl_model.specs.simulation.Levels as l;
 ghost use Rattle.rtl_net.specs.Nets.{source_view};
-ghost use Rattle.rtl_check.specs.Views.{core, AreKinds};
+ghost use Rattle.rtl_net.specs.Core.{core};
+ghost use Rattle.rtl_check.specs.Views.{AreKinds};
 ghost use Rattle.rtl_check.specs.Rules.{AreClockNets};
 ghost use Rattle.rtl_check.specs.Bounds as b;
 

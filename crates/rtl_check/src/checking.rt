@@ -2,7 +2,7 @@
 
 ghost use Rattle.std.specs.Prelude.{◌↔◌, IfOk, IsTrue};
 ghost use Rattle.rtl_model.specs.simulation.Accepted.{IsAccepted};
-ghost use Rattle.rtl_check.specs.Views.{core};
+ghost use Rattle.rtl_net.specs.Core.{core};
 ghost use Rattle.rtl_check.specs.Verdicts.{IsVerdict, ListsLoopsOnce, is_yes};
 
 use crate::clocks::clock_nets;

@@ -2,7 +2,8 @@
 
 ghost use Rattle.std.specs.Prelude.{◌≡◌, ◌||◌, ℕ, IfOk, OnOk};
 ghost use Rattle.rtl_net_facts.specs.Reading.{is_in};
-ghost use Rattle.rtl_check.specs.Views.{core, AreKinds};
+ghost use Rattle.rtl_net.specs.Core.{core};
+ghost use Rattle.rtl_check.specs.Views.{AreKinds};
 ghost use Rattle.rtl_check.specs.Rules.{AreClockNets, has_clock};
 
 use rtl_net::{Net, NoMemory};

@@ -2,7 +2,8 @@
 
 ghost use Rattle.std.specs.Prelude.{map, IfOk};
 ghost use Rattle.rtl_model.specs.simulation.Faults.{AreFaultsButLoops};
-ghost use Rattle.rtl_check.specs.Views.{core, fault_view, AreKinds};
+ghost use Rattle.rtl_net.specs.Core.{core};
+ghost use Rattle.rtl_check.specs.Views.{fault_view, AreKinds};
 ghost use Rattle.rtl_check.specs.Rules.{AreClockNets};
 
 use crate::fault::CheckFault;

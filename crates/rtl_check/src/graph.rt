@@ -6,7 +6,8 @@ ghost use Rattle.rtl_model.specs.nets.FlatNetlist.{flat_sources};
 ghost use Rattle.rtl_net.specs.Nets.{flat, source_view};
 ghost use Rattle.rtl_check_levels.specs.OfNets.{IsTableOf};
 ghost use Rattle.rtl_net_facts.specs.Reading.{is_in};
-ghost use Rattle.rtl_check.specs.Views.{core, AreKinds};
+ghost use Rattle.rtl_net.specs.Core.{core};
+ghost use Rattle.rtl_check.specs.Views.{AreKinds};
 ghost use Rattle.rtl_check.specs.Feeders.{combinational_at, feeds_by, IsRow};
 
 use rtl_net::{Net, NoMemory, Source, nets_meet_the_laws};

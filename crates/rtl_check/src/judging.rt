@@ -1,7 +1,8 @@
 //! The faults of a netlist, or the levels of its combinational processes where none is found.
 
 ghost use Rattle.std.specs.Prelude.{IfOk};
-ghost use Rattle.rtl_check.specs.Views.{core, AreKinds};
+ghost use Rattle.rtl_net.specs.Core.{core};
+ghost use Rattle.rtl_check.specs.Views.{AreKinds};
 ghost use Rattle.rtl_check.specs.Rules.{AreClockNets};
 ghost use Rattle.rtl_check.specs.Judging.{IsJudged, JudgesLoopsOnce};
 

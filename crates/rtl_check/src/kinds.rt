@@ -2,7 +2,8 @@
 
 ghost use Rattle.std.specs.Prelude.{◌<◌, length, IfOk};
 ghost use Rattle.rtl_model.specs.simulation.Netlist as m;
-ghost use Rattle.rtl_check.specs.Views.{core, AreKinds, IsKind};
+ghost use Rattle.rtl_net.specs.Core.{core};
+ghost use Rattle.rtl_check.specs.Views.{AreKinds, IsKind};
 
 use rtl_net::{Net, NoMemory};
 use rtl_net_facts::{ProcessKind, kind_of};

@@ -4,7 +4,8 @@ ghost use Rattle.std.specs.Prelude.{◌≡◌, ◌↔◌, ◌<◌, ℕ, Option, 
 ghost use Rattle.rtl_model.specs.basics.Lists.{IsLess, RisesBy};
 ghost use Rattle.rtl_model.specs.simulation.Netlist as m;
 ghost use Rattle.rtl_model.specs.simulation.Report.{clock_key, AreClocks};
-ghost use Rattle.rtl_check.specs.Views.{core, IsKind};
+ghost use Rattle.rtl_net.specs.Core.{core};
+ghost use Rattle.rtl_check.specs.Views.{IsKind};
 ghost use Rattle.rtl_check.specs.ClockEdges as e;
 ghost use Rattle.rtl_check.specs.ListedClocks as s;
 

@@ -4,7 +4,7 @@ ghost use Rattle.std.specs.Prelude.{◌≡◌, ◌↔◌, ◌<◌, length, IsTru
 ghost use Rattle.rtl_model.specs.simulation.Netlist as m;
 ghost use Rattle.rtl_model.specs.simulation.Levels as l;
 ghost use Rattle.rtl_model.specs.simulation.Report as r;
-ghost use Rattle.rtl_check.specs.Views.{core};
+ghost use Rattle.rtl_net.specs.Core.{core};
 ghost use Rattle.rtl_check.specs.Bounds as b;
 ghost use Rattle.rtl_check.specs.Standing.{HasNoMixed};
 ghost use Rattle.rtl_check.specs.Reported as s;

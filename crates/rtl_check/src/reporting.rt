@@ -2,7 +2,8 @@
 
 ghost use Rattle.std.specs.Prelude.{IfOk, OnOk};
 ghost use Rattle.rtl_model.specs.simulation.Accepted.{IsAccepted};
-ghost use Rattle.rtl_check.specs.Views.{core, AreKinds};
+ghost use Rattle.rtl_net.specs.Core.{core};
+ghost use Rattle.rtl_check.specs.Views.{AreKinds};
 ghost use Rattle.rtl_check.specs.Rules.{AreClockNets};
 ghost use Rattle.rtl_check.specs.Judging.{IsLeveled};
 ghost use Rattle.rtl_check.specs.Verdicts.{IsReportOf};

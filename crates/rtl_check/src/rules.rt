@@ -1,7 +1,8 @@
 //! Lists of faults that name a process and one of its nets.
 
 ghost use Rattle.std.specs.Prelude.{◌<◌, length, OnOk};
-ghost use Rattle.rtl_check.specs.Views.{core, AreKinds};
+ghost use Rattle.rtl_net.specs.Core.{core};
+ghost use Rattle.rtl_check.specs.Views.{AreKinds};
 ghost use Rattle.rtl_check.specs.Listing.{numbered, one_place, AddsFaults};
 ghost use Rattle.rtl_check.specs.Rules.{rule_number, Pushes, AreClockNets};
 

@@ -3,7 +3,8 @@
 ghost use Rattle.std.specs.Prelude.{◌≡◌, ◌<◌, ◌↔◌, length, slice_index_or, IsTrue, None};
 ghost use Rattle.rtl_model.specs.simulation.Netlist as m;
 ghost use Rattle.rtl_net.specs.Nets.{source_view};
-ghost use Rattle.rtl_check.specs.Views.{core, IsKind};
+ghost use Rattle.rtl_net.specs.Core.{core};
+ghost use Rattle.rtl_check.specs.Views.{IsKind};
 ghost use Rattle.rtl_check.specs.Standing as s;
 
 use crate::kinds::kind_at;

@@ -5,7 +5,8 @@ ghost use Rattle.std.specs.List.{range_with_len};
 ghost use Rattle.rtl_model.specs.simulation.Faults.{AreStored};
 ghost use Rattle.rtl_model.specs.bodies.Stored.{stores_element};
 ghost use Rattle.rtl_net.specs.Bodies.{statements_of};
-ghost use Rattle.rtl_check.specs.Views.{core, fault_view};
+ghost use Rattle.rtl_net.specs.Core.{core};
+ghost use Rattle.rtl_check.specs.Views.{fault_view};
 ghost use Rattle.rtl_check.specs.Listing.{numbered, one_place, AddsFaults};
 ghost use Rattle.rtl_check.specs.Places.{place_in, places_from, widths, added_if};
 

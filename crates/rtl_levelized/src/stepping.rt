@@ -6,7 +6,7 @@ ghost use Rattle.rtl_model.specs.simulation.Levels.{AreLevels};
 ghost use Rattle.rtl_stim.specs.Ports.{HasOwnPorts, inputs_of};
 ghost use Rattle.rtl_stim.specs.Stimuli.{inputs_at};
 ghost use Rattle.rtl_net.specs.Nets.{flat};
-ghost use Rattle.rtl_check.specs.Views.{core};
+ghost use Rattle.rtl_net.specs.Core.{core};
 ghost use Rattle.rtl_sink.specs.Written.{SinkState, IsIntact};
 ghost use Rattle.rtl_stim_lines.specs.Filling.{Waits};
 ghost use Rattle.rtl_machine.specs.Watched.{IsToldRun};

@@ -3,7 +3,7 @@ use Rattle.std.proofs.Common.{◌≡◌, ℕ, List, ◌∙◌}
 use Rattle.rtl_model.specs.simulation.Cycle.{State}
 use Rattle.rtl_model.specs.simulation.Moments.{Begun, SettlesTo, IsUnsettled}
 use Rattle.rtl_net.specs.Nets.{NetlistView}
-use Rattle.rtl_check.specs.Views.{core}
+use Rattle.rtl_net.specs.Core.{core}
 use Rattle.rtl_stim.specs.Stimuli.{StimulusView, inputs_at}
 use Rattle.rtl_machine.specs.Synchronous.{IsSynchronous}
 use Rattle.rtl_machine.specs.Evaluated.{IsFirstOf}

@@ -3,7 +3,7 @@ use Rattle.std.proofs.Common.{◌≡◌, ℕ, List, Result, Ok, Err, sym, subst}
 use Rattle.std.specs.Prelude.{IsErrAnd}
 use Rattle.rtl_model.specs.simulation.Accepted.{IsAccepted}
 use Rattle.rtl_net.specs.Nets.{NetlistView}
-use Rattle.rtl_check.specs.Views.{core}
+use Rattle.rtl_net.specs.Core.{core}
 use Rattle.rtl_stim_lines.specs.declared.faults.StimFault.{StimFault}
 use Rattle.rtl_stim_lines.specs.declared.faults.StimFault.TheVariants.{InLine, NoStop, Race, NoMemory}
 use Rattle.rtl_stim.specs.Ports.{inputs_of}

@@ -2,7 +2,7 @@
 use Rattle.std.proofs.Common.{◌≡◌, ℕ, List, Result, Ok, Err, sym, subst, ◌∙◌}
 use Rattle.std.specs.Prelude.{IfOk}
 use Rattle.rtl_net.specs.Nets.{NetlistView}
-use Rattle.rtl_check.specs.Views.{core}
+use Rattle.rtl_net.specs.Core.{core}
 use Rattle.rtl_stim.specs.Stimuli.{StimulusView, inputs_at}
 use Rattle.rtl_watch.specs.Stands.{Stand}
 use Rattle.rtl_run.specs.Watched.{IsToldAll}

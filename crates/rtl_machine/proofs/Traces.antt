@@ -4,7 +4,7 @@ use Rattle.rtl_model.specs.simulation.Moments.{IsMost}
 use Rattle.rtl_model.specs.simulation.Laws.{OneGreatestCount}
 use Rattle.rtl_net.specs.Nets.{NetlistView, flat}
 use Rattle.rtl_net.specs.Elaborated.{IsNet}
-use Rattle.rtl_check.specs.Views.{core}
+use Rattle.rtl_net.specs.Core.{core}
 use Rattle.rtl_sink.specs.Written.{SinkState, TakesAll}
 use Rattle.rtl_model.proofs.nets.Connected.{connected_is_elaborated}
 use Rattle.rtl_stim.specs.Stimuli.{StimulusView, moments, inputs_at}

@@ -7,7 +7,8 @@ use Rattle.rtl_model.specs.simulation.Faults.{AreFaults}
 use Rattle.rtl_model.specs.simulation.Races.{IsFirstRace}
 use Rattle.rtl_model.specs.simulation.Report.{AreClocks}
 use Rattle.rtl_net.specs.Nets.{NetlistView}
-use Rattle.rtl_check.specs.Views.{core, fault_view}
+use Rattle.rtl_net.specs.Core.{core}
+use Rattle.rtl_check.specs.Views.{fault_view}
 use Rattle.rtl_stim_lines.specs.declared.faults.StimFault.{StimFault}
 use Rattle.rtl_stim_lines.specs.declared.faults.StimFault.TheVariants.{Race, NoMemory}
 use Rattle.rtl_stim_lines.specs.Reading.{schedule_of}

@@ -6,7 +6,7 @@ use Rattle.rtl_net.specs.Nets.{NetlistView, SignalView}
 use Rattle.rtl_sink.specs.Written.{SinkState, IsIntact, HasFailed, TakesAll, TakesBeginning}
 use Rattle.rtl_stim.specs.Ports.{is_input}
 use Rattle.rtl_stim.specs.Stimuli.{StimulusView, inputs_at}
-use Rattle.rtl_check.specs.Views.{core}
+use Rattle.rtl_net.specs.Core.{core}
 use Rattle.rtl_machine.specs.declared.fault.MachineFault.{MachineFault}
 use Rattle.rtl_machine.specs.declared.fault.MachineFault.TheVariants.{Output}
 use Rattle.rtl_machine.specs.Synchronous.{IsSynchronous}

@@ -9,7 +9,7 @@ use Rattle.rtl_model.specs.simulation.Races.{HasNoRace}
 use Rattle.rtl_model.specs.simulation.Machine.{Solves, IsMachineRun}
 use Rattle.rtl_net.specs.Nets.{NetlistView}
 use Rattle.rtl_net.specs.Elaborated.{IsNet}
-use Rattle.rtl_check.specs.Views.{core}
+use Rattle.rtl_net.specs.Core.{core}
 
 -- The checker says yes with this bound: the netlist has no fault, and the bound is its report's.
 pub record SaysYes (net : Netlist) (bound : ℕ) : Type 0 where

@@ -2,7 +2,7 @@
 -- until when it stands.
 use Rattle.std.specs.Prelude.{◌≡◌, ℕ, List, length, slice_get, Some}
 use Rattle.rtl_net.specs.Nets.{NetlistView}
-use Rattle.rtl_check.specs.Views.{core}
+use Rattle.rtl_net.specs.Core.{core}
 use Rattle.rtl_stim.specs.Stimuli.{StimulusView, moments, inputs_at}
 use Rattle.rtl_watch.specs.Stands.{Stand}
 use Rattle.rtl_run.specs.Watched.{until_of}

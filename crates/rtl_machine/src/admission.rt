@@ -5,7 +5,7 @@ ghost use Rattle.rtl_model.specs.simulation.Accepted.{IsAccepted};
 ghost use Rattle.rtl_model.specs.simulation.Levels.{AreLevels};
 ghost use Rattle.rtl_check.specs.Verdicts.{IsReportOf};
 ghost use Rattle.rtl_stim.specs.Ports.{HasOwnPorts};
-ghost use Rattle.rtl_check.specs.Views.{core};
+ghost use Rattle.rtl_net.specs.Core.{core};
 ghost use Rattle.rtl_machine.specs.Admitted.{IsAdmitted, RefusesNet};
 
 use crate::fault::MachineFault;

@@ -4,7 +4,7 @@ ghost use Rattle.std.specs.Prelude.{◌≡◌, map, length, IfOk};
 ghost use Rattle.rtl_model.specs.simulation.Moments.{Begun, HasNoneToRun};
 ghost use Rattle.rtl_stim.specs.Ports.{HasOwnPorts, inputs_of};
 ghost use Rattle.rtl_stim.specs.Stimuli.{inputs_at};
-ghost use Rattle.rtl_check.specs.Views.{core};
+ghost use Rattle.rtl_net.specs.Core.{core};
 ghost use Rattle.rtl_sink.specs.Written.{IsIntact};
 ghost use Rattle.rtl_machine.specs.Synchronous.{SaysYes, IsRaceless};
 ghost use Rattle.rtl_machine.specs.Evaluated.{Evaluates, IsFirstOf};

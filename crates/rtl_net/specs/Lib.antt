@@ -1,6 +1,7 @@
 pub mod Indices
 pub mod Bodies
 pub mod Nets
+pub mod Core
 pub mod Names
 pub mod Elaborated
 pub mod NetOf

@@ -17,7 +17,8 @@ use Rattle.rtl_net_facts.specs.Reading.{is_in}
 use Rattle.rtl_net_facts.specs.Paths.{driven, to_net}
 use Rattle.rtl_check.specs.declared.rule.Rule.{Rule}
 use Rattle.rtl_check.specs.declared.rule.Rule.TheVariants.{ClockNotInput, EdgeNotSensitive, ClockAsData, MissingSensitivity, Latch}
-use Rattle.rtl_check.specs.Views.{core, tested, IsKind}
+use Rattle.rtl_net.specs.Core.{core}
+use Rattle.rtl_check.specs.Views.{tested, IsKind}
 use Rattle.rtl_check.specs.Rules.{is_data, breaks, fault_of}
 use Rattle.rtl_check.specs.Standing.{HasNoMixed}
 use Rattle.rtl_check.proofs.Processes.{process_there}

@@ -15,7 +15,7 @@ use Rattle.rtl_model.specs.nets.FlatNetlist.{ProcessInRange, VariableInRange}
 use Rattle.rtl_model.proofs.basics.Lists.{get_or-map_within}
 use Rattle.std.specs.Prelude.{All}
 use Rattle.rtl_check.specs.declared.variables.VariableElement.{VariableElement}
-use Rattle.rtl_check.specs.Views.{core}
+use Rattle.rtl_net.specs.Core.{core}
 use Rattle.rtl_check.specs.Places.{widths, place_in, places_from}
 use Rattle.rtl_check.proofs.Processes.{process_is}
 use Rattle.rtl_check.proofs.Elements.{number_of, number_is, number_below, place_at}

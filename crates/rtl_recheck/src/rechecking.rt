@@ -2,7 +2,7 @@
 
 ghost use Rattle.std.specs.Prelude.{◌↔◌, IsTrue};
 ghost use Rattle.rtl_model.specs.simulation.Accepted.{IsAccepted};
-ghost use Rattle.rtl_check.specs.Views.{core};
+ghost use Rattle.rtl_net.specs.Core.{core};
 ghost use Rattle.rtl_check.specs.Verdicts.{IsReportOf};
 
 use crate::rules::{all_keep, has_no_mixed};

@@ -4,7 +4,7 @@ ghost use Rattle.std.specs.Prelude.{◌≡◌, ◌↔◌, ◌<◌, length, IsTru
 ghost use Rattle.std.specs.List.Sorted.{IsStrictlyIncreasing};
 ghost use Rattle.rtl_model.specs.basics.Lists.{RisesBy};
 ghost use Rattle.rtl_model.specs.simulation.Report.{clock_key, AreClocks};
-ghost use Rattle.rtl_check.specs.Views.{core};
+ghost use Rattle.rtl_net.specs.Core.{core};
 ghost use Rattle.rtl_check.specs.Standing.{HasNoMixed};
 ghost use Rattle.rtl_recheck.specs.Kept.{HasNoLatch, CombinationalKeeps, KeepsBy, KeepsRules, AllKeep, clock_nets, is_plain};
 

@@ -1,7 +1,7 @@
 //! Whether each net has one source at most.
 
 ghost use Rattle.std.specs.Prelude.{◌↔◌, ◌<◌, length, IsTrue};
-ghost use Rattle.rtl_check.specs.Views.{core};
+ghost use Rattle.rtl_net.specs.Core.{core};
 ghost use Rattle.rtl_recheck.specs.Kept.{HasOneSource, HaveOneSource};
 
 use rtl_net::Net;

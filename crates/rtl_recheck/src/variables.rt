@@ -3,7 +3,7 @@
 ghost use Rattle.std.specs.Prelude.{◌≡◌, ◌↔◌, ◌<◌, ◌≤◌, ℕ, length, false, IsTrue, All};
 ghost use Rattle.rtl_net.specs.Bodies.{statements_of};
 ghost use Rattle.rtl_model.specs.bodies.Stored.{stores_element};
-ghost use Rattle.rtl_check.specs.Views.{core};
+ghost use Rattle.rtl_net.specs.Core.{core};
 ghost use Rattle.rtl_check.specs.Places.{places_from, widths};
 ghost use Rattle.rtl_recheck.specs.Kept.{HasFew, StoresNone, StoresNothing};
 

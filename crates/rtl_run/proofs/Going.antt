@@ -15,7 +15,8 @@ use Rattle.rtl_stim.specs.Stimuli.{StimulusView, moments, inputs_at}
 use Rattle.rtl_stim.proofs.Next.{each_begins_at_zero}
 use Rattle.rtl_run.specs.declared.progress.Progress.{Progress}
 use Rattle.rtl_run.specs.declared.summary.RunFault.{RunFault}
-use Rattle.rtl_run.specs.Simulated.{Settled, core, AreMoments}
+use Rattle.rtl_net.specs.Core.{core}
+use Rattle.rtl_run.specs.Simulated.{Settled, AreMoments}
 use Rattle.rtl_run.specs.Traced.{text_so_far, whole_text}
 use Rattle.rtl_run.specs.Answered.{IsWhole, StopsAt, LeavesBeginning}
 use Rattle.rtl_run.specs.Running.{last_values, last_printed_of, HasBegun, HasCome, HasSettledIn, IsNextMoment}

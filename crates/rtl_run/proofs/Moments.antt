@@ -7,7 +7,8 @@ use Rattle.rtl_model.specs.simulation.Moments.{HasSettled, IsMost, Takes}
 use Rattle.rtl_model.proofs.simulation.Orders.{every_order_is_one}
 use Rattle.rtl_net.specs.Nets.{NetlistView}
 use Rattle.rtl_stim.specs.Stimuli.{StimulusView, moments, inputs_at}
-use Rattle.rtl_run.specs.Simulated.{Settled, core, SettlesAs, AreMoments}
+use Rattle.rtl_net.specs.Core.{core}
+use Rattle.rtl_run.specs.Simulated.{Settled, SettlesAs, AreMoments}
 use Rattle.rtl_run.specs.Running.{IsGreatest}
 
 -- what stands in a list with one more is of the list, or that one

@@ -30,7 +30,7 @@ use Rattle.rtl_stim.specs.Ports.{HasOwnPorts, inputs_of}
 use Rattle.rtl_stim.specs.Stimuli.{StimulusView, initial_values, inputs_at, moments, code_at}
 use Rattle.rtl_stim.proofs.Next.{any_from, each_begins_at_zero, each_moment_follows}
 use Rattle.rtl_stim.proofs.Values.{first_or_later}
-use Rattle.rtl_run.specs.Simulated.{core}
+use Rattle.rtl_net.specs.Core.{core}
 use Rattle.rtl_run.specs.Running.{HasSettledIn}
 
 is_same : (m n : ℕ) → (m == n) ≡ true → m ≡ n

@@ -13,7 +13,7 @@ use Rattle.rtl_stim.specs.Moments.{GivesNext, IsStimulus}
 use Rattle.rtl_stim.specs.Ports.{HasOwnPorts, inputs_of}
 use Rattle.rtl_stim.specs.Stimuli.{StimulusView, moments, inputs_at}
 use Rattle.rtl_run.specs.declared.progress.Progress.{Progress}
-use Rattle.rtl_run.specs.Simulated.{core}
+use Rattle.rtl_net.specs.Core.{core}
 use Rattle.rtl_run.specs.Running.{IsNextMoment, HasSettledIn}
 use Rattle.rtl_run.proofs.Steps.{of_inputs, next_begun, next_moment, later, within_stop, few}
 

@@ -7,7 +7,8 @@ use Rattle.rtl_stim.specs.Stimuli.{StimulusView, moments, inputs_at}
 use Rattle.rtl_run.specs.declared.summary.Summary.{Summary}
 use Rattle.rtl_run.specs.declared.summary.RunFault.{RunFault}
 use Rattle.rtl_run.specs.declared.summary.RunFault.TheVariants.{NoSettling, Memory, Output}
-use Rattle.rtl_run.specs.Simulated.{Settled, core, AreMoments, NeverSettles}
+use Rattle.rtl_net.specs.Core.{core}
+use Rattle.rtl_run.specs.Simulated.{Settled, AreMoments, NeverSettles}
 use Rattle.rtl_run.specs.Traced.{text_so_far, whole_text}
 
 -- the trace of these moments, or the whole where they are all

@@ -10,7 +10,8 @@ use Rattle.rtl_stim.specs.Stimuli.{StimulusView, moments, inputs_at}
 use Rattle.rtl_run.specs.declared.progress.Progress.{Progress}
 use Rattle.rtl_run.specs.declared.summary.RunFault.{RunFault}
 use Rattle.rtl_run.specs.Answered.{Answers}
-use Rattle.rtl_run.specs.Simulated.{Settled, core, AreMoments}
+use Rattle.rtl_net.specs.Core.{core}
+use Rattle.rtl_run.specs.Simulated.{Settled, AreMoments}
 use Rattle.rtl_run.specs.Traced.{behind_first, at_times, text_so_far}
 
 -- the values behind these, which were there before

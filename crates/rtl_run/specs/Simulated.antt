@@ -1,19 +1,15 @@
 -- The simulation of a netlist under a stimulus, moment by moment (IEEE 1076-2008, 14.7.5).
 use Rattle.std.specs.Prelude.{◌≡◌, ℕ, ◌≤◌, List, length, slice_get, Some}
-use Rattle.rtl_model.specs.nets.CoreNetlist.{core_netlist}
-use Rattle.rtl_model.specs.simulation.Netlist.{Netlist}
 use Rattle.rtl_model.specs.simulation.Cycle.{State}
 use Rattle.rtl_model.specs.simulation.Moments.{HasSettled, Begun, IsUnsettled}
-use Rattle.rtl_net.specs.Nets.{NetlistView, flat}
+use Rattle.rtl_net.specs.Core.{core}
+use Rattle.rtl_net.specs.Nets.{NetlistView}
 use Rattle.rtl_stim.specs.Stimuli.{StimulusView, moments, inputs_at}
 
 -- what a moment settles to: the nets' values, after so many delta cycles
 pub record Settled : Type 0 where
   pub deltas : ℕ
   pub values : List ℕ
-
-abbrev pub core : NetlistView → Netlist
-core net = core_netlist (flat net)
 
 -- the moment m settles so, by some orders of processes
 pub record SettlesAs (net : NetlistView) (s : StimulusView) (m : ℕ) (x : Settled) : Type 0 where

@@ -5,7 +5,7 @@ use Rattle.rtl_model.specs.simulation.Moments.{HasSettled}
 use Rattle.rtl_net.specs.Nets.{NetlistView}
 use Rattle.rtl_stim.specs.Stimuli.{StimulusView, moments, inputs_at}
 use Rattle.rtl_watch.specs.Stands.{Stand}
-use Rattle.rtl_run.specs.Simulated.{core}
+use Rattle.rtl_net.specs.Core.{core}
 
 -- What the moment m settles to stands until the next moment; at the last one, until the stop is over.
 abbrev pub until_of : StimulusView → (m : ℕ) → ℕ

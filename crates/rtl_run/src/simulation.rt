@@ -13,7 +13,7 @@ ghost use Rattle.rtl_stim.specs.Stimuli.{inputs_at, moments};
 ghost use Rattle.rtl_run.specs.declared.summary.RunFault.TheVariants.{NoSettling};
 ghost use Rattle.rtl_run.specs.Answered.{Answers};
 ghost use Rattle.rtl_run.specs.Running.{HasBegun, Begins, HasCome, IsNextMoment, GoesOn};
-ghost use Rattle.rtl_run.specs.Simulated.{core};
+ghost use Rattle.rtl_net.specs.Core.{core};
 ghost use Rattle.rtl_run.specs.Watched.{IsToldAll};
 
 use crate::progress::Progress;

@@ -12,7 +12,8 @@ use Rattle.rtl_run.specs.declared.summary.Summary.{Summary}
 use Rattle.rtl_run.specs.declared.summary.RunFault.{RunFault}
 use Rattle.rtl_run.specs.declared.summary.RunFault.TheVariants.{NoSettling, Memory, Output}
 use Rattle.rtl_run.specs.Answered.{Answers, IsWhole, StopsAt}
-use Rattle.rtl_run.specs.Simulated.{Settled, core, SettlesAs, AreMoments, NeverSettles}
+use Rattle.rtl_net.specs.Core.{core}
+use Rattle.rtl_run.specs.Simulated.{Settled, SettlesAs, AreMoments, NeverSettles}
 use Rattle.rtl_run.specs.Traced.{text_so_far, whole_text}
 use Rattle.rtl_run_laws.specs.Laws.{EachOrderIsWrittenAlike, IsComplete, AreAlike}
 

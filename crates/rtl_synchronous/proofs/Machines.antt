@@ -23,7 +23,8 @@ use Rattle.rtl_kernel.specs.values.TwoValues.{AreChanged}
 use Rattle.rtl_kernel.proofs.Changing.{given_values}
 use Rattle.rtl_kernel.proofs.Inputs.{inputs_there, named}
 use Rattle.rtl_net.specs.Nets.{NetlistView, flat}
-use Rattle.rtl_synchronous.specs.Kept.{IsMachine, MayRun, core}
+use Rattle.rtl_net.specs.Core.{core}
+use Rattle.rtl_synchronous.specs.Kept.{IsMachine, MayRun}
 use Rattle.rtl_synchronous.specs.Marks.{AreBelow, Marks, HasNoMark}
 use Rattle.rtl_synchronous.specs.Running.{IsSettled}
 use Rattle.rtl_synchronous.specs.Scheduled.{IsSchedule, clocked_wakes, without_level}

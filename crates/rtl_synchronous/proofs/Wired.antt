@@ -23,7 +23,8 @@ use Rattle.rtl_kernel.proofs.Wiring.{nets_there, targets_are}
 use Rattle.rtl_net_layout.specs.Cuts.{AreCuts, AreCutsOf, Cutting}
 use Rattle.rtl_net.specs.Nets.{NetlistView, flat, process_view, variable_view}
 use Rattle.rtl_net.specs.declared.process.Process.{Process}
-use Rattle.rtl_synchronous.specs.Kept.{MayRun, core}
+use Rattle.rtl_net.specs.Core.{core}
+use Rattle.rtl_synchronous.specs.Kept.{MayRun}
 use Rattle.rtl_synchronous.specs.Scheduled.{clocked_wakes, wakes_by_rank}
 use Rattle.rtl_synchronous.proofs.Settling.{one_place}
 

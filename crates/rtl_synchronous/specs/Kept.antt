@@ -2,7 +2,6 @@
 use Rattle.std.specs.Prelude.{◌≡◌, ℕ, Bool, List, length, slice_index}
 use Rattle.rtl_model.specs.bodies.Types.{ElementType}
 use Rattle.rtl_model.specs.nets.FlatNetlist.{FlatProcess, IsInRange}
-use Rattle.rtl_model.specs.nets.CoreNetlist.{core_netlist}
 use Rattle.rtl_model.specs.nets.Wiring.{IsConnected}
 use Rattle.rtl_model.specs.simulation.Netlist.{Netlist, IsInput}
 use Rattle.rtl_model.specs.simulation.Accepted.{IsAccepted}
@@ -12,14 +11,12 @@ use Rattle.rtl_eval.specs.Runs.{Outcome}
 use Rattle.rtl_kernel.specs.kernel.Kept.{RunBodies, HaveRoom}
 use Rattle.rtl_kernel.specs.drivers.Transactions.{all_targets}
 use Rattle.rtl_net_layout.specs.Cuts.{AreCutsOf}
+use Rattle.rtl_net.specs.Core.{core}
 use Rattle.rtl_net.specs.Nets.{NetlistView, flat}
 use Rattle.rtl_synchronous.specs.declared.schedule.Schedule.{Schedule}
 use Rattle.rtl_synchronous.specs.Running.{KeepsResets}
 use Rattle.rtl_synchronous.specs.Marks.{HasNoMark}
 use Rattle.rtl_synchronous.specs.Scheduled.{IsSchedule}
-
-abbrev pub core : NetlistView → Netlist
-core net = core_netlist (flat net)
 
 -- Each process of an accepted netlist may be run: the k-th body is that of the k-th process, and the k-th run has its room.
 pub record MayRun {E : Type 0} (process : E → FlatProcess) (types : E → List ElementType) (most : E → ℕ)

@@ -10,7 +10,8 @@ ghost use Rattle.rtl_eval.specs.Runs.{IsOf};
 ghost use Rattle.rtl_kernel.specs.drivers.Transactions.{no_outcome};
 ghost use Rattle.rtl_kernel.specs.wakes.Woken.{wakers_of};
 ghost use Rattle.rtl_net.specs.Nets.{flat};
-ghost use Rattle.rtl_synchronous.specs.Kept.{HasCuts, MayRun, core};
+ghost use Rattle.rtl_net.specs.Core.{core};
+ghost use Rattle.rtl_synchronous.specs.Kept.{HasCuts, MayRun};
 ghost use Rattle.rtl_synchronous.specs.Marks.{AreBelow, HasNoMark, Marks};
 ghost use Rattle.rtl_synchronous.specs.Steps.{AllTakeOver};
 

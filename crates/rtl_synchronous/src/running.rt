@@ -7,7 +7,8 @@ ghost use Rattle.rtl_kernel.specs.drivers.Transactions.{HasRunOf, nets_of};
 ghost use Rattle.rtl_kernel.specs.drivers.Updates.{IsTaken};
 ghost use Rattle.rtl_kernel.specs.wakes.Woken.{AreDifferent, wakers_of};
 ghost use Rattle.rtl_net_layout.specs.Cuts.{AreCuts};
-ghost use Rattle.rtl_synchronous.specs.Kept.{HasCuts, MayRun, core};
+ghost use Rattle.rtl_net.specs.Core.{core};
+ghost use Rattle.rtl_synchronous.specs.Kept.{HasCuts, MayRun};
 ghost use Rattle.rtl_synchronous.specs.Marks.{AreBelow, Marks};
 ghost use Rattle.rtl_synchronous.specs.Running.{IsWritten, TakesOver, TakesPart, at_targets};
 

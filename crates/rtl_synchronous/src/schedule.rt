@@ -4,7 +4,8 @@ ghost use Rattle.std.specs.Prelude.{◌≡◌, ℕ, ◌<◌, All, length, map, I
 ghost use Rattle.rtl_model.specs.simulation.Accepted.{IsAccepted};
 ghost use Rattle.rtl_model.specs.simulation.Levels.{AreLevels};
 ghost use Rattle.rtl_kernel.specs.wakes.Woken.{wakers_of};
-ghost use Rattle.rtl_synchronous.specs.Kept.{HasCuts, core};
+ghost use Rattle.rtl_net.specs.Core.{core};
+ghost use Rattle.rtl_synchronous.specs.Kept.{HasCuts};
 ghost use Rattle.rtl_synchronous.specs.Scheduled.{IsSchedule, clocked_wakes, wakes_by_rank};
 
 use crate::order::order_of;

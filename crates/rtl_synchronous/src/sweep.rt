@@ -3,7 +3,8 @@
 ghost use Rattle.std.specs.Prelude.{◌≡◌, ℕ, ◌<◌, false, length, slice_index, slice_index_or};
 ghost use Rattle.rtl_model.specs.simulation.Range.{IsValuation};
 ghost use Rattle.rtl_kernel.specs.wakes.Woken.{wakers_of};
-ghost use Rattle.rtl_synchronous.specs.Kept.{HasCuts, MayRun, core};
+ghost use Rattle.rtl_net.specs.Core.{core};
+ghost use Rattle.rtl_synchronous.specs.Kept.{HasCuts, MayRun};
 ghost use Rattle.rtl_synchronous.specs.Marks.{HasNoMark};
 ghost use Rattle.rtl_synchronous.specs.Running.{IsSettled};
 ghost use Rattle.rtl_synchronous.specs.Scheduled.{IsSchedule};

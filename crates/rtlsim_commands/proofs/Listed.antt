@@ -2,7 +2,8 @@
 use Rattle.std.proofs.Common.{◌≡◌, ℕ, Bool, List, [], length, Result, Ok, Err, map, inl, inr, refl, sym, ◌∙◌, subst, ◌∷◌, arith}
 use Rattle.std.specs.Prelude.{IsErrAnd}
 use Rattle.rtl_check.specs.Verdicts.{IsVerdict, ListsLoopsOnce}
-use Rattle.rtl_check.specs.Views.{core, fault_view}
+use Rattle.rtl_net.specs.Core.{core}
+use Rattle.rtl_check.specs.Views.{fault_view}
 use Rattle.rtl_check.specs.declared.fault.CheckFault.{CheckFault}
 use Rattle.rtl_model.specs.simulation.Faults.{AreStored}
 use Rattle.rtl_check.specs.declared.checking.Verdict.{Verdict}

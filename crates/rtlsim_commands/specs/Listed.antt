@@ -1,7 +1,7 @@
 -- What `net` and `check` write of a net.
 use Rattle.std.specs.Prelude.{◌≡◌, ◌⊎◌, ℕ, Bool, if◌then◌else◌, List, [], ◌++◌, Result, Ok, Err}
 use Rattle.rtl_check.specs.Verdicts.{IsVerdict, ListsLoopsOnce, is_yes}
-use Rattle.rtl_check.specs.Views.{core}
+use Rattle.rtl_net.specs.Core.{core}
 use Rattle.rtl_check.specs.declared.checking.Verdict.{Verdict}
 use Rattle.rtlsim_faults.specs.Explanations.{files_of, with_explanation}
 use Rattle.rtlsim_faults.specs.declared.faults.Fault.{Fault}

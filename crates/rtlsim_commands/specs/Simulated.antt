@@ -1,7 +1,8 @@
 -- What event-driven simulation answers, from the net and the text of the stimulus to the trace (IEEE 1076-2008, 14.7.5; IEEE
 -- 1364-2005, clause 18).
 use Rattle.std.specs.Prelude.{◌≡◌, ◌≢◌, ◌⊎◌, ℕ, List, [], map, Result, Ok, Err}
-use Rattle.rtl_check.specs.Views.{core, fault_view}
+use Rattle.rtl_net.specs.Core.{core}
+use Rattle.rtl_check.specs.Views.{fault_view}
 use Rattle.rtlsim_faults.specs.declared.faults.Fault.{Fault}
 use Rattle.rtlsim_faults.specs.declared.faults.Fault.TheVariants.{Rejected, Stim, NoSettling, Memory, Output}
 use Rattle.rtl_model.specs.simulation.Faults.{AreStored}

@@ -1,6 +1,6 @@
 use Rattle.std.proofs.Common.{◌+◌, ℕ, not, ap, ◌∙◌}
 use Rattle.rtl_model.specs.simulation.Levels.{has_clocked}
-use Rattle.rtl_check.specs.Views.{core}
+use Rattle.rtl_net.specs.Core.{core}
 use Rattle.rtl_check.specs.Bounds as b
 use Rattle.rtl_check.proofs.Bounds.{some_clocked}
 use Rattle.rtl_check.proofs.bound.bound_of.Goals as goal

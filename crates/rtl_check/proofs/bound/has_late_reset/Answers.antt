@@ -1,5 +1,5 @@
 use Rattle.std.proofs.Common.{◌≡◌, length, arith, sym}
-use Rattle.rtl_check.specs.Views.{core}
+use Rattle.rtl_net.specs.Core.{core}
 use Rattle.rtl_check.proofs.Bounds.{none_late}
 use Rattle.rtl_check.proofs.bound.has_late_reset.Goals as goal
 

@@ -1,6 +1,6 @@
 use Rattle.std.proofs.Common.{◌≡◌, ◌<◌, ℕ, false}
 use Rattle.rtl_model.specs.simulation.Netlist as m
-use Rattle.rtl_check.specs.Views.{core}
+use Rattle.rtl_net.specs.Core.{core}
 use Rattle.rtl_check.specs.Bounds.{is_late}
 use Rattle.rtl_check.proofs.bound.has_late_reset.Given as goal
 

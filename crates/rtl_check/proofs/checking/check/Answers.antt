@@ -1,5 +1,6 @@
 use Rattle.std.proofs.Common.{map, subst}
-use Rattle.rtl_check.specs.Views.{core, fault_view}
+use Rattle.rtl_net.specs.Core.{core}
+use Rattle.rtl_check.specs.Views.{fault_view}
 use Rattle.rtl_check.specs.Judging.{IsJudged}
 use Rattle.rtl_check.proofs.Verdicts.{refused}
 use Rattle.rtl_check.proofs.checking.check.Goals as goal

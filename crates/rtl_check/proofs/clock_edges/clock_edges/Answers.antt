@@ -2,7 +2,7 @@ use Rattle.std.proofs.Common.{◌++◌, ℕ, List, get_or, take, sym, ap, subst,
 use Rattle.std.proofs.lemmas.List.{take_more, take_all}
 use Rattle.rtl_model.specs.simulation.Netlist.{Edge, Rising, Falling, To1, To0}
 use Rattle.rtl_model.specs.simulation.Report.{AreClocks}
-use Rattle.rtl_check.specs.Views.{core}
+use Rattle.rtl_net.specs.Core.{core}
 use Rattle.rtl_check.specs.ClockEdges.{nets_by, edges_at, pairs_of}
 use Rattle.rtl_check.proofs.ClockPairs.{pairs_push, clocks_listed}
 use Rattle.rtl_check.proofs.clock_edges.clock_edges.Goals as goal

@@ -1,7 +1,7 @@
 use Rattle.std.proofs.Common.{ap, ◌∙◌}
 use Rattle.std.specs.List.{list_any}
 use Rattle.std.proofs.lemmas.List.{take_all}
-use Rattle.rtl_check.specs.Views.{core}
+use Rattle.rtl_net.specs.Core.{core}
 use Rattle.rtl_check.specs.ClockEdges.{tests}
 use Rattle.rtl_check.proofs.ClockPairs.{edge_nets_are}
 use Rattle.rtl_check.proofs.clock_edges.nets_of_edge.Goals as goal

@@ -1,5 +1,5 @@
 use Rattle.std.proofs.Common.{sym, subst, []}
-use Rattle.rtl_check.specs.Views.{core}
+use Rattle.rtl_net.specs.Core.{core}
 use Rattle.rtl_check.specs.Listing.{up_to, AddsFaults}
 use Rattle.rtl_check.proofs.Joined.{none_up_to, adds_number, all_but_loops}
 use Rattle.rtl_check.proofs.faults.faults_of.Goals as goal

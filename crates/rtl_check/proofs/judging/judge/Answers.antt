@@ -3,7 +3,8 @@ use Rattle.rtl_check_levels.specs.Feeding as t
 use Rattle.rtl_check_levels.specs.declared.order.LevelOrder.{LevelOrder}
 use Rattle.rtl_check_levels.specs.Orders.{IsOrder}
 use Rattle.rtl_check_levels.specs.Rounds.{IsRound}
-use Rattle.rtl_check.specs.Views.{core, fault_view}
+use Rattle.rtl_net.specs.Core.{core}
+use Rattle.rtl_check.specs.Views.{fault_view}
 use Rattle.rtl_check.proofs.Processes.{many_processes}
 use Rattle.rtl_check.proofs.Verdicts.{looped, none_of, closed, none_once, looped_once}
 use Rattle.rtl_check.proofs.judging.judge.Goals as goal

@@ -1,6 +1,6 @@
 use Rattle.std.proofs.Common.{◌<◌, ℕ, Contains}
 use Rattle.rtl_model.specs.simulation.Netlist.{Edge, IsClockedBy}
-use Rattle.rtl_check.specs.Views.{core}
+use Rattle.rtl_net.specs.Core.{core}
 use Rattle.rtl_check.proofs.listed_clocks.are_listed.Given as goal
 
 abbrev pub invariant-loop-process : goal.invariant-loop-process

@@ -1,6 +1,6 @@
 use Rattle.std.proofs.Common.{◌<◌, ◌≡◌, ℕ, get_or}
 use Rattle.rtl_model.specs.simulation.Netlist.{Edge}
-use Rattle.rtl_check.specs.Views.{core}
+use Rattle.rtl_net.specs.Core.{core}
 use Rattle.rtl_check.specs.ListedClocks.{IsTested}
 use Rattle.rtl_check.proofs.listed_clocks.are_tested.Given as goal
 

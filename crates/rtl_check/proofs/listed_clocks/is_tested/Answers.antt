@@ -1,7 +1,7 @@
 use Rattle.std.proofs.Common.{◌≡◌, ℕ, List, length, true, false, sym, ap, ◌∙◌, arith}
 use Rattle.rtl_model.specs.simulation.Netlist as m
 use Rattle.rtl_net.specs.declared.process.Process.{Process}
-use Rattle.rtl_check.specs.Views.{core}
+use Rattle.rtl_net.specs.Core.{core}
 use Rattle.rtl_check.proofs.Processes.{many_processes, clock_there}
 use Rattle.rtl_check.proofs.ClockPairs.{tests_from}
 use Rattle.rtl_check.proofs.ListedPairs.{next_or}

@@ -1,5 +1,5 @@
 use Rattle.std.proofs.Common.{◌≡◌, ◌<◌, ◌≤◌, ◌⊎◌, inl, inr, ℕ, arith}
-use Rattle.rtl_check.specs.Views.{core}
+use Rattle.rtl_net.specs.Core.{core}
 use Rattle.rtl_check.proofs.Joined.{adds_first, adds_place, adds_all}
 use Rattle.rtl_check.proofs.Processes.{process_there}
 use Rattle.rtl_check.proofs.listing.mixed.Goals as goal

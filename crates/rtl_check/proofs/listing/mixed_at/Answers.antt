@@ -1,6 +1,7 @@
 use Rattle.std.proofs.Common.{◌≡◌, sym, ◌∙◌}
 use Rattle.rtl_model.specs.simulation.Netlist as n
-use Rattle.rtl_check.specs.Views.{core, IsClocking}
+use Rattle.rtl_net.specs.Core.{core}
+use Rattle.rtl_check.specs.Views.{IsClocking}
 use Rattle.rtl_check.proofs.Processes.{kind_at}
 use Rattle.rtl_check.proofs.Firsts.{not_mixed}
 use Rattle.rtl_check.proofs.listing.mixed_at.Goals as goal

@@ -1,7 +1,7 @@
 use Rattle.std.proofs.Common.{◌≡◌, ◌+◌, ℕ, not, sym, ap, ◌∙◌}
 use Rattle.std.proofs.lemmas.Bool.{eqb-true, eq-eqb}
 use Rattle.rtl_model.specs.simulation.Levels.{bound, has_clocked}
-use Rattle.rtl_check.specs.Views.{core}
+use Rattle.rtl_net.specs.Core.{core}
 use Rattle.rtl_check.specs.Bounds as b
 use Rattle.rtl_check.proofs.ReportParts.{some_listed}
 use Rattle.rtl_check.proofs.reported.is_bound.Goals as goal

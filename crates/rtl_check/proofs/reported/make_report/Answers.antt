@@ -1,5 +1,5 @@
 use Rattle.std.proofs.Common.{◌≡◌, true, false, sym, ◌∙◌}
-use Rattle.rtl_check.specs.Views.{core}
+use Rattle.rtl_net.specs.Core.{core}
 use Rattle.rtl_check.proofs.ReportParts.{froms, shown, bound_is}
 use Rattle.rtl_check.proofs.reported.make_report.Goals as goal
 

@@ -1,6 +1,6 @@
 use Rattle.std.proofs.Common.{◌≡◌, ◌+◌, ◌<◌, ◌≤◌, ℕ, arith, sym, subst}
 use Rattle.rtl_model.specs.simulation.Report.{IsReport}
-use Rattle.rtl_check.specs.Views.{core}
+use Rattle.rtl_net.specs.Core.{core}
 use Rattle.rtl_check.proofs.Processes.{many_processes}
 use Rattle.rtl_check.proofs.LevelsFit.{greatest_fits}
 use Rattle.rtl_check.proofs.reporting.report_of.Goals as goal

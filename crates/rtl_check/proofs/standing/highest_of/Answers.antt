@@ -2,7 +2,7 @@ use Rattle.std.proofs.Common.{◌<◌, ℕ, List, length, get_or, sym, ap, subst
 use Rattle.std.proofs.lemmas.List.{at_drop_all}
 use Rattle.rtl_model.specs.simulation.Netlist as m
 use Rattle.rtl_net.specs.declared.process.Process.{Process}
-use Rattle.rtl_check.specs.Views.{core}
+use Rattle.rtl_net.specs.Core.{core}
 use Rattle.rtl_check.specs.Standing as s
 use Rattle.rtl_check.proofs.Processes.{process_is}
 use Rattle.rtl_check.proofs.Rows.{nets_of_wakes}

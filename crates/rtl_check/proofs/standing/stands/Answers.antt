@@ -2,7 +2,7 @@ use Rattle.std.proofs.Common.{ℕ, get_or, Option, None, subst}
 use Rattle.std.specs.Prelude.{◌↔◌, IsTrue}
 use Rattle.rtl_model.specs.simulation.Netlist as m
 use Rattle.rtl_check.specs.declared.standing.Highest.{Highest}
-use Rattle.rtl_check.specs.Views.{core}
+use Rattle.rtl_net.specs.Core.{core}
 use Rattle.rtl_check.specs.Standing as s
 use Rattle.rtl_check.proofs.standing.stands.Goals as goal
 

@@ -1,7 +1,8 @@
 use Rattle.std.proofs.Common.{◌++◌, ◌∙◌, List, sym, ap, subst, map}
 use Rattle.rtl_model.specs.simulation.Faults.{AreFaultsOf}
 use Rattle.rtl_check.specs.declared.fault.CheckFault.{CheckFault}
-use Rattle.rtl_check.specs.Views.{core, fault_view}
+use Rattle.rtl_net.specs.Core.{core}
+use Rattle.rtl_check.specs.Views.{fault_view}
 use Rattle.rtl_check.specs.Listing.{numbered}
 use Rattle.rtl_check.proofs.variables.stored.Goals as goal
 

@@ -1,4 +1,4 @@
-use Rattle.rtl_check.specs.Views.{core}
+use Rattle.rtl_net.specs.Core.{core}
 use Rattle.rtl_check.specs.Listing.{AddsFaults}
 use Rattle.rtl_check.specs.Places.{widths}
 use Rattle.rtl_check.proofs.StoredLists.{elements_below}

@@ -1,6 +1,6 @@
 use Rattle.std.proofs.Common.{◌≡◌, ◌<◌, ◌≤◌, ℕ, length, refl, arith, ap, List}
 use Rattle.rtl_net.specs.declared.process.Process.{Process}
-use Rattle.rtl_check.specs.Views.{core}
+use Rattle.rtl_net.specs.Core.{core}
 use Rattle.rtl_check.proofs.Joined.{adds_first, adds_place, adds_all}
 use Rattle.rtl_check.proofs.Processes.{many_processes, process_there}
 use Rattle.rtl_check.proofs.variables.stored_variables.Goals as goal

@@ -1,4 +1,4 @@
-use Rattle.rtl_check.specs.Views.{core}
+use Rattle.rtl_net.specs.Core.{core}
 use Rattle.rtl_check.specs.Listing.{below_place, AddsFaults}
 use Rattle.rtl_check.proofs.variables.stored_variables.Given as goal
 

@@ -5,7 +5,7 @@ use Rattle.rtl_model.specs.simulation.Cycle.{start_state}
 use Rattle.rtl_model.specs.simulation.Moments.{HasRun}
 use Rattle.rtl_model.proofs.simulation.Order.{HasRun-done}
 use Rattle.rtl_net.specs.Nets.{flat}
-use Rattle.rtl_check.specs.Views.{core}
+use Rattle.rtl_net.specs.Core.{core}
 use Rattle.rtl_kernel.specs.kernel.Simulation.{Simulation, initial_inputs}
 use Rattle.rtl_run.proofs.Steps.{first_begun}
 use Rattle.rtl_machine.proofs.Codes.{run_of, codes_run}

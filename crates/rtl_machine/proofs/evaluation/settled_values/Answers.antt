@@ -2,7 +2,7 @@ use Rattle.std.proofs.Common.{◌≡◌, subst, ◌∙◌}
 use Rattle.std.proofs.lemmas.Result.{IfOk-weaker}
 use Rattle.rtl_model.specs.simulation.Moments.{SettlesTo, IsUnsettled}
 use Rattle.rtl_net.specs.Nets.{NetlistView}
-use Rattle.rtl_check.specs.Views.{core}
+use Rattle.rtl_net.specs.Core.{core}
 use Rattle.rtl_stim.specs.Stimuli.{inputs_at}
 use Rattle.rtl_machine.specs.Evaluated.{IsFirstOf}
 use Rattle.rtl_machine.proofs.FirstMoment.{never_unsettled, first_is}

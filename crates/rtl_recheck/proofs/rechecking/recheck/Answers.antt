@@ -1,6 +1,6 @@
 use Rattle.std.proofs.Common.{◌≡◌, true, false, sym, ◌∙◌}
 use Rattle.rtl_model.specs.simulation.Accepted as f
-use Rattle.rtl_check.specs.Views.{core}
+use Rattle.rtl_net.specs.Core.{core}
 use Rattle.rtl_recheck.proofs.Keeping.{accepted, keeps}
 use Rattle.rtl_recheck.proofs.rechecking.recheck.Goals as goal
 

@@ -1,5 +1,5 @@
 use Rattle.std.proofs.Common.{◌<◌, ℕ}
-use Rattle.rtl_check.specs.Views.{core}
+use Rattle.rtl_net.specs.Core.{core}
 use Rattle.rtl_recheck.specs.Kept.{KeepsRules, StoresNothing}
 use Rattle.rtl_recheck.proofs.rules.all_keep.Given as goal
 

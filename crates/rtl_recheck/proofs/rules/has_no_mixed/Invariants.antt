@@ -1,6 +1,6 @@
 use Rattle.std.proofs.Common.{◌≡◌, ◌<◌, ℕ}
 use Rattle.rtl_model.specs.simulation.Netlist as m
-use Rattle.rtl_check.specs.Views.{core}
+use Rattle.rtl_net.specs.Core.{core}
 use Rattle.rtl_recheck.proofs.rules.has_no_mixed.Given as goal
 
 abbrev pub invariant-loop-process : goal.invariant-loop-process

@@ -1,6 +1,6 @@
 use Rattle.std.proofs.Common.{◌≡◌, ◌<◌, ◌≤◌, ℕ, true, false, sym, ◌∙◌, arith, refl}
 use Rattle.rtl_model.specs.simulation.Accepted as f
-use Rattle.rtl_check.specs.Views.{core}
+use Rattle.rtl_net.specs.Core.{core}
 use Rattle.rtl_check.proofs.Firsts.{net_there}
 use Rattle.rtl_check.proofs.ListedPairs.{next_or}
 use Rattle.rtl_recheck.specs.Kept.{HasOneSource}

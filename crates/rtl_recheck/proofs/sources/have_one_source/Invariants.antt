@@ -1,5 +1,5 @@
 use Rattle.std.proofs.Common.{◌<◌, ℕ}
-use Rattle.rtl_check.specs.Views.{core}
+use Rattle.rtl_net.specs.Core.{core}
 use Rattle.rtl_recheck.specs.Kept.{HasOneSource}
 use Rattle.rtl_recheck.proofs.sources.have_one_source.Given as goal
 

@@ -1,7 +1,8 @@
 use Rattle.std.proofs.Common.{◌≡◌, ℕ, ◌<◌, true, false, get_or}
 use Rattle.rtl_model.specs.simulation.Netlist.{process}
 use Rattle.rtl_kernel.specs.drivers.Transactions.{no_outcome}
-use Rattle.rtl_synchronous.specs.Kept.{MayRun, core}
+use Rattle.rtl_net.specs.Core.{core}
+use Rattle.rtl_synchronous.specs.Kept.{MayRun}
 use Rattle.rtl_synchronous.proofs.clocked.run_marked.Given as goal
 
 abbrev pub invariant-loop-process : goal.invariant-loop-process

@@ -11,7 +11,7 @@ use Rattle.rtl_net_layout.specs.declared.cuts.Cut.{Cut}
 use Rattle.rtl_net_layout.specs.Cuts.{AreCuts}
 use Rattle.rtl_net.specs.declared.process.Driver.{Driver}
 use Rattle.rtl_net.specs.declared.process.Process.{Process}
-use Rattle.rtl_synchronous.specs.Kept.{core}
+use Rattle.rtl_net.specs.Core.{core}
 use Rattle.rtl_synchronous.specs.Running.{TakesOver}
 use Rattle.rtl_synchronous.proofs.Marking.{marks_then, marks_wider}
 use Rattle.rtl_synchronous.proofs.Together.{all_taken, one_skipped, one_taken, taken_in_range}

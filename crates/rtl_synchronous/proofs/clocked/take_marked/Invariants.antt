@@ -3,7 +3,7 @@ use Rattle.std.specs.Prelude.{⊤}
 use Rattle.rtl_model.specs.simulation.Range.{IsValuation}
 use Rattle.rtl_kernel.specs.drivers.Transactions.{no_outcome}
 use Rattle.rtl_kernel.specs.wakes.Woken.{wakers_of}
-use Rattle.rtl_synchronous.specs.Kept.{core}
+use Rattle.rtl_net.specs.Core.{core}
 use Rattle.rtl_synchronous.specs.Marks.{Marks}
 use Rattle.rtl_synchronous.proofs.Together.{AreTaking}
 use Rattle.rtl_synchronous.proofs.clocked.take_marked.Given as goal

@@ -6,7 +6,7 @@ use Rattle.rtl_eval.specs.Runs.{Outcome}
 use Rattle.rtl_kernel.specs.drivers.Transactions.{no_outcome}
 use Rattle.rtl_kernel.specs.wakes.Woken.{wakers_of}
 use Rattle.rtl_net.specs.Nets.{flat}
-use Rattle.rtl_synchronous.specs.Kept.{core}
+use Rattle.rtl_net.specs.Core.{core}
 use Rattle.rtl_synchronous.proofs.Resting.{at_rest, stays_clean}
 use Rattle.rtl_synchronous.proofs.Sweeping.{readers_below}
 use Rattle.rtl_synchronous.proofs.Wired.{elaborated}

@@ -10,7 +10,7 @@ use Rattle.rtl_net_layout.specs.Cuts.{AreCuts}
 use Rattle.rtl_net.specs.Nets.{flat}
 use Rattle.rtl_net.specs.declared.process.Driver.{Driver}
 use Rattle.rtl_net.specs.declared.process.Process.{Process}
-use Rattle.rtl_synchronous.specs.Kept.{core}
+use Rattle.rtl_net.specs.Core.{core}
 use Rattle.rtl_synchronous.specs.Marks.{Marks}
 use Rattle.rtl_synchronous.specs.Running.{TakesOver}
 use Rattle.rtl_synchronous.proofs.Together.{taken_in_range}

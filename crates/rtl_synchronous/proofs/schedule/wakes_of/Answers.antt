@@ -2,7 +2,7 @@ use Rattle.std.proofs.Common.{◌≡◌, ℕ, List, [], ◌∷◌, ◌++◌, get
 use Rattle.std.proofs.lemmas.List.{map_more}
 use Rattle.rtl_model.specs.simulation.Netlist.{process}
 use Rattle.rtl_net.specs.declared.process.Process.{Process}
-use Rattle.rtl_synchronous.specs.Kept.{core}
+use Rattle.rtl_net.specs.Core.{core}
 use Rattle.rtl_synchronous.proofs.Wired.{wakes_are}
 use Rattle.rtl_synchronous.proofs.schedule.wakes_of.Goals as goal
 

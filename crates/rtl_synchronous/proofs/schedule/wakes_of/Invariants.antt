@@ -1,5 +1,5 @@
 use Rattle.std.proofs.Common.{◌≡◌, take}
-use Rattle.rtl_synchronous.specs.Kept.{core}
+use Rattle.rtl_net.specs.Core.{core}
 use Rattle.rtl_synchronous.specs.Scheduled.{wakes_by_rank}
 use Rattle.rtl_synchronous.proofs.schedule.wakes_of.Given as goal
 

@@ -2,7 +2,7 @@ use Rattle.std.proofs.Common.{◌≡◌, ◌<◌, Bool, not, List, [], ◌∷◌
 use Rattle.std.proofs.lemmas.List.{map_more}
 use Rattle.rtl_model.specs.simulation.Netlist.{no_process, process}
 use Rattle.rtl_net.specs.declared.process.Process.{Process}
-use Rattle.rtl_synchronous.specs.Kept.{core}
+use Rattle.rtl_net.specs.Core.{core}
 use Rattle.rtl_synchronous.specs.Scheduled.{clocked_wakes}
 use Rattle.rtl_synchronous.proofs.Ordering.{clocked_row, combinational_row}
 use Rattle.rtl_synchronous.proofs.Wired.{processes_many, wakes_are}

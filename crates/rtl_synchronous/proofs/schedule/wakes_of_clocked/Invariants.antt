@@ -1,5 +1,5 @@
 use Rattle.std.proofs.Common.{◌≡◌, map, take}
-use Rattle.rtl_synchronous.specs.Kept.{core}
+use Rattle.rtl_net.specs.Core.{core}
 use Rattle.rtl_synchronous.specs.Scheduled.{clocked_wakes}
 use Rattle.rtl_synchronous.proofs.schedule.wakes_of_clocked.Given as goal
 

@@ -2,7 +2,7 @@ use Rattle.std.proofs.Common.{◌≡◌, ◌<◌, ◌≤◌, ℕ, false, Contain
 use Rattle.std.proofs.lemmas.List.{get_or_default, length-set}
 use Rattle.rtl_model.specs.simulation.Netlist.{process}
 use Rattle.rtl_kernel.specs.wakes.Woken.{wakers_of}
-use Rattle.rtl_synchronous.specs.Kept.{core}
+use Rattle.rtl_net.specs.Core.{core}
 use Rattle.rtl_synchronous.specs.Marks.{Marks}
 use Rattle.rtl_synchronous.specs.Running.{IsWritten}
 use Rattle.rtl_synchronous.proofs.Sweeping.{all_settled, readers_below, sweeping_run, sweeping_skip}

@@ -1,5 +1,6 @@
 use Rattle.rtl_model.specs.simulation.Range.{IsValuation}
-use Rattle.rtl_synchronous.specs.Kept.{MayRun, core}
+use Rattle.rtl_net.specs.Core.{core}
+use Rattle.rtl_synchronous.specs.Kept.{MayRun}
 use Rattle.rtl_synchronous.proofs.Sweeping.{IsSweeping}
 use Rattle.rtl_synchronous.proofs.sweep.sweep.Given as goal
 

@@ -1,5 +1,5 @@
 use Rattle.std.proofs.Common.{◌≡◌, ℕ, suc, ◌-◌, List, length}
-use Rattle.rtl_check.specs.Views.{core}
+use Rattle.rtl_net.specs.Core.{core}
 use Rattle.rtl_stim_lines.specs.Filling.{Waits}
 use Rattle.rtl_stim.specs.Stimuli.{inputs_at}
 use Rattle.rtl_watch.specs.Stands.{Stand}

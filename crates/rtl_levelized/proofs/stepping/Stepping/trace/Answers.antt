@@ -3,7 +3,7 @@ use Rattle.vhdl_values.specs.declared.scalar.Nine.{Nine}
 use Rattle.rtl_model.specs.simulation.Machine.{IsFirst}
 use Rattle.rtl_net.specs.Nets.{flat}
 use Rattle.rtl_kernel.specs.kernel.Simulation.{initial_inputs}
-use Rattle.rtl_check.specs.Views.{core}
+use Rattle.rtl_net.specs.Core.{core}
 use Rattle.rtl_stim.specs.Stimuli.{inputs_at}
 use Rattle.rtl_machine.specs.declared.fault.MachineFault.TheVariants.{Memory}
 use Rattle.rtl_machine.proofs.Refusals.{err_with}

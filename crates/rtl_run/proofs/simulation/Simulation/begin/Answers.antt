@@ -5,7 +5,7 @@ use Rattle.rtl_vcd.specs.Trace.{first_text}
 use Rattle.rtl_sink.specs.Written.{Goes}
 use Rattle.rtl_run.specs.declared.summary.RunFault.{RunFault}
 use Rattle.rtl_run.specs.declared.summary.RunFault.TheVariants.{Memory, Output}
-use Rattle.rtl_run.specs.Simulated.{core}
+use Rattle.rtl_net.specs.Core.{core}
 use Rattle.rtl_run.specs.Running.{Begins}
 use Rattle.rtl_run.proofs.Going.{err_with, begins, never_begins, first_leaves}
 use Rattle.rtl_run.proofs.simulation.Simulation.begin.Goals as goal

@@ -5,7 +5,7 @@ use Rattle.rtl_vcd.specs.Trace.{moment_text, are_some, changes}
 use Rattle.rtl_sink.specs.Written.{Goes}
 use Rattle.rtl_run.specs.declared.summary.RunFault.{RunFault}
 use Rattle.rtl_run.specs.declared.summary.RunFault.TheVariants.{Output}
-use Rattle.rtl_run.specs.Simulated.{core}
+use Rattle.rtl_net.specs.Core.{core}
 use Rattle.rtl_run.specs.Running.{GoesOn}
 use Rattle.rtl_run.proofs.Going.{err_with, never_more, next_leaves, goes_further}
 use Rattle.rtl_run.proofs.simulation.Simulation.go_on.Goals as goal

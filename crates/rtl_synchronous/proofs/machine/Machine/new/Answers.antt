@@ -6,7 +6,8 @@ use Rattle.rtl_kernel.specs.kernel.Simulation.{each_given, initial_inputs}
 use Rattle.rtl_kernel.specs.values.TwoValues.{AreChanged}
 use Rattle.rtl_kernel.specs.wakes.Woken.{wakers_of}
 use Rattle.rtl_net.specs.Nets.{flat}
-use Rattle.rtl_synchronous.specs.Kept.{core, MayRun}
+use Rattle.rtl_net.specs.Core.{core}
+use Rattle.rtl_synchronous.specs.Kept.{MayRun}
 use Rattle.rtl_synchronous.specs.Scheduled.{without_level}
 use Rattle.rtl_synchronous.proofs.Changed.{first_in_range, first_is}
 use Rattle.rtl_synchronous.proofs.Machines.{clocked_marked, kept_first, marked_clocked}
