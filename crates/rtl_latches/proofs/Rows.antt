@@ -40,7 +40,7 @@ module _ (these : Target → Bool) where
       let q = sym (items_shown-the_row-Statement-0 shape x) in
       let p : statements_row x ≡ statements_of (shown-the_row-Statement-0 shape x).items = statements-row _ x ∙ ap statements_of q in
       let r : in_part these (o.Branch at number) x ≡ part_omission these (o.Branch at number) (shown-the_row-Statement-0 shape x).items =
-          part-is (o.Branch at number) _ x ∙ ap (part_omission these (o.Branch at number)) q in
+      part-is (o.Branch at number) _ x ∙ ap (part_omission these (o.Branch at number)) q in
       λ i. if must_assign these (p i) then branches-is at last (suc number) _ rest i else r i
 
   alternatives-is : (at : ℕ) (last : ℕ → Option Omission) (number : ℕ) (n : Count) (row : Row_of-Alternative n)
@@ -50,7 +50,7 @@ module _ (these : Target → Bool) where
       let q = sym (items_shown-the_row-Statement-0 shape x) in
       let p : statements_row x ≡ statements_of (shown-the_row-Statement-0 shape x).items = statements-row _ x ∙ ap statements_of q in
       let r : in_part these (o.Alternative at number) x ≡ part_omission these (o.Alternative at number) (shown-the_row-Statement-0 shape x).items =
-          part-is (o.Alternative at number) _ x ∙ ap (part_omission these (o.Alternative at number)) q in
+      part-is (o.Alternative at number) _ x ∙ ap (part_omission these (o.Alternative at number)) q in
       λ i. if must_assign these (p i) then alternatives-is at last (suc number) _ rest i else r i
 
   pub in_if : (x : Statement) (at : ℕ) (branches : Vec Branch Global) (v : Vec Statement Global) → x ≡ vs.If at branches (Some v)

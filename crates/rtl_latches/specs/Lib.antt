@@ -1,2 +1,3 @@
 pub mod Assigning
 pub mod Omissions
+pub mod Laws

@@ -6,8 +6,8 @@ ghost use Rattle.rtl_net.specs.Bodies.{statement_view, statements_of};
 ghost use Rattle.rtl_net_facts.specs.Paths.{to_net};
 ghost use Rattle.rtl_latches.specs.Assigning as spec;
 
+use crate::paths::places_have;
 use rtl_net::{Alternative, Branch, Driver, Statement};
-use rtl_recheck::places_have;
 
 /// Whether an assignment of a net stands in a statement of a process with these drivers.
 #[cycle(assigning)]

@@ -6,8 +6,8 @@ ghost use Rattle.rtl_latches.specs.Omissions as spec;
 ghost use Rattle.rtl_latches.specs.declared.omission.Omission.TheVariants as o;
 
 use crate::assigning::{assigns, statement_assigns};
+use crate::paths::{covers, statement_covers};
 use rtl_net::{Alternative, Branch, Driver, Statement};
-use rtl_recheck::{covers, statement_covers};
 
 /// Where a body leaves out the assignment of a net. `at` is the byte of the source at which the statement starts.
 #[derive(Clone, Copy)]

@@ -5,11 +5,9 @@
 #![tactic(auto)]
 
 mod clocked;
-mod paths;
 mod rechecking;
 mod rules;
 mod sources;
 mod variables;
 
-pub use paths::{covers, places_have, statement_covers};
 pub use rechecking::recheck;

@@ -9,9 +9,9 @@ ghost use Rattle.rtl_check.specs.Standing.{HasNoMixed};
 ghost use Rattle.rtl_recheck.specs.Kept.{HasNoLatch, CombinationalKeeps, KeepsBy, KeepsRules, AllKeep, clock_nets, is_plain};
 
 use crate::clocked::{are_within, clocked_keeps};
-use crate::paths::covers;
 use crate::variables::stores_nothing;
 use rtl_check::kind_at;
+use rtl_latches::covers;
 use rtl_net::{Net, Process};
 use rtl_net_facts::ProcessKind;
 use vhdl_values::Edge;

@@ -7,7 +7,7 @@ use Rattle.rtl_model.specs.bodies.Assigns.{must_assign}
 use Rattle.rtl_net_facts.specs.Paths.{to_net, statement_covers, branch_covers, alternative_covers}
 use Rattle.rtl_net_facts.proofs.Anys.{any_found, any_end, first_false, and_rest}
 use Rattle.rtl_net_facts.proofs.EveryPath.{covers_sequence, set_covers, if_covers, if_alone_covers, case_covers}
-use Rattle.rtl_recheck.proofs.paths.+covering.Goals as goal
+use Rattle.rtl_latches.proofs.paths.+covering.Goals as goal
 
 pub covers-returns-then-statement_covers : goal.covers-returns-then-statement_covers
 covers-returns-then-statement_covers t c =

@@ -1,7 +1,7 @@
 use Rattle.std.proofs.Common.{◌≡◌, ◌+◌, ◌-◌}
 use Rattle.std.specs.List.{list_any, range_with_len}
 use Rattle.rtl_net_facts.specs.Paths.{covers}
-use Rattle.rtl_recheck.proofs.paths.run_has.Given as goal
+use Rattle.rtl_latches.proofs.paths.run_has.Given as goal
 
 abbrev pub invariant-loop-i : goal.invariant-loop-i
 invariant-loop-i l =
