@@ -1,3 +1,4 @@
+mod Runs
 pub mod Assigned
 pub mod Rows
 mod There

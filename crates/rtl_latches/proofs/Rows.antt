@@ -13,8 +13,7 @@ use Rattle.rtl_net.specs.declared.body.Statement.TheBlock.{Row_of-Alternative, e
 use Rattle.rtl_net.specs.declared.body.Branch.{Branch}
 use Rattle.rtl_net.specs.declared.body.Alternative.{Alternative}
 use Rattle.rtl_net.specs.Bodies.{statement_view, statements_row, statements_of}
-use Rattle.rtl_latches.specs.Assigning.{stmts_assign}
-use Rattle.rtl_latches.specs.Omissions.{leaves_out, in_statement, in_row, in_part, in_branches, in_alternatives, omission_of, part_omission, branches_omission, alternatives_omission}
+use Rattle.rtl_latches.specs.Omissions.{leaves_out, in_statement, in_row, itself_or, in_branches, in_alternatives, omission_of, part_omission, branches_omission, alternatives_omission}
 use Rattle.rtl_latches.specs.declared.omission.Omission.{Omission}
 use Rattle.rtl_latches.specs.declared.omission.Omission.TheVariants as o
 
@@ -27,10 +26,12 @@ module _ (these : Target → Bool) where
   row-is n end_of-Statement = refl
   row-is n (more_of-Statement x rest) = ap (λ r. if leaves_out these x then in_statement these x else r) (row-is _ rest)
 
-  part-is : (itself : Omission) (n : Count) (row : Row_of-Statement n) → in_part these itself row ≡ part_omission these itself (items-the_row-Statement n row)
-  part-is itself n row = λ i. if stmts_assign these (statements-row n row i) then row-is n row i else Some itself
+  part-is : (itself : Omission) (n : Count) (row : Row_of-Statement n)
+      → itself_or these itself (statements_row row) (in_row these row) ≡ part_omission these itself (items-the_row-Statement n row)
+  part-is itself n row = λ i. itself_or these itself (statements-row n row i) (row-is n row i)
 
-  part-hidden : (itself : Omission) (v : Vec Statement Global) → in_part these itself (hidden-the_row-Statement-0 v) ≡ part_omission these itself v.items
+  part-hidden : (itself : Omission) (v : Vec Statement Global)
+      → itself_or these itself (statements_row (hidden-the_row-Statement-0 v)) (in_row these (hidden-the_row-Statement-0 v)) ≡ part_omission these itself v.items
   part-hidden itself v = part-is itself _ (hidden-the_row-Statement-0 v) ∙ ap (part_omission these itself) (items_hidden-the_row-Statement-0 v)
 
   branches-is : (at : ℕ) (last : ℕ → Option Omission) (number : ℕ) (n : Count) (row : Row_of-Branch n)
@@ -39,7 +40,7 @@ module _ (these : Target → Bool) where
   branches-is at last number n (more_of-Branch test shape x rest) =
       let q = sym (items_shown-the_row-Statement-0 shape x) in
       let p : statements_row x ≡ statements_of (shown-the_row-Statement-0 shape x).items = statements-row _ x ∙ ap statements_of q in
-      let r : in_part these (o.Branch at number) x ≡ part_omission these (o.Branch at number) (shown-the_row-Statement-0 shape x).items =
+      let r : itself_or these (o.Branch at number) (statements_row x) (in_row these x) ≡ part_omission these (o.Branch at number) (shown-the_row-Statement-0 shape x).items =
       part-is (o.Branch at number) _ x ∙ ap (part_omission these (o.Branch at number)) q in
       λ i. if must_assign these (p i) then branches-is at last (suc number) _ rest i else r i
 
@@ -49,7 +50,7 @@ module _ (these : Target → Bool) where
   alternatives-is at last number n (more_of-Alternative choices shape x rest) =
       let q = sym (items_shown-the_row-Statement-0 shape x) in
       let p : statements_row x ≡ statements_of (shown-the_row-Statement-0 shape x).items = statements-row _ x ∙ ap statements_of q in
-      let r : in_part these (o.Alternative at number) x ≡ part_omission these (o.Alternative at number) (shown-the_row-Statement-0 shape x).items =
+      let r : itself_or these (o.Alternative at number) (statements_row x) (in_row these x) ≡ part_omission these (o.Alternative at number) (shown-the_row-Statement-0 shape x).items =
       part-is (o.Alternative at number) _ x ∙ ap (part_omission these (o.Alternative at number)) q in
       λ i. if must_assign these (p i) then alternatives-is at last (suc number) _ rest i else r i
 

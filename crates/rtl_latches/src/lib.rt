@@ -8,5 +8,5 @@ mod omission;
 mod paths;
 
 pub use laws::each_latch_has_a_place;
-pub use omission::{Omission, omission};
+pub use omission::{Omission, first_omission};
 pub use paths::covers;

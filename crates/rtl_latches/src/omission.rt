@@ -30,7 +30,7 @@ fn leaves_out(statement: &Statement, drives: &[Driver], net: usize) -> bool
 /// The first place in the text at which a sequence of a process with these drivers leaves out the assignment of a net, if it
 /// assigns it on some path and not on all. It takes no memory, and time in proportion to the text times how deep it is nested.
 #[cycle(omission)]
-pub fn omission(statements: &[Statement], drives: &[Driver], net: usize) -> Option<Omission>
+pub fn first_omission(statements: &[Statement], drives: &[Driver], net: usize) -> Option<Omission>
     ensures { result ≡ spec.omission_of (to_net drives.now net) statements.now }
 {
     for statement in statements {
@@ -122,7 +122,7 @@ fn part_omission(
     ensures { result ≡ spec.part_omission (to_net drives.now net) itself statements.now }
 {
     if assigns(statements, drives, net) {
-        omission(statements, drives, net)
+        first_omission(statements, drives, net)
     } else {
         Some(itself)
     }

@@ -8,7 +8,7 @@ ghost use Rattle.rtlsim_explain_check.specs.Placed as placed;
 
 use crate::placing::{place_text, push_number, push_shown};
 use rtl_check::CheckFault;
-use rtl_latches::{Omission, omission};
+use rtl_latches::{Omission, first_omission};
 use rtl_net::{Net, NoMemory};
 use rtlsim_files::SourceFile;
 use std::alloc::Global;
@@ -28,7 +28,7 @@ fn omission_at(net: &Net, process: usize, number: usize) -> Option<Omission>
     ensures { result ≡ spec.omission_at number (slice_get net.now.processes process) }
 {
     match net.processes().get(process) {
-        Some(process) => omission(&process.body, &process.drives, number),
+        Some(process) => first_omission(&process.body, &process.drives, number),
         None => None,
     }
 }

@@ -1,6 +1,6 @@
 use Rattle.std.proofs.Common.{arith, sym, ◌∙◌}
 use Rattle.rtl_net_facts.specs.Paths.{covers}
-use Rattle.rtl_recheck.proofs.Listed.{run_goes}
+use Rattle.rtl_latches.proofs.Runs.{run_goes}
 use Rattle.rtl_latches.proofs.paths.run_has.Goals as goal
 
 pub loop-i-preserved : goal.loop-i-preserved
