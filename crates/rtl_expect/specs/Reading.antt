@@ -1,5 +1,5 @@
 -- What the steps of reading answer.
-use Rattle.std.specs.Prelude.{◌≡◌, ◌≢◌, ℕ, false, List, ◌++◌, Vec, Option, Some, None, Result, Ok, Err}
+use Rattle.std.specs.Prelude.{◌≡◌, ◌≢◌, ℕ, false, List, [], ◌∷◌, ◌++◌, Vec, Option, Some, None, Result, Ok, Err}
 use Rattle.std.specs.Global.{Global}
 use Rattle.rtl_net.specs.Nets.{NetlistView}
 use Rattle.rtl_expect.specs.declared.expectation.Expectation.{Expectation as KeptExpectation}
@@ -7,8 +7,13 @@ use Rattle.rtl_expect.specs.declared.faults.ExpectFault.{ExpectFault}
 use Rattle.rtl_expect.specs.declared.faults.ExpectFault.TheVariants.{NoMemory}
 use Rattle.rtl_expect.specs.Names.{are_alike}
 use Rattle.rtl_expect.specs.Expected.{Expectation}
-use Rattle.rtl_expect.specs.Lines.{expectations_of}
+use Rattle.rtl_expect.specs.Lines.{expectations_of, placed}
 use Rattle.rtl_expect.specs.Watching.{AreInOrder, expectation_view, list_view}
+
+-- these, placed one after another
+abbrev pub all_placed : (so_far : List Expectation) → List Expectation → List Expectation
+all_placed so_far [] = so_far
+all_placed so_far (e ∷ es) = all_placed (placed e so_far) es
 
 -- What a function answered is what is asked: it leaves these expectations where that is Ok. It refuses for want of memory, or with that
 -- fault.

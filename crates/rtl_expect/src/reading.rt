@@ -1,14 +1,14 @@
 //! Reading a file of expected values.
 
-ghost use Rattle.std.specs.Prelude.{◌≡◌, ◌≤◌, ◌<◌, ◌+◌, ◌∷◌, length, map, take, drop, option_map, IfOk, OnOk};
+ghost use Rattle.std.specs.Prelude.{◌≡◌, ◌≤◌, ◌<◌, ◌+◌, ◌∷◌, [], length, map, drop, option_map, IfOk, OnOk};
 ghost use Rattle.std.specs.List.{slice_split};
 ghost use Rattle.rtl_stim_lines.specs.Lines.{as_lines, ends_line};
 ghost use Rattle.rtl_stim_lines.specs.Forms as forms;
 ghost use Rattle.rtl_expect.specs.Expected as wanted;
 ghost use Rattle.rtl_expect.specs.Lines as lines;
 ghost use Rattle.rtl_expect.specs.Lines.{after_line, expected_in, in_line};
-ghost use Rattle.rtl_expect.specs.Watching.{AreInOrder, Each, expectation_view, list_view};
-ghost use Rattle.rtl_expect.specs.Reading.{AreListed, IsExpected, Leads};
+ghost use Rattle.rtl_expect.specs.Watching.{AreInOrder, expectation_view, list_view};
+ghost use Rattle.rtl_expect.specs.Reading.{AreListed, IsExpected, Leads, all_placed};
 
 use crate::expectation::Expectation;
 use crate::expected::Wanted;
@@ -19,7 +19,8 @@ use rtl_stim_lines::{Form, Time, form_of, says_nothing, time_of, without_return,
 use std::alloc::{AllocError, Global};
 use vhdl_values::Nine;
 
-/// What the lines of a text expect, in order of time and of lines.
+/// What the lines of a text expect, in order of time and of lines. It takes time that goes by the lines, to put them in order by the
+/// lines times the logarithm of their number at most, and no more than the lines where they are in order of time.
 pub(crate) fn read_lines(
     alloc: Global,
     net: &Net,
@@ -32,6 +33,7 @@ pub(crate) fn read_lines(
     for place in 0..parts.len() {
         read_line(alloc, net, place + 1, line_at(&parts, place), &mut list)?;
     }
+    put_in_order(&mut list)?;
     Ok(list)
 }
 
@@ -55,7 +57,7 @@ fn parts_of<'a>(alloc: Global, text: &'a [u8]) -> Result<Vec<&'a [u8]>, AllocErr
     text.split(|byte| *byte == b'\n').collect(alloc)
 }
 
-/// Takes in the line of this number.
+/// Takes in the line of this number. The list has the expectations in order of lines.
 fn read_line(
     alloc: Global,
     net: &Net,
@@ -63,16 +65,15 @@ fn read_line(
     line: &[u8],
     list: &mut Vec<Expectation>,
 ) -> Result<(), ExpectFault>
-    requires ordered { AreInOrder (list_view list.old) }
-    ensures said { Leads (in_line number (after_line net.now (list_view list.old) number line.now)) (list_view list.new) result }
-    ensures ordered { OnOk result (AreInOrder (list_view list.new)) }
+    ensures { let so_far = all_placed [] (list_view list.old) in
+        Leads (in_line number (after_line net.now so_far number line.now)) (all_placed [] (list_view list.new)) result }
 {
     let words = words_of(alloc, line)?;
     if says_nothing(&words) {
         return Ok(());
     }
     let expectation = expectation_of(alloc, net, number, &words)?;
-    place(list, expectation)?;
+    keep(list, expectation)?;
     Ok(())
 }
 
@@ -177,27 +178,20 @@ fn position_wanted(
     }
 }
 
-/// Puts an expectation behind those of its time and before it.
-fn place(list: &mut Vec<Expectation>, expectation: Expectation) -> Result<(), AllocError>
-    requires ordered { AreInOrder (list_view list.old) }
-    ensures placed { OnOk result (list_view list.new ≡ lines.placed (expectation_view expectation) (list_view list.old)) }
-    ensures ordered { OnOk result (AreInOrder (list_view list.new)) }
+/// Puts an expectation behind those of the lines before.
+fn keep(list: &mut Vec<Expectation>, expectation: Expectation) -> Result<(), AllocError>
+    ensures { OnOk result (all_placed [] (list_view list.new)
+        ≡ lines.placed (expectation_view expectation) (all_placed [] (list_view list.old))) }
 {
-    let at = place_behind(list, expectation.time);
-    list.insert(at, expectation)?;
+    list.push(expectation)?;
     Ok(())
 }
 
-/// How many of these expectations are of this time or before it.
-fn place_behind(list: &[Expectation], time: u64) -> usize
-    requires ordered { AreInOrder (map expectation_view list.now) }
-    ensures within { result ≤ length list.now }
-    ensures before { Each (λ e. e.time ≤ time) (take result (map expectation_view list.now)) }
-    ensures behind { Each (λ e. time < e.time) (drop result (map expectation_view list.now)) }
+/// Puts expectations in order of time; those of one time stay in the order that they have.
+fn put_in_order(list: &mut Vec<Expectation>) -> Result<(), AllocError>
+    ensures placed { OnOk result (list_view list.new ≡ all_placed [] (list_view list.old)) }
+    ensures ordered { OnOk result (AreInOrder (list_view list.new)) }
 {
-    let mut at = list.len();
-    while at > 0 && time < list[at - 1].time {
-        at -= 1;
-    }
-    at
+    list.sort_by_key(|expectation| expectation.time)?;
+    Ok(())
 }

@@ -5,6 +5,7 @@ pub mod Requests
 pub mod Reads
 pub mod Served
 pub mod Inputs
+pub mod Unread
 pub mod Halves
 pub mod Lines
 pub mod Texts

@@ -1,6 +1,6 @@
 -- What the program does for its words.
 use Rattle.std.specs.List.{after_first, slice_split}
-use Rattle.std.specs.Prelude.{◌≡◌, ◌==◌, ◌⊎◌, not, filter, length, [], ◌∷◌, Option, Some, None, ℕ, List, IsUtf8}
+use Rattle.std.specs.Prelude.{◌≡◌, ◌==◌, ◌⊎◌, not, filter, length, [], ◌∷◌, Result, Ok, Err, ℕ, List, IsUtf8}
 use Rattle.rtlsim_faults.specs.Lines.{memory_line, input_line}
 use Rattle.rtlsim_commands.specs.Served.{Outputs, ended}
 use Rattle.rtlsim_faults.specs.declared.status.Status.{Status}
@@ -15,36 +15,29 @@ use Rattle.rtlsim.specs.Served.{ServesTexts}
 use Rattle.rtlsim.specs.Sinks.{Sinks, IsSilent, outputs}
 use Rattle.rtl_stim_lines.specs.Lines.{ends_line}
 use Rattle.rtlsim.specs.Lines.{first_line_of}
-use Rattle.rtlsim.specs.declared.inputs.InputFault.{InputFault}
-use Rattle.rtlsim.specs.declared.inputs.InputFault.TheVariants.{Failed, NoMemory}
+use Rattle.rtlsim.specs.Unread.{input_text}
 
--- the line and the status of an input that fails
-abbrev pub input_text : InputFault → List ℕ
-input_text Failed = input_line
-input_text NoMemory = memory_line
-
-abbrev pub input_status : InputFault → Status
-input_status Failed = status.Failed
-input_status NoMemory = status.Memory
-
--- an input isn't read: its fault is told, and nothing else
-pub record TellsInput (fault : InputFault) (outcome : Status) (o : Outputs) : Type 0 where
+-- an input isn't read: this is told, and nothing else
+pub record TellsInput (text : List ℕ) (said outcome : Status) (o : Outputs) : Type 0 where
   pub output : o.out_after ≡ o.out
-  pub told : Goes o.err o.err_after (input_text fault)
-  pub status : outcome ≡ ended (input_status fault) o.out_after o.err_after
+  pub told : Goes o.err o.err_after text
+  pub status : outcome ≡ ended said o.out_after o.err_after
 
 -- this is done, and nothing is shown of a run
 abbrev pub Silently : (Outputs → Type 0) → Sinks → Type 0
 Silently Does s = Does (outputs s) × IsSilent s
 
--- What was read is served; or that reading failed is told.
-abbrev pub ReadsInputs : {A : Type 0} → (Gives : Option A → Type 0) → (Served : A → Type 0) → (outcome : Status) → Sinks → Type 0
-ReadsInputs {A} Gives Served outcome s =
-    ((fault : InputFault) × (fault ≡ Failed → Gives None) × Silently (TellsInput fault outcome) s) ⊎ ((given : A) × Gives (Some given) × Served given)
+-- What was read is served; or why it isn't read is told by this text; or want of memory is.
+abbrev pub ReadsInputs : {A Why : Type 0} → (Gives : Result A Why → Type 0) → (text_of : Why → List ℕ) → (Served : A → Type 0) → (outcome : Status) → Sinks → Type 0
+ReadsInputs {A} {Why} Gives text_of Served outcome s =
+    Silently (TellsInput memory_line status.Memory outcome) s
+    ⊎ ((why : Why) × Gives (Err why) × Silently (TellsInput (text_of why) status.Failed outcome) s)
+    ⊎ ((given : A) × Gives (Ok given) × Served given)
 
 -- What is done for a call. Its files are read first; then its command serves the source.
 unfoldable pub Performs : Reading → Call → (old new : ReaderState) → (outcome : Status) → Sinks → Type 0
-Performs Gives call old new outcome s = ReadsInputs (GivesTexts Gives call old new) (λ texts. ServesTexts call texts outcome s) outcome s
+Performs Gives call old new outcome s =
+    ReadsInputs (GivesTexts Gives call old new) (input_text call.extras.explains) (λ texts. ServesTexts call texts outcome s) outcome s
 
 -- the words are refused for this reason, or for want of memory, with a text on the standard error and nothing else
 pub record RefusesWords (Reason : Type 0) (outcome : Status) (o : Outputs) : Type 0 where
@@ -69,10 +62,11 @@ words_in line = filter (λ word. not (length word == 0)) (slice_split (λ byte. 
 abbrev pub ServesLine : Reading → (line : List ℕ) → (old new : ReaderState) → (outcome : Status) → Sinks → Type 0
 ServesLine Gives line old new outcome s = ServesCall Gives (words_in line) old new outcome s ⊎ Silently (RefusesWords (¬ (IsUtf8 line)) outcome) s
 
--- without words: those of the input's first line count, and the rest of the input is held as the standard input
+-- Without words those of the input's first line count, and the rest of the input is held as the standard input. Until that line is read
+-- nothing asks for an explanation.
 abbrev pub ServesFirstLine : Reading → (old new : ReaderState) → (outcome : Status) → Sinks → Type 0
 ServesFirstLine Gives old new outcome s =
-    ReadsInputs (GivesWhole old new) (λ all. (left : List ℕ) × ServesLine Gives (first_line_of all) (held (after_first ends_line all)) (held left) outcome s) outcome s
+    ReadsInputs (GivesWhole old new) (λ problem. input_line) (λ all. (left : List ℕ) × ServesLine Gives (first_line_of all) (held (after_first ends_line all)) (held left) outcome s) outcome s
 
 -- the program for its words; without words, for those of the input's first line
 abbrev pub ServesWords : Reading → (words : List (List ℕ)) → (old new : ReaderState) → (outcome : Status) → Sinks → Type 0

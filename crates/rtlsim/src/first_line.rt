@@ -13,6 +13,7 @@ ghost use Rattle.rtlsim.specs.Tools.{ServesFirstLine, ServesLine, words_in};
 use crate::inputs::{Inputs, Named, Standard, read_input};
 use crate::refusals::{not_text, refuse_input, refuse_words};
 use crate::tools::tool_with;
+use crate::unread::ReadFault;
 use rtl_sink::{Reader, Sink};
 use rtlsim_commands::{Front, Status};
 use rtlsim_words::Refused;
@@ -44,7 +45,7 @@ pub fn tool_first_line<F: Front, T: Files, R: Reader, O: Sink, E: Sink, G: Sink>
             };
             serve_line::<F, _, _, _, _>(alloc, line, &mut inputs, out, err, progress)
         }
-        Err(fault) => refuse_input(fault, out, err),
+        Err(fault) => refuse_input(ReadFault::of("@", fault), false, out, err),
     }
 }
 
@@ -67,7 +68,7 @@ pub(crate) fn serve_reader_line<F: Front, R: Reader, O: Sink, E: Sink, G: Sink>(
             let mut inputs = Standard { reader: rest };
             serve_line::<F, _, _, _, _>(alloc, line, &mut inputs, out, err, progress)
         }
-        Err(fault) => refuse_input(fault, out, err),
+        Err(fault) => refuse_input(ReadFault::of("@", fault), false, out, err),
     }
 }
 

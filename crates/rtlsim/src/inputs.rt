@@ -1,10 +1,11 @@
 //! The files that the words of the command line name.
 
-ghost use Rattle.std.specs.Prelude.{◌≡◌, ◌≤◌, ℕ, List, Option, Some, None, IfOk, IfErr, length};
+ghost use Rattle.std.specs.Prelude.{◌≡◌, ◌≤◌, ℕ, List, Ok, Err, IfOk, IfErr, length};
 ghost use Rattle.rtl_sink.specs.Read.{ReaderState};
-ghost use Rattle.rtlsim.specs.Inputs.{GivesWhole, GivesFile, GivesNamed, GivesStandardAlone, greatest_input};
-ghost use Rattle.rtlsim.specs.declared.inputs.InputFault.TheVariants.{Failed, NoMemory};
+ghost use Rattle.rtlsim.specs.Inputs.{Answer, GivesWhole, GivesFile, GivesNamed, GivesStandardAlone, IfFailed, greatest_input};
+ghost use Rattle.rtlsim.specs.declared.inputs.InputFault.TheVariants.{NoMemory};
 
+use crate::problem::InputProblem;
 use rtl_sink::{In, Reader};
 use std::alloc::{AllocError, AllocFailed, Global};
 use std::fs;
@@ -23,7 +24,7 @@ const PART: usize = 8192;
 pub enum InputFault {
     /// It isn't there, a read failed, or its end did not come within the limit.
     #[error("the input failed")]
-    Failed,
+    Failed(InputProblem),
     /// Memory was refused.
     #[error("out of memory")]
     NoMemory,
@@ -49,15 +50,15 @@ impl<T: Drop> From<AllocFailed<T>> for InputFault {
 pub trait Inputs {
     // The standard input.
     ghost state: { Self → ReaderState };
-    // What a read of the file of a name may give, between two states of the standard input: its bytes, or none where it fails.
-    ghost gives: { ReaderState → ReaderState → List ℕ → Option (List ℕ) → Type 0 };
+    // What a read of the file of a name may give, between two states of the standard input: its bytes, or why it isn't read.
+    ghost gives: { ReaderState → ReaderState → List ℕ → Answer → Type 0 };
 
     /// The whole file of this name, at most `MAX_INPUT` bytes: `Failed` where it isn't there, can't be read
     /// or is longer, and `NoMemory` where memory was refused.
     fn read(&mut self, alloc: Global, name: &str) -> Result<Vec<u8>, InputFault>
-        ensures whole { IfOk result (λ all. gives (state self.old) (state self.new) name.now (Some all.items)) }
+        ensures whole { IfOk result (λ all. gives (state self.old) (state self.new) name.now (Ok all.items)) }
         ensures short { IfOk result (λ all. length all.items ≤ greatest_input) }
-        ensures failed { IfErr result (λ fault. fault ≡ Failed → gives (state self.old) (state self.new) name.now None) };
+        ensures failed { IfErr result (λ fault. IfFailed fault (λ problem. gives (state self.old) (state self.new) name.now (Err problem))) };
 }
 
 /// The standard input alone.
@@ -73,7 +74,7 @@ impl<R: Reader> Inputs for Standard<R> {
 
     fn read(&mut self, alloc: Global, name: &str) -> Result<Vec<u8>, InputFault> {
         if name != "@" {
-            return Err(InputFault::Failed);
+            return Err(InputFault::Failed(InputProblem::Missing));
         }
         read_input(alloc, &mut self.reader)
     }
@@ -101,37 +102,65 @@ impl<F: Files, R: Reader> Inputs for Named<'_, F, R> {
 
 /// Reads a file of the system to its end.
 fn read_file<F: Files>(alloc: Global, files: &F, name: &str) -> Result<Vec<u8>, InputFault>
-    ensures whole { IfOk result (λ all. GivesFile F.File.remaining (Some all.items)) }
+    ensures whole { IfOk result (λ all. GivesFile F.File.remaining (Ok all.items)) }
     ensures short { IfOk result (λ all. length all.items ≤ greatest_input) }
+    ensures failed { IfErr result (λ fault. IfFailed fault (λ problem. GivesFile F.File.remaining (Err problem))) }
 {
     match fs::open(files, name) {
-        Ok(file) => read_input(alloc, &mut In::new(file)),
+        Ok(file) => read_opened(alloc, files, name, file),
         Err(error) if error.kind() == ErrorKind::OutOfMemory => Err(InputFault::NoMemory),
-        Err(_) => Err(InputFault::Failed),
+        Err(error) => Err(InputFault::Failed(InputProblem::of_opening(error.kind()))),
+    }
+}
+
+/// Reads an open file to its end. A folder is told as one: the system opens it, and refuses to read it.
+fn read_opened<F: Files>(
+    alloc: Global,
+    files: &F,
+    name: &str,
+    file: F::File,
+) -> Result<Vec<u8>, InputFault>
+    ensures whole { IfOk result (λ all. GivesFile F.File.remaining (Ok all.items)) }
+    ensures short { IfOk result (λ all. length all.items ≤ greatest_input) }
+    ensures failed { IfErr result (λ fault. IfFailed fault (λ problem. GivesFile F.File.remaining (Err problem))) }
+{
+    match read_input(alloc, &mut In::new(file)) {
+        Err(InputFault::Failed(InputProblem::ReadFailed)) if is_folder(files, name) => Err(
+            InputFault::Failed(InputProblem::Folder),
+        ),
+        answer => answer,
+    }
+}
+
+/// Whether a folder has this name.
+fn is_folder<F: Files>(files: &F, name: &str) -> bool {
+    match fs::metadata(files, name) {
+        Ok(metadata) => metadata.is_dir(),
+        Err(_) => false,
     }
 }
 
 /// Reads to the end, which has to come within `MAX_INPUT` bytes and within as many reads: `Failed` where
-/// the reader fails or the end doesn't come, and `NoMemory` where memory was refused.
+/// the reader fails or the end doesn't come, with which of these it is, and `NoMemory` where memory was refused.
 pub fn read_input<R: Reader>(alloc: Global, reader: &mut R) -> Result<Vec<u8>, InputFault>
-    ensures whole { IfOk result (λ all. GivesWhole (R.state reader.old) (R.state reader.new) (Some all.items)) }
+    ensures whole { IfOk result (λ all. GivesWhole (R.state reader.old) (R.state reader.new) (Ok all.items)) }
     ensures short { IfOk result (λ all. length all.items ≤ greatest_input) }
-    ensures failed { IfErr result (λ fault. fault ≡ Failed → GivesWhole (R.state reader.old) (R.state reader.new) None) }
+    ensures failed { IfErr result (λ fault. IfFailed fault (λ problem. GivesWhole (R.state reader.old) (R.state reader.new) (Err problem))) }
 {
     let mut all = Vec::new(alloc);
     let mut part = [0u8; PART];
     for _ in 0..MAX_INPUT {
         let count = reader.get(&mut part);
         if reader.failed() {
-            return Err(InputFault::Failed);
+            return Err(InputFault::Failed(InputProblem::ReadFailed));
         }
         if count == 0 {
             return Ok(all);
         }
         if count > MAX_INPUT - all.len() {
-            return Err(InputFault::Failed);
+            return Err(InputFault::Failed(InputProblem::TooLong));
         }
         all.extend_from_slice(&part[..count])?;
     }
-    Err(InputFault::Failed)
+    Err(InputFault::Failed(InputProblem::Endless))
 }

@@ -1,8 +1,8 @@
 //! The simulator as one library: from the bytes of a source to the bytes of the answer.
 //!
 //! The commands are those of rtlsim_commands, and so is `Front`, by whose contract each call that has it for its first type parameter
-//! opens sources. `specs/Tools.antt` says what the program does for its words, `specs/Requests.antt` which files it reads for them, and
-//! `specs/Inputs.antt` what a read gives.
+//! opens sources. `specs/Tools.antt` says what the program does for its words, `specs/Requests.antt` which files it reads for them,
+//! `specs/Inputs.antt` what a read gives, and `specs/Unread.antt` what is told of an input that isn't read.
 #![tactic(auto)]
 
 mod arguments;
@@ -12,16 +12,19 @@ mod inputs;
 mod job;
 mod performing;
 mod prepared;
+mod problem;
 mod refusals;
 mod requests;
 mod simulating;
 mod streams;
 mod texts;
 mod tools;
+mod unread;
 
 pub use first_line::tool_first_line;
 pub use halves::halves_at_line;
 pub use inputs::{InputFault, Inputs, MAX_INPUT, Named, Standard, read_input};
+pub use problem::InputProblem;
 pub use rtlsim_commands::{
     CheckFault, ElabFault, ElabProblem, Fault, Forward, Front, LevelSummary, NameFault,
     NameProblem, Net, Pick, Reverse, Sink, SourceFile, Status, StimFault, Summary, Telling, eval,

@@ -4,9 +4,11 @@ ghost use Rattle.std.specs.Prelude.{◌≡◌};
 ghost use Rattle.rtlsim_commands.specs.Served.{ended};
 ghost use Rattle.rtl_sink.specs.Written.{Goes};
 ghost use Rattle.rtlsim_words.specs.Words.{IsOfWords};
-ghost use Rattle.rtlsim.specs.Tools.{RefusesWords, input_text, input_status};
+ghost use Rattle.rtlsim.specs.Tools.{RefusesWords};
+ghost use Rattle.rtlsim.specs.Unread as unread;
 
-use crate::inputs::InputFault;
+use crate::problem::InputProblem;
+use crate::unread::ReadFault;
 use rtl_sink::{Sink, push_text};
 use rtlsim_commands::{Status, ended_by_writes, push_memory};
 use rtlsim_words::Refused;
@@ -37,31 +39,41 @@ pub(crate) fn not_text(alloc: Global) -> Refused {
     }
 }
 
-/// Tells that an input failed, and answers the status.
-pub(crate) fn refuse_input<O: Sink, E: Sink>(fault: InputFault, out: &O, err: &mut E) -> Status
-    ensures told { Goes (E.state err.old) (E.state err.new) (input_text fault) }
-    ensures status { result ≡ ended (input_status fault) (O.state out.now) (E.state err.new) }
-{
-    push_input_fault(err, fault);
-    ended_by_writes(input_fault_status(fault), out, err)
-}
-
-/// Tells that an input failed.
-fn push_input_fault<S: Sink>(sink: &mut S, fault: InputFault)
-    ensures { Goes (S.state sink.old) (S.state sink.new) (input_text fault) }
+/// Tells why an input isn't read, with an explanation where that is asked for, and answers the status.
+pub(crate) fn refuse_input<O: Sink, E: Sink>(
+    fault: ReadFault<'_>,
+    explains: bool,
+    out: &O,
+    err: &mut E,
+) -> Status
+    ensures told { Goes (E.state err.old) (E.state err.new) (unread.fault_text explains fault) }
+    ensures status { result ≡ ended (unread.fault_status fault) (O.state out.now) (E.state err.new) }
 {
     match fault {
-        InputFault::Failed => push_text(sink, b"rtlsim: input\n"),
-        InputFault::NoMemory => push_memory(sink),
+        ReadFault::Unread { name, problem } => push_unread(name, problem, explains, err),
+        ReadFault::NoMemory => push_memory(err),
+    }
+    ended_by_writes(fault.status(), out, err)
+}
+
+/// Writes why an input isn't read.
+fn push_unread<S: Sink>(name: &str, problem: InputProblem, explains: bool, sink: &mut S)
+    ensures { Goes (S.state sink.old) (S.state sink.new) (unread.input_text explains (record { name = name.now; problem = problem })) }
+{
+    push_text(sink, b"rtlsim: input\n");
+    if explains {
+        explain_input(name, problem, sink);
     }
 }
 
-/// The status of an input that failed.
-fn input_fault_status(fault: InputFault) -> Status
-    ensures { result ≡ input_status fault }
+/// Writes what is behind it.
+fn explain_input<S: Sink>(name: &str, problem: InputProblem, sink: &mut S)
+    ensures { Goes (S.state sink.old) (S.state sink.new) (unread.input_explained (record { name = name.now; problem = problem })) }
 {
-    match fault {
-        InputFault::Failed => Status::Failed,
-        InputFault::NoMemory => Status::Memory,
-    }
+    push_text(sink, name.as_bytes());
+    push_text(sink, b": input: ");
+    push_text(sink, problem.reason().as_bytes());
+    push_text(sink, b"\nhelp: ");
+    push_text(sink, problem.help().as_bytes());
+    push_text(sink, b"\n");
 }

@@ -1,14 +1,15 @@
 //! What calls read.
 
-ghost use Rattle.std.specs.Prelude.{◌≡◌, Some, None, IfOk, IfErr, map, option_map};
+ghost use Rattle.std.specs.Prelude.{◌≡◌, Some, Ok, Err, IfOk, IfErr, map, option_map};
 ghost use Rattle.rtlsim.specs.Requests.{GivesTexts};
-ghost use Rattle.rtlsim.specs.Reads.{GivesAll, GivesMain, GivesMaybe};
+ghost use Rattle.rtlsim.specs.Reads.{GivesAll, GivesBoth, GivesMain, GivesMaybe, GivesOne};
 ghost use Rattle.rtlsim.specs.Texts.{read_view, texts_of, texts_view};
-ghost use Rattle.rtlsim.specs.declared.inputs.InputFault.TheVariants.{Failed};
+ghost use Rattle.rtlsim.specs.Unread.{IfUnread};
 
 use crate::halves::halves_at_line;
-use crate::inputs::{InputFault, Inputs};
+use crate::inputs::Inputs;
 use crate::requests::{file_of, stimulus_of};
+use crate::unread::ReadFault;
 use rtlsim_files::SourceFile;
 use rtlsim_words::Call;
 use std::alloc::Global;
@@ -92,14 +93,15 @@ impl ReadFile<'_> {
     }
 }
 
-/// Reads the files that a call names: those before the source, the source, the stimulus, and that of what is expected.
+/// Reads the files that a call names: those before the source, the source, the stimulus, and that of what is expected. The first that
+/// isn't read is told.
 pub(crate) fn read_texts<'a, I: Inputs>(
     alloc: Global,
     call: &Call<'a>,
     inputs: &mut I,
-) -> Result<Texts<'a>, InputFault>
-    ensures given { IfOk result (λ texts. GivesTexts I.gives call.now (I.state inputs.old) (I.state inputs.new) (Some (texts_view texts))) }
-    ensures failed { IfErr result (λ fault. fault ≡ Failed → GivesTexts I.gives call.now (I.state inputs.old) (I.state inputs.new) None) }
+) -> Result<Texts<'a>, ReadFault<'a>>
+    ensures given { IfOk result (λ texts. GivesTexts I.gives call.now (I.state inputs.old) (I.state inputs.new) (Ok (texts_view texts))) }
+    ensures failed { IfErr result (λ fault. IfUnread fault (λ unread. GivesTexts I.gives call.now (I.state inputs.old) (I.state inputs.new) (Err unread))) }
 {
     let file = file_of(&call.request);
     let before = read_files(alloc, &call.extras.with, inputs)?;
@@ -113,19 +115,34 @@ pub(crate) fn read_texts<'a, I: Inputs>(
     })
 }
 
+/// Reads the file of a name.
+fn read_one<'a, I: Inputs>(
+    alloc: Global,
+    name: &'a str,
+    inputs: &mut I,
+) -> Result<Vec<u8>, ReadFault<'a>>
+    ensures given { IfOk result (λ text. GivesOne I.gives name.now (I.state inputs.old) (I.state inputs.new) (Ok text.items)) }
+    ensures failed { IfErr result (λ fault. IfUnread fault (λ unread. GivesOne I.gives name.now (I.state inputs.old) (I.state inputs.new) (Err unread))) }
+{
+    match inputs.read(alloc, name) {
+        Ok(text) => Ok(text),
+        Err(fault) => Err(ReadFault::of(name, fault)),
+    }
+}
+
 /// Reads the files of these names, in order.
 fn read_files<'a, I: Inputs>(
     alloc: Global,
     names: &[&'a str],
     inputs: &mut I,
-) -> Result<Vec<ReadFile<'a>>, InputFault>
-    ensures given { IfOk result (λ files. GivesAll I.gives (map (λ name. name.now) names.now) (I.state inputs.old) (I.state inputs.new) (Some (map read_view files.items))) }
-    ensures failed { IfErr result (λ fault. fault ≡ Failed → GivesAll I.gives (map (λ name. name.now) names.now) (I.state inputs.old) (I.state inputs.new) None) }
+) -> Result<Vec<ReadFile<'a>>, ReadFault<'a>>
+    ensures given { IfOk result (λ files. GivesAll I.gives (map (λ name. name.now) names.now) (I.state inputs.old) (I.state inputs.new) (Ok (map read_view files.items))) }
+    ensures failed { IfErr result (λ fault. IfUnread fault (λ unread. GivesAll I.gives (map (λ name. name.now) names.now) (I.state inputs.old) (I.state inputs.new) (Err unread))) }
 {
     let mut files = Vec::new(alloc);
     let mut left = names;
     while let [name, others @ ..] = left {
-        let text = inputs.read(alloc, name)?;
+        let text = read_one(alloc, name, inputs)?;
         files.push(ReadFile { name, text })?;
         left = others;
     }
@@ -133,50 +150,50 @@ fn read_files<'a, I: Inputs>(
 }
 
 /// Reads a source, and then a stimulus if one is named; where both are the standard input, one input has both.
-fn read_main<I: Inputs>(
+fn read_main<'a, I: Inputs>(
     alloc: Global,
-    file: &str,
-    stimulus: Option<&str>,
+    file: &'a str,
+    stimulus: Option<&'a str>,
     inputs: &mut I,
-) -> Result<Main, InputFault>
-    ensures given { IfOk result (λ main. GivesMain I.gives file.now (option_map (λ name. name.now) stimulus.entry) (I.state inputs.old) (I.state inputs.new) (Some (texts_of main))) }
-    ensures failed { IfErr result (λ fault. fault ≡ Failed → GivesMain I.gives file.now (option_map (λ name. name.now) stimulus.entry) (I.state inputs.old) (I.state inputs.new) None) }
+) -> Result<Main, ReadFault<'a>>
+    ensures given { IfOk result (λ main. GivesMain I.gives file.now (option_map (λ name. name.now) stimulus.entry) (I.state inputs.old) (I.state inputs.new) (Ok (texts_of main))) }
+    ensures failed { IfErr result (λ fault. IfUnread fault (λ unread. GivesMain I.gives file.now (option_map (λ name. name.now) stimulus.entry) (I.state inputs.old) (I.state inputs.new) (Err unread))) }
 {
     match stimulus {
-        None => Ok(Main::Alone(inputs.read(alloc, file)?)),
+        None => Ok(Main::Alone(read_one(alloc, file, inputs)?)),
         Some(stimulus) => read_both(alloc, file, stimulus, inputs),
     }
 }
 
 /// Reads a source and a stimulus.
-fn read_both<I: Inputs>(
+fn read_both<'a, I: Inputs>(
     alloc: Global,
-    file: &str,
-    stimulus: &str,
+    file: &'a str,
+    stimulus: &'a str,
     inputs: &mut I,
-) -> Result<Main, InputFault>
-    ensures given { IfOk result (λ main. GivesMain I.gives file.now (Some stimulus.now) (I.state inputs.old) (I.state inputs.new) (Some (texts_of main))) }
-    ensures failed { IfErr result (λ fault. fault ≡ Failed → GivesMain I.gives file.now (Some stimulus.now) (I.state inputs.old) (I.state inputs.new) None) }
+) -> Result<Main, ReadFault<'a>>
+    ensures given { IfOk result (λ main. GivesBoth I.gives file.now stimulus.now (I.state inputs.old) (I.state inputs.new) (Ok (texts_of main))) }
+    ensures failed { IfErr result (λ fault. IfUnread fault (λ unread. GivesBoth I.gives file.now stimulus.now (I.state inputs.old) (I.state inputs.new) (Err unread))) }
 {
     if file == "@" && stimulus == "@" {
-        return Ok(Main::Together(inputs.read(alloc, file)?));
+        return Ok(Main::Together(read_one(alloc, file, inputs)?));
     }
-    let source = inputs.read(alloc, file)?;
-    let stimulus = inputs.read(alloc, stimulus)?;
+    let source = read_one(alloc, file, inputs)?;
+    let stimulus = read_one(alloc, stimulus, inputs)?;
     Ok(Main::Apart { source, stimulus })
 }
 
 /// Reads a file, if one is named.
-fn read_maybe<I: Inputs>(
+fn read_maybe<'a, I: Inputs>(
     alloc: Global,
-    name: Option<&str>,
+    name: Option<&'a str>,
     inputs: &mut I,
-) -> Result<Option<Vec<u8>>, InputFault>
-    ensures given { IfOk result (λ text. GivesMaybe I.gives (option_map (λ name. name.now) name.entry) (I.state inputs.old) (I.state inputs.new) (Some (option_map (λ text. text.items) text))) }
-    ensures failed { IfErr result (λ fault. fault ≡ Failed → GivesMaybe I.gives (option_map (λ name. name.now) name.entry) (I.state inputs.old) (I.state inputs.new) None) }
+) -> Result<Option<Vec<u8>>, ReadFault<'a>>
+    ensures given { IfOk result (λ text. GivesMaybe I.gives (option_map (λ name. name.now) name.entry) (I.state inputs.old) (I.state inputs.new) (Ok (option_map (λ text. text.items) text))) }
+    ensures failed { IfErr result (λ fault. IfUnread fault (λ unread. GivesMaybe I.gives (option_map (λ name. name.now) name.entry) (I.state inputs.old) (I.state inputs.new) (Err unread))) }
 {
     match name {
         None => Ok(None),
-        Some(name) => Ok(Some(inputs.read(alloc, name)?)),
+        Some(name) => Ok(Some(read_one(alloc, name, inputs)?)),
     }
 }

@@ -71,7 +71,7 @@ pub fn tool_with<F: Front, I: Inputs, O: Sink, E: Sink, G: Sink>(
 
 /// Does what is asked for: reads the files before the source, the source, the stimulus and what is expected by `inputs`, and then does what
 /// the command does with the joined source: writes the result to `out`, what is told of it to `err`, and how far a run is to `progress`,
-/// and answers the status. It takes memory for the files, once more for the source where it is that of several, and as the command does.
+/// and answers the status. The first input that isn't read is told. It takes memory for the files, once more for the source where it is that of several, and as the command does.
 #[tactic(auto, unfolding(crate::specs::Tools::Performs))]
 pub fn perform<F: Front, I: Inputs, O: Sink, E: Sink, G: Sink>(
     alloc: Global,
@@ -88,6 +88,6 @@ pub fn perform<F: Front, I: Inputs, O: Sink, E: Sink, G: Sink>(
 {
     match read_texts(alloc, call, inputs) {
         Ok(texts) => perform_texts::<F, _, _, _>(alloc, call, &texts, out, err, progress),
-        Err(fault) => refuse_input(fault, out, err),
+        Err(fault) => refuse_input(fault, call.extras.explains, out, err),
     }
 }

@@ -5,6 +5,7 @@ pub mod Words
 -- what is said of it
 pub mod Forms
 pub mod Faults
+pub mod Races
 -- explanations
 pub mod Explained
 pub mod Stimuli

@@ -9,6 +9,7 @@ use Rattle.rtl_stim_lines.specs.declared.faults.StimProblem.{StimProblem}
 use Rattle.rtl_stim_lines.specs.declared.faults.StimProblem.TheVariants as problem
 use Rattle.rtlsim_explain.specs.Explained.{Heading, title_text, help_line}
 use Rattle.rtlsim_explain.specs.Places.{line_after}
+use Rattle.rtlsim_explain.specs.Races.{race_line}
 
 -- ---- what is said of a line
 
@@ -68,13 +69,24 @@ stop_explained file h =
 abbrev pub race_help : List ℕ
 race_help = codes "let the input change at another time than the clock's edge, as real data does: at that edge the order would count"
 
-abbrev pub race_between : (file : List ℕ) → Heading → (time : ℕ) → (input clock : List ℕ) → List ℕ
-race_between file h time input clock =
-    file_head file h ++ codes "at " ++ decimal time ++ codes " ns the input " ++ input ++ codes " changes at an edge of the clock " ++ clock
-    ++ codes "\n" ++ help_line race_help
+-- a race, in the line that makes the input change, which is shown; in the stimulus where there is none
+abbrev pub race_head : (file : List ℕ) → Heading → (line : Option ℕ) → List ℕ
+race_head file h None = file_head file h
+race_head file h (Some line) = line_head file h line
 
-abbrev pub race_explained : (file : List ℕ) → Heading → NetlistView → (time input clock : ℕ) → List ℕ
-race_explained file h net time input clock = race_between file h time (net_name net input) (net_name net clock)
+abbrev pub race_shown : (line : Option ℕ) → (text : Option (List ℕ)) → List ℕ
+race_shown None text = []
+race_shown (Some line) text = shown_line line text
+
+abbrev pub race_sentence : (time : ℕ) → (input clock : List ℕ) → List ℕ
+race_sentence time input clock = codes "at " ++ decimal time ++ codes " ns the input " ++ input ++ codes " changes at an edge of the clock " ++ clock ++ codes "\n"
+
+abbrev pub race_in : (file : List ℕ) → (text : Option (List ℕ)) → Heading → (line : Option ℕ) → (sentence : List ℕ) → List ℕ
+race_in file text h line sentence = race_head file h line ++ sentence ++ race_shown line text ++ help_line race_help
+
+abbrev pub race_explained : (file : List ℕ) → (text : Option (List ℕ)) → Heading → NetlistView → (time input clock : ℕ) → List ℕ
+race_explained file text h net time input clock =
+    race_in file text h (race_line net time input text) (race_sentence time (net_name net input) (net_name net clock))
 
 -- a fault that names no net
 abbrev pub plain_explained : (file : List ℕ) → (text : Option (List ℕ)) → Heading → StimFault → List ℕ
@@ -88,7 +100,7 @@ is_race (Race time input clock) = true
 is_race _ = false
 
 abbrev pub stim_explained : (file : List ℕ) → (text : Option (List ℕ)) → Heading → NetlistView → StimFault → List ℕ
-stim_explained file text h net (Race time input clock) = race_explained file h net time input clock
+stim_explained file text h net (Race time input clock) = race_explained file text h net time input clock
 stim_explained file text h net fault = plain_explained file text h fault
 
 abbrev pub settle_help : List ℕ

@@ -9,6 +9,7 @@ ghost use Rattle.rtlsim_listing.specs.declared.fault.ListingFault.TheVariants.{M
 
 use crate::explaining::{Title, push_help, push_title};
 use crate::place::line_after;
+use crate::race::race_line;
 use rtl_net::Net;
 use rtl_sink::{Sink, finish, push_number, push_text};
 use rtl_stim_lines::{StimFault, StimProblem};
@@ -24,11 +25,11 @@ const SETTLE_HELP: &str =
     "see what check tells: processes that feed each other in a circle, or a latch or clock that is made inside";
 
 /// Explains why a stimulus is refused, whose text shows the line, or a NAME=VALUE word, without a text. It takes the memory of two names
-/// at a race.
+/// and of the words of a line at a race.
 ///
 /// # Errors
 ///
-/// `Memory` where a name's memory was refused, and `Write` where the sink failed: what went out is a beginning of the text.
+/// `Memory` where a name's or a line's memory was refused, and `Write` where the sink failed: what went out is a beginning of the text.
 pub fn explain_stim<S: Sink>(
     alloc: Global,
     file: &[u8],
@@ -47,6 +48,7 @@ pub fn explain_stim<S: Sink>(
         StimFault::Race { time, input, clock } => explain_race(
             alloc,
             file,
+            text,
             net,
             title,
             (time, input, clock),
@@ -63,33 +65,41 @@ pub fn explain_stim<S: Sink>(
 fn explain_race<S: Sink>(
     alloc: Global,
     file: &[u8],
+    text: Option<&[u8]>,
     net: &Net,
     title: Title,
     race: (u64, usize, usize),
     sink: &mut S,
 ) -> Result<(), ListingFault>
     requires intact { IsIntact (S.state sink.old) }
-    ensures { IsListed result (S.state sink.old) (S.state sink.new) (spec.race_explained file.now (said.heading_of title) net.now race.0 race.1 race.2) }
+    ensures { IsListed result (S.state sink.old) (S.state sink.new)
+        (spec.race_explained file.now (option_map (λ t. t.now) text.entry) (said.heading_of title) net.now race.0 race.1 race.2) }
 {
     let (time, input, clock) = race;
+    let line = race_line(alloc, net, time, input, text)?;
     let input = net_name(alloc, net, input)?;
     let clock = net_name(alloc, net, clock)?;
-    push_race(file, title, time, &input, &clock, sink);
+    push_race_head(file, title, line, sink);
+    push_race(time, &input, &clock, sink);
+    push_race_line(line, text, sink);
+    push_help(RACE_HELP, sink);
     Ok(finish(sink)?)
 }
 
-/// Writes the explanation of a race between two nets of these names.
-fn push_race<S: Sink>(
-    file: &[u8],
-    title: Title,
-    time: u64,
-    input: &[u8],
-    clock: &[u8],
-    sink: &mut S,
-)
-    ensures { Goes (S.state sink.old) (S.state sink.new) (spec.race_between file.now (said.heading_of title) time input.now clock.now) }
+/// Writes a race's place and title.
+fn push_race_head<S: Sink>(file: &[u8], title: Title, line: Option<usize>, sink: &mut S)
+    ensures { Goes (S.state sink.old) (S.state sink.new) (spec.race_head file.now (said.heading_of title) line) }
 {
-    push_file_head(file, title, sink);
+    match line {
+        Some(line) => push_line_head(file, title, line, sink),
+        None => push_file_head(file, title, sink),
+    }
+}
+
+/// Writes what races: two nets of these names.
+fn push_race<S: Sink>(time: u64, input: &[u8], clock: &[u8], sink: &mut S)
+    ensures { Goes (S.state sink.old) (S.state sink.new) (spec.race_sentence time input.now clock.now) }
+{
     push_text(sink, b"at ");
     push_number(sink, time);
     push_text(sink, b" ns the input ");
@@ -97,7 +107,16 @@ fn push_race<S: Sink>(
     push_text(sink, b" changes at an edge of the clock ");
     push_text(sink, clock);
     push_text(sink, b"\n");
-    push_help(RACE_HELP, sink);
+}
+
+/// Writes the line that makes the input change, where there is one.
+fn push_race_line<S: Sink>(line: Option<usize>, text: Option<&[u8]>, sink: &mut S)
+    ensures { Goes (S.state sink.old) (S.state sink.new) (spec.race_shown line (option_map (λ t. t.now) text.entry)) }
+{
+    match line {
+        Some(line) => push_shown(line, text, sink),
+        None => push_text(sink, b""),
+    }
 }
 
 /// Writes the explanation of a fault that names no net.

@@ -32,7 +32,7 @@ fn unread_among(word: &[u8], fallback: Form) -> Form
 }
 
 /// Whether two texts are one word, in capitals or small letters.
-fn is_same_word(first: &[u8], second: &[u8]) -> bool
+pub(crate) fn is_same_word(first: &[u8], second: &[u8]) -> bool
     ensures { result ≡ str_eq_ignore_ascii_case first.now second.now }
 {
     first.eq_ignore_ascii_case(second)

@@ -1,0 +1,69 @@
+-- Why an input isn't read, and what is told of it.
+use Rattle.std.specs.Prelude.{ℕ, Bool, ⊤, if◌then◌else◌, List, [], ◌++◌, codes}
+use Rattle.rtlsim_faults.specs.Lines.{memory_line, input_line}
+use Rattle.rtlsim_faults.specs.declared.status.Status.{Status}
+use Rattle.rtlsim_faults.specs.declared.status.Status.TheVariants as status
+use Rattle.rtlsim.specs.declared.problem.InputProblem.{InputProblem}
+use Rattle.rtlsim.specs.declared.problem.InputProblem.TheVariants.{Missing, Denied, Folder, NotOpened, ReadFailed, TooLong, Endless}
+use Rattle.rtlsim.specs.declared.unread.ReadFault.{ReadFault}
+use Rattle.rtlsim.specs.declared.unread.ReadFault.TheVariants as fault
+use Rattle.std_io.specs.declared.io.kind.ErrorKind.{ErrorKind}
+use Rattle.std_io.specs.declared.io.kind.ErrorKind.TheVariants as kind
+
+-- an input that isn't read: its name, as it was given, and why
+pub record Unread : Type 0 where
+  pub name : List ℕ
+  pub problem : InputProblem
+
+-- why a file isn't opened, by what the system says
+abbrev pub opening_problem : ErrorKind → InputProblem
+opening_problem kind.NotFound = Missing
+opening_problem kind.PermissionDenied = Denied
+opening_problem kind.IsADirectory = Folder
+opening_problem other = NotOpened
+
+-- ---- what is said of it
+
+abbrev pub reason_of : InputProblem → List ℕ
+reason_of Missing = codes "there is no file of this name"
+reason_of Denied = codes "it isn't readable for this user"
+reason_of Folder = codes "it is a folder"
+reason_of NotOpened = codes "it can't be opened"
+reason_of ReadFailed = codes "reading it failed"
+reason_of TooLong = codes "it has more than 33554432 bytes"
+reason_of Endless = codes "33554432 reads of it came to no end"
+
+-- what is to be done about it
+abbrev pub help_of : InputProblem → List ℕ
+help_of Missing = codes "see the spelling, and the folder that the program runs in; @ names the standard input"
+help_of Denied = codes "let this user read it, and enter each folder on the way to it"
+help_of Folder = codes "name a file in it"
+help_of NotOpened = codes "see that each part of its name but the last is a folder"
+help_of ReadFailed = codes "copy it by another program: that shows whether its disk or the other end of its pipe is at fault"
+help_of TooLong = codes "split it; of a source no more than 4194304 bytes are read"
+help_of Endless = codes "write what it gives into a file, and name that"
+
+-- "NAME: input: REASON", and the help below
+abbrev pub input_explained : Unread → List ℕ
+input_explained unread =
+    unread.name ++ codes ": input: " ++ reason_of unread.problem ++ codes "\n" ++ codes "help: " ++ help_of unread.problem ++ codes "\n"
+
+-- the line, and below it the explanation where that is asked for
+abbrev pub input_text : (explains : Bool) → Unread → List ℕ
+input_text explains unread = input_line ++ (if explains then input_explained unread else [])
+
+-- ---- of what reading ends with
+
+-- the text and the status of an input that isn't read, or of want of memory
+abbrev pub fault_text : (explains : Bool) → ReadFault → List ℕ
+fault_text explains (fault.Unread name problem) = input_text explains (record { name = name.now; problem = problem })
+fault_text explains fault.NoMemory = memory_line
+
+abbrev pub fault_status : ReadFault → Status
+fault_status (fault.Unread name problem) = status.Failed
+fault_status fault.NoMemory = status.Memory
+
+-- this holds of the input that isn't read, where it is one
+abbrev pub IfUnread : ReadFault → (Unread → Type 0) → Type 0
+IfUnread (fault.Unread name problem) Holds = Holds (record { name = name.now; problem = problem })
+IfUnread fault.NoMemory Holds = ⊤

@@ -1,0 +1,43 @@
+-- Which line of a stimulus makes an input change at a time.
+use Rattle.std.specs.Prelude.{ℕ, suc, ◌==◌, ◌&&◌, nat_le, Bool, false, if◌then◌else◌, List, [], ◌∷◌, Option, Some, None}
+use Rattle.std.specs.List.{list_any}
+use Rattle.std.specs.Str.{str_eq_ignore_ascii_case}
+use Rattle.rtl_net.specs.Nets.{NetlistView, SignalView}
+use Rattle.rtl_stim_lines.specs.Forms.{Form, At, Clock, form_of}
+use Rattle.rtl_stim_lines.specs.Lines.{lines_of, words_of}
+use Rattle.rtl_stim_lines.specs.Reading.{latest_time}
+
+-- ---- the port
+
+-- the name of the first of these signals that has the net, empty where none has it
+abbrev pub name_with : (net : ℕ) → List SignalView → List ℕ
+name_with net [] = []
+name_with net (signal ∷ signals) = if list_any (λ n. n == net) signal.nets then signal.name else name_with net signals
+
+-- the port that an input's net is an element of: the top's ports are declared before all else
+abbrev pub port_of : NetlistView → (input : ℕ) → List ℕ
+port_of net input = name_with input net.signals
+
+-- ---- the line
+
+-- a line of this form sets the port at this time, or makes it a clock; letters are of either case
+abbrev pub form_sets : (port : List ℕ) → (time : ℕ) → Option Form → Bool
+form_sets port time (Some (At at name value)) = (nat_le at latest_time && at == time) && str_eq_ignore_ascii_case name port
+form_sets port time (Some (Clock name first half)) = str_eq_ignore_ascii_case name port
+form_sets port time _ = false
+
+abbrev pub line_sets : (port : List ℕ) → (time : ℕ) → (line : List ℕ) → Bool
+line_sets port time line = form_sets port time (form_of (words_of line))
+
+-- the number of the first of these lines that does, the first of which has this number
+abbrev pub line_among : (port : List ℕ) → (time : ℕ) → (number : ℕ) → List (List ℕ) → Option ℕ
+line_among port time number [] = None
+line_among port time number (line ∷ lines) = if line_sets port time line then Some number else line_among port time (suc number) lines
+
+abbrev pub setting_line : (port : List ℕ) → (time : ℕ) → (text : List ℕ) → Option ℕ
+setting_line port time text = line_among port time 1 (lines_of text)
+
+-- the line that makes an input change at a time, where there is a text
+abbrev pub race_line : NetlistView → (time input : ℕ) → (text : Option (List ℕ)) → Option ℕ
+race_line net time input None = None
+race_line net time input (Some text) = setting_line (port_of net input) time text
