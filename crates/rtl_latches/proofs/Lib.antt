@@ -1,4 +1,5 @@
 mod Runs
 pub mod Assigned
 pub mod Rows
+mod Walking
 mod There

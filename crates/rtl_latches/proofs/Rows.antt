@@ -1,5 +1,5 @@
 -- Where a node leaves an assignment out, by the lists in it.
-use Rattle.std.proofs.Common.{◌≡◌, ℕ, suc, Bool, List, Option, Some, None, Vec, Global, refl, sym, ap, ◌∙◌}
+use Rattle.std.proofs.Common.{◌≡◌, ℕ, ◌+◌, Bool, List, Option, Some, None, Vec, Global, refl, sym, ap, ◌∙◌}
 use Rattle.std.specs.Prelude.{if◌then◌else◌}
 use mathlib.Core.Former.{Count}
 use Rattle.rtl_model.specs.bodies.Body as bodies
@@ -42,7 +42,7 @@ module _ (these : Target → Bool) where
       let p : statements_row x ≡ statements_of (shown-the_row-Statement-0 shape x).items = statements-row _ x ∙ ap statements_of q in
       let r : itself_or these (o.Branch at number) (statements_row x) (in_row these x) ≡ part_omission these (o.Branch at number) (shown-the_row-Statement-0 shape x).items =
       part-is (o.Branch at number) _ x ∙ ap (part_omission these (o.Branch at number)) q in
-      λ i. if must_assign these (p i) then branches-is at last (suc number) _ rest i else r i
+      λ i. if must_assign these (p i) then branches-is at last (number + 1) _ rest i else r i
 
   alternatives-is : (at : ℕ) (last : ℕ → Option Omission) (number : ℕ) (n : Count) (row : Row_of-Alternative n)
       → in_alternatives these at last number row ≡ alternatives_omission these at last number (items-the_row-Alternative n row)
@@ -52,7 +52,7 @@ module _ (these : Target → Bool) where
       let p : statements_row x ≡ statements_of (shown-the_row-Statement-0 shape x).items = statements-row _ x ∙ ap statements_of q in
       let r : itself_or these (o.Alternative at number) (statements_row x) (in_row these x) ≡ part_omission these (o.Alternative at number) (shown-the_row-Statement-0 shape x).items =
       part-is (o.Alternative at number) _ x ∙ ap (part_omission these (o.Alternative at number)) q in
-      λ i. if must_assign these (p i) then alternatives-is at last (suc number) _ rest i else r i
+      λ i. if must_assign these (p i) then alternatives-is at last (number + 1) _ rest i else r i
 
   pub in_if : (x : Statement) (at : ℕ) (branches : Vec Branch Global) (v : Vec Statement Global) → x ≡ vs.If at branches (Some v)
       → in_statement these x ≡ branches_omission these at (λ number. part_omission these (o.Branch at number) v.items) 1 branches.items

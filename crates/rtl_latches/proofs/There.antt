@@ -1,5 +1,5 @@
 -- Where an assignment stands in a body, and not on all paths, a place is found.
-use Rattle.std.proofs.Common.{◌≡◌, ℕ, suc, Bool, true, false, ◌&&◌, ◌||◌, not, ◌⊎◌, inl, inr, Option, Some, None, refl, sym, ap, ◌∙◌, List, [], ◌∷◌}
+use Rattle.std.proofs.Common.{◌≡◌, ℕ, ◌+◌, Bool, true, false, ◌&&◌, ◌||◌, not, ◌⊎◌, inl, inr, Option, Some, None, refl, sym, ap, ◌∙◌, List, [], ◌∷◌}
 use Rattle.std.specs.Prelude.{IsSome, if◌then◌else◌}
 use Rattle.std.proofs.lemmas.Bool.{cases_Bool}
 use mathlib.Core.Former.{Count}
@@ -37,7 +37,7 @@ or-second false b h = h
 -- what doesn't leave an assignment out, and doesn't assign on all paths, has none
 later : (a m r : Bool) → (a && not m) ≡ false → m ≡ false → (a || r) ≡ true → r ≡ true
 later true m r no f t = absurd (let e : true ≡ false = sym (ap not f) ∙ no in cc)
-later false m r no f t = t
+later false m r _ f t = t
 
 chosen : {A : Type 0} (b : Bool) (x y : Option A) → (b ≡ true → IsSome x) → (b ≡ false → IsSome y) → IsSome (if b then x else y)
 chosen true x y f g = f refl
@@ -46,14 +46,14 @@ chosen false x y f g = g refl
 module _ (these : Target → Bool) where
   there-part : (itself : Omission) (xs : bodies.Stmts) (within : Option Omission) → (stmts_assign these xs ≡ true → must_assign these xs ≡ false → IsSome within)
       → must_assign these xs ≡ false → IsSome (itself_or these itself xs within)
-  there-part itself xs within found f = chosen (stmts_assign these xs) within (Some itself) (λ t. found t f) (λ no. tt)
+  there-part itself xs within found f = chosen (stmts_assign these xs) within (Some itself) (λ t. found t f) (λ no. refl)
 
   mutual
     there-statement : (x : Statement) → leaves_out these x ≡ true → IsSome (in_statement these x)
     there-statement vs.Null h = absurd cc
     there-statement (vs.Assign places value) h = absurd (not-both _ h)
     there-statement (vs.Set elements value) h = absurd (not-both _ h)
-    there-statement (vs.If' at shape branches None') h = tt
+    there-statement (vs.If' at shape branches None') h = refl
     there-statement (vs.If' at shape branches (Some' of_last last)) h =
         there-branches at (λ k. itself_or these (o.Branch at k) (statements_row last) (in_row these last)) (bodies.otherwise (statements_row last))
         (λ f k. there-part (o.Branch at k) (statements_row last) (in_row these last) (there-row _ last) f) 1 _ branches
@@ -73,15 +73,15 @@ module _ (these : Target → Bool) where
         → branches_must_assign these (branches_row end row) ≡ false → IsSome (in_branches these at last number row)
     there-branches at last end ends number n end_of-Branch f = ends f number
     there-branches at last end ends number n (more_of-Branch test shape x rest) f =
-        chosen (must_assign these (statements_row x)) (in_branches these at last (suc number) rest) (itself_or these (o.Branch at number) (statements_row x) (in_row these x))
-        (λ t. there-branches at last end ends (suc number) _ rest (and-rest (must_assign these (statements_row x)) _ t f)) (there-part (o.Branch at number) (statements_row x) (in_row these x) (there-row _ x))
+        chosen (must_assign these (statements_row x)) (in_branches these at last (number + 1) rest) (itself_or these (o.Branch at number) (statements_row x) (in_row these x))
+        (λ t. there-branches at last end ends (number + 1) _ rest (and-rest (must_assign these (statements_row x)) _ t f)) (there-part (o.Branch at number) (statements_row x) (in_row these x) (there-row _ x))
 
     there-alternatives : (at : ℕ) (last : ℕ → Option Omission) (end : bodies.Stmts) → (must_assign these end ≡ false → (k : ℕ) → IsSome (last k)) → (number : ℕ) (n : Count) (row : Row_of-Alternative n)
         → alternatives_must_assign these (alternatives_row end row) ≡ false → IsSome (in_alternatives these at last number row)
     there-alternatives at last end ends number n end_of-Alternative f = ends f number
     there-alternatives at last end ends number n (more_of-Alternative choices shape x rest) f =
-        chosen (must_assign these (statements_row x)) (in_alternatives these at last (suc number) rest) (itself_or these (o.Alternative at number) (statements_row x) (in_row these x))
-        (λ t. there-alternatives at last end ends (suc number) _ rest (and-rest (must_assign these (statements_row x)) _ t f)) (there-part (o.Alternative at number) (statements_row x) (in_row these x) (there-row _ x))
+        chosen (must_assign these (statements_row x)) (in_alternatives these at last (number + 1) rest) (itself_or these (o.Alternative at number) (statements_row x) (in_row these x))
+        (λ t. there-alternatives at last end ends (number + 1) _ rest (and-rest (must_assign these (statements_row x)) _ t f)) (there-part (o.Alternative at number) (statements_row x) (in_row these x) (there-row _ x))
 
   -- of a list
   pub omission_there : (xs : List Statement) → stmts_assign these (statements_of xs) ≡ true → must_assign these (statements_of xs) ≡ false → IsSome (omission_of these xs)

@@ -1,3 +1,4 @@
 pub mod Assigning
 pub mod Omissions
+pub mod Walks
 pub mod Laws

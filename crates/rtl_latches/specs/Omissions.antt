@@ -1,7 +1,7 @@
 -- Where a body leaves out an assignment: the first place in the text at which a path that takes none of it parts from one that
 -- does. It's looked for in the first statement that assigns on some path and not on all, and there in the first branch or
 -- alternative that doesn't on all.
-use Rattle.std.specs.Prelude.{ℕ, suc, Bool, not, ◌&&◌, if◌then◌else◌, List, [], ◌∷◌, Option, Some, None}
+use Rattle.std.specs.Prelude.{ℕ, ◌+◌, Bool, not, ◌&&◌, if◌then◌else◌, List, [], ◌∷◌, Option, Some, None}
 use Rattle.rtl_model.specs.bodies.Assigns.{Target, must_assign, stmt_must_assign}
 use Rattle.rtl_model.specs.bodies.Body.{Stmts}
 use Rattle.rtl_net.specs.Bodies.{statement_view, statements_row, statements_of}
@@ -42,13 +42,13 @@ abbrev mutual
   pub in_branches : {n : _} → (these : Target → Bool) → (at : ℕ) → (last : ℕ → Option Omission) → (number : ℕ) → Row_of-Branch n → Option Omission
   in_branches these at last number end_of-Branch = last number
   in_branches these at last number (more_of-Branch test shape xs rest) =
-      if must_assign these (statements_row xs) then in_branches these at last (suc number) rest
+      if must_assign these (statements_row xs) then in_branches these at last (number + 1) rest
       else itself_or these (o.Branch at number) (statements_row xs) (in_row these xs)
 
   pub in_alternatives : {n : _} → (these : Target → Bool) → (at : ℕ) → (last : ℕ → Option Omission) → (number : ℕ) → Row_of-Alternative n → Option Omission
   in_alternatives these at last number end_of-Alternative = last number
   in_alternatives these at last number (more_of-Alternative choices shape xs rest) =
-      if must_assign these (statements_row xs) then in_alternatives these at last (suc number) rest
+      if must_assign these (statements_row xs) then in_alternatives these at last (number + 1) rest
       else itself_or these (o.Alternative at number) (statements_row xs) (in_row these xs)
 
 -- ---- the same of lists
@@ -63,11 +63,11 @@ part_omission these itself xs = itself_or these itself (statements_of xs) (omiss
 abbrev pub branches_omission : (these : Target → Bool) → (at : ℕ) → (last : ℕ → Option Omission) → (number : ℕ) → List Branch → Option Omission
 branches_omission these at last number [] = last number
 branches_omission these at last number (b ∷ bs) =
-    if must_assign these (statements_of b.statements.items) then branches_omission these at last (suc number) bs
+    if must_assign these (statements_of b.statements.items) then branches_omission these at last (number + 1) bs
     else part_omission these (o.Branch at number) b.statements.items
 
 abbrev pub alternatives_omission : (these : Target → Bool) → (at : ℕ) → (last : ℕ → Option Omission) → (number : ℕ) → List Alternative → Option Omission
 alternatives_omission these at last number [] = last number
 alternatives_omission these at last number (b ∷ bs) =
-    if must_assign these (statements_of b.statements.items) then alternatives_omission these at last (suc number) bs
+    if must_assign these (statements_of b.statements.items) then alternatives_omission these at last (number + 1) bs
     else part_omission these (o.Alternative at number) b.statements.items

@@ -1,9 +1,9 @@
 //! The first place in the text that leaves out the assignment of a net.
 
-ghost use Rattle.std.specs.Prelude.{◌≡◌, ◌+◌, length, suc};
+ghost use Rattle.std.specs.Prelude.{◌≡◌};
 ghost use Rattle.rtl_net_facts.specs.Paths.{to_net};
 ghost use Rattle.rtl_latches.specs.Omissions as spec;
-ghost use Rattle.rtl_latches.specs.declared.omission.Omission.TheVariants as o;
+ghost use Rattle.rtl_latches.specs.Walks as walks;
 
 use crate::assigning::{assigns, statement_assigns};
 use crate::paths::{covers, statement_covers};
@@ -18,6 +18,14 @@ pub enum Omission {
     Branch { at: u32, number: usize },
     /// An alternative of a case, counted from 1; the others are the last.
     Alternative { at: u32, number: usize },
+}
+
+/// What a walk over branches or alternatives comes to.
+enum Walked {
+    /// To one that doesn't assign the net on every path: where that leaves it out.
+    Open(Option<Omission>),
+    /// To the end: the number of the next one.
+    Closed { next: usize },
 }
 
 /// Whether a statement assigns a net on some path, and not on all.
@@ -56,59 +64,57 @@ fn statement_omission(statement: &Statement, drives: &[Driver], net: usize) -> O
             otherwise,
         } => match otherwise {
             None => Some(Omission::NoElse { at: *at }),
-            Some(last) => branches_omission(*at, branches, last, drives, net),
+            Some(last) => match in_branches(*at, branches, drives, net) {
+                Walked::Open(found) => found,
+                Walked::Closed { next } => {
+                    part_omission(Omission::Branch { at: *at, number: next }, last, drives, net)
+                }
+            },
         },
         Statement::Case {
             at,
             alternatives,
             others,
             ..
-        } => alternatives_omission(*at, alternatives, others, drives, net),
+        } => match in_alternatives(*at, alternatives, drives, net) {
+            Walked::Open(found) => found,
+            Walked::Closed { next } => {
+                part_omission(Omission::Alternative { at: *at, number: next }, others, drives, net)
+            }
+        },
     }
 }
 
-/// The same of the branches of an if, and its else.
+/// What the branches of an if come to, without its else.
 #[cycle(omission)]
-fn branches_omission(
-    at: u32,
-    branches: &[Branch],
-    last: &[Statement],
-    drives: &[Driver],
-    net: usize,
-) -> Option<Omission>
-    ensures { result ≡ spec.branches_omission (to_net drives.now net) at (λ number. spec.part_omission (to_net drives.now net) (o.Branch at number) last.now) 1 branches.now }
+fn in_branches(at: u32, branches: &[Branch], drives: &[Driver], net: usize) -> Walked
+    ensures { result ≡ walks.walked_branches (to_net drives.now net) at 1 branches.now }
 {
     let mut number = 1;
     for branch in branches {
         if !covers(&branch.statements, drives, net) {
             let itself = Omission::Branch { at, number };
-            return part_omission(itself, &branch.statements, drives, net);
+            return Walked::Open(part_omission(itself, &branch.statements, drives, net));
         }
         number += 1;
     }
-    part_omission(Omission::Branch { at, number }, last, drives, net)
+    Walked::Closed { next: number }
 }
 
-/// The same of the alternatives of a case, and its others.
+/// What the alternatives of a case come to, without its others.
 #[cycle(omission)]
-fn alternatives_omission(
-    at: u32,
-    alternatives: &[Alternative],
-    others: &[Statement],
-    drives: &[Driver],
-    net: usize,
-) -> Option<Omission>
-    ensures { result ≡ spec.alternatives_omission (to_net drives.now net) at (λ number. spec.part_omission (to_net drives.now net) (o.Alternative at number) others.now) 1 alternatives.now }
+fn in_alternatives(at: u32, alternatives: &[Alternative], drives: &[Driver], net: usize) -> Walked
+    ensures { result ≡ walks.walked_alternatives (to_net drives.now net) at 1 alternatives.now }
 {
     let mut number = 1;
     for alternative in alternatives {
         if !covers(&alternative.statements, drives, net) {
             let itself = Omission::Alternative { at, number };
-            return part_omission(itself, &alternative.statements, drives, net);
+            return Walked::Open(part_omission(itself, &alternative.statements, drives, net));
         }
         number += 1;
     }
-    part_omission(Omission::Alternative { at, number }, others, drives, net)
+    Walked::Closed { next: number }
 }
 
 /// The same of a branch or an alternative that doesn't assign the net on every path.
