@@ -1,5 +1,5 @@
 -- Whether an assignment stands in a node, by its parts.
-use Rattle.std.proofs.Common.{◌≡◌, ℕ, Bool, true, false, ◌||◌, List, [], ◌∷◌, Option, Some, None, Vec, Global, refl, sym, ap, ◌∙◌}
+use Rattle.std.proofs.Common.{◌≡◌, ℕ, Bool, false, ◌||◌, List, [], ◌∷◌, Some, None, Vec, Global, refl, sym, ap, ◌∙◌}
 use Rattle.std.specs.List.{list_any}
 use Rattle.rtl_model.specs.bodies.Body as bodies
 use Rattle.rtl_model.specs.bodies.Assigns.{Target}
@@ -11,7 +11,7 @@ use Rattle.rtl_net.specs.declared.body.Alternative.{Alternative}
 use Rattle.rtl_net.specs.Indices.{numbers}
 use Rattle.rtl_net.specs.Bodies.{statement_view, statements_of, branches_of, alternatives_of}
 use Rattle.rtl_net.proofs.Rows.{view_if, view_case}
-use Rattle.rtl_net_facts.specs.Paths.{driven, to_net}
+use Rattle.rtl_net_facts.specs.Paths.{to_net}
 use Rattle.rtl_net_facts.proofs.Anys.{or_assoc, or_none}
 use Rattle.rtl_net.specs.declared.process.Driver.{Driver}
 use Rattle.rtl_latches.specs.Assigning.{stmt_assigns, stmts_assign, branches_assign, alternatives_assign, branch_assigns, alternative_assigns}

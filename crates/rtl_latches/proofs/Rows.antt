@@ -1,5 +1,5 @@
 -- Where a node leaves an assignment out, by the lists in it.
-use Rattle.std.proofs.Common.{◌≡◌, ℕ, ◌+◌, Bool, List, Option, Some, None, Vec, Global, refl, sym, ap, ◌∙◌}
+use Rattle.std.proofs.Common.{◌≡◌, ℕ, ◌+◌, Bool, Option, Some, None, Vec, Global, refl, sym, ap, ◌∙◌}
 use Rattle.std.specs.Prelude.{if◌then◌else◌}
 use mathlib.Core.Former.{Count}
 use Rattle.rtl_model.specs.bodies.Body as bodies

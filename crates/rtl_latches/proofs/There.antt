@@ -1,7 +1,6 @@
 -- Where an assignment stands in a body, and not on all paths, a place is found.
-use Rattle.std.proofs.Common.{◌≡◌, ℕ, ◌+◌, Bool, true, false, ◌&&◌, ◌||◌, not, ◌⊎◌, inl, inr, Option, Some, None, refl, sym, ap, ◌∙◌, List, [], ◌∷◌}
+use Rattle.std.proofs.Common.{◌≡◌, ℕ, ◌+◌, Bool, true, false, ◌&&◌, ◌||◌, not, Option, Some, refl, sym, ap, ◌∙◌, List, [], ◌∷◌}
 use Rattle.std.specs.Prelude.{IsSome, if◌then◌else◌}
-use Rattle.std.proofs.lemmas.Bool.{cases_Bool}
 use mathlib.Core.Former.{Count}
 use Rattle.rtl_model.specs.bodies.Body as bodies
 use Rattle.rtl_model.specs.bodies.Assigns.{Target, must_assign, branches_must_assign, alternatives_must_assign, stmt_must_assign}
@@ -36,7 +35,7 @@ or-second false b h = h
 
 -- what doesn't leave an assignment out, and doesn't assign on all paths, has none
 later : (a m r : Bool) → (a && not m) ≡ false → m ≡ false → (a || r) ≡ true → r ≡ true
-later true m r no f t = absurd (let e : true ≡ false = sym (ap not f) ∙ no in cc)
+later true m r kept f t = absurd (let e : true ≡ false = sym (ap not f) ∙ kept in cc)
 later false m r _ f t = t
 
 chosen : {A : Type 0} (b : Bool) (x y : Option A) → (b ≡ true → IsSome x) → (b ≡ false → IsSome y) → IsSome (if b then x else y)
@@ -46,7 +45,7 @@ chosen false x y f g = g refl
 module _ (these : Target → Bool) where
   there-part : (itself : Omission) (xs : bodies.Stmts) (within : Option Omission) → (stmts_assign these xs ≡ true → must_assign these xs ≡ false → IsSome within)
       → must_assign these xs ≡ false → IsSome (itself_or these itself xs within)
-  there-part itself xs within found f = chosen (stmts_assign these xs) within (Some itself) (λ t. found t f) (λ no. refl)
+  there-part itself xs within found f = chosen (stmts_assign these xs) within (Some itself) (λ t. found t f) (λ out. refl)
 
   mutual
     there-statement : (x : Statement) → leaves_out these x ≡ true → IsSome (in_statement these x)
@@ -67,7 +66,7 @@ module _ (these : Target → Bool) where
     there-row n end_of-Statement t f = absurd cc
     there-row n (more_of-Statement x rest) t f =
         chosen (leaves_out these x) (in_statement these x) (in_row these rest) (there-statement x)
-        (λ no. there-row _ rest (later (stmt_assigns these (statement_view x)) (stmt_must_assign these (statement_view x)) (stmts_assign these (statements_row rest)) no (or-first _ _ f) t) (or-second (stmt_must_assign these (statement_view x)) _ f))
+        (λ out. there-row _ rest (later (stmt_assigns these (statement_view x)) (stmt_must_assign these (statement_view x)) (stmts_assign these (statements_row rest)) out (or-first _ _ f) t) (or-second (stmt_must_assign these (statement_view x)) _ f))
 
     there-branches : (at : ℕ) (last : ℕ → Option Omission) (end : bodies.Branches) → (branches_must_assign these end ≡ false → (k : ℕ) → IsSome (last k)) → (number : ℕ) (n : Count) (row : Row_of-Branch n)
         → branches_must_assign these (branches_row end row) ≡ false → IsSome (in_branches these at last number row)
@@ -88,4 +87,4 @@ module _ (these : Target → Bool) where
   omission_there [] t f = absurd cc
   omission_there (x ∷ xs) t f =
       chosen (leaves_out these x) (in_statement these x) (omission_of these xs) (there-statement x)
-      (λ no. omission_there xs (later (stmt_assigns these (statement_view x)) (stmt_must_assign these (statement_view x)) (stmts_assign these (statements_of xs)) no (or-first _ _ f) t) (or-second (stmt_must_assign these (statement_view x)) _ f))
+      (λ out. omission_there xs (later (stmt_assigns these (statement_view x)) (stmt_must_assign these (statement_view x)) (stmts_assign these (statements_of xs)) out (or-first _ _ f) t) (or-second (stmt_must_assign these (statement_view x)) _ f))

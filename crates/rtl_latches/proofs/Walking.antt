@@ -1,13 +1,16 @@
 -- Walks over branches and alternatives, one at a time.
-use Rattle.std.proofs.Common.{◌≡◌, ℕ, ◌+◌, ◌<◌, Bool, true, false, List, [], ◌∷◌, length, get_or, drop, Option, refl, sym, ap, ◌∙◌}
+use Rattle.std.proofs.Common.{◌≡◌, ℕ, ◌+◌, ◌<◌, Bool, true, false, List, [], ◌∷◌, length, get_or, drop, Option, Some, Vec, Global, refl, sym, ap, ◌∙◌}
 use Rattle.std.specs.Prelude.{if◌then◌else◌}
 use Rattle.std.proofs.lemmas.List.{at_drop_more}
 use Rattle.rtl_model.specs.bodies.Assigns.{Target, must_assign}
 use Rattle.rtl_net.specs.Bodies.{statements_of}
+use Rattle.rtl_net.specs.declared.body.Value.{Value}
 use Rattle.rtl_net.specs.declared.body.Statement.{Statement}
+use Rattle.rtl_net.specs.declared.body.Statement.TheVariants as vs
 use Rattle.rtl_net.specs.declared.body.Branch.{Branch}
 use Rattle.rtl_net.specs.declared.body.Alternative.{Alternative}
-use Rattle.rtl_latches.specs.Omissions.{part_omission, branches_omission, alternatives_omission}
+use Rattle.rtl_latches.proofs.Rows.{in_if, in_case}
+use Rattle.rtl_latches.specs.Omissions.{in_statement, part_omission, branches_omission, alternatives_omission}
 use Rattle.rtl_latches.specs.Walks.{walked_branches, walked_alternatives, or_last}
 use Rattle.rtl_latches.specs.declared.omission.Omission.{Omission}
 use Rattle.rtl_latches.specs.declared.omission.Omission.TheVariants as o
@@ -66,3 +69,19 @@ module _ (these : Target → Bool) (at : ℕ) where
     pub alternative_closed : must_assign these (statements_of xs) ≡ true → walked_alternatives these at (number + 1) (drop (i + 1) bs) ≡ walked_alternatives these at 1 bs
     alternative_closed t =
         sym (ap (λ b. if b then walked_alternatives these at (number + 1) (drop (i + 1) bs) else w.Open (part_omission these (o.Alternative at number) xs)) t) ∙ alternative-here
+
+-- ---- statements
+
+module _ (these : Target → Bool) (x : Statement) (at : ℕ) where
+  pub if_walked : (branches : Vec Branch Global) (v : Vec Statement Global) (bs : List Branch) (r s : Walked) → x ≡ vs.If at branches (Some v) → bs ≡ branches.items
+      → r ≡ walked_branches these at 1 bs → r ≡ s → or_last (λ number. part_omission these (o.Branch at number) v.items) s ≡ in_statement these x
+  if_walked branches v bs r s is held e f =
+      let last : ℕ → Option Omission = λ number. part_omission these (o.Branch at number) v.items in
+      ap (or_last last) (sym f ∙ e ∙ ap (walked_branches these at 1) held) ∙ sym (in_if these x at branches v is ∙ branches_walk these at last 1 branches.items)
+
+  pub case_walked : (selector : Value) (alternatives : Vec Alternative Global) (v : Vec Statement Global) (bs : List Alternative) (r s : Walked)
+      → x ≡ vs.Case at selector alternatives v → bs ≡ alternatives.items → r ≡ walked_alternatives these at 1 bs → r ≡ s
+      → or_last (λ number. part_omission these (o.Alternative at number) v.items) s ≡ in_statement these x
+  case_walked selector alternatives v bs r s is held e f =
+      let last : ℕ → Option Omission = λ number. part_omission these (o.Alternative at number) v.items in
+      ap (or_last last) (sym f ∙ e ∙ ap (walked_alternatives these at 1) held) ∙ sym (in_case these x at selector alternatives v is ∙ alternatives_walk these at last 1 alternatives.items)

@@ -67,7 +67,15 @@ fn statement_omission(statement: &Statement, drives: &[Driver], net: usize) -> O
             Some(last) => match in_branches(*at, branches, drives, net) {
                 Walked::Open(found) => found,
                 Walked::Closed { next } => {
-                    part_omission(Omission::Branch { at: *at, number: next }, last, drives, net)
+                    part_omission(
+                        Omission::Branch {
+                            at: *at,
+                            number: next,
+                        },
+                        last,
+                        drives,
+                        net,
+                    )
                 }
             },
         },
@@ -79,7 +87,15 @@ fn statement_omission(statement: &Statement, drives: &[Driver], net: usize) -> O
         } => match in_alternatives(*at, alternatives, drives, net) {
             Walked::Open(found) => found,
             Walked::Closed { next } => {
-                part_omission(Omission::Alternative { at: *at, number: next }, others, drives, net)
+                part_omission(
+                    Omission::Alternative {
+                        at: *at,
+                        number: next,
+                    },
+                    others,
+                    drives,
+                    net,
+                )
             }
         },
     }
