@@ -1,10 +1,9 @@
 //! What is said of where the process of a latch leaves out the assignment.
 
-ghost use Rattle.std.specs.Prelude.{◌≡◌, ◌++◌, map, slice_get, Some, OnOk};
+ghost use Rattle.std.specs.Prelude.{◌≡◌, ◌++◌, map, slice_get, decimal, OnOk};
 ghost use Rattle.rtl_check.specs.Views.{fault_view};
 ghost use Rattle.rtlsim_files.specs.Files.{file_view};
 ghost use Rattle.rtlsim_explain_check.specs.Omitted as spec;
-ghost use Rattle.rtlsim_explain_check.specs.Placed as placed;
 
 use crate::placing::{place_text, push_number, push_shown};
 use rtl_check::CheckFault;
@@ -18,7 +17,10 @@ pub(crate) fn left_out(net: &Net, fault: &CheckFault) -> Option<Omission>
     ensures { result ≡ spec.left_out net.now (fault_view fault.now) }
 {
     match fault {
-        CheckFault::Latch { process, net: number } => omission_at(net, *process, *number),
+        CheckFault::Latch {
+            process,
+            net: number,
+        } => omission_at(net, *process, *number),
         _ => None,
     }
 }
@@ -50,8 +52,20 @@ fn is_same(omission: Omission, other: Omission) -> bool
 {
     match (omission, other) {
         (Omission::NoElse { at }, Omission::NoElse { at: by }) => at == by,
-        (Omission::Branch { at, number }, Omission::Branch { at: by, number: other }) => at == by && number == other,
-        (Omission::Alternative { at, number }, Omission::Alternative { at: by, number: other }) => at == by && number == other,
+        (
+            Omission::Branch { at, number },
+            Omission::Branch {
+                at: by,
+                number: other,
+            },
+        ) => at == by && number == other,
+        (
+            Omission::Alternative { at, number },
+            Omission::Alternative {
+                at: by,
+                number: other,
+            },
+        ) => at == by && number == other,
         _ => false,
     }
 }
@@ -93,18 +107,41 @@ fn push_said(omission: Omission, text: &mut Vec<u8>) -> Result<(), NoMemory>
 {
     match omission {
         Omission::NoElse { .. } => {
-            text.extend_from_slice(b"note: where no condition of this if holds, nothing assigns it\n")?;
+            text.extend_from_slice(
+                b"note: where no condition of this if holds, nothing assigns it\n",
+            )?;
+            Ok(())
         }
         Omission::Branch { number, .. } => {
-            text.extend_from_slice(b"note: branch ")?;
-            push_number(number, text)?;
-            text.extend_from_slice(b" of this if doesn't assign it\n")?;
+            push_counted(
+                b"note: branch ",
+                number,
+                b" of this if doesn't assign it\n",
+                text,
+            )
         }
         Omission::Alternative { number, .. } => {
-            text.extend_from_slice(b"note: alternative ")?;
-            push_number(number, text)?;
-            text.extend_from_slice(b" of this case doesn't assign it\n")?;
+            push_counted(
+                b"note: alternative ",
+                number,
+                b" of this case doesn't assign it\n",
+                text,
+            )
         }
     }
+}
+
+/// Appends a number in decimal digits between two texts.
+fn push_counted(
+    before: &[u8],
+    number: usize,
+    after: &[u8],
+    text: &mut Vec<u8>,
+) -> Result<(), NoMemory>
+    ensures { OnOk result (text.new.items ≡ text.old.items ++ (before.now ++ decimal number ++ after.now)) }
+{
+    text.extend_from_slice(before)?;
+    push_number(number, text)?;
+    text.extend_from_slice(after)?;
     Ok(())
 }
