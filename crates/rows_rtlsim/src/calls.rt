@@ -241,7 +241,7 @@ fn wrong_by_reads(alloc: Global, row: &Row<'_>) -> io::Result<Option<Answer>> {
         for reads in 0..=row.input.len().min(last) {
             let reader = FailingReader::new(&row.input, reads, failure);
             let answer = by_tool(alloc, &row.words, In::new(reader));
-            if !answer.is(8, b"", b"rtlsim: input\n") {
+            if !answer.is(8, b"", row.failed_read()) {
                 return Ok(Some(answer));
             }
         }

@@ -6,6 +6,10 @@ use std::io::ErrorKind;
 use std::rt::Files;
 use std::{fs, io};
 
+/// What is told where the standard input can't be read, and an explanation is asked for.
+const FAILED_READ_EXPLAINED: &[u8] =
+    b"rtlsim: input\n@: input: reading it failed\nhelp: copy it by another program: that shows whether its disk or the other end of its pipe is at fault\n";
+
 /// As many spaces are added to an input at a time.
 const BLOCK: usize = 4096;
 
@@ -149,6 +153,15 @@ impl<'a> Row<'a> {
     /// Whether an option of this name stands among the words.
     fn has_option(&self, name: &str) -> bool {
         self.words.iter().any(|word| word.starts_with(name))
+    }
+
+    /// What is told where the standard input can't be read.
+    pub fn failed_read(&self) -> &'static [u8] {
+        if self.has_option("--explain") {
+            FAILED_READ_EXPLAINED
+        } else {
+            b"rtlsim: input\n"
+        }
     }
 
     /// The calls by which a row is made that names none.

@@ -1,5 +1,5 @@
-mod Alike
 mod Labels
+mod Named
 mod Order
 mod Sorting
 mod Seeing

@@ -2,6 +2,7 @@
 pub mod Names
 pub mod Expected
 pub mod Lines
+pub mod Naming
 pub mod Differences
 pub mod Telling
 pub mod Faults

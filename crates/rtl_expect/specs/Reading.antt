@@ -1,11 +1,10 @@
 -- What the steps of reading answer.
-use Rattle.std.specs.Prelude.{◌≡◌, ◌≢◌, ℕ, false, List, [], ◌∷◌, ◌++◌, Vec, Option, Some, None, Result, Ok, Err}
+use Rattle.std.specs.Prelude.{◌≡◌, ◌≢◌, ℕ, List, [], ◌∷◌, Vec, Result, Ok, Err}
 use Rattle.std.specs.Global.{Global}
 use Rattle.rtl_net.specs.Nets.{NetlistView}
 use Rattle.rtl_expect.specs.declared.expectation.Expectation.{Expectation as KeptExpectation}
 use Rattle.rtl_expect.specs.declared.faults.ExpectFault.{ExpectFault}
 use Rattle.rtl_expect.specs.declared.faults.ExpectFault.TheVariants.{NoMemory}
-use Rattle.rtl_expect.specs.Names.{are_alike}
 use Rattle.rtl_expect.specs.Expected.{Expectation}
 use Rattle.rtl_expect.specs.Lines.{expectations_of, placed}
 use Rattle.rtl_expect.specs.Watching.{AreInOrder, expectation_view, list_view}
@@ -28,8 +27,3 @@ IsExpected asked (Err fault) = fault ≢ NoMemory → asked ≡ Err fault
 abbrev pub AreListed : NetlistView → (text : List ℕ) → Result (Vec KeptExpectation Global) ExpectFault → Type 0
 AreListed net text (Ok list) = (expectations_of net text ≡ Ok (list_view list)) × AreInOrder (list_view list)
 AreListed net text (Err fault) = fault ≢ NoMemory → expectations_of net text ≡ Err fault
-
--- What stands before an end of a text, in letters of either case: the text is labels and the end where that is the labels.
-abbrev pub StandsBefore : (end text : List ℕ) → Option (List ℕ) → Type 0
-StandsBefore end text (Some front) = (labels : List ℕ) → are_alike text (labels ++ end) ≡ are_alike front labels
-StandsBefore end text None = (labels : List ℕ) → are_alike text (labels ++ end) ≡ false

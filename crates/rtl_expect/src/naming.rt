@@ -1,85 +1,119 @@
 //! Signals by their full names.
 
-ghost use Rattle.std.specs.Prelude.{◌≡◌, ◌<◌, ◌++◌, codes, length, map, option_map, IfSome};
+ghost use Rattle.std.specs.Prelude.{◌≡◌, ◌<◌, ◌++◌, if◌then◌else◌, Some, length, map, option_map, IfOk, OnOk, IfSome};
 ghost use Rattle.rtl_model.specs.bodies.Fits.{IsWidth};
 ghost use Rattle.rtl_net.specs.Nets.{scope_view, signal_view};
 ghost use Rattle.rtl_net.specs.Elaborated.{AreScopes};
+ghost use Rattle.rtl_stim_lines.specs.Lines.{Word};
+ghost use Rattle.rtl_stim_lines.specs.Inputs.{small};
 ghost use Rattle.rtl_expect.specs.Names as names;
 ghost use Rattle.rtl_expect.specs.Lines as lines;
-ghost use Rattle.rtl_expect.specs.Reading.{StandsBefore};
+ghost use Rattle.rtl_expect.specs.Naming.{HasNumbers, kept_number};
 
 use rtl_net::{Net, Scope, Signal};
+use std::alloc::{AllocError, Global};
+use std::collections::HashMap;
 
-/// The signal with a full name, and its number.
-pub(crate) fn signal_named<'n>(net: &'n Net, name: &[u8]) -> Option<(usize, &'n Signal)>
-    ensures found { option_map (λ p. (p.0, signal_view p.1.now)) result ≡ lines.signal_named net.now name.now }
-    ensures width { IfSome result (λ p. IsWidth (length p.1.now.nets.items)) }
+/// The numbers of signals by their full names in small letters.
+pub(crate) type SignalTable = HashMap<Vec<u8>, usize>;
+
+/// The number of the first signal of each full name. It takes memory and time for each letter of the names.
+pub(crate) fn table_of(alloc: Global, net: &Net) -> Result<SignalTable, AllocError>
+    ensures { IfOk result (λ table. HasNumbers net.now table) }
 {
     let _count = net.nets();
     let scopes = net.scopes();
-    for (number, signal) in net.signals().iter().enumerate() {
-        if is_named(scopes, name, signal) {
-            return Some((number, signal));
-        }
+    let signals = net.signals();
+    let mut table = HashMap::new(alloc);
+    let mut number = signals.len();
+    while number > 0 {
+        number -= 1;
+        add_signal(alloc, scopes, &signals[number], number, &mut table)?;
     }
-    None
+    Ok(table)
 }
 
-/// Whether a signal has this full name, in letters of either case.
-fn is_named(scopes: &[Scope], name: &[u8], signal: &Signal) -> bool
+/// Puts the number of a signal under its full name, in place of another signal's.
+fn add_signal(
+    alloc: Global,
+    scopes: &[Scope],
+    signal: &Signal,
+    number: usize,
+    table: &mut SignalTable,
+) -> Result<(), AllocError>
     requires scopes { AreScopes (map scope_view scopes.now) }
     requires there { signal.now.scope < length scopes.now }
-    ensures { result ≡ lines.is_named (map scope_view scopes.now) name.now (signal_view signal.now) }
+    ensures { OnOk result ((name : Word) → kept_number table.new name
+        ≡ (if lines.is_named (map scope_view scopes.now) name (signal_view signal.now) then Some number else kept_number table.old name)) }
 {
-    match before_end(name, &signal.name) {
-        Some(front) => are_labels(scopes, signal.scope, front),
-        None => false,
-    }
+    let name = full_name(alloc, scopes, signal)?;
+    let key = small_letters(alloc, &name)?;
+    table.insert(key, number)?;
+    Ok(())
 }
 
-/// Whether a text is the labels from the top to a scope, each before a dot, in letters of either case.
-fn are_labels(scopes: &[Scope], scope: usize, text: &[u8]) -> bool
+/// A signal's full name.
+fn full_name(alloc: Global, scopes: &[Scope], signal: &Signal) -> Result<Vec<u8>, AllocError>
+    requires scopes { AreScopes (map scope_view scopes.now) }
+    requires there { signal.now.scope < length scopes.now }
+    ensures { IfOk result (λ name. name.items ≡ names.full_name (map scope_view scopes.now) (signal_view signal.now)) }
+{
+    let mut name = Vec::new(alloc);
+    add_labels(scopes, signal.scope, &mut name)?;
+    name.extend_from_slice(&signal.name)?;
+    Ok(name)
+}
+
+/// Puts the labels from the top to a scope, each before a dot, behind a text.
+fn add_labels(scopes: &[Scope], scope: usize, text: &mut Vec<u8>) -> Result<(), AllocError>
     requires scopes { AreScopes (map scope_view scopes.now) }
     requires there { scope < length scopes.now }
-    ensures { result ≡ names.are_alike text.now (names.labels (map scope_view scopes.now) scope) }
+    ensures { OnOk result (text.new.items ≡ text.old.items ++ names.labels (map scope_view scopes.now) scope) }
 {
     let found = &scopes[scope];
     let Some(parent) = found.parent else {
-        return are_alike(text, b"");
+        return Ok(());
     };
-    match before_label(text, &found.label) {
-        Some(front) => are_labels(scopes, parent, front),
-        None => false,
-    }
+    add_labels(scopes, parent, text)?;
+    text.extend_from_slice(&found.label)?;
+    text.push(b'.')?;
+    Ok(())
 }
 
-/// What stands before a label and a dot at the end of a text, if they stand there, in letters of either case.
-fn before_label<'a>(text: &'a [u8], label: &[u8]) -> Option<&'a [u8]>
-    ensures { StandsBefore (label.now ++ codes ".") text.now (option_map (λ front. front.now) result) }
+/// A name in small letters.
+fn small_letters(alloc: Global, name: &[u8]) -> Result<Vec<u8>, AllocError>
+    ensures { IfOk result (λ letters. letters.items ≡ small name.now) }
 {
-    match before_end(text, b".") {
-        Some(labelled) => before_end(labelled, label),
-        None => None,
-    }
+    name.iter().map(|b| b.to_ascii_lowercase()).collect(alloc)
 }
 
-/// What stands before this end of a text, if it has that, in letters of either case.
-fn before_end<'a>(text: &'a [u8], end: &[u8]) -> Option<&'a [u8]>
-    ensures { StandsBefore end.now text.now (option_map (λ front. front.now) result) }
+/// The signal with a full name, in letters of either case, and its number. It takes memory for the name, and time for its letters.
+pub(crate) fn signal_named<'n>(
+    alloc: Global,
+    net: &'n Net,
+    table: &SignalTable,
+    name: &[u8],
+) -> Result<Option<(usize, &'n Signal)>, AllocError>
+    requires table { HasNumbers net.now table.now }
+    ensures found { IfOk result (λ found. option_map (λ p. (p.0, signal_view p.1.now)) found ≡ lines.signal_named net.now name.now) }
+    ensures width { IfOk result (λ found. IfSome found (λ p. IsWidth (length p.1.now.nets.items))) }
 {
-    if text.len() < end.len() {
-        return None;
-    }
-    let (front, rest) = text.split_at(text.len() - end.len());
-    if are_alike(rest, end) {
-        return Some(front);
-    }
-    None
+    let _count = net.nets();
+    let Some(number) = number_named(alloc, table, name)? else {
+        return Ok(None);
+    };
+    let signals = net.signals();
+    Ok(Some((number, &signals[number])))
 }
 
-/// Whether two names are the same, in letters of either case.
-fn are_alike(name: &[u8], other: &[u8]) -> bool
-    ensures { result ≡ names.are_alike name.now other.now }
+/// The number that a table has for a name, in letters of either case.
+fn number_named(
+    alloc: Global,
+    table: &SignalTable,
+    name: &[u8],
+) -> Result<Option<usize>, AllocError>
+    ensures { IfOk result (λ number. number ≡ kept_number table.now name.now) }
 {
-    name.eq_ignore_ascii_case(other)
+    let key = small_letters(alloc, name)?;
+    Ok(table.get(key.as_slice()).copied())
 }

@@ -7,13 +7,14 @@ ghost use Rattle.rtl_stim_lines.specs.Forms as forms;
 ghost use Rattle.rtl_expect.specs.Expected as wanted;
 ghost use Rattle.rtl_expect.specs.Lines as lines;
 ghost use Rattle.rtl_expect.specs.Lines.{after_line, expected_in, in_line};
+ghost use Rattle.rtl_expect.specs.Naming.{HasNumbers};
 ghost use Rattle.rtl_expect.specs.Watching.{AreInOrder, expectation_view, list_view};
 ghost use Rattle.rtl_expect.specs.Reading.{AreListed, IsExpected, Leads, all_placed};
 
 use crate::expectation::Expectation;
 use crate::expected::Wanted;
 use crate::faults::{ExpectFault, ExpectProblem};
-use crate::naming::signal_named;
+use crate::naming::{SignalTable, signal_named, table_of};
 use rtl_net::{Net, Signal, SignalKind};
 use rtl_stim_lines::{Form, Time, form_of, says_nothing, time_of, without_return, words_of};
 use std::alloc::{AllocError, Global};
@@ -28,10 +29,12 @@ pub(crate) fn read_lines(
 ) -> Result<Vec<Expectation>, ExpectFault>
     ensures { AreListed net.now text.now result }
 {
+    let table = table_of(alloc, net)?;
     let parts = parts_of(alloc, text)?;
     let mut list = Vec::new(alloc);
     for place in 0..parts.len() {
-        read_line(alloc, net, place + 1, line_at(&parts, place), &mut list)?;
+        let line = line_at(&parts, place);
+        read_line(alloc, net, &table, place + 1, line, &mut list)?;
     }
     put_in_order(&mut list)?;
     Ok(list)
@@ -61,10 +64,12 @@ fn parts_of<'a>(alloc: Global, text: &'a [u8]) -> Result<Vec<&'a [u8]>, AllocErr
 fn read_line(
     alloc: Global,
     net: &Net,
+    table: &SignalTable,
     number: usize,
     line: &[u8],
     list: &mut Vec<Expectation>,
 ) -> Result<(), ExpectFault>
+    requires { HasNumbers net.now table.now }
     ensures { let so_far = all_placed [] (list_view list.old) in
         Leads (in_line number (after_line net.now so_far number line.now)) (all_placed [] (list_view list.new)) result }
 {
@@ -72,7 +77,7 @@ fn read_line(
     if says_nothing(&words) {
         return Ok(());
     }
-    let expectation = expectation_of(alloc, net, number, &words)?;
+    let expectation = expectation_of(alloc, net, table, number, &words)?;
     keep(list, expectation)?;
     Ok(())
 }
@@ -81,9 +86,11 @@ fn read_line(
 fn expectation_of(
     alloc: Global,
     net: &Net,
+    table: &SignalTable,
     line: usize,
     words: &[&[u8]],
 ) -> Result<Expectation, ExpectFault>
+    requires { HasNumbers net.now table.now }
     ensures { IsExpected (in_line line (expected_in net.now line (forms.form_of (map (λ word. word.now) words.now)))) result }
 {
     let _count = net.nets();
@@ -93,7 +100,7 @@ fn expectation_of(
     let Time::At(time) = time else {
         return Err(ExpectProblem::TimeTooLarge.in_line(line));
     };
-    let Some((number, signal)) = signal_named(net, name) else {
+    let Some((number, signal)) = signal_named(alloc, net, table, name)? else {
         return Err(ExpectProblem::NotASignal.in_line(line));
     };
     let Some(wanted) = value_wanted(alloc, signal, value)? else {

@@ -24,8 +24,9 @@ pub struct Expectations {
 }
 
 impl Expectations {
-    /// Reads a file of expected values of a net's signals. It takes memory for each line. To put them in order takes time that goes by
-    /// the lines times the logarithm of their number, and by the lines alone where they stand in order of time.
+    /// Reads a file of expected values of a net's signals. It takes memory for each line, and for each letter of the full names of the
+    /// net's signals, in a table of which a line's name is found by its hash. It takes time that goes by these letters, and by the lines,
+    /// times the logarithm of their number where they don't stand in order of time.
     ///
     /// # Errors
     ///

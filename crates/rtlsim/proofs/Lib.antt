@@ -3,3 +3,4 @@ pub mod Serving
 pub mod Buffers
 pub mod Reading
 pub mod Watching
+pub mod Files

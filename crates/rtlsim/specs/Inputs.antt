@@ -1,8 +1,6 @@
 -- What is known of the files that a read gives: the bytes of one, or why it isn't read.
 use Rattle.std.specs.Prelude.{◌≡◌, ◌≢◌, ℕ, ◌<◌, ◌≤◌, ⊤, List, Option, Some, Result, Ok, Err, IfSome, true, false, length, codes}
 use Rattle.rtl_sink.specs.Read.{ReaderState}
-use Rattle.rtlsim.specs.declared.inputs.InputFault.{InputFault}
-use Rattle.rtlsim.specs.declared.inputs.InputFault.TheVariants.{Failed, NoMemory}
 use Rattle.rtlsim.specs.declared.problem.InputProblem.{InputProblem}
 use Rattle.rtlsim.specs.declared.problem.InputProblem.TheVariants.{Missing, ReadFailed, TooLong, Endless}
 
@@ -55,11 +53,6 @@ pub record GivesNamed {File : Type 0} (remaining : File → Option (List ℕ)) (
 -- what a read of the file of a name may give, between two states of the standard input
 abbrev pub Reading : Type 1
 Reading = (old new : ReaderState) → (name : List ℕ) → (given : Answer) → Type 0
-
--- this holds of the problem, where it is one
-abbrev pub IfFailed : InputFault → (InputProblem → Type 0) → Type 0
-IfFailed (Failed problem) Holds = Holds problem
-IfFailed NoMemory Holds = ⊤
 
 -- bytes in memory, which never fail
 abbrev pub held : List ℕ → ReaderState

@@ -1,26 +1,19 @@
 -- Why an input isn't read, and what is told of it.
-use Rattle.std.specs.Prelude.{ℕ, Bool, ⊤, if◌then◌else◌, List, [], ◌++◌, codes}
+use Rattle.std.specs.Prelude.{ℕ, Bool, if◌then◌else◌, List, [], ◌++◌, Option, Some, None, codes}
 use Rattle.rtlsim_faults.specs.Lines.{memory_line, input_line}
 use Rattle.rtlsim_faults.specs.declared.status.Status.{Status}
 use Rattle.rtlsim_faults.specs.declared.status.Status.TheVariants as status
+use Rattle.rtlsim.specs.declared.inputs.InputFault.{InputFault}
+use Rattle.rtlsim.specs.declared.inputs.InputFault.TheVariants as input
 use Rattle.rtlsim.specs.declared.problem.InputProblem.{InputProblem}
 use Rattle.rtlsim.specs.declared.problem.InputProblem.TheVariants.{Missing, Denied, Folder, NotOpened, ReadFailed, TooLong, Endless}
 use Rattle.rtlsim.specs.declared.unread.ReadFault.{ReadFault}
-use Rattle.rtlsim.specs.declared.unread.ReadFault.TheVariants as fault
-use Rattle.std_io.specs.declared.io.kind.ErrorKind.{ErrorKind}
-use Rattle.std_io.specs.declared.io.kind.ErrorKind.TheVariants as kind
+use Rattle.rtlsim.specs.declared.unread.ReadFault.TheVariants as read
 
 -- an input that isn't read: its name, as it was given, and why
 pub record Unread : Type 0 where
   pub name : List ℕ
   pub problem : InputProblem
-
--- why a file isn't opened, by what the system says
-abbrev pub opening_problem : ErrorKind → InputProblem
-opening_problem kind.NotFound = Missing
-opening_problem kind.PermissionDenied = Denied
-opening_problem kind.IsADirectory = Folder
-opening_problem other = NotOpened
 
 -- ---- what is said of it
 
@@ -46,7 +39,7 @@ help_of Endless = codes "write what it gives into a file, and name that"
 -- "NAME: input: REASON", and the help below
 abbrev pub input_explained : Unread → List ℕ
 input_explained unread =
-    unread.name ++ codes ": input: " ++ reason_of unread.problem ++ codes "\n" ++ codes "help: " ++ help_of unread.problem ++ codes "\n"
+    unread.name ++ codes ": input: " ++ reason_of unread.problem ++ codes "\nhelp: " ++ help_of unread.problem ++ codes "\n"
 
 -- the line, and below it the explanation where that is asked for
 abbrev pub input_text : (explains : Bool) → Unread → List ℕ
@@ -54,16 +47,21 @@ input_text explains unread = input_line ++ (if explains then input_explained unr
 
 -- ---- of what reading ends with
 
--- the text and the status of an input that isn't read, or of want of memory
-abbrev pub fault_text : (explains : Bool) → ReadFault → List ℕ
-fault_text explains (fault.Unread name problem) = input_text explains (record { name = name.now; problem = problem })
-fault_text explains fault.NoMemory = memory_line
+-- the input that isn't read; none where memory was refused
+abbrev pub unread_of : ReadFault → Option Unread
+unread_of (read.Unread name problem) = Some (record { name = name.now; problem = problem })
+unread_of read.NoMemory = None
 
-abbrev pub fault_status : ReadFault → Status
-fault_status (fault.Unread name problem) = status.Failed
-fault_status fault.NoMemory = status.Memory
+-- the same of the fault of one input, by its name
+abbrev pub unread_by : (name : List ℕ) → InputFault → Option Unread
+unread_by name (input.Failed problem) = Some (record { name = name; problem = problem })
+unread_by name input.NoMemory = None
 
--- this holds of the input that isn't read, where it is one
-abbrev pub IfUnread : ReadFault → (Unread → Type 0) → Type 0
-IfUnread (fault.Unread name problem) Holds = Holds (record { name = name.now; problem = problem })
-IfUnread fault.NoMemory Holds = ⊤
+-- its text and its status, or those of want of memory
+abbrev pub fault_text : (explains : Bool) → Option Unread → List ℕ
+fault_text explains None = memory_line
+fault_text explains (Some unread) = input_text explains unread
+
+abbrev pub fault_status : Option Unread → Status
+fault_status None = status.Memory
+fault_status (Some unread) = status.Failed

@@ -1,9 +1,10 @@
 //! The files that the words of the command line name.
 
-ghost use Rattle.std.specs.Prelude.{◌≡◌, ◌≤◌, ℕ, List, Ok, Err, IfOk, IfErr, length};
+ghost use Rattle.std.specs.Prelude.{◌≡◌, ◌≤◌, ◌⊎◌, ℕ, List, Ok, Err, IfOk, IfErr, length};
 ghost use Rattle.rtl_sink.specs.Read.{ReaderState};
-ghost use Rattle.rtlsim.specs.Inputs.{Answer, GivesWhole, GivesFile, GivesNamed, GivesStandardAlone, IfFailed, greatest_input};
-ghost use Rattle.rtlsim.specs.declared.inputs.InputFault.TheVariants.{NoMemory};
+ghost use Rattle.rtlsim.specs.Inputs.{Answer, GivesWhole, GivesFile, GivesNamed, GivesStandardAlone, greatest_input};
+ghost use Rattle.rtlsim.specs.declared.problem.InputProblem.{InputProblem};
+ghost use Rattle.rtlsim.specs.declared.inputs.InputFault.TheVariants.{Failed, NoMemory};
 
 use crate::problem::InputProblem;
 use rtl_sink::{In, Reader};
@@ -28,6 +29,19 @@ pub enum InputFault {
     /// Memory was refused.
     #[error("out of memory")]
     NoMemory,
+}
+
+impl InputFault {
+    /// The fault of a file of this name; a folder that can't be read is told as one.
+    fn of_name<F: Files>(self, files: &F, name: &str) -> InputFault
+        ensures { (result ≡ self) ⊎ (result ≡ Failed InputProblem.Folder) }
+    {
+        if self == InputFault::Failed(InputProblem::ReadFailed) && is_folder(files, name) {
+            InputFault::Failed(InputProblem::Folder)
+        } else {
+            self
+        }
+    }
 }
 
 impl From<AllocError> for InputFault {
@@ -58,7 +72,7 @@ pub trait Inputs {
     fn read(&mut self, alloc: Global, name: &str) -> Result<Vec<u8>, InputFault>
         ensures whole { IfOk result (λ all. gives (state self.old) (state self.new) name.now (Ok all.items)) }
         ensures short { IfOk result (λ all. length all.items ≤ greatest_input) }
-        ensures failed { IfErr result (λ fault. IfFailed fault (λ problem. gives (state self.old) (state self.new) name.now (Err problem))) };
+        ensures failed { IfErr result (λ fault. (problem : InputProblem) → fault ≡ Failed problem → gives (state self.old) (state self.new) name.now (Err problem)) };
 }
 
 /// The standard input alone.
@@ -104,7 +118,7 @@ impl<F: Files, R: Reader> Inputs for Named<'_, F, R> {
 fn read_file<F: Files>(alloc: Global, files: &F, name: &str) -> Result<Vec<u8>, InputFault>
     ensures whole { IfOk result (λ all. GivesFile F.File.remaining (Ok all.items)) }
     ensures short { IfOk result (λ all. length all.items ≤ greatest_input) }
-    ensures failed { IfErr result (λ fault. IfFailed fault (λ problem. GivesFile F.File.remaining (Err problem))) }
+    ensures failed { IfErr result (λ fault. (problem : InputProblem) → fault ≡ Failed problem → GivesFile F.File.remaining (Err problem)) }
 {
     match fs::open(files, name) {
         Ok(file) => read_opened(alloc, files, name, file),
@@ -122,13 +136,11 @@ fn read_opened<F: Files>(
 ) -> Result<Vec<u8>, InputFault>
     ensures whole { IfOk result (λ all. GivesFile F.File.remaining (Ok all.items)) }
     ensures short { IfOk result (λ all. length all.items ≤ greatest_input) }
-    ensures failed { IfErr result (λ fault. IfFailed fault (λ problem. GivesFile F.File.remaining (Err problem))) }
+    ensures failed { IfErr result (λ fault. (problem : InputProblem) → fault ≡ Failed problem → GivesFile F.File.remaining (Err problem)) }
 {
     match read_input(alloc, &mut In::new(file)) {
-        Err(InputFault::Failed(InputProblem::ReadFailed)) if is_folder(files, name) => Err(
-            InputFault::Failed(InputProblem::Folder),
-        ),
-        answer => answer,
+        Ok(all) => Ok(all),
+        Err(fault) => Err(fault.of_name(files, name)),
     }
 }
 
@@ -145,7 +157,7 @@ fn is_folder<F: Files>(files: &F, name: &str) -> bool {
 pub fn read_input<R: Reader>(alloc: Global, reader: &mut R) -> Result<Vec<u8>, InputFault>
     ensures whole { IfOk result (λ all. GivesWhole (R.state reader.old) (R.state reader.new) (Ok all.items)) }
     ensures short { IfOk result (λ all. length all.items ≤ greatest_input) }
-    ensures failed { IfErr result (λ fault. IfFailed fault (λ problem. GivesWhole (R.state reader.old) (R.state reader.new) (Err problem))) }
+    ensures failed { IfErr result (λ fault. (problem : InputProblem) → fault ≡ Failed problem → GivesWhole (R.state reader.old) (R.state reader.new) (Err problem)) }
 {
     let mut all = Vec::new(alloc);
     let mut part = [0u8; PART];

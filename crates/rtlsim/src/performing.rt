@@ -7,15 +7,16 @@ ghost use Rattle.rtlsim.specs.Served.{ServesBy, ServesTexts};
 ghost use Rattle.rtlsim.specs.Sinks.{Sinks, ShowsIf, outputs};
 ghost use Rattle.rtlsim.specs.Texts.{texts_view};
 ghost use Rattle.rtlsim.specs.Tools.{Silently, TellsInput};
-ghost use Rattle.rtlsim.specs.declared.inputs.InputFault.TheVariants.{NoMemory};
+ghost use Rattle.rtlsim_faults.specs.Lines.{memory_line};
+ghost use Rattle.rtlsim_faults.specs.declared.status.Status.TheVariants as status;
 
-use crate::inputs::InputFault;
 use crate::job::Job;
 use crate::prepared::prepare;
 use crate::refusals::refuse_input;
 use crate::requests::{stimulus_of, top_of};
 use crate::simulating::{simulate, simulate_levels};
 use crate::texts::Texts;
+use crate::unread::ReadFault;
 use rtl_progress::{Progress, stop_of};
 use rtl_sink::Sink;
 use rtl_watch::{Unwatched, Watch};
@@ -37,12 +38,11 @@ pub(crate) fn perform_texts<'b, F: Front, O: Sink, E: Sink, G: Sink>(
     requires out { IsIntact (O.state out.old) }
     requires err { IsIntact (E.state err.old) }
     ensures { let s : Sinks = record { out = O.state out.old; out_after = O.state out.new; err = E.state err.old; err_after = E.state err.new; progress = G.state progress.old; progress_after = G.state progress.new } in
-        Silently (TellsInput NoMemory result) s ⊎ ServesTexts call.now (texts_view texts.now) result s }
+        Silently (TellsInput memory_line status.Memory result) s ⊎ ServesTexts call.now (texts_view texts.now) result s }
 {
     let request = &call.request;
-    let prepared = match prepare(alloc, request, texts) {
-        Ok(prepared) => prepared,
-        Err(refused) => return refuse_input(InputFault::from(refused), out, err),
+    let Ok(prepared) = prepare(alloc, request, texts) else {
+        return refuse_input(ReadFault::NoMemory, false, out, err);
     };
     let (_source, stimulus) = texts.main.texts();
     let telling = Telling {

@@ -1,6 +1,6 @@
 //! Why an input isn't read.
 
-ghost use Rattle.std.specs.Prelude.{◌≡◌};
+ghost use Rattle.std.specs.Prelude.{◌≡◌, ◌≢◌};
 ghost use Rattle.rtlsim.specs.Unread as unread;
 
 use std::io::ErrorKind;
@@ -27,7 +27,10 @@ pub enum InputProblem {
 impl InputProblem {
     /// Why a file isn't opened, by what the system says.
     pub(crate) fn of_opening(kind: ErrorKind) -> InputProblem
-        ensures { result ≡ unread.opening_problem kind }
+        ensures missing { kind ≡ ErrorKind.NotFound → result ≡ InputProblem.Missing }
+        ensures denied { kind ≡ ErrorKind.PermissionDenied → result ≡ InputProblem.Denied }
+        ensures folder { kind ≡ ErrorKind.IsADirectory → result ≡ InputProblem.Folder }
+        ensures other { kind ≢ ErrorKind.NotFound → kind ≢ ErrorKind.PermissionDenied → kind ≢ ErrorKind.IsADirectory → result ≡ InputProblem.NotOpened }
     {
         match kind {
             ErrorKind::NotFound => InputProblem::Missing,

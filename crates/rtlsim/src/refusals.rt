@@ -46,14 +46,21 @@ pub(crate) fn refuse_input<O: Sink, E: Sink>(
     out: &O,
     err: &mut E,
 ) -> Status
-    ensures told { Goes (E.state err.old) (E.state err.new) (unread.fault_text explains fault) }
-    ensures status { result ≡ ended (unread.fault_status fault) (O.state out.now) (E.state err.new) }
+    ensures told { Goes (E.state err.old) (E.state err.new) (unread.fault_text explains (unread.unread_of fault.entry)) }
+    ensures status { result ≡ ended (unread.fault_status (unread.unread_of fault.entry)) (O.state out.now) (E.state err.new) }
+{
+    push_fault(fault, explains, err);
+    ended_by_writes(fault.status(), out, err)
+}
+
+/// Writes why an input isn't read, or that memory was refused.
+fn push_fault<S: Sink>(fault: ReadFault<'_>, explains: bool, sink: &mut S)
+    ensures { Goes (S.state sink.old) (S.state sink.new) (unread.fault_text explains (unread.unread_of fault.entry)) }
 {
     match fault {
-        ReadFault::Unread { name, problem } => push_unread(name, problem, explains, err),
-        ReadFault::NoMemory => push_memory(err),
+        ReadFault::Unread { name, problem } => push_unread(name, problem, explains, sink),
+        ReadFault::NoMemory => push_memory(sink),
     }
-    ended_by_writes(fault.status(), out, err)
 }
 
 /// Writes why an input isn't read.

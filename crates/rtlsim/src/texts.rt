@@ -4,7 +4,7 @@ ghost use Rattle.std.specs.Prelude.{◌≡◌, Some, Ok, Err, IfOk, IfErr, map, 
 ghost use Rattle.rtlsim.specs.Requests.{GivesTexts};
 ghost use Rattle.rtlsim.specs.Reads.{GivesAll, GivesBoth, GivesMain, GivesMaybe, GivesOne};
 ghost use Rattle.rtlsim.specs.Texts.{read_view, texts_of, texts_view};
-ghost use Rattle.rtlsim.specs.Unread.{IfUnread};
+ghost use Rattle.rtlsim.specs.Unread.{Unread, unread_of};
 
 use crate::halves::halves_at_line;
 use crate::inputs::Inputs;
@@ -101,7 +101,7 @@ pub(crate) fn read_texts<'a, I: Inputs>(
     inputs: &mut I,
 ) -> Result<Texts<'a>, ReadFault<'a>>
     ensures given { IfOk result (λ texts. GivesTexts I.gives call.now (I.state inputs.old) (I.state inputs.new) (Ok (texts_view texts))) }
-    ensures failed { IfErr result (λ fault. IfUnread fault (λ unread. GivesTexts I.gives call.now (I.state inputs.old) (I.state inputs.new) (Err unread))) }
+    ensures failed { IfErr result (λ fault. (unread : Unread) → unread_of fault ≡ Some unread → GivesTexts I.gives call.now (I.state inputs.old) (I.state inputs.new) (Err unread)) }
 {
     let file = file_of(&call.request);
     let before = read_files(alloc, &call.extras.with, inputs)?;
@@ -122,7 +122,7 @@ fn read_one<'a, I: Inputs>(
     inputs: &mut I,
 ) -> Result<Vec<u8>, ReadFault<'a>>
     ensures given { IfOk result (λ text. GivesOne I.gives name.now (I.state inputs.old) (I.state inputs.new) (Ok text.items)) }
-    ensures failed { IfErr result (λ fault. IfUnread fault (λ unread. GivesOne I.gives name.now (I.state inputs.old) (I.state inputs.new) (Err unread))) }
+    ensures failed { IfErr result (λ fault. (unread : Unread) → unread_of fault ≡ Some unread → GivesOne I.gives name.now (I.state inputs.old) (I.state inputs.new) (Err unread)) }
 {
     match inputs.read(alloc, name) {
         Ok(text) => Ok(text),
@@ -137,7 +137,7 @@ fn read_files<'a, I: Inputs>(
     inputs: &mut I,
 ) -> Result<Vec<ReadFile<'a>>, ReadFault<'a>>
     ensures given { IfOk result (λ files. GivesAll I.gives (map (λ name. name.now) names.now) (I.state inputs.old) (I.state inputs.new) (Ok (map read_view files.items))) }
-    ensures failed { IfErr result (λ fault. IfUnread fault (λ unread. GivesAll I.gives (map (λ name. name.now) names.now) (I.state inputs.old) (I.state inputs.new) (Err unread))) }
+    ensures failed { IfErr result (λ fault. (unread : Unread) → unread_of fault ≡ Some unread → GivesAll I.gives (map (λ name. name.now) names.now) (I.state inputs.old) (I.state inputs.new) (Err unread)) }
 {
     let mut files = Vec::new(alloc);
     let mut left = names;
@@ -157,7 +157,7 @@ fn read_main<'a, I: Inputs>(
     inputs: &mut I,
 ) -> Result<Main, ReadFault<'a>>
     ensures given { IfOk result (λ main. GivesMain I.gives file.now (option_map (λ name. name.now) stimulus.entry) (I.state inputs.old) (I.state inputs.new) (Ok (texts_of main))) }
-    ensures failed { IfErr result (λ fault. IfUnread fault (λ unread. GivesMain I.gives file.now (option_map (λ name. name.now) stimulus.entry) (I.state inputs.old) (I.state inputs.new) (Err unread))) }
+    ensures failed { IfErr result (λ fault. (unread : Unread) → unread_of fault ≡ Some unread → GivesMain I.gives file.now (option_map (λ name. name.now) stimulus.entry) (I.state inputs.old) (I.state inputs.new) (Err unread)) }
 {
     match stimulus {
         None => Ok(Main::Alone(read_one(alloc, file, inputs)?)),
@@ -173,7 +173,7 @@ fn read_both<'a, I: Inputs>(
     inputs: &mut I,
 ) -> Result<Main, ReadFault<'a>>
     ensures given { IfOk result (λ main. GivesBoth I.gives file.now stimulus.now (I.state inputs.old) (I.state inputs.new) (Ok (texts_of main))) }
-    ensures failed { IfErr result (λ fault. IfUnread fault (λ unread. GivesBoth I.gives file.now stimulus.now (I.state inputs.old) (I.state inputs.new) (Err unread))) }
+    ensures failed { IfErr result (λ fault. (unread : Unread) → unread_of fault ≡ Some unread → GivesBoth I.gives file.now stimulus.now (I.state inputs.old) (I.state inputs.new) (Err unread)) }
 {
     if file == "@" && stimulus == "@" {
         return Ok(Main::Together(read_one(alloc, file, inputs)?));
@@ -190,7 +190,7 @@ fn read_maybe<'a, I: Inputs>(
     inputs: &mut I,
 ) -> Result<Option<Vec<u8>>, ReadFault<'a>>
     ensures given { IfOk result (λ text. GivesMaybe I.gives (option_map (λ name. name.now) name.entry) (I.state inputs.old) (I.state inputs.new) (Ok (option_map (λ text. text.items) text))) }
-    ensures failed { IfErr result (λ fault. IfUnread fault (λ unread. GivesMaybe I.gives (option_map (λ name. name.now) name.entry) (I.state inputs.old) (I.state inputs.new) (Err unread))) }
+    ensures failed { IfErr result (λ fault. (unread : Unread) → unread_of fault ≡ Some unread → GivesMaybe I.gives (option_map (λ name. name.now) name.entry) (I.state inputs.old) (I.state inputs.new) (Err unread)) }
 {
     match name {
         None => Ok(None),

@@ -72,7 +72,6 @@ pub fn tool_with<F: Front, I: Inputs, O: Sink, E: Sink, G: Sink>(
 /// Does what is asked for: reads the files before the source, the source, the stimulus and what is expected by `inputs`, and then does what
 /// the command does with the joined source: writes the result to `out`, what is told of it to `err`, and how far a run is to `progress`,
 /// and answers the status. The first input that isn't read is told. It takes memory for the files, once more for the source where it is that of several, and as the command does.
-#[tactic(auto, unfolding(crate::specs::Tools::Performs))]
 pub fn perform<F: Front, I: Inputs, O: Sink, E: Sink, G: Sink>(
     alloc: Global,
     call: &Call<'_>,

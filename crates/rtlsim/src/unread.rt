@@ -1,16 +1,13 @@
 //! Inputs that aren't read, by their names.
 
 ghost use Rattle.std.specs.Prelude.{◌≡◌};
-ghost use Rattle.rtlsim.specs.Inputs.{IfFailed};
 ghost use Rattle.rtlsim.specs.Unread as unread;
-ghost use Rattle.rtlsim.specs.Unread.{IfUnread, Unread};
-ghost use Rattle.rtlsim.specs.declared.problem.InputProblem.{InputProblem};
 ghost use Rattle.rtlsim.specs.declared.unread.ReadFault.TheVariants.{NoMemory};
 
 use crate::inputs::InputFault;
 use crate::problem::InputProblem;
 use rtlsim_commands::Status;
-use std::alloc::{AllocError, AllocFailed};
+use std::alloc::AllocFailed;
 
 /// Why reading the files of a call ends early.
 #[derive(Clone, Copy)]
@@ -24,14 +21,6 @@ pub(crate) enum ReadFault<'a> {
     NoMemory,
 }
 
-impl From<AllocError> for ReadFault<'_> {
-    ghost from_gives = { λ _ fault. fault ≡ NoMemory };
-
-    fn from(_refused: AllocError) -> Self {
-        ReadFault::NoMemory
-    }
-}
-
 impl<T: Drop> From<AllocFailed<T>> for ReadFault<'_> {
     ghost from_gives = { λ _ fault. fault ≡ NoMemory };
 
@@ -43,7 +32,7 @@ impl<T: Drop> From<AllocFailed<T>> for ReadFault<'_> {
 impl<'a> ReadFault<'a> {
     /// The fault of the input of this name.
     pub(crate) fn of(name: &'a str, fault: InputFault) -> ReadFault<'a>
-        ensures { (Holds : InputProblem → Type 0) → IfFailed fault Holds → IfUnread result (λ unread. (unread.name ≡ name.now) × Holds unread.problem) }
+        ensures { unread.unread_of result ≡ unread.unread_by name.now fault }
     {
         match fault {
             InputFault::Failed(problem) => ReadFault::Unread { name, problem },
@@ -53,7 +42,7 @@ impl<'a> ReadFault<'a> {
 
     /// The status that the program ends with.
     pub(crate) fn status(self) -> Status
-        ensures { result ≡ unread.fault_status self }
+        ensures { result ≡ unread.fault_status (unread.unread_of self.entry) }
     {
         match self {
             ReadFault::Unread { .. } => Status::Failed,

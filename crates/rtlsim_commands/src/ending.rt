@@ -60,13 +60,7 @@ fn first_of(fault: SourceFault, explains: bool) -> Option<NameFault>
     ensures { result ≡ told.first_of (of_source fault) explains }
 {
     match fault {
-        SourceFault::Name(first) => {
-            if explains {
-                Some(first)
-            } else {
-                None
-            }
-        }
+        SourceFault::Name(first) => { if explains { Some(first) } else { None } }
         _ => None,
     }
 }

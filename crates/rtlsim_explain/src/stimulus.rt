@@ -79,11 +79,27 @@ fn explain_race<S: Sink>(
     let line = race_line(alloc, net, time, input, text)?;
     let input = net_name(alloc, net, input)?;
     let clock = net_name(alloc, net, clock)?;
+    push_race(file, text, title, line, (time, &input, &clock), sink);
+    Ok(finish(sink)?)
+}
+
+/// Writes the explanation of a race, by its time and the names of its input and clock, in the line that makes the input change.
+fn push_race<S: Sink>(
+    file: &[u8],
+    text: Option<&[u8]>,
+    title: Title,
+    line: Option<usize>,
+    race: (u64, &[u8], &[u8]),
+    sink: &mut S,
+)
+    ensures { Goes (S.state sink.old) (S.state sink.new)
+        (spec.race_in file.now (option_map (λ t. t.now) text.entry) (said.heading_of title) line (spec.race_sentence race.entry.0 race.entry.1.now race.entry.2.now)) }
+{
+    let (time, input, clock) = race;
     push_race_head(file, title, line, sink);
-    push_race(time, &input, &clock, sink);
+    push_race_sentence(time, input, clock, sink);
     push_race_line(line, text, sink);
     push_help(RACE_HELP, sink);
-    Ok(finish(sink)?)
 }
 
 /// Writes a race's place and title.
@@ -97,7 +113,7 @@ fn push_race_head<S: Sink>(file: &[u8], title: Title, line: Option<usize>, sink:
 }
 
 /// Writes what races: two nets of these names.
-fn push_race<S: Sink>(time: u64, input: &[u8], clock: &[u8], sink: &mut S)
+fn push_race_sentence<S: Sink>(time: u64, input: &[u8], clock: &[u8], sink: &mut S)
     ensures { Goes (S.state sink.old) (S.state sink.new) (spec.race_sentence time input.now clock.now) }
 {
     push_text(sink, b"at ");

@@ -1,5 +1,6 @@
 -- What is written of the checker's faults: a paragraph for each cause, which tells the place of its first process, the fault and its
--- processes, then all nets that it is told of, elements of a vector as a range, the line of the place, and what to do about it.
+-- processes, then all nets that it is told of, elements of a vector as a range, the line of the place, of a latch where the assignment
+-- is left out, and what to do about it.
 use Rattle.std.specs.Prelude.{ℕ, ◌==◌, ◌&&◌, ◌||◌, Bool, false, if◌then◌else◌, List, [], ◌∷◌, ◌++◌, bytes_eq, slice_get, Option, Some, None, codes}
 use Rattle.rtl_check.specs.Views.{fault_view}
 use Rattle.rtl_check.specs.declared.fault.CheckFault.{CheckFault}
@@ -11,6 +12,7 @@ use Rattle.rtl_net.specs.declared.process.Variable.{Variable}
 use Rattle.rtl_net_facts.specs.Paths.{driven}
 use Rattle.rtl_net_facts.specs.Reading.{is_in}
 use Rattle.rtlsim_explain.specs.Explained.{help_line}
+use Rattle.rtlsim_explain_check.specs.Omitted.{left_out, are_same, note_text}
 use Rattle.rtlsim_explain_check.specs.Placed.{place_of, place_text, shown_text}
 use Rattle.rtlsim_explain_check.specs.Ranges.{follows, range_text}
 use Rattle.rtlsim_files.specs.Files.{FileView}
@@ -130,7 +132,7 @@ element net (StoredVariable process variable place) = name_of_variable (variable
 
 -- ---- paragraphs
 
--- what a paragraph is told of: another with the same is the same cause
+-- what a paragraph is told of
 abbrev pub cause : NetlistView → Fault → List ℕ
 cause net fault = opening fault ++ culprits net fault ++ middle fault
 
@@ -142,10 +144,11 @@ head files net fault = place_text files (place_of net fault) ++ cause net fault
 abbrev pub ended : List FileView → NetlistView → (first : List ℕ) → (before : Fault) → List ℕ
 ended files net first before =
     range_text first (element net before) ++ closing before ++ codes "\n" ++ shown_text files (place_of net before)
-    ++ help_line (fault_help before)
+    ++ note_text files (left_out net before) ++ help_line (fault_help before)
 
+-- also of latches, what is said of the first is true of the other
 abbrev pub is_same_cause : NetlistView → (before fault : Fault) → Bool
-is_same_cause net before fault = bytes_eq (cause net before) (cause net fault)
+is_same_cause net before fault = bytes_eq (cause net before) (cause net fault) && are_same (left_out net before) (left_out net fault)
 
 -- the fault's net is that before, or the element beside it
 abbrev pub is_same_range : NetlistView → (before fault : Fault) → Bool

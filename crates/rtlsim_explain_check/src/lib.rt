@@ -5,6 +5,7 @@
 #![tactic(auto)]
 
 mod naming;
+mod omitted;
 mod placing;
 mod ranges;
 mod rejected;

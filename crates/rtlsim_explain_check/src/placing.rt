@@ -119,7 +119,7 @@ pub fn push_position(position: Position, text: &mut Vec<u8>) -> Result<(), NoMem
 }
 
 /// Appends a number in decimal digits.
-fn push_number(number: usize, text: &mut Vec<u8>) -> Result<(), NoMemory>
+pub(crate) fn push_number(number: usize, text: &mut Vec<u8>) -> Result<(), NoMemory>
     ensures { OnOk result (text.new.items ≡ text.old.items ++ decimal number) }
 {
     let mut buffer = Buffer::new();

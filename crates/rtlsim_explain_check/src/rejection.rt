@@ -9,6 +9,7 @@ ghost use Rattle.rtlsim_explain_check.specs.Rejected as spec;
 ghost use Rattle.rtlsim_listing.specs.Printing.{IsListed};
 
 use crate::naming::{culprits, element};
+use crate::omitted::{are_same, left_out, push_note};
 use crate::placing::{place_of, place_text, push_shown};
 use crate::ranges::{follows, push_range};
 use crate::rejected::{closing, fault_help, middle, opening};
@@ -124,6 +125,7 @@ fn push_ended(
     text.extend_from_slice(closing(before).as_bytes())?;
     text.extend_from_slice(b"\n")?;
     push_shown(files, place_of(net, before), text)?;
+    push_note(alloc, files, left_out(net, before), text)?;
     push_help(before, text)
 }
 
@@ -148,7 +150,7 @@ fn is_same_cause(
 {
     let last = cause(alloc, net, before)?;
     let next = cause(alloc, net, fault)?;
-    Ok(last.as_slice() == next.as_slice())
+    Ok(last.as_slice() == next.as_slice() && are_same(left_out(net, before), left_out(net, fault)))
 }
 
 /// Whether the fault's net is that before, or the element beside it.

@@ -1,17 +1,35 @@
-use Rattle.std.proofs.Common.{length, ap, arith}
-use Rattle.std.proofs.lemmas.List.{length-map}
-use Rattle.rtl_net.specs.Nets.{scope_view}
-use Rattle.rtl_expect.proofs.Labels.{scope_there}
+use Rattle.std.proofs.Common.{rules, ◌<◌, length, sym, ◌∙◌}
+use Rattle.rtl_expect.proofs.Named.{found_from, found_signal, number_there}
 use Rattle.rtl_expect.proofs.Wanting.{width_there}
 use Rattle.rtl_expect.proofs.naming.signal_named.Goals as goal
 
-pub is_named-requires-clause-there : goal.is_named-requires-clause-there
-is_named-requires-clause-there c =
-    let within = scope_there c.args.net.now c.nets-count.ensures.elaborated c.signals-signal-items.result.now c.signals-signal-items.ensures c.loop-number.number
-    c.signal-item.result _ c.loop-number-test.true c.signal-item.is in
-    omega (arith, within, ap length c.scopes-scopes.ensures, length-map c.scopes-scopes.result.now scope_view)
+pub offset_bounds-signals-number : goal.offset_bounds-signals-number
+offset_bounds-signals-number c =
+    let net = c.args.net.now in
+    let name = c.args.name.now in
+    let found = found_from net.scopes 0 net.signals name c.in-Some.number (sym c.in-Some.is ∙ c.in_ok-number.ensures ∙ c.requires.table name) in
+    let there : c.in-Some.number < length c.signals-signals.result.now =
+    number_there net c.signals-signals.result.now name c.in-Some.number c.signals-signals.ensures found in
+    search rules
 
-pub returns-then-is_named-clause-width : goal.returns-then-is_named-clause-width
-returns-then-is_named-clause-width c =
-    width_there c.args.net.now c.nets-count.ensures.elaborated c.signals-signal-items.result.now c.signals-signal-items.ensures c.loop-number.number
-    c.signal-item.result c.loop-number-test.true c.signal-item.is
+pub bounds-signals-number : goal.bounds-signals-number
+bounds-signals-number c =
+    let net = c.args.net.now in
+    let name = c.args.name.now in
+    let found = found_from net.scopes 0 net.signals name c.in-Some.number (sym c.in-Some.is ∙ c.in_ok-number.ensures ∙ c.requires.table name) in
+    number_there net c.signals-signals.result.now name c.in-Some.number c.signals-signals.ensures found
+
+pub returns-clause-found : goal.returns-clause-found
+returns-clause-found c =
+    let net = c.args.net.now in
+    let name = c.args.name.now in
+    let found = found_from net.scopes 0 net.signals name c.in-Some.number (sym c.in-Some.is ∙ c.in_ok-number.ensures ∙ c.requires.table name) in
+    found_signal net c.signals-signals.result.now name c.in-Some.number c.index-signals-number.result c.signals-signals.ensures found c.index-signals-number.is
+
+pub returns-clause-width : goal.returns-clause-width
+returns-clause-width c =
+    let net = c.args.net.now in
+    let name = c.args.name.now in
+    let found = found_from net.scopes 0 net.signals name c.in-Some.number (sym c.in-Some.is ∙ c.in_ok-number.ensures ∙ c.requires.table name) in
+    width_there net c.nets-count.ensures.elaborated c.signals-signals.result.now c.signals-signals.ensures c.in-Some.number c.index-signals-number.result
+    (number_there net c.signals-signals.result.now name c.in-Some.number c.signals-signals.ensures found) c.index-signals-number.is

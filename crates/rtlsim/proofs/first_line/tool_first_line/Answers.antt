@@ -1,10 +1,11 @@
-use Rattle.std.proofs.Common.{◌≡◌, List, ℕ, inr, ap, subst, ◌∙◌}
+use Rattle.std.proofs.Common.{◌≡◌, List, ℕ, inr, ap, refl, subst, ◌∙◌}
 use Rattle.std.specs.List.{after_first}
-use Rattle.rtlsim.specs.Inputs.{Reading, GivesNamed, held}
+use Rattle.rtlsim.specs.Inputs.{Reading, GivesNamed, GivesWhole, held}
 use Rattle.rtlsim.specs.Sinks.{Sinks}
 use Rattle.rtl_stim_lines.specs.Lines.{ends_line}
 use Rattle.rtlsim.specs.Lines.{first_line_of}
 use Rattle.rtlsim.specs.Tools.{ServesLine}
+use Rattle.rtlsim.proofs.Refusing.{tells_wordless}
 use Rattle.rtlsim.proofs.first_line.tool_first_line.Goals as goal
 
 pub returns-in-Ok : goal.returns-in-Ok
@@ -16,7 +17,7 @@ returns-in-Ok g c =
     let line : c.first_line.result.0.now ≡ first_line_of all = c.first_line.ensures.line ∙ ap first_line_of c.deref.ensures.value in
     let rest : c.first_line.result.1.now ≡ after_first ends_line all = c.first_line.ensures.rest ∙ ap (after_first ends_line) c.deref.ensures.value in
     let served : ServesLine Gives c.first_line.result.0.now (held c.first_line.result.1.now) left c.serve_line.result o = c.serve_line.ensures in
-    inr (
+    inr (inr (
       all,
       c.in-Ok.ensures.whole,
       (
@@ -24,4 +25,7 @@ returns-in-Ok g c =
         subst (λ (l : List ℕ). ServesLine Gives l (held (after_first ends_line all)) left c.serve_line.result o) line
             (subst (λ (r : List ℕ). ServesLine Gives c.first_line.result.0.now (held r) left c.serve_line.result o) rest served),
       ),
-    )
+    ))
+
+pub returns-in-Err : goal.returns-in-Err
+returns-in-Err g c = tells_wordless (GivesWhole (g.R.Reader.state c.args.reader.now) (g.R.Reader.state c.read_input.new.reader)) _ _ _ _ c.in-Err.fault _ c.of.ensures c.in-Err.ensures.failed refl c.refuse_input.ensures.told c.refuse_input.ensures.status refl

@@ -2,19 +2,25 @@ use mir.Syntax.{w32}
 use mir.Val.{SFits, to_z, of_z}
 use Rattle.std.proofs.lemmas.Int.{ints}
 use Rattle.std.proofs.Common.{◌≡◌, ◌<◌, length, map, ap, ◌∙◌, sym, subst, arith, rules}
-use Rattle.std.specs.Prelude.{◌≢◌, IsErr}
+use Rattle.std.specs.Prelude.{◌≢◌, IsErr, Ok}
 use Rattle.std.proofs.lemmas.Grind.{common_steps}
+use Rattle.rtl_model.specs.bodies.Body as bodies
+use Rattle.rtl_net.specs.Bodies as net
 use Rattle.rtl_net.specs.Bodies.{statements_of}
 use Rattle.vhdl_names_rules.specs.views.Integers.{range_view}
+use Rattle.vhdl_names_rules.specs.views.Vectors.{value_view}
+use Rattle.vhdl_names_units.specs.declared.sequential.Case.{out-Case}
+use Rattle.vhdl_names_units.specs.declared.sequential.If.{out-If}
 use Rattle.vhdl_names_units.specs.views.Sequential as analysed
 use Rattle.vhdl_expand_rules.specs.declared.fault.ElabFault.TheVariants.{NoMemory}
 use Rattle.vhdl_expand_rules.proofs.Steps.{ok}
 use Rattle.vhdl_expand_rules.specs.Statements as definition
 use Rattle.vhdl_expand_bodies.specs.Sites.{site_view}
+use Rattle.vhdl_expand_bodies.specs.Statements.{branches_view, alternatives_view, otherwise_view}
 use Rattle.vhdl_expand_bodies.specs.steps.Statements as steps
 use Rattle.vhdl_expand_bodies.specs.steps.Statements.{after}
 use Rattle.vhdl_expand_bodies.proofs.Links.{expands_along}
-use Rattle.vhdl_expand_bodies.proofs.Parts.{add_gives, after_stops, none_left, null_one, assign_one, assign_none, set_one, set_none, if_one, if_none, case_one, case_none, loop_is, same_turn, turned_goes}
+use Rattle.vhdl_expand_bodies.proofs.Parts.{add_gives, after_stops, none_left, null_one, assign_one, assign_none, set_one, set_none, if_made, if_one, if_none, case_made, case_one, case_none, loop_is, same_turn, turned_goes}
 use Rattle.vhdl_expand_bodies.proofs.Sequences.{list_goes, list_stops, list_ends, turns_go, turns_stop, turns_end}
 use Rattle.vhdl_expand_bodies.proofs.site.Site.+statement.Goals as goal
 
@@ -58,6 +64,25 @@ add_statement-returns-in-Loop t c =
     let h = ap (λ x. definition.statement at (analysed.statement_view x)) c.in-Loop.is
     ∙ loop_is at c.in-Loop.repeated in
     expands_along _ _ _ _ (ap (after _) h) c.add_turns.ensures
+
+pub conditional-returns : goal.conditional-returns
+conditional-returns t c =
+    let made = c.in_ok-branches-2 in
+    let at = site_view c.args.self.now in
+    let is : steps.conditional at (analysed.branches_view (out-If c.args.conditional.now).branches)
+    (analysed.last_of (analysed.option_statements_view (out-If c.args.conditional.now).otherwise))
+    ≡ Ok (bodies.if_of (steps.branches_before (otherwise_view made.otherwise) (branches_view made.branches))) = first_of (search rules, grind (arith, common_steps)) in
+    is ∙ ap Ok (sym (if_made c.byte.result made.branches made.otherwise))
+
+pub selection-returns : goal.selection-returns
+selection-returns t c =
+    let made = c.in_ok-selector-3 in
+    let at = site_view c.args.self.now in
+    let is : steps.selection at (value_view (out-Case c.args.selection.now).selector) (analysed.alternatives_view (out-Case c.args.selection.now).alternatives)
+    (analysed.statements_of (analysed.statements_view (out-Case c.args.selection.now).others))
+    ≡ Ok (bodies.case_of (net.value_view made.selector.value) (steps.alternatives_before (statements_of made.others.items) (alternatives_view made.alternatives)))
+    = first_of (search rules, grind (arith, common_steps)) in
+    is ∙ ap Ok (sym (case_made c.byte.result made.selector.value made.alternatives made.others))
 
 pub add_statements-loop-statement-preserved : goal.add_statements-loop-statement-preserved
 add_statements-loop-statement-preserved t c =
