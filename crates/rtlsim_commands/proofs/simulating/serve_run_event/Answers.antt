@@ -12,5 +12,5 @@ pub returns : goal.returns
 returns g c =
     let work = c.in-Err-run_events_watched in
     serves_faulty _ told.summary c.args.telling.now _ _ _ _ _ work.fault c.in-Ok.ensures.net work.ensures
-    (runs_fault _ _ work.fault _ _ _ work.ensures.does)
+    (runs_fault c.args.stimulus.now c.in-Ok.net work.fault _ (g.O.Sink.state c.args.out.now) (g.O.Sink.state c.run_events_watched.new.out) work.ensures.does)
     c.refuse_net.ensures

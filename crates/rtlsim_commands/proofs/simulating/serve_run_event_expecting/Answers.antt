@@ -13,6 +13,9 @@ returns-in-Err g c =
 pub returns : goal.returns
 returns g c =
     let work = c.in-Err-run_events_expecting in
+    let before = g.O.Sink.state c.args.out.now in
+    let after = g.O.Sink.state c.run_events_expecting.new.out in
     serves_faulty _ told.summary c.args.telling.now _ _ _ _ _ work.fault c.in-Ok.ensures.net work.ensures
-    (expecting_told (RunsEvents c.args.stimulus.now) (OfEvents c.args.stimulus.now) c.args.expected.now _ work.fault _ _ _ (λ f r. runs_fault _ _ f _ _ _ r) work.ensures.does)
+    (expecting_told (RunsEvents c.args.stimulus.now) (OfEvents c.args.stimulus.now) c.args.expected.now c.in-Ok.net work.fault _ before after
+    (λ f r. runs_fault c.args.stimulus.now c.in-Ok.net f _ before after r) work.ensures.does)
     c.refuse_net.ensures
