@@ -1,6 +1,5 @@
 -- A chain of operators on vectors, one operator after another.
 use Rattle.std.proofs.Common.{◌≡◌, ℕ, suc, ◌<◌, List, [], ◌∷◌, ◌++◌, length, get_or, drop, drop-cons, add-one, ◌+◌, Box, Vec, Global, Result, Ok, Err, refl, sym, ap, ◌∙◌, subst}
-use Rattle.std.specs.Prelude.{IsErr}
 use Rattle.rtl_model.specs.bodies.Body as bodies
 use Rattle.rtl_model.specs.bodies.Fits.{width}
 use Rattle.rtl_net.specs.declared.body.Link.{Link}
@@ -15,6 +14,7 @@ use Rattle.vhdl_names_rules.specs.views.Vectors as views
 use Rattle.vhdl_names_rules.specs.units.Expressions as u
 use Rattle.vhdl_names_rules.proofs.rows.Vectors.{view_chain}
 use Rattle.vhdl_expand_rules.specs.declared.fault.ElabFault.{ElabFault}
+use Rattle.vhdl_expand_rules.specs.declared.fault.ElabProblem.{ElabProblem}
 use Rattle.vhdl_expand_rules.specs.Elab.{Elab, ◌>>=◌}
 use Rattle.vhdl_expand_rules.specs.Site.{Site}
 use Rattle.vhdl_expand_rules.specs.Expressions.{operands_fit, operated, vector}
@@ -55,10 +55,10 @@ module _ (at : Site) where
       ∙ ap (λ r. r >>= λ d. steps.all_linked at d (drop (i + 1) ls)) h
 
   -- one that is refused
-  pub next_stops : (begun now : bodies.Expr) (ls : List VectorLink) (i : ℕ) (k : VectorLink) → i < length ls → k ≡ get_or ls i k
-      → steps.all_linked at begun ls ≡ steps.all_linked at now (drop i ls) → IsErr (steps.linked at now k) → IsErr (steps.all_linked at begun ls)
-  next_stops begun now ls i k below is so_far h =
-      subst (λ (r : Elab bodies.Expr). IsErr r)
+  pub next_stops : {problem : ElabProblem} (begun now : bodies.Expr) (ls : List VectorLink) (i : ℕ) (k : VectorLink) → i < length ls → k ≡ get_or ls i k
+      → steps.all_linked at begun ls ≡ steps.all_linked at now (drop i ls) → (steps.linked at now k) ≡ Err problem → (steps.all_linked at begun ls) ≡ Err problem
+  next_stops {problem} begun now ls i k below is so_far h =
+      subst (λ (r : Elab bodies.Expr). r ≡ Err problem)
       (sym (so_far ∙ ap (λ left. steps.all_linked at now left) (next-left ls i k below is)))
       (err_first (steps.linked at now k) _ h)
 
@@ -93,13 +93,13 @@ module _ (at : Site) where
       → vector at (vector_view e) ≡ steps.all_linked at d ls
   chain_goes e start links st ls d h j k given = chain_is e start links st ls h j k ∙ ap (λ r. r >>= λ d. steps.all_linked at d ls) given
 
-  pub chain_stops : (e : Vector) (start : Box VectorStart Global) (links : Vec VectorLink Global) (st : VectorStart)
-      → e ≡ v.Chain start links → st ≡ start.value → IsErr (steps.started at st) → IsErr (vector at (vector_view e))
-  chain_stops e start links st h j given =
-      subst (λ (r : Elab bodies.Expr). IsErr r) (sym (chain_is e start links st links.items h j refl)) (err_first (steps.started at st) _ given)
+  pub chain_stops : {problem : ElabProblem} (e : Vector) (start : Box VectorStart Global) (links : Vec VectorLink Global) (st : VectorStart)
+      → e ≡ v.Chain start links → st ≡ start.value → (steps.started at st) ≡ Err problem → (vector at (vector_view e)) ≡ Err problem
+  chain_stops {problem} e start links st h j given =
+      subst (λ (r : Elab bodies.Expr). r ≡ Err problem) (sym (chain_is e start links st links.items h j refl)) (err_first (steps.started at st) _ given)
 
-  pub more_stops : (e : Vector) (start : Box VectorStart Global) (links : Vec VectorLink Global) (st : VectorStart) (ls : List VectorLink) (d : bodies.Expr)
+  pub more_stops : {problem : ElabProblem} (e : Vector) (start : Box VectorStart Global) (links : Vec VectorLink Global) (st : VectorStart) (ls : List VectorLink) (d : bodies.Expr)
       → e ≡ v.Chain start links → st ≡ start.value → ls ≡ links.items → steps.started at st ≡ Ok d
-      → IsErr (steps.all_linked at d ls) → IsErr (vector at (vector_view e))
-  more_stops e start links st ls d h j k given stopped =
-      subst (λ (r : Elab bodies.Expr). IsErr r) (sym (chain_goes e start links st ls d h j k given)) stopped
+      → (steps.all_linked at d ls) ≡ Err problem → (vector at (vector_view e)) ≡ Err problem
+  more_stops {problem} e start links st ls d h j k given stopped =
+      subst (λ (r : Elab bodies.Expr). r ≡ Err problem) (sym (chain_goes e start links st ls d h j k given)) stopped

@@ -1,6 +1,6 @@
 -- Statements by their parts, in the order in which the code comes to them.
 use Rattle.std.proofs.Common.{◌≡◌, ℕ, zero, suc, ◌≤◌, List, [], ◌∷◌, length, map, drop, Option, Vec, Global, Result, Ok, Err, refl, sym, ap, ◌∙◌, subst, arith}
-use Rattle.std.specs.Prelude.{ℤ, IsErr, OnOk, IfErr}
+use Rattle.std.specs.Prelude.{ℤ, OnOk, IfErr}
 use Rattle.vhdl_names_rules.specs.units.Expressions.{Part, SignalPart, Range}
 use Rattle.vhdl_names_rules.specs.units.Statements as u
 use Rattle.vhdl_names_rules.specs.units.Statements.{Given}
@@ -25,6 +25,7 @@ use Rattle.vhdl_names_units.specs.views.Sequential.{Guarded, Chosen}
 use Rattle.vhdl_names_units.proofs.rows.Sequential as rows
 use Rattle.vhdl_expand_rules.specs.declared.fault.ElabFault.{ElabFault}
 use Rattle.vhdl_expand_rules.specs.declared.fault.ElabFault.TheVariants.{NoMemory}
+use Rattle.vhdl_expand_rules.specs.declared.fault.ElabProblem.{ElabProblem}
 use Rattle.vhdl_expand_rules.specs.Elab.{Elab, ◌>>=◌, each}
 use Rattle.vhdl_expand_rules.specs.Integers.{turns}
 use Rattle.vhdl_expand_rules.specs.Site.{Site, in_loop, place_elements, variable_elements}
@@ -45,7 +46,7 @@ pub add_gives : (view : Unit {0} → bodies.Stmts) (now : bodies.Stmts) (made : 
 add_gives view now made x (Ok u) h added refused = ap (after now) h ∙ ap given (sym added)
 add_gives view now made x (Err fault) h added refused = λ n. absurd (n refused)
 
-pub after_stops : (now : bodies.Stmts) (r : Elab bodies.Stmts) → IsErr r → IsErr (after now r)
+pub after_stops : {problem : ElabProblem} (now : bodies.Stmts) (r : Elab bodies.Stmts) → r ≡ Err problem → (after now r) ≡ Err problem
 after_stops now r h = err_first r _ h
 
 pub none_left : {X : Type 0} (xs : List X) (i : ℕ) → length xs ≤ i → drop i xs ≡ []
@@ -89,8 +90,8 @@ module _ (at : Site) where
   pub assign_one : (p : SignalPart) (g : Given) (x : bodies.Stmt) → assign at p g ≡ Ok x → definition.statement at (u.assign p g) ≡ Ok (one x)
   assign_one p g x h = assign-by p g ∙ ap (λ r. r >>= λ y. given (one y)) h
 
-  pub assign_none : (p : SignalPart) (g : Given) → IsErr (assign at p g) → IsErr (definition.statement at (u.assign p g))
-  assign_none p g h = subst (λ (r : Elab bodies.Stmts). IsErr r) (sym (assign-by p g)) (err_first (assign at p g) _ h)
+  pub assign_none : {problem : ElabProblem} (p : SignalPart) (g : Given) → (assign at p g) ≡ Err problem → (definition.statement at (u.assign p g)) ≡ Err problem
+  assign_none {problem} p g h = subst (λ (r : Elab bodies.Stmts). r ≡ Err problem) (sym (assign-by p g)) (err_first (assign at p g) _ h)
 
   set-by : (k : ℕ) (part : Part) (g : Given) → definition.statement at (u.set k part g) ≡ (set at k part g >>= λ s. given (one s))
   unfolding definition.statement
@@ -99,8 +100,8 @@ module _ (at : Site) where
   pub set_one : (k : ℕ) (part : Part) (g : Given) (x : bodies.Stmt) → set at k part g ≡ Ok x → definition.statement at (u.set k part g) ≡ Ok (one x)
   set_one k part g x h = set-by k part g ∙ ap (λ r. r >>= λ y. given (one y)) h
 
-  pub set_none : (k : ℕ) (part : Part) (g : Given) → IsErr (set at k part g) → IsErr (definition.statement at (u.set k part g))
-  set_none k part g h = subst (λ (r : Elab bodies.Stmts). IsErr r) (sym (set-by k part g)) (err_first (set at k part g) _ h)
+  pub set_none : {problem : ElabProblem} (k : ℕ) (part : Part) (g : Given) → (set at k part g) ≡ Err problem → (definition.statement at (u.set k part g)) ≡ Err problem
+  set_none {problem} k part g h = subst (λ (r : Elab bodies.Stmts). r ≡ Err problem) (sym (set-by k part g)) (err_first (set at k part g) _ h)
 
   -- ---- if
 
@@ -148,9 +149,9 @@ module _ (at : Site) where
       → definition.statement at (units.statement_view (t.If x)) ≡ Ok (one y)
   if_one x y h = if-by x ∙ ap (λ r. r >>= λ y. given (one y)) h
 
-  pub if_none : (x : If) → IsErr (steps.conditional at (units.branches_view (out-If x).branches) (units.last_of (units.option_statements_view (out-If x).otherwise)))
-      → IsErr (definition.statement at (units.statement_view (t.If x)))
-  if_none x h = subst (λ (r : Elab bodies.Stmts). IsErr r) (sym (if-by x)) (err_first (steps.conditional at _ _) _ h)
+  pub if_none : {problem : ElabProblem} (x : If) → (steps.conditional at (units.branches_view (out-If x).branches) (units.last_of (units.option_statements_view (out-If x).otherwise))) ≡ Err problem
+      → (definition.statement at (units.statement_view (t.If x))) ≡ Err problem
+  if_none {problem} x h = subst (λ (r : Elab bodies.Stmts). r ≡ Err problem) (sym (if-by x)) (err_first (steps.conditional at _ _) _ h)
 
   -- ---- case
 
@@ -196,8 +197,8 @@ module _ (at : Site) where
   pub case_one : (x : Case) (y : bodies.Stmt) → selected x ≡ Ok y → definition.statement at (units.statement_view (t.Case x)) ≡ Ok (one y)
   case_one x y h = case-by x ∙ ap (λ r. r >>= λ y. given (one y)) h
 
-  pub case_none : (x : Case) → IsErr (selected x) → IsErr (definition.statement at (units.statement_view (t.Case x)))
-  case_none x h = subst (λ (r : Elab bodies.Stmts). IsErr r) (sym (case-by x)) (err_first (selected x) _ h)
+  pub case_none : {problem : ElabProblem} (x : Case) → (selected x) ≡ Err problem → (definition.statement at (units.statement_view (t.Case x))) ≡ Err problem
+  case_none {problem} x h = subst (λ (r : Elab bodies.Stmts). r ≡ Err problem) (sym (case-by x)) (err_first (selected x) _ h)
 
   -- ---- loop
 

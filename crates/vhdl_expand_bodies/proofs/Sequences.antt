@@ -1,6 +1,6 @@
 -- Statements behind one another, and lists whose elements come one after another.
 use Rattle.std.proofs.Common.{◌≡◌, ℕ, zero, suc, ◌+◌, ◌<◌, ◌≤◌, List, [], ◌∷◌, ◌++◌, length, map, get_or, drop, drop-cons, add-one, Ok, Err, refl, sym, ap, ◌∙◌, subst, arith}
-use Rattle.std.specs.Prelude.{ℤ, IsErr}
+use Rattle.std.specs.Prelude.{ℤ}
 use Rattle.std.proofs.lemmas.Int.{ints}
 use Rattle.std.proofs.lemmas.List.{append-nil, append_assoc}
 use Rattle.vhdl_tree.specs.declared.operator.Direction.{Direction}
@@ -10,6 +10,7 @@ use Rattle.rtl_model.specs.bodies.Body as bodies
 use Rattle.rtl_net.specs.declared.body.Statement.{Statement}
 use Rattle.rtl_net.specs.Bodies as net
 use Rattle.vhdl_names_units.specs.views.Sequential as units
+use Rattle.vhdl_expand_rules.specs.declared.fault.ElabProblem.{ElabProblem}
 use Rattle.vhdl_expand_rules.specs.Elab.{Elab, ◌>>=◌, each}
 use Rattle.vhdl_expand_rules.specs.Integers.{counted, next}
 use Rattle.vhdl_expand_rules.specs.Site.{Site, in_loop}
@@ -41,7 +42,7 @@ after_goes made new (Ok x) (Ok y) h = ap given (sym (followed_assoc made x y) �
 after_goes made new (Ok x) (Err p) h = refl
 after_goes made new (Err p) q h = absurd cc
 
-after_stops : (made : bodies.Stmts) (r q : Elab bodies.Stmts) → IsErr (after made r) → IsErr (after made (r >>= λ x. q >>= λ y. given (bodies.followed_by x y)))
+after_stops : {problem : ElabProblem} (made : bodies.Stmts) (r q : Elab bodies.Stmts) → (after made r) ≡ Err problem → (after made (r >>= λ x. q >>= λ y. given (bodies.followed_by x y))) ≡ Err problem
 after_stops made (Ok x) q h = absurd cc
 after_stops made (Err p) q h = refl
 
@@ -80,11 +81,11 @@ module _ (at : Site) where
       so_far ∙ ap (λ ys. after now (statements at (units.statements_of (map v ys)))) (next-left xs i x below is)
       ∙ after_goes now new (statement at (v x)) (statements at (units.statements_of (map v (drop (i + 1) xs)))) h
 
-  pub list_stops : {X : Type 0} (v : X → u.Statement) (total : Elab bodies.Stmts) (now : bodies.Stmts) (xs : List X) (i : ℕ) (x : X) → i < length xs → x ≡ get_or xs i x
-      → total ≡ after now (statements at (units.statements_of (map v (drop i xs)))) → IsErr (after now (statement at (v x))) → IsErr total
+  pub list_stops : {problem : ElabProblem} {X : Type 0} (v : X → u.Statement) (total : Elab bodies.Stmts) (now : bodies.Stmts) (xs : List X) (i : ℕ) (x : X) → i < length xs → x ≡ get_or xs i x
+      → total ≡ after now (statements at (units.statements_of (map v (drop i xs)))) → (after now (statement at (v x))) ≡ Err problem → total ≡ Err problem
   unfolding statements
-  list_stops v total now xs i x below is so_far h =
-      subst (λ (r : Elab bodies.Stmts). IsErr r)
+  list_stops {problem} v total now xs i x below is so_far h =
+      subst (λ (r : Elab bodies.Stmts). r ≡ Err problem)
       (sym (so_far ∙ ap (λ ys. after now (statements at (units.statements_of (map v ys)))) (next-left xs i x below is)))
       (after_stops now (statement at (v x)) (statements at (units.statements_of (map v (drop (i + 1) xs)))) h)
 
@@ -105,11 +106,11 @@ module _ (at : Site) where
       go (Ok x) (Err p) k = refl
       go (Err p) q k = absurd cc
 
-  turn-stops : (body : u.Statements) (now : bodies.Stmts) (i : ℤ) (is : List ℤ) → IsErr (after now (statements (in_loop at i) body))
-      → IsErr (after now (steps.repeated at body (i ∷ is)))
+  turn-stops : {problem : ElabProblem} (body : u.Statements) (now : bodies.Stmts) (i : ℤ) (is : List ℤ) → (after now (statements (in_loop at i) body)) ≡ Err problem
+      → (after now (steps.repeated at body (i ∷ is))) ≡ Err problem
   turn-stops body now i is h = go (statements (in_loop at i) body) (each (λ j. statements (in_loop at j) body) is) h
     where
-      go : (r : Elab bodies.Stmts) (q : Elab (List bodies.Stmts)) → IsErr (after now r) → IsErr (after now ((r >>= λ y. q >>= λ ys. given (y ∷ ys)) >>= λ ss. given (joined_bodies ss)))
+      go : {problem : ElabProblem} (r : Elab bodies.Stmts) (q : Elab (List bodies.Stmts)) → (after now r) ≡ Err problem → (after now ((r >>= λ y. q >>= λ ys. given (y ∷ ys)) >>= λ ss. given (joined_bodies ss))) ≡ Err problem
       go (Ok x) q k = absurd cc
       go (Err p) q k = refl
 
@@ -121,11 +122,11 @@ module _ (at : Site) where
       so_far ∙ ap (λ js. after now (steps.repeated at body js)) (next-turn direction x count k below ∙ ap (λ j. j ∷ drop (k + 1) (counted direction x count)) (sym is))
       ∙ turn-goes body now new i (drop (k + 1) (counted direction x count)) h
 
-  pub turns_stop : (body : u.Statements) (total : Elab bodies.Stmts) (now : bodies.Stmts) (direction : Direction) (x i : ℤ) (count k : ℕ) → k < count
+  pub turns_stop : {problem : ElabProblem} (body : u.Statements) (total : Elab bodies.Stmts) (now : bodies.Stmts) (direction : Direction) (x i : ℤ) (count k : ℕ) → k < count
       → total ≡ after now (steps.repeated at body (drop k (counted direction x count))) → i ≡ steps.parameter direction x k
-      → IsErr (after now (statements (in_loop at i) body)) → IsErr total
-  turns_stop body total now direction x i count k below so_far is h =
-      subst (λ (r : Elab bodies.Stmts). IsErr r)
+      → (after now (statements (in_loop at i) body)) ≡ Err problem → total ≡ Err problem
+  turns_stop {problem} body total now direction x i count k below so_far is h =
+      subst (λ (r : Elab bodies.Stmts). r ≡ Err problem)
       (sym (so_far ∙ ap (λ js. after now (steps.repeated at body js)) (next-turn direction x count k below ∙ ap (λ j. j ∷ drop (k + 1) (counted direction x count)) (sym is))))
       (turn-stops body now i (drop (k + 1) (counted direction x count)) h)
 
@@ -151,10 +152,10 @@ module _ {A B X : Type 0} (f : A → Elab B) (v : X → A) where
       go (Ok zs) = ap given (sym (append_assoc made (y ∷ []) zs))
       go (Err p) = refl
 
-  pub each_stops : (total : Elab (List B)) (made : List B) (xs : List X) (i : ℕ) (x : X) → i < length xs → x ≡ get_or xs i x
-      → total ≡ behind made (each f (map v (drop i xs))) → IsErr (f (v x)) → IsErr total
-  each_stops total made xs i x below is so_far h =
-      subst (λ (r : Elab (List B)). IsErr r) (sym (so_far ∙ ap (λ zs. behind made (each f (map v zs))) (next-left xs i x below is)))
+  pub each_stops : {problem : ElabProblem} (total : Elab (List B)) (made : List B) (xs : List X) (i : ℕ) (x : X) → i < length xs → x ≡ get_or xs i x
+      → total ≡ behind made (each f (map v (drop i xs))) → (f (v x)) ≡ Err problem → total ≡ Err problem
+  each_stops {problem} total made xs i x below is so_far h =
+      subst (λ (r : Elab (List B)). r ≡ Err problem) (sym (so_far ∙ ap (λ zs. behind made (each f (map v zs))) (next-left xs i x below is)))
       (err_first (f (v x) >>= λ z. each f (map v (drop (i + 1) xs)) >>= λ zs. given (z ∷ zs)) (λ ys. given (made ++ ys)) (err_first (f (v x)) _ h))
 
   pub each_ends : (total : Elab (List B)) (made : List B) (left : List X) → left ≡ [] → total ≡ behind made (each f (map v left)) → total ≡ Ok made

@@ -1,6 +1,5 @@
 -- Conditions: what a chain of operators is not, levels, and chains of logical operators.
 use Rattle.std.proofs.Common.{◌≡◌, ℕ, zero, suc, ◌≤◌, ◌<◌, ◌+◌, Bool, List, [], ◌∷◌, ◌++◌, length, get_or, replicate, drop, drop-cons, add-one, None, Box, Vec, Global, Ok, Err, refl, sym, ap, ◌∙◌, subst, arith}
-use Rattle.std.specs.Prelude.{IsErr}
 use Rattle.std.specs.List.{range_with_len}
 use Rattle.vhdl_values.specs.declared.scalar.Nine.{Nine}
 use Rattle.rtl_model.specs.bodies.Body as bodies
@@ -21,6 +20,7 @@ use Rattle.vhdl_names_rules.specs.views.Tests.{test_view, start_view, test_chain
 use Rattle.vhdl_names_rules.specs.units.Expressions as u
 use Rattle.vhdl_names_rules.proofs.rows.Vectors as rows
 use Rattle.vhdl_names_rules.proofs.rows.Tests.{view_chain}
+use Rattle.vhdl_expand_rules.specs.declared.fault.ElabProblem.{ElabProblem}
 use Rattle.vhdl_expand_rules.specs.Elab.{Elab, ◌>>=◌}
 use Rattle.vhdl_expand_rules.specs.Site.{Site, signal_elements}
 use Rattle.vhdl_expand_rules.specs.Expressions.{levelled, test}
@@ -94,10 +94,10 @@ module _ (at : Site) where
       ∙ ap (λ r. r >>= λ d. steps.all_linked at d (drop (i + 1) ls)) h
 
   -- one that is refused
-  pub next_stops : (begun now : bodies.Test) (ls : List TestLink) (i : ℕ) (k : TestLink) → i < length ls → k ≡ get_or ls i k
-      → steps.all_linked at begun ls ≡ steps.all_linked at now (drop i ls) → IsErr (steps.linked at now k) → IsErr (steps.all_linked at begun ls)
-  next_stops begun now ls i k below is so_far h =
-      subst (λ (r : Elab bodies.Test). IsErr r)
+  pub next_stops : {problem : ElabProblem} (begun now : bodies.Test) (ls : List TestLink) (i : ℕ) (k : TestLink) → i < length ls → k ≡ get_or ls i k
+      → steps.all_linked at begun ls ≡ steps.all_linked at now (drop i ls) → (steps.linked at now k) ≡ Err problem → (steps.all_linked at begun ls) ≡ Err problem
+  next_stops {problem} begun now ls i k below is so_far h =
+      subst (λ (r : Elab bodies.Test). r ≡ Err problem)
       (sym (so_far ∙ ap (λ left. steps.all_linked at now left) (next-left ls i k below is)))
       (err_first (steps.linked at now k) _ h)
 
@@ -138,13 +138,13 @@ module _ (at : Site) where
       → test at (test_view e) ≡ steps.all_linked at d ls
   chain_goes e start links st ls d h j k given = chain_is e start links st ls h j k ∙ ap (λ r. r >>= λ d. steps.all_linked at d ls) given
 
-  pub chain_stops : (e : Test) (start : Box TestStart Global) (links : Vec TestLink Global) (st : TestStart)
-      → e ≡ t.Chain start links → st ≡ start.value → IsErr (steps.started at st) → IsErr (test at (test_view e))
-  chain_stops e start links st h j given =
-      subst (λ (r : Elab bodies.Test). IsErr r) (sym (chain_is e start links st links.items h j refl)) (err_first (steps.started at st) _ given)
+  pub chain_stops : {problem : ElabProblem} (e : Test) (start : Box TestStart Global) (links : Vec TestLink Global) (st : TestStart)
+      → e ≡ t.Chain start links → st ≡ start.value → (steps.started at st) ≡ Err problem → (test at (test_view e)) ≡ Err problem
+  chain_stops {problem} e start links st h j given =
+      subst (λ (r : Elab bodies.Test). r ≡ Err problem) (sym (chain_is e start links st links.items h j refl)) (err_first (steps.started at st) _ given)
 
-  pub more_stops : (e : Test) (start : Box TestStart Global) (links : Vec TestLink Global) (st : TestStart) (ls : List TestLink) (d : bodies.Test)
+  pub more_stops : {problem : ElabProblem} (e : Test) (start : Box TestStart Global) (links : Vec TestLink Global) (st : TestStart) (ls : List TestLink) (d : bodies.Test)
       → e ≡ t.Chain start links → st ≡ start.value → ls ≡ links.items → steps.started at st ≡ Ok d
-      → IsErr (steps.all_linked at d ls) → IsErr (test at (test_view e))
-  more_stops e start links st ls d h j k given stopped =
-      subst (λ (r : Elab bodies.Test). IsErr r) (sym (chain_goes e start links st ls d h j k given)) stopped
+      → (steps.all_linked at d ls) ≡ Err problem → (test at (test_view e)) ≡ Err problem
+  more_stops {problem} e start links st ls d h j k given stopped =
+      subst (λ (r : Elab bodies.Test). r ≡ Err problem) (sym (chain_goes e start links st ls d h j k given)) stopped

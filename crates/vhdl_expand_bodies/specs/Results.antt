@@ -1,10 +1,11 @@
 -- What a call that expands answers.
-use Rattle.std.specs.Prelude.{◌≡◌, ◌≢◌, Result, Ok, Err, IsErr}
+use Rattle.std.specs.Prelude.{◌≡◌, ◌≢◌, Result, Ok, Err}
 use Rattle.vhdl_expand_rules.specs.declared.fault.ElabFault.{ElabFault}
 use Rattle.vhdl_expand_rules.specs.declared.fault.ElabFault.TheVariants.{NoMemory}
-use Rattle.vhdl_expand_rules.specs.Elab.{Elab}
+use Rattle.vhdl_expand_rules.specs.Elab.{Elab, told}
 
--- What is returned, as contracts see it, is what is given; and but for want of memory it is refused only where that is refused.
+-- What is returned, as contracts see it, is what is given; and but for want of memory it is refused only where that is refused, with the
+-- same problem.
 abbrev pub Expands : {X Y : Type 0} → (X → Y) → Elab Y → Result X ElabFault → Type 0
 Expands view given (Ok x) = given ≡ Ok (view x)
-Expands view given (Err fault) = fault ≢ NoMemory → IsErr given
+Expands view given (Err fault) = fault ≢ NoMemory → given ≡ Err (told fault)

@@ -1,6 +1,6 @@
 -- The elements of names, one name after another, and how they are numbered.
 use Rattle.std.proofs.Common.{◌≡◌, ℕ, zero, suc, ◌+◌, ◌<◌, ◌≤◌, List, [], ◌∷◌, ◌++◌, length, get_or, drop, map, take, Some, Ok, Err, All, refl, sym, ap, ◌∙◌, subst, arith}
-use Rattle.std.specs.Prelude.{IsErr, slice_get}
+use Rattle.std.specs.Prelude.{slice_get}
 use Rattle.std.specs.List.Sorted.{IsStrictlyIncreasing}
 use Rattle.std.proofs.lemmas.List.{append_assoc, append-nil}
 use Rattle.std.proofs.lemmas.List.Elements.{All-weaker, All-map}
@@ -10,6 +10,7 @@ use Rattle.vhdl_names_rules.specs.units.Expressions as u
 use Rattle.vhdl_names_rules.specs.units.Expressions.{Signal, Part, SignalPart}
 use Rattle.vhdl_names_rules.specs.units.Statements.{Statements}
 use Rattle.vhdl_expand_rules.specs.declared.fault.ElabProblem.TheVariants.{Index}
+use Rattle.vhdl_expand_rules.specs.declared.fault.ElabProblem.{ElabProblem}
 use Rattle.vhdl_expand_rules.specs.Elab.{Elab, ◌>>=◌, each, found}
 use Rattle.vhdl_expand_rules.specs.Integers.{Integers}
 use Rattle.vhdl_expand_rules.specs.Kinds.{ObjectKind, size, places}
@@ -43,10 +44,10 @@ module _ {A X : Type 0} (f : A → Elab (List ℕ)) (v : X → A) where
       ∙ ap (λ r. behind made ((r >>= λ y. each f (map v (drop (i + 1) xs)) >>= λ zs. given (y ∷ zs)) >>= λ ess. given (concatenated ess))) h
       ∙ step made more es (each f (map v (drop (i + 1) xs))) pushed
 
-  stops : (total : Elab (List ℕ)) (made : List ℕ) (xs : List X) (i : ℕ) (x : X) → i < length xs → x ≡ get_or xs i x
-      → total ≡ behind made (all (drop i xs)) → IsErr (f (v x)) → IsErr total
-  stops total made xs i x below is so_far h =
-      subst (λ (r : Elab (List ℕ)). IsErr r) (sym (so_far ∙ ap (λ zs. behind made (all zs)) (next-left xs i x below is)))
+  stops : {problem : ElabProblem} (total : Elab (List ℕ)) (made : List ℕ) (xs : List X) (i : ℕ) (x : X) → i < length xs → x ≡ get_or xs i x
+      → total ≡ behind made (all (drop i xs)) → (f (v x)) ≡ Err problem → total ≡ Err problem
+  stops {problem} total made xs i x below is so_far h =
+      subst (λ (r : Elab (List ℕ)). r ≡ Err problem) (sym (so_far ∙ ap (λ zs. behind made (all zs)) (next-left xs i x below is)))
       (err_first (each f (map v (x ∷ drop (i + 1) xs)) >>= λ ess. given (concatenated ess)) (λ ys. given (made ++ ys))
       (err_first (each f (map v (x ∷ drop (i + 1) xs))) (λ ess. given (concatenated ess)) (err_first (f (v x)) _ h)))
 
@@ -60,8 +61,8 @@ module _ {X : Type 0} (at : Site) (v : X → SignalPart) where
   unfolding prefixes_elements
   prefixes_go total made more es xs i x below is so_far h pushed = goes (λ p. place_elements at (prefix p)) v total made more es xs i x below is so_far h pushed
 
-  pub prefixes_stop : (total : Elab (List ℕ)) (made : List ℕ) (xs : List X) (i : ℕ) (x : X) → i < length xs → x ≡ get_or xs i x
-      → total ≡ behind made (prefixes_elements at (map v (drop i xs))) → IsErr (place_elements at (prefix (v x))) → IsErr total
+  pub prefixes_stop : {problem : ElabProblem} (total : Elab (List ℕ)) (made : List ℕ) (xs : List X) (i : ℕ) (x : X) → i < length xs → x ≡ get_or xs i x
+      → total ≡ behind made (prefixes_elements at (map v (drop i xs))) → (place_elements at (prefix (v x))) ≡ Err problem → total ≡ Err problem
   unfolding prefixes_elements
   prefixes_stop total made xs i x below is so_far h = stops (λ p. place_elements at (prefix p)) v total made xs i x below is so_far h
 
@@ -75,8 +76,8 @@ module _ {X : Type 0} (at : Site) (v : X → SignalPart) where
   unfolding names_elements
   names_go total made more es xs i x below is so_far h pushed = goes (place_elements at) v total made more es xs i x below is so_far h pushed
 
-  pub names_stop : (total : Elab (List ℕ)) (made : List ℕ) (xs : List X) (i : ℕ) (x : X) → i < length xs → x ≡ get_or xs i x
-      → total ≡ behind made (names_elements at (map v (drop i xs))) → IsErr (place_elements at (v x)) → IsErr total
+  pub names_stop : {problem : ElabProblem} (total : Elab (List ℕ)) (made : List ℕ) (xs : List X) (i : ℕ) (x : X) → i < length xs → x ≡ get_or xs i x
+      → total ≡ behind made (names_elements at (map v (drop i xs))) → (place_elements at (v x)) ≡ Err problem → total ≡ Err problem
   unfolding names_elements
   names_stop total made xs i x below is so_far h = stops (place_elements at) v total made xs i x below is so_far h
 

@@ -1,6 +1,5 @@
 -- The value of a chain of operators on static integers.
 use Rattle.std.proofs.Common.{◌≡◌, ℕ, ◌<◌, List, [], ◌∷◌, Result, Ok, Err, Box, Vec, Global, refl, sym, ap, ◌∙◌, subst, ℤ}
-use Rattle.std.specs.Prelude.{IsErr}
 use Rattle.vhdl_names_rules.specs.declared.operator.Arithmetic.{Arithmetic}
 use Rattle.vhdl_names_rules.specs.declared.integer.Static.TheVariants as s
 use Rattle.vhdl_names_rules.specs.declared.integer.Static.{Static}
@@ -22,23 +21,14 @@ pub bind-assoc : {A B C : Type 0} (r : Elab A) (f : A → Elab B) (g : B → Ela
 bind-assoc (Ok x) f g = refl
 bind-assoc (Err p) f g = refl
 
-pub err_first : {A B : Type 0} (r : Elab A) (f : A → Elab B) → IsErr r → IsErr (r >>= f)
-err_first (Ok x) f h = absurd cc
-err_first (Err p) f h = refl
+pub err_first : {problem : ElabProblem} {A B : Type 0} (r : Elab A) (f : A → Elab B) → r ≡ Err problem → (r >>= f) ≡ Err problem
+err_first {problem} {A} {B} r f h = ap (λ (x : Elab A). x >>= f) h
 
 -- ---- a chain grouped from the left
 
 with_left : (at : Integers) (op : Arithmetic) (t v : u.Static) (x : ℤ) → integer at t ≡ Ok x → integer at (u.Static.binary op t v) ≡ (integer at v >>= λ y. operated op x y)
 unfolding integer
 with_left at op t v x h = ap (λ (r : Elab ℤ). r >>= λ a. integer at v >>= λ b. operated op a b) h
-
-left-err : (at : Integers) (op : Arithmetic) (t v : u.Static) → IsErr (integer at t) → IsErr (integer at (u.Static.binary op t v))
-unfolding integer
-left-err at op t v h = err_first (integer at t) (λ a. integer at v >>= λ b. operated op a b) h
-
-chained-err : (at : Integers) (t : u.Static) (ls : List StaticLink) → IsErr (integer at t) → IsErr (integer at (static_chained t ls))
-chained-err at t [] h = h
-chained-err at t (l ∷ ls) h = chained-err at (u.Static.binary l.operator t (static_view l.operand)) ls (left-err at l.operator t (static_view l.operand) h)
 
 chained-same_err : (at : Integers) (t : u.Static) (p : ElabProblem) (ls : List StaticLink) → integer at t ≡ Err p → integer at (static_chained t ls) ≡ Err p
 unfolding integer
@@ -67,9 +57,9 @@ chain-value at e start links st ls x h j k given =
     ∙ ap (λ (a : StaticStart). integer at (static_chained (start_view a) links.items)) (sym j)
     ∙ chained-from at (start_view st) x links.items given ∙ ap (all_operated at x) (sym k)
 
-pub chain-err : (at : Integers) (e : Static) (start : Box StaticStart Global) (links : Vec StaticLink Global) (st : StaticStart)
-    → e ≡ s.Chain start links → st ≡ start.value → IsErr (integer at (start_view st)) → IsErr (integer at (static_view e))
-chain-err at e start links st h j given =
-    subst (λ (r : Elab ℤ). IsErr r)
+pub chain-err : (at : Integers) (e : Static) (start : Box StaticStart Global) (links : Vec StaticLink Global) (st : StaticStart) (p : ElabProblem)
+    → e ≡ s.Chain start links → st ≡ start.value → integer at (start_view st) ≡ Err p → integer at (static_view e) ≡ Err p
+chain-err at e start links st p h j given =
+    subst (λ (r : Elab ℤ). r ≡ Err p)
     (sym (ap (λ (a : Static). integer at (static_view a)) h ∙ ap (integer at) (view_chain start links) ∙ ap (λ (a : StaticStart). integer at (static_chained (start_view a) links.items)) (sym j)))
-    (chained-err at (start_view st) links.items given)
+    (chained-same_err at (start_view st) p links.items given)

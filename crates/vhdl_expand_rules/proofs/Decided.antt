@@ -1,6 +1,5 @@
 -- The truth of a chain of operators on truths over static integers.
 use Rattle.std.proofs.Common.{◌≡◌, ℕ, ◌<◌, List, [], ◌∷◌, Result, Ok, Err, Box, Vec, Global, sym, ap, ◌∙◌, subst, Bool}
-use Rattle.std.specs.Prelude.{IsErr}
 use Rattle.vhdl_values.specs.declared.kinds.Logic.{Logic}
 use Rattle.vhdl_names_rules.specs.declared.test.StaticTest.TheVariants as s
 use Rattle.vhdl_names_rules.specs.declared.test.StaticTest.{StaticTest}
@@ -16,7 +15,7 @@ use Rattle.vhdl_expand_rules.specs.Integers.{Integers, decision}
 use Rattle.rtl_model.specs.bodies.Tests.{truth}
 use Rattle.vhdl_expand_rules.specs.views.Integers.{Computes}
 use Rattle.vhdl_expand_rules.specs.views.Decisions.{all_decided}
-use Rattle.vhdl_expand_rules.proofs.Chains.{bind-assoc, err_first}
+use Rattle.vhdl_expand_rules.proofs.Chains.{bind-assoc}
 
 -- what a logical operator makes
 abbrev decided : Logic → Bool → Bool → Elab Bool
@@ -30,14 +29,6 @@ computes_along given given' r e h = subst (λ (x : Elab Bool). Computes x r) (sy
 with_left : (at : Integers) (op : Logic) (t v : u.StaticTest) (x : Bool) → decision at t ≡ Ok x → decision at (u.StaticTest.both op t v) ≡ (decision at v >>= λ y. decided op x y)
 unfolding decision
 with_left at op t v x h = ap (λ (r : Elab Bool). r >>= λ a. decision at v >>= λ b. decided op a b) h
-
-left-err : (at : Integers) (op : Logic) (t v : u.StaticTest) → IsErr (decision at t) → IsErr (decision at (u.StaticTest.both op t v))
-unfolding decision
-left-err at op t v h = err_first (decision at t) (λ a. decision at v >>= λ b. decided op a b) h
-
-chained-err : (at : Integers) (t : u.StaticTest) (ls : List StaticTestLink) → IsErr (decision at t) → IsErr (decision at (static_test_chained t ls))
-chained-err at t [] h = h
-chained-err at t (l ∷ ls) h = chained-err at (u.StaticTest.both l.operator t (static_test_view l.operand)) ls (left-err at l.operator t (static_test_view l.operand) h)
 
 chained-same_err : (at : Integers) (t : u.StaticTest) (p : ElabProblem) (ls : List StaticTestLink) → decision at t ≡ Err p → decision at (static_test_chained t ls) ≡ Err p
 unfolding decision
@@ -66,9 +57,9 @@ chain-value at e start links st ls x h j k given =
     ∙ ap (λ (a : StaticTestStart). decision at (static_test_chained (static_start_view a) links.items)) (sym j)
     ∙ chained-from at (static_start_view st) x links.items given ∙ ap (all_decided at x) (sym k)
 
-pub chain-err : (at : Integers) (e : StaticTest) (start : Box StaticTestStart Global) (links : Vec StaticTestLink Global) (st : StaticTestStart)
-    → e ≡ s.Chain start links → st ≡ start.value → IsErr (decision at (static_start_view st)) → IsErr (decision at (static_test_view e))
-chain-err at e start links st h j given =
-    subst (λ (r : Elab Bool). IsErr r)
+pub chain-err : (at : Integers) (e : StaticTest) (start : Box StaticTestStart Global) (links : Vec StaticTestLink Global) (st : StaticTestStart) (p : ElabProblem)
+    → e ≡ s.Chain start links → st ≡ start.value → decision at (static_start_view st) ≡ Err p → decision at (static_test_view e) ≡ Err p
+chain-err at e start links st p h j given =
+    subst (λ (r : Elab Bool). r ≡ Err p)
     (sym (ap (λ (a : StaticTest). decision at (static_test_view a)) h ∙ ap (decision at) (view_static_chain start links) ∙ ap (λ (a : StaticTestStart). decision at (static_test_chained (static_start_view a) links.items)) (sym j)))
-    (chained-err at (static_start_view st) links.items given)
+    (chained-same_err at (static_start_view st) p links.items given)

@@ -1,7 +1,9 @@
--- What elaboration computes, or why it refuses. Where several rules are broken, no contract says which of their problems
--- is told.
+-- What elaboration computes, or why it refuses: by the first broken rule, in the order in which the definitions come to them.
 use Rattle.std.specs.Prelude.{Bool, if◌then◌else◌, List, [], ◌∷◌, Option, Some, None, Result, Ok, Err}
+use Rattle.vhdl_expand_rules.specs.declared.fault.ElabFault.{ElabFault}
+use Rattle.vhdl_expand_rules.specs.declared.fault.ElabFault.TheVariants.{At, NoMemory}
 use Rattle.vhdl_expand_rules.specs.declared.fault.ElabProblem.{ElabProblem}
+use Rattle.vhdl_expand_rules.specs.declared.fault.ElabProblem.TheVariants.{TooMany}
 
 abbrev pub Elab : Type 0 → Type 0
 Elab A = Result A ElabProblem
@@ -14,6 +16,11 @@ abbrev pub ◌>>=◌ : {A B : Type 0} → Elab A → (A → Elab B) → Elab B
 infixl 10 ◌>>◌
 abbrev pub ◌>>◌ : {A B : Type 0} → Elab A → Elab B → Elab B
 p >> q = p >>= (λ _. q)
+
+-- the problem that a fault tells; of want of memory, which is none of a design's, no contract asks it
+abbrev pub told : ElabFault → ElabProblem
+told (At problem at) = problem
+told NoMemory = TooMany
 
 -- a rule, and the problem where it is broken
 abbrev pub unless : ElabProblem → Bool → Elab (Unit {0})

@@ -1,26 +1,26 @@
 -- What contracts see of the code's static integers, and of what it computes.
-use Rattle.std.specs.Prelude.{◌≡◌, List, [], ◌∷◌, ℤ, Option, Some, None, Result, Ok, Err, IsErr}
+use Rattle.std.specs.Prelude.{◌≡◌, List, [], ◌∷◌, ℤ, Option, Some, None, Result, Ok, Err}
 use Rattle.vhdl_names_rules.specs.declared.integer.StaticLink.{StaticLink}
 use Rattle.vhdl_names_rules.specs.views.Integers.{static_view}
 use Rattle.vhdl_expand_rules.specs.declared.fault.ElabFault.{ElabFault}
 use Rattle.vhdl_expand_rules.specs.declared.fault.ElabProblem.TheVariants.{StaticError}
 use Rattle.vhdl_expand_rules.specs.declared.integer.Integers.{Integers}
-use Rattle.vhdl_expand_rules.specs.Elab.{Elab, ◌>>=◌}
+use Rattle.vhdl_expand_rules.specs.Elab.{Elab, ◌>>=◌, told}
 use Rattle.vhdl_expand_rules.specs.Integers as definition
 use Rattle.vhdl_expand_rules.specs.Integers.{checked, operated, integer, decision}
 
 abbrev pub integers_view : Integers → definition.Integers
 integers_view x = record { generics = x.generics.now; constants = x.constants.now; generates = x.generates.now; loops = x.loops.now }
 
--- what is returned is what is computed, and it is refused just where that is
+-- what is returned is what is computed, and it is refused just where that is, with the same problem
 abbrev pub Computes : {X : Type 0} → Elab X → Result X ElabFault → Type 0
 Computes given (Ok x) = given ≡ Ok x
-Computes given (Err fault) = IsErr given
+Computes given (Err fault) = given ≡ Err (told fault)
 
 -- the same of what contracts see of it
 abbrev pub Makes : {X Y : Type 0} → (X → Y) → Elab Y → Result X ElabFault → Type 0
 Makes view given (Ok x) = given ≡ Ok (view x)
-Makes view given (Err fault) = IsErr given
+Makes view given (Err fault) = given ≡ Err (told fault)
 
 -- a result that may not fit its type
 abbrev pub in_range : Option ℤ → Elab ℤ

@@ -1,6 +1,5 @@
 use Rattle.std.proofs.Common.{rules, arith}
 use Rattle.std.proofs.lemmas.Grind.{common_steps}
-use Rattle.std.specs.Prelude.{IsErr}
 use Rattle.vhdl_names_rules.specs.views.Integers.{static_view}
 use Rattle.vhdl_expand_rules.specs.Integers as definition
 use Rattle.vhdl_expand_rules.specs.views.Integers.{integers_view, all_operated}
@@ -9,9 +8,7 @@ use Rattle.vhdl_expand_rules.proofs.integer.Integers.+integer.Goals as goal
 
 pub integer-returns-in_err-first-in-Chain : goal.integer-returns-in_err-first-in-Chain
 integer-returns-in_err-first-in-Chain t c =
-    let refused : IsErr (definition.integer (integers_view c.args.self.now) (static_view c.args.value.now)) =
-    chain-err (integers_view c.args.self.now) c.args.value.now c.in-Chain.start c.in-Chain.links _ c.in-Chain.is c.deref-in-Chain.ensures c.in_err-first-in-Chain.ensures in
-    first_of (search rules, grind (arith, common_steps))
+    chain-err (integers_view c.args.self.now) c.args.value.now c.in-Chain.start c.in-Chain.links _ _ c.in-Chain.is c.deref-in-Chain.ensures c.in_err-first-in-Chain.ensures
 
 pub integer-returns-in_ok-first-in-Chain : goal.integer-returns-in_ok-first-in-Chain
 integer-returns-in_ok-first-in-Chain t c =
