@@ -76,7 +76,8 @@ fn remainder(left: i32, right: i32, at: usize) -> Result<i32, ElabFault>
     if right == -1 {
         return Ok(0);
     }
-    within(left.checked_rem(right), at)
+    let remainder = within(left.checked_rem(right), at)?;
+    Ok(remainder)
 }
 
 /// `left mod right`, which has the sign of the divisor.
@@ -90,7 +91,8 @@ fn modulus(left: i32, right: i32, at: usize) -> Result<i32, ElabFault>
         remainder < 0
     };
     if opposite {
-        within(remainder.checked_add(right), at)
+        let sum = within(remainder.checked_add(right), at)?;
+        Ok(sum)
     } else {
         Ok(remainder)
     }

@@ -204,6 +204,7 @@ impl Integers<'_> {
     {
         let left = self.integer(&range.left, at)?;
         let right = self.integer(&range.right, at)?;
-        bounds.slice(range.direction, left, right, at)
+        let run = bounds.slice(range.direction, left, right, at)?;
+        Ok(run)
     }
 }
