@@ -1,6 +1,6 @@
 -- The parts that are made show the net of the numbered design.
-use Rattle.std.proofs.Common.{◌≡◌, ℕ, zero, suc, ◌+◌, ◌<◌, Bool, true, false, not, ◌&&◌, List, [], ◌∷◌, ◌++◌, length, map, All, Ok, refl, sym, ap, ◌∙◌, subst, arith}
-use Rattle.std.specs.Prelude.{nat_le, slice_index, flat_map, IsErr}
+use Rattle.std.proofs.Common.{◌≡◌, ℕ, zero, suc, ◌+◌, ◌<◌, Bool, true, false, not, ◌&&◌, List, [], ◌∷◌, ◌++◌, length, map, All, Ok, Err, refl, sym, ap, ◌∙◌, subst, arith}
+use Rattle.std.specs.Prelude.{nat_le, slice_index, flat_map}
 use Rattle.std.specs.List.{AllZip, AllByRecursion, list_any, range_with_len, enumerate_from}
 use Rattle.std.proofs.lemmas.List.{length-map}
 use Rattle.std.proofs.lemmas.List.Elements.{All-nil, All-cons, All-weaker}
@@ -12,6 +12,7 @@ use Rattle.rtl_net.specs.declared.process.Process.{Process}
 use Rattle.rtl_net.specs.Elaborated.{ReadsOfBody}
 use Rattle.rtl_net.specs.Nets.{scope_view, signal_view, type_of, process_view}
 use Rattle.rtl_net.specs.Parts.{idle_at, assembled}
+use Rattle.vhdl_expand_rules.specs.declared.fault.ElabProblem.{ElabProblem}
 use Rattle.vhdl_expand_rules.specs.declared.fault.ElabProblem.TheVariants.{TwoUnresolved, ReadOfShared}
 use Rattle.vhdl_expand_rules.specs.Elab.{Elab, ◌>>◌, unless}
 use Rattle.vhdl_elab_rules.specs.Numbering.{Placed, Located, Numbered}
@@ -138,16 +139,16 @@ module _ (d : Numbered) (m : Made) (h : IsTold d m) (same : length m.kinds.items
 
   -- ---- accepted and refused
 
+  abbrev refused : ElabProblem → Elab Shown
+  refused problem = Err problem
+
   wired-by : (a b : Bool) → has_two_unresolved d ≡ a → has_read_of_shared d (flat_net d) ≡ b → as_shown (wired d) ≡ as_shown (unless TwoUnresolved (not a) >> (unless ReadOfShared (not b) >> Ok (net_of d)))
   wired-by a b p q = λ i. as_shown (unless TwoUnresolved (not (p i)) >> (unless ReadOfShared (not (q i)) >> Ok (net_of d)))
 
-  pub is-refused : NetsAreThere d → IsRefused m → IsErr (as_shown (wired d))
-  is-refused there (two_unresolved e) = subst (λ (r : Elab Shown). IsErr r) (sym (wired-by true (has_read_of_shared d (flat_net d)) (sym two-is ∙ e) refl)) refl
-  is-refused there (read_of_shared table t e) = by (has_two_unresolved d) refl
-    where
-      by : (a : Bool) → has_two_unresolved d ≡ a → IsErr (as_shown (wired d))
-      by true p = subst (λ (r : Elab Shown). IsErr r) (sym (wired-by true true p (sym (reads-are table t there) ∙ e))) refl
-      by false p = subst (λ (r : Elab Shown). IsErr r) (sym (wired-by false true p (sym (reads-are table t there) ∙ e))) refl
+  pub is-refused : (problem : ElabProblem) → NetsAreThere d → IsRefused m problem → as_shown (wired d) ≡ Err problem
+  is-refused problem there (two_unresolved is e) = wired-by true (has_read_of_shared d (flat_net d)) (sym two-is ∙ e) refl ∙ ap (λ (q : ElabProblem). refused q) (sym is)
+  is-refused problem there (read_of_shared is resolved table t e) =
+      wired-by false true (sym two-is ∙ resolved) (sym (reads-are table t there) ∙ e) ∙ ap (λ (q : ElabProblem). refused q) (sym is)
 
   pub is-shown : (w : Wires) (p : Parts) → NetsAreThere d → IsWires m w → p ≡ record {
     kinds = m.kinds;

@@ -2,6 +2,8 @@
 use Rattle.std.specs.Prelude.{◌≡◌, ℕ, true, false, List, ◌++◌, length, map, slice_index}
 use Rattle.std.specs.List.{list_any, zip, range_with_len}
 use Rattle.smallvec.specs.SmallVec.{SmallVec}
+use Rattle.vhdl_expand_rules.specs.declared.fault.ElabProblem.{ElabProblem}
+use Rattle.vhdl_expand_rules.specs.declared.fault.ElabProblem.TheVariants.{TwoUnresolved, ReadOfShared}
 use Rattle.vhdl_connect_processes.specs.Held.{Holds, processes_hold, idle_hold, items_at, start_with}
 use Rattle.vhdl_connect.specs.declared.made.Made.{Made}
 use Rattle.vhdl_connect.specs.declared.wires.Wires.{Wires}
@@ -24,6 +26,8 @@ pub record IsWires (m : Made) (w : Wires) : Type 0 where
   pub unresolved : list_any is_two_unresolved (used m) ≡ false
   pub shared : list_any (is_read_of_shared table) (used m) ≡ false
 
-pub data IsRefused (m : Made) : Type 0 where
-  two_unresolved : list_any is_two_unresolved (used m) ≡ true → IsRefused m
-  read_of_shared : (table : List (SmallVec ℕ)) → IsHeld m table → list_any (is_read_of_shared table) (used m) ≡ true → IsRefused m
+-- with this problem
+pub data IsRefused (m : Made) (problem : ElabProblem) : Type 0 where
+  two_unresolved : problem ≡ TwoUnresolved → list_any is_two_unresolved (used m) ≡ true → IsRefused m problem
+  read_of_shared : problem ≡ ReadOfShared → list_any is_two_unresolved (used m) ≡ false → (table : List (SmallVec ℕ)) → IsHeld m table
+      → list_any (is_read_of_shared table) (used m) ≡ true → IsRefused m problem

@@ -1,13 +1,14 @@
 -- Expansion within the limits, and then connection, is elaboration.
 use Rattle.std.proofs.Common.{◌≡◌, ℕ, Bool, true, false, not, List, Ok, Err, All, refl, sym, ap, ◌∙◌, subst}
-use Rattle.std.specs.Prelude.{IsErr, IsTrue}
+use Rattle.std.specs.Prelude.{IsTrue}
 use Rattle.rtl_net.specs.Nets.{NetlistView}
 use Rattle.rtl_net.specs.Elaborated.{ReadsOfBody, IsNet}
 use Rattle.vhdl_names_rules.specs.units.Units.{Units}
 use Rattle.vhdl_names_rules.specs.sound.Units.{are_sound}
 use Rattle.vhdl_names_rules.specs.sound.Named.{are_named}
+use Rattle.vhdl_expand_rules.specs.declared.fault.ElabProblem.{ElabProblem}
 use Rattle.vhdl_expand_rules.specs.declared.fault.ElabProblem.TheVariants.{TwoUnresolved, ReadOfShared, TooMany}
-use Rattle.vhdl_expand_rules.specs.Elab.{Elab, ◌>>=◌, ◌>>◌, unless}
+use Rattle.vhdl_expand_rules.specs.Elab.{Elab, ◌>>=◌, ◌>>◌, unless, MayTell}
 use Rattle.vhdl_expand_rules.specs.Expansion.{Design, expanded_design}
 use Rattle.vhdl_expand_rules.proofs.Steps.{given, ok, bound}
 use Rattle.vhdl_elab_rules.specs.Numbering.{Numbered, numbered_design}
@@ -15,6 +16,7 @@ use Rattle.vhdl_elab_rules.specs.Wiring.{flat_net}
 use Rattle.vhdl_elab_rules.specs.Limits.{counts, is_within_limits, has_two_unresolved, has_read_of_shared}
 use Rattle.vhdl_elab_rules.specs.Elaboration.{Elaborated, net_of, connected, elaborated_net}
 use Rattle.vhdl_expand_tree.specs.Costs.{instance_costs, is_within, limits}
+use Rattle.vhdl_expand_tree.proofs.Alike.{tells_same, tells_first, tells_again}
 use Rattle.vhdl_expand_tree.proofs.Counts.{each-design-costs-its-parts}
 use Rattle.vhdl_elab_laws.specs.Shown.{shown, as_shown, net_shown}
 use Rattle.vhdl_elab_laws.proofs.Nets.{each-elaborated-is-net}
@@ -40,28 +42,24 @@ is-within units top design h = let d = bound (expanded_design units top) _ desig
     by x false e k = absurd cc
 
 -- beyond the limits nothing is connected
-beyond : (design : Design) → is_within (instance_costs design.top) limits ≡ false → IsErr (connected design)
+beyond : (design : Design) → is_within (instance_costs design.top) limits ≡ false → connected design ≡ Err TooMany
 unfolding connected
 beyond design h =
     let d : Numbered = numbered_design design in
     let over : is_within_limits (counts d) ≡ false = (each-design-costs-its-parts design).within ∙ h in
-    subst (λ (t : Bool). IsErr (unless TooMany t >> (unless TwoUnresolved (not (has_two_unresolved d)) >> (unless ReadOfShared (not (has_read_of_shared d (flat_net d))) >> given (net_of d))))) (sym over) refl
+    ap (λ (t : Bool). unless TooMany t >> (unless TwoUnresolved (not (has_two_unresolved d)) >> (unless ReadOfShared (not (has_read_of_shared d (flat_net d))) >> given (net_of d)))) over
 
-refused-in : (r : Elab Design) → IsErr (within_limits r) → IsErr (r >>= λ d. connected d)
-refused-in (Err p) h = refl
-refused-in (Ok d) h = by (is_within (instance_costs d.top) limits) refl h
+refused-in : (problem : ElabProblem) (r : Elab Design) → MayTell (within_limits r) problem → MayTell (r >>= λ d. connected d) problem
+refused-in problem (Err p) h = tells_again {Design} {Elaborated} p problem h
+refused-in problem (Ok d) h = by (is_within (instance_costs d.top) limits) refl h
   where
-    by : (t : Bool) → is_within (instance_costs d.top) limits ≡ t → IsErr (unless TooMany t >> given d) → IsErr (connected d)
-    by true e k = absurd cc
-    by false e k = beyond d e
+    by : (t : Bool) → is_within (instance_costs d.top) limits ≡ t → MayTell (unless TooMany t >> given d) problem → MayTell (connected d) problem
+    by true e k = let r = k.refused in absurd cc
+    by false e k = tells_same (beyond d e) (tells_again {Design} {Elaborated} TooMany problem k)
 
-pub refused : (units : Units) (top : List ℕ) → IsErr (within_limits (expanded_design units top)) → IsErr (as_shown (elaborated_net units top))
+pub refused : {problem : ElabProblem} → (units : Units) (top : List ℕ) → MayTell (within_limits (expanded_design units top)) problem → MayTell (as_shown (elaborated_net units top)) problem
 unfolding elaborated_net
-refused units top h = then-refused (expanded_design units top >>= λ d. connected d) (refused-in (expanded_design units top) h)
-  where
-    then-refused : (r : Elab Elaborated) → IsErr r → IsErr (as_shown r)
-    then-refused (Err p) e = refl
-    then-refused (Ok x) e = absurd cc
+refused {problem} units top h = tells_first (expanded_design units top >>= λ d. connected d) _ (refused-in problem (expanded_design units top) h)
 
 -- what connection shows is a net
 pub connected-is-net : (units : Units) (top : List ℕ) (design : Design) (net : NetlistView) → IsTrue (are_sound units) → IsTrue (are_named units) → within_limits (expanded_design units top) ≡ Ok design

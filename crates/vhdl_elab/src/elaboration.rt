@@ -4,7 +4,7 @@ ghost use Rattle.std.specs.Prelude.{IsTrue};
 ghost use Rattle.vhdl_names_rules.specs.sound.Units.{are_sound};
 ghost use Rattle.vhdl_names_rules.specs.sound.Named.{are_named};
 ghost use Rattle.vhdl_names_units.specs.views.Units.{units_view};
-ghost use Rattle.vhdl_expand_bodies.specs.Results.{Expands};
+ghost use Rattle.vhdl_expand_bodies.specs.Results.{Charges};
 ghost use Rattle.vhdl_elab_rules.specs.Elaboration.{elaborated_net};
 ghost use Rattle.vhdl_elab_laws.specs.Shown.{as_shown, net_shown};
 
@@ -21,7 +21,7 @@ use vhdl_names_units::Units;
 pub fn elaborate(alloc: Global, units: &Units, top: &[u8]) -> Result<Net, ElabFault>
     requires sound { IsTrue (are_sound (units_view units.now)) }
     requires named { IsTrue (are_named (units_view units.now)) }
-    ensures { Expands net_shown (as_shown (elaborated_net (units_view units.now) top.now)) result }
+    ensures { Charges net_shown (as_shown (elaborated_net (units_view units.now) top.now)) result }
 {
     let design = expand(alloc, units, top)?;
     let parts = connect(alloc, design)?;

@@ -52,9 +52,9 @@ process-dotted at p q h g =
     let vs = bound (each (variable at.site) p.variables) _ q g in
     let ds = bound (prefixes_elements at.site (targets p.body)) _ q vs.then_gave in
     let on = bound (sensitivity at.site p.sensitivity p.body) _ q ds.then_gave in
-    let body = bound (statements (with_variables at.site vs.x) p.body) _ q on.then_gave in
-    let m = bound (statements_turns at.site p.body) _ q body.then_gave in
-    subst (λ (r : t.Process). IsDotted r.prefix) (ok _ q m.then_gave) h
+    let m = bound (statements_turns at.site p.body) _ q on.then_gave in
+    let body = bound (statements (with_variables at.site vs.x) p.body) _ q m.then_gave in
+    subst (λ (r : t.Process). IsDotted r.prefix) (ok _ q body.then_gave) h
 
 followed-dotted : (a b : Parts) → PartsAreDotted a → PartsAreDotted b → PartsAreDotted (followed_by a b)
 followed-dotted no_parts b h k = k

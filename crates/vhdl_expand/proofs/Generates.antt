@@ -1,6 +1,6 @@
 -- Generates, behind what is made so far.
 use Rattle.std.proofs.Common.{◌≡◌, ℕ, zero, suc, ◌+◌, ◌<◌, ◌≤◌, Bool, true, false, if◌then◌else◌, List, [], ◌∷◌, ◌++◌, length, sum, drop, Ok, Err, refl, sym, ap, ◌∙◌, subst, arith}
-use Rattle.std.specs.Prelude.{ℤ, IsErr, fold, codes}
+use Rattle.std.specs.Prelude.{ℤ, fold, codes}
 use Rattle.std.specs.Fmt.{signed_decimal}
 use Rattle.std.proofs.lemmas.Int.{ints}
 use Rattle.vhdl_tree.specs.declared.operator.Direction.{Direction}
@@ -8,17 +8,19 @@ use Rattle.vhdl_tree.specs.declared.operator.Direction.TheVariants.{To, Downto}
 use Rattle.vhdl_names_rules.specs.units.Expressions.{Range, StaticTest}
 use Rattle.vhdl_names_rules.specs.units.Units as u
 use Rattle.vhdl_names_rules.specs.units.Units.{Units}
-use Rattle.vhdl_expand_rules.specs.Elab.{Elab, ◌>>=◌, each}
+use Rattle.vhdl_expand_rules.specs.declared.fault.ElabProblem.{ElabProblem}
+use Rattle.vhdl_expand_rules.specs.Elab.{Elab, ◌>>=◌, each, MayTell}
 use Rattle.vhdl_expand_rules.specs.Integers.{turns, decision, counted, next}
 use Rattle.vhdl_expand_rules.specs.Tree.{Parts, no_parts, followed_by}
 use Rattle.vhdl_expand_rules.specs.Expansion as definition
 use Rattle.vhdl_expand_rules.specs.Expansion.{Spot, instance_of, in_branch, joined, dotted}
 use Rattle.vhdl_expand_rules.proofs.Steps.{given}
-use Rattle.vhdl_expand_tree.proofs.Alike.{Alike, alike_same, alike_after, alike_trans, both_refused}
+use Rattle.vhdl_expand_tree.proofs.Alike.{Alike, alike_same, alike_after, alike_trans, tells_same}
 use Rattle.vhdl_expand.specs.Making as made
 use Rattle.vhdl_expand.specs.Making.{Made, Progress, and_then, adding, together, made_turns}
 use Rattle.vhdl_expand.specs.Spots.{within}
 use Rattle.vhdl_expand.specs.Turns.{parameter}
+use Rattle.vhdl_expand.proofs.Counted.{concurrents_counted}
 use Rattle.vhdl_expand.proofs.Making.{in_turn, added_alike, goes, stops, ends, none_added}
 
 -- ---- the values of the parameter
@@ -57,8 +59,8 @@ first-turns : (n : ℕ) (ps : Elab (List Parts)) (ns : Elab (List ℕ))
     → Alike (together (ps >>= λ xs. given (joined xs)) (ns >>= λ ms. given (n + sum ms)))
     (in_turn (given (made_turns n)) (together (ps >>= λ xs. given (joined xs)) (ns >>= λ ms. given (sum ms))))
 first-turns n (Ok xs) (Ok ms) = alike_same refl
-first-turns n (Ok xs) (Err problem) = both_refused refl
-first-turns n (Err problem) ns = both_refused refl
+first-turns n (Ok xs) (Err problem) = alike_same refl
+first-turns n (Err problem) ns = alike_same refl
 
 sum-from : (n m : ℕ) (ns : List ℕ) → fold ◌+◌ (n + m) ns ≡ n + fold ◌+◌ m ns
 sum-from n m [] = refl
@@ -74,15 +76,15 @@ sum-more : (n : ℕ) (ns : List ℕ) → sum (n ∷ ns) ≡ n + sum ns
 sum-more n ns = ap (λ m. fold ◌+◌ m ns) (no-first n) ∙ sum-from n 0 ns
 
 -- a turn and then the others
-one-turn : (p : Elab Parts) (ps : Elab (List Parts)) (m : Elab ℕ) (ms : Elab (List ℕ))
+one-turn : (p : Elab Parts) (ps : Elab (List Parts)) (m : Elab ℕ) (ms : Elab (List ℕ)) → ((x : Parts) → p ≡ Ok x → (k : ℕ) × (m ≡ Ok k))
     → Alike (together ((p >>= λ x. ps >>= λ xs. given (x ∷ xs)) >>= λ xs. given (joined xs)) ((m >>= λ n. ms >>= λ ns. given (n ∷ ns)) >>= λ ns. given (sum ns)))
     (in_turn (together p m) (together (ps >>= λ xs. given (joined xs)) (ms >>= λ ns. given (sum ns))))
-one-turn (Ok x) (Ok xs) (Ok n) (Ok ns) = alike_same (ap (λ m. given (record { parts = followed_by x (joined xs); turns = m })) (sum-more n ns))
-one-turn (Ok x) (Ok xs) (Ok n) (Err problem) = both_refused refl
-one-turn (Ok x) (Ok xs) (Err problem) ms = both_refused refl
-one-turn (Ok x) (Err problem) (Ok n) ms = both_refused refl
-one-turn (Ok x) (Err problem) (Err other) ms = both_refused refl
-one-turn (Err problem) ps m ms = both_refused refl
+one-turn (Ok x) (Ok xs) (Ok n) (Ok ns) counted = alike_same (ap (λ m. given (record { parts = followed_by x (joined xs); turns = m })) (sum-more n ns))
+one-turn (Ok x) (Ok xs) (Ok n) (Err problem) counted = alike_same refl
+one-turn (Ok x) (Ok xs) (Err problem) ms counted = alike_same refl
+one-turn (Ok x) (Err problem) (Ok n) ms counted = alike_same refl
+one-turn (Ok x) (Err problem) (Err other) ms counted = let e = (counted x refl).1 in absurd cc
+one-turn (Err problem) ps m ms counted = alike_same refl
 
 module _ (units : Units) (levels : ℕ) (at : Spot) (label : List ℕ) (body : u.Concurrents) where
   -- of a turn whose parameter has this value, and of several turns
@@ -112,8 +114,8 @@ module _ (units : Units) (levels : ℕ) (at : Spot) (label : List ℕ) (body : u
           together (q >>= λ is. each (λ i. definition.concurrents units (instance_of units levels) (definition.in_turn at label i) body) is >>= λ ps. given (joined ps))
           (q >>= λ is. each (λ i. definition.concurrents_turns (definition.in_turn at label i) body) is >>= λ ns. given (length is + sum ns))
 
-  turns-refused : (r : Range) (is : List ℤ) (old : Progress) → turns at.site.integers r ≡ Ok is → IsErr (adding old (given (made_turns (length is))))
-      → IsErr (adding old (for_each r))
+  turns-refused : {problem : ElabProblem} → (r : Range) (is : List ℤ) (old : Progress) → turns at.site.integers r ≡ Ok is → MayTell (adding old (given (made_turns (length is)))) problem
+      → MayTell (adding old (for_each r)) problem
   unfolding definition.concurrent definition.concurrent_turns
   turns-refused r is old h k =
       stops (adding old (for_each r)) old (given (made_turns (length is))) (all_turned is) (alike_trans (alike_same (ap (λ q. adding old (by q)) h)) (added_alike old _ _ (first-turns (length is) _ _))) k
@@ -128,29 +130,26 @@ module _ (units : Units) (levels : ℕ) (at : Spot) (label : List ℕ) (body : u
   turns_begin r direction x count old now h k =
       turns-begin r (counted direction x count) old now h (ap (λ n. adding old (given (made_turns n))) (counted-length direction x count) ∙ k)
 
-  pub turns_refused : (r : Range) (direction : Direction) (x : ℤ) (count : ℕ) (old : Progress) → turns at.site.integers r ≡ Ok (counted direction x count)
-      → IsErr (adding old (given (made_turns count))) → IsErr (adding old (for_each r))
+  pub turns_refused : {problem : ElabProblem} → (r : Range) (direction : Direction) (x : ℤ) (count : ℕ) (old : Progress) → turns at.site.integers r ≡ Ok (counted direction x count)
+      → MayTell (adding old (given (made_turns count))) problem → MayTell (adding old (for_each r)) problem
   turns_refused r direction x count old h k =
-      turns-refused r (counted direction x count) old h (subst (λ n. IsErr (adding old (given (made_turns n)))) (sym (counted-length direction x count)) k)
+      turns-refused r (counted direction x count) old h (tells_same (ap (λ n. adding old (given (made_turns n))) (counted-length direction x count)) k)
 
-  pub no_turns : (r : Range) (old : Progress) → IsErr (turns at.site.integers r) → IsErr (adding old (for_each r))
+  pub no_turns : {problem : ElabProblem} → (r : Range) (old : Progress) → turns at.site.integers r ≡ Err problem → adding old (for_each r) ≡ Err problem
   unfolding definition.concurrent definition.concurrent_turns
-  no_turns r old h = go (turns at.site.integers r) h
+  no_turns r old h = ap (λ q. adding old (by q)) h
     where
       by : Elab (List ℤ) → Elab Made
       by q =
           together (q >>= λ is. each (λ i. definition.concurrents units (instance_of units levels) (definition.in_turn at label i) body) is >>= λ ps. given (joined ps))
           (q >>= λ is. each (λ i. definition.concurrents_turns (definition.in_turn at label i) body) is >>= λ ns. given (length is + sum ns))
 
-      go : (q : Elab (List ℤ)) → IsErr q → IsErr (adding old (by q))
-      go (Ok is) e = absurd cc
-      go (Err problem) e = refl
-
   next-turned : (now : Progress) (direction : Direction) (x i : ℤ) (count k : ℕ) → k < count → i ≡ parameter direction x k
       → Alike (adding now (all_turned (drop k (counted direction x count)))) (adding now (in_turn (turned i) (all_turned (drop (k + 1) (counted direction x count)))))
   next-turned now direction x i count k below is =
       alike_after (ap (λ js. adding now (all_turned js)) (next-turn direction x count k below ∙ ap (λ j. j ∷ drop (k + 1) (counted direction x count)) (sym is)))
-      (added_alike now _ _ (one-turn (definition.concurrents units (instance_of units levels) (definition.in_turn at label i) body) _ (definition.concurrents_turns (definition.in_turn at label i) body) _))
+      (added_alike now _ _ (one-turn (definition.concurrents units (instance_of units levels) (definition.in_turn at label i) body) _ (definition.concurrents_turns (definition.in_turn at label i) body) _
+      (concurrents_counted units (instance_of units levels) (definition.in_turn at label i) body)))
 
   pub turns_go : (total : Elab Progress) (now new : Progress) (direction : Direction) (x i : ℤ) (count k : ℕ) → k < count → i ≡ parameter direction x k
       → Alike total (adding now (all_turned (drop k (counted direction x count)))) → adding now (turned i) ≡ Ok new
@@ -158,8 +157,8 @@ module _ (units : Units) (levels : ℕ) (at : Spot) (label : List ℕ) (body : u
   turns_go total now new direction x i count k below is so_far h =
       goes total now new (turned i) (all_turned (drop (k + 1) (counted direction x count))) (alike_trans so_far (next-turned now direction x i count k below is)) h
 
-  pub turns_stop : (total : Elab Progress) (now : Progress) (direction : Direction) (x i : ℤ) (count k : ℕ) → k < count → i ≡ parameter direction x k
-      → Alike total (adding now (all_turned (drop k (counted direction x count)))) → IsErr (adding now (turned i)) → IsErr total
+  pub turns_stop : {problem : ElabProblem} → (total : Elab Progress) (now : Progress) (direction : Direction) (x i : ℤ) (count k : ℕ) → k < count → i ≡ parameter direction x k
+      → Alike total (adding now (all_turned (drop k (counted direction x count)))) → MayTell (adding now (turned i)) problem → MayTell total problem
   turns_stop total now direction x i count k below is so_far h =
       stops total now (turned i) (all_turned (drop (k + 1) (counted direction x count))) (alike_trans so_far (next-turned now direction x i count k below is)) h
 
@@ -190,11 +189,8 @@ module _ (units : Units) (levels : ℕ) (at : Spot) (label : List ℕ) (body : u
       (q >>= λ holds. if holds then definition.concurrents_turns (in_branch at label) body else Ok 0))) h
       ∙ none_added old
 
-  pub no_branch : (test : StaticTest) (old : Progress) → IsErr (decision at.site.integers test) → IsErr (adding old (if_holding test))
+  pub no_branch : {problem : ElabProblem} → (test : StaticTest) (old : Progress) → decision at.site.integers test ≡ Err problem → adding old (if_holding test) ≡ Err problem
   unfolding definition.concurrent definition.concurrent_turns
-  no_branch test old h = go (decision at.site.integers test) h
-    where
-      go : (q : Elab Bool) → IsErr q → IsErr (adding old (together (q >>= λ holds. if holds then definition.concurrents units (instance_of units levels) (in_branch at label) body else Ok no_parts)
-          (q >>= λ holds. if holds then definition.concurrents_turns (in_branch at label) body else Ok 0)))
-      go (Ok holds) e = absurd cc
-      go (Err problem) e = refl
+  no_branch test old h =
+      ap (λ (q : Elab Bool). adding old (together (q >>= λ holds. if holds then definition.concurrents units (instance_of units levels) (in_branch at label) body else Ok no_parts)
+      (q >>= λ holds. if holds then definition.concurrents_turns (in_branch at label) body else Ok 0))) h

@@ -1,3 +1,4 @@
+pub mod Counted
 pub mod Making
 pub mod Statements
 pub mod Generates

@@ -1,16 +1,18 @@
 -- Parts and turns behind those that are made so far, with what is left of the limits.
-use Rattle.std.proofs.Common.{◌≡◌, ℕ, ◌+◌, ◌-◌, ◌≤◌, Bool, true, false, ◌&&◌, nat_le, Ok, Err, refl, sym, ap, ◌∙◌, subst, arith}
-use Rattle.std.specs.Prelude.{IsErr}
+use Rattle.std.proofs.Common.{◌≡◌, ℕ, ◌+◌, ◌-◌, ◌≤◌, Bool, true, false, ◌&&◌, nat_le, Result, Ok, Err, refl, sym, ap, ◌∙◌, subst, arith}
 use Rattle.std.proofs.lemmas.Bool.{leb-true}
+use Rattle.vhdl_expand_rules.specs.declared.fault.ElabFault.{ElabFault}
+use Rattle.vhdl_expand_rules.specs.declared.fault.ElabProblem.{ElabProblem}
 use Rattle.vhdl_expand_rules.specs.declared.fault.ElabProblem.TheVariants.{TooMany}
-use Rattle.vhdl_expand_rules.specs.Elab.{Elab, ◌>>=◌, ◌>>◌, unless}
+use Rattle.vhdl_expand_rules.specs.Elab.{Elab, ◌>>=◌, ◌>>◌, unless, MayTell}
 use Rattle.vhdl_expand_rules.specs.Tree.{Parts, no_parts, followed_by}
 use Rattle.vhdl_expand_rules.proofs.Steps.{given, ok}
 use Rattle.vhdl_expand_rules.proofs.Chains.{bind-assoc, err_first}
+use Rattle.vhdl_expand_bodies.specs.Results.{Charges}
 use Rattle.vhdl_elab_rules.specs.Limits.{Counts}
 use Rattle.vhdl_expand_tree.specs.Costs.{no_costs, plus, less, is_within, turns, spent, charged, parts_costs}
-use Rattle.vhdl_expand_tree.proofs.Alike.{Alike, wrong, alike_same, alike_trans, alike_then, both_refused}
-use Rattle.vhdl_expand_tree.proofs.Charging.{left_with, charged_in_turn, charged_made, spent-plus, spent-none}
+use Rattle.vhdl_expand_tree.proofs.Alike.{Alike, wrong, alike_same, alike_trans, alike_then, both_refused, tells_first}
+use Rattle.vhdl_expand_tree.proofs.Charging.{left_with, charged_in_turn, charged_made, spent-plus, spent-none, spent_told}
 use Rattle.vhdl_expand_tree.proofs.Parts.{followed_assoc, followed_none, followed_costs}
 use Rattle.vhdl_expand.specs.Making.{Made, Progress, and_then, made_costs, made_turns, adding, nothing_yet}
 
@@ -84,8 +86,12 @@ added_in_turn p r s =
 pub goes : (total : Elab Progress) (now new : Progress) (r s : Elab Made) → Alike total (adding now (in_turn r s)) → adding now r ≡ Ok new → Alike total (adding new s)
 goes total now new r s so_far h = alike_trans so_far (alike_trans (added_in_turn now r s) (alike_same (ap (λ (t : Elab Progress). t >>= λ q. adding q s) h)))
 
-pub stops : (total : Elab Progress) (now : Progress) (r s : Elab Made) → Alike total (adding now (in_turn r s)) → IsErr (adding now r) → IsErr total
-stops total now r s so_far h = (alike_trans so_far (added_in_turn now r s)).stops (err_first (adding now r) _ h)
+-- a call by its own words
+pub charges_along : {X Y : Type 0} (view : X → Y) (given given' : Elab Y) (r : Result X ElabFault) → given ≡ given' → Charges view given' r → Charges view given r
+charges_along {X} {Y} view given given' r e h = subst (λ (x : Elab Y). Charges view x r) (sym e) h
+
+pub stops : {problem : ElabProblem} → (total : Elab Progress) (now : Progress) (r s : Elab Made) → Alike total (adding now (in_turn r s)) → MayTell (adding now r) problem → MayTell total problem
+stops total now r s so_far h = (alike_trans so_far (added_in_turn now r s)).stops _ (tells_first (adding now r) _ h)
 
 pub none_added : (now : Progress) → adding now (Ok nothing) ≡ Ok now
 none_added now =
@@ -110,11 +116,11 @@ pub charged_first : {X : Type 0} (first : Counts) (costs all : X → Counts) →
     → Alike (charged n all r) (spent n first >>= λ left. charged left costs r)
 charged_first first costs all same n (Ok x) =
     alike_same ((λ i. (ap (spent n) (same x) ∙ spent-plus first (costs x) n) i >>= λ s. left_with x s) ∙ bind-assoc (spent n first) (λ left. spent left (costs x)) (λ s. left_with x s))
-charged_first first costs all same n (Err problem) = go (spent n first)
+charged_first first costs all same n (Err problem) = go (spent n first) (spent_told n first)
   where
-    go : {Y : Type 0} (t : Elab Counts) → Alike (wrong {A = Y} problem) (t >>= λ left. wrong problem)
-    go (Ok left) = alike_same refl
-    go (Err other) = both_refused refl
+    go : {Y : Type 0} (t : Elab Counts) → ((other : ElabProblem) → t ≡ Err other → other ≡ TooMany) → Alike (wrong {A = Y} problem) (t >>= λ left. wrong problem)
+    go (Ok left) only = alike_same refl
+    go (Err other) only = both_refused (only other refl) refl
 
 -- where nothing is made so far, it is charged as it is
 pub first_added : (left : Counts) (r : Elab Made) → adding (nothing_yet left) r ≡ (charged left made_costs r >>= λ a. given (progress a.0 a.1))
@@ -180,5 +186,5 @@ turns_added parts m n before left h =
     ∙ ap (λ (t : Elab Counts). t >>= λ rest. given (progress (record { parts = followed_by parts no_parts; turns = m + n }) rest)) h
     ∙ ap (λ ps. given (progress (record { parts = ps; turns = m + n }) left)) (followed_none parts)
 
-pub turns_refused : (p : Progress) (n : ℕ) → IsErr (spent p.left (turns n)) → IsErr (adding p (Ok (made_turns n)))
-turns_refused p n h = subst (λ (r : Elab Progress). IsErr r) (sym (adding-turns p n)) (err_first (spent p.left (turns n)) _ h)
+pub turns_refused : {problem : ElabProblem} → (p : Progress) (n : ℕ) → spent p.left (turns n) ≡ Err problem → adding p (Ok (made_turns n)) ≡ Err problem
+turns_refused p n h = adding-turns p n ∙ err_first (spent p.left (turns n)) _ h

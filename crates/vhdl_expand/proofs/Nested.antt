@@ -1,10 +1,11 @@
 -- Instances in an instance, and the top.
 use Rattle.std.proofs.Common.{◌≡◌, ℕ, suc, ◌+◌, Bool, true, false, List, [], ◌++◌, ◌∷◌, Option, Some, None, Vec, Global, Ok, Err, refl, sym, ap, ◌∙◌, subst, arith}
-use Rattle.std.specs.Prelude.{IsErr, slice_get}
+use Rattle.std.specs.Prelude.{slice_get}
 use Rattle.vhdl_names_rules.specs.units.Units as u
 use Rattle.vhdl_names_rules.specs.units.Units.{Units, Entity, Architecture}
-use Rattle.vhdl_expand_rules.specs.declared.fault.ElabProblem.TheVariants.{NoTop, TooMany}
-use Rattle.vhdl_expand_rules.specs.Elab.{Elab, ◌>>=◌, ◌>>◌, unless, found}
+use Rattle.vhdl_expand_rules.specs.declared.fault.ElabProblem.{ElabProblem}
+use Rattle.vhdl_expand_rules.specs.declared.fault.ElabProblem.TheVariants.{NoTop, TooDeep, TooMany}
+use Rattle.vhdl_expand_rules.specs.Elab.{Elab, ◌>>=◌, ◌>>◌, unless, found, MayTell}
 use Rattle.vhdl_expand_rules.specs.Tree as t
 use Rattle.vhdl_expand_rules.specs.Tree.{Parts, no_parts, followed_by, Object, Process, Instance, instance}
 use Rattle.vhdl_expand_rules.specs.Declarations.{InstanceObjects, declarations, interface, associations}
@@ -22,8 +23,8 @@ use Rattle.vhdl_expand_tree.specs.declared.tree.InstancePart.TheVariants as p
 use Rattle.vhdl_expand_tree.specs.Views.{process_view, instance_view, parts_of}
 use Rattle.vhdl_expand_tree.proofs.Parts.{view_instance, parts_push}
 use Rattle.vhdl_expand_tree.specs.Costs.{no_costs, an_instance, nets, turns, plus, less, is_within, limits, spent, charged, process_costs, instance_costs, parts_costs}
-use Rattle.vhdl_expand_tree.proofs.Alike.{Alike, alike_same, alike_after, alike_trans, alike_then}
-use Rattle.vhdl_expand_tree.proofs.Charging.{left_with, charged_made}
+use Rattle.vhdl_expand_tree.proofs.Alike.{Alike, alike_same, alike_after, alike_trans, alike_then, tells, tells_spent, tells_same, tells_first, tells_next}
+use Rattle.vhdl_expand_tree.proofs.Charging.{left_with, charged_made, spent_told}
 use Rattle.vhdl_expand.specs.Limits.{within_limits}
 use Rattle.vhdl_expand.specs.Making as made
 use Rattle.vhdl_expand.specs.Making.{Made, Progress, and_then, made_costs, made_process, made_instance, adding, together, nothing_yet}
@@ -117,20 +118,20 @@ module _ (units : Units) (n : ℕ) (unit : Entity) (d : InstanceObjects) (before
   abbrev whole : Elab (Instance × Counts)
   whole = charged before instance_costs (instance_of units (suc n) unit d)
 
-  pub no_architecture : unit.architecture ≡ None → IsErr whole
+  pub no_architecture : unit.architecture ≡ None → whole ≡ Err NoTop
   unfolding instance_of
-  no_architecture h = err_first (instance_of units (suc n) unit d) _ (subst (λ (o : Option Architecture). IsErr (found NoTop o >>= λ a. declarations d a.declarations >>= λ e. rest a e)) (sym h) refl)
+  no_architecture h = err_first (instance_of units (suc n) unit d) _ (ap (λ (o : Option Architecture). found NoTop o >>= λ a. declarations d a.declarations >>= λ e. rest a e) h)
     where
       rest : Architecture → InstanceObjects → Elab Instance
       rest a e =
           definition.concurrents units (instance_of units n) (outermost e) a.statements >>= λ parts.
           definition.concurrents_turns (outermost e) a.statements >>= λ turned. given (t.instance e.objects turned parts)
 
-  pub no_declarations : (a : Architecture) → unit.architecture ≡ Some a → IsErr (declarations d a.declarations) → IsErr whole
+  pub no_declarations : {problem : ElabProblem} → (a : Architecture) → unit.architecture ≡ Some a → declarations d a.declarations ≡ Err problem → whole ≡ Err problem
   unfolding instance_of
   no_declarations a h k =
       err_first (instance_of units (suc n) unit d) _
-      (subst (λ (o : Option Architecture). IsErr (found NoTop o >>= λ a. declarations d a.declarations >>= λ e. rest a e)) (sym h) (err_first (declarations d a.declarations) (λ e. rest a e) k))
+      (ap (λ (o : Option Architecture). found NoTop o >>= λ a. declarations d a.declarations >>= λ e. rest a e) h ∙ err_first (declarations d a.declarations) (λ e. rest a e) k)
     where
       rest : Architecture → InstanceObjects → Elab Instance
       rest a e =
@@ -138,13 +139,13 @@ module _ (units : Units) (n : ℕ) (unit : Entity) (d : InstanceObjects) (before
           definition.concurrents_turns (outermost e) a.statements >>= λ turned. given (t.instance e.objects turned parts)
 
   -- where no instance is left, each is refused
-  pub no_instance_left : IsErr (spent before an_instance) → IsErr whole
-  no_instance_left h = go (instance_of units (suc n) unit d)
+  pub no_instance_left : {problem : ElabProblem} → spent before an_instance ≡ Err problem → MayTell whole problem
+  no_instance_left {problem} h = go (instance_of units (suc n) unit d)
     where
-      go : (r : Elab Instance) → IsErr (charged before instance_costs r)
+      go : (r : Elab Instance) → MayTell (charged before instance_costs r) problem
       go (Ok (instance os m ps)) =
-          (in-steps before os (Ok (record { parts = ps; turns = m }))).stops (err_first (spent before an_instance) _ h)
-      go (Err problem) = refl
+          (in-steps before os (Ok (record { parts = ps; turns = m }))).stops _ (tells_first (spent before an_instance) _ (tells h))
+      go (Err other) = tells_spent (spent_told before an_instance problem h) refl
 
   module _ (a : Architecture) (e : InstanceObjects) (there : unit.architecture ≡ Some a) (known : declarations d a.declarations ≡ Ok e) where
     abbrev inside : Elab Made
@@ -153,11 +154,9 @@ module _ (units : Units) (n : ℕ) (unit : Entity) (d : InstanceObjects) (before
     stepwise : Alike whole (spent before an_instance >>= λ first. spent first (nets (own_sizes e.objects)) >>= λ rest. adding (nothing_yet rest) inside >>= λ p. left_with (made_of e.objects p.made) p.left)
     stepwise = alike_after (ap (charged before instance_costs) (instance-is units n unit d e a there known)) (in-steps before e.objects inside)
 
-    pub no_nets_left : (first : Counts) → spent before an_instance ≡ Ok first → IsErr (spent first (nets (own_sizes e.objects))) → IsErr whole
+    pub no_nets_left : {problem : ElabProblem} → (first : Counts) → spent before an_instance ≡ Ok first → MayTell (spent first (nets (own_sizes e.objects))) problem → MayTell whole problem
     no_nets_left first h k =
-        stepwise.stops
-        (subst (λ (r : Elab Counts). IsErr (r >>= λ first. spent first (nets (own_sizes e.objects)) >>= λ rest. adding (nothing_yet rest) inside >>= λ p. left_with (made_of e.objects p.made) p.left))
-        (sym h) (err_first (spent first (nets (own_sizes e.objects))) _ k))
+        stepwise.stops _ (tells_next (spent before an_instance) _ first h (tells_first (spent first (nets (own_sizes e.objects))) _ k))
 
     reached : (first rest : Counts) → spent before an_instance ≡ Ok first → spent first (nets (own_sizes e.objects)) ≡ Ok rest
         → (spent before an_instance >>= λ first. spent first (nets (own_sizes e.objects)) >>= λ rest. adding (nothing_yet rest) inside >>= λ p. left_with (made_of e.objects p.made) p.left)
@@ -166,15 +165,15 @@ module _ (units : Units) (n : ℕ) (unit : Entity) (d : InstanceObjects) (before
         ap (λ (r : Elab Counts). r >>= λ first. spent first (nets (own_sizes e.objects)) >>= λ rest. adding (nothing_yet rest) inside >>= λ p. left_with (made_of e.objects p.made) p.left) h
         ∙ ap (λ (r : Elab Counts). r >>= λ rest. adding (nothing_yet rest) inside >>= λ p. left_with (made_of e.objects p.made) p.left) k
 
-    pub not_inside : (first rest : Counts) → spent before an_instance ≡ Ok first → spent first (nets (own_sizes e.objects)) ≡ Ok rest
-        → IsErr (adding (nothing_yet rest) inside) → IsErr whole
-    not_inside first rest h k j = stepwise.stops (subst (λ (r : Elab (Instance × Counts)). IsErr r) (sym (reached first rest h k)) (err_first (adding (nothing_yet rest) inside) _ j))
+    pub not_inside : {problem : ElabProblem} → (first rest : Counts) → spent before an_instance ≡ Ok first → spent first (nets (own_sizes e.objects)) ≡ Ok rest
+        → MayTell (adding (nothing_yet rest) inside) problem → MayTell whole problem
+    not_inside first rest h k j = stepwise.stops _ (tells_same (reached first rest h k) (tells_first (adding (nothing_yet rest) inside) _ j))
 
     pub instance_made : (first rest : Counts) (p : Progress) → spent before an_instance ≡ Ok first → spent first (nets (own_sizes e.objects)) ≡ Ok rest
         → adding (nothing_yet rest) inside ≡ Ok p → whole ≡ Ok (made_of e.objects p.made, p.left)
     instance_made first rest p h k j = stepwise.gives _ (reached first rest h k ∙ ap (λ (r : Elab Progress). r >>= λ p. left_with (made_of e.objects p.made) p.left) j)
 
-pub too_deep : (units : Units) (unit : Entity) (d : InstanceObjects) (before : Counts) → IsErr (charged before instance_costs (instance_of units 0 unit d))
+pub too_deep : (units : Units) (unit : Entity) (d : InstanceObjects) (before : Counts) → charged before instance_costs (instance_of units 0 unit d) ≡ Err TooDeep
 unfolding instance_of
 too_deep units unit d before = refl
 
@@ -213,8 +212,8 @@ process_behind xs ys x n before left r h pushed =
     ∙ ap (λ (t : Elab (Process × Counts)). t >>= λ a. given (progress (and_then (record { parts = parts_of xs; turns = n }) (made_process a.0)) a.1)) h
     ∙ (λ i. given (progress (record { parts = sym (parts_push xs ys (p.Process x) pushed) i; turns = no-more n i }) left))
 
-pub process_refused : (p : Progress) (r : Elab Process) → IsErr (charged p.left process_costs r) → IsErr (adding p (r >>= λ q. given (made_process q)))
-process_refused p r h = subst (λ (t : Elab Progress). IsErr t) (sym (process_added p r)) (err_first (charged p.left process_costs r) _ h)
+pub process_refused : {problem : ElabProblem} → (p : Progress) (r : Elab Process) → MayTell (charged p.left process_costs r) problem → MayTell (adding p (r >>= λ q. given (made_process q))) problem
+process_refused p r h = tells_same (process_added p r) (tells_first (charged p.left process_costs r) _ h)
 
 pub instance_behind : (xs ys : List InstancePart) (label : Vec ℕ Global) (x : code_instance.Instance) (n : ℕ) (before left : Counts) (r s : Elab Instance) → r ≡ s
     → charged before instance_costs s ≡ Ok (instance_view x, left) → ys ≡ xs ++ p.Instance label x ∷ []
@@ -224,26 +223,26 @@ instance_behind xs ys label x n before left r s e h pushed =
     ∙ ap (λ (t : Elab (Instance × Counts)). t >>= λ a. given (progress (and_then (record { parts = parts_of xs; turns = n }) (made_instance label.items a.0)) a.1)) (ap (charged before instance_costs) e ∙ h)
     ∙ (λ i. given (progress (record { parts = (ap (followed_by (parts_of xs)) (sym (view_instance no_parts label x.objects x.turns x.parts)) ∙ sym (parts_push xs ys (p.Instance label x) pushed)) i; turns = no-more n i }) left))
 
-pub instance_refused : (label : List ℕ) (p : Progress) (r : Elab Instance) → IsErr (charged p.left instance_costs r) → IsErr (adding p (r >>= λ i. given (made_instance label i)))
-instance_refused label p r h = subst (λ (t : Elab Progress). IsErr t) (sym (instance_added label p r)) (err_first (charged p.left instance_costs r) _ h)
+pub instance_refused : {problem : ElabProblem} → (label : List ℕ) (p : Progress) (r : Elab Instance) → MayTell (charged p.left instance_costs r) problem
+    → MayTell (adding p (r >>= λ i. given (made_instance label i))) problem
+instance_refused label p r h = tells_same (instance_added label p r) (tells_first (charged p.left instance_costs r) _ h)
 
-pub not_expanded : (label : List ℕ) (p : Progress) (r : Elab Instance) → IsErr r → IsErr (adding p (r >>= λ i. given (made_instance label i)))
-not_expanded label p (Ok i) h = absurd cc
-not_expanded label p (Err problem) h = refl
+pub not_expanded : {problem : ElabProblem} → (label : List ℕ) (p : Progress) (r : Elab Instance) → r ≡ Err problem → adding p (r >>= λ i. given (made_instance label i)) ≡ Err problem
+not_expanded label p r h = ap (λ (q : Elab Instance). adding p (q >>= λ i. given (made_instance label i))) h
 
 module _ (units : Units) (n : ℕ) (at : Spot) (x : u.Instance) where
   abbrev pub expanded_here : Elab Instance
   expanded_here = definition.instance units (instance_of units n) at x
 
-  pub no_unit : slice_get units x.unit ≡ None → IsErr expanded_here
+  pub no_unit : slice_get units x.unit ≡ None → expanded_here ≡ Err NoTop
   unfolding definition.instance
-  no_unit h = subst (λ (o : Option Entity). IsErr (found NoTop o >>= λ unit. interface at.site.integers x.generics unit >>= λ d. associations at.site unit.ports x.ports d.objects >>= λ os. instance_of units n unit (record d { objects = os }))) (sym h) refl
+  no_unit h = ap (λ (o : Option Entity). found NoTop o >>= λ unit. interface at.site.integers x.generics unit >>= λ d. associations at.site unit.ports x.ports d.objects >>= λ os. instance_of units n unit (record d { objects = os })) h
 
-  pub no_interface : (unit : Entity) → slice_get units x.unit ≡ Some unit → IsErr (interface at.site.integers x.generics unit) → IsErr expanded_here
+  pub no_interface : {problem : ElabProblem} → (unit : Entity) → slice_get units x.unit ≡ Some unit → interface at.site.integers x.generics unit ≡ Err problem → expanded_here ≡ Err problem
   unfolding definition.instance
   no_interface unit h k =
-      subst (λ (o : Option Entity). IsErr (found NoTop o >>= λ unit. interface at.site.integers x.generics unit >>= λ d. associations at.site unit.ports x.ports d.objects >>= λ os. instance_of units n unit (record d { objects = os }))) (sym h)
-      (err_first (interface at.site.integers x.generics unit) _ k)
+      ap (λ (o : Option Entity). found NoTop o >>= λ unit. interface at.site.integers x.generics unit >>= λ d. associations at.site unit.ports x.ports d.objects >>= λ os. instance_of units n unit (record d { objects = os })) h
+      ∙ err_first (interface at.site.integers x.generics unit) _ k
 
   with-interface : (unit : Entity) (d : InstanceObjects) → slice_get units x.unit ≡ Some unit → interface at.site.integers x.generics unit ≡ Ok d
       → expanded_here ≡ (associated at.site unit.ports x.ports d >>= λ e. instance_of units n unit e)
@@ -257,9 +256,9 @@ module _ (units : Units) (n : ℕ) (at : Spot) (x : u.Instance) where
       go (Ok os) = refl
       go (Err problem) = refl
 
-  pub no_associations : (unit : Entity) (d : InstanceObjects) → slice_get units x.unit ≡ Some unit → interface at.site.integers x.generics unit ≡ Ok d
-      → IsErr (associated at.site unit.ports x.ports d) → IsErr expanded_here
-  no_associations unit d h k j = subst (λ (r : Elab Instance). IsErr r) (sym (with-interface unit d h k)) (err_first (associated at.site unit.ports x.ports d) _ j)
+  pub no_associations : {problem : ElabProblem} → (unit : Entity) (d : InstanceObjects) → slice_get units x.unit ≡ Some unit → interface at.site.integers x.generics unit ≡ Ok d
+      → associated at.site unit.ports x.ports d ≡ Err problem → expanded_here ≡ Err problem
+  no_associations unit d h k j = with-interface unit d h k ∙ err_first (associated at.site unit.ports x.ports d) _ j
 
   pub instance_here : (unit : Entity) (d e : InstanceObjects) → slice_get units x.unit ≡ Some unit → interface at.site.integers x.generics unit ≡ Ok d
       → associated at.site unit.ports x.ports d ≡ Ok e → expanded_here ≡ instance_of units n unit e
@@ -271,15 +270,15 @@ abbrev designed : List ℕ → Elab Instance → Elab Design
 designed name r = r >>= λ i. given (record { name = name; top = i })
 
 module _ (units : Units) (top : List ℕ) where
-  pub no_top : entity_named units top ≡ None → IsErr (within_limits (expanded_design units top))
+  pub no_top : entity_named units top ≡ None → within_limits (expanded_design units top) ≡ Err NoTop
   unfolding expanded_design
-  no_top h = subst (λ (o : Option Entity). IsErr (within_limits (found NoTop o >>= λ unit. interface no_integers [] unit >>= λ d. designed unit.name (instance_of units 32 unit d)))) (sym h) refl
+  no_top h = ap (λ (o : Option Entity). within_limits (found NoTop o >>= λ unit. interface no_integers [] unit >>= λ d. designed unit.name (instance_of units 32 unit d))) h
 
-  pub no_top_interface : (unit : Entity) → entity_named units top ≡ Some unit → IsErr (interface no_integers [] unit) → IsErr (within_limits (expanded_design units top))
+  pub no_top_interface : {problem : ElabProblem} → (unit : Entity) → entity_named units top ≡ Some unit → interface no_integers [] unit ≡ Err problem → within_limits (expanded_design units top) ≡ Err problem
   unfolding expanded_design
   no_top_interface unit h k =
-      subst (λ (o : Option Entity). IsErr (within_limits (found NoTop o >>= λ unit. interface no_integers [] unit >>= λ d. designed unit.name (instance_of units 32 unit d)))) (sym h)
-      (err_first (interface no_integers [] unit >>= λ d. designed unit.name (instance_of units 32 unit d)) _ (err_first (interface no_integers [] unit) _ k))
+      ap (λ (o : Option Entity). within_limits (found NoTop o >>= λ unit. interface no_integers [] unit >>= λ d. designed unit.name (instance_of units 32 unit d))) h
+      ∙ err_first (interface no_integers [] unit >>= λ d. designed unit.name (instance_of units 32 unit d)) _ (err_first (interface no_integers [] unit) _ k)
 
   module _ (unit : Entity) (d : InstanceObjects) (named : entity_named units top ≡ Some unit) (known : interface no_integers [] unit ≡ Ok d) where
     from-top : expanded_design units top ≡ designed unit.name (instance_of units 32 unit d)
@@ -297,10 +296,10 @@ module _ (units : Units) (top : List ℕ) where
         go false = refl
     limited (Err problem) = refl
 
-    pub no_instance : IsErr (charged limits instance_costs (instance_of units 32 unit d)) → IsErr (within_limits (expanded_design units top))
+    pub no_instance : {problem : ElabProblem} → MayTell (charged limits instance_costs (instance_of units 32 unit d)) problem → MayTell (within_limits (expanded_design units top)) problem
     no_instance h =
-        subst (λ (r : Elab Design). IsErr r) (sym (ap within_limits from-top ∙ limited (instance_of units 32 unit d)))
-        (err_first (charged limits instance_costs (instance_of units 32 unit d) >>= λ a. given a.0) _ (err_first (charged limits instance_costs (instance_of units 32 unit d)) _ h))
+        tells_same (ap within_limits from-top ∙ limited (instance_of units 32 unit d))
+        (tells_first (charged limits instance_costs (instance_of units 32 unit d) >>= λ a. given a.0) _ (tells_first (charged limits instance_costs (instance_of units 32 unit d)) _ h))
 
     pub design_made : (i : Instance) (left : Counts) → charged limits instance_costs (instance_of units 32 unit d) ≡ Ok (i, left)
         → within_limits (expanded_design units top) ≡ Ok (record { name = unit.name; top = i })

@@ -1,30 +1,31 @@
 -- Concurrent statements, behind what is made so far.
 use Rattle.std.proofs.Common.{◌≡◌, ℕ, zero, suc, ◌+◌, ◌<◌, ◌≤◌, List, [], ◌∷◌, ◌++◌, length, map, get_or, drop, drop-cons, add-one, Ok, Err, refl, sym, ap, ◌∙◌, arith}
-use Rattle.std.specs.Prelude.{IsErr}
 use Rattle.vhdl_names_rules.specs.units.Units as u
 use Rattle.vhdl_names_rules.specs.units.Units.{Units}
 use Rattle.vhdl_names_units.specs.declared.concurrent.Concurrent.{Concurrent}
 use Rattle.vhdl_names_units.specs.views.Concurrent as views
-use Rattle.vhdl_expand_rules.specs.Elab.{Elab, ◌>>=◌}
+use Rattle.vhdl_expand_rules.specs.declared.fault.ElabProblem.{ElabProblem}
+use Rattle.vhdl_expand_rules.specs.Elab.{Elab, ◌>>=◌, MayTell}
 use Rattle.vhdl_expand_rules.specs.Tree as t
 use Rattle.vhdl_expand_rules.specs.Tree.{Parts, no_parts, followed_by, Process, Instance}
 use Rattle.vhdl_expand_rules.specs.Expansion as definition
 use Rattle.vhdl_expand_rules.specs.Expansion.{Spot, instance_of}
 use Rattle.vhdl_expand_rules.proofs.Steps.{given}
-use Rattle.vhdl_expand_tree.proofs.Alike.{Alike, alike_same, alike_after, alike_trans, both_refused}
+use Rattle.vhdl_expand_tree.proofs.Alike.{Alike, alike_same, alike_after, alike_trans}
 use Rattle.vhdl_expand.specs.Making as made
 use Rattle.vhdl_expand.specs.Making.{Made, Progress, and_then, adding, together, made_process, made_instance}
+use Rattle.vhdl_expand.proofs.Counted.{concurrent_counted}
 use Rattle.vhdl_expand.proofs.Making.{in_turn, added_alike, goes, stops, ends}
 
--- parts and turns, each in two steps
-pub apart : (p q : Elab Parts) (m n : Elab ℕ)
+-- parts and turns, each in two steps; where the first parts are given, so are their turns
+pub apart : (p q : Elab Parts) (m n : Elab ℕ) → ((x : Parts) → p ≡ Ok x → (k : ℕ) × (m ≡ Ok k))
     → Alike (together (p >>= λ x. q >>= λ y. given (followed_by x y)) (m >>= λ a. n >>= λ b. given (a + b))) (in_turn (together p m) (together q n))
-apart (Ok x) (Ok y) (Ok a) (Ok b) = alike_same refl
-apart (Ok x) (Ok y) (Ok a) (Err problem) = both_refused refl
-apart (Ok x) (Ok y) (Err problem) n = both_refused refl
-apart (Ok x) (Err problem) (Ok a) n = both_refused refl
-apart (Ok x) (Err problem) (Err other) n = both_refused refl
-apart (Err problem) q m n = both_refused refl
+apart (Ok x) (Ok y) (Ok a) (Ok b) counted = alike_same refl
+apart (Ok x) (Ok y) (Ok a) (Err problem) counted = alike_same refl
+apart (Ok x) (Ok y) (Err problem) n counted = alike_same refl
+apart (Ok x) (Err problem) (Ok a) n counted = alike_same refl
+apart (Ok x) (Err problem) (Err other) n counted = let e = (counted x refl).1 in absurd cc
+apart (Err problem) q m n counted = alike_same refl
 
 pub next-left : {X : Type 0} (xs : List X) (i : ℕ) (x : X) → i < length xs → x ≡ get_or xs i x → drop i xs ≡ x ∷ drop (i + 1) xs
 next-left xs i x h e = drop-cons xs i x h ∙ ap (λ y. y ∷ drop (suc i) xs) (sym e) ∙ ap (λ j. x ∷ drop j xs) (sym (add-one i))
@@ -41,7 +42,7 @@ module _ (units : Units) (levels : ℕ) (at : Spot) where
   unfolding definition.concurrents definition.concurrents_turns
   concurrents-in_turn x rest =
       apart (definition.concurrent units (instance_of units levels) at x) (definition.concurrents units (instance_of units levels) at rest)
-      (definition.concurrent_turns at x) (definition.concurrents_turns at rest)
+      (definition.concurrent_turns at x) (definition.concurrents_turns at rest) (concurrent_counted units (instance_of units levels) at x)
 
   pub no_concurrents : made.concurrents units levels at u.no_concurrents ≡ Ok (record { parts = no_parts; turns = 0 })
   unfolding definition.concurrents definition.concurrents_turns
@@ -63,8 +64,8 @@ module _ (units : Units) (levels : ℕ) (at : Spot) where
   list_goes total now new xs i x below is so_far h =
       goes total now new (made.concurrent units levels at (views.concurrent_view x)) (listed (drop (i + 1) xs)) (alike_trans so_far (next now xs i x below is)) h
 
-  pub list_stops : (total : Elab Progress) (now : Progress) (xs : List Concurrent) (i : ℕ) (x : Concurrent) → i < length xs → x ≡ get_or xs i x
-      → Alike total (adding now (listed (drop i xs))) → IsErr (adding now (made.concurrent units levels at (views.concurrent_view x))) → IsErr total
+  pub list_stops : {problem : ElabProblem} → (total : Elab Progress) (now : Progress) (xs : List Concurrent) (i : ℕ) (x : Concurrent) → i < length xs → x ≡ get_or xs i x
+      → Alike total (adding now (listed (drop i xs))) → MayTell (adding now (made.concurrent units levels at (views.concurrent_view x))) problem → MayTell total problem
   list_stops total now xs i x below is so_far h =
       stops total now (made.concurrent units levels at (views.concurrent_view x)) (listed (drop (i + 1) xs)) (alike_trans so_far (next now xs i x below is)) h
 

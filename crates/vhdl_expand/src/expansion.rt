@@ -7,7 +7,7 @@ ghost use Rattle.vhdl_names_units.specs.views.Units.{entity_view, units_view};
 ghost use Rattle.vhdl_expand_rules.specs.Declarations as definition;
 ghost use Rattle.vhdl_expand_rules.specs.Expansion.{expanded_design};
 ghost use Rattle.vhdl_expand_rules.specs.Site.{no_integers};
-ghost use Rattle.vhdl_expand_bodies.specs.Results.{Expands};
+ghost use Rattle.vhdl_expand_bodies.specs.Results.{Expands, Charges};
 ghost use Rattle.vhdl_expand_tree.specs.Views.{design_view};
 ghost use Rattle.vhdl_expand.specs.Limits.{within_limits};
 ghost use Rattle.vhdl_expand_objects.specs.Views.{declared_view};
@@ -65,7 +65,7 @@ fn outermost(alloc: Global, unit: &Entity) -> Result<InstanceObjects, ElabFault>
 /// the top have their defaults, and its ports are joined to nothing. A fault is any problem but TwoUnresolved and ReadOfShared, and
 /// nothing is made beyond the limits. It takes the memory of the tree.
 pub fn expand(alloc: Global, units: &Units, top: &[u8]) -> Result<Design, ElabFault>
-    ensures { Expands design_view (within_limits (expanded_design (units_view units.now) top.now)) result }
+    ensures { Charges design_view (within_limits (expanded_design (units_view units.now) top.now)) result }
 {
     let name = small_letters(alloc, top)?;
     let Some(unit) = named(&units.entities, &name) else {

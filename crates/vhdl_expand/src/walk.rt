@@ -7,7 +7,7 @@ ghost use Rattle.vhdl_names_rules.specs.views.Tests.{static_test_view};
 ghost use Rattle.vhdl_names_units.specs.views.Concurrent as units;
 ghost use Rattle.vhdl_names_units.specs.views.Units.{entity_view};
 ghost use Rattle.vhdl_expand_rules.specs.Expansion.{in_turn, in_branch, instance_of};
-ghost use Rattle.vhdl_expand_bodies.specs.Results.{Expands};
+ghost use Rattle.vhdl_expand_bodies.specs.Results.{Expands, Charges};
 ghost use Rattle.vhdl_expand_bodies.specs.Sites.{IsSite};
 ghost use Rattle.vhdl_expand_tree.specs.Costs.{charged, instance_costs};
 ghost use Rattle.vhdl_expand_tree.specs.Views.{instance_view, budget_view};
@@ -67,7 +67,7 @@ impl Walk<'_> {
     ) -> Result<(), ElabFault>
         requires site { IsSite spot.now.site }
         requires fits { TurnsFit so_far.old }
-        ensures { Expands (λ _. progress_view so_far.new) (adding (progress_view so_far.old)
+        ensures { Charges (λ _. progress_view so_far.new) (adding (progress_view so_far.old)
             (made.concurrents (units_of self.now) self.now.levels (spot_view spot.now) (units.concurrents_of (map units.concurrent_view list.now)))) result }
     {
         for item in list {
@@ -86,7 +86,7 @@ impl Walk<'_> {
     ) -> Result<(), ElabFault>
         requires site { IsSite spot.now.site }
         requires fits { TurnsFit so_far.old }
-        ensures { Expands (λ _. progress_view so_far.new) (adding (progress_view so_far.old)
+        ensures { Charges (λ _. progress_view so_far.new) (adding (progress_view so_far.old)
             (made.concurrent (units_of self.now) self.now.levels (spot_view spot.now) (units.concurrent_view item.now))) result }
     {
         match item {
@@ -104,7 +104,7 @@ impl Walk<'_> {
         so_far: &mut TreeProgress,
     ) -> Result<(), ElabFault>
         requires site { IsSite spot.now.site }
-        ensures { Expands (λ _. progress_view so_far.new) (adding (progress_view so_far.old)
+        ensures { Charges (λ _. progress_view so_far.new) (adding (progress_view so_far.old)
             (made.process (units_of self.now) self.now.levels (spot_view spot.now) (units.process_view written.now))) result }
     {
         let made = process(
@@ -127,7 +127,7 @@ impl Walk<'_> {
         so_far: &mut TreeProgress,
     ) -> Result<(), ElabFault>
         requires site { IsSite spot.now.site }
-        ensures { Expands (λ _. progress_view so_far.new) (adding (progress_view so_far.old)
+        ensures { Charges (λ _. progress_view so_far.new) (adding (progress_view so_far.old)
             (made.instance (units_of self.now) self.now.levels (spot_view spot.now) (units.instance_view written.now))) result }
     {
         let at = written.label.at;
@@ -161,7 +161,7 @@ impl Walk<'_> {
         left: &mut Budget,
     ) -> Result<Instance, ElabFault>
         requires among { IsAmong (units_of self.now) (entity_view unit.now) }
-        ensures { Expands (λ i. (instance_view i, budget_view left.new)) (charged (budget_view left.old) instance_costs
+        ensures { Charges (λ i. (instance_view i, budget_view left.new)) (charged (budget_view left.old) instance_costs
             (instance_of (units_of self.now) self.now.levels (entity_view unit.now) (declared_view declared))) result }
     {
         if self.levels == 0 {
@@ -195,7 +195,7 @@ impl Walk<'_> {
         list: &[Concurrent],
         left: Budget,
     ) -> Result<TreeProgress, ElabFault>
-        ensures { Expands progress_view (adding (nothing_yet (budget_view left))
+        ensures { Charges progress_view (adding (nothing_yet (budget_view left))
             (made.concurrents (units_of self.now) self.now.levels (record { site = (declared_view declared.now).site; prefix = [] }) (units.concurrents_of (map units.concurrent_view list.now)))) result }
     {
         let mut made = TreeProgress {
@@ -223,7 +223,7 @@ impl Walk<'_> {
     ) -> Result<(), ElabFault>
         requires site { IsSite spot.now.site }
         requires fits { TurnsFit so_far.old }
-        ensures { Expands (λ _. progress_view so_far.new) (adding (progress_view so_far.old)
+        ensures { Charges (λ _. progress_view so_far.new) (adding (progress_view so_far.old)
             (made.concurrent (units_of self.now) self.now.levels (spot_view spot.now)
             (units.generated written.now.label.text.items (units.concurrents_of (units.concurrents_view written.now.statements)) written.now.scheme))) result }
     {
@@ -244,7 +244,7 @@ impl Walk<'_> {
     ) -> Result<(), ElabFault>
         requires site { IsSite spot.now.site }
         requires fits { TurnsFit so_far.old }
-        ensures { Expands (λ _. progress_view so_far.new) (adding (progress_view so_far.old)
+        ensures { Charges (λ _. progress_view so_far.new) (adding (progress_view so_far.old)
             (made.concurrent (units_of self.now) self.now.levels (spot_view spot.now)
             (generate_for written.now.label.text.items (range_view range.now) (units.concurrents_of (units.concurrents_view written.now.statements))))) result }
     {
@@ -268,7 +268,7 @@ impl Walk<'_> {
     ) -> Result<(), ElabFault>
         requires site { IsSite spot.now.site }
         requires fits { TurnsFit so_far.old }
-        ensures { Expands (λ _. progress_view so_far.new) (adding (progress_view so_far.old)
+        ensures { Charges (λ _. progress_view so_far.new) (adding (progress_view so_far.old)
             (made.concurrents (units_of self.now) self.now.levels (in_turn (spot_view spot.now) written.now.label.text.items parameter)
             (units.concurrents_of (units.concurrents_view written.now.statements)))) result }
     {
@@ -292,7 +292,7 @@ impl Walk<'_> {
     ) -> Result<(), ElabFault>
         requires site { IsSite spot.now.site }
         requires fits { TurnsFit so_far.old }
-        ensures { Expands (λ _. progress_view so_far.new) (adding (progress_view so_far.old)
+        ensures { Charges (λ _. progress_view so_far.new) (adding (progress_view so_far.old)
             (made.concurrent (units_of self.now) self.now.levels (spot_view spot.now)
             (generate_if written.now.label.text.items (static_test_view test.now) (units.concurrents_of (units.concurrents_view written.now.statements))))) result }
     {

@@ -2,10 +2,15 @@
 use Rattle.std.specs.Prelude.{◌≡◌, ◌≢◌, Result, Ok, Err}
 use Rattle.vhdl_expand_rules.specs.declared.fault.ElabFault.{ElabFault}
 use Rattle.vhdl_expand_rules.specs.declared.fault.ElabFault.TheVariants.{NoMemory}
-use Rattle.vhdl_expand_rules.specs.Elab.{Elab, told}
+use Rattle.vhdl_expand_rules.specs.Elab.{Elab, told, MayTell}
 
 -- What is returned, as contracts see it, is what is given; and but for want of memory it is refused only where that is refused, with the
 -- same problem.
 abbrev pub Expands : {X Y : Type 0} → (X → Y) → Elab Y → Result X ElabFault → Type 0
 Expands view given (Ok x) = given ≡ Ok (view x)
 Expands view given (Err fault) = fault ≢ NoMemory → given ≡ Err (told fault)
+
+-- The same of a call that charges budgets on its way.
+abbrev pub Charges : {X Y : Type 0} → (X → Y) → Elab Y → Result X ElabFault → Type 0
+Charges view given (Ok x) = given ≡ Ok (view x)
+Charges view given (Err fault) = fault ≢ NoMemory → MayTell given (told fault)

@@ -1,6 +1,5 @@
 -- Ports that are associated one after another.
 use Rattle.std.proofs.Common.{◌≡◌, ℕ, zero, suc, ◌+◌, ◌<◌, ◌≤◌, List, [], ◌∷◌, ◌++◌, length, map, get_or, take, drop, drop-cons, add-one, set, Option, Some, None, Ok, Err, refl, sym, ap, ◌∙◌, subst, arith}
-use Rattle.std.specs.Prelude.{IsErr}
 use Rattle.std.proofs.Math.Seq.{take-suc-set}
 use Rattle.std.proofs.lemmas.List.{append_assoc, append-nil, map-append, length-map, length-take-le, drop-set-lt}
 use Rattle.std.proofs.lemmas.List.FromFn.{length-range_with_len}
@@ -26,6 +25,7 @@ use Rattle.vhdl_expand_objects.specs.Objects.{named_object}
 use Rattle.vhdl_expand_objects.specs.Walks.{stepwise}
 use Rattle.vhdl_expand_objects.proofs.Given.{rest_behind}
 use Rattle.vhdl_expand_objects.proofs.Names.{named}
+use Rattle.vhdl_expand_rules.specs.declared.fault.ElabProblem.{ElabProblem}
 use Rattle.vhdl_expand_objects.proofs.Stepping.{goes_alike}
 
 pub run_long : (r : Run) → length (run_view r) ≡ r.len
@@ -103,10 +103,10 @@ module _ (above : Site) (actuals : List (Option SignalPart)) where
       ∙ ap (λ (left : List Object). given (record { done = map object_view (take (n + 1) (set os n x)); left = left })) (sym (set-left os n x))
       ∙ ap (λ (xs : List tree.Object). given (associated_to (n + 1) xs)) (sym pushed)
 
-  pub next_refused : (os : List tree.Object) (n : ℕ) (o : tree.Object) (p : Port) (a : Option SignalPart) → n < length os → o ≡ get_or os n o → a ≡ first_of (drop n actuals)
-      → IsErr (association above p a (object_view o)) → IsErr (next_associated above actuals (associated_to n os) p)
-  next_refused os n o p a below is e h =
-      subst (λ (r : Elab Associated). IsErr r) (sym (next-is os n o p a below is e)) (err_first (association above p a (object_view o)) _ h)
+  pub next_refused : {problem : ElabProblem} → (os : List tree.Object) (n : ℕ) (o : tree.Object) (p : Port) (a : Option SignalPart) → n < length os → o ≡ get_or os n o → a ≡ first_of (drop n actuals)
+      → (association above p a (object_view o)) ≡ Err problem → (next_associated above actuals (associated_to n os) p) ≡ Err problem
+  next_refused {problem} os n o p a below is e h =
+      subst (λ (r : Elab Associated). r ≡ Err problem) (sym (next-is os n o p a below is e)) (err_first (association above p a (object_view o)) _ h)
 
   none-left : (done : List Object) (ps : List Port) → stepwise (next_associated above actuals) (record { done = done; left = [] }) ps ≡ Ok (record { done = done; left = [] })
   none-left done [] = refl

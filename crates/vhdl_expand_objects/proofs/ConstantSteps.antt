@@ -1,6 +1,5 @@
 -- Constants, one after another, and what is known of an instance where its architecture begins.
 use Rattle.std.proofs.Common.{◌≡◌, List, [], ◌∷◌, ◌++◌, map, Ok, Err, refl, sym, ap, ◌∙◌, ℤ}
-use Rattle.std.specs.Prelude.{IsErr}
 use Rattle.std.proofs.lemmas.List.{map-append}
 use Rattle.vhdl_names_rules.specs.declared.operator.IntegerType.{IntegerType}
 use Rattle.vhdl_names_rules.specs.units.Expressions.{Static}
@@ -16,6 +15,7 @@ use Rattle.vhdl_expand_rules.proofs.Steps.{given, ok, bound}
 use Rattle.vhdl_expand_rules.proofs.Chains.{err_first}
 use Rattle.vhdl_expand_bodies.specs.declared.constant.Constant.{Constant}
 use Rattle.vhdl_expand_bodies.specs.Sites.{constant_view}
+use Rattle.vhdl_expand_rules.specs.declared.fault.ElabProblem.{ElabProblem}
 use Rattle.vhdl_expand_objects.specs.Constants.{constant_of}
 
 pub integer_step : (d : InstanceObjects) (type : IntegerType) (s : Static) (x : ℤ) (new : InstanceObjects) → integer_of type d.site.integers s ≡ Ok x
@@ -23,7 +23,7 @@ pub integer_step : (d : InstanceObjects) (type : IntegerType) (s : Static) (x : 
 unfolding declaration
 integer_step d type s x new h e = ap (λ r. r >>= λ y. given (record d { site = with_integer d.site y })) h ∙ ap given (sym e)
 
-pub integer_refused : (d : InstanceObjects) (type : IntegerType) (s : Static) → IsErr (integer_of type d.site.integers s) → IsErr (declaration d (u.Declaration.integer type s))
+pub integer_refused : {problem : ElabProblem} → (d : InstanceObjects) (type : IntegerType) (s : Static) → (integer_of type d.site.integers s) ≡ Err problem → (declaration d (u.Declaration.integer type s)) ≡ Err problem
 unfolding declaration
 integer_refused d type s h = err_first (integer_of type d.site.integers s) (λ y. given (record d { site = with_integer d.site y })) h
 
@@ -39,16 +39,16 @@ constant_step d form f c new h e =
     ∙ ap given (sym e)
 
 -- what is refused is so whatever is made of it
-refused : {A B C D : Type 0} (r : Elab A) (s : A → Elab B) (make : A → B → C) (other : A → B → D)
-    → IsErr (r >>= λ x. s x >>= λ y. given (make x y)) → IsErr (r >>= λ x. s x >>= λ y. given (other x y))
+refused : {problem : ElabProblem} → {A B C D : Type 0} (r : Elab A) (s : A → Elab B) (make : A → B → C) (other : A → B → D)
+    → (r >>= λ x. s x >>= λ y. given (make x y)) ≡ Err problem → (r >>= λ x. s x >>= λ y. given (other x y)) ≡ Err problem
 refused {A} {B} {C} {D} (Ok x) s make other h = go (s x) h
   where
-    go : (q : Elab B) → IsErr (q >>= λ y. given (make x y)) → IsErr (q >>= λ y. given (other x y))
+    go : {problem : ElabProblem} → (q : Elab B) → (q >>= λ y. given (make x y)) ≡ Err problem → (q >>= λ y. given (other x y)) ≡ Err problem
     go (Ok y) k = absurd cc
     go (Err p) k = refl
 refused (Err p) s make other h = refl
 
-pub constant_refused : (d : InstanceObjects) (form : Form) (f : Fixed) → IsErr (constant_of d.site form f) → IsErr (declaration d (u.Declaration.constant form f))
+pub constant_refused : {problem : ElabProblem} → (d : InstanceObjects) (form : Form) (f : Fixed) → (constant_of d.site form f) ≡ Err problem → (declaration d (u.Declaration.constant form f)) ≡ Err problem
 unfolding declaration
 constant_refused d form f h =
     refused (kind_of d.site.integers form) (λ kind. fixed d.site (size kind) f) (λ kind vs. record { kind = kind; values = vs })

@@ -1,6 +1,6 @@
 -- Ports and signals, one after another.
 use Rattle.std.proofs.Common.{◌≡◌, ℕ, List, [], ◌∷◌, ◌++◌, map, Option, Some, Ok, Err, refl, sym, ap, ◌∙◌, subst}
-use Rattle.std.specs.Prelude.{IsErr, slice_get}
+use Rattle.std.specs.Prelude.{slice_get}
 use Rattle.std.proofs.lemmas.Option.{same_Some}
 use Rattle.vhdl_tree.specs.declared.declaration.Mode.{Mode}
 use Rattle.vhdl_tree.specs.declared.declaration.Mode.TheVariants.{In, Out}
@@ -16,6 +16,7 @@ use Rattle.vhdl_expand_rules.proofs.Chains.{err_first}
 use Rattle.vhdl_expand_objects.specs.Objects.{next_object, shape_of, shaped, with_object}
 use Rattle.vhdl_expand_objects.specs.Walks.{stepwise}
 use Rattle.vhdl_expand_objects.proofs.Growing.{starts_stay}
+use Rattle.vhdl_expand_rules.specs.declared.fault.ElabProblem.{ElabProblem}
 use Rattle.vhdl_expand_objects.proofs.Stepping.{goes_alike, of_both, walks_alike}
 
 object-by : (at : Site) (role : Role) (o : u.Object) → object at role o ≡ shape_of at o.form o.default >>= λ (p : ObjectKind × List ℕ). given (shaped p role o)
@@ -41,10 +42,10 @@ object_given d role o p x new h e f =
     ap (λ r. r >>= λ y. given (with_object d y)) (object-by d.site role o ∙ ap (λ r. r >>= λ (q : ObjectKind × List ℕ). given (shaped q role o)) h)
     ∙ ap (λ y. given (with_object d y)) (sym e) ∙ ap given (sym f)
 
-pub object_refused : (d : InstanceObjects) (role : Role) (o : u.Object) → IsErr (shape_of d.site o.form o.default) → IsErr (next_object role d o)
-object_refused d role o h =
+pub object_refused : {problem : ElabProblem} → (d : InstanceObjects) (role : Role) (o : u.Object) → (shape_of d.site o.form o.default) ≡ Err problem → (next_object role d o) ≡ Err problem
+object_refused {problem} d role o h =
     err_first (object d.site role o) (λ y. given (with_object d y))
-    (subst (λ (r : Elab Object). IsErr r) (sym (object-by d.site role o)) (err_first (shape_of d.site o.form o.default) (λ (q : ObjectKind × List ℕ). given (shaped q role o)) h))
+    (subst (λ (r : Elab Object). r ≡ Err problem) (sym (object-by d.site role o)) (err_first (shape_of d.site o.form o.default) (λ (q : ObjectKind × List ℕ). given (shaped q role o)) h))
 
 stays : (at new : Site) (form : Form) (default : Option Fixed) → new.integers ≡ at.integers → ((kind : ObjectKind) → starts new kind default ≡ starts at kind default)
     → shape_of new form default ≡ shape_of at form default
@@ -65,12 +66,12 @@ shape_stays d new x form default e = ap (λ (n : InstanceObjects). shape_of n.si
     by output = port
     by internal = stays d.site (with_signal d x).site form default refl (λ kind. starts_stay d.site d.site.ports (d.site.signals ++ x.kind ∷ []) kind default)
 
-pub first_refused : {X : Type 0} (role : Role) (d : InstanceObjects) (v : X → u.Object) (xs : List X) (x : X) → slice_get xs 0 ≡ Some x
-    → IsErr (shape_of d.site (v x).form (v x).default) → IsErr (stepwise (next_object role) d (map v xs))
+pub first_refused : {problem : ElabProblem} → {X : Type 0} (role : Role) (d : InstanceObjects) (v : X → u.Object) (xs : List X) (x : X) → slice_get xs 0 ≡ Some x
+    → (shape_of d.site (v x).form (v x).default) ≡ Err problem → (stepwise (next_object role) d (map v xs)) ≡ Err problem
 first_refused role d v [] x h e = absurd cc
-first_refused role d v (y ∷ xs) x h e =
+first_refused {problem} role d v (y ∷ xs) x h e =
     err_first (next_object role d (v y)) (λ t. stepwise (next_object role) t (map v xs))
-    (object_refused d role (v y) (subst (λ (z : _). IsErr (shape_of d.site (v z).form (v z).default)) (sym (same_Some y x h)) e))
+    (object_refused d role (v y) (subst (λ (z : _). (shape_of d.site (v z).form (v z).default) ≡ Err problem) (sym (same_Some y x h)) e))
 
 -- ---- ports
 

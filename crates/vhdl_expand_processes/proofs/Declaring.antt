@@ -1,6 +1,5 @@
 -- Variables of declarations, one after another.
 use Rattle.std.proofs.Common.{◌≡◌, ℕ, suc, ◌+◌, ◌<◌, List, [], ◌∷◌, ◌++◌, length, map, flat_map, get_or, drop, drop-cons, add-one, All, Ok, Err, refl, sym, ap, ◌∙◌, subst}
-use Rattle.std.specs.Prelude.{IsErr}
 use Rattle.std.specs.List.{AllByRecursion}
 use Rattle.std.proofs.lemmas.List.{append-nil, append_assoc}
 use Rattle.std.proofs.lemmas.List.Sums.{sum_by-cons}
@@ -26,6 +25,7 @@ use Rattle.vhdl_expand_tree.specs.Views.{variable_view}
 use Rattle.vhdl_expand_processes.specs.Unrolled.{both, together}
 use Rattle.vhdl_expand_processes.specs.Processes.{named_object}
 use Rattle.vhdl_expand_processes.specs.Variables.{variable_kind, HasWidth}
+use Rattle.vhdl_expand_rules.specs.declared.fault.ElabProblem.{ElabProblem}
 use Rattle.vhdl_expand_processes.proofs.Widths.{kind_width}
 
 -- ---- names of one declaration
@@ -59,9 +59,9 @@ behind-goes made new (Ok front) (Ok back) h = ap given (sym (append_assoc made f
 behind-goes made new (Ok front) (Err problem) h = refl
 behind-goes made new (Err problem) q h = absurd cc
 
-behind-stops : {B : Type 0} (made : List B) (p q : Elab (List B)) → IsErr (behind made p) → IsErr (behind made (p >>= λ front. q >>= λ back. given (front ++ back)))
+behind-stops : {problem : ElabProblem} → {B : Type 0} (made : List B) (p q : Elab (List B)) → (behind made p) ≡ Err problem → (behind made (p >>= λ front. q >>= λ back. given (front ++ back))) ≡ Err problem
 behind-stops made (Ok front) q h = absurd cc
-behind-stops made (Err problem) q h = refl
+behind-stops made (Err other) q h = h
 
 next-left : {X : Type 0} (xs : List X) (i : ℕ) (x : X) → i < length xs → x ≡ get_or xs i x → drop i xs ≡ x ∷ drop (i + 1) xs
 next-left xs i x h e = drop-cons xs i x h ∙ ap (λ y. y ∷ drop (suc i) xs) (sym e) ∙ ap (λ j. x ∷ drop j xs) (sym (add-one i))
@@ -73,10 +73,10 @@ module _ {A B X : Type 0} (f : A → Elab B) (g : X → List A) where
       so_far ∙ ap (λ ys. behind made (each f (flat_map g ys))) (next-left xs i x below is) ∙ ap (behind made) (each-append f (g x) (flat_map g (drop (i + 1) xs)))
       ∙ behind-goes made new (each f (g x)) (each f (flat_map g (drop (i + 1) xs))) h
 
-  pub groups_stop : (total : Elab (List B)) (made : List B) (xs : List X) (i : ℕ) (x : X) → i < length xs → x ≡ get_or xs i x
-      → total ≡ behind made (each f (flat_map g (drop i xs))) → IsErr (behind made (each f (g x))) → IsErr total
-  groups_stop total made xs i x below is so_far h =
-      subst (λ (r : Elab (List B)). IsErr r)
+  pub groups_stop : {problem : ElabProblem} → (total : Elab (List B)) (made : List B) (xs : List X) (i : ℕ) (x : X) → i < length xs → x ≡ get_or xs i x
+      → total ≡ behind made (each f (flat_map g (drop i xs))) → (behind made (each f (g x))) ≡ Err problem → total ≡ Err problem
+  groups_stop {problem} total made xs i x below is so_far h =
+      subst (λ (r : Elab (List B)). r ≡ Err problem)
       (sym (so_far ∙ ap (λ ys. behind made (each f (flat_map g ys))) (next-left xs i x below is) ∙ ap (behind made) (each-append f (g x) (flat_map g (drop (i + 1) xs)))))
       (behind-stops made (each f (g x)) (each f (flat_map g (drop (i + 1) xs))) h)
 

@@ -1,24 +1,27 @@
 -- The parts of a process, made and paid in the order of the code, are the process and what it costs.
 use Rattle.std.proofs.Common.{◌≡◌, ℕ, ◌+◌, List, Ok, Err, refl, sym, ap, ◌∙◌, subst, arith}
-use Rattle.std.specs.Prelude.{IsErr}
+use Rattle.std.specs.Prelude.{◌≢◌, IsErr}
 use Rattle.vhdl_names_rules.specs.units.Units as u
 use Rattle.rtl_model.specs.bodies.Body as bodies
-use Rattle.vhdl_expand_rules.specs.Elab.{Elab, ◌>>=◌, each}
+use Rattle.vhdl_expand_rules.specs.declared.fault.ElabProblem.{ElabProblem}
+use Rattle.vhdl_expand_rules.specs.declared.fault.ElabProblem.TheVariants.{TooMany}
+use Rattle.vhdl_expand_rules.specs.Elab.{Elab, ◌>>=◌, each, MayTell}
 use Rattle.vhdl_expand_rules.specs.Site.{Site, elements_count}
 use Rattle.vhdl_expand_rules.specs.Tree as t
 use Rattle.vhdl_expand_rules.specs.Prefixes.{targets, prefixes_elements, in_order}
 use Rattle.vhdl_expand_rules.specs.Declarations.{variable}
 use Rattle.vhdl_expand_rules.specs.Statements.{statements, statements_turns}
 use Rattle.vhdl_expand_rules.specs.Expansion.{sensitivity, with_variables, process}
+use Rattle.vhdl_expand_rules.proofs.Chains.{bind-assoc}
 use Rattle.vhdl_expand_rules.proofs.Steps.{given, ok, bound}
 use Rattle.vhdl_elab_rules.specs.Limits.{Counts, statements_count}
 use Rattle.vhdl_expand_tree.specs.Costs.{a_process, plus, variables_costs, process_costs, spent, charged}
-use Rattle.vhdl_expand_tree.proofs.Alike.{Alike}
-use Rattle.vhdl_expand_tree.proofs.Charging.{spent-plus}
+use Rattle.vhdl_expand_tree.proofs.Alike.{Alike, wrong, same_problem, tells_first, tells_next}
+use Rattle.vhdl_expand_tree.proofs.Charging.{spent-plus, spent_told}
 use Rattle.vhdl_expand_drivers.specs.Driven.{drives_of}
 use Rattle.vhdl_expand_processes.specs.Unrolled.{statements_costs}
 use Rattle.vhdl_expand_processes.specs.Processes.{turns_paid, process_steps}
-use Rattle.vhdl_expand_processes.proofs.Measured.{body_costs, statements-measured}
+use Rattle.vhdl_expand_processes.proofs.Measured.{body_costs, statements-measured, turns_of, statements-turned}
 
 then_ok : {A B : Type 0} (r : Elab A) (f : A → Elab B) (x : A) (y : B) → r ≡ Ok x → f x ≡ Ok y → (r >>= f) ≡ Ok y
 then_ok r f x y h k = ap (λ q. q >>= f) h ∙ k
@@ -58,6 +61,30 @@ made-costs q = λ i. record {
   statements = none-before (statements_count q.body) i;
   variable_elements = none-more (variables_costs q.variables).variable_elements i;
 }
+
+-- ---- the first broken rule is the same
+
+-- behind a charge that is told as TooMany alone
+skip : {A B : Type 0} (n c : Counts) (f : Counts → Elab A) (whole : Elab B) (problem : ElabProblem) → problem ≢ TooMany → (spent n c >>= f) ≡ Err problem
+    → ((left : Counts) → f left ≡ Err problem → whole ≡ Err problem) → whole ≡ Err problem
+skip {A} {B} n c f whole problem no h go = by (spent n c) (spent_told n c) h
+  where
+    by : (r : Elab Counts) → ((other : ElabProblem) → r ≡ Err other → other ≡ TooMany) → (r >>= f) ≡ Err problem → whole ≡ Err problem
+    by (Ok left) only k = go left k
+    by (Err other) only k = absurd (no (sym (same_problem {A} other problem k) ∙ only other refl))
+
+along : {A B C : Type 0} (r : Elab A) (f : A → Elab B) (g : A → Elab C) (problem : ElabProblem) → (r >>= f) ≡ Err problem
+    → ((x : A) → f x ≡ Err problem → g x ≡ Err problem) → (r >>= g) ≡ Err problem
+along (Ok x) f g problem h go = go x h
+along {A} {B} {C} (Err other) f g problem h go = ap (λ q. wrong {C} q) (same_problem {B} other problem h)
+
+turns-along : {A B : Type 0} (cost : Elab Counts) (turned : Elab ℕ) → turned ≡ turns_of cost → (n : Counts) (f : ℕ × Counts → Elab A) (g : ℕ → Elab B) (problem : ElabProblem)
+    → problem ≢ TooMany → (turns_paid n cost >>= f) ≡ Err problem → ((x : ℕ × Counts) → f x ≡ Err problem → g x.0 ≡ Err problem) → (turned >>= g) ≡ Err problem
+turns-along {A} {B} cost turned same n f g problem no h go = ap (λ r. r >>= g) same ∙ by cost h
+  where
+    by : (q : Elab Counts) → (turns_paid n q >>= f) ≡ Err problem → (turns_of q >>= g) ≡ Err problem
+    by (Ok c) k = skip n c (λ rest. f (c.turns, rest)) (g c.turns) problem no (sym (bind-assoc (spent n c) (λ rest. given (c.turns, rest)) f) ∙ k) (λ rest e. go (c.turns, rest) e)
+    by (Err other) k = ap (λ q. wrong {B} q) (same_problem {A} other problem k)
 
 -- what is paid for turns and statements
 record Paid (n : Counts) (c : Counts) (turned : ℕ × Counts) : Type 0 where
@@ -127,8 +154,8 @@ module _ (n : Counts) (at : Site) (prefix : List ℕ) (p : u.Process) where
       then_ok (each (variable at) p.variables) _ x.vs q x.declared
       (then_ok (prefixes_elements at (targets p.body)) _ es.x q es.gave
       (then_ok (sensitivity at p.sensitivity p.body) _ x.on q x.resumed
-      (then_ok (statements (with_variables at x.vs) p.body) _ x.body q x.expanded
       (then_ok (statements_turns at p.body) _ m.n q m.turns_are
+      (then_ok (statements (with_variables at x.vs) p.body) _ x.body q x.expanded
       (λ i. given (record { prefix = prefix; label = p.label; drives = drawn i; sensitivity = x.on; variables = x.vs; body = x.body; turns = sym paid.turns_are i })))))) in
       let left : spent n (process_costs q) ≡ Ok x.turned.1 =
       ap (spent n) (made-costs q) ∙ spent-plus a_process (plus (variables_costs x.vs) (body_costs x.turned.0 (statements_count x.body))) n
@@ -145,8 +172,8 @@ module _ (n : Counts) (at : Site) (prefix : List ℕ) (p : u.Process) where
       let vs = bound (each (variable at) p.variables) _ q.x q.gave in
       let es = bound (prefixes_elements at (targets p.body)) _ q.x vs.then_gave in
       let on = bound (sensitivity at p.sensitivity p.body) _ q.x es.then_gave in
-      let body = bound (statements (with_variables at vs.x) p.body) _ q.x on.then_gave in
-      let k = bound (statements_turns at p.body) _ q.x body.then_gave in
+      let k = bound (statements_turns at p.body) _ q.x on.then_gave in
+      let body = bound (statements (with_variables at vs.x) p.body) _ q.x k.then_gave in
       let ds = in_order (elements_count at.ports + elements_count at.signals) es.x in
       let made : t.Process = record { prefix = prefix; label = p.label; drives = ds; sensitivity = on.x; variables = vs.x; body = body.x; turns = k.x } in
       let m = statements-measured (with_variables at vs.x) at refl p.body body.x body.gave in
@@ -155,7 +182,7 @@ module _ (n : Counts) (at : Site) (prefix : List ℕ) (p : u.Process) where
       let rest = plus (variables_costs vs.x) (body_costs m.n (statements_count body.x)) in
       let all : (spent n a_process >>= λ l. spent l rest) ≡ Ok s.x =
       sym (spent-plus a_process rest n) ∙ ap (λ j. spent n (plus a_process (plus (variables_costs vs.x) (body_costs j (statements_count body.x))))) same
-      ∙ ap (spent n) (sym (made-costs made)) ∙ ap (λ z. spent n (process_costs z)) (ok made q.x k.then_gave) ∙ s.gave in
+      ∙ ap (spent n) (sym (made-costs made)) ∙ ap (λ z. spent n (process_costs z)) (ok made q.x body.then_gave) ∙ s.gave in
       let started = bound (spent n a_process) (λ l. spent l rest) s.x all in
       let held = bound (spent started.x (variables_costs vs.x)) (λ l. spent l (body_costs m.n (statements_count body.x))) s.x
       (sym (spent-plus (variables_costs vs.x) (body_costs m.n (statements_count body.x)) started.x) ∙ started.then_gave) in
@@ -178,12 +205,79 @@ module _ (n : Counts) (at : Site) (prefix : List ℕ) (p : u.Process) where
         expanded = body.gave;
       }
 
+  steps-refused : (problem : ElabProblem) → problem ≢ TooMany → process_steps n (record { site = at; prefix = prefix }) p ≡ Err problem
+      → process (record { site = at; prefix = prefix }) p ≡ Err problem
+  unfolding process_steps process
+  steps-refused problem no h =
+      skip n a_process _ _ problem no h (λ unstarted a.
+      along (each (variable at) p.variables) _ _ problem a (λ vs b.
+      skip unstarted (variables_costs vs) _ _ problem no b (λ unbodied e.
+      along (prefixes_elements at (targets p.body)) _ _ problem (sym (bind-assoc (prefixes_elements at (targets p.body)) _ _) ∙ e) (λ es f.
+      along (sensitivity at p.sensitivity p.body) _ _ problem f (λ on g.
+      turns-along (statements_costs at.integers p.body) (statements_turns at p.body) (statements-turned at p.body) unbodied _ _ problem no g (λ turned k.
+      along (statements (with_variables at vs) p.body) _ _ problem k (λ body l. absurd cc)))))))
+
   pub process_alike : Alike (charged n process_costs (process (record { site = at; prefix = prefix }) p)) (process_steps n (record { site = at; prefix = prefix }) p)
   process_alike = record {
     gives = λ y h. let x = steps-of y h in whole-from x.0 ∙ ap given x.1;
-    stops = λ h. go (charged n process_costs (process (record { site = at; prefix = prefix }) p)) (λ y e. subst (λ r. IsErr r) (steps-from (whole-of y e)) h);
+    stops = λ problem t. record {
+      refused = go (charged n process_costs (process (record { site = at; prefix = prefix }) p)) (λ y e. subst (λ r. IsErr r) (steps-from (whole-of y e)) t.refused);
+      first = λ no. ap (λ (r : Elab t.Process). charged n process_costs r) (steps-refused problem no (t.first no));
+    };
   }
     where
       go : (r : Elab (t.Process × Counts)) → ((y : t.Process × Counts) → r ≡ Ok y → IsErr (given y)) → IsErr r
       go (Ok y) k = k y refl
       go (Err problem) k = refl
+
+-- ---- where the steps stop
+
+module _ (n : Counts) (at : Site) (prefix : List ℕ) (p : u.Process) where
+  pub not_started : {problem : ElabProblem} → MayTell (spent n a_process) problem → MayTell (process_steps n (record { site = at; prefix = prefix }) p) problem
+  unfolding process_steps
+  not_started h = tells_first (spent n a_process) _ h
+
+  module _ (unstarted : Counts) (started : spent n a_process ≡ Ok unstarted) where
+    pub not_declared : {problem : ElabProblem} → MayTell (each (variable at) p.variables) problem → MayTell (process_steps n (record { site = at; prefix = prefix }) p) problem
+    unfolding process_steps
+    not_declared h = tells_next (spent n a_process) _ unstarted started (tells_first (each (variable at) p.variables) _ h)
+
+    module _ (vs : List t.Variable) (declared : each (variable at) p.variables ≡ Ok vs) where
+      pub not_held : {problem : ElabProblem} → MayTell (spent unstarted (variables_costs vs)) problem → MayTell (process_steps n (record { site = at; prefix = prefix }) p) problem
+      unfolding process_steps
+      not_held h =
+          tells_next (spent n a_process) _ unstarted started (tells_next (each (variable at) p.variables) _ vs declared
+          (tells_first (spent unstarted (variables_costs vs)) _ h))
+
+      module _ (unbodied : Counts) (held : spent unstarted (variables_costs vs) ≡ Ok unbodied) where
+        pub not_driven : {problem : ElabProblem} → MayTell (drives_of at p.body) problem → MayTell (process_steps n (record { site = at; prefix = prefix }) p) problem
+        unfolding process_steps
+        not_driven h =
+            tells_next (spent n a_process) _ unstarted started (tells_next (each (variable at) p.variables) _ vs declared
+            (tells_next (spent unstarted (variables_costs vs)) _ unbodied held (tells_first (drives_of at p.body) _ h)))
+
+        module _ (ds : List ℕ) (driven : drives_of at p.body ≡ Ok ds) where
+          pub not_resumed : {problem : ElabProblem} → MayTell (sensitivity at p.sensitivity p.body) problem → MayTell (process_steps n (record { site = at; prefix = prefix }) p) problem
+          unfolding process_steps
+          not_resumed h =
+              tells_next (spent n a_process) _ unstarted started (tells_next (each (variable at) p.variables) _ vs declared
+              (tells_next (spent unstarted (variables_costs vs)) _ unbodied held (tells_next (drives_of at p.body) _ ds driven
+              (tells_first (sensitivity at p.sensitivity p.body) _ h))))
+
+          module _ (on : t.Sensitivity) (resumed : sensitivity at p.sensitivity p.body ≡ Ok on) where
+            pub not_counted : {problem : ElabProblem} → MayTell (turns_paid unbodied (statements_costs at.integers p.body)) problem
+                → MayTell (process_steps n (record { site = at; prefix = prefix }) p) problem
+            unfolding process_steps
+            not_counted h =
+                tells_next (spent n a_process) _ unstarted started (tells_next (each (variable at) p.variables) _ vs declared
+                (tells_next (spent unstarted (variables_costs vs)) _ unbodied held (tells_next (drives_of at p.body) _ ds driven
+                (tells_next (sensitivity at p.sensitivity p.body) _ on resumed (tells_first (turns_paid unbodied (statements_costs at.integers p.body)) _ h)))))
+
+            pub not_expanded : {problem : ElabProblem} (turned : ℕ × Counts) → turns_paid unbodied (statements_costs at.integers p.body) ≡ Ok turned
+                → MayTell (statements (with_variables at vs) p.body) problem → MayTell (process_steps n (record { site = at; prefix = prefix }) p) problem
+            unfolding process_steps
+            not_expanded turned counted h =
+                tells_next (spent n a_process) _ unstarted started (tells_next (each (variable at) p.variables) _ vs declared
+                (tells_next (spent unstarted (variables_costs vs)) _ unbodied held (tells_next (drives_of at p.body) _ ds driven
+                (tells_next (sensitivity at p.sensitivity p.body) _ on resumed
+                (tells_next (turns_paid unbodied (statements_costs at.integers p.body)) _ turned counted (tells_first (statements (with_variables at vs) p.body) _ h))))))

@@ -1,5 +1,5 @@
 -- What is counted of a body before it is unrolled is what the unrolled body has.
-use Rattle.std.proofs.Common.{◌≡◌, ℕ, ◌+◌, List, [], ◌∷◌, length, Ok, refl, sym, ap, ◌∙◌, subst, arith}
+use Rattle.std.proofs.Common.{◌≡◌, ℕ, ◌+◌, List, [], ◌∷◌, length, Ok, Err, refl, sym, ap, ◌∙◌, subst, arith}
 use Rattle.std.specs.Prelude.{ℤ, sum}
 use Rattle.std.proofs.lemmas.List.Sums.{sum_by-cons}
 use Rattle.vhdl_names_rules.specs.units.Statements as u
@@ -164,3 +164,70 @@ mutual
       let z = bound (alternatives at len alts) _ x y.then_gave in
       recount _ _ _ _ (ap alternatives_count (ok (bodies.alternative cs.x y.x z.x) x z.then_gave))
       (add _ _ _ _ _ _ (statements-measured at by same s y.x y.gave) (alternatives-measured at by same len alts z.x z.gave))
+
+-- ---- the turns are those of the costs, given or refused
+
+abbrev pub turns_of : Elab Counts → Elab ℕ
+turns_of q = q >>= λ c. given c.turns
+
+add-turned : (p q : Elab Counts) → (turns_of p >>= λ x. turns_of q >>= λ y. given (x + y)) ≡ turns_of (both p q)
+add-turned (Ok a) (Ok b) = refl
+add-turned (Ok a) (Err problem) = refl
+add-turned (Err problem) q = refl
+
+inside-turned : (q : Elab Counts) → turns_of q ≡ turns_of (both (given a_statement) q)
+inside-turned (Ok c) = ap given (sym (none-before c.turns))
+inside-turned (Err problem) = refl
+
+step-turned : (a : Elab ℕ) (as : Elab (List ℕ)) (p q : Elab Counts) → a ≡ turns_of p → (as >>= λ ns. given (sum ns)) ≡ turns_of q
+    → ((a >>= λ y. as >>= λ ys. given (y ∷ ys)) >>= λ ns. given (sum ns)) ≡ turns_of (both p q)
+step-turned (Ok x) (Ok xs) (Ok b) (Ok c) j k = ap given (sum_by-cons (λ n. n) x xs ∙ (λ i. ok x b.turns j i + ok (sum xs) c.turns k i))
+step-turned (Ok x) (Ok xs) (Ok b) (Err f) j k = absurd cc
+step-turned (Ok x) (Err e) (Ok b) (Ok c) j k = absurd cc
+step-turned (Ok x) (Err e) (Ok b) (Err f) j k = k
+step-turned (Ok x) as (Err f) q j k = absurd cc
+step-turned (Err e) as (Ok b) q j k = absurd cc
+step-turned (Err e) as (Err f) q j k = j
+
+behind-turned : (n : ℕ) (as : Elab (List ℕ)) (q : Elab Counts) → (as >>= λ ns. given (sum ns)) ≡ turns_of q → (as >>= λ ns. given (n + sum ns)) ≡ turns_of (both (given (costs.turns n)) q)
+behind-turned n (Ok ns) (Ok c) k = ap (λ m. given (n + m)) (ok (sum ns) c.turns k)
+behind-turned n (Ok ns) (Err f) k = absurd cc
+behind-turned n (Err e) (Ok c) k = absurd cc
+behind-turned n (Err e) (Err f) k = k
+
+module _ (g : ℤ → Elab ℕ) (h : ℤ → Elab Counts) (same : (i : ℤ) → g i ≡ turns_of (h i)) where
+  each-turned : (is : List ℤ) → (each g is >>= λ ns. given (sum ns)) ≡ turns_of (together h is)
+  each-turned [] = refl
+  each-turned (i ∷ is) = step-turned (g i) (each g is) (h i) (together h is) (same i) (each-turned is)
+
+  loop-turned : (q : Elab (List ℤ)) → (q >>= λ is. each g is >>= λ ns. given (length is + sum ns)) ≡ turns_of (q >>= λ is. both (given (costs.turns (length is))) (together h is))
+  loop-turned (Ok is) = behind-turned (length is) (each g is) (together h is) (each-turned is)
+  loop-turned (Err problem) = refl
+
+mutual
+  unfolding statement_turns statements_turns branches_turns alternatives_turns statement_costs statements_costs branches_costs alternatives_costs
+
+  statement-turned : (at : Site) (s : u.Statement) → statement_turns at s ≡ turns_of (statement_costs at.integers s)
+  statement-turned at u.null_of = refl
+  statement-turned at (u.assign p g) = refl
+  statement-turned at (u.set k part g) = refl
+  statement-turned at (u.if_of bs) = branches-turned at bs ∙ inside-turned (branches_costs at.integers bs)
+  statement-turned at (u.case_of v alts) = alternatives-turned at alts ∙ inside-turned (alternatives_costs at.integers alts)
+  statement-turned at (u.for_of r body) =
+      loop-turned (λ i. statements_turns (in_loop at i) body) (λ i. statements_costs (in_turn at.integers i) body) (λ i. statements-turned (in_loop at i) body) (turns at.integers r)
+
+  pub statements-turned : (at : Site) (s : u.Statements) → statements_turns at s ≡ turns_of (statements_costs at.integers s)
+  statements-turned at u.done = refl
+  statements-turned at (u.step s rest) =
+      (λ i. statement-turned at s i >>= λ m. statements-turned at rest i >>= λ n. given (m + n)) ∙ add-turned (statement_costs at.integers s) (statements_costs at.integers rest)
+
+  branches-turned : (at : Site) (s : u.Branches) → branches_turns at s ≡ turns_of (branches_costs at.integers s)
+  branches-turned at u.no_else = refl
+  branches-turned at (u.otherwise s) = statements-turned at s
+  branches-turned at (u.branch t s bs) =
+      (λ i. statements-turned at s i >>= λ m. branches-turned at bs i >>= λ n. given (m + n)) ∙ add-turned (statements_costs at.integers s) (branches_costs at.integers bs)
+
+  alternatives-turned : (at : Site) (s : u.Alternatives) → alternatives_turns at s ≡ turns_of (alternatives_costs at.integers s)
+  alternatives-turned at (u.others s) = statements-turned at s
+  alternatives-turned at (u.alternative choices s alts) =
+      (λ i. statements-turned at s i >>= λ m. alternatives-turned at alts i >>= λ n. given (m + n)) ∙ add-turned (statements_costs at.integers s) (alternatives_costs at.integers alts)

@@ -1,6 +1,6 @@
 -- What statements cost, by their parts, in the order in which the code comes to them.
 use Rattle.std.proofs.Common.{◌≡◌, ℕ, List, [], ◌∷◌, length, map, Option, Some, None, Vec, Global, Ok, Err, refl, sym, ap, ◌∙◌}
-use Rattle.std.specs.Prelude.{ℤ, IsErr}
+use Rattle.std.specs.Prelude.{ℤ}
 use Rattle.vhdl_names_rules.specs.units.Expressions.{Range}
 use Rattle.vhdl_names_rules.specs.units.Statements as u
 use Rattle.vhdl_names_rules.specs.views.Integers.{range_view}
@@ -15,16 +15,16 @@ use Rattle.vhdl_names_units.specs.declared.sequential.Loop.{Loop}
 use Rattle.vhdl_names_units.specs.views.Sequential as units
 use Rattle.vhdl_names_units.specs.views.Sequential.{Guarded, Chosen}
 use Rattle.vhdl_names_units.proofs.rows.Sequential as rows
-use Rattle.vhdl_expand_rules.specs.Elab.{Elab, ◌>>=◌}
+use Rattle.vhdl_expand_rules.specs.Elab.{Elab, ◌>>=◌, MayTell}
 use Rattle.vhdl_expand_rules.specs.Integers.{Integers, turns, counted}
 use Rattle.vhdl_expand_rules.proofs.Steps.{given}
-use Rattle.vhdl_expand_rules.proofs.Chains.{err_first}
 use Rattle.vhdl_elab_rules.specs.Limits.{Counts}
 use Rattle.vhdl_expand_tree.specs.Costs as costs
 use Rattle.vhdl_expand_tree.specs.Costs.{no_costs, a_statement, plus, spent}
 use Rattle.vhdl_expand_tree.proofs.Charging.{plus-none, plus-assoc, spent-none}
 use Rattle.vhdl_expand_processes.specs.Unrolled.{both, paid, together, in_turn, statement_costs, statements_costs, branches_costs, alternatives_costs, guarded_costs, chosen_costs}
-use Rattle.vhdl_expand_tree.proofs.Alike.{Alike, alike_same, alike_trans}
+use Rattle.vhdl_expand_tree.proofs.Alike.{Alike, alike_same, alike_trans, tells, tells_first}
+use Rattle.vhdl_expand_rules.specs.declared.fault.ElabProblem.{ElabProblem}
 use Rattle.vhdl_expand_processes.proofs.Paying.{paid_go, paid_stop, counted_length}
 
 pub both-none : (q : Elab Counts) → both (given no_costs) q ≡ q
@@ -79,13 +79,9 @@ module _ (at : Integers) where
       ap (λ q. q >>= λ js. both (given (costs.turns (length js))) (together (λ i. statements_costs (in_turn at i) body) js)) h
       ∙ ap (λ c. both (given (costs.turns c)) (together (λ i. statements_costs (in_turn at i) body) is)) n
 
-  pub loop_stops : (r : Range) (body : u.Statements) → IsErr (turns at r) → IsErr (statement_costs at (u.for_of r body))
+  pub loop_stops : {problem : ElabProblem} → (r : Range) (body : u.Statements) → turns at r ≡ Err problem → statement_costs at (u.for_of r body) ≡ Err problem
   unfolding statement_costs
-  loop_stops r body h = go (turns at r) h
-    where
-      go : (q : Elab (List ℤ)) → IsErr q → IsErr (q >>= λ js. both (given (costs.turns (length js))) (together (λ i. statements_costs (in_turn at i) body) js))
-      go (Ok is) h = absurd cc
-      go (Err problem) h = refl
+  loop_stops r body h = ap (λ q. q >>= λ js. both (given (costs.turns (length js))) (together (λ i. statements_costs (in_turn at i) body) js)) h
 
   -- ---- statements of the code
 
@@ -122,14 +118,14 @@ module _ (at : Integers) where
   -- ---- an if statement: itself, its branches, and what it does else
 
   module _ (n : Counts) (gs : List Guarded) (last : u.Branches) where
-    pub choose_stops : IsErr (spent n a_statement) → IsErr (paid n (statement_costs at (u.if_of (units.branches_of gs last))))
+    pub choose_stops : {problem : ElabProblem} → MayTell (spent n a_statement) problem → MayTell (paid n (statement_costs at (u.if_of (units.branches_of gs last)))) problem
     choose_stops h = paid_stop _ n (given a_statement) _ (alike_same (ap (paid n) (choose_costs gs last))) h
 
     choose-begins : (m : Counts) → spent n a_statement ≡ Ok m
         → Alike (paid n (statement_costs at (u.if_of (units.branches_of gs last)))) (paid m (both (together (guarded_costs at) gs) (branches_costs at last)))
     choose-begins m h = paid_go _ n m (given a_statement) _ (alike_same (ap (paid n) (choose_costs gs last))) h
 
-    pub branches_stop : (m : Counts) → spent n a_statement ≡ Ok m → IsErr (paid m (together (guarded_costs at) gs)) → IsErr (paid n (statement_costs at (u.if_of (units.branches_of gs last))))
+    pub branches_stop : {problem : ElabProblem} → (m : Counts) → spent n a_statement ≡ Ok m → MayTell (paid m (together (guarded_costs at) gs)) problem → MayTell (paid n (statement_costs at (u.if_of (units.branches_of gs last)))) problem
     branches_stop m h k = paid_stop _ m (together (guarded_costs at) gs) (branches_costs at last) (choose-begins m h) k
 
     pub branches_go : (m k : Counts) → spent n a_statement ≡ Ok m → paid m (together (guarded_costs at) gs) ≡ Ok k
@@ -156,8 +152,8 @@ module _ (at : Integers) where
         → Alike (paid n (both (given a_statement) (alternatives_costs at (units.alternatives_of gs last)))) (paid m (both (together (chosen_costs at) gs) (statements_costs at last)))
     select-begins m h = paid_go _ n m (given a_statement) _ (alike_same (ap (paid n) (select_costs gs last))) h
 
-    pub alternatives_stop : (m : Counts) → spent n a_statement ≡ Ok m → IsErr (paid m (together (chosen_costs at) gs))
-        → IsErr (paid n (both (given a_statement) (alternatives_costs at (units.alternatives_of gs last))))
+    pub alternatives_stop : {problem : ElabProblem} → (m : Counts) → spent n a_statement ≡ Ok m → MayTell (paid m (together (chosen_costs at) gs)) problem
+        → MayTell (paid n (both (given a_statement) (alternatives_costs at (units.alternatives_of gs last)))) problem
     alternatives_stop m h k = paid_stop _ m (together (chosen_costs at) gs) (statements_costs at last) (select-begins m h) k
 
     pub alternatives_go : (m k : Counts) → spent n a_statement ≡ Ok m → paid m (together (chosen_costs at) gs) ≡ Ok k
@@ -167,15 +163,15 @@ module _ (at : Integers) where
   -- ---- a loop: how many turns it has, and these
 
   module _ (n : Counts) (r : Range) (body : u.Statements) where
-    pub range_stops : IsErr (turns at r) → IsErr (paid n (statement_costs at (u.for_of r body)))
-    range_stops h = err_first (statement_costs at (u.for_of r body)) _ (loop_stops r body h)
+    pub range_stops : {problem : ElabProblem} → turns at r ≡ Err problem → MayTell (paid n (statement_costs at (u.for_of r body))) problem
+    range_stops h = tells_first (statement_costs at (u.for_of r body)) _ (tells (loop_stops r body h))
 
     loop-counted : (direction : Direction) (x : ℤ) (count : ℕ) → turns at r ≡ Ok (counted direction x count)
         → Alike (paid n (statement_costs at (u.for_of r body))) (paid n (both (given (costs.turns count)) (together (λ i. statements_costs (in_turn at i) body) (counted direction x count))))
     loop-counted direction x count h = alike_same (ap (paid n) (loop_costs r body (counted direction x count) count h (counted_length direction x count)))
 
-    pub count_stops : (direction : Direction) (x : ℤ) (count : ℕ) → turns at r ≡ Ok (counted direction x count) → IsErr (spent n (costs.turns count))
-        → IsErr (paid n (statement_costs at (u.for_of r body)))
+    pub count_stops : {problem : ElabProblem} → (direction : Direction) (x : ℤ) (count : ℕ) → turns at r ≡ Ok (counted direction x count) → MayTell (spent n (costs.turns count)) problem
+        → MayTell (paid n (statement_costs at (u.for_of r body))) problem
     count_stops direction x count h k = paid_stop _ n (given (costs.turns count)) _ (loop-counted direction x count h) k
 
     pub turns_begin : (m : Counts) (direction : Direction) (x : ℤ) (count : ℕ) → turns at r ≡ Ok (counted direction x count) → spent n (costs.turns count) ≡ Ok m

@@ -6,7 +6,7 @@
 ghost use Rattle.std.specs.Prelude.{◌≡◌, ◌++◌, [], ◌∷◌, map, Ok};
 ghost use Rattle.vhdl_names_rules.specs.views.Integers.{range_view};
 ghost use Rattle.vhdl_expand_rules.specs.views.Integers.{integers_view};
-ghost use Rattle.vhdl_expand_bodies.specs.Results.{Expands};
+ghost use Rattle.vhdl_expand_bodies.specs.Results.{Expands, Charges};
 ghost use Rattle.vhdl_expand_bodies.specs.steps.Statements as steps;
 ghost use Rattle.vhdl_names_rules.specs.units.Statements as units;
 ghost use Rattle.vhdl_names_units.specs.declared.sequential.Case.{out-Case};
@@ -33,7 +33,7 @@ pub fn charge_body(
     at: usize,
     budget: &mut Budget,
 ) -> Result<(), ElabFault>
-    ensures { Expands (λ _. budget_view budget.new)
+    ensures { Charges (λ _. budget_view budget.new)
         (paid (budget_view budget.old) (definition.statements_costs (integers_view integers.now) (analysed.statements_of (map analysed.statement_view statements.now)))) result }
 {
     of_statements(alloc, integers, statements, at, budget)
@@ -63,7 +63,7 @@ fn of_statements(
     at: usize,
     budget: &mut Budget,
 ) -> Result<(), ElabFault>
-    ensures { Expands (λ _. budget_view budget.new)
+    ensures { Charges (λ _. budget_view budget.new)
         (paid (budget_view budget.old) (definition.statements_costs (integers_view integers.now) (analysed.statements_of (map analysed.statement_view list.now)))) result }
 {
     for statement in list {
@@ -82,7 +82,7 @@ fn of_statement(
     at: usize,
     budget: &mut Budget,
 ) -> Result<(), ElabFault>
-    ensures { Expands (λ _. budget_view budget.new)
+    ensures { Charges (λ _. budget_view budget.new)
         (paid (budget_view budget.old) (definition.statement_costs (integers_view integers.now) (analysed.statement_view statement.now))) result }
 {
     match statement {
@@ -103,7 +103,7 @@ fn of_conditional(
     conditional: &If,
     budget: &mut Budget,
 ) -> Result<(), ElabFault>
-    ensures { Expands (λ _. budget_view budget.new)
+    ensures { Charges (λ _. budget_view budget.new)
         (paid (budget_view budget.old) (definition.statement_costs (integers_view integers.now)
         (units.if_of (analysed.branches_of (analysed.branches_view (out-If conditional.now).branches) (analysed.last_of (analysed.option_statements_view (out-If conditional.now).otherwise)))))) result }
 {
@@ -125,7 +125,7 @@ fn of_branches(
     at: usize,
     budget: &mut Budget,
 ) -> Result<(), ElabFault>
-    ensures { Expands (λ _. budget_view budget.new)
+    ensures { Charges (λ _. budget_view budget.new)
         (paid (budget_view budget.old) (together (guarded_costs (integers_view integers.now)) (map analysed.branch_view list.now))) result }
 {
     for branch in list {
@@ -142,7 +142,7 @@ fn of_selection(
     selection: &Case,
     budget: &mut Budget,
 ) -> Result<(), ElabFault>
-    ensures { Expands (λ _. budget_view budget.new)
+    ensures { Charges (λ _. budget_view budget.new)
         (paid (budget_view budget.old) (both (Ok a_statement) (definition.alternatives_costs (integers_view integers.now)
         (analysed.alternatives_of (analysed.alternatives_view (out-Case selection.now).alternatives) (analysed.statements_of (analysed.statements_view (out-Case selection.now).others)))))) result }
 {
@@ -161,7 +161,7 @@ fn of_alternatives(
     at: usize,
     budget: &mut Budget,
 ) -> Result<(), ElabFault>
-    ensures { Expands (λ _. budget_view budget.new)
+    ensures { Charges (λ _. budget_view budget.new)
         (paid (budget_view budget.old) (together (chosen_costs (integers_view integers.now)) (map analysed.alternative_view list.now))) result }
 {
     for alternative in list {
@@ -178,7 +178,7 @@ fn of_loop(
     repeated: &Loop,
     budget: &mut Budget,
 ) -> Result<(), ElabFault>
-    ensures { Expands (λ _. budget_view budget.new)
+    ensures { Charges (λ _. budget_view budget.new)
         (paid (budget_view budget.old) (definition.statement_costs (integers_view integers.now)
         (units.for_of (range_view repeated.now.range) (analysed.statements_of (analysed.statements_view repeated.now.statements))))) result }
 {
@@ -200,7 +200,7 @@ fn of_turn(
     parameter: i32,
     budget: &mut Budget,
 ) -> Result<(), ElabFault>
-    ensures { Expands (λ _. budget_view budget.new)
+    ensures { Charges (λ _. budget_view budget.new)
         (paid (budget_view budget.old) (definition.statements_costs (in_turn (integers_view integers.now) parameter)
         (analysed.statements_of (analysed.statements_view repeated.now.statements)))) result }
 {

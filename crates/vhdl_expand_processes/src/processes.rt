@@ -3,7 +3,7 @@
 ghost use Rattle.std.specs.Prelude.{◌≡◌, ◌-◌, ◌^◌, min, map, option_map, IfOk};
 ghost use Rattle.vhdl_expand_rules.specs.Expansion as definition;
 ghost use Rattle.vhdl_expand_rules.specs.views.Integers.{integers_view};
-ghost use Rattle.vhdl_expand_bodies.specs.Results.{Expands};
+ghost use Rattle.vhdl_expand_bodies.specs.Results.{Expands, Charges};
 ghost use Rattle.vhdl_expand_bodies.specs.Sites.{IsSite, site_view};
 ghost use Rattle.vhdl_names_units.specs.views.Concurrent as analysed;
 ghost use Rattle.vhdl_names_units.specs.views.Sequential as statements;
@@ -75,7 +75,7 @@ fn charge_turns(
     at: usize,
     budget: &mut Budget,
 ) -> Result<u32, ElabFault>
-    ensures { Expands (λ turns. (turns, budget_view budget.new))
+    ensures { Charges (λ turns. (turns, budget_view budget.new))
         (turns_paid (budget_view budget.old) (statements_costs (integers_view integers.now) (statements.statements_of (map statements.statement_view list.now)))) result }
 {
     let before = budget.turns;
@@ -93,7 +93,7 @@ fn parts_of(
     budget: &mut Budget,
 ) -> Result<Process, ElabFault>
     requires { IsSite site.now }
-    ensures { Expands (λ made. (process_view made, budget_view budget.new))
+    ensures { Charges (λ made. (process_view made, budget_view budget.new))
         (process_steps (budget_view budget.old) (record { site = site_view site.now; prefix = prefix.now }) (analysed.process_view process.now)) result }
 {
     let at = process.at;
@@ -127,7 +127,7 @@ pub fn process(
     budget: &mut Budget,
 ) -> Result<Process, ElabFault>
     requires { IsSite site.now }
-    ensures { Expands (λ made. (process_view made, budget_view budget.new))
+    ensures { Charges (λ made. (process_view made, budget_view budget.new))
         (charged (budget_view budget.old) process_costs (definition.process (record { site = site_view site.now; prefix = prefix.now }) (analysed.process_view process.now))) result }
 {
     parts_of(alloc, site, prefix, process, budget)

@@ -9,7 +9,7 @@ ghost use Rattle.vhdl_expand_rules.specs.Expansion.{with_variables};
 ghost use Rattle.vhdl_expand_rules.specs.Kinds.{size};
 ghost use Rattle.vhdl_expand_rules.specs.Statements as bodies;
 ghost use Rattle.vhdl_expand_rules.specs.Tree as tree;
-ghost use Rattle.vhdl_expand_bodies.specs.Results.{Expands};
+ghost use Rattle.vhdl_expand_bodies.specs.Results.{Expands, Charges};
 ghost use Rattle.vhdl_expand_bodies.specs.Sites.{IsSite, placed_kind, site_view};
 ghost use Rattle.vhdl_expand_bodies.proofs.Sequences.{behind};
 ghost use Rattle.vhdl_names_units.specs.views.Declarations.{object_view};
@@ -87,7 +87,7 @@ pub(crate) fn charge_variables(
     at: usize,
     budget: &mut Budget,
 ) -> Result<(), ElabFault>
-    ensures { Expands (λ _. budget_view budget.new) (spent (budget_view budget.old) (variables_costs (map variable_view variables.now))) result }
+    ensures { Charges (λ _. budget_view budget.new) (spent (budget_view budget.old) (variables_costs (map variable_view variables.now))) result }
 {
     for variable in variables {
         budget.charge_variables(variable.starts.len(), at)?;

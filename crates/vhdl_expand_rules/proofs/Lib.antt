@@ -1,6 +1,7 @@
 pub mod Steps
 pub mod Options
 pub mod Chains
+mod Modulus
 pub mod Decided
 pub mod StaticChains
 pub mod laws

@@ -1,5 +1,5 @@
 -- What elaboration computes, or why it refuses: by the first broken rule, in the order in which the definitions come to them.
-use Rattle.std.specs.Prelude.{Bool, if◌then◌else◌, List, [], ◌∷◌, Option, Some, None, Result, Ok, Err}
+use Rattle.std.specs.Prelude.{◌≡◌, ◌≢◌, Bool, if◌then◌else◌, List, [], ◌∷◌, Option, Some, None, Result, Ok, Err, IsErr}
 use Rattle.vhdl_expand_rules.specs.declared.fault.ElabFault.{ElabFault}
 use Rattle.vhdl_expand_rules.specs.declared.fault.ElabFault.TheVariants.{At, NoMemory}
 use Rattle.vhdl_expand_rules.specs.declared.fault.ElabProblem.{ElabProblem}
@@ -21,6 +21,12 @@ p >> q = p >>= (λ _. q)
 abbrev pub told : ElabFault → ElabProblem
 told (At problem at) = problem
 told NoMemory = TooMany
+
+-- Budgets are charged while a design grows, and their own rule comes behind those of the whole design. So TooMany may be told of what
+-- breaks another rule first; every other problem is that of the first broken rule.
+pub record MayTell {A : Type 0} (given : Elab A) (problem : ElabProblem) : Type 0 where
+  pub refused : IsErr given
+  pub first : problem ≢ TooMany → given ≡ Err problem
 
 -- a rule, and the problem where it is broken
 abbrev pub unless : ElabProblem → Bool → Elab (Unit {0})

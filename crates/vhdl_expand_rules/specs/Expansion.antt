@@ -55,8 +55,8 @@ process at p = do
   vs ← each (variable at.site) p.variables
   ds ← prefixes_elements at.site (targets p.body)
   on ← sensitivity at.site p.sensitivity p.body
-  body ← statements (with_variables at.site vs) p.body
   n ← statements_turns at.site p.body
+  body ← statements (with_variables at.site vs) p.body
   Ok (record {
     prefix = at.prefix;
     label = p.label;

@@ -1,6 +1,6 @@
 //! The values of static integers (IEEE 1076-2008, 9.4 and 9.2).
 
-ghost use Rattle.std.specs.Prelude.{◌≡◌, pos, Ok};
+ghost use Rattle.std.specs.Prelude.{◌≡◌, ◌+ℤ◌, pos, Ok};
 ghost use Rattle.vhdl_names_rules.specs.views.Integers.{static_view, start_view};
 ghost use Rattle.vhdl_names_rules.specs.declared.operator.Arithmetic.TheVariants.{Modulo, Remainder};
 ghost use Rattle.vhdl_expand_rules.specs.Integers as definition;
@@ -76,8 +76,24 @@ fn remainder(left: i32, right: i32, at: usize) -> Result<i32, ElabFault>
     if right == -1 {
         return Ok(0);
     }
-    let remainder = within(left.checked_rem(right), at)?;
-    Ok(remainder)
+    match left.checked_rem(right) {
+        Some(remainder) => checked(remainder, at),
+        None => Err(ElabProblem::StaticError.at(at)),
+    }
+}
+
+/// `left + right`.
+fn sum(left: i32, right: i32, at: usize) -> Result<i32, ElabFault>
+    ensures { Computes (definition.checked (left +ℤ right)) result }
+{
+    within(left.checked_add(right), at)
+}
+
+/// Whether one is above 0 and the other below.
+fn are_opposite(left: i32, right: i32) -> bool
+    ensures { result ≡ definition.are_opposite left right }
+{
+    if right < 0 { left > 0 } else { left < 0 }
 }
 
 /// `left mod right`, which has the sign of the divisor.
@@ -85,14 +101,8 @@ fn modulus(left: i32, right: i32, at: usize) -> Result<i32, ElabFault>
     ensures { Computes (definition.operated Modulo left right) result }
 {
     let remainder = remainder(left, right, at)?;
-    let opposite = if right < 0 {
-        remainder > 0
-    } else {
-        remainder < 0
-    };
-    if opposite {
-        let sum = within(remainder.checked_add(right), at)?;
-        Ok(sum)
+    if are_opposite(remainder, right) {
+        sum(remainder, right, at)
     } else {
         Ok(remainder)
     }
@@ -103,7 +113,7 @@ fn operated(operator: Arithmetic, left: i32, right: i32, at: usize) -> Result<i3
     ensures { Computes (definition.operated operator left right) result }
 {
     match operator {
-        Arithmetic::Add => within(left.checked_add(right), at),
+        Arithmetic::Add => sum(left, right, at),
         Arithmetic::Subtract => within(left.checked_sub(right), at),
         Arithmetic::Multiply => within(left.checked_mul(right), at),
         Arithmetic::Divide => within(left.checked_div(right), at),

@@ -1,5 +1,5 @@
 -- Charging one part and then the next is charging both together.
-use Rattle.std.proofs.Common.{◌≡◌, ℕ, ◌+◌, ◌-◌, Bool, true, false, ◌&&◌, nat_le, Ok, Err, refl, ap, ◌∙◌, arith}
+use Rattle.std.proofs.Common.{◌≡◌, ℕ, ◌+◌, ◌-◌, Bool, true, false, ◌&&◌, nat_le, Ok, Err, refl, sym, ap, ◌∙◌, arith}
 use Rattle.std.specs.Prelude.{IsErr}
 use Rattle.std.proofs.lemmas.Bool.Decides.{nat_tests}
 use Rattle.vhdl_expand_rules.specs.declared.fault.ElabProblem.{ElabProblem}
@@ -8,7 +8,7 @@ use Rattle.vhdl_expand_rules.specs.Elab.{Elab, ◌>>=◌, ◌>>◌, unless}
 use Rattle.vhdl_expand_rules.proofs.Steps.{given}
 use Rattle.vhdl_elab_rules.specs.Limits.{Counts}
 use Rattle.vhdl_expand_tree.specs.Costs.{no_costs, plus, less, is_within, spent, charged}
-use Rattle.vhdl_expand_tree.proofs.Alike.{Alike, wrong, alike_same, alike_after, both_refused}
+use Rattle.vhdl_expand_tree.proofs.Alike.{Alike, wrong, same_problem, alike_same, alike_after, both_refused}
 
 -- ---- numbers
 
@@ -73,6 +73,14 @@ less-plus a b n = λ i. record {
   variable_elements = both-taken a.variable_elements b.variable_elements n.variable_elements i;
 }
 
+-- a budget that does not suffice is one problem
+pub spent_told : (n c : Counts) (problem : ElabProblem) → spent n c ≡ Err problem → problem ≡ TooMany
+spent_told n c problem h = by (is_within c n) h
+  where
+    by : (t : Bool) → (unless TooMany t >> given (less n c)) ≡ wrong problem → problem ≡ TooMany
+    by true k = absurd cc
+    by false k = sym (same_problem {Counts} TooMany problem k)
+
 pub spent-plus : (a b n : Counts) → spent n (plus a b) ≡ (spent n a >>= λ left. spent left b)
 spent-plus a b n = (λ i. unless TooMany (within-plus a b n i) >> given (less-plus a b n i)) ∙ go (is_within a n)
   where
@@ -127,7 +135,7 @@ module _ {X Y Z : Type 0} (cx : X → Counts) (cy : Y → Counts) (cz : Z → Co
   pub charged_in_turn : (n : Counts) (p : Elab X) (f : X → Elab Y)
       → Alike (charged n cz (p >>= λ x. f x >>= λ y. given (join x y))) (charged n cx p >>= λ a. charged a.1 cy (f a.0) >>= λ b. left_with (join a.0 b.0) b.1)
   charged_in_turn n (Err problem) f = alike_same refl
-  charged_in_turn n (Ok x) f = alike_after (costs (f x)) (go (spent n (cx x)))
+  charged_in_turn n (Ok x) f = alike_after (costs (f x)) (go (spent n (cx x)) (spent_told n (cx x)))
     where
       split : (y : Y) → (spent n (cz (join x y)) >>= λ s. left_with (join x y) s) ≡ ((spent n (cx x) >>= λ left. spent left (cy y)) >>= λ s. left_with (join x y) s)
       split y = λ i. (ap (spent n) (together x y) ∙ spent-plus (cx x) (cy y) n) i >>= λ s. left_with (join x y) s
@@ -148,9 +156,9 @@ module _ {X Y Z : Type 0} (cx : X → Counts) (cy : Y → Counts) (cz : Z → Co
       next left (Ok y) = last y (spent left (cy y))
       next left (Err problem) = refl
 
-      go : (t : Elab Counts) → Alike (f x >>= λ y. (t >>= λ left. spent left (cy y)) >>= λ s. left_with (join x y) s) ((t >>= λ s. left_with x s) >>= λ a. charged a.1 cy (f a.0) >>= λ b. left_with (join a.0 b.0) b.1)
-      go (Ok left) = alike_same (next left (f x))
-      go (Err problem) = both_refused (refused (f x) problem)
+      go : (t : Elab Counts) → ((problem : ElabProblem) → t ≡ Err problem → problem ≡ TooMany) → Alike (f x >>= λ y. (t >>= λ left. spent left (cy y)) >>= λ s. left_with (join x y) s) ((t >>= λ s. left_with x s) >>= λ a. charged a.1 cy (f a.0) >>= λ b. left_with (join a.0 b.0) b.1)
+      go (Ok left) only = alike_same (next left (f x))
+      go (Err problem) only = both_refused (only problem refl) (refused (f x) problem)
 
 -- what costs as much as what it is made of
 pub charged_made : {X Z : Type 0} (cx : X → Counts) (cz : Z → Counts) (make : X → Z) → ((x : X) → cz (make x) ≡ cx x) → (n : Counts) (p : Elab X)

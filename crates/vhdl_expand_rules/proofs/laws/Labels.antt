@@ -137,9 +137,9 @@ process-named at p q n g =
     let vs = bound (each (variable at.site) p.variables) _ q g in
     let ds = bound (prefixes_elements at.site (targets p.body)) _ q vs.then_gave in
     let on = bound (sensitivity at.site p.sensitivity p.body) _ q ds.then_gave in
-    let body = bound (statements (with_variables at.site vs.x) p.body) _ q on.then_gave in
-    let m = bound (statements_turns at.site p.body) _ q body.then_gave in
-    subst ProcessIsNamed (ok _ q m.then_gave) (record { label = label-named p.label both.0; variables = variables-named at.site p.variables vs.x both.1 vs.gave })
+    let m = bound (statements_turns at.site p.body) _ q on.then_gave in
+    let body = bound (statements (with_variables at.site vs.x) p.body) _ q m.then_gave in
+    subst ProcessIsNamed (ok _ q body.then_gave) (record { label = label-named p.label both.0; variables = variables-named at.site p.variables vs.x both.1 vs.gave })
 
 -- ---- concurrent statements
 

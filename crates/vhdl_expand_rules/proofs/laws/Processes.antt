@@ -136,8 +136,8 @@ process-sound i at os ss p q h fit g =
     let vs = bound (each (variable at.site) p.variables) _ q g in
     let ds = bound (prefixes_elements at.site (targets p.body)) _ q vs.then_gave in
     let on = bound (sensitivity at.site p.sensitivity p.body) _ q ds.then_gave in
-    let body = bound (statements (with_variables at.site vs.x) p.body) _ q on.then_gave in
-    let n = bound (statements_turns at.site p.body) _ q body.then_gave in
+    let n = bound (statements_turns at.site p.body) _ q on.then_gave in
+    let body = bound (statements (with_variables at.site vs.x) p.body) _ q n.then_gave in
     let all : List Object = os ++ ss in
     let count : ℕ = elements_count at.site.ports + elements_count at.site.signals in
     let drives : List ℕ = in_order count ds.x in
@@ -148,7 +148,7 @@ process-sound i at os ss p q h fit g =
     let fits = each-body-fits (record i { variables = fs }) (with_variables at.site vs.x) p.body body.x (with-variables i at.site p.variables vs.x h.site declared.kinds) both.1 body.gave in
     let kept : (e : ℕ) → Contains ds.x e → Contains drives e =
     λ e c. in_order_has count ds.x e (is-below all count e (site-count i at.site os ss h) (All-contains (MayBeDriven all) ds.x e prefixes.driven c)) c in
-    subst (ProcessIsSound all) (ok _ q n.then_gave) (record {
+    subst (ProcessIsSound all) (ok _ q body.then_gave) (record {
       body = body-stands (kinds_types at.site.ports ++ kinds_types at.site.signals) (object_types all) count (elements_count (object_kinds all)) (kinds_types (kinds_of vs.x)) body.x
           (site-types i at.site os ss h) (site-count i at.site os ss h) fits;
       assigned = body_assigns at.site (kinds_of vs.x) (Contains drives) p.body at.site.integers.loops body.x

@@ -1,4 +1,4 @@
-use Rattle.std.proofs.Common.{rules, ◌≡◌, ◌≢◌, ◌<◌, ℕ, List, All, IsErr, length, refl, sym, ◌∙◌, subst}
+use Rattle.std.proofs.Common.{rules, ◌≡◌, ◌≢◌, ◌<◌, ℕ, List, All, Err, length, refl, sym, ◌∙◌, subst}
 use Rattle.std.specs.Vec.{with_items}
 use Rattle.std.specs.List.{AllZip}
 use Rattle.std.proofs.lemmas.Grind.{common_steps}
@@ -6,6 +6,7 @@ use Rattle.std.proofs.lemmas.List.{with_items_is}
 use Rattle.rtl_net.specs.declared.building.IdlePort.{IdlePort}
 use Rattle.rtl_net.specs.declared.process.Process.{Process}
 use Rattle.vhdl_expand_rules.specs.declared.fault.ElabFault.TheVariants.{NoMemory}
+use Rattle.vhdl_expand_rules.specs.Elab as elab
 use Rattle.vhdl_elab_rules.specs.Numbering.{Numbered, Located}
 use Rattle.vhdl_elab_laws.specs.Shown.{as_shown}
 use Rattle.vhdl_connect.specs.declared.made.Made.{Made}
@@ -31,7 +32,8 @@ returns-in_err-wires-clause-given c =
     λ d made there.
     let m = now c.args.made c.settle.new.processes in
     let told : IsTold d m = as-told d c.args.made c.settle.new.processes c.deref_mut.result.now c.len-nets.result made there c.settle.auto.processes c.deref_mut.ensures.len c.deref_mut.ensures.value (c.len-nets.ensures ∙ c.args.made.kinds.ok.0) c.settle.ensures in
-    let stopped : c.in_err-wires.field-0.0 ≢ NoMemory → IsErr (as_shown (wired d)) = λ n. is-refused d m told c.requires.defaults there (c.in_err-wires.ensures.refused n) in
+    let stopped : c.in_err-wires.field-0.0 ≢ NoMemory → as_shown (wired d) ≡ Err (elab.told c.in_err-wires.field-0.0) =
+    λ n. is-refused d m told c.requires.defaults _ there (c.in_err-wires.ensures.refused n) in
     first_of (search rules, grind common_steps)
 
 pub returns-clause-given : goal.returns-clause-given

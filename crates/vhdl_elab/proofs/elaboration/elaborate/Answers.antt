@@ -1,14 +1,15 @@
-use Rattle.std.proofs.Common.{rules, ◌≢◌, IsErr, ap, sym, ◌∙◌, subst, arith}
+use Rattle.std.proofs.Common.{rules, ◌≢◌, ap, sym, ◌∙◌, arith}
 use Rattle.std.proofs.lemmas.Grind.{common_steps}
 use Rattle.rtl_net.specs.Nets.{NetlistView}
 use Rattle.rtl_net.specs.Parts.{assembled}
 use Rattle.vhdl_names_units.specs.views.Units.{units_view}
 use Rattle.vhdl_expand_rules.specs.declared.fault.ElabFault.TheVariants.{NoMemory}
-use Rattle.vhdl_expand_rules.specs.Elab.{Elab}
+use Rattle.vhdl_expand_rules.specs.Elab.{told, MayTell}
 use Rattle.vhdl_expand_rules.proofs.Steps.{given}
 use Rattle.vhdl_expand_rules.proofs.laws.Trees.{each-tree-is-sound}
-use Rattle.vhdl_elab_rules.specs.Elaboration.{Elaborated, elaborated_net}
+use Rattle.vhdl_elab_rules.specs.Elaboration.{elaborated_net}
 use Rattle.vhdl_expand_tree.specs.Views.{design_view}
+use Rattle.vhdl_expand_tree.proofs.Alike.{tells}
 use Rattle.vhdl_elab_laws.specs.Shown.{as_shown, net_shown}
 use Rattle.vhdl_elab_laws.proofs.Dotted.{each-tree-is-dotted}
 use Rattle.vhdl_elab.proofs.Joined.{was-expanded, is-within, elaborated-by, refused, connected-is-net}
@@ -18,7 +19,7 @@ use Rattle.vhdl_elab.proofs.elaboration.elaborate.Goals as goal
 
 pub returns-in_err-design : goal.returns-in_err-design
 returns-in_err-design c =
-    let stopped : c.in_err-design.field-0.0 ≢ NoMemory → IsErr (as_shown (elaborated_net (units_view c.args.units.now) c.args.top.now)) =
+    let stopped : c.in_err-design.field-0.0 ≢ NoMemory → MayTell (as_shown (elaborated_net (units_view c.args.units.now) c.args.top.now)) (told c.in_err-design.field-0.0) =
     λ n. refused (units_view c.args.units.now) c.args.top.now (c.in_err-design.ensures n) in
     first_of (search rules, grind (arith, common_steps))
 
@@ -42,8 +43,8 @@ pub returns-in_err-parts : goal.returns-in_err-parts
 returns-in_err-parts c =
     let units = units_view c.args.units.now in
     let design = design_view c.in_ok-design.design in
-    let stopped : c.in_err-parts.field-0.0 ≢ NoMemory → IsErr (as_shown (elaborated_net (units_view c.args.units.now) c.args.top.now)) =
-    λ n. subst (λ (r : Elab Elaborated). IsErr (as_shown r)) (sym (elaborated-by units c.args.top.now design c.in_ok-design.ensures)) (c.in_err-parts.ensures.given n) in
+    let stopped : c.in_err-parts.field-0.0 ≢ NoMemory → MayTell (as_shown (elaborated_net (units_view c.args.units.now) c.args.top.now)) (told c.in_err-parts.field-0.0) =
+    λ n. tells (ap as_shown (elaborated-by units c.args.top.now design c.in_ok-design.ensures) ∙ c.in_err-parts.ensures.given n) in
     first_of (search rules, grind (arith, common_steps))
 
 pub new-requires-clause-elaborated : goal.new-requires-clause-elaborated

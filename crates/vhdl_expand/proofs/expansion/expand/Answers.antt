@@ -1,5 +1,5 @@
 use Rattle.std.proofs.Common.{◌≡◌, map, None, ap, ◌∙◌, sym, subst, arith, rules}
-use Rattle.std.specs.Prelude.{◌≢◌, IsErr, find, bytes_eq}
+use Rattle.std.specs.Prelude.{◌≢◌, find, bytes_eq}
 use Rattle.std.proofs.lemmas.Grind.{common_steps}
 use Rattle.vhdl_names_rules.specs.units.Units.{Entity}
 use Rattle.vhdl_names_units.specs.views.Units.{entity_view, units_view}
@@ -12,6 +12,8 @@ use Rattle.vhdl_expand.specs.Limits.{within_limits}
 use Rattle.vhdl_expand_objects.specs.Views.{declared_view}
 use Rattle.vhdl_expand.proofs.Nested.{no_top, no_top_interface, no_instance, design_made}
 use Rattle.vhdl_expand.proofs.Heavier.{found_among}
+use Rattle.vhdl_expand_rules.specs.Elab.{told, MayTell}
+use Rattle.vhdl_expand_tree.proofs.Alike.{tells, tells_same}
 use Rattle.vhdl_expand.proofs.expansion.expand.Goals as goal
 
 pub returns-in_default : goal.returns-in_default
@@ -20,15 +22,15 @@ returns-in_default c =
     let named = ap (λ n. find (λ (e : Entity). bytes_eq e.name n) us) (sym (c.deref-2.ensures.value ∙ c.in_ok-name.ensures))
     ∙ ap (λ es. find (λ (e : Entity). bytes_eq e.name c.deref-2.result.now) (map entity_view es)) (sym c.deref.ensures.value) ∙ c.in_default.ensures in
     let none : c.named.result ≡ None = first_of (search rules, grind (arith, common_steps)) in
-    λ _. no_top us c.args.top.now named
+    λ _. tells (no_top us c.args.top.now named)
 
 pub returns-in_err-declared : goal.returns-in_err-declared
 returns-in_err-declared c =
     let us = units_view c.args.units.now in
     let named = ap (λ n. find (λ (e : Entity). bytes_eq e.name n) us) (sym (c.deref-2.ensures.value ∙ c.in_ok-name.ensures))
     ∙ ap (λ es. find (λ (e : Entity). bytes_eq e.name c.deref-2.result.now) (map entity_view es)) (sym c.deref.ensures.value) ∙ c.in-Some.ensures in
-    let stopped : c.in_err-declared.field-0.0 ≢ NoMemory → IsErr (within_limits (expanded_design us c.args.top.now)) =
-    λ n. no_top_interface us c.args.top.now (entity_view c.in-Some.unit.now) named (c.in_err-declared.ensures n) in
+    let stopped : c.in_err-declared.field-0.0 ≢ NoMemory → MayTell (within_limits (expanded_design us c.args.top.now)) (told c.in_err-declared.field-0.0) =
+    λ n. tells (no_top_interface us c.args.top.now (entity_view c.in-Some.unit.now) named (c.in_err-declared.ensures n)) in
     first_of (search rules, grind (arith, common_steps))
 
 pub instance-requires : goal.instance-requires
@@ -45,8 +47,8 @@ returns-in_err-top c =
     ∙ ap (λ es. find (λ (e : Entity). bytes_eq e.name c.deref-2.result.now) (map entity_view es)) (sym c.deref.ensures.value) ∙ c.in-Some.ensures in
     let same = ap (λ b. charged b instance_costs (instance_of us 32 e d)) (sym c.whole-left.ensures)
     ∙ ap (λ es. charged (budget_view c.whole-left.result) instance_costs (instance_of (map entity_view es) 32 e d)) (sym c.deref-3.ensures.value) in
-    let stopped : c.in_err-top.field-0.0 ≢ NoMemory → IsErr (within_limits (expanded_design us c.args.top.now)) =
-    λ n. no_instance us c.args.top.now e d named c.in_ok-declared.ensures (subst (λ r. IsErr r) (sym same) (c.in_err-top.ensures n)) in
+    let stopped : c.in_err-top.field-0.0 ≢ NoMemory → MayTell (within_limits (expanded_design us c.args.top.now)) (told c.in_err-top.field-0.0) =
+    λ n. no_instance us c.args.top.now e d named c.in_ok-declared.ensures (tells_same same (c.in_err-top.ensures n)) in
     first_of (search rules, grind (arith, common_steps))
 
 pub returns : goal.returns

@@ -2,7 +2,7 @@ use mir.Syntax.{w32}
 use mir.Val.{SFits, to_z, of_z}
 use Rattle.std.proofs.lemmas.Int.{ints}
 use Rattle.std.proofs.Common.{◌≡◌, ◌<◌, length, map, ap, ◌∙◌, sym, subst, arith, rules}
-use Rattle.std.specs.Prelude.{◌≢◌, IsErr}
+use Rattle.std.specs.Prelude.{◌≢◌}
 use Rattle.std.proofs.lemmas.Grind.{common_steps}
 use Rattle.vhdl_names_rules.specs.units.Statements as units
 use Rattle.vhdl_names_rules.specs.views.Integers.{range_view}
@@ -14,11 +14,12 @@ use Rattle.vhdl_expand_rules.specs.views.Integers.{integers_view}
 use Rattle.vhdl_expand_rules.proofs.Steps.{given, ok}
 use Rattle.vhdl_expand_tree.specs.Costs.{a_statement}
 use Rattle.vhdl_expand_tree.specs.Views.{budget_view}
-use Rattle.vhdl_expand_tree.proofs.Alike.{alike_same, alike_trans}
+use Rattle.vhdl_expand_tree.proofs.Alike.{alike_same, alike_trans, tells, tells_same}
 use Rattle.vhdl_expand_processes.specs.Unrolled.{paid, both, together, in_turn, statement_costs, statements_costs, alternatives_costs, guarded_costs, chosen_costs}
-use Rattle.vhdl_expand_processes.proofs.Paying.{expands_alike, list_go, list_stop, turns_go, turns_stop, turns_end}
+use Rattle.vhdl_expand_processes.proofs.Paying.{charges_alike, list_go, list_stop, turns_go, turns_stop, turns_end}
 use Rattle.vhdl_expand_processes.proofs.Sums.{statements_together, if_costs, case_costs, loop_view_costs, same_list, same_branches, same_alternatives, same_turn}
 use Rattle.vhdl_expand_processes.proofs.Sums.{choose_stops, branches_stop, no_else, some_else, alternatives_stop, alternatives_go, range_stops, count_stops, turns_begin}
+use Rattle.vhdl_expand_rules.specs.Elab.{told, MayTell}
 use Rattle.vhdl_expand_processes.proofs.costs.+costs.Goals as goal
 
 pub of_statements-loop-statement-init : goal.of_statements-loop-statement-init
@@ -38,7 +39,7 @@ of_statements-returns-in_err-of_statement t c =
     let at = integers_view c.args.integers.now in
     let below : i < length c.args.list.now = first_of (search rules, omega arith) in
     let stopped : c.in_err-of_statement.field-0.0 ≢ NoMemory
-    → IsErr (paid (budget_view c.args.budget.now) (statements_costs at (analysed.statements_of (map analysed.statement_view c.args.list.now)))) =
+    → MayTell (paid (budget_view c.args.budget.now) (statements_costs at (analysed.statements_of (map analysed.statement_view c.args.list.now)))) (told c.in_err-of_statement.field-0.0) =
     λ n. list_stop (statement_costs at) analysed.statement_view _ _ c.args.list.now i c.statement-item.result below c.statement-item.is c.loop-statement.invariant (c.in_err-of_statement.ensures n) in
     first_of (search rules, grind (arith, common_steps))
 
@@ -46,19 +47,19 @@ pub of_statement-returns-in-If : goal.of_statement-returns-in-If
 of_statement-returns-in-If t c =
     let at = integers_view c.args.integers.now in
     let h = ap (λ x. statement_costs at (analysed.statement_view x)) c.in-If.is ∙ if_costs at c.in-If.conditional in
-    expands_alike _ _ _ _ (alike_same (ap (paid (budget_view c.args.budget.now)) h)) c.of_conditional.ensures
+    charges_alike _ _ _ _ (alike_same (ap (paid (budget_view c.args.budget.now)) h)) c.of_conditional.ensures
 
 pub of_statement-returns-in-Case : goal.of_statement-returns-in-Case
 of_statement-returns-in-Case t c =
     let at = integers_view c.args.integers.now in
     let h = ap (λ x. statement_costs at (analysed.statement_view x)) c.in-Case.is ∙ case_costs at c.in-Case.selection in
-    expands_alike _ _ _ _ (alike_same (ap (paid (budget_view c.args.budget.now)) h)) c.of_selection.ensures
+    charges_alike _ _ _ _ (alike_same (ap (paid (budget_view c.args.budget.now)) h)) c.of_selection.ensures
 
 pub of_statement-returns-in-Loop : goal.of_statement-returns-in-Loop
 of_statement-returns-in-Loop t c =
     let at = integers_view c.args.integers.now in
     let h = ap (λ x. statement_costs at (analysed.statement_view x)) c.in-Loop.is ∙ loop_view_costs at c.in-Loop.repeated in
-    expands_alike _ _ _ _ (alike_same (ap (paid (budget_view c.args.budget.now)) h)) c.of_loop.ensures
+    charges_alike _ _ _ _ (alike_same (ap (paid (budget_view c.args.budget.now)) h)) c.of_loop.ensures
 
 pub of_branches-loop-branch-preserved : goal.of_branches-loop-branch-preserved
 of_branches-loop-branch-preserved t c =
@@ -73,9 +74,9 @@ of_branches-returns-in_err-of_statements t c =
     let i = c.loop-branch.branch-index in
     let at = integers_view c.args.integers.now in
     let below : i < length c.args.list.now = first_of (search rules, omega arith) in
-    let stopped : c.in_err-of_statements.field-0.0 ≢ NoMemory → IsErr (paid (budget_view c.args.budget.now) (together (guarded_costs at) (map analysed.branch_view c.args.list.now))) =
+    let stopped : c.in_err-of_statements.field-0.0 ≢ NoMemory → MayTell (paid (budget_view c.args.budget.now) (together (guarded_costs at) (map analysed.branch_view c.args.list.now))) (told c.in_err-of_statements.field-0.0) =
     λ n. list_stop (guarded_costs at) analysed.branch_view _ _ c.args.list.now i c.branch-item.result below c.branch-item.is c.loop-branch.invariant
-    (subst (λ r. IsErr r) (sym (same_list at _ _ _ c.deref.ensures.value)) (c.in_err-of_statements.ensures n)) in
+    (tells_same (same_list at _ _ _ c.deref.ensures.value) (c.in_err-of_statements.ensures n)) in
     first_of (search rules, grind (arith, common_steps))
 
 pub of_alternatives-loop-alternative-preserved : goal.of_alternatives-loop-alternative-preserved
@@ -91,9 +92,9 @@ of_alternatives-returns-in_err-of_statements t c =
     let i = c.loop-alternative.alternative-index in
     let at = integers_view c.args.integers.now in
     let below : i < length c.args.list.now = first_of (search rules, omega arith) in
-    let stopped : c.in_err-of_statements.field-0.0 ≢ NoMemory → IsErr (paid (budget_view c.args.budget.now) (together (chosen_costs at) (map analysed.alternative_view c.args.list.now))) =
+    let stopped : c.in_err-of_statements.field-0.0 ≢ NoMemory → MayTell (paid (budget_view c.args.budget.now) (together (chosen_costs at) (map analysed.alternative_view c.args.list.now))) (told c.in_err-of_statements.field-0.0) =
     λ n. list_stop (chosen_costs at) analysed.alternative_view _ _ c.args.list.now i c.alternative-item.result below c.alternative-item.is c.loop-alternative.invariant
-    (subst (λ r. IsErr r) (sym (same_list at _ _ _ c.deref.ensures.value)) (c.in_err-of_statements.ensures n)) in
+    (tells_same (same_list at _ _ _ c.deref.ensures.value) (c.in_err-of_statements.ensures n)) in
     first_of (search rules, grind (arith, common_steps))
 
 -- ---- if
@@ -104,8 +105,8 @@ of_conditional-returns-in_err-charge_statement t c =
     let x = out-If c.args.conditional.now in
     let gs = analysed.branches_view x.branches in
     let last = analysed.last_of (analysed.option_statements_view x.otherwise) in
-    let stopped : IsErr (paid (budget_view c.args.budget.now) (statement_costs at (units.if_of (analysed.branches_of gs last)))) =
-    choose_stops at (budget_view c.args.budget.now) gs last c.in_err-charge_statement.ensures.spent in
+    let stopped : MayTell (paid (budget_view c.args.budget.now) (statement_costs at (units.if_of (analysed.branches_of gs last)))) (told c.in_err-charge_statement.field-0.0) =
+    choose_stops at (budget_view c.args.budget.now) gs last (tells c.in_err-charge_statement.ensures.spent) in
     first_of (search rules, grind (arith, common_steps))
 
 pub of_conditional-returns-in_err-of_branches : goal.of_conditional-returns-in_err-of_branches
@@ -114,9 +115,9 @@ of_conditional-returns-in_err-of_branches t c =
     let x = out-If c.args.conditional.now in
     let gs = analysed.branches_view x.branches in
     let last = analysed.last_of (analysed.option_statements_view x.otherwise) in
-    let stopped : c.in_err-of_branches.field-0.0 ≢ NoMemory → IsErr (paid (budget_view c.args.budget.now) (statement_costs at (units.if_of (analysed.branches_of gs last)))) =
+    let stopped : c.in_err-of_branches.field-0.0 ≢ NoMemory → MayTell (paid (budget_view c.args.budget.now) (statement_costs at (units.if_of (analysed.branches_of gs last)))) (told c.in_err-of_branches.field-0.0) =
     λ n. branches_stop at (budget_view c.args.budget.now) gs last _ c.in_ok-charge_statement.ensures.spent
-    (subst (λ r. IsErr r) (sym (same_branches at _ _ _ c.deref.ensures.value)) (c.in_err-of_branches.ensures n)) in
+    (tells_same (same_branches at _ _ _ c.deref.ensures.value) (c.in_err-of_branches.ensures n)) in
     first_of (search rules, grind (arith, common_steps))
 
 pub of_conditional-returns-in-None : goal.of_conditional-returns-in-None
@@ -130,7 +131,7 @@ pub of_conditional-returns-in-Some : goal.of_conditional-returns-in-Some
 of_conditional-returns-in-Some t c =
     let at = integers_view c.args.integers.now in
     let x = out-If c.args.conditional.now in
-    expands_alike _ _ _ _
+    charges_alike _ _ _ _
     (some_else at (budget_view c.args.budget.now) _ _ (analysed.branches_view x.branches) x.otherwise c.in-Some.list c.in-Some.is c.in_ok-charge_statement.ensures.spent
     (same_branches at _ _ _ c.deref.ensures.value ∙ c.in_ok-of_branches.ensures) _ c.deref-in-Some.ensures.value)
     c.of_statements.ensures
@@ -143,9 +144,9 @@ of_selection-returns-in_err-of_alternatives t c =
     let x = out-Case c.args.selection.now in
     let gs = analysed.alternatives_view x.alternatives in
     let last = analysed.statements_of (analysed.statements_view x.others) in
-    let stopped : c.in_err-of_alternatives.field-0.0 ≢ NoMemory → IsErr (paid (budget_view c.args.budget.now) (both (given a_statement) (alternatives_costs at (analysed.alternatives_of gs last)))) =
+    let stopped : c.in_err-of_alternatives.field-0.0 ≢ NoMemory → MayTell (paid (budget_view c.args.budget.now) (both (given a_statement) (alternatives_costs at (analysed.alternatives_of gs last)))) (told c.in_err-of_alternatives.field-0.0) =
     λ n. alternatives_stop at (budget_view c.args.budget.now) gs last _ c.in_ok-charge_statement.ensures.spent
-    (subst (λ r. IsErr r) (sym (same_alternatives at _ _ _ c.deref.ensures.value)) (c.in_err-of_alternatives.ensures n)) in
+    (tells_same (same_alternatives at _ _ _ c.deref.ensures.value) (c.in_err-of_alternatives.ensures n)) in
     first_of (search rules, grind (arith, common_steps))
 
 pub of_selection-returns : goal.of_selection-returns
@@ -154,7 +155,7 @@ of_selection-returns t c =
     let x = out-Case c.args.selection.now in
     let gs = analysed.alternatives_view x.alternatives in
     let last = analysed.statements_of (analysed.statements_view x.others) in
-    expands_alike _ _ _ _
+    charges_alike _ _ _ _
     (alike_trans (alternatives_go at (budget_view c.args.budget.now) gs last _ _ c.in_ok-charge_statement.ensures.spent (same_alternatives at _ _ _ c.deref.ensures.value ∙ c.in_ok-of_alternatives.ensures))
     (alike_same (same_list at _ _ _ c.deref-2.ensures.value)))
     c.of_statements.ensures
@@ -165,7 +166,7 @@ pub of_loop-returns-in_err-turns : goal.of_loop-returns-in_err-turns
 of_loop-returns-in_err-turns t c =
     let at = integers_view c.args.integers.now in
     let body = analysed.statements_of (analysed.statements_view c.args.repeated.now.statements) in
-    let stopped : IsErr (paid (budget_view c.args.budget.now) (statement_costs at (units.for_of (range_view c.args.repeated.now.range) body))) =
+    let stopped : MayTell (paid (budget_view c.args.budget.now) (statement_costs at (units.for_of (range_view c.args.repeated.now.range) body))) (told c.in_err-turns.field-0.0) =
     range_stops at (budget_view c.args.budget.now) (range_view c.args.repeated.now.range) body c.in_err-turns.ensures in
     first_of (search rules, grind (arith, common_steps))
 
@@ -173,9 +174,9 @@ pub of_loop-returns-in_err-charge_turns : goal.of_loop-returns-in_err-charge_tur
 of_loop-returns-in_err-charge_turns t c =
     let at = integers_view c.args.integers.now in
     let body = analysed.statements_of (analysed.statements_view c.args.repeated.now.statements) in
-    let stopped : IsErr (paid (budget_view c.args.budget.now) (statement_costs at (units.for_of (range_view c.args.repeated.now.range) body))) =
+    let stopped : MayTell (paid (budget_view c.args.budget.now) (statement_costs at (units.for_of (range_view c.args.repeated.now.range) body))) (told c.in_err-charge_turns.field-0.0) =
     count_stops at (budget_view c.args.budget.now) (range_view c.args.repeated.now.range) body c.in_ok-turns.turns.direction c.in_ok-turns.turns.first c.in_ok-turns.turns.count
-    c.in_ok-turns.ensures c.in_err-charge_turns.ensures.spent in
+    c.in_ok-turns.ensures (tells c.in_err-charge_turns.ensures.spent) in
     first_of (search rules, grind (arith, common_steps))
 
 pub of_loop-loop-turn-init : goal.of_loop-loop-turn-init
@@ -203,9 +204,9 @@ of_loop-returns-in_err-of_turn t c =
     let f : SFits w32 c.in_ok-parameter.parameter = search rules in
     let fixed : to_z w32 (of_z w32 c.in_ok-parameter.parameter) ≡ c.in_ok-parameter.parameter = omega (arith, ints) in
     let stopped : c.in_err-of_turn.field-0.0 ≢ NoMemory
-    → IsErr (paid (budget_view c.args.budget.now) (statement_costs at (units.for_of (range_view c.args.repeated.now.range) body))) =
+    → MayTell (paid (budget_view c.args.budget.now) (statement_costs at (units.for_of (range_view c.args.repeated.now.range) body))) (told c.in_err-of_turn.field-0.0) =
     λ n. turns_stop (λ i. statements_costs (in_turn at i) body) c.in_ok-turns.turns.direction c.in_ok-turns.turns.first c.in_ok-turns.turns.count _ _ c.loop-turn.turn c.in_ok-parameter.parameter
-    c.loop-turn-test.true same c.loop-turn.invariant (subst (λ r. IsErr r) (sym (same_turn at _ body _ _ fixed)) (c.in_err-of_turn.ensures n)) in
+    c.loop-turn-test.true same c.loop-turn.invariant (tells_same (same_turn at _ body _ _ fixed) (c.in_err-of_turn.ensures n)) in
     first_of (search rules, grind (arith, common_steps))
 
 pub of_loop-returns : goal.of_loop-returns

@@ -3,9 +3,8 @@ use Rattle.vhdl_names_units.specs.views.Sequential as analysed
 use Rattle.vhdl_expand_rules.specs.Statements.{statements}
 use Rattle.vhdl_expand_bodies.specs.declared.site.Placed.{Placed}
 use Rattle.vhdl_expand_bodies.specs.Sites.{ArePlaced, placed_kind, site_view}
-use Rattle.vhdl_expand_tree.proofs.Alike.{alike_same}
 use Rattle.vhdl_expand_processes.proofs.Declaring.{kinds_seen}
-use Rattle.vhdl_expand_processes.proofs.Paying.{expands_alike}
+use Rattle.vhdl_expand_processes.proofs.Paying.{expands_same}
 use Rattle.vhdl_expand_processes.proofs.variables.body.Goals as goal
 
 pub body-body-requires : goal.body-body-requires
@@ -19,6 +18,6 @@ body-body-requires c = record {
 pub returns : goal.returns
 returns c =
     let kinds = ap (map placed_kind) c.deref.ensures.value ∙ c.in_ok-layout.ensures ∙ kinds_seen c.args.variables.now in
-    expands_alike _ _ _ _
-    (alike_same (ap (λ ks. statements (record (site_view c.args.site.now) { variables = ks }) (analysed.statements_of (map analysed.statement_view c.args.list.now))) (sym kinds)))
+    expands_same _ _ _ _
+    (ap (λ ks. statements (record (site_view c.args.site.now) { variables = ks }) (analysed.statements_of (map analysed.statement_view c.args.list.now))) (sym kinds))
     c.body-body.ensures

@@ -2,7 +2,7 @@ use mir.Syntax.{w32}
 use mir.Val.{SFits, to_z, of_z}
 use Rattle.std.proofs.lemmas.Int.{ints}
 use Rattle.std.proofs.Common.{◌≡◌, suc, ◌-◌, ◌<◌, true, false, [], ◌∷◌, ◌++◌, length, map, drop, ap, ◌∙◌, sym, subst, arith, rules, Ok, Some, None}
-use Rattle.std.specs.Prelude.{◌≢◌, IsErr}
+use Rattle.std.specs.Prelude.{◌≢◌}
 use Rattle.std.proofs.lemmas.Grind.{common_steps}
 use Rattle.std.specs.Prelude.{option_map, slice_get, flat_map, codes}
 use Rattle.std.specs.Fmt.{signed_decimal}
@@ -11,7 +11,7 @@ use Rattle.vhdl_names_rules.specs.views.Vectors.{place_view}
 use Rattle.vhdl_names_units.specs.views.Units.{entity_view, architecture_view}
 use Rattle.vhdl_names_units.specs.views.Declarations.{declaration_view}
 use Rattle.vhdl_expand_rules.specs.Declarations.{declarations, interface}
-use Rattle.vhdl_expand_rules.specs.Elab.{◌>>=◌}
+use Rattle.vhdl_expand_rules.specs.Elab.{◌>>=◌, told, MayTell}
 use Rattle.vhdl_expand_rules.specs.Expansion.{instance_of, dotted}
 use Rattle.vhdl_elab_rules.specs.Numbering.{own_sizes}
 use Rattle.vhdl_expand_tree.specs.Costs.{charged, spent, nets, instance_costs}
@@ -25,14 +25,15 @@ use Rattle.vhdl_names_rules.specs.views.Tests.{static_test_view}
 use Rattle.vhdl_names_units.specs.views.Concurrent as units
 use Rattle.vhdl_names_units.proofs.rows.Concurrent.{view_generate}
 use Rattle.vhdl_expand_rules.specs.declared.fault.ElabFault.TheVariants.{NoMemory}
+use Rattle.vhdl_expand_rules.specs.declared.fault.ElabProblem.TheVariants.{NoTop, TooDeep}
 use Rattle.vhdl_expand_rules.proofs.Steps.{ok, given}
-use Rattle.vhdl_expand_bodies.proofs.Links.{expands_along}
+use Rattle.vhdl_expand_tree.proofs.Alike.{tells, tells_same}
 use Rattle.vhdl_expand.specs.Making as made
 use Rattle.vhdl_expand.specs.Making.{adding, progress_view, made_turns, made_instance, nothing_yet}
 use Rattle.vhdl_expand.specs.Spots.{spot_view}
 use Rattle.vhdl_expand.specs.Walks.{units_of}
 use Rattle.vhdl_expand.proofs.Weights.{weight, weights}
-use Rattle.vhdl_expand.proofs.Making.{turns_fit}
+use Rattle.vhdl_expand.proofs.Making.{turns_fit, charges_along}
 use Rattle.vhdl_expand.proofs.Statements.{listed, list_goes, list_stops, list_ends, none_left, process_is, instance_is}
 use Rattle.vhdl_expand.proofs.Generates.{for_each, if_holding, turned, turns_begin, turns_refused, no_turns, turns_go, turns_stop, turns_end, turn_spot, branch_spot, branch_taken, branch_left, no_branch}
 use Rattle.vhdl_expand.proofs.Heavier.{lighter, generate_weight, level_lighter}
@@ -62,7 +63,7 @@ concurrents-returns-in_err-concurrent t c =
     let i = c.loop-item.item-index in
     let at = spot_view c.args.spot.now in
     let below : i < length c.args.list.now = first_of (search rules, omega arith) in
-    let stopped : c.in_err-concurrent.field-0.0 ≢ NoMemory → IsErr (adding (progress_view c.args.so_far.now) (listed (units_of c.args.self.now) c.args.self.now.levels at c.args.list.now)) =
+    let stopped : c.in_err-concurrent.field-0.0 ≢ NoMemory → MayTell (adding (progress_view c.args.so_far.now) (listed (units_of c.args.self.now) c.args.self.now.levels at c.args.list.now)) (told c.in_err-concurrent.field-0.0) =
     λ n. list_stops (units_of c.args.self.now) c.args.self.now.levels at _ (progress_view c.loop-item.so_far) c.args.list.now i c.item-item.result below c.item-item.is c.loop-item.invariant.leads (c.in_err-concurrent.ensures n) in
     first_of (search rules, grind (arith, common_steps))
 
@@ -79,14 +80,14 @@ concurrent-returns-in-Process t c =
     let at = spot_view c.args.spot.now in
     let h = ap (λ x. made.concurrent (units_of c.args.self.now) c.args.self.now.levels at (units.concurrent_view x)) c.in-Process.is
     ∙ process_is (units_of c.args.self.now) c.args.self.now.levels at (units.process_view c.in-Process.written) in
-    expands_along _ _ _ _ (ap (adding (progress_view c.args.so_far.now)) h) c.add_process.ensures
+    charges_along _ _ _ _ (ap (adding (progress_view c.args.so_far.now)) h) c.add_process.ensures
 
 pub concurrent-returns-in-Instance : goal.concurrent-returns-in-Instance
 concurrent-returns-in-Instance t c =
     let at = spot_view c.args.spot.now in
     let h = ap (λ x. made.concurrent (units_of c.args.self.now) c.args.self.now.levels at (units.concurrent_view x)) c.in-Instance.is
     ∙ instance_is (units_of c.args.self.now) c.args.self.now.levels at (units.instance_view c.in-Instance.written) in
-    expands_along _ _ _ _ (ap (adding (progress_view c.args.so_far.now)) h) c.add_instance.ensures
+    charges_along _ _ _ _ (ap (adding (progress_view c.args.so_far.now)) h) c.add_instance.ensures
 
 pub concurrent-returns-in-Generate : goal.concurrent-returns-in-Generate
 concurrent-returns-in-Generate t c =
@@ -94,21 +95,21 @@ concurrent-returns-in-Generate t c =
     let w = c.in-Generate.written in
     let h = ap (λ x. made.concurrent (units_of c.args.self.now) c.args.self.now.levels at (units.concurrent_view x)) c.in-Generate.is
     ∙ ap (made.concurrent (units_of c.args.self.now) c.args.self.now.levels at) (view_generate w.label w.at w.scheme w.statements) in
-    expands_along _ _ _ _ (ap (adding (progress_view c.args.so_far.now)) h) c.generate.ensures
+    charges_along _ _ _ _ (ap (adding (progress_view c.args.so_far.now)) h) c.generate.ensures
 
 -- ---- a generate
 
 pub generate-returns-in-For : goal.generate-returns-in-For
 generate-returns-in-For t c =
     let w = c.args.written.now in
-    expands_along _ _ _ _
+    charges_along _ _ _ _
     (ap (λ s. adding (progress_view c.args.so_far.now) (made.concurrent (units_of c.args.self.now) c.args.self.now.levels (spot_view c.args.spot.now) (units.generated w.label.text.items (units.concurrents_of (units.concurrents_view w.statements)) s))) c.in-For.is)
     c.turns.ensures
 
 pub generate-returns-in-If : goal.generate-returns-in-If
 generate-returns-in-If t c =
     let w = c.args.written.now in
-    expands_along _ _ _ _
+    charges_along _ _ _ _
     (ap (λ s. adding (progress_view c.args.so_far.now) (made.concurrent (units_of c.args.self.now) c.args.self.now.levels (spot_view c.args.spot.now) (units.generated w.label.text.items (units.concurrents_of (units.concurrents_view w.statements)) s))) c.in-If.is)
     c.branch-self.ensures
 
@@ -117,16 +118,16 @@ generate-returns-in-If t c =
 pub turns-returns-in_err-turns : goal.turns-returns-in_err-turns
 turns-returns-in_err-turns t c =
     let w = c.args.written.now in
-    let stopped : c.in_err-turns.field-0.0 ≢ NoMemory → IsErr (adding (progress_view c.args.so_far.now) (for_each (units_of c.args.self.now) c.args.self.now.levels (spot_view c.args.spot.now) w.label.text.items (units.concurrents_of (units.concurrents_view w.statements)) (range_view c.args.range.now))) =
-    λ n. no_turns (units_of c.args.self.now) c.args.self.now.levels (spot_view c.args.spot.now) w.label.text.items (units.concurrents_of (units.concurrents_view w.statements)) (range_view c.args.range.now) (progress_view c.args.so_far.now) c.in_err-turns.ensures in
+    let stopped : c.in_err-turns.field-0.0 ≢ NoMemory → MayTell (adding (progress_view c.args.so_far.now) (for_each (units_of c.args.self.now) c.args.self.now.levels (spot_view c.args.spot.now) w.label.text.items (units.concurrents_of (units.concurrents_view w.statements)) (range_view c.args.range.now))) (told c.in_err-turns.field-0.0) =
+    λ n. tells (no_turns (units_of c.args.self.now) c.args.self.now.levels (spot_view c.args.spot.now) w.label.text.items (units.concurrents_of (units.concurrents_view w.statements)) (range_view c.args.range.now) (progress_view c.args.so_far.now) c.in_err-turns.ensures) in
     first_of (search rules, grind (arith, common_steps))
 
 pub turns-returns-in_err-add_turns : goal.turns-returns-in_err-add_turns
 turns-returns-in_err-add_turns t c =
     let w = c.args.written.now in
     let r = c.in_ok-turns.turns in
-    let stopped : c.in_err-add_turns.field-0.0 ≢ NoMemory → IsErr (adding (progress_view c.args.so_far.now) (for_each (units_of c.args.self.now) c.args.self.now.levels (spot_view c.args.spot.now) w.label.text.items (units.concurrents_of (units.concurrents_view w.statements)) (range_view c.args.range.now))) =
-    λ n. turns_refused (units_of c.args.self.now) c.args.self.now.levels (spot_view c.args.spot.now) w.label.text.items (units.concurrents_of (units.concurrents_view w.statements)) (range_view c.args.range.now) r.direction r.first r.count (progress_view c.args.so_far.now) c.in_ok-turns.ensures (c.in_err-add_turns.ensures n) in
+    let stopped : c.in_err-add_turns.field-0.0 ≢ NoMemory → MayTell (adding (progress_view c.args.so_far.now) (for_each (units_of c.args.self.now) c.args.self.now.levels (spot_view c.args.spot.now) w.label.text.items (units.concurrents_of (units.concurrents_view w.statements)) (range_view c.args.range.now))) (told c.in_err-add_turns.field-0.0) =
+    λ n. turns_refused (units_of c.args.self.now) c.args.self.now.levels (spot_view c.args.spot.now) w.label.text.items (units.concurrents_of (units.concurrents_view w.statements)) (range_view c.args.range.now) r.direction r.first r.count (progress_view c.args.so_far.now) c.in_ok-turns.ensures (tells (c.in_err-add_turns.ensures n)) in
     first_of (search rules, grind (arith, common_steps))
 
 pub turns-loop-turn-init : goal.turns-loop-turn-init
@@ -167,9 +168,9 @@ turns-returns-in_err-turn t c =
     let same = sym (ok _ _ c.in_ok-parameter.ensures) in
     let f : SFits w32 c.in_ok-parameter.parameter = search rules in
     let fixed : to_z w32 (of_z w32 c.in_ok-parameter.parameter) ≡ c.in_ok-parameter.parameter = omega (arith, ints) in
-    let stopped : c.in_err-turn.field-0.0 ≢ NoMemory → IsErr (adding (progress_view c.args.so_far.now) (for_each (units_of c.args.self.now) c.args.self.now.levels (spot_view c.args.spot.now) w.label.text.items (units.concurrents_of (units.concurrents_view w.statements)) (range_view c.args.range.now))) =
+    let stopped : c.in_err-turn.field-0.0 ≢ NoMemory → MayTell (adding (progress_view c.args.so_far.now) (for_each (units_of c.args.self.now) c.args.self.now.levels (spot_view c.args.spot.now) w.label.text.items (units.concurrents_of (units.concurrents_view w.statements)) (range_view c.args.range.now))) (told c.in_err-turn.field-0.0) =
     λ n. turns_stop (units_of c.args.self.now) c.args.self.now.levels at w.label.text.items body _ now r.direction r.first c.in_ok-parameter.parameter r.count c.loop-turn.turn c.loop-turn-test.true same c.loop-turn.invariant.leads
-    (subst (λ j. IsErr (adding now (turned (units_of c.args.self.now) c.args.self.now.levels at w.label.text.items body j))) fixed (c.in_err-turn.ensures n)) in
+    (subst (λ j. MayTell (adding now (turned (units_of c.args.self.now) c.args.self.now.levels at w.label.text.items body j)) (told c.in_err-turn.field-0.0)) fixed (c.in_err-turn.ensures n)) in
     first_of (search rules, grind (arith, common_steps))
 
 pub turns-returns : goal.turns-returns
@@ -195,15 +196,15 @@ turn-returns t c =
     let e = ap (λ s. adding (progress_view c.args.so_far.now) (made.concurrents (units_of c.args.self.now) c.args.self.now.levels s (units.concurrents_of (units.concurrents_view w.statements))))
     (turn_spot (units_of c.args.self.now) c.args.self.now.levels (spot_view c.args.spot.now) w.label.text.items (units.concurrents_of (units.concurrents_view w.statements)) inner c.args.parameter c.deref-2.result.now c.deref-3.result.now c.within-inner.ensures.spot values prefix)
     ∙ ap (λ xs. adding (progress_view c.args.so_far.now) (made.concurrents (units_of c.args.self.now) c.args.self.now.levels inner (units.concurrents_of (map units.concurrent_view xs)))) (sym c.deref-4.ensures.value) in
-    expands_along _ _ _ _ e c.concurrents-walked.ensures
+    charges_along _ _ _ _ e c.concurrents-walked.ensures
 
 -- ---- an if generate
 
 pub branch-returns-in_err-decision : goal.branch-returns-in_err-decision
 branch-returns-in_err-decision t c =
     let w = c.args.written.now in
-    let stopped : c.in_err-decision.field-0.0 ≢ NoMemory → IsErr (adding (progress_view c.args.so_far.now) (if_holding (units_of c.args.self.now) c.args.self.now.levels (spot_view c.args.spot.now) w.label.text.items (units.concurrents_of (units.concurrents_view w.statements)) (static_test_view c.args.test.now))) =
-    λ n. no_branch (units_of c.args.self.now) c.args.self.now.levels (spot_view c.args.spot.now) w.label.text.items (units.concurrents_of (units.concurrents_view w.statements)) (static_test_view c.args.test.now) (progress_view c.args.so_far.now) c.in_err-decision.ensures in
+    let stopped : c.in_err-decision.field-0.0 ≢ NoMemory → MayTell (adding (progress_view c.args.so_far.now) (if_holding (units_of c.args.self.now) c.args.self.now.levels (spot_view c.args.spot.now) w.label.text.items (units.concurrents_of (units.concurrents_view w.statements)) (static_test_view c.args.test.now))) (told c.in_err-decision.field-0.0) =
+    λ n. tells (no_branch (units_of c.args.self.now) c.args.self.now.levels (spot_view c.args.spot.now) w.label.text.items (units.concurrents_of (units.concurrents_view w.statements)) (static_test_view c.args.test.now) (progress_view c.args.so_far.now) c.in_err-decision.ensures) in
     first_of (search rules, grind (arith, common_steps))
 
 pub branch-returns-then-not-branch : goal.branch-returns-then-not-branch
@@ -223,7 +224,7 @@ branch-returns t c =
     ∙ ap (λ s. adding (progress_view c.args.so_far.now) (made.concurrents (units_of c.args.self.now) c.args.self.now.levels s (units.concurrents_of (units.concurrents_view w.statements))))
     (branch_spot (units_of c.args.self.now) c.args.self.now.levels (spot_view c.args.spot.now) w.label.text.items (units.concurrents_of (units.concurrents_view w.statements)) inner c.deref-2.result.now c.within-inner.ensures.spot prefix)
     ∙ ap (λ xs. adding (progress_view c.args.so_far.now) (made.concurrents (units_of c.args.self.now) c.args.self.now.levels inner (units.concurrents_of (map units.concurrent_view xs)))) (sym c.deref-3.ensures.value) in
-    expands_along _ _ _ _ e c.concurrents-walked.ensures
+    charges_along _ _ _ _ e c.concurrents-walked.ensures
 
 -- ---- the body of an instance
 
@@ -240,23 +241,23 @@ body-returns t c =
 pub instance-returns-then-self-eq0 : goal.instance-returns-then-self-eq0
 instance-returns-then-self-eq0 t c =
     let zero : c.args.self.now.levels ≡ 0 = omega (arith, c.if-self-eq0.true) in
-    λ _. subst (λ n. IsErr (charged (budget_view c.args.left.now) instance_costs (instance_of (units_of c.args.self.now) n (entity_view c.args.unit.now) (declared_view c.args.declared)))) (sym zero)
-    (too_deep (units_of c.args.self.now) (entity_view c.args.unit.now) (declared_view c.args.declared) (budget_view c.args.left.now))
+    λ _. subst (λ n. MayTell (charged (budget_view c.args.left.now) instance_costs (instance_of (units_of c.args.self.now) n (entity_view c.args.unit.now) (declared_view c.args.declared))) TooDeep) (sym zero)
+    (tells (too_deep (units_of c.args.self.now) (entity_view c.args.unit.now) (declared_view c.args.declared) (budget_view c.args.left.now)))
 
 pub instance-returns-in_default : goal.instance-returns-in_default
 instance-returns-in_default t c =
     let n = c.args.self.now.levels - 1 in
     let level : c.args.self.now.levels ≡ suc n = omega (arith, c.if-self-eq0.false) in
     let none : c.args.unit.now.architecture ≡ None = first_of (search rules, grind (arith, common_steps)) in
-    λ _. subst (λ m. IsErr (charged (budget_view c.args.left.now) instance_costs (instance_of (units_of c.args.self.now) m (entity_view c.args.unit.now) (declared_view c.args.declared)))) (sym level)
-    (no_architecture (units_of c.args.self.now) n (entity_view c.args.unit.now) (declared_view c.args.declared) (budget_view c.args.left.now) (ap (option_map architecture_view) none))
+    λ _. subst (λ m. MayTell (charged (budget_view c.args.left.now) instance_costs (instance_of (units_of c.args.self.now) m (entity_view c.args.unit.now) (declared_view c.args.declared))) NoTop) (sym level)
+    (tells (no_architecture (units_of c.args.self.now) n (entity_view c.args.unit.now) (declared_view c.args.declared) (budget_view c.args.left.now) (ap (option_map architecture_view) none)))
 
 pub instance-returns-in_err-charge_instance : goal.instance-returns-in_err-charge_instance
 instance-returns-in_err-charge_instance t c =
     let n = c.args.self.now.levels - 1 in
     let level : c.args.self.now.levels ≡ suc n = omega (arith, c.if-self-eq0.false) in
-    let stopped : IsErr (charged (budget_view c.args.left.now) instance_costs (instance_of (units_of c.args.self.now) c.args.self.now.levels (entity_view c.args.unit.now) (declared_view c.args.declared))) =
-    subst (λ m. IsErr (charged (budget_view c.args.left.now) instance_costs (instance_of (units_of c.args.self.now) m (entity_view c.args.unit.now) (declared_view c.args.declared)))) (sym level)
+    let stopped : MayTell (charged (budget_view c.args.left.now) instance_costs (instance_of (units_of c.args.self.now) c.args.self.now.levels (entity_view c.args.unit.now) (declared_view c.args.declared))) (told c.in_err-charge_instance.field-0.0) =
+    subst (λ m. MayTell (charged (budget_view c.args.left.now) instance_costs (instance_of (units_of c.args.self.now) m (entity_view c.args.unit.now) (declared_view c.args.declared))) (told c.in_err-charge_instance.field-0.0)) (sym level)
     (no_instance_left (units_of c.args.self.now) n (entity_view c.args.unit.now) (declared_view c.args.declared) (budget_view c.args.left.now) c.in_err-charge_instance.ensures.spent) in
     first_of (search rules, grind (arith, common_steps))
 
@@ -265,10 +266,10 @@ instance-returns-in_err-declarations t c =
     let n = c.args.self.now.levels - 1 in
     let level : c.args.self.now.levels ≡ suc n = omega (arith, c.if-self-eq0.false) in
     let a = architecture_view c.in-Some.architecture in
-    let stopped : c.in_err-declarations.field-0.0 ≢ NoMemory → IsErr (charged (budget_view c.args.left.now) instance_costs (instance_of (units_of c.args.self.now) c.args.self.now.levels (entity_view c.args.unit.now) (declared_view c.args.declared))) =
-    λ k. subst (λ m. IsErr (charged (budget_view c.args.left.now) instance_costs (instance_of (units_of c.args.self.now) m (entity_view c.args.unit.now) (declared_view c.args.declared)))) (sym level)
-    (no_declarations (units_of c.args.self.now) n (entity_view c.args.unit.now) (declared_view c.args.declared) (budget_view c.args.left.now) a (ap (option_map architecture_view) c.in-Some.is)
-    (subst (λ xs. IsErr (declarations (declared_view c.args.declared) (flat_map declaration_view xs))) c.deref.ensures.value (c.in_err-declarations.ensures k))) in
+    let stopped : c.in_err-declarations.field-0.0 ≢ NoMemory → MayTell (charged (budget_view c.args.left.now) instance_costs (instance_of (units_of c.args.self.now) c.args.self.now.levels (entity_view c.args.unit.now) (declared_view c.args.declared))) (told c.in_err-declarations.field-0.0) =
+    λ k. subst (λ m. MayTell (charged (budget_view c.args.left.now) instance_costs (instance_of (units_of c.args.self.now) m (entity_view c.args.unit.now) (declared_view c.args.declared))) (told c.in_err-declarations.field-0.0)) (sym level)
+    (tells (no_declarations (units_of c.args.self.now) n (entity_view c.args.unit.now) (declared_view c.args.declared) (budget_view c.args.left.now) a (ap (option_map architecture_view) c.in-Some.is)
+    (ap (λ xs. declarations (declared_view c.args.declared) (flat_map declaration_view xs)) (sym c.deref.ensures.value) ∙ c.in_err-declarations.ensures k))) in
     first_of (search rules, grind (arith, common_steps))
 
 pub instance-returns-in_err-charge_own_nets : goal.instance-returns-in_err-charge_own_nets
@@ -278,10 +279,10 @@ instance-returns-in_err-charge_own_nets t c =
     let a = architecture_view c.in-Some.architecture in
     let e = declared_view c.declarations.new.declared in
     let known = ap (λ xs. declarations (declared_view c.args.declared) (flat_map declaration_view xs)) (sym c.deref.ensures.value) ∙ c.in_ok-declarations.ensures in
-    let stopped : IsErr (charged (budget_view c.args.left.now) instance_costs (instance_of (units_of c.args.self.now) c.args.self.now.levels (entity_view c.args.unit.now) (declared_view c.args.declared))) =
-    subst (λ m. IsErr (charged (budget_view c.args.left.now) instance_costs (instance_of (units_of c.args.self.now) m (entity_view c.args.unit.now) (declared_view c.args.declared)))) (sym level)
+    let stopped : MayTell (charged (budget_view c.args.left.now) instance_costs (instance_of (units_of c.args.self.now) c.args.self.now.levels (entity_view c.args.unit.now) (declared_view c.args.declared))) (told c.in_err-charge_own_nets.field-0.0) =
+    subst (λ m. MayTell (charged (budget_view c.args.left.now) instance_costs (instance_of (units_of c.args.self.now) m (entity_view c.args.unit.now) (declared_view c.args.declared))) (told c.in_err-charge_own_nets.field-0.0)) (sym level)
     (no_nets_left (units_of c.args.self.now) n (entity_view c.args.unit.now) (declared_view c.args.declared) (budget_view c.args.left.now) a e (ap (option_map architecture_view) c.in-Some.is) known (budget_view c.charge_instance.new.self)
-    c.in_ok-charge_instance.ensures.spent (subst (λ xs. IsErr (spent (budget_view c.charge_instance.new.self) (nets (own_sizes (map object_view xs))))) c.deref-2.ensures.value c.in_err-charge_own_nets.ensures)) in
+    c.in_ok-charge_instance.ensures.spent (tells (ap (λ xs. spent (budget_view c.charge_instance.new.self) (nets (own_sizes (map object_view xs)))) (sym c.deref-2.ensures.value) ∙ c.in_err-charge_own_nets.ensures))) in
     first_of (search rules, grind (arith, common_steps))
 
 pub instance-body-requires : goal.instance-body-requires
@@ -299,11 +300,11 @@ instance-returns-in_err-made t c =
     let a = architecture_view c.in-Some.architecture in
     let e = declared_view c.declarations.new.declared in
     let known = ap (λ xs. declarations (declared_view c.args.declared) (flat_map declaration_view xs)) (sym c.deref.ensures.value) ∙ c.in_ok-declarations.ensures in
-    let stopped : c.in_err-made.field-0.0 ≢ NoMemory → IsErr (charged (budget_view c.args.left.now) instance_costs (instance_of (units_of c.args.self.now) c.args.self.now.levels (entity_view c.args.unit.now) (declared_view c.args.declared))) =
-    λ j. subst (λ m. IsErr (charged (budget_view c.args.left.now) instance_costs (instance_of (units_of c.args.self.now) m (entity_view c.args.unit.now) (declared_view c.args.declared)))) (sym level)
+    let stopped : c.in_err-made.field-0.0 ≢ NoMemory → MayTell (charged (budget_view c.args.left.now) instance_costs (instance_of (units_of c.args.self.now) c.args.self.now.levels (entity_view c.args.unit.now) (declared_view c.args.declared))) (told c.in_err-made.field-0.0) =
+    λ j. subst (λ m. MayTell (charged (budget_view c.args.left.now) instance_costs (instance_of (units_of c.args.self.now) m (entity_view c.args.unit.now) (declared_view c.args.declared))) (told c.in_err-made.field-0.0)) (sym level)
     (not_inside (units_of c.args.self.now) n (entity_view c.args.unit.now) (declared_view c.args.declared) (budget_view c.args.left.now) a e (ap (option_map architecture_view) c.in-Some.is) known (budget_view c.charge_instance.new.self) (budget_view c.charge_own_nets.new.budget)
     c.in_ok-charge_instance.ensures.spent (ap (λ xs. spent (budget_view c.charge_instance.new.self) (nets (own_sizes (map object_view xs)))) (sym c.deref-2.ensures.value) ∙ c.in_ok-charge_own_nets.ensures)
-    (subst (λ xs. IsErr (adding (nothing_yet (budget_view c.charge_own_nets.new.budget)) (made.concurrents (units_of c.args.self.now) n (outermost e) (units.concurrents_of (map units.concurrent_view xs))))) c.deref-3.ensures.value (c.in_err-made.ensures j))) in
+    (tells_same (ap (λ xs. adding (nothing_yet (budget_view c.charge_own_nets.new.budget)) (made.concurrents (units_of c.args.self.now) n (outermost e) (units.concurrents_of (map units.concurrent_view xs)))) (sym c.deref-3.ensures.value)) (c.in_err-made.ensures j))) in
     first_of (search rules, grind (arith, common_steps))
 
 pub instance-returns : goal.instance-returns
@@ -325,8 +326,8 @@ add_instance-returns-in_default t c =
     let x = units.instance_view c.args.written.now in
     let at = spot_view c.args.spot.now in
     let gone = slice_get_past c.args.self.now.units.now c.args.written.now.unit c.in_default.ensures.lookup.3 in
-    λ _. not_expanded (at.prefix ++ x.label) (progress_view c.args.so_far.now) _
-    (no_unit (units_of c.args.self.now) c.args.self.now.levels at x (slice_get-map entity_view c.args.self.now.units.now c.args.written.now.unit ∙ ap (option_map entity_view) gone))
+    λ _. tells (not_expanded (at.prefix ++ x.label) (progress_view c.args.so_far.now) _
+    (no_unit (units_of c.args.self.now) c.args.self.now.levels at x (slice_get-map entity_view c.args.self.now.units.now c.args.written.now.unit ∙ ap (option_map entity_view) gone)))
 
 pub add_instance-returns-in_err-declared : goal.add_instance-returns-in_err-declared
 add_instance-returns-in_err-declared t c =
@@ -335,9 +336,9 @@ add_instance-returns-in_err-declared t c =
     let e = entity_view c.in-Some.unit.now in
     let found : slice_get (units_of c.args.self.now) c.args.written.now.unit ≡ Some e =
     slice_get-map entity_view c.args.self.now.units.now c.args.written.now.unit ∙ ap (option_map entity_view) (there c.args.self.now.units.now c.args.written.now.unit c.in-Some.unit.now c.in-Some.ensures.lookup.3.0 (c.in-Some.ensures.lookup.3.1 c.in-Some.unit.now)) in
-    let stopped : c.in_err-declared.field-0.0 ≢ NoMemory → IsErr (adding (progress_view c.args.so_far.now) (made.instance (units_of c.args.self.now) c.args.self.now.levels at x)) =
-    λ n. not_expanded (at.prefix ++ x.label) (progress_view c.args.so_far.now) _
-    (no_interface (units_of c.args.self.now) c.args.self.now.levels at x e found (subst (λ xs. IsErr (interface at.site.integers (map (option_map static_view) xs) e)) c.deref.ensures.value (c.in_err-declared.ensures n))) in
+    let stopped : c.in_err-declared.field-0.0 ≢ NoMemory → MayTell (adding (progress_view c.args.so_far.now) (made.instance (units_of c.args.self.now) c.args.self.now.levels at x)) (told c.in_err-declared.field-0.0) =
+    λ n. tells (not_expanded (at.prefix ++ x.label) (progress_view c.args.so_far.now) _
+    (no_interface (units_of c.args.self.now) c.args.self.now.levels at x e found (ap (λ xs. interface at.site.integers (map (option_map static_view) xs) e) (sym c.deref.ensures.value) ∙ c.in_err-declared.ensures n))) in
     first_of (search rules, grind (arith, common_steps))
 
 pub add_instance-returns-in_err-associations : goal.add_instance-returns-in_err-associations
@@ -348,10 +349,10 @@ add_instance-returns-in_err-associations t c =
     let found : slice_get (units_of c.args.self.now) c.args.written.now.unit ≡ Some e =
     slice_get-map entity_view c.args.self.now.units.now c.args.written.now.unit ∙ ap (option_map entity_view) (there c.args.self.now.units.now c.args.written.now.unit c.in-Some.unit.now c.in-Some.ensures.lookup.3.0 (c.in-Some.ensures.lookup.3.1 c.in-Some.unit.now)) in
     let known = ap (λ xs. interface at.site.integers (map (option_map static_view) xs) e) (sym c.deref.ensures.value) ∙ c.in_ok-declared.ensures in
-    let stopped : c.in_err-associations.field-0.0 ≢ NoMemory → IsErr (adding (progress_view c.args.so_far.now) (made.instance (units_of c.args.self.now) c.args.self.now.levels at x)) =
-    λ n. not_expanded (at.prefix ++ x.label) (progress_view c.args.so_far.now) _
+    let stopped : c.in_err-associations.field-0.0 ≢ NoMemory → MayTell (adding (progress_view c.args.so_far.now) (made.instance (units_of c.args.self.now) c.args.self.now.levels at x)) (told c.in_err-associations.field-0.0) =
+    λ n. tells (not_expanded (at.prefix ++ x.label) (progress_view c.args.so_far.now) _
     (no_associations (units_of c.args.self.now) c.args.self.now.levels at x e (declared_view c.in_ok-declared.declared) found known
-    (subst (λ xs. IsErr (associated at.site e.ports (map (option_map place_view) xs) (declared_view c.in_ok-declared.declared))) c.deref-2.ensures.value (c.in_err-associations.ensures n))) in
+    (ap (λ xs. associated at.site e.ports (map (option_map place_view) xs) (declared_view c.in_ok-declared.declared)) (sym c.deref-2.ensures.value) ∙ c.in_err-associations.ensures n))) in
     first_of (search rules, grind (arith, common_steps))
 
 pub add_instance-instance-requires : goal.add_instance-instance-requires
@@ -371,9 +372,9 @@ add_instance-returns-in_err-instance t c =
     let known = ap (λ xs. interface at.site.integers (map (option_map static_view) xs) e) (sym c.deref.ensures.value) ∙ c.in_ok-declared.ensures in
     let joined = ap (λ xs. associated at.site e.ports (map (option_map place_view) xs) (declared_view c.in_ok-declared.declared)) (sym c.deref-2.ensures.value) ∙ c.in_ok-associations.ensures in
     let here = instance_here (units_of c.args.self.now) c.args.self.now.levels at x e (declared_view c.in_ok-declared.declared) (declared_view c.associations.new.declared) found known joined in
-    let stopped : c.in_err-instance.field-0.0 ≢ NoMemory → IsErr (adding (progress_view c.args.so_far.now) (made.instance (units_of c.args.self.now) c.args.self.now.levels at x)) =
+    let stopped : c.in_err-instance.field-0.0 ≢ NoMemory → MayTell (adding (progress_view c.args.so_far.now) (made.instance (units_of c.args.self.now) c.args.self.now.levels at x)) (told c.in_err-instance.field-0.0) =
     λ n. instance_refused (at.prefix ++ x.label) (progress_view c.args.so_far.now) _
-    (subst (λ r. IsErr (charged (budget_view c.args.so_far.now.left) instance_costs r)) (sym here) (c.in_err-instance.ensures n)) in
+    (tells_same (ap (λ r. charged (budget_view c.args.so_far.now.left) instance_costs r) here) (c.in_err-instance.ensures n)) in
     first_of (search rules, grind (arith, common_steps))
 
 pub add_instance-returns : goal.add_instance-returns
