@@ -4,7 +4,7 @@ ghost use Rattle.std.specs.Prelude.{◌≡◌, ◌+ℤ◌, pos, Ok};
 ghost use Rattle.vhdl_names_rules.specs.views.Integers.{static_view, start_view};
 ghost use Rattle.vhdl_names_rules.specs.declared.operator.Arithmetic.TheVariants.{Modulo, Remainder};
 ghost use Rattle.vhdl_expand_rules.specs.Integers as definition;
-ghost use Rattle.vhdl_expand_rules.specs.views.Integers.{integers_view, Computes, in_range, all_operated};
+ghost use Rattle.vhdl_expand_rules.specs.views.Integers.{integers_view, Computes, in_range, with_sign, all_operated};
 
 use crate::fault::{ElabFault, ElabProblem};
 use vhdl_names_rules::{Arithmetic, IntegerType, Static, StaticLink, StaticStart};
@@ -96,16 +96,24 @@ fn are_opposite(left: i32, right: i32) -> bool
     if right < 0 { left > 0 } else { left < 0 }
 }
 
+/// The modulus of this remainder: it has the sign of the divisor.
+fn with_sign_of(right: i32, remainder: i32, at: usize) -> Result<i32, ElabFault>
+    ensures { Computes (definition.checked (with_sign right remainder)) result }
+{
+    if are_opposite(remainder, right) {
+        sum(remainder, right, at)
+    } else {
+        checked(remainder, at)
+    }
+}
+
 /// `left mod right`, which has the sign of the divisor.
 fn modulus(left: i32, right: i32, at: usize) -> Result<i32, ElabFault>
     ensures { Computes (definition.operated Modulo left right) result }
 {
     let remainder = remainder(left, right, at)?;
-    if are_opposite(remainder, right) {
-        sum(remainder, right, at)
-    } else {
-        Ok(remainder)
-    }
+    let modulus = with_sign_of(right, remainder, at)?;
+    Ok(modulus)
 }
 
 /// An operator's result. `at` is the byte at which the operator starts.

@@ -1,5 +1,5 @@
 -- What contracts see of the code's static integers, and of what it computes.
-use Rattle.std.specs.Prelude.{◌≡◌, List, [], ◌∷◌, ℤ, Option, Some, None, Result, Ok, Err}
+use Rattle.std.specs.Prelude.{◌≡◌, List, [], ◌∷◌, ℤ, Option, Some, None, Result, Ok, Err, if◌then◌else◌, ◌+ℤ◌}
 use Rattle.vhdl_names_rules.specs.declared.integer.StaticLink.{StaticLink}
 use Rattle.vhdl_names_rules.specs.views.Integers.{static_view}
 use Rattle.vhdl_expand_rules.specs.declared.fault.ElabFault.{ElabFault}
@@ -7,7 +7,7 @@ use Rattle.vhdl_expand_rules.specs.declared.fault.ElabProblem.TheVariants.{Stati
 use Rattle.vhdl_expand_rules.specs.declared.integer.Integers.{Integers}
 use Rattle.vhdl_expand_rules.specs.Elab.{Elab, ◌>>=◌, told}
 use Rattle.vhdl_expand_rules.specs.Integers as definition
-use Rattle.vhdl_expand_rules.specs.Integers.{checked, operated, integer, decision}
+use Rattle.vhdl_expand_rules.specs.Integers.{checked, are_opposite, operated, integer, decision}
 
 abbrev pub integers_view : Integers → definition.Integers
 integers_view x = record { generics = x.generics.now; constants = x.constants.now; generates = x.generates.now; loops = x.loops.now }
@@ -26,6 +26,10 @@ Makes view given (Err fault) = given ≡ Err (told fault)
 abbrev pub in_range : Option ℤ → Elab ℤ
 in_range None = Err StaticError
 in_range (Some x) = checked x
+
+-- a modulus of what remained: with the sign of the divisor
+abbrev pub with_sign : ℤ → ℤ → ℤ
+with_sign y r = if are_opposite r y then r +ℤ y else r
 
 -- the operators of a chain, on the value of what stands before them
 abbrev pub all_operated : definition.Integers → ℤ → List StaticLink → Elab ℤ
