@@ -117,6 +117,7 @@ impl<'a, E: Exec> Kernel<'a, E> {
     /// The values of all nets before the last update, as codes, by the nets' numbers.
     pub fn before(&self) -> &[u8]
         ensures value { result.now ≡ self.now.state.before }
+        ensures as_many { length result.now ≡ length self.now.net.types }
     {
         self.values.before()
     }

@@ -1,6 +1,6 @@
 //! Watches.
 
-ghost use Rattle.std.specs.Prelude.{ℕ, List, [], ◌∷◌, ◌++◌, ⊤};
+ghost use Rattle.std.specs.Prelude.{◌≡◌, ℕ, List, [], ◌∷◌, ◌++◌, length, ⊤};
 ghost use Rattle.rtl_watch.specs.Stands.{Stand};
 
 /// Is told what the nets of a simulation settle to, in order of time.
@@ -19,6 +19,7 @@ pub trait Watch {
     /// The moment at this time, in ns, doesn't settle: the nets had the first values before the last delta cycle allowed, and have the
     /// second ones after it. Nothing is told behind this.
     fn unsettled(&mut self, before: &[u8], now: &[u8], time: u64)
+        requires as_many { length before.now ≡ length now.now }
         ensures { (start : Self) (stands : List Stand) → told start stands self.old
             → stuck start stands before.now now.now time self.new };
 
