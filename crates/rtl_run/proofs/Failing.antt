@@ -1,5 +1,5 @@
 -- What a watch was told of a run that fails.
-use Rattle.std.proofs.Common.{◌≡◌, ℕ, ◌<◌, ◌≤◌, List, [], length, Result, Err, sym, subst, arith}
+use Rattle.std.proofs.Common.{◌≡◌, ℕ, ◌<◌, List, [], length, Result, sym, subst, arith}
 use Rattle.std.specs.Prelude.{slice_index, IfErr, IsErrAnd}
 use Rattle.rtl_model.specs.simulation.Cycle.{State}
 use Rattle.rtl_model.specs.simulation.Moments.{Begun, IsUnsettled}
