@@ -1,9 +1,9 @@
 -- What elaboration computes, or why it refuses: by the first broken rule, in the order in which the definitions come to them.
-use Rattle.std.specs.Prelude.{◌≡◌, ◌≢◌, Bool, if◌then◌else◌, List, [], ◌∷◌, Option, Some, None, Result, Ok, Err, IsErr}
+use Rattle.std.specs.Prelude.{◌≡◌, ◌≢◌, ◌==◌, ℕ, Bool, if◌then◌else◌, List, [], ◌∷◌, Option, Some, None, Result, Ok, Err, IsErr}
 use Rattle.vhdl_expand_rules.specs.declared.fault.ElabFault.{ElabFault}
 use Rattle.vhdl_expand_rules.specs.declared.fault.ElabFault.TheVariants.{At, NoMemory}
 use Rattle.vhdl_expand_rules.specs.declared.fault.ElabProblem.{ElabProblem}
-use Rattle.vhdl_expand_rules.specs.declared.fault.ElabProblem.TheVariants.{TooMany}
+use Rattle.vhdl_expand_rules.specs.declared.fault.ElabProblem.TheVariants.{Length, TooMany}
 
 abbrev pub Elab : Type 0 → Type 0
 Elab A = Result A ElabProblem
@@ -31,6 +31,10 @@ pub record MayTell {A : Type 0} (given : Elab A) (problem : ElabProblem) : Type 
 -- a rule, and the problem where it is broken
 abbrev pub unless : ElabProblem → Bool → Elab (Unit {0})
 unless problem kept = if kept then Ok tt else Err problem
+
+-- a length, and the one that it has to be
+abbrev pub same_length : (found needed : ℕ) → Elab (Unit {0})
+same_length found needed = unless (Length found needed) (found == needed)
 
 -- what has to be there
 abbrev pub found : {A : Type 0} → ElabProblem → Option A → Elab A
