@@ -1,0 +1,69 @@
+//! The nets that still change where a moment doesn't settle.
+
+ghost use Rattle.std.specs.Prelude.{◌≡◌, ◌++◌, if◌then◌else◌, IfOk, OnOk};
+ghost use Rattle.rtl_sink.specs.Written.{Goes};
+ghost use Rattle.rtlsim_faults.specs.Changing as spec;
+ghost use Rattle.rtlsim_faults.specs.Lines.{memory_line};
+
+use crate::lines::push_memory;
+use rtl_net::{Net, NoMemory};
+use rtl_sink::{Sink, push_text};
+use rtlsim_listing::net_name;
+use std::alloc::Global;
+
+/// How many nets are named behind the first.
+const MOST_OTHERS: u32 = 15;
+
+/// Writes the line of the nets of these numbers, 16 of them at most, and answers whether memory for their names sufficed; where it is
+/// refused it tells so in its place.
+pub fn tell_changing<E: Sink>(alloc: Global, net: &Net, numbers: &[usize], err: &mut E) -> bool
+    ensures { Goes (E.state err.old) (E.state err.new) (if result then spec.changing_line net.now numbers.now else memory_line) }
+{
+    match changing_line(alloc, net, numbers) {
+        Ok(line) => {
+            push_text(err, &line);
+            true
+        }
+        Err(_) => {
+            push_memory(err);
+            false
+        }
+    }
+}
+
+/// The line of the nets of these numbers.
+fn changing_line(alloc: Global, net: &Net, numbers: &[usize]) -> Result<Vec<u8>, NoMemory>
+    ensures { IfOk result (λ line. line.items ≡ spec.changing_line net.now numbers.now) }
+{
+    let mut line = Vec::new(alloc);
+    if let [first, others @ ..] = numbers {
+        line.extend_from_slice(b"still changing: ")?;
+        line.extend_from_slice(&net_name(alloc, net, *first)?)?;
+        push_others(alloc, net, MOST_OTHERS, others, &mut line)?;
+        line.extend_from_slice(b"\n")?;
+    }
+    Ok(line)
+}
+
+/// Appends the nets behind the first, so many of them at most.
+fn push_others(
+    alloc: Global,
+    net: &Net,
+    room: u32,
+    numbers: &[usize],
+    line: &mut Vec<u8>,
+) -> Result<(), NoMemory>
+    ensures { OnOk result (line.new.items ≡ line.old.items ++ spec.others_text net.now room numbers.now) }
+{
+    match numbers {
+        [] => Ok(()),
+        [number, others @ ..] => {
+            if room == 0 {
+                return Ok(line.extend_from_slice(b" and more")?);
+            }
+            line.extend_from_slice(b", ")?;
+            line.extend_from_slice(&net_name(alloc, net, *number)?)?;
+            push_others(alloc, net, room - 1, others, line)
+        }
+    }
+}
