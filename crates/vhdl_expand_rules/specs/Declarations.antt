@@ -1,6 +1,6 @@
 -- What an instance declares: the values of its generics and constants, its ports and signals with what they start with,
 -- and what its ports are associated with (IEEE 1076-2008, 6.4.2, 6.5.6, 6.5.7, 14.2 to 14.4).
-use Rattle.std.specs.Prelude.{ℕ, Bool, true, false, not, ◌==◌, ◌||◌, List, [], ◌∷◌, ◌++◌, length, map, replicate, slice_get, Option, Some, None}
+use Rattle.std.specs.Prelude.{ℕ, Bool, true, false, not, ◌||◌, List, [], ◌∷◌, ◌++◌, length, map, replicate, slice_get, Option, Some, None}
 use Rattle.std.specs.Prelude.{is_some, ℤ, Ok, Err}
 use Rattle.vhdl_values.specs.declared.scalar.Nine.{Nine}
 use Rattle.vhdl_values.specs.Scalar.{code_of}

@@ -1,6 +1,6 @@
 -- Expanded expressions: names are elements, lengths are computed, and a number beside a vector is a constant
 -- (IEEE 1076-2008, clause 9; numeric_std).
-use Rattle.std.specs.Prelude.{ℕ, ◌+◌, Bool, true, false, ◌==◌, nat_le, List, [], ◌∷◌, length, Ok}
+use Rattle.std.specs.Prelude.{ℕ, ◌+◌, Bool, true, false, nat_le, List, [], ◌∷◌, length, Ok}
 use Rattle.vhdl_values.specs.declared.scalar.Nine.{Nine}
 use Rattle.vhdl_values.specs.declared.scalar.Nine.TheVariants.{One, Zero}
 use Rattle.vhdl_values.specs.declared.kinds.Cmp.{Cmp}

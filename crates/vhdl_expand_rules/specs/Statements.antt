@@ -1,6 +1,6 @@
 -- Expanded bodies: targets are elements, and a loop is the sequence of its turns (IEEE 1076-2008, clause 10). Lengths
 -- agree in each statement, run or not.
-use Rattle.std.specs.Prelude.{ℕ, ◌+◌, ◌==◌, List, [], ◌∷◌, length, map, sum, Ok}
+use Rattle.std.specs.Prelude.{ℕ, ◌+◌, List, [], ◌∷◌, length, map, sum, Ok}
 use Rattle.vhdl_values.specs.Scalar.{code_of}
 use Rattle.vhdl_names_rules.specs.units.Statements as u
 use Rattle.vhdl_names_rules.specs.units.Statements.{Given, Choice}
