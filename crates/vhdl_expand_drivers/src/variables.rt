@@ -133,7 +133,11 @@ fn fixed(
     match value {
         Fixed::Literal(values) => literal(alloc, len, values, at),
         Fixed::Position(_) => {
-            Err(ElabProblem::Length { found: 1, needed: len }.at(at))
+            Err(ElabProblem::Length {
+                found: 1,
+                needed: len,
+            }
+            .at(at))
         }
         Fixed::Constant(number) => {
             let Some(constant) = site.constants.get(*number) else {

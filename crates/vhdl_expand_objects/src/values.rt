@@ -69,7 +69,11 @@ pub(crate) fn fixed(site: &Site, len: usize, value: &Fixed, at: usize) -> Result
     match value {
         Fixed::Literal(values) => literal(len, values, at),
         Fixed::Position(_) => {
-            Err(ElabProblem::Length { found: 1, needed: len }.at(at))
+            Err(ElabProblem::Length {
+                found: 1,
+                needed: len,
+            }
+            .at(at))
         }
         Fixed::Constant(number) => {
             let Some(constant) = site.constants.get(*number) else {
