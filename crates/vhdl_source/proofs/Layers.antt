@@ -61,7 +61,7 @@ own_ports source top net h =
 -- what may be told of what is shown may be told of what is elaborated
 of_shown : {problem : ElabProblem} (r : Expanded Elaborated) → MayTell (as_shown r) problem → MayTell r problem
 of_shown {problem} (Ok x) t = absurd (true≢false (sym t.refused))
-of_shown {problem} (Err p) t = tells_again {Shown} {Elaborated} p problem t
+of_shown {problem} (Err p) t = tells_again {A = Shown} {B = Elaborated} p problem t
 
 pub no_net : (units : u.Units) (top : List ℕ) (size : ℕ) (fault : ElabFault) → (fault ≢ elab.NoMemory → MayTell (as_shown (elaborated_net units top)) (told fault))
     → HasElabFault units top (of_elab (elab_within size fault))
