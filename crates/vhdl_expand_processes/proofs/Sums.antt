@@ -148,6 +148,9 @@ module _ (at : Integers) where
   -- ---- a case statement: itself, its alternatives, and what it does otherwise
 
   module _ (n : Counts) (gs : List Chosen) (last : u.Statements) where
+    pub select_stops : {problem : ElabProblem} → MayTell (spent n a_statement) problem → MayTell (paid n (both (given a_statement) (alternatives_costs at (units.alternatives_of gs last)))) problem
+    select_stops h = paid_stop _ n (given a_statement) _ (alike_same refl) h
+
     select-begins : (m : Counts) → spent n a_statement ≡ Ok m
         → Alike (paid n (both (given a_statement) (alternatives_costs at (units.alternatives_of gs last)))) (paid m (both (together (chosen_costs at) gs) (statements_costs at last)))
     select-begins m h = paid_go _ n m (given a_statement) _ (alike_same (ap (paid n) (select_costs gs last))) h
