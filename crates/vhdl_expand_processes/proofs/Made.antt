@@ -220,9 +220,9 @@ module _ (n : Counts) (at : Site) (prefix : List ℕ) (p : u.Process) where
   pub process_alike : Alike (charged n process_costs (process (record { site = at; prefix = prefix }) p)) (process_steps n (record { site = at; prefix = prefix }) p)
   process_alike = record {
     gives = λ y h. let x = steps-of y h in whole-from x.0 ∙ ap given x.1;
-    stops = λ problem t. record {
-      refused = go (charged n process_costs (process (record { site = at; prefix = prefix }) p)) (λ y e. subst (λ r. IsErr r) (steps-from (whole-of y e)) t.refused);
-      first = λ unspent. ap (λ (r : Elab t.Process). charged n process_costs r) (steps-refused problem unspent (t.first unspent));
+    stops = λ problem may_tell. record {
+      refused = go (charged n process_costs (process (record { site = at; prefix = prefix }) p)) (λ y e. subst (λ r. IsErr r) (steps-from (whole-of y e)) may_tell.refused);
+      first = λ unspent. ap (λ (r : Elab t.Process). charged n process_costs r) (steps-refused problem unspent (may_tell.first unspent));
     };
   }
     where

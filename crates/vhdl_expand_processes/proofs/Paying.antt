@@ -7,12 +7,11 @@ use Rattle.vhdl_tree.specs.declared.operator.Direction.TheVariants.{To, Downto}
 use Rattle.vhdl_expand_rules.specs.declared.fault.ElabFault.{ElabFault}
 use Rattle.vhdl_expand_rules.specs.Elab.{Elab, ◌>>=◌, MayTell}
 use Rattle.vhdl_expand_rules.specs.Integers.{counted, next}
-use Rattle.vhdl_expand_rules.specs.views.Integers.{Makes}
 use Rattle.vhdl_expand_bodies.specs.Results.{Expands, Charges}
 use Rattle.vhdl_expand_bodies.specs.steps.Statements.{parameter}
 use Rattle.vhdl_elab_rules.specs.Limits.{Counts}
 use Rattle.vhdl_expand_tree.specs.Costs.{spent}
-use Rattle.vhdl_expand_tree.proofs.Alike.{Alike, wrong, alike_same, alike_trans, both_refused, tells, tells_first}
+use Rattle.vhdl_expand_tree.proofs.Alike.{Alike, wrong, alike_same, alike_trans, both_refused, tells_first}
 use Rattle.vhdl_expand_tree.proofs.Charging.{spent-plus, spent-none, spent_told}
 use Rattle.vhdl_expand_rules.specs.declared.fault.ElabProblem.{ElabProblem}
 use Rattle.vhdl_expand_rules.specs.declared.fault.ElabProblem.TheVariants.{TooMany}
@@ -24,11 +23,6 @@ charges_alike view p q (Err fault) a h = λ n. a.stops _ (h n)
 
 pub expands_same : {X Y : Type 0} (view : X → Y) (p q : Elab Y) (r : Result X ElabFault) → p ≡ q → Expands view q r → Expands view p r
 expands_same {X} {Y} view p q r e h = subst (λ (a : Elab Y). Expands view a r) (sym e) h
-
--- a call that charges one budget once
-pub charges_made : {X Y : Type 0} (view : X → Y) (p q : Elab Y) (r : Result X ElabFault) → p ≡ q → Makes view q r → Charges view p r
-charges_made view p q (Ok x) e h = e ∙ h
-charges_made view p q (Err fault) e h = λ n. tells (e ∙ h)
 
 -- ---- one after another
 

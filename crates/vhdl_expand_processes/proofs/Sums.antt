@@ -20,7 +20,7 @@ use Rattle.vhdl_expand_rules.specs.Integers.{Integers, turns, counted}
 use Rattle.vhdl_expand_rules.proofs.Steps.{given}
 use Rattle.vhdl_elab_rules.specs.Limits.{Counts}
 use Rattle.vhdl_expand_tree.specs.Costs as costs
-use Rattle.vhdl_expand_tree.specs.Costs.{no_costs, a_statement, plus, spent}
+use Rattle.vhdl_expand_tree.specs.Costs.{no_costs, a_statement, spent}
 use Rattle.vhdl_expand_tree.proofs.Charging.{plus-none, plus-assoc, spent-none}
 use Rattle.vhdl_expand_processes.specs.Unrolled.{both, paid, together, in_turn, statement_costs, statements_costs, branches_costs, alternatives_costs, guarded_costs, chosen_costs}
 use Rattle.vhdl_expand_tree.proofs.Alike.{Alike, alike_same, alike_trans, tells, tells_first}
