@@ -50,12 +50,12 @@ beyond design h =
     ap (λ (t : Bool). unless TooMany t >> (unless TwoUnresolved (not (has_two_unresolved d)) >> (unless ReadOfShared (not (has_read_of_shared d (flat_net d))) >> given (net_of d)))) over
 
 refused-in : (problem : ElabProblem) (r : Elab Design) → MayTell (within_limits r) problem → MayTell (r >>= λ d. connected d) problem
-refused-in problem (Err p) h = tells_again {Design} {Elaborated} p problem h
+refused-in problem (Err p) h = tells_again {A = Design} {B = Elaborated} p problem h
 refused-in problem (Ok d) h = by (is_within (instance_costs d.top) limits) refl h
   where
     by : (t : Bool) → is_within (instance_costs d.top) limits ≡ t → MayTell (unless TooMany t >> given d) problem → MayTell (connected d) problem
     by true e k = let r = k.refused in absurd cc
-    by false e k = tells_same (beyond d e) (tells_again {Design} {Elaborated} TooMany problem k)
+    by false e k = tells_same (beyond d e) (tells_again {A = Design} {B = Elaborated} TooMany problem k)
 
 pub refused : {problem : ElabProblem} → (units : Units) (top : List ℕ) → MayTell (within_limits (expanded_design units top)) problem → MayTell (as_shown (elaborated_net units top)) problem
 unfolding elaborated_net
