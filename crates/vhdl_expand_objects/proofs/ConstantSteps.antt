@@ -13,6 +13,7 @@ use Rattle.vhdl_expand_rules.specs.Site.{Site}
 use Rattle.vhdl_expand_rules.specs.Declarations.{InstanceObjects, declaration, fixed, with_constant, with_integer}
 use Rattle.vhdl_expand_rules.proofs.Steps.{given, ok, bound}
 use Rattle.vhdl_expand_rules.proofs.Chains.{err_first}
+use Rattle.vhdl_expand_tree.proofs.Alike.{wrong, same_problem}
 use Rattle.vhdl_expand_bodies.specs.declared.constant.Constant.{Constant}
 use Rattle.vhdl_expand_bodies.specs.Sites.{constant_view}
 use Rattle.vhdl_expand_rules.specs.declared.fault.ElabProblem.{ElabProblem}
@@ -41,12 +42,12 @@ constant_step d form f c new h e =
 -- what is refused is so whatever is made of it
 refused : {problem : ElabProblem} → {A B C D : Type 0} (r : Elab A) (s : A → Elab B) (make : A → B → C) (other : A → B → D)
     → (r >>= λ x. s x >>= λ y. given (make x y)) ≡ Err problem → (r >>= λ x. s x >>= λ y. given (other x y)) ≡ Err problem
-refused {A} {B} {C} {D} (Ok x) s make other h = go (s x) h
+refused {problem} {A} {B} {C} {D} (Ok x) s make other h = go (s x) h
   where
-    go : {problem : ElabProblem} → (q : Elab B) → (q >>= λ y. given (make x y)) ≡ Err problem → (q >>= λ y. given (other x y)) ≡ Err problem
+    go : (q : Elab B) → (q >>= λ y. given (make x y)) ≡ Err problem → (q >>= λ y. given (other x y)) ≡ Err problem
     go (Ok y) k = absurd cc
-    go (Err p) k = refl
-refused (Err p) s make other h = refl
+    go (Err p) k = ap (λ q. wrong {D} q) (same_problem {C} p problem k)
+refused {problem} {A} {B} {C} {D} (Err p) s make other h = ap (λ q. wrong {D} q) (same_problem {C} p problem h)
 
 pub constant_refused : {problem : ElabProblem} → (d : InstanceObjects) (form : Form) (f : Fixed) → (constant_of d.site form f) ≡ Err problem → (declaration d (u.Declaration.constant form f)) ≡ Err problem
 unfolding declaration

@@ -8,6 +8,7 @@ use Rattle.vhdl_expand_rules.specs.Declarations.{first_of, rest_of}
 use Rattle.vhdl_expand_rules.specs.Declarations as definition
 use Rattle.vhdl_expand_rules.proofs.Steps.{given, ok}
 use Rattle.vhdl_expand_rules.proofs.Chains.{err_first}
+use Rattle.vhdl_expand_tree.proofs.Alike.{wrong, same_problem}
 use Rattle.vhdl_expand_objects.specs.Generics.{further_generics, generics_alone}
 use Rattle.vhdl_expand_rules.specs.declared.fault.ElabProblem.{ElabProblem}
 use Rattle.vhdl_expand_objects.specs.Walks.{stepwise}
@@ -64,7 +65,7 @@ module _ (above : Integers) (actuals : List (Option u.Static)) where
 
   as_err : {problem : ElabProblem} → (r : Elab (List ℤ)) → (r >>= λ xs. given (generics_alone xs)) ≡ Err problem → r ≡ Err problem
   as_err (Ok xs) h = absurd cc
-  as_err (Err p) h = refl
+  as_err {problem} (Err p) h = ap (λ q. wrong {List ℤ} q) (same_problem {Integers} p problem h)
 
   pub steps_of : (values new : List ℤ) (gs : List Generic) → further_generics above actuals values gs ≡ Ok (generics_alone new) → stepwise step values gs ≡ Ok new
   steps_of values new gs h = as_ok (stepwise step values gs) new (sym (as_run values gs) ∙ h)

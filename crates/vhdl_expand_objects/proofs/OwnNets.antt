@@ -1,5 +1,5 @@
 -- The nets of objects, taken one object after another.
-use Rattle.std.proofs.Common.{◌≡◌, ℕ, ◌+◌, ◌<◌, ◌≤◌, List, length, map, get_or, drop, Ok, sym, ap, ◌∙◌, subst}
+use Rattle.std.proofs.Common.{◌≡◌, ℕ, ◌+◌, ◌<◌, ◌≤◌, List, length, map, get_or, drop, Ok, Err, sym, ap, ◌∙◌, subst}
 use Rattle.vhdl_expand_rules.specs.Elab.{Elab, ◌>>=◌}
 use Rattle.vhdl_expand_rules.proofs.Chains.{err_first}
 use Rattle.vhdl_elab_rules.specs.Limits.{Counts}

@@ -1,5 +1,5 @@
 -- The value of a chain of operators on static integers.
-use Rattle.std.proofs.Common.{◌≡◌, ℕ, ◌<◌, List, [], ◌∷◌, Result, Ok, Err, Box, Vec, Global, refl, sym, ap, ◌∙◌, subst, ℤ}
+use Rattle.std.proofs.Common.{◌≡◌, List, [], ◌∷◌, Result, Ok, Err, Box, Vec, Global, refl, sym, ap, ◌∙◌, subst, ℤ}
 use Rattle.vhdl_names_rules.specs.declared.operator.Arithmetic.{Arithmetic}
 use Rattle.vhdl_names_rules.specs.declared.integer.Static.TheVariants as s
 use Rattle.vhdl_names_rules.specs.declared.integer.Static.{Static}

@@ -1,5 +1,5 @@
 -- The truth of a chain of operators on truths over static integers.
-use Rattle.std.proofs.Common.{◌≡◌, ℕ, ◌<◌, List, [], ◌∷◌, Result, Ok, Err, Box, Vec, Global, sym, ap, ◌∙◌, subst, Bool}
+use Rattle.std.proofs.Common.{◌≡◌, List, [], ◌∷◌, Result, Ok, Err, Box, Vec, Global, sym, ap, ◌∙◌, subst, Bool}
 use Rattle.vhdl_values.specs.declared.kinds.Logic.{Logic}
 use Rattle.vhdl_names_rules.specs.declared.test.StaticTest.TheVariants as s
 use Rattle.vhdl_names_rules.specs.declared.test.StaticTest.{StaticTest}

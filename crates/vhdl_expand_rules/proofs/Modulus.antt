@@ -1,10 +1,7 @@
 -- A modulus is the remainder with the sign of the divisor.
-use Rattle.std.proofs.Common.{◌≡◌, Bool, true, false, if◌then◌else◌, nat_le, ℤ, Result, Ok, Err, ap, sym, ◌∙◌}
+use Rattle.std.proofs.Common.{◌≡◌, Bool, true, false, if◌then◌else◌, nat_le, ℤ, Ok, Err, ap, sym, ◌∙◌}
 use Rattle.std.specs.Prelude.{◌==◌, int_rem, nat_abs}
-use Rattle.vhdl_expand_rules.specs.declared.fault.ElabFault.{ElabFault}
-use Rattle.vhdl_expand_rules.specs.declared.fault.ElabProblem.{ElabProblem}
 use Rattle.vhdl_expand_rules.specs.declared.fault.ElabProblem.TheVariants.{StaticError}
-use Rattle.vhdl_expand_rules.specs.Elab.{Elab}
 use Rattle.vhdl_expand_rules.specs.Integers.{checked, divided, modulus}
 use Rattle.vhdl_expand_rules.specs.views.Integers.{with_sign}
 use Rattle.vhdl_expand_rules.proofs.Steps.{given, ok}
@@ -23,3 +20,10 @@ module _ (x y : ℤ) where
       by : (z : Bool) → (if z then Err StaticError else checked (int_rem x y)) ≡ Ok r → (if z then Err StaticError else checked (modulus x y)) ≡ checked (with_sign y r)
       by true k = absurd cc
       by false k = ap (λ q. checked (with_sign y q)) (was-checked (int_rem x y) r k)
+
+-- the same of integers that a call was given as others that are equal
+pub modulus_returns : (x x' y y' y'' r r' m m' : ℤ) → x' ≡ x → y' ≡ y → y'' ≡ y → r' ≡ r → m' ≡ m
+    → divided int_rem x' y' ≡ Ok r → checked (with_sign y'' r') ≡ Ok m → divided modulus x y ≡ given m'
+modulus_returns x x' y y' y'' r r' m m' ex ey ey' er em h k =
+    ap (λ q. divided modulus q y) (sym ex) ∙ ap (λ q. divided modulus x' q) (sym ey) ∙ modulus_is x' y' r h
+    ∙ ap (λ q. checked (with_sign q r)) (ey ∙ sym ey') ∙ ap (λ q. checked (with_sign y'' q)) (sym er) ∙ k ∙ ap given (sym em)

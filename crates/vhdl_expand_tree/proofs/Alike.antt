@@ -32,12 +32,12 @@ tells_first r f t = record { refused = refused_first r f t.refused; first = λ n
 pub tells_next : {problem : ElabProblem} {A B : Type 0} (r : Elab A) (f : A → Elab B) (x : A) → r ≡ Ok x → MayTell (f x) problem → MayTell (r >>= f) problem
 tells_next r f x h t = tells_same (ap (λ q. q >>= f) h) t
 
-pub same_problem : {A : Type 0} (p q : ElabProblem) → wrong {A} p ≡ wrong {A} q → p ≡ q
+pub same_problem : {A : Type 0} (p q : ElabProblem) → wrong {A = A} p ≡ wrong {A = A} q → p ≡ q
 same_problem p q h = cc
 
 -- the same of what is refused with a problem
-pub tells_again : {A B : Type 0} (problem other : ElabProblem) → MayTell (wrong {A} problem) other → MayTell (wrong {B} problem) other
-tells_again {A} {B} problem other t = record { refused = refl; first = λ n. ap (λ q. wrong {B} q) (same_problem {A} problem other (t.first n)) }
+pub tells_again : {A B : Type 0} (problem other : ElabProblem) → MayTell (wrong {A = A} problem) other → MayTell (wrong {A = B} problem) other
+tells_again {A} {B} problem other t = record { refused = refl; first = λ n. ap (λ q. wrong {A = B} q) (same_problem {A = A} problem other (t.first n)) }
 
 -- ---- alike
 
@@ -52,7 +52,7 @@ alike_same e = record { gives = λ x h. e ∙ h; stops = λ problem t. tells_sam
 pub both_refused : {A : Type 0} {p : Elab A} {problem : ElabProblem} → problem ≡ TooMany → IsErr p → Alike p (wrong problem)
 both_refused {A} {p} {problem} too h = record {
   gives = λ x e. absurd cc;
-  stops = λ other t. record { refused = h; first = λ n. absurd (n (sym (same_problem {A} problem other (t.first n)) ∙ too)) };
+  stops = λ other t. record { refused = h; first = λ n. absurd (n (sym (same_problem {A = A} problem other (t.first n)) ∙ too)) };
 }
 
 pub alike_trans : {A : Type 0} {p q r : Elab A} → Alike p q → Alike q r → Alike p r
@@ -65,5 +65,5 @@ pub alike_then : {A B : Type 0} (p q : Elab A) (f g : A → Elab B) → Alike p 
 alike_then p (Ok x) f g a h = alike_after (ap (λ r. r >>= f) (a.gives x refl)) (h x)
 alike_then {A} {B} p (Err problem) f g a h = record {
   gives = λ y e. absurd cc;
-  stops = λ other t. tells_first p f (a.stops other (tells_again {B} {A} problem other t));
+  stops = λ other t. tells_first p f (a.stops other (tells_again {A = B} {B = A} problem other t));
 }

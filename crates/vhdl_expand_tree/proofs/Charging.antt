@@ -79,7 +79,7 @@ spent_told n c problem h = by (is_within c n) h
   where
     by : (t : Bool) → (unless TooMany t >> given (less n c)) ≡ wrong problem → problem ≡ TooMany
     by true k = absurd cc
-    by false k = sym (same_problem {Counts} TooMany problem k)
+    by false k = sym (same_problem {A = Counts} TooMany problem k)
 
 pub spent-plus : (a b n : Counts) → spent n (plus a b) ≡ (spent n a >>= λ left. spent left b)
 spent-plus a b n = (λ i. unless TooMany (within-plus a b n i) >> given (less-plus a b n i)) ∙ go (is_within a n)

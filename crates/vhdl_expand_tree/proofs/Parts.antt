@@ -1,7 +1,6 @@
 -- Parts behind parts, with what is left of a budget.
 use Rattle.std.proofs.Common.{◌≡◌, ℕ, List, [], ◌∷◌, ◌++◌, refl, sym, ap, ◌∙◌, Vec, Global}
 use mathlib.Core.Former.{Count}
-use Rattle.vhdl_expand_rules.specs.Elab.{◌>>=◌}
 use Rattle.vhdl_expand_rules.specs.Tree.{Parts, no_parts, process, inner, followed_by, instance}
 use Rattle.vhdl_expand_tree.specs.declared.tree.Object.{Object}
 use Rattle.vhdl_expand_tree.specs.declared.tree.InstancePart.{InstancePart}

@@ -13,6 +13,7 @@ use Rattle.vhdl_names_rules.specs.declared.fault.NameFault.TheVariants as names
 use Rattle.vhdl_names_rules.specs.units.Units.{Units}
 use Rattle.vhdl_expand_rules.specs.Elab.{Elab as Expanded}
 use Rattle.vhdl_expand_rules.specs.declared.fault.ElabFault.TheVariants as elab
+use Rattle.vhdl_expand_rules.specs.declared.fault.ElabProblem.{ElabProblem}
 use Rattle.vhdl_elab_rules.specs.Elaboration.{Elaborated, elaborated_net}
 use Rattle.vhdl_elab_laws.specs.Shown.{shown}
 use Rattle.vhdl_source_rules.specs.Sources.{SpellsTokens, IsFileOf, HasSyntaxFault}
@@ -62,9 +63,9 @@ undesigned : (given : Expanded Elaborated) (design : Elaborated) → IsErr given
 undesigned (Ok x) design h e = true≢false (sym h)
 undesigned (Err problem) design h e = absurd (cc)
 
-no_design : (source top : List ℕ) (design : Elaborated) → HasNoDesign source top → HasDesign source top design → ⊥
-no_design source top design r h =
-    undesigned (elaborated_net r.units top) design r.refused
+no_design : (source top : List ℕ) (problem : ElabProblem) (design : Elaborated) → HasNoDesign source top problem → HasDesign source top design → ⊥
+no_design source top problem design r h =
+    undesigned (elaborated_net r.units top) design r.refused.refused
     (ap (λ (x : Units). elaborated_net x top) (one_units source r.units h.units r.analysed h.analysed) ∙ h.is)
 
 pub refused : EachRefusedHasNone
@@ -75,6 +76,6 @@ refused source top (Syntax (syntax.TooDeep at)) design behind r h = too_deep (sy
 refused source top (Syntax syntax.NoMemory) design behind r h = r
 refused source top (Name (names.At problem at)) design behind r h = untyped source h.units r h.analysed
 refused source top (Name names.NoMemory) design behind r h = r
-refused source top (Elab (elab.At problem at)) design behind r h = no_design source top design r h
+refused source top (Elab (elab.At problem at)) design behind r h = no_design source top problem design r h
 refused source top (Elab elab.NoMemory) design behind r h = r
 refused source top NoMemory design behind r h = behind

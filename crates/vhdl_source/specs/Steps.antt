@@ -1,7 +1,8 @@
 -- What the code's own calls say.
-use Rattle.std.specs.Prelude.{◌≡◌, ℕ, min, List, None, Some, Result, Ok, Err, IsErr}
+use Rattle.std.specs.Prelude.{◌≡◌, ℕ, min, List, None, Some, Result, Ok, Err}
 use Rattle.rtl_net.specs.Nets.{NetlistView}
 use Rattle.vhdl_elab_rules.specs.Elaboration.{Elaborated, elaborated_net}
+use Rattle.vhdl_expand_rules.specs.Elab.{MayTell}
 use Rattle.vhdl_expand_rules.specs.declared.fault.ElabFault.{ElabFault}
 use Rattle.vhdl_expand_rules.specs.declared.fault.ElabFault.TheVariants as elab
 use Rattle.vhdl_names_rules.specs.Files as rules
@@ -41,10 +42,10 @@ pub record ShowsTop (units : u.Units) (top : List ℕ) (net : NetlistView) : Typ
   pub is : elaborated_net units top ≡ Ok design
   pub shows : Shows design net
 
--- only a fault of elaboration, and only where the units have no design
+-- only a fault of elaboration, only where the units have no design, and with the problem that may be told
 abbrev pub HasElabFault : u.Units → (top : List ℕ) → SourceFault → Type 0
 HasElabFault units top (Elab elab.NoMemory) = ⊥
-HasElabFault units top (Elab fault) = IsErr (elaborated_net units top)
+HasElabFault units top (Elab (elab.At problem at)) = MayTell (elaborated_net units top) problem
 HasElabFault units top NoMemory = Unit {0}
 HasElabFault units top _ = ⊥
 

@@ -1,7 +1,9 @@
 -- Why a source has no netlist under a top: the first layer that refuses, each where its own definition does.
-use Rattle.std.specs.Prelude.{◌≡◌, ℕ, List, None, IsErr}
+use Rattle.std.specs.Prelude.{◌≡◌, ℕ, List, None}
 use Rattle.vhdl_elab_rules.specs.Elaboration.{elaborated_net}
+use Rattle.vhdl_expand_rules.specs.Elab.{MayTell}
 use Rattle.vhdl_expand_rules.specs.declared.fault.ElabFault.TheVariants as elab
+use Rattle.vhdl_expand_rules.specs.declared.fault.ElabProblem.{ElabProblem}
 use Rattle.vhdl_lexer.specs.Fault.{HasFault}
 use Rattle.vhdl_lexer.specs.declared.fault.LexFault.TheVariants as lex
 use Rattle.vhdl_names_rules.specs.Files.{units_of}
@@ -20,14 +22,14 @@ pub record HasNoUnits (source : List ℕ) : Type 0 where
   pub read : IsFileOf source file
   pub ill_typed : units_of file ≡ None
 
--- the source's units have no design with this top
-pub record HasNoDesign (source top : List ℕ) : Type 0 where
+-- the source's units have no design with this top, and this problem may be told: that of the first broken rule, or TooMany
+pub record HasNoDesign (source top : List ℕ) (problem : ElabProblem) : Type 0 where
   pub units : Units
   pub analysed : HasUnits source units
-  pub refused : IsErr (elaborated_net units top)
+  pub refused : MayTell (elaborated_net units top) problem
 
--- A layer's want of memory is told as NoMemory alone. Which of the problems of names and of elaboration is told, no definition
--- says, nor whether TooDeep or Unexpected is told of a source that has both.
+-- A layer's want of memory is told as NoMemory alone. Which of the problems of names is told, no definition says, nor whether TooDeep or
+-- Unexpected is told of a source that has both.
 abbrev pub Refuses : (source top : List ℕ) → SourceFault → Type 0
 Refuses source top (Lex lex.NoMemory) = ⊥
 Refuses source top (Lex fault) = HasFault fault source
@@ -36,5 +38,5 @@ Refuses source top (Syntax fault) = HasSyntaxFault fault source
 Refuses source top (Name names.NoMemory) = ⊥
 Refuses source top (Name fault) = HasNoUnits source
 Refuses source top (Elab elab.NoMemory) = ⊥
-Refuses source top (Elab fault) = HasNoDesign source top
+Refuses source top (Elab (elab.At problem at)) = HasNoDesign source top problem
 Refuses source top NoMemory = Unit {0}

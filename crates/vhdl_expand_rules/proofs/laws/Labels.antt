@@ -1,6 +1,6 @@
 -- Trees of named units are named, by induction over concurrent statements and over the nesting.
-use Rattle.std.proofs.Common.{◌≡◌, ℕ, zero, suc, Bool, true, false, cond, not, ◌&&◌, ◌||◌, ◌==◌, List, [], ◌∷◌, ◌++◌, length, map, Option, Some, None, Ok, All, refl, sym, ap, ◌∙◌, subst}
-use Rattle.std.specs.Prelude.{◌≢◌, ℤ, slice_get, find, is_some, bytes_eq, IsTrue, IfSome}
+use Rattle.std.proofs.Common.{◌≡◌, ℕ, zero, suc, Bool, true, false, cond, not, ◌&&◌, ◌||◌, ◌==◌, List, [], ◌∷◌, ◌++◌, length, map, Option, Some, None, Ok, All, sym, ap, ◌∙◌, subst}
+use Rattle.std.specs.Prelude.{◌≢◌, slice_get, find, is_some, bytes_eq, IfSome}
 use Rattle.std.specs.Char.{to_ascii_lowercase}
 use Rattle.std.specs.List.{list_all}
 use Rattle.std.proofs.lemmas.Bool.{and_parts}
@@ -13,7 +13,7 @@ use Rattle.vhdl_names_rules.specs.sound.Named.{has_text, label_is_named, objects
 use Rattle.vhdl_expand_rules.specs.declared.fault.ElabProblem.TheVariants.{NoTop, Length, Unassociated}
 use Rattle.vhdl_expand_rules.specs.Elab.{Elab, unless, found, each}
 use Rattle.vhdl_expand_rules.specs.Integers.{Integers, integer_of, decision, turns}
-use Rattle.vhdl_expand_rules.specs.Kinds.{ObjectKind, size, kind_of}
+use Rattle.vhdl_expand_rules.specs.Kinds.{size, kind_of}
 use Rattle.vhdl_expand_rules.specs.Site.{Site, no_integers, no_site, place_elements}
 use Rattle.vhdl_expand_rules.specs.Statements.{statements, statements_turns}
 use Rattle.vhdl_expand_rules.specs.Prefixes.{targets, prefixes_elements}
@@ -22,7 +22,7 @@ use Rattle.vhdl_expand_rules.specs.Tree.{Role, internal, Object, Variable, Insta
 use Rattle.vhdl_expand_rules.specs.Tree as t
 use Rattle.vhdl_expand_rules.specs.Expansion.{Spot, in_turn, in_branch, sensitivity, with_variables, process, joined, instance, concurrent, concurrents, concurrents_turns, instance_of, entity_named, Design, expanded_design}
 use Rattle.vhdl_expand_rules.specs.laws.Labels.{ProcessIsNamed, InstanceIsNamed, PartsAreNamed, EachTreeIsNamed}
-use Rattle.vhdl_expand_rules.proofs.Steps.{given, ok, bound, each-all}
+use Rattle.vhdl_expand_rules.proofs.Steps.{ok, bound, each-all}
 use Rattle.vhdl_expand_rules.proofs.laws.Names.{was_found}
 
 some-text : (xs : List ℕ) → has_text xs ≡ true → xs ≢ []

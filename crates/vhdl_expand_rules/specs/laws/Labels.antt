@@ -1,5 +1,5 @@
 -- Names and labels of an expanded tree have a letter, where those of its units have.
-use Rattle.std.specs.Prelude.{◌≡◌, ◌≢◌, ℕ, ⊤, All, List, [], Option, Some, None, Ok, IsTrue, IfSome}
+use Rattle.std.specs.Prelude.{◌≡◌, ◌≢◌, ℕ, ⊤, All, List, [], Ok, IsTrue, IfSome}
 use Rattle.vhdl_names_rules.specs.units.Units.{Units}
 use Rattle.vhdl_names_rules.specs.sound.Named.{are_named}
 use Rattle.vhdl_expand_rules.specs.Tree.{Object, Variable, Process, Instance, instance, Parts, no_parts, process, inner}
