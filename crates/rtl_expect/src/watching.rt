@@ -88,11 +88,15 @@ impl Expectations {
 impl Watch for Expectations {
     ghost told = { IsToldOf };
 
+    ghost stuck = { λ start stands before now time watch. IsToldOf start stands watch };
+
     fn stood(&mut self, values: &[u8], until: u64) {
         while self.is_before(until) {
             self.compare(values);
         }
     }
+
+    fn unsettled(&mut self, _before: &[u8], _now: &[u8], _time: u64) {}
 
     ghost nothing = { fresh_has_seen };
 }

@@ -114,6 +114,14 @@ impl<'a, E: Exec> Kernel<'a, E> {
         self.values.now()
     }
 
+    /// The values of all nets before the last update, as codes, by the nets' numbers.
+    pub fn before(&self) -> &[u8]
+        ensures value { result.now ≡ self.now.state.before }
+        ensures as_many { length result.now ≡ length self.now.net.types }
+    {
+        self.values.before()
+    }
+
     /// Whether no driver is active.
     pub fn is_quiet(&self) -> bool
         ensures { result ≡ is_quiet self.entry.now.state }

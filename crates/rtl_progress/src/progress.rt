@@ -50,6 +50,9 @@ impl<G: Sink> Watch for Progress<'_, G> {
     ghost told = { λ start stands now. (now.sink.ghost_name ≡ start.sink.ghost_name)
         × HasShown start.stop start.shown (G.state start.sink.now) stands now.stop now.shown (G.state now.sink.now) };
 
+    ghost stuck = { λ start stands before now time watch. (watch.sink.ghost_name ≡ start.sink.ghost_name)
+        × HasShown start.stop start.shown (G.state start.sink.now) stands watch.stop watch.shown (G.state watch.sink.now) };
+
     fn stood(&mut self, _values: &[u8], until: u64) {
         let now = hundredths(self.stop, until);
         if self.shown < now {
@@ -57,6 +60,8 @@ impl<G: Sink> Watch for Progress<'_, G> {
             self.shown = now;
         }
     }
+
+    fn unsettled(&mut self, _before: &[u8], _now: &[u8], _time: u64) {}
 
     ghost nothing = { λ watch. (refl, nothing_shown watch.stop watch.shown (G.state watch.sink.now)) };
 }

@@ -1,5 +1,7 @@
 -- The simulation of a netlist under a stimulus, moment by moment (IEEE 1076-2008, 14.7.5).
-use Rattle.std.specs.Prelude.{◌≡◌, ℕ, ◌≤◌, List, length, slice_get, Some}
+use Rattle.std.specs.Prelude.{◌≡◌, ℕ, ◌≤◌, List, length, slice_get, Some, filter}
+use Rattle.std.specs.List.{range_with_len}
+use Rattle.rtl_model.specs.basics.Valuations.{has_event}
 use Rattle.rtl_model.specs.simulation.Cycle.{State}
 use Rattle.rtl_model.specs.simulation.Moments.{HasSettled, Begun, IsUnsettled}
 use Rattle.rtl_net.specs.Core.{core}
@@ -29,3 +31,7 @@ pub record NeverSettles (net : NetlistView) (s : StimulusView) (limit m : ℕ) :
   pub is_begun : Begun (core net) (inputs_at s) m begun
   pub state : State
   pub unsettled : IsUnsettled (core net) begun limit state
+
+-- the numbers of the nets whose values differ, in order
+abbrev pub changing : (before now : List ℕ) → List ℕ
+changing before now = filter (has_event before now) (range_with_len 0 (length now))

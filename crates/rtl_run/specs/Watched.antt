@@ -1,11 +1,14 @@
 -- What a watch is told of a simulation: what each moment settles to, and until when it stands.
-use Rattle.std.specs.Prelude.{◌≡◌, ℕ, suc, List, length, slice_get, slice_index_or, Some}
+use Rattle.std.specs.Prelude.{◌≡◌, ℕ, suc, ◌<◌, ◌≤◌, List, length, slice_get, slice_index, slice_index_or, Some}
 use Rattle.rtl_model.specs.simulation.Cycle.{State}
 use Rattle.rtl_model.specs.simulation.Moments.{HasSettled}
 use Rattle.rtl_net.specs.Nets.{NetlistView}
 use Rattle.rtl_stim.specs.Stimuli.{StimulusView, moments, inputs_at}
 use Rattle.rtl_watch.specs.Stands.{Stand}
 use Rattle.rtl_net.specs.Core.{core}
+use Rattle.rtl_run.specs.Simulated.{NeverSettles}
+use Rattle.rtl_run.specs.declared.summary.RunFault.{RunFault}
+use Rattle.rtl_run.specs.declared.summary.RunFault.TheVariants.{NoSettling}
 
 -- What the moment m settles to stands until the next moment; at the last one, until the stop is over.
 abbrev pub until_of : StimulusView → (m : ℕ) → ℕ
@@ -29,3 +32,28 @@ pub record IsToldAll (net : NetlistView) (s : StimulusView) (Told : List Stand �
   pub are : AreStands net s stands
   pub all : length stands ≡ length (moments s)
   pub told : Told stands
+
+-- ---- of a run that fails
+
+-- it was told what the first moments settle to, in order
+pub record IsToldFirst (net : NetlistView) (s : StimulusView) (Told : List Stand → Type 0) : Type 0 where
+  pub stands : List Stand
+  pub are : AreStands net s stands
+  pub there : length stands ≤ length (moments s)
+  pub told : Told stands
+
+-- It was told what the moments before this time settle to, in order, and then of the moment at this time, which doesn't settle: the values
+-- before the last delta cycle allowed, and those after it.
+pub record IsToldUnsettled (net : NetlistView) (s : StimulusView) (limit time : ℕ)
+    (Stuck : List Stand → (before now : List ℕ) → (time : ℕ) → Type 0) : Type 0 where
+  pub stands : List Stand
+  pub are : AreStands net s stands
+  pub more : length stands < length (moments s)
+  pub is_at : slice_index (moments s) (length stands) ≡ time
+  pub never : NeverSettles net s limit (length stands)
+  pub stuck : Stuck stands never.state.before never.state.now time
+
+abbrev pub WasTold : NetlistView → StimulusView → (limit : ℕ) → (Told : List Stand → Type 0)
+    → (Stuck : List Stand → (before now : List ℕ) → (time : ℕ) → Type 0) → RunFault → Type 0
+WasTold net s limit Told Stuck (NoSettling time) = IsToldUnsettled net s limit time Stuck
+WasTold net s limit Told Stuck _ = IsToldFirst net s Told

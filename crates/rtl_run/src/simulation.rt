@@ -1,6 +1,6 @@
 //! Simulations.
 
-ghost use Rattle.std.specs.Prelude.{◌≡◌, ℕ, ◌+◌, ◌<◌, ◌≤◌, [], length, slice_index, Contains, None, MatchResult, IfOk, OnOk};
+ghost use Rattle.std.specs.Prelude.{◌≡◌, ℕ, ◌+◌, ◌<◌, ◌≤◌, [], length, slice_index, Contains, List, None, MatchResult, IfErr, IfOk, OnOk};
 ghost use Rattle.rtl_model.specs.simulation.Cycle.{is_quiet};
 ghost use Rattle.rtl_model.specs.simulation.Moments.{Begun, HasNoneToRun, HasRun, IsUnsettled, SettlesTo};
 ghost use Rattle.rtl_net.specs.Nets.{flat};
@@ -14,7 +14,8 @@ ghost use Rattle.rtl_run.specs.declared.summary.RunFault.TheVariants.{NoSettling
 ghost use Rattle.rtl_run.specs.Answered.{Answers};
 ghost use Rattle.rtl_run.specs.Running.{HasBegun, Begins, HasCome, IsNextMoment, GoesOn};
 ghost use Rattle.rtl_net.specs.Core.{core};
-ghost use Rattle.rtl_run.specs.Watched.{IsToldAll};
+ghost use Rattle.rtl_run.specs.Watched.{AreStands, IsToldAll, WasTold};
+ghost use Rattle.rtl_watch.specs.Stands.{Stand};
 
 use crate::progress::Progress;
 use crate::summary::{RunFault, Summary};
@@ -64,7 +65,8 @@ impl<E: Exec> Simulation<'_, E> {
         self.run_watched(alloc, agenda, pick, &mut Unwatched, out)
     }
 
-    /// The same, and the watch is told what each moment settles to, as soon as it is known until when that stands.
+    /// The same, and the watch is told what each moment settles to, as soon as it is known until when that stands; and where a moment
+    /// doesn't settle, the values before the last delta cycle allowed and after it.
     ///
     /// # Errors
     ///
@@ -85,6 +87,8 @@ impl<E: Exec> Simulation<'_, E> {
         requires intact { IsIntact (W.state out.old) }
         ensures answers { Answers self.now.net.now self.now.stimulus.now self.now.limit (W.state out.old) (W.state out.new) result }
         ensures told { IfOk result (λ _. IsToldAll self.now.net.now self.now.stimulus.now (λ stands. V.told watch.old stands watch.new)) }
+        ensures failing { IfErr result (λ fault. WasTold self.now.net.now self.now.stimulus.now self.now.limit (λ stands. V.told watch.old stands watch.new)
+            (λ stands before now time. V.stuck watch.old stands before now time watch.new) fault) }
     {
         let _count = self.net.nets();
         self.stimulus.load(agenda)?;
@@ -116,16 +120,18 @@ impl<E: Exec> Simulation<'_, E> {
         requires intact { IsIntact (W.state out.old) }
         ensures answers { Answers self.now.net.now self.now.stimulus.now self.now.limit (W.state out.old) (W.state out.new) result }
         ensures told { IfOk result (λ _. IsToldAll self.now.net.now self.now.stimulus.now (λ stands. V.told watch.old stands watch.new)) }
+        ensures failing { IfErr result (λ fault. WasTold self.now.net.now self.now.stimulus.now self.now.limit (λ stands. V.told watch.old stands watch.new)
+            (λ stands before now time. V.stuck watch.old stands before now time watch.new) fault) }
     {
         let _count = self.net.nets();
         let stop = self.stimulus.stop();
         header(self.net, out)?;
-        let mut progress = self.begin(alloc, kernel, pick, out)?;
+        let mut progress = self.begin(alloc, kernel, pick, watch, out)?;
         while let Some(time) = agenda.next() {
             watch.stood(&progress.values, time);
             kernel.apply(agenda.changes(), pick);
             self.stimulus.refill(time, agenda)?;
-            self.go_on(time, blocks, kernel, &mut progress, pick, out)?;
+            self.go_on(time, blocks, kernel, &mut progress, pick, watch, out)?;
         }
         watch.stood(&progress.values, stop + 1);
         end(progress.printed, stop, out)?;
@@ -133,11 +139,12 @@ impl<E: Exec> Simulation<'_, E> {
     }
 
     /// Lets the first moment settle, and writes the values at 0.
-    fn begin<P: Pick, W: Sink>(
+    fn begin<P: Pick, V: Watch, W: Sink>(
         &self,
         alloc: Global,
         kernel: &mut Kernel<'_, E>,
         pick: &mut P,
+        watch: &mut V,
         out: &mut W,
     ) -> Result<Progress, RunFault>
         requires net { kernel.old.net ≡ self.now.net.now }
@@ -147,8 +154,12 @@ impl<E: Exec> Simulation<'_, E> {
         ensures ready { HasNoneToRun kernel.new.state }
         ensures begins { (start : SinkState) → HasBegun self.now.net.now self.now.stimulus.now self.now.limit start (W.state out.old) kernel.old.state
             → Begins self.now.net.now self.now.stimulus.now self.now.limit start (W.state out.new) kernel.new.state result }
+        ensures untold { IfOk result (λ _. watch.new ≡ watch.old) }
+        ensures failing { (start : V) → Begun (core self.now.net.now) (inputs_at self.now.stimulus.now) 0 kernel.old.state → V.told start [] watch.old
+            → IfErr result (λ fault. WasTold self.now.net.now self.now.stimulus.now self.now.limit (λ stands. V.told start stands watch.new)
+                (λ stands before now time. V.stuck start stands before now time watch.new) fault) }
     {
-        let deltas = settle(kernel, self.limit, 0, pick)?;
+        let deltas = settle(kernel, self.limit, 0, pick, watch)?;
         first(self.net, kernel.values(), out)?;
         Ok(Progress {
             now: 0,
@@ -162,13 +173,14 @@ impl<E: Exec> Simulation<'_, E> {
     }
 
     /// Lets the moment at this time settle, and writes what changes.
-    fn go_on<P: Pick, W: Sink>(
+    fn go_on<P: Pick, V: Watch, W: Sink>(
         &self,
         time: u64,
         blocks: &Blocks<'_>,
         kernel: &mut Kernel<'_, E>,
         progress: &mut Progress,
         pick: &mut P,
+        watch: &mut V,
         out: &mut W,
     ) -> Result<(), RunFault>
         requires blocks { blocks.now ≡ self.now.net.now }
@@ -183,20 +195,27 @@ impl<E: Exec> Simulation<'_, E> {
         ensures goes_on { (start : SinkState) → HasCome self.now.net.now self.now.stimulus.now self.now.limit start (W.state out.old) progress.old
             → IsNextMoment self.now.net.now self.now.stimulus.now self.now.limit progress.old time kernel.old.state
             → GoesOn self.now.net.now self.now.stimulus.now self.now.limit start (W.state out.new) progress.old time progress.new kernel.new.state result }
+        ensures untold { IfOk result (λ _. watch.new ≡ watch.old) }
+        ensures failing { (start : V) (stands : List Stand) → AreStands self.now.net.now self.now.stimulus.now stands
+            → length stands ≡ progress.old.summary.moments → IsNextMoment self.now.net.now self.now.stimulus.now self.now.limit progress.old time kernel.old.state
+            → V.told start stands watch.old
+            → IfErr result (λ fault. WasTold self.now.net.now self.now.stimulus.now self.now.limit (λ stands. V.told start stands watch.new)
+                (λ stands before now time. V.stuck start stands before now time watch.new) fault) }
     {
-        let deltas = settle(kernel, self.limit, time, pick)?;
+        let deltas = settle(kernel, self.limit, time, pick, watch)?;
         let is_printed = blocks.moment(time, &progress.values, kernel.values(), out)?;
         progress.add(time, kernel.values(), deltas, is_printed);
         Ok(())
     }
 }
 
-/// Delta cycles until no driver is active, at most so many; it is the moment at this time.
-fn settle<E: Exec, P: Pick>(
+/// Delta cycles until no driver is active, at most so many; it is the moment at this time. The watch is told where they don't suffice.
+fn settle<E: Exec, P: Pick, V: Watch>(
     kernel: &mut Kernel<'_, E>,
     limit: u32,
     time: u64,
     pick: &mut P,
+    watch: &mut V,
 ) -> Result<u32, RunFault>
     requires ready { HasNoneToRun kernel.old.state }
     ensures net { kernel.new.net ≡ kernel.old.net }
@@ -204,9 +223,15 @@ fn settle<E: Exec, P: Pick>(
     ensures settled { MatchResult result
         (λ deltas. SettlesTo (core kernel.old.net) kernel.old.state deltas kernel.new.state × (deltas ≤ limit))
         (λ fault. (fault ≡ NoSettling time) × IsUnsettled (core kernel.old.net) kernel.old.state limit kernel.new.state) }
+    ensures untold { IfOk result (λ _. watch.new ≡ watch.old) }
+    ensures stuck { IfErr result (λ _. (start : V) (stands : List Stand) → V.told start stands watch.old
+        → V.stuck start stands kernel.new.state.before kernel.new.state.now time watch.new) }
 {
     match kernel.settle(limit, pick) {
         Ok(deltas) => Ok(deltas),
-        Err(_) => Err(RunFault::NoSettling { time }),
+        Err(_) => {
+            watch.unsettled(kernel.before(), kernel.values(), time);
+            Err(RunFault::NoSettling { time })
+        }
     }
 }

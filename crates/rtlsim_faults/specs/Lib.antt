@@ -5,5 +5,6 @@ pub mod Titles
 pub mod Notices
 pub mod Lines
 pub mod Explanations
+pub mod Changing
 pub mod Status
 pub mod Told

@@ -1,15 +1,17 @@
 //! The faults of the commands, and how they are told: their lines, what stands below them, and the status with which the program ends.
 //!
 //! `specs/Faults.antt` says what a layer's fault is to a caller, `specs/Lines.antt` and `specs/Explanations.antt` what is told of it, and
-//! `specs/Told.antt` how that goes out.
+//! `specs/Told.antt` how that goes out; `specs/Changing.antt` how the nets are told that still change.
 #![tactic(auto)]
 
+mod changing;
 mod explaining;
 mod faults;
 mod lines;
 mod status;
 mod telling;
 
+pub use changing::tell_changing;
 pub use explaining::explain_names;
 pub use faults::Fault;
 pub use lines::{push_memory, tell_fault, tell_levels, tell_source_fault, tell_summary};
