@@ -113,19 +113,31 @@ compared_settled {A} So x (Some d) answer is = subst (λ (r : Result A Fault). I
 
 -- ---- what is told
 
-pub tells_changing : (text : List ℕ) (explains : Bool) (net : NetlistView) (numbers : List ℕ) (fault : Fault) (old new : SinkState)
+tells_of : (text : List ℕ) (explains : Bool) (net : NetlistView) (numbers : List ℕ) (fault : Fault) (old new : SinkState)
     → IfUnsettled {A = Summary} (Err fault) (AreNoted text numbers net) → NamesIf explains net numbers fault old new → TellsChanging (Some text) explains net fault old new
-tells_changing text false net numbers fault old new noted h = h
-tells_changing text true net numbers (Lex x) old new noted h = h
-tells_changing text true net numbers (Syntax x) old new noted h = h
-tells_changing text true net numbers (Name x) old new noted h = h
-tells_changing text true net numbers (Elab x) old new noted h = h
-tells_changing text true net numbers (Rejected x) old new noted h = h
-tells_changing text true net numbers (Stim x) old new noted h = h
-tells_changing text true net numbers (Expect x) old new noted h = h
-tells_changing text true net numbers (Differs x) old new noted h = h
-tells_changing text true net numbers (NoSettling time) old new noted h =
+tells_of text false net numbers fault old new noted h = h
+tells_of text true net numbers (Lex x) old new noted h = h
+tells_of text true net numbers (Syntax x) old new noted h = h
+tells_of text true net numbers (Name x) old new noted h = h
+tells_of text true net numbers (Elab x) old new noted h = h
+tells_of text true net numbers (Rejected x) old new noted h = h
+tells_of text true net numbers (Stim x) old new noted h = h
+tells_of text true net numbers (Expect x) old new noted h = h
+tells_of text true net numbers (Differs x) old new noted h = h
+tells_of text true net numbers (NoSettling time) old new noted h =
     of_unsettled_so text time net (λ stands before now at. numbers ≡ take 17 (changing before now)) (λ stands before now at. Names net (changing before now) old new)
     (λ stands before now at is. names_all net numbers (changing before now) old new is h) noted
-tells_changing text true net numbers Memory old new noted h = h
-tells_changing text true net numbers Output old new noted h = h
+tells_of text true net numbers Memory old new noted h = h
+tells_of text true net numbers Output old new noted h = h
+
+-- of an answer that is this fault
+pub tells_changing : (text : List ℕ) (explains : Bool) (net : NetlistView) (numbers shown : List ℕ) (answer : Result Summary Fault) (fault : Fault) (old new : SinkState)
+    → answer ≡ Err fault → shown ≡ numbers → IfUnsettled answer (AreNoted text numbers net) → NamesIf explains net shown fault old new → TellsChanging (Some text) explains net fault old new
+tells_changing text explains net numbers shown answer fault old new at same noted h =
+    tells_of text explains net numbers fault old new (subst (λ (r : Result Summary Fault). IfUnsettled r (AreNoted text numbers net)) at noted)
+    (subst (λ (ns : List ℕ). NamesIf explains net ns fault old new) same h)
+
+-- what such an answer says of the fault
+pub at_fault : {A : Type 0} (Does : NetlistView → Result A Fault → SinkState → SinkState → Type 0) (net : NetlistView) (answer : Result A Fault) (fault : Fault) (old new : SinkState)
+    → answer ≡ Err fault → Does net answer old new → Does net (Err fault) old new
+at_fault {A} Does net answer fault old new at does = subst (λ (r : Result A Fault). Does net r old new) at does

@@ -12,4 +12,4 @@ returns-clause-watched g c = record {
 
 pub returns-clause-noted : goal.returns-clause-noted
 returns-clause-noted g c =
-    if_unsettled_so c.args.stimulus.now c.args.net.now _ _ c.run_events_expecting-answer.result (λ stands before now at told. told.1.0) c.run_events_expecting-answer.ensures.stuck
+    if_unsettled_so c.args.stimulus.now c.args.net.now _ _ c.run_events_expecting-answer.result (λ stands before now at told. told.1) c.run_events_expecting-answer.ensures.stuck
