@@ -1,5 +1,5 @@
 -- The nets that still change where a moment doesn't settle.
-use Rattle.std.proofs.Common.{◌≡◌, ℕ, zero, suc, Bool, true, false, List, [], ◌∷◌, ◌++◌, Some, Result, Ok, Err, inl, inr, refl, sym, ap, subst, ◌∙◌, codes}
+use Rattle.std.proofs.Common.{◌≡◌, ℕ, zero, suc, Bool, true, false, List, [], ◌∷◌, ◌++◌, Option, Some, None, Result, Ok, Err, inl, inr, refl, sym, ap, subst, ◌∙◌, codes}
 use Rattle.std.specs.Prelude.{if◌then◌else◌, take, IsErrAnd}
 use Rattle.rtl_net.specs.Names.{net_name}
 use Rattle.rtl_net.specs.Nets.{NetlistView}
@@ -12,9 +12,11 @@ use Rattle.rtl_sink.specs.Written.{SinkState, Goes}
 use Rattle.rtl_stim.specs.Stimuli.{StimulusView, IsRead}
 use Rattle.rtl_stim_lines.specs.declared.faults.StimFault.{StimFault}
 use Rattle.rtl_stim_lines.specs.declared.faults.StimFault.TheVariants.{InLine, NoStop, Race, NoMemory as NoRoom}
+use Rattle.rtl_expect.specs.declared.difference.Difference.{Difference}
 use Rattle.rtl_expect.specs.declared.faults.ExpectFault.{ExpectFault}
 use Rattle.rtl_expect.specs.declared.faults.ExpectFault.TheVariants as expect
 use Rattle.rtl_watch.specs.Stands.{Stand}
+use Rattle.rtlsim_commands.specs.Expected.{unless_differs}
 use Rattle.rtlsim_commands.specs.Simulated.{most_deltas}
 use Rattle.rtlsim_commands.specs.Unsettled.{OfUnsettled, IfUnsettled, Names, NamesIf, AreNoted, TellsChanging}
 use Rattle.rtlsim_explain_check.specs.Ranges.{follows, range_text}
@@ -103,6 +105,11 @@ stim_settled So NoRoom = tt
 pub expect_settled : {A : Type 0} (So : ℕ → Type 0) (fault : ExpectFault) → IfUnsettled {A = A} (Err (of_expect fault)) So
 expect_settled So (expect.InLine problem line) = tt
 expect_settled So expect.NoMemory = tt
+
+-- an answer that is compared
+pub compared_settled : {A : Type 0} (So : ℕ → Type 0) (x : A) (d : Option Difference) (answer : Result A Fault) → answer ≡ unless_differs x d → IfUnsettled answer So
+compared_settled {A} So x None answer is = subst (λ (r : Result A Fault). IfUnsettled r So) (sym is) tt
+compared_settled {A} So x (Some d) answer is = subst (λ (r : Result A Fault). IfUnsettled r So) (sym is) tt
 
 -- ---- what is told
 

@@ -1,12 +1,12 @@
 use Rattle.std.proofs.Common.{refl}
 use Rattle.rtlsim_commands.specs.Told as told
-use Rattle.rtlsim_commands.proofs.Told.{serves_refused, serves_faulty}
+use Rattle.rtlsim_commands.proofs.Told.{serves_refused, serves_told}
 use Rattle.rtlsim_commands.proofs.Refused.{runs_fault}
 use Rattle.rtlsim_commands.proofs.simulating.serve_run_event.Goals as goal
 
 pub returns-in-Err : goal.returns-in-Err
 returns-in-Err g c =
-    serves_refused _ told.summary c.args.telling.now _ _ _ _ c.in-Err.fault c.in-Err.ensures.refused c.in-Err.ensures.told refl c.refuse_source.ensures.told c.refuse_source.ensures.status
+    serves_refused _ (told.events c.args.stimulus.now) c.args.telling.now _ _ _ _ c.in-Err.fault c.in-Err.ensures.refused c.in-Err.ensures.told refl c.refuse_source.ensures.told c.refuse_source.ensures.status
 
 pub returns : goal.returns
 returns g c =

@@ -1,6 +1,6 @@
 use Rattle.std.proofs.Common.{refl}
 use Rattle.rtlsim_commands.specs.Told as told
-use Rattle.rtlsim_commands.proofs.Told.{serves_refused, serves_faulty}
+use Rattle.rtlsim_commands.proofs.Told.{serves_refused, serves_told}
 use Rattle.rtlsim_commands.specs.Simulated.{RunsEvents}
 use Rattle.rtlsim_commands.specs.Watched.{OfEvents}
 use Rattle.rtlsim_commands.proofs.Refused.{expecting_told, runs_fault}
@@ -8,7 +8,7 @@ use Rattle.rtlsim_commands.proofs.simulating.serve_run_event_expecting.Goals as 
 
 pub returns-in-Err : goal.returns-in-Err
 returns-in-Err g c =
-    serves_refused _ told.summary c.args.telling.now _ _ _ _ c.in-Err.fault c.in-Err.ensures.refused c.in-Err.ensures.told refl c.refuse_source.ensures.told c.refuse_source.ensures.status
+    serves_refused _ (told.events c.args.stimulus.now) c.args.telling.now _ _ _ _ c.in-Err.fault c.in-Err.ensures.refused c.in-Err.ensures.told refl c.refuse_source.ensures.told c.refuse_source.ensures.status
 
 pub returns : goal.returns
 returns g c =
