@@ -1,11 +1,14 @@
 -- What a watch is told of a run, moment by moment.
-use Rattle.std.proofs.Common.{◌≡◌, ℕ, List, [], ◌∷◌, ◌++◌, length, Some, sym, ap, ◌∙◌, ⊎_elim}
+use Rattle.std.proofs.Common.{◌≡◌, ℕ, List, [], ◌∷◌, ◌++◌, length, Some, sym, ap, ◌∙◌, ⊎_elim, arith}
 use Rattle.std.specs.Prelude.{slice_get}
-use Rattle.rtl_stim.specs.Stimuli.{StimulusView}
+use Rattle.rtl_net.specs.Core.{core}
+use Rattle.rtl_net.specs.Nets.{NetlistView}
+use Rattle.rtl_stim.specs.Stimuli.{StimulusView, inputs_at}
 use Rattle.rtl_watch.specs.Stands.{Stand}
 use Rattle.rtl_run.specs.Watched.{until_of}
 use Rattle.rtl_run.proofs.Stands.{at_end}
-use Rattle.rtl_machine.specs.Watched.{AreStandsOf}
+use Rattle.rtl_machine.specs.Synchronous.{IsSynchronous}
+use Rattle.rtl_machine.specs.Watched.{AreStandsOf, IsToldRunFirst}
 
 abbrev no_stand : List Stand
 no_stand = []
@@ -23,3 +26,7 @@ module _ (s : StimulusView) (run : ℕ → List ℕ) where
       ⊎_elim (λ h. are k x h)
       (λ h. let at = h.0 ∙ many in (ap (λ (y : Stand). y.values) h.1 ∙ values_are ∙ ap run (sym at), ap (λ (y : Stand). y.until) h.1 ∙ until_is ∙ ap (until_of s) (sym at)))
       (at_end stands (record { values = values; until = until }) k x is)
+
+pub told_nothing : (net : NetlistView) (s : StimulusView) (bound : ℕ) (run : ℕ → List ℕ) → IsSynchronous (core net) bound (inputs_at s) run → (Told : List Stand → Type 0) → Told []
+    → IsToldRunFirst net s bound Told
+told_nothing net s bound run synchronous Told told = record { run = run; synchronous = synchronous; stands = []; are = stands_none s run; there = omega arith; told = told }

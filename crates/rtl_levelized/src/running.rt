@@ -1,10 +1,10 @@
 //! The levelized simulation of a net under a text.
 
-ghost use Rattle.std.specs.Prelude.{IfOk};
+ghost use Rattle.std.specs.Prelude.{IfErr, IfOk};
 ghost use Rattle.rtl_stim.specs.Ports.{HasOwnPorts};
 ghost use Rattle.rtl_sink.specs.Written.{IsIntact};
 ghost use Rattle.rtl_machine.specs.Answered.{Admits};
-ghost use Rattle.rtl_machine.specs.Watched.{IsToldRun};
+ghost use Rattle.rtl_machine.specs.Watched.{IsToldRun, WasToldRun};
 ghost use Rattle.rtl_levelized.specs.Answered.{RunsLevels};
 
 use crate::stepping::Stepping;
@@ -56,6 +56,7 @@ pub fn run_levels_watched<V: Watch, W: Sink>(
     requires intact { IsIntact (W.state out.old) }
     ensures runs { RunsLevels net.now text.now (W.state out.old) (W.state out.new) result }
     ensures told { IfOk result (λ _. Admits net.now text.now (λ s bound. IsToldRun net.now s bound (λ stands. V.told watch.old stands watch.new))) }
+    ensures failing { IfErr result (λ _. WasToldRun net.now text.now (λ stands. V.told watch.old stands watch.new)) }
 {
     let _count = net.nets();
     let admitted = admit(alloc, net, text)?;

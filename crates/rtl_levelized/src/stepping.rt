@@ -1,6 +1,6 @@
 //! The run of a machine, moment by moment.
 
-ghost use Rattle.std.specs.Prelude.{◌≡◌, ℕ, ◌<◌, List, [], length, None, IfOk};
+ghost use Rattle.std.specs.Prelude.{◌≡◌, ℕ, ◌<◌, List, [], length, None, IfErr, IfOk};
 ghost use Rattle.rtl_kernel.specs.kernel.Kept.{RunBodies};
 ghost use Rattle.rtl_model.specs.simulation.Levels.{AreLevels};
 ghost use Rattle.rtl_stim.specs.Ports.{HasOwnPorts, inputs_of};
@@ -9,7 +9,7 @@ ghost use Rattle.rtl_net.specs.Nets.{flat};
 ghost use Rattle.rtl_net.specs.Core.{core};
 ghost use Rattle.rtl_sink.specs.Written.{SinkState, IsIntact};
 ghost use Rattle.rtl_stim_lines.specs.Filling.{Waits};
-ghost use Rattle.rtl_machine.specs.Watched.{IsToldRun};
+ghost use Rattle.rtl_machine.specs.Watched.{IsToldRun, IsToldRunFirst};
 ghost use Rattle.rtl_machine.specs.Synchronous.{SaysYes, IsRaceless, IsSynchronous};
 ghost use Rattle.rtl_levelized.specs.Answered.{TracesLevels};
 ghost use Rattle.rtl_levelized.specs.Running.{Begins, GoesOn, HasCome, IsNext};
@@ -64,6 +64,7 @@ impl<E: Exec> Stepping<'_, E> {
         requires intact { IsIntact (W.state out.old) }
         ensures traces { TracesLevels self.now.net.now self.now.stimulus.now self.now.bound (W.state out.old) (W.state out.new) result }
         ensures told { IfOk result (λ _. IsToldRun self.now.net.now self.now.stimulus.now self.now.bound (λ stands. V.told watch.old stands watch.new)) }
+        ensures failing { IfErr result (λ _. IsToldRunFirst self.now.net.now self.now.stimulus.now self.now.bound (λ stands. V.told watch.old stands watch.new)) }
     {
         accepted_nets_are_synchronous();
         laws::each_machine_goes_on_alike();
@@ -98,6 +99,7 @@ impl<E: Exec> Stepping<'_, E> {
         requires intact { IsIntact (W.state out.old) }
         ensures traces { TracesLevels self.now.net.now self.now.stimulus.now self.now.bound (W.state out.old) (W.state out.new) result }
         ensures told { IfOk result (λ _. IsToldRun self.now.net.now self.now.stimulus.now self.now.bound (λ stands. V.told watch.old stands watch.new)) }
+        ensures failing { IfErr result (λ _. IsToldRunFirst self.now.net.now self.now.stimulus.now self.now.bound (λ stands. V.told watch.old stands watch.new)) }
     {
         laws::each_machine_goes_on_alike();
         let _count = self.net.nets();

@@ -1,6 +1,6 @@
 //! The simulation of a net as a machine, with its trace.
 
-ghost use Rattle.std.specs.Prelude.{◌≡◌, [], None, IfOk};
+ghost use Rattle.std.specs.Prelude.{◌≡◌, [], None, IfErr, IfOk};
 ghost use Rattle.rtl_kernel.specs.kernel.Kept.{RunBodies};
 ghost use Rattle.rtl_stim.specs.Ports.{HasOwnPorts, inputs_of};
 ghost use Rattle.rtl_stim.specs.Stimuli.{inputs_at};
@@ -10,7 +10,7 @@ ghost use Rattle.rtl_sink.specs.Written.{IsIntact};
 ghost use Rattle.rtl_machine.specs.Synchronous.{SaysYes, IsRaceless};
 ghost use Rattle.rtl_machine.specs.Traced.{Traces};
 ghost use Rattle.rtl_machine.specs.Answered.{Admits, RunsNet};
-ghost use Rattle.rtl_machine.specs.Watched.{IsToldRun};
+ghost use Rattle.rtl_machine.specs.Watched.{IsToldRun, IsToldRunFirst, WasToldRun};
 
 use crate::admission::admit;
 use crate::fault::MachineFault;
@@ -70,6 +70,7 @@ pub fn run_watched<P: Pick, V: Watch, W: Sink>(
     requires intact { IsIntact (W.state out.old) }
     ensures runs { RunsNet net.now text.now (W.state out.old) (W.state out.new) result }
     ensures told { IfOk result (λ _. Admits net.now text.now (λ s bound. IsToldRun net.now s bound (λ stands. V.told watch.old stands watch.new))) }
+    ensures failing { IfErr result (λ _. WasToldRun net.now text.now (λ stands. V.told watch.old stands watch.new)) }
 {
     let _count = net.nets();
     let admitted = admit(alloc, net, text)?;
@@ -137,6 +138,8 @@ pub fn trace_watched<E: Exec, A: Agenda, P: Pick, V: Watch, W: Sink>(
     requires intact { IsIntact (W.state out.old) }
     ensures traces { Traces simulation.now.net.now simulation.now.stimulus.now simulation.now.limit (W.state out.old) (W.state out.new) result }
     ensures told { IfOk result (λ _. IsToldRun simulation.now.net.now simulation.now.stimulus.now simulation.now.limit
+        (λ stands. V.told watch.old stands watch.new)) }
+    ensures failing { IfErr result (λ _. IsToldRunFirst simulation.now.net.now simulation.now.stimulus.now simulation.now.limit
         (λ stands. V.told watch.old stands watch.new)) }
 {
     accepted_nets_are_synchronous();

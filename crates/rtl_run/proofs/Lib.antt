@@ -4,3 +4,4 @@ pub mod Turns
 pub mod Stands
 pub mod Moments
 pub mod Going
+pub mod Failing

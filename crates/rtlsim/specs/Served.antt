@@ -8,7 +8,7 @@ use Rattle.rtlsim_commands.specs.Listed.{ListsNet, ChecksNetJson, ChecksNetTold,
 use Rattle.rtlsim_commands.specs.Machine.{RunsMachine, RunsMachineByLevels, EvaluatesMachine}
 use Rattle.rtlsim_commands.specs.Served.{Outputs, Serves as ServesSource}
 use Rattle.rtlsim_commands.specs.Simulated.{RunsEvents}
-use Rattle.rtlsim_commands.specs.Told.{quiet, verdict, summary, levels}
+use Rattle.rtlsim_commands.specs.Told.{quiet, verdict, summary, events, levels}
 use Rattle.rtlsim_commands.specs.Watched.{OfEvents, OfMachine, Watched}
 use Rattle.rtlsim_faults.specs.declared.status.Status.{Status}
 use Rattle.rtlsim_faults.specs.declared.telling.Telling.{Telling}
@@ -32,8 +32,8 @@ module _ (telling : Telling) (source top : List ℕ) (outcome : Status) (o : Out
   ServesMachine text (Some expected) = ServesSource (Watched (RunsMachineExpecting text expected) (OfMachine text Holds)) summary telling source top outcome o
 
   abbrev pub ServesEvents : (text : List ℕ) → (expected : Option (List ℕ)) → Type 0
-  ServesEvents text None = ServesSource (Watched (RunsEvents text) (OfEvents text Holds)) summary telling source top outcome o
-  ServesEvents text (Some expected) = ServesSource (Watched (RunsEventsExpecting text expected) (OfEvents text Holds)) summary telling source top outcome o
+  ServesEvents text None = ServesSource (Watched (RunsEvents text) (OfEvents text Holds)) (events text) telling source top outcome o
+  ServesEvents text (Some expected) = ServesSource (Watched (RunsEventsExpecting text expected) (OfEvents text Holds)) (events text) telling source top outcome o
 
   abbrev pub ServesLevels : (text : List ℕ) → (expected : Option (List ℕ)) → Type 0
   ServesLevels text None = ServesSource (Watched (RunsMachineByLevels text) (OfMachine text Holds)) levels telling source top outcome o

@@ -1,5 +1,5 @@
 -- What is told of an answer.
-use Rattle.std.proofs.Common.{◌≡◌, ℕ, List, [], length, Result, Err, inl, inr, refl, sym, ◌∙◌, true≢false}
+use Rattle.std.proofs.Common.{◌≡◌, ℕ, List, [], length, Option, None, Result, Err, inl, inr, refl, sym, subst, ◌∙◌, true≢false}
 use Rattle.rtlsim_faults.specs.Faults.{of_source, status_of}
 use Rattle.rtlsim_faults.specs.Places.{IsTold}
 use Rattle.rtlsim_faults.specs.Told.{TellsFault}
@@ -10,6 +10,7 @@ use Rattle.rtlsim_faults.proofs.Refused.{nameless, source_told}
 use Rattle.rtlsim_commands.specs.Refused.{RefusesSource}
 use Rattle.rtlsim_commands.specs.Served.{Outputs, Serves, ended}
 use Rattle.rtlsim_commands.specs.Told.{Done}
+use Rattle.rtlsim_commands.specs.Unsettled.{TellsChanging}
 use Rattle.rtl_net.specs.Nets.{NetlistView}
 use Rattle.rtl_sink.specs.Written.{SinkState}
 use Rattle.vhdl_source_rules.specs.Designs.{IsNetOf}
@@ -34,14 +35,22 @@ module _ {A : Type 0} (Does : NetlistView → Result A Fault → SinkState → S
     ends = ends;
   }
 
-  -- the work on its netlist ends with a fault
-  pub serves_faulty : (net : NetlistView) (fault : Fault) → IsNetOf source top net → Does net (Err fault) o.out o.out_after → IsTold (length source) fault
-      → (said : Status) × TellsFault telling net fault o.err o.err_after said × (outcome ≡ ended said o.out_after o.err_after) → Serves Does done telling source top outcome o
-  serves_faulty net fault is does placed tells = record {
+  -- the work on its netlist ends with a fault, behind which this is told
+  pub serves_told : (net : NetlistView) (fault : Fault) → IsNetOf source top net → Does net (Err fault) o.out o.out_after → IsTold (length source) fault
+      → (said : Status) (between : SinkState) → TellsFault telling net fault o.err between said → TellsChanging done.events telling.explains net fault between o.err_after
+      → outcome ≡ ended said o.out_after o.err_after → Serves Does done telling source top outcome o
+  serves_told net fault is does placed said between tells behind ends = record {
     answer = Err fault;
     output = inl (net, is, does);
     placed = placed;
-    said = tells.0;
-    told = (net, (λ named. is), o.err_after, tells.1, inl (net, is, refl));
-    ends = tells.2;
+    said = said;
+    told = (net, (λ named. is), between, tells, inl (net, is, behind));
+    ends = ends;
   }
+
+  -- behind which nothing is told
+  pub serves_faulty : (net : NetlistView) (fault : Fault) → IsNetOf source top net → Does net (Err fault) o.out o.out_after → IsTold (length source) fault → done.events ≡ None
+      → (said : Status) × TellsFault telling net fault o.err o.err_after said × (outcome ≡ ended said o.out_after o.err_after) → Serves Does done telling source top outcome o
+  serves_faulty net fault is does placed none tells =
+      serves_told net fault is does placed tells.0 o.err_after tells.1
+      (subst (λ (events : Option (List ℕ)). TellsChanging events telling.explains net fault o.err_after o.err_after) (sym none) refl) tells.2

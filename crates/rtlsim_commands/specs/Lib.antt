@@ -6,6 +6,7 @@ pub mod Machine
 pub mod Watched
 pub mod Expected
 -- what is told of it
+pub mod Unsettled
 pub mod Told
 pub mod Served
 pub mod Refused

@@ -8,6 +8,7 @@ use Rattle.rtlsim_faults.specs.declared.status.Status.{Status}
 use Rattle.rtlsim_faults.specs.declared.status.Status.TheVariants as status
 use Rattle.rtlsim_faults.specs.declared.telling.Telling.{Telling}
 use Rattle.rtlsim_name_faults.specs.Further.{TellsFurther}
+use Rattle.rtlsim_commands.specs.Unsettled.{TellsChanging}
 use Rattle.rtl_levelized.specs.declared.summary.LevelSummary.{LevelSummary}
 use Rattle.rtl_net.specs.Nets.{NetlistView}
 use Rattle.rtl_run.specs.declared.summary.Summary.{Summary}
@@ -28,6 +29,8 @@ TellsText (byte ∷ bytes) old new = Goes old new (byte ∷ bytes)
 pub record Done (A : Type 0) : Type 0 where
   pub text : A → List ℕ
   pub status : A → Status
+  -- the text of the stimulus, of a simulation by events
+  pub events : Option (List ℕ)
 
 -- the fault of names or types behind which the others are told, where explanations are asked for
 abbrev pub first_of : Fault → (explains : Bool) → Option NameFault
@@ -39,31 +42,37 @@ abbrev pub TellsOthers : Telling → (source top : List ℕ) → Option NameFaul
 TellsOthers telling source top None old new = new ≡ old
 TellsOthers telling source top (Some first) old new = (whole : Bool) × TellsFurther telling source top first whole old new
 
--- of a source that has a netlist nothing is told behind its fault
-abbrev pub TellsBehind : Telling → (source top : List ℕ) → Fault → (old new : SinkState) → Type 0
-TellsBehind telling source top fault old new =
-    ((net : NetlistView) × IsNetOf source top net × (new ≡ old)) ⊎ TellsOthers telling source top (first_of fault telling.explains) old new
+-- Behind the fault of a source that has a netlist the nets are told that still change, where it is a moment of a simulation by events that
+-- doesn't settle, and else nothing.
+abbrev pub TellsBehind : (events : Option (List ℕ)) → Telling → (source top : List ℕ) → Fault → (old new : SinkState) → Type 0
+TellsBehind events telling source top fault old new =
+    ((net : NetlistView) × IsNetOf source top net × TellsChanging events telling.explains net fault old new)
+    ⊎ TellsOthers telling source top (first_of fault telling.explains) old new
 
 abbrev pub Tells : {A : Type 0} → Done A → Telling → (source top : List ℕ) → Result A Fault → (old new : SinkState) → (outcome : Status) → Type 0
 Tells done telling source top (Ok x) old new outcome = TellsText (done.text x) old new × (outcome ≡ done.status x)
 Tells done telling source top (Err fault) old new outcome =
     (net : NetlistView) × HasNet source top fault net
-    × (between : SinkState) × TellsFault telling net fault old between outcome × TellsBehind telling source top fault between new
+    × (between : SinkState) × TellsFault telling net fault old between outcome × TellsBehind done.events telling source top fault between new
 
 -- ---- of each command
 
 abbrev pub quiet : Done (Unit {0})
-quiet = record { text = λ x. []; status = λ x. status.Done }
+quiet = record { text = λ x. []; status = λ x. status.Done; events = None }
 
 abbrev pub verdict_status : Bool → Status
 verdict_status true = status.Done
 verdict_status false = status.Rejected
 
 abbrev pub verdict : Done Bool
-verdict = record { text = λ yes. []; status = verdict_status }
+verdict = record { text = λ yes. []; status = verdict_status; events = None }
 
 abbrev pub summary : Done Summary
-summary = record { text = summary_line; status = λ s. status.Done }
+summary = record { text = summary_line; status = λ s. status.Done; events = None }
+
+-- of a simulation by events under this stimulus
+abbrev pub events : (text : List ℕ) → Done Summary
+events text = record { text = summary_line; status = λ s. status.Done; events = Some text }
 
 abbrev pub levels : Done LevelSummary
-levels = record { text = levels_line; status = λ s. status.Done }
+levels = record { text = levels_line; status = λ s. status.Done; events = None }

@@ -18,9 +18,17 @@ impl<V: Watch> Watch for Both<'_, V> {
     ghost told = { λ start stands now. (now.other.ghost_name ≡ start.other.ghost_name)
         × IsToldOf start.expected stands now.expected × V.told start.other.now stands now.other.now };
 
+    ghost stuck = { λ start stands before now time watch. (watch.other.ghost_name ≡ start.other.ghost_name)
+        × V.stuck start.other.now stands before now time watch.other.now };
+
     fn stood(&mut self, values: &[u8], until: u64) {
         self.expected.stood(values, until);
         self.other.stood(values, until);
+    }
+
+    fn unsettled(&mut self, before: &[u8], now: &[u8], time: u64) {
+        self.expected.unsettled(before, now, time);
+        self.other.unsettled(before, now, time);
     }
 
     ghost nothing = { λ watch. (refl, fresh_has_seen watch.expected, V.nothing watch.other.now) };

@@ -7,13 +7,15 @@ ghost use Rattle.rtlsim_faults.specs.Told.{TellsFault, summary_line, levels_line
 ghost use Rattle.rtlsim_commands.specs.Refused.{RefusesSource};
 ghost use Rattle.rtlsim_commands.specs.Served.{ended};
 ghost use Rattle.rtlsim_commands.specs.Told as told;
+ghost use Rattle.rtlsim_commands.specs.Unsettled.{NamesIf, TellsRun};
 
 use rtl_levelized::LevelSummary;
 use rtl_net::Net;
 use rtl_run::Summary;
 use rtl_sink::Sink;
 use rtlsim_faults::{
-    Fault, Status, Telling, tell_fault, tell_levels, tell_source_fault, tell_summary,
+    Fault, Status, Telling, tell_changing, tell_fault, tell_levels, tell_source_fault,
+    tell_summary,
 };
 use rtlsim_name_faults::push_further_faults;
 use std::alloc::Global;
@@ -80,6 +82,45 @@ pub(crate) fn refuse_net<O: Sink, E: Sink>(
 {
     let said = tell_fault(alloc, telling, net, fault, err);
     ended_by_writes(said, out, err)
+}
+
+/// Tells a fault of a run by events with its names, and below its explanation the nets of these numbers where a moment doesn't settle, and
+/// answers the status.
+pub(crate) fn refuse_run<O: Sink, E: Sink>(
+    alloc: Global,
+    telling: &Telling<'_>,
+    net: &Net,
+    fault: &Fault,
+    changing: &[usize],
+    out: &O,
+    err: &mut E,
+) -> Status
+    requires { IsIntact (E.state err.old) }
+    ensures { (said : Status) × TellsRun telling.now net.now fault.now changing.now (E.state err.old) (E.state err.new) said
+        × (result ≡ ended said (O.state out.now) (E.state err.new)) }
+{
+    let said = tell_fault(alloc, telling, net, fault, err);
+    tell_behind(alloc, telling.explains, net, fault, changing, err);
+    ended_by_writes(said, out, err)
+}
+
+/// Tells the nets of these numbers where a moment doesn't settle and explanations are asked for.
+fn tell_behind<E: Sink>(
+    alloc: Global,
+    explains: bool,
+    net: &Net,
+    fault: &Fault,
+    changing: &[usize],
+    err: &mut E,
+)
+    ensures { NamesIf explains net.now changing.now fault.now (E.state err.old) (E.state err.new) }
+{
+    if !explains {
+        return;
+    }
+    if let Fault::NoSettling { .. } = fault {
+        let _whole = tell_changing(alloc, net, changing, err);
+    }
 }
 
 /// Tells the numbers of a run that is done, and answers the status.

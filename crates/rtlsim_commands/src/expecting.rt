@@ -5,10 +5,12 @@ ghost use Rattle.rtl_stim.specs.Ports.{HasOwnPorts};
 ghost use Rattle.rtl_sink.specs.Written.{IsIntact};
 ghost use Rattle.rtlsim_commands.specs.Expected as spec;
 ghost use Rattle.rtlsim_commands.specs.Expected.{RunsMachineExpecting, RunsMachineByLevelsExpecting, RunsEventsExpecting};
+ghost use Rattle.rtlsim_commands.specs.Unsettled.{AreNoted, IfUnsettled, OfUnsettled};
 ghost use Rattle.rtlsim_commands.specs.Watched.{Watched, OfMachine, OfEvents};
 
 use crate::both::Both;
 use crate::machine::{run_net_levels_watched, run_net_watched};
+use crate::noting::{Noting, Numbers};
 use crate::running::run_events_watched;
 use rtl_expect::{Difference, Expectations};
 use rtl_kernel::Pick;
@@ -105,8 +107,9 @@ pub fn run_events_expecting<P: Pick, V: Watch, S: Sink>(
 ) -> Result<Summary, Fault>
     requires ports { HasOwnPorts net.now }
     requires intact { IsIntact (S.state out.old) }
-    ensures { Watched (RunsEventsExpecting stimulus.now expected.now) (OfEvents stimulus.now (λ stands. V.told watch.old stands watch.new)) net.now result
+    ensures watched { Watched (RunsEventsExpecting stimulus.now expected.now) (OfEvents stimulus.now (λ stands. V.told watch.old stands watch.new)) net.now result
         (S.state out.old) (S.state out.new) }
+    ensures stuck { IfUnsettled result (λ time. OfUnsettled stimulus.now time (λ stands before now at. V.stuck watch.old stands before now at watch.new) net.now) }
 {
     let expected = Expectations::read(alloc, net, expected)?;
     let mut both = Both {
@@ -119,6 +122,34 @@ pub fn run_events_expecting<P: Pick, V: Watch, S: Sink>(
         other: _watch,
     } = both;
     unless_differs(summary, expected.difference())
+}
+
+/// Simulates a netlist as `run_events_expecting` does, and answers beside that which nets still change where a moment doesn't settle.
+pub(crate) fn run_events_expecting_noting<P: Pick, V: Watch, S: Sink>(
+    alloc: Global,
+    net: &Net,
+    stimulus: &[u8],
+    expected: &[u8],
+    pick: &mut P,
+    watch: &mut V,
+    out: &mut S,
+) -> (Result<Summary, Fault>, Numbers)
+    requires ports { HasOwnPorts net.now }
+    requires intact { IsIntact (S.state out.old) }
+    ensures watched { Watched (RunsEventsExpecting stimulus.now expected.now) (OfEvents stimulus.now (λ stands. V.told watch.old stands watch.new)) net.now result.0
+        (S.state out.old) (S.state out.new) }
+    ensures noted { IfUnsettled result.0 (AreNoted stimulus.now result.1.items net.now) }
+{
+    let mut noting = Noting {
+        changing: Numbers::new(),
+        other: watch,
+    };
+    let answer = run_events_expecting(alloc, net, stimulus, expected, pick, &mut noting, out);
+    let Noting {
+        changing,
+        other: _watch,
+    } = noting;
+    (answer, changing)
 }
 
 /// The answer of a run, unless a value isn't the expected one.

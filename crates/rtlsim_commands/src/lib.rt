@@ -4,7 +4,8 @@
 //!
 //! `specs/Opened.antt` says what a command answers that opens a source, `specs/Listed.antt` what `net` and `check` write,
 //! `specs/Simulated.antt` what `run --event` does, `specs/Machine.antt` what `run`, `run --levels` and `eval` do, `specs/Watched.antt` and
-//! `specs/Expected.antt` what is seen of a run and compared with what is expected, and `specs/Told.antt` what is told of an answer.
+//! `specs/Expected.antt` what is seen of a run and compared with what is expected, `specs/Told.antt` what is told of an answer, and
+//! `specs/Unsettled.antt` what of nets that still change.
 #![tactic(auto)]
 
 mod both;
@@ -12,6 +13,7 @@ mod ending;
 mod expecting;
 mod listing;
 mod machine;
+mod noting;
 mod running;
 mod serving;
 mod simulating;

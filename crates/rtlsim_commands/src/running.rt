@@ -6,8 +6,10 @@ ghost use Rattle.rtl_sink.specs.Written.{IsIntact};
 ghost use Rattle.rtlsim_commands.specs.Opened.{Opens};
 ghost use Rattle.rtlsim_faults.specs.Places.{IsTold};
 ghost use Rattle.rtlsim_commands.specs.Simulated.{RunsEvents, most_deltas};
+ghost use Rattle.rtlsim_commands.specs.Unsettled.{AreNoted, IfUnsettled, OfUnsettled};
 ghost use Rattle.rtlsim_commands.specs.Watched.{Watched, OfEvents};
 
+use crate::noting::{Noting, Numbers};
 use rtl_check::stored;
 use rtl_eval_code::codes;
 use rtl_kernel::Pick;
@@ -72,7 +74,7 @@ pub fn run_events<P: Pick, S: Sink>(
     run_events_watched(alloc, net, stimulus, pick, &mut Unwatched, out)
 }
 
-/// Simulates a netlist as `run_events` does, and the watch is told what each moment settles to.
+/// Simulates a netlist as `run_events` does, and the watch is told what each moment settles to, and where one doesn't, what still changes.
 ///
 /// # Errors
 ///
@@ -87,8 +89,9 @@ pub fn run_events_watched<P: Pick, V: Watch, S: Sink>(
 ) -> Result<Summary, Fault>
     requires ports { HasOwnPorts net.now }
     requires intact { IsIntact (S.state out.old) }
-    ensures { Watched (RunsEvents stimulus.now) (OfEvents stimulus.now (λ stands. V.told watch.old stands watch.new)) net.now result
+    ensures watched { Watched (RunsEvents stimulus.now) (OfEvents stimulus.now (λ stands. V.told watch.old stands watch.new)) net.now result
         (S.state out.old) (S.state out.new) }
+    ensures stuck { IfUnsettled result (λ time. OfUnsettled stimulus.now time (λ stands before now at. V.stuck watch.old stands before now at watch.new) net.now) }
 {
     let stored = stored(alloc, net)?;
     if !stored.is_empty() {
@@ -107,4 +110,31 @@ pub fn run_events_watched<P: Pick, V: Watch, S: Sink>(
     };
     let summary = simulation.run_watched(alloc, &mut agenda, pick, watch, out)?;
     Ok(summary)
+}
+
+/// Simulates a netlist as `run_events_watched` does, and answers beside that which nets still change where a moment doesn't settle.
+pub(crate) fn run_events_noting<P: Pick, V: Watch, S: Sink>(
+    alloc: Global,
+    net: &Net,
+    stimulus: &[u8],
+    pick: &mut P,
+    watch: &mut V,
+    out: &mut S,
+) -> (Result<Summary, Fault>, Numbers)
+    requires ports { HasOwnPorts net.now }
+    requires intact { IsIntact (S.state out.old) }
+    ensures watched { Watched (RunsEvents stimulus.now) (OfEvents stimulus.now (λ stands. V.told watch.old stands watch.new)) net.now result.0
+        (S.state out.old) (S.state out.new) }
+    ensures noted { IfUnsettled result.0 (AreNoted stimulus.now result.1.items net.now) }
+{
+    let mut noting = Noting {
+        changing: Numbers::new(),
+        other: watch,
+    };
+    let answer = run_events_watched(alloc, net, stimulus, pick, &mut noting, out);
+    let Noting {
+        changing,
+        other: _watch,
+    } = noting;
+    (answer, changing)
 }

@@ -8,10 +8,12 @@ ghost use Rattle.rtlsim_commands.specs.Simulated.{RunsEvents};
 ghost use Rattle.rtlsim_commands.specs.Told as told;
 ghost use Rattle.rtlsim_commands.specs.Watched.{Watched, OfMachine, OfEvents};
 
-use crate::ending::{end_levels, end_run, refuse_net, refuse_source};
-use crate::expecting::{run_events_expecting, run_net_expecting, run_net_levels_expecting};
+use crate::ending::{end_levels, end_run, refuse_net, refuse_run, refuse_source};
+use crate::expecting::{
+    run_events_expecting_noting, run_net_expecting, run_net_levels_expecting,
+};
 use crate::machine::{run_net_levels_watched, run_net_watched};
-use crate::running::run_events_watched;
+use crate::running::run_events_noting;
 use rtl_kernel::Pick;
 use rtl_sink::Sink;
 use rtl_watch::Watch;
@@ -20,7 +22,8 @@ use std::alloc::Global;
 use vhdl_source_rules::Front;
 
 /// Simulates the netlist of a source by events, writes the trace to `out`, the number of moments and of delta cycles or the lines of a
-/// fault to `err`, and answers the status. The watch is told what each moment settles to.
+/// fault to `err`, and answers the status. Behind the explanation of a moment that doesn't settle stand the nets that still change. The
+/// watch is told what each moment settles to.
 pub fn serve_run_event<F: Front, P: Pick, V: Watch, O: Sink, E: Sink>(
     alloc: Global,
     source: &[u8],
@@ -34,16 +37,17 @@ pub fn serve_run_event<F: Front, P: Pick, V: Watch, O: Sink, E: Sink>(
 ) -> Status
     requires out { IsIntact (O.state out.old) }
     requires err { IsIntact (E.state err.old) }
-    ensures { Serves (Watched (RunsEvents stimulus.now) (OfEvents stimulus.now (λ stands. V.told watch.old stands watch.new))) told.summary telling.now source.now top.now result
+    ensures { Serves (Watched (RunsEvents stimulus.now) (OfEvents stimulus.now (λ stands. V.told watch.old stands watch.new))) (told.events stimulus.now) telling.now source.now top.now result
         (record { out = O.state out.old; out_after = O.state out.new; err = E.state err.old; err_after = E.state err.new }) }
 {
     let net = match F::open(alloc, source, top) {
         Ok(net) => net,
         Err(fault) => return refuse_source::<F, O, E>(alloc, source, top, telling, fault, out, err),
     };
-    match run_events_watched(alloc, &net, stimulus, pick, watch, out) {
+    let (answer, changing) = run_events_noting(alloc, &net, stimulus, pick, watch, out);
+    match answer {
         Ok(summary) => end_run(summary, out, err),
-        Err(fault) => refuse_net(alloc, telling, &net, &fault, out, err),
+        Err(fault) => refuse_run(alloc, telling, &net, &fault, &changing, out, err),
     }
 }
 
@@ -63,16 +67,18 @@ pub fn serve_run_event_expecting<F: Front, P: Pick, V: Watch, O: Sink, E: Sink>(
 ) -> Status
     requires out { IsIntact (O.state out.old) }
     requires err { IsIntact (E.state err.old) }
-    ensures { Serves (Watched (RunsEventsExpecting stimulus.now expected.now) (OfEvents stimulus.now (λ stands. V.told watch.old stands watch.new))) told.summary telling.now source.now top.now result
+    ensures { Serves (Watched (RunsEventsExpecting stimulus.now expected.now) (OfEvents stimulus.now (λ stands. V.told watch.old stands watch.new))) (told.events stimulus.now) telling.now source.now top.now result
         (record { out = O.state out.old; out_after = O.state out.new; err = E.state err.old; err_after = E.state err.new }) }
 {
     let net = match F::open(alloc, source, top) {
         Ok(net) => net,
         Err(fault) => return refuse_source::<F, O, E>(alloc, source, top, telling, fault, out, err),
     };
-    match run_events_expecting(alloc, &net, stimulus, expected, pick, watch, out) {
+    let (answer, changing) =
+        run_events_expecting_noting(alloc, &net, stimulus, expected, pick, watch, out);
+    match answer {
         Ok(summary) => end_run(summary, out, err),
-        Err(fault) => refuse_net(alloc, telling, &net, &fault, out, err),
+        Err(fault) => refuse_run(alloc, telling, &net, &fault, &changing, out, err),
     }
 }
 

@@ -1,6 +1,7 @@
 //! The nets that still change where a moment doesn't settle.
 
-ghost use Rattle.std.specs.Prelude.{◌≡◌, ◌++◌, if◌then◌else◌, IfOk, OnOk};
+ghost use Rattle.std.specs.Prelude.{◌≡◌, ◌++◌, if◌then◌else◌, IfOk, OnOk, codes};
+ghost use Rattle.rtlsim_explain_check.specs.Ranges.{range_text};
 ghost use Rattle.rtl_sink.specs.Written.{Goes};
 ghost use Rattle.rtlsim_faults.specs.Changing as spec;
 ghost use Rattle.rtlsim_faults.specs.Lines.{memory_line};
@@ -8,6 +9,7 @@ ghost use Rattle.rtlsim_faults.specs.Lines.{memory_line};
 use crate::lines::push_memory;
 use rtl_net::{Net, NoMemory};
 use rtl_sink::{Sink, push_text};
+use rtlsim_explain_check::{follows, push_range};
 use rtlsim_listing::net_name;
 use std::alloc::Global;
 
@@ -38,32 +40,45 @@ fn changing_line(alloc: Global, net: &Net, numbers: &[usize]) -> Result<Vec<u8>,
     let mut line = Vec::new(alloc);
     if let [first, others @ ..] = numbers {
         line.extend_from_slice(b"still changing: ")?;
-        line.extend_from_slice(&net_name(alloc, net, *first)?)?;
-        push_others(alloc, net, MOST_OTHERS, others, &mut line)?;
+        let name = net_name(alloc, net, *first)?;
+        push_names(alloc, net, &name, *first, MOST_OTHERS, others, &mut line)?;
         line.extend_from_slice(b"\n")?;
     }
     Ok(line)
 }
 
-/// Appends the nets behind the first, so many of them at most.
-fn push_others(
+/// Appends the elements from the one of this name to the net `last`, and the nets behind them, so many of them at most.
+fn push_names(
     alloc: Global,
     net: &Net,
+    first: &[u8],
+    last: usize,
     room: u32,
     numbers: &[usize],
     line: &mut Vec<u8>,
 ) -> Result<(), NoMemory>
-    ensures { OnOk result (line.new.items ≡ line.old.items ++ spec.others_text net.now room numbers.now) }
+    ensures { OnOk result (line.new.items ≡ line.old.items ++ spec.names_from net.now first.now last room numbers.now) }
 {
-    match numbers {
-        [] => Ok(()),
-        [number, others @ ..] => {
-            if room == 0 {
-                return Ok(line.extend_from_slice(b" and more")?);
-            }
-            line.extend_from_slice(b", ")?;
-            line.extend_from_slice(&net_name(alloc, net, *number)?)?;
-            push_others(alloc, net, room - 1, others, line)
-        }
+    let end = net_name(alloc, net, last)?;
+    let [number, others @ ..] = numbers else {
+        return push_range(first, &end, line);
+    };
+    if room == 0 {
+        push_range(first, &end, line)?;
+        return Ok(line.extend_from_slice(b" and more")?);
     }
+    let next = net_name(alloc, net, *number)?;
+    if follows(&end, &next) {
+        return push_names(alloc, net, first, *number, room - 1, others, line);
+    }
+    push_before(first, &end, line)?;
+    push_names(alloc, net, &next, *number, room - 1, others, line)
+}
+
+/// Appends the range from the first name to the last, and a comma behind it.
+fn push_before(first: &[u8], last: &[u8], line: &mut Vec<u8>) -> Result<(), NoMemory>
+    ensures { OnOk result (line.new.items ≡ line.old.items ++ range_text first.now last.now ++ codes ", ") }
+{
+    push_range(first, last, line)?;
+    Ok(line.extend_from_slice(b", ")?)
 }

@@ -44,7 +44,7 @@ after_goes made new (Err p) q h = absurd cc
 
 after_stops : {problem : ElabProblem} (made : bodies.Stmts) (r q : Elab bodies.Stmts) → (after made r) ≡ Err problem → (after made (r >>= λ x. q >>= λ y. given (bodies.followed_by x y))) ≡ Err problem
 after_stops made (Ok x) q h = absurd cc
-after_stops made (Err p) q h = refl
+after_stops made (Err p) q h = h
 
 next-left : {X : Type 0} (xs : List X) (i : ℕ) (x : X) → i < length xs → x ≡ get_or xs i x → drop i xs ≡ x ∷ drop (i + 1) xs
 next-left xs i x h e = drop-cons xs i x h ∙ ap (λ y. y ∷ drop (suc i) xs) (sym e) ∙ ap (λ j. x ∷ drop j xs) (sym (add-one i))
@@ -112,7 +112,7 @@ module _ (at : Site) where
     where
       go : {problem : ElabProblem} (r : Elab bodies.Stmts) (q : Elab (List bodies.Stmts)) → (after now r) ≡ Err problem → (after now ((r >>= λ y. q >>= λ ys. given (y ∷ ys)) >>= λ ss. given (joined_bodies ss))) ≡ Err problem
       go (Ok x) q k = absurd cc
-      go (Err p) q k = refl
+      go (Err p) q k = k
 
   pub turns_go : (body : u.Statements) (total : Elab bodies.Stmts) (now new : bodies.Stmts) (direction : Direction) (x i : ℤ) (count k : ℕ) → k < count
       → total ≡ after now (steps.repeated at body (drop k (counted direction x count))) → i ≡ steps.parameter direction x k

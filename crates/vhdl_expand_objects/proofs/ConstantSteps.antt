@@ -1,5 +1,5 @@
 -- Constants, one after another, and what is known of an instance where its architecture begins.
-use Rattle.std.proofs.Common.{◌≡◌, List, [], ◌∷◌, ◌++◌, map, Ok, Err, refl, sym, ap, ◌∙◌, ℤ}
+use Rattle.std.proofs.Common.{◌≡◌, List, [], ◌∷◌, ◌++◌, map, Ok, Err, sym, ap, ◌∙◌, ℤ}
 use Rattle.std.proofs.lemmas.List.{map-append}
 use Rattle.vhdl_names_rules.specs.declared.operator.IntegerType.{IntegerType}
 use Rattle.vhdl_names_rules.specs.units.Expressions.{Static}
@@ -46,8 +46,8 @@ refused {problem} {A} {B} {C} {D} (Ok x) s make other h = go (s x) h
   where
     go : (q : Elab B) → (q >>= λ y. given (make x y)) ≡ Err problem → (q >>= λ y. given (other x y)) ≡ Err problem
     go (Ok y) k = absurd cc
-    go (Err p) k = ap (λ q. wrong {D} q) (same_problem {C} p problem k)
-refused {problem} {A} {B} {C} {D} (Err p) s make other h = ap (λ q. wrong {D} q) (same_problem {C} p problem h)
+    go (Err p) k = ap (λ q. wrong {A = D} q) (same_problem {A = C} p problem k)
+refused {problem} {A} {B} {C} {D} (Err p) s make other h = ap (λ q. wrong {A = D} q) (same_problem {A = C} p problem h)
 
 pub constant_refused : {problem : ElabProblem} → (d : InstanceObjects) (form : Form) (f : Fixed) → (constant_of d.site form f) ≡ Err problem → (declaration d (u.Declaration.constant form f)) ≡ Err problem
 unfolding declaration

@@ -65,7 +65,7 @@ module _ (above : Integers) (actuals : List (Option u.Static)) where
 
   as_err : {problem : ElabProblem} → (r : Elab (List ℤ)) → (r >>= λ xs. given (generics_alone xs)) ≡ Err problem → r ≡ Err problem
   as_err (Ok xs) h = absurd cc
-  as_err {problem} (Err p) h = ap (λ q. wrong {List ℤ} q) (same_problem {Integers} p problem h)
+  as_err {problem} (Err p) h = ap (λ q. wrong {A = List ℤ} q) (same_problem {A = Integers} p problem h)
 
   pub steps_of : (values new : List ℤ) (gs : List Generic) → further_generics above actuals values gs ≡ Ok (generics_alone new) → stepwise step values gs ≡ Ok new
   steps_of values new gs h = as_ok (stepwise step values gs) new (sym (as_run values gs) ∙ h)

@@ -16,10 +16,10 @@ use Rattle.vhdl_expand_rules.proofs.Chains.{bind-assoc}
 use Rattle.vhdl_expand_rules.proofs.Steps.{given, ok, bound}
 use Rattle.vhdl_elab_rules.specs.Limits.{Counts, statements_count}
 use Rattle.vhdl_expand_tree.specs.Costs.{a_process, plus, variables_costs, process_costs, spent, charged}
-use Rattle.vhdl_expand_tree.proofs.Alike.{Alike, wrong, same_problem, tells_first, tells_next}
-use Rattle.vhdl_expand_tree.proofs.Charging.{spent-plus, spent_told}
+use Rattle.vhdl_expand_tree.proofs.Alike.{Alike, wrong, same_problem, tells_first, tells_next, tells_again}
+use Rattle.vhdl_expand_tree.proofs.Charging.{left_with, spent-plus, spent_told}
 use Rattle.vhdl_expand_drivers.specs.Driven.{drives_of}
-use Rattle.vhdl_expand_processes.specs.Unrolled.{statements_costs}
+use Rattle.vhdl_expand_processes.specs.Unrolled.{paid, statements_costs}
 use Rattle.vhdl_expand_processes.specs.Processes.{turns_paid, process_steps}
 use Rattle.vhdl_expand_processes.proofs.Measured.{body_costs, statements-measured, turns_of, statements-turned}
 
@@ -67,24 +67,24 @@ made-costs q = λ i. record {
 -- behind a charge that is told as TooMany alone
 skip : {A B : Type 0} (n c : Counts) (f : Counts → Elab A) (whole : Elab B) (problem : ElabProblem) → problem ≢ TooMany → (spent n c >>= f) ≡ Err problem
     → ((left : Counts) → f left ≡ Err problem → whole ≡ Err problem) → whole ≡ Err problem
-skip {A} {B} n c f whole problem no h go = by (spent n c) (spent_told n c) h
+skip {A} {B} n c f whole problem unspent h go = by (spent n c) (spent_told n c) h
   where
     by : (r : Elab Counts) → ((other : ElabProblem) → r ≡ Err other → other ≡ TooMany) → (r >>= f) ≡ Err problem → whole ≡ Err problem
     by (Ok left) only k = go left k
-    by (Err other) only k = absurd (no (sym (same_problem {A} other problem k) ∙ only other refl))
+    by (Err other) only k = absurd (unspent (sym (same_problem {A = A} other problem k) ∙ only other refl))
 
 along : {A B C : Type 0} (r : Elab A) (f : A → Elab B) (g : A → Elab C) (problem : ElabProblem) → (r >>= f) ≡ Err problem
     → ((x : A) → f x ≡ Err problem → g x ≡ Err problem) → (r >>= g) ≡ Err problem
 along (Ok x) f g problem h go = go x h
-along {A} {B} {C} (Err other) f g problem h go = ap (λ q. wrong {C} q) (same_problem {B} other problem h)
+along {A} {B} {C} (Err other) f g problem h go = ap (λ q. wrong {A = C} q) (same_problem {A = B} other problem h)
 
 turns-along : {A B : Type 0} (cost : Elab Counts) (turned : Elab ℕ) → turned ≡ turns_of cost → (n : Counts) (f : ℕ × Counts → Elab A) (g : ℕ → Elab B) (problem : ElabProblem)
     → problem ≢ TooMany → (turns_paid n cost >>= f) ≡ Err problem → ((x : ℕ × Counts) → f x ≡ Err problem → g x.0 ≡ Err problem) → (turned >>= g) ≡ Err problem
-turns-along {A} {B} cost turned same n f g problem no h go = ap (λ r. r >>= g) same ∙ by cost h
+turns-along {A} {B} cost turned same n f g problem unspent h go = ap (λ r. r >>= g) same ∙ by cost h
   where
     by : (q : Elab Counts) → (turns_paid n q >>= f) ≡ Err problem → (turns_of q >>= g) ≡ Err problem
-    by (Ok c) k = skip n c (λ rest. f (c.turns, rest)) (g c.turns) problem no (sym (bind-assoc (spent n c) (λ rest. given (c.turns, rest)) f) ∙ k) (λ rest e. go (c.turns, rest) e)
-    by (Err other) k = ap (λ q. wrong {B} q) (same_problem {A} other problem k)
+    by (Ok c) k = skip n c (λ rest. f (c.turns, rest)) (g c.turns) problem unspent (sym (bind-assoc (spent n c) (λ rest. left_with c.turns rest) f) ∙ k) (λ rest e. go (c.turns, rest) e)
+    by (Err other) k = ap (λ q. wrong {A = B} q) (same_problem {A = A} other problem k)
 
 -- what is paid for turns and statements
 record Paid (n : Counts) (c : Counts) (turned : ℕ × Counts) : Type 0 where
@@ -208,21 +208,21 @@ module _ (n : Counts) (at : Site) (prefix : List ℕ) (p : u.Process) where
   steps-refused : (problem : ElabProblem) → problem ≢ TooMany → process_steps n (record { site = at; prefix = prefix }) p ≡ Err problem
       → process (record { site = at; prefix = prefix }) p ≡ Err problem
   unfolding process_steps process
-  steps-refused problem no h =
-      skip n a_process _ _ problem no h (λ unstarted a.
+  steps-refused problem unspent h =
+      skip n a_process _ _ problem unspent h (λ unstarted a.
       along (each (variable at) p.variables) _ _ problem a (λ vs b.
-      skip unstarted (variables_costs vs) _ _ problem no b (λ unbodied e.
+      skip unstarted (variables_costs vs) _ _ problem unspent b (λ unbodied e.
       along (prefixes_elements at (targets p.body)) _ _ problem (sym (bind-assoc (prefixes_elements at (targets p.body)) _ _) ∙ e) (λ es f.
       along (sensitivity at p.sensitivity p.body) _ _ problem f (λ on g.
-      turns-along (statements_costs at.integers p.body) (statements_turns at p.body) (statements-turned at p.body) unbodied _ _ problem no g (λ turned k.
+      turns-along (statements_costs at.integers p.body) (statements_turns at p.body) (statements-turned at p.body) unbodied _ _ problem unspent g (λ turned k.
       along (statements (with_variables at vs) p.body) _ _ problem k (λ body l. absurd cc)))))))
 
   pub process_alike : Alike (charged n process_costs (process (record { site = at; prefix = prefix }) p)) (process_steps n (record { site = at; prefix = prefix }) p)
   process_alike = record {
     gives = λ y h. let x = steps-of y h in whole-from x.0 ∙ ap given x.1;
-    stops = λ problem t. record {
-      refused = go (charged n process_costs (process (record { site = at; prefix = prefix }) p)) (λ y e. subst (λ r. IsErr r) (steps-from (whole-of y e)) t.refused);
-      first = λ no. ap (λ (r : Elab t.Process). charged n process_costs r) (steps-refused problem no (t.first no));
+    stops = λ problem may_tell. record {
+      refused = go (charged n process_costs (process (record { site = at; prefix = prefix }) p)) (λ y e. subst (λ r. IsErr r) (steps-from (whole-of y e)) may_tell.refused);
+      first = λ unspent. ap (λ (r : Elab t.Process). charged n process_costs r) (steps-refused problem unspent (may_tell.first unspent));
     };
   }
     where
@@ -231,6 +231,11 @@ module _ (n : Counts) (at : Site) (prefix : List ℕ) (p : u.Process) where
       go (Err problem) k = refl
 
 -- ---- where the steps stop
+
+-- what is not paid gives no turns
+pub not_paid : {problem : ElabProblem} (n : Counts) (q : Elab Counts) → MayTell (paid n q) problem → MayTell (turns_paid n q) problem
+not_paid n (Ok c) h = tells_first (spent n c) _ h
+not_paid n (Err other) h = tells_again {A = Counts} {B = ℕ × Counts} other _ h
 
 module _ (n : Counts) (at : Site) (prefix : List ℕ) (p : u.Process) where
   pub not_started : {problem : ElabProblem} → MayTell (spent n a_process) problem → MayTell (process_steps n (record { site = at; prefix = prefix }) p) problem

@@ -179,17 +179,17 @@ inside-turned : (q : Elab Counts) → turns_of q ≡ turns_of (both (given a_sta
 inside-turned (Ok c) = ap given (sym (none-before c.turns))
 inside-turned (Err problem) = refl
 
-step-turned : (a : Elab ℕ) (as : Elab (List ℕ)) (p q : Elab Counts) → a ≡ turns_of p → (as >>= λ ns. given (sum ns)) ≡ turns_of q
-    → ((a >>= λ y. as >>= λ ys. given (y ∷ ys)) >>= λ ns. given (sum ns)) ≡ turns_of (both p q)
+step-turned : (a : Elab ℕ) (rest : Elab (List ℕ)) (p q : Elab Counts) → a ≡ turns_of p → (rest >>= λ ns. given (sum ns)) ≡ turns_of q
+    → ((a >>= λ y. rest >>= λ ys. given (y ∷ ys)) >>= λ ns. given (sum ns)) ≡ turns_of (both p q)
 step-turned (Ok x) (Ok xs) (Ok b) (Ok c) j k = ap given (sum_by-cons (λ n. n) x xs ∙ (λ i. ok x b.turns j i + ok (sum xs) c.turns k i))
 step-turned (Ok x) (Ok xs) (Ok b) (Err f) j k = absurd cc
 step-turned (Ok x) (Err e) (Ok b) (Ok c) j k = absurd cc
 step-turned (Ok x) (Err e) (Ok b) (Err f) j k = k
-step-turned (Ok x) as (Err f) q j k = absurd cc
-step-turned (Err e) as (Ok b) q j k = absurd cc
-step-turned (Err e) as (Err f) q j k = j
+step-turned (Ok x) rest (Err f) q j k = absurd cc
+step-turned (Err e) rest (Ok b) q j k = absurd cc
+step-turned (Err e) rest (Err f) q j k = j
 
-behind-turned : (n : ℕ) (as : Elab (List ℕ)) (q : Elab Counts) → (as >>= λ ns. given (sum ns)) ≡ turns_of q → (as >>= λ ns. given (n + sum ns)) ≡ turns_of (both (given (costs.turns n)) q)
+behind-turned : (n : ℕ) (rest : Elab (List ℕ)) (q : Elab Counts) → (rest >>= λ ns. given (sum ns)) ≡ turns_of q → (rest >>= λ ns. given (n + sum ns)) ≡ turns_of (both (given (costs.turns n)) q)
 behind-turned n (Ok ns) (Ok c) k = ap (λ m. given (n + m)) (ok (sum ns) c.turns k)
 behind-turned n (Ok ns) (Err f) k = absurd cc
 behind-turned n (Err e) (Ok c) k = absurd cc

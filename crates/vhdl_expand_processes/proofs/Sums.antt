@@ -20,7 +20,7 @@ use Rattle.vhdl_expand_rules.specs.Integers.{Integers, turns, counted}
 use Rattle.vhdl_expand_rules.proofs.Steps.{given}
 use Rattle.vhdl_elab_rules.specs.Limits.{Counts}
 use Rattle.vhdl_expand_tree.specs.Costs as costs
-use Rattle.vhdl_expand_tree.specs.Costs.{no_costs, a_statement, plus, spent}
+use Rattle.vhdl_expand_tree.specs.Costs.{no_costs, a_statement, spent}
 use Rattle.vhdl_expand_tree.proofs.Charging.{plus-none, plus-assoc, spent-none}
 use Rattle.vhdl_expand_processes.specs.Unrolled.{both, paid, together, in_turn, statement_costs, statements_costs, branches_costs, alternatives_costs, guarded_costs, chosen_costs}
 use Rattle.vhdl_expand_tree.proofs.Alike.{Alike, alike_same, alike_trans, tells, tells_first}
@@ -148,6 +148,9 @@ module _ (at : Integers) where
   -- ---- a case statement: itself, its alternatives, and what it does otherwise
 
   module _ (n : Counts) (gs : List Chosen) (last : u.Statements) where
+    pub select_stops : {problem : ElabProblem} → MayTell (spent n a_statement) problem → MayTell (paid n (both (given a_statement) (alternatives_costs at (units.alternatives_of gs last)))) problem
+    select_stops h = paid_stop _ n (given a_statement) _ (alike_same refl) h
+
     select-begins : (m : Counts) → spent n a_statement ≡ Ok m
         → Alike (paid n (both (given a_statement) (alternatives_costs at (units.alternatives_of gs last)))) (paid m (both (together (chosen_costs at) gs) (statements_costs at last)))
     select-begins m h = paid_go _ n m (given a_statement) _ (alike_same (ap (paid n) (select_costs gs last))) h

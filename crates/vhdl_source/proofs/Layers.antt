@@ -28,6 +28,7 @@ use Rattle.vhdl_source_rules.specs.Faults.{of_elab}
 use Rattle.vhdl_source_rules.specs.Refusals.{Refuses}
 use Rattle.vhdl_source.specs.Steps.{ShowsTop, HasElabFault, GivesNet, elab_within}
 use Rattle.vhdl_source_rules.specs.declared.fault.SourceFault.{SourceFault}
+use Rattle.vhdl_source_rules.specs.declared.fault.SourceFault.TheVariants.{Lex, Syntax, Name, Elab, NoMemory}
 
 -- ---- the units of a source's file
 
@@ -61,7 +62,7 @@ own_ports source top net h =
 -- what may be told of what is shown may be told of what is elaborated
 of_shown : {problem : ElabProblem} (r : Expanded Elaborated) → MayTell (as_shown r) problem → MayTell r problem
 of_shown {problem} (Ok x) t = absurd (true≢false (sym t.refused))
-of_shown {problem} (Err p) t = tells_again {Shown} {Elaborated} p problem t
+of_shown {problem} (Err p) t = tells_again {A = Shown} {B = Elaborated} p problem t
 
 pub no_net : (units : u.Units) (top : List ℕ) (size : ℕ) (fault : ElabFault) → (fault ≢ elab.NoMemory → MayTell (as_shown (elaborated_net units top)) (told fault))
     → HasElabFault units top (of_elab (elab_within size fault))
@@ -78,6 +79,15 @@ module _ (source top : List ℕ) (file : File) (units : u.Units) (read : IsFileO
   pub gives_ports : (answer : Result NetlistView SourceFault) → GivesNet units top answer → IfOk answer (λ net. HasOwnPorts net)
   gives_ports (Ok net) h = own_ports source top net (opened source top file units net read typed h)
   gives_ports (Err fault) h = tt
+
+  pub gives_refused : (answer : Result NetlistView SourceFault) → GivesNet units top answer → IfErr answer (Refuses source top)
+  gives_refused (Ok net) h = tt
+  gives_refused (Err (Elab (elab.At problem at))) h = record { units = units; analysed = record { file = file; read = read; well_typed = typed }; refused = h }
+  gives_refused (Err (Elab elab.NoMemory)) h = h
+  gives_refused (Err NoMemory) h = tt
+  gives_refused (Err (Lex fault)) h = absurd h
+  gives_refused (Err (Syntax fault)) h = absurd h
+  gives_refused (Err (Name fault)) h = absurd h
 
 pub refuses_along : (source top : List ℕ) (answer : Result NetlistView SourceFault) (fault : SourceFault) → IsErrAnd answer (λ f. f ≡ fault) → Refuses source top fault → IfErr answer (Refuses source top)
 refuses_along source top (Ok net) fault is h = tt

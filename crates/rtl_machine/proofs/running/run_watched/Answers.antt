@@ -1,6 +1,6 @@
-use Rattle.std.proofs.Common.{map, ap, ◌∙◌}
+use Rattle.std.proofs.Common.{map, ap, inl, inr, ◌∙◌}
 use Rattle.rtl_machine.proofs.Codes.{run_of, codes_run}
-use Rattle.rtl_machine.proofs.Told.{if_ok}
+use Rattle.rtl_machine.proofs.Told.{if_ok, any_err, if_err}
 use Rattle.rtl_machine.proofs.running.run_watched.Goals as goal
 
 pub trace_watched-requires-clause-bodies : goal.trace_watched-requires-clause-bodies
@@ -15,3 +15,18 @@ returns-clause-told g c =
       admitted = c.in_ok-admitted.ensures.admitted;
       done = told;
     }) c.trace_watched.ensures.told
+
+pub returns-in_err-admitted-clause-failing : goal.returns-in_err-admitted-clause-failing
+returns-in_err-admitted-clause-failing g c = any_err _ c.from_residual.result (inl (g.met.V.Watch.nothing c.args.watch.now))
+
+pub returns-in_err-bodies-clause-failing : goal.returns-in_err-bodies-clause-failing
+returns-in_err-bodies-clause-failing g c = any_err _ c.from_residual-in_err-bodies.result (inl (g.met.V.Watch.nothing c.args.watch.now))
+
+pub returns-clause-failing : goal.returns-clause-failing
+returns-clause-failing g c =
+    if_err _ _ c.trace_watched.result (λ first. inr (record {
+      bound = c.in_ok-admitted.admitted.bound;
+      stimulus = c.in_ok-admitted.admitted.stimulus;
+      admitted = c.in_ok-admitted.ensures.admitted;
+      done = first;
+    })) c.trace_watched.ensures.failing

@@ -1,10 +1,11 @@
 use Rattle.std.proofs.Common.{Result, Err, subst, ap, ◌∙◌}
 use Rattle.rtl_run.specs.declared.summary.Summary.{Summary}
 use Rattle.rtl_run.specs.declared.summary.RunFault.{RunFault}
+use Rattle.rtl_run.specs.declared.summary.RunFault.TheVariants as run
 use Rattle.rtl_run.specs.Answered.{Answers}
 use Rattle.rtl_stim.specs.Stimuli.{inputs_at}
 use Rattle.rtl_machine.proofs.Traces.{never_stops, beginning, whole}
-use Rattle.rtl_machine.proofs.Told.{told_run, of_ok}
+use Rattle.rtl_machine.proofs.Told.{told_run, told_first, of_ok, of_err}
 use Rattle.rtl_machine.proofs.running.trace_watched.Goals as goal
 
 pub unreachable-requires : goal.unreachable-requires
@@ -61,3 +62,21 @@ returns-in-Ok-clause-told g c =
     let limit = c.args.simulation.now.limit in
     let synchronous = c.accepted_nets_are_synchronous.ensures net limit (inputs_at s) c.nets-count.ensures.elaborated c.requires.accepted c.requires.raceless in
     told_run net s limit synchronous.0 synchronous.1 _ (of_ok _ c.run_watched.result c.in-Ok.summary c.in-Ok.is c.run_watched.ensures.told)
+
+pub returns-in-Err-Memory-clause-failing : goal.returns-in-Err-Memory-clause-failing
+returns-in-Err-Memory-clause-failing g c =
+    let net = c.args.simulation.now.net.now in
+    let s = c.args.simulation.now.stimulus.now in
+    let limit = c.args.simulation.now.limit in
+    let synchronous = c.accepted_nets_are_synchronous.ensures net limit (inputs_at s) c.nets-count.ensures.elaborated c.requires.accepted c.requires.raceless in
+    let is = c.in-Err-Memory.is ∙ ap (λ (f : RunFault). Err f) c.in-Err-Memory.field-0-is in
+    told_first net s limit synchronous.0 synchronous.1 _ (of_err _ c.run_watched.result run.Memory is c.run_watched.ensures.failing)
+
+pub returns-in-Err-Output-clause-failing : goal.returns-in-Err-Output-clause-failing
+returns-in-Err-Output-clause-failing g c =
+    let net = c.args.simulation.now.net.now in
+    let s = c.args.simulation.now.stimulus.now in
+    let limit = c.args.simulation.now.limit in
+    let synchronous = c.accepted_nets_are_synchronous.ensures net limit (inputs_at s) c.nets-count.ensures.elaborated c.requires.accepted c.requires.raceless in
+    let is = c.in-Err-Output.is ∙ ap (λ (f : RunFault). Err f) c.in-Err-Output.field-0-is in
+    told_first net s limit synchronous.0 synchronous.1 _ (of_err _ c.run_watched.result run.Output is c.run_watched.ensures.failing)

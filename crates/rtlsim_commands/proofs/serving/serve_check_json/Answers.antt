@@ -16,4 +16,4 @@ returns g c =
     let work = c.in-Err-check_net_json in
     serves_faulty (ChecksNetJson c.args.telling.now) told.verdict c.args.telling.now _ _ _ _ _ work.fault c.in-Ok.ensures.net work.ensures
     (checks_told (json_text (files_of c.args.telling.now)) _ (Err work.fault) _ _ _ work.ensures)
-    c.refuse_net.ensures
+    refl c.refuse_net.ensures

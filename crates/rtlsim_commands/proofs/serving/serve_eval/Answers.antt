@@ -14,4 +14,4 @@ returns g c =
     let work = c.in-Err-eval_net in
     serves_faulty (EvaluatesMachine (map (λ (w : Bor (List ℕ)). w.now) c.args.sets.now)) told.quiet c.args.telling.now _ _ _ _ _ work.fault c.in-Ok.ensures.net work.ensures
     (machine_told work.ensures.0 (Err work.fault) _ work.ensures.1)
-    c.refuse_net.ensures
+    refl c.refuse_net.ensures

@@ -14,4 +14,4 @@ returns g c =
     let work = c.in-Err-list_net in
     serves_faulty ListsNet told.quiet c.args.telling.now _ _ _ _ _ work.fault c.in-Ok.ensures.net work.ensures
     (lists_told c.in-Ok.net (Err work.fault) _ (g.O.Sink.state c.args.out.now) (g.O.Sink.state c.list_net.new.out) work.ensures)
-    c.refuse_net.ensures
+    refl c.refuse_net.ensures

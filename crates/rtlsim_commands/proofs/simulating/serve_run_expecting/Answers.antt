@@ -15,4 +15,4 @@ returns g c =
     let work = c.in-Err-run_net_expecting in
     serves_faulty _ told.summary c.args.telling.now _ _ _ _ _ work.fault c.in-Ok.ensures.net work.ensures
     (expecting_told (RunsMachine c.args.stimulus.now) (OfMachine c.args.stimulus.now) c.args.expected.now _ work.fault _ _ _ (λ f r. machine_told r.0 (Err f) _ r.1) work.ensures.does)
-    c.refuse_net.ensures
+    refl c.refuse_net.ensures

@@ -13,4 +13,4 @@ returns g c =
     let work = c.in-Err-run_net_levels_watched in
     serves_faulty _ told.levels c.args.telling.now _ _ _ _ _ work.fault c.in-Ok.ensures.net work.ensures
     (machine_told work.ensures.does.0 (Err work.fault) _ work.ensures.does.1)
-    c.refuse_net.ensures
+    refl c.refuse_net.ensures

@@ -1,7 +1,7 @@
 use mir.Syntax.{w32}
 use mir.Val.{SFits, to_z, of_z}
 use Rattle.std.proofs.lemmas.Int.{ints}
-use Rattle.std.proofs.Common.{◌≡◌, ◌<◌, length, map, ap, ◌∙◌, sym, subst, arith, rules}
+use Rattle.std.proofs.Common.{◌≡◌, ◌<◌, length, map, ap, ◌∙◌, sym, arith, rules}
 use Rattle.std.specs.Prelude.{◌≢◌}
 use Rattle.std.proofs.lemmas.Grind.{common_steps}
 use Rattle.vhdl_names_rules.specs.units.Statements as units
@@ -18,7 +18,7 @@ use Rattle.vhdl_expand_tree.proofs.Alike.{alike_same, alike_trans, tells, tells_
 use Rattle.vhdl_expand_processes.specs.Unrolled.{paid, both, together, in_turn, statement_costs, statements_costs, alternatives_costs, guarded_costs, chosen_costs}
 use Rattle.vhdl_expand_processes.proofs.Paying.{charges_alike, list_go, list_stop, turns_go, turns_stop, turns_end}
 use Rattle.vhdl_expand_processes.proofs.Sums.{statements_together, if_costs, case_costs, loop_view_costs, same_list, same_branches, same_alternatives, same_turn}
-use Rattle.vhdl_expand_processes.proofs.Sums.{choose_stops, branches_stop, no_else, some_else, alternatives_stop, alternatives_go, range_stops, count_stops, turns_begin}
+use Rattle.vhdl_expand_processes.proofs.Sums.{choose_stops, branches_stop, no_else, some_else, select_stops, alternatives_stop, alternatives_go, range_stops, count_stops, turns_begin}
 use Rattle.vhdl_expand_rules.specs.Elab.{told, MayTell}
 use Rattle.vhdl_expand_processes.proofs.costs.+costs.Goals as goal
 
@@ -137,6 +137,16 @@ of_conditional-returns-in-Some t c =
     c.of_statements.ensures
 
 -- ---- case
+
+pub of_selection-returns-in_err-charge_statement : goal.of_selection-returns-in_err-charge_statement
+of_selection-returns-in_err-charge_statement t c =
+    let at = integers_view c.args.integers.now in
+    let x = out-Case c.args.selection.now in
+    let gs = analysed.alternatives_view x.alternatives in
+    let last = analysed.statements_of (analysed.statements_view x.others) in
+    let stopped : MayTell (paid (budget_view c.args.budget.now) (both (given a_statement) (alternatives_costs at (analysed.alternatives_of gs last)))) (told c.in_err-charge_statement.field-0.0) =
+    select_stops at (budget_view c.args.budget.now) gs last (tells c.in_err-charge_statement.ensures.spent) in
+    first_of (search rules, grind (arith, common_steps))
 
 pub of_selection-returns-in_err-of_alternatives : goal.of_selection-returns-in_err-of_alternatives
 of_selection-returns-in_err-of_alternatives t c =

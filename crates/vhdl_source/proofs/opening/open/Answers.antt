@@ -1,4 +1,4 @@
-use Rattle.vhdl_source.proofs.Layers.{file_sound, file_named, gives_opened, gives_ports, refuses_along}
+use Rattle.vhdl_source.proofs.Layers.{file_sound, file_named, gives_opened, gives_ports, gives_refused, refuses_along}
 use Rattle.vhdl_source.proofs.opening.open.Goals as goal
 
 pub returns-in_err-file-clause-refused : goal.returns-in_err-file-clause-refused
@@ -15,3 +15,6 @@ returns-clause-net c = gives_opened c.args.source.now c.args.top.now _ _ c.in_ok
 
 pub returns-clause-ports : goal.returns-clause-ports
 returns-clause-ports c = gives_ports c.args.source.now c.args.top.now _ _ c.in_ok-file.ensures.file c.in_ok-units.ensures.given _ c.net_of.ensures.given
+
+pub returns-clause-refused : goal.returns-clause-refused
+returns-clause-refused c = gives_refused c.args.source.now c.args.top.now _ _ c.in_ok-file.ensures.file c.in_ok-units.ensures.given _ c.net_of.ensures.given

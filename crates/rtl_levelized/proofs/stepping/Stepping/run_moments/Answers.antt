@@ -4,13 +4,15 @@ use Rattle.rtl_agenda.specs.Agenda.{Change}
 use Rattle.rtl_stim.proofs.Next.{each_begins_at_zero}
 use Rattle.rtl_sink.specs.Written.{Goes}
 use Rattle.rtl_vcd.specs.Trace.{end_text}
+use Rattle.rtl_watch.specs.Stands.{Stand}
 use Rattle.rtl_run.proofs.Steps.{no_moment}
 use Rattle.rtl_run.proofs.Stands.{one_stand_more, until_next, until_end, one_behind}
 use Rattle.rtl_machine.specs.declared.fault.MachineFault.TheVariants.{Memory, Output}
 use Rattle.rtl_machine.proofs.Refusals.{err_with}
+use Rattle.rtl_machine.proofs.Told.{any_err}
 use Rattle.rtl_levelized.specs.Answered.{TracesLevels}
 use Rattle.rtl_levelized.proofs.Going.{come_leaves, end_leaves, is_whole, is_at_last}
-use Rattle.rtl_levelized.proofs.Stands.{stands_none, stands_more}
+use Rattle.rtl_levelized.proofs.Stands.{stands_none, stands_more, told_nothing}
 use Rattle.rtl_levelized.proofs.Turns.{comes_next, changes_inputs, changes_race, steps_to, is_next}
 use Rattle.rtl_levelized.proofs.stepping.Stepping.run_moments.Goals as goal
 
@@ -227,3 +229,80 @@ returns-clause-told g c =
       all = one_stand_more I.stands _ ∙ ap suc I.many ∙ all;
       told = c.stood-2.ensures c.args.watch.now I.stands I.told;
     }
+
+pub returns-in_err-progress-clause-failing : goal.returns-in_err-progress-clause-failing
+returns-in_err-progress-clause-failing g c =
+    let net = c.args.self.now.net.now in
+    let s = c.args.self.now.stimulus.now in
+    let bound = c.args.self.now.bound in
+    let run = c.requires.run in
+    any_err _ c.from_residual.result (told_nothing net s bound run.0 run.1 _ (g.met.V.Watch.nothing c.args.watch.now))
+
+pub returns-in_err-refill-clause-failing : goal.returns-in_err-refill-clause-failing
+returns-in_err-refill-clause-failing g c =
+    let net = c.args.self.now.net.now in
+    let s = c.args.self.now.stimulus.now in
+    let out = g.W.Sink.state c.args.out.now in
+    let I = c.loop-time.invariant in
+    let p = c.loop-time.progress in
+    let last = is_at_last net s I.run out (g.W.Sink.state c.loop-time.out) p I.come I.m I.is_last in
+    let behind = g.A.Agenda.state c.next.new.self in
+    let turn = comes_next s c.stop-stop.ensures.holds p I.m I.is_last last.1 last.0 (g.A.Agenda.state c.loop-time.agenda) (g.met.A.Agenda.orderly c.loop-time.agenda) I.waits c.in-Some.time behind c.in-Some.ensures.least in
+    let x : Stand = record { values = c.values.result.now; until = c.in-Some.time } in
+    let many = one_stand_more I.stands x ∙ ap suc I.many in
+    let there = last.1 in
+    any_err _ c.from_residual-in_err-refill.result (record {
+      run = I.run;
+      synchronous = I.synchronous;
+      stands = I.stands ++ x ∷ [];
+      are = stands_more s I.run I.stands I.are I.m I.many c.values.result.now c.in-Some.time
+          (c.values.ensures.value ∙ I.values) (sym (until_next s I.m c.in-Some.time behind.taken turn.next));
+      there = omega (arith, there, many);
+      told = c.stood.ensures c.args.watch.now I.stands I.told;
+    })
+
+pub returns-in_err-go_on-clause-failing : goal.returns-in_err-go_on-clause-failing
+returns-in_err-go_on-clause-failing g c =
+    let net = c.args.self.now.net.now in
+    let s = c.args.self.now.stimulus.now in
+    let out = g.W.Sink.state c.args.out.now in
+    let I = c.loop-time.invariant in
+    let p = c.loop-time.progress in
+    let last = is_at_last net s I.run out (g.W.Sink.state c.loop-time.out) p I.come I.m I.is_last in
+    let behind = g.A.Agenda.state c.next.new.self in
+    let turn = comes_next s c.stop-stop.ensures.holds p I.m I.is_last last.1 last.0 (g.A.Agenda.state c.loop-time.agenda) (g.met.A.Agenda.orderly c.loop-time.agenda) I.waits c.in-Some.time behind c.in-Some.ensures.least in
+    let x : Stand = record { values = c.values.result.now; until = c.in-Some.time } in
+    let many = one_stand_more I.stands x ∙ ap suc I.many in
+    let there = last.1 in
+    any_err _ c.from_residual-in_err-go_on.result (record {
+      run = I.run;
+      synchronous = I.synchronous;
+      stands = I.stands ++ x ∷ [];
+      are = stands_more s I.run I.stands I.are I.m I.many c.values.result.now c.in-Some.time
+          (c.values.ensures.value ∙ I.values) (sym (until_next s I.m c.in-Some.time behind.taken turn.next));
+      there = omega (arith, there, many);
+      told = c.stood.ensures c.args.watch.now I.stands I.told;
+    })
+
+pub returns-in_err-end-clause-failing : goal.returns-in_err-end-clause-failing
+returns-in_err-end-clause-failing g c =
+    let net = c.args.self.now.net.now in
+    let s = c.args.self.now.stimulus.now in
+    let out = g.W.Sink.state c.args.out.now in
+    let I = c.loop-time.invariant in
+    let p = c.loop-time.progress in
+    let last = is_at_last net s I.run out (g.W.Sink.state c.loop-time.out) p I.come I.m I.is_last in
+    let before = g.A.Agenda.state c.loop-time.agenda in
+    let waits = subst (λ (now : ℕ). Waits s.inputs s.schedule now before.waiting) (sym last.0) I.waits in
+    let all = no_moment s c.stop-stop.ensures.holds I.m last.1 before (g.met.A.Agenda.orderly c.loop-time.agenda) waits c.in_default.ensures.empty in
+    let x : Stand = record { values = c.values-2.result.now; until = c.stop-stop.result + 1 } in
+    let many = one_stand_more I.stands x ∙ ap suc I.many in
+    any_err _ c.from_residual-in_err-end.result (record {
+      run = I.run;
+      synchronous = I.synchronous;
+      stands = I.stands ++ x ∷ [];
+      are = stands_more s I.run I.stands I.are I.m I.many _ _
+          (c.values-2.ensures.value ∙ I.values) (ap (λ (stop : ℕ). stop + 1) c.stop-stop.ensures.stop ∙ one_behind s.schedule.stop ∙ sym (until_end s I.m all));
+      there = omega (arith, many, all);
+      told = c.stood-2.ensures c.args.watch.now I.stands I.told;
+    })

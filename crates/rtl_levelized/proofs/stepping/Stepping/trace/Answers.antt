@@ -7,7 +7,9 @@ use Rattle.rtl_net.specs.Core.{core}
 use Rattle.rtl_stim.specs.Stimuli.{inputs_at}
 use Rattle.rtl_machine.specs.declared.fault.MachineFault.TheVariants.{Memory}
 use Rattle.rtl_machine.proofs.Refusals.{err_with}
+use Rattle.rtl_machine.proofs.Told.{any_err}
 use Rattle.rtl_levelized.specs.Answered.{TracesLevels}
+use Rattle.rtl_levelized.proofs.Stands.{told_nothing}
 use Rattle.rtl_levelized.proofs.Going.{nothing_leaves}
 use Rattle.rtl_levelized.proofs.Turns.{first_is}
 use Rattle.rtl_levelized.proofs.stepping.Stepping.trace.Goals as goal
@@ -49,3 +51,27 @@ run_moments-requires-clause-run g c =
     let values = c.in_ok-machine.machine.values in
     let first = subst (λ (vs : List Nine). IsFirst (core net) (initial_inputs (flat net) vs) values) c.initial-initial.ensures c.in_ok-machine.ensures.first in
     (run.0, run.1, first_is c.each_machine_goes_on_alike.ensures net is_net c.requires.accepted.accepted s c.requires.ports c.requires.inputs bound run.0 run.1 values first)
+
+pub returns-in_err-load-clause-failing : goal.returns-in_err-load-clause-failing
+returns-in_err-load-clause-failing g c =
+    let net = c.args.self.now.net.now in
+    let s = c.args.self.now.stimulus.now in
+    let bound = c.args.self.now.bound in
+    let run = c.accepted_nets_are_synchronous.ensures net bound (inputs_at s) c.nets-count.ensures.elaborated c.requires.accepted c.requires.raceless in
+    any_err _ c.from_residual.result (told_nothing net s bound run.0 run.1 _ (g.met.V.Watch.nothing c.args.watch.now))
+
+pub returns-in_err-blocks-clause-failing : goal.returns-in_err-blocks-clause-failing
+returns-in_err-blocks-clause-failing g c =
+    let net = c.args.self.now.net.now in
+    let s = c.args.self.now.stimulus.now in
+    let bound = c.args.self.now.bound in
+    let run = c.accepted_nets_are_synchronous.ensures net bound (inputs_at s) c.nets-count.ensures.elaborated c.requires.accepted c.requires.raceless in
+    any_err _ c.from_residual-in_err-blocks.result (told_nothing net s bound run.0 run.1 _ (g.met.V.Watch.nothing c.args.watch.now))
+
+pub returns-in_err-machine-clause-failing : goal.returns-in_err-machine-clause-failing
+returns-in_err-machine-clause-failing g c =
+    let net = c.args.self.now.net.now in
+    let s = c.args.self.now.stimulus.now in
+    let bound = c.args.self.now.bound in
+    let run = c.accepted_nets_are_synchronous.ensures net bound (inputs_at s) c.nets-count.ensures.elaborated c.requires.accepted c.requires.raceless in
+    any_err _ c.from_residual-in_err-machine.result (told_nothing net s bound run.0 run.1 _ (g.met.V.Watch.nothing c.args.watch.now))

@@ -1,4 +1,4 @@
-use Rattle.std.proofs.Common.{ℕ, List, length, Err, sym, ap, subst, ◌∙◌, refl}
+use Rattle.std.proofs.Common.{ℕ, List, [], length, Err, sym, ap, subst, ◌∙◌, refl}
 use Rattle.rtl_net.specs.Nets.{NetlistView}
 use Rattle.rtl_model.specs.simulation.Moments.{SettlesTo, IsUnsettled}
 use Rattle.rtl_vcd.specs.Trace.{first_text}
@@ -7,6 +7,10 @@ use Rattle.rtl_run.specs.declared.summary.RunFault.{RunFault}
 use Rattle.rtl_run.specs.declared.summary.RunFault.TheVariants.{Memory, Output}
 use Rattle.rtl_net.specs.Core.{core}
 use Rattle.rtl_run.specs.Running.{Begins}
+use Rattle.rtl_stim.proofs.Next.{each_begins_at_zero}
+use Rattle.rtl_watch.specs.Stands.{Stand}
+use Rattle.rtl_run.proofs.Failing.{told_of, told_unsettled, told_nothing}
+use Rattle.rtl_run.proofs.Stands.{stands_none}
 use Rattle.rtl_run.proofs.Going.{err_with, begins, never_begins, first_leaves}
 use Rattle.rtl_run.proofs.simulation.Simulation.begin.Goals as goal
 
@@ -69,3 +73,37 @@ returns-clause-begins g c start begun =
       ap length items ∙ sym (ap length c.values-2.ensures.value) ∙ c.values-2.ensures.as_many ∙ ap (λ (n : NetlistView). length n.types) (c.settle.ensures.net ∙ c.requires.net),
       items,
     )
+
+pub returns-in_err-deltas-clause-failing : goal.returns-in_err-deltas-clause-failing
+returns-in_err-deltas-clause-failing g c start begun told =
+    let net = c.args.self.now.net.now in
+    let s = c.args.self.now.stimulus.now in
+    let limit = c.args.self.now.limit in
+    let state = c.settle.new.kernel.state in
+    let said = c.in_err-deltas.ensures.settled in
+    let unsettled = subst (λ (n : NetlistView). IsUnsettled (core n) c.args.kernel.now.state limit state) c.requires.net said.1 in
+    let zero = each_begins_at_zero s in
+    let Told : List Stand → Type 0 = λ stands. g.V.Watch.told start stands c.settle.new.watch in
+    let Stuck : List Stand → List ℕ → List ℕ → ℕ → Type 0 = λ stands before now time. g.V.Watch.stuck start stands before now time c.settle.new.watch in
+    told_of net s limit Told Stuck c.from_residual.result c.in_err-deltas.field-0.0 c.from_residual.ensures.1
+    (told_unsettled net s limit Told Stuck _ 0 said.0 [] (stands_none net s) zero.0 zero.1 c.args.kernel.now.state state begun unsettled (c.in_err-deltas.ensures.stuck start [] told))
+
+pub returns-in_err-first-clause-failing : goal.returns-in_err-first-clause-failing
+returns-in_err-first-clause-failing g c start begun told =
+    let net = c.args.self.now.net.now in
+    let s = c.args.self.now.stimulus.now in
+    let limit = c.args.self.now.limit in
+    let Told : List Stand → Type 0 = λ stands. g.V.Watch.told start stands c.settle.new.watch in
+    let Stuck : List Stand → List ℕ → List ℕ → ℕ → Type 0 = λ stands before now time. g.V.Watch.stuck start stands before now time c.settle.new.watch in
+    told_of net s limit Told Stuck c.from_residual-in_err-first.result Output c.from_residual-in_err-first.ensures.1
+    (told_nothing net s limit Told Stuck (subst (λ w. g.V.Watch.told start [] w) (sym c.in_ok-deltas.ensures.untold) told))
+
+pub returns-in_err-from_slice-clause-failing : goal.returns-in_err-from_slice-clause-failing
+returns-in_err-from_slice-clause-failing g c start begun told =
+    let net = c.args.self.now.net.now in
+    let s = c.args.self.now.stimulus.now in
+    let limit = c.args.self.now.limit in
+    let Told : List Stand → Type 0 = λ stands. g.V.Watch.told start stands c.settle.new.watch in
+    let Stuck : List Stand → List ℕ → List ℕ → ℕ → Type 0 = λ stands before now time. g.V.Watch.stuck start stands before now time c.settle.new.watch in
+    told_of net s limit Told Stuck c.from_residual-in_err-from_slice.result Memory c.from_residual-in_err-from_slice.ensures.1
+    (told_nothing net s limit Told Stuck (subst (λ w. g.V.Watch.told start [] w) (sym c.in_ok-deltas.ensures.untold) told))

@@ -1,12 +1,16 @@
 use Rattle.std.proofs.Common.{◌≡◌, ℕ, List, Err, sym, subst, ◌∙◌, arith}
+use Rattle.std.specs.Prelude.{slice_index}
 use Rattle.rtl_net.specs.Nets.{NetlistView}
-use Rattle.rtl_model.specs.simulation.Moments.{SettlesTo, IsUnsettled}
+use Rattle.rtl_model.specs.simulation.Moments.{Begun, SettlesTo, IsUnsettled}
 use Rattle.rtl_vcd.specs.Trace.{moment_text, are_some, changes}
 use Rattle.rtl_sink.specs.Written.{Goes}
 use Rattle.rtl_run.specs.declared.summary.RunFault.{RunFault}
 use Rattle.rtl_run.specs.declared.summary.RunFault.TheVariants.{Output}
 use Rattle.rtl_net.specs.Core.{core}
 use Rattle.rtl_run.specs.Running.{GoesOn}
+use Rattle.rtl_stim.specs.Stimuli.{moments, inputs_at}
+use Rattle.rtl_watch.specs.Stands.{Stand}
+use Rattle.rtl_run.proofs.Failing.{told_of, told_unsettled}
 use Rattle.rtl_run.proofs.Going.{err_with, never_more, next_leaves, goes_further}
 use Rattle.rtl_run.proofs.simulation.Simulation.go_on.Goals as goal
 
@@ -64,3 +68,30 @@ returns-clause-goes_on g c start come next =
       record { deltas = c.in_ok-deltas.deltas; settled = (c.args.kernel.now.state, next.begun, to) },
       c.add.ensures.values ∙ c.values-2.ensures.value,
     )
+
+pub returns-in_err-deltas-clause-failing : goal.returns-in_err-deltas-clause-failing
+returns-in_err-deltas-clause-failing g c start stands are many next told =
+    let net = c.args.self.now.net.now in
+    let s = c.args.self.now.stimulus.now in
+    let limit = c.args.self.now.limit in
+    let begun = c.args.kernel.now.state in
+    let state = c.settle.new.kernel.state in
+    let said = c.in_err-deltas.ensures.settled in
+    let unsettled = subst (λ (n : NetlistView). IsUnsettled (core n) begun limit state) c.requires.net said.1 in
+    let there = next.there in
+    let Told : List Stand → Type 0 = λ stands. g.V.Watch.told start stands c.settle.new.watch in
+    let Stuck : List Stand → List ℕ → List ℕ → ℕ → Type 0 = λ stands before now time. g.V.Watch.stuck start stands before now time c.settle.new.watch in
+    told_of net s limit Told Stuck c.from_residual.result c.in_err-deltas.field-0.0 c.from_residual.ensures.1
+    (told_unsettled net s limit Told Stuck _ c.args.time said.0 stands are (omega (arith, there, many)) (subst (λ (k : ℕ). slice_index (moments s) k ≡ c.args.time) (sym many) next.is)
+    begun state (subst (λ (k : ℕ). Begun (core net) (inputs_at s) k begun) (sym many) next.begun) unsettled (c.in_err-deltas.ensures.stuck start stands told))
+
+pub returns-in_err-is_printed-clause-failing : goal.returns-in_err-is_printed-clause-failing
+returns-in_err-is_printed-clause-failing g c start stands are many next told =
+    let net = c.args.self.now.net.now in
+    let s = c.args.self.now.stimulus.now in
+    let limit = c.args.self.now.limit in
+    let there = next.there in
+    let Told : List Stand → Type 0 = λ stands. g.V.Watch.told start stands c.settle.new.watch in
+    let Stuck : List Stand → List ℕ → List ℕ → ℕ → Type 0 = λ stands before now time. g.V.Watch.stuck start stands before now time c.settle.new.watch in
+    told_of net s limit Told Stuck c.from_residual-in_err-is_printed.result Output c.from_residual-in_err-is_printed.ensures.1
+    (record { stands = stands; are = are; there = omega (arith, there, many); told = subst (λ w. g.V.Watch.told start stands w) (sym c.in_ok-deltas.ensures.untold) told })

@@ -9,9 +9,11 @@ use Rattle.rtl_stim_lines.specs.Filling.{Waits}
 use Rattle.rtl_stim.proofs.Next.{each_begins_at_zero}
 use Rattle.rtl_sink.specs.Written.{Goes}
 use Rattle.rtl_vcd.specs.Trace.{end_text}
-use Rattle.rtl_run.specs.declared.summary.RunFault.TheVariants.{Output}
+use Rattle.rtl_run.specs.declared.summary.RunFault.TheVariants.{Memory, Output}
 use Rattle.rtl_run.specs.Answered.{Answers}
 use Rattle.rtl_run.proofs.Steps.{no_moment}
+use Rattle.rtl_watch.specs.Stands.{Stand}
+use Rattle.rtl_run.proofs.Failing.{told_of, told_nothing}
 use Rattle.rtl_run.proofs.Going.{err_with, header_leaves, end_leaves, is_whole, at_last, settled_quiet}
 use Rattle.rtl_run.proofs.Stands.{stands_none, stands_more, one_stand_more, until_next, until_end, one_behind}
 use Rattle.rtl_run.proofs.Turns.{comes_next, changes_inputs, begins_next}
@@ -58,7 +60,7 @@ loop-time-init g c =
       stands = [];
       are = stands_none net s;
       many = refl;
-      told = g.met.V.Watch.nothing c.args.watch.now;
+      told = subst (λ w. g.V.Watch.told c.args.watch.now [] w) (sym c.in_ok-progress.ensures.untold) (g.met.V.Watch.nothing c.args.watch.now);
       waits = subst (λ (now : ℕ). Waits s.inputs s.schedule now (g.A.Agenda.state c.args.agenda.now).waiting) zero c.requires.waits;
     }
 
@@ -134,7 +136,8 @@ loop-time-preserved g c =
       are = stands_more net s limit I.m c.in-Some.time c.loop-time.kernel.state I.stands I.are I.many I.settled c.deref.result.now
           (sym I.values ∙ sym c.deref.ensures.value) (sym (until_next s I.m c.in-Some.time behind.taken turn.next));
       many = one_stand_more I.stands _ ∙ ap suc I.many ∙ I.is_last;
-      told = c.stood.ensures c.args.watch.now I.stands I.told;
+      told = subst (λ w. g.V.Watch.told c.args.watch.now (I.stands ++ record { values = c.deref.result.now; until = c.in-Some.time } ∷ []) w) (sym c.in_ok-go_on.ensures.untold)
+          (c.stood.ensures c.args.watch.now I.stands I.told);
       waits = subst (λ (now : ℕ). Waits s.inputs s.schedule now (g.A.Agenda.state c.refill.new.agenda).waiting) (sym has.2) c.in_ok-refill.ensures.waits;
     }
 
@@ -196,3 +199,80 @@ returns-clause-told g c =
       all = one_stand_more I.stands _ ∙ ap suc I.many ∙ all;
       told = c.stood-2.ensures c.args.watch.now I.stands I.told;
     }
+
+pub returns-in_err-header-clause-failing : goal.returns-in_err-header-clause-failing
+returns-in_err-header-clause-failing g c =
+    let net = c.args.self.now.net.now in
+    let s = c.args.self.now.stimulus.now in
+    let limit = c.args.self.now.limit in
+    let Told : List Stand → Type 0 = λ stands. g.V.Watch.told c.args.watch.now stands c.args.watch.now in
+    let Stuck : List Stand → List ℕ → List ℕ → ℕ → Type 0 = λ stands before now time. g.V.Watch.stuck c.args.watch.now stands before now time c.args.watch.now in
+    told_of net s limit Told Stuck c.from_residual.result Output c.from_residual.ensures.1
+    (told_nothing net s limit Told Stuck (g.met.V.Watch.nothing c.args.watch.now))
+
+pub returns-in_err-progress-clause-failing : goal.returns-in_err-progress-clause-failing
+returns-in_err-progress-clause-failing g c =
+    let net = c.args.self.now.net.now in
+    let s = c.args.self.now.stimulus.now in
+    let limit = c.args.self.now.limit in
+    let Told : List Stand → Type 0 = λ stands. g.V.Watch.told c.args.watch.now stands c.begin.new.watch in
+    let Stuck : List Stand → List ℕ → List ℕ → ℕ → Type 0 = λ stands before now time. g.V.Watch.stuck c.args.watch.now stands before now time c.begin.new.watch in
+    told_of net s limit Told Stuck c.from_residual-in_err-progress.result c.in_err-progress.field-0.0 c.from_residual-in_err-progress.ensures.1
+    (c.in_err-progress.ensures.failing c.args.watch.now c.requires.begun (g.met.V.Watch.nothing c.args.watch.now))
+
+pub returns-in_err-refill-clause-failing : goal.returns-in_err-refill-clause-failing
+returns-in_err-refill-clause-failing g c =
+    let net = c.args.self.now.net.now in
+    let s = c.args.self.now.stimulus.now in
+    let limit = c.args.self.now.limit in
+    let I = c.loop-time.invariant in
+    let behind = g.A.Agenda.state c.next.new.self in
+    let turn = comes_next s c.stop-stop.ensures.holds c.loop-time.progress I.m I.is_last I.there I.at (g.A.Agenda.state c.loop-time.agenda) (g.met.A.Agenda.orderly c.loop-time.agenda) I.waits c.in-Some.time behind c.in-Some.ensures.least in
+    let x : Stand = record { values = c.deref.result.now; until = c.in-Some.time } in
+    let are = stands_more net s limit I.m c.in-Some.time c.loop-time.kernel.state I.stands I.are I.many I.settled c.deref.result.now
+        (sym I.values ∙ sym c.deref.ensures.value) (sym (until_next s I.m c.in-Some.time behind.taken turn.next)) in
+    let many = one_stand_more I.stands x ∙ ap suc I.many in
+    let there = turn.next.there in
+    let Told : List Stand → Type 0 = λ stands. g.V.Watch.told c.args.watch.now stands c.stood.new.self in
+    let Stuck : List Stand → List ℕ → List ℕ → ℕ → Type 0 = λ stands before now time. g.V.Watch.stuck c.args.watch.now stands before now time c.stood.new.self in
+    told_of net s limit Told Stuck c.from_residual-in_err-refill.result Memory c.from_residual-in_err-refill.ensures.1
+    (record { stands = I.stands ++ x ∷ []; are = are; there = omega (arith, there, many); told = c.stood.ensures c.args.watch.now I.stands I.told })
+
+pub returns-in_err-go_on-clause-failing : goal.returns-in_err-go_on-clause-failing
+returns-in_err-go_on-clause-failing g c =
+    let net = c.args.self.now.net.now in
+    let s = c.args.self.now.stimulus.now in
+    let limit = c.args.self.now.limit in
+    let I = c.loop-time.invariant in
+    let behind = g.A.Agenda.state c.next.new.self in
+    let turn = comes_next s c.stop-stop.ensures.holds c.loop-time.progress I.m I.is_last I.there I.at (g.A.Agenda.state c.loop-time.agenda) (g.met.A.Agenda.orderly c.loop-time.agenda) I.waits c.in-Some.time behind c.in-Some.ensures.least in
+    let x : Stand = record { values = c.deref.result.now; until = c.in-Some.time } in
+    let are = stands_more net s limit I.m c.in-Some.time c.loop-time.kernel.state I.stands I.are I.many I.settled c.deref.result.now
+        (sym I.values ∙ sym c.deref.ensures.value) (sym (until_next s I.m c.in-Some.time behind.taken turn.next)) in
+    let many = one_stand_more I.stands x ∙ ap suc I.many in
+    let is_next = begins_next s c.loop-time.progress I.m c.in-Some.time behind.taken turn net c.nets-count.ensures.elaborated c.requires.ports c.requires.inputs c.loop-time.kernel.net I.net c.changes.result.now c.changes.ensures limit c.loop-time.kernel.state c.apply.new.self.state (ap length (sym I.values) ∙ I.as_many) I.settled c.apply.ensures.ran in
+    let Told : List Stand → Type 0 = λ stands. g.V.Watch.told c.args.watch.now stands c.go_on.new.watch in
+    let Stuck : List Stand → List ℕ → List ℕ → ℕ → Type 0 = λ stands before now time. g.V.Watch.stuck c.args.watch.now stands before now time c.go_on.new.watch in
+    told_of net s limit Told Stuck c.from_residual-in_err-go_on.result c.in_err-go_on.field-0.0 c.from_residual-in_err-go_on.ensures.1
+    (c.in_err-go_on.ensures.failing c.args.watch.now (I.stands ++ x ∷ []) are (many ∙ I.is_last) is_next (c.stood.ensures c.args.watch.now I.stands I.told))
+
+pub returns-in_err-end-clause-failing : goal.returns-in_err-end-clause-failing
+returns-in_err-end-clause-failing g c =
+    let net = c.args.self.now.net.now in
+    let s = c.args.self.now.stimulus.now in
+    let limit = c.args.self.now.limit in
+    let I = c.loop-time.invariant in
+    let before = g.A.Agenda.state c.loop-time.agenda in
+    let waits = subst (λ (now : ℕ). Waits s.inputs s.schedule now before.waiting) (sym I.at) I.waits in
+    let all = no_moment s c.stop-stop.ensures.holds I.m I.there before (g.met.A.Agenda.orderly c.loop-time.agenda) waits c.in_default.ensures.empty in
+    let x : Stand = record { values = c.deref-2.result.now; until = c.stop-stop.result + 1 } in
+    let many = one_stand_more I.stands x ∙ ap suc I.many in
+    let Told : List Stand → Type 0 = λ stands. g.V.Watch.told c.args.watch.now stands c.stood-2.new.self in
+    let Stuck : List Stand → List ℕ → List ℕ → ℕ → Type 0 = λ stands before now time. g.V.Watch.stuck c.args.watch.now stands before now time c.stood-2.new.self in
+    told_of net s limit Told Stuck c.from_residual-in_err-end.result Output c.from_residual-in_err-end.ensures.1 (record {
+      stands = I.stands ++ x ∷ [];
+      are = stands_more net s limit I.m _ c.loop-time.kernel.state I.stands I.are I.many I.settled _
+          (sym I.values ∙ sym c.deref-2.ensures.value) (ap (λ (stop : ℕ). stop + 1) c.stop-stop.ensures.stop ∙ one_behind s.schedule.stop ∙ sym (until_end s I.m all));
+      there = omega (arith, many, all);
+      told = c.stood-2.ensures c.args.watch.now I.stands I.told;
+    })

@@ -1,4 +1,4 @@
-use Rattle.std.proofs.Common.{List, subst}
+use Rattle.std.proofs.Common.{ℕ, List, subst}
 use Rattle.vhdl_values.specs.declared.scalar.Nine.{Nine}
 use Rattle.rtl_model.specs.nets.CoreNetlist.{core_netlist}
 use Rattle.rtl_model.specs.simulation.Cycle.{start_state}
@@ -10,6 +10,8 @@ use Rattle.rtl_run.specs.declared.summary.RunFault.TheVariants.{Memory}
 use Rattle.rtl_net.specs.Core.{core}
 use Rattle.rtl_run.specs.Answered.{Answers}
 use Rattle.rtl_run.proofs.Steps.{first_begun}
+use Rattle.rtl_watch.specs.Stands.{Stand}
+use Rattle.rtl_run.proofs.Failing.{told_of, told_nothing}
 use Rattle.rtl_run.proofs.Going.{err_with, nothing_leaves}
 use Rattle.rtl_run.proofs.simulation.Simulation.run_watched.Goals as goal
 
@@ -42,3 +44,33 @@ run_moments-requires-clause-begun g c =
     let ran = subst (λ (k : Simulation). HasRun (core_netlist (flat k.net)) k.state state) c.in_ok-kernel.ensures c.start.ensures.ran in
     let run = subst (λ (vs : List Nine). HasRun (core net) (start_state (core net) (initial_inputs (flat net) vs)) state) c.initial.ensures ran in
     first_begun net c.nets-count.ensures.elaborated s c.requires.ports c.requires.inputs state run
+
+pub returns-in_err-load-clause-failing : goal.returns-in_err-load-clause-failing
+returns-in_err-load-clause-failing g c =
+    let net = c.args.self.now.net.now in
+    let s = c.args.self.now.stimulus.now in
+    let limit = c.args.self.now.limit in
+    let Told : List Stand → Type 0 = λ stands. g.V.Watch.told c.args.watch.now stands c.args.watch.now in
+    let Stuck : List Stand → List ℕ → List ℕ → ℕ → Type 0 = λ stands before now time. g.V.Watch.stuck c.args.watch.now stands before now time c.args.watch.now in
+    told_of net s limit Told Stuck c.from_residual.result Memory c.from_residual.ensures.1
+    (told_nothing net s limit Told Stuck (g.met.V.Watch.nothing c.args.watch.now))
+
+pub returns-in_err-blocks-clause-failing : goal.returns-in_err-blocks-clause-failing
+returns-in_err-blocks-clause-failing g c =
+    let net = c.args.self.now.net.now in
+    let s = c.args.self.now.stimulus.now in
+    let limit = c.args.self.now.limit in
+    let Told : List Stand → Type 0 = λ stands. g.V.Watch.told c.args.watch.now stands c.args.watch.now in
+    let Stuck : List Stand → List ℕ → List ℕ → ℕ → Type 0 = λ stands before now time. g.V.Watch.stuck c.args.watch.now stands before now time c.args.watch.now in
+    told_of net s limit Told Stuck c.from_residual-in_err-blocks.result Memory c.from_residual-in_err-blocks.ensures.1
+    (told_nothing net s limit Told Stuck (g.met.V.Watch.nothing c.args.watch.now))
+
+pub returns-in_err-kernel-clause-failing : goal.returns-in_err-kernel-clause-failing
+returns-in_err-kernel-clause-failing g c =
+    let net = c.args.self.now.net.now in
+    let s = c.args.self.now.stimulus.now in
+    let limit = c.args.self.now.limit in
+    let Told : List Stand → Type 0 = λ stands. g.V.Watch.told c.args.watch.now stands c.args.watch.now in
+    let Stuck : List Stand → List ℕ → List ℕ → ℕ → Type 0 = λ stands before now time. g.V.Watch.stuck c.args.watch.now stands before now time c.args.watch.now in
+    told_of net s limit Told Stuck c.from_residual-in_err-kernel.result Memory c.from_residual-in_err-kernel.ensures.1
+    (told_nothing net s limit Told Stuck (g.met.V.Watch.nothing c.args.watch.now))

@@ -22,7 +22,7 @@ use Rattle.vhdl_expand_bodies.specs.steps.Statements.{after}
 use Rattle.vhdl_expand_bodies.proofs.Links.{expands_along}
 use Rattle.vhdl_expand_bodies.proofs.Parts.{add_gives, after_stops, none_left, null_one, assign_one, assign_none, set_one, set_none, if_made, if_one, if_none, case_made, case_one, case_none, loop_is, same_turn, turned_goes}
 use Rattle.vhdl_expand_bodies.proofs.Sequences.{list_goes, list_stops, list_ends, turns_go, turns_stop, turns_end}
-use Rattle.vhdl_expand_rules.specs.Elab.{told}
+use Rattle.vhdl_expand_rules.specs.Elab.{Elab, told}
 use Rattle.vhdl_expand_bodies.proofs.site.Site.+statement.Goals as goal
 
 pub add_statement-returns-in-Null : goal.add_statement-returns-in-Null
@@ -143,9 +143,9 @@ add_turns-returns-in_err-add_turn t c =
     let fixed : to_z w32 (of_z w32 c.in_ok-parameter.parameter) ≡ c.in_ok-parameter.parameter = omega (arith, ints) in
     let stopped : c.in_err-add_turn.field-0.0 ≢ NoMemory
     → (after (statements_of c.args.body.now.items) (steps.turned at (range_view c.args.repeated.now.range) body)) ≡ Err (told c.in_err-add_turn.field-0.0) =
-    λ n. subst (λ r. r ≡ Err (told c.in_err-add_turn.field-0.0)) (sym (turned_goes at (range_view c.args.repeated.now.range) body _ (statements_of c.args.body.now.items) c.in_ok-turns.ensures))
+    λ n. subst (λ (r : Elab bodies.Stmts). r ≡ Err (told c.in_err-add_turn.field-0.0)) (sym (turned_goes at (range_view c.args.repeated.now.range) body _ (statements_of c.args.body.now.items) c.in_ok-turns.ensures))
     (turns_stop at body _ (statements_of c.loop-turn.body.items) c.in_ok-turns.turns.direction c.in_ok-turns.turns.first c.in_ok-parameter.parameter c.in_ok-turns.turns.count c.loop-turn.turn c.loop-turn-test.true c.loop-turn.invariant same
-    (subst (λ r. r ≡ Err (told c.in_err-add_turn.field-0.0)) (sym (same_turn at (statements_of c.loop-turn.body.items) _ _ _ _ fixed c.deref.ensures.value)) (c.in_err-add_turn.ensures n))) in
+    (subst (λ (r : Elab bodies.Stmts). r ≡ Err (told c.in_err-add_turn.field-0.0)) (sym (same_turn at (statements_of c.loop-turn.body.items) _ _ _ _ fixed c.deref.ensures.value)) (c.in_err-add_turn.ensures n))) in
     first_of (search rules, grind (arith, common_steps))
 
 pub add_turns-loop-turn-preserved : goal.add_turns-loop-turn-preserved

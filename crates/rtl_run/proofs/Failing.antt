@@ -1,0 +1,36 @@
+-- What a watch was told of a run that fails.
+use Rattle.std.proofs.Common.{◌≡◌, ℕ, ◌<◌, List, [], length, Result, sym, subst, arith}
+use Rattle.std.specs.Prelude.{slice_index, IfErr, IsErrAnd}
+use Rattle.rtl_model.specs.simulation.Cycle.{State}
+use Rattle.rtl_model.specs.simulation.Moments.{Begun, IsUnsettled}
+use Rattle.rtl_net.specs.Core.{core}
+use Rattle.rtl_net.specs.Nets.{NetlistView}
+use Rattle.rtl_stim.specs.Stimuli.{StimulusView, moments, inputs_at}
+use Rattle.rtl_watch.specs.Stands.{Stand}
+use Rattle.rtl_run.specs.declared.summary.RunFault.{RunFault}
+use Rattle.rtl_run.specs.declared.summary.RunFault.TheVariants.{NoSettling}
+use Rattle.rtl_run.specs.Watched.{AreStands, IsToldFirst, WasTold}
+use Rattle.rtl_run.proofs.Going.{err_with}
+use Rattle.rtl_run.proofs.Stands.{stands_none}
+
+module _ (net : NetlistView) (s : StimulusView) (limit : ℕ) (Told : List Stand → Type 0) (Stuck : List Stand → (before now : List ℕ) → (time : ℕ) → Type 0) where
+  -- of an answer that is this fault
+  pub told_of : {X : Type 0} (answer : Result X RunFault) (fault : RunFault) → IsErrAnd answer (λ f. f ≡ fault) → WasTold net s limit Told Stuck fault
+      → IfErr answer (λ f. WasTold net s limit Told Stuck f)
+  told_of {X} answer fault is told = err_with (λ (r : Result X RunFault). IfErr r (λ f. WasTold net s limit Told Stuck f)) answer fault is told
+
+  pub told_unsettled : (fault : RunFault) (time : ℕ) → fault ≡ NoSettling time → (stands : List Stand) → AreStands net s stands → length stands < length (moments s)
+      → slice_index (moments s) (length stands) ≡ time → (begun state : State) → Begun (core net) (inputs_at s) (length stands) begun → IsUnsettled (core net) begun limit state
+      → Stuck stands state.before state.now time → WasTold net s limit Told Stuck fault
+  told_unsettled fault time is stands are more is_at begun state is_begun unsettled stuck =
+      subst (λ (f : RunFault). WasTold net s limit Told Stuck f) (sym is) (record {
+        stands = stands;
+        are = are;
+        more = more;
+        is_at = is_at;
+        never = record { begun = begun; is_begun = is_begun; state = state; unsettled = unsettled };
+        stuck = stuck;
+      })
+
+  pub told_nothing : Told [] → IsToldFirst net s Told
+  told_nothing told = record { stands = []; are = stands_none net s; there = omega arith; told = told }

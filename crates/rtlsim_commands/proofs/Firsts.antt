@@ -1,0 +1,45 @@
+-- The first numbers of nets that still change.
+use Rattle.std.proofs.Common.{◌≡◌, ℕ, zero, suc, ◌+◌, ◌<◌, Bool, true, false, List, [], ◌∷◌, ◌++◌, length, cond, filter, refl, sym, ap, ◌∙◌, append-nil, arith}
+use Rattle.std.specs.Prelude.{take}
+use Rattle.std.specs.List.{range_with_len}
+use Rattle.std.proofs.lemmas.List.Elements.{filter-append}
+use Rattle.rtl_model.specs.basics.Valuations.{has_event}
+
+-- ---- the first of a list with one more
+
+room_left : (k : ℕ) (xs : List ℕ) (x : ℕ) → length (take k xs) < k → take k (xs ++ x ∷ []) ≡ take k xs ++ x ∷ []
+room_left zero xs x less = absurd (omega (arith, less))
+room_left (suc zero) [] x less = refl
+room_left (suc (suc k)) [] x less = refl
+room_left (suc k) (y ∷ xs) x less = ap (λ (l : List ℕ). y ∷ l) (room_left k xs x (omega (arith, less)))
+
+no_room : (k : ℕ) (xs : List ℕ) (x : ℕ) → length (take k xs) ≡ k → take k (xs ++ x ∷ []) ≡ take k xs
+no_room zero xs x all = refl
+no_room (suc k) [] x all = absurd (omega (arith, all))
+no_room (suc k) (y ∷ xs) x all = ap (λ (l : List ℕ). y ∷ l) (no_room k xs x (omega (arith, all)))
+
+-- ---- the nets up to a number
+
+counting : (a n : ℕ) → range_with_len a (suc n) ≡ range_with_len a n ++ (a + n) ∷ []
+counting a zero = ap (λ (k : ℕ). k ∷ []) (omega arith)
+counting a (suc n) =
+    ap (λ (l : List ℕ). a ∷ l) (counting (a + 1) n ∙ ap (λ (k : ℕ). range_with_len (a + 1) n ++ k ∷ []) (omega arith))
+
+module _ (before now : List ℕ) where
+  abbrev pub so_far : ℕ → List ℕ
+  so_far n = filter (has_event before now) (range_with_len 0 n)
+
+  one_more : (n : ℕ) → so_far (suc n) ≡ so_far n ++ cond (has_event before now n) (n ∷ []) []
+  one_more n = ap (filter (has_event before now)) (counting 0 n ∙ ap (λ (k : ℕ). range_with_len 0 n ++ k ∷ []) (omega arith)) ∙ filter-append (has_event before now) (range_with_len 0 n) (n ∷ [])
+
+  more_if : (n : ℕ) (b : Bool) → has_event before now n ≡ b → so_far (suc n) ≡ so_far n ++ cond b (n ∷ []) []
+  more_if n b is = one_more n ∙ ap (λ (c : Bool). so_far n ++ cond c (n ∷ []) []) is
+
+  pub kept : (n : ℕ) → has_event before now n ≡ true → length (take 17 (so_far n)) < 17 → take 17 (so_far (suc n)) ≡ take 17 (so_far n) ++ n ∷ []
+  kept n is less = ap (take 17) (more_if n true is) ∙ room_left 17 (so_far n) n less
+
+  pub not_kept : (n : ℕ) → has_event before now n ≡ true → length (take 17 (so_far n)) ≡ 17 → take 17 (so_far (suc n)) ≡ take 17 (so_far n)
+  not_kept n is all = ap (take 17) (more_if n true is) ∙ no_room 17 (so_far n) n all
+
+  pub same : (n : ℕ) → has_event before now n ≡ false → take 17 (so_far (suc n)) ≡ take 17 (so_far n)
+  same n is = ap (take 17) (more_if n false is ∙ append-nil (so_far n))
