@@ -55,15 +55,7 @@ fn is_choice_next(opened: usize, last: &[u8]) -> bool
 }
 
 /// The next choice of a statement, and what it goes on with.
-#[tactic(
-    auto,
-    using(
-        crate::proofs::Choices::choice_end,
-        crate::proofs::Choices::choice_here,
-        crate::proofs::Choices::choice_more,
-        crate::proofs::Choices::open_up
-    )
-)]
+#[tactic(auto, using(crate::proofs::Choices::choice_end, crate::proofs::Choices::choice_here, crate::proofs::Choices::choice_more, crate::proofs::Choices::open_up))]
 fn next_choice(statement: Statement<'_>) -> Option<(&[u8], Statement<'_>)>
     requires { HasRoom statement }
     ensures value { MatchOption result (choices_in statement.entry ≡ []) (λ found. choices_in statement.entry ≡ found.0.now ∷ choices_in found.1) }

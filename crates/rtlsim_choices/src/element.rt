@@ -196,15 +196,7 @@ fn is_passed(text: &[u8]) -> bool
 }
 
 /// The first element of a text, and what stands behind it.
-#[tactic(
-    auto,
-    using(
-        crate::proofs::Elements::element_here,
-        crate::proofs::Elements::passed_here,
-        crate::proofs::Elements::shorter_behind,
-        crate::proofs::Elements::no_elements
-    )
-)]
+#[tactic(auto, using(crate::proofs::Elements::element_here, crate::proofs::Elements::passed_here, crate::proofs::Elements::shorter_behind, crate::proofs::Elements::no_elements))]
 pub(crate) fn next_element(text: &[u8]) -> Option<(&[u8], &[u8])>
     ensures value { MatchOption result (spec.elements text.now ≡ []) (λ found. spec.elements text.now ≡ found.0.now ∷ spec.elements found.1.now) }
     ensures shorter { IfSome result (λ found. length found.1.now < length text.now) }
