@@ -135,7 +135,10 @@ fn elab_problem(number: u8) -> ElabProblem {
         2 => ElabProblem::NoGeneric,
         3 => ElabProblem::GenericRange,
         4 => ElabProblem::StaticError,
-        5 => ElabProblem::Length,
+        5 => ElabProblem::Length {
+            found: 3,
+            needed: 4,
+        },
         6 => ElabProblem::Index,
         7 => ElabProblem::TooWide,
         8 => ElabProblem::Unassociated,

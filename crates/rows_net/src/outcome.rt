@@ -36,7 +36,7 @@ fn name_of(problem: ElabProblem) -> &'static str {
         ElabProblem::NoGeneric => "NoGeneric",
         ElabProblem::GenericRange => "GenericRange",
         ElabProblem::StaticError => "StaticError",
-        ElabProblem::Length => "Length",
+        ElabProblem::Length { .. } => "Length",
         ElabProblem::Index => "Index",
         ElabProblem::TooWide => "TooWide",
         ElabProblem::Unassociated => "Unassociated",

@@ -81,7 +81,7 @@ fn next_choice(statement: Statement<'_>) -> Option<(&[u8], Statement<'_>)>
 }
 
 /// The statement with which a text begins.
-fn statement(text: &[u8]) -> Statement<'_>
+fn beginning(text: &[u8]) -> Statement<'_>
     ensures value { choices_in result ≡ spec.choices (elements text.now) }
     ensures room { HasRoom result }
 {
@@ -160,7 +160,7 @@ pub(crate) fn missing(text: &[u8], at: usize) -> Option<&[u8]>
     ensures { option_map (λ literal. literal.now) result ≡ spec.missing text.now at }
 {
     let (before, behind) = text.split_at(at.min(text.len()));
-    let statement = statement(behind);
+    let statement = beginning(behind);
     let (choice, _) = next_choice(statement)?;
     left_out(statement, type_of(region(before), choice))
 }

@@ -8,7 +8,7 @@ use Rattle.rtlsim_explain.specs.declared.explaining.Title.{Title}
 use Rattle.rtlsim_explain.specs.declared.place.Place.{Place}
 use Rattle.rtlsim_explain.specs.declared.place.Position.{Position}
 use Rattle.vhdl_expand_rules.specs.declared.fault.ElabProblem.{ElabProblem}
-use Rattle.vhdl_expand_rules.specs.declared.fault.ElabProblem.TheVariants.{NoTop}
+use Rattle.vhdl_expand_rules.specs.declared.fault.ElabProblem.TheVariants.{Length, NoTop}
 use Rattle.vhdl_lexer.specs.declared.fault.LexFault.{LexFault}
 use Rattle.vhdl_names_rules.specs.declared.fault.NameProblem.{NameProblem}
 use Rattle.vhdl_parser.specs.declared.fault.SyntaxFault.{SyntaxFault}
@@ -73,9 +73,14 @@ abbrev pub name_explained : Spot → Heading → NameProblem → List ℕ
 name_explained spot h problem =
     explained spot h (subject (after spot)) (name_sentence problem (left_out_form (after spot))) (name_help problem (left_out_form (after spot)))
 
+-- both lengths, of which the sentence goes on to speak
+abbrev pub lengths_text : (found needed : ℕ) → List ℕ
+lengths_text found needed = codes "stands where lengths of " ++ decimal found ++ codes " and " ++ decimal needed ++ codes " "
+
 -- of an entity that isn't there the word says nothing
 abbrev pub elab_subject : ElabProblem → (after : List ℕ) → List ℕ
 elab_subject NoTop after = codes ""
+elab_subject (Length found needed) after = subject after ++ lengths_text found needed
 elab_subject problem after = subject after
 
 abbrev pub elab_explained : Spot → Heading → ElabProblem → List ℕ

@@ -1,5 +1,6 @@
 //! Explanations of a source's faults.
 
+ghost use Rattle.std.specs.Prelude.{◌++◌};
 ghost use Rattle.rtl_sink.specs.Written.{Goes};
 ghost use Rattle.rtlsim_explain.specs.Explained as spec;
 
@@ -93,8 +94,21 @@ fn push_elab_subject<S: Sink>(problem: ElabProblem, after: &[u8], sink: &mut S)
 {
     match problem {
         ElabProblem::NoTop => push_text(sink, b""),
+        ElabProblem::Length { found, needed } => push_lengths(found, needed, after, sink),
         _ => push_subject(after, sink),
     }
+}
+
+/// Writes the word at two lengths that differ, and both.
+fn push_lengths<S: Sink>(found: usize, needed: usize, after: &[u8], sink: &mut S)
+    ensures { Goes (S.state sink.old) (S.state sink.new) (spec.subject after.now ++ spec.lengths_text found needed) }
+{
+    push_subject(after, sink);
+    push_text(sink, b"stands where lengths of ");
+    push_number(sink, found as u64);
+    push_text(sink, b" and ");
+    push_number(sink, needed as u64);
+    push_text(sink, b" ");
 }
 
 /// Writes where a fault is, and its title.

@@ -126,7 +126,7 @@ pub(crate) fn elab_sentence(problem: ElabProblem) -> &'static str
         ElabProblem::NoGeneric => "needs a generic that gets no value and has no default",
         ElabProblem::GenericRange => "is a value outside of its type",
         ElabProblem::StaticError => "can't be computed",
-        ElabProblem::Length => "stands where two lengths differ that have to be equal",
+        ElabProblem::Length { .. } => "meet that have to be equal",
         ElabProblem::Index =>
             "is an index or slice outside of what is declared, or against its direction",
         ElabProblem::TooWide => "has more than 64 elements",
@@ -152,7 +152,7 @@ pub(crate) fn elab_help(problem: ElabProblem) -> &'static str
             "a natural is at least 0, a positive at least 1, and all are at most 2147483647",
         ElabProblem::StaticError =>
             "see whether it divides by 0, leaves the whole numbers, or is negative where a length or count stands",
-        ElabProblem::Length =>
+        ElabProblem::Length { .. } =>
             "write both sides with one length: slices, a & at the end, or resize(n, length)",
         ElabProblem::Index =>
             "see the bounds and their direction; both sides of and, and branches that are never taken, are computed too",

@@ -1,6 +1,6 @@
 -- Expansion within the limits, and then connection, is elaboration.
 use Rattle.std.proofs.Common.{◌≡◌, ℕ, Bool, true, false, not, List, Ok, Err, All, refl, sym, ap, ◌∙◌, subst}
-use Rattle.std.specs.Prelude.{IsTrue}
+use Rattle.std.specs.Prelude.{IsErr, IsTrue}
 use Rattle.rtl_net.specs.Nets.{NetlistView}
 use Rattle.rtl_net.specs.Elaborated.{ReadsOfBody, IsNet}
 use Rattle.vhdl_names_rules.specs.units.Units.{Units}
@@ -50,12 +50,15 @@ beyond design h =
     ap (λ (t : Bool). unless TooMany t >> (unless TwoUnresolved (not (has_two_unresolved d)) >> (unless ReadOfShared (not (has_read_of_shared d (flat_net d))) >> given (net_of d)))) over
 
 refused-in : (problem : ElabProblem) (r : Elab Design) → MayTell (within_limits r) problem → MayTell (r >>= λ d. connected d) problem
-refused-in problem (Err p) h = tells_again {Design} {Elaborated} p problem h
+refused-in problem (Err p) h = tells_again {A = Design} {B = Elaborated} p problem h
 refused-in problem (Ok d) h = by (is_within (instance_costs d.top) limits) refl h
   where
+    gone : IsErr (given d) → MayTell (connected d) problem
+    gone h = absurd cc
+
     by : (t : Bool) → is_within (instance_costs d.top) limits ≡ t → MayTell (unless TooMany t >> given d) problem → MayTell (connected d) problem
-    by true e k = let r = k.refused in absurd cc
-    by false e k = tells_same (beyond d e) (tells_again {Design} {Elaborated} TooMany problem k)
+    by true e k = gone k.refused
+    by false e k = tells_same (beyond d e) (tells_again {A = Design} {B = Elaborated} TooMany problem k)
 
 pub refused : {problem : ElabProblem} → (units : Units) (top : List ℕ) → MayTell (within_limits (expanded_design units top)) problem → MayTell (as_shown (elaborated_net units top)) problem
 unfolding elaborated_net

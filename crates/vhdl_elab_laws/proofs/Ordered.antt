@@ -8,8 +8,8 @@ use Rattle.vhdl_tree.specs.declared.declaration.Mode.TheVariants.{In, Out}
 use Rattle.vhdl_names_rules.specs.units.Expressions.{Static, SignalPart}
 use Rattle.vhdl_names_rules.specs.units.Units as u
 use Rattle.vhdl_names_rules.specs.units.Units.{Port, Declaration, Entity, Units}
-use Rattle.vhdl_expand_rules.specs.declared.fault.ElabProblem.TheVariants.{NoTop, Length, Unassociated}
-use Rattle.vhdl_expand_rules.specs.Elab.{Elab, unless, found, each}
+use Rattle.vhdl_expand_rules.specs.declared.fault.ElabProblem.TheVariants.{NoTop, Unassociated}
+use Rattle.vhdl_expand_rules.specs.Elab.{Elab, unless, found, each, same_length}
 use Rattle.vhdl_expand_rules.specs.Integers.{Integers, integer_of, decision, turns}
 use Rattle.vhdl_expand_rules.specs.Kinds.{size, kind_of}
 use Rattle.vhdl_expand_rules.specs.Site.{Site, no_integers, no_site, place_elements}
@@ -75,7 +75,7 @@ association-is above p None o x h k =
     subst (PortOf p) (ok o x a.then_gave) h
 association-is above p (Some place) o x h k =
     let es = bound (place_elements above place) _ x k in
-    let a = bound (unless Length (length es.x == size o.kind)) _ x es.then_gave in
+    let a = bound (same_length (length es.x) (size o.kind)) _ x es.then_gave in
     subst (PortOf p) (ok (record o { actual = Some es.x }) x a.then_gave) h
 
 associations-are : (above : Site) (ps : List Port) (actuals : List (Option SignalPart)) (os xs : List Object) → AllZip PortOf ps os → associations above ps actuals os ≡ Ok xs → AllZip PortOf ps xs

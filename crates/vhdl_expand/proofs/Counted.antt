@@ -37,10 +37,11 @@ module _ (units : Units) (go : Entity → InstanceObjects → Elab Instance) whe
         let is = bound (turns at.site.integers r) _ ps h in
         let pss = bound (each (λ i. concurrents units go (in_turn at label i) body) is.x) _ ps is.then_gave in
         let ns = each-counted (λ i. concurrents units go (in_turn at label i) body) (λ i. concurrents_turns (in_turn at label i) body)
-        (λ i x e. concurrents_counted (in_turn at label i) body x e) is.x pss.x pss.gave in
-        (length is.x + sum ns.0,
-        ap (λ q. q >>= λ js. each (λ i. concurrents_turns (in_turn at label i) body) js >>= λ ms. given (length js + sum ms)) is.gave
-        ∙ ap (λ q. q >>= λ ms. given (length is.x + sum ms)) ns.1)
+        (λ i x e. concurrents_counted (in_turn at label i) body x e) is.x pss.x pss.gave in (
+          length is.x + sum ns.0,
+          ap (λ q. q >>= λ js. each (λ i. concurrents_turns (in_turn at label i) body) js >>= λ ms. given (length js + sum ms)) is.gave
+              ∙ ap (λ q. q >>= λ ms. given (length is.x + sum ms)) ns.1,
+        )
     concurrent_counted at (u.generate_if label t body) ps h =
         branch-counted (decision at.site.integers t) (concurrents units go (in_branch at label) body) (concurrents_turns (in_branch at label) body) ps
         (λ z e. concurrents_counted (in_branch at label) body z e) h

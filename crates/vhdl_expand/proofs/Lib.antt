@@ -5,3 +5,4 @@ pub mod Generates
 pub mod Nested
 pub mod Weights
 pub mod Heavier
+pub mod Told

@@ -27,8 +27,10 @@ pub(crate) fn choice(len: Width, choice: &analysed::Choice, at: usize) -> Result
 {
     match choice {
         analysed::Choice::Values(values) => {
-            if values.len() != len.len {
-                return Err(ElabProblem::Length.at(at));
+            let found = values.len();
+            let needed = len.len;
+            if found != needed {
+                return Err(ElabProblem::Length { found, needed }.at(at));
             }
             Ok(Choice::Elements(Vec9::of(values)))
         }
@@ -55,17 +57,20 @@ impl Site<'_> {
         match given {
             Given::Single(value) => {
                 let selected = self.expanded_value(alloc, value, at)?;
-                if selected.width.len != len as usize {
+                let found = selected.width.len;
+                let needed = len as usize;
+                if found != needed {
                     drop(selected);
-                    return Err(ElabProblem::Length.at(at));
+                    return Err(ElabProblem::Length { found, needed }.at(at));
                 }
                 Ok(selected.value)
             }
             Given::Filled(element) => {
                 let operand = self.expanded(alloc, element)?;
-                if operand.width.len != 1 {
+                let found = operand.width.len;
+                if found != 1 {
                     drop(operand);
-                    return Err(ElabProblem::Length.at(at));
+                    return Err(ElabProblem::Length { found, needed: 1 }.at(at));
                 }
                 let element = Box::new(alloc, operand.expr)?;
                 Ok(Value::Elements(Expr::Filled { len, element }))

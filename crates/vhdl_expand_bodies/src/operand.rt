@@ -68,8 +68,10 @@ fn fitted(operator: Operator, left: Width, right: Width, at: usize) -> Result<Wi
 {
     match operator {
         Operator::Logical(_) => {
-            if left.len != right.len {
-                return Err(ElabProblem::Length.at(at));
+            let found = left.len;
+            let needed = right.len;
+            if found != needed {
+                return Err(ElabProblem::Length { found, needed }.at(at));
             }
             Ok(left)
         }

@@ -79,8 +79,9 @@ fn literal(
 ) -> Result<SmallVec<u8, 8>, ElabFault>
     ensures { Expands (λ v. v.items) (codes_of (definition.as_long_as len values.now)) result }
 {
-    if values.len() != len {
-        return Err(ElabProblem::Length.at(at));
+    let found = values.len();
+    if found != len {
+        return Err(ElabProblem::Length { found, needed: len }.at(at));
     }
     Ok(codes(alloc, values)?)
 }
@@ -89,8 +90,9 @@ fn literal(
 fn vector(alloc: Global, len: usize, values: Vec9, at: usize) -> Result<SmallVec<u8, 8>, ElabFault>
     ensures { Expands (λ v. v.items) (codes_of (definition.as_long_as len values)) result }
 {
-    if values.len() != len {
-        return Err(ElabProblem::Length.at(at));
+    let found = values.len();
+    if found != len {
+        return Err(ElabProblem::Length { found, needed: len }.at(at));
     }
     Ok(vector_codes(alloc, values)?)
 }
@@ -130,7 +132,13 @@ fn fixed(
 {
     match value {
         Fixed::Literal(values) => literal(alloc, len, values, at),
-        Fixed::Position(_) => Err(ElabProblem::Length.at(at)),
+        Fixed::Position(_) => {
+            Err(ElabProblem::Length {
+                found: 1,
+                needed: len,
+            }
+            .at(at))
+        }
         Fixed::Constant(number) => {
             let Some(constant) = site.constants.get(*number) else {
                 return Err(ElabProblem::Index.at(at));

@@ -73,8 +73,10 @@ fn associate(
         return Ok(());
     };
     let run = above.signal_elements(place.signal, &place.part, place.at)?;
-    if run.len != port.kind.size() {
-        return Err(ElabProblem::Length.at(place.at));
+    let found = run.len;
+    let needed = port.kind.size();
+    if found != needed {
+        return Err(ElabProblem::Length { found, needed }.at(place.at));
     }
     port.actual = Some(elements(alloc, run)?);
     Ok(())

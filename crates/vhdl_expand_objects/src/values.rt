@@ -23,8 +23,9 @@ fn literal(len: usize, values: &[Nine], at: usize) -> Result<Vec9, ElabFault>
     ensures given { Computes (definition.as_long_as len values.now) result }
     ensures long { IfOk result (λ values. length values ≡ len) }
 {
-    if values.len() != len {
-        return Err(ElabProblem::Length.at(at));
+    let found = values.len();
+    if found != len {
+        return Err(ElabProblem::Length { found, needed: len }.at(at));
     }
     Ok(Vec9::of(values))
 }
@@ -34,8 +35,9 @@ fn vector(len: usize, values: Vec9, at: usize) -> Result<Vec9, ElabFault>
     ensures given { Computes (definition.as_long_as len values) result }
     ensures long { IfOk result (λ values. length values ≡ len) }
 {
-    if values.len() != len {
-        return Err(ElabProblem::Length.at(at));
+    let found = values.len();
+    if found != len {
+        return Err(ElabProblem::Length { found, needed: len }.at(at));
     }
     Ok(values)
 }
@@ -66,7 +68,13 @@ pub(crate) fn fixed(site: &Site, len: usize, value: &Fixed, at: usize) -> Result
 {
     match value {
         Fixed::Literal(values) => literal(len, values, at),
-        Fixed::Position(_) => Err(ElabProblem::Length.at(at)),
+        Fixed::Position(_) => {
+            Err(ElabProblem::Length {
+                found: 1,
+                needed: len,
+            }
+            .at(at))
+        }
         Fixed::Constant(number) => {
             let Some(constant) = site.constants.get(*number) else {
                 return Err(ElabProblem::Index.at(at));

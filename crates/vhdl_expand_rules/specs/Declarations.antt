@@ -1,6 +1,6 @@
 -- What an instance declares: the values of its generics and constants, its ports and signals with what they start with,
 -- and what its ports are associated with (IEEE 1076-2008, 6.4.2, 6.5.6, 6.5.7, 14.2 to 14.4).
-use Rattle.std.specs.Prelude.{ℕ, Bool, true, false, not, ◌==◌, ◌||◌, List, [], ◌∷◌, ◌++◌, length, map, replicate, slice_get, Option, Some, None}
+use Rattle.std.specs.Prelude.{ℕ, Bool, true, false, not, ◌||◌, List, [], ◌∷◌, ◌++◌, length, map, replicate, slice_get, Option, Some, None}
 use Rattle.std.specs.Prelude.{is_some, ℤ, Ok, Err}
 use Rattle.vhdl_values.specs.declared.scalar.Nine.{Nine}
 use Rattle.vhdl_values.specs.Scalar.{code_of}
@@ -11,7 +11,7 @@ use Rattle.vhdl_names_rules.specs.units.Expressions.{Static, SignalPart}
 use Rattle.vhdl_names_rules.specs.units.Units as u
 use Rattle.vhdl_names_rules.specs.units.Units.{Fixed, Generic, Port, Declaration, Entity}
 use Rattle.vhdl_expand_rules.specs.declared.fault.ElabProblem.TheVariants.{NoGeneric, Length, Index, Unassociated}
-use Rattle.vhdl_expand_rules.specs.Elab.{Elab, ◌>>=◌, ◌>>◌, unless, found}
+use Rattle.vhdl_expand_rules.specs.Elab.{Elab, ◌>>=◌, ◌>>◌, found, same_length, unless}
 use Rattle.vhdl_expand_rules.specs.Integers.{Integers, integer_of, natural}
 use Rattle.vhdl_expand_rules.specs.Kinds.{ObjectKind, enumeration, size, kind_of, size_of}
 use Rattle.vhdl_expand_rules.specs.Site.{Site, no_integers, no_site, Constant, place_elements}
@@ -45,7 +45,7 @@ generics above own actuals (g ∷ gs) = do
 -- a value is as long as what has it
 abbrev pub as_long_as : (len : ℕ) → List Nine → Elab (List Nine)
 as_long_as len vs = do
-  unless Length (length vs == len)
+  same_length (length vs) len
   Ok vs
 
 unfoldable pub fixed : Site → (len : ℕ) → Fixed → Elab (List Nine)
@@ -59,7 +59,7 @@ fixed at len (u.Fixed.encoded s t) = do
   as_long_as len (digits_of m n)
 fixed at len (u.filled v) = Ok (replicate len v)
 -- an enumeration's literal is no vector, in units that names have passed
-fixed at len (u.Fixed.position n) = Err Length
+fixed at len (u.Fixed.position n) = Err (Length 1 len)
 
 -- of an enumeration, by its position, or of elements
 abbrev pub given_starts : Site → ObjectKind → Fixed → Elab (List ℕ)
@@ -151,7 +151,7 @@ is_input internal = false
 unfoldable pub association : (above : Site) → Port → Option SignalPart → Object → Elab Object
 association above p (Some place) o = do
   es ← place_elements above place
-  unless Length (length es == size o.kind)
+  same_length (length es) (size o.kind)
   Ok (record o { actual = Some es })
 association above p None o = do
   unless Unassociated (not (is_input o.role) || is_some p.object.default)

@@ -1,9 +1,9 @@
 -- What elaboration computes, or why it refuses: by the first broken rule, in the order in which the definitions come to them.
-use Rattle.std.specs.Prelude.{◌≡◌, ◌≢◌, Bool, if◌then◌else◌, List, [], ◌∷◌, Option, Some, None, Result, Ok, Err, IsErr}
+use Rattle.std.specs.Prelude.{◌≡◌, ◌≢◌, ◌==◌, ℕ, Bool, if◌then◌else◌, List, [], ◌∷◌, Option, Some, None, Result, Ok, Err, IsErr}
 use Rattle.vhdl_expand_rules.specs.declared.fault.ElabFault.{ElabFault}
 use Rattle.vhdl_expand_rules.specs.declared.fault.ElabFault.TheVariants.{At, NoMemory}
 use Rattle.vhdl_expand_rules.specs.declared.fault.ElabProblem.{ElabProblem}
-use Rattle.vhdl_expand_rules.specs.declared.fault.ElabProblem.TheVariants.{TooMany}
+use Rattle.vhdl_expand_rules.specs.declared.fault.ElabProblem.TheVariants.{Length, NoTop, TooMany}
 
 abbrev pub Elab : Type 0 → Type 0
 Elab A = Result A ElabProblem
@@ -17,10 +17,11 @@ infixl 10 ◌>>◌
 abbrev pub ◌>>◌ : {A B : Type 0} → Elab A → Elab B → Elab B
 p >> q = p >>= (λ _. q)
 
--- the problem that a fault tells; of want of memory, which is none of a design's, no contract asks it
+-- The problem that a fault tells. Want of memory is none of a design's: NoTop stands for it, which no expression, kind or charge has, so
+-- that calls which take no memory can't tell it; and of those that do no contract asks it.
 abbrev pub told : ElabFault → ElabProblem
 told (At problem at) = problem
-told NoMemory = TooMany
+told NoMemory = NoTop
 
 -- Budgets are charged while a design grows, and their own rule comes behind those of the whole design. So TooMany may be told of what
 -- breaks another rule first; every other problem is that of the first broken rule.
@@ -31,6 +32,10 @@ pub record MayTell {A : Type 0} (given : Elab A) (problem : ElabProblem) : Type 
 -- a rule, and the problem where it is broken
 abbrev pub unless : ElabProblem → Bool → Elab (Unit {0})
 unless problem kept = if kept then Ok tt else Err problem
+
+-- a length, and the one that it has to be
+abbrev pub same_length : (found needed : ℕ) → Elab (Unit {0})
+same_length found needed = unless (Length found needed) (found == needed)
 
 -- what has to be there
 abbrev pub found : {A : Type 0} → ElabProblem → Option A → Elab A

@@ -1,6 +1,6 @@
 -- Expanded expressions: names are elements, lengths are computed, and a number beside a vector is a constant
 -- (IEEE 1076-2008, clause 9; numeric_std).
-use Rattle.std.specs.Prelude.{ℕ, ◌+◌, Bool, true, false, ◌==◌, nat_le, List, [], ◌∷◌, length, Ok}
+use Rattle.std.specs.Prelude.{ℕ, ◌+◌, Bool, true, false, nat_le, List, [], ◌∷◌, length, Ok}
 use Rattle.vhdl_values.specs.declared.scalar.Nine.{Nine}
 use Rattle.vhdl_values.specs.declared.scalar.Nine.TheVariants.{One, Zero}
 use Rattle.vhdl_values.specs.declared.kinds.Cmp.{Cmp}
@@ -17,8 +17,8 @@ use Rattle.vhdl_names_rules.specs.units.Expressions as u
 use Rattle.vhdl_names_rules.specs.units.Expressions.{Static, SignalPart, Vector, Value, Test}
 use Rattle.rtl_model.specs.bodies.Body as bodies
 use Rattle.rtl_model.specs.bodies.Fits.{width}
-use Rattle.vhdl_expand_rules.specs.declared.fault.ElabProblem.TheVariants.{Length, TooWide}
-use Rattle.vhdl_expand_rules.specs.Elab.{Elab, ◌>>=◌, ◌>>◌, unless}
+use Rattle.vhdl_expand_rules.specs.declared.fault.ElabProblem.TheVariants.{TooWide}
+use Rattle.vhdl_expand_rules.specs.Elab.{Elab, ◌>>=◌, ◌>>◌, same_length, unless}
 use Rattle.vhdl_expand_rules.specs.Integers.{natural, decision}
 use Rattle.vhdl_expand_rules.specs.Kinds.{as_size, size_of}
 use Rattle.vhdl_expand_rules.specs.Site.{Site, place_elements, signal_elements, variable_elements, constant_values, the_element}
@@ -27,7 +27,7 @@ use Rattle.vhdl_expand_rules.specs.Site.{Site, place_elements, signal_elements, 
 
 -- the operands of a logical operator are as long as each other; a result has at most 64 elements
 abbrev pub operands_fit : bodies.Operator → ℕ → ℕ → Elab (Unit {0})
-operands_fit (bodies.logical op) m n = unless Length (m == n)
+operands_fit (bodies.logical op) m n = same_length m n
 operands_fit bodies.joined m n = unless TooWide (nat_le (m + n) 64)
 operands_fit bodies.plus m n = Ok tt
 operands_fit bodies.minus m n = Ok tt

@@ -1,13 +1,12 @@
 -- Expanded bodies: targets are elements, and a loop is the sequence of its turns (IEEE 1076-2008, clause 10). Lengths
 -- agree in each statement, run or not.
-use Rattle.std.specs.Prelude.{ℕ, ◌+◌, ◌==◌, List, [], ◌∷◌, length, map, sum, Ok}
+use Rattle.std.specs.Prelude.{ℕ, ◌+◌, List, [], ◌∷◌, length, map, sum, Ok}
 use Rattle.vhdl_values.specs.Scalar.{code_of}
 use Rattle.vhdl_names_rules.specs.units.Statements as u
 use Rattle.vhdl_names_rules.specs.units.Statements.{Given, Choice}
 use Rattle.rtl_model.specs.bodies.Body as bodies
 use Rattle.rtl_model.specs.bodies.Fits.{width, value_width}
-use Rattle.vhdl_expand_rules.specs.declared.fault.ElabProblem.TheVariants.{Length}
-use Rattle.vhdl_expand_rules.specs.Elab.{Elab, ◌>>=◌, ◌>>◌, unless, each}
+use Rattle.vhdl_expand_rules.specs.Elab.{Elab, ◌>>=◌, ◌>>◌, each, same_length}
 use Rattle.vhdl_expand_rules.specs.Integers.{turns}
 use Rattle.vhdl_expand_rules.specs.Site.{Site, in_loop, place_elements, variable_elements}
 use Rattle.vhdl_expand_rules.specs.Expressions.{vector, value, test}
@@ -16,17 +15,17 @@ use Rattle.vhdl_expand_rules.specs.Expressions.{vector, value, test}
 unfoldable pub value_given : Site → (len : ℕ) → Given → Elab bodies.Value
 value_given at len (u.single v) = do
   e ← value at v
-  unless Length (value_width e == len)
+  same_length (value_width e) len
   Ok e
 value_given at len (u.filled x) = do
   e ← vector at x
-  unless Length (width e == 1)
+  same_length (width e) 1
   Ok (bodies.elements (bodies.filled len e))
 
 -- a choice has as many elements as what is selected by
 unfoldable pub choice : (len : ℕ) → Choice → Elab (List ℕ)
 choice len (u.values vs) = do
-  unless Length (length vs == len)
+  same_length (length vs) len
   Ok (map code_of vs)
 choice len (u.position n) = Ok (n ∷ [])
 

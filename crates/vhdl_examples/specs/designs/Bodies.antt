@@ -71,7 +71,7 @@ pub record NumbersBecomeConstants : Type 0 where
   pub no_element : vector site (e.Vector.encoded (number 9) (number 0)) ≡ Err Index
   pub too_wide : vector site (e.Vector.resized w (number 65)) ≡ Err TooWide
   -- w and "111", and 63 elements & w
-  pub lengths : vector site (e.Vector.binary (v.Logical And) w (e.Vector.literal (One ∷ One ∷ One ∷ []))) ≡ Err Length
+  pub lengths : vector site (e.Vector.binary (v.Logical And) w (e.Vector.literal (One ∷ One ∷ One ∷ []))) ≡ Err (Length 2 3)
   pub joined_too_wide : vector site (e.Vector.binary v.Concatenate (e.Vector.literal (replicate 63 One)) w) ≡ Err TooWide
 
 -- ---- generics, and conditional generates

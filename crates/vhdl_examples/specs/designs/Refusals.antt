@@ -74,8 +74,8 @@ abbrev pub element_read : Static → Concurrent
 element_read i = assignment (port 0 (at (number 2))) (read (signal 0 (at i)))
 
 pub record LengthsAgree : Type 0 where
-  pub short : elaborated_net (with_signal (downto 3 0) (process u.every (short_literal ∷ []) ∷ []) ∷ []) (codes "d") ≡ Err Length
-  pub short_under_false : elaborated_net (with_signal (downto 3 0) (process u.every (under_false short_literal ∷ []) ∷ []) ∷ []) (codes "d") ≡ Err Length
+  pub short : elaborated_net (with_signal (downto 3 0) (process u.every (short_literal ∷ []) ∷ []) ∷ []) (codes "d") ≡ Err (Length 2 3)
+  pub short_under_false : elaborated_net (with_signal (downto 3 0) (process u.every (under_false short_literal ∷ []) ∷ []) ∷ []) (codes "d") ≡ Err (Length 2 3)
   pub null_range : elaborated_net (with_signal (to 3 0) [] ∷ []) (codes "d") ≡ Err Index
   pub negative_bound : elaborated_net (with_signal (record { left = number 3; direction = Downto; right = minus 1 }) [] ∷ []) (codes "d") ≡ Err StaticError
   pub too_wide : elaborated_net (with_signal (downto 64 0) [] ∷ []) (codes "d") ≡ Err TooWide

@@ -1,5 +1,5 @@
 -- Declarations of sound units become sound objects, and ports are soundly joined.
-use Rattle.std.proofs.Common.{◌≡◌, ℕ, ◌<◌, true, false, not, ◌&&◌, ◌||◌, ◌==◌, List, [], ◌∷◌, ◌++◌, length, map, Option, Some, None, Ok, All, refl, sym, ap, ◌∙◌, subst, append_assoc, append-nil}
+use Rattle.std.proofs.Common.{◌≡◌, ℕ, ◌<◌, true, false, not, ◌&&◌, ◌||◌, List, [], ◌∷◌, ◌++◌, length, map, Option, Some, None, Ok, All, refl, sym, ap, ◌∙◌, subst, append_assoc, append-nil}
 use Rattle.std.specs.Prelude.{is_some}
 use Rattle.std.specs.List.{AllZip, list_all}
 use Rattle.std.proofs.lemmas.Bool.{and_parts}
@@ -14,8 +14,8 @@ use Rattle.vhdl_names_rules.specs.units.Units.{Form, Port, Declaration, Entity}
 use Rattle.vhdl_names_rules.specs.sound.Expressions.{Inside, shape_of, place_shape, fits_shape, port_form}
 use Rattle.vhdl_names_rules.specs.sound.Statements.{is_driven}
 use Rattle.vhdl_names_rules.specs.sound.Units.{form_fits, fixed_fits, default_fits, may_be_resolved, object_fits, objects_fit, port_fits, declaration_fits, with_declaration, declarations_fit, with_declarations, may_join, actual_fits, actuals_fit}
-use Rattle.vhdl_expand_rules.specs.declared.fault.ElabProblem.TheVariants.{Length, Unassociated}
-use Rattle.vhdl_expand_rules.specs.Elab.{unless}
+use Rattle.vhdl_expand_rules.specs.declared.fault.ElabProblem.TheVariants.{Unassociated}
+use Rattle.vhdl_expand_rules.specs.Elab.{unless, same_length}
 use Rattle.vhdl_expand_rules.specs.Integers.{Integers, integer_of}
 use Rattle.vhdl_expand_rules.specs.Kinds.{ObjectKind, size, element_type, kind_of}
 use Rattle.vhdl_expand_rules.specs.Site.{Site, no_integers, no_site, place_elements}
@@ -159,7 +159,7 @@ association-sound i at ps ss p None o x h w fit e =
 association-sound i at ps ss p (Some place) o x h w fit e =
     let both = and_parts (fits_shape (shape_of p.object.form) (place_shape i place)) (may_join i p.mode place.signal) fit in
     let es = bound (place_elements at place) _ x e in
-    let a = bound (unless Length (length es.x == size o.kind)) _ x es.then_gave in
+    let a = bound (same_length (length es.x) (size o.kind)) _ x es.then_gave in
     let n = each-name-fits i at place (shape_of p.object.form) es.x h.site (has_shape (shape_of p.object.form) (place_shape i place) both.0) es.gave in
     let type_is = (whole p.object.form o.kind w.plain.kind).type_is in
     let plain = (port-sound (ps ++ ss) p o w).sound in

@@ -1,5 +1,5 @@
 -- Trees of named units are named, by induction over concurrent statements and over the nesting.
-use Rattle.std.proofs.Common.{◌≡◌, ℕ, zero, suc, Bool, true, false, cond, not, ◌&&◌, ◌||◌, ◌==◌, List, [], ◌∷◌, ◌++◌, length, map, Option, Some, None, Ok, All, sym, ap, ◌∙◌, subst}
+use Rattle.std.proofs.Common.{◌≡◌, ℕ, zero, suc, Bool, true, false, cond, not, ◌&&◌, ◌||◌, List, [], ◌∷◌, ◌++◌, length, map, Option, Some, None, Ok, All, sym, ap, ◌∙◌, subst}
 use Rattle.std.specs.Prelude.{◌≢◌, slice_get, find, is_some, bytes_eq, IfSome}
 use Rattle.std.specs.Char.{to_ascii_lowercase}
 use Rattle.std.specs.List.{list_all}
@@ -10,8 +10,8 @@ use Rattle.vhdl_names_rules.specs.units.Expressions.{Static, SignalPart}
 use Rattle.vhdl_names_rules.specs.units.Units as u
 use Rattle.vhdl_names_rules.specs.units.Units.{Units, Port, Declaration, Entity}
 use Rattle.vhdl_names_rules.specs.sound.Named.{has_text, label_is_named, objects_are_named, declaration_is_named, concurrent_is_named, concurrents_are_named, architecture_is_named, entity_is_named, are_named}
-use Rattle.vhdl_expand_rules.specs.declared.fault.ElabProblem.TheVariants.{NoTop, Length, Unassociated}
-use Rattle.vhdl_expand_rules.specs.Elab.{Elab, unless, found, each}
+use Rattle.vhdl_expand_rules.specs.declared.fault.ElabProblem.TheVariants.{NoTop, Unassociated}
+use Rattle.vhdl_expand_rules.specs.Elab.{Elab, unless, found, each, same_length}
 use Rattle.vhdl_expand_rules.specs.Integers.{Integers, integer_of, decision, turns}
 use Rattle.vhdl_expand_rules.specs.Kinds.{size, kind_of}
 use Rattle.vhdl_expand_rules.specs.Site.{Site, no_integers, no_site, place_elements}
@@ -96,7 +96,7 @@ association-named above p None o x h k =
     subst HasName (ok o x a.then_gave) h
 association-named above p (Some place) o x h k =
     let es = bound (place_elements above place) _ x k in
-    let a = bound (unless Length (length es.x == size o.kind)) _ x es.then_gave in
+    let a = bound (same_length (length es.x) (size o.kind)) _ x es.then_gave in
     subst HasName (ok (record o { actual = Some es.x }) x a.then_gave) h
 
 associations-named : (above : Site) (ps : List Port) (actuals : List (Option SignalPart)) (os xs : List Object) → All HasName os → associations above ps actuals os ≡ Ok xs → All HasName xs

@@ -10,7 +10,7 @@ use Rattle.vhdl_names_rules.specs.units.Expressions.{Static, SignalPart}
 use Rattle.vhdl_names_rules.specs.units.Units as u
 use Rattle.vhdl_names_rules.specs.units.Units.{Fixed, Port, Declaration, Entity, Units}
 use Rattle.vhdl_expand_rules.specs.declared.fault.ElabProblem.TheVariants.{NoTop, Length, Index, Unassociated}
-use Rattle.vhdl_expand_rules.specs.Elab.{Elab, ◌>>=◌, unless, found, each}
+use Rattle.vhdl_expand_rules.specs.Elab.{Elab, ◌>>=◌, unless, found, each, same_length}
 use Rattle.vhdl_expand_rules.specs.Integers.{Integers, natural, integer_of, decision, turns}
 use Rattle.vhdl_expand_rules.specs.Kinds.{ObjectKind, one, vector, enumeration, size, size_of, kind_of}
 use Rattle.vhdl_expand_rules.specs.Site.{Site, no_integers, no_site, place_elements}
@@ -26,8 +26,8 @@ use Rattle.std.proofs.lemmas.List.{length-map, length-replicate}
 
 as_long : (len : ℕ) (vs ws : List Nine) → as_long_as len vs ≡ Ok ws → length ws ≡ len
 as_long len vs ws h =
-    let x = bound (unless Length (length vs == len)) _ ws h in
-    subst (λ (xs : List Nine). length xs ≡ len) (ok vs ws x.then_gave) (eqb-true (length vs) len (kept Length (length vs == len) x.x x.gave))
+    let x = bound (same_length (length vs) len) _ ws h in
+    subst (λ (xs : List Nine). length xs ≡ len) (ok vs ws x.then_gave) (eqb-true (length vs) len (kept (Length (length vs) len) (length vs == len) x.x x.gave))
 
 fixed-length : (at : Site) (len : ℕ) (f : Fixed) (vs : List Nine) → fixed at len f ≡ Ok vs → length vs ≡ len
 unfolding fixed
@@ -121,10 +121,10 @@ association-fits above p None o x h k =
     subst ObjectFits (ok o x a.then_gave) h
 association-fits above p (Some place) o x h k =
     let es = bound (place_elements above place) _ x k in
-    let a = bound (unless Length (length es.x == size o.kind)) _ x es.then_gave in
+    let a = bound (same_length (length es.x) (size o.kind)) _ x es.then_gave in
     subst ObjectFits (ok (record o { actual = Some es.x }) x a.then_gave) (record {
       starts = h.starts;
-      actual = λ fs e. ap length (some fs es.x e) ∙ eqb-true (length es.x) (size o.kind) (kept Length (length es.x == size o.kind) a.x a.gave);
+      actual = λ fs e. ap length (some fs es.x e) ∙ eqb-true (length es.x) (size o.kind) (kept (Length (length es.x) (size o.kind)) (length es.x == size o.kind) a.x a.gave);
     })
   where
     some : (fs es : List ℕ) → Some es ≡ Some fs → fs ≡ es

@@ -20,7 +20,7 @@ use Rattle.vhdl_names_rules.specs.sound.Expressions.{Inside, Shape, vector, stat
 use Rattle.vhdl_names_rules.specs.sound.Expressions as sound
 use Rattle.vhdl_names_rules.specs.sound.Statements.{given_fits, given_fits_target, is_driven, within_loop, choice_fits, statement_fits, statements_fit, branches_fit, alternatives_fit}
 use Rattle.vhdl_expand_rules.specs.declared.fault.ElabProblem.TheVariants.{Length}
-use Rattle.vhdl_expand_rules.specs.Elab.{unless, each}
+use Rattle.vhdl_expand_rules.specs.Elab.{each, same_length}
 use Rattle.vhdl_expand_rules.specs.Integers.{turns}
 use Rattle.vhdl_expand_rules.specs.Site.{Site, in_loop, elements_count, place_elements, variable_elements}
 use Rattle.vhdl_expand_rules.specs.Expressions as x
@@ -46,13 +46,13 @@ given-fits : (i : Inside) (at : Site) (z : Shape) (len : ℕ) (g : s.Given) (v :
 unfolding value_given
 given-fits i at z len (s.single y) v h w k m =
     let e = bound (x.value at y) _ v m in
-    let same = bound (unless Length (value_width e.x == len)) _ v e.then_gave in
+    let same = bound (same_length (value_width e.x) len) _ v e.then_gave in
     let q = each-value-fits i at y z e.x h k e.gave in
     subst (IsGiven at z len) (ok e.x v same.then_gave)
-    (record { fits = q.fits; width = sym (eqb-true (value_width e.x) len (kept Length (value_width e.x == len) same.x same.gave)) })
+    (record { fits = q.fits; width = sym (eqb-true (value_width e.x) len (kept (Length (value_width e.x) len) (value_width e.x == len) same.x same.gave)) })
 given-fits i at vector len (s.filled y) v h w k m =
     let e = bound (x.vector at y) _ v m in
-    let same = bound (unless Length (width e.x == 1)) _ v e.then_gave in
+    let same = bound (same_length (width e.x) 1) _ v e.then_gave in
     let q = each-vector-fits i at y sound.one e.x h (has_shape sound.one (vector_shape i y) k) e.gave in
     subst (IsGiven at vector len) (ok (bodies.elements (bodies.filled len e.x)) v same.then_gave) (record { fits = (w, q.fits, q.width); width = refl })
 given-fits i at sound.one len (s.filled y) v h w k m = absurd cc
@@ -101,9 +101,9 @@ module _ (at : Site) where
   values-fit : (len : ℕ) (vs : List Nine) (ns : List ℕ) → choice len (s.values vs) ≡ Ok ns → FitsChoice (scope_at at) nine_valued len ns
   unfolding choice
   values-fit len vs ns h =
-      let same = bound (unless Length (length vs == len)) _ ns h in
+      let same = bound (same_length (length vs) len) _ ns h in
       subst (FitsChoice (scope_at at) nine_valued len) (ok (map code_of vs) ns same.then_gave)
-      (length-map vs code_of ∙ eqb-true (length vs) len (kept Length (length vs == len) same.x same.gave), codes_below vs)
+      (length-map vs code_of ∙ eqb-true (length vs) len (kept (Length (length vs) len) (length vs == len) same.x same.gave), codes_below vs)
 
   one-fits : (n p len : ℕ) → p < n → len ≡ 1 → FitsChoice (scope_at at) (enumeration n) len (p ∷ [])
   one-fits n p len h e = (sym e, All-cons (λ m. m < n) p [] h (All-nil (λ m. m < n)))

@@ -91,7 +91,7 @@ operated-fits : (at : Site) (op : VectorOperator) (s t z : Shape) (d e r : bodie
     → IsVector at z r
 operated-fits at (v.Logical op) s t z d e r h g k m =
     let fit = bound (operands_fit (bodies.logical op) (width d) (width e)) _ r m in
-    let same : width d ≡ width e = eqb-true (width d) (width e) (kept Length (width d == width e) fit.x fit.gave) in
+    let same : width d ≡ width e = eqb-true (width d) (width e) (kept (Length (width d) (width e)) (width d == width e) fit.x fit.gave) in
     subst (λ (y : Shape). IsVector at y r) (given_some (same_shape s t && is_elements s) s z k).1
     (subst (IsVector at s) (ok (bodies.binary (bodies.logical op) d e) r fit.then_gave)
     (record { of_elements = h.of_elements; fits = (vector_width at s d h, h.fits, g.fits, same); width = h.width }))

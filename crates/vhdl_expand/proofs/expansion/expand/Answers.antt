@@ -1,4 +1,4 @@
-use Rattle.std.proofs.Common.{◌≡◌, map, None, ap, ◌∙◌, sym, subst, arith, rules}
+use Rattle.std.proofs.Common.{◌≡◌, map, None, ap, ◌∙◌, sym, arith, rules}
 use Rattle.std.specs.Prelude.{◌≢◌, find, bytes_eq}
 use Rattle.std.proofs.lemmas.Grind.{common_steps}
 use Rattle.vhdl_names_rules.specs.units.Units.{Entity}
@@ -11,6 +11,7 @@ use Rattle.vhdl_expand_tree.specs.Views.{budget_view, instance_view}
 use Rattle.vhdl_expand.specs.Limits.{within_limits}
 use Rattle.vhdl_expand_objects.specs.Views.{declared_view}
 use Rattle.vhdl_expand.proofs.Nested.{no_top, no_top_interface, no_instance, design_made}
+use Rattle.vhdl_expand.proofs.Told.{told_at}
 use Rattle.vhdl_expand.proofs.Heavier.{found_among}
 use Rattle.vhdl_expand_rules.specs.Elab.{told, MayTell}
 use Rattle.vhdl_expand_tree.proofs.Alike.{tells, tells_same}
@@ -22,7 +23,7 @@ returns-in_default c =
     let named = ap (λ n. find (λ (e : Entity). bytes_eq e.name n) us) (sym (c.deref-2.ensures.value ∙ c.in_ok-name.ensures))
     ∙ ap (λ es. find (λ (e : Entity). bytes_eq e.name c.deref-2.result.now) (map entity_view es)) (sym c.deref.ensures.value) ∙ c.in_default.ensures in
     let none : c.named.result ≡ None = first_of (search rules, grind (arith, common_steps)) in
-    λ _. tells (no_top us c.args.top.now named)
+    λ _. told_at c.at.ensures (tells (no_top us c.args.top.now named))
 
 pub returns-in_err-declared : goal.returns-in_err-declared
 returns-in_err-declared c =

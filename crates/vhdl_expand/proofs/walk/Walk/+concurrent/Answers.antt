@@ -36,6 +36,7 @@ use Rattle.vhdl_expand.proofs.Weights.{weight, weights}
 use Rattle.vhdl_expand.proofs.Making.{turns_fit, charges_along}
 use Rattle.vhdl_expand.proofs.Statements.{listed, list_goes, list_stops, list_ends, none_left, process_is, instance_is}
 use Rattle.vhdl_expand.proofs.Generates.{for_each, if_holding, turned, turns_begin, turns_refused, no_turns, turns_go, turns_stop, turns_end, turn_spot, branch_spot, branch_taken, branch_left, no_branch}
+use Rattle.vhdl_expand.proofs.Told.{told_at}
 use Rattle.vhdl_expand.proofs.Heavier.{lighter, generate_weight, level_lighter}
 use Rattle.vhdl_expand.proofs.walk.Walk.+concurrent.Goals as goal
 
@@ -241,16 +242,18 @@ body-returns t c =
 pub instance-returns-then-self-eq0 : goal.instance-returns-then-self-eq0
 instance-returns-then-self-eq0 t c =
     let zero : c.args.self.now.levels ≡ 0 = omega (arith, c.if-self-eq0.true) in
-    λ _. subst (λ n. MayTell (charged (budget_view c.args.left.now) instance_costs (instance_of (units_of c.args.self.now) n (entity_view c.args.unit.now) (declared_view c.args.declared))) TooDeep) (sym zero)
-    (tells (too_deep (units_of c.args.self.now) (entity_view c.args.unit.now) (declared_view c.args.declared) (budget_view c.args.left.now)))
+    λ _. told_at c.at.ensures
+    (subst (λ n. MayTell (charged (budget_view c.args.left.now) instance_costs (instance_of (units_of c.args.self.now) n (entity_view c.args.unit.now) (declared_view c.args.declared))) TooDeep) (sym zero)
+    (tells (too_deep (units_of c.args.self.now) (entity_view c.args.unit.now) (declared_view c.args.declared) (budget_view c.args.left.now))))
 
 pub instance-returns-in_default : goal.instance-returns-in_default
 instance-returns-in_default t c =
     let n = c.args.self.now.levels - 1 in
     let level : c.args.self.now.levels ≡ suc n = omega (arith, c.if-self-eq0.false) in
     let none : c.args.unit.now.architecture ≡ None = first_of (search rules, grind (arith, common_steps)) in
-    λ _. subst (λ m. MayTell (charged (budget_view c.args.left.now) instance_costs (instance_of (units_of c.args.self.now) m (entity_view c.args.unit.now) (declared_view c.args.declared))) NoTop) (sym level)
-    (tells (no_architecture (units_of c.args.self.now) n (entity_view c.args.unit.now) (declared_view c.args.declared) (budget_view c.args.left.now) (ap (option_map architecture_view) none)))
+    λ _. told_at c.at-in_default.ensures
+    (subst (λ m. MayTell (charged (budget_view c.args.left.now) instance_costs (instance_of (units_of c.args.self.now) m (entity_view c.args.unit.now) (declared_view c.args.declared))) NoTop) (sym level)
+    (tells (no_architecture (units_of c.args.self.now) n (entity_view c.args.unit.now) (declared_view c.args.declared) (budget_view c.args.left.now) (ap (option_map architecture_view) none))))
 
 pub instance-returns-in_err-charge_instance : goal.instance-returns-in_err-charge_instance
 instance-returns-in_err-charge_instance t c =
@@ -326,8 +329,8 @@ add_instance-returns-in_default t c =
     let x = units.instance_view c.args.written.now in
     let at = spot_view c.args.spot.now in
     let gone = slice_get_past c.args.self.now.units.now c.args.written.now.unit c.in_default.ensures.lookup.3 in
-    λ _. tells (not_expanded (at.prefix ++ x.label) (progress_view c.args.so_far.now) _
-    (no_unit (units_of c.args.self.now) c.args.self.now.levels at x (slice_get-map entity_view c.args.self.now.units.now c.args.written.now.unit ∙ ap (option_map entity_view) gone)))
+    λ _. told_at c.at.ensures (tells (not_expanded (at.prefix ++ x.label) (progress_view c.args.so_far.now) _
+    (no_unit (units_of c.args.self.now) c.args.self.now.levels at x (slice_get-map entity_view c.args.self.now.units.now c.args.written.now.unit ∙ ap (option_map entity_view) gone))))
 
 pub add_instance-returns-in_err-declared : goal.add_instance-returns-in_err-declared
 add_instance-returns-in_err-declared t c =
