@@ -1,9 +1,6 @@
 -- The elements of a text, by the first.
-use Rattle.std.proofs.Common.{◌≡◌, ℕ, zero, suc, ◌-◌, ◌<◌, ◌≤◌, ◌==◌, Bool, true, false, max, List, [], ◌∷◌, ◌++◌, if◌then◌else◌, length, take, drop, refl, sym, ap, ◌∙◌, length-drop, arith}
+use Rattle.std.proofs.Common.{◌≡◌, ℕ, zero, suc, ◌-◌, ◌<◌, ◌≤◌, Bool, true, false, max, List, [], ◌∷◌, ◌++◌, if◌then◌else◌, length, take, drop, refl, sym, ap, ◌∙◌, length-drop, arith}
 use Rattle.rtlsim_choices.specs.Elements.{Element, element_len, elements, elements_from, first, is_passed, len}
-
-one_less : (n : ℕ) → suc n - 1 ≡ n
-one_less n = omega arith
 
 -- what is held is passed over
 held : (n : ℕ) (text : List ℕ) → elements_from n text ≡ elements (drop n text)
@@ -11,7 +8,7 @@ unfolding elements
 held zero [] = refl
 held (suc n) [] = refl
 held zero (byte ∷ text) = refl
-held (suc n) (byte ∷ text) = ap (λ (m : ℕ). elements_from m text) (one_less n) ∙ held n text
+held (suc n) (byte ∷ text) = held n text
 
 positive : (n : ℕ) → max 1 n ≡ suc (max 1 n - 1)
 positive n = omega arith

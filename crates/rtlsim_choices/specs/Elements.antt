@@ -1,6 +1,6 @@
 -- The lexical elements of a text without separators and comments (IEEE 1076-2008, 15.3), as they are written: words and numbers, character,
 -- string and bit string literals, and of all else each byte.
-use Rattle.std.specs.Prelude.{ℕ, ◌+◌, ◌-◌, ◌==◌, ◌&&◌, ◌||◌, not, max, Bool, false, if◌then◌else◌, List, [], ◌∷◌, ◌++◌, take, drop}
+use Rattle.std.specs.Prelude.{ℕ, zero, suc, ◌+◌, ◌-◌, ◌==◌, ◌&&◌, ◌||◌, not, max, Bool, false, if◌then◌else◌, List, [], ◌∷◌, ◌++◌, take, drop}
 use Rattle.std.specs.List.{prefix_len}
 use Rattle.vhdl_lexer.specs.Bytes.{quote, tick, star, dash, slash, ends_line, is_separator, is_word_byte, begins}
 use Rattle.vhdl_lexer.specs.Scan.{before, from_close}
@@ -62,8 +62,8 @@ first text = if is_passed text then [] else take (len text) text ∷ []
 -- `held`: so many bytes belong to what began before
 abbrev pub elements_from : (held : ℕ) → List ℕ → List Element
 elements_from held [] = []
-elements_from held (byte ∷ text) =
-    if held == 0 then first (byte ∷ text) ++ elements_from (len (byte ∷ text) - 1) text else elements_from (held - 1) text
+elements_from zero (byte ∷ text) = first (byte ∷ text) ++ elements_from (len (byte ∷ text) - 1) text
+elements_from (suc held) (byte ∷ text) = elements_from held text
 
 unfoldable pub elements : List ℕ → List Element
 elements text = elements_from 0 text

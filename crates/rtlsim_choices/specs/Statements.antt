@@ -1,5 +1,5 @@
 -- What is left of a statement.
-use Rattle.std.specs.Prelude.{ℕ, ◌+◌, ◌<◌, ◌^◌, List, [], ◌∷◌, length, if◌then◌else◌, codes}
+use Rattle.std.specs.Prelude.{◌+◌, ◌<◌, ◌^◌, List, [], ◌∷◌, length, if◌then◌else◌, codes}
 use Rattle.rtlsim_choices.specs.Choices.{choices_from, is, literals}
 use Rattle.rtlsim_choices.specs.Elements.{Element, elements}
 use Rattle.rtlsim_choices.specs.declared.choice.Statement.{Statement}

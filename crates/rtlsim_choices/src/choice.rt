@@ -6,7 +6,7 @@ ghost use Rattle.rtlsim_choices.specs.Choices as spec;
 ghost use Rattle.rtlsim_choices.specs.Statements.{choices_in, HasRoom};
 ghost use Rattle.rtlsim_choices.specs.Elements.{elements};
 
-use crate::element::next_element;
+use crate::element::{behind, front, next_element};
 use crate::enumeration::{is, is_literal, next_literal, region, type_of};
 
 /// A statement from some element on.
@@ -108,6 +108,14 @@ fn is_choice(statement: Statement<'_>, element: &[u8]) -> bool
     false
 }
 
+/// Whether an element is none of the statement's choices.
+fn is_missing(statement: Statement<'_>, element: &[u8]) -> bool
+    requires { HasRoom statement }
+    ensures { result ≡ not (spec.is_among (choices_in statement.entry) element.now) }
+{
+    !is_choice(statement, element)
+}
+
 /// Whether each choice of the statement is one of the literals that stand here.
 #[tactic(auto, using(crate::proofs::Choices::all_here, crate::proofs::Choices::all_more))]
 fn are_literals(statement: Statement<'_>, literals: &[u8]) -> bool
@@ -125,7 +133,6 @@ fn are_literals(statement: Statement<'_>, literals: &[u8]) -> bool
 }
 
 /// The first of the literals that stand here which isn't among the choices of the statement.
-#[tactic(auto, using(crate::proofs::Choices::find_here, crate::proofs::Choices::find_more))]
 fn first_missing<'a>(statement: Statement<'_>, literals: &'a [u8]) -> Option<&'a [u8]>
     requires { HasRoom statement }
     ensures { option_map (λ literal. literal.now) result
@@ -133,7 +140,7 @@ fn first_missing<'a>(statement: Statement<'_>, literals: &'a [u8]) -> Option<&'a
 {
     let mut left = literals;
     while let Some((literal, after)) = next_literal(left) {
-        if !is_choice(statement, literal) {
+        if is_missing(statement, literal) {
             return Some(literal);
         }
         left = after;
@@ -159,8 +166,7 @@ fn left_out<'a>(statement: Statement<'_>, literals: Option<&'a [u8]>) -> Option<
 pub(crate) fn missing(text: &[u8], at: usize) -> Option<&[u8]>
     ensures { option_map (λ literal. literal.now) result ≡ spec.missing text.now at }
 {
-    let (before, behind) = text.split_at(at.min(text.len()));
-    let statement = beginning(behind);
+    let statement = beginning(behind(at, text));
     let (choice, _) = next_choice(statement)?;
-    left_out(statement, type_of(region(before), choice))
+    left_out(statement, type_of(region(front(at, text)), choice))
 }

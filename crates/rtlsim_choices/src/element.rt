@@ -54,7 +54,7 @@ fn begins_word(text: &[u8]) -> bool
 
 /// What stands behind so many bytes.
 #[tactic(auto, using(crate::proofs::Lists::cut_behind, crate::proofs::Lists::none_behind))]
-fn behind(count: usize, text: &[u8]) -> &[u8]
+pub(crate) fn behind(count: usize, text: &[u8]) -> &[u8]
     ensures { result.now ≡ drop count text.now }
 {
     if count < text.len() {
@@ -65,8 +65,8 @@ fn behind(count: usize, text: &[u8]) -> &[u8]
 }
 
 /// So many bytes, or all where there are fewer.
-#[tactic(auto, using(crate::proofs::Lists::cut_front, crate::proofs::Lists::all_front))]
-fn front(count: usize, text: &[u8]) -> &[u8]
+#[tactic(auto, using(crate::proofs::Lists::all_front))]
+pub(crate) fn front(count: usize, text: &[u8]) -> &[u8]
     ensures { result.now ≡ take count text.now }
 {
     if count < text.len() {
