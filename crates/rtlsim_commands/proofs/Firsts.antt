@@ -1,6 +1,7 @@
 -- The first numbers of nets that still change.
-use Rattle.std.proofs.Common.{◌≡◌, ℕ, zero, suc, ◌+◌, ◌<◌, Bool, true, false, List, [], ◌∷◌, ◌++◌, length, cond, filter, refl, sym, ap, ◌∙◌, append-nil, arith}
-use Rattle.std.specs.Prelude.{take}
+use Rattle.std.proofs.Common.{◌≡◌, ℕ, zero, suc, ◌+◌, ◌<◌, Bool, true, false, List, [], ◌∷◌, ◌++◌, length, cond, filter, Result, Ok, Err, refl, sym, ap, subst, ◌∙◌, append-nil, arith}
+use Rattle.arrayvec.specs.ArrayVec.{ArrayVec}
+use Rattle.std.specs.Prelude.{take, IsOk, OnOk, OnErr}
 use Rattle.std.specs.List.{range_with_len}
 use Rattle.std.proofs.lemmas.List.Elements.{filter-append}
 use Rattle.rtl_model.specs.basics.Valuations.{has_event}
@@ -35,11 +36,29 @@ module _ (before now : List ℕ) where
   more_if : (n : ℕ) (b : Bool) → has_event before now n ≡ b → so_far (suc n) ≡ so_far n ++ cond b (n ∷ []) []
   more_if n b is = one_more n ∙ ap (λ (c : Bool). so_far n ++ cond c (n ∷ []) []) is
 
-  pub kept : (n : ℕ) → has_event before now n ≡ true → length (take 17 (so_far n)) < 17 → take 17 (so_far (suc n)) ≡ take 17 (so_far n) ++ n ∷ []
+  kept : (n : ℕ) → has_event before now n ≡ true → length (take 17 (so_far n)) < 17 → take 17 (so_far (suc n)) ≡ take 17 (so_far n) ++ n ∷ []
   kept n is less = ap (take 17) (more_if n true is) ∙ room_left 17 (so_far n) n less
 
-  pub not_kept : (n : ℕ) → has_event before now n ≡ true → length (take 17 (so_far n)) ≡ 17 → take 17 (so_far (suc n)) ≡ take 17 (so_far n)
+  not_kept : (n : ℕ) → has_event before now n ≡ true → length (take 17 (so_far n)) ≡ 17 → take 17 (so_far (suc n)) ≡ take 17 (so_far n)
   not_kept n is all = ap (take 17) (more_if n true is) ∙ no_room 17 (so_far n) n all
 
-  pub same : (n : ℕ) → has_event before now n ≡ false → take 17 (so_far (suc n)) ≡ take 17 (so_far n)
+  same : (n : ℕ) → has_event before now n ≡ false → take 17 (so_far (suc n)) ≡ take 17 (so_far n)
   same n is = ap (take 17) (more_if n false is ∙ append-nil (so_far n))
+
+  -- a number is added where there is room
+  pub noted : {A F : Type 0} (n : ℕ) → has_event before now n ≡ true → (old new : ArrayVec ℕ) → old.items ≡ take 17 (so_far n) → (added : Result A F)
+      → OnOk added (new.items ≡ old.items ++ n ∷ []) → OnErr added (new ≡ old) → OnErr added (length old.items ≡ 17) → (IsOk added → length old.items < 17)
+      → new.items ≡ take 17 (so_far (n + 1))
+  noted n is old new old_is (Ok x) ok err full room =
+      let less : length (take 17 (so_far n)) < 17 = subst (λ (xs : List ℕ). length xs < 17) old_is (room refl) in
+      let more : n + 1 ≡ suc n = omega arith in
+      ok ∙ ap (λ (xs : List ℕ). xs ++ n ∷ []) old_is ∙ sym (kept n is less) ∙ ap (λ (k : ℕ). take 17 (so_far k)) (sym more)
+  noted n is old new old_is (Err f) ok err full room =
+      let all : length (take 17 (so_far n)) ≡ 17 = subst (λ (xs : List ℕ). length xs ≡ 17) old_is full in
+      let more : n + 1 ≡ suc n = omega arith in
+      ap (λ (v : ArrayVec ℕ). v.items) err ∙ old_is ∙ sym (not_kept n is all) ∙ ap (λ (k : ℕ). take 17 (so_far k)) (sym more)
+
+  pub unnoted : (n : ℕ) → has_event before now n ≡ false → (old new : ArrayVec ℕ) → old.items ≡ take 17 (so_far n) → new ≡ old → new.items ≡ take 17 (so_far (n + 1))
+  unnoted n is old new old_is new_is =
+      let more : n + 1 ≡ suc n = omega arith in
+      ap (λ (v : ArrayVec ℕ). v.items) new_is ∙ old_is ∙ sym (same n is) ∙ ap (λ (k : ℕ). take 17 (so_far k)) (sym more)

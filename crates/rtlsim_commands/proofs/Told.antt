@@ -1,5 +1,5 @@
 -- What is told of an answer.
-use Rattle.std.proofs.Common.{◌≡◌, ℕ, List, [], length, Option, None, Result, Err, inl, inr, refl, sym, subst, ◌∙◌, true≢false}
+use Rattle.std.proofs.Common.{◌≡◌, ℕ, List, [], length, Option, None, Result, Ok, Err, inl, inr, refl, sym, subst, ◌∙◌, true≢false}
 use Rattle.rtlsim_faults.specs.Faults.{of_source, status_of}
 use Rattle.rtlsim_faults.specs.Places.{IsTold}
 use Rattle.rtlsim_faults.specs.Told.{TellsFault}
@@ -9,7 +9,7 @@ use Rattle.rtlsim_faults.specs.declared.status.Status.{Status}
 use Rattle.rtlsim_faults.proofs.Refused.{nameless, source_told}
 use Rattle.rtlsim_commands.specs.Refused.{RefusesSource}
 use Rattle.rtlsim_commands.specs.Served.{Outputs, Serves, ended}
-use Rattle.rtlsim_commands.specs.Told.{Done}
+use Rattle.rtlsim_commands.specs.Told.{Done, TellsText}
 use Rattle.rtlsim_commands.specs.Unsettled.{TellsChanging}
 use Rattle.rtl_net.specs.Nets.{NetlistView}
 use Rattle.rtl_sink.specs.Written.{SinkState}
@@ -35,13 +35,25 @@ module _ {A : Type 0} (Does : NetlistView → Result A Fault → SinkState → S
     ends = ends;
   }
 
-  -- the work on its netlist ends with a fault, behind which this is told
-  pub serves_told : (net : NetlistView) (fault : Fault) → IsNetOf source top net → Does net (Err fault) o.out o.out_after → IsTold (length source) fault
-      → (said : Status) (between : SinkState) → TellsFault telling net fault o.err between said → TellsChanging done.events telling.explains net fault between o.err_after
-      → outcome ≡ ended said o.out_after o.err_after → Serves Does done telling source top outcome o
-  serves_told net fault is does placed said between tells behind ends = record {
+  -- the work on its netlist is done
+  pub serves_done : (net : NetlistView) (answer : Result A Fault) (x : A) → answer ≡ Ok x → IsNetOf source top net → Does net answer o.out o.out_after
+      → TellsText (done.text x) o.err o.err_after → outcome ≡ ended (done.status x) o.out_after o.err_after → Serves Does done telling source top outcome o
+  serves_done net answer x at is does tells ends = record {
+    answer = Ok x;
+    output = inl (net, is, subst (λ (r : Result A Fault). Does net r o.out o.out_after) at does);
+    placed = tt;
+    said = done.status x;
+    told = (tells, refl);
+    ends = ends;
+  }
+
+  -- it ends with a fault, behind which this is told
+  pub serves_told : (net : NetlistView) (answer : Result A Fault) (fault : Fault) → answer ≡ Err fault → IsNetOf source top net → Does net answer o.out o.out_after
+      → IsTold (length source) fault → (said : Status) (between : SinkState) → TellsFault telling net fault o.err between said
+      → TellsChanging done.events telling.explains net fault between o.err_after → outcome ≡ ended said o.out_after o.err_after → Serves Does done telling source top outcome o
+  serves_told net answer fault at is does placed said between tells behind ends = record {
     answer = Err fault;
-    output = inl (net, is, does);
+    output = inl (net, is, subst (λ (r : Result A Fault). Does net r o.out o.out_after) at does);
     placed = placed;
     said = said;
     told = (net, (λ named. is), between, tells, inl (net, is, behind));
@@ -52,5 +64,5 @@ module _ {A : Type 0} (Does : NetlistView → Result A Fault → SinkState → S
   pub serves_faulty : (net : NetlistView) (fault : Fault) → IsNetOf source top net → Does net (Err fault) o.out o.out_after → IsTold (length source) fault → done.events ≡ None
       → (said : Status) × TellsFault telling net fault o.err o.err_after said × (outcome ≡ ended said o.out_after o.err_after) → Serves Does done telling source top outcome o
   serves_faulty net fault is does placed none tells =
-      serves_told net fault is does placed tells.0 o.err_after tells.1
+      serves_told net (Err fault) fault refl is does placed tells.0 o.err_after tells.1
       (subst (λ (events : Option (List ℕ)). TellsChanging events telling.explains net fault o.err_after o.err_after) (sym none) refl) tells.2

@@ -1,5 +1,5 @@
 -- The nets that still change where a moment doesn't settle.
-use Rattle.std.proofs.Common.{◌≡◌, ℕ, zero, suc, Bool, true, false, List, [], ◌∷◌, ◌++◌, Some, Result, Ok, Err, inl, inr, refl, sym, ap, subst, ◌∙◌, codes}
+use Rattle.std.proofs.Common.{◌≡◌, ℕ, zero, suc, Bool, true, false, List, [], ◌∷◌, ◌++◌, Option, Some, None, Result, Ok, Err, inl, inr, refl, sym, ap, subst, ◌∙◌, codes}
 use Rattle.std.specs.Prelude.{if◌then◌else◌, take, IsErrAnd}
 use Rattle.rtl_net.specs.Names.{net_name}
 use Rattle.rtl_net.specs.Nets.{NetlistView}
@@ -12,9 +12,11 @@ use Rattle.rtl_sink.specs.Written.{SinkState, Goes}
 use Rattle.rtl_stim.specs.Stimuli.{StimulusView, IsRead}
 use Rattle.rtl_stim_lines.specs.declared.faults.StimFault.{StimFault}
 use Rattle.rtl_stim_lines.specs.declared.faults.StimFault.TheVariants.{InLine, NoStop, Race, NoMemory as NoRoom}
+use Rattle.rtl_expect.specs.declared.difference.Difference.{Difference}
 use Rattle.rtl_expect.specs.declared.faults.ExpectFault.{ExpectFault}
 use Rattle.rtl_expect.specs.declared.faults.ExpectFault.TheVariants as expect
 use Rattle.rtl_watch.specs.Stands.{Stand}
+use Rattle.rtlsim_commands.specs.Expected.{unless_differs}
 use Rattle.rtlsim_commands.specs.Simulated.{most_deltas}
 use Rattle.rtlsim_commands.specs.Unsettled.{OfUnsettled, IfUnsettled, Names, NamesIf, AreNoted, TellsChanging}
 use Rattle.rtlsim_explain_check.specs.Ranges.{follows, range_text}
@@ -104,21 +106,38 @@ pub expect_settled : {A : Type 0} (So : ℕ → Type 0) (fault : ExpectFault) �
 expect_settled So (expect.InLine problem line) = tt
 expect_settled So expect.NoMemory = tt
 
+-- an answer that is compared
+pub compared_settled : {A : Type 0} (So : ℕ → Type 0) (x : A) (d : Option Difference) (answer : Result A Fault) → answer ≡ unless_differs x d → IfUnsettled answer So
+compared_settled {A} So x None answer is = subst (λ (r : Result A Fault). IfUnsettled r So) (sym is) tt
+compared_settled {A} So x (Some d) answer is = subst (λ (r : Result A Fault). IfUnsettled r So) (sym is) tt
+
 -- ---- what is told
 
-pub tells_changing : (text : List ℕ) (explains : Bool) (net : NetlistView) (numbers : List ℕ) (fault : Fault) (old new : SinkState)
+tells_of : (text : List ℕ) (explains : Bool) (net : NetlistView) (numbers : List ℕ) (fault : Fault) (old new : SinkState)
     → IfUnsettled {A = Summary} (Err fault) (AreNoted text numbers net) → NamesIf explains net numbers fault old new → TellsChanging (Some text) explains net fault old new
-tells_changing text false net numbers fault old new noted h = h
-tells_changing text true net numbers (Lex x) old new noted h = h
-tells_changing text true net numbers (Syntax x) old new noted h = h
-tells_changing text true net numbers (Name x) old new noted h = h
-tells_changing text true net numbers (Elab x) old new noted h = h
-tells_changing text true net numbers (Rejected x) old new noted h = h
-tells_changing text true net numbers (Stim x) old new noted h = h
-tells_changing text true net numbers (Expect x) old new noted h = h
-tells_changing text true net numbers (Differs x) old new noted h = h
-tells_changing text true net numbers (NoSettling time) old new noted h =
+tells_of text false net numbers fault old new noted h = h
+tells_of text true net numbers (Lex x) old new noted h = h
+tells_of text true net numbers (Syntax x) old new noted h = h
+tells_of text true net numbers (Name x) old new noted h = h
+tells_of text true net numbers (Elab x) old new noted h = h
+tells_of text true net numbers (Rejected x) old new noted h = h
+tells_of text true net numbers (Stim x) old new noted h = h
+tells_of text true net numbers (Expect x) old new noted h = h
+tells_of text true net numbers (Differs x) old new noted h = h
+tells_of text true net numbers (NoSettling time) old new noted h =
     of_unsettled_so text time net (λ stands before now at. numbers ≡ take 17 (changing before now)) (λ stands before now at. Names net (changing before now) old new)
     (λ stands before now at is. names_all net numbers (changing before now) old new is h) noted
-tells_changing text true net numbers Memory old new noted h = h
-tells_changing text true net numbers Output old new noted h = h
+tells_of text true net numbers Memory old new noted h = h
+tells_of text true net numbers Output old new noted h = h
+
+-- of an answer that is this fault
+pub tells_changing : (text : List ℕ) (explains : Bool) (net : NetlistView) (numbers shown : List ℕ) (answer : Result Summary Fault) (fault : Fault) (old new : SinkState)
+    → answer ≡ Err fault → shown ≡ numbers → IfUnsettled answer (AreNoted text numbers net) → NamesIf explains net shown fault old new → TellsChanging (Some text) explains net fault old new
+tells_changing text explains net numbers shown answer fault old new at same noted h =
+    tells_of text explains net numbers fault old new (subst (λ (r : Result Summary Fault). IfUnsettled r (AreNoted text numbers net)) at noted)
+    (subst (λ (ns : List ℕ). NamesIf explains net ns fault old new) same h)
+
+-- what such an answer says of the fault
+pub at_fault : {A : Type 0} (Does : NetlistView → Result A Fault → SinkState → SinkState → Type 0) (net : NetlistView) (answer : Result A Fault) (fault : Fault) (old new : SinkState)
+    → answer ≡ Err fault → Does net answer old new → Does net (Err fault) old new
+at_fault {A} Does net answer fault old new at does = subst (λ (r : Result A Fault). Does net r old new) at does

@@ -4,6 +4,7 @@ use Rattle.std.specs.Prelude.{IsErrAnd}
 use Rattle.rtlsim_commands.specs.Watched.{OfMachine, OfEvents, IfWhole, Watched}
 use Rattle.rtlsim_faults.specs.Faults.{of_machine, of_run}
 use Rattle.rtlsim_faults.specs.declared.faults.Fault.{Fault}
+use Rattle.rtlsim_faults.specs.declared.faults.Fault.TheVariants.{Lex, Syntax, Name, Elab, Rejected, Stim, Expect, Differs, NoSettling, Memory, Output}
 use Rattle.rtl_machine.specs.declared.fault.MachineFault.{MachineFault}
 use Rattle.rtl_machine.specs.declared.fault.MachineFault.TheVariants as machine
 use Rattle.rtl_net.specs.Nets.{NetlistView}
@@ -57,3 +58,18 @@ watched_failed {A} Does So net (Err f) fault old new h does part =
 pub watched_so : {A : Type 0} (Does : NetlistView → Result A Fault → SinkState → SinkState → Type 0) (Sees : NetlistView → Type 0) (net : NetlistView) (answer : Result A Fault)
     (old new : SinkState) → Does net answer old new × IfWhole answer (Sees net) → Watched Does Sees net answer old new
 watched_so Does Sees net answer old new h = record { does = h.0; sees = h.1 }
+
+-- what is so of it is so of what follows
+pub if_whole_so : {A : Type 0} (P Q : Type 0) (answer : Result A Fault) → (P → Q) → IfWhole answer P → IfWhole answer Q
+if_whole_so P Q (Ok x) go h = go h
+if_whole_so P Q (Err (Lex x)) go h = tt
+if_whole_so P Q (Err (Syntax x)) go h = tt
+if_whole_so P Q (Err (Name x)) go h = tt
+if_whole_so P Q (Err (Elab x)) go h = tt
+if_whole_so P Q (Err (Rejected x)) go h = tt
+if_whole_so P Q (Err (Stim x)) go h = tt
+if_whole_so P Q (Err (Expect x)) go h = tt
+if_whole_so P Q (Err (Differs x)) go h = go h
+if_whole_so P Q (Err (NoSettling x)) go h = tt
+if_whole_so P Q (Err Memory) go h = tt
+if_whole_so P Q (Err Output) go h = tt

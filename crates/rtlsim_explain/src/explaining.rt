@@ -3,6 +3,7 @@
 ghost use Rattle.std.specs.Prelude.{◌++◌};
 ghost use Rattle.rtl_sink.specs.Written.{Goes};
 ghost use Rattle.rtlsim_explain.specs.Explained as spec;
+ghost use Rattle.rtlsim_explain.specs.Words.{subject};
 
 use crate::fault::{
     elab_help, elab_sentence, lex_help, lex_sentence, name_help, name_sentence, syntax_help,
@@ -101,7 +102,7 @@ fn push_elab_subject<S: Sink>(problem: ElabProblem, after: &[u8], sink: &mut S)
 
 /// Writes the word at two lengths that differ, and both.
 fn push_lengths<S: Sink>(found: usize, needed: usize, after: &[u8], sink: &mut S)
-    ensures { Goes (S.state sink.old) (S.state sink.new) (spec.subject after.now ++ spec.lengths_text found needed) }
+    ensures { Goes (S.state sink.old) (S.state sink.new) (subject after.now ++ spec.lengths_text found needed) }
 {
     push_subject(after, sink);
     push_text(sink, b"stands where lengths of ");

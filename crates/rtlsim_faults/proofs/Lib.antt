@@ -2,3 +2,4 @@ pub mod Refused
 pub mod Told
 pub mod Places
 pub mod Parts
+pub mod Names

@@ -4,8 +4,7 @@ use Rattle.std.specs.Prelude.{filter, flat_map, slice_index, is_none}
 use Rattle.std.specs.List.{AllZip, range_with_len, enumerate_from}
 use Rattle.std.proofs.lemmas.List.{append_assoc, append-nil, map-append, length-append, length-map}
 use Rattle.std.proofs.lemmas.List.Elements.{filter-append}
-use Rattle.rtl_model.specs.bodies.Types.{ElementType}
-use Rattle.rtl_net.specs.Nets.{ScopeView, scope_view, signal_view, type_of}
+use Rattle.rtl_net.specs.Nets.{scope_view, signal_view, type_of}
 use Rattle.vhdl_expand_rules.specs.Kinds.{size, element_type}
 use Rattle.vhdl_expand_rules.specs.Tree.{Object}
 use Rattle.vhdl_elab_rules.specs.Names.{scope_of, signals_of, signals_from}
@@ -17,7 +16,7 @@ use Rattle.vhdl_connect_processes.specs.declared.uses.Use.{Use}
 use Rattle.vhdl_connect_processes.specs.Uses as uses
 use Rattle.vhdl_connect.specs.declared.made.Made.{Made}
 use Rattle.vhdl_connect.specs.Made.{element_view, static_of, statics_of, use_of, uses_of, IsLocated, IsMade}
-use Rattle.vhdl_connect.specs.Adding.{if_own, own_types, own_starts, static_at, object_statics, statics_from, elements_count}
+use Rattle.vhdl_connect.specs.Adding.{if_own, own_types, own_starts, statics_from, elements_count}
 
 -- ---- one more
 

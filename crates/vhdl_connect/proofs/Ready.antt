@@ -5,7 +5,7 @@ use Rattle.vhdl_expand_rules.specs.Expansion.{Design}
 use Rattle.vhdl_expand_rules.specs.laws.Trees.{DesignIsSound, InstanceIsSound, PartsAreSound}
 use Rattle.vhdl_elab_laws.specs.Prefixes.{InstanceIsDotted, PartsAreDotted}
 use Rattle.vhdl_expand_drivers.proofs.Rising.{rising}
-use Rattle.vhdl_connect.specs.Ready.{ProcessIsReady, InstanceIsReady, PartsAreReady}
+use Rattle.vhdl_connect.specs.Ready.{InstanceIsReady, PartsAreReady}
 
 mutual
   instance-ready : (i : Instance) (above : List Object) → InstanceIsSound above i → InstanceIsDotted i → InstanceIsReady i

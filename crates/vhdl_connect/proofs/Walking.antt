@@ -1,5 +1,5 @@
 -- The walk over instances and what stands in them, one part after another.
-use Rattle.std.proofs.Common.{◌≡◌, ℕ, zero, suc, ◌+◌, ◌<◌, ◌≤◌, List, [], ◌∷◌, ◌++◌, length, get_or, set, drop, map, Option, Some, Result, Ok, Err, Vec, Global, refl, sym, ap, ◌∙◌, subst, arith}
+use Rattle.std.proofs.Common.{◌≡◌, ℕ, zero, suc, ◌+◌, ◌<◌, ◌≤◌, List, [], ◌∷◌, ◌++◌, length, get_or, set, drop, map, Some, Result, Vec, Global, refl, sym, ap, ◌∙◌, subst, arith}
 use Rattle.std.specs.Prelude.{OnOk, is_none, codes}
 use Rattle.std.specs.List.{AllZip}
 use Rattle.std.proofs.lemmas.List.{length-map, map-append}
@@ -11,8 +11,7 @@ use Rattle.vhdl_expand_rules.specs.Tree.{Instance, instance, Parts, no_parts, pr
 use Rattle.vhdl_elab_rules.specs.Names.{scope_of, signals_from}
 use Rattle.vhdl_elab_rules.specs.Numbering as elab
 use Rattle.vhdl_elab_rules.specs.Numbering.{Placed, Located, Numbered, placed, with_process, with_placed, with_instance, with_parts, element_nets, above_parts}
-use Rattle.vhdl_elab_rules.specs.Wiring.{defaults_of, is_top}
-use Rattle.vhdl_elab_rules.specs.laws.Scopes.{scope_views}
+use Rattle.vhdl_elab_rules.specs.Wiring.{defaults_of}
 use Rattle.vhdl_elab_laws.specs.Shown.{signal_shown}
 use Rattle.vhdl_expand_tree.specs.declared.tree.Object.{Object}
 use Rattle.vhdl_expand_tree.specs.declared.tree.Process.{Process}
@@ -28,7 +27,7 @@ use Rattle.vhdl_connect.specs.Made.{element_view, IsLocated, IsMade}
 use Rattle.vhdl_connect.specs.Adding.{statics_from}
 use Rattle.vhdl_connect.specs.Placing.{AddsPlaced}
 use Rattle.vhdl_connect.specs.declared.walk.Above.{Above}
-use Rattle.vhdl_connect.specs.Ready.{InstanceIsReady, PartsAreReady}
+use Rattle.vhdl_connect.specs.Ready.{PartsAreReady}
 use Rattle.vhdl_connect.specs.Walking.{above_at, IsIn}
 use Rattle.vhdl_connect.proofs.Placing.{placed_made}
 

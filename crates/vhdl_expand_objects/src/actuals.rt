@@ -4,7 +4,10 @@ ghost use Rattle.std.specs.Prelude.{◌≡◌, ◌≤◌, drop, flat_map, length
 ghost use Rattle.vhdl_expand_tree.specs.Views.{object_view, role_view};
 ghost use Rattle.vhdl_names_rules.specs.views.Vectors.{place_view};
 ghost use Rattle.vhdl_expand_rules.specs.Declarations as definition;
-ghost use Rattle.vhdl_expand_rules.specs.views.Kinds.{run_view};
+ghost use Rattle.vhdl_expand_rules.specs.Elab.{same_length};
+ghost use Rattle.vhdl_expand_rules.specs.Kinds.{size};
+ghost use Rattle.vhdl_expand_rules.specs.views.Integers.{Computes};
+ghost use Rattle.vhdl_expand_rules.specs.views.Kinds.{kind_view, run_view};
 ghost use Rattle.vhdl_expand_bodies.specs.Results.{Expands};
 ghost use Rattle.vhdl_expand_bodies.specs.Sites.{IsShort, IsSite, site_view};
 ghost use Rattle.vhdl_names_units.specs.views.Declarations.{all_ports_view, ports_view};
@@ -15,7 +18,7 @@ ghost use Rattle.vhdl_expand_objects.specs.Walks.{stepwise};
 use crate::declared::InstanceObjects;
 use std::alloc::{AllocError, Global};
 use vhdl_expand_bodies::Site;
-use vhdl_expand_rules::{ElabFault, ElabProblem, Run};
+use vhdl_expand_rules::{ElabFault, ElabProblem, ObjectKind, Run};
 use vhdl_expand_tree::{Object, Role};
 use vhdl_names_rules::SignalPart;
 use vhdl_names_units::{Entity, Ports};
@@ -52,6 +55,19 @@ fn is_input(role: Role) -> bool
     }
 }
 
+/// Sees that there are as many elements as an object of this kind has; a fault is Length.
+#[tactic(auto, using(crate::proofs::Associating::run_long))]
+fn as_many(run: Run, kind: ObjectKind, at: usize) -> Result<(), ElabFault>
+    ensures { Computes (same_length (length (run_view run)) (size (kind_view kind))) result }
+{
+    let found = run.len;
+    let needed = kind.size();
+    if found != needed {
+        return Err(ElabProblem::Length { found, needed }.at(at));
+    }
+    Ok(())
+}
+
 /// Gives a port of a declaration the elements of its actual, if it has one; a fault is StaticError, Index, Length or Unassociated,
 /// the last at this byte.
 #[tactic(auto, unfolding(vhdl_expand_rules::specs::Declarations::association), using(crate::proofs::Associating::run_long))]
@@ -73,11 +89,7 @@ fn associate(
         return Ok(());
     };
     let run = above.signal_elements(place.signal, &place.part, place.at)?;
-    let found = run.len;
-    let needed = port.kind.size();
-    if found != needed {
-        return Err(ElabProblem::Length { found, needed }.at(place.at));
-    }
+    as_many(run, port.kind, place.at)?;
     port.actual = Some(elements(alloc, run)?);
     Ok(())
 }

@@ -1,4 +1,4 @@
-use Rattle.std.proofs.Common.{◌≡◌, ℕ, ◌+◌, ◌<◌, ◌++◌, length, map, Some, Vec, Global, refl, sym, ap, ◌∙◌, subst, arith, rules}
+use Rattle.std.proofs.Common.{◌≡◌, ℕ, ◌++◌, length, map, Some, Vec, Global, refl, sym, ap, ◌∙◌, subst, arith, rules}
 use Rattle.std.specs.Prelude.{OnOk, is_none, codes}
 use Rattle.std.proofs.lemmas.Grind.{common_steps}
 use Rattle.vhdl_elab_rules.specs.Wiring.{defaults_of}
