@@ -11,6 +11,7 @@ use Rattle.rtlsim_faults.specs.declared.faults.Fault.TheVariants.{Lex, Syntax, N
 use Rattle.rtlsim_faults.specs.declared.faults.notice.FaultPlace.{FaultPlace}
 use Rattle.rtlsim_faults.specs.declared.faults.notice.FaultPlace.TheVariants.{Byte}
 use Rattle.rtlsim_faults.specs.declared.telling.Telling.{Telling}
+use Rattle.rtlsim_choices.specs.Choices.{missing_line}
 use Rattle.rtlsim_entities.specs.Entities.{entities_line}
 use Rattle.rtlsim_explain.specs.Explained.{Spot, Heading, lex_explained, syntax_explained, name_explained, elab_explained}
 use Rattle.rtlsim_explain.specs.Stimuli.{stim_explained, settle_explained}
@@ -22,6 +23,7 @@ use Rattle.vhdl_expand_rules.specs.declared.fault.ElabProblem.TheVariants.{NoTop
 use Rattle.vhdl_lexer.specs.declared.fault.LexFault.{LexFault}
 use Rattle.vhdl_names_rules.specs.declared.fault.NameFault.{NameFault}
 use Rattle.vhdl_names_rules.specs.declared.fault.NameFault.TheVariants as names
+use Rattle.vhdl_names_rules.specs.declared.fault.NameProblem.TheVariants.{NoOthers}
 use Rattle.vhdl_parser.specs.declared.fault.SyntaxFault.{SyntaxFault}
 
 abbrev pub files_of : Telling → List FileView
@@ -59,9 +61,17 @@ lex_said files fault = at_entry files (λ spot h. lex_explained spot h fault) (l
 abbrev pub syntax_said : List FileView → SyntaxFault → List ℕ
 syntax_said files fault = at_entry files (λ spot h. syntax_explained spot h fault) (syntax_entry fault)
 
+abbrev pub rule_said : List FileView → NameFault → List ℕ
+rule_said files (names.At problem at) = at_entry files (λ spot h. name_explained spot h problem) (names_entry (names.At problem at))
+rule_said files names.NoMemory = []
+
+-- a choice that is missing, where not each value has one
+abbrev pub missing_told : List FileView → NameFault → List ℕ
+missing_told files (names.At NoOthers at) = missing_line files at
+missing_told files _ = []
+
 abbrev pub name_said : List FileView → NameFault → List ℕ
-name_said files (names.At problem at) = at_entry files (λ spot h. name_explained spot h problem) (names_entry (names.At problem at))
-name_said files names.NoMemory = []
+name_said files fault = rule_said files fault ++ missing_told files fault
 
 abbrev pub elab_said : List FileView → ElabFault → List ℕ
 elab_said files (elab.At problem at) = at_entry files (λ spot h. elab_explained spot h problem) (elab_entry (elab.At problem at))

@@ -20,6 +20,7 @@ use crate::telling::Telling;
 use rtl_net::Net;
 use rtl_sink::{Sink, finish, push_text};
 use rtl_stim::StimFault;
+use rtlsim_choices::push_missing;
 use rtlsim_entities::push_entities;
 use rtlsim_explain::{
     Place, Title, explain_elab, explain_lex, explain_name, explain_stim, explain_syntax,
@@ -31,7 +32,7 @@ use rtlsim_listing::ListingFault;
 use std::alloc::Global;
 use vhdl_expand_rules::{ElabFault, ElabProblem};
 use vhdl_lexer::LexFault;
-use vhdl_names_rules::NameFault;
+use vhdl_names_rules::{NameFault, NameProblem};
 use vhdl_parser::SyntaxFault;
 
 /// Explains a fault of a netlist, where that is asked for.
@@ -148,9 +149,31 @@ fn explain_grammar<S: Sink>(files: &[SourceFile<'_>], fault: SyntaxFault, sink: 
     }
 }
 
-/// Explains which rule on names or types is broken, at its place in these files; of want of memory nothing is said.
+/// Explains which rule on names or types is broken, at its place in these files; where not each value has a choice, one that is missing stands
+/// below. Of want of memory nothing is said.
 pub fn explain_names<S: Sink>(files: &[SourceFile<'_>], fault: NameFault, sink: &mut S)
     ensures { Goes (S.state sink.old) (S.state sink.new) (spec.name_said (map file_view files.now) fault) }
+{
+    explain_rule(files, fault, sink);
+    tell_missing(files, fault, sink);
+}
+
+/// Writes a choice that is missing, where not each value has one.
+fn tell_missing<S: Sink>(files: &[SourceFile<'_>], fault: NameFault, sink: &mut S)
+    ensures { Goes (S.state sink.old) (S.state sink.new) (spec.missing_told (map file_view files.now) fault) }
+{
+    match fault {
+        NameFault::At {
+            problem: NameProblem::NoOthers,
+            at,
+        } => push_missing(files, at, sink),
+        _ => push_text(sink, b""),
+    }
+}
+
+/// Explains which rule on names or types is broken.
+fn explain_rule<S: Sink>(files: &[SourceFile<'_>], fault: NameFault, sink: &mut S)
+    ensures { Goes (S.state sink.old) (S.state sink.new) (spec.rule_said (map file_view files.now) fault) }
 {
     match (fault, placed(files, name_notice(&fault))) {
         (NameFault::At { problem, .. }, Some((place, title))) => {
