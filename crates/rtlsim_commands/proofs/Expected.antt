@@ -1,7 +1,7 @@
 -- Runs that are compared with what is expected.
 use Rattle.std.proofs.Common.{◌≡◌, ℕ, List, Option, Some, None, Result, Ok, Err, inl, inr, refl, sym, subst}
 use Rattle.std.specs.Prelude.{IsErrAnd, option_map}
-use Rattle.rtlsim_commands.specs.Expected.{RunsExpecting, unless_differs}
+use Rattle.rtlsim_commands.specs.Expected.{RunsExpecting, unless_differs, compared}
 use Rattle.rtlsim_commands.specs.Machine.{as_answer}
 use Rattle.rtlsim_commands.specs.Watched.{IfWhole}
 use Rattle.rtlsim_commands.proofs.Watched.{watched_failed}
@@ -114,3 +114,19 @@ module _ {A : Type 0} (Runs : NetlistView → Result A Fault → (old new : Sink
             },
             so Told Seen seen sees,
           )
+
+is_fault : {A : Type 0} (result : Result A Fault) (fault : Fault) → result ≡ Err fault → IsErrAnd result (λ f. f ≡ fault)
+is_fault {A} result fault is = subst (λ (r : Result A Fault). IsErrAnd r (λ f. f ≡ fault)) (sym is) refl
+
+-- a run that may fail is compared
+pub compared_so : {A : Type 0} (Runs : NetlistView → Result A Fault → (old new : SinkState) → Type 0) (Sees : (List Stand → Type 0) → NetlistView → Type 0) (net : NetlistView)
+    (expected : List ℕ) (old new : SinkState) (es : List Expectation) (read : expectations_of net expected ≡ Ok es)
+    → ((f : ExpectFault) → Runs net (Err (Expect f)) old new → ⊥) → ((d : Difference) → Runs net (Err (Differs d)) old new → ⊥)
+    → ((P Q : List Stand → Type 0) → ((stands : List Stand) → P stands → Q stands) → Sees P net → Sees Q net)
+    → (answer : Result A Fault) (d : Option Difference) (result : Result A Fault) (Told Seen : List Stand → Type 0) → result ≡ compared answer d → Runs net answer old new
+    → IfWhole answer (Sees Told net) → ((stands : List Stand) → Told stands → option_map difference_view d ≡ first_difference stands es)
+    → ((stands : List Stand) → Told stands → Seen stands) → RunsExpecting Runs Sees expected net result old new × IfWhole result (Sees Seen net)
+compared_so Runs Sees net expected old new es read no_expect no_differs so (Ok x) d result Told Seen is runs sees first seen =
+    whole Runs Sees net expected old new es read so x d result Told Seen is runs sees first seen
+compared_so Runs Sees net expected old new es read no_expect no_differs so (Err f) d result Told Seen is runs sees first seen =
+    failed Runs Sees net expected old new es read no_expect no_differs (Sees Seen net) result f (is_fault result f is) runs

@@ -10,18 +10,16 @@ use Rattle.rtl_run.specs.declared.summary.RunFault.TheVariants as run
 use Rattle.rtl_run.specs.declared.summary.Summary.{Summary}
 use Rattle.rtl_sink.specs.Written.{SinkState, Goes}
 use Rattle.rtl_stim.specs.Stimuli.{StimulusView, IsRead}
-use Rattle.rtl_stim_lines.specs.declared.faults.StimFault.{StimFault}
-use Rattle.rtl_stim_lines.specs.declared.faults.StimFault.TheVariants.{InLine, NoStop, Race, NoMemory as NoRoom}
 use Rattle.rtl_expect.specs.declared.difference.Difference.{Difference}
 use Rattle.rtl_expect.specs.declared.faults.ExpectFault.{ExpectFault}
 use Rattle.rtl_expect.specs.declared.faults.ExpectFault.TheVariants as expect
 use Rattle.rtl_watch.specs.Stands.{Stand}
-use Rattle.rtlsim_commands.specs.Expected.{unless_differs}
+use Rattle.rtlsim_commands.specs.Expected.{compared, unless_differs}
 use Rattle.rtlsim_commands.specs.Simulated.{most_deltas}
 use Rattle.rtlsim_commands.specs.Unsettled.{OfUnsettled, IfUnsettled, Names, NamesIf, AreNoted, TellsChanging}
 use Rattle.rtlsim_explain_check.specs.Ranges.{follows, range_text}
 use Rattle.rtlsim_faults.specs.Changing.{names_from, changing_line}
-use Rattle.rtlsim_faults.specs.Faults.{of_expect, of_run, of_stim}
+use Rattle.rtlsim_faults.specs.Faults.{of_expect, of_run}
 use Rattle.rtlsim_faults.specs.Lines.{memory_line}
 use Rattle.rtlsim_faults.specs.declared.faults.Fault.{Fault}
 use Rattle.rtlsim_faults.specs.declared.faults.Fault.TheVariants.{Lex, Syntax, Name, Elab, Rejected, Stim, Expect, Differs, NoSettling, Memory, Output}
@@ -90,26 +88,25 @@ pub unsettled_by : {A : Type 0} (So : ℕ → Type 0) (answer : Result A Fault) 
 unsettled_by So (Ok x) fault is h = absurd is
 unsettled_by {A} So (Err f) fault is h = subst (λ (x : Fault). IfUnsettled {A = A} (Err x) So) (sym is) h
 
-pub run_unsettled : {A : Type 0} (text : List ℕ) (net : NetlistView) (s : StimulusView) (Told : List Stand → Type 0) (Stuck : List Stand → (before now : List ℕ) → (time : ℕ) → Type 0)
+pub run_unsettled : (A : Type 0) (text : List ℕ) (net : NetlistView) (s : StimulusView) (Told : List Stand → Type 0) (Stuck : List Stand → (before now : List ℕ) → (time : ℕ) → Type 0)
     (fault : RunFault) → IsRead net text (Ok s) → WasTold net s most_deltas Told Stuck fault → IfUnsettled {A = A} (Err (of_run fault)) (λ time. OfUnsettled text time Stuck net)
-run_unsettled text net s Told Stuck (run.NoSettling time) said h = record { stimulus = s; said = said; first = h }
-run_unsettled text net s Told Stuck run.Memory said h = tt
-run_unsettled text net s Told Stuck run.Output said h = tt
+run_unsettled A text net s Told Stuck (run.NoSettling time) said h = record { stimulus = s; said = said; first = h }
+run_unsettled A text net s Told Stuck run.Memory said h = tt
+run_unsettled A text net s Told Stuck run.Output said h = tt
 
-pub stim_settled : {A : Type 0} (So : ℕ → Type 0) (fault : StimFault) → IfUnsettled {A = A} (Err (of_stim fault)) So
-stim_settled So (InLine problem line) = tt
-stim_settled So NoStop = tt
-stim_settled So (Race time input clock) = tt
-stim_settled So NoRoom = tt
+pub expect_settled : (A : Type 0) (So : ℕ → Type 0) (fault : ExpectFault) → IfUnsettled {A = A} (Err (of_expect fault)) So
+expect_settled A So (expect.InLine problem line) = tt
+expect_settled A So expect.NoMemory = tt
 
-pub expect_settled : {A : Type 0} (So : ℕ → Type 0) (fault : ExpectFault) → IfUnsettled {A = A} (Err (of_expect fault)) So
-expect_settled So (expect.InLine problem line) = tt
-expect_settled So expect.NoMemory = tt
+unless_settled : {A : Type 0} (So : ℕ → Type 0) (x : A) (d : Option Difference) → IfUnsettled (unless_differs x d) So
+unless_settled So x None = tt
+unless_settled So x (Some d) = tt
 
 -- an answer that is compared
-pub compared_settled : {A : Type 0} (So : ℕ → Type 0) (x : A) (d : Option Difference) (answer : Result A Fault) → answer ≡ unless_differs x d → IfUnsettled answer So
-compared_settled {A} So x None answer is = subst (λ (r : Result A Fault). IfUnsettled r So) (sym is) tt
-compared_settled {A} So x (Some d) answer is = subst (λ (r : Result A Fault). IfUnsettled r So) (sym is) tt
+pub compared_unsettled : {A : Type 0} (So : ℕ → Type 0) (answer : Result A Fault) (d : Option Difference) (result : Result A Fault) → result ≡ compared answer d
+    → IfUnsettled answer So → IfUnsettled result So
+compared_unsettled {A} So (Ok x) d result is h = subst (λ (r : Result A Fault). IfUnsettled r So) (sym is) (unless_settled So x d)
+compared_unsettled {A} So (Err f) d result is h = subst (λ (r : Result A Fault). IfUnsettled r So) (sym is) h
 
 -- ---- what is told
 

@@ -54,3 +54,8 @@ RunsEventsExpecting text expected net answer old new = RunsExpecting (RunsEvents
 abbrev pub unless_differs : {A : Type 0} → A → Option KeptDifference → Result A Fault
 unless_differs x None = Ok x
 unless_differs x (Some difference) = Err (Differs difference)
+
+-- of a run that may fail
+abbrev pub compared : {A : Type 0} → Result A Fault → Option KeptDifference → Result A Fault
+compared (Ok x) difference = unless_differs x difference
+compared (Err fault) difference = Err fault

@@ -116,12 +116,12 @@ pub fn run_events_expecting<P: Pick, V: Watch, S: Sink>(
         expected,
         other: watch,
     };
-    let summary = run_events_watched(alloc, net, stimulus, pick, &mut both, out)?;
+    let answer = run_events_watched(alloc, net, stimulus, pick, &mut both, out);
     let Both {
         expected,
         other: _watch,
     } = both;
-    unless_differs(summary, expected.difference())
+    compared(answer, expected.difference())
 }
 
 /// Simulates a netlist as `run_events_expecting` does, and answers beside that which nets still change where a moment doesn't settle.
@@ -150,6 +150,19 @@ pub(crate) fn run_events_expecting_noting<P: Pick, V: Watch, S: Sink>(
         other: _watch,
     } = noting;
     (answer, changing)
+}
+
+/// The answer of a run that may fail, unless a value isn't the expected one.
+fn compared<A: Drop>(
+    answer: Result<A, Fault>,
+    difference: Option<Difference>,
+) -> Result<A, Fault>
+    ensures { result ≡ spec.compared answer difference }
+{
+    match answer {
+        Ok(answer) => unless_differs(answer, difference),
+        Err(fault) => Err(fault),
+    }
 }
 
 /// The answer of a run, unless a value isn't the expected one.

@@ -1,4 +1,3 @@
-use Rattle.std.proofs.Common.{refl}
 use Rattle.rtlsim_commands.proofs.ending.tell_others.Goals as goal
 
 pub returns-in-Some : goal.returns-in-Some

@@ -32,4 +32,4 @@ returns-clause-watched g c =
 pub returns-in_err-summary-clause-stuck : goal.returns-in_err-summary-clause-stuck
 returns-in_err-summary-clause-stuck g c =
     unsettled_by _ _ _ c.from_residual-in_err-summary.ensures.1
-    (run_unsettled c.args.stimulus.now c.args.net.now c.in_ok-stimulus.stimulus _ _ _ c.in_ok-stimulus.ensures c.in_err-summary.ensures.failing)
+    (run_unsettled Summary c.args.stimulus.now c.args.net.now c.in_ok-stimulus.stimulus _ _ _ c.in_ok-stimulus.ensures c.in_err-summary.ensures.failing)

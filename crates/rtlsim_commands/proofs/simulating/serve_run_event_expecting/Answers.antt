@@ -18,8 +18,8 @@ returns-in-Ok-answer g c =
     serves_done _ (told.events c.args.stimulus.now) c.args.telling.now _ _ _ _ _ run.result.0 c.in-Ok-answer.summary c.in-Ok-answer.is c.in-Ok.ensures.net run.ensures.watched
     c.end_run.ensures.told c.end_run.ensures.status
 
-pub returns-in-Err-answer : goal.returns-in-Err-answer
-returns-in-Err-answer g c =
+pub returns : goal.returns
+returns g c =
     let run = c.run_events_expecting_noting-answer in
     let fault = c.in-Err-answer.fault in
     let net = c.in-Ok.net in
@@ -32,5 +32,5 @@ returns-in-Err-answer g c =
     (λ f r. runs_fault c.args.stimulus.now net f _ before after r) does)
     said.0 said.1.between said.1.lines
     (tells_changing c.args.stimulus.now c.args.telling.now.explains net run.result.1.items c.deref.result.now run.result.0 fault said.1.between (g.E.Sink.state c.refuse_run.new.err)
-    c.in-Err-answer.is c.deref.ensures.value run.ensures.noted said.1.behind)
+    c.in-Err-answer.is c.deref.ensures.0 run.ensures.noted said.1.behind)
     said.2
