@@ -34,7 +34,7 @@ names_first net first last (suc room) (number ∷ numbers) =
     let others = names_from net (net_name net number) number room (take (suc room) numbers) in
     ap (λ (text : List ℕ). if same then text else range_text first (net_name net last) ++ codes ", " ++ others) (names_first net first number room numbers)
     ∙ ap (λ (text : List ℕ). if same then names_from net first number room numbers else range_text first (net_name net last) ++ codes ", " ++ text)
-        (names_first net (net_name net number) number room numbers)
+    (names_first net (net_name net number) number room numbers)
 
 line_first : (net : NetlistView) (numbers : List ℕ) → changing_line net (take 17 numbers) ≡ changing_line net numbers
 line_first net [] = refl

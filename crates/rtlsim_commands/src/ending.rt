@@ -14,8 +14,7 @@ use rtl_net::Net;
 use rtl_run::Summary;
 use rtl_sink::Sink;
 use rtlsim_faults::{
-    Fault, Status, Telling, tell_changing, tell_fault, tell_levels, tell_source_fault,
-    tell_summary,
+    Fault, Status, Telling, tell_changing, tell_fault, tell_levels, tell_source_fault, tell_summary,
 };
 use rtlsim_name_faults::push_further_faults;
 use std::alloc::Global;

@@ -153,10 +153,7 @@ pub(crate) fn run_events_expecting_noting<P: Pick, V: Watch, S: Sink>(
 }
 
 /// The answer of a run that may fail, unless a value isn't the expected one.
-fn compared<A: Drop>(
-    answer: Result<A, Fault>,
-    difference: Option<Difference>,
-) -> Result<A, Fault>
+fn compared<A: Drop>(answer: Result<A, Fault>, difference: Option<Difference>) -> Result<A, Fault>
     ensures { result ≡ spec.compared answer difference }
 {
     match answer {

@@ -9,9 +9,7 @@ ghost use Rattle.rtlsim_commands.specs.Told as told;
 ghost use Rattle.rtlsim_commands.specs.Watched.{Watched, OfMachine, OfEvents};
 
 use crate::ending::{end_levels, end_run, refuse_net, refuse_run, refuse_source};
-use crate::expecting::{
-    run_events_expecting_noting, run_net_expecting, run_net_levels_expecting,
-};
+use crate::expecting::{run_events_expecting_noting, run_net_expecting, run_net_levels_expecting};
 use crate::machine::{run_net_levels_watched, run_net_watched};
 use crate::running::run_events_noting;
 use rtl_kernel::Pick;
@@ -74,8 +72,9 @@ pub fn serve_run_event_expecting<F: Front, P: Pick, V: Watch, O: Sink, E: Sink>(
         Ok(net) => net,
         Err(fault) => return refuse_source::<F, O, E>(alloc, source, top, telling, fault, out, err),
     };
-    let (answer, changing) =
-        run_events_expecting_noting(alloc, &net, stimulus, expected, pick, watch, out);
+    let (answer, changing) = run_events_expecting_noting(
+        alloc, &net, stimulus, expected, pick, watch, out,
+    );
     match answer {
         Ok(summary) => end_run(summary, out, err),
         Err(fault) => refuse_run(alloc, telling, &net, &fault, &changing, out, err),

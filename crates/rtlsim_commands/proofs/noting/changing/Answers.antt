@@ -11,9 +11,9 @@ loop-number-preserved c =
     let n = c.loop-number.number in
     let I = c.loop-number.invariant in
     elim c.if-before-number.branch [
-    then-before-number w ↦
-    let push = w.try_push-is_kept in
-    ap (λ (v : ArrayVec ℕ). v.items) w.numbers-is
-    ∙ noted before now n (let differ = w.if-before-number in search rules) c.loop-number.numbers push.new.self I push.result push.ensures.ok push.ensures.err push.ensures.full push.ensures.variant.0
-    | else-before-number w ↦ unnoted before now n (let alike = w.if-before-number in search rules) c.loop-number.numbers c.if-before-number.numbers I w.numbers-is
+      | then-before-number w ↦
+          let push = w.try_push-is_kept in
+          ap (λ (v : ArrayVec ℕ). v.items) w.numbers-is
+          ∙ noted before now n (let differ = w.if-before-number in search rules) c.loop-number.numbers push.new.self I push.result push.ensures.ok push.ensures.err push.ensures.full push.ensures.variant.0
+      | else-before-number w ↦ unnoted before now n (let alike = w.if-before-number in search rules) c.loop-number.numbers c.if-before-number.numbers I w.numbers-is
     ]
