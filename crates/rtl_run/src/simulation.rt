@@ -157,7 +157,7 @@ impl<E: Exec> Simulation<'_, E> {
         ensures untold { IfOk result (λ _. watch.new ≡ watch.old) }
         ensures failing { (start : V) → Begun (core self.now.net.now) (inputs_at self.now.stimulus.now) 0 kernel.old.state → V.told start [] watch.old
             → IfErr result (λ fault. WasTold self.now.net.now self.now.stimulus.now self.now.limit (λ stands. V.told start stands watch.new)
-                (λ stands before now time. V.stuck start stands before now time watch.new) fault) }
+            (λ stands before now time. V.stuck start stands before now time watch.new) fault) }
     {
         let deltas = settle(kernel, self.limit, 0, pick, watch)?;
         first(self.net, kernel.values(), out)?;
@@ -200,7 +200,7 @@ impl<E: Exec> Simulation<'_, E> {
             → length stands ≡ progress.old.summary.moments → IsNextMoment self.now.net.now self.now.stimulus.now self.now.limit progress.old time kernel.old.state
             → V.told start stands watch.old
             → IfErr result (λ fault. WasTold self.now.net.now self.now.stimulus.now self.now.limit (λ stands. V.told start stands watch.new)
-                (λ stands before now time. V.stuck start stands before now time watch.new) fault) }
+            (λ stands before now time. V.stuck start stands before now time watch.new) fault) }
     {
         let deltas = settle(kernel, self.limit, time, pick, watch)?;
         let is_printed = blocks.moment(time, &progress.values, kernel.values(), out)?;

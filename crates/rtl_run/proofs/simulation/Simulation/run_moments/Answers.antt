@@ -230,7 +230,7 @@ returns-in_err-refill-clause-failing g c =
     let turn = comes_next s c.stop-stop.ensures.holds c.loop-time.progress I.m I.is_last I.there I.at (g.A.Agenda.state c.loop-time.agenda) (g.met.A.Agenda.orderly c.loop-time.agenda) I.waits c.in-Some.time behind c.in-Some.ensures.least in
     let x : Stand = record { values = c.deref.result.now; until = c.in-Some.time } in
     let are = stands_more net s limit I.m c.in-Some.time c.loop-time.kernel.state I.stands I.are I.many I.settled c.deref.result.now
-        (sym I.values ∙ sym c.deref.ensures.value) (sym (until_next s I.m c.in-Some.time behind.taken turn.next)) in
+    (sym I.values ∙ sym c.deref.ensures.value) (sym (until_next s I.m c.in-Some.time behind.taken turn.next)) in
     let many = one_stand_more I.stands x ∙ ap suc I.many in
     let there = turn.next.there in
     let Told : List Stand → Type 0 = λ stands. g.V.Watch.told c.args.watch.now stands c.stood.new.self in
@@ -248,7 +248,7 @@ returns-in_err-go_on-clause-failing g c =
     let turn = comes_next s c.stop-stop.ensures.holds c.loop-time.progress I.m I.is_last I.there I.at (g.A.Agenda.state c.loop-time.agenda) (g.met.A.Agenda.orderly c.loop-time.agenda) I.waits c.in-Some.time behind c.in-Some.ensures.least in
     let x : Stand = record { values = c.deref.result.now; until = c.in-Some.time } in
     let are = stands_more net s limit I.m c.in-Some.time c.loop-time.kernel.state I.stands I.are I.many I.settled c.deref.result.now
-        (sym I.values ∙ sym c.deref.ensures.value) (sym (until_next s I.m c.in-Some.time behind.taken turn.next)) in
+    (sym I.values ∙ sym c.deref.ensures.value) (sym (until_next s I.m c.in-Some.time behind.taken turn.next)) in
     let many = one_stand_more I.stands x ∙ ap suc I.many in
     let is_next = begins_next s c.loop-time.progress I.m c.in-Some.time behind.taken turn net c.nets-count.ensures.elaborated c.requires.ports c.requires.inputs c.loop-time.kernel.net I.net c.changes.result.now c.changes.ensures limit c.loop-time.kernel.state c.apply.new.self.state (ap length (sym I.values) ∙ I.as_many) I.settled c.apply.ensures.ran in
     let Told : List Stand → Type 0 = λ stands. g.V.Watch.told c.args.watch.now stands c.go_on.new.watch in
