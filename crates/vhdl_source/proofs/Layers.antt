@@ -1,5 +1,5 @@
 -- From the tree of a source to its net.
-use Rattle.std.proofs.Common.{◌≡◌, ◌≢◌, ℕ, List, None, Some, Result, Ok, Err, true≢false, sym, arith}
+use Rattle.std.proofs.Common.{◌≡◌, ◌≢◌, ℕ, List, None, Some, Result, Ok, Err, arith}
 use Rattle.std.specs.Prelude.{IsTrue, IsErrAnd, IfOk, IfErr}
 use Rattle.vhdl_lexer.proofs.Reached.{cut_within}
 use Rattle.vhdl_tree.specs.Tree.{File}
@@ -14,8 +14,6 @@ use Rattle.vhdl_names_laws.proofs.Spelled.{spelled_files_have_words}
 use Rattle.vhdl_expand_rules.specs.Elab.{told}
 use Rattle.vhdl_expand_rules.specs.declared.fault.ElabFault.{ElabFault}
 use Rattle.vhdl_expand_rules.specs.declared.fault.ElabFault.TheVariants as elab
-use Rattle.vhdl_expand_rules.specs.declared.fault.ElabProblem.{ElabProblem}
-use Rattle.vhdl_elab_rules.specs.Elaboration.{Elaborated, elaborated_net}
 use Rattle.vhdl_elab_laws.specs.Refused.{MayRefuse}
 use Rattle.vhdl_elab_laws.proofs.Nets.{each-has-its-names}
 use Rattle.vhdl_elab_laws.proofs.Ports.{each-has-own-ports}
