@@ -1,12 +1,13 @@
 -- Expansion within the limits, and then connection, is elaboration.
-use Rattle.std.proofs.Common.{◌≡◌, ℕ, Bool, true, false, not, List, Ok, Err, All, refl, sym, ap, ◌∙◌, subst}
-use Rattle.std.specs.Prelude.{IsErr, IsTrue}
+use Rattle.std.proofs.Common.{◌≡◌, ℕ, Bool, true, false, not, List, Ok, Err, All, inl, inr, refl, sym, ap, ◌∙◌, subst}
+use Rattle.std.specs.Prelude.{◌≢◌, ◌⊎◌, IsErr, IsTrue}
 use Rattle.rtl_net.specs.Nets.{NetlistView}
 use Rattle.rtl_net.specs.Elaborated.{ReadsOfBody, IsNet}
 use Rattle.vhdl_names_rules.specs.units.Units.{Units}
 use Rattle.vhdl_names_rules.specs.sound.Units.{are_sound}
 use Rattle.vhdl_names_rules.specs.sound.Named.{are_named}
 use Rattle.vhdl_expand_rules.specs.declared.fault.ElabProblem.{ElabProblem}
+use Rattle.vhdl_expand_rules.specs.declared.fault.ElabProblem.TheVariants as problem
 use Rattle.vhdl_expand_rules.specs.declared.fault.ElabProblem.TheVariants.{TwoUnresolved, ReadOfShared, TooMany}
 use Rattle.vhdl_expand_rules.specs.Elab.{Elab, ◌>>=◌, ◌>>◌, unless, MayTell}
 use Rattle.vhdl_expand_rules.specs.Expansion.{Design, expanded_design}
@@ -16,9 +17,10 @@ use Rattle.vhdl_elab_rules.specs.Wiring.{flat_net}
 use Rattle.vhdl_elab_rules.specs.Limits.{counts, is_within_limits, has_two_unresolved, has_read_of_shared}
 use Rattle.vhdl_elab_rules.specs.Elaboration.{Elaborated, net_of, connected, elaborated_net}
 use Rattle.vhdl_expand_tree.specs.Costs.{instance_costs, is_within, limits}
-use Rattle.vhdl_expand_tree.proofs.Alike.{tells_same, tells_first, tells_again}
+use Rattle.vhdl_expand_tree.proofs.Alike.{wrong, same_problem, tells_same, tells_first, tells_again}
 use Rattle.vhdl_expand_tree.proofs.Counts.{each-design-costs-its-parts}
-use Rattle.vhdl_elab_laws.specs.Shown.{shown, as_shown, net_shown}
+use Rattle.vhdl_elab_laws.specs.Refused.{HasInterface, MayRefuse}
+use Rattle.vhdl_elab_laws.specs.Shown.{Shown, shown, as_shown, net_shown}
 use Rattle.vhdl_elab_laws.proofs.Nets.{each-elaborated-is-net}
 use Rattle.vhdl_expand.specs.Limits.{within_limits}
 
@@ -63,6 +65,52 @@ refused-in problem (Ok d) h = by (is_within (instance_costs d.top) limits) refl 
 pub refused : {problem : ElabProblem} → (units : Units) (top : List ℕ) → MayTell (within_limits (expanded_design units top)) problem → MayTell (as_shown (elaborated_net units top)) problem
 unfolding elaborated_net
 refused {problem} units top h = tells_first (expanded_design units top >>= λ d. connected d) _ (refused-in problem (expanded_design units top) h)
+
+-- what is shown is refused with the same problem
+pub not-shown : {problem : ElabProblem} (r : Elab Elaborated) → as_shown r ≡ Err problem → r ≡ Err problem
+not-shown (Ok x) h = absurd cc
+not-shown {problem} (Err p) h = ap (λ q. wrong {A = Elaborated} q) (same_problem {A = Shown} p problem h)
+
+same-in : (problem : ElabProblem) (r : Elab Design) → within_limits r ≡ Err problem → (r >>= λ d. connected d) ≡ Err problem
+same-in problem (Err p) h = ap (λ q. wrong {A = Elaborated} q) (same_problem {A = Design} p problem h)
+same-in problem (Ok d) h = by (is_within (instance_costs d.top) limits) refl h
+  where
+    by : (t : Bool) → is_within (instance_costs d.top) limits ≡ t → (unless TooMany t >> given d) ≡ Err problem → connected d ≡ Err problem
+    by true e k = absurd cc
+    by false e k = beyond d e ∙ ap (λ q. wrong {A = Elaborated} q) (same_problem {A = Design} TooMany problem k)
+
+not-expanded : (r : Elab Design) → IsErr (within_limits r) → IsErr (r >>= λ d. unless TooMany (is_within_limits (counts (numbered_design d))))
+not-expanded (Err p) h = refl
+not-expanded (Ok d) h = subst (λ (t : Bool). IsErr (unless TooMany t)) (sym (each-design-costs-its-parts d).within) (by (is_within (instance_costs d.top) limits) h)
+  where
+    by : (t : Bool) → IsErr (unless TooMany t >> given d) → IsErr (unless TooMany t)
+    by true k = absurd cc
+    by false k = refl
+
+is-many : (p : ElabProblem) → (p ≡ TooMany) ⊎ (p ≢ TooMany)
+is-many problem.NoTop = inr (λ e. absurd cc)
+is-many problem.NoGeneric = inr (λ e. absurd cc)
+is-many problem.GenericRange = inr (λ e. absurd cc)
+is-many problem.StaticError = inr (λ e. absurd cc)
+is-many (problem.Length found needed) = inr (λ e. absurd cc)
+is-many problem.Index = inr (λ e. absurd cc)
+is-many problem.TooWide = inr (λ e. absurd cc)
+is-many problem.Unassociated = inr (λ e. absurd cc)
+is-many problem.TwoUnresolved = inr (λ e. absurd cc)
+is-many problem.ReadOfShared = inr (λ e. absurd cc)
+is-many problem.TooDeep = inr (λ e. absurd cc)
+is-many problem.TooMany = inl refl
+
+-- what expansion within the limits tells may be told of the whole
+pub may-refuse : {problem : ElabProblem} (units : Units) (top : List ℕ) → MayTell (within_limits (expanded_design units top)) problem
+    → (within_limits (expanded_design units top) ≡ Err problem) ⊎ HasInterface units top → MayRefuse units top problem
+unfolding elaborated_net
+may-refuse {problem} units top t (inl e) = inl (same-in problem (expanded_design units top) e)
+may-refuse {problem} units top t (inr begun) = by (is-many problem)
+  where
+    by : (problem ≡ TooMany) ⊎ (problem ≢ TooMany) → MayRefuse units top problem
+    by (inl many) = inr (many, record { begun = begun; refused = not-expanded (expanded_design units top) t.refused })
+    by (inr other) = inl (same-in problem (expanded_design units top) (t.first other))
 
 -- what connection shows is a net
 pub connected-is-net : (units : Units) (top : List ℕ) (design : Design) (net : NetlistView) → IsTrue (are_sound units) → IsTrue (are_named units) → within_limits (expanded_design units top) ≡ Ok design

@@ -3,3 +3,4 @@ pub mod Nets
 pub mod Names
 pub mod Prefixes
 pub mod Ports
+pub mod Refused

@@ -1,9 +1,25 @@
 -- A fault tells its problem, wherever it stands.
-use Rattle.std.proofs.Common.{◌≡◌, ℕ, sym, ap, subst}
+use Rattle.std.proofs.Common.{◌≡◌, ℕ, List, [], Ok, Err, Some, refl, sym, ap, ◌∙◌, subst}
+use Rattle.std.specs.Prelude.{IsOk, Option}
+use Rattle.vhdl_names_rules.specs.units.Units.{Units, Entity}
+use Rattle.vhdl_elab_laws.specs.Refused.{HasInterface}
+use Rattle.vhdl_expand_rules.specs.declared.fault.ElabProblem.TheVariants.{NoTop}
+use Rattle.vhdl_expand_rules.specs.Declarations.{InstanceObjects, interface}
+use Rattle.vhdl_expand_rules.specs.Expansion.{entity_named}
+use Rattle.vhdl_expand_rules.specs.Site.{no_integers}
 use Rattle.vhdl_expand_rules.specs.declared.fault.ElabFault.{ElabFault}
 use Rattle.vhdl_expand_rules.specs.declared.fault.ElabFault.TheVariants.{At}
 use Rattle.vhdl_expand_rules.specs.declared.fault.ElabProblem.{ElabProblem}
-use Rattle.vhdl_expand_rules.specs.Elab.{Elab, told, MayTell}
+use Rattle.vhdl_expand_rules.specs.Elab.{Elab, ◌>>=◌, found, told, MayTell}
 
 pub told_at : {A : Type 0} {given : Elab A} {fault : ElabFault} {problem : ElabProblem} {at : ℕ} → fault ≡ At problem at → MayTell given problem → MayTell given (told fault)
 told_at {A = A} {given = given} e t = let P : ElabProblem → Type 0 = λ q. MayTell given q in subst P (sym (ap (λ (f : ElabFault). told f) e)) t
+
+pub same_at : {A : Type 0} {given : Elab A} {fault : ElabFault} {problem : ElabProblem} {at : ℕ} → fault ≡ At problem at → given ≡ Err problem → given ≡ Err (told fault)
+same_at {A = A} {given = given} e h = let P : ElabProblem → Type 0 = λ q. given ≡ Err q in subst P (sym (ap (λ (f : ElabFault). told f) e)) h
+
+-- the interface of the top was elaborated
+pub has_interface : (units : Units) (top : List ℕ) (unit : Entity) (d : InstanceObjects) → entity_named units top ≡ Some unit → interface no_integers [] unit ≡ Ok d → HasInterface units top
+has_interface units top unit d named known =
+    let is = ap (λ (o : Option Entity). found NoTop o >>= λ u. interface no_integers [] u) named ∙ known in
+    subst (λ (r : Elab InstanceObjects). IsOk r) (sym is) refl

@@ -1,5 +1,5 @@
 -- From the tree of a source to its net.
-use Rattle.std.proofs.Common.{◌≡◌, ◌≢◌, ℕ, List, None, Some, Result, Ok, Err, true≢false, sym, arith}
+use Rattle.std.proofs.Common.{◌≡◌, ◌≢◌, ℕ, List, None, Some, Result, Ok, Err, arith}
 use Rattle.std.specs.Prelude.{IsTrue, IsErrAnd, IfOk, IfErr}
 use Rattle.vhdl_lexer.proofs.Reached.{cut_within}
 use Rattle.vhdl_tree.specs.Tree.{File}
@@ -11,13 +11,10 @@ use Rattle.vhdl_names_laws.specs.Words.{HasWords}
 use Rattle.vhdl_names_laws.proofs.Units.{units_are_sound}
 use Rattle.vhdl_names_laws.proofs.Named.{units_are_named, small_ports_distinct}
 use Rattle.vhdl_names_laws.proofs.Spelled.{spelled_files_have_words}
-use Rattle.vhdl_expand_rules.specs.Elab.{Elab as Expanded, MayTell, told}
+use Rattle.vhdl_expand_rules.specs.Elab.{told}
 use Rattle.vhdl_expand_rules.specs.declared.fault.ElabFault.{ElabFault}
 use Rattle.vhdl_expand_rules.specs.declared.fault.ElabFault.TheVariants as elab
-use Rattle.vhdl_expand_rules.specs.declared.fault.ElabProblem.{ElabProblem}
-use Rattle.vhdl_expand_tree.proofs.Alike.{tells_again}
-use Rattle.vhdl_elab_rules.specs.Elaboration.{Elaborated, elaborated_net}
-use Rattle.vhdl_elab_laws.specs.Shown.{Shown, as_shown}
+use Rattle.vhdl_elab_laws.specs.Refused.{MayRefuse}
 use Rattle.vhdl_elab_laws.proofs.Nets.{each-has-its-names}
 use Rattle.vhdl_elab_laws.proofs.Ports.{each-has-own-ports}
 use Rattle.rtl_net.specs.Nets.{NetlistView}
@@ -59,14 +56,9 @@ own_ports source top net h =
 
 -- ---- why it has none
 
--- what may be told of what is shown may be told of what is elaborated
-of_shown : {problem : ElabProblem} (r : Expanded Elaborated) → MayTell (as_shown r) problem → MayTell r problem
-of_shown {problem} (Ok x) t = absurd (true≢false (sym t.refused))
-of_shown {problem} (Err p) t = tells_again {A = Shown} {B = Elaborated} p problem t
-
-pub no_net : (units : u.Units) (top : List ℕ) (size : ℕ) (fault : ElabFault) → (fault ≢ elab.NoMemory → MayTell (as_shown (elaborated_net units top)) (told fault))
+pub no_net : (units : u.Units) (top : List ℕ) (size : ℕ) (fault : ElabFault) → (fault ≢ elab.NoMemory → MayRefuse units top (told fault))
     → HasElabFault units top (of_elab (elab_within size fault))
-no_net units top size (elab.At problem at) h = of_shown (elaborated_net units top) (h (λ e. absurd cc))
+no_net units top size (elab.At problem at) h = h (λ e. absurd cc)
 no_net units top size elab.NoMemory h = tt
 
 -- ---- the whole

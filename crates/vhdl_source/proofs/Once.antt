@@ -1,5 +1,5 @@
 -- A source has one tree, and so one of each that follows from it.
-use Rattle.std.proofs.Common.{◌≡◌, ℕ, List, Some, Ok, Err, true≢false, sym, ap, ◌∙◌, subst, arith}
+use Rattle.std.proofs.Common.{◌≡◌, ℕ, Bool, true, false, not, List, Some, Ok, Err, inl, inr, refl, true≢false, sym, ap, ◌∙◌, subst, arith}
 use Rattle.std.specs.Prelude.{IsErr}
 use Rattle.vhdl_lexer.specs.declared.token.Token.{Token}
 use Rattle.vhdl_parser.specs.Fault.{IsRefusal, IsTooDeep}
@@ -11,10 +11,16 @@ use Rattle.vhdl_tree.specs.Tree.{File}
 use Rattle.vhdl_names_rules.specs.Files.{units_of}
 use Rattle.vhdl_names_rules.specs.declared.fault.NameFault.TheVariants as names
 use Rattle.vhdl_names_rules.specs.units.Units.{Units}
-use Rattle.vhdl_expand_rules.specs.Elab.{Elab as Expanded}
+use Rattle.vhdl_expand_rules.specs.Elab.{Elab as Expanded, ◌>>=◌, ◌>>◌, unless}
+use Rattle.vhdl_expand_rules.specs.Expansion.{Design, expanded_design}
 use Rattle.vhdl_expand_rules.specs.declared.fault.ElabFault.TheVariants as elab
 use Rattle.vhdl_expand_rules.specs.declared.fault.ElabProblem.{ElabProblem}
-use Rattle.vhdl_elab_rules.specs.Elaboration.{Elaborated, elaborated_net}
+use Rattle.vhdl_expand_rules.specs.declared.fault.ElabProblem.TheVariants.{TwoUnresolved, ReadOfShared, TooMany}
+use Rattle.vhdl_elab_rules.specs.Elaboration.{Elaborated, net_of, connected, elaborated_net}
+use Rattle.vhdl_elab_rules.specs.Limits.{counts, is_within_limits, has_two_unresolved, has_read_of_shared}
+use Rattle.vhdl_elab_rules.specs.Numbering.{numbered_design}
+use Rattle.vhdl_elab_rules.specs.Wiring.{flat_net}
+use Rattle.vhdl_elab_laws.specs.Refused.{MayRefuse}
 use Rattle.vhdl_elab_laws.specs.Shown.{shown}
 use Rattle.vhdl_source_rules.specs.Sources.{SpellsTokens, IsFileOf, HasSyntaxFault}
 use Rattle.vhdl_source_rules.specs.Designs.{HasUnits, HasDesign}
@@ -63,9 +69,27 @@ undesigned : (given : Expanded Elaborated) (design : Elaborated) → IsErr given
 undesigned (Ok x) design h e = true≢false (sym h)
 undesigned (Err problem) design h e = absurd (cc)
 
+-- what may be refused has no design
+not_connected : (r : Expanded Design) → IsErr (r >>= λ d. unless TooMany (is_within_limits (counts (numbered_design d)))) → IsErr (r >>= λ d. connected d)
+unfolding connected
+not_connected (Err p) h = refl
+not_connected (Ok d) h = by (is_within_limits (counts (numbered_design d))) h
+  where
+    rest : Expanded Elaborated
+    rest = unless TwoUnresolved (not (has_two_unresolved (numbered_design d))) >> (unless ReadOfShared (not (has_read_of_shared (numbered_design d) (flat_net (numbered_design d)))) >> Ok (net_of (numbered_design d)))
+
+    by : (t : Bool) → IsErr (unless TooMany t) → IsErr (unless TooMany t >> rest)
+    by true k = absurd (true≢false (sym k))
+    by false k = refl
+
+is_refused : (units : Units) (top : List ℕ) (problem : ElabProblem) → MayRefuse units top problem → IsErr (elaborated_net units top)
+unfolding elaborated_net
+is_refused units top problem (inl e) = subst (λ (r : Expanded Elaborated). IsErr r) (sym e) refl
+is_refused units top problem (inr (many, cut)) = not_connected (expanded_design units top) cut.refused
+
 no_design : (source top : List ℕ) (problem : ElabProblem) (design : Elaborated) → HasNoDesign source top problem → HasDesign source top design → ⊥
 no_design source top problem design r h =
-    undesigned (elaborated_net r.units top) design r.refused.refused
+    undesigned (elaborated_net r.units top) design (is_refused r.units top problem r.refused)
     (ap (λ (x : Units). elaborated_net x top) (one_units source r.units h.units r.analysed h.analysed) ∙ h.is)
 
 pub refused : EachRefusedHasNone

@@ -2,7 +2,7 @@
 use Rattle.std.specs.Prelude.{◌≡◌, ℕ, min, List, None, Some, Result, Ok, Err}
 use Rattle.rtl_net.specs.Nets.{NetlistView}
 use Rattle.vhdl_elab_rules.specs.Elaboration.{Elaborated, elaborated_net}
-use Rattle.vhdl_expand_rules.specs.Elab.{MayTell}
+use Rattle.vhdl_elab_laws.specs.Refused.{MayRefuse}
 use Rattle.vhdl_expand_rules.specs.declared.fault.ElabFault.{ElabFault}
 use Rattle.vhdl_expand_rules.specs.declared.fault.ElabFault.TheVariants as elab
 use Rattle.vhdl_names_rules.specs.Files as rules
@@ -45,7 +45,7 @@ pub record ShowsTop (units : u.Units) (top : List ℕ) (net : NetlistView) : Typ
 -- only a fault of elaboration, only where the units have no design, and with the problem that may be told
 abbrev pub HasElabFault : u.Units → (top : List ℕ) → SourceFault → Type 0
 HasElabFault units top (Elab elab.NoMemory) = ⊥
-HasElabFault units top (Elab (elab.At problem at)) = MayTell (elaborated_net units top) problem
+HasElabFault units top (Elab (elab.At problem at)) = MayRefuse units top problem
 HasElabFault units top NoMemory = Unit {0}
 HasElabFault units top _ = ⊥
 

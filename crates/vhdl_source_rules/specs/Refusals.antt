@@ -1,7 +1,6 @@
 -- Why a source has no netlist under a top: the first layer that refuses, each where its own definition does.
 use Rattle.std.specs.Prelude.{◌≡◌, ℕ, List, None}
-use Rattle.vhdl_elab_rules.specs.Elaboration.{elaborated_net}
-use Rattle.vhdl_expand_rules.specs.Elab.{MayTell}
+use Rattle.vhdl_elab_laws.specs.Refused.{MayRefuse}
 use Rattle.vhdl_expand_rules.specs.declared.fault.ElabFault.TheVariants as elab
 use Rattle.vhdl_expand_rules.specs.declared.fault.ElabProblem.{ElabProblem}
 use Rattle.vhdl_lexer.specs.Fault.{HasFault}
@@ -22,11 +21,12 @@ pub record HasNoUnits (source : List ℕ) : Type 0 where
   pub read : IsFileOf source file
   pub ill_typed : units_of file ≡ None
 
--- the source's units have no design with this top, and this problem may be told: that of the first broken rule, or TooMany
+-- The source's units have no design with this top, and this problem may be told: that of the first broken rule, or TooMany where the growth
+-- of the design may be cut off before.
 pub record HasNoDesign (source top : List ℕ) (problem : ElabProblem) : Type 0 where
   pub units : Units
   pub analysed : HasUnits source units
-  pub refused : MayTell (elaborated_net units top) problem
+  pub refused : MayRefuse units top problem
 
 -- A layer's want of memory is told as NoMemory alone. Which of the problems of names is told, no definition says, nor whether TooDeep or
 -- Unexpected is told of a source that has both.

@@ -1,4 +1,4 @@
-use Rattle.std.proofs.Common.{rules, ◌≢◌, ap, sym, ◌∙◌, arith}
+use Rattle.std.proofs.Common.{rules, inl, ◌≢◌, ap, sym, ◌∙◌, arith}
 use Rattle.std.proofs.lemmas.Grind.{common_steps}
 use Rattle.rtl_net.specs.Nets.{NetlistView}
 use Rattle.rtl_net.specs.Parts.{assembled}
@@ -7,54 +7,69 @@ use Rattle.vhdl_expand_rules.specs.declared.fault.ElabFault.TheVariants.{NoMemor
 use Rattle.vhdl_expand_rules.specs.Elab.{told, MayTell}
 use Rattle.vhdl_expand_rules.proofs.Steps.{given}
 use Rattle.vhdl_expand_rules.proofs.laws.Trees.{each-tree-is-sound}
-use Rattle.vhdl_elab_rules.specs.Elaboration.{elaborated_net}
+use Rattle.vhdl_elab_rules.specs.Elaboration.{connected, elaborated_net}
 use Rattle.vhdl_expand_tree.specs.Views.{design_view}
 use Rattle.vhdl_expand_tree.proofs.Alike.{tells}
+use Rattle.vhdl_elab_laws.specs.Refused.{MayRefuse}
 use Rattle.vhdl_elab_laws.specs.Shown.{as_shown, net_shown}
 use Rattle.vhdl_elab_laws.proofs.Dotted.{each-tree-is-dotted}
-use Rattle.vhdl_elab.proofs.Joined.{was-expanded, is-within, elaborated-by, refused, connected-is-net}
+use Rattle.vhdl_elab.proofs.Joined.{was-expanded, is-within, elaborated-by, refused, may-refuse, not-shown, connected-is-net}
 use Rattle.vhdl_connect.proofs.Ready.{is-ready}
 use Rattle.vhdl_elab.proofs.There.{nets-there}
 use Rattle.vhdl_elab.proofs.elaboration.elaborate.Goals as goal
 
-pub returns-in_err-design : goal.returns-in_err-design
-returns-in_err-design c =
+pub returns-in_err-design-clause-given : goal.returns-in_err-design-clause-given
+returns-in_err-design-clause-given c =
     let stopped : c.in_err-design.field-0.0 ≢ NoMemory → MayTell (as_shown (elaborated_net (units_view c.args.units.now) c.args.top.now)) (told c.in_err-design.field-0.0) =
-    λ n. refused (units_view c.args.units.now) c.args.top.now (c.in_err-design.ensures n) in
+    λ n. refused (units_view c.args.units.now) c.args.top.now (c.in_err-design.ensures.given n) in
     first_of (search rules, grind (arith, common_steps))
 
 pub connect-requires-clause-ready : goal.connect-requires-clause-ready
 connect-requires-clause-ready c =
     let units = units_view c.args.units.now in
     let design = design_view c.in_ok-design.design in
-    let expanded = was-expanded units c.args.top.now design c.in_ok-design.ensures in
+    let expanded = was-expanded units c.args.top.now design c.in_ok-design.ensures.given in
     is-ready design (each-tree-is-sound units c.args.top.now design c.requires.sound expanded) (each-tree-is-dotted units c.args.top.now design c.requires.named expanded)
 
 pub connect-requires-clause-there : goal.connect-requires-clause-there
 connect-requires-clause-there c =
     let units = units_view c.args.units.now in
     let design = design_view c.in_ok-design.design in
-    nets-there units c.args.top.now design c.requires.sound (was-expanded units c.args.top.now design c.in_ok-design.ensures)
+    nets-there units c.args.top.now design c.requires.sound (was-expanded units c.args.top.now design c.in_ok-design.ensures.given)
 
 pub connect-requires-clause-within : goal.connect-requires-clause-within
-connect-requires-clause-within c = is-within (units_view c.args.units.now) c.args.top.now (design_view c.in_ok-design.design) c.in_ok-design.ensures
+connect-requires-clause-within c = is-within (units_view c.args.units.now) c.args.top.now (design_view c.in_ok-design.design) c.in_ok-design.ensures.given
 
-pub returns-in_err-parts : goal.returns-in_err-parts
-returns-in_err-parts c =
+pub returns-in_err-parts-clause-given : goal.returns-in_err-parts-clause-given
+returns-in_err-parts-clause-given c =
     let units = units_view c.args.units.now in
     let design = design_view c.in_ok-design.design in
     let stopped : c.in_err-parts.field-0.0 ≢ NoMemory → MayTell (as_shown (elaborated_net (units_view c.args.units.now) c.args.top.now)) (told c.in_err-parts.field-0.0) =
-    λ n. tells (ap as_shown (elaborated-by units c.args.top.now design c.in_ok-design.ensures) ∙ c.in_err-parts.ensures.given n) in
+    λ n. tells (ap as_shown (elaborated-by units c.args.top.now design c.in_ok-design.ensures.given) ∙ c.in_err-parts.ensures.given n) in
     first_of (search rules, grind (arith, common_steps))
 
 pub new-requires-clause-elaborated : goal.new-requires-clause-elaborated
 new-requires-clause-elaborated c =
     let units = units_view c.args.units.now in
     let design = design_view c.in_ok-design.design in
-    connected-is-net units c.args.top.now design (assembled c.in_ok-parts.parts) c.requires.sound c.requires.named c.in_ok-design.ensures c.in_ok-parts.ensures.given c.in_ok-parts.ensures.reads
+    connected-is-net units c.args.top.now design (assembled c.in_ok-parts.parts) c.requires.sound c.requires.named c.in_ok-design.ensures.given c.in_ok-parts.ensures.given c.in_ok-parts.ensures.reads
 
-pub returns : goal.returns
-returns c =
+pub returns-clause-given : goal.returns-clause-given
+returns-clause-given c =
     let units = units_view c.args.units.now in
     let design = design_view c.in_ok-design.design in
-    ap as_shown (elaborated-by units c.args.top.now design c.in_ok-design.ensures) ∙ c.in_ok-parts.ensures.given ∙ ap (λ (n : NetlistView). given (net_shown n)) (sym c.in_ok-new.ensures)
+    ap as_shown (elaborated-by units c.args.top.now design c.in_ok-design.ensures.given) ∙ c.in_ok-parts.ensures.given ∙ ap (λ (n : NetlistView). given (net_shown n)) (sym c.in_ok-new.ensures)
+
+pub returns-in_err-design-clause-refused : goal.returns-in_err-design-clause-refused
+returns-in_err-design-clause-refused c =
+    let stopped : c.in_err-design.field-0.0 ≢ NoMemory → MayRefuse (units_view c.args.units.now) c.args.top.now (told c.in_err-design.field-0.0) =
+    λ n. may-refuse (units_view c.args.units.now) c.args.top.now (c.in_err-design.ensures.given n) (c.in_err-design.ensures.begun n) in
+    first_of (search rules, grind (arith, common_steps))
+
+pub returns-in_err-parts-clause-refused : goal.returns-in_err-parts-clause-refused
+returns-in_err-parts-clause-refused c =
+    let units = units_view c.args.units.now in
+    let design = design_view c.in_ok-design.design in
+    let stopped : c.in_err-parts.field-0.0 ≢ NoMemory → MayRefuse (units_view c.args.units.now) c.args.top.now (told c.in_err-parts.field-0.0) =
+    λ n. inl (elaborated-by units c.args.top.now design c.in_ok-design.ensures.given ∙ not-shown (connected design) (c.in_err-parts.ensures.given n)) in
+    first_of (search rules, grind (arith, common_steps))

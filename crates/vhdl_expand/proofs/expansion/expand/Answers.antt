@@ -1,5 +1,5 @@
-use Rattle.std.proofs.Common.{◌≡◌, map, None, ap, ◌∙◌, sym, arith, rules}
-use Rattle.std.specs.Prelude.{◌≢◌, find, bytes_eq}
+use Rattle.std.proofs.Common.{◌≡◌, map, None, Err, inl, inr, ap, ◌∙◌, sym, arith, rules}
+use Rattle.std.specs.Prelude.{◌≢◌, ◌⊎◌, find, bytes_eq}
 use Rattle.std.proofs.lemmas.Grind.{common_steps}
 use Rattle.vhdl_names_rules.specs.units.Units.{Entity}
 use Rattle.vhdl_names_units.specs.views.Units.{entity_view, units_view}
@@ -11,22 +11,23 @@ use Rattle.vhdl_expand_tree.specs.Views.{budget_view, instance_view}
 use Rattle.vhdl_expand.specs.Limits.{within_limits}
 use Rattle.vhdl_expand_objects.specs.Views.{declared_view}
 use Rattle.vhdl_expand.proofs.Nested.{no_top, no_top_interface, no_instance, design_made}
-use Rattle.vhdl_expand.proofs.Told.{told_at}
+use Rattle.vhdl_elab_laws.specs.Refused.{HasInterface}
+use Rattle.vhdl_expand.proofs.Told.{told_at, same_at, has_interface}
 use Rattle.vhdl_expand.proofs.Heavier.{found_among}
 use Rattle.vhdl_expand_rules.specs.Elab.{told, MayTell}
 use Rattle.vhdl_expand_tree.proofs.Alike.{tells, tells_same}
 use Rattle.vhdl_expand.proofs.expansion.expand.Goals as goal
 
-pub returns-in_default : goal.returns-in_default
-returns-in_default c =
+pub returns-in_default-clause-given : goal.returns-in_default-clause-given
+returns-in_default-clause-given c =
     let us = units_view c.args.units.now in
     let named = ap (λ n. find (λ (e : Entity). bytes_eq e.name n) us) (sym (c.deref-2.ensures.value ∙ c.in_ok-name.ensures))
     ∙ ap (λ es. find (λ (e : Entity). bytes_eq e.name c.deref-2.result.now) (map entity_view es)) (sym c.deref.ensures.value) ∙ c.in_default.ensures in
     let none : c.named.result ≡ None = first_of (search rules, grind (arith, common_steps)) in
     λ _. told_at c.at.ensures (tells (no_top us c.args.top.now named))
 
-pub returns-in_err-declared : goal.returns-in_err-declared
-returns-in_err-declared c =
+pub returns-in_err-declared-clause-given : goal.returns-in_err-declared-clause-given
+returns-in_err-declared-clause-given c =
     let us = units_view c.args.units.now in
     let named = ap (λ n. find (λ (e : Entity). bytes_eq e.name n) us) (sym (c.deref-2.ensures.value ∙ c.in_ok-name.ensures))
     ∙ ap (λ es. find (λ (e : Entity). bytes_eq e.name c.deref-2.result.now) (map entity_view es)) (sym c.deref.ensures.value) ∙ c.in-Some.ensures in
@@ -39,8 +40,8 @@ instance-requires c =
     let here = ap (λ es. find (λ (e : Entity). bytes_eq e.name c.deref-2.result.now) (map entity_view es)) (c.deref-3.ensures.value ∙ sym c.deref.ensures.value) ∙ c.in-Some.ensures in
     record { among = found_among (λ (e : Entity). bytes_eq e.name c.deref-2.result.now) (map entity_view c.deref-3.result.now) (entity_view c.in-Some.unit.now) here }
 
-pub returns-in_err-top : goal.returns-in_err-top
-returns-in_err-top c =
+pub returns-in_err-top-clause-given : goal.returns-in_err-top-clause-given
+returns-in_err-top-clause-given c =
     let us = units_view c.args.units.now in
     let e = entity_view c.in-Some.unit.now in
     let d = declared_view c.in_ok-declared.declared in
@@ -52,8 +53,8 @@ returns-in_err-top c =
     λ n. no_instance us c.args.top.now e d named c.in_ok-declared.ensures (tells_same same (c.in_err-top.ensures n)) in
     first_of (search rules, grind (arith, common_steps))
 
-pub returns : goal.returns
-returns c =
+pub returns-clause-given : goal.returns-clause-given
+returns-clause-given c =
     let us = units_view c.args.units.now in
     let e = entity_view c.in-Some.unit.now in
     let d = declared_view c.in_ok-declared.declared in
@@ -64,3 +65,29 @@ returns c =
     let name : c.in-Some.unit.now.name.text.items ≡ c.in_ok-name-2.name.items = first_of (search rules, grind (arith, common_steps)) in
     design_made us c.args.top.now e d named c.in_ok-declared.ensures (instance_view c.in_ok-top.top) (budget_view c.instance.new.left) (same ∙ c.in_ok-top.ensures)
     ∙ ap (λ n. given (record { name = n; top = instance_view c.in_ok-top.top })) name
+
+pub returns-in_default-clause-begun : goal.returns-in_default-clause-begun
+returns-in_default-clause-begun c =
+    let us = units_view c.args.units.now in
+    let named = ap (λ n. find (λ (e : Entity). bytes_eq e.name n) us) (sym (c.deref-2.ensures.value ∙ c.in_ok-name.ensures))
+    ∙ ap (λ es. find (λ (e : Entity). bytes_eq e.name c.deref-2.result.now) (map entity_view es)) (sym c.deref.ensures.value) ∙ c.in_default.ensures in
+    let none : c.named.result ≡ None = first_of (search rules, grind (arith, common_steps)) in
+    λ _. inl (same_at c.at.ensures (no_top us c.args.top.now named))
+
+pub returns-in_err-declared-clause-begun : goal.returns-in_err-declared-clause-begun
+returns-in_err-declared-clause-begun c =
+    let us = units_view c.args.units.now in
+    let named = ap (λ n. find (λ (e : Entity). bytes_eq e.name n) us) (sym (c.deref-2.ensures.value ∙ c.in_ok-name.ensures))
+    ∙ ap (λ es. find (λ (e : Entity). bytes_eq e.name c.deref-2.result.now) (map entity_view es)) (sym c.deref.ensures.value) ∙ c.in-Some.ensures in
+    let stopped : c.in_err-declared.field-0.0 ≢ NoMemory → (within_limits (expanded_design us c.args.top.now) ≡ Err (told c.in_err-declared.field-0.0)) ⊎ HasInterface us c.args.top.now =
+    λ n. inl (no_top_interface us c.args.top.now (entity_view c.in-Some.unit.now) named (c.in_err-declared.ensures n)) in
+    first_of (search rules, grind (arith, common_steps))
+
+pub returns-in_err-top-clause-begun : goal.returns-in_err-top-clause-begun
+returns-in_err-top-clause-begun c =
+    let us = units_view c.args.units.now in
+    let named = ap (λ n. find (λ (e : Entity). bytes_eq e.name n) us) (sym (c.deref-2.ensures.value ∙ c.in_ok-name.ensures))
+    ∙ ap (λ es. find (λ (e : Entity). bytes_eq e.name c.deref-2.result.now) (map entity_view es)) (sym c.deref.ensures.value) ∙ c.in-Some.ensures in
+    let stopped : c.in_err-top.field-0.0 ≢ NoMemory → (within_limits (expanded_design us c.args.top.now) ≡ Err (told c.in_err-top.field-0.0)) ⊎ HasInterface us c.args.top.now =
+    λ n. inr (has_interface us c.args.top.now (entity_view c.in-Some.unit.now) (declared_view c.in_ok-declared.declared) named c.in_ok-declared.ensures) in
+    first_of (search rules, grind (arith, common_steps))

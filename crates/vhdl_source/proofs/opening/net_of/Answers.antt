@@ -9,4 +9,4 @@ use Rattle.vhdl_source.proofs.opening.net_of.Goals as goal
 pub returns-in-Err-clause-given : goal.returns-in-Err-clause-given
 returns-in-Err-clause-given c =
     subst (λ (f : SourceFault). HasElabFault (units_view c.args.units.now) c.args.top.now f) (sym (c.from.ensures ∙ ap of_elab c.elab_fault_within.ensures))
-    (no_net (units_view c.args.units.now) c.args.top.now c.args.size c.in-Err.fault c.in-Err.ensures)
+    (no_net (units_view c.args.units.now) c.args.top.now c.args.size c.in-Err.fault c.in-Err.ensures.refused)
