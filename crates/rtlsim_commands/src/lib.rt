@@ -9,6 +9,7 @@
 #![tactic(auto)]
 
 mod both;
+mod command;
 mod ending;
 mod expecting;
 mod listing;
