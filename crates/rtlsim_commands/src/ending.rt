@@ -140,13 +140,6 @@ pub(crate) fn end_levels<O: Sink, E: Sink>(summary: LevelSummary, out: &O, err: 
     ended_by_writes(Status::Done, out, err)
 }
 
-/// The status of the checker's verdict.
-pub(crate) fn verdict_status(yes: bool) -> Status
-    ensures { result ≡ told.verdict_status yes }
-{
-    if yes { Status::Done } else { Status::Rejected }
-}
-
 /// The status, where no write failed.
 pub fn ended_by_writes<O: Sink, E: Sink>(status: Status, out: &O, err: &E) -> Status
     ensures { result ≡ ended status (O.state out.now) (E.state err.now) }

@@ -1,7 +1,6 @@
 //! Commands with what is told of their answers.
 
 ghost use Rattle.std.specs.Prelude.{map};
-ghost use Rattle.std.proofs.Common.{refl};
 ghost use Rattle.rtl_sink.specs.Written.{IsIntact};
 ghost use Rattle.rtlsim_commands.specs.Listed.{ListsNet, ChecksNetJson, ChecksNetTold, DrawsNetTold};
 ghost use Rattle.rtlsim_commands.specs.Machine.{EvaluatesMachine};
@@ -9,7 +8,6 @@ ghost use Rattle.rtlsim_commands.specs.Served.{Serves};
 ghost use Rattle.rtlsim_commands.specs.Told as told;
 
 use crate::command::{Command, serve};
-use crate::ending::{ended_by_writes, verdict_status};
 use crate::listing::{check_net_dot_told, check_net_json, check_net_told, list_net};
 use crate::machine::eval_net;
 use rtl_net::Net;
@@ -26,17 +24,9 @@ impl Command for ListNet {
 
     ghost does = { λ command. ListsNet };
 
-    ghost done = { λ command. told.quiet };
-
     fn on_net<S: Sink>(&self, _alloc: Global, net: &Net, out: &mut S) -> Result<(), Fault> {
         list_net(net, out)
     }
-
-    fn end<O: Sink, E: Sink>(&self, _answer: (), out: &O, err: &mut E) -> Status {
-        ended_by_writes(Status::Done, out, err)
-    }
-
-    ghost quiet = { λ command. refl };
 }
 
 /// `check`: the lines of the verdict.
@@ -50,17 +40,9 @@ impl Command for CheckNet<'_, '_> {
 
     ghost does = { λ command. ChecksNetTold command.telling.now };
 
-    ghost done = { λ command. told.verdict };
-
     fn on_net<S: Sink>(&self, alloc: Global, net: &Net, out: &mut S) -> Result<bool, Fault> {
         check_net_told(alloc, self.telling, net, out)
     }
-
-    fn end<O: Sink, E: Sink>(&self, answer: bool, out: &O, err: &mut E) -> Status {
-        ended_by_writes(verdict_status(answer), out, err)
-    }
-
-    ghost quiet = { λ command. refl };
 }
 
 /// `check --dot`: the graph of the levels, or the lines of another verdict.
@@ -74,17 +56,9 @@ impl Command for DrawNet<'_, '_> {
 
     ghost does = { λ command. DrawsNetTold command.telling.now };
 
-    ghost done = { λ command. told.verdict };
-
     fn on_net<S: Sink>(&self, alloc: Global, net: &Net, out: &mut S) -> Result<bool, Fault> {
         check_net_dot_told(alloc, self.telling, net, out)
     }
-
-    fn end<O: Sink, E: Sink>(&self, answer: bool, out: &O, err: &mut E) -> Status {
-        ended_by_writes(verdict_status(answer), out, err)
-    }
-
-    ghost quiet = { λ command. refl };
 }
 
 /// `check --json`: the verdict as an object.
@@ -98,17 +72,9 @@ impl Command for DescribeNet<'_, '_> {
 
     ghost does = { λ command. ChecksNetJson command.telling.now };
 
-    ghost done = { λ command. told.verdict };
-
     fn on_net<S: Sink>(&self, alloc: Global, net: &Net, out: &mut S) -> Result<bool, Fault> {
         check_net_json(alloc, self.telling, net, out)
     }
-
-    fn end<O: Sink, E: Sink>(&self, answer: bool, out: &O, err: &mut E) -> Status {
-        ended_by_writes(verdict_status(answer), out, err)
-    }
-
-    ghost quiet = { λ command. refl };
 }
 
 /// `eval`: the values of the out ports.
@@ -122,17 +88,9 @@ impl Command for EvalNet<'_, '_> {
 
     ghost does = { λ command. EvaluatesMachine (map (λ set. set.now) command.sets.now) };
 
-    ghost done = { λ command. told.quiet };
-
     fn on_net<S: Sink>(&self, alloc: Global, net: &Net, out: &mut S) -> Result<(), Fault> {
         eval_net(alloc, net, self.sets, out)
     }
-
-    fn end<O: Sink, E: Sink>(&self, _answer: (), out: &O, err: &mut E) -> Status {
-        ended_by_writes(Status::Done, out, err)
-    }
-
-    ghost quiet = { λ command. refl };
 }
 
 /// Writes the lines of the netlist of a source to `out` and those of a fault to `err`, and answers the status.
