@@ -3,7 +3,7 @@ use Rattle.std.specs.Prelude.{◌≡◌, ◌⊎◌, ℕ, Bool, true, false, if�
 use Rattle.rtlsim_faults.specs.Faults.{has_names}
 use Rattle.rtlsim_faults.specs.Told.{TellsFault, summary_line, levels_line}
 use Rattle.rtlsim_faults.specs.declared.faults.Fault.{Fault}
-use Rattle.rtlsim_faults.specs.declared.faults.Fault.TheVariants.{Name}
+use Rattle.rtlsim_faults.specs.declared.faults.Fault.TheVariants.{Name, NoSettling}
 use Rattle.rtlsim_faults.specs.declared.status.Status.{Status}
 use Rattle.rtlsim_faults.specs.declared.status.Status.TheVariants as status
 use Rattle.rtlsim_faults.specs.declared.telling.Telling.{Telling}
@@ -44,10 +44,14 @@ TellsOthers telling source top (Some first) old new = (whole : Bool) × TellsFur
 
 -- Behind the fault of a source that has a netlist the nets are told that still change, where it is a moment of a simulation by events that
 -- doesn't settle, and else nothing.
+abbrev pub TellsNets : (events : Option (List ℕ)) → Telling → (source top : List ℕ) → Fault → (old new : SinkState) → Type 0
+TellsNets events telling source top fault old new = (net : NetlistView) × IsNetOf source top net × TellsChanging events telling.explains net fault old new
+
+-- what is told behind a fault; where a moment doesn't settle, the source has a netlist
 abbrev pub TellsBehind : (events : Option (List ℕ)) → Telling → (source top : List ℕ) → Fault → (old new : SinkState) → Type 0
+TellsBehind events telling source top (NoSettling time) old new = TellsNets events telling source top (NoSettling time) old new
 TellsBehind events telling source top fault old new =
-    ((net : NetlistView) × IsNetOf source top net × TellsChanging events telling.explains net fault old new)
-    ⊎ TellsOthers telling source top (first_of fault telling.explains) old new
+    TellsNets events telling source top fault old new ⊎ TellsOthers telling source top (first_of fault telling.explains) old new
 
 abbrev pub Tells : {A : Type 0} → Done A → Telling → (source top : List ℕ) → Result A Fault → (old new : SinkState) → (outcome : Status) → Type 0
 Tells done telling source top (Ok x) old new outcome = TellsText (done.text x) old new × (outcome ≡ done.status x)
