@@ -25,9 +25,11 @@ pub(crate) fn value(expr: &Expr, seen: SeenValues<'_>) -> Vec9
         Expr::Inverse(operand) => value(operand, seen).not(),
         Expr::Filled { len, element } => Vec9::fill(value(element, seen).get(0), *len as usize),
         Expr::Chain { first, rest } => chain(&value(first, seen), rest, seen),
-        Expr::Resized { len, operand } => value(operand, seen).resize(*len as usize),
-        Expr::ShiftedLeft { count, operand } => value(operand, seen).shl(*count as usize),
-        Expr::ShiftedRight { count, operand } => value(operand, seen).shr(*count as usize),
+        Expr::Counted {
+            operator,
+            count,
+            operand,
+        } => value(operand, seen).counted(*operator, *count as usize),
     }
 }
 

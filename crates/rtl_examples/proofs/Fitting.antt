@@ -3,8 +3,11 @@ use Rattle.std.proofs.Common.{◌≡◌, ℕ, zero, suc, ◌+◌, ◌<◌, Bool,
 use Rattle.std.proofs.Common.{length, slice_get, Option, Some, None, refl, ap, arith, All}
 use Rattle.std.specs.List.{list_any}
 use Rattle.std.proofs.lemmas.Bool.{and_parts, eqb-true, ltb-true, leb-true}
+use Rattle.vhdl_values.specs.declared.kinds.Counted.{Counted}
+use Rattle.vhdl_values.specs.declared.kinds.Counted.TheVariants.{Resize, ShiftLeft, ShiftRight}
+use Rattle.vhdl_values.specs.Shifts.{IsCount}
 use Rattle.rtl_model.specs.bodies.Body.{logical, joined, plus, minus, times, Expr, signal, variable, constant}
-use Rattle.rtl_model.specs.bodies.Body.{inverse, filled, binary, resized, shifted_left, shifted_right}
+use Rattle.rtl_model.specs.bodies.Body.{inverse, filled, binary, counted}
 use Rattle.rtl_model.specs.bodies.Body.{Value, elements, position, position_of, position_in}
 use Rattle.rtl_model.specs.bodies.Body.{Test, condition, decided, equal, unequal, level, compared, compared_to}
 use Rattle.rtl_model.specs.bodies.Body.{rising, falling, event, negated, combined}
@@ -56,6 +59,16 @@ is_wide n = nat_le 1 n && nat_le n 64
 pub is_width : (n : ℕ) → is_wide n ≡ true → IsWidth n
 is_width n e = let (a, b) = and_parts (nat_le 1 n) (nat_le n 64) e in (leb-true 1 n a, leb-true n 64 b)
 
+abbrev is_count : Counted → ℕ → Bool
+is_count Resize n = is_wide n
+is_count ShiftLeft n = true
+is_count ShiftRight n = true
+
+counts : (op : Counted) (n : ℕ) → is_count op n ≡ true → IsCount op n
+counts Resize n h = is_width n h
+counts ShiftLeft n h = tt
+counts ShiftRight n h = tt
+
 -- ---- bodies
 
 module _ (scope : Scope) where
@@ -67,9 +80,7 @@ module _ (scope : Scope) where
   expr_fits (filled len e) = is_wide len && (expr_fits e && (width e == 1))
   expr_fits (binary (logical op) d e) = is_wide (width d) && (expr_fits d && (expr_fits e && (width d == width e)))
   expr_fits (binary op d e) = is_wide (operated_width op (width d) (width e)) && (expr_fits d && expr_fits e)
-  expr_fits (resized len e) = is_wide len && expr_fits e
-  expr_fits (shifted_left count e) = expr_fits e
-  expr_fits (shifted_right count e) = expr_fits e
+  expr_fits (counted op count e) = is_count op count && expr_fits e
 
   of_expr : (e : Expr) → expr_fits e ≡ true → FitsExpr scope e
   of_expr (signal nets) h = let (a, b) = and_parts (is_wide (length nets)) _ h in (is_width _ a, all_of (HasType scope.nets nine_valued) (has_type scope.nets nine_valued) (is_of_type scope.nets nine_valued) nets b)
@@ -89,9 +100,7 @@ module _ (scope : Scope) where
   of_expr (binary plus d e) h = let (a, b) = and_parts (is_wide (operated_width plus (width d) (width e))) _ h in let (p, q) = and_parts (expr_fits d) (expr_fits e) b in (is_width _ a, of_expr d p, of_expr e q, tt)
   of_expr (binary minus d e) h = let (a, b) = and_parts (is_wide (operated_width minus (width d) (width e))) _ h in let (p, q) = and_parts (expr_fits d) (expr_fits e) b in (is_width _ a, of_expr d p, of_expr e q, tt)
   of_expr (binary times d e) h = let (a, b) = and_parts (is_wide (width d + width e)) _ h in let (p, q) = and_parts (expr_fits d) (expr_fits e) b in (is_width _ a, of_expr d p, of_expr e q, tt)
-  of_expr (resized len e) h = let (a, b) = and_parts (is_wide len) (expr_fits e) h in (is_width len a, of_expr e b)
-  of_expr (shifted_left count e) h = of_expr e h
-  of_expr (shifted_right count e) h = of_expr e h
+  of_expr (counted op count e) h = let (a, b) = and_parts (is_count op count) (expr_fits e) h in (counts op count a, of_expr e b)
 
   abbrev fits_as : ElementType → Value → Bool
   fits_as nine_valued (elements e) = expr_fits e

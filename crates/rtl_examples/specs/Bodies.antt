@@ -4,11 +4,12 @@ use Rattle.std.specs.Prelude.{◌≡◌, ℕ, Bool, true, false, List, [], ◌�
 use Rattle.vhdl_values.specs.declared.scalar.Nine.{Nine}
 use Rattle.vhdl_values.specs.declared.scalar.Nine.TheVariants.{X, Zero, One}
 use Rattle.vhdl_values.specs.declared.kinds.Cmp.TheVariants.{Eq, Ne, Lt}
+use Rattle.vhdl_values.specs.declared.kinds.Counted.TheVariants.{Resize, ShiftLeft, ShiftRight}
 use Rattle.vhdl_values.specs.declared.kinds.Logic.TheVariants.{And, Or, Nand, Nor, Xor, Xnor}
 use Rattle.vhdl_values.specs.declared.kinds.Logic.{Logic}
 use Rattle.vhdl_values.specs.declared.kinds.Edge.TheVariants as v
 use Rattle.rtl_model.specs.bodies.Body.{logical, joined, plus, minus, times, Expr, signal, variable, constant}
-use Rattle.rtl_model.specs.bodies.Body.{inverse, filled, binary, resized, shifted_left, shifted_right, elements, position, position_of, position_in}
+use Rattle.rtl_model.specs.bodies.Body.{inverse, filled, binary, counted, elements, position, position_of, position_in}
 use Rattle.rtl_model.specs.bodies.Body.{Test, condition, decided, equal, unequal, level, compared, compared_to, rising, falling, event}
 use Rattle.rtl_model.specs.bodies.Body.{negated, combined, Stmt, null_of, assign, set, if_of, case_of, Stmts, done, step}
 use Rattle.rtl_model.specs.bodies.Body.{no_else, otherwise, branch, others, alternative}
@@ -191,11 +192,11 @@ pub record RunsOfBodies : Type 0 where
   pub ands : value (binary (logical And) (pair 2 0) (text (One ∷ Zero ∷ []))) ≡ One ∷ Zero ∷ []
   pub nots : value (inverse (pair 2 0)) ≡ Zero ∷ Zero ∷ []
   -- "1X01" resized to 2 is "01", to 6 "001X01"; shifted by 1 to the left it is "X010", by 4 to the right "0000"
-  pub shrinks : value (resized 2 (text (One ∷ X ∷ Zero ∷ One ∷ []))) ≡ Zero ∷ One ∷ []
-  pub grows : value (resized 6 (text (One ∷ X ∷ Zero ∷ One ∷ []))) ≡ Zero ∷ Zero ∷ One ∷ X ∷ Zero ∷ One ∷ []
-  pub to_left : value (shifted_left 1 (text (One ∷ X ∷ Zero ∷ One ∷ []))) ≡ X ∷ Zero ∷ One ∷ Zero ∷ []
-  pub to_right : value (shifted_right 4 (text (One ∷ X ∷ Zero ∷ One ∷ []))) ≡ Zero ∷ Zero ∷ Zero ∷ Zero ∷ []
-  pub to_right_by_one : value (shifted_right 1 (text (One ∷ X ∷ Zero ∷ One ∷ []))) ≡ Zero ∷ One ∷ X ∷ Zero ∷ []
+  pub shrinks : value (counted Resize 2 (text (One ∷ X ∷ Zero ∷ One ∷ []))) ≡ Zero ∷ One ∷ []
+  pub grows : value (counted Resize 6 (text (One ∷ X ∷ Zero ∷ One ∷ []))) ≡ Zero ∷ Zero ∷ One ∷ X ∷ Zero ∷ One ∷ []
+  pub to_left : value (counted ShiftLeft 1 (text (One ∷ X ∷ Zero ∷ One ∷ []))) ≡ X ∷ Zero ∷ One ∷ Zero ∷ []
+  pub to_right : value (counted ShiftRight 4 (text (One ∷ X ∷ Zero ∷ One ∷ []))) ≡ Zero ∷ Zero ∷ Zero ∷ Zero ∷ []
+  pub to_right_by_one : value (counted ShiftRight 1 (text (One ∷ X ∷ Zero ∷ One ∷ []))) ≡ Zero ∷ One ∷ X ∷ Zero ∷ []
   -- `(others => s)` and `(others => '1')`
   pub fills : value (filled 3 (one_signal 1)) ≡ X ∷ X ∷ X ∷ []
   pub fills_ones : value (filled 2 (text (One ∷ []))) ≡ One ∷ One ∷ []
@@ -330,9 +331,9 @@ of_each_form =
     step (if_of (
     branch (condition (inverse (one_signal 1))) (assigned (filled 2 (one_signal 2))) (
     branch (combined Or (equal (elements (one_signal 3)) (position_of 4)) (unequal (position 0) (elements (one_signal 5))))
-    (assigned (resized 3 (one_signal 6))) (
-    branch (combined And (event 7) (level true 8 One)) (assigned (shifted_left 1 (one_signal 9))) (
-    branch (compared Lt (one_signal 10) (one_signal 11)) (assigned (shifted_right 1 (one_signal 12))) (
+    (assigned (counted Resize 3 (one_signal 6))) (
+    branch (combined And (event 7) (level true 8 One)) (assigned (counted ShiftLeft 1 (one_signal 9))) (
+    branch (compared Lt (one_signal 10) (one_signal 11)) (assigned (counted ShiftRight 1 (one_signal 12))) (
     branch (negated (compared_to Eq (one_signal 13) 7)) (step (set_one 0 (one_signal 14)) done) (
     otherwise (step null_of done)))))))) (
     step (case_of (position_of 15) (alternative ((1 ∷ []) ∷ []) (on (rising 16)) (others (on (falling 17))))) (

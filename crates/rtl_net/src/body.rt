@@ -2,7 +2,7 @@
 //! unrolled, and every length, index and static value is computed.
 
 use crate::indices::Indices;
-use vhdl_values::{Cmp, Logic, Nine, Vec9};
+use vhdl_values::{Cmp, Counted, Logic, Nine, Vec9};
 
 /// An operator on two vectors (9.2; numeric_std for the arithmetic ones).
 #[derive(Clone, Copy)]
@@ -28,15 +28,21 @@ pub enum Expr {
     /// `not`.
     Inverse(Box<Expr>),
     /// `(others => e)`: one element, so many times.
-    Filled { len: u32, element: Box<Expr> },
+    Filled {
+        len: u32,
+        element: Box<Expr>,
+    },
     /// Operators, grouped from the left: the first operand, and each further one behind its operator.
-    Chain { first: Box<Expr>, rest: Vec<Link> },
-    /// `resize(e, len)`.
-    Resized { len: u32, operand: Box<Expr> },
-    /// `shift_left(e, count)`.
-    ShiftedLeft { count: u32, operand: Box<Expr> },
-    /// `shift_right(e, count)`.
-    ShiftedRight { count: u32, operand: Box<Expr> },
+    Chain {
+        first: Box<Expr>,
+        rest: Vec<Link>,
+    },
+    /// An operator with a count beside it, as `shift_left(e, count)`.
+    Counted {
+        operator: Counted,
+        count: u32,
+        operand: Box<Expr>,
+    },
 }
 
 /// An operator and its right operand.

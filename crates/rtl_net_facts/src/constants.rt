@@ -37,9 +37,7 @@ fn has_signal(expr: &Expr) -> bool
             ..
         } => has_signal(operand),
         Expr::Chain { first, rest } => has_signal(first) || links_have_signal(rest),
-        Expr::Resized { operand, .. } => has_signal(operand),
-        Expr::ShiftedLeft { operand, .. } => has_signal(operand),
-        Expr::ShiftedRight { operand, .. } => has_signal(operand),
+        Expr::Counted { operand, .. } => has_signal(operand),
     }
 }
 

@@ -39,9 +39,7 @@ fn expr_looks_at(expr: &Expr, element: usize) -> bool
         Expr::Chain { first, rest } => {
             expr_looks_at(first, element) || links_look_at(rest, element)
         }
-        Expr::Resized { operand, .. } => expr_looks_at(operand, element),
-        Expr::ShiftedLeft { operand, .. } => expr_looks_at(operand, element),
-        Expr::ShiftedRight { operand, .. } => expr_looks_at(operand, element),
+        Expr::Counted { operand, .. } => expr_looks_at(operand, element),
     }
 }
 

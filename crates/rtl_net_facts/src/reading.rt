@@ -24,9 +24,7 @@ fn expr_reads(expr: &Expr, net: usize) -> bool
             ..
         } => expr_reads(operand, net),
         Expr::Chain { first, rest } => expr_reads(first, net) || links_read(rest, net),
-        Expr::Resized { operand, .. } => expr_reads(operand, net),
-        Expr::ShiftedLeft { operand, .. } => expr_reads(operand, net),
-        Expr::ShiftedRight { operand, .. } => expr_reads(operand, net),
+        Expr::Counted { operand, .. } => expr_reads(operand, net),
     }
 }
 

@@ -19,9 +19,7 @@ module _ (nets drives : List ℕ) where
   expr-net (bodies.Expr.inverse e) = expr-net e
   expr-net (bodies.filled len e) = expr-net e
   expr-net (bodies.Expr.binary op d e) = both _ _ (expr_reads d) (expr_reads e) (expr-net d) (expr-net e)
-  expr-net (bodies.Expr.resized len e) = expr-net e
-  expr-net (bodies.Expr.shifted_left count e) = expr-net e
-  expr-net (bodies.Expr.shifted_right count e) = expr-net e
+  expr-net (bodies.Expr.counted op count e) = expr-net e
 
   value-net : (v : bodies.Value) → value_reads (connected_value nets drives v) ≡ map net (value_reads v)
   value-net (bodies.Value.elements e) = expr-net e

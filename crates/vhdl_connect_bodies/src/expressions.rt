@@ -28,9 +28,7 @@ impl Connection<'_> {
                 self.connect_expr(first)?;
                 self.connect_links(rest)
             }
-            Expr::Resized { operand, .. } => self.connect_expr(operand),
-            Expr::ShiftedLeft { operand, .. } => self.connect_expr(operand),
-            Expr::ShiftedRight { operand, .. } => self.connect_expr(operand),
+            Expr::Counted { operand, .. } => self.connect_expr(operand),
         }
     }
 

@@ -1,8 +1,8 @@
 -- The body of a process in the flat netlist: where the expanded body has an element, a net stands, and where it assigns an
 -- element, the place of that element's driver (IEEE 1076-2008, 14.7.2).
 use Rattle.std.specs.Prelude.{ℕ, suc, ◌==◌, if◌then◌else◌, List, [], ◌∷◌, map, slice_index}
-use Rattle.rtl_model.specs.bodies.Body.{Expr, signal, variable, constant, inverse, filled, binary, resized, shifted_left}
-use Rattle.rtl_model.specs.bodies.Body.{shifted_right, Value, elements, position, position_of, position_in}
+use Rattle.rtl_model.specs.bodies.Body.{Expr, signal, variable, constant, inverse, filled, binary, counted}
+use Rattle.rtl_model.specs.bodies.Body.{Value, elements, position, position_of, position_in}
 use Rattle.rtl_model.specs.bodies.Body.{Test, condition, decided, equal, unequal, level, compared, compared_to}
 use Rattle.rtl_model.specs.bodies.Body.{rising, falling, event, negated, combined}
 use Rattle.rtl_model.specs.bodies.Body.{Stmt, null_of, assign, set, if_of, case_of, Stmts, done, step}
@@ -28,9 +28,7 @@ module _ (nets drives : List ℕ) where
   connected_expr (inverse e) = inverse (connected_expr e)
   connected_expr (filled len e) = filled len (connected_expr e)
   connected_expr (binary op d e) = binary op (connected_expr d) (connected_expr e)
-  connected_expr (resized len e) = resized len (connected_expr e)
-  connected_expr (shifted_left count e) = shifted_left count (connected_expr e)
-  connected_expr (shifted_right count e) = shifted_right count (connected_expr e)
+  connected_expr (counted op count e) = counted op count (connected_expr e)
 
   abbrev pub connected_value : Value → Value
   connected_value (elements e) = elements (connected_expr e)

@@ -53,9 +53,7 @@ fn name_in(vector: &Vector) -> Option<&SignalPart>
         | Vector::Chain(_, _)
         | Vector::IntegerWith(_, _, _, _)
         | Vector::Encoded(_, _, _)
-        | Vector::Resized(_, _, _)
-        | Vector::ShiftedLeft(_, _, _)
-        | Vector::ShiftedRight(_, _, _) => None,
+        | Vector::Counted(_, _, _, _) => None,
     }
 }
 
@@ -91,9 +89,7 @@ fn character_in(vector: &Vector) -> Option<Character>
         | Vector::Chain(_, _)
         | Vector::IntegerWith(_, _, _, _)
         | Vector::Encoded(_, _, _)
-        | Vector::Resized(_, _, _)
-        | Vector::ShiftedLeft(_, _, _)
-        | Vector::ShiftedRight(_, _, _) => None,
+        | Vector::Counted(_, _, _, _) => None,
     }
 }
 

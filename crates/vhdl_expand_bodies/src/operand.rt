@@ -2,6 +2,7 @@
 
 ghost use Rattle.std.specs.Prelude.{◌≡◌, [], ◌∷◌, IfOk};
 ghost use Rattle.vhdl_values.specs.Numbers.{digits_of};
+ghost use Rattle.vhdl_values.specs.Shifts.{IsCount};
 ghost use Rattle.rtl_model.specs.bodies.Body as bodies;
 ghost use Rattle.rtl_model.specs.bodies.Fits as fits;
 ghost use Rattle.rtl_model.specs.bodies.Fits.{IsWidth, operated_width};
@@ -13,7 +14,7 @@ use rtl_net::{Expr, Link, Operator};
 use std::alloc::{AllocError, Global};
 use vhdl_expand_rules::{ElabFault, ElabProblem};
 use vhdl_names_rules::{Numeric, VectorOperator};
-use vhdl_values::Vec9;
+use vhdl_values::{Counted, Vec9};
 
 /// How many elements a vector has: 1 to 64.
 #[derive(Clone, Copy)]
@@ -144,43 +145,25 @@ impl Operand {
         })
     }
 
-    /// As a vector of so many elements. It takes the memory of a box.
-    pub(crate) fn resized(self, alloc: Global, len: u32) -> Result<Operand, AllocError>
-        requires { IsWidth len }
-        ensures { IfOk result (λ o. expr_view o.expr ≡ bodies.resized len (expr_view self.expr)) }
+    /// An operator with a count. It takes the memory of a box.
+    #[tactic(auto, using(vhdl_values::proofs::Lengths::counted_within))]
+    pub(crate) fn by_count(
+        self,
+        alloc: Global,
+        operator: Counted,
+        count: u32,
+    ) -> Result<Operand, AllocError>
+        requires { IsCount operator count }
+        ensures { IfOk result (λ o. expr_view o.expr ≡ bodies.counted operator count (expr_view self.expr)) }
     {
+        let len = operator.length(count as usize, self.width.len);
         Ok(Operand {
-            expr: Expr::Resized {
-                len,
-                operand: Box::new(alloc, self.expr)?,
-            },
-            width: Width { len: len as usize },
-        })
-    }
-
-    /// Shifted to the left. It takes the memory of a box.
-    pub(crate) fn shifted_left(self, alloc: Global, count: u32) -> Result<Operand, AllocError>
-        ensures { IfOk result (λ o. expr_view o.expr ≡ bodies.shifted_left count (expr_view self.expr)) }
-    {
-        Ok(Operand {
-            expr: Expr::ShiftedLeft {
+            expr: Expr::Counted {
+                operator,
                 count,
                 operand: Box::new(alloc, self.expr)?,
             },
-            width: self.width,
-        })
-    }
-
-    /// Shifted to the right. It takes the memory of a box.
-    pub(crate) fn shifted_right(self, alloc: Global, count: u32) -> Result<Operand, AllocError>
-        ensures { IfOk result (λ o. expr_view o.expr ≡ bodies.shifted_right count (expr_view self.expr)) }
-    {
-        Ok(Operand {
-            expr: Expr::ShiftedRight {
-                count,
-                operand: Box::new(alloc, self.expr)?,
-            },
-            width: self.width,
+            width: Width { len },
         })
     }
 

@@ -17,7 +17,7 @@ use rtl_net::Expr;
 use std::alloc::Global;
 use vhdl_expand_rules::{ElabFault, ElabProblem};
 use vhdl_names_rules::{Numeric, Part, SignalPart, Static, Vector, VectorLink, VectorStart};
-use vhdl_values::{Nine, Vec9};
+use vhdl_values::{Counted, Nine, Vec9};
 
 /// A string or bit string; a fault is Index or TooWide.
 fn literal(values: &[Nine], at: usize) -> Result<Operand, ElabFault>
@@ -64,16 +64,8 @@ impl Site<'_> {
                 self.integer_with(alloc, *operator, operand, integer, *at)
             }
             Vector::Encoded(at, number, size) => self.encoded(number, size, *at),
-            Vector::Resized(at, operand, size) => self.resized(alloc, operand, size, *at),
-            Vector::ShiftedLeft(at, operand, count) => {
-                let operand = self.expanded(alloc, operand)?;
-                let (operand, count) = both(operand, self.integers.natural(count, *at))?;
-                Ok(operand.shifted_left(alloc, count)?)
-            }
-            Vector::ShiftedRight(at, operand, count) => {
-                let operand = self.expanded(alloc, operand)?;
-                let (operand, count) = both(operand, self.integers.natural(count, *at))?;
-                Ok(operand.shifted_right(alloc, count)?)
+            Vector::Counted(at, operator, operand, count) => {
+                self.by_count(alloc, *operator, operand, count, *at)
             }
         }
     }
@@ -114,23 +106,24 @@ impl Site<'_> {
         Ok(Operand::constant(Vec9::of_nat(u64::from(number), len as usize)))
     }
 
-    /// `resize`.
+    /// An operator with a count.
     #[cycle(vector)]
-    #[tactic(auto, using(crate::proofs::Places::size_fits))]
-    fn resized(
+    #[tactic(auto, using(vhdl_expand_rules::proofs::laws::Vectors::count_is_count))]
+    fn by_count(
         &self,
         alloc: Global,
+        operator: Counted,
         operand: &Vector,
-        size: &Static,
+        count: &Static,
         at: usize,
     ) -> Result<Operand, ElabFault>
         requires { IsSite self.now }
         ensures { Expands operand_view
-            (steps.resized (site_view self.now) (vector_view operand.now) (static_view size.now)) result }
+            (steps.by_count (site_view self.now) operator (vector_view operand.now) (static_view count.now)) result }
     {
         let operand = self.expanded(alloc, operand)?;
-        let (operand, len) = both(operand, self.integers.size_of(size, at))?;
-        Ok(operand.resized(alloc, len)?)
+        let (operand, count) = both(operand, self.integers.count_of(operator, count, at))?;
+        Ok(operand.by_count(alloc, operator, count)?)
     }
 
     /// A static integer, an operator and a vector: the integer stands for its last digits, as many as the vector has.

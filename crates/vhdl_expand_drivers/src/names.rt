@@ -46,9 +46,7 @@ fn of_vector<'a>(vector: &'a Vector, found: &mut Vec<Name<'a>>) -> Result<(), Al
             of_links(links, found)
         }
         Vector::IntegerWith(_, _, _, operand) => of_vector(operand, found),
-        Vector::Resized(_, operand, _) => of_vector(operand, found),
-        Vector::ShiftedLeft(_, operand, _) => of_vector(operand, found),
-        Vector::ShiftedRight(_, operand, _) => of_vector(operand, found),
+        Vector::Counted(_, _, operand, _) => of_vector(operand, found),
     }
 }
 

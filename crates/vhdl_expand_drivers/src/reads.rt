@@ -80,9 +80,7 @@ fn of_expr(expr: &Expr, found: &mut Vec<usize>) -> Result<(), AllocError>
             of_expr(first, found)?;
             of_links(rest, found)
         }
-        Expr::Resized { operand, .. } => of_expr(operand, found),
-        Expr::ShiftedLeft { operand, .. } => of_expr(operand, found),
-        Expr::ShiftedRight { operand, .. } => of_expr(operand, found),
+        Expr::Counted { operand, .. } => of_expr(operand, found),
     }
 }
 

@@ -20,7 +20,7 @@ use Rattle.rtl_model.specs.bodies.Fits.{width}
 use Rattle.vhdl_expand_rules.specs.declared.fault.ElabProblem.TheVariants.{TooWide}
 use Rattle.vhdl_expand_rules.specs.Elab.{Elab, ◌>>=◌, ◌>>◌, same_length, unless}
 use Rattle.vhdl_expand_rules.specs.Integers.{natural, decision}
-use Rattle.vhdl_expand_rules.specs.Kinds.{as_size, size_of}
+use Rattle.vhdl_expand_rules.specs.Kinds.{as_size, size_of, count_of}
 use Rattle.vhdl_expand_rules.specs.Site.{Site, place_elements, signal_elements, variable_elements, constant_values, the_element}
 
 -- ---- vectors
@@ -83,18 +83,10 @@ vector at (u.Vector.encoded s t) = do
   n ← natural at.integers s
   len ← size_of at.integers t
   Ok (bodies.constant (digits_of len n))
-vector at (u.Vector.resized x s) = do
+vector at (u.counted op x s) = do
   e ← vector at x
-  len ← size_of at.integers s
-  Ok (bodies.resized len e)
-vector at (u.Vector.shifted_left x s) = do
-  e ← vector at x
-  n ← natural at.integers s
-  Ok (bodies.shifted_left n e)
-vector at (u.Vector.shifted_right x s) = do
-  e ← vector at x
-  n ← natural at.integers s
-  Ok (bodies.shifted_right n e)
+  n ← count_of op at.integers s
+  Ok (bodies.counted op n e)
 
 -- ---- values
 

@@ -2,6 +2,8 @@
 -- indexed names and slices mean (IEEE 1076-2008, 5.3.2, 8.4, 8.5).
 use Rattle.std.specs.Prelude.{ℕ, Bool, true, false, not, ◌&&◌, nat_le, if◌then◌else◌, List, [], ◌∷◌, ℤ, pos, ◌-ℤ◌, int_le, nat_abs, Ok, Err}
 use Rattle.std.specs.List.{range_with_len}
+use Rattle.vhdl_values.specs.declared.kinds.Counted.{Counted}
+use Rattle.vhdl_values.specs.declared.kinds.Counted.TheVariants.{Resize, ShiftLeft, ShiftRight}
 use Rattle.vhdl_tree.specs.declared.operator.Direction.{Direction}
 use Rattle.vhdl_tree.specs.declared.operator.Direction.TheVariants.{To, Downto}
 use Rattle.vhdl_names_rules.specs.units.Expressions as u
@@ -70,6 +72,12 @@ unfoldable pub size_of : Integers → Static → Elab ℕ
 size_of at s = do
   n ← natural at s
   as_size n
+
+-- the count of an operator: a length, or how many places
+unfoldable pub count_of : Counted → Integers → Static → Elab ℕ
+count_of Resize at s = size_of at s
+count_of ShiftLeft at s = natural at s
+count_of ShiftRight at s = natural at s
 
 -- ---- parts
 

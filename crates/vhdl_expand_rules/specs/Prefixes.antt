@@ -58,9 +58,7 @@ vector_names (u.Vector.inverse x) = vector_names x
 vector_names (u.Vector.binary op x y) = vector_names x ++ vector_names y
 vector_names (u.with_integer op x n) = vector_names x
 vector_names (u.integer_with op n x) = vector_names x
-vector_names (u.Vector.resized x n) = vector_names x
-vector_names (u.Vector.shifted_left x n) = vector_names x
-vector_names (u.Vector.shifted_right x n) = vector_names x
+vector_names (u.counted op x n) = vector_names x
 vector_names _ = []
 
 abbrev pub value_names : Value → List SignalPart

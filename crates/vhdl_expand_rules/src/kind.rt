@@ -13,6 +13,7 @@ use crate::fault::{ElabFault, ElabProblem};
 use crate::integer::{Integers, as_natural};
 use vhdl_names_rules::{Part, Static, StaticRange};
 use vhdl_tree::Direction;
+use vhdl_values::Counted;
 
 /// The bounds of a vector, as they are declared.
 #[derive(Clone, Copy)]
@@ -164,6 +165,17 @@ impl Integers<'_> {
     {
         let n = self.natural(size, at)?;
         as_size(n, at)
+    }
+
+    /// The count of an operator: a length, 1 to 64, or how many places; a fault is StaticError, Index or TooWide.
+    #[tactic(auto, unfolding(crate::specs::Kinds::count_of))]
+    pub fn count_of(&self, operator: Counted, count: &Static, at: usize) -> Result<u32, ElabFault>
+        ensures { Computes (definition.count_of operator (integers_view self.now) (static_view count.now)) result }
+    {
+        match operator {
+            Counted::Resize => self.size_of(count, at),
+            Counted::ShiftLeft | Counted::ShiftRight => self.natural(count, at),
+        }
     }
 
     /// The places of a part of what is declared; a fault is StaticError or Index.

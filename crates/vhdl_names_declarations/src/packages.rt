@@ -14,7 +14,7 @@ use indexmap::IndexMap;
 use std::alloc::Global;
 use vhdl_names_rules::{ElementKind, Function, IntegerType, NameFault};
 use vhdl_names_types::{Meaning, Region, Sight};
-use vhdl_values::Edge;
+use vhdl_values::{Counted, Edge};
 
 /// What a package declares.
 #[derive(Clone, Copy)]
@@ -86,15 +86,15 @@ pub const NUMERIC_STD: [Row; 5] = [
     },
     Row {
         name: b"resize",
-        builtin: Builtin::Call(Function::Resize),
+        builtin: Builtin::Call(Function::ByCount(Counted::Resize)),
     },
     Row {
         name: b"shift_left",
-        builtin: Builtin::Call(Function::ShiftLeft),
+        builtin: Builtin::Call(Function::ByCount(Counted::ShiftLeft)),
     },
     Row {
         name: b"shift_right",
-        builtin: Builtin::Call(Function::ShiftRight),
+        builtin: Builtin::Call(Function::ByCount(Counted::ShiftRight)),
     },
     Row {
         name: b"to_unsigned",

@@ -14,7 +14,7 @@ use Rattle.vhdl_names_rules.specs.declared.kind.ElementKind.TheVariants.{Element
 use Rattle.vhdl_names_rules.specs.declared.kind.ObjectType.{ObjectType}
 use Rattle.vhdl_names_rules.specs.declared.kind.ObjectType.TheVariants.{Elements, Enumeration}
 use Rattle.vhdl_names_rules.specs.declared.kind.Function.{Function}
-use Rattle.vhdl_names_rules.specs.declared.kind.Function.TheVariants.{EdgeCall, Resize, ShiftLeft, ShiftRight, ToUnsigned}
+use Rattle.vhdl_names_rules.specs.declared.kind.Function.TheVariants.{EdgeCall, ByCount, ToUnsigned}
 use Rattle.vhdl_names_rules.specs.units.Expressions as e
 use Rattle.vhdl_names_rules.specs.units.Expressions.{Static, Range, Part, SignalPart, Signal, Vector}
 use Rattle.vhdl_names_rules.specs.units.Units as u
@@ -256,9 +256,7 @@ module _ (i : Inside) (counts : Counts) where
   edge_place (o.elements Element (e.with_integer c x y)) p t g = absurd cc
   edge_place (o.elements Element (e.integer_with c x y)) p t g = absurd cc
   edge_place (o.elements Element (e.Vector.encoded x y)) p t g = absurd cc
-  edge_place (o.elements Element (e.Vector.resized x y)) p t g = absurd cc
-  edge_place (o.elements Element (e.Vector.shifted_left x y)) p t g = absurd cc
-  edge_place (o.elements Element (e.Vector.shifted_right x y)) p t g = absurd cc
+  edge_place (o.elements Element (e.counted c x y)) p t g = absurd cc
 
   edge_call_fits : (edge : Edge) (s : Suffix) (y : Typed) → SuffixFits i counts s → edge_of edge s ≡ Some y → TypedFits i counts y
   edge_call_fits edge n.plain y t g = absurd cc
@@ -272,9 +270,7 @@ module _ (i : Inside) (counts : Counts) where
 
   called_fits : (f : Function) (s : Suffix) (y : Typed) → SuffixFits i counts s → called f s ≡ Some y → TypedFits i counts y
   called_fits (EdgeCall edge) s y t g = edge_call_fits edge s y t g
-  called_fits Resize s y t g = counted_fits e.Vector.resized (λ x s. refl) s y t g
-  called_fits ShiftLeft s y t g = counted_fits e.Vector.shifted_left (λ x s. refl) s y t g
-  called_fits ShiftRight s y t g = counted_fits e.Vector.shifted_right (λ x s. refl) s y t g
+  called_fits (ByCount op) s y t g = counted_fits (e.counted op) (λ x s. refl) s y t g
   called_fits ToUnsigned s y t g = encoding_fits s y t g
 
   -- ---- all names

@@ -10,7 +10,7 @@ use Rattle.vhdl_names_rules.specs.declared.kind.ElementKind.{ElementKind}
 use Rattle.vhdl_names_rules.specs.declared.kind.ElementKind.TheVariants.{Element, LogicVector, Unsigned, OpenVector}
 use Rattle.vhdl_names_rules.specs.declared.kind.ObjectType.{ObjectType}
 use Rattle.vhdl_names_rules.specs.declared.kind.ObjectType.TheVariants.{Elements, Enumeration}
-use Rattle.vhdl_names_rules.specs.declared.kind.Function.TheVariants.{EdgeCall, Resize, ShiftLeft, ShiftRight, ToUnsigned}
+use Rattle.vhdl_names_rules.specs.declared.kind.Function.TheVariants.{EdgeCall, ByCount, ToUnsigned}
 use Rattle.vhdl_names_rules.specs.units.Expressions.{Static, Range}
 use Rattle.vhdl_names_rules.specs.units.Units as u
 use Rattle.vhdl_names_rules.specs.units.Units.{Form, Fixed}
@@ -256,9 +256,7 @@ encoded_of_unsigned i counts (visibility.function ToUnsigned) (o.integer n ∷ o
 encoded_of_unsigned i counts (visibility.function ToUnsigned) (o.integer n ∷ o.truth x ∷ xs) v h q = absurd cc
 encoded_of_unsigned i counts (visibility.function ToUnsigned) (o.integer n ∷ o.integer size ∷ x ∷ xs) v h q = absurd cc
 encoded_of_unsigned i counts (visibility.function (EdgeCall y)) xs v h q = absurd cc
-encoded_of_unsigned i counts (visibility.function Resize) xs v h q = absurd cc
-encoded_of_unsigned i counts (visibility.function ShiftLeft) xs v h q = absurd cc
-encoded_of_unsigned i counts (visibility.function ShiftRight) xs v h q = absurd cc
+encoded_of_unsigned i counts (visibility.function (ByCount op)) xs v h q = absurd cc
 encoded_of_unsigned i counts (visibility.generic k) xs v h q = absurd cc
 encoded_of_unsigned i counts (visibility.integer_constant k) xs v h q = absurd cc
 encoded_of_unsigned i counts (visibility.generate_parameter k) xs v h q = absurd cc

@@ -8,7 +8,7 @@ use Rattle.vhdl_names_rules.specs.declared.kind.ElementKind.TheVariants.{Element
 use Rattle.vhdl_names_rules.specs.declared.kind.ObjectType.{ObjectType}
 use Rattle.vhdl_names_rules.specs.declared.kind.ObjectType.TheVariants.{Elements, Enumeration}
 use Rattle.vhdl_names_rules.specs.declared.kind.Function.{Function}
-use Rattle.vhdl_names_rules.specs.declared.kind.Function.TheVariants.{EdgeCall, Resize, ShiftLeft, ShiftRight, ToUnsigned}
+use Rattle.vhdl_names_rules.specs.declared.kind.Function.TheVariants.{EdgeCall, ByCount, ToUnsigned}
 use Rattle.vhdl_names_rules.specs.units.Expressions as u
 use Rattle.vhdl_names_rules.specs.units.Expressions.{Static, Part, SignalPart, Signal, Vector}
 use Rattle.vhdl_names_rules.specs.declared.fault.NameProblem.TheVariants.{LeftOut}
@@ -98,9 +98,7 @@ encoding _ = None
 
 abbrev pub called : Function → Suffix → Option Typed
 called (EdgeCall e) = edge_of e
-called Resize = counted u.resized
-called ShiftLeft = counted u.shifted_left
-called ShiftRight = counted u.shifted_right
+called (ByCount op) = counted (u.counted op)
 called ToUnsigned = encoding
 
 -- ---- all names

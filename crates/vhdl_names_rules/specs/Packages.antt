@@ -1,10 +1,11 @@
 -- What the packages declare (IEEE 1076-2008, 16.3, 16.7, 16.8), and what context clauses bring in sight (12.4, 13.4).
 use Rattle.std.specs.Prelude.{Bool, true, false, ◌&&◌, ◌||◌, if◌then◌else◌, List, [], ◌∷◌, ◌++◌, Option, Some, bytes_eq, codes}
 use Rattle.std.specs.List.{list_any, list_all}
+use Rattle.vhdl_values.specs.declared.kinds.Counted.TheVariants.{Resize, ShiftLeft, ShiftRight}
 use Rattle.vhdl_values.specs.declared.kinds.Edge.TheVariants.{Rising, Falling}
 use Rattle.vhdl_tree.specs.Tree.{Ident, Selected, ContextItem, library, uses}
 use Rattle.vhdl_names_rules.specs.declared.kind.ElementKind.TheVariants.{LogicVector, Unsigned}
-use Rattle.vhdl_names_rules.specs.declared.kind.Function.TheVariants.{EdgeCall, Resize, ShiftLeft, ShiftRight, ToUnsigned}
+use Rattle.vhdl_names_rules.specs.declared.kind.Function.TheVariants.{EdgeCall, ByCount, ToUnsigned}
 use Rattle.vhdl_names_rules.specs.declared.operator.IntegerType.TheVariants.{Integer, Natural, Positive}
 use Rattle.vhdl_names_rules.specs.declared.fault.NameProblem.TheVariants.{Undeclared, LeftOut}
 use Rattle.vhdl_names_rules.specs.Rules.{◌>>◌, rule}
@@ -27,8 +28,8 @@ std_logic_1164 =
 -- package numeric_std of library ieee (16.8); its operators stand in the rules of expressions
 abbrev pub numeric_std : List Declared
 numeric_std =
-    declare (codes "unsigned") (vector_type Unsigned true) ∷ declare (codes "resize") (function Resize)
-    ∷ declare (codes "shift_left") (function ShiftLeft) ∷ declare (codes "shift_right") (function ShiftRight)
+    declare (codes "unsigned") (vector_type Unsigned true) ∷ declare (codes "resize") (function (ByCount Resize))
+    ∷ declare (codes "shift_left") (function (ByCount ShiftLeft)) ∷ declare (codes "shift_right") (function (ByCount ShiftRight))
     ∷ declare (codes "to_unsigned") (function ToUnsigned) ∷ []
 
 -- ---- context clauses

@@ -1,6 +1,6 @@
 //! Kinds of values, types of objects and functions of the packages.
 
-use vhdl_values::Edge;
+use vhdl_values::{Counted, Edge};
 
 /// The kind of one element, or of a vector, of the nine values.
 #[derive(Clone, Copy)]
@@ -21,12 +21,11 @@ pub enum ObjectType {
 }
 
 /// A function of the packages.
-#[derive(Clone, Copy, PartialEq, Eq)]
+#[derive(Clone, Copy)]
 pub enum Function {
     EdgeCall(Edge),
-    Resize,
-    ShiftLeft,
-    ShiftRight,
+    /// A number by a count.
+    ByCount(Counted),
     ToUnsigned,
 }
 

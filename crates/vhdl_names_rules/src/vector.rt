@@ -8,7 +8,7 @@ ghost use Rattle.vhdl_names_rules.specs.views.Vectors.{vector_view, start_view, 
 use crate::integer::{Static, StaticRange};
 use crate::operator::{Numeric, VectorOperator};
 use std::alloc::{AllocError, Global};
-use vhdl_values::Nine;
+use vhdl_values::{Counted, Nine};
 
 /// A port or signal of the unit, by its number.
 #[derive(Clone, Copy)]
@@ -56,9 +56,8 @@ pub enum Vector {
     IntegerWith(Numeric, usize, Static, Box<Vector>),
     /// `to_unsigned`, of a number and a size.
     Encoded(usize, Static, Static),
-    Resized(usize, Box<Vector>, Static),
-    ShiftedLeft(usize, Box<Vector>, Static),
-    ShiftedRight(usize, Box<Vector>, Static),
+    /// An operator, a number and a count.
+    Counted(usize, Counted, Box<Vector>, Static),
 }
 
 /// An operator on vectors, the byte at which it starts, and its right operand.

@@ -30,9 +30,7 @@ no_character (v.Not' at b x) other = refl
 no_character (v.Chain' b first x shape rest) other = chain_kept (vector_view first) x _ rest
 no_character (v.IntegerWith' op at s b x) other = refl
 no_character (v.Encoded at s t) other = refl
-no_character (v.Resized' at b x s) other = refl
-no_character (v.ShiftedLeft' at b x s) other = refl
-no_character (v.ShiftedRight' at b x s) other = refl
+no_character (v.Counted' at op b x s) other = refl
 
 pub enclosed_element : (x : u.Vector) → expressions.enclosed (elements Element x) ≡ elements Element (closed x)
 enclosed_element (u.of_signal p) = refl
@@ -46,6 +44,4 @@ enclosed_element (u.Vector.binary op y z) = refl
 enclosed_element (u.with_integer op y s) = refl
 enclosed_element (u.integer_with op s y) = refl
 enclosed_element (u.Vector.encoded s t) = refl
-enclosed_element (u.Vector.resized y s) = refl
-enclosed_element (u.shifted_left y s) = refl
-enclosed_element (u.shifted_right y s) = refl
+enclosed_element (u.counted op y s) = refl

@@ -232,9 +232,7 @@ no_signal (v.Not' at b x) other = refl
 no_signal (v.Chain' b first x shape rest) other = chain_other (vector_view first) x _ rest
 no_signal (v.IntegerWith' op at s b x) other = refl
 no_signal (v.Encoded at s t) other = refl
-no_signal (v.Resized' at b x s) other = refl
-no_signal (v.ShiftedLeft' at b x s) other = refl
-no_signal (v.ShiftedRight' at b x s) other = refl
+no_signal (v.Counted' at op b x s) other = refl
 
 -- what is no signal's name has no edge
 pub no_edge : (k : ElementKind) (x : u.Vector) → is_signal x ≡ false → rules.edge_signal (elements k x) ≡ None
@@ -249,9 +247,7 @@ no_edge Element (u.Vector.binary op y z) h = refl
 no_edge Element (u.with_integer op y s) h = refl
 no_edge Element (u.integer_with op s y) h = refl
 no_edge Element (u.Vector.encoded s t) h = refl
-no_edge Element (u.Vector.resized y s) h = refl
-no_edge Element (u.shifted_left y s) h = refl
-no_edge Element (u.shifted_right y s) h = refl
+no_edge Element (u.counted op y s) h = refl
 no_edge LogicVector x h = refl
 no_edge Unsigned x h = refl
 no_edge OpenVector x h = refl

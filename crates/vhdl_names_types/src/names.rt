@@ -141,16 +141,12 @@ fn called(
     let TypedSuffix::Arguments(_, arguments) = suffix else {
         return Err(NameProblem::TypeMismatch.at(at));
     };
-    if function == Function::ToUnsigned {
+    let Function::ByCount(operator) = function else {
         return encoded(arguments, at);
-    }
+    };
     let (number, count) = number_and_count(arguments, at)?;
     let number = Box::new(alloc, number)?;
-    let vector = match function {
-        Function::Resize => Vector::Resized(at, number, count),
-        Function::ShiftLeft => Vector::ShiftedLeft(at, number, count),
-        _ => Vector::ShiftedRight(at, number, count),
-    };
+    let vector = Vector::Counted(at, operator, number, count);
     Ok(Typed::Elements(ElementKind::Unsigned, vector))
 }
 

@@ -1,6 +1,6 @@
 -- How long results are.
 use Rattle.std.proofs.Common.{◌≡◌, ℕ, suc, ◌+◌, List, [], ◌∷◌, length, Bool, true, false, refl, ap, arith, length-append, length-drop}
-use Rattle.std.specs.Prelude.{max, ◌&&◌}
+use Rattle.std.specs.Prelude.{max, ◌&&◌, ◌≤◌}
 use Rattle.std.proofs.lemmas.List.{length-replicate, length-take}
 use Rattle.vhdl_values.specs.declared.scalar.Nine.{Nine}
 use Rattle.vhdl_values.specs.declared.scalar.Nine.TheVariants.{X}
@@ -8,7 +8,9 @@ use Rattle.vhdl_values.specs.declared.kinds.Logic.{Logic}
 use Rattle.vhdl_values.specs.Logic.{zip_with, logic_of, logic_of_all}
 use Rattle.vhdl_values.specs.Numbers.{all_good}
 use Rattle.vhdl_values.specs.Arithmetic.{number_or_x, sum_of, difference_of, product_of}
-use Rattle.vhdl_values.specs.Shifts.{shifted_left, shifted_right, resized}
+use Rattle.vhdl_values.specs.declared.kinds.Counted.{Counted}
+use Rattle.vhdl_values.specs.declared.kinds.Counted.TheVariants.{Resize, ShiftLeft, ShiftRight}
+use Rattle.vhdl_values.specs.Shifts.{shifted_left, shifted_right, resized, counted_of, counted_length, IsCount}
 use Rattle.vhdl_values.proofs.Digits.{length-digits_of}
 
 pub length-zip_with : (f : Nine → Nine → Nine) (as' bs : List Nine) → length as' ≡ length bs → length (zip_with f as' bs) ≡ length as'
@@ -40,3 +42,14 @@ length-shifted_right count vs = rw (length-take, length-append, length-replicate
 
 pub length-resized : (len : ℕ) (vs : List Nine) → length (resized len vs) ≡ len
 length-resized len vs = rw (length-append, length-replicate, length-drop) (omega arith)
+
+pub length-counted_of : (op : Counted) (count : ℕ) (vs : List Nine) → length (counted_of op count vs) ≡ counted_length op count (length vs)
+length-counted_of Resize count vs = length-resized count vs
+length-counted_of ShiftLeft count vs = length-shifted_left count vs
+length-counted_of ShiftRight count vs = length-shifted_right count vs
+
+-- what is 1 to 64 elements long stays so
+pub counted_within : (op : Counted) (count len : ℕ) → IsCount op count → (1 ≤ len) × (len ≤ 64) → (1 ≤ counted_length op count len) × (counted_length op count len ≤ 64)
+counted_within Resize count len h k = h
+counted_within ShiftLeft count len h k = k
+counted_within ShiftRight count len h k = k

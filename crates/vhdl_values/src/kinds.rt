@@ -37,6 +37,32 @@ pub enum Logic {
     Xnor,
 }
 
+/// An operator of numeric_std on a vector with a count beside it: a length, or how many places.
+#[derive(Clone, Copy)]
+pub enum Counted {
+    /// `resize`.
+    Resize,
+    /// `shift_left`.
+    ShiftLeft,
+    /// `shift_right`.
+    ShiftRight,
+}
+
+impl Counted {
+    ghost use Rattle.std.specs.Prelude.{◌≡◌};
+    ghost use Rattle.vhdl_values.specs.Shifts.{counted_length};
+
+    /// The length of what it makes, with this count, of a vector of this length.
+    pub fn length(self, count: usize, len: usize) -> usize
+        ensures { result ≡ counted_length self count len }
+    {
+        match self {
+            Counted::Resize => count,
+            Counted::ShiftLeft | Counted::ShiftRight => len,
+        }
+    }
+}
+
 impl Logic {
     ghost use Rattle.std.specs.Prelude.{◌≡◌};
     ghost use Rattle.vhdl_values.specs.Logic.{logic_of};

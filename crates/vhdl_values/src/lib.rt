@@ -18,7 +18,7 @@ mod vector;
 mod words;
 
 pub use edges::edge;
-pub use kinds::{Cmp, Edge, Logic};
+pub use kinds::{Cmp, Counted, Edge, Logic};
 pub use resolution::resolve;
 pub use scalar::Nine;
 pub use vector::Vec9;

@@ -6,13 +6,13 @@ ghost use Rattle.vhdl_values.specs.Logic.{strip, logic_of_all, not_of_all};
 ghost use Rattle.vhdl_values.specs.Numbers.{all_good, number_of, digits_of};
 ghost use Rattle.vhdl_values.specs.Arithmetic.{sum_of, difference_of, product_of};
 ghost use Rattle.vhdl_values.specs.Relations.{compares, compares_number};
-ghost use Rattle.vhdl_values.specs.Shifts.{shifted_left, shifted_right, resized};
+ghost use Rattle.vhdl_values.specs.Shifts.{shifted_left, shifted_right, resized, counted_of, counted_length, IsCount};
 ghost use Rattle.vhdl_values.specs.Marked.{IsMarkedBy};
 ghost use Rattle.vhdl_values.specs.declared.scalar.Nine.{Nine as Value};
 
 mod codes;
 
-use crate::kinds::{Cmp, Logic};
+use crate::kinds::{Cmp, Counted, Logic};
 use crate::scalar::Nine;
 use crate::stripped::Stripped;
 use crate::words::{beside, bit, mask, part, with_bit};
@@ -312,6 +312,19 @@ impl Vec9 {
             Vec9::fill(Nine::Zero, count).concat(&self.slice(0, len - count))
         } else {
             Vec9::fill(Nine::Zero, len)
+        }
+    }
+
+    /// An operator with a count: `resize`, `shl` or `shr`.
+    pub fn counted(&self, operator: Counted, count: usize) -> Vec9
+        requires { IsCount operator count }
+        ensures list { result ≡ counted_of operator count self.now }
+        ensures len { length result ≡ counted_length operator count (length self.now) }
+    {
+        match operator {
+            Counted::Resize => self.resize(count),
+            Counted::ShiftLeft => self.shl(count),
+            Counted::ShiftRight => self.shr(count),
         }
     }
 

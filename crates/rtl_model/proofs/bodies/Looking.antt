@@ -13,9 +13,9 @@ use Rattle.vhdl_values.specs.Scalar.{code_of, value_of_code, is_same, is_true}
 use Rattle.vhdl_values.specs.Edges.{has_edge}
 use Rattle.vhdl_values.specs.Logic.{not_of_all}
 use Rattle.vhdl_values.specs.Relations.{compares, compares_number}
-use Rattle.vhdl_values.specs.Shifts as shifts
+use Rattle.vhdl_values.specs.Shifts.{counted_of}
 use Rattle.rtl_model.specs.basics.Valuations.{AgreeOn, or_else}
-use Rattle.rtl_model.specs.bodies.Body.{Expr, signal, variable, constant, inverse, filled, binary, resized, shifted_left, shifted_right}
+use Rattle.rtl_model.specs.bodies.Body.{Expr, signal, variable, constant, inverse, filled, binary, counted}
 use Rattle.rtl_model.specs.bodies.Body.{Value, elements, position, position_of, position_in}
 use Rattle.rtl_model.specs.bodies.Body.{Test, condition, decided, equal, unequal, level, compared, compared_to}
 use Rattle.rtl_model.specs.bodies.Body.{rising, falling, event, negated, combined}
@@ -97,9 +97,7 @@ module _ (a b : Seen) where
       on_both (operated op)
       (expr_looks d (lefts (expr_reads d) (expr_reads e) [] [] (λ k. expr_looks_at k d) (λ k. expr_looks_at k e) h))
       (expr_looks e (rights (expr_reads d) (expr_reads e) [] [] (λ k. expr_looks_at k d) (λ k. expr_looks_at k e) h))
-  expr_looks (resized len e) h = ap (shifts.resized len) (expr_looks e h)
-  expr_looks (shifted_left count e) h = ap (shifts.shifted_left count) (expr_looks e h)
-  expr_looks (shifted_right count e) h = ap (shifts.shifted_right count) (expr_looks e h)
+  expr_looks (counted op count e) h = ap (counted_of op count) (expr_looks e h)
 
   value_looks : (v : Value) → OfValue (value_reads v) (λ k. value_looks_at k v) → value_of a v ≡ value_of b v
   value_looks (elements e) h = ap (map code_of) (expr_looks e h)

@@ -4,7 +4,7 @@ use Rattle.std.specs.List.{list_any}
 use Rattle.std.proofs.lemmas.Bool.{or_cases, and_parts, eqb-true}
 use Rattle.std.proofs.lemmas.List.Elements.{All-append, All-nil, All-cons}
 use Rattle.std.proofs.lemmas.Option.{slice_get_within}
-use Rattle.rtl_model.specs.bodies.Body.{Expr, signal, variable, constant, inverse, filled, binary, resized, shifted_left, shifted_right}
+use Rattle.rtl_model.specs.bodies.Body.{Expr, signal, variable, constant, inverse, filled, binary, counted}
 use Rattle.rtl_model.specs.bodies.Body.{Value, elements, position, position_of, position_in}
 use Rattle.rtl_model.specs.bodies.Body.{Test, condition, decided, equal, unequal, level, compared, compared_to}
 use Rattle.rtl_model.specs.bodies.Body.{rising, falling, event, negated, combined}
@@ -63,9 +63,7 @@ module _ (scope : Scope) where
   of_expr (inverse x) h = of_expr x h
   of_expr (filled len x) h = of_expr x h.1
   of_expr (binary op x y) h = both (of_expr x h.1) (of_expr y h.2)
-  of_expr (resized len x) h = of_expr x h.1
-  of_expr (shifted_left count x) h = of_expr x h
-  of_expr (shifted_right count x) h = of_expr x h
+  of_expr (counted op count x) h = of_expr x h.1
 
   of_value : (t : ElementType) (v : Value) → FitsAs scope t v → There (value_reads v) [] (λ e. value_looks_at e v)
   of_value nine_valued (elements x) h = of_expr x h

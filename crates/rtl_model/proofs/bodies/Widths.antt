@@ -1,14 +1,15 @@
 -- Lengths in a body that fits: values are as long as their widths, and targets and choices as long as values.
-use Rattle.std.proofs.Common.{◌≡◌, ℕ, Bool, true, false, List, length, slice_index_or, refl, sym, ◌∙◌, length-append, inl, inr, subst}
+use Rattle.std.proofs.Common.{◌≡◌, ℕ, Bool, true, false, List, length, slice_index_or, refl, sym, ap, ◌∙◌, length-append, inl, inr, subst}
 use Rattle.std.proofs.lemmas.List.{length-map, length-replicate}
 use Rattle.std.proofs.lemmas.Option.{slice_get_within}
 use Rattle.vhdl_values.specs.declared.scalar.Nine.{Nine}
 use Rattle.vhdl_values.specs.declared.scalar.Nine.TheVariants.{X}
 use Rattle.vhdl_values.specs.Scalar.{code_of}
 use Rattle.vhdl_values.specs.Logic.{not_of}
-use Rattle.vhdl_values.proofs.Lengths.{length-logic_of_all, length-sum_of, length-difference_of, length-product_of, length-shifted_left, length-shifted_right, length-resized}
+use Rattle.vhdl_values.specs.Shifts.{counted_length}
+use Rattle.vhdl_values.proofs.Lengths.{length-logic_of_all, length-sum_of, length-difference_of, length-product_of, length-counted_of, counted_within}
 use Rattle.rtl_model.specs.bodies.Body.{Operator, logical, joined, plus, minus, times, Expr, signal, variable, constant}
-use Rattle.rtl_model.specs.bodies.Body.{inverse, filled, binary, resized, shifted_left, shifted_right}
+use Rattle.rtl_model.specs.bodies.Body.{inverse, filled, binary, counted}
 use Rattle.rtl_model.specs.bodies.Body.{Value, elements, position, position_of, position_in, Alternatives, others, alternative}
 use Rattle.rtl_model.specs.bodies.Values.{Seen, element_at, operated, elements_of, value_of}
 use Rattle.rtl_model.specs.bodies.Types.{ElementType, nine_valued, enumeration}
@@ -30,9 +31,7 @@ is_width scope (constant values) h = h
 is_width scope (inverse e) h = is_width scope e h
 is_width scope (filled len e) h = h.0
 is_width scope (binary op d e) h = h.0
-is_width scope (resized len e) h = h.0
-is_width scope (shifted_left count e) h = is_width scope e h
-is_width scope (shifted_right count e) h = is_width scope e h
+is_width scope (counted op count e) h = counted_within op count (width e) h.0 (is_width scope e h.1)
 
 module _ (scope : Scope) (seen : Seen) where
   length-elements_of : (e : Expr) → FitsExpr scope e → length (elements_of seen e) ≡ width e
@@ -46,9 +45,7 @@ module _ (scope : Scope) (seen : Seen) where
       let q = length-elements_of e h.2 in
       length-operated op (elements_of seen d) (elements_of seen e) (rw (p, q) h.3)
       ∙ λ i. operated_width op (p i) (q i)
-  length-elements_of (resized len e) h = length-resized len (elements_of seen e)
-  length-elements_of (shifted_left count e) h = length-shifted_left count (elements_of seen e) ∙ length-elements_of e h
-  length-elements_of (shifted_right count e) h = length-shifted_right count (elements_of seen e) ∙ length-elements_of e h
+  length-elements_of (counted op count e) h = length-counted_of op count (elements_of seen e) ∙ ap (counted_length op count) (length-elements_of e h.1)
 
   pub length-value_of : (t : ElementType) (v : Value) → FitsAs scope t v → length (value_of seen v) ≡ value_width v
   length-value_of nine_valued (elements e) h = length-map (elements_of seen e) code_of ∙ length-elements_of e h

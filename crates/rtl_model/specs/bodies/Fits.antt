@@ -1,8 +1,9 @@
 -- When a body fits its process and the nets: each net, place and element is there and has the type that is wanted of it,
 -- and each length is one that a vector can have, and the one that is wanted of it.
 use Rattle.std.specs.Prelude.{◌≡◌, ℕ, ◌+◌, ◌<◌, ◌≤◌, max, ⊤, All, List, length, slice_get, Some}
+use Rattle.vhdl_values.specs.Shifts.{counted_length, IsCount}
 use Rattle.rtl_model.specs.bodies.Body.{Operator, logical, joined, plus, minus, times, Expr, signal, variable, constant}
-use Rattle.rtl_model.specs.bodies.Body.{inverse, filled, binary, resized, shifted_left, shifted_right}
+use Rattle.rtl_model.specs.bodies.Body.{inverse, filled, binary, counted}
 use Rattle.rtl_model.specs.bodies.Body.{Value, elements, position, position_of, position_in}
 use Rattle.rtl_model.specs.bodies.Body.{Test, condition, decided, equal, unequal, level, compared, compared_to}
 use Rattle.rtl_model.specs.bodies.Body.{rising, falling, event, negated, combined}
@@ -27,9 +28,7 @@ width (constant values) = length values
 width (inverse e) = width e
 width (filled len e) = len
 width (binary op d e) = operated_width op (width d) (width e)
-width (resized len e) = len
-width (shifted_left count e) = width e
-width (shifted_right count e) = width e
+width (counted op count e) = counted_length op count (width e)
 
 abbrev pub value_width : Value → ℕ
 value_width (elements e) = width e
@@ -62,9 +61,7 @@ module _ (scope : Scope) where
   FitsExpr (inverse e) = FitsExpr e
   FitsExpr (filled len e) = IsWidth len × FitsExpr e × (width e ≡ 1)
   FitsExpr (binary op d e) = IsWidth (operated_width op (width d) (width e)) × FitsExpr d × FitsExpr e × FitsOperands op (width d) (width e)
-  FitsExpr (resized len e) = IsWidth len × FitsExpr e
-  FitsExpr (shifted_left count e) = FitsExpr e
-  FitsExpr (shifted_right count e) = FitsExpr e
+  FitsExpr (counted op count e) = IsCount op count × FitsExpr e
 
   -- the value's elements are of this type, or it is one of this enumeration's
   abbrev pub FitsAs : ElementType → Value → Type 0

@@ -1,8 +1,8 @@
 -- What a body reads, in each branch, taken or not: the nets whose values or whose events it looks at, and those whose
 -- events alone. Variables are no nets.
 use Rattle.std.specs.Prelude.{ℕ, List, [], ◌∷◌, ◌++◌}
-use Rattle.rtl_model.specs.bodies.Body.{Expr, signal, variable, constant, inverse, filled, binary, resized, shifted_left}
-use Rattle.rtl_model.specs.bodies.Body.{shifted_right, Value, elements, position, position_of, position_in}
+use Rattle.rtl_model.specs.bodies.Body.{Expr, signal, variable, constant, inverse, filled, binary, counted}
+use Rattle.rtl_model.specs.bodies.Body.{Value, elements, position, position_of, position_in}
 use Rattle.rtl_model.specs.bodies.Body.{Test, condition, decided, equal, unequal, level, compared, compared_to}
 use Rattle.rtl_model.specs.bodies.Body.{rising, falling, event, negated, combined}
 use Rattle.rtl_model.specs.bodies.Body.{Stmt, null_of, assign, set, if_of, case_of, Stmts, done, step}
@@ -17,9 +17,7 @@ expr_reads (constant values) = []
 expr_reads (inverse e) = expr_reads e
 expr_reads (filled len e) = expr_reads e
 expr_reads (binary op d e) = expr_reads d ++ expr_reads e
-expr_reads (resized len e) = expr_reads e
-expr_reads (shifted_left count e) = expr_reads e
-expr_reads (shifted_right count e) = expr_reads e
+expr_reads (counted op count e) = expr_reads e
 
 abbrev pub value_reads : Value → List ℕ
 value_reads (elements e) = expr_reads e

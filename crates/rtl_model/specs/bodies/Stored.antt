@@ -2,8 +2,8 @@
 -- every syntactic path. Its value would be the one that the run before left.
 use Rattle.std.specs.Prelude.{ℕ, Bool, false, not, ◌&&◌, ◌||◌, ◌==◌}
 use Rattle.std.specs.List.{list_any}
-use Rattle.rtl_model.specs.bodies.Body.{Expr, signal, variable, constant, inverse, filled, binary, resized, shifted_left}
-use Rattle.rtl_model.specs.bodies.Body.{shifted_right, Value, elements, position, position_of, position_in}
+use Rattle.rtl_model.specs.bodies.Body.{Expr, signal, variable, constant, inverse, filled, binary, counted}
+use Rattle.rtl_model.specs.bodies.Body.{Value, elements, position, position_of, position_in}
 use Rattle.rtl_model.specs.bodies.Body.{Test, condition, equal, unequal, compared, compared_to}
 use Rattle.rtl_model.specs.bodies.Body.{negated, combined}
 use Rattle.rtl_model.specs.bodies.Body.{Stmt, null_of, assign, set, if_of, case_of, Stmts, done, step}
@@ -20,9 +20,7 @@ module _ (e : ℕ) where
   expr_looks_at (inverse d) = expr_looks_at d
   expr_looks_at (filled len d) = expr_looks_at d
   expr_looks_at (binary op c d) = expr_looks_at c || expr_looks_at d
-  expr_looks_at (resized len d) = expr_looks_at d
-  expr_looks_at (shifted_left count d) = expr_looks_at d
-  expr_looks_at (shifted_right count d) = expr_looks_at d
+  expr_looks_at (counted op count d) = expr_looks_at d
 
   abbrev pub value_looks_at : Value → Bool
   value_looks_at (elements d) = expr_looks_at d

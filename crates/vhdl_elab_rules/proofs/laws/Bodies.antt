@@ -7,6 +7,7 @@ use Rattle.std.proofs.lemmas.Option.{same_Some, slice_get_within, get_or_from_sl
 use Rattle.std.proofs.lemmas.List.{length-map}
 use Rattle.std.proofs.lemmas.List.Elements.{All-cons, All-nil, All-head, All-tail, All-map, All-weaker}
 use Rattle.std.proofs.lemmas.List.FromFn.{length-range_with_len, get_or-range_with_len}
+use Rattle.vhdl_values.specs.Shifts.{counted_length}
 use Rattle.rtl_model.specs.bodies.Types.{ElementType, nine_valued, enumeration, HasType}
 use Rattle.rtl_model.specs.bodies.Body as bodies
 use Rattle.rtl_model.specs.bodies.Body.{Stmts}
@@ -49,9 +50,7 @@ module _ (types : List ElementType) (os : List Object) (vs : List Variable) (net
   width-expr (bodies.inverse e) = width-expr e
   width-expr (bodies.filled len e) = refl
   width-expr (bodies.binary op d e) = ap (λ n. operated_width op n (width (connected_expr nets drives e))) (width-expr d) ∙ ap (operated_width op (width d)) (width-expr e)
-  width-expr (bodies.resized len e) = refl
-  width-expr (bodies.shifted_left count e) = width-expr e
-  width-expr (bodies.shifted_right count e) = width-expr e
+  width-expr (bodies.counted op count e) = ap (counted_length op count) (width-expr e)
 
   nets-typed : (t : ElementType) (es : List ℕ) → All (HasType here.nets t) es → All (HasType types t) (map (net_of nets drives) es)
   nets-typed t es h = All-map (HasType types t) (net_of nets drives) es (All-weaker (HasType here.nets t) (λ e. HasType types t (net_of nets drives e)) (λ e k. typed e t k) es h)
@@ -71,9 +70,7 @@ module _ (types : List ElementType) (os : List Object) (vs : List Variable) (net
     expr-fits e h.2,
     operands op (width d) (width e) (width (connected_expr nets drives d)) (width (connected_expr nets drives e)) (width-expr d) (width-expr e) h.3,
   )
-  expr-fits (bodies.resized len e) h = (h.0, expr-fits e h.1)
-  expr-fits (bodies.shifted_left count e) h = expr-fits e h
-  expr-fits (bodies.shifted_right count e) h = expr-fits e h
+  expr-fits (bodies.counted op count e) h = (h.0, expr-fits e h.1)
 
   width-value : (v : bodies.Value) → value_width (connected_value nets drives v) ≡ value_width v
   width-value (bodies.elements e) = width-expr e

@@ -2,6 +2,7 @@
 use Rattle.std.specs.Prelude.{◌≡◌, true, false, [], ◌∷◌, replicate, Some, None, Ok, Err, codes}
 use Rattle.vhdl_values.specs.declared.scalar.Nine.TheVariants.{Zero, One}
 use Rattle.vhdl_values.specs.declared.kinds.Cmp.TheVariants.{Eq, Lt, Gt}
+use Rattle.vhdl_values.specs.declared.kinds.Counted.TheVariants.{Resize}
 use Rattle.vhdl_values.specs.declared.kinds.Logic.TheVariants.{And}
 use Rattle.vhdl_tree.specs.declared.declaration.Mode.TheVariants.{Out}
 use Rattle.vhdl_tree.specs.declared.operator.Direction.TheVariants.{Downto}
@@ -69,7 +70,7 @@ pub record NumbersBecomeConstants : Type 0 where
   -- to_unsigned(9, 3), to_unsigned(9, 0), resize(w, 65)
   pub encoded : vector site (e.Vector.encoded (number 9) (number 3)) ≡ Ok (bodies.constant (Zero ∷ Zero ∷ One ∷ []))
   pub no_element : vector site (e.Vector.encoded (number 9) (number 0)) ≡ Err Index
-  pub too_wide : vector site (e.Vector.resized w (number 65)) ≡ Err TooWide
+  pub too_wide : vector site (e.counted Resize w (number 65)) ≡ Err TooWide
   -- w and "111", and 63 elements & w
   pub lengths : vector site (e.Vector.binary (v.Logical And) w (e.Vector.literal (One ∷ One ∷ One ∷ []))) ≡ Err (Length 2 3)
   pub joined_too_wide : vector site (e.Vector.binary v.Concatenate (e.Vector.literal (replicate 63 One)) w) ≡ Err TooWide

@@ -1,6 +1,7 @@
 -- Parts of expressions, as the code comes to them.
 use Rattle.std.specs.Prelude.{ℕ, List, [], ◌∷◌, length, Ok}
 use Rattle.vhdl_values.specs.declared.scalar.Nine.{Nine}
+use Rattle.vhdl_values.specs.declared.kinds.Counted.{Counted}
 use Rattle.vhdl_values.specs.Numbers.{digits_of}
 use Rattle.vhdl_names_rules.specs.declared.operator.Numeric.{Numeric}
 use Rattle.vhdl_names_rules.specs.declared.vector.VectorLink.{VectorLink}
@@ -13,7 +14,7 @@ use Rattle.rtl_model.specs.bodies.Body as bodies
 use Rattle.rtl_model.specs.bodies.Fits.{width}
 use Rattle.vhdl_expand_rules.specs.Elab.{Elab, ◌>>=◌, ◌>>◌}
 use Rattle.vhdl_expand_rules.specs.Integers.{natural}
-use Rattle.vhdl_expand_rules.specs.Kinds.{as_size, size_of}
+use Rattle.vhdl_expand_rules.specs.Kinds.{as_size, size_of, count_of}
 use Rattle.vhdl_expand_rules.specs.Site.{Site, place_elements, variable_elements}
 use Rattle.vhdl_expand_rules.specs.Expressions.{operated, operator, numeric, vector}
 
@@ -39,11 +40,11 @@ module _ (at : Site) where
     len ← size_of at.integers t
     Ok (bodies.constant (digits_of len n))
 
-  abbrev pub resized : Vector → Static → Elab bodies.Expr
-  resized x s = do
+  abbrev pub by_count : Counted → Vector → Static → Elab bodies.Expr
+  by_count op x s = do
     e ← vector at x
-    len ← size_of at.integers s
-    Ok (bodies.resized len e)
+    n ← count_of op at.integers s
+    Ok (bodies.counted op n e)
 
   abbrev pub integer_with : Numeric → Static → Vector → Elab bodies.Expr
   integer_with op s x = do

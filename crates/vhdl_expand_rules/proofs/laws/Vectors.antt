@@ -6,8 +6,12 @@ use Rattle.std.proofs.lemmas.Bool.{eqb-true, leb-true}
 use Rattle.std.proofs.lemmas.List.{length-map}
 use Rattle.vhdl_values.specs.declared.scalar.Nine.{Nine}
 use Rattle.vhdl_values.specs.declared.scalar.Nine.TheVariants.{X}
+use Rattle.vhdl_values.specs.declared.kinds.Counted.{Counted}
+use Rattle.vhdl_values.specs.declared.kinds.Counted.TheVariants.{Resize, ShiftLeft, ShiftRight}
 use Rattle.vhdl_values.specs.Numbers.{digits_of}
+use Rattle.vhdl_values.specs.Shifts.{IsCount}
 use Rattle.vhdl_values.proofs.Digits.{length-digits_of}
+use Rattle.vhdl_values.proofs.Lengths.{counted_within}
 use Rattle.rtl_model.specs.bodies.Types.{ElementType, nine_valued, HasType}
 use Rattle.rtl_model.specs.bodies.Fits.{width, IsWidth}
 use Rattle.rtl_model.specs.bodies.Body as bodies
@@ -22,7 +26,7 @@ use Rattle.vhdl_names_rules.specs.sound.Expressions.{Inside, Shape, one, vector,
 use Rattle.vhdl_expand_rules.specs.declared.fault.ElabProblem.TheVariants.{Length, Index, TooWide}
 use Rattle.vhdl_expand_rules.specs.Elab.{unless, found}
 use Rattle.vhdl_expand_rules.specs.Integers.{Integers, natural}
-use Rattle.vhdl_expand_rules.specs.Kinds.{as_size, size_of, places}
+use Rattle.vhdl_expand_rules.specs.Kinds.{as_size, size_of, count_of, places}
 use Rattle.vhdl_expand_rules.specs.Site.{Site, place_elements, variable_elements, constant_values}
 use Rattle.vhdl_expand_rules.specs.Expressions as x
 use Rattle.vhdl_expand_rules.specs.Expressions.{operands_fit, operated, numeric, operator}
@@ -63,6 +67,12 @@ size_is_width at s n h =
     let m = bound (natural at s) _ n h in
     let a = asked m.x n m.then_gave in
     subst IsWidth a.1 a.0
+
+pub count_is_count : (op : Counted) (at : Integers) (s : Static) (n : ℕ) → count_of op at s ≡ Ok n → IsCount op n
+unfolding count_of
+count_is_count Resize at s n h = size_is_width at s n h
+count_is_count ShiftLeft at s n h = tt
+count_is_count ShiftRight at s n h = tt
 
 -- ---- operators
 
@@ -209,25 +219,15 @@ each-vector-fits i at (u.Vector.encoded n size) s e h k m =
     subst (λ (q : Shape). IsVector at q e) (given_some (static_fits i n && static_fits i size) vector s k).1
     (subst (IsVector at vector) (ok (bodies.constant (digits_of len.x j.x)) e len.then_gave)
     (constant_vector at (digits_of len.x j.x) (subst IsWidth (sym (length-digits_of len.x j.x)) (size_is_width at.integers size len.x len.gave))))
-each-vector-fits i at (u.Vector.resized v n) s e h k m =
+each-vector-fits i at (u.counted op v n) s e h k m =
     let y = static-shape i v n s k in
     let c = bound (x.vector at v) _ e m in
-    let len = bound (size_of at.integers n) _ e c.then_gave in
+    let j = bound (count_of op at.integers n) _ e c.then_gave in
     let w = each-vector-fits i at v y.shape c.x h y.is c.gave in
-    let q = size_is_width at.integers n len.x len.gave in
+    let q = count_is_count op at.integers n j.x j.gave in
     subst (λ (z : Shape). IsVector at z e) y.result
-    (subst (IsVector at vector) (ok (bodies.resized len.x c.x) e len.then_gave) (record { of_elements = refl; fits = (q, w.fits); width = q }))
-each-vector-fits i at (u.Vector.shifted_left v n) s e h k m =
-    let y = static-shape i v n s k in
-    let c = bound (x.vector at v) _ e m in
-    let j = bound (natural at.integers n) _ e c.then_gave in
-    let w = each-vector-fits i at v y.shape c.x h y.is c.gave in
-    subst (λ (z : Shape). IsVector at z e) y.result
-    (subst (IsVector at vector) (ok (bodies.shifted_left j.x c.x) e j.then_gave) (record { of_elements = refl; fits = w.fits; width = vector_width at y.shape c.x w }))
-each-vector-fits i at (u.Vector.shifted_right v n) s e h k m =
-    let y = static-shape i v n s k in
-    let c = bound (x.vector at v) _ e m in
-    let j = bound (natural at.integers n) _ e c.then_gave in
-    let w = each-vector-fits i at v y.shape c.x h y.is c.gave in
-    subst (λ (z : Shape). IsVector at z e) y.result
-    (subst (IsVector at vector) (ok (bodies.shifted_right j.x c.x) e j.then_gave) (record { of_elements = refl; fits = w.fits; width = vector_width at y.shape c.x w }))
+    (subst (IsVector at vector) (ok (bodies.counted op j.x c.x) e j.then_gave) (record {
+      of_elements = refl;
+      fits = (q, w.fits);
+      width = counted_within op j.x (width c.x) q (vector_width at y.shape c.x w);
+    }))

@@ -123,9 +123,7 @@ vector_shape i (e.Vector.binary op x y) = do
 vector_shape i (e.with_integer op x n) = with_static i (vector_shape i x) n
 vector_shape i (e.integer_with op n x) = with_static i (vector_shape i x) n
 vector_shape i (e.Vector.encoded n size) = then_some (static_fits i n && static_fits i size) vector
-vector_shape i (e.Vector.resized x n) = with_static i (vector_shape i x) n
-vector_shape i (e.Vector.shifted_left x n) = with_static i (vector_shape i x) n
-vector_shape i (e.Vector.shifted_right x n) = with_static i (vector_shape i x) n
+vector_shape i (e.counted op x n) = with_static i (vector_shape i x) n
 
 -- ---- values
 

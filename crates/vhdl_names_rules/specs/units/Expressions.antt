@@ -5,6 +5,7 @@ use Rattle.std.specs.Prelude.{ℕ, List}
 use Rattle.vhdl_values.specs.declared.scalar.Nine.{Nine}
 use Rattle.vhdl_values.specs.declared.kinds.Logic.{Logic}
 use Rattle.vhdl_values.specs.declared.kinds.Cmp.{Cmp}
+use Rattle.vhdl_values.specs.declared.kinds.Counted.{Counted}
 use Rattle.vhdl_values.specs.declared.kinds.Edge.{Edge}
 use Rattle.vhdl_tree.specs.declared.operator.Direction.{Direction}
 use Rattle.vhdl_names_rules.specs.declared.operator.Arithmetic.{Arithmetic}
@@ -73,9 +74,8 @@ pub data Vector : Type 0 where
   integer_with : Numeric → Static → Vector → Vector
   -- to_unsigned, of a number and a size
   encoded : Static → Static → Vector
-  resized : Vector → Static → Vector
-  shifted_left : Vector → Static → Vector
-  shifted_right : Vector → Static → Vector
+  -- an operator, a number and a count
+  counted : Counted → Vector → Static → Vector
 
 -- what is assigned, compared or selected by: elements of the nine values, or a value of an enumeration
 pub data Value : Type 0 where

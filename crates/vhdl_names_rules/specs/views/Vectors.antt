@@ -40,9 +40,7 @@ abbrev mutual
   vector_view (v.Chain' b first x shape rest) = links_view (linked (vector_view first) x) rest
   vector_view (v.IntegerWith' op at s b x) = u.integer_with op (static_view s) (vector_view x)
   vector_view (v.Encoded at s t) = u.Vector.encoded (static_view s) (static_view t)
-  vector_view (v.Resized' at b x s) = u.Vector.resized (vector_view x) (static_view s)
-  vector_view (v.ShiftedLeft' at b x s) = u.Vector.shifted_left (vector_view x) (static_view s)
-  vector_view (v.ShiftedRight' at b x s) = u.Vector.shifted_right (vector_view x) (static_view s)
+  vector_view (v.Counted' at op b x s) = u.counted op (vector_view x) (static_view s)
 
   pub links_view : {m : _} → u.Vector → Row_of-VectorLink m → u.Vector
   links_view left end_of-VectorLink = left
