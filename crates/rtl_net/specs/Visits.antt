@@ -1,5 +1,5 @@
 -- What a walk over a body tells: the leaves of its parts, in order of the text.
-use Rattle.std.specs.Prelude.{◌≡◌, ℕ, List, [], ◌∷◌, ◌++◌, flat_map}
+use Rattle.std.specs.Prelude.{◌≡◌, List, [], ◌∷◌, ◌++◌, flat_map}
 use Rattle.rtl_model.specs.bodies.Leaves as m
 use Rattle.rtl_net.specs.Indices.{numbers}
 use Rattle.rtl_net.specs.Bodies.{expr_view, test_view, statement_view}
@@ -8,8 +8,8 @@ use Rattle.rtl_net.specs.declared.body.TestLink.{TestLink}
 use Rattle.rtl_net.specs.declared.body.Statement.{Statement}
 use Rattle.rtl_net.specs.declared.body.Branch.{Branch}
 use Rattle.rtl_net.specs.declared.body.Alternative.{Alternative}
-use Rattle.rtl_net.specs.declared.visit.Leaf.{Leaf}
-use Rattle.rtl_net.specs.declared.visit.Leaf.TheVariants as l
+use Rattle.rtl_net.specs.declared.walk.Leaf.{Leaf}
+use Rattle.rtl_net.specs.declared.walk.Leaf.TheVariants as l
 
 abbrev pub leaf_view : Leaf → m.Leaf
 leaf_view (l.Nets nets) = m.of_nets (numbers nets.now)

@@ -28,47 +28,47 @@ pub trait Visit {
 
     /// Is told of one leaf.
     fn leaf(&mut self, leaf: Leaf<'_>)
-        ensures { takes self.old (leaf_view leaf) self.new };
+        ensures { takes self.old (leaf_view leaf.entry) self.new };
 }
 
 /// Tells of what stands in an expression.
 #[cycle(expression)]
-pub fn visit_expr<V: Visit>(expr: &Expr, visitor: &mut V)
+pub fn walk_expr<V: Visit>(expr: &Expr, visitor: &mut V)
     ensures { Tells V.takes visitor.old (m.expr_leaves (expr_view expr.now)) visitor.new }
 {
     match expr {
         Expr::Signal(nets) => visitor.leaf(Leaf::Nets(nets)),
         Expr::Variable(elements) => visitor.leaf(Leaf::Elements(elements)),
         Expr::Constant(_) => {}
-        Expr::Inverse(operand) => visit_expr(operand, visitor),
+        Expr::Inverse(operand) => walk_expr(operand, visitor),
         Expr::Filled {
             element: operand,
             ..
-        } => visit_expr(operand, visitor),
+        } => walk_expr(operand, visitor),
         Expr::Chain { first, rest } => {
-            visit_expr(first, visitor);
-            visit_links(rest, visitor);
+            walk_expr(first, visitor);
+            walk_links(rest, visitor);
         }
-        Expr::Counted { operand, .. } => visit_expr(operand, visitor),
+        Expr::Counted { operand, .. } => walk_expr(operand, visitor),
     }
 }
 
 /// Tells of what stands in further operands of a chain.
 #[cycle(expression)]
-fn visit_links<V: Visit>(links: &[Link], visitor: &mut V)
+fn walk_links<V: Visit>(links: &[Link], visitor: &mut V)
     ensures { Tells V.takes visitor.old (flat_map link_leaves links.now) visitor.new }
 {
     for link in links {
-        visit_expr(&link.operand, visitor);
+        walk_expr(&link.operand, visitor);
     }
 }
 
 /// Tells of what stands in a value.
-pub fn visit_value<V: Visit>(value: &Value, visitor: &mut V)
+pub fn walk_value<V: Visit>(value: &Value, visitor: &mut V)
     ensures { Tells V.takes visitor.old (m.value_leaves (value_view value.now)) visitor.new }
 {
     match value {
-        Value::Elements(expr) => visit_expr(expr, visitor),
+        Value::Elements(expr) => walk_expr(expr, visitor),
         Value::Position(_) => {}
         Value::PositionOf(net) => visitor.leaf(Leaf::Net(*net)),
         Value::PositionIn(element) => visitor.leaf(Leaf::Element(*element)),
@@ -77,82 +77,82 @@ pub fn visit_value<V: Visit>(value: &Value, visitor: &mut V)
 
 /// Tells of what stands in a test.
 #[cycle(condition)]
-pub fn visit_test<V: Visit>(test: &Test, visitor: &mut V)
+pub fn walk_test<V: Visit>(test: &Test, visitor: &mut V)
     ensures { Tells V.takes visitor.old (m.test_leaves (test_view test.now)) visitor.new }
 {
     match test {
-        Test::Condition(expr) => visit_expr(expr, visitor),
+        Test::Condition(expr) => walk_expr(expr, visitor),
         Test::Decided(_) => {}
         Test::Equal(left, right) => {
-            visit_value(left, visitor);
-            visit_value(right, visitor);
+            walk_value(left, visitor);
+            walk_value(right, visitor);
         }
         Test::Unequal(left, right) => {
-            visit_value(left, visitor);
-            visit_value(right, visitor);
+            walk_value(left, visitor);
+            walk_value(right, visitor);
         }
         Test::Level { net, .. } => visitor.leaf(Leaf::Net(*net)),
         Test::Compared(_, left, right) => {
-            visit_expr(left, visitor);
-            visit_expr(right, visitor);
+            walk_expr(left, visitor);
+            walk_expr(right, visitor);
         }
-        Test::ComparedTo(_, expr, _) => visit_expr(expr, visitor),
+        Test::ComparedTo(_, expr, _) => walk_expr(expr, visitor),
         Test::Rising(net) => visitor.leaf(Leaf::Event(*net)),
         Test::Falling(net) => visitor.leaf(Leaf::Event(*net)),
         Test::Event(net) => visitor.leaf(Leaf::Event(*net)),
-        Test::Negated(operand) => visit_test(operand, visitor),
+        Test::Negated(operand) => walk_test(operand, visitor),
         Test::Combined { first, rest } => {
-            visit_test(first, visitor);
-            visit_test_links(rest, visitor);
+            walk_test(first, visitor);
+            walk_test_links(rest, visitor);
         }
     }
 }
 
 /// Tells of what stands in further operands of a chain.
 #[cycle(condition)]
-fn visit_test_links<V: Visit>(links: &[TestLink], visitor: &mut V)
+fn walk_test_links<V: Visit>(links: &[TestLink], visitor: &mut V)
     ensures { Tells V.takes visitor.old (flat_map test_link_leaves links.now) visitor.new }
 {
     for link in links {
-        visit_test(&link.operand, visitor);
+        walk_test(&link.operand, visitor);
     }
 }
 
 /// Tells of what stands in a body.
-pub fn visit<V: Visit>(statements: &[Statement], visitor: &mut V)
+pub fn walk_body<V: Visit>(statements: &[Statement], visitor: &mut V)
     ensures { Tells V.takes visitor.old (m.leaves (statements_of statements.now)) visitor.new }
 {
-    visit_statements(statements, visitor);
+    walk_statements(statements, visitor);
 }
 
 /// Tells of what stands in a sequence.
 #[cycle(statement)]
-fn visit_statements<V: Visit>(statements: &[Statement], visitor: &mut V)
+fn walk_statements<V: Visit>(statements: &[Statement], visitor: &mut V)
     ensures { Tells V.takes visitor.old (flat_map statement_leaves statements.now) visitor.new }
 {
     for statement in statements {
-        visit_statement(statement, visitor);
+        walk_statement(statement, visitor);
     }
 }
 
 /// Tells of what stands in a statement.
 #[cycle(statement)]
-fn visit_statement<V: Visit>(statement: &Statement, visitor: &mut V)
+fn walk_statement<V: Visit>(statement: &Statement, visitor: &mut V)
     ensures { Tells V.takes visitor.old (statement_leaves statement.now) visitor.new }
 {
     match statement {
         Statement::Null => {}
-        Statement::Assign { value, .. } => visit_value(value, visitor),
-        Statement::Set { value, .. } => visit_value(value, visitor),
+        Statement::Assign { value, .. } => walk_value(value, visitor),
+        Statement::Set { value, .. } => walk_value(value, visitor),
         Statement::If {
             branches,
             otherwise,
             ..
         } => {
-            visit_branches(branches, visitor);
+            walk_branches(branches, visitor);
             match otherwise {
                 None => {}
-                Some(last) => visit_statements(last, visitor),
+                Some(last) => walk_statements(last, visitor),
             }
         }
         Statement::Case {
@@ -161,38 +161,38 @@ fn visit_statement<V: Visit>(statement: &Statement, visitor: &mut V)
             others,
             ..
         } => {
-            visit_value(selector, visitor);
-            visit_alternatives(alternatives, visitor);
-            visit_statements(others, visitor);
+            walk_value(selector, visitor);
+            walk_alternatives(alternatives, visitor);
+            walk_statements(others, visitor);
         }
     }
 }
 
 /// Tells of what stands in branches of an if.
 #[cycle(statement)]
-fn visit_branches<V: Visit>(branches: &[Branch], visitor: &mut V)
+fn walk_branches<V: Visit>(branches: &[Branch], visitor: &mut V)
     ensures { Tells V.takes visitor.old (flat_map branch_leaves branches.now) visitor.new }
 {
     for branch in branches {
-        visit_branch(branch, visitor);
+        walk_branch(branch, visitor);
     }
 }
 
 /// Tells of what stands in a branch.
 #[cycle(statement)]
-fn visit_branch<V: Visit>(branch: &Branch, visitor: &mut V)
+fn walk_branch<V: Visit>(branch: &Branch, visitor: &mut V)
     ensures { Tells V.takes visitor.old (branch_leaves branch.now) visitor.new }
 {
-    visit_test(&branch.test, visitor);
-    visit_statements(&branch.statements, visitor);
+    walk_test(&branch.test, visitor);
+    walk_statements(&branch.statements, visitor);
 }
 
 /// Tells of what stands in alternatives of a case.
 #[cycle(statement)]
-fn visit_alternatives<V: Visit>(alternatives: &[Alternative], visitor: &mut V)
+fn walk_alternatives<V: Visit>(alternatives: &[Alternative], visitor: &mut V)
     ensures { Tells V.takes visitor.old (flat_map alternative_leaves alternatives.now) visitor.new }
 {
     for alternative in alternatives {
-        visit_statements(&alternative.statements, visitor);
+        walk_statements(&alternative.statements, visitor);
     }
 }
