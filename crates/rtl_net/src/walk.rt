@@ -174,17 +174,9 @@ fn walk_branches<V: Visit>(branches: &[Branch], visitor: &mut V)
     ensures { Tells V.takes visitor.old (flat_map branch_leaves branches.now) visitor.new }
 {
     for branch in branches {
-        walk_branch(branch, visitor);
+        walk_test(&branch.test, visitor);
+        walk_statements(&branch.statements, visitor);
     }
-}
-
-/// Tells of what stands in a branch.
-#[cycle(statement)]
-fn walk_branch<V: Visit>(branch: &Branch, visitor: &mut V)
-    ensures { Tells V.takes visitor.old (branch_leaves branch.now) visitor.new }
-{
-    walk_test(&branch.test, visitor);
-    walk_statements(&branch.statements, visitor);
 }
 
 /// Tells of what stands in alternatives of a case.

@@ -31,9 +31,6 @@ walk_statement-returns-in-Case g t c =
     (tells_both g.V.Visit.takes _ _ _ _ _ _ refl (rw c.deref-in-Case.ensures.value at c.walk_alternatives.ensures)
     (rw c.deref-in-Case-2.ensures.value at c.walk_statements-in-Case.ensures))
 
-pub walk_branch-returns : goal.walk_branch-returns
-walk_branch-returns g t c = tells_both g.V.Visit.takes _ _ _ _ _ _ refl c.walk_test.ensures (rw c.deref.ensures.value at c.walk_statements.ensures)
-
 pub walk_statements-loop-statement-preserved : goal.walk_statements-loop-statement-preserved
 walk_statements-loop-statement-preserved g t c = λ end.
     tells_goes g.V.Visit.takes statement_leaves _ _ c.loop-statement.statement-index _ _ end c.statement-item.result c.loop-statement-test.true c.statement-item.is
@@ -42,7 +39,7 @@ walk_statements-loop-statement-preserved g t c = λ end.
 pub walk_branches-loop-branch-preserved : goal.walk_branches-loop-branch-preserved
 walk_branches-loop-branch-preserved g t c = λ end.
     tells_goes g.V.Visit.takes branch_leaves _ _ c.loop-branch.branch-index _ _ end c.branch-item.result c.loop-branch-test.true c.branch-item.is
-    c.walk_branch.ensures (c.loop-branch.invariant end)
+    (tells_both g.V.Visit.takes _ _ _ _ _ _ refl c.walk_test.ensures (rw c.deref.ensures.value at c.walk_statements.ensures)) (c.loop-branch.invariant end)
 
 pub walk_alternatives-loop-alternative-preserved : goal.walk_alternatives-loop-alternative-preserved
 walk_alternatives-loop-alternative-preserved g t c = λ end.

@@ -3,7 +3,7 @@ use Rattle.std.specs.List.{list_any}
 use Rattle.rtl_net.specs.declared.indices.Indices.{Indices}
 use Rattle.rtl_net.specs.Indices.{numbers}
 use Rattle.rtl_net_facts.proofs.Anys.{none_above, any_within}
-use Rattle.rtl_net_facts.proofs.looks.has_number.Goals as goal
+use Rattle.rtl_net_facts.proofs.numbers.has_number.Goals as goal
 
 pub returns-then-first-n : goal.returns-then-first-n
 returns-then-first-n c =
