@@ -3,5 +3,5 @@ pub mod Assigning
 pub mod Reading
 pub mod Rising
 pub mod Prefixed
-pub mod BodyReads
+pub mod Told
 pub mod Codes

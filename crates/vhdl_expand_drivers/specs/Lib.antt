@@ -2,5 +2,4 @@ pub mod Named
 pub mod Targets
 pub mod Names
 pub mod Driven
-pub mod Reads
 pub mod Starting

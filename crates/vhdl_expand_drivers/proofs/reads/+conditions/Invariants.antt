@@ -1,9 +1,0 @@
-use Rattle.std.proofs.Common.{◌≡◌, ◌++◌, drop}
-use Rattle.std.specs.Prelude.{flat_map}
-use Rattle.vhdl_expand_drivers.specs.Reads.{test_link_reads}
-use Rattle.vhdl_expand_drivers.proofs.reads.+conditions.Given as goal
-
--- those so far, and those that are left
-abbrev pub invariant-of_conditions-loop-item : goal.invariant-of_conditions-loop-item
-invariant-of_conditions-loop-item l =
-    l.fn.found.items ++ flat_map test_link_reads l.list ≡ l.found.items ++ flat_map test_link_reads (drop l.item-index l.list)
