@@ -31,40 +31,40 @@ is NoSensitivity NoSensitivity = true
 is LeftOut LeftOut = true
 is _ _ = false
 
-abbrev pub is_of : List NameProblem → Broken
+unfoldable pub is_of : List NameProblem → Broken
 is_of [] p = false
 is_of (q ∷ qs) p = is p q || is_of qs p
 
 -- ---- rules
 
-abbrev pub nothing : Broken
+unfoldable pub nothing : Broken
 nothing p = false
 
 -- the rules of two parts
 infixr 6 ◌∪◌
-abbrev pub ◌∪◌ : Broken → Broken → Broken
+unfoldable pub ◌∪◌ : Broken → Broken → Broken
 (a ∪ b) p = a p || b p
 
 -- what must hold, else there is this problem
-abbrev pub unless : NameProblem → Bool → Broken
+unfoldable pub unless : NameProblem → Bool → Broken
 unless q holds p = not holds && is p q
 
 -- what has to be there, else there is one of these problems
-abbrev pub lacking : {A : Type 0} → List NameProblem → Option A → Broken
+unfoldable pub lacking : {A : Type 0} → List NameProblem → Option A → Broken
 lacking qs (Some x) p = false
 lacking qs None p = is_of qs p
 
 -- of a thing that is given
-abbrev pub where_given : {A : Type 0} → Option A → (A → Broken) → Broken
+unfoldable pub where_given : {A : Type 0} → Option A → (A → Broken) → Broken
 where_given None f p = false
 where_given (Some x) f p = f x p
 
 -- of each of several things
-abbrev pub any_of : {A : Type 0} → (A → Broken) → List A → Broken
+unfoldable pub any_of : {A : Type 0} → (A → Broken) → List A → Broken
 any_of f [] p = false
 any_of f (x ∷ xs) p = f x p || any_of f xs p
 
 -- of a thing that may be absent
-abbrev pub of_any : {A : Type 0} → (A → Broken) → Option A → Broken
+unfoldable pub of_any : {A : Type 0} → (A → Broken) → Option A → Broken
 of_any f None p = false
 of_any f (Some x) p = f x p

@@ -3,13 +3,13 @@ use Rattle.std.specs.Prelude.{false, List, [], ◌∷◌, map, flat_map, Option,
 use Rattle.vhdl_tree.specs.Tree as t
 use Rattle.vhdl_tree.specs.Tree.{Ident}
 use Rattle.vhdl_names_rules.specs.declared.fault.NameProblem.TheVariants.{Twice, WrongKind, NoSensitivity}
-use Rattle.vhdl_names_rules.specs.Visibility.{Name, Sight, names_of, are_distinct, ends, label_ends, with_variables}
+use Rattle.vhdl_names_rules.specs.Visibility.{Sight, names_of, are_distinct, ends, label_ends, with_variables}
 use Rattle.vhdl_names_rules.specs.Declarations as declarations
 use Rattle.vhdl_names_rules.specs.Interfaces.{EntityView}
 use Rattle.vhdl_names_rules.specs.Statements as sequential
 use Rattle.vhdl_names_rules.specs.Statements.{statement_labels}
 use Rattle.vhdl_names_rules.specs.Concurrent.{sight_within, concurrent_labels}
-use Rattle.vhdl_names_problems.specs.Broken.{Broken, nothing, ◌∪◌, unless, where_given, any_of, of_any}
+use Rattle.vhdl_names_problems.specs.Broken.{Broken, nothing, ◌∪◌, unless, where_given, any_of}
 use Rattle.vhdl_names_problems.specs.Expressions.{static_range, condition, static_condition, value_given}
 use Rattle.vhdl_names_problems.specs.Declarations.{in_order, variables}
 use Rattle.vhdl_names_problems.specs.Statements.{signal, target, covered_by, statements}

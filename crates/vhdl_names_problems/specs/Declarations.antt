@@ -1,12 +1,11 @@
 -- Which rules declarations break (IEEE 1076-2008, clauses 5, 6 and 12.4), each with those before it in sight.
-use Rattle.std.specs.Prelude.{Bool, true, false, ◌||◌, nat_le, List, [], ◌∷◌, flat_map, length, Option, Some, None, is_none}
+use Rattle.std.specs.Prelude.{◌||◌, nat_le, List, [], ◌∷◌, length, Option, Some, None, is_none}
 use Rattle.std.specs.List.{list_all}
 use Rattle.vhdl_tree.specs.Tree as t
 use Rattle.vhdl_tree.specs.Tree.{Ident, ContextItem, library, uses}
-use Rattle.vhdl_names_rules.specs.declared.kind.ObjectType.{ObjectType}
 use Rattle.vhdl_names_rules.specs.declared.operator.IntegerType.{IntegerType}
 use Rattle.vhdl_names_rules.specs.declared.fault.NameProblem.{NameProblem}
-use Rattle.vhdl_names_rules.specs.declared.fault.NameProblem.TheVariants.{Undeclared, WrongKind, TypeMismatch, LeftOut}
+use Rattle.vhdl_names_rules.specs.declared.fault.NameProblem.TheVariants.{Undeclared, WrongKind, LeftOut}
 use Rattle.vhdl_names_rules.specs.Visibility as visibility
 use Rattle.vhdl_names_rules.specs.Visibility.{Declared, Meaning, Sight, Declares}
 use Rattle.vhdl_names_rules.specs.Packages as packages

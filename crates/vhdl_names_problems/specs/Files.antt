@@ -1,5 +1,5 @@
 -- Which rules a file breaks (IEEE 1076-2008, 3.2, 3.3 and clause 13).
-use Rattle.std.specs.Prelude.{ℕ, true, false, if◌then◌else◌, List, [], ◌∷◌, ◌++◌, map, flat_map, filter_map, find, Option, Some, None, bytes_eq}
+use Rattle.std.specs.Prelude.{ℕ, true, false, if◌then◌else◌, List, [], ◌∷◌, ◌++◌, flat_map, filter_map, Option, Some, None}
 use Rattle.vhdl_tree.specs.Tree as t
 use Rattle.vhdl_tree.specs.Tree.{File, DesignUnit, ContextItem}
 use Rattle.vhdl_names_rules.specs.declared.fault.NameProblem.TheVariants.{Undeclared, Twice, WrongKind, SecondArchitecture}
@@ -12,7 +12,7 @@ use Rattle.vhdl_names_rules.specs.Concurrent.{concurrent_labels}
 use Rattle.vhdl_names_rules.specs.Files as are
 use Rattle.vhdl_names_rules.specs.Files.{entity_names, described_names, stand_after, entities_of, architectures_of, viewed}
 use Rattle.vhdl_names_rules.specs.laws.Regions.{names_in}
-use Rattle.vhdl_names_problems.specs.Broken.{Broken, nothing, ◌∪◌, unless, lacking, where_given, any_of}
+use Rattle.vhdl_names_problems.specs.Broken.{Broken, ◌∪◌, unless, where_given, any_of}
 use Rattle.vhdl_names_problems.specs.Declarations.{context, in_order, signals, constants, enumeration}
 use Rattle.vhdl_names_problems.specs.Interfaces.{entity, component}
 use Rattle.vhdl_names_problems.specs.Concurrent.{concurrents}

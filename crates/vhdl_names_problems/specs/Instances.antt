@@ -1,9 +1,7 @@
 -- Which rules instances break (IEEE 1076-2008, 6.5.7 and 11.7).
-use Rattle.std.specs.Prelude.{ℕ, drop, zip, find, List, [], ◌∷◌, map, filter_map, slice_get, Option, Some, None, bytes_eq, codes}
-use Rattle.std.specs.List.{list_all}
+use Rattle.std.specs.Prelude.{drop, zip, find, List, [], ◌∷◌, map, filter_map, slice_get, Option, bytes_eq, codes}
 use Rattle.vhdl_tree.specs.Tree as t
 use Rattle.vhdl_tree.specs.Tree.{Expr, Association}
-use Rattle.vhdl_names_rules.specs.declared.fault.NameProblem.{NameProblem}
 use Rattle.vhdl_names_rules.specs.declared.fault.NameProblem.TheVariants.{Undeclared, Twice, WrongKind, TypeMismatch, WriteOfIn, LeftOut}
 use Rattle.vhdl_names_rules.specs.Rules.{all_of}
 use Rattle.vhdl_names_rules.specs.Visibility as visibility
@@ -12,7 +10,7 @@ use Rattle.vhdl_names_rules.specs.Interfaces.{EntityView, entity_named}
 use Rattle.vhdl_names_rules.specs.Statements as statements
 use Rattle.vhdl_names_rules.specs.Instances as are
 use Rattle.vhdl_names_rules.specs.Instances.{Formal, as_name, is_kind, may_join, is_architecture, as_component, positional_first, generic_name, port_formal}
-use Rattle.vhdl_names_problems.specs.Broken.{Broken, nothing, ◌∪◌, unless, is_of, lacking, where_given, any_of, of_any}
+use Rattle.vhdl_names_problems.specs.Broken.{Broken, ◌∪◌, unless, lacking, where_given, any_of, of_any}
 use Rattle.vhdl_names_problems.specs.Expressions.{meaning, static}
 use Rattle.vhdl_names_problems.specs.Statements.{signal}
 

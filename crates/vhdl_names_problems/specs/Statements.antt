@@ -2,8 +2,7 @@
 use Rattle.std.specs.Prelude.{not, List, Option, is_none}
 use Rattle.vhdl_tree.specs.Tree as t
 use Rattle.vhdl_tree.specs.Tree.{Ident}
-use Rattle.vhdl_names_rules.specs.declared.fault.NameProblem.{NameProblem}
-use Rattle.vhdl_names_rules.specs.declared.fault.NameProblem.TheVariants.{Undeclared, WrongKind, TypeMismatch, WriteOfIn, LeftOut}
+use Rattle.vhdl_names_rules.specs.declared.fault.NameProblem.TheVariants.{WrongKind, WriteOfIn, LeftOut}
 use Rattle.vhdl_names_rules.specs.Visibility as visibility
 use Rattle.vhdl_names_rules.specs.Visibility.{Meaning, Sight, label_ends, within_loop}
 use Rattle.vhdl_names_rules.specs.Expressions as expressions

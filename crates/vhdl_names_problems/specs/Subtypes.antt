@@ -12,7 +12,7 @@ use Rattle.vhdl_names_rules.specs.Names as names
 use Rattle.vhdl_names_rules.specs.Names.{Suffix}
 use Rattle.vhdl_names_rules.specs.Expressions as are
 use Rattle.vhdl_names_rules.specs.Subtypes.{named_value, encoded_value, literal_value, filled_value}
-use Rattle.vhdl_names_problems.specs.Broken.{Broken, nothing, ◌∪◌, unless, is_of, lacking, where_given, of_any}
+use Rattle.vhdl_names_problems.specs.Broken.{Broken, ◌∪◌, unless, lacking, where_given, of_any}
 use Rattle.vhdl_names_problems.specs.Expressions.{meaning, is_finished, typed_suffix, static_range}
 
 -- ---- types of objects
