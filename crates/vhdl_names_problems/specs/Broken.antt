@@ -31,13 +31,13 @@ is NoSensitivity NoSensitivity = true
 is LeftOut LeftOut = true
 is _ _ = false
 
-unfoldable pub is_of : List NameProblem → Broken
+abbrev pub is_of : List NameProblem → Broken
 is_of [] p = false
 is_of (q ∷ qs) p = is p q || is_of qs p
 
 -- ---- rules
 
-unfoldable pub nothing : Broken
+abbrev pub nothing : Broken
 nothing p = false
 
 -- the rules of two parts
@@ -46,25 +46,25 @@ unfoldable pub ◌∪◌ : Broken → Broken → Broken
 (a ∪ b) p = a p || b p
 
 -- what must hold, else there is this problem
-unfoldable pub unless : NameProblem → Bool → Broken
+abbrev pub unless : NameProblem → Bool → Broken
 unless q holds p = not holds && is p q
 
 -- what has to be there, else there is one of these problems
-unfoldable pub lacking : {A : Type 0} → List NameProblem → Option A → Broken
-lacking qs (Some x) p = false
-lacking qs None p = is_of qs p
+abbrev pub lacking : {A : Type 0} → List NameProblem → Option A → Broken
+lacking qs (Some x) = nothing
+lacking qs None = is_of qs
 
 -- of a thing that is given
-unfoldable pub where_given : {A : Type 0} → Option A → (A → Broken) → Broken
-where_given None f p = false
-where_given (Some x) f p = f x p
+abbrev pub where_given : {A : Type 0} → Option A → (A → Broken) → Broken
+where_given None f = nothing
+where_given (Some x) f = f x
 
 -- of each of several things
-unfoldable pub any_of : {A : Type 0} → (A → Broken) → List A → Broken
-any_of f [] p = false
-any_of f (x ∷ xs) p = f x p || any_of f xs p
+abbrev pub any_of : {A : Type 0} → (A → Broken) → List A → Broken
+any_of f [] = nothing
+any_of f (x ∷ xs) = f x ∪ any_of f xs
 
 -- of a thing that may be absent
-unfoldable pub of_any : {A : Type 0} → (A → Broken) → Option A → Broken
-of_any f None p = false
-of_any f (Some x) p = f x p
+abbrev pub of_any : {A : Type 0} → (A → Broken) → Option A → Broken
+of_any f None = nothing
+of_any f (Some x) = f x
