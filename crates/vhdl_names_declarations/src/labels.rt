@@ -1,6 +1,6 @@
 //! The labels that stand directly among concurrent statements (IEEE 1076-2008, 11.1 and 12.1).
 
-ghost use Rattle.std.specs.Prelude.{◌≡◌, ◌∷◌, [], map, option_map, IfErr};
+ghost use Rattle.std.specs.Prelude.{◌≡◌, ◌≢◌, ◌∷◌, [], map, option_map, IfErr};
 ghost use Rattle.std.specs.Option.{option_copied};
 ghost use Rattle.vhdl_names_declarations.specs.Entered.{more};
 ghost use Rattle.vhdl_names_rules.specs.Concurrent as rules;
@@ -13,6 +13,7 @@ ghost use Rattle.vhdl_names_rules.specs.Visibility.{are_distinct};
 ghost use Rattle.vhdl_tree.specs.Tree.{concurrents_of};
 ghost use Rattle.vhdl_tree.specs.View.{ident_view, option_ident_view, concurrent_view};
 ghost use Rattle.vhdl_names_types.specs.Views.{region_view};
+ghost use Rattle.vhdl_names_rules.specs.declared.fault.NameFault.TheVariants.{NoMemory};
 ghost use Rattle.vhdl_names_problems.specs.Broken.{Tells, is_of, unless};
 ghost use Rattle.vhdl_names_declarations.specs.Standing.{standing_twice};
 
@@ -31,6 +32,7 @@ fn declare_if_any(
 ) -> Result<(), NameFault>
     ensures given { Gives (λ _. region_view region.new) (more (region_view region.old) (labelled (label_names (option_ident_view label.now)))) result }
     ensures told { IfErr result (Tells (is_of (Twice ∷ []))) }
+    ensures kept { IfErr result (λ f. f ≢ NoMemory → region_view region.new ≡ region_view region.old) }
 {
     let _apart = region.len();
     match label {
@@ -39,14 +41,16 @@ fn declare_if_any(
     }
 }
 
-/// The label of a statement, if it has one.
-fn declare_label(
+/// The label of a statement, if it has one, declared in a region. It takes the memory of the label and
+/// its entry.
+pub fn declare_label(
     alloc: Global,
     region: &mut Region,
     statement: &Concurrent,
 ) -> Result<(), NameFault>
     ensures given { Gives (λ _. region_view region.new) (more (region_view region.old) (labelled (rules.concurrent_label (concurrent_view statement.now)))) result }
     ensures told { IfErr result (Tells (is_of (Twice ∷ []))) }
+    ensures kept { IfErr result (λ f. f ≢ NoMemory → region_view region.new ≡ region_view region.old) }
 {
     match statement {
         Concurrent::Assignment(assignment) => declare_if_any(alloc, region, &assignment.label),

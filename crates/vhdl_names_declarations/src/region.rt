@@ -1,6 +1,6 @@
 //! Regions, in which no name is declared twice (IEEE 1076-2008, 12.1). Look-ups and declarations don't walk lists.
 
-ghost use Rattle.std.specs.Prelude.{◌≡◌, ◌≤◌, ◌∷◌, [], map, OnOk, IfErr};
+ghost use Rattle.std.specs.Prelude.{◌≡◌, ◌≢◌, ◌≤◌, ◌∷◌, [], map, OnOk, IfErr};
 ghost use Rattle.indexmap.specs.IndexMap.{index_map_len};
 ghost use Rattle.vhdl_names_declarations.specs.Entered.{more};
 ghost use Rattle.vhdl_names_declarations.specs.Settled.{class_view, settled};
@@ -9,6 +9,7 @@ ghost use Rattle.vhdl_names_rules.specs.Visibility as visibility;
 ghost use Rattle.vhdl_names_rules.specs.Visibility.{all_declared, names_of};
 ghost use Rattle.vhdl_tree.specs.View.{ident_view};
 ghost use Rattle.vhdl_names_types.specs.Views.{meaning_view, region_view};
+ghost use Rattle.vhdl_names_rules.specs.declared.fault.NameFault.TheVariants.{NoMemory};
 ghost use Rattle.vhdl_names_problems.specs.Broken.{Tells, is_of};
 ghost use Rattle.vhdl_names_rules.specs.declared.fault.NameProblem.TheVariants.{Twice};
 
@@ -29,6 +30,7 @@ pub fn declare_name(
 ) -> Result<(), NameFault>
     ensures given { Gives (λ _. region_view region.new) (more (region_view region.old) (visibility.declare name.now (meaning_view meaning) ∷ [])) result }
     ensures told { IfErr result (Tells (is_of (Twice ∷ []))) }
+    ensures kept { IfErr result (λ f. f ≢ NoMemory → region_view region.new ≡ region_view region.old) }
 {
     let _apart = region.len();
     if region.contains_key(name) {
@@ -50,6 +52,7 @@ pub fn declare(
     ensures given { Gives (λ _. region_view region.new)
         (more (region_view region.old) (visibility.declare name.now.text.items (meaning_view meaning) ∷ [])) result }
     ensures told { IfErr result (Tells (is_of (Twice ∷ []))) }
+    ensures kept { IfErr result (λ f. f ≢ NoMemory → region_view region.new ≡ region_view region.old) }
 {
     declare_name(alloc, region, &name.text, name.at, meaning)
 }
