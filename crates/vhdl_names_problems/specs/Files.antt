@@ -35,8 +35,8 @@ abbrev pub architecture_in : List EntityView → EntityView → Context → t.Ar
 architecture_in entities e c a =
     in_order with_declared (are.declaration entities) (declaration entities) (sight_of c e.interface.declared) a.declarations
     ∪ where_given (declarations.in_order with_declared (are.declaration entities) (sight_of c e.interface.declared) a.declarations)
-        (λ ds. concurrents entities (sight_of c (with_labels (e.interface.declared ++ ds.declared) (concurrent_labels (t.concurrents_of a.statements))))
-            (t.concurrents_of a.statements))
+    (λ ds. concurrents entities (sight_of c (with_labels (e.interface.declared ++ ds.declared) (concurrent_labels (t.concurrents_of a.statements))))
+    (t.concurrents_of a.statements))
 
 abbrev pub architecture : List EntityView → EntityView → List ContextItem → t.Architecture → Broken
 architecture entities e items a =
