@@ -24,6 +24,7 @@ pub fn earlier(fault: NameFault, other: NameFault) -> NameFault
 /// The earlier of a fault and that of an answer, if it is refused.
 pub fn earlier_in<T: Drop>(fault: NameFault, answer: Result<T, NameFault>) -> NameFault
     ensures given { result ≢ NoMemory → fault ≢ NoMemory }
+    ensures other { IfErr answer (λ other. result ≢ NoMemory → other ≢ NoMemory) }
     ensures told { (b : Broken) → Tells b fault → IfErr answer (Tells b) → Tells b result }
 {
     match answer {
