@@ -1,9 +1,10 @@
 -- What operators tell is of the problems of operators.
-use Rattle.std.proofs.Common.{◌≡◌, ℕ, Bool, true, false, ◌||◌, [], ◌∷◌, Result, IfErr, refl}
+use Rattle.std.proofs.Common.{◌≡◌, ℕ, Bool, true, false, ◌||◌, [], ◌∷◌, Result, IfErr, refl, sym, ap, ◌∙◌}
 use Rattle.vhdl_names_rules.specs.declared.fault.NameFault.{NameFault}
 use Rattle.vhdl_names_rules.specs.declared.fault.NameFault.TheVariants.{At, NoMemory}
+use Rattle.vhdl_names_rules.specs.declared.fault.NameProblem.{NameProblem}
 use Rattle.vhdl_names_rules.specs.declared.fault.NameProblem.TheVariants.{TypeMismatch, NotVisible, LeftOut}
-use Rattle.vhdl_names_problems.specs.Broken.{Tells, ◌∪◌, is, is_of, unless}
+use Rattle.vhdl_names_problems.specs.Broken.{Broken, Tells, ◌∪◌, is, is_of, unless}
 use Rattle.vhdl_names_problems.specs.Expressions.{operator_problems}
 use Rattle.vhdl_names_problems.proofs.Telling.{told_on}
 use Rattle.vhdl_names_types.specs.Steps.{order_problem}
@@ -68,7 +69,13 @@ pub arithmetic_on : {X : Type 0} (numbers : Bool) (r : Result X NameFault) →
     IfErr r (Tells (is_of (TypeMismatch ∷ []) ∪ unless NotVisible numbers)) → IfErr r (Tells (is_of (operator_problems numbers)))
 arithmetic_on numbers r = told_on (is_of (TypeMismatch ∷ []) ∪ unless NotVisible numbers) (is_of (operator_problems numbers)) r (arithmetic_told numbers)
 
+same : (a b : Broken) (f : NameFault) → a ≡ b → Tells a f → Tells b f
+same a b (At p at) e h = ap (λ c. c p) (sym e) ∙ h
+same a b NoMemory e h = tt
+
 -- what is told of operands that are not ordered, by the problem that is told of them
-pub order_on : {X : Type 0} (b numbers : Bool) (r : Result X NameFault) →
-    IfErr r (Tells (is_of (order_problem b ∷ []) ∪ unless NotVisible numbers)) → IfErr r (Tells (is_of (TypeMismatch ∷ LeftOut ∷ []) ∪ unless NotVisible numbers))
-order_on b numbers r = told_on (is_of (order_problem b ∷ []) ∪ unless NotVisible numbers) (is_of (TypeMismatch ∷ LeftOut ∷ []) ∪ unless NotVisible numbers) r (order_told b numbers)
+pub order_on_problem : {X : Type 0} (b numbers : Bool) (q : NameProblem) (r : Result X NameFault) → q ≡ order_problem b →
+    IfErr r (Tells (is_of (q ∷ []) ∪ unless NotVisible numbers)) → IfErr r (Tells (is_of (TypeMismatch ∷ LeftOut ∷ []) ∪ unless NotVisible numbers))
+order_on_problem b numbers q r e =
+    told_on (is_of (q ∷ []) ∪ unless NotVisible numbers) (is_of (TypeMismatch ∷ LeftOut ∷ []) ∪ unless NotVisible numbers) r
+    (λ f h. order_told b numbers f (same (is_of (q ∷ []) ∪ unless NotVisible numbers) (is_of (order_problem b ∷ []) ∪ unless NotVisible numbers) f (ap (λ p. is_of (p ∷ []) ∪ unless NotVisible numbers) e) h))
