@@ -1,8 +1,10 @@
+pub mod Breaking
 pub mod Counting
 pub mod Declaring
 pub mod Labelling
 pub mod Listed
 pub mod Classes
+pub mod Naming
 pub mod Orders
 pub mod Regions
 pub mod Turns
