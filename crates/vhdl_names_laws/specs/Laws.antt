@@ -1,5 +1,5 @@
--- What names give is sound: what elaboration may take for granted of units that a file has.
-use Rattle.std.specs.Prelude.{◌≡◌, ℕ, Bool, false, List, [], map, Some, None, IsTrue}
+-- What names give is sound: what elaboration may take for granted of units that a file has. And it has units just where it breaks no rule.
+use Rattle.std.specs.Prelude.{◌≡◌, ℕ, Bool, true, false, List, [], map, Some, None, IsTrue}
 use Rattle.std.specs.List.{list_all}
 use Rattle.vhdl_lexer.specs.declared.token.Token.{Token}
 use Rattle.vhdl_lexer.specs.Cut.{Cuts, AreWithin}
@@ -72,3 +72,7 @@ ComponentsAreTexts = (entities : List EntityView) (sight : Sight) (c : t.Compone
 -- A well-typed file breaks no rule, whatever the problem that it would bear.
 abbrev pub WellTypedFilesBreakNoRule : Type 0
 WellTypedFilesBreakNoRule = (f : File) (units : Units) (p : NameProblem) → units_of f ≡ Some units → broken.file f p ≡ false
+
+-- And one that isn't well typed breaks a rule.
+abbrev pub IllTypedFilesBreakARule : Type 0
+IllTypedFilesBreakARule = (f : File) → units_of f ≡ None → (p : NameProblem) × (broken.file f p ≡ true)

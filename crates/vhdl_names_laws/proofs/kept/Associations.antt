@@ -33,7 +33,7 @@ zip_at (a ∷ xs) (b ∷ ys) (suc k) x y h = zip_at xs ys k x y h
 
 -- ---- names of formals
 
-formals_given : (as' : List Association) (formals fs : List Name) → formals_of formals as' ≡ Some fs → formal_names formals as' ≡ map Some fs
+pub formals_given : (as' : List Association) (formals fs : List Name) → formals_of formals as' ≡ Some fs → formal_names formals as' ≡ map Some fs
 formals_given [] formals fs h = ap (map Some) (some_is [] fs h)
 formals_given (a ∷ as') formals fs h =
     let c = comes (formal_of formals a.formal) _ fs h in
@@ -51,7 +51,7 @@ given_are_formals formals (f ∷ fs) h =
     let a = and_parts (is_among f formals) (list_all (λ f. is_among f formals) fs) h in
     both_kept _ _ (unless_kept Undeclared (is_among f formals) a.0) (given_are_formals formals fs a.1)
 
-all_given : (fs : List Name) → filter_map (λ (o : Option Name). o) (map Some fs) ≡ fs
+pub all_given : (fs : List Name) → filter_map (λ (o : Option Name). o) (map Some fs) ≡ fs
 all_given [] = refl
 all_given (f ∷ fs) = ap (λ fs. f ∷ fs) (all_given fs)
 

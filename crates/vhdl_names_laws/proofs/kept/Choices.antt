@@ -70,7 +70,7 @@ choices_given : (sight : Sight) (type : ObjectType) (xs : List t.Choice) (cs : L
 choices_given sight type (t.otherwise at ∷ []) cs h = some_is [] cs h
 choices_given sight type xs cs h = each_given (are.choice sight type) xs cs h
 
-all_are_given : (sight : Sight) (type : ObjectType) (alternatives : List (List t.Choice)) (css : List (List Choice))
+pub all_are_given : (sight : Sight) (type : ObjectType) (alternatives : List (List t.Choice)) (css : List (List Choice))
     → each (are.choices sight type) alternatives ≡ Some css → all_given sight type alternatives ≡ flat_map (λ cs. cs) css
 all_are_given sight type [] css h = ap (flat_map (λ cs. cs)) (some_is [] css h)
 all_are_given sight type (xs ∷ alternatives) css h =

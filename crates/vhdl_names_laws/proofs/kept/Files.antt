@@ -33,10 +33,10 @@ use Rattle.vhdl_names_laws.proofs.kept.Associations.{at_each_kept}
 use Rattle.vhdl_names_laws.proofs.kept.Interfaces.{entity_kept}
 use Rattle.vhdl_names_laws.proofs.kept.Architectures.{architecture_kept}
 
-abbrev NamedEntity : Type 0
+abbrev pub NamedEntity : Type 0
 NamedEntity = List ContextItem × t.Entity
 
-abbrev NamedArchitecture : Type 0
+abbrev pub NamedArchitecture : Type 0
 NamedArchitecture = List ContextItem × t.Architecture
 
 abbrev entity_text : NamedEntity → Name
@@ -108,7 +108,7 @@ entity_name items e architecture v h =
     let k = kept (ends e.name.text e.end_name) _ v i.rest in
     ap (λ (v : EntityView). v.name) (sym (some_is _ v k.1))
 
-abbrev view_names : List EntityView → List Name
+abbrev pub view_names : List EntityView → List Name
 view_names = map (λ (e : EntityView). e.name)
 
 -- entities of names of their own are all taken
@@ -189,22 +189,21 @@ unit_kept entities ds e x a h g =
     let z = comes (are.architecture entities e a.0 a.1) _ y.value is in
     architecture_kept entities e a.0 a.1 z.value z.is
 
-module _ (ds : List DesignUnit) (entities : List EntityView) (units : List u.Entity) (distinct : are_distinct (entity_names ds) ≡ true)
-    (once : are_distinct (described_names ds) ≡ true) (after : stand_after ds ≡ true) (views : each (viewed ds) (entities_of ds) ≡ Some entities)
-    (whole : each (unit entities ds) entities ≡ Some units) where
-  names : view_names entities ≡ entity_names ds
+module _ (ds : List DesignUnit) (entities : List EntityView) (distinct : are_distinct (entity_names ds) ≡ true) (after : stand_after ds ≡ true)
+    (views : each (viewed ds) (entities_of ds) ≡ Some entities) where
+  pub names : view_names entities ≡ entity_names ds
   names = each_keeps (viewed ds) (λ (e : List ContextItem × t.Entity). e.1.name.text) (λ (e : EntityView). e.name) (λ e x h. entity_name e.0 e.1 _ x h) (entities_of ds) entities views
 
   -- all entities are given
-  entities_are : entities_given ds ≡ entities
+  pub entities_are : entities_given ds ≡ entities
   entities_are =
       ap (λ as'. with_entities [] (filter_map (λ (e : List ContextItem × t.Entity). interfaces.entity e.0 e.1 (option_map (λ (a : NamedArchitecture). a.1.name.text)
       (find (λ (a : NamedArchitecture). bytes_eq e.1.name.text a.1.entity.text) as'))) (entities_of ds))) (all_placed ds ds 0 after)
       ∙ ap (with_entities []) (each_given (viewed ds) (entities_of ds) entities views)
       ∙ all_entities entities [] (ap are_distinct names ∙ distinct)
 
-  described_kept : (k : ℕ) (a : NamedArchitecture) → slice_get (architectures_of ds) k ≡ Some a → IsKept (described entities a)
-  described_kept k (items, a) at =
+  described_kept : (units : List u.Entity) → are_distinct (described_names ds) ≡ true → each (unit entities ds) entities ≡ Some units → (k : ℕ) (a : NamedArchitecture) → slice_get (architectures_of ds) k ≡ Some a → IsKept (described entities a)
+  described_kept units once whole k (items, a) at =
       let named : slice_get (described_names ds) k ≡ Some a.entity.text = slice_get-map text (architectures_of ds) k ∙ ap (option_map text) at in
       let among : is_among a.entity.text (view_names entities) ≡ true =
       ap (is_among a.entity.text) names ∙ each_passes (λ m. is_among m (entity_names ds)) (described_names ds) k a.entity.text (described_among ds ds 0 after) named in
@@ -229,5 +228,5 @@ well_typed_files_break_no_rule f units p e =
     (both_kept _ _ (unless_kept Undeclared (stand_after f.units) c.0)
     (both_kept _ _
     (each_kept (λ (e : List ContextItem × t.Entity). entity e.0 e.1) (viewed f.units) (λ e v h. entity_kept e.0 e.1 _ v h) (entities_of f.units) v.value v.is)
-    (λ p. ap (λ es. any_of (described es) (architectures_of f.units) p) (entities_are f.units v.value units a.0 b.0 c.0 v.is v.rest)
-    ∙ at_each_kept (described v.value) (architectures_of f.units) (described_kept f.units v.value units a.0 b.0 c.0 v.is v.rest) p)))) p
+    (λ p. ap (λ es. any_of (described es) (architectures_of f.units) p) (entities_are f.units v.value a.0 c.0 v.is)
+    ∙ at_each_kept (described v.value) (architectures_of f.units) (described_kept f.units v.value a.0 c.0 v.is units b.0 v.rest) p)))) p

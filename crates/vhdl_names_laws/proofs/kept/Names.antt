@@ -58,10 +58,10 @@ apart (m ∷ ns) n ms e = go (bytes_eq n m) refl (apart ns n ms b.1)
 
 -- ---- labels of a region
 
-names_append : (ds es : List Declared) → declared_names (ds ++ es) ≡ declared_names ds ++ declared_names es
+pub names_append : (ds es : List Declared) → declared_names (ds ++ es) ≡ declared_names ds ++ declared_names es
 names_append ds es = map-append (λ (d : Declared). d.name) ds es
 
-names_labelled : (ns : List Name) → declared_names (labelled ns) ≡ ns
+pub names_labelled : (ns : List Name) → declared_names (labelled ns) ≡ ns
 names_labelled [] = refl
 names_labelled (n ∷ ns) = ap (λ ns. n ∷ ns) (names_labelled ns)
 

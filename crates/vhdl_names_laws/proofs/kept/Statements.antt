@@ -25,7 +25,7 @@ use Rattle.vhdl_names_laws.proofs.kept.Choices.{covered_by_kept}
 -- ---- names of signals and variables
 
 -- what an object's name is
-abbrev object_named : {A : Type 0} → (Meaning → Suffix → Option A) → Sight → t.Name → Option A
+abbrev pub object_named : {A : Type 0} → (Meaning → Suffix → Option A) → Sight → t.Name → Option A
 object_named f sight n = do
   rule LeftOut (is_none n.attribute)
   suffix ← typed_suffix sight n.suffix

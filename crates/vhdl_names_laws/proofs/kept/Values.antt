@@ -33,7 +33,7 @@ use Rattle.vhdl_names_laws.proofs.kept.Expressions.{meaning_kept, suffix_kept, s
 -- ---- types of objects
 
 -- a range is given where one stands
-range_given : {A B : Type 0} (f : A → Option B) (o : Option A) (p : Option B) → if_any f o ≡ Some p → is_some p ≡ is_some o
+pub range_given : {A B : Type 0} (f : A → Option B) (o : Option A) (p : Option B) → if_any f o ≡ Some p → is_some p ≡ is_some o
 range_given f None None h = refl
 range_given f None (Some y) h = absurd cc
 range_given f (Some x) None h = let c = comes (f x) _ None h in let e : Some (Some c.value) ≡ Some None = c.rest in absurd cc
