@@ -1,4 +1,8 @@
 pub mod Actual
 pub mod Associating
+pub mod Instanced
 pub mod Instancing
+pub mod Porting
 pub mod Tabling
+pub mod Taking
+pub mod Told
