@@ -23,7 +23,7 @@ use Rattle.vhdl_names_rules.specs.Expressions as are
 use Rattle.vhdl_names_rules.specs.Expressions.{beside}
 use Rattle.vhdl_names_problems.specs.Broken.{Broken, Tells, ◌∪◌, is_of, lacking, where_given}
 use Rattle.vhdl_names_problems.specs.Expressions.{typed, typed_suffix, typed_each, meaning, attribute, event_of, name_problems, with_suffix, operator_problems}
-use Rattle.vhdl_names_problems.proofs.Telling.{told_left, told_right, told_lacking, told_given}
+use Rattle.vhdl_names_problems.proofs.Telling.{told_left, told_right, told_lacking, told_given, told_on}
 use Rattle.vhdl_names_expressions.specs.Breaking.{link_breaks, all_break, started_breaks}
 use Rattle.vhdl_names_expressions.specs.Chosen.{started, links_of}
 use Rattle.vhdl_names_expressions.specs.Steps.{is_parens, enclosed_if, linked, all_linked}
@@ -107,10 +107,10 @@ chain_first sight e box k f is e1 h =
     (joined_first sight (t.begun (view c.first) (pair_view c.second)) c.rest.items f
     (binary_told sight true (view c.first) c.second f (told_along _ _ f (ap (started_breaks sight) e1) h)))
 
-pub chain_further : (sight : Sight) (e : Expr) (box : Box Chain Global) (k1 k2 : Chain) (v : Typed) (f : NameFault) →
+further_told : (sight : Sight) (e : Expr) (box : Box Chain Global) (k1 k2 : Chain) (v : Typed) (f : NameFault) →
     e ≡ x.Chain box → k1 ≡ box.value → k2 ≡ box.value → started sight k1 ≡ Some v →
     Tells (all_break sight (Some v) (links_of k2)) f → Tells (typed sight (view e)) f
-chain_further sight e box k1 k2 v f is e1 e2 begins h =
+further_told sight e box k1 k2 v f is e1 e2 begins h =
     let c = out-Chain box.value in
     told_along _ _ f (sym (ap (λ v. typed sight (view v)) is ∙ ap (typed sight) (chain_is box.value)))
     (joined_further sight (t.begun (view c.first) (pair_view c.second)) c.rest.items f refl
@@ -120,6 +120,23 @@ chain_further sight e box k1 k2 v f is e1 e2 begins h =
     ∙ ap (λ k. all_break sight (started sight k) (links_of box.value)) e1
     ∙ ap (λ o. all_break sight o (links_of box.value)) (started_is sight box.value ∙ sym (linked_typed sight true (view c.first) c.second)))
     h))
+
+pub chain_further : {X : Type 0} (sight : Sight) (e : Expr) (box : Box Chain Global) (k1 k2 : Chain) (v : Typed) (r : Result X NameFault) →
+    e ≡ x.Chain box → k1 ≡ box.value → k2 ≡ box.value → started sight k1 ≡ Some v →
+    IfErr r (Tells (all_break sight (Some v) (links_of k2))) → IfErr r (Tells (typed sight (view e)))
+chain_further sight e box k1 k2 v r is e1 e2 begins = told_on _ _ r (λ f. further_told sight e box k1 k2 v f is e1 e2 begins)
+
+pub begun_first : (sight : Sight) (k : Chain) (f : NameFault) → Tells (typed sight (view (out-Chain k).first)) f → Tells (started_breaks sight k) f
+unfolding started_breaks
+begun_first sight k f = told_left (typed sight (view (out-Chain k).first)) (link_breaks sight (is_parens (view (out-Chain k).first)) (are.typed sight (view (out-Chain k).first)) (out-Chain k).second) f
+
+pub begun_second : {X : Type 0} (sight : Sight) (k : Chain) (b : Bool) (v : Typed) (r : Result X NameFault) → are.typed sight (view (out-Chain k).first) ≡ Some v →
+    b ≡ is_parens (view (out-Chain k).first) → IfErr r (Tells (link_breaks sight b (Some v) (out-Chain k).second)) → IfErr r (Tells (started_breaks sight k))
+unfolding started_breaks
+begun_second sight k b v r given is =
+    told_on _ _ r
+    (λ f h. told_right (typed sight (view (out-Chain k).first)) (link_breaks sight (is_parens (view (out-Chain k).first)) (are.typed sight (view (out-Chain k).first)) (out-Chain k).second) f
+        (told_along _ _ f (ap (λ o. link_breaks sight b o (out-Chain k).second) (sym given) ∙ ap (λ p. link_breaks sight p (are.typed sight (view (out-Chain k).first)) (out-Chain k).second) is) h))
 
 -- the links that are left, the next of them first
 rest_breaks : (sight : Sight) (v : Typed) (ls : List Link) (i : ℕ) (l : Link) → i < length ls → l ≡ get_or ls i l →
@@ -213,12 +230,17 @@ each_told sight (d ∷ es) zero e f lt is h =
 each_told sight (d ∷ es) (suc i) e f lt is h =
     told_right (typed sight (view d)) (typed_each sight (exprs_of (map view es))) f (each_told sight es i e f (omega (arith, lt)) is h)
 
-pub arguments_told : (sight : Sight) (y : f.Suffix) (all : Vec Expr Global) (es : List Expr) (f : NameFault) → y ≡ s.Arguments all → es ≡ all.items →
+arguments_told : (sight : Sight) (y : f.Suffix) (all : Vec Expr Global) (es : List Expr) (f : NameFault) → y ≡ s.Arguments all → es ≡ all.items →
     Tells (typed_each sight (exprs_of (map view es))) f → Tells (typed_suffix sight (suffix_view y)) f
 unfolding typed_suffix
 arguments_told sight y all es f is e h =
     told_along _ _ f (sym (ap (λ z. typed_suffix sight (suffix_view z)) is ∙ ap (typed_suffix sight) (view_arguments all)))
     (told_along _ _ f (ap (λ l. typed_each sight (exprs_of (map view l))) e) h)
+
+pub arguments_on : {X : Type 0} (sight : Sight) (y : f.Suffix) (all : Vec Expr Global) (es : List Expr) (r : Result X NameFault) → y ≡ s.Arguments all → es ≡ all.items →
+    IfErr r (Tells (typed_each sight (exprs_of (map view es)))) → IfErr r (Tells (typed_suffix sight (suffix_view y)))
+arguments_on sight y all es (Ok x) is e h = tt
+arguments_on sight y all es (Err f) is e h = arguments_told sight y all es f is e h
 
 -- ---- literals
 
