@@ -1,6 +1,6 @@
 //! The architectures of a file (IEEE 1076-2008, 3.3).
 
-ghost use Rattle.std.specs.Prelude.{◌≡◌, ◌≢◌, ◌⊎◌, IfErr, OnErr, OnOk, IsOk, IsErr, [], ◌++◌, List, map, option_map};
+ghost use Rattle.std.specs.Prelude.{◌≡◌, ◌≢◌, IfErr, [], ◌++◌, List, map, option_map};
 ghost use Rattle.vhdl_names.specs.Breaking as breaking;
 ghost use Rattle.vhdl_names.specs.Views.{architectures_view, described_view};
 ghost use Rattle.vhdl_names.specs.steps.Architectures as steps;
@@ -41,10 +41,7 @@ use vhdl_tree as syntax;
 
 /// Of two answers in order of the text the first that is refused; want of memory comes before all.
 fn first_of(told: Result<(), NameFault>, next: Result<(), NameFault>) -> Result<(), NameFault>
-    ensures memory { IfErr result (λ f. f ≢ NoMemory → IfErr told (λ g. g ≢ NoMemory) × IfErr next (λ g. g ≢ NoMemory)) }
-    ensures told { (b : Broken) → IfErr told (Tells b) → IfErr next (Tells b) → IfErr result (Tells b) }
-    ensures both { OnOk result (IsOk told × IsOk next) }
-    ensures either { OnErr result (IsErr told ⊎ IsErr next) }
+    ensures { result ≡ steps.first_of told next }
 {
     match (told, next) {
         (Err(NameFault::NoMemory), _) => Err(NameFault::NoMemory),

@@ -30,13 +30,13 @@ from_map f p i (x ∷ xs) = ap (λ o. if p (f x) then Some i else o) (from_map f
 pub named_place : (n : Name) (ks : List (Vec ℕ Global)) (o : Option ℕ) → o ≡ position (λ k. bytes_eq n k.items) ks → position_from (bytes_eq n) 0 (map items ks) ≡ o
 named_place n ks o e = from_map items (bytes_eq n) 0 ks ∙ sym (e ∙ position_from-zero (λ k. bytes_eq n k.items) ks)
 
-first_at : {A : Type 0} (xs : List A) (i : ℕ) (y : A) (ys : List A) → drop i xs ≡ y ∷ ys → slice_get xs i ≡ Some y
+pub first_at : {A : Type 0} (xs : List A) (i : ℕ) (y : A) (ys : List A) → drop i xs ≡ y ∷ ys → slice_get xs i ≡ Some y
 first_at [] zero y ys h = cc
 first_at [] (suc i) y ys h = cc
 first_at (x ∷ xs) zero y ys h = let q : x ≡ y = cc in ap Some q
 first_at (x ∷ xs) (suc i) y ys h = first_at xs i y ys h
 
-rest_at : {A : Type 0} (xs : List A) (i : ℕ) (y : A) (ys : List A) → drop i xs ≡ y ∷ ys → drop (suc i) xs ≡ ys
+pub rest_at : {A : Type 0} (xs : List A) (i : ℕ) (y : A) (ys : List A) → drop i xs ≡ y ∷ ys → drop (suc i) xs ≡ ys
 rest_at [] zero y ys h = cc
 rest_at [] (suc i) y ys h = cc
 rest_at (x ∷ xs) zero y ys h = cc

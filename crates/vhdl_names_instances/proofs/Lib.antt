@@ -6,3 +6,4 @@ pub mod Porting
 pub mod Tabling
 pub mod Taking
 pub mod Told
+pub mod Typing

@@ -12,7 +12,7 @@ is_told : NameFault → Bool
 is_told (At p at) = true
 is_told NoMemory = false
 
-at_is_told : (p : NameProblem) (at : ℕ) → At p at ≢ NoMemory
+pub at_is_told : (p : NameProblem) (at : ℕ) → At p at ≢ NoMemory
 unfolding is_told
 at_is_told p at e = true≢false (ap is_told e)
 

@@ -13,15 +13,15 @@ use Rattle.vhdl_names_interfaces.proofs.Interfacing.{passed_on}
 use Rattle.vhdl_names.proofs.Behind.{no_sight, no_declarations, then_body}
 use Rattle.vhdl_names.proofs.architectures.architecture.Goals as goal
 
-pub returns-in_err-sight : goal.returns-in_err-sight
-returns-in_err-sight c =
+pub returns-in_err-sight-clause-given : goal.returns-in_err-sight-clause-given
+returns-in_err-sight-clause-given c =
     let d = c.args.described.now in
     passed_on architecture_view _ c.in_err-sight.field-0.0 _ c.from_residual.result c.from_residual.ensures.1 (λ e p. p)
     (no_sight (entities_view c.args.entities.now) (entity_view c.args.entity.now) (map view.context_view d.items.now) (view.architecture_view d.tree.now)
     c.in_err-sight.field-0.0 c.in_err-sight.ensures.given)
 
-pub returns-in_err-declarations : goal.returns-in_err-declarations
-returns-in_err-declarations c =
+pub returns-in_err-declarations-clause-given : goal.returns-in_err-declarations-clause-given
+returns-in_err-declarations-clause-given c =
     let d = c.args.described.now in
     let es = entities_view c.args.entities.now in
     let s = sight_view c.in_ok-sight.sight in
@@ -30,8 +30,8 @@ returns-in_err-declarations c =
     c.in_err-declarations.field-0.0
     (λ n. ap (λ l. entering (in_order with_declared (declaration es)) s (map view.declaration_view l)) (sym c.deref.ensures.value) ∙ c.in_err-declarations.ensures.given n))
 
-pub returns : goal.returns
-returns c =
+pub returns-clause-given : goal.returns-clause-given
+returns-clause-given c =
     let d = c.args.described.now in
     let es = entities_view c.args.entities.now in
     let s = sight_view c.in_ok-sight.sight in
@@ -39,7 +39,7 @@ returns c =
     (then_body es (entity_view c.args.entity.now) (map view.context_view d.items.now) (view.architecture_view d.tree.now) s
     (sight_view c.declarations.new.sight) (declarations_view c.in_ok-declarations.declarations) c.in_ok-sight.ensures.given
     (ap (λ l. entering (in_order with_declared (declaration es)) s (map view.declaration_view l)) (sym c.deref.ensures.value) ∙ c.in_ok-declarations.ensures.given))
-    (c.body.ensures es c.requires.table)
+    (c.body.ensures.given es c.requires.table)
 
 pub declarations-requires : goal.declarations-requires
 declarations-requires c = c.in_ok-sight.ensures.outermost

@@ -21,8 +21,8 @@ loop-place-init c =
     each_in_turn (own es as') es
     ∙ ap (λ l. in_turn (one_more (own es as')) (map (option_map architecture_view) l) es) (sym c.new-all.ensures.items)
 
-pub returns-in_err-own : goal.returns-in_err-own
-returns-in_err-own c =
+pub returns-in_err-own-clause-given : goal.returns-in_err-own-clause-given
+returns-in_err-own-clause-given c =
     let es = entities_view c.args.entities.now in
     let as' = architectures_view c.args.outline.now.architectures in
     let at = sym c.get_index.ensures.entry ∙ ap (option_map deref_pair) c.unwrap.ensures in
@@ -30,7 +30,7 @@ returns-in_err-own c =
     → each (own (entities_view c.args.entities.now) (architectures_view c.args.outline.now.architectures)) (entities_view c.args.entities.now) ≡ None =
     λ n. c.loop-place.invariant
     ∙ each_fails (own es as') entry_view (options_view c.loop-place.all) c.args.entities.now.entries c.loop-place.place (c.unwrap.result.0.now, c.unwrap.result.1.now) at
-    (ap (λ x. own es as' (named_view x c.unwrap.result.1.now)) (sym c.as_slice.ensures.value) ∙ c.in_err-own.ensures n) in
+    (ap (λ x. own es as' (named_view x c.unwrap.result.1.now)) (sym c.as_slice.ensures.value) ∙ c.in_err-own.ensures.given n) in
     passed_on options_view _ c.in_err-own.field-0.0 _ c.from_residual.result c.from_residual.ensures.1 (λ e p. p) f
 
 pub loop-place-preserved : goal.loop-place-preserved
@@ -41,5 +41,5 @@ loop-place-preserved c =
     c.loop-place.invariant
     ∙ each_goes (own es as') entry_view (options_view c.loop-place.all) c.args.entities.now.entries c.loop-place.place (c.unwrap.result.0.now, c.unwrap.result.1.now) at
     (option_map architecture_view c.in_ok-own.own) (options_view c.push.new.self)
-    (ap (λ x. own es as' (named_view x c.unwrap.result.1.now)) (sym c.as_slice.ensures.value) ∙ c.in_ok-own.ensures)
+    (ap (λ x. own es as' (named_view x c.unwrap.result.1.now)) (sym c.as_slice.ensures.value) ∙ c.in_ok-own.ensures.given)
     (ap (map (option_map architecture_view)) c.in_ok-push.ensures.items ∙ map-append (option_map architecture_view) c.loop-place.all.items (c.in_ok-own.own ∷ []))

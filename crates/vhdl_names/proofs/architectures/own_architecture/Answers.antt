@@ -6,13 +6,13 @@ use Rattle.vhdl_names.specs.Views.{architectures_view, described_view}
 use Rattle.vhdl_names.proofs.Behind.{own_fails, own_goes}
 use Rattle.vhdl_names.proofs.architectures.own_architecture.Goals as goal
 
-pub returns-in_err-architecture-in-Some : goal.returns-in_err-architecture-in-Some
-returns-in_err-architecture-in-Some c =
+pub returns-in_err-architecture-in-Some-clause-given : goal.returns-in_err-architecture-in-Some-clause-given
+returns-in_err-architecture-in-Some-clause-given c =
     passed_on (option_map architecture_view) _ c.in_err-architecture-in-Some.field-0.0 _ c.from_residual.result c.from_residual.ensures.1 (λ e p. p)
     (own_fails (entities_view c.args.entities.now) (architectures_view c.args.outline.now.architectures) c.args.name.now c.args.entity.now
-    (described_view c.in-Some.described.now) c.in-Some.ensures c.in_err-architecture-in-Some.field-0.0 c.in_err-architecture-in-Some.ensures)
+    (described_view c.in-Some.described.now) c.in-Some.ensures c.in_err-architecture-in-Some.field-0.0 c.in_err-architecture-in-Some.ensures.given)
 
-pub returns-in_ok-architecture-in-Some : goal.returns-in_ok-architecture-in-Some
-returns-in_ok-architecture-in-Some c =
+pub returns-in_ok-architecture-in-Some-clause-given : goal.returns-in_ok-architecture-in-Some-clause-given
+returns-in_ok-architecture-in-Some-clause-given c =
     own_goes (entities_view c.args.entities.now) (architectures_view c.args.outline.now.architectures) c.args.name.now c.args.entity.now
-    (described_view c.in-Some.described.now) c.in-Some.ensures _ c.in_ok-architecture-in-Some.ensures
+    (described_view c.in-Some.described.now) c.in-Some.ensures _ c.in_ok-architecture-in-Some.ensures.given

@@ -6,14 +6,14 @@ use Rattle.vhdl_names.specs.Views.{described_view}
 use Rattle.vhdl_names.proofs.Describing.{absent, refused, grown}
 use Rattle.vhdl_names.proofs.outline.add_described.Goals as goal
 
-pub returns-then-contains_key : goal.returns-then-contains_key
-returns-then-contains_key c = λ n.
+pub returns-then-contains_key-clause-given : goal.returns-then-contains_key-clause-given
+returns-then-contains_key-clause-given c = λ n.
     let es = c.args.architectures.now.entries in
     refused es (described_view c.args.described)
     (ap (λ x. is_some (lookup (λ k. bytes_eq x k.items) es)) (sym c.as_slice.ensures.value) ∙ sym c.contains_key.ensures ∙ c.if-contains_key.true)
 
-pub returns : goal.returns
-returns c =
+pub returns-clause-given : goal.returns-clause-given
+returns-clause-given c =
     let es = c.args.architectures.now.entries in
     let n = c.args.described.tree.now.entity.text.items in
     let new : is_some (lookup (λ k. bytes_eq c.args.described.tree.now.entity.text.items k.items) es) ≡ false =
