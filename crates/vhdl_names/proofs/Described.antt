@@ -10,12 +10,12 @@ use Rattle.vhdl_names_rules.specs.declared.fault.NameFault.{NameFault}
 use Rattle.vhdl_names_rules.specs.Visibility.{Name, is_among, are_distinct}
 use Rattle.vhdl_names_rules.specs.Interfaces.{EntityView, entity_named}
 use Rattle.vhdl_names_rules.proofs.laws.Rules.{both, not_true}
-use Rattle.vhdl_names_problems.specs.Broken.{Broken, Tells, ◌∪◌, any_of}
+use Rattle.vhdl_names_problems.specs.Broken.{Broken, Tells, ◌∪◌, any_of, of_any}
 use Rattle.vhdl_names_problems.specs.Declarations.{context}
 use Rattle.vhdl_names_problems.specs.Files.{architecture, described}
 use Rattle.vhdl_names_problems.proofs.Telling.{told_left, told_right}
 use Rattle.vhdl_names_instances.proofs.Taking.{same_name}
-use Rattle.vhdl_names_instances.proofs.Told.{told_along}
+use Rattle.vhdl_names_instances.proofs.Told.{told_along, told_nothing}
 use Rattle.vhdl_names_interfaces.specs.declared.interface.EntityInterface.{EntityInterface}
 use Rattle.vhdl_names_interfaces.specs.Views.{named_view, entity_view}
 use Rattle.vhdl_names.specs.Views.{Keyed}
@@ -77,6 +77,16 @@ own_told es k e at d ((items, a) ∷ all) p h f w = go (bytes_eq e.name a.entity
         let same : p ≡ (items, a) = cc in
         told_left (described es (items, a)) (any_of (described es) all) f (here q (told_along (λ p. architecture es e p.0 p.1) p (items, a) same f w))
     go false q h more = told_right (described es (items, a)) (any_of (described es) all) f (more h f w)
+
+pub of_own : (es : List EntityView) (k : ℕ) (e : EntityView) → slice_get es k ≡ Some e → are_distinct (names_in es) ≡ true
+    → (all : List (List ContextItem × t.Architecture)) (f : NameFault)
+    → Tells (of_any (λ (a : List ContextItem × t.Architecture). architecture es e a.0 a.1) (described_of e.name (map keyed all))) f → Tells (any_of (described es) all) f
+of_own es k e at d all f w = go (described_of e.name (map keyed all)) refl w
+  where
+    go : (o : Option (List ContextItem × t.Architecture)) → described_of e.name (map keyed all) ≡ o
+        → Tells (of_any (λ (a : List ContextItem × t.Architecture). architecture es e a.0 a.1) o) f → Tells (any_of (described es) all) f
+    go None q w = told_nothing (any_of (described es) all) f w
+    go (Some p) q w = own_told es k e at d all p q f w
 
 -- ---- an architecture by the name of its entity
 

@@ -1,7 +1,10 @@
 -- The units of a file at their places, and what is told past those that are at fault.
-use Rattle.std.proofs.Common.{◌≡◌, ◌≢◌, ℕ, suc, ◌+◌, ◌<◌, arith, List, [], ◌∷◌, map, drop, length, get_or, Option, Some, None, Result, Ok, Err, IfErr, refl, ap, sym, ◌∙◌, subst}
+use Rattle.std.proofs.Common.{◌≡◌, ◌≢◌, ℕ, suc, ◌+◌, ◌<◌, arith, List, [], ◌∷◌, ◌++◌, map, take, drop, length, get_or, Option, Some, None, Result, Ok, Err, IfErr, refl, ap, sym, ◌∙◌, subst}
 use Rattle.std.specs.Prelude.{OnErr}
+use Rattle.std.specs.List.{cons_option}
 use Rattle.std.proofs.Math.Seq.{drop-cons}
+use Rattle.std.proofs.lemmas.List.{map-append, take-append-drop}
+use Rattle.std.proofs.lemmas.List.Elements.{filter_map-append}
 use Rattle.vhdl_tree.specs.Tree as t
 use Rattle.vhdl_tree.specs.View as view
 use Rattle.vhdl_tree.specs.declared.unit.DesignUnit.{DesignUnit}
@@ -9,10 +12,11 @@ use Rattle.vhdl_names_rules.specs.declared.fault.NameFault.{NameFault}
 use Rattle.vhdl_names_rules.specs.declared.fault.NameFault.TheVariants.{NoMemory}
 use Rattle.vhdl_names_rules.specs.Gives.{Gives}
 use Rattle.vhdl_names_rules.specs.Interfaces.{EntityView}
-use Rattle.vhdl_names_problems.specs.Broken.{Broken, Tells}
+use Rattle.vhdl_names_rules.specs.Files.{as_architecture, architectures_of}
+use Rattle.vhdl_names_problems.specs.Broken.{Broken, Tells, nothing, ◌∪◌, any_of}
 use Rattle.vhdl_names_problems.specs.Files.{file}
-use Rattle.vhdl_names_problems.proofs.Telling.{told_on}
-use Rattle.vhdl_names_instances.proofs.Told.{or_memory}
+use Rattle.vhdl_names_problems.proofs.Telling.{told_left, told_right, told_on}
+use Rattle.vhdl_names_instances.proofs.Told.{or_memory, told_along, told_nothing, told_either}
 use Rattle.vhdl_names.specs.Views.{Keyed, OutlineView}
 use Rattle.vhdl_names.specs.Breaking.{one_unit, outline, one_entity, entities}
 use Rattle.vhdl_names.specs.steps.Outlines.{with_unit}
@@ -93,3 +97,25 @@ module _ (us : List DesignUnit) (i : ℕ) (d : DesignUnit) (lt : i < length us) 
 pub told_past : {A : Type 0} (b c : Broken) (old new : NameFault) (r : Result A NameFault) → (new ≢ NoMemory → old ≢ NoMemory)
     → ((b : Broken) → Tells b old → IfErr r (Tells b) → Tells b new) → (old ≢ NoMemory → (f : NameFault) → Tells c f → Tells b f) → IfErr r (Tells c) → Tells b old → Tells b new
 told_past b c old new r memory told more t h = or_memory b new (λ n. told b h (told_on c b r (more (memory n)) t))
+
+-- what is told of the architecture that one unit is
+pub one_told : (us : List DesignUnit) (i : ℕ) (d : DesignUnit) → i < length us → d ≡ get_or us i d → (b : List t.ContextItem × t.Architecture → Broken) (f : NameFault)
+    → Tells (any_of b (architectures_of (view.unit_view d ∷ []))) f → Tells (any_of b (architectures_of (map view.unit_view us))) f
+one_told us i d lt is b f w =
+    told_along (λ l. any_of b (architectures_of l)) (map view.unit_view (take i us) ++ map view.unit_view (drop i us)) (map view.unit_view us)
+    (sym (map-append view.unit_view (take i us) (drop i us)) ∙ ap (map view.unit_view) (take-append-drop i us)) f
+    (told_along (λ l. any_of b (architectures_of (map view.unit_view (take i us) ++ l))) (view.unit_view d ∷ map view.unit_view (drop (i + 1) us)) (map view.unit_view (drop i us))
+    (sym (next us i d lt is)) f
+    (told_along (any_of b) (architectures_of (map view.unit_view (take i us)) ++ architectures_of (view.unit_view d ∷ map view.unit_view (drop (i + 1) us)))
+    (architectures_of (map view.unit_view (take i us) ++ (view.unit_view d ∷ map view.unit_view (drop (i + 1) us))))
+    (sym (filter_map-append as_architecture (map view.unit_view (take i us)) (view.unit_view d ∷ map view.unit_view (drop (i + 1) us)))) f
+    (behind (architectures_of (map view.unit_view (take i us))) (by (as_architecture (view.unit_view d)) w))))
+  where
+    behind : (xs : List (List t.ContextItem × t.Architecture)) {ys : List (List t.ContextItem × t.Architecture)} → Tells (any_of b ys) f → Tells (any_of b (xs ++ ys)) f
+    behind [] w = w
+    behind (x ∷ xs) {ys} w = told_right (b x) (any_of b (xs ++ ys)) f (behind xs w)
+
+    by : (o : Option (List t.ContextItem × t.Architecture)) → Tells (any_of b (cons_option o [])) f → Tells (any_of b (cons_option o (architectures_of (map view.unit_view (drop (i + 1) us))))) f
+    by None w = told_nothing (any_of b (architectures_of (map view.unit_view (drop (i + 1) us)))) f w
+    by (Some x) w = told_either (b x) nothing (b x ∪ any_of b (architectures_of (map view.unit_view (drop (i + 1) us)))) f
+        (told_left (b x) (any_of b (architectures_of (map view.unit_view (drop (i + 1) us)))) f) (told_nothing (b x ∪ any_of b (architectures_of (map view.unit_view (drop (i + 1) us)))) f) w

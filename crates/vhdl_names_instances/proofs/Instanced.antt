@@ -1,5 +1,5 @@
 -- What is told of an instance, over the table of entities.
-use Rattle.std.proofs.Common.{◌≡◌, ℕ, Bool, true, false, List, [], ◌∷◌, map, Option, Some, None, refl, ap, sym, ◌∙◌}
+use Rattle.std.proofs.Common.{◌≡◌, ℕ, Bool, true, false, List, [], ◌∷◌, map, Option, Some, None, Result, Ok, Err, IfErr, refl, ap, sym, ◌∙◌}
 use Rattle.std.specs.Prelude.{bytes_eq, option_map, slice_get, filter_map, codes}
 use Rattle.std.specs.List.{position_from}
 use Rattle.std.proofs.lemmas.Option.{slice_get-map}
@@ -144,3 +144,9 @@ module _ (table : InstanceEntities) (es : List EntityView) (are : AreEntities ta
         let x = shown es k s (ap (λ ss. slice_get ss k) (sym are.formals) ∙ q) in
         of_unit k h (told_along (λ o. lacking (Undeclared ∷ []) o ∪ of_any (λ e. broken.maps sight e i) o) (Some x.entity) (slice_get es k) (sym x.at) f
         (told_right nothing (broken.maps sight x.entity i) f (w x.entity x.is)))
+
+-- what is told of an entity that is seen so, whichever that is
+pub of_each : {X : Type 0} (b : Broken) (r : Result X NameFault) {s : Seen} {c : EntityView → Broken} → ((f : NameFault) → ((e : EntityView) → s ≡ seen e → Tells (c e) f) → Tells b f)
+    → ((e : EntityView) → s ≡ seen e → IfErr r (Tells (c e))) → IfErr r (Tells b)
+of_each b (Ok x) more h = tt
+of_each b (Err f) more h = more f h

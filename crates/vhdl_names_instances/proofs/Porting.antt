@@ -1,5 +1,5 @@
 -- What is told of the actuals of formals is told of the associations that they stand in.
-use Rattle.std.proofs.Common.{◌≡◌, ◌≢◌, ℕ, zero, suc, ◌+◌, Bool, true, false, cond, ◌||◌, List, [], ◌∷◌, ◌++◌, map, drop, Option, Some, None, refl, ap, sym, ◌∙◌, inl, inr}
+use Rattle.std.proofs.Common.{◌≡◌, ◌≢◌, ℕ, zero, suc, ◌+◌, Bool, true, false, cond, ◌||◌, List, [], ◌∷◌, ◌++◌, map, drop, Option, Some, None, refl, ap, sym, ◌∙◌, subst, inl, inr}
 use Rattle.std.specs.Prelude.{◌&&◌, ◌⊎◌, bytes_eq, filter, filter_map, find, zip, option_map, slice_get, if◌then◌else◌}
 use Rattle.std.specs.List.{list_all, cons_option}
 use Rattle.std.proofs.lemmas.List.{append-nil}
@@ -172,6 +172,10 @@ module _ (sight : Sight) (f : NameFault) where
         told_right (associated (map (λ (g : Formal). g.name) gs) as') (associations (formal_names (map (λ (g : Formal). g.name) gs) as') as') f
         (told_along (λ os. associations os as') (given_names ts ++ taken.left) (formal_names (map (λ (g : Formal). g.name) gs) as') taken.in_order f
         (all_ports ns ps h ts taken.left as' w))
+
+-- formals by the names of a table
+pub taken_along : (ns ms : List Name) → ns ≡ ms → (as' : List Association) (ts : List Name) → AreTaken ns as' ts → AreTaken ms as' ts
+taken_along ns ms e as' ts t = let P : List Name → Type 0 = λ ns. AreTaken ns as' ts in subst P e t
 
 -- ---- where all associations are for formals
 

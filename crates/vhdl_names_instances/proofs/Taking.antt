@@ -1,7 +1,8 @@
 -- The formals that associations are for, one association after another, and what is told of one that is refused.
-use Rattle.std.proofs.Common.{◌≡◌, ℕ, suc, ◌+◌, arith, Bool, true, false, not, List, [], ◌∷◌, ◌++◌, map, drop, Option, Some, None, refl, ap, sym, ◌∙◌}
+use Rattle.std.proofs.Common.{◌≡◌, ℕ, suc, ◌+◌, arith, Bool, true, false, not, List, [], ◌∷◌, ◌++◌, map, drop, Option, Some, None, Vec, Global, refl, ap, sym, ◌∙◌}
 use Rattle.std.specs.Prelude.{◌&&◌, ◌||◌, bytes_eq, filter_map, if◌then◌else◌}
-use Rattle.std.specs.List.{list_all}
+use Rattle.std.specs.List.{list_all, list_any}
+use Rattle.indexmap.specs.IndexSet.{insert_key}
 use Rattle.std.proofs.lemmas.List.{append_assoc, map-append}
 use Rattle.std.proofs.lemmas.List.Folds.{list_all-append}
 use Rattle.std.proofs.lemmas.Slice.Eq.{bytes_eq-Decides}
@@ -13,6 +14,7 @@ use Rattle.vhdl_names_rules.specs.Visibility.{Name, is_among, are_distinct}
 use Rattle.vhdl_names_rules.specs.Instances.{is_named, positional_first, formal_of}
 use Rattle.vhdl_names_rules.proofs.laws.Rules.{comes, kept, some_is}
 use Rattle.vhdl_names_labels.specs.Once.{one_name}
+use Rattle.vhdl_names_labels.proofs.Once.{contained}
 use Rattle.vhdl_names_problems.specs.Broken.{Broken, Tells, nothing, ◌∪◌, is_of, unless, lacking, where_given, any_of, of_any}
 use Rattle.vhdl_names_problems.specs.Instances.{formal_names, is_formal, associated}
 use Rattle.vhdl_names_problems.proofs.Telling.{told_left, told_right}
@@ -185,3 +187,23 @@ module _ (formals : List Name) (all : List Association) (k : ℕ) (b : Bool) (ta
 
       abbrev of_formal : Name → Broken
       of_formal n = unless Undeclared (is_among n formals) ∪ unless Twice (not (is_among n taken))
+
+-- ---- a name that a table has
+
+abbrev text : Vec ℕ Global → Name
+text v = v.items
+
+pub stands : (k : Vec ℕ Global) (ks : List (Vec ℕ Global)) (new : Bool) → new ≡ not (list_any (λ x. bytes_eq k.items x.items) ks) → new ≡ false → is_among k.items (map text ks) ≡ true
+stands k ks new e t = sym (contained k.items ks) ∙ no_not (list_any (λ x. bytes_eq k.items x.items) ks) (sym e ∙ t)
+  where
+    no_not : (x : Bool) → not x ≡ false → x ≡ true
+    no_not true h = refl
+    no_not false h = sym h
+
+pub unchanged : (k : Vec ℕ Global) (ks ks' : List (Vec ℕ Global)) (new : Bool) → new ≡ not (list_any (λ x. bytes_eq k.items x.items) ks)
+    → ks' ≡ insert_key (λ a b. bytes_eq a.items b.items) ks k → new ≡ false → map text ks' ≡ map text ks
+unchanged k ks ks' new e h t = ap (map text) (h ∙ go (list_any (λ x. bytes_eq k.items x.items) ks) (sym e ∙ t))
+  where
+    go : (b : Bool) → not b ≡ false → (if b then ks else ks ++ k ∷ []) ≡ ks
+    go true q = refl
+    go false q = cc

@@ -1,6 +1,6 @@
 -- What is told where one of several parts tells it.
-use Rattle.std.proofs.Common.{◌≡◌, ◌≢◌, ℕ, Bool, true, false, not, ◌||◌, List, [], ◌∷◌, ◌++◌, Option, Some, None, refl, ap, sym, ◌∙◌, true≢false}
-use Rattle.std.specs.Prelude.{◌&&◌}
+use Rattle.std.proofs.Common.{◌≡◌, ◌≢◌, ℕ, Bool, true, false, not, ◌||◌, List, [], ◌∷◌, ◌++◌, Option, Some, None, Result, Ok, Err, IfErr, refl, ap, sym, ◌∙◌, subst, true≢false}
+use Rattle.std.specs.Prelude.{◌&&◌, IsErrAnd}
 use Rattle.vhdl_names_rules.specs.declared.fault.NameFault.{NameFault}
 use Rattle.vhdl_names_rules.specs.declared.fault.NameFault.TheVariants.{At, NoMemory}
 use Rattle.vhdl_names_rules.specs.declared.fault.NameProblem.{NameProblem}
@@ -68,3 +68,10 @@ tells_unless q b NoMemory h e = tt
 pub told_at : {A : Type 0} (b : A → Broken) (xs : List A) (x : A) (ys : List A) (f : NameFault) → Tells (b x) f → Tells (any_of b (xs ++ x ∷ ys)) f
 told_at b [] x ys f h = told_left (b x) (any_of b ys) f h
 told_at b (z ∷ xs) x ys f h = told_right (b z) (any_of b (xs ++ x ∷ ys)) f (told_at b xs x ys f h)
+
+-- ---- a fault that is passed on
+
+pub passed_told : {X : Type 0} (b : Broken) (fault : NameFault) (P : NameFault → Type 0) (r : Result X NameFault) → IsErrAnd r P → ((e : NameFault) → P e → e ≡ fault) → Tells b fault
+    → IfErr r (Tells b)
+passed_told b fault P (Ok x) h same w = tt
+passed_told b fault P (Err e) h same w = subst (Tells b) (sym (same e h)) w

@@ -45,8 +45,10 @@ fn type_of(formals: &Formals, name: &[u8]) -> Option<PortType>
     ensures { (all : List Formal) → names_view formals.now.ports ≡ map (λ f. f.name) all → formals.now.port_types.items ≡ map type_of_formal all
         → result ≡ typed_as all name.now }
 {
-    let index = formals.ports.get_index_of(name)?;
-    port_at(&formals.port_types, index)
+    match formals.ports.get_index_of(name) {
+        None => None,
+        Some(index) => port_at(&formals.port_types, index),
+    }
 }
 
 /// The types of the ports of some names.
