@@ -1,5 +1,5 @@
 -- What is told of the architectures of a file, among its entities.
-use Rattle.std.proofs.Common.{◌≡◌, ℕ, zero, suc, ◌+◌, arith, Bool, true, false, cond, not, ◌||◌, List, [], ◌∷◌, map, Option, Some, None, Vec, Global, refl, ap, sym, ◌∙◌, subst}
+use Rattle.std.proofs.Common.{◌≡◌, ℕ, zero, suc, ◌+◌, arith, Bool, true, false, cond, not, ◌||◌, List, [], ◌∷◌, map, Option, Some, None, Vec, Global, refl, ap, sym, ◌∙◌, subst, true≢false}
 use Rattle.std.specs.Prelude.{◌&&◌, bytes_eq, find, option_map, slice_get}
 use Rattle.std.specs.List.{enumerate_from}
 use Rattle.std.specs.Map.{lookup}
@@ -9,7 +9,7 @@ use Rattle.vhdl_tree.specs.Tree.{ContextItem}
 use Rattle.vhdl_names_rules.specs.declared.fault.NameFault.{NameFault}
 use Rattle.vhdl_names_rules.specs.Visibility.{Name, is_among, are_distinct}
 use Rattle.vhdl_names_rules.specs.Interfaces.{EntityView, entity_named}
-use Rattle.vhdl_names_rules.proofs.laws.Rules.{both, not_true}
+use Rattle.vhdl_names_rules.proofs.laws.Rules.{both, not_true, some_is}
 use Rattle.vhdl_names_problems.specs.Broken.{Broken, Tells, ◌∪◌, any_of, of_any}
 use Rattle.vhdl_names_problems.specs.Declarations.{context}
 use Rattle.vhdl_names_problems.specs.Files.{architecture, described}
@@ -50,8 +50,7 @@ found_at (x ∷ es) i (suc k) e h d =
     go : (c : Bool) → bytes_eq e.name x.name ≡ c → is_among x.name (names_in es) ≡ false
         → find (λ x. bytes_eq e.name x.1.name) (enumerate_from (i + 1) es) ≡ Some ((i + 1) + k, e)
         → cond c (Some (i, x)) (find (λ x. bytes_eq e.name x.1.name) (enumerate_from (i + 1) es)) ≡ Some (i + suc k, e)
-    go true q n more = let r : is_among e.name (names_in es) ≡ false = ap (λ m. is_among m (names_in es)) ((bytes_eq-Decides e.name x.name).0 q) ∙ n in
-        let s = named_at es k e h in cc
+    go true q n more = absurd (true≢false (sym (named_at es k e h) ∙ ap (λ m. is_among m (names_in es)) ((bytes_eq-Decides e.name x.name).0 q) ∙ n))
     go false q n more = more ∙ ap (λ j. Some (j, e)) (let s : (i + 1) + k ≡ i + suc k = omega arith in s)
 
 -- ---- an entity's own architecture
@@ -74,7 +73,7 @@ own_told es k e at d ((items, a) ∷ all) p h f w = go (bytes_eq e.name a.entity
         → (described_of e.name (map keyed all) ≡ Some p → (f : NameFault) → Tells (architecture es e p.0 p.1) f → Tells (any_of (described es) all) f)
         → Tells (any_of (described es) ((items, a) ∷ all)) f
     go true q h more =
-        let same : p ≡ (items, a) = cc in
+        let same : p ≡ (items, a) = sym (some_is (items, a) p h) in
         told_left (described es (items, a)) (any_of (described es) all) f (here q (told_along (λ p. architecture es e p.0 p.1) p (items, a) same f w))
     go false q h more = told_right (described es (items, a)) (any_of (described es) all) f (more h f w)
 

@@ -1,5 +1,5 @@
 -- Labels declared one after another, past those that stand twice.
-use Rattle.std.proofs.Common.{◌≡◌, ◌≢◌, ℕ, suc, ◌+◌, ◌<◌, length, drop, get_or, arith, Bool, true, false, not, ◌||◌, List, [], ◌∷◌, ◌++◌, map, Option, Some, None, Result, Ok, Err, IfOk, IfErr, refl, ap, sym, ◌∙◌, subst, append_assoc, append-nil}
+use Rattle.std.proofs.Common.{◌≡◌, ◌≢◌, ℕ, suc, ◌+◌, ◌<◌, length, drop, get_or, arith, Bool, true, false, not, ◌||◌, List, [], ◌∷◌, ◌++◌, map, Option, Some, None, Result, Ok, Err, IfOk, IfErr, refl, ap, sym, ◌∙◌, subst, append_assoc, append-nil, true≢false}
 use Rattle.std.specs.Prelude.{◌&&◌, ◌⊎◌, bytes_eq, if◌then◌else◌}
 use Rattle.std.proofs.Math.Seq.{drop-cons}
 use Rattle.std.proofs.lemmas.List.{map-append}
@@ -37,7 +37,7 @@ not_before : (ns : List Name) (l : Name) (ls : List Name) → are_distinct (ns +
 not_before ns l ls h = go (is_among l ns) refl
   where
     go : (b : Bool) → is_among l ns ≡ b → is_among l ns ≡ false
-    go true e = let r = repeated l ns ls e in cc
+    go true e = absurd (true≢false (sym h ∙ repeated l ns ls e))
     go false e = e
 
 -- nor does one more name make them so that isn't among them
@@ -50,7 +50,7 @@ pushed (n ∷ ns) l d h =
     go : (x : Bool) → bytes_eq n l ≡ x → is_among n ns ≡ false → (y : Bool) → bytes_eq l n ≡ y → (y || is_among l ns) ≡ false
         → (is_among l ns ≡ false → are_distinct (ns ++ l ∷ []) ≡ true) → (not (is_among n (ns ++ l ∷ [])) && are_distinct (ns ++ l ∷ [])) ≡ true
     go x e m true f h more = cc
-    go true e m false f h more = let r : bytes_eq l n ≡ true = ap (λ k. bytes_eq l k) ((bytes_eq-Decides n l).0 e) ∙ same_name l in cc
+    go true e m false f h more = absurd (true≢false (sym (ap (λ k. bytes_eq l k) ((bytes_eq-Decides n l).0 e) ∙ same_name l) ∙ f))
     go false e m false f h more =
         ap (λ b. not b && are_distinct (ns ++ l ∷ [])) (among-append n ns (l ∷ []) ∙ ap (λ b. b || (bytes_eq n l || false)) m ∙ ap (λ b. b || false) e) ∙ more h
 
@@ -112,7 +112,7 @@ next_refused ds (l ∷ []) left one d h = go (is_among l (declared_names ds)) re
   where
     go : (b : Bool) → is_among l (declared_names ds) ≡ b → with_labels ds (l ∷ left) ≡ with_labels ds left
     go true e = ap (λ b. if b then with_labels ds left else with_labels (ds ++ declare l label ∷ []) left) e
-    go false e = let p = pushed (declared_names ds) l d e in let q = no_more ds (l ∷ []) h in cc
+    go false e = absurd (true≢false (sym (pushed (declared_names ds) l d e) ∙ no_more ds (l ∷ []) h))
 next_refused ds (l ∷ m ∷ ls) left one d h = absurd one
 
 -- ---- one statement after another

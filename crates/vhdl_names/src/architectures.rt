@@ -65,7 +65,7 @@ fn declare_each(
         → region_view region.new ≡ with_labels (region_view region.old) (concurrent_labels (t.concurrents_of (map view.concurrent_view statements.now)))) }
 {
     let _apart = region.len();
-    let mut told = Ok(());
+    let mut told: Result<(), NameFault> = Ok(());
     for statement in statements {
         told = first_of(told, declare_label(alloc, region, statement));
     }

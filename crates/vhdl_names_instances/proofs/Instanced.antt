@@ -12,6 +12,7 @@ use Rattle.vhdl_names_rules.specs.Visibility.{Name, Sight}
 use Rattle.vhdl_names_rules.specs.Instances as rules
 use Rattle.vhdl_names_rules.specs.Instances.{Formal, is_architecture, generic_name, port_formal}
 use Rattle.vhdl_names_rules.specs.Interfaces.{EntityView, entity_named}
+use Rattle.vhdl_names_rules.proofs.laws.Rules.{some_is}
 use Rattle.vhdl_names_labels.specs.Once.{names_view}
 use Rattle.vhdl_names_problems.specs.Broken.{Broken, Tells, nothing, ◌∪◌, is_of, unless, lacking, where_given, of_any}
 use Rattle.vhdl_names_problems.specs.Instances as broken
@@ -35,7 +36,7 @@ shown es k s h = go (slice_get es k) refl (sym (slice_get-map seen es k) ∙ h)
   where
     go : (o : Option EntityView) → slice_get es k ≡ o → option_map seen o ≡ Some s → Shown es k s
     go None e h = cc
-    go (Some x) e h = let q : s ≡ seen x = cc in record { entity = x; at = e; is = q }
+    go (Some x) e h = record { entity = x; at = e; is = sym (some_is (seen x) s h) }
 
 unseen : (es : List EntityView) (k : ℕ) → slice_get (map seen es) k ≡ None → slice_get es k ≡ None
 unseen es k h = go (slice_get es k) (sym (slice_get-map seen es k) ∙ h)

@@ -1,5 +1,5 @@
 -- What is told of the actuals of formals is told of the associations that they stand in.
-use Rattle.std.proofs.Common.{◌≡◌, ◌≢◌, ℕ, zero, suc, ◌+◌, Bool, true, false, cond, ◌||◌, List, [], ◌∷◌, ◌++◌, map, drop, Option, Some, None, refl, ap, sym, ◌∙◌, subst, inl, inr}
+use Rattle.std.proofs.Common.{◌≡◌, ◌≢◌, ℕ, zero, suc, ◌+◌, Bool, true, false, cond, ◌||◌, List, [], ◌∷◌, ◌++◌, map, drop, Option, Some, None, refl, ap, sym, ◌∙◌, subst, inl, inr, true≢false}
 use Rattle.std.specs.Prelude.{◌&&◌, ◌⊎◌, bytes_eq, filter, filter_map, find, zip, option_map, slice_get, if◌then◌else◌}
 use Rattle.std.specs.List.{list_all, cons_option}
 use Rattle.std.proofs.lemmas.List.{append-nil}
@@ -133,7 +133,7 @@ module _ (sight : Sight) (f : NameFault) where
           → Tells (all (cond x (g ∷ ports_named gs n) (ports_named gs n))) f
       go true q (inl h) more = told_left (of_any (port_actual sight g) e) (all (ports_named gs n)) f (told_along (λ p. of_any (port_actual sight (formal p)) e) p (type_of g) h.1 f w)
       go true q (inr h) more = told_right (of_any (port_actual sight g) e) (all (ports_named gs n)) f (more h w)
-      go false q (inl h) more = cc
+      go false q (inl h) more = absurd (true≢false (sym h.0 ∙ q))
       go false q (inr h) more = more h w
 
   module _ (gs : List Formal) where
@@ -221,3 +221,7 @@ all_ports_told sight gs as' xs h f w =
     let c = associates (map (λ (g : Formal). g.name) gs) as' xs h in
     ports_told sight f gs (map (λ (g : Formal). g.name) gs) (map type_of gs) (own_types gs) as' c.taken c.are_taken
     (told_along (port_actuals sight (map type_of gs)) xs (actuals (map (λ (g : Formal). g.name) gs) c.taken as') c.is f w)
+
+pub names_told : (sight : Sight) (gs : List Formal) (as' : List Association) (f : NameFault) → Tells (associated (map (λ (g : Formal). g.name) gs) as') f → Tells (port_map sight gs as') f
+names_told sight gs as' f w =
+    told_left (associated (map (λ (g : Formal). g.name) gs) as') (any_of (port_association sight gs) (zip (formal_names (map (λ (g : Formal). g.name) gs) as') as')) f w

@@ -1,12 +1,15 @@
 -- The formals that associations are for, one association after another, and what is told of one that is refused.
-use Rattle.std.proofs.Common.{◌≡◌, ℕ, suc, ◌+◌, arith, Bool, true, false, not, List, [], ◌∷◌, ◌++◌, map, drop, Option, Some, None, Vec, Global, refl, ap, sym, ◌∙◌}
+use Rattle.std.proofs.Common.{◌≡◌, ℕ, suc, ◌+◌, ◌<◌, length, get_or, arith, Bool, true, false, not, List, [], ◌∷◌, ◌++◌, map, drop, Option, Some, None, Vec, Global, refl, ap, sym, ◌∙◌, subst}
 use Rattle.std.specs.Prelude.{◌&&◌, ◌||◌, bytes_eq, filter_map, if◌then◌else◌}
 use Rattle.std.specs.List.{list_all, list_any}
 use Rattle.indexmap.specs.IndexSet.{insert_key}
+use Rattle.std.proofs.Math.Seq.{drop-cons}
 use Rattle.std.proofs.lemmas.List.{append_assoc, map-append}
 use Rattle.std.proofs.lemmas.List.Folds.{list_all-append}
 use Rattle.std.proofs.lemmas.Slice.Eq.{bytes_eq-Decides}
 use Rattle.vhdl_tree.specs.Tree.{Association}
+use Rattle.vhdl_tree.specs.View.{association_view}
+use Rattle.vhdl_tree.specs.declared.expression.Association.{Association as CodeAssociation}
 use Rattle.vhdl_names_rules.specs.declared.fault.NameFault.{NameFault}
 use Rattle.vhdl_names_rules.specs.declared.fault.NameProblem.TheVariants.{Undeclared, Twice, WrongKind}
 use Rattle.vhdl_names_rules.specs.Rules.{◌>>=◌, ◌>>◌, met, then_some}
@@ -207,3 +210,22 @@ unchanged k ks ks' new e h t = ap (map text) (h ∙ go (list_any (λ x. bytes_eq
     go : (b : Bool) → not b ≡ false → (if b then ks else ks ++ k ∷ []) ≡ ks
     go true q = refl
     go false q = cc
+
+-- ---- the same at the places of a list
+
+module _ (formals : List Name) (cs : List CodeAssociation) (k : ℕ) (c : CodeAssociation) (lt : k < length cs) (is : c ≡ get_or cs k c) (b : Bool) (taken : List Name)
+    (t : Taking formals (map association_view cs) k b taken (map association_view (drop k cs))) where
+  next_one : Taking formals (map association_view cs) k b taken (association_view c ∷ map association_view (drop (k + 1) cs))
+  next_one =
+      let P : List Association → Type 0 = λ as'. Taking formals (map association_view cs) k b taken as' in
+      let s : suc k ≡ k + 1 = omega arith in
+      subst P
+      (ap (map association_view) (drop-cons cs k c lt) ∙ ap (λ a. association_view a ∷ map association_view (drop (suc k) cs)) (sym is)
+      ∙ ap (λ j. association_view c ∷ map association_view (drop j cs)) s) t
+
+  pub refused_here : (f : NameFault) → Tells (one_association formals k b taken (association_view c)) f → Tells (associated formals (map association_view cs)) f
+  refused_here f w = not_taken formals (map association_view cs) k b taken (association_view c) (map association_view (drop (k + 1) cs)) next_one f w
+
+  pub taken_here : (taken' : List Name) → one_taken formals k b taken (association_view c) ≡ Some taken'
+      → Taking formals (map association_view cs) (k + 1) (is_named (association_view c)) taken' (map association_view (drop (k + 1) cs))
+  taken_here taken' h = taken_more formals (map association_view cs) k b taken (association_view c) (map association_view (drop (k + 1) cs)) next_one taken' h

@@ -1,6 +1,6 @@
 -- What is told where one of several parts tells it.
 use Rattle.std.proofs.Common.{◌≡◌, ◌≢◌, ℕ, Bool, true, false, not, ◌||◌, List, [], ◌∷◌, ◌++◌, Option, Some, None, Result, Ok, Err, IfErr, refl, ap, sym, ◌∙◌, subst, true≢false}
-use Rattle.std.specs.Prelude.{◌&&◌, IsErrAnd}
+use Rattle.std.specs.Prelude.{◌&&◌, IsErrAnd, is_some}
 use Rattle.vhdl_names_rules.specs.declared.fault.NameFault.{NameFault}
 use Rattle.vhdl_names_rules.specs.declared.fault.NameFault.TheVariants.{At, NoMemory}
 use Rattle.vhdl_names_rules.specs.declared.fault.NameProblem.{NameProblem}
@@ -20,6 +20,10 @@ at_is_told p at e = true≢false (ap is_told e)
 pub or_memory : (b : Broken) (f : NameFault) → (f ≢ NoMemory → Tells b f) → Tells b f
 or_memory b (At p at) h = h (at_is_told p at)
 or_memory b NoMemory h = tt
+
+-- nor is anything else told where something is given
+pub only_memory : {A : Type 0} (b : Broken) (x : A) (f : NameFault) → (f ≢ NoMemory → Some x ≡ None) → Tells b f
+only_memory b x f h = or_memory b f (λ n. absurd (true≢false (ap is_some (h n))))
 
 -- along an equation of what is looked at
 pub told_along : {A : Type 0} (b : A → Broken) (x y : A) → x ≡ y → (f : NameFault) → Tells (b x) f → Tells (b y) f

@@ -50,15 +50,15 @@ module _ (all : List Formal) (ks : List (Vec ℕ Global)) (i : ℕ) (k : Vec ℕ
       ∙ ap (λ (k : Vec ℕ Global). cons_option (typed_as all k.items) (typed (drop (suc i) ks))) (sym is)
       ∙ ap (λ j. cons_option (typed_as all k.items) (typed (drop j ks))) s
 
-  pub typed_some : (done : List PortType) (p : PortType) (done' : List PortType) → Some p ≡ typed_as all k.items → done' ≡ done ++ p ∷ []
-      → done ++ filter_map (typed_as all) (map items (drop i ks)) ≡ done' ++ filter_map (typed_as all) (map items (drop (i + 1) ks))
-  typed_some done p done' h e =
-      ap (λ l. done ++ l) (one_typed ∙ ap (λ o. cons_option o (typed (drop (i + 1) ks))) (sym h))
-      ∙ sym (append_assoc done (p ∷ []) (typed (drop (i + 1) ks))) ∙ ap (λ d. d ++ typed (drop (i + 1) ks)) (sym e)
+  before : (o : Option PortType) (ps : List PortType) → cons_option o ps ≡ cons_option o [] ++ ps
+  before None ps = refl
+  before (Some p) ps = refl
 
-  pub typed_none : (done : List PortType) → None ≡ typed_as all k.items
-      → done ++ filter_map (typed_as all) (map items (drop i ks)) ≡ done ++ filter_map (typed_as all) (map items (drop (i + 1) ks))
-  typed_none done h = ap (λ l. done ++ l) (one_typed ∙ ap (λ o. cons_option o (typed (drop (i + 1) ks))) (sym h))
+  pub typed_more : (done done' : List PortType) → done' ≡ done ++ cons_option (typed_as all k.items) []
+      → done ++ filter_map (typed_as all) (map items (drop i ks)) ≡ done' ++ filter_map (typed_as all) (map items (drop (i + 1) ks))
+  typed_more done done' e =
+      ap (λ l. done ++ l) (one_typed ∙ before (typed_as all k.items) (typed (drop (i + 1) ks)))
+      ∙ sym (append_assoc done (cons_option (typed_as all k.items) []) (typed (drop (i + 1) ks))) ∙ ap (λ d. d ++ typed (drop (i + 1) ks)) (sym e)
 
 pub all_typed : (all : List Formal) (ks : List (Vec ℕ Global)) (i : ℕ) (done : List PortType) → length ks ≤ i
     → done ++ filter_map (typed_as all) (map items (drop i ks)) ≡ done

@@ -1,6 +1,7 @@
 //! The maps of an instance in order of the text (IEEE 1076-2008, 6.5.7): which fault is told where something is wrong with them.
 
-ghost use Rattle.std.specs.Prelude.{◌≡◌, IfErr, IfOk, List, find, filter_map, map, option_map, bytes_eq};
+ghost use Rattle.std.specs.Prelude.{◌≡◌, ◌++◌, IfErr, IfOk, OnOk, List, [], filter_map, map};
+ghost use Rattle.std.specs.List.{cons_option};
 ghost use Rattle.vhdl_names_instances.specs.Breaking.{typed_as};
 ghost use Rattle.vhdl_names_instances.specs.Table.{seen, seen_view, type_of as type_of_formal};
 ghost use Rattle.vhdl_names_labels.specs.Once.{names_view};
@@ -51,6 +52,16 @@ fn type_of(formals: &Formals, name: &[u8]) -> Option<PortType>
     }
 }
 
+/// The type of a port behind others, if there is one.
+fn add_type(types: &mut Vec<PortType>, port: Option<PortType>) -> Result<(), AllocError>
+    ensures { OnOk result (types.new.items ≡ types.old.items ++ cons_option port []) }
+{
+    match port {
+        None => Ok(()),
+        Some(port) => Ok(types.push(port)?),
+    }
+}
+
 /// The types of the ports of some names.
 fn types_of(alloc: Global, formals: &Formals, names: &Names) -> Result<Vec<PortType>, AllocError>
     ensures { (all : List Formal) → names_view formals.now.ports ≡ map (λ f. f.name) all → formals.now.port_types.items ≡ map type_of_formal all
@@ -58,9 +69,7 @@ fn types_of(alloc: Global, formals: &Formals, names: &Names) -> Result<Vec<PortT
 {
     let mut types = Vec::new(alloc);
     for name in names.as_slice() {
-        if let Some(port) = type_of(formals, name) {
-            types.push(port)?;
-        }
+        add_type(&mut types, type_of(formals, name))?;
     }
     Ok(types)
 }

@@ -5,7 +5,8 @@ use Rattle.vhdl_names_rules.specs.Files.{architectures_of}
 use Rattle.vhdl_names_problems.specs.Broken.{Tells, any_of}
 use Rattle.vhdl_names_problems.specs.Files.{described}
 use Rattle.vhdl_names_interfaces.specs.Views.{entities_view}
-use Rattle.vhdl_names_instances.proofs.Told.{or_memory}
+use Rattle.vhdl_names_instances.proofs.Told.{only_memory}
+use Rattle.vhdl_names.specs.steps.Tables.{table_of}
 use Rattle.vhdl_names.proofs.Passing.{one_told}
 use Rattle.vhdl_names.proofs.refusal.architectures_fault.Goals as goal
 
@@ -22,5 +23,5 @@ pub returns-in_err-formals : goal.returns-in_err-formals
 returns-in_err-formals c =
     let b = any_of (described (entities_view c.args.entities.now)) (architectures_of (view.units_view c.args.file.now.units)) in
     let f : Tells (any_of (described (entities_view c.args.entities.now)) (architectures_of (view.units_view c.args.file.now.units))) c.in_err-formals.field-0.0 =
-    or_memory b c.in_err-formals.field-0.0 (λ n. let e = c.in_err-formals.ensures n in cc) in
+    only_memory b (table_of (entities_view c.args.entities.now)) c.in_err-formals.field-0.0 c.in_err-formals.ensures in
     first_of (search rules, grind (arith, common_steps))
