@@ -1,9 +1,9 @@
 -- What a part of an expression breaks, the expression breaks.
-use Rattle.std.proofs.Common.{◌≡◌, ◌≢◌, ℕ, zero, suc, ◌+◌, ◌<◌, Bool, true, false, true≢false, ◌||◌, List, [], ◌∷◌, map, length, get_or, drop, drop-cons, Option, Some, None, Result, Ok, Err, IfErr, Vec, Box, Global, refl, sym, ap, ◌∙◌, arith}
+use Rattle.std.proofs.Common.{◌≡◌, ◌≢◌, ℕ, zero, suc, ◌<◌, Bool, true, false, true≢false, ◌||◌, List, [], ◌∷◌, map, length, get_or, drop, drop-cons, Option, Some, None, Result, Ok, Err, IfErr, Vec, Box, Global, refl, sym, ap, ◌∙◌, arith}
 use Rattle.std.specs.Prelude.{option_map, bytes_eq, codes}
 use Rattle.vhdl_tree.specs.Tree as t
 use Rattle.vhdl_tree.specs.Tree.{Ident, exprs_of}
-use Rattle.vhdl_tree.specs.View.{view, chain_view, pair_view, suffix_view, range_view, ident_view}
+use Rattle.vhdl_tree.specs.View.{view, pair_view, suffix_view, range_view, ident_view}
 use Rattle.vhdl_tree.specs.declared.expression.Identifier.{Identifier}
 use Rattle.vhdl_tree.specs.declared.operator.Sign.{Sign}
 use Rattle.vhdl_tree.specs.declared.expression.Literal.{Literal}
@@ -36,7 +36,7 @@ use Rattle.vhdl_names_problems.specs.Expressions.{typed, typed_suffix, typed_eac
 use Rattle.vhdl_names_problems.proofs.Telling.{told_left, told_right, told_lacking, told_given, told_on}
 use Rattle.vhdl_names_expressions.specs.Breaking.{link_breaks, all_break, started_breaks}
 use Rattle.vhdl_names_expressions.specs.Chosen.{started, links_of}
-use Rattle.vhdl_names_expressions.specs.Steps.{is_parens, enclosed_if, linked, all_linked}
+use Rattle.vhdl_names_expressions.specs.Steps.{is_parens, enclosed_if, linked}
 use Rattle.vhdl_names_expressions.proofs.Chains.{beside_if, linked_typed, started_is}
 
 -- ---- what is told
@@ -104,12 +104,12 @@ joined_further sight x [] f np h = nothing_told f h (memory_told (typed sight x)
 joined_further sight x (l ∷ ls) f np h =
     told_either (link_breaks sight false (are.typed sight x) l) (all_break sight (linked sight false (are.typed sight x) l) ls) f h
     (λ k. joined_first sight (t.joined x (pair_view l)) ls f
-        (binary_told sight false x l f
-        (told_right (typed sight x) (link_breaks sight (is_parens x) (are.typed sight x) l) f
-        (told_along (link_breaks sight false (are.typed sight x) l) _ f (ap (λ b. link_breaks sight b (are.typed sight x) l) (sym np)) k))))
+    (binary_told sight false x l f
+    (told_right (typed sight x) (link_breaks sight (is_parens x) (are.typed sight x) l) f
+    (told_along (link_breaks sight false (are.typed sight x) l) _ f (ap (λ b. link_breaks sight b (are.typed sight x) l) (sym np)) k))))
     (λ k. joined_further sight (t.joined x (pair_view l)) ls f refl
-        (told_along (all_break sight (linked sight false (are.typed sight x) l) ls) _ f
-        (ap (λ o. all_break sight o ls) (sym (linked_typed sight false x l ∙ ap (λ b. linked sight b (are.typed sight x) l) np))) k))
+    (told_along (all_break sight (linked sight false (are.typed sight x) l) ls) _ f
+    (ap (λ o. all_break sight o ls) (sym (linked_typed sight false x l ∙ ap (λ b. linked sight b (are.typed sight x) l) np))) k))
 
 pub chain_first : (sight : Sight) (e : Expr) (box : Box Chain Global) (k : Chain) (f : NameFault) → e ≡ x.Chain box → k ≡ box.value →
     Tells (started_breaks sight k) f → Tells (typed sight (view e)) f
@@ -149,7 +149,7 @@ unfolding started_breaks
 begun_second sight k b v r given is =
     told_on _ _ r
     (λ f h. told_right (typed sight (view (out-Chain k).first)) (link_breaks sight (is_parens (view (out-Chain k).first)) (are.typed sight (view (out-Chain k).first)) (out-Chain k).second) f
-        (told_along _ _ f (ap (λ o. link_breaks sight b o (out-Chain k).second) (sym given) ∙ ap (λ p. link_breaks sight p (are.typed sight (view (out-Chain k).first)) (out-Chain k).second) is) h))
+    (told_along _ _ f (ap (λ o. link_breaks sight b o (out-Chain k).second) (sym given) ∙ ap (λ p. link_breaks sight p (are.typed sight (view (out-Chain k).first)) (out-Chain k).second) is) h))
 
 -- the links that are left, the next of them first
 rest_breaks : (sight : Sight) (v : Typed) (ls : List Link) (i : ℕ) (l : Link) → i < length ls → l ≡ get_or ls i l →
@@ -229,7 +229,7 @@ module _ (sight : Sight) (n : Ident) (y : t.Suffix) (a : Option Ident) (f : Name
   named_denoted d x e1 e2 none h =
       told_either (is_of (name_problems d)) (attribute a) f h
       (λ k. of_both d x e1 e2
-          (told_left (lacking (name_problems d) (denoted d x)) (where_given (denoted d x) (event_of a)) f (told_lacking (name_problems d) (denoted d x) f none k)))
+      (told_left (lacking (name_problems d) (denoted d x)) (where_given (denoted d x) (event_of a)) f (told_lacking (name_problems d) (denoted d x) f none k)))
       named_attribute
 
   pub named_attributed : (d : visibility.Meaning) (x : Suffix) (v : Typed) → visibility.meaning sight n.text ≡ Some d → are.typed_suffix sight y ≡ Some x →
@@ -238,7 +238,7 @@ module _ (sight : Sight) (n : Ident) (y : t.Suffix) (a : Option Ident) (f : Name
       told_either (attribute a) (event_of a v) f h
       named_attribute
       (λ k. of_both d x e1 e2
-          (told_right (lacking (name_problems d) (denoted d x)) (where_given (denoted d x) (event_of a)) f (told_given (event_of a) (denoted d x) v f e3 k)))
+      (told_right (lacking (name_problems d) (denoted d x)) (where_given (denoted d x) (event_of a)) f (told_given (event_of a) (denoted d x) v f e3 k)))
 
 -- ---- arguments
 

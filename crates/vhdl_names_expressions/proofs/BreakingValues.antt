@@ -1,23 +1,27 @@
 -- What the value of a constant breaks, form by form; names of objects, and subtype indications.
-use Rattle.std.proofs.Common.{◌≡◌, ℕ, false, [], ◌∷◌, Option, Some, None, Result, Ok, Err, IfErr, refl, sym, ap}
+use Rattle.std.proofs.Common.{◌≡◌, ℕ, Bool, false, [], ◌∷◌, Option, Some, None, Result, Ok, Err, IfErr, refl, sym, ap, ◌∙◌}
 use Rattle.std.specs.Prelude.{is_none}
 use Rattle.vhdl_tree.specs.Tree as t
 use Rattle.vhdl_names_rules.specs.declared.fault.NameFault.{NameFault}
 use Rattle.vhdl_names_rules.specs.declared.fault.NameFault.TheVariants.{At}
+use Rattle.vhdl_names_rules.specs.declared.fault.NameProblem.{NameProblem}
 use Rattle.vhdl_names_rules.specs.declared.fault.NameProblem.TheVariants.{TypeMismatch, LeftOut}
 use Rattle.vhdl_names_rules.specs.declared.kind.ObjectType.{ObjectType}
-use Rattle.vhdl_names_rules.specs.units.Units.{Fixed}
 use Rattle.vhdl_names_rules.specs.Visibility as visibility
 use Rattle.vhdl_names_rules.specs.Visibility.{Sight, Meaning}
 use Rattle.vhdl_names_rules.specs.Names as names
 use Rattle.vhdl_names_rules.specs.Names.{Suffix}
 use Rattle.vhdl_names_rules.specs.Expressions as are
 use Rattle.vhdl_names_rules.specs.Subtypes as r
-use Rattle.vhdl_names_problems.specs.Broken.{Broken, Tells, ◌∪◌, unless, lacking, where_given, of_any}
+use Rattle.vhdl_names_problems.specs.Broken.{Broken, Tells, is, ◌∪◌, unless, lacking, where_given, of_any}
 use Rattle.vhdl_names_problems.specs.Expressions.{meaning, typed_suffix, static_range}
 use Rattle.vhdl_names_problems.specs.Statements.{named}
 use Rattle.vhdl_names_problems.specs.Subtypes.{fixed, value_of, subtype, mark_problem, is_marked}
-use Rattle.vhdl_names_problems.proofs.Telling.{told_left, told_right, told_given, told_on}
+use Rattle.vhdl_names_problems.proofs.Telling.{told_left, told_right, told_given, told_on, is_same}
+use Rattle.vhdl_names_rules.specs.declared.kind.ElementKind.{ElementKind}
+use Rattle.vhdl_names_types.specs.declared.meaning.Meaning.{Meaning as DeclaredMeaning}
+use Rattle.vhdl_names_types.specs.declared.meaning.Meaning.TheVariants as d
+use Rattle.vhdl_names_types.specs.Views.{meaning_view}
 use Rattle.vhdl_names_expressions.specs.Chosen.{as_name}
 use Rattle.vhdl_names_expressions.specs.Fixing.{suffixed_value}
 use Rattle.vhdl_names_expressions.proofs.Breaking.{told_along, told_of, told_either}
@@ -86,10 +90,10 @@ grouped a b c d f h =
     told_either a (b ∪ c ∪ d) f h
     (λ k. told_left (a ∪ b ∪ c) d f (told_left a (b ∪ c) f k))
     (λ k. told_either b (c ∪ d) f k
-        (λ m. told_left (a ∪ b ∪ c) d f (told_right a (b ∪ c) f (told_left b c f m)))
-        (λ m. told_either c d f m
-            (λ n. told_left (a ∪ b ∪ c) d f (told_right a (b ∪ c) f (told_right b c f n)))
-            (told_right (a ∪ b ∪ c) d f)))
+    (λ m. told_left (a ∪ b ∪ c) d f (told_right a (b ∪ c) f (told_left b c f m)))
+    (λ m. told_either c d f m
+    (λ n. told_left (a ∪ b ∪ c) d f (told_right a (b ∪ c) f (told_right b c f n)))
+    (told_right (a ∪ b ∪ c) d f)))
 
 pub object_told : (sight : Sight) (n : t.Name) (more : Meaning → Suffix → Broken) (f : NameFault) →
     Tells (with_name sight n.identifier n.suffix n.attribute more) f →
@@ -122,6 +126,30 @@ module _ (sight : Sight) (i : t.Subtype) where
   subtype_ranged d x r e some =
       told_on _ _ r
       (λ f h. told_either (static_range sight x) (unless (mark_problem d) (is_marked d (Some x))) f h
-          (λ k. told_right (meaning sight i.mark.text) (of_any (static_range sight) i.range ∪ mark) f
-              (told_left (of_any (static_range sight) i.range) mark f (told_along _ _ f (ap (of_any (static_range sight)) (sym some)) k)))
-          (λ k. subtype_mark d f e (told_along _ _ f (ap (λ o. unless (mark_problem d) (is_marked d o)) (sym some)) k)))
+      (λ k. told_right (meaning sight i.mark.text) (of_any (static_range sight) i.range ∪ mark) f
+      (told_left (of_any (static_range sight) i.range) mark f (told_along _ _ f (ap (of_any (static_range sight)) (sym some)) k)))
+      (λ k. subtype_mark d f e (told_along _ _ f (ap (λ o. unless (mark_problem d) (is_marked d o)) (sym some)) k)))
+
+-- a problem that is told where a condition doesn't hold
+pub misfit : (p q : NameProblem) (b : Bool) (at : ℕ) (f : NameFault) → b ≡ false → q ≡ p → f ≡ At q at → Tells (unless p b) f
+misfit p q b at f broken same e = told_of (unless p b) (At q at) f e (ap (λ z. unless p z q) broken ∙ ap (λ z. is z p) same ∙ is_same p)
+
+-- what is no type of vectors takes no range
+pub unmarked : (m : DeclaredMeaning) → ((kind : ElementKind) (is_resolved : Bool) → m ≡ d.VectorType kind is_resolved → ⊥) → (x : t.Range) → is_marked (meaning_view m) (Some x) ≡ false
+unmarked (d.Generic k) other x = refl
+unmarked (d.IntegerConstant k) other x = refl
+unmarked (d.GenerateParameter k) other x = refl
+unmarked (d.LoopParameter k) other x = refl
+unmarked (d.Port k mode kind) other x = refl
+unmarked (d.Signal k type) other x = refl
+unmarked (d.Variable k type) other x = refl
+unmarked (d.Constant k kind values) other x = refl
+unmarked (d.Literal number count position) other x = refl
+unmarked (d.IntegerType w) other x = refl
+unmarked (d.ElementType r) other x = refl
+unmarked (d.VectorType kind r) other x = absurd (other kind r refl)
+unmarked (d.EnumerationType number count) other x = refl
+unmarked (d.Function f) other x = refl
+unmarked (d.Component k) other x = refl
+unmarked d.Label other x = refl
+unmarked d.Unfinished other x = refl

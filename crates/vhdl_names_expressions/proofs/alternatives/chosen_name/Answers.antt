@@ -27,8 +27,8 @@ returns-then-not-is_bare_name-clause-told c =
     told_of (broken.chosen s c.args.object_type (t.named (ident_view n.identifier) (suffix_view n.suffix) (option_ident_view n.attribute))) (At LeftOut n.identifier.at) c.at.result c.at.ensures
     (chosen_behind s c.args.object_type (ident_view n.identifier) (suffix_view n.suffix) (option_ident_view n.attribute) n.identifier.at (sym c.is_bare_name.ensures ∙ c.if-not-is_bare_name.true))
 
-pub returns-else-not-is_bare_name-clause-told : goal.returns-else-not-is_bare_name-clause-told
-returns-else-not-is_bare_name-clause-told c =
+pub returns-clause-told : goal.returns-clause-told
+returns-clause-told c =
     let n = c.args.name.now in
     chosen_bare (sight_view c.args.sight.now) c.args.object_type (ident_view n.identifier) (suffix_view n.suffix) (option_ident_view n.attribute) choice_view (meaning_view c.in_ok-meaning.meaning.now) _
     (sym c.is_bare_name.ensures ∙ c.if-not-is_bare_name.false) c.in_ok-meaning.ensures.meant c.named_choice.ensures.given c.named_choice.ensures.told

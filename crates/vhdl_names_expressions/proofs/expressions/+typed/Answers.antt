@@ -115,9 +115,10 @@ links-loop-next-preserved t c =
     let s = sight_view c.args.sight.now in
     let i = c.loop-next.next-index in
     let lt : c.loop-next.next-index < length c.args.links.now = omega arith in
-    let next : suc c.loop-next.next-index ≡ c.loop-next.next-index + 1 = omega arith in
-    ( c.loop-next.invariant.0 ∙ link_goes s (typed_view c.loop-next.done) (typed_view c.in_ok-done.done) c.args.links.now i (c.loop-next.next-index + 1) c.next-item.result lt c.next-item.is next c.in_ok-done.ensures.given
-    , λ f h. c.loop-next.invariant.1 f (rest_told s (typed_view c.loop-next.done) (typed_view c.in_ok-done.done) c.args.links.now i (c.loop-next.next-index + 1) c.next-item.result f lt c.next-item.is next c.in_ok-done.ensures.given h))
+    let next : suc c.loop-next.next-index ≡ c.loop-next.next-index + 1 = omega arith in (
+      c.loop-next.invariant.0 ∙ link_goes s (typed_view c.loop-next.done) (typed_view c.in_ok-done.done) c.args.links.now i (c.loop-next.next-index + 1) c.next-item.result lt c.next-item.is next c.in_ok-done.ensures.given,
+      λ f h. c.loop-next.invariant.1 f (rest_told s (typed_view c.loop-next.done) (typed_view c.in_ok-done.done) c.args.links.now i (c.loop-next.next-index + 1) c.next-item.result f lt c.next-item.is next c.in_ok-done.ensures.given h),
+    )
 
 pub begun-returns-in_err-first-clause-told : goal.begun-returns-in_err-first-clause-told
 begun-returns-in_err-first-clause-told t c =
@@ -187,8 +188,8 @@ named-returns-clause-told t c =
     let n = c.args.name.now in
     told_on _ _ _
     (λ f. named_attributed (sight_view c.args.sight.now) (ident_view n.identifier) (suffix_view n.suffix) (option_map ident_view n.attribute) f
-        (meaning_view c.in_ok-meaning.meaning.now) (typed_suffix_view c.in_ok-suffix.suffix) (typed_view c.in_ok-value.value)
-        c.in_ok-meaning.ensures.meant c.in_ok-suffix.ensures.given c.in_ok-value.ensures.given)
+    (meaning_view c.in_ok-meaning.meaning.now) (typed_suffix_view c.in_ok-suffix.suffix) (typed_view c.in_ok-value.value)
+    c.in_ok-meaning.ensures.meant c.in_ok-suffix.ensures.given c.in_ok-value.ensures.given)
     c.attributed.ensures.told
 
 pub link-returns-in_err-operand-clause-told : goal.link-returns-in_err-operand-clause-told

@@ -38,8 +38,8 @@ returns-in-Some-clause-told c =
     (λ d x. lacking (suffixed_problems d x) (value_of c.args.object_type d x)) c.at.result c.in-Some.attribute.at
     (ap (λ o. is_none (option_map ident_view o)) c.in-Some.is) c.at.ensures
 
-pub returns-in_default-clause-told : goal.returns-in_default-clause-told
-returns-in_default-clause-told c =
+pub returns-clause-told : goal.returns-clause-told
+returns-clause-told c =
     let n = c.args.name.now in
     let d = meaning_view c.in_ok-meaning.meaning.now in
     let x = typed_suffix_view c.in_ok-suffix.suffix in

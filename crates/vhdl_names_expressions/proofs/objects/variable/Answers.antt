@@ -39,8 +39,8 @@ returns-in-Some-clause-told c =
     (name_attribute s n.identifier n.suffix n.attribute (λ d x. lacking (name_problems d) (as_variable d x)) c.at.result c.in-Some.attribute.at
     (ap (λ o. is_none (option_map ident_view o)) c.in-Some.is) c.at.ensures)
 
-pub returns-in_default-clause-told : goal.returns-in_default-clause-told
-returns-in_default-clause-told c =
+pub returns-clause-told : goal.returns-clause-told
+returns-clause-told c =
     let s = sight_view c.args.sight.now in
     let n = name_view c.args.name.now in
     let d = meaning_view c.in_ok-meaning.meaning.now in
