@@ -55,10 +55,10 @@ returns-clause-told c =
     let n = unless NoOthers (is_last_others lists || names_all k (steps.all_choices all)) in
     let e : (is_last_others lists || steps.has_all k (names_view c.in-Ok.keys)) ≡ false =
     elim c.if-ends_in_others.branch [
-      then-ends_in_others w ↦ let no : true ≡ false = sym w.if-ends_in_others.true ∙ sym w.value-is ∙ c.if-names_all.false in cc
+      | then-ends_in_others w ↦ let no : true ≡ false = sym w.if-ends_in_others.true ∙ sym w.value-is ∙ c.if-names_all.false in cc
       | else-ends_in_others w ↦
-        neither (is_last_others lists) (steps.has_all k (names_view c.in-Ok.keys)) (sym c.ends_in_others.ensures ∙ w.if-ends_in_others.false)
-        (sym w.names_all.ensures ∙ sym w.value-is ∙ c.if-names_all.false)
+          neither (is_last_others lists) (steps.has_all k (names_view c.in-Ok.keys)) (sym c.ends_in_others.ensures ∙ w.if-ends_in_others.false)
+          (sym w.names_all.ensures ∙ sym w.value-is ∙ c.if-names_all.false)
     ] in
     told_right o (u ∪ n) c.at.result (told_right u n c.at.result (told_unless NoOthers (is_last_others lists || names_all k (steps.all_choices all)) c.at.result
     (λ g. ap met (not_all k lists all (names_view c.in-Ok.keys) c.in-Ok.ensures.given e)) (first_of (search rules, grind (arith, common_steps)))))
