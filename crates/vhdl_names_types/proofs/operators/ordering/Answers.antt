@@ -1,7 +1,5 @@
-use Rattle.std.proofs.Common.{◌≡◌, ◌||◌, [], ◌∷◌, IfErr, ap, sym}
-use Rattle.vhdl_names_rules.specs.declared.fault.NameProblem.TheVariants.{NotVisible}
-use Rattle.vhdl_names_problems.specs.Broken.{Tells, ◌∪◌, is_of, unless}
-use Rattle.vhdl_names_types.specs.Steps.{is_unordered, order_problem}
+use Rattle.std.proofs.Common.{◌||◌}
+use Rattle.vhdl_names_types.specs.Steps.{is_unordered}
 use Rattle.vhdl_names_types.specs.Views.{typed_view}
 use Rattle.vhdl_names_types.proofs.Operating.{order_on_problem}
 use Rattle.vhdl_names_types.proofs.operators.ordering.Goals as goal
