@@ -9,14 +9,14 @@ use Rattle.vhdl_names_declarations.specs.Entered.{more}
 use Rattle.vhdl_names_declarations.proofs.Labelling.{labels_of, distinct_none, distinct_some}
 use Rattle.vhdl_names_declarations.proofs.labels.labels_are_distinct.Goals as goal
 
-pub returns-in_err-declare_labels : goal.returns-in_err-declare_labels
-returns-in_err-declare_labels c =
+pub returns-in_err-declare_labels-clause-given : goal.returns-in_err-declare_labels-clause-given
+returns-in_err-declare_labels-clause-given c =
     let ns = labels_of c.args.statements.now in
     let f : c.in_err-declare_labels.field-0.0 ≢ NoMemory → met (are_distinct (labels_of c.args.statements.now)) ≡ None =
-    λ n. distinct_none ns (ap (λ es. more (map entry_view es) (labelled ns)) (sym c.new-region.ensures.empty) ∙ c.in_err-declare_labels.ensures n) in
+    λ n. distinct_none ns (ap (λ es. more (map entry_view es) (labelled ns)) (sym c.new-region.ensures.empty) ∙ c.in_err-declare_labels.ensures.given n) in
     first_of (search rules, grind (arith, common_steps))
 
-pub returns : goal.returns
-returns c =
+pub returns-clause-given : goal.returns-clause-given
+returns-clause-given c =
     let ns = labels_of c.args.statements.now in
-    distinct_some ns _ (ap (λ es. more (map entry_view es) (labelled ns)) (sym c.new-region.ensures.empty) ∙ c.in_ok-declare_labels.ensures)
+    distinct_some ns _ (ap (λ es. more (map entry_view es) (labelled ns)) (sym c.new-region.ensures.empty) ∙ c.in_ok-declare_labels.ensures.given)
