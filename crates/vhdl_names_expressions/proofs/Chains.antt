@@ -25,7 +25,7 @@ use Rattle.vhdl_names_expressions.specs.Steps.{is_parens, enclosed_if, linked, a
 
 -- ---- chains
 
-beside_if : (x : t.Expr) (y : Typed) → beside x y ≡ enclosed_if (is_parens x) y
+pub beside_if : (x : t.Expr) (y : Typed) → beside x y ≡ enclosed_if (is_parens x) y
 beside_if (t.integer at s) y = refl
 beside_if (t.character at s) y = refl
 beside_if (t.string at s) y = refl
@@ -36,7 +36,7 @@ beside_if (t.negation at e) y = refl
 beside_if (t.signed sign at e) y = refl
 beside_if (t.binary b op at d e) y = refl
 
-linked_typed : (sight : Sight) (b : Bool) (x : t.Expr) (l : Link) →
+pub linked_typed : (sight : Sight) (b : Bool) (x : t.Expr) (l : Link) →
     typed sight (t.binary b l.operator l.at x (view l.operand)) ≡ linked sight (is_parens x) (typed sight x) l
 unfolding typed
 linked_typed sight b x l = go (typed sight x)

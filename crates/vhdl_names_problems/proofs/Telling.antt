@@ -1,10 +1,10 @@
 -- What is told of a part is told of the whole.
-use Rattle.std.proofs.Common.{◌≡◌, ◌≢◌, ℕ, Bool, true, false, ◌||◌, List, ◌∷◌, Option, Some, None, refl, ap, ◌∙◌, true≢false}
+use Rattle.std.proofs.Common.{◌≡◌, ◌≢◌, ℕ, zero, suc, ◌<◌, Bool, true, false, ◌||◌, List, [], ◌∷◌, map, length, get_or, Option, Some, None, Result, Ok, Err, IfErr, refl, sym, ap, ◌∙◌, true≢false, arith}
 use Rattle.vhdl_names_rules.specs.declared.fault.NameFault.{NameFault}
 use Rattle.vhdl_names_rules.specs.declared.fault.NameFault.TheVariants.{At, NoMemory}
 use Rattle.vhdl_names_rules.specs.declared.fault.NameProblem.{NameProblem}
 use Rattle.vhdl_names_rules.specs.declared.fault.NameProblem.TheVariants.{Undeclared, Twice, WrongKind, TypeMismatch, NotVisible, WriteOfIn, NoOthers, ChoiceTwice, SecondArchitecture, NoSensitivity, LeftOut}
-use Rattle.vhdl_names_problems.specs.Broken.{Broken, Tells, ◌∪◌, is, is_of, lacking, where_given}
+use Rattle.vhdl_names_problems.specs.Broken.{Broken, Tells, ◌∪◌, is, is_of, lacking, where_given, any_of}
 
 or_right : (a b : Bool) → b ≡ true → (a || b) ≡ true
 or_right true b h = refl
@@ -41,6 +41,27 @@ told_lacking qs o NoMemory none h = tt
 pub told_given : {A : Type 0} (b : A → Broken) (o : Option A) (x : A) (f : NameFault) → o ≡ Some x → Tells (b x) f → Tells (where_given o b) f
 told_given b o x (At p at) is h = ap (λ y. where_given y b p) is ∙ h
 told_given b o x NoMemory is h = tt
+
+-- ---- of one of several things
+
+told_same : (a b : Broken) (f : NameFault) → a ≡ b → Tells a f → Tells b f
+told_same a b (At p at) e h = ap (λ c. c p) (sym e) ∙ h
+told_same a b NoMemory e h = tt
+
+pub told_any : {A B : Type 0} (b : B → Broken) (view : A → B) (xs : List A) (i : ℕ) (x : A) (f : NameFault) →
+    i < length xs → x ≡ get_or xs i x → Tells (b (view x)) f → Tells (any_of b (map view xs)) f
+told_any b view [] i x f lt is h = absurd (omega (arith, lt))
+told_any b view (y ∷ ys) zero x f lt is h =
+    told_left (b (view y)) (any_of b (map view ys)) f (told_same (b (view x)) (b (view y)) f (ap (λ z. b (view z)) is) h)
+told_any b view (y ∷ ys) (suc i) x f lt is h =
+    told_right (b (view y)) (any_of b (map view ys)) f (told_any b view ys i x f (omega (arith, lt)) is h)
+
+-- ---- of what is answered
+
+-- an answer that is handed on tells what it told
+pub told_on : {X : Type 0} (a b : Broken) (r : Result X NameFault) → ((f : NameFault) → Tells a f → Tells b f) → IfErr r (Tells a) → IfErr r (Tells b)
+told_on a b (Ok x) more h = tt
+told_on a b (Err f) more h = more f h
 
 -- ---- of one of some problems
 

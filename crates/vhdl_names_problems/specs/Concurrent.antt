@@ -48,7 +48,7 @@ process sight label p =
     ∪ unless Twice (are_distinct (flat_map (λ (v : t.Variables). names_of v.names) p.variables))
     ∪ unless Twice (are_distinct (statement_labels (t.statements_of p.statements)))
     ∪ where_given (declarations.in_order with_variables declarations.variables sight p.variables)
-        (λ vs. statements (with_variables sight vs.declared) (t.statements_of p.statements))
+    (λ vs. statements (with_variables sight vs.declared) (t.statements_of p.statements))
     ∪ unless WrongKind (label_ends label p.end_label)
 
 -- ---- all statements, with the entities of the file

@@ -1,5 +1,5 @@
 -- Which rules instances break (IEEE 1076-2008, 6.5.7 and 11.7).
-use Rattle.std.specs.Prelude.{drop, zip, find, List, [], ◌∷◌, map, filter_map, slice_get, Option, bytes_eq, codes}
+use Rattle.std.specs.Prelude.{drop, zip, filter, List, [], ◌∷◌, map, filter_map, slice_get, Option, bytes_eq, codes}
 use Rattle.vhdl_tree.specs.Tree as t
 use Rattle.vhdl_tree.specs.Tree.{Expr, Association}
 use Rattle.vhdl_names_rules.specs.declared.fault.NameProblem.TheVariants.{Undeclared, Twice, WrongKind, TypeMismatch, WriteOfIn, LeftOut}
@@ -50,12 +50,12 @@ port_actual sight f e = lacking (LeftOut ∷ []) (as_name e) ∪ where_given (as
     ∪ lacking (LeftOut ∷ []) (statements.signal sight n)
     ∪ where_given (statements.signal sight n) (λ x. unless TypeMismatch (is_kind f.kind x.type) ∪ unless WriteOfIn (may_join f.mode x.mode)))
 
--- the port of a name
-abbrev pub port_named : List Formal → Name → Option Formal
-port_named fs n = find (λ f. bytes_eq n f.name) fs
+-- the ports of a name
+abbrev pub ports_named : List Formal → Name → List Formal
+ports_named fs n = filter (λ f. bytes_eq n f.name) fs
 
 abbrev pub port_association : Sight → List Formal → Option Name × Association → Broken
-port_association sight fs (o, a) = of_any (λ n. of_any (λ f. of_any (port_actual sight f) (are.expression_of a.actual)) (port_named fs n)) o
+port_association sight fs (o, a) = of_any (λ n. any_of (λ f. of_any (port_actual sight f) (are.expression_of a.actual)) (ports_named fs n)) o
 
 abbrev pub generic_map : Sight → List Name → List Association → Broken
 generic_map sight formals as' = associated formals as' ∪ any_of (λ a. of_any (static sight) (are.expression_of a.actual)) as'

@@ -19,7 +19,7 @@ abbrev pub interface : Sight → Option (List t.Generic) → Option (List t.Port
 interface sight gs ps =
     in_order with_declared declarations.generic generic sight (all_of gs)
     ∪ where_given (declarations.in_order with_declared declarations.generic sight (all_of gs))
-        (λ g. in_order with_declared declarations.port port (with_declared sight g.declared) (all_of ps))
+    (λ g. in_order with_declared declarations.port port (with_declared sight g.declared) (all_of ps))
     ∪ unless Twice (are_distinct (interface_names gs ps))
 
 abbrev pub entity : List ContextItem → t.Entity → Broken
@@ -33,6 +33,6 @@ abbrev pub component : List EntityView → Sight → t.Component → Broken
 component entities sight c =
     lacking (Undeclared ∷ []) (entity_named entities c.name.text)
     ∪ where_given (entity_named entities c.name.text)
-        (λ e. unless WrongKind (same_generics c.generics e.1.generic_text && same_ports c.ports e.1.port_text))
+    (λ e. unless WrongKind (same_generics c.generics e.1.generic_text && same_ports c.ports e.1.port_text))
     ∪ interface (record sight { region = []; outside = sight.region ++ sight.outside }) c.generics c.ports
     ∪ unless WrongKind (ends c.name.text c.end_name)

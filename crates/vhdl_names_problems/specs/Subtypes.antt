@@ -50,10 +50,15 @@ value_of type d names.plain = named_value type d
 value_of type d (names.arguments b xs) = encoded_value type d xs
 value_of type d (names.range r) = None
 
+-- a slice is left out
+abbrev pub suffixed_problems : Meaning → Suffix → List NameProblem
+suffixed_problems d (names.range r) = LeftOut ∷ value_problems d
+suffixed_problems d _ = value_problems d
+
 abbrev pub fixed : Sight → ObjectType → Expr → Broken
 fixed sight type (t.named n suffix a) =
     meaning sight n.text ∪ typed_suffix sight suffix ∪ unless LeftOut (is_none a)
-    ∪ where_given (visibility.meaning sight n.text) (λ d. where_given (are.typed_suffix sight suffix) (λ s. lacking (value_problems d) (value_of type d s)))
+    ∪ where_given (visibility.meaning sight n.text) (λ d. where_given (are.typed_suffix sight suffix) (λ s. lacking (suffixed_problems d s) (value_of type d s)))
 fixed sight type e = lacking (TypeMismatch ∷ LeftOut ∷ []) (literal_value type e)
 
 abbrev pub fixed_value : Sight → ObjectType → t.Value → Broken

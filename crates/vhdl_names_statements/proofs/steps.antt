@@ -1,3 +1,6 @@
+pub mod Assigning
 pub mod Cases
+pub mod Choosing
 pub mod Concurrent
 pub mod Sequential
+pub mod Told

@@ -2,7 +2,7 @@
 
 ghost use Rattle.vhdl_names_problems.specs.Broken.{Tells, is_of};
 ghost use Rattle.vhdl_names_rules.specs.declared.fault.NameProblem.TheVariants.{WrongKind, TypeMismatch};
-ghost use Rattle.std.specs.Prelude.{◌≡◌, false, None, option_map, IfOk, IfErr, OnErr, ◌∷◌, []};
+ghost use Rattle.std.specs.Prelude.{◌≡◌, true, false, None, option_map, IfOk, IfErr, OnErr, ◌∷◌, []};
 ghost use Rattle.std.specs.List.{list_all};
 ghost use Rattle.vhdl_names_rules.specs.Gives.{Gives};
 ghost use Rattle.vhdl_names_rules.specs.Names as rules;
@@ -80,7 +80,9 @@ fn is_static_part(part: &Part) -> bool
 }
 
 /// What is wrong with an operand that is no signal.
-fn edge_problem(vector: &Vector) -> NameProblem {
+fn edge_problem(vector: &Vector) -> NameProblem
+    ensures { is_of (WrongKind ∷ TypeMismatch ∷ []) result ≡ true }
+{
     match vector {
         Vector::Variable(..) | Vector::Constant(..) => NameProblem::WrongKind,
         _ => NameProblem::TypeMismatch,

@@ -2,7 +2,7 @@
 //! names, conversions and calls of the packages' functions (9.3.4, 9.3.6), and 'event (16.2.4).
 
 ghost use Rattle.vhdl_names_problems.specs.Broken.{Tells, is_of, ◌∪◌};
-ghost use Rattle.vhdl_names_problems.specs.Expressions.{name_problems, attribute, event_of};
+ghost use Rattle.vhdl_names_problems.specs.Expressions as broken;
 ghost use Rattle.vhdl_names_rules.specs.declared.fault.NameProblem.TheVariants.{WrongKind, TypeMismatch};
 ghost use Rattle.std.specs.Prelude.{◌≡◌, option_map, IfErr, ◌∷◌, []};
 ghost use Rattle.vhdl_names_rules.specs.Gives.{Gives};
@@ -225,7 +225,7 @@ pub fn denoted(
     at: usize,
 ) -> Result<Typed, NameFault>
     ensures given { Gives typed_view (rules.denoted (meaning_view meaning.now) (typed_suffix_view suffix)) result }
-    ensures told { IfErr result (Tells (is_of (name_problems (meaning_view meaning.now)))) }
+    ensures told { IfErr result (Tells (is_of (broken.name_problems (meaning_view meaning.now)))) }
 {
     match meaning {
         Meaning::Generic(k) => if_plain(suffix, Typed::Integer(Static::Generic(*k)), at),
@@ -260,13 +260,14 @@ pub fn denoted(
 }
 
 /// The attribute of a name at byte `at`, if it has one: 'event.
+#[tactic(auto, using(vhdl_names_problems::proofs::Telling::told_left, vhdl_names_problems::proofs::Telling::told_right, vhdl_names_problems::proofs::Telling::told_lacking))]
 pub fn attributed(
     attribute: &Option<Identifier>,
     operand: Typed,
     at: usize,
 ) -> Result<Typed, NameFault>
     ensures given { Gives typed_view (rules.attributed (option_map ident_view attribute.now) (typed_view operand)) result }
-    ensures told { IfErr result (Tells (attribute (option_map ident_view attribute.now) ∪ event_of (option_map ident_view attribute.now) (typed_view operand))) }
+    ensures told { IfErr result (Tells (broken.attribute (option_map ident_view attribute.now) ∪ broken.event_of (option_map ident_view attribute.now) (typed_view operand))) }
 {
     match attribute {
         None => Ok(operand),

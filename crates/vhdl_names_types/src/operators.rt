@@ -4,12 +4,12 @@
 ghost use Rattle.vhdl_names_problems.specs.Broken.{Tells, is_of, ◌∪◌, unless};
 ghost use Rattle.vhdl_names_problems.specs.Expressions.{operator_problems};
 ghost use Rattle.vhdl_names_rules.specs.declared.fault.NameProblem.TheVariants.{TypeMismatch, LeftOut, NotVisible};
-ghost use Rattle.std.specs.Prelude.{◌≡◌, ◌&&◌, true, false, IfOk, OnErr, IfErr, ◌∷◌, []};
+ghost use Rattle.std.specs.Prelude.{◌≡◌, ◌&&◌, ◌||◌, true, false, IfOk, OnErr, IfErr, ◌∷◌, []};
 ghost use Rattle.vhdl_names_rules.specs.Gives.{Gives};
 ghost use Rattle.vhdl_names_rules.specs.Operators as table;
 ghost use Rattle.vhdl_names_rules.specs.views.Integers.{static_view};
 ghost use Rattle.vhdl_names_rules.specs.views.Vectors.{value_view};
-ghost use Rattle.vhdl_names_types.specs.Steps.{same_by};
+ghost use Rattle.vhdl_names_types.specs.Steps.{same_by, is_unordered, order_problem as order_problem_of};
 ghost use Rattle.vhdl_names_types.specs.Views.{typed_view};
 
 use crate::types::Typed;
@@ -231,7 +231,9 @@ fn equality(at: usize, comparison: Cmp, operands: (Typed, Typed)) -> Result<Type
 }
 
 /// Whether ordering it is left out: an element, a std_logic_vector and an enumeration.
-fn is_left_out(operand: &Typed) -> bool {
+fn is_left_out(operand: &Typed) -> bool
+    ensures { result ≡ is_unordered (typed_view operand.now) }
+{
     match operand {
         Typed::Elements(kind, _) => !kind.is_number(),
         Typed::Enumerated { .. } => true,
@@ -240,7 +242,9 @@ fn is_left_out(operand: &Typed) -> bool {
 }
 
 /// What is wrong with operands that are not ordered.
-fn order_problem(operands: &(Typed, Typed)) -> NameProblem {
+fn order_problem(operands: &(Typed, Typed)) -> NameProblem
+    ensures { result ≡ order_problem_of (is_unordered (typed_view operands.now.0) || is_unordered (typed_view operands.now.1)) }
+{
     if is_left_out(&operands.0) || is_left_out(&operands.1) {
         NameProblem::LeftOut
     } else {
@@ -258,7 +262,7 @@ fn ordered(
     operands: (Typed, Typed),
 ) -> Result<Typed, NameFault>
     ensures given { Gives typed_view (table.ordering numbers comparison (typed_view operands.0) (typed_view operands.1)) result }
-    ensures told { IfErr result (Tells (is_of (problem ∷ TypeMismatch ∷ []) ∪ unless NotVisible numbers)) }
+    ensures told { IfErr result (Tells (is_of (problem ∷ []) ∪ unless NotVisible numbers)) }
 {
     let (left, right) = operands;
     match left {

@@ -21,7 +21,7 @@ generate-returns-in_err-by-clause-given t c =
     let cs = tree.concurrents_view c.args.written.now.statements in
     let end = tree.option_ident_view c.args.written.now.end_label in
     let none : c.in_err-by.field-0.0 ≢ NoMemory → steps.generate f s label k cs end ≡ None =
-    λ n. no_scheme f s label k cs end (λ b. c.in_err-by.ensures label.text b n) in
+    λ n. no_scheme f s label k cs end (λ b. c.in_err-by.ensures.given label.text b n) in
     first_of (search rules, grind (arith, common_steps))
 
 pub statement-returns-in-Generate-clause-given : goal.statement-returns-in-Generate-clause-given
