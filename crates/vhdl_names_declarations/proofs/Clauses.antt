@@ -1,5 +1,5 @@
 -- What is told of one context item is told of the clauses that it begins.
-use Rattle.std.proofs.Common.{◌≡◌, ℕ, ◌+◌, ◌<◌, suc, Bool, true, false, ◌&&◌, ◌||◌, List, [], ◌∷◌, map, length, drop, get_or, Option, Some, None, refl, sym, ap, subst, ◌∙◌, true≢false, arith}
+use Rattle.std.proofs.Common.{◌≡◌, ℕ, ◌+◌, ◌<◌, suc, Bool, true, false, not, ◌&&◌, ◌||◌, List, [], ◌∷◌, map, length, drop, get_or, Option, Some, None, refl, sym, ap, subst, ◌∙◌, true≢false, arith}
 use Rattle.std.specs.Prelude.{bytes_eq, codes}
 use Rattle.std.specs.List.{list_any, list_all}
 use Rattle.std.proofs.Math.Seq.{drop-cons}
@@ -15,7 +15,7 @@ use Rattle.vhdl_names_problems.specs.Broken.{Broken, Tells, nothing, ◌∪◌, 
 use Rattle.vhdl_names_problems.specs.Declarations.{context}
 use Rattle.vhdl_names_problems.proofs.Telling.{told_left, told_right, told_given}
 use Rattle.vhdl_names_declarations.specs.Standing.{used}
-use Rattle.vhdl_names_declarations.proofs.Breaking.{told_either}
+use Rattle.vhdl_names_declarations.proofs.Breaking.{told_either, unless_false}
 
 -- nothing is told of what breaks nothing
 no_more : {A : Type 0} (o : Option A) (b : Broken) (f : NameFault) → Tells (where_given o (λ _. nothing)) f → Tells b f
@@ -32,6 +32,9 @@ has_library before = unless Undeclared before.has_ieee
 
 abbrev are_offered : List Selected → Broken
 are_offered ss = unless LeftOut (list_all (λ s. is_logic s || is_numbers s) ss)
+
+pub library_told : (before : Context) (ns : List Ident) (rest : List ContextItem) (f : NameFault) → Tells (unless LeftOut (list_all is_library ns)) f → Tells (context before (library ns ∷ rest)) f
+library_told before ns rest f = told_left (unless LeftOut (list_all is_library ns)) (later before (library ns) rest) f
 
 pub used_told : (before : Context) (ss : List Selected) (rest : List ContextItem) (f : NameFault) → Tells (used before ss) f → Tells (context before (uses ss ∷ rest)) f
 used_told before ss rest f =
@@ -99,6 +102,13 @@ module _ {C : Type 0} (view : C → ContextItem) (cs : List C) (i : ℕ) (item :
 
 -- ---- why a use clause names no package that is offered
 
+pub not_false : (b : Bool) → not b ≡ false → b ≡ true
+not_false true h = refl
+not_false false h = absurd (true≢false h)
+
+pub no_library : (before : Context) (ss : List Selected) (at : ℕ) → before.has_ieee ≡ false → Tells (used before ss) (At Undeclared at)
+no_library before ss at h = told_left (has_library before) (are_offered ss) (At Undeclared at) (ap (λ b. unless Undeclared b Undeclared) h)
+
 module _ (before : Context) (s : Selected) (at : ℕ) where
   left_out : (is_logic s || is_numbers s) ≡ false → Tells (used before (s ∷ [])) (At LeftOut at)
   left_out h = told_right (has_library before) (are_offered (s ∷ [])) (At LeftOut at) (ap (λ b. unless LeftOut (b && true) LeftOut) h)
@@ -107,8 +117,28 @@ module _ (before : Context) (s : Selected) (at : ℕ) where
   not_ieee h =
       left_out (ap (λ b. (b && bytes_eq s.name.text (codes "std_logic_1164")) || (b && bytes_eq s.name.text (codes "numeric_std"))) h)
 
-  pub no_library : before.has_ieee ≡ false → Tells (used before (s ∷ [])) (At Undeclared at)
-  no_library h = told_left (has_library before) (are_offered (s ∷ [])) (At Undeclared at) (ap (λ b. unless Undeclared b Undeclared) h)
-
   pub not_offered : before.has_ieee ≡ true → (before.has_ieee && (is_logic s || is_numbers s)) ≡ false → Tells (used before (s ∷ [])) (At LeftOut at)
   not_offered h k = left_out (ap (λ b. b && (is_logic s || is_numbers s)) (sym h) ∙ k)
+
+-- ---- a use clause, package by package
+
+and_true : (b : Bool) → (b && true) ≡ false → b ≡ false
+and_true true h = h
+and_true false h = refl
+
+abbrev is_offered : Selected → Bool
+is_offered s = is_logic s || is_numbers s
+
+pub used_at : {C : Type 0} (view : C → Selected) (cs : List C) (i : ℕ) (c : C) (before : Context) (f : NameFault) → i < length cs → c ≡ get_or cs i c →
+    list_all is_offered (map view cs) ≡ list_all is_offered (map view (drop i cs)) → Tells (used before (view c ∷ [])) f → Tells (used before (map view cs)) f
+used_at view cs i c before f lt is left =
+    told_either (has_library before) (are_offered (view c ∷ [])) (used before (map view cs)) f
+    (told_left (has_library before) (are_offered (map view cs)) f)
+    (λ h. told_right (has_library before) (are_offered (map view cs)) f
+    (unless_false LeftOut (is_offered (view c) && true) (list_all is_offered (map view cs)) f
+    (λ none. left ∙ ap (λ l. list_all is_offered (map view l)) (drop-cons cs i c lt) ∙ ap (λ k. is_offered (view k) && list_all is_offered (map view (drop (suc i) cs))) (sym is)
+    ∙ ap (λ b. b && list_all is_offered (map view (drop (suc i) cs))) (and_true (is_offered (view c)) none)) h))
+
+pub neither_offered : (has offered : Bool) → offered ≡ false → (has && offered) ≡ false
+neither_offered true offered h = h
+neither_offered false offered h = refl

@@ -1,7 +1,8 @@
 use Rattle.std.proofs.Common.{rules, arith, ◌≡◌, ◌≢◌, ◌+◌, ◌<◌, ◌≤◌, List, [], ◌∷◌, length, map, Some, None, refl, ap, ◌∙◌, sym, subst}
 use Rattle.std.proofs.lemmas.Grind.{common_steps}
 use Rattle.std.proofs.lemmas.List.{length-map}
-use Rattle.vhdl_names_rules.specs.declared.fault.NameFault.TheVariants.{NoMemory}
+use Rattle.vhdl_names_rules.specs.declared.fault.NameFault.TheVariants.{At, NoMemory}
+use Rattle.vhdl_names_rules.specs.declared.fault.NameProblem.TheVariants.{LeftOut}
 use Rattle.vhdl_names_rules.specs.Rules.{◌>>=◌}
 use Rattle.vhdl_names_rules.specs.Declarations as d
 use Rattle.vhdl_names_rules.specs.Visibility as visibility
@@ -66,8 +67,9 @@ returns-clause-given c =
 pub returns-then-count-gt256-clause-told : goal.returns-then-count-gt256-clause-told
 returns-then-count-gt256-clause-told c =
     let size = length-map c.args.declaration.now.literals.items ident_view in
-    told_left (broken.enumeration (enumeration_view c.args.declaration.now)) (standing_twice (sight_view c.args.sight.now).region (enumeration_names (enumeration_view c.args.declaration.now))) _
-    (too_many_told (enumeration_view c.args.declaration.now) c.args.declaration.now.name.at (omega (arith, size)))
+    let f = At LeftOut c.args.declaration.now.name.at in
+    subst (Tells (broken.enumeration (enumeration_view c.args.declaration.now) ∪ standing_twice (sight_view c.args.sight.now).region (enumeration_names (enumeration_view c.args.declaration.now)))) (sym c.at.ensures)
+    (told_left (broken.enumeration (enumeration_view c.args.declaration.now)) (standing_twice (sight_view c.args.sight.now).region (enumeration_names (enumeration_view c.args.declaration.now))) f (too_many_told (enumeration_view c.args.declaration.now) c.args.declaration.now.name.at (omega (arith, size))))
 
 pub returns-in_err-declare-clause-told : goal.returns-in_err-declare-clause-told
 returns-in_err-declare-clause-told c =

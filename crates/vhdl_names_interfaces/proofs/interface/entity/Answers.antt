@@ -8,7 +8,8 @@ use Rattle.vhdl_tree.specs.View as view
 use Rattle.vhdl_names_types.specs.Views.{sight_view, entry_view}
 use Rattle.vhdl_names_declarations.specs.Contexts.{context_view}
 use Rattle.vhdl_names_interfaces.specs.Views.{interface_in, entity_view}
-use Rattle.vhdl_names_interfaces.proofs.Interfacing.{no_entity, entity_is, behind_interface, entity_of, passed_on, context_told, interface_told, end_told}
+use Rattle.vhdl_names_interfaces.proofs.Interfacing.{no_entity, entity_is, behind_interface, entity_of, passed_on, context_told, interface_told, end_told, told_nothing}
+use Rattle.vhdl_names_problems.specs.Broken.{Tells}
 use Rattle.vhdl_names_problems.specs.Interfaces as broken
 use Rattle.vhdl_names_declarations.proofs.Breaking as tells
 use Rattle.vhdl_names_interfaces.proofs.interface.entity.Goals as goal
@@ -69,3 +70,15 @@ returns-in_err-ends-clause-told c =
     let e = view.entity_view c.args.tree.now in
     tells.passed_on (broken.entity items e) c.in_err-ends.field-0.0 _ c.from_residual-in_err-ends.result c.from_residual-in_err-ends.ensures.1 (λ e p. p)
     (end_told items e c.in_err-ends.field-0.0 c.in_err-ends.ensures.told)
+
+pub returns-in_err-sight-clause-told : goal.returns-in_err-sight-clause-told
+returns-in_err-sight-clause-told c =
+    let f : Tells (broken.entity (map view.context_view c.args.items.now) (view.entity_view c.args.tree.now)) c.in_err-sight.field-0.0 =
+    told_nothing (broken.entity (map view.context_view c.args.items.now) (view.entity_view c.args.tree.now)) c.in_err-sight.field-0.0 c.in_err-sight.ensures.told in
+    first_of (search rules, grind (arith, common_steps))
+
+pub returns-in_err-context-clause-told : goal.returns-in_err-context-clause-told
+returns-in_err-context-clause-told c =
+    let f : Tells (broken.entity (map view.context_view c.args.items.now) (view.entity_view c.args.tree.now)) c.in_err-context.field-0.0 =
+    context_told (map view.context_view c.args.items.now) (view.entity_view c.args.tree.now) c.in_err-context.field-0.0 c.in_err-context.ensures.told in
+    first_of (search rules, grind (arith, common_steps))
