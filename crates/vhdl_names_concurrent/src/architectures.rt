@@ -104,6 +104,7 @@ fn statements(
 
 /// A statement.
 #[cycle(concurrent)]
+#[tactic(auto, unfolding(vhdl_names_problems::specs::Concurrent::concurrent))]
 fn statement(
     alloc: Global,
     entities: &InstanceEntities,

@@ -1,5 +1,5 @@
 -- What a choice breaks, form by form.
-use Rattle.std.proofs.Common.{◌≡◌, ℕ, Bool, true, false, true≢false, List, [], ◌∷◌, Option, Some, None, Result, IfErr, refl, sym, ap, ◌∙◌}
+use Rattle.std.proofs.Common.{◌≡◌, ℕ, true, false, true≢false, List, [], ◌∷◌, Option, Some, None, Result, IfErr, refl, sym}
 use Rattle.vhdl_tree.specs.Tree as t
 use Rattle.vhdl_names_rules.specs.declared.fault.NameFault.{NameFault}
 use Rattle.vhdl_names_rules.specs.declared.fault.NameFault.TheVariants.{At}
@@ -10,7 +10,7 @@ use Rattle.vhdl_names_rules.specs.Gives.{Gives}
 use Rattle.vhdl_names_rules.specs.Visibility as visibility
 use Rattle.vhdl_names_rules.specs.Visibility.{Sight}
 use Rattle.vhdl_names_rules.specs.Choices as c
-use Rattle.vhdl_names_problems.specs.Broken.{Broken, Tells, ◌∪◌, is_of, unless, lacking, where_given, any_of}
+use Rattle.vhdl_names_problems.specs.Broken.{Broken, Tells, is_of, unless, lacking, where_given, any_of}
 use Rattle.vhdl_names_problems.specs.Expressions.{meaning}
 use Rattle.vhdl_names_problems.specs.Subtypes.{value_problems}
 use Rattle.vhdl_names_problems.specs.Choices as b

@@ -76,6 +76,13 @@ link_fails sight whole v ls i l h lt e f =
     h ∙ ap (all_linked sight (Some v)) (drop-cons ls i l lt) ∙ ap (λ k. all_linked sight (linked sight false (Some v) k) (drop (suc i) ls)) (sym e)
     ∙ ap (λ o. all_linked sight o (drop (suc i) ls)) f ∙ all_linked_none sight (drop (suc i) ls)
 
+-- a link that gives something leaves the links behind it
+pub link_goes : (sight : Sight) (v w : Typed) (ls : List Link) (i j : ℕ) (l : Link) → i < length ls → l ≡ get_or ls i l → suc i ≡ j →
+    linked sight false (Some v) l ≡ Some w → all_linked sight (Some v) (drop i ls) ≡ all_linked sight (Some w) (drop j ls)
+link_goes sight v w ls i j l lt e next gives =
+    ap (all_linked sight (Some v)) (drop-cons ls i l lt) ∙ ap (λ k. all_linked sight (linked sight false (Some v) k) (drop (suc i) ls)) (sym e)
+    ∙ ap (λ o. all_linked sight o (drop (suc i) ls)) gives ∙ ap (λ k. all_linked sight (Some w) (drop k ls)) next
+
 -- ---- names
 
 -- the identifier first

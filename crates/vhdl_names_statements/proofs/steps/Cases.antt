@@ -75,7 +75,7 @@ one_pair (Some cs) (Some xs) m e f g h (no_bodies q r) =
     no_bodies (ap (λ m. m >>= λ y. g >>= λ ys. Some (y ∷ ys)) e ∙ ap (λ g. g >>= λ ys. Some (statements_of xs ∷ ys)) q)
     (ap (λ h. h >>= λ ys. Some (chosen_by cs xs ∷ ys)) r)
 
-pairs : (sight : Sight) (type : ObjectType) (alts : List t.Alternative)
+pub pairs : (sight : Sight) (type : ObjectType) (alts : List t.Alternative)
     → Pairs (each (choices sight type) (steps.choice_lists alts)) (alternatives sight (t.alternatives_of alts)) (each (chosen sight type) alts)
 unfolding alternatives
 pairs sight type [] = all_there [] refl refl refl

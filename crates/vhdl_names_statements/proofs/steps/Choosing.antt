@@ -1,10 +1,13 @@
 -- What is told of the choices of alternatives, one by one or all together, is told of what is covered.
-use Rattle.std.proofs.Common.{◌≡◌, ◌≢◌, ℕ, Bool, true, false, List, [], ◌∷◌, ◌++◌, map, Option, Some, None, refl, ap, sym, ◌∙◌}
+use Rattle.std.proofs.Common.{◌≡◌, ◌≢◌, ℕ, zero, suc, ◌+◌, ◌-◌, ◌<◌, arith, Bool, true, false, List, [], ◌∷◌, ◌++◌, map, length, get_or, take, drop, drop-cons, Option, Some, None, refl, ap, sym, ◌∙◌}
 use Rattle.std.specs.Prelude.{not, ◌||◌, ◌&&◌}
-use Rattle.std.specs.List.{flat_map, filter_map}
+use Rattle.std.specs.List.{flat_map, filter_map, slice_range}
+use Rattle.std.specs.Borrow.{Bor}
 use Rattle.std.proofs.lemmas.List.{map-append}
 use Rattle.std.proofs.lemmas.List.Elements.{filter_map-append}
+use Rattle.vhdl_tree.specs.declared.expression.Choice.{Choice}
 use Rattle.vhdl_tree.specs.Tree as t
+use Rattle.vhdl_tree.specs.View.{choice_view}
 use Rattle.vhdl_names_rules.specs.declared.kind.ObjectType.{ObjectType}
 use Rattle.vhdl_names_rules.specs.declared.fault.NameFault.{NameFault}
 use Rattle.vhdl_names_rules.specs.declared.fault.NameFault.TheVariants.{At, NoMemory}
@@ -17,16 +20,16 @@ use Rattle.vhdl_names_rules.specs.Choices as are
 use Rattle.vhdl_names_rules.specs.Choices.{are_distinct_choices, only_last_others, is_last_others, names_all}
 use Rattle.vhdl_names_problems.specs.Broken.{Broken, Tells, nothing, ◌∪◌, is, is_of, unless, lacking, where_given, any_of}
 use Rattle.vhdl_names_problems.specs.Choices.{choice, choices, covered, is_empty, all_given}
-use Rattle.vhdl_names_problems.proofs.Telling.{told_left, told_right, told_given}
+use Rattle.vhdl_names_problems.proofs.Telling.{told_left, told_right, told_given, told_lacking, told_any}
 use Rattle.vhdl_names_units.specs.views.Sequential.{Chosen}
 use Rattle.vhdl_names_labels.specs.Lists.{in_turn}
 use Rattle.vhdl_names_labels.specs.Once.{one_name, key_of}
 use Rattle.vhdl_names_labels.proofs.Lists.{bound}
 use Rattle.vhdl_names_labels.proofs.Once.{once, distinct_keys}
-use Rattle.vhdl_names_statements.specs.steps.Cases.{Divided, all_choices, but_last, with_choices, has_all}
+use Rattle.vhdl_names_statements.specs.steps.Cases.{Divided, all_choices, but_last, with_choices, has_all, choice_list, all_lists}
 use Rattle.vhdl_names_statements.specs.steps.Told as told
 use Rattle.vhdl_names_statements.specs.steps.Told.{with_choice, with_list}
-use Rattle.vhdl_names_statements.proofs.steps.Cases.{choices_of, flat_each, turned-append, has_names}
+use Rattle.vhdl_names_statements.proofs.steps.Cases.{Pairs, all_there, no_choices, no_bodies, choices_of, flat_each, turned-append, has_names}
 use Rattle.vhdl_names_statements.proofs.steps.Cases as steps
 use Rattle.vhdl_names_statements.proofs.steps.Told.{told_nothing, told_either, told_each, told_along}
 
@@ -44,15 +47,41 @@ told_twice (Some ks) b (At p at) e h = told_nothing (unless ChoiceTwice b) (At p
 
 each_given : {A B : Type 0} (f : A → Option B) (xs : List A) (ys : List B) → each f xs ≡ Some ys → filter_map f xs ≡ ys
 each_given f [] ys e = cc
-each_given f (x ∷ xs) ys e = go (f x) refl (each f xs) refl e
+each_given {A} {B} f (x ∷ xs) ys e = go (f x) refl (each f xs) (λ zs b. each_given f xs zs b) e
   where
-    go : (o : Option _) → f x ≡ o → (p : Option (List _)) → each f xs ≡ p → (o >>= λ y. p >>= λ ys. Some (y ∷ ys)) ≡ Some ys → filter_map f (x ∷ xs) ≡ ys
-    go None a p b e = cc
-    go (Some y) a None b e = cc
-    go (Some y) a (Some zs) b e =
-        let tail : filter_map f xs ≡ zs = each_given f xs zs b in
+    go : (o : Option B) → f x ≡ o → (p : Option (List B)) → ((zs : List B) → p ≡ Some zs → filter_map f xs ≡ zs)
+        → (o >>= λ y. p >>= λ ys. Some (y ∷ ys)) ≡ Some ys → filter_map f (x ∷ xs) ≡ ys
+    go None a p more e = cc
+    go (Some y) a None more e = cc
+    go (Some y) a (Some zs) more e =
         let whole : y ∷ zs ≡ ys = cc in
-        rw a (ap (λ l. y ∷ l) tail ∙ whole)
+        rw a (ap (λ l. y ∷ l) (more zs refl) ∙ whole)
+
+-- one of a list, and what is behind it
+record One (xs : List Choice) (i : ℕ) : Type 0 where
+  x : Choice
+  is : x ≡ get_or xs i x
+  alone : take 1 (drop i xs) ≡ x ∷ []
+  next : drop i xs ≡ x ∷ drop (suc i) xs
+
+one_of : (xs : List Choice) (i : ℕ) → i < length xs → One xs i
+one_of [] i lt = absurd (omega (arith, lt))
+one_of (x ∷ xs) zero lt = record { x = x; is = refl; alone = refl; next = refl }
+one_of (x ∷ xs) (suc i) lt =
+    let o = one_of xs i (omega (arith, lt)) in
+    record { x = o.x; is = o.is; alone = o.alone; next = o.next }
+
+part_is : (xs : List Choice) (i : ℕ) (o : One xs i) → slice_range xs i (i + 1) ≡ o.x ∷ []
+part_is xs i o = let e : (i + 1) - i ≡ 1 = omega arith in ap (λ n. take n (drop i xs)) e ∙ o.alone
+
+-- choices that are there where choices and bodies are
+pub choices_there : (f : Option (List (List s.Choice))) (g : Option (List s.Statements)) (h : Option (List Chosen)) → Pairs f g h → (all : List Chosen) → h ≡ Some all
+    → f ≡ Some (choices_of all)
+choices_there f g h (all_there more p q r) all e =
+    let same : more ≡ all = cc in
+    p ∙ ap (λ a. Some (choices_of a)) same
+choices_there f g h (no_choices p r) all e = cc
+choices_there f g h (no_bodies q r) all e = cc
 
 module _ (sight : Sight) (type : ObjectType) where
   abbrev given : List t.Choice → List s.Choice
@@ -67,17 +96,18 @@ module _ (sight : Sight) (type : ObjectType) where
   pub lists_given : (lists : List (List t.Choice)) (css : List (List s.Choice)) → each (are.choices sight type) lists ≡ Some css
       → all_given sight type lists ≡ flat_map (λ cs. cs) css
   lists_given [] css e = let n : [] ≡ css = cc in ap (flat_map (λ (cs : List s.Choice). cs)) n
-  lists_given (cs ∷ lists) css e = go (are.choices sight type cs) refl (each (are.choices sight type) lists) refl e
+  lists_given (cs ∷ lists) css e = go (are.choices sight type cs) refl (each (are.choices sight type) lists) (λ zs b. lists_given lists zs b) e
     where
-      go : (o : Option (List s.Choice)) → are.choices sight type cs ≡ o → (p : Option (List (List s.Choice))) → each (are.choices sight type) lists ≡ p
+      go : (o : Option (List s.Choice)) → are.choices sight type cs ≡ o
+          → (p : Option (List (List s.Choice))) → ((zs : List (List s.Choice)) → p ≡ Some zs → all_given sight type lists ≡ flat_map (λ cs. cs) zs)
           → (o >>= λ y. p >>= λ ys. Some (y ∷ ys)) ≡ Some css → all_given sight type (cs ∷ lists) ≡ flat_map (λ cs. cs) css
-      go None a p b e = cc
-      go (Some y) a None b e = cc
-      go (Some y) a (Some zs) b e =
+      go None a p more e = cc
+      go (Some y) a None more e = cc
+      go (Some y) a (Some zs) more e =
           let whole : y ∷ zs ≡ css = cc in
           filter_map-append (are.choice sight type) cs (flat_map (λ cs. cs) lists)
           ∙ ap (λ l. l ++ all_given sight type lists) (choices_given cs y a)
-          ∙ ap (λ l. y ++ l) (lists_given lists zs b)
+          ∙ ap (λ l. y ++ l) (more zs refl)
           ∙ ap (flat_map (λ (cs : List s.Choice). cs)) whole
 
   -- ---- one choice by itself
@@ -123,6 +153,50 @@ module _ (sight : Sight) (type : ObjectType) where
       go : (b : Bool) → then_some b (map key_of (all_given sight type lists)) ≡ None → b ≡ false
       go true e = cc
       go false e = refl
+
+  -- ---- the next of some choices
+
+  next_choice : (keys after : List Name) (c : t.Choice) (ys : List s.Choice) → are.choices sight type (c ∷ []) ≡ Some ys
+      → in_turn one_name keys (map key_of ys) ≡ Some after → with_choice sight type keys c ≡ Some after
+  next_choice keys after c ys e h = ap (λ l. in_turn one_name keys (map key_of l)) (choices_given (c ∷ []) ys e) ∙ h
+
+  module _ (xs : List Choice) (i : ℕ) (lt : i < length xs) (part : List Choice) (is : part ≡ slice_range xs i (i + 1)) where
+    abbrev one : One xs i
+    one = one_of xs i lt
+
+    abbrev viewed : List t.Choice
+    viewed = map choice_view xs
+
+    seen_part : map choice_view part ≡ choice_view one.x ∷ []
+    seen_part = ap (map choice_view) (is ∙ part_is xs i one)
+
+    pub written_next : (old keys after : List Name) (ys : List s.Choice)
+        → with_list sight type old viewed ≡ with_list sight type keys (map choice_view (drop i xs))
+        → are.choices sight type (map choice_view part) ≡ Some ys → in_turn one_name keys (map key_of ys) ≡ Some after
+        → with_list sight type old viewed ≡ with_list sight type after (map choice_view (drop (i + 1) xs))
+    written_next old keys after ys inv e h =
+        let next : suc i ≡ i + 1 = omega arith in
+        inv ∙ ap (λ l. with_list sight type keys (map choice_view l)) one.next
+        ∙ ap (λ o. o >>= λ z. with_list sight type z (map choice_view (drop (suc i) xs)))
+        (next_choice keys after (choice_view one.x) ys (ap (are.choices sight type) (sym seen_part) ∙ e) h)
+        ∙ ap (λ k. with_list sight type after (map choice_view (drop k xs))) next
+
+    pub written_refused : (old : List Name) (f : NameFault) → Tells (choices sight type (map choice_view part)) f → Tells (told.written sight type old viewed) f
+    written_refused old f h =
+        told_left (any_of alone viewed) (lacking (ChoiceTwice ∷ []) (with_list sight type old viewed)) f
+        (told_any alone choice_view xs i one.x f lt one.is
+        (told_along (choices sight type (map choice_view part)) (alone (choice_view one.x)) f (ap (choices sight type) seen_part) h))
+
+    pub written_twice : (old keys : List Name) (ys : List s.Choice) (f : NameFault)
+        → with_list sight type old viewed ≡ with_list sight type keys (map choice_view (drop i xs))
+        → are.choices sight type (map choice_view part) ≡ Some ys → (f ≢ NoMemory → in_turn one_name keys (map key_of ys) ≡ None)
+        → Tells (is_of (ChoiceTwice ∷ [])) f → Tells (told.written sight type old viewed) f
+    written_twice old keys ys f inv e none h =
+        told_right (any_of alone viewed) (lacking (ChoiceTwice ∷ []) (with_list sight type old viewed)) f
+        (told_lacking (ChoiceTwice ∷ []) (with_list sight type old viewed) f
+        (λ n. inv ∙ ap (λ l. with_list sight type keys (map choice_view l)) one.next
+        ∙ ap (λ o. o >>= λ z. with_list sight type z (map choice_view (drop (suc i) xs)))
+        (ap (λ l. in_turn one_name keys (map key_of l)) (choices_given (choice_view one.x ∷ []) ys (ap (are.choices sight type) (sym seen_part) ∙ e)) ∙ none n)) h)
 
   -- ---- what is covered
 
@@ -195,7 +269,7 @@ module _ (sight : Sight) (type : ObjectType) where
         there a (b ∷ more) = step (but_last (b ∷ more)) (there b more)
           where
             step : (o : Option Divided) → lacking (LeftOut ∷ []) o ≡ nothing
-                → lacking (LeftOut ∷ []) (o >>= λ d. Some (record { alternatives = a ∷ d.alternatives; last = d.last })) ≡ nothing
+                → lacking {A = Divided} (LeftOut ∷ []) (o >>= λ d. Some (record { alternatives = a ∷ d.alternatives; last = d.last })) ≡ nothing
             step None e = e
             step (Some d) e = refl
 
@@ -207,7 +281,7 @@ module _ (sight : Sight) (type : ObjectType) where
             only false h = h
         empty NoMemory h = tt
 
-        lost : {A B : Type 0} (o : Option A) (p : Option (List A)) → (o >>= λ y. p >>= λ ys. Some (y ∷ ys)) ≡ Some [] → Some tt ≡ let n : Option (Unit {0}) = None in n
+        lost : {A : Type 0} (o : Option A) (p : Option (List A)) → (o >>= λ y. p >>= λ ys. Some (y ∷ ys)) ≡ Some [] → Some tt ≡ let n : Option (Unit {0}) = None in n
         lost None p e = cc
         lost (Some y) None e = cc
         lost (Some y) (Some ys) e = cc
@@ -216,9 +290,22 @@ module _ (sight : Sight) (type : ObjectType) where
             → Tells (lacking (LeftOut ∷ []) (but_last all)) f → Tells (unless LeftOut (not (is_empty ls))) f
         go (a ∷ more) ls e h = told_nothing (unless LeftOut (not (is_empty ls))) f (told_along (lacking (LeftOut ∷ []) (but_last (a ∷ more))) nothing f (there a more) h)
         go [] [] e h = empty f h
-        go [] (l ∷ ls) e h = let no : Some tt ≡ None = lost {List s.Choice} {List s.Choice} (are.choices sight type l) (each (are.choices sight type) ls) e in cc
+        go [] (l ∷ ls) e h = let no : Some tt ≡ None = lost (are.choices sight type l) (each (are.choices sight type) ls) e in cc
+
+-- one of several lists, whose choices are refused
+pub fault_told : (sight : Sight) (type : ObjectType) (bs : List (Bor (List Choice))) (i : ℕ) (x : Bor (List Choice)) (keys : List Name) (f : NameFault)
+    → i < length bs → x ≡ get_or bs i x
+    → in_turn (with_list sight type) [] (all_lists bs) ≡ in_turn (with_list sight type) keys (all_lists (drop i bs))
+    → Tells (told.written sight type keys (choice_list x)) f → Tells (covered sight type (all_lists bs)) f
+fault_told sight type bs i x keys f lt is inv h =
+    written_told sight type (all_lists bs) f keys (choice_list x) (all_lists (drop (suc i) bs))
+    (inv ∙ ap (λ l. in_turn (with_list sight type) keys (all_lists l)) (drop-cons bs i x lt ∙ ap (λ y. y ∷ drop (suc i) bs) (sym is)))
+    (λ k. told_any (choices sight type) choice_list bs i x f lt is k) h
 
 -- ---- tables of keys
+
+pub neither : (a b : Bool) → a ≡ false → b ≡ false → (a || b) ≡ false
+neither a b e g = ap (λ x. x || b) e ∙ g
 
 -- neither others nor each literal stands there
 pub not_all : (type : ObjectType) (lists : List (List t.Choice)) (all : List Chosen) (keys : List Name) → in_turn with_choices [] all ≡ Some keys

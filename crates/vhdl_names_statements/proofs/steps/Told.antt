@@ -1,9 +1,12 @@
 -- What is told of the parts of statements is told of the whole.
-use Rattle.std.proofs.Common.{◌≡◌, ◌≢◌, ℕ, Bool, true, false, ◌||◌, List, [], ◌∷◌, Option, Some, None, refl, ap, sym, ◌∙◌, true≢false}
-use Rattle.std.specs.Prelude.{not}
+use Rattle.std.proofs.Common.{◌≡◌, ◌≢◌, ℕ, ◌<◌, length, get_or, map, Bool, true, false, ◌||◌, List, [], ◌∷◌, Option, Some, None, refl, ap, sym, ◌∙◌, true≢false}
+use Rattle.std.specs.Prelude.{not, Result, IfErr}
 use Rattle.vhdl_tree.specs.Tree as t
 use Rattle.vhdl_tree.specs.Tree.{Ident}
 use Rattle.vhdl_tree.specs.View as tree
+use Rattle.vhdl_tree.specs.declared.sequential.Sequential.{Sequential}
+use Rattle.vhdl_tree.specs.declared.sequential.Conditional.{Conditional}
+use Rattle.vhdl_tree.specs.declared.sequential.Alternative.{Alternative}
 use Rattle.vhdl_tree.specs.declared.sequential.If.{If, out-If}
 use Rattle.vhdl_tree.specs.declared.sequential.For.{For, out-For}
 use Rattle.vhdl_tree.specs.declared.sequential.Case.{Case, out-Case}
@@ -25,7 +28,7 @@ use Rattle.vhdl_names_problems.specs.Choices as asked
 use Rattle.vhdl_names_problems.specs.Choices.{choices, covered}
 use Rattle.vhdl_names_problems.specs.Statements as broken
 use Rattle.vhdl_names_problems.specs.Statements.{covered_by}
-use Rattle.vhdl_names_problems.proofs.Telling.{told_left, told_right, told_given}
+use Rattle.vhdl_names_problems.proofs.Telling.{told_left, told_right, told_given, told_any, told_on}
 use Rattle.vhdl_names_statements.specs.steps.Cases as cases
 use Rattle.vhdl_names_statements.specs.steps.Told as told
 use Rattle.vhdl_names_statements.proofs.steps.Sequential.{if_is, for_is}
@@ -49,6 +52,9 @@ told_either a b c (At p at) h l r = go (a p) refl h
     go true e h = l e
     go false e h = r h
 told_either a b c NoMemory h l r = tt
+
+pub on_along : {X : Type 0} (a b : Broken) (r : Result X NameFault) → a ≡ b → IfErr r (Tells a) → IfErr r (Tells b)
+on_along a b r e h = told_on a b r (λ f. told_along a b f e) h
 
 -- what is wanted and isn't met
 is_told : NameFault → Bool
@@ -111,6 +117,51 @@ alternatives_any sight type (a ∷ alts) f h =
     (λ r. told_either cs xs ((c ∪ cs) ∪ (x ∪ xs)) f (alternatives_any sight type alts f r)
     (λ k. told_left (c ∪ cs) (x ∪ xs) f (told_right c cs f k))
     (λ k. told_right (c ∪ cs) (x ∪ xs) f (told_right x xs f k)))
+
+-- ---- one of a list, in whose sight what is in sight is the same
+
+abbrev one_statement : Sight → t.Sequential → Broken
+one_statement sight q = broken.statement sight q.label q.statement
+
+pub statements_told : (sight entered : Sight) (xs : List Sequential) (i : ℕ) (x : Sequential) (f : NameFault) → i < length xs → x ≡ get_or xs i x → entered ≡ sight
+    → Tells (broken.statement entered (tree.sequential_view x).label (tree.sequential_view x).statement) f
+    → Tells (broken.statements sight (t.statements_of (map tree.sequential_view xs))) f
+statements_told sight entered xs i x f lt is e h =
+    told_along (any_of (one_statement sight) (map tree.sequential_view xs)) (broken.statements sight (t.statements_of (map tree.sequential_view xs))) f
+    (statements_any sight (map tree.sequential_view xs))
+    (told_any (one_statement sight) tree.sequential_view xs i x f lt is
+    (told_along (one_statement entered (tree.sequential_view x)) (one_statement sight (tree.sequential_view x)) f (ap (λ s. one_statement s (tree.sequential_view x)) e) h))
+
+pub branches_told : (sight entered : Sight) (xs : List Conditional) (i : ℕ) (x : Conditional) (f : NameFault) → i < length xs → x ≡ get_or xs i x → entered ≡ sight
+    → Tells (told.guarded entered (tree.conditional_view x)) f
+    → Tells (broken.conditionals sight (t.conditionals_of (map tree.conditional_view xs))) f
+branches_told sight entered xs i x f lt is e h =
+    conditionals_any sight (map tree.conditional_view xs) f
+    (told_any (told.guarded sight) tree.conditional_view xs i x f lt is
+    (told_along (told.guarded entered (tree.conditional_view x)) (told.guarded sight (tree.conditional_view x)) f (ap (λ s. told.guarded s (tree.conditional_view x)) e) h))
+
+pub alternatives_told : (sight entered : Sight) (type : ObjectType) (xs : List Alternative) (i : ℕ) (x : Alternative) (f : NameFault) → i < length xs → x ≡ get_or xs i x → entered ≡ sight
+    → Tells (told.alternative entered type (tree.alternative_view x)) f
+    → Tells (told.alternatives sight type (map tree.alternative_view xs)) f
+alternatives_told sight entered type xs i x f lt is e h =
+    alternatives_any sight type (map tree.alternative_view xs) f
+    (told_any (told.alternative sight type) tree.alternative_view xs i x f lt is
+    (told_along (told.alternative entered type (tree.alternative_view x)) (told.alternative sight type (tree.alternative_view x)) f
+    (ap (λ s. told.alternative s type (tree.alternative_view x)) e) h))
+
+-- ---- statements by their kinds
+
+pub signal_assigned : (sight : Sight) (label : Option Ident) (n : t.Name) (v : t.Value) → broken.assigned sight n v ≡ broken.statement sight label (t.assigned n v)
+unfolding broken.statement
+signal_assigned sight label n v = refl
+
+pub variable_assigned : (sight : Sight) (label : Option Ident) (n : t.Name) (v : t.Value) → broken.variable_assigned sight n v ≡ broken.statement sight label (t.variable_assigned n v)
+unfolding broken.statement
+variable_assigned sight label n v = refl
+
+pub otherwise_done : (sight : Sight) (qs : List t.Sequential) → broken.statements sight (t.statements_of qs) ≡ broken.otherwise sight (t.else_do (t.statements_of qs))
+unfolding broken.otherwise
+otherwise_done sight qs = refl
 
 -- ---- if statements and loops
 
