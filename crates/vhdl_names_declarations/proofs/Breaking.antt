@@ -7,18 +7,17 @@ use Rattle.vhdl_names_rules.specs.declared.fault.NameFault.TheVariants.{At, NoMe
 use Rattle.vhdl_names_rules.specs.declared.fault.NameProblem.{NameProblem}
 use Rattle.vhdl_names_rules.specs.declared.fault.NameProblem.TheVariants.{Twice}
 use Rattle.vhdl_names_rules.specs.Rules.{◌>>=◌, met}
-use Rattle.vhdl_names_rules.specs.Visibility.{Name, Declared, Sight, Declares, are_distinct, with_declared, with_variables}
+use Rattle.vhdl_names_rules.specs.Visibility.{Name, Declared, Sight, Declares, are_distinct}
 use Rattle.vhdl_names_rules.specs.Interfaces.{declared_names}
 use Rattle.vhdl_names_rules.proofs.laws.Rules.{comes, kept}
 use Rattle.vhdl_names_problems.specs.Broken.{Broken, Tells, ◌∪◌, is, is_of, unless, where_given}
 use Rattle.vhdl_names_problems.specs.Declarations.{in_order}
 use Rattle.vhdl_names_problems.proofs.Telling.{told_left, told_right, told_given, is_same}
-use Rattle.vhdl_names_declarations.specs.Entered.{more, entering, entering_variables}
+use Rattle.vhdl_names_declarations.specs.Entered.{more}
 use Rattle.vhdl_names_declarations.specs.Standing.{standing_twice}
 use Rattle.vhdl_names_declarations.proofs.Regions.{names-append, still_twice}
 use Rattle.vhdl_names_declarations.proofs.Turns.{not_more}
 use Rattle.vhdl_names_declarations.proofs.Orders.{pair, first_is}
-use Rattle.vhdl_names_declarations.proofs.Listed.{in_region, of_process}
 
 -- ---- one rule
 

@@ -6,7 +6,6 @@ use Rattle.std.proofs.Math.Seq.{drop-cons}
 use Rattle.vhdl_tree.specs.Tree.{Ident, Selected, ContextItem, library, uses}
 use Rattle.vhdl_names_rules.specs.declared.fault.NameFault.{NameFault}
 use Rattle.vhdl_names_rules.specs.declared.fault.NameFault.TheVariants.{At, NoMemory}
-use Rattle.vhdl_names_rules.specs.declared.fault.NameProblem.{NameProblem}
 use Rattle.vhdl_names_rules.specs.declared.fault.NameProblem.TheVariants.{Undeclared, LeftOut}
 use Rattle.vhdl_names_rules.specs.Rules.{◌>>=◌, met}
 use Rattle.vhdl_names_rules.specs.Packages as packages
@@ -25,7 +24,6 @@ no_more o b NoMemory h = tt
 
 abbrev later : Context → ContextItem → List ContextItem → Broken
 later before item rest = where_given (packages.context before (item ∷ [])) (λ c. context c rest)
-
 
 abbrev has_library : Context → Broken
 has_library before = unless Undeclared before.has_ieee

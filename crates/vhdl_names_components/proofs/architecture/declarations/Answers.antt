@@ -59,7 +59,7 @@ loop-one-preserved c =
       c.of-counts-in-loop-one.ensures,
       c.in_ok-next.ensures.outermost,
       λ f h. c.loop-one.invariant.3 f
-      (told_behind in_region with_declared (λ s ds. refl) (declaration (entities_view c.args.entities.now)) (broken.declaration (entities_view c.args.entities.now)) names_in (of_declaration (entities_view c.args.entities.now)) tree.declaration_view (sight_view c.loop-one.sight) (sight_view c.declaration.new.sight) c.args.all.now c.loop-one.one-index c.one-item.result (analysed_view c.in_ok-next.next) f lt c.one-item.is c.in_ok-next.ensures.given h),
+          (told_behind in_region with_declared (λ s ds. refl) (declaration (entities_view c.args.entities.now)) (broken.declaration (entities_view c.args.entities.now)) names_in (of_declaration (entities_view c.args.entities.now)) tree.declaration_view (sight_view c.loop-one.sight) (sight_view c.declaration.new.sight) c.args.all.now c.loop-one.one-index c.one-item.result (analysed_view c.in_ok-next.next) f lt c.one-item.is c.in_ok-next.ensures.given h),
     )
 
 pub returns-clause-outermost : goal.returns-clause-outermost

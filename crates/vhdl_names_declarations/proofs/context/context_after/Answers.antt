@@ -34,7 +34,7 @@ loop-item-preserved c =
       c.loop-item.invariant.0
           ∙ item_goes tree.context_view c.args.items.now c.loop-item.item-index c.item-item.result lt c.item-item.is (context_view c.loop-item.now) (context_view c.in_ok-now.now) c.in_ok-now.ensures.given,
       λ f h. c.loop-item.invariant.1 f
-      (items_told tree.context_view c.args.items.now c.loop-item.item-index c.item-item.result lt c.item-item.is (context_view c.loop-item.now) (context_view c.in_ok-now.now) f c.in_ok-now.ensures.given h),
+          (items_told tree.context_view c.args.items.now c.loop-item.item-index c.item-item.result lt c.item-item.is (context_view c.loop-item.now) (context_view c.in_ok-now.now) f c.in_ok-now.ensures.given h),
     )
 
 pub returns-clause-given : goal.returns-clause-given

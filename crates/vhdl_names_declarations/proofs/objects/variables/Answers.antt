@@ -11,7 +11,7 @@ use Rattle.vhdl_names_declarations.specs.Entered.{entering_variables}
 use Rattle.vhdl_names_problems.specs.Broken.{Tells}
 use Rattle.vhdl_names_problems.specs.Declarations as broken
 use Rattle.vhdl_names_declarations.specs.Standing.{variables_broken}
-use Rattle.vhdl_names_declarations.proofs.Breaking.{told_at, told_behind, passed_on}
+use Rattle.vhdl_names_declarations.proofs.Breaking.{told_at, told_behind}
 use Rattle.vhdl_names_declarations.proofs.Naming.{of_variables}
 use Rattle.vhdl_names_declarations.proofs.Listed.{of_process, left_variables, begins_variables, fails_variables, goes_variables, ends_variables, counts_before_variables, place_within_variables, all_more}
 use Rattle.vhdl_names_declarations.proofs.Regions.{names_apart}
@@ -54,7 +54,7 @@ loop-one-preserved c =
           (ap (flat_map object_view) c.in_ok-push.ensures.items ∙ all_more object_view c.loop-one.done.items c.in_ok-next.next),
       c.of-counts-in-loop-one.ensures,
       λ f h. c.loop-one.invariant.2 f
-      (told_behind of_process with_variables (λ s ds. refl) variables broken.variables (λ g. names_of g.names) of_variables variables_view (sight_view c.loop-one.sight) (sight_view c.variables_of_one.new.sight) c.args.all.now c.loop-one.one-index c.one-item.result (object_view c.in_ok-next.next) f lt c.one-item.is c.in_ok-next.ensures.given h),
+          (told_behind of_process with_variables (λ s ds. refl) variables broken.variables (λ g. names_of g.names) of_variables variables_view (sight_view c.loop-one.sight) (sight_view c.variables_of_one.new.sight) c.args.all.now c.loop-one.one-index c.one-item.result (object_view c.in_ok-next.next) f lt c.one-item.is c.in_ok-next.ensures.given h),
     )
 
 pub returns-clause-given : goal.returns-clause-given

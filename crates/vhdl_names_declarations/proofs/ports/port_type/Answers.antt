@@ -1,13 +1,12 @@
 use Rattle.std.proofs.Common.{rules, arith, ◌≡◌, Some, ap, ◌∙◌}
 use Rattle.std.proofs.lemmas.Grind.{common_steps}
-use Rattle.vhdl_names_problems.specs.Broken.{Tells, ◌∪◌, lacking, where_given, of_any}
+use Rattle.vhdl_names_problems.specs.Broken.{Tells, ◌∪◌, where_given, of_any}
 use Rattle.vhdl_names_problems.specs.Declarations as broken
-use Rattle.vhdl_names_problems.specs.Expressions as expressions_broken
 use Rattle.vhdl_names_problems.specs.Subtypes as subtypes_broken
 use Rattle.vhdl_names_problems.proofs.Telling.{told_left, told_right, told_given, told_lacking}
 use Rattle.vhdl_names_rules.specs.declared.fault.NameProblem.TheVariants.{LeftOut}
 use Rattle.std.specs.Prelude.{◌∷◌, []}
-use Rattle.vhdl_names_rules.specs.Declarations.{as_kind, single_expression}
+use Rattle.vhdl_names_rules.specs.Declarations.{as_kind}
 use Rattle.vhdl_names_rules.specs.Subtypes.{Subtype, subtype}
 use Rattle.vhdl_tree.specs.View as tree
 use Rattle.vhdl_names_types.specs.Views.{sight_view}

@@ -12,7 +12,7 @@ use Rattle.vhdl_names_declarations.specs.Entered.{entering}
 use Rattle.vhdl_names_problems.specs.Broken.{Tells}
 use Rattle.vhdl_names_problems.specs.Declarations as broken
 use Rattle.vhdl_names_declarations.specs.Standing.{ports_broken}
-use Rattle.vhdl_names_declarations.proofs.Breaking.{told_at, told_behind, passed_on}
+use Rattle.vhdl_names_declarations.proofs.Breaking.{told_at, told_behind}
 use Rattle.vhdl_names_declarations.proofs.Naming.{of_port}
 use Rattle.vhdl_names_declarations.proofs.Listed.{in_region, left, begins, fails, goes, ends, counts_before, place_within, all_more}
 use Rattle.vhdl_names_declarations.proofs.Regions.{names_apart}
@@ -57,7 +57,7 @@ loop-one-preserved c =
       c.of-counts-in-loop-one.ensures,
       c.in_ok-next.ensures.kept ∙ ap (λ (s : Sight). record s { region = c.port.new.sight.region }) c.loop-one.invariant.2,
       λ f h. c.loop-one.invariant.3 f
-      (told_behind in_region with_declared (λ s ds. refl) port broken.port (λ g. names_of g.names) of_port port_view (sight_view c.loop-one.sight) (sight_view c.port.new.sight) c.args.all.now c.loop-one.one-index c.one-item.result (ports_view c.in_ok-next.next) f lt c.one-item.is c.in_ok-next.ensures.given h),
+          (told_behind in_region with_declared (λ s ds. refl) port broken.port (λ g. names_of g.names) of_port port_view (sight_view c.loop-one.sight) (sight_view c.port.new.sight) c.args.all.now c.loop-one.one-index c.one-item.result (ports_view c.in_ok-next.next) f lt c.one-item.is c.in_ok-next.ensures.given h),
     )
 
 pub returns-clause-kept : goal.returns-clause-kept
