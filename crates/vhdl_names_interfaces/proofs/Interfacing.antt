@@ -100,12 +100,12 @@ generics_told s gs ps f empty =
     (λ h. told_right (generics_of s gs) (ports_of s gs ps ∪ once gs ps) f (told_right (ports_of s gs ps) (once gs ps) f
     (subst (λ r. Tells (standing_twice r (interface_names gs ps)) f) empty (twice_more s.region (generic_names (all_of gs)) (port_names (all_of ps)) f h))))
 
-pub ports_told : (s t : Sight) (gs : Option (List t.Generic)) (ps : Option (List t.Port)) (x : List u.Generic) (f : NameFault) → s.region ≡ [] →
-    entering (in_order with_declared generic) s (all_of gs) ≡ Some (pair t x) → Tells (ports_broken t (all_of ps)) f → Tells (interfaces_broken.interface s gs ps) f
-ports_told s t gs ps x f empty given h =
-    let g = comes (in_order with_declared generic s (all_of gs)) (entered s) (pair t x) given in
-    let k = kept (are_distinct (declared_names (s.region ++ g.value.declared))) (Some (pair (with_declared s g.value.declared) g.value.analysed)) (pair t x) g.rest in
-    let same = first_is (with_declared s g.value.declared) t g.value.analysed x k.1 in
+pub ports_told : (s w : Sight) (gs : Option (List t.Generic)) (ps : Option (List t.Port)) (x : List u.Generic) (f : NameFault) → s.region ≡ [] →
+    entering (in_order with_declared generic) s (all_of gs) ≡ Some (pair w x) → Tells (ports_broken w (all_of ps)) f → Tells (interfaces_broken.interface s gs ps) f
+ports_told s w gs ps x f empty given h =
+    let g = comes (in_order with_declared generic s (all_of gs)) (entered s) (pair w x) given in
+    let k = kept (are_distinct (declared_names (s.region ++ g.value.declared))) (Some (pair (with_declared s g.value.declared) g.value.analysed)) (pair w x) g.rest in
+    let same = first_is (with_declared s g.value.declared) w g.value.analysed x k.1 in
     let names = names_in_order with_declared generic (λ (g : t.Generic). names_of g.names) of_generic (all_of gs) s g.value g.is in
     told_either (broken.in_order with_declared port broken.port (with_declared s g.value.declared) (all_of ps)) (standing_twice (s.region ++ g.value.declared) (port_names (all_of ps)))
     (interfaces_broken.interface s gs ps) f
