@@ -42,6 +42,10 @@ told_wanted q b NoMemory h = tt
 abbrev entry : Sight → List u.Object → Option (Sight × List u.Object)
 entry s vs = Some (s, vs)
 
+abbrev first : Sight → Option (Sight × List u.Object) → Sight
+first s None = s
+first s (Some p) = p.0
+
 module _ (sight : Sight) (label : Option Ident) (p : t.Process) (f : NameFault) where
   abbrev resumed : Broken
   resumed = sensitivity sight p.sensitivity
@@ -90,7 +94,7 @@ module _ (sight : Sight) (label : Option Ident) (p : t.Process) (f : NameFault) 
       ruled : (x : Declares u.Object) (b : Bool) → (met b >> entry (with_variables sight x.declared) x.analysed) ≡ Some (entered, vs)
           → Tells (statements (with_variables sight x.declared) (t.statements_of p.statements)) f
       ruled x true q =
-          let same : with_variables sight x.declared ≡ entered = cc in
+          let same : with_variables sight x.declared ≡ entered = ap (first sight) q in
           told_along (statements entered (t.statements_of p.statements)) (statements (with_variables sight x.declared) (t.statements_of p.statements)) f
           (ap (λ s. statements s (t.statements_of p.statements)) (sym same)) h
       ruled x false q = cc
