@@ -136,5 +136,5 @@ module _ (es : List EntityView) (e : EntityView) (items : List ContextItem) (a :
       (told_along statements v (with_declared (sight_of b.context e.interface.declared) x.value.declared) (sym at) f w))))
       end_told) w
     where
-      abbrev statements : Sight → Broken
+      statements : Sight → Broken
       statements v = concurrents es (record v { region = with_labels v.region labels }) (t.concurrents_of a.statements)

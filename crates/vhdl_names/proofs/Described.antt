@@ -64,7 +64,7 @@ own_told es k e at d ((items, a) ∷ all) p h f w = go (bytes_eq e.name a.entity
     here : bytes_eq e.name a.entity.text ≡ true → Tells (architecture es e items a) f → Tells (described es (items, a)) f
     here q w = told_along by (Some (k, e)) (entity_named es a.entity.text) (sym (ap (entity_named es) (sym ((bytes_eq-Decides e.name a.entity.text).0 q)) ∙ found_at es 0 k e at d)) f w
       where
-        abbrev by : Option (ℕ × EntityView) → Broken
+        by : Option (ℕ × EntityView) → Broken
         by None = context (record { has_ieee = true; has_logic = false; has_numbers = false }) items
         by (Some (k, e)) = architecture es e items a
 

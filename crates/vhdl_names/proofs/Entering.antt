@@ -1,5 +1,5 @@
 -- The entities of a file one after another, past those that are at fault, and what is told of one.
-use Rattle.std.proofs.Common.{◌≡◌, ℕ, Bool, true, false, cond, not, List, [], ◌∷◌, ◌++◌, map, Option, Some, None, refl, ap, sym, ◌∙◌, subst, append_assoc, append-nil}
+use Rattle.std.proofs.Common.{◌≡◌, ℕ, Bool, true, false, cond, not, List, [], ◌∷◌, ◌++◌, map, Option, Some, None, Result, Ok, Err, IfErr, refl, ap, sym, ◌∙◌, subst, append_assoc, append-nil}
 use Rattle.std.specs.Prelude.{◌||◌, bytes_eq, filter_map, find, option_map, if◌then◌else◌}
 use Rattle.std.specs.List.{cons_option}
 use Rattle.std.proofs.lemmas.List.{map-append}
@@ -10,17 +10,18 @@ use Rattle.vhdl_tree.specs.Tree.{ContextItem, DesignUnit, LibraryUnit}
 use Rattle.vhdl_names_rules.specs.declared.fault.NameFault.{NameFault}
 use Rattle.vhdl_names_rules.specs.declared.fault.NameProblem.TheVariants.{Twice}
 use Rattle.vhdl_names_rules.specs.Rules.{◌>>=◌, ◌>>◌, met}
+use Rattle.vhdl_names_rules.specs.Gives.{Gives}
 use Rattle.vhdl_names_rules.specs.Visibility.{Name, is_among, are_distinct}
 use Rattle.vhdl_names_rules.specs.Interfaces.{EntityView}
 use Rattle.vhdl_names_rules.specs.Files.{as_entity, entities_of, entity_names}
 use Rattle.vhdl_names_rules.proofs.laws.Rules.{comes, kept, some_is, not_true}
-use Rattle.vhdl_names_problems.specs.Broken.{Broken, Tells, ◌∪◌, unless, any_of}
+use Rattle.vhdl_names_problems.specs.Broken.{Broken, Tells, ◌∪◌, is_of, unless, any_of}
 use Rattle.vhdl_names_problems.specs.Interfaces.{entity}
 use Rattle.vhdl_names_problems.specs.Files.{with_entities}
 use Rattle.vhdl_names_problems.proofs.Telling.{told_left, told_right}
 use Rattle.vhdl_names_interfaces.specs.Views.{one_more}
 use Rattle.vhdl_names_instances.proofs.Taking.{repeated}
-use Rattle.vhdl_names_instances.proofs.Told.{told_along, told_nothing, told_either, told_unless, tells_unless, told_at}
+use Rattle.vhdl_names_instances.proofs.Told.{or_memory, told_along, told_nothing, told_either, told_unless, tells_unless, told_at}
 use Rattle.vhdl_names.specs.Views.{Keyed}
 use Rattle.vhdl_names.specs.Breaking.{one_entity, entities}
 use Rattle.vhdl_names.specs.steps.Outlines.{described_of}
@@ -156,3 +157,18 @@ module _ (ds : List DesignUnit) (es : List EntityView) (items : List ContextItem
         go None h = refl
         go (Some v) h = there v (is_among v.name (names_in es)) h
     given_past (t.architecture a) h = cc
+
+-- ---- an entity whose name stands before it
+
+pub twice_entered : {X : Type 0} (es vs : List EntityView) (v : EntityView) (items : List ContextItem) (e : t.Entity) (r : Result X NameFault) → v.name ≡ e.name.text
+    → Gives (λ _. vs) (one_more es v) r → IfErr r (Tells (is_of (Twice ∷ []))) → IfErr r (Tells (one_entity es items (t.LibraryUnit.entity e)))
+twice_entered es vs v items e (Ok x) n g w = tt
+twice_entered es vs v items e (Err f) n g w =
+    told_right (entity items e) (unless Twice (not (is_among e.name.text (names_in es)))) f
+    (or_memory (unless Twice (not (is_among e.name.text (names_in es)))) f
+    (λ m. tells_unless Twice (not (is_among e.name.text (names_in es))) f
+    (ap (λ n. not (is_among n (names_in es))) (sym n) ∙ there (not (is_among v.name (names_in es))) (g m)) w))
+  where
+    there : (b : Bool) → (met b >>= λ _. let r : Option (List EntityView) = Some (es ++ v ∷ []) in r) ≡ None → b ≡ false
+    there true h = cc
+    there false h = refl

@@ -47,7 +47,7 @@ gathered before (d ∷ ds) =
     ∙ ap (λ l. here ++ l) (gathered (before ++ d ∷ []) ds)
     ∙ ap (λ ns. here ++ placed_behind ns ds) (names-append before (d ∷ []))
   where
-    abbrev here : List (List ContextItem × t.Architecture)
+    here : List (List ContextItem × t.Architecture)
     here = if list_all (λ n. is_among n (entity_names before)) (described_names (d ∷ [])) then architectures_of (d ∷ []) else []
 
 pub all_placed : (ds : List DesignUnit) → placed_architectures ds ≡ placed_behind [] ds
@@ -186,7 +186,7 @@ module _ (ds : List DesignUnit) (o : OutlineView) (items : List ContextItem) (re
       (ap (λ l. are_distinct (described_names l)) (sym x.units) ∙ ap are_distinct (described-append x.before (of_architecture a ∷ rest))
       ∙ repeated n (described_names x.before) (described_names rest) (x.described n (no_not (is_among n (names_of o.architectures)) h))) w))))
     where
-      abbrev n : Name
+      n : Name
       n = a.entity.text
 
   -- ---- what is gathered behind it

@@ -12,7 +12,7 @@ ghost use Rattle.vhdl_names_rules.specs.declared.fault.NameFault.TheVariants.{At
 ghost use Rattle.vhdl_names_rules.specs.declared.fault.NameProblem.TheVariants.{Twice, WrongKind};
 ghost use Rattle.vhdl_tree.specs.View.{component_view, option_generics_view, option_ports_view};
 ghost use Rattle.vhdl_names_types.specs.Views.{region_view, sight_view};
-ghost use Rattle.vhdl_names_problems.specs.Broken.{Tells, ◌∪◌};
+ghost use Rattle.vhdl_names_problems.specs.Broken.{Tells, ◌∪◌, is_of, unless};
 ghost use Rattle.vhdl_names_problems.specs.Interfaces as broken;
 ghost use Rattle.vhdl_names_declarations.specs.Standing.{standing_twice};
 
@@ -29,6 +29,7 @@ use vhdl_tree::{Component, Entity, Identifier};
 fn is_new(region: &Region, name: &Identifier) -> Result<(), NameFault>
     ensures given { Gives (λ x. x) (spec.is_new (region_view region.now) name.now.text.items) result }
     ensures fault { IfErr result (λ f. f ≡ At Twice name.now.at) }
+    ensures told { IfErr result (Tells (is_of (Twice ∷ []))) }
 {
     let _apart = region.len();
     if region.contains_key(name.text.as_slice()) {
@@ -43,6 +44,8 @@ fn is_entity(component: &Component, entity: &Entity) -> Result<(), NameFault>
     ensures given { Gives (λ x. x) (rule WrongKind (same_generics (option_generics_view component.now.generics) (option_generics_view entity.now.generics)
         && same_ports (option_ports_view component.now.ports) (option_ports_view entity.now.ports))) result }
     ensures fault { IfErr result (λ f. f ≡ At WrongKind component.now.name.at) }
+    ensures told { IfErr result (Tells (unless WrongKind (same_generics (option_generics_view component.now.generics) (option_generics_view entity.now.generics)
+        && same_ports (option_ports_view component.now.ports) (option_ports_view entity.now.ports)))) }
 {
     if has_interface(component, entity) {
         Ok(())

@@ -1,24 +1,23 @@
 -- What is told of a declaration, or of a name that stands twice, is told of the list of declarations that it stands in.
 use Rattle.std.proofs.Common.{◌≡◌, ◌≢◌, ℕ, suc, ◌+◌, ◌<◌, Bool, true, false, ◌||◌, List, [], ◌∷◌, ◌++◌, map, flat_map, length, drop, get_or, Option, Some, None, Result, Ok, Err, IfErr, refl, sym, ap, subst, ◌∙◌, true≢false, append_assoc, arith}
-use Rattle.std.specs.Prelude.{IsErrAnd}
+use Rattle.std.specs.Prelude.{IsErrAnd, option_map, is_none, is_some}
 use Rattle.std.proofs.Math.Seq.{drop-cons}
 use Rattle.vhdl_names_rules.specs.declared.fault.NameFault.{NameFault}
 use Rattle.vhdl_names_rules.specs.declared.fault.NameFault.TheVariants.{At, NoMemory}
 use Rattle.vhdl_names_rules.specs.declared.fault.NameProblem.{NameProblem}
 use Rattle.vhdl_names_rules.specs.declared.fault.NameProblem.TheVariants.{Twice}
 use Rattle.vhdl_names_rules.specs.Rules.{◌>>=◌, met}
-use Rattle.vhdl_names_rules.specs.Visibility.{Name, Declared, Sight, Declares, are_distinct, with_declared, with_variables}
+use Rattle.vhdl_names_rules.specs.Visibility.{Name, Declared, Sight, Declares, are_distinct}
 use Rattle.vhdl_names_rules.specs.Interfaces.{declared_names}
 use Rattle.vhdl_names_rules.proofs.laws.Rules.{comes, kept}
 use Rattle.vhdl_names_problems.specs.Broken.{Broken, Tells, ◌∪◌, is, is_of, unless, where_given}
 use Rattle.vhdl_names_problems.specs.Declarations.{in_order}
-use Rattle.vhdl_names_problems.proofs.Telling.{told_left, told_right, told_given}
-use Rattle.vhdl_names_declarations.specs.Entered.{more, entering, entering_variables}
+use Rattle.vhdl_names_problems.proofs.Telling.{told_left, told_right, told_given, is_same}
+use Rattle.vhdl_names_declarations.specs.Entered.{more}
 use Rattle.vhdl_names_declarations.specs.Standing.{standing_twice}
 use Rattle.vhdl_names_declarations.proofs.Regions.{names-append, still_twice}
 use Rattle.vhdl_names_declarations.proofs.Turns.{not_more}
 use Rattle.vhdl_names_declarations.proofs.Orders.{pair, first_is}
-use Rattle.vhdl_names_declarations.proofs.Listed.{in_region, of_process}
 
 -- ---- one rule
 
@@ -35,8 +34,8 @@ or_false true h = refl
 or_false false h = h
 
 pub told_unless : (q : NameProblem) (holds : Bool) (f : NameFault) → (f ≢ NoMemory → holds ≡ false) → Tells (is_of (q ∷ [])) f → Tells (unless q holds) f
-told_unless q holds (At p at) no h = ap (λ b. unless q b p) (no (at_is_told p at)) ∙ or_false (is p q) h
-told_unless q holds NoMemory no h = tt
+told_unless q holds (At p at) fails h = ap (λ b. unless q b p) (fails (at_is_told p at)) ∙ or_false (is p q) h
+told_unless q holds NoMemory fails h = tt
 
 -- a fault that can only be for want of memory
 pub told_never : {A : Type 0} (b : Broken) (o : Option A) (x : A) (f : NameFault) → o ≡ Some x → (f ≢ NoMemory → o ≡ None) → Tells b f
@@ -69,7 +68,7 @@ twice_told ds es ns f none names told =
     told_unless Twice (are_distinct (declared_names ds ++ ns)) f
     (λ n. ap (λ l. are_distinct (declared_names ds ++ l)) (sym names) ∙ ap are_distinct (sym (names-append ds es)) ∙ not_more ds es (none n)) told
 
-unless_false : (q : NameProblem) (b c : Bool) (f : NameFault) → (b ≡ false → c ≡ false) → Tells (unless q b) f → Tells (unless q c) f
+pub unless_false : (q : NameProblem) (b c : Bool) (f : NameFault) → (b ≡ false → c ≡ false) → Tells (unless q b) f → Tells (unless q c) f
 unless_false q true c (At p at) more h = absurd (true≢false (sym h))
 unless_false q false c (At p at) more h = ap (λ b. unless q b p) (more refl) ∙ h
 unless_false q b c NoMemory more h = tt
@@ -130,3 +129,9 @@ module _ (region : Sight → List Declared) (with_more : Sight → List Declared
         (told_next s (view c) (map view (drop (suc i) cs)) x.value f x.is
         (subst (λ j. Tells (all_broken (with_more s x.value.declared) (map view (drop j cs))) f) n
         (subst (λ r. Tells (all_broken r (map view (drop (i + 1) cs))) f) (sym same) h)))
+
+-- ---- what must not stand there
+
+pub stands_there : {A B : Type 0} (view : A → B) (q : NameProblem) (o : Option A) → is_some o ≡ true → unless q (is_none (option_map view o)) q ≡ true
+stands_there view q None h = absurd (true≢false (sym h))
+stands_there view q (Some x) h = is_same q

@@ -4,6 +4,7 @@ pub mod Declaring
 pub mod Labelling
 pub mod Listed
 pub mod Classes
+pub mod Clauses
 pub mod Naming
 pub mod Orders
 pub mod Regions

@@ -5,13 +5,14 @@ use Rattle.vhdl_tree.specs.Tree as t
 use Rattle.vhdl_tree.specs.Tree.{Selected}
 use Rattle.vhdl_names_rules.specs.declared.fault.NameProblem.TheVariants.{Undeclared, Twice, LeftOut}
 use Rattle.vhdl_names_rules.specs.Visibility as visibility
-use Rattle.vhdl_names_rules.specs.Visibility.{Name, Declared, Sight, names_of, are_distinct}
+use Rattle.vhdl_names_rules.specs.Visibility.{Name, Declared, Sight, names_of, are_distinct, with_declared, with_variables}
 use Rattle.vhdl_names_rules.specs.Packages.{Context, is_logic, is_numbers}
 use Rattle.vhdl_names_rules.specs.Subtypes.{as_integer_type}
+use Rattle.vhdl_names_rules.specs.Declarations as declarations
 use Rattle.vhdl_names_rules.specs.Interfaces.{declared_names}
 use Rattle.vhdl_names_problems.specs.Broken.{Broken, ◌∪◌, unless, where_given}
 use Rattle.vhdl_names_problems.specs.Expressions.{meaning}
-use Rattle.vhdl_names_problems.specs.Declarations.{constants_by}
+use Rattle.vhdl_names_problems.specs.Declarations.{in_order, constants_by, generic, port, variables}
 
 -- a name of these stands twice, or in the region already
 abbrev pub standing_twice : List Declared → List Name → Broken
@@ -29,6 +30,16 @@ variable_names = flat_map (λ (v : t.Variables). names_of v.names)
 
 abbrev pub enumeration_names : t.Enumeration → List Name
 enumeration_names d = d.name.text ∷ names_of d.literals
+
+-- generics one after another, ports, and a process's variables
+abbrev pub generics_broken : Sight → List t.Generic → Broken
+generics_broken sight gs = in_order with_declared declarations.generic generic sight gs ∪ standing_twice sight.region (generic_names gs)
+
+abbrev pub ports_broken : Sight → List t.Port → Broken
+ports_broken sight ps = in_order with_declared declarations.port port sight ps ∪ standing_twice sight.region (port_names ps)
+
+abbrev pub variables_broken : Sight → List t.Variables → Broken
+variables_broken sight vs = in_order with_variables declarations.variables variables sight vs ∪ standing_twice sight.variables (variable_names vs)
 
 -- constants, with their names hidden
 abbrev pub constants_broken : Sight → t.Constants → Broken

@@ -17,7 +17,7 @@ ghost use Rattle.vhdl_names_problems.specs.Broken.{Tells, ◌∪◌, is_of, of_a
 ghost use Rattle.vhdl_names_problems.specs.Declarations as broken;
 ghost use Rattle.vhdl_names_problems.specs.Expressions as expressions_broken;
 ghost use Rattle.vhdl_names_rules.specs.Visibility.{names_of};
-ghost use Rattle.vhdl_names_declarations.specs.Standing.{standing_twice, generic_names};
+ghost use Rattle.vhdl_names_declarations.specs.Standing.{standing_twice, generics_broken};
 
 use crate::class::ObjectClass;
 use crate::counts::Counts;
@@ -118,8 +118,7 @@ pub fn generics(
     ensures given { Gives (λ v. (sight_view sight.new, all_generics_view v))
         (entering (rules.in_order with_declared rules.generic) (sight_view sight.old) (map generic_view all.now)) result }
     ensures kept { OnOk result (sight.new ≡ record sight.old { region = sight.new.region }) }
-    ensures told { IfErr result (Tells (broken.in_order with_declared rules.generic broken.generic (sight_view sight.old) (map generic_view all.now)
-        ∪ standing_twice (sight_view sight.old).region (generic_names (map generic_view all.now)))) }
+    ensures told { IfErr result (Tells (generics_broken (sight_view sight.old) (map generic_view all.now))) }
 {
     let mut done = Vec::new(alloc);
     let _apart = sight.region.len();

@@ -17,7 +17,7 @@ ghost use Rattle.vhdl_names_problems.specs.Broken.{Tells, ◌∪◌, of_any};
 ghost use Rattle.vhdl_names_problems.specs.Declarations as broken;
 ghost use Rattle.vhdl_names_problems.specs.Subtypes as subtypes_broken;
 ghost use Rattle.vhdl_names_rules.specs.Visibility.{names_of};
-ghost use Rattle.vhdl_names_declarations.specs.Standing.{standing_twice, variable_names};
+ghost use Rattle.vhdl_names_declarations.specs.Standing.{standing_twice, variables_broken};
 
 use crate::class::ObjectClass;
 use crate::counts::Counts;
@@ -135,8 +135,7 @@ pub fn variables(
 ) -> Result<Vec<Objects>, NameFault>
     ensures given { Gives (λ v. (sight_view sight.new, objects_view v))
         (entering_variables (rules.in_order with_variables rules.variables) (sight_view sight.old) (map tree.variables_view all.now)) result }
-    ensures told { IfErr result (Tells (broken.in_order with_variables rules.variables broken.variables (sight_view sight.old) (map tree.variables_view all.now)
-        ∪ standing_twice (sight_view sight.old).variables (variable_names (map tree.variables_view all.now)))) }
+    ensures told { IfErr result (Tells (variables_broken (sight_view sight.old) (map tree.variables_view all.now))) }
 {
     let mut done = Vec::new(alloc);
     let _apart = sight.variables.len();

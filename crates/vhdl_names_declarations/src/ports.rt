@@ -14,7 +14,7 @@ ghost use Rattle.vhdl_names_problems.specs.Broken.{Tells, ◌∪◌, is_of};
 ghost use Rattle.vhdl_names_problems.specs.Declarations as broken;
 ghost use Rattle.vhdl_names_rules.specs.Visibility.{names_of};
 ghost use Rattle.vhdl_names_rules.specs.declared.fault.NameProblem.TheVariants.{LeftOut};
-ghost use Rattle.vhdl_names_declarations.specs.Standing.{standing_twice, port_names};
+ghost use Rattle.vhdl_names_declarations.specs.Standing.{standing_twice, ports_broken};
 
 use crate::class::ObjectClass;
 use crate::counts::Counts;
@@ -89,8 +89,7 @@ pub fn ports(alloc: Global, sight: &mut Sight, all: &[Port]) -> Result<Vec<Ports
     ensures given { Gives (λ v. (sight_view sight.new, all_ports_view v))
         (entering (rules.in_order with_declared rules.port) (sight_view sight.old) (map tree.port_view all.now)) result }
     ensures kept { OnOk result (sight.new ≡ record sight.old { region = sight.new.region }) }
-    ensures told { IfErr result (Tells (broken.in_order with_declared rules.port broken.port (sight_view sight.old) (map tree.port_view all.now)
-        ∪ standing_twice (sight_view sight.old).region (port_names (map tree.port_view all.now)))) }
+    ensures told { IfErr result (Tells (ports_broken (sight_view sight.old) (map tree.port_view all.now))) }
 {
     let mut done = Vec::new(alloc);
     let _apart = sight.region.len();

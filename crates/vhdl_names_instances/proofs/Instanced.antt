@@ -1,13 +1,13 @@
 -- What is told of an instance, over the table of entities.
-use Rattle.std.proofs.Common.{◌≡◌, ℕ, Bool, true, false, List, [], ◌∷◌, map, Option, Some, None, Result, Ok, Err, IfErr, refl, ap, sym, ◌∙◌}
-use Rattle.std.specs.Prelude.{bytes_eq, option_map, slice_get, filter_map, codes}
+use Rattle.std.proofs.Common.{◌≡◌, ℕ, List, [], ◌∷◌, map, Option, Some, None, Result, Ok, Err, IfErr, refl, ap, sym, ◌∙◌}
+use Rattle.std.specs.Prelude.{bytes_eq, option_map, slice_get, codes}
 use Rattle.std.specs.List.{position_from}
 use Rattle.std.proofs.lemmas.Option.{slice_get-map}
 use Rattle.vhdl_tree.specs.Tree as t
 use Rattle.vhdl_tree.specs.Tree.{Ident}
 use Rattle.vhdl_names_rules.specs.declared.fault.NameFault.{NameFault}
 use Rattle.vhdl_names_rules.specs.declared.fault.NameProblem.TheVariants.{Undeclared, WrongKind}
-use Rattle.vhdl_names_rules.specs.Rules.{◌>>=◌, all_of}
+use Rattle.vhdl_names_rules.specs.Rules.{◌>>=◌}
 use Rattle.vhdl_names_rules.specs.Visibility.{Name, Sight}
 use Rattle.vhdl_names_rules.specs.Instances as rules
 use Rattle.vhdl_names_rules.specs.Instances.{Formal, is_architecture, generic_name, port_formal}
@@ -22,7 +22,7 @@ use Rattle.vhdl_names_instances.specs.Table.{Seen, seen, seen_view, AreEntities}
 use Rattle.vhdl_names_instances.specs.Breaking as breaking
 use Rattle.vhdl_names_instances.specs.steps.Instances as steps
 use Rattle.vhdl_names_instances.proofs.Instancing.{beside, found, instantiated_by}
-use Rattle.vhdl_names_instances.proofs.Told.{told_along, told_either, told_unless, told_absent, told_where, tells_unless}
+use Rattle.vhdl_names_instances.proofs.Told.{told_along, told_either, told_absent, told_where}
 
 -- ---- an entity that is seen
 
@@ -72,7 +72,7 @@ module _ (es : List EntityView) where
       (told_where (slice_get (map seen es) k) of_seen (named a (entity_named es n)) f
       (λ s q w. at s (shown es k s q) w))
     where
-      abbrev of_seen : Seen → Broken
+      of_seen : Seen → Broken
       of_seen e = unless WrongKind (is_architecture a e.architecture)
 
       at : (s : Seen) → Shown es k s → Tells (of_seen s) f → Tells (named a (entity_named es n)) f
@@ -92,16 +92,16 @@ module _ (es : List EntityView) where
       (told_where place architecture whole f
       (λ k h w. told_right of_library (named a (entity_named es n.text)) f (other_architecture a n.text k h f w))))
     where
-      abbrev of_library : Broken
+      of_library : Broken
       of_library = unless Undeclared (bytes_eq library.text (codes "work"))
 
-      abbrev place : Option ℕ
+      place : Option ℕ
       place = position_from (bytes_eq n.text) 0 names
 
-      abbrev architecture : ℕ → Broken
+      architecture : ℕ → Broken
       architecture = breaking.with_architecture (map seen es) a
 
-      abbrev whole : Broken
+      whole : Broken
       whole = broken.instantiated es sight (t.entity_unit library n a)
 
 -- ---- the same over the table

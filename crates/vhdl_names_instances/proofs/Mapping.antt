@@ -1,5 +1,5 @@
 -- What is told of the maps of an instance, over what is seen of its entity.
-use Rattle.std.proofs.Common.{◌≡◌, List, map, Option, Some, refl, ap, sym, ◌∙◌}
+use Rattle.std.proofs.Common.{◌≡◌, List, map, Option, Some, ap, sym, ◌∙◌}
 use Rattle.std.specs.Prelude.{filter_map}
 use Rattle.vhdl_tree.specs.Tree as t
 use Rattle.vhdl_tree.specs.Tree.{Expr, Association}
@@ -9,11 +9,11 @@ use Rattle.vhdl_names_rules.specs.Visibility.{Name, Sight}
 use Rattle.vhdl_names_rules.specs.Instances as rules
 use Rattle.vhdl_names_rules.specs.Instances.{Formal, generic_name, port_formal, expression_of}
 use Rattle.vhdl_names_rules.specs.Interfaces.{EntityView}
-use Rattle.vhdl_names_problems.specs.Broken.{Broken, Tells, ◌∪◌, any_of, of_any}
+use Rattle.vhdl_names_problems.specs.Broken.{Broken, Tells, any_of, of_any}
 use Rattle.vhdl_names_problems.specs.Expressions.{static}
 use Rattle.vhdl_names_problems.specs.Instances.{associated, generic_map, port_map, maps}
 use Rattle.vhdl_names_problems.proofs.Telling.{told_left, told_right}
-use Rattle.vhdl_names_instances.specs.Table.{Seen, seen, type_of}
+use Rattle.vhdl_names_instances.specs.Table.{Seen, seen}
 use Rattle.vhdl_names_instances.specs.Breaking.{port_actuals}
 use Rattle.vhdl_names_instances.proofs.Told.{told_along}
 use Rattle.vhdl_names_instances.proofs.Porting.{generics_told, all_ports_told, names_told}

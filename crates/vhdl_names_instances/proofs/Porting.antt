@@ -1,19 +1,17 @@
 -- What is told of the actuals of formals is told of the associations that they stand in.
-use Rattle.std.proofs.Common.{◌≡◌, ◌≢◌, ℕ, zero, suc, ◌+◌, Bool, true, false, cond, ◌||◌, List, [], ◌∷◌, ◌++◌, map, drop, Option, Some, None, refl, ap, sym, ◌∙◌, subst, inl, inr, true≢false}
-use Rattle.std.specs.Prelude.{◌&&◌, ◌⊎◌, bytes_eq, filter, filter_map, find, zip, option_map, slice_get, if◌then◌else◌}
+use Rattle.std.proofs.Common.{◌≡◌, ℕ, zero, suc, Bool, true, false, cond, ◌||◌, List, [], ◌∷◌, ◌++◌, map, drop, Option, Some, None, refl, ap, sym, ◌∙◌, subst, inl, inr, true≢false}
+use Rattle.std.specs.Prelude.{◌⊎◌, bytes_eq, filter_map, find, zip, option_map, slice_get, if◌then◌else◌}
 use Rattle.std.specs.List.{list_all, cons_option}
 use Rattle.std.proofs.lemmas.List.{append-nil}
 use Rattle.std.proofs.lemmas.Slice.Eq.{bytes_eq-Decides}
 use Rattle.vhdl_tree.specs.Tree.{Expr, Association}
 use Rattle.vhdl_names_rules.specs.declared.fault.NameFault.{NameFault}
-use Rattle.vhdl_names_rules.specs.declared.fault.NameFault.TheVariants.{At, NoMemory}
-use Rattle.vhdl_names_rules.specs.declared.fault.NameProblem.TheVariants.{Twice, Undeclared, WrongKind, TypeMismatch, WriteOfIn, LeftOut}
-use Rattle.vhdl_names_rules.specs.Rules.{◌>>=◌, ◌>>◌, met}
+use Rattle.vhdl_names_rules.specs.Rules.{◌>>=◌}
 use Rattle.vhdl_names_rules.specs.Visibility.{Name, Sight, is_among, are_distinct}
 use Rattle.vhdl_names_rules.specs.Instances as rules
 use Rattle.vhdl_names_rules.specs.Instances.{Formal, expression_of, actual_of, positional_first, formal_of, formals_of}
 use Rattle.vhdl_names_rules.proofs.laws.Rules.{comes, kept, both, some_is}
-use Rattle.vhdl_names_problems.specs.Broken.{Broken, Tells, nothing, ◌∪◌, is_of, any_of, of_any}
+use Rattle.vhdl_names_problems.specs.Broken.{Broken, Tells, nothing, ◌∪◌, any_of, of_any}
 use Rattle.vhdl_names_problems.specs.Instances.{formal_names, associated, port_actual, ports_named, port_association, generic_map, port_map}
 use Rattle.vhdl_names_problems.specs.Expressions.{static}
 use Rattle.vhdl_names_problems.proofs.Telling.{told_left, told_right}
@@ -23,7 +21,7 @@ use Rattle.vhdl_names_instances.specs.Taken.{AreTaken}
 use Rattle.vhdl_names_instances.specs.Breaking.{typed_as, entry, port_actuals}
 use Rattle.vhdl_names_instances.specs.steps.Actuals.{formal}
 use Rattle.vhdl_names_instances.specs.steps.Associations.{actuals}
-use Rattle.vhdl_names_instances.proofs.Told.{told_along, told_nothing, told_either, or_memory}
+use Rattle.vhdl_names_instances.proofs.Told.{told_along, told_nothing, told_either}
 use Rattle.vhdl_names_instances.proofs.Taking.{same_name}
 
 -- ---- the entry of one place is told of all
@@ -55,11 +53,12 @@ of_actual b a = of_any b (expression_of a.actual)
 one_told : (b : Expr → Broken) (n : Name) (ts : List Name) (as' : List Association) (f : NameFault) → Tells (of_any b (actual_of n ts as')) f → Tells (any_of (of_actual b) as') f
 one_told b n [] as' f w = told_nothing (any_of (of_actual b) as') f w
 one_told b n (t ∷ ts) [] f w = w
-one_told b n (t ∷ ts) (a ∷ as') f w = go (bytes_eq n t) w
+one_told b n (t ∷ ts) (a ∷ as') f w = go (bytes_eq n t) w (one_told b n ts as' f)
   where
-    go : (x : Bool) → Tells (of_any b (if x then expression_of a.actual else actual_of n ts as')) f → Tells (any_of (of_actual b) (a ∷ as')) f
-    go true w = told_left (of_actual b a) (any_of (of_actual b) as') f w
-    go false w = told_right (of_actual b a) (any_of (of_actual b) as') f (one_told b n ts as' f w)
+    go : (x : Bool) → Tells (of_any b (if x then expression_of a.actual else actual_of n ts as')) f → (Tells (of_any b (actual_of n ts as')) f → Tells (any_of (of_actual b) as') f)
+        → Tells (any_of (of_actual b) (a ∷ as')) f
+    go true w more = told_left (of_actual b a) (any_of (of_actual b) as') f w
+    go false w more = told_right (of_actual b a) (any_of (of_actual b) as') f (more w)
 
 pub actuals_told : (b : Expr → Broken) (ns ts : List Name) (as' : List Association) (f : NameFault) → Tells (any_of (of_any b) (actuals ns ts as')) f → Tells (any_of (of_actual b) as') f
 actuals_told b [] ts as' f w = told_nothing (any_of (of_actual b) as') f w
@@ -125,7 +124,7 @@ module _ (sight : Sight) (f : NameFault) where
   of_port [] n p e h w = absurd h
   of_port (g ∷ gs) n p e h w = go (bytes_eq n g.name) refl h (of_port gs n p e)
     where
-      abbrev all : List Formal → Broken
+      all : List Formal → Broken
       all = any_of (λ g. of_any (port_actual sight g) e)
 
       go : (x : Bool) → bytes_eq n g.name ≡ x → HasPort (g ∷ gs) n p
@@ -147,15 +146,16 @@ module _ (sight : Sight) (f : NameFault) where
         → Tells (of_any (port_actual sight (formal p)) (actual_of n ts as')) f → Tells (associations (given_names ts ++ os) as') f
     one_port n p h [] os as' w = told_nothing (associations os as') f w
     one_port n p h (t ∷ ts) os [] w = w
-    one_port n p h (t ∷ ts) os (a ∷ as') w = go (bytes_eq n t) refl w
+    one_port n p h (t ∷ ts) os (a ∷ as') w = go (bytes_eq n t) refl w (one_port n p h ts os as')
       where
         go : (x : Bool) → bytes_eq n t ≡ x → Tells (of_any (port_actual sight (formal p)) (if x then expression_of a.actual else actual_of n ts as')) f
+            → (Tells (of_any (port_actual sight (formal p)) (actual_of n ts as')) f → Tells (associations (given_names ts ++ os) as') f)
             → Tells (port_association sight gs (Some t, a) ∪ associations (given_names ts ++ os) as') f
-        go true q w =
+        go true q w more =
             told_left (port_association sight gs (Some t, a)) (associations (given_names ts ++ os) as') f
             (told_along (λ m. any_of (λ g. of_any (port_actual sight g) (expression_of a.actual)) (ports_named gs m)) n t ((bytes_eq-Decides n t).0 q) f
             (of_port gs n p (expression_of a.actual) h w))
-        go false q w = told_right (port_association sight gs (Some t, a)) (associations (given_names ts ++ os) as') f (one_port n p h ts os as' w)
+        go false q w more = told_right (port_association sight gs (Some t, a)) (associations (given_names ts ++ os) as') f (more w)
 
     all_ports : (ns : List Name) (ps : List PortType) → Aligned gs ns ps → (ts : List Name) (os : List (Option Name)) (as' : List Association)
         → Tells (port_actuals sight ps (actuals ns ts as')) f → Tells (associations (given_names ts ++ os) as') f

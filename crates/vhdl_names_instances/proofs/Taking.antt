@@ -14,16 +14,16 @@ use Rattle.vhdl_names_rules.specs.declared.fault.NameFault.{NameFault}
 use Rattle.vhdl_names_rules.specs.declared.fault.NameProblem.TheVariants.{Undeclared, Twice, WrongKind}
 use Rattle.vhdl_names_rules.specs.Rules.{◌>>=◌, ◌>>◌, met, then_some}
 use Rattle.vhdl_names_rules.specs.Visibility.{Name, is_among, are_distinct}
-use Rattle.vhdl_names_rules.specs.Instances.{is_named, positional_first, formal_of}
+use Rattle.vhdl_names_rules.specs.Instances.{is_named, positional_first}
 use Rattle.vhdl_names_rules.proofs.laws.Rules.{comes, kept, some_is}
 use Rattle.vhdl_names_labels.specs.Once.{one_name}
 use Rattle.vhdl_names_labels.proofs.Once.{contained}
-use Rattle.vhdl_names_problems.specs.Broken.{Broken, Tells, nothing, ◌∪◌, is_of, unless, lacking, where_given, any_of, of_any}
+use Rattle.vhdl_names_problems.specs.Broken.{Broken, Tells, ◌∪◌, is_of, unless, lacking, where_given, any_of, of_any}
 use Rattle.vhdl_names_problems.specs.Instances.{formal_names, is_formal, associated}
-use Rattle.vhdl_names_problems.proofs.Telling.{told_left, told_right}
+use Rattle.vhdl_names_problems.proofs.Telling.{told_left, told_right, told_given}
 use Rattle.vhdl_names_instances.specs.Breaking.{one_association}
 use Rattle.vhdl_names_instances.specs.Taken.{AreTaken}
-use Rattle.vhdl_names_instances.specs.steps.Associations.{formal_at, one_taken}
+use Rattle.vhdl_names_instances.specs.steps.Associations.{formal_at, one_taken, taking}
 use Rattle.vhdl_names_instances.proofs.Associating.{by_either, next_drop}
 use Rattle.vhdl_names_instances.proofs.Told.{told_along, told_either, told_unless, told_absent, told_where, tells_unless, told_at}
 
@@ -185,10 +185,10 @@ module _ (formals : List Name) (all : List Association) (k : ℕ) (b : Bool) (ta
       (λ h w. told_right positional (too_many ∪ unknown ∪ twice) f (told_left too_many (unknown ∪ twice) f (at_name (lacking (WrongKind ∷ [])) None h f w))))
       (told_where o of_formal (associated formals all) f (λ n e w. of_name f n e w)))
     where
-      abbrev o : Option Name
+      o : Option Name
       o = formal_at formals k a.formal
 
-      abbrev of_formal : Name → Broken
+      of_formal : Name → Broken
       of_formal n = unless Undeclared (is_among n formals) ∪ unless Twice (not (is_among n taken))
 
 -- ---- a name that a table has
@@ -226,6 +226,59 @@ module _ (formals : List Name) (cs : List CodeAssociation) (k : ℕ) (c : CodeAs
   pub refused_here : (f : NameFault) → Tells (one_association formals k b taken (association_view c)) f → Tells (associated formals (map association_view cs)) f
   refused_here f w = not_taken formals (map association_view cs) k b taken (association_view c) (map association_view (drop (k + 1) cs)) next_one f w
 
-  pub taken_here : (taken' : List Name) → one_taken formals k b taken (association_view c) ≡ Some taken'
-      → Taking formals (map association_view cs) (k + 1) (is_named (association_view c)) taken' (map association_view (drop (k + 1) cs))
-  taken_here taken' h = taken_more formals (map association_view cs) k b taken (association_view c) (map association_view (drop (k + 1) cs)) next_one taken' h
+  pub taken_here : (b' : Bool) → b' ≡ is_named (association_view c) → (taken' : List Name) → one_taken formals k b taken (association_view c) ≡ Some taken'
+      → Taking formals (map association_view cs) (k + 1) b' taken' (map association_view (drop (k + 1) cs))
+  taken_here b' e taken' h =
+      let P : Bool → Type 0 = λ b. Taking formals (map association_view cs) (k + 1) b taken' (map association_view (drop (k + 1) cs)) in
+      subst P (sym e) (taken_more formals (map association_view cs) k b taken (association_view c) (map association_view (drop (k + 1) cs)) next_one taken' h)
+
+module _ (formals : List Name) (cs : List CodeAssociation) (k : ℕ) (c : CodeAssociation) (lt : k < length cs) (is : c ≡ get_or cs k c) (b : Bool) (taken : List Name) (whole : Option (List Name))
+    (w : whole ≡ taking formals k b taken (map association_view (drop k cs))) where
+  here : whole ≡ (one_taken formals k b taken (association_view c) >>= λ ns. taking formals (suc k) (is_named (association_view c)) ns (map association_view (drop (suc k) cs)))
+  here =
+      w ∙ ap (λ l. taking formals k b taken (map association_view l)) (drop-cons cs k c lt)
+      ∙ ap (λ a. taking formals k b taken (association_view a ∷ map association_view (drop (suc k) cs))) (sym is)
+
+  pub refused_taking : one_taken formals k b taken (association_view c) ≡ None → whole ≡ None
+  refused_taking h = here ∙ ap (λ o. o >>= λ ns. taking formals (suc k) (is_named (association_view c)) ns (map association_view (drop (suc k) cs))) h
+
+  pub taking_here : (b' : Bool) → b' ≡ is_named (association_view c) → (taken' : List Name) → one_taken formals k b taken (association_view c) ≡ Some taken'
+      → whole ≡ taking formals (k + 1) b' taken' (map association_view (drop (k + 1) cs))
+  taking_here b' e taken' h =
+      let s : suc k ≡ k + 1 = omega arith in
+      here ∙ ap (λ o. o >>= λ ns. taking formals (suc k) (is_named (association_view c)) ns (map association_view (drop (suc k) cs))) h
+      ∙ ap (λ b. taking formals (suc k) b taken' (map association_view (drop (suc k) cs))) (sym e)
+      ∙ ap (λ j. taking formals j b' taken' (map association_view (drop j cs))) s
+
+-- ---- what is told of one association
+
+module _ (formals : List Name) (k : ℕ) (behind : Bool) (taken : List Name) (a : Association) (f : NameFault) where
+  abbrev formal : Option Name
+  formal = formal_at formals k a.formal
+
+  abbrev of_formal : Name → Broken
+  of_formal n = unless Undeclared (is_among n formals) ∪ unless Twice (not (is_among n taken))
+
+  abbrev out_of_place : Broken
+  out_of_place = unless WrongKind (not behind || is_named a)
+
+  abbrev no_formal : Broken
+  no_formal = lacking (WrongKind ∷ []) formal
+
+  pub behind_told : (not behind || is_named a) ≡ false → Tells (is_of (WrongKind ∷ [])) f → Tells (one_association formals k behind taken a) f
+  behind_told h w = told_left out_of_place (no_formal ∪ where_given formal of_formal) f (tells_unless WrongKind (not behind || is_named a) f h w)
+
+  pub no_formal_told : Tells (lacking (WrongKind ∷ []) (formal_at formals k a.formal)) f → Tells (one_association formals k behind taken a) f
+  no_formal_told w = told_right out_of_place (no_formal ∪ where_given formal of_formal) f (told_left no_formal (where_given formal of_formal) f w)
+
+  formal_told : (n : Name) → formal_at formals k a.formal ≡ Some n → Tells (of_formal n) f → Tells (one_association formals k behind taken a) f
+  formal_told n h w =
+      told_right out_of_place (no_formal ∪ where_given formal of_formal) f (told_right no_formal (where_given formal of_formal) f (told_given of_formal formal n f h w))
+
+  pub unknown_told : (n : Name) → formal_at formals k a.formal ≡ Some n → is_among n formals ≡ false → Tells (is_of (Undeclared ∷ [])) f
+      → Tells (one_association formals k behind taken a) f
+  unknown_told n h q w =
+      formal_told n h (told_left (unless Undeclared (is_among n formals)) (unless Twice (not (is_among n taken))) f (tells_unless Undeclared (is_among n formals) f q w))
+
+  pub twice_told : (n : Name) → formal_at formals k a.formal ≡ Some n → Tells (unless Twice (not (is_among n taken))) f → Tells (one_association formals k behind taken a) f
+  twice_told n h w = formal_told n h (told_right (unless Undeclared (is_among n formals)) (unless Twice (not (is_among n taken))) f w)

@@ -5,7 +5,7 @@ use Rattle.vhdl_names_rules.specs.declared.fault.NameFault.{NameFault}
 use Rattle.vhdl_names_rules.specs.declared.fault.NameFault.TheVariants.{At, NoMemory}
 use Rattle.vhdl_names_rules.specs.declared.fault.NameProblem.{NameProblem}
 use Rattle.vhdl_names_rules.proofs.laws.Rules.{both, not_true}
-use Rattle.vhdl_names_problems.specs.Broken.{Broken, Tells, nothing, ◌∪◌, is, is_of, unless, lacking, where_given, any_of, of_any}
+use Rattle.vhdl_names_problems.specs.Broken.{Broken, Tells, nothing, ◌∪◌, is, is_of, unless, lacking, where_given, any_of}
 use Rattle.vhdl_names_problems.proofs.Telling.{told_left, told_right}
 
 is_told : NameFault → Bool

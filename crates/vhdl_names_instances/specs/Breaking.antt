@@ -1,5 +1,5 @@
 -- Which rules parts of instances break, in the order in which the code comes to them.
-use Rattle.std.specs.Prelude.{ℕ, Bool, not, ◌||◌, List, [], ◌∷◌, find, Option, Some, None, option_map, bytes_eq, codes, slice_get}
+use Rattle.std.specs.Prelude.{ℕ, Bool, not, ◌||◌, List, [], ◌∷◌, find, Option, Some, option_map, bytes_eq, codes, slice_get}
 use Rattle.std.specs.List.{position_from}
 use Rattle.vhdl_tree.specs.Tree.{Ident, Expr, Association}
 use Rattle.vhdl_names_rules.specs.declared.fault.NameProblem.TheVariants.{Undeclared, Twice, WrongKind}

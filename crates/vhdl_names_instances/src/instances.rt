@@ -182,10 +182,10 @@ fn by_formals(
     ensures told { (seen_of : EntityView) → seen_view formals.now ≡ seen seen_of
         → IfErr result (Tells (broken.maps (sight_view sight.now) seen_of (tree.instance_view instance.now))) }
 {
-    let actuals = associated(alloc, &formals.generics, listed(&instance.generics))?;
-    let generics = generic_actuals(alloc, sight, &actuals)?;
-    let actuals = associated(alloc, &formals.ports, listed(&instance.ports))?;
-    let ports = port_actuals(alloc, sight, &formals.port_types, &actuals)?;
+    let of_generics = associated(alloc, &formals.generics, listed(&instance.generics))?;
+    let generics = generic_actuals(alloc, sight, &of_generics)?;
+    let of_ports = associated(alloc, &formals.ports, listed(&instance.ports))?;
+    let ports = port_actuals(alloc, sight, &formals.port_types, &of_ports)?;
     let label = copied(alloc, label)?;
     Ok(Instance {
         label,

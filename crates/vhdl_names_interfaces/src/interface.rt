@@ -12,10 +12,9 @@ ghost use Rattle.vhdl_names_rules.specs.Visibility.{with_declared};
 ghost use Rattle.vhdl_tree.specs.View as view;
 ghost use Rattle.vhdl_names_types.specs.Views.{sight_view, region_view};
 ghost use Rattle.vhdl_names_units.specs.views.Declarations.{all_generics_view, all_ports_view};
-ghost use Rattle.vhdl_names_problems.specs.Broken.{Tells, ◌∪◌};
-ghost use Rattle.vhdl_names_problems.specs.Declarations as declarations_broken;
+ghost use Rattle.vhdl_names_problems.specs.Broken.{Tells};
 ghost use Rattle.vhdl_names_problems.specs.Interfaces as broken;
-ghost use Rattle.vhdl_names_declarations.specs.Standing.{standing_twice, generic_names, port_names};
+ghost use Rattle.vhdl_names_declarations.specs.Standing.{generics_broken, ports_broken};
 
 use indexmap::IndexMap;
 use std::alloc::Global;
@@ -51,8 +50,7 @@ fn generics_if_any(
     ensures given { Gives (λ v. (sight_view sight.new, all_generics_view v))
         (entering (in_order with_declared generic) (sight_view sight.old) (all_of (view.option_generics_view all.now))) result }
     ensures kept { OnOk result (sight.new ≡ record sight.old { region = sight.new.region }) }
-    ensures told { IfErr result (Tells (declarations_broken.in_order with_declared generic declarations_broken.generic (sight_view sight.old) (all_of (view.option_generics_view all.now))
-        ∪ standing_twice (sight_view sight.old).region (generic_names (all_of (view.option_generics_view all.now))))) }
+    ensures told { IfErr result (Tells (generics_broken (sight_view sight.old) (all_of (view.option_generics_view all.now)))) }
 {
     match all {
         Some(all) => generics(alloc, sight, all),
@@ -69,8 +67,7 @@ fn ports_if_any(
     ensures given { Gives (λ v. (sight_view sight.new, all_ports_view v))
         (entering (in_order with_declared port) (sight_view sight.old) (all_of (view.option_ports_view all.now))) result }
     ensures kept { OnOk result (sight.new ≡ record sight.old { region = sight.new.region }) }
-    ensures told { IfErr result (Tells (declarations_broken.in_order with_declared port declarations_broken.port (sight_view sight.old) (all_of (view.option_ports_view all.now))
-        ∪ standing_twice (sight_view sight.old).region (port_names (all_of (view.option_ports_view all.now))))) }
+    ensures told { IfErr result (Tells (ports_broken (sight_view sight.old) (all_of (view.option_ports_view all.now)))) }
 {
     match all {
         Some(all) => ports(alloc, sight, all),

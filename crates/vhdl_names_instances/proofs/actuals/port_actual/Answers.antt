@@ -1,8 +1,7 @@
-use Rattle.std.proofs.Common.{rules, arith, ◌≡◌, Some, [], ◌∷◌, refl, sym, ap, ◌∙◌, subst}
+use Rattle.std.proofs.Common.{rules, arith, ◌≡◌, false, [], ◌∷◌, refl, sym, ◌∙◌, subst}
 use Rattle.std.proofs.lemmas.Grind.{common_steps}
 use Rattle.vhdl_tree.specs.View.{view, name_view}
 use Rattle.vhdl_names_rules.specs.declared.fault.NameProblem.TheVariants.{TypeMismatch, WriteOfIn, LeftOut}
-use Rattle.vhdl_names_rules.specs.Instances.{as_name}
 use Rattle.vhdl_names_problems.specs.Broken.{Tells, is_of}
 use Rattle.vhdl_names_problems.specs.Instances.{port_actual}
 use Rattle.vhdl_names_types.specs.Views.{sight_view}
@@ -23,14 +22,16 @@ returns-in_err-actual-in-Some-clause-told c =
     c.in_err-actual-in-Some.ensures.told in
     first_of (search rules, grind (arith, common_steps))
 
-pub returns-then-is_kind-clause-told : goal.returns-then-is_kind-clause-told
-returns-then-is_kind-clause-told c =
-    other_kind_told (sight_view c.args.sight.now) (formal c.args.port) (view c.args.e.now) c.at-in-Some.result (name_view c.in-Some.name.now) (sym c.in-Some.ensures)
-    (signal_name_view c.in_ok-actual-in-Some.actual) c.in_ok-actual-in-Some.ensures.given (sym c.is_kind.ensures ∙ c.if-is_kind.false)
-    (subst (Tells (is_of (TypeMismatch ∷ []))) (sym c.at-in-Some.ensures) refl)
+pub returns-then-not-is_kind-clause-told : goal.returns-then-not-is_kind-clause-told
+returns-then-not-is_kind-clause-told c =
+    let q : c.is_kind.result ≡ false = first_of (search rules, grind (arith, common_steps)) in
+    other_kind_told (sight_view c.args.sight.now) (formal c.args.port) (view c.args.e.now) c.at-then-not-is_kind.result (name_view c.in-Some.name.now) (sym c.in-Some.ensures)
+    (signal_name_view c.in_ok-actual-in-Some.actual) c.in_ok-actual-in-Some.ensures.given (sym c.is_kind.ensures ∙ q)
+    (subst (Tells (is_of (TypeMismatch ∷ []))) (sym c.at-then-not-is_kind.ensures) refl)
 
-pub returns-then-may_join-clause-told : goal.returns-then-may_join-clause-told
-returns-then-may_join-clause-told c =
-    not_joined_told (sight_view c.args.sight.now) (formal c.args.port) (view c.args.e.now) c.at-in-Some-2.result (name_view c.in-Some.name.now) (sym c.in-Some.ensures)
-    (signal_name_view c.in_ok-actual-in-Some.actual) c.in_ok-actual-in-Some.ensures.given (sym c.may_join.ensures ∙ c.if-may_join.false)
-    (subst (Tells (is_of (WriteOfIn ∷ []))) (sym c.at-in-Some-2.ensures) refl)
+pub returns-then-not-may_join-clause-told : goal.returns-then-not-may_join-clause-told
+returns-then-not-may_join-clause-told c =
+    let q : c.may_join.result ≡ false = first_of (search rules, grind (arith, common_steps)) in
+    not_joined_told (sight_view c.args.sight.now) (formal c.args.port) (view c.args.e.now) c.at-then-not-may_join.result (name_view c.in-Some.name.now) (sym c.in-Some.ensures)
+    (signal_name_view c.in_ok-actual-in-Some.actual) c.in_ok-actual-in-Some.ensures.given (sym c.may_join.ensures ∙ q)
+    (subst (Tells (is_of (WriteOfIn ∷ []))) (sym c.at-then-not-may_join.ensures) refl)

@@ -1,4 +1,4 @@
-use Rattle.std.proofs.Common.{map, refl, sym, ap, ◌∙◌}
+use Rattle.std.proofs.Common.{map, ap}
 use Rattle.vhdl_tree.specs.View.{association_view}
 use Rattle.vhdl_names_problems.specs.Broken.{any_of, of_any}
 use Rattle.vhdl_names_problems.specs.Expressions.{static}
@@ -19,21 +19,21 @@ returns-in-Ok c =
     let s = sight_view c.args.sight.now in
     let fs = names_view c.args.formals.now in
     let as' = map association_view c.args.list.now in
-    told_on (associated fs as') (generic_map s fs as') c.take_all.result
+    told_on (associated fs as') (generic_map s fs as') c.take_all-formals.result
     (λ f. told_left (associated fs as') (any_of (λ a. of_any (static s) (expression_of a.actual)) as') f)
-    (c.take_all.ensures.told (ap (map items) c.new-taken.ensures.empty))
+    (c.take_all-formals.ensures.told (ap (map items) c.new-taken.ensures.empty))
 
-pub returns-in-Err : goal.returns-in-Err
-returns-in-Err c =
+pub returns : goal.returns
+returns c =
     let s = sight_view c.args.sight.now in
     let fs = names_view c.args.formals.now in
     let as' = map association_view c.args.list.now in
-    let ts = names_view c.take_all.new.taken in
+    let ts = names_view c.take_all-formals.new.taken in
     let own = any_of (λ a. of_any (static s) (expression_of a.actual)) as' in
     c.earlier_in.ensures.told (generic_map s fs as')
     (told_right (associated fs as') own c.in-Err.fault
     (actuals_told (static s) ts ts as' c.in-Err.fault
     (told_along (any_of (of_any (static s))) (map actual_view c.in_ok-actuals.actuals.items) (actuals ts ts as') c.in_ok-actuals.ensures c.in-Err.fault
     (told_along (λ l. any_of (of_any (static s)) (map actual_view l)) _ c.in_ok-actuals.actuals.items c.deref.ensures.value c.in-Err.fault c.in-Err.ensures.told))))
-    (told_on (associated fs as') (generic_map s fs as') c.take_all.result (λ f. told_left (associated fs as') own f)
-    (c.take_all.ensures.told (ap (map items) c.new-taken.ensures.empty)))
+    (told_on (associated fs as') (generic_map s fs as') c.take_all-formals.result (λ f. told_left (associated fs as') own f)
+    (c.take_all-formals.ensures.told (ap (map items) c.new-taken.ensures.empty)))

@@ -21,8 +21,8 @@ pub returns : goal.returns
 returns c = λ e h.
     let s = sight_view c.args.sight.now in
     let i = tree.instance_view c.args.instance.now in
-    let as' = map tree.association_view c.listed-ports.result.now in
+    let as' = map tree.association_view c.listed-2.result.now in
     let fs = filter_map port_formal e.interface.declared in
     told_on (broken.port_map s fs as') (broken.maps s e i) c.port_map.result
-    (λ f w. port_map_told s e (seen_view c.args.formals.now) h i f as' c.listed-ports.ensures w)
+    (λ f w. port_map_told s e (seen_view c.args.formals.now) h i f as' c.listed-2.ensures w)
     (c.port_map.ensures fs (ap (λ (s : Seen). s.ports) h) (ap (λ (s : Seen). s.port_types) h))
