@@ -3,7 +3,11 @@ use Rattle.std.proofs.Common.{◌≡◌, ◌≢◌, ℕ, List, None, Some, Resul
 use Rattle.std.specs.Prelude.{IsTrue, IsErrAnd, IfOk, IfErr}
 use Rattle.vhdl_lexer.proofs.Reached.{cut_within}
 use Rattle.vhdl_tree.specs.Tree.{File}
+use Rattle.vhdl_names_problems.specs.Broken.{Tells}
+use Rattle.vhdl_names_problems.specs.Files as breaks
 use Rattle.vhdl_names_rules.specs.Files.{units_of}
+use Rattle.vhdl_names_rules.specs.declared.fault.NameFault.{NameFault}
+use Rattle.vhdl_names_rules.specs.declared.fault.NameFault.TheVariants as names
 use Rattle.vhdl_names_rules.specs.sound.Named.{are_named}
 use Rattle.vhdl_names_rules.specs.sound.Units.{are_sound}
 use Rattle.vhdl_names_rules.specs.units.Units as u
@@ -21,9 +25,9 @@ use Rattle.rtl_net.specs.Nets.{NetlistView}
 use Rattle.rtl_stim.specs.Ports.{HasOwnPorts}
 use Rattle.vhdl_source_rules.specs.Sources.{IsFileOf}
 use Rattle.vhdl_source_rules.specs.Designs.{IsNetOf}
-use Rattle.vhdl_source_rules.specs.Faults.{of_elab}
+use Rattle.vhdl_source_rules.specs.Faults.{of_name, of_elab}
 use Rattle.vhdl_source_rules.specs.Refusals.{Refuses}
-use Rattle.vhdl_source.specs.Steps.{ShowsTop, HasElabFault, GivesNet, elab_within}
+use Rattle.vhdl_source.specs.Steps.{ShowsTop, HasNameFault, HasElabFault, GivesNet, name_within, elab_within}
 use Rattle.vhdl_source_rules.specs.declared.fault.SourceFault.{SourceFault}
 use Rattle.vhdl_source_rules.specs.declared.fault.SourceFault.TheVariants.{Lex, Syntax, Name, Elab, NoMemory}
 
@@ -55,6 +59,19 @@ own_ports source top net h =
     (small_ports_distinct analysed.file h.has.units (words source analysed.file analysed.read) analysed.well_typed) h.has.is h.shows
 
 -- ---- why it has none
+
+pub no_units : (file : File) (size : ℕ) (fault : NameFault) → (fault ≢ names.NoMemory → units_of file ≡ None) → Tells (breaks.file file) fault
+    → HasNameFault file (of_name (name_within size fault))
+no_units file size (names.At problem at) none told = (none (λ e. absurd cc), told)
+no_units file size names.NoMemory none told = tt
+
+pub untyped_refuses : (source top : List ℕ) (file : File) (fault : SourceFault) → IsFileOf source file → HasNameFault file fault → Refuses source top fault
+untyped_refuses source top file (Name (names.At problem at)) read h = record { file = file; read = read; ill_typed = h.0; broken = h.1 }
+untyped_refuses source top file (Name names.NoMemory) read h = h
+untyped_refuses source top file NoMemory read h = tt
+untyped_refuses source top file (Lex fault) read h = absurd h
+untyped_refuses source top file (Syntax fault) read h = absurd h
+untyped_refuses source top file (Elab fault) read h = absurd h
 
 pub no_net : (units : u.Units) (top : List ℕ) (size : ℕ) (fault : ElabFault) → (fault ≢ elab.NoMemory → MayRefuse units top (told fault))
     → HasElabFault units top (of_elab (elab_within size fault))
