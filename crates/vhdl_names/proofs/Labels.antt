@@ -206,3 +206,8 @@ pub twice_told : (old : List Declared) (all : List Name) (f : NameFault) → (f 
 twice_told old all f none w =
     or_memory (unless Twice (are_distinct (declared_names old ++ all))) f
     (λ n. tells_unless Twice (are_distinct (declared_names old ++ all)) f (no_more old all (none n)) w)
+
+pub all_told : (old : List Declared) (all : List Name) (region : List Declared) (told : Result (Unit {0}) NameFault) (left : List Name) → Labelled old all region told left
+    → IfErr told (Tells (unless Twice (are_distinct (declared_names old ++ all))))
+all_told old all region (Ok u) left x = tt
+all_told old all region (Err f) left x = twice_told old all f x.none x.twice

@@ -1,9 +1,9 @@
 -- The units of a file at their places, and what is told past those that are at fault.
-use Rattle.std.proofs.Common.{◌≡◌, ◌≢◌, ℕ, suc, ◌+◌, ◌<◌, arith, List, [], ◌∷◌, ◌++◌, map, take, drop, length, get_or, Option, Some, None, Result, Ok, Err, IfErr, refl, ap, sym, ◌∙◌, subst}
+use Rattle.std.proofs.Common.{◌≡◌, ◌≢◌, ℕ, suc, ◌+◌, ◌<◌, ◌≤◌, arith, List, [], ◌∷◌, ◌++◌, map, take, drop, length, get_or, Option, Some, None, Result, Ok, Err, IfErr, refl, ap, sym, ◌∙◌, subst}
 use Rattle.std.specs.Prelude.{OnErr}
 use Rattle.std.specs.List.{cons_option}
 use Rattle.std.proofs.Math.Seq.{drop-cons}
-use Rattle.std.proofs.lemmas.List.{map-append, take-append-drop}
+use Rattle.std.proofs.lemmas.List.{map-append, take-append-drop, drop_all}
 use Rattle.std.proofs.lemmas.List.Elements.{filter_map-append}
 use Rattle.vhdl_tree.specs.Tree as t
 use Rattle.vhdl_tree.specs.View as view
@@ -11,17 +11,18 @@ use Rattle.vhdl_tree.specs.declared.unit.DesignUnit.{DesignUnit}
 use Rattle.vhdl_names_rules.specs.declared.fault.NameFault.{NameFault}
 use Rattle.vhdl_names_rules.specs.declared.fault.NameFault.TheVariants.{NoMemory}
 use Rattle.vhdl_names_rules.specs.Gives.{Gives}
+use Rattle.vhdl_names_rules.specs.Visibility.{Name}
 use Rattle.vhdl_names_rules.specs.Interfaces.{EntityView}
 use Rattle.vhdl_names_rules.specs.Files.{as_architecture, architectures_of}
 use Rattle.vhdl_names_problems.specs.Broken.{Broken, Tells, nothing, ◌∪◌, any_of}
-use Rattle.vhdl_names_problems.specs.Files.{file}
+use Rattle.vhdl_names_problems.specs.Files.{placed_architectures, file}
 use Rattle.vhdl_names_problems.proofs.Telling.{told_left, told_right, told_on}
 use Rattle.vhdl_names_instances.proofs.Told.{or_memory, told_along, told_nothing, told_either}
 use Rattle.vhdl_names.specs.Views.{Keyed, OutlineView}
 use Rattle.vhdl_names.specs.Breaking.{one_unit, outline, one_entity, entities}
-use Rattle.vhdl_names.specs.steps.Outlines.{with_unit}
+use Rattle.vhdl_names.specs.steps.Outlines.{keyed, described_of, with_unit}
 use Rattle.vhdl_names.specs.steps.Entities as steps
-use Rattle.vhdl_names.proofs.Past.{Outlined, unit_told, unit_gathered, unit_past}
+use Rattle.vhdl_names.proofs.Past.{Outlined, all_outlined, unit_told, unit_gathered, unit_past}
 use Rattle.vhdl_names.proofs.Entering.{Entered, given_behind, entered_told, entered_past, entered, given_more, given_past}
 use Rattle.vhdl_names.proofs.Filed.{outline_told, entities_told}
 
@@ -119,3 +120,14 @@ one_told us i d lt is b f w =
     by None w = told_nothing (any_of b (architectures_of (map view.unit_view (drop (i + 1) us)))) f w
     by (Some x) w = told_either (b x) nothing (b x ∪ any_of b (architectures_of (map view.unit_view (drop (i + 1) us)))) f
         (told_left (b x) (any_of b (architectures_of (map view.unit_view (drop (i + 1) us)))) f) (told_nothing (b x ∪ any_of b (architectures_of (map view.unit_view (drop (i + 1) us)))) f) w
+
+-- ---- behind all units
+
+pub names_end : (us : List DesignUnit) (i : ℕ) → length us ≤ i → (o : OutlineView) → Outlined (map view.unit_view us) o (map view.unit_view (drop i us))
+    → (n : Name) → described_of n o.architectures ≡ described_of n (map keyed (placed_architectures (map view.unit_view us)))
+names_end us i le o x n =
+    let P : List t.DesignUnit → Type 0 = λ ds. Outlined (map view.unit_view us) o ds in
+    all_outlined (map view.unit_view us) o (subst P (ap (map view.unit_view) (drop_all i us le)) x) n
+
+pub given_end : (us : List DesignUnit) (i : ℕ) → length us ≤ i → (as' : List Keyed) (es : List EntityView) → given_behind as' es (map view.unit_view (drop i us)) ≡ es
+given_end us i le as' es = ap (λ l. given_behind as' es (map view.unit_view l)) (drop_all i us le)

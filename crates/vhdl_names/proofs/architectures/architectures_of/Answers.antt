@@ -7,7 +7,7 @@ use Rattle.vhdl_names_problems.specs.Broken.{any_of, of_any}
 use Rattle.vhdl_names_problems.specs.Files.{architecture, described}
 use Rattle.vhdl_names_instances.proofs.Told.{told_along, passed_told}
 use Rattle.vhdl_names.specs.steps.Outlines.{keyed, described_of}
-use Rattle.vhdl_names.proofs.Described.{of_own}
+use Rattle.vhdl_names.proofs.Among.{of_own}
 use Rattle.std.proofs.lemmas.List.{map-append}
 use Rattle.vhdl_names_rules.specs.declared.fault.NameFault.TheVariants.{NoMemory}
 use Rattle.vhdl_names_rules.specs.Rules.{each}

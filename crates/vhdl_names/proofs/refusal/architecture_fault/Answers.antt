@@ -5,7 +5,7 @@ use Rattle.vhdl_names_problems.specs.Declarations.{context}
 use Rattle.vhdl_names_problems.specs.Files.{architecture, described}
 use Rattle.vhdl_names_problems.proofs.Telling.{told_on}
 use Rattle.vhdl_names_interfaces.specs.Views.{entities_view, entity_view}
-use Rattle.vhdl_names.proofs.Described.{without_entity, with_entity}
+use Rattle.vhdl_names.proofs.Among.{without_entity, with_entity}
 use Rattle.vhdl_names.proofs.refusal.architecture_fault.Goals as goal
 
 pub returns-in-None : goal.returns-in-None

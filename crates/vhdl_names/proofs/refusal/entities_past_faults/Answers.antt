@@ -1,11 +1,11 @@
-use Rattle.std.proofs.Common.{arith, length, ◌<◌, ◌∙◌}
+use Rattle.std.proofs.Common.{arith, length, ◌<◌, sym, ◌∙◌}
 use Rattle.vhdl_tree.specs.View as view
 use Rattle.vhdl_names_problems.specs.Files.{file}
 use Rattle.vhdl_names_interfaces.specs.Views.{entities_view}
 use Rattle.vhdl_names.specs.Views.{architectures_view}
 use Rattle.vhdl_names.specs.Breaking.{one_entity}
 use Rattle.vhdl_names.proofs.Filed.{entities_told}
-use Rattle.vhdl_names.proofs.Passing.{not_memory, entity_told, entity_past, given_next, told_past}
+use Rattle.vhdl_names.proofs.Passing.{not_memory, entity_told, entity_past, given_next, told_past, given_end}
 use Rattle.vhdl_names.proofs.refusal.entities_past_faults.Goals as goal
 
 pub loop-unit-preserved : goal.loop-unit-preserved
@@ -28,3 +28,8 @@ loop-unit-preserved c =
     λ n. c.loop-unit.invariant.3 (memory n)
     ∙ given_next us i c.unit-item.result lt c.unit-item.is es (c.loop-unit.invariant.2 (memory n)) as' c.add_unit.result vs
     c.add_unit.ensures.given c.add_unit.ensures.kept (not_memory c.add_unit.result c.earlier_in.result c.earlier_in.ensures.other n))
+
+pub returns-clause-given : goal.returns-clause-given
+returns-clause-given c = λ n.
+    let as' = architectures_view c.args.outline.now.architectures in
+    sym (c.loop-unit.invariant.3 n ∙ given_end c.args.file.now.units.items c.loop-unit.unit-index (omega arith) as' (entities_view c.loop-unit.entities))

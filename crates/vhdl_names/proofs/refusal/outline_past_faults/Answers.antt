@@ -4,7 +4,7 @@ use Rattle.vhdl_names_problems.specs.Files.{file}
 use Rattle.vhdl_names.specs.Views.{outline_view}
 use Rattle.vhdl_names.specs.Breaking.{one_unit}
 use Rattle.vhdl_names.proofs.Filed.{outline_told}
-use Rattle.vhdl_names.proofs.Passing.{not_memory, name_told, name_past, told_past}
+use Rattle.vhdl_names.proofs.Passing.{not_memory, name_told, name_past, told_past, names_end}
 use Rattle.vhdl_names.proofs.refusal.outline_past_faults.Goals as goal
 
 pub loop-unit-preserved : goal.loop-unit-preserved
@@ -19,3 +19,7 @@ loop-unit-preserved c =
     c.add_unit.ensures.told (c.loop-unit.invariant.1 h),
     λ n. name_past us c.loop-unit.unit-index c.unit-item.result lt c.unit-item.is o (c.loop-unit.invariant.2 (c.earlier_in.ensures.given n))
     c.add_unit.result (outline_view c.add_unit.new.outline) c.add_unit.ensures.given c.add_unit.ensures.kept (not_memory c.add_unit.result c.earlier_in.result c.earlier_in.ensures.other n))
+
+pub returns-clause-seen : goal.returns-clause-seen
+returns-clause-seen c = λ n.
+    names_end c.args.file.now.units.items c.loop-unit.unit-index (omega arith) (outline_view c.loop-unit.outline) (c.loop-unit.invariant.2 n)
