@@ -1,5 +1,5 @@
 -- What is told of a part of a component is told of it.
-use Rattle.std.proofs.Common.{◌≡◌, ◌≢◌, ℕ, ◌&&◌, List, [], ◌∷◌, ◌++◌, Option, Some, None, Result, Ok, Err, IfErr, refl, sym, subst}
+use Rattle.std.proofs.Common.{◌≡◌, ◌≢◌, ℕ, ◌&&◌, List, [], ◌∷◌, Option, Some, None, Result, Ok, Err, IfErr, refl}
 use Rattle.vhdl_tree.specs.Tree as t
 use Rattle.vhdl_names_rules.specs.declared.fault.NameFault.{NameFault}
 use Rattle.vhdl_names_rules.specs.declared.fault.NameFault.TheVariants.{NoMemory}
@@ -10,8 +10,6 @@ use Rattle.vhdl_names_rules.specs.Visibility.{Sight, declare, ends}
 use Rattle.vhdl_names_rules.specs.Visibility as visibility
 use Rattle.vhdl_names_rules.specs.SameText.{same_generics, same_ports}
 use Rattle.vhdl_names_rules.specs.Interfaces.{EntityView, entity_named}
-use Rattle.vhdl_names_types.specs.declared.sight.Sight.{Sight as CodeSight}
-use Rattle.vhdl_names_types.specs.Views.{region_view, sight_view}
 use Rattle.vhdl_names_problems.specs.Broken.{Broken, Tells, ◌∪◌, is_of, unless, lacking, where_given}
 use Rattle.vhdl_names_problems.specs.Interfaces.{component, interface}
 use Rattle.vhdl_names_problems.proofs.Telling.{told_left, told_right, told_given, told_lacking}
@@ -74,13 +72,9 @@ module _ (es : List EntityView) (s : Sight) (c : t.Component) where
   named_last view more_of (Ok x) tells given told = tt
   named_last view more_of (Err e) tells given told = tells e given told
 
-pub not_there : {A : Type 0} (o : Option A) → (o >>= λ _. Some tt) ≡ None → o ≡ None
+abbrev is_there : Option (Unit {0})
+is_there = Some tt
+
+pub not_there : {A : Type 0} (o : Option A) → (o >>= λ _. is_there) ≡ None → o ≡ None
 not_there None h = refl
 not_there (Some x) h = cc
-
--- the region of a component, in the sight that it is told in
-pub own_told : (s : CodeSight) (gs : Option (List t.Generic)) (ps : Option (List t.Port)) (f : NameFault) → region_view s.enclosing ≡ [] →
-    Tells (interface (sight_view (record s { region = s.enclosing; enclosing = s.region })) gs ps) f → Tells (interface (inner (sight_view s)) gs ps) f
-own_told s gs ps f empty h =
-    subst (λ r. Tells (interface (record (sight_view s) { region = []; outside = region_view s.region ++ (r ++ region_view s.packages) }) gs ps) f) (sym empty)
-    (subst (λ r. Tells (interface (record (sight_view s) { region = r; outside = region_view s.region ++ region_view s.packages }) gs ps) f) empty h)

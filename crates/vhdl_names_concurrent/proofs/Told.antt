@@ -1,6 +1,6 @@
 -- What is told of the parts of processes and generates is told of the whole.
 use Rattle.std.proofs.Common.{◌≡◌, ℕ, ◌<◌, length, get_or, map, Bool, true, false, List, [], ◌∷◌, ◌++◌, Option, Some, None, refl, ap, sym, ◌∙◌}
-use Rattle.std.specs.Prelude.{flat_map}
+use Rattle.std.specs.Prelude.{flat_map, ◌||◌}
 use Rattle.vhdl_tree.specs.Tree as t
 use Rattle.vhdl_tree.specs.Tree.{Ident}
 use Rattle.vhdl_tree.specs.View as tree
@@ -9,6 +9,8 @@ use Rattle.vhdl_tree.specs.declared.concurrent.Concurrent.{Concurrent}
 use Rattle.vhdl_tree.specs.declared.concurrent.Concurrent.TheVariants as c
 use Rattle.vhdl_names_rules.specs.units.Units as u
 use Rattle.vhdl_names_rules.specs.declared.fault.NameFault.{NameFault}
+use Rattle.vhdl_names_rules.specs.declared.fault.NameFault.TheVariants.{At, NoMemory}
+use Rattle.vhdl_names_rules.specs.declared.fault.NameProblem.{NameProblem}
 use Rattle.vhdl_names_rules.specs.declared.fault.NameProblem.TheVariants.{Twice, WrongKind}
 use Rattle.vhdl_names_rules.specs.Rules.{◌>>=◌, ◌>>◌, met}
 use Rattle.vhdl_names_rules.specs.Visibility.{Sight, Declares, are_distinct, ends, label_ends, names_of, with_variables}
@@ -16,20 +18,33 @@ use Rattle.vhdl_names_rules.specs.Declarations as declarations
 use Rattle.vhdl_names_rules.specs.Interfaces.{EntityView, declared_names}
 use Rattle.vhdl_names_rules.specs.Statements.{statement_labels}
 use Rattle.vhdl_names_rules.specs.Concurrent.{sight_within, concurrent_labels}
-use Rattle.vhdl_names_problems.specs.Broken.{Broken, Tells, ◌∪◌, unless, where_given, any_of}
+use Rattle.vhdl_names_problems.specs.Broken.{Broken, Tells, ◌∪◌, is_of, unless, where_given, any_of}
 use Rattle.vhdl_names_problems.specs.Declarations.{in_order, variables}
 use Rattle.vhdl_names_problems.specs.Statements.{statements}
 use Rattle.vhdl_names_problems.specs.Concurrent as broken
 use Rattle.vhdl_names_problems.specs.Concurrent.{sensitivity, scheme}
 use Rattle.vhdl_names_problems.proofs.Telling.{told_left, told_right, told_any}
 use Rattle.vhdl_names_declarations.specs.Standing.{standing_twice, variable_names}
-use Rattle.vhdl_names_statements.proofs.steps.Told.{told_either}
+use Rattle.vhdl_names_statements.proofs.steps.Told.{told_nothing, told_either}
 pub use Rattle.vhdl_names_statements.proofs.steps.Told.{told_along, on_along}
 use Rattle.vhdl_names_concurrent.specs.steps.Processes as steps
 use Rattle.vhdl_names_concurrent.specs.steps.Told as told
 use Rattle.vhdl_names_concurrent.proofs.Generating.{generate_is}
 
+-- what is wanted bears one problem
+pub told_wanted : (q : NameProblem) (b : Bool) (f : NameFault) → Tells (unless q b) f → Tells (is_of (q ∷ [])) f
+told_wanted q true (At p at) h = told_nothing (is_of (q ∷ [])) (At p at) h
+told_wanted q false (At p at) h = ap (λ x. x || false) h
+told_wanted q b NoMemory h = tt
+
 -- ---- processes
+
+abbrev entry : Sight → List u.Object → Option (Sight × List u.Object)
+entry s vs = Some (s, vs)
+
+abbrev first : Sight → Option (Sight × List u.Object) → Sight
+first s None = s
+first s (Some p) = p.0
 
 module _ (sight : Sight) (label : Option Ident) (p : t.Process) (f : NameFault) where
   abbrev resumed : Broken
@@ -76,16 +91,16 @@ module _ (sight : Sight) (label : Option Ident) (p : t.Process) (f : NameFault) 
       → Tells does f
   within entered vs e h = go (declarations.in_order with_variables declarations.variables sight p.variables) e
     where
-      ruled : (x : Declares u.Object) (b : Bool) → (met b >> Some (with_variables sight x.declared, x.analysed)) ≡ Some (entered, vs)
+      ruled : (x : Declares u.Object) (b : Bool) → (met b >> entry (with_variables sight x.declared) x.analysed) ≡ Some (entered, vs)
           → Tells (statements (with_variables sight x.declared) (t.statements_of p.statements)) f
       ruled x true q =
-          let same : with_variables sight x.declared ≡ entered = cc in
+          let same : with_variables sight x.declared ≡ entered = ap (first sight) q in
           told_along (statements entered (t.statements_of p.statements)) (statements (with_variables sight x.declared) (t.statements_of p.statements)) f
           (ap (λ s. statements s (t.statements_of p.statements)) (sym same)) h
       ruled x false q = cc
 
       go : (m : Option (Declares u.Object))
-          → (m >>= λ x. met (are_distinct (declared_names (sight.variables ++ x.declared))) >> Some (with_variables sight x.declared, x.analysed)) ≡ Some (entered, vs)
+          → (m >>= λ x. met (are_distinct (declared_names (sight.variables ++ x.declared))) >> entry (with_variables sight x.declared) x.analysed) ≡ Some (entered, vs)
           → Tells (where_given m (λ vs. statements (with_variables sight vs.declared) (t.statements_of p.statements))) f
       go None q = cc
       go (Some x) q = ruled x (are_distinct (declared_names (sight.variables ++ x.declared))) q
@@ -107,6 +122,14 @@ module _ (es : List EntityView) (sight : Sight) where
   unfolding broken.concurrents
   concurrents_any [] = refl
   concurrents_any (x ∷ cs) = ap (λ b. broken.concurrent es sight x ∪ b) (concurrents_any cs)
+
+  pub selected_is : (label : Option Ident) (a : t.SelectedAssignment) → broken.selected sight a ≡ broken.concurrent es sight (t.selected label a)
+  unfolding broken.concurrent
+  selected_is label a = refl
+
+  pub process_is : (label : Option Ident) (p : t.Process) → broken.process sight label p ≡ broken.concurrent es sight (t.process label p)
+  unfolding broken.concurrent
+  process_is label p = refl
 
   pub generate_told : (g : Generate) (f : NameFault)
       → Tells (told.generate es sight (tree.ident_view (out-Generate g).label) (tree.scheme_view (out-Generate g).scheme) (tree.concurrents_view (out-Generate g).statements)

@@ -115,3 +115,23 @@ generate-returns-in_err-ends-clause-told m c = λ es are.
     let f = c.in_err-ends.field-0.0 in
     let h : Tells (told.generate es s label k cs end) c.in_err-ends.field-0.0 = told_right a (b ∪ e) f (told_right b e f c.in_err-ends.ensures.told) in
     first_of (search rules, grind (arith, common_steps))
+
+pub statement-returns-in_err-selected-in-Selected-clause-told : goal.statement-returns-in_err-selected-in-Selected-clause-told
+statement-returns-in_err-selected-in-Selected-clause-told m c = λ es are.
+    let s = sight_view c.args.sight.now in
+    let f = c.in_err-selected-in-Selected.field-0.0 in
+    let h : Tells (broken.concurrent es s (tree.concurrent_view c.args.item.now)) c.in_err-selected-in-Selected.field-0.0 =
+    by.told_along _ _ f
+    (by.selected_is es s (tree.option_ident_view c.in-Selected.label) (tree.selected_assignment_view c.in-Selected.written) ∙ sym (ap (λ x. broken.concurrent es s (tree.concurrent_view x)) c.in-Selected.is))
+    c.in_err-selected-in-Selected.ensures.told in
+    first_of (search rules, grind (arith, common_steps))
+
+pub statement-returns-in_err-process-in-Process-clause-told : goal.statement-returns-in_err-process-in-Process-clause-told
+statement-returns-in_err-process-in-Process-clause-told m c = λ es are.
+    let s = sight_view c.args.sight.now in
+    let f = c.in_err-process-in-Process.field-0.0 in
+    let h : Tells (broken.concurrent es s (tree.concurrent_view c.args.item.now)) c.in_err-process-in-Process.field-0.0 =
+    by.told_along _ _ f
+    (by.process_is es s (tree.option_ident_view c.in-Process.label) (tree.process_view c.in-Process.written) ∙ sym (ap (λ x. broken.concurrent es s (tree.concurrent_view x)) c.in-Process.is))
+    c.in_err-process-in-Process.ensures.told in
+    first_of (search rules, grind (arith, common_steps))
