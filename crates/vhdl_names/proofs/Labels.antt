@@ -177,19 +177,19 @@ one_label (t.assignment a) = if_any a.label
   where
     if_any : (o : Option Ident) → One (label_names o)
     if_any None = tt
-    if_any (Some l) = tt
-one_label (t.selected label a) = if_any label
+    if_any (Some n) = tt
+one_label (t.selected l a) = if_any l
   where
     if_any : (o : Option Ident) → One (label_names o)
     if_any None = tt
-    if_any (Some l) = tt
-one_label (t.process label p) = if_any label
+    if_any (Some n) = tt
+one_label (t.process l p) = if_any l
   where
     if_any : (o : Option Ident) → One (label_names o)
     if_any None = tt
-    if_any (Some l) = tt
-one_label (t.instance label i) = tt
-one_label (t.generated label at s word cs end) = tt
+    if_any (Some n) = tt
+one_label (t.instance l i) = tt
+one_label (t.generated l at s word cs end) = tt
 
 pub next_left : (cs : List Concurrent) (i : ℕ) (c : Concurrent) → i < length cs → c ≡ get_or cs i c
     → labels_of (drop i cs) ≡ concurrent_label (concurrent_view c) ++ labels_of (drop (i + 1) cs)

@@ -14,6 +14,8 @@ use Rattle.vhdl_names_rules.specs.Gives.{Gives}
 use Rattle.vhdl_names_rules.specs.Visibility.{Name}
 use Rattle.vhdl_names_rules.specs.Interfaces.{EntityView}
 use Rattle.vhdl_names_rules.specs.Files.{as_architecture, architectures_of}
+use Rattle.vhdl_names_rules.specs.Rules.{◌>>=◌}
+use Rattle.vhdl_names_labels.specs.Lists.{in_turn}
 use Rattle.vhdl_names_problems.specs.Broken.{Broken, Tells, nothing, ◌∪◌, any_of}
 use Rattle.vhdl_names_problems.specs.Files.{placed_architectures, file}
 use Rattle.vhdl_names_problems.proofs.Telling.{told_left, told_right, told_on}
@@ -46,6 +48,10 @@ module _ (us : List DesignUnit) (i : ℕ) (d : DesignUnit) (lt : i < length us) 
       let s : suc i ≡ i + 1 = omega arith in
       ap (map view.unit_view) (drop-cons us i d lt) ∙ ap (λ e. view.unit_view e ∷ map view.unit_view (drop (suc i) us)) (sym is)
       ∙ ap (λ j. unit ∷ map view.unit_view (drop j us)) s
+
+  pub turn_more : {A : Type 0} (f : A → t.DesignUnit → Option A) (x y : A) → f x (view.unit_view d) ≡ Some y
+      → in_turn f x (map view.unit_view (drop i us)) ≡ in_turn f y (map view.unit_view (drop (i + 1) us))
+  turn_more f x y h = ap (in_turn f x) next ∙ ap (λ o. o >>= λ z. in_turn f z left) h
 
   -- ---- names
 
@@ -110,11 +116,11 @@ one_told us i d lt is b f w =
     (told_along (any_of b) (architectures_of (map view.unit_view (take i us)) ++ architectures_of (view.unit_view d ∷ map view.unit_view (drop (i + 1) us)))
     (architectures_of (map view.unit_view (take i us) ++ (view.unit_view d ∷ map view.unit_view (drop (i + 1) us))))
     (sym (filter_map-append as_architecture (map view.unit_view (take i us)) (view.unit_view d ∷ map view.unit_view (drop (i + 1) us)))) f
-    (behind (architectures_of (map view.unit_view (take i us))) (by (as_architecture (view.unit_view d)) w))))
+    (behind (architectures_of (map view.unit_view (take i us))) (architectures_of (view.unit_view d ∷ map view.unit_view (drop (i + 1) us))) (by (as_architecture (view.unit_view d)) w))))
   where
-    behind : (xs : List (List t.ContextItem × t.Architecture)) {ys : List (List t.ContextItem × t.Architecture)} → Tells (any_of b ys) f → Tells (any_of b (xs ++ ys)) f
-    behind [] w = w
-    behind (x ∷ xs) {ys} w = told_right (b x) (any_of b (xs ++ ys)) f (behind xs w)
+    behind : (xs ys : List (List t.ContextItem × t.Architecture)) → Tells (any_of b ys) f → Tells (any_of b (xs ++ ys)) f
+    behind [] ys w = w
+    behind (x ∷ xs) ys w = told_right (b x) (any_of b (xs ++ ys)) f (behind xs ys w)
 
     by : (o : Option (List t.ContextItem × t.Architecture)) → Tells (any_of b (cons_option o [])) f → Tells (any_of b (cons_option o (architectures_of (map view.unit_view (drop (i + 1) us))))) f
     by None w = told_nothing (any_of b (architectures_of (map view.unit_view (drop (i + 1) us)))) f w

@@ -1,4 +1,4 @@
-use Rattle.std.proofs.Common.{◌++◌, ap, sym, ◌∙◌}
+use Rattle.std.proofs.Common.{◌++◌, map, ap, sym, ◌∙◌}
 use Rattle.vhdl_tree.specs.Tree as t
 use Rattle.vhdl_tree.specs.View as view
 use Rattle.vhdl_names_rules.specs.declared.fault.NameProblem.TheVariants.{Twice, WrongKind}
@@ -26,8 +26,11 @@ returns-in-Err-clause-told c = λ all are.
     let at_end = unless WrongKind (ends a.name.text a.end_name) in
     or_memory (breaking.body all s a) c.earlier_in.result
     (λ n. c.earlier_in.ensures.told (breaking.body all s a)
-    (told_left twice (statements ∪ at_end) c.in-Err.fault c.declare_each.ensures.told)
+    (told_left twice (statements ∪ at_end) c.in-Err.fault
+    (told_along (λ l. unless Twice (are_distinct (declared_names s.region ++ concurrent_labels (t.concurrents_of (map view.concurrent_view l))))) c.deref.result.now
+    c.args.tree.now.statements.items c.deref.ensures.value c.in-Err.fault c.in-Err.ensures.told))
     (told_on (concurrents all (sight_view c.declare_each.new.sight) (t.concurrents_of a.statements)) (breaking.body all s a) c.concurrents.result
     (λ f w. told_right twice (statements ∪ at_end) f (told_left statements at_end f
-    (told_along (λ r. concurrents all (with_region s r) (t.concurrents_of a.statements)) _ (with_labels s.region labels) (c.declare_each.ensures.past (c.earlier_in.ensures.given n)) f w)))
+    (told_along (λ r. concurrents all (with_region s r) (t.concurrents_of a.statements)) _ (with_labels s.region labels) (c.in-Err.ensures.past (c.earlier_in.ensures.given n)
+    ∙ ap (λ l. with_labels s.region (concurrent_labels (t.concurrents_of (map view.concurrent_view l)))) c.deref.ensures.value) f w)))
     (c.concurrents.ensures.told all are)))
