@@ -12,7 +12,14 @@ use Rattle.vhdl_names_problems.proofs.Telling.{told_left, told_right, told_on}
 use Rattle.vhdl_names_types.specs.Views.{sight_view}
 use Rattle.vhdl_names_instances.proofs.Told.{or_memory, told_along}
 use Rattle.vhdl_names.specs.Breaking as breaking
+use Rattle.vhdl_names.specs.steps.Architectures as steps
 use Rattle.vhdl_names.specs.steps.Architectures.{with_region}
+use Rattle.vhdl_names_rules.specs.Rules.{◌>>=◌}
+use Rattle.vhdl_names_rules.specs.Files.{labelled}
+use Rattle.vhdl_names_types.proofs.Along.{gives_along}
+use Rattle.vhdl_names_declarations.specs.Entered.{more}
+use Rattle.vhdl_names_units.specs.views.Declarations.{declarations_view}
+use Rattle.vhdl_names_units.specs.views.Units.{architecture_view}
 use Rattle.vhdl_names.proofs.Labels.{with_more}
 use Rattle.vhdl_names.proofs.architectures.body.Goals as goal
 
@@ -34,3 +41,26 @@ returns-in-Err-clause-told c = λ all are.
     (told_along (λ r. concurrents all (with_region s r) (t.concurrents_of a.statements)) _ (with_labels s.region labels) (c.in-Err.ensures.past (c.earlier_in.ensures.given n)
     ∙ ap (λ l. with_labels s.region (concurrent_labels (t.concurrents_of (map view.concurrent_view l)))) c.deref.ensures.value) f w)))
     (c.concurrents.ensures.told all are)))
+
+pub returns-in-Ok-clause-given : goal.returns-in-Ok-clause-given
+returns-in-Ok-clause-given c = λ all are.
+    let s = sight_view c.args.sight.now in
+    let a = view.architecture_view c.args.tree.now in
+    gives_along architecture_view _ _ _
+    (ap (λ l. more s.region (labelled (concurrent_labels (t.concurrents_of (map view.concurrent_view l)))) >>= λ r. steps.behind_labels all (with_region s r) (declarations_view c.args.declarations) a)
+    (sym c.deref.ensures.value)
+    ∙ ap (λ o. o >>= λ r. steps.behind_labels all (with_region s r) (declarations_view c.args.declarations) a) c.in-Ok.ensures.given)
+    (c.behind_labels.ensures.given all are)
+
+pub returns-in-Ok-clause-told : goal.returns-in-Ok-clause-told
+returns-in-Ok-clause-told c = λ all are.
+    let s = sight_view c.args.sight.now in
+    let a = view.architecture_view c.args.tree.now in
+    let labels = concurrent_labels (t.concurrents_of a.statements) in
+    let twice = unless Twice (are_distinct (declared_names s.region ++ labels)) in
+    told_on (breaking.behind_labels all (sight_view c.declare_each.new.sight) a) (breaking.body all s a) c.behind_labels.result
+    (λ f w. told_right twice (breaking.behind_labels all (with_region s (with_labels s.region labels)) a) f
+    (told_along (λ r. breaking.behind_labels all (with_region s r) a) _ (with_labels s.region labels)
+    (sym (with_more s.region labels _
+    (ap (λ l. more s.region (labelled (concurrent_labels (t.concurrents_of (map view.concurrent_view l))))) (sym c.deref.ensures.value) ∙ c.in-Ok.ensures.given))) f w))
+    (c.behind_labels.ensures.told all are)

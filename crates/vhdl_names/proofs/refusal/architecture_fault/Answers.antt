@@ -21,5 +21,5 @@ returns-in-Some c =
     let a = view.architecture_view c.args.tree.now in
     let es = entities_view c.args.entities.now in
     c.up_to_fault.ensures (described es (items, a))
-    (told_on (architecture es (entity_view c.in-Some.entity.now) items a) (described es (items, a)) c.architecture.result
-    (λ f w. with_entity c.args.entities.now.entries items a f c.in-Some.entity.now (sym c.get.ensures.value ∙ ap option_copied c.in-Some.is) w) c.architecture.ensures.told)
+    (told_on (architecture es (entity_view c.in-Some.entity.now) items a) (described es (items, a)) c.architecture-analysed.result
+    (λ f w. with_entity c.args.entities.now.entries items a f c.in-Some.entity.now (sym c.get.ensures.value ∙ ap option_copied c.in-Some.is) w) c.architecture-analysed.ensures.told)
