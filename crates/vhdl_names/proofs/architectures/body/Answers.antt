@@ -9,7 +9,7 @@ use Rattle.vhdl_names_problems.specs.Broken.{Broken, ◌∪◌, unless}
 use Rattle.vhdl_names_problems.specs.Concurrent.{concurrents}
 use Rattle.vhdl_names_problems.specs.Files.{with_labels}
 use Rattle.vhdl_names_problems.proofs.Telling.{told_left, told_right, told_on}
-use Rattle.vhdl_names_types.specs.Views.{sight_view}
+use Rattle.vhdl_names_types.specs.Views.{sight_view, region_view}
 use Rattle.vhdl_names_instances.proofs.Told.{or_memory, told_along}
 use Rattle.vhdl_names.specs.Breaking as breaking
 use Rattle.vhdl_names.specs.steps.Architectures as steps
@@ -36,7 +36,7 @@ returns-in-Err-clause-told c = λ all are.
     (told_left twice (statements ∪ at_end) c.in-Err.fault
     (told_along (λ l. unless Twice (are_distinct (declared_names s.region ++ concurrent_labels (t.concurrents_of (map view.concurrent_view l))))) c.deref.result.now
     c.args.tree.now.statements.items c.deref.ensures.value c.in-Err.fault c.in-Err.ensures.told))
-    (told_on (concurrents all (sight_view c.declare_each.new.sight) (t.concurrents_of a.statements)) (breaking.body all s a) c.concurrents.result
+    (told_on (concurrents all (with_region s (region_view c.declare_each.new.region)) (t.concurrents_of a.statements)) (breaking.body all s a) c.concurrents.result
     (λ f w. told_right twice (statements ∪ at_end) f (told_left statements at_end f
     (told_along (λ r. concurrents all (with_region s r) (t.concurrents_of a.statements)) _ (with_labels s.region labels) (c.in-Err.ensures.past (c.earlier_in.ensures.given n)
     ∙ ap (λ l. with_labels s.region (concurrent_labels (t.concurrents_of (map view.concurrent_view l)))) c.deref.ensures.value) f w)))
@@ -58,7 +58,7 @@ returns-in-Ok-clause-told c = λ all are.
     let a = view.architecture_view c.args.tree.now in
     let labels = concurrent_labels (t.concurrents_of a.statements) in
     let twice = unless Twice (are_distinct (declared_names s.region ++ labels)) in
-    told_on (breaking.behind_labels all (sight_view c.declare_each.new.sight) a) (breaking.body all s a) c.behind_labels.result
+    told_on (breaking.behind_labels all (with_region s (region_view c.declare_each.new.region)) a) (breaking.body all s a) c.behind_labels.result
     (λ f w. told_right twice (breaking.behind_labels all (with_region s (with_labels s.region labels)) a) f
     (told_along (λ r. breaking.behind_labels all (with_region s r) a) _ (with_labels s.region labels)
     (sym (with_more s.region labels _
