@@ -36,10 +36,14 @@ returns-in-Err-clause-told c = λ all are.
     (told_left twice (statements ∪ at_end) c.in-Err.fault
     (told_along (λ l. unless Twice (are_distinct (declared_names s.region ++ concurrent_labels (t.concurrents_of (map view.concurrent_view l))))) c.deref.result.now
     c.args.tree.now.statements.items c.deref.ensures.value c.in-Err.fault c.in-Err.ensures.told))
-    (told_on (concurrents all (with_region s (region_view c.declare_each.new.region)) (t.concurrents_of a.statements)) (breaking.body all s a) c.concurrents.result
+    (told_on (concurrents all (with_region s (region_view c.declare_each.new.region)) (t.concurrents_of (map view.concurrent_view c.deref-in-Err.result.now))) (breaking.body all s a)
+    c.concurrents.result
     (λ f w. told_right twice (statements ∪ at_end) f (told_left statements at_end f
-    (told_along (λ r. concurrents all (with_region s r) (t.concurrents_of a.statements)) _ (with_labels s.region labels) (c.in-Err.ensures.past (c.earlier_in.ensures.given n)
-    ∙ ap (λ l. with_labels s.region (concurrent_labels (t.concurrents_of (map view.concurrent_view l)))) c.deref.ensures.value) f w)))
+    (told_along (λ r. concurrents all (with_region s r) (t.concurrents_of a.statements)) (region_view c.declare_each.new.region) (with_labels s.region labels)
+    (c.in-Err.ensures.past (c.earlier_in.ensures.given n)
+    ∙ ap (λ l. with_labels s.region (concurrent_labels (t.concurrents_of (map view.concurrent_view l)))) c.deref.ensures.value) f
+    (told_along (λ l. concurrents all (with_region s (region_view c.declare_each.new.region)) (t.concurrents_of (map view.concurrent_view l))) c.deref-in-Err.result.now
+    c.args.tree.now.statements.items c.deref-in-Err.ensures.value f w))))
     (c.concurrents.ensures.told all are)))
 
 pub returns-in-Ok-clause-given : goal.returns-in-Ok-clause-given
