@@ -1,6 +1,6 @@
 -- What is told of the architectures of a file, among its entities.
-use Rattle.std.proofs.Common.{◌≡◌, ℕ, zero, suc, ◌+◌, arith, Bool, true, false, cond, not, ◌||◌, List, [], ◌∷◌, map, Option, Some, None, Vec, Global, refl, ap, sym, ◌∙◌, subst, true≢false}
-use Rattle.std.specs.Prelude.{◌&&◌, bytes_eq, find, option_map, slice_get}
+use Rattle.std.proofs.Common.{◌≡◌, ℕ, zero, suc, ◌+◌, arith, Bool, true, false, cond, not, ◌||◌, List, [], ◌∷◌, map, Option, Some, None, Vec, Global, refl, ap, sym, ◌∙◌, true≢false}
+use Rattle.std.specs.Prelude.{bytes_eq, find, option_map, slice_get}
 use Rattle.std.specs.List.{enumerate_from}
 use Rattle.std.specs.Map.{lookup}
 use Rattle.std.proofs.lemmas.Slice.Eq.{bytes_eq-Decides}
@@ -10,7 +10,7 @@ use Rattle.vhdl_names_rules.specs.declared.fault.NameFault.{NameFault}
 use Rattle.vhdl_names_rules.specs.Visibility.{Name, is_among, are_distinct}
 use Rattle.vhdl_names_rules.specs.Interfaces.{EntityView, entity_named}
 use Rattle.vhdl_names_rules.proofs.laws.Rules.{both, not_true, some_is}
-use Rattle.vhdl_names_problems.specs.Broken.{Broken, Tells, ◌∪◌, any_of, of_any}
+use Rattle.vhdl_names_problems.specs.Broken.{Broken, Tells, any_of, of_any}
 use Rattle.vhdl_names_problems.specs.Declarations.{context}
 use Rattle.vhdl_names_problems.specs.Files.{architecture, described}
 use Rattle.vhdl_names_problems.proofs.Telling.{told_left, told_right}

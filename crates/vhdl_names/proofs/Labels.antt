@@ -1,6 +1,6 @@
 -- Labels declared one after another, past those that stand twice.
-use Rattle.std.proofs.Common.{◌≡◌, ◌≢◌, ℕ, suc, ◌+◌, ◌<◌, length, drop, get_or, arith, Bool, true, false, not, ◌||◌, List, [], ◌∷◌, ◌++◌, map, Option, Some, None, Result, Ok, Err, IfOk, IfErr, refl, ap, sym, ◌∙◌, subst, append_assoc, append-nil, true≢false}
-use Rattle.std.specs.Prelude.{◌&&◌, ◌⊎◌, bytes_eq, if◌then◌else◌}
+use Rattle.std.proofs.Common.{◌≡◌, ◌≢◌, ℕ, suc, ◌+◌, ◌<◌, length, drop, get_or, arith, Bool, true, false, not, ◌||◌, List, [], ◌∷◌, ◌++◌, Option, Some, None, Result, Ok, Err, IfOk, IfErr, refl, ap, sym, ◌∙◌, append_assoc, append-nil, true≢false}
+use Rattle.std.specs.Prelude.{◌&&◌, bytes_eq, if◌then◌else◌}
 use Rattle.std.proofs.Math.Seq.{drop-cons}
 use Rattle.std.proofs.lemmas.List.{map-append}
 use Rattle.std.proofs.lemmas.List.Folds.{list_any-append}
@@ -20,7 +20,7 @@ use Rattle.vhdl_names_rules.specs.Concurrent.{concurrent_label}
 use Rattle.vhdl_names_rules.specs.Statements.{label_names}
 use Rattle.vhdl_names_rules.specs.Gives.{Gives}
 use Rattle.vhdl_names_rules.proofs.laws.Rules.{both, kept, some_is, not_true}
-use Rattle.vhdl_names_problems.specs.Broken.{Broken, Tells, is_of, unless}
+use Rattle.vhdl_names_problems.specs.Broken.{Tells, is_of, unless}
 use Rattle.vhdl_names_problems.specs.Files.{with_labels}
 use Rattle.vhdl_names_declarations.specs.Entered.{more}
 use Rattle.vhdl_names_declarations.proofs.Regions.{names-append, more_split}

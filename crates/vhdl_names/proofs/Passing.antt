@@ -1,5 +1,5 @@
 -- The units of a file at their places, and what is told past those that are at fault.
-use Rattle.std.proofs.Common.{◌≡◌, ◌≢◌, ℕ, suc, ◌+◌, ◌<◌, ◌≤◌, arith, List, [], ◌∷◌, ◌++◌, map, take, drop, length, get_or, Option, Some, None, Result, Ok, Err, IfErr, refl, ap, sym, ◌∙◌, subst}
+use Rattle.std.proofs.Common.{◌≡◌, ◌≢◌, ℕ, suc, ◌+◌, ◌<◌, ◌≤◌, arith, List, [], ◌∷◌, ◌++◌, map, take, drop, length, get_or, Option, Some, None, Result, Ok, Err, IfErr, ap, sym, ◌∙◌, subst}
 use Rattle.std.specs.Prelude.{OnErr}
 use Rattle.std.specs.List.{cons_option}
 use Rattle.std.proofs.Math.Seq.{drop-cons}
@@ -17,7 +17,7 @@ use Rattle.vhdl_names_rules.specs.Files.{as_architecture, architectures_of}
 use Rattle.vhdl_names_rules.specs.Rules.{◌>>=◌}
 use Rattle.vhdl_names_labels.specs.Lists.{in_turn}
 use Rattle.vhdl_names_problems.specs.Broken.{Broken, Tells, nothing, ◌∪◌, any_of}
-use Rattle.vhdl_names_problems.specs.Files.{placed_architectures, file}
+use Rattle.vhdl_names_problems.specs.Files.{placed_architectures}
 use Rattle.vhdl_names_problems.proofs.Telling.{told_left, told_right, told_on}
 use Rattle.vhdl_names_instances.proofs.Told.{or_memory, told_along, told_nothing, told_either}
 use Rattle.vhdl_names.specs.Views.{Keyed, OutlineView}
@@ -26,7 +26,6 @@ use Rattle.vhdl_names.specs.steps.Outlines.{keyed, described_of, with_unit}
 use Rattle.vhdl_names.specs.steps.Entities as steps
 use Rattle.vhdl_names.proofs.Past.{Outlined, all_outlined, unit_told, unit_gathered, unit_past}
 use Rattle.vhdl_names.proofs.Entering.{Entered, given_behind, entered_told, entered_past, entered, given_more, given_past}
-use Rattle.vhdl_names.proofs.Filed.{outline_told, entities_told}
 
 -- a fault of an answer, where want of memory is told of the answer
 pub not_memory : {A : Type 0} (r : Result A NameFault) (told : NameFault) → IfErr r (λ f. told ≢ NoMemory → f ≢ NoMemory) → told ≢ NoMemory → IfErr r (λ f. f ≢ NoMemory)

@@ -2,10 +2,10 @@ use Rattle.std.proofs.Common.{◌++◌, map, ap, sym, ◌∙◌}
 use Rattle.vhdl_tree.specs.Tree as t
 use Rattle.vhdl_tree.specs.View as view
 use Rattle.vhdl_names_rules.specs.declared.fault.NameProblem.TheVariants.{Twice, WrongKind}
-use Rattle.vhdl_names_rules.specs.Visibility.{Sight, are_distinct, ends}
+use Rattle.vhdl_names_rules.specs.Visibility.{are_distinct, ends}
 use Rattle.vhdl_names_rules.specs.Interfaces.{declared_names}
 use Rattle.vhdl_names_rules.specs.Concurrent.{concurrent_labels}
-use Rattle.vhdl_names_problems.specs.Broken.{Broken, ◌∪◌, unless}
+use Rattle.vhdl_names_problems.specs.Broken.{◌∪◌, unless}
 use Rattle.vhdl_names_problems.specs.Concurrent.{concurrents}
 use Rattle.vhdl_names_problems.specs.Files.{with_labels}
 use Rattle.vhdl_names_problems.proofs.Telling.{told_left, told_right, told_on}

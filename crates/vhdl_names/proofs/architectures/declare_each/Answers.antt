@@ -1,4 +1,4 @@
-use Rattle.std.proofs.Common.{arith, length, drop, ◌<◌, ◌+◌, ap, sym, ◌∙◌, subst}
+use Rattle.std.proofs.Common.{arith, length, drop, ◌<◌, ◌+◌, sym, subst}
 use Rattle.vhdl_tree.specs.View.{concurrent_view}
 use Rattle.vhdl_names_rules.specs.Concurrent.{concurrent_label}
 use Rattle.vhdl_names_types.specs.Views.{region_view}

@@ -30,6 +30,7 @@ loop-unit-preserved c =
     c.unit-item.is ∙ ap (λ l. get_or l c.loop-unit.unit-index c.unit-item.result) c.deref-unit-items.ensures.value in
     let as' = architectures_view c.args.outline.now.architectures in
     let es = entities_view c.loop-unit.entities in
-    let vs = entities_view c.add_unit.new.entities in
-    (c.loop-unit.invariant.0 ∙ turn_more us c.loop-unit.unit-index c.unit-item.result lt is (with_unit as') es vs c.in_ok-add_unit.ensures.given,
-    entity_more us c.loop-unit.unit-index c.unit-item.result lt is es c.loop-unit.invariant.1 as' vs c.in_ok-add_unit.ensures.given)
+    let vs = entities_view c.add_unit.new.entities in (
+      c.loop-unit.invariant.0 ∙ turn_more us c.loop-unit.unit-index c.unit-item.result lt is (with_unit as') es vs c.in_ok-add_unit.ensures.given,
+      entity_more us c.loop-unit.unit-index c.unit-item.result lt is es c.loop-unit.invariant.1 as' vs c.in_ok-add_unit.ensures.given,
+    )

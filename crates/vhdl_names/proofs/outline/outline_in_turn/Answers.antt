@@ -1,4 +1,4 @@
-use Rattle.std.proofs.Common.{rules, arith, refl, length, ◌<◌, ◌≡◌, get_or, ap, ◌∙◌}
+use Rattle.std.proofs.Common.{rules, arith, length, ◌<◌, ◌≡◌, get_or, ap, ◌∙◌}
 use Rattle.std.proofs.lemmas.Grind.{common_steps}
 use Rattle.vhdl_tree.specs.View as view
 use Rattle.vhdl_names_problems.specs.Broken.{Tells}
@@ -28,6 +28,7 @@ loop-unit-preserved c =
     let is : c.unit-item.result ≡ get_or c.args.file.now.units.items c.loop-unit.unit-index c.unit-item.result =
     c.unit-item.is ∙ ap (λ l. get_or l c.loop-unit.unit-index c.unit-item.result) c.deref-unit-items.ensures.value in
     let o = outline_view c.loop-unit.outline in
-    let p = outline_view c.add_unit.new.outline in
-    (c.loop-unit.invariant.0 ∙ turn_more us c.loop-unit.unit-index c.unit-item.result lt is with_unit o p c.in_ok-add_unit.ensures.given,
-    name_more us c.loop-unit.unit-index c.unit-item.result lt is o c.loop-unit.invariant.1 p c.in_ok-add_unit.ensures.given)
+    let p = outline_view c.add_unit.new.outline in (
+      c.loop-unit.invariant.0 ∙ turn_more us c.loop-unit.unit-index c.unit-item.result lt is with_unit o p c.in_ok-add_unit.ensures.given,
+      name_more us c.loop-unit.unit-index c.unit-item.result lt is o c.loop-unit.invariant.1 p c.in_ok-add_unit.ensures.given,
+    )

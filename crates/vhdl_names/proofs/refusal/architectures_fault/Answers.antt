@@ -1,4 +1,4 @@
-use Rattle.std.proofs.Common.{rules, arith, refl, length, ◌<◌, ◌≡◌, get_or, ap, ◌∙◌}
+use Rattle.std.proofs.Common.{rules, arith, length, ◌<◌, ◌≡◌, get_or, ap, ◌∙◌}
 use Rattle.std.proofs.lemmas.Grind.{common_steps}
 use Rattle.vhdl_tree.specs.View as view
 use Rattle.vhdl_names_rules.specs.Files.{architectures_of}

@@ -21,16 +21,17 @@ loop-unit-preserved c =
     let as' = architectures_view c.args.outline.now.architectures in
     let es = entities_view c.loop-unit.entities in
     let vs = entities_view c.add_unit.new.entities in
-    let memory = c.earlier_in.ensures.given in
-    (λ n. c.loop-unit.invariant.0 (memory n),
-    λ h. told_past (file f) (one_entity es d.context d.unit) c.loop-unit.told c.earlier_in.result c.add_unit.result memory c.earlier_in.ensures.told
-    (λ n x w. entities_told f x (entity_told us i c.unit-item.result lt is es (c.loop-unit.invariant.2 n) x w))
-    c.add_unit.ensures.told (c.loop-unit.invariant.1 h),
-    λ n. entity_past us i c.unit-item.result lt is es (c.loop-unit.invariant.2 (memory n)) as' c.add_unit.result vs
-    c.add_unit.ensures.given c.add_unit.ensures.kept (not_memory c.add_unit.result c.earlier_in.result c.earlier_in.ensures.other n),
-    λ n. c.loop-unit.invariant.3 (memory n)
-    ∙ given_next us i c.unit-item.result lt is es (c.loop-unit.invariant.2 (memory n)) as' c.add_unit.result vs
-    c.add_unit.ensures.given c.add_unit.ensures.kept (not_memory c.add_unit.result c.earlier_in.result c.earlier_in.ensures.other n))
+    let memory = c.earlier_in.ensures.given in (
+      λ n. c.loop-unit.invariant.0 (memory n),
+      λ h. told_past (file f) (one_entity es d.context d.unit) c.loop-unit.told c.earlier_in.result c.add_unit.result memory c.earlier_in.ensures.told
+          (λ n x w. entities_told f x (entity_told us i c.unit-item.result lt is es (c.loop-unit.invariant.2 n) x w))
+          c.add_unit.ensures.told (c.loop-unit.invariant.1 h),
+      λ n. entity_past us i c.unit-item.result lt is es (c.loop-unit.invariant.2 (memory n)) as' c.add_unit.result vs
+          c.add_unit.ensures.given c.add_unit.ensures.kept (not_memory c.add_unit.result c.earlier_in.result c.earlier_in.ensures.other n),
+      λ n. c.loop-unit.invariant.3 (memory n)
+          ∙ given_next us i c.unit-item.result lt is es (c.loop-unit.invariant.2 (memory n)) as' c.add_unit.result vs
+          c.add_unit.ensures.given c.add_unit.ensures.kept (not_memory c.add_unit.result c.earlier_in.result c.earlier_in.ensures.other n),
+    )
 
 pub returns-clause-given : goal.returns-clause-given
 returns-clause-given c = λ n.
