@@ -1,5 +1,5 @@
 -- What is told of the parts of an architecture is told of it.
-use Rattle.std.proofs.Common.{◌≡◌, Bool, true, false, List, [], ◌∷◌, ◌++◌, Option, Some, None, refl, ap, sym, ◌∙◌}
+use Rattle.std.proofs.Common.{◌≡◌, false, List, ◌++◌, Some, refl, ap, sym, ◌∙◌}
 use Rattle.std.specs.Prelude.{flat_map}
 use Rattle.std.proofs.lemmas.List.{append_assoc}
 use Rattle.vhdl_tree.specs.Tree as t
@@ -7,8 +7,7 @@ use Rattle.vhdl_tree.specs.Tree.{ContextItem}
 use Rattle.vhdl_names_rules.specs.units.Units as u
 use Rattle.vhdl_names_rules.specs.declared.fault.NameFault.{NameFault}
 use Rattle.vhdl_names_rules.specs.declared.fault.NameProblem.TheVariants.{Twice, WrongKind}
-use Rattle.vhdl_names_rules.specs.Rules.{◌>>=◌, ◌>>◌, met}
-use Rattle.vhdl_names_rules.specs.Visibility.{Name, Sight, Declares, are_distinct, ends, with_declared}
+use Rattle.vhdl_names_rules.specs.Visibility.{Name, Sight, are_distinct, ends, with_declared}
 use Rattle.vhdl_names_rules.specs.Packages as packages
 use Rattle.vhdl_names_rules.specs.Packages.{Context, sight_of}
 use Rattle.vhdl_names_rules.specs.Declarations as are

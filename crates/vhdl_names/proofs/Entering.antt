@@ -1,6 +1,6 @@
 -- The entities of a file one after another, past those that are at fault, and what is told of one.
-use Rattle.std.proofs.Common.{◌≡◌, ℕ, Bool, true, false, cond, not, List, [], ◌∷◌, ◌++◌, map, Option, Some, None, Result, Ok, Err, IfErr, refl, ap, sym, ◌∙◌, subst, append_assoc, append-nil}
-use Rattle.std.specs.Prelude.{◌||◌, bytes_eq, filter_map, find, option_map, if◌then◌else◌}
+use Rattle.std.proofs.Common.{◌≡◌, Bool, true, false, not, List, [], ◌∷◌, ◌++◌, Option, Some, None, Result, Ok, Err, IfErr, refl, ap, sym, ◌∙◌, subst, append_assoc}
+use Rattle.std.specs.Prelude.{◌||◌, bytes_eq, filter_map, if◌then◌else◌}
 use Rattle.std.specs.List.{cons_option}
 use Rattle.std.proofs.lemmas.List.{map-append}
 use Rattle.std.proofs.lemmas.List.Elements.{filter_map-append}
@@ -9,13 +9,13 @@ use Rattle.vhdl_tree.specs.Tree as t
 use Rattle.vhdl_tree.specs.Tree.{ContextItem, DesignUnit, LibraryUnit}
 use Rattle.vhdl_names_rules.specs.declared.fault.NameFault.{NameFault}
 use Rattle.vhdl_names_rules.specs.declared.fault.NameProblem.TheVariants.{Twice}
-use Rattle.vhdl_names_rules.specs.Rules.{◌>>=◌, ◌>>◌, met}
+use Rattle.vhdl_names_rules.specs.Rules.{◌>>=◌, met}
 use Rattle.vhdl_names_rules.specs.Gives.{Gives}
 use Rattle.vhdl_names_rules.specs.Visibility.{Name, is_among, are_distinct}
 use Rattle.vhdl_names_rules.specs.Interfaces.{EntityView}
 use Rattle.vhdl_names_rules.specs.Files.{as_entity, entities_of, entity_names}
 use Rattle.vhdl_names_rules.proofs.laws.Rules.{comes, kept, some_is, not_true}
-use Rattle.vhdl_names_problems.specs.Broken.{Broken, Tells, ◌∪◌, is_of, unless, any_of}
+use Rattle.vhdl_names_problems.specs.Broken.{Broken, Tells, is_of, unless, any_of}
 use Rattle.vhdl_names_problems.specs.Interfaces.{entity}
 use Rattle.vhdl_names_problems.specs.Files.{with_entities}
 use Rattle.vhdl_names_problems.proofs.Telling.{told_left, told_right}
@@ -24,7 +24,6 @@ use Rattle.vhdl_names_instances.proofs.Taking.{repeated}
 use Rattle.vhdl_names_instances.proofs.Told.{or_memory, told_along, told_nothing, told_either, told_unless, tells_unless, told_at}
 use Rattle.vhdl_names.specs.Views.{Keyed}
 use Rattle.vhdl_names.specs.Breaking.{one_entity, entities}
-use Rattle.vhdl_names.specs.steps.Outlines.{described_of}
 use Rattle.vhdl_names.specs.steps.Entities.{viewed_by, with_entity, with_unit}
 use Rattle.vhdl_names.proofs.Tabling.{names_in}
 use Rattle.vhdl_names.proofs.Outlining.{names-append}

@@ -1,6 +1,6 @@
 -- Labels declared one after another, past those that stand twice.
-use Rattle.std.proofs.Common.{◌≡◌, ◌≢◌, ℕ, suc, ◌+◌, ◌<◌, length, drop, get_or, arith, Bool, true, false, not, ◌||◌, List, [], ◌∷◌, ◌++◌, map, Option, Some, None, Result, Ok, Err, IfOk, IfErr, refl, ap, sym, ◌∙◌, subst, append_assoc, append-nil, true≢false}
-use Rattle.std.specs.Prelude.{◌&&◌, ◌⊎◌, bytes_eq, if◌then◌else◌}
+use Rattle.std.proofs.Common.{◌≡◌, ◌≢◌, ℕ, suc, ◌+◌, ◌<◌, length, drop, get_or, arith, Bool, true, false, not, ◌||◌, List, [], ◌∷◌, ◌++◌, Option, Some, None, Result, Ok, Err, IfOk, IfErr, refl, ap, sym, ◌∙◌, append_assoc, append-nil, true≢false}
+use Rattle.std.specs.Prelude.{◌&&◌, bytes_eq, if◌then◌else◌}
 use Rattle.std.proofs.Math.Seq.{drop-cons}
 use Rattle.std.proofs.lemmas.List.{map-append}
 use Rattle.std.proofs.lemmas.List.Folds.{list_any-append}
@@ -20,7 +20,7 @@ use Rattle.vhdl_names_rules.specs.Concurrent.{concurrent_label}
 use Rattle.vhdl_names_rules.specs.Statements.{label_names}
 use Rattle.vhdl_names_rules.specs.Gives.{Gives}
 use Rattle.vhdl_names_rules.proofs.laws.Rules.{both, kept, some_is, not_true}
-use Rattle.vhdl_names_problems.specs.Broken.{Broken, Tells, is_of, unless}
+use Rattle.vhdl_names_problems.specs.Broken.{Tells, is_of, unless}
 use Rattle.vhdl_names_problems.specs.Files.{with_labels}
 use Rattle.vhdl_names_declarations.specs.Entered.{more}
 use Rattle.vhdl_names_declarations.proofs.Regions.{names-append, more_split}
@@ -177,19 +177,19 @@ one_label (t.assignment a) = if_any a.label
   where
     if_any : (o : Option Ident) → One (label_names o)
     if_any None = tt
-    if_any (Some l) = tt
-one_label (t.selected label a) = if_any label
+    if_any (Some n) = tt
+one_label (t.selected l a) = if_any l
   where
     if_any : (o : Option Ident) → One (label_names o)
     if_any None = tt
-    if_any (Some l) = tt
-one_label (t.process label p) = if_any label
+    if_any (Some n) = tt
+one_label (t.process l p) = if_any l
   where
     if_any : (o : Option Ident) → One (label_names o)
     if_any None = tt
-    if_any (Some l) = tt
-one_label (t.instance label i) = tt
-one_label (t.generated label at s word cs end) = tt
+    if_any (Some n) = tt
+one_label (t.instance l i) = tt
+one_label (t.generated l at s word cs end) = tt
 
 pub next_left : (cs : List Concurrent) (i : ℕ) (c : Concurrent) → i < length cs → c ≡ get_or cs i c
     → labels_of (drop i cs) ≡ concurrent_label (concurrent_view c) ++ labels_of (drop (i + 1) cs)
@@ -206,3 +206,8 @@ pub twice_told : (old : List Declared) (all : List Name) (f : NameFault) → (f 
 twice_told old all f none w =
     or_memory (unless Twice (are_distinct (declared_names old ++ all))) f
     (λ n. tells_unless Twice (are_distinct (declared_names old ++ all)) f (no_more old all (none n)) w)
+
+pub all_told : (old : List Declared) (all : List Name) (region : List Declared) (told : Result (Unit {0}) NameFault) (left : List Name) → Labelled old all region told left
+    → IfErr told (Tells (unless Twice (are_distinct (declared_names old ++ all))))
+all_told old all region (Ok u) left x = tt
+all_told old all region (Err f) left x = twice_told old all f x.none x.twice

@@ -1,6 +1,6 @@
+pub mod Among
 pub mod Behind
 pub mod Bodies
-pub mod Described
 pub mod Describing
 pub mod Entering
 pub mod Filed

@@ -1,9 +1,9 @@
 -- The units of a file at their places, and what is told past those that are at fault.
-use Rattle.std.proofs.Common.{◌≡◌, ◌≢◌, ℕ, suc, ◌+◌, ◌<◌, arith, List, [], ◌∷◌, ◌++◌, map, take, drop, length, get_or, Option, Some, None, Result, Ok, Err, IfErr, refl, ap, sym, ◌∙◌, subst}
+use Rattle.std.proofs.Common.{◌≡◌, ◌≢◌, ℕ, suc, ◌+◌, ◌<◌, ◌≤◌, arith, List, [], ◌∷◌, ◌++◌, map, take, drop, length, get_or, Option, Some, None, Result, Ok, Err, IfErr, ap, sym, ◌∙◌, subst}
 use Rattle.std.specs.Prelude.{OnErr}
 use Rattle.std.specs.List.{cons_option}
 use Rattle.std.proofs.Math.Seq.{drop-cons}
-use Rattle.std.proofs.lemmas.List.{map-append, take-append-drop}
+use Rattle.std.proofs.lemmas.List.{map-append, take-append-drop, drop_all}
 use Rattle.std.proofs.lemmas.List.Elements.{filter_map-append}
 use Rattle.vhdl_tree.specs.Tree as t
 use Rattle.vhdl_tree.specs.View as view
@@ -11,19 +11,21 @@ use Rattle.vhdl_tree.specs.declared.unit.DesignUnit.{DesignUnit}
 use Rattle.vhdl_names_rules.specs.declared.fault.NameFault.{NameFault}
 use Rattle.vhdl_names_rules.specs.declared.fault.NameFault.TheVariants.{NoMemory}
 use Rattle.vhdl_names_rules.specs.Gives.{Gives}
+use Rattle.vhdl_names_rules.specs.Visibility.{Name}
 use Rattle.vhdl_names_rules.specs.Interfaces.{EntityView}
 use Rattle.vhdl_names_rules.specs.Files.{as_architecture, architectures_of}
+use Rattle.vhdl_names_rules.specs.Rules.{◌>>=◌}
+use Rattle.vhdl_names_labels.specs.Lists.{in_turn}
 use Rattle.vhdl_names_problems.specs.Broken.{Broken, Tells, nothing, ◌∪◌, any_of}
-use Rattle.vhdl_names_problems.specs.Files.{file}
+use Rattle.vhdl_names_problems.specs.Files.{placed_architectures}
 use Rattle.vhdl_names_problems.proofs.Telling.{told_left, told_right, told_on}
 use Rattle.vhdl_names_instances.proofs.Told.{or_memory, told_along, told_nothing, told_either}
 use Rattle.vhdl_names.specs.Views.{Keyed, OutlineView}
 use Rattle.vhdl_names.specs.Breaking.{one_unit, outline, one_entity, entities}
-use Rattle.vhdl_names.specs.steps.Outlines.{with_unit}
+use Rattle.vhdl_names.specs.steps.Outlines.{keyed, described_of, with_unit}
 use Rattle.vhdl_names.specs.steps.Entities as steps
-use Rattle.vhdl_names.proofs.Past.{Outlined, unit_told, unit_gathered, unit_past}
+use Rattle.vhdl_names.proofs.Past.{Outlined, all_outlined, unit_told, unit_gathered, unit_past}
 use Rattle.vhdl_names.proofs.Entering.{Entered, given_behind, entered_told, entered_past, entered, given_more, given_past}
-use Rattle.vhdl_names.proofs.Filed.{outline_told, entities_told}
 
 -- a fault of an answer, where want of memory is told of the answer
 pub not_memory : {A : Type 0} (r : Result A NameFault) (told : NameFault) → IfErr r (λ f. told ≢ NoMemory → f ≢ NoMemory) → told ≢ NoMemory → IfErr r (λ f. f ≢ NoMemory)
@@ -45,6 +47,10 @@ module _ (us : List DesignUnit) (i : ℕ) (d : DesignUnit) (lt : i < length us) 
       let s : suc i ≡ i + 1 = omega arith in
       ap (map view.unit_view) (drop-cons us i d lt) ∙ ap (λ e. view.unit_view e ∷ map view.unit_view (drop (suc i) us)) (sym is)
       ∙ ap (λ j. unit ∷ map view.unit_view (drop j us)) s
+
+  pub turn_more : {A : Type 0} (f : A → t.DesignUnit → Option A) (x y : A) → f x (view.unit_view d) ≡ Some y
+      → in_turn f x (map view.unit_view (drop i us)) ≡ in_turn f y (map view.unit_view (drop (i + 1) us))
+  turn_more f x y h = ap (in_turn f x) next ∙ ap (λ o. o >>= λ z. in_turn f z left) h
 
   -- ---- names
 
@@ -109,13 +115,24 @@ one_told us i d lt is b f w =
     (told_along (any_of b) (architectures_of (map view.unit_view (take i us)) ++ architectures_of (view.unit_view d ∷ map view.unit_view (drop (i + 1) us)))
     (architectures_of (map view.unit_view (take i us) ++ (view.unit_view d ∷ map view.unit_view (drop (i + 1) us))))
     (sym (filter_map-append as_architecture (map view.unit_view (take i us)) (view.unit_view d ∷ map view.unit_view (drop (i + 1) us)))) f
-    (behind (architectures_of (map view.unit_view (take i us))) (by (as_architecture (view.unit_view d)) w))))
+    (behind (architectures_of (map view.unit_view (take i us))) (architectures_of (view.unit_view d ∷ map view.unit_view (drop (i + 1) us))) (by (as_architecture (view.unit_view d)) w))))
   where
-    behind : (xs : List (List t.ContextItem × t.Architecture)) {ys : List (List t.ContextItem × t.Architecture)} → Tells (any_of b ys) f → Tells (any_of b (xs ++ ys)) f
-    behind [] w = w
-    behind (x ∷ xs) {ys} w = told_right (b x) (any_of b (xs ++ ys)) f (behind xs w)
+    behind : (xs ys : List (List t.ContextItem × t.Architecture)) → Tells (any_of b ys) f → Tells (any_of b (xs ++ ys)) f
+    behind [] ys w = w
+    behind (x ∷ xs) ys w = told_right (b x) (any_of b (xs ++ ys)) f (behind xs ys w)
 
     by : (o : Option (List t.ContextItem × t.Architecture)) → Tells (any_of b (cons_option o [])) f → Tells (any_of b (cons_option o (architectures_of (map view.unit_view (drop (i + 1) us))))) f
     by None w = told_nothing (any_of b (architectures_of (map view.unit_view (drop (i + 1) us)))) f w
     by (Some x) w = told_either (b x) nothing (b x ∪ any_of b (architectures_of (map view.unit_view (drop (i + 1) us)))) f
         (told_left (b x) (any_of b (architectures_of (map view.unit_view (drop (i + 1) us)))) f) (told_nothing (b x ∪ any_of b (architectures_of (map view.unit_view (drop (i + 1) us)))) f) w
+
+-- ---- behind all units
+
+pub names_end : (us : List DesignUnit) (i : ℕ) → length us ≤ i → (o : OutlineView) → Outlined (map view.unit_view us) o (map view.unit_view (drop i us))
+    → (n : Name) → described_of n o.architectures ≡ described_of n (map keyed (placed_architectures (map view.unit_view us)))
+names_end us i le o x n =
+    let P : List t.DesignUnit → Type 0 = λ ds. Outlined (map view.unit_view us) o ds in
+    all_outlined (map view.unit_view us) o (subst P (ap (map view.unit_view) (drop_all i us le)) x) n
+
+pub given_end : (us : List DesignUnit) (i : ℕ) → length us ≤ i → (as' : List Keyed) (es : List EntityView) → given_behind as' es (map view.unit_view (drop i us)) ≡ es
+given_end us i le as' es = ap (λ l. given_behind as' es (map view.unit_view l)) (drop_all i us le)

@@ -1,7 +1,7 @@
 -- The names of a file's units one after another, past those that are at fault, and what is told of one.
 use Rattle.std.proofs.Common.{◌≡◌, ℕ, ◌+◌, Bool, true, false, cond, not, List, [], ◌∷◌, ◌++◌, map, length, Option, Some, None, refl, ap, sym, ◌∙◌, subst, append_assoc, append-nil}
 use Rattle.std.specs.Prelude.{◌&&◌, ◌||◌, bytes_eq, find, flat_map, option_map, if◌then◌else◌}
-use Rattle.std.specs.List.{list_all, list_any, enumerate_from}
+use Rattle.std.specs.List.{list_all, enumerate_from}
 use Rattle.std.proofs.Math.Seq.{take-append_seam}
 use Rattle.std.proofs.lemmas.List.{map-append, length-append}
 use Rattle.std.proofs.lemmas.List.Elements.{filter_map-append}
@@ -19,7 +19,7 @@ use Rattle.vhdl_names_labels.specs.Once.{one_name}
 use Rattle.vhdl_names_problems.specs.Broken.{Broken, Tells, ◌∪◌, unless}
 use Rattle.vhdl_names_problems.specs.Files.{placed_architectures}
 use Rattle.vhdl_names_problems.proofs.Telling.{told_left, told_right}
-use Rattle.vhdl_names_instances.proofs.Taking.{repeated, same_name, then_is}
+use Rattle.vhdl_names_instances.proofs.Taking.{repeated, then_is}
 use Rattle.vhdl_names_instances.proofs.Told.{told_either, told_unless, tells_unless}
 use Rattle.vhdl_names.specs.Views.{Keyed, OutlineView}
 use Rattle.vhdl_names.specs.Breaking.{one_unit, outline}
@@ -253,7 +253,7 @@ module _ (ds : List DesignUnit) (o : OutlineView) (items : List ContextItem) (re
       along q p e x = let P : OutlineView → Type 0 = λ v. Outlined ds v rest in subst P e x
 
   entity_past : (e : t.Entity) → Outlined ds o (of_entity e ∷ rest) → with_unit o (of_entity e) ≡ None → Outlined ds o rest
-  entity_past e x h = entity_more e o.entities x (λ n. same n (bytes_eq n e.name.text) refl) 
+  entity_past e x h = entity_more e o.entities x (λ n. same n (bytes_eq n e.name.text) refl)
     where
       there : (b : Bool) → (then_some (not b) (o.entities ++ e.name.text ∷ []) >>= λ ns. let p : Option OutlineView = Some (record o { entities = ns }) in p) ≡ None → b ≡ true
       there true h = refl

@@ -34,9 +34,12 @@ one_entity es items (t.architecture a) = nothing
 abbrev pub entities : List DesignUnit → Broken
 entities ds = any_of (λ e. entity e.0 e.1) (entities_of ds) ∪ unless Twice (are_distinct (entity_names ds))
 
+-- the statements of an architecture, behind its declarations and labels
+abbrev pub behind_labels : List EntityView → Sight → t.Architecture → Broken
+behind_labels all sight a = concurrents all sight (t.concurrents_of a.statements) ∪ unless WrongKind (ends a.name.text a.end_name)
+
 -- the labels and statements of an architecture, behind its declarations
 abbrev pub body : List EntityView → Sight → t.Architecture → Broken
 body all sight a =
     unless Twice (are_distinct (declared_names sight.region ++ concurrent_labels (t.concurrents_of a.statements)))
-    ∪ concurrents all (record sight { region = with_labels sight.region (concurrent_labels (t.concurrents_of a.statements)) }) (t.concurrents_of a.statements)
-    ∪ unless WrongKind (ends a.name.text a.end_name)
+    ∪ behind_labels all (record sight { region = with_labels sight.region (concurrent_labels (t.concurrents_of a.statements)) }) a

@@ -73,6 +73,30 @@ fn declare_each(
     told
 }
 
+/// The statements of an architecture behind these declarations and its labels.
+fn behind_labels(
+    alloc: Global,
+    formals: &vhdl_names_instances::InstanceEntities,
+    sight: &mut Sight,
+    declarations: Vec<Declaration>,
+    tree: &syntax::Architecture,
+) -> Result<Architecture, NameFault>
+    requires outside { (sight_view sight.old).variables ≡ [] }
+    ensures given { (all : List EntityView) → AreEntities formals.now all
+        → Gives architecture_view (steps.behind_labels all (sight_view sight.old) (declarations_view declarations) (view.architecture_view tree.now)) result }
+    ensures told { (all : List EntityView) → AreEntities formals.now all
+        → IfErr result (Tells (breaking.behind_labels all (sight_view sight.old) (view.architecture_view tree.now))) }
+{
+    let statements = concurrents(alloc, formals, sight, &tree.statements)?;
+    ends(&tree.name, &tree.end_name)?;
+    let name = copied(alloc, &tree.name)?;
+    Ok(Architecture {
+        name,
+        declarations,
+        statements,
+    })
+}
+
 /// The labels and statements of an architecture behind these declarations. Of a label that stands
 /// twice and a fault of the statements the earlier one is told.
 fn body(
@@ -88,17 +112,10 @@ fn body(
     ensures told { (all : List EntityView) → AreEntities formals.now all
         → IfErr result (Tells (breaking.body all (sight_view sight.old) (view.architecture_view tree.now))) }
 {
-    if let Err(fault) = declare_each(alloc, &mut sight.region, &tree.statements) {
-        return Err(earlier_in(fault, concurrents(alloc, formals, sight, &tree.statements)));
+    match declare_each(alloc, &mut sight.region, &tree.statements) {
+        Err(fault) => Err(earlier_in(fault, concurrents(alloc, formals, sight, &tree.statements))),
+        Ok(()) => behind_labels(alloc, formals, sight, declarations, tree),
     }
-    let statements = concurrents(alloc, formals, sight, &tree.statements)?;
-    ends(&tree.name, &tree.end_name)?;
-    let name = copied(alloc, &tree.name)?;
-    Ok(Architecture {
-        name,
-        declarations,
-        statements,
-    })
 }
 
 /// An architecture of an entity, behind its context items; `formals` is the table of the entities.

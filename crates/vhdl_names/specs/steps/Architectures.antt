@@ -25,13 +25,18 @@ use Rattle.vhdl_names.specs.steps.Outlines.{described_of}
 abbrev pub with_region : Sight → List Declared → Sight
 with_region sight ds = record sight { region = ds }
 
+-- the statements, behind these declarations and their labels
+abbrev pub behind_labels : List EntityView → Sight → List u.Declaration → t.Architecture → Option u.Architecture
+behind_labels all sight ds a = do
+  body ← concurrents all sight (t.concurrents_of a.statements)
+  rule WrongKind (ends a.name.text a.end_name)
+  Some (record { declarations = ds; statements = body })
+
 -- the labels and statements, behind these declarations
 abbrev pub body : List EntityView → Sight → List u.Declaration → t.Architecture → Option u.Architecture
 body all sight ds a = do
   region ← more sight.region (labelled (concurrent_labels (t.concurrents_of a.statements)))
-  body ← concurrents all (with_region sight region) (t.concurrents_of a.statements)
-  rule WrongKind (ends a.name.text a.end_name)
-  Some (record { declarations = ds; statements = body })
+  behind_labels all (with_region sight region) ds a
 
 abbrev pub architecture : List EntityView → EntityView → List ContextItem → t.Architecture → Option u.Architecture
 architecture all e items a = do

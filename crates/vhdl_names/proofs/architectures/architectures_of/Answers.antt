@@ -7,7 +7,7 @@ use Rattle.vhdl_names_problems.specs.Broken.{any_of, of_any}
 use Rattle.vhdl_names_problems.specs.Files.{architecture, described}
 use Rattle.vhdl_names_instances.proofs.Told.{told_along, passed_told}
 use Rattle.vhdl_names.specs.steps.Outlines.{keyed, described_of}
-use Rattle.vhdl_names.proofs.Described.{of_own}
+use Rattle.vhdl_names.proofs.Among.{of_own}
 use Rattle.std.proofs.lemmas.List.{map-append}
 use Rattle.vhdl_names_rules.specs.declared.fault.NameFault.TheVariants.{NoMemory}
 use Rattle.vhdl_names_rules.specs.Rules.{each}
@@ -60,7 +60,7 @@ returns-in_err-own-clause-told c = λ all h.
     passed_told (any_of (described es) all) c.in_err-own.field-0.0 _ c.from_residual.result c.from_residual.ensures.1 (λ e p. p)
     (of_own es c.loop-place.place (entry_view (c.unwrap.result.0.now, c.unwrap.result.1.now))
     (slice_get-map entry_view entries c.loop-place.place ∙ ap (option_map entry_view) at)
-    (entries_apart entries c.len.ensures.unique) all c.in_err-own.field-0.0
+    (entries_apart entries c.len-place-end.ensures.unique) all c.in_err-own.field-0.0
     (told_along (λ n. of_any (λ (a : List t.ContextItem × t.Architecture). architecture es (named_view n c.unwrap.result.1.now) a.0 a.1) (described_of n (map keyed all)))
     _ c.unwrap.result.0.now.items c.as_slice.ensures.value c.in_err-own.field-0.0
     (told_along (λ as'. of_any (λ (a : List t.ContextItem × t.Architecture). architecture es (named_view c.as_slice.result.now c.unwrap.result.1.now) a.0 a.1)

@@ -1,10 +1,10 @@
-use Rattle.std.proofs.Common.{arith, length, drop, ◌<◌, ◌+◌, ap, sym, ◌∙◌, subst}
+use Rattle.std.proofs.Common.{arith, length, drop, ◌<◌, ◌+◌, sym, subst}
 use Rattle.vhdl_tree.specs.View.{concurrent_view}
 use Rattle.vhdl_names_rules.specs.Concurrent.{concurrent_label}
 use Rattle.vhdl_names_types.specs.Views.{region_view}
 use Rattle.vhdl_names_declarations.proofs.Labelling.{labels_of}
 use Rattle.vhdl_names_declarations.proofs.Regions.{names_apart}
-use Rattle.vhdl_names.proofs.Labels.{Labelled, none_labelled, one_more, one_label, next_left}
+use Rattle.vhdl_names.proofs.Labels.{Labelled, none_labelled, one_more, one_label, next_left, all_told}
 use Rattle.vhdl_names.proofs.architectures.declare_each.Goals as goal
 
 pub loop-statement-init : goal.loop-statement-init
@@ -16,7 +16,15 @@ loop-statement-preserved c =
     let i = c.loop-statement.statement-index in
     let lt : c.loop-statement.statement-index < length c.args.statements.now = omega arith in
     let ls = concurrent_label (concurrent_view c.statement-item.result) in
-    one_more (region_view c.args.region.now) (labels_of cs) (region_view c.loop-statement.region) ls (labels_of (drop (i + 1) cs)) (one_label (concurrent_view c.statement-item.result))
-    c.loop-statement.told
-    (subst (Labelled (region_view c.args.region.now) (labels_of cs) (region_view c.loop-statement.region) c.loop-statement.told) (next_left cs i c.statement-item.result lt c.statement-item.is) c.loop-statement.invariant)
-    c.declare_label.result (region_view c.declare_label.new.region) c.declare_label.ensures.given c.declare_label.ensures.told c.declare_label.ensures.kept
+    let left = labels_of (drop (i + 1) cs) in
+    let begun = region_view c.args.region.now in
+    let region = region_view c.declare_label.new.region in
+    subst (λ t. Labelled begun (labels_of cs) region t left) (sym c.first_of-told.ensures)
+    (one_more begun (labels_of cs) (region_view c.loop-statement.region) ls left (one_label (concurrent_view c.statement-item.result)) c.loop-statement.told
+    (subst (Labelled begun (labels_of cs) (region_view c.loop-statement.region) c.loop-statement.told) (next_left cs i c.statement-item.result lt c.statement-item.is) c.loop-statement.invariant)
+    c.declare_label.result region c.declare_label.ensures.given c.declare_label.ensures.told c.declare_label.ensures.kept)
+
+pub returns-clause-told : goal.returns-clause-told
+returns-clause-told c =
+    let cs = c.args.statements.now in
+    all_told (region_view c.args.region.now) (labels_of cs) (region_view c.loop-statement.region) c.loop-statement.told (labels_of (drop c.loop-statement.statement-index cs)) c.loop-statement.invariant

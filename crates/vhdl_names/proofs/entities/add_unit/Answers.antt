@@ -1,4 +1,5 @@
 use Rattle.std.proofs.Common.{map, sym}
+use Rattle.vhdl_tree.specs.Tree as t
 use Rattle.vhdl_tree.specs.View as view
 use Rattle.vhdl_names_problems.proofs.Telling.{told_on}
 use Rattle.vhdl_names_interfaces.specs.Views.{entities_view}
@@ -12,4 +13,4 @@ returns-in-Entity-clause-told c =
     let items = view.contexts_view c.args.unit.now.context in
     told_on _ (one_entity es items (view.library_unit_view c.args.unit.now.unit)) c.add_viewed.result
     (λ f w. told_along (λ u. one_entity es items (view.library_unit_view u)) _ c.args.unit.now.unit (sym c.in-Entity.is) f
-    (told_along (λ l. one_entity es (map view.context_view l) (view.library_unit_view _)) _ c.args.unit.now.context.items c.deref.ensures.value f w)) c.add_viewed.ensures.told
+    (told_along (λ l. one_entity es (map view.context_view l) (t.LibraryUnit.entity (view.entity_view c.in-Entity.tree))) _ c.args.unit.now.context.items c.deref.ensures.value f w)) c.add_viewed.ensures.told

@@ -1,4 +1,4 @@
-use Rattle.std.proofs.Common.{rules, arith, refl, length, ◌<◌}
+use Rattle.std.proofs.Common.{rules, arith, length, ◌<◌, ◌≡◌, get_or, ap, ◌∙◌}
 use Rattle.std.proofs.lemmas.Grind.{common_steps}
 use Rattle.vhdl_tree.specs.View as view
 use Rattle.vhdl_names_rules.specs.Files.{architectures_of}
@@ -13,9 +13,12 @@ use Rattle.vhdl_names.proofs.refusal.architectures_fault.Goals as goal
 pub returns-in_err-unit_fault : goal.returns-in_err-unit_fault
 returns-in_err-unit_fault c =
     let us = c.args.file.now.units.items in
-    let lt : c.loop-unit.unit-index < length c.args.file.now.units.items = omega arith in
+    let same : length c.deref-unit-items.result.now ≡ length c.args.file.now.units.items = ap length c.deref-unit-items.ensures.value in
+    let lt : c.loop-unit.unit-index < length c.args.file.now.units.items = omega (arith, same) in
+    let is : c.unit-item.result ≡ get_or c.args.file.now.units.items c.loop-unit.unit-index c.unit-item.result =
+    c.unit-item.is ∙ ap (λ l. get_or l c.loop-unit.unit-index c.unit-item.result) c.deref-unit-items.ensures.value in
     let f : Tells (any_of (described (entities_view c.args.entities.now)) (architectures_of (view.units_view c.args.file.now.units))) c.in_err-unit_fault.field-0.0 =
-    one_told us c.loop-unit.unit-index c.unit-item.result lt c.unit-item.is (described (entities_view c.args.entities.now)) c.in_err-unit_fault.field-0.0
+    one_told us c.loop-unit.unit-index c.unit-item.result lt is (described (entities_view c.args.entities.now)) c.in_err-unit_fault.field-0.0
     c.in_err-unit_fault.ensures in
     first_of (search rules, grind (arith, common_steps))
 

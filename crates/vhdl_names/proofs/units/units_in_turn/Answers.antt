@@ -1,4 +1,4 @@
-use Rattle.std.proofs.Common.{rules, arith, refl}
+use Rattle.std.proofs.Common.{rules, arith}
 use Rattle.std.proofs.lemmas.Grind.{common_steps}
 use Rattle.vhdl_tree.specs.View.{file_view}
 use Rattle.vhdl_names_rules.specs.Files.{architectures_of}
@@ -21,12 +21,12 @@ returns-in_err-entities-clause-told c =
     entities_told (file_view c.args.file.now) c.in_err-entities.field-0.0 c.in_err-entities.ensures.told in
     first_of (search rules, grind (arith, common_steps))
 
-pub returns-in_err-units-clause-told : goal.returns-in_err-units-clause-told
-returns-in_err-units-clause-told c =
+pub returns-in_err-entities-2-clause-told : goal.returns-in_err-entities-2-clause-told
+returns-in_err-entities-2-clause-told c =
     let file' = file_view c.args.file.now in
     let o = outline_view c.in_ok-outline.outline in
     let kept = all_kept file'.units o c.in_ok-outline.ensures.given in
-    let f : Tells (file (file_view c.args.file.now)) c.in_err-units.field-0.0 =
-    units_told file' o c.in_ok-outline.ensures.given (entities_view c.in_ok-entities.entities) c.in_ok-entities.ensures.given c.in_err-units.field-0.0
-    (c.in_err-units.ensures.told (architectures_of file'.units) kept.architectures) in
+    let f : Tells (file (file_view c.args.file.now)) c.in_err-entities-2.field-0.0 =
+    units_told file' o c.in_ok-outline.ensures.given (entities_view c.in_ok-entities.entities) c.in_ok-entities.ensures.given c.in_err-entities-2.field-0.0
+    (c.in_err-entities-2.ensures.told (architectures_of file'.units) kept.architectures) in
     first_of (search rules, grind (arith, common_steps))

@@ -1,6 +1,6 @@
 -- What is told of the architectures of a file, among its entities.
-use Rattle.std.proofs.Common.{◌≡◌, ℕ, zero, suc, ◌+◌, arith, Bool, true, false, cond, not, ◌||◌, List, [], ◌∷◌, map, Option, Some, None, Vec, Global, refl, ap, sym, ◌∙◌, subst, true≢false}
-use Rattle.std.specs.Prelude.{◌&&◌, bytes_eq, find, option_map, slice_get}
+use Rattle.std.proofs.Common.{◌≡◌, ℕ, zero, suc, ◌+◌, arith, Bool, true, false, cond, not, ◌||◌, List, [], ◌∷◌, map, Option, Some, None, Vec, Global, refl, ap, sym, ◌∙◌, true≢false}
+use Rattle.std.specs.Prelude.{bytes_eq, find, option_map, slice_get}
 use Rattle.std.specs.List.{enumerate_from}
 use Rattle.std.specs.Map.{lookup}
 use Rattle.std.proofs.lemmas.Slice.Eq.{bytes_eq-Decides}
@@ -10,7 +10,7 @@ use Rattle.vhdl_names_rules.specs.declared.fault.NameFault.{NameFault}
 use Rattle.vhdl_names_rules.specs.Visibility.{Name, is_among, are_distinct}
 use Rattle.vhdl_names_rules.specs.Interfaces.{EntityView, entity_named}
 use Rattle.vhdl_names_rules.proofs.laws.Rules.{both, not_true, some_is}
-use Rattle.vhdl_names_problems.specs.Broken.{Broken, Tells, ◌∪◌, any_of, of_any}
+use Rattle.vhdl_names_problems.specs.Broken.{Broken, Tells, any_of, of_any}
 use Rattle.vhdl_names_problems.specs.Declarations.{context}
 use Rattle.vhdl_names_problems.specs.Files.{architecture, described}
 use Rattle.vhdl_names_problems.proofs.Telling.{told_left, told_right}
@@ -20,7 +20,11 @@ use Rattle.vhdl_names_interfaces.specs.declared.interface.EntityInterface.{Entit
 use Rattle.vhdl_names_interfaces.specs.Views.{named_view, entity_view}
 use Rattle.vhdl_names.specs.Views.{Keyed}
 use Rattle.vhdl_names.specs.steps.Outlines.{keyed, described_of}
-use Rattle.vhdl_names.proofs.Tabling.{names_in, Entry, entry_view}
+use Rattle.vhdl_names.proofs.Tabling.{names_in, entry_view}
+
+-- an entry of the table of entities
+abbrev Entry : Type 0
+Entry = Vec ℕ Global × EntityInterface
 
 -- ---- an entity by its name
 
@@ -62,7 +66,7 @@ own_told es k e at d [] p h f w = cc
 own_told es k e at d ((items, a) ∷ all) p h f w = go (bytes_eq e.name a.entity.text) refl h (own_told es k e at d all p)
   where
     here : bytes_eq e.name a.entity.text ≡ true → Tells (architecture es e items a) f → Tells (described es (items, a)) f
-    here q w = told_along by (Some (k, e)) (entity_named es a.entity.text) (sym (ap (entity_named es) (sym ((bytes_eq-Decides e.name a.entity.text).0 q)) ∙ found_at es 0 k e at d)) f w
+    here q w = told_along by (Some (k, e)) (entity_named es a.entity.text) (sym (ap (entity_named es) (sym ((bytes_eq-Decides e.name a.entity.text).0 q)) ∙ found_at es 0 k e at d ∙ ap (λ j. Some (j, e)) (let s : 0 + k ≡ k = omega arith in s))) f w
       where
         by : Option (ℕ × EntityView) → Broken
         by None = context (record { has_ieee = true; has_logic = false; has_numbers = false }) items
