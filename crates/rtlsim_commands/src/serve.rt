@@ -1,0 +1,79 @@
+//! One way to serve each command.
+
+ghost use Rattle.std.specs.Prelude.{◌≡◌, ℕ, IfErr, take};
+ghost use Rattle.rtl_run.specs.Simulated as spec;
+ghost use Rattle.rtl_sink.specs.Written.{IsIntact};
+ghost use Rattle.rtl_stim.specs.Ports.{HasOwnPorts};
+ghost use Rattle.rtlsim_faults.specs.Places.{IsTold};
+ghost use Rattle.rtlsim_on_net.specs.Sights.{Seeing, StuckIn, events_of};
+ghost use Rattle.rtlsim_on_net.specs.Unsettled.{IfUnsettled};
+ghost use Rattle.rtlsim_commands.specs.Served.{Serves};
+
+use crate::ending::{ended_by_writes, refuse_net, refuse_source};
+use crate::noting::{Noting, Numbers};
+use rtl_net::Net;
+use rtl_sink::Sink;
+use rtl_watch::Watch;
+use rtlsim_faults::{Fault, Status, Telling};
+use rtlsim_on_net::{Answer, Command};
+use std::alloc::Global;
+use vhdl_source_rules::Front;
+
+/// Serves a command, while this watch looks on: opens the source, does the command on its netlist, writes what is told of its answer or the
+/// lines of a fault to `err`, and answers the status. Behind the explanation of a moment that doesn't settle stand the nets that still change.
+pub fn serve<F: Front, C: Command, V: Watch, O: Sink, E: Sink>(
+    alloc: Global,
+    source: &[u8],
+    top: &[u8],
+    telling: &Telling<'_>,
+    command: &mut C,
+    watch: &mut V,
+    out: &mut O,
+    err: &mut E,
+) -> Status
+    requires out { IsIntact (O.state out.old) }
+    requires err { IsIntact (E.state err.old) }
+    ensures { Serves (Seeing (C.sight command.old) (C.does command.old) (λ stands. V.told watch.old stands watch.new))
+        (record { text = C.Answer.text; status = C.Answer.said; events = events_of (C.sight command.old) }) telling.now source.now top.now result
+        (record { out = O.state out.old; out_after = O.state out.new; err = E.state err.old; err_after = E.state err.new }) }
+{
+    let net = match F::open(alloc, source, top) {
+        Ok(net) => net,
+        Err(fault) => return refuse_source::<F, O, E>(alloc, source, top, telling, fault, out, err),
+    };
+    let (answer, changing) = on_net_noting(alloc, &net, command, watch, out);
+    match answer {
+        Ok(answer) => {
+            let status = answer.tell(err);
+            ended_by_writes(status, out, err)
+        }
+        Err(fault) => refuse_net(alloc, telling, &net, &fault, &changing, out, err),
+    }
+}
+
+/// Does a command on a netlist, and answers beside that which nets still change where a moment doesn't settle.
+fn on_net_noting<C: Command, V: Watch, S: Sink>(
+    alloc: Global,
+    net: &Net,
+    command: &mut C,
+    watch: &mut V,
+    out: &mut S,
+) -> (Result<C::Answer, Fault>, Numbers)
+    requires ports { HasOwnPorts net.now }
+    requires intact { IsIntact (S.state out.old) }
+    ensures does { Seeing (C.sight command.old) (C.does command.old) (λ stands. V.told watch.old stands watch.new) net.now result.0
+        (S.state out.old) (S.state out.new) }
+    ensures noted { IfUnsettled result.0 (λ time. StuckIn (C.sight command.old) time (λ stands before now at. result.1.items ≡ take 17 (spec.changing before now)) net.now) }
+    ensures told { (size : ℕ) → IfErr result.0 (IsTold size) }
+{
+    let mut noting = Noting {
+        changing: Numbers::new(),
+        other: watch,
+    };
+    let answer = command.on_net(alloc, net, &mut noting, out);
+    let Noting {
+        changing,
+        other: _watch,
+    } = noting;
+    (answer, changing)
+}
