@@ -1,19 +1,20 @@
 -- The nets that still change where a moment doesn't settle.
-use Rattle.std.proofs.Common.{◌≡◌, ℕ, zero, suc, Bool, true, false, List, [], ◌∷◌, ◌++◌, Result, Err, inl, inr, refl, ap, subst, ◌∙◌, codes}
-use Rattle.std.specs.Prelude.{if◌then◌else◌, take}
+use Rattle.std.proofs.Common.{◌≡◌, ℕ, zero, suc, Bool, true, false, List, [], ◌∷◌, ◌++◌, Result, Ok, Err, inl, inr, refl, ap, subst, ◌∙◌, codes}
+use Rattle.std.specs.Prelude.{if◌then◌else◌, take, IfErr}
 use Rattle.rtl_net.specs.Names.{net_name}
 use Rattle.rtl_net.specs.Nets.{NetlistView}
 use Rattle.rtl_run.specs.Simulated.{changing}
 use Rattle.rtl_sink.specs.Written.{SinkState, Goes}
+use Rattle.rtl_watch.specs.Stands.{Stand}
 use Rattle.rtlsim_explain_check.specs.Ranges.{follows, range_text}
 use Rattle.rtlsim_faults.specs.Changing.{names_from, changing_line}
 use Rattle.rtlsim_faults.specs.Lines.{memory_line}
+use Rattle.rtlsim_faults.specs.Places.{IsTold}
 use Rattle.rtlsim_faults.specs.declared.faults.Fault.{Fault}
 use Rattle.rtlsim_faults.specs.declared.faults.Fault.TheVariants.{Lex, Syntax, Name, Elab, Rejected, Stim, Expect, Differs, NoSettling, Memory, Output}
-use Rattle.rtlsim_on_net.specs.Sights.{Sight, nothing, machine, events, StuckIn, events_of}
-use Rattle.rtlsim_on_net.specs.Unsettled.{IfUnsettled}
-use Rattle.rtlsim_on_net.proofs.Unsettled.{of_unsettled_so}
-use Rattle.rtlsim_commands.specs.Unsettled.{Names, NamesIf, TellsChanging}
+use Rattle.rtlsim_on_net.specs.Sights.{Sight, nothing, machine, events, IsOfNet, events_of}
+use Rattle.rtlsim_on_net.proofs.Sights.{of_unsettled_so}
+use Rattle.rtlsim_commands.specs.Unsettled.{Names, NamesIf, TellsStuck, TellsChanging}
 
 -- ---- the line of the first seventeen
 
@@ -42,54 +43,59 @@ names_all net first numbers old new is (inr h) = inr h
 -- ---- what is told
 
 -- these are the first seventeen numbers of such nets
-abbrev pub AreNoted : Sight → (numbers : List ℕ) → NetlistView → (time : ℕ) → Type 0
-AreNoted sight numbers net time = StuckIn sight time (λ stands before now at. numbers ≡ take 17 (changing before now)) net
+abbrev pub AreNoted : Sight → (numbers : List ℕ) → NetlistView → Fault → Type 0
+AreNoted sight numbers net fault = IsOfNet sight (λ stands before now at. numbers ≡ take 17 (changing before now)) net fault
 
-tells_of : (A : Type 0) (sight : Sight) (explains : Bool) (net : NetlistView) (numbers : List ℕ) (fault : Fault) (old new : SinkState)
-    → IfUnsettled {A = A} (Err fault) (AreNoted sight numbers net) → NamesIf explains net numbers fault old new → TellsChanging (events_of sight) explains net fault old new
-tells_of A nothing false net numbers fault old new noted h = h
-tells_of A nothing true net numbers (Lex x) old new noted h = h
-tells_of A nothing true net numbers (Syntax x) old new noted h = h
-tells_of A nothing true net numbers (Name x) old new noted h = h
-tells_of A nothing true net numbers (Elab x) old new noted h = h
-tells_of A nothing true net numbers (Rejected x) old new noted h = h
-tells_of A nothing true net numbers (Stim x) old new noted h = h
-tells_of A nothing true net numbers (Expect x) old new noted h = h
-tells_of A nothing true net numbers (Differs x) old new noted h = h
-tells_of A nothing true net numbers (NoSettling time) old new noted h = absurd noted
-tells_of A nothing true net numbers Memory old new noted h = h
-tells_of A nothing true net numbers Output old new noted h = h
-tells_of A (machine text) false net numbers fault old new noted h = h
-tells_of A (machine text) true net numbers (Lex x) old new noted h = h
-tells_of A (machine text) true net numbers (Syntax x) old new noted h = h
-tells_of A (machine text) true net numbers (Name x) old new noted h = h
-tells_of A (machine text) true net numbers (Elab x) old new noted h = h
-tells_of A (machine text) true net numbers (Rejected x) old new noted h = h
-tells_of A (machine text) true net numbers (Stim x) old new noted h = h
-tells_of A (machine text) true net numbers (Expect x) old new noted h = h
-tells_of A (machine text) true net numbers (Differs x) old new noted h = h
-tells_of A (machine text) true net numbers (NoSettling time) old new noted h = absurd noted
-tells_of A (machine text) true net numbers Memory old new noted h = h
-tells_of A (machine text) true net numbers Output old new noted h = h
-tells_of A (events text) false net numbers fault old new noted h = h
-tells_of A (events text) true net numbers (Lex x) old new noted h = h
-tells_of A (events text) true net numbers (Syntax x) old new noted h = h
-tells_of A (events text) true net numbers (Name x) old new noted h = h
-tells_of A (events text) true net numbers (Elab x) old new noted h = h
-tells_of A (events text) true net numbers (Rejected x) old new noted h = h
-tells_of A (events text) true net numbers (Stim x) old new noted h = h
-tells_of A (events text) true net numbers (Expect x) old new noted h = h
-tells_of A (events text) true net numbers (Differs x) old new noted h = h
-tells_of A (events text) true net numbers (NoSettling time) old new noted h =
+tells_stuck : (sight : Sight) (net : NetlistView) (numbers : List ℕ) (time : ℕ) (old new : SinkState) → AreNoted sight numbers net (NoSettling time)
+    → Names net numbers old new → TellsStuck (events_of sight) time net old new
+tells_stuck nothing net numbers time old new noted h = absurd noted
+tells_stuck (machine text) net numbers time old new noted h = absurd noted
+tells_stuck (events text) net numbers time old new noted h =
     of_unsettled_so text time net (λ stands before now at. numbers ≡ take 17 (changing before now)) (λ stands before now at. Names net (changing before now) old new)
     (λ stands before now at is. names_all net numbers (changing before now) old new is h) noted
-tells_of A (events text) true net numbers Memory old new noted h = h
-tells_of A (events text) true net numbers Output old new noted h = h
+
+tells_of : (sight : Sight) (explains : Bool) (net : NetlistView) (numbers : List ℕ) (fault : Fault) (old new : SinkState) → AreNoted sight numbers net fault
+    → NamesIf explains net numbers fault old new → TellsChanging (events_of sight) explains net fault old new
+tells_of sight false net numbers fault old new noted h = h
+tells_of sight true net numbers (Lex x) old new noted h = h
+tells_of sight true net numbers (Syntax x) old new noted h = h
+tells_of sight true net numbers (Name x) old new noted h = h
+tells_of sight true net numbers (Elab x) old new noted h = h
+tells_of sight true net numbers (Rejected x) old new noted h = h
+tells_of sight true net numbers (Stim x) old new noted h = h
+tells_of sight true net numbers (Expect x) old new noted h = h
+tells_of sight true net numbers (Differs x) old new noted h = h
+tells_of sight true net numbers (NoSettling time) old new noted h = tells_stuck sight net numbers time old new noted h
+tells_of sight true net numbers Memory old new noted h = h
+tells_of sight true net numbers Output old new noted h = h
+
+byteless : (sight : Sight) (Holds : List Stand → (before now : List ℕ) → (time : ℕ) → Type 0) (net : NetlistView) (fault : Fault) (size : ℕ) → IsOfNet sight Holds net fault → IsTold size fault
+byteless sight Holds net (Lex x) size h = absurd h
+byteless sight Holds net (Syntax x) size h = absurd h
+byteless sight Holds net (Name x) size h = absurd h
+byteless sight Holds net (Elab x) size h = absurd h
+byteless sight Holds net (Rejected x) size h = tt
+byteless sight Holds net (Stim x) size h = tt
+byteless sight Holds net (Expect x) size h = tt
+byteless sight Holds net (Differs x) size h = tt
+byteless sight Holds net (NoSettling x) size h = tt
+byteless sight Holds net Memory size h = tt
+byteless sight Holds net Output size h = tt
 
 -- of an answer that is this fault
 pub tells_changing : {A : Type 0} (sight : Sight) (explains : Bool) (net : NetlistView) (numbers shown : List ℕ) (answer : Result A Fault) (fault : Fault) (old new : SinkState)
-    → answer ≡ Err fault → shown ≡ numbers → IfUnsettled answer (AreNoted sight numbers net) → NamesIf explains net shown fault old new
+    → answer ≡ Err fault → shown ≡ numbers → IfErr answer (AreNoted sight numbers net) → NamesIf explains net shown fault old new
     → TellsChanging (events_of sight) explains net fault old new
 tells_changing {A} sight explains net numbers shown answer fault old new at same noted h =
-    tells_of A sight explains net numbers fault old new (subst (λ (r : Result A Fault). IfUnsettled r (AreNoted sight numbers net)) at noted)
+    tells_of sight explains net numbers fault old new (subst (λ (r : Result A Fault). IfErr r (AreNoted sight numbers net)) at noted)
     (subst (λ (ns : List ℕ). NamesIf explains net ns fault old new) same h)
+
+-- a fault of no source is told at no byte
+module _ {A : Type 0} (sight : Sight) (Holds : List Stand → (before now : List ℕ) → (time : ℕ) → Type 0) (net : NetlistView) (answer : Result A Fault) where
+  pub fault_told : (fault : Fault) (size : ℕ) → answer ≡ Err fault → IfErr answer (IsOfNet sight Holds net) → IsTold size fault
+  fault_told fault size at h = byteless sight Holds net fault size (subst (λ (r : Result A Fault). IfErr r (IsOfNet sight Holds net)) at h)
+
+pub answer_told : {A : Type 0} (sight : Sight) (Holds : List Stand → (before now : List ℕ) → (time : ℕ) → Type 0) (net : NetlistView) (answer : Result A Fault) (size : ℕ)
+    → IfErr answer (IsOfNet sight Holds net) → IfErr answer (IsTold size)
+answer_told sight Holds net (Ok x) size h = tt
+answer_told sight Holds net (Err fault) size h = byteless sight Holds net fault size h

@@ -1,9 +1,9 @@
 -- What is told of the nets that still change where a moment of a simulation by events doesn't settle.
-use Rattle.std.specs.Prelude.{◌≡◌, ◌⊎◌, ℕ, Bool, true, List, Option, Some}
+use Rattle.std.specs.Prelude.{◌≡◌, ◌⊎◌, ℕ, Bool, true, List, Option, Some, None}
 use Rattle.rtl_net.specs.Nets.{NetlistView}
 use Rattle.rtl_run.specs.Simulated.{changing}
 use Rattle.rtl_sink.specs.Written.{SinkState, Goes}
-use Rattle.rtlsim_on_net.specs.Unsettled.{OfUnsettled}
+use Rattle.rtlsim_on_net.specs.Sights.{OfUnsettled}
 use Rattle.rtlsim_faults.specs.Told.{TellsFault}
 use Rattle.rtlsim_faults.specs.declared.status.Status.{Status}
 use Rattle.rtlsim_faults.specs.declared.telling.Telling.{Telling}
@@ -16,10 +16,15 @@ use Rattle.rtlsim_faults.specs.declared.faults.Fault.TheVariants.{NoSettling}
 abbrev pub Names : NetlistView → (numbers : List ℕ) → (old new : SinkState) → Type 0
 Names net numbers old new = Goes old new (changing_line net numbers) ⊎ Goes old new memory_line
 
--- Below the explanation of a moment that doesn't settle those nets are named that the last delta cycle allowed changes.
+-- in a simulation by events under this stimulus those nets are named that the last delta cycle allowed changes
+abbrev pub TellsStuck : (events : Option (List ℕ)) → (time : ℕ) → NetlistView → (old new : SinkState) → Type 0
+TellsStuck (Some text) time net old new = OfUnsettled text time (λ stands before now at. Names net (changing before now) old new) net
+TellsStuck None time net old new = new ≡ old
+
+-- so it is below the explanation of a moment that doesn't settle
 abbrev pub TellsChanging : (events : Option (List ℕ)) → (explains : Bool) → NetlistView → Fault → (old new : SinkState) → Type 0
-TellsChanging (Some text) true net (NoSettling time) old new = OfUnsettled text time (λ stands before now at. Names net (changing before now) old new) net
-TellsChanging _ explains net fault old new = new ≡ old
+TellsChanging events true net (NoSettling time) old new = TellsStuck events time net old new
+TellsChanging events explains net fault old new = new ≡ old
 
 -- ---- steps of the code
 

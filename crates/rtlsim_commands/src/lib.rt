@@ -9,8 +9,6 @@
 mod ending;
 mod noting;
 mod opening;
-mod runs;
-mod serve;
 mod serving;
 
 pub use ending::ended_by_writes;
@@ -30,15 +28,10 @@ pub use rtlsim_faults::{
 };
 pub use rtlsim_files::SourceFile;
 pub use rtlsim_on_net::{
-    CheckNet, Command, DescribeNet, DrawNet, EvalNet, Expecting, ListNet, MAX_DELTAS, Run,
+    CheckNet, Command, Compared, DescribeNet, DrawNet, EvalNet, ListNet, MAX_DELTAS, Run,
     RunEvents, RunLevels, RunMachine,
 };
-pub use runs::{
-    serve_run, serve_run_event, serve_run_event_expecting, serve_run_expecting, serve_run_levels,
-    serve_run_levels_expecting,
-};
-pub use serve::serve;
-pub use serving::{serve_check, serve_check_dot, serve_check_json, serve_eval, serve_net};
+pub use serving::serve;
 pub use vhdl_expand_rules::{ElabFault, ElabProblem};
 pub use vhdl_names_rules::{NameFault, NameProblem};
 pub use vhdl_source_rules::{Front, SourceFault};

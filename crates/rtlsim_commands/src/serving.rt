@@ -1,104 +1,76 @@
-//! Commands that print, with what is told of their answers.
+//! One way to serve each command.
 
-ghost use Rattle.std.specs.Prelude.{map};
+ghost use Rattle.std.specs.Prelude.{◌≡◌, IfErr, take};
+ghost use Rattle.rtl_run.specs.Simulated as spec;
 ghost use Rattle.rtl_sink.specs.Written.{IsIntact};
-ghost use Rattle.rtlsim_on_net.specs.Listed.{ListsNet, ChecksNetJson, ChecksNetTold, DrawsNetTold};
-ghost use Rattle.rtlsim_on_net.specs.Machine.{EvaluatesMachine};
+ghost use Rattle.rtl_stim.specs.Ports.{HasOwnPorts};
+ghost use Rattle.rtlsim_on_net.specs.Sights.{Seeing, IsOfNet, events_of};
 ghost use Rattle.rtlsim_commands.specs.Served.{Serves};
-ghost use Rattle.rtlsim_commands.specs.Told as told;
 
-use crate::serve::serve;
+use crate::ending::{ended_by_writes, refuse_net, refuse_source};
+use crate::noting::{Noting, Numbers};
+use rtl_net::Net;
 use rtl_sink::Sink;
-use rtl_watch::Unwatched;
-use rtlsim_faults::{Status, Telling};
-use rtlsim_on_net::{CheckNet, DescribeNet, DrawNet, EvalNet, ListNet};
+use rtl_watch::Watch;
+use rtlsim_faults::{Fault, Status, Telling};
+use rtlsim_on_net::{Answer, Command};
 use std::alloc::Global;
 use vhdl_source_rules::Front;
 
-/// Writes the lines of the netlist of a source to `out` and those of a fault to `err`, and answers the status.
-pub fn serve_net<F: Front, O: Sink, E: Sink>(
+/// Serves a command, while this watch looks on: opens the source, does the command on its netlist, writes what is told of its answer or the
+/// lines of a fault to `err`, and answers the status. Behind the explanation of a moment that doesn't settle stand the nets that still change.
+pub fn serve<F: Front, C: Command, V: Watch, O: Sink, E: Sink>(
     alloc: Global,
     source: &[u8],
     top: &[u8],
     telling: &Telling<'_>,
+    command: &mut C,
+    watch: &mut V,
     out: &mut O,
     err: &mut E,
 ) -> Status
     requires out { IsIntact (O.state out.old) }
     requires err { IsIntact (E.state err.old) }
-    ensures { Serves ListsNet told.quiet telling.now source.now top.now result
+    ensures { Serves (Seeing (C.sight command.old) (C.does command.old) (λ stands. V.told watch.old stands watch.new))
+        (record { text = C.Answer.text; status = C.Answer.said; events = events_of (C.sight command.old) }) telling.now source.now top.now result
         (record { out = O.state out.old; out_after = O.state out.new; err = E.state err.old; err_after = E.state err.new }) }
 {
-    serve::<F, _, _, O, E>(alloc, source, top, telling, &mut ListNet, &mut Unwatched, out, err)
+    let net = match F::open(alloc, source, top) {
+        Ok(net) => net,
+        Err(fault) => return refuse_source::<F, O, E>(alloc, source, top, telling, fault, out, err),
+    };
+    let (answer, changing) = on_net_noting(alloc, &net, command, watch, out);
+    match answer {
+        Ok(answer) => {
+            let status = answer.tell(err);
+            ended_by_writes(status, out, err)
+        }
+        Err(fault) => refuse_net(alloc, telling, &net, &fault, &changing, out, err),
+    }
 }
 
-/// Checks the netlist of a source, writes the lines of the verdict to `out` and those of a fault to `err`, and answers the status.
-pub fn serve_check<F: Front, O: Sink, E: Sink>(
+/// Does a command on a netlist, and answers beside that which nets still change where a moment doesn't settle.
+fn on_net_noting<C: Command, V: Watch, S: Sink>(
     alloc: Global,
-    source: &[u8],
-    top: &[u8],
-    telling: &Telling<'_>,
-    out: &mut O,
-    err: &mut E,
-) -> Status
-    requires out { IsIntact (O.state out.old) }
-    requires err { IsIntact (E.state err.old) }
-    ensures { Serves (ChecksNetTold telling.now) told.verdict telling.now source.now top.now result
-        (record { out = O.state out.old; out_after = O.state out.new; err = E.state err.old; err_after = E.state err.new }) }
+    net: &Net,
+    command: &mut C,
+    watch: &mut V,
+    out: &mut S,
+) -> (Result<C::Answer, Fault>, Numbers)
+    requires ports { HasOwnPorts net.now }
+    requires intact { IsIntact (S.state out.old) }
+    ensures does { Seeing (C.sight command.old) (C.does command.old) (λ stands. V.told watch.old stands watch.new) net.now result.0
+        (S.state out.old) (S.state out.new) }
+    ensures faults { IfErr result.0 (IsOfNet (C.sight command.old) (λ stands before now at. result.1.items ≡ take 17 (spec.changing before now)) net.now) }
 {
-    serve::<F, _, _, O, E>(alloc, source, top, telling, &mut CheckNet { telling }, &mut Unwatched, out, err)
-}
-
-/// Checks the netlist of a source, draws its levels to `out` where the verdict is yes and writes its lines there else, writes the lines of a
-/// fault to `err`, and answers the status.
-pub fn serve_check_dot<F: Front, O: Sink, E: Sink>(
-    alloc: Global,
-    source: &[u8],
-    top: &[u8],
-    telling: &Telling<'_>,
-    out: &mut O,
-    err: &mut E,
-) -> Status
-    requires out { IsIntact (O.state out.old) }
-    requires err { IsIntact (E.state err.old) }
-    ensures { Serves (DrawsNetTold telling.now) told.verdict telling.now source.now top.now result
-        (record { out = O.state out.old; out_after = O.state out.new; err = E.state err.old; err_after = E.state err.new }) }
-{
-    serve::<F, _, _, O, E>(alloc, source, top, telling, &mut DrawNet { telling }, &mut Unwatched, out, err)
-}
-
-/// Checks the netlist of a source, writes the verdict as an object of JSON to `out` and the lines of a fault to `err`, and answers the status.
-pub fn serve_check_json<F: Front, O: Sink, E: Sink>(
-    alloc: Global,
-    source: &[u8],
-    top: &[u8],
-    telling: &Telling<'_>,
-    out: &mut O,
-    err: &mut E,
-) -> Status
-    requires out { IsIntact (O.state out.old) }
-    requires err { IsIntact (E.state err.old) }
-    ensures { Serves (ChecksNetJson telling.now) told.verdict telling.now source.now top.now result
-        (record { out = O.state out.old; out_after = O.state out.new; err = E.state err.old; err_after = E.state err.new }) }
-{
-    serve::<F, _, _, O, E>(alloc, source, top, telling, &mut DescribeNet { telling }, &mut Unwatched, out, err)
-}
-
-/// Writes the values of the out ports of the netlist of a source under these NAME=VALUE words to `out`, the lines of a fault to `err`,
-/// and answers the status.
-pub fn serve_eval<F: Front, O: Sink, E: Sink>(
-    alloc: Global,
-    source: &[u8],
-    top: &[u8],
-    telling: &Telling<'_>,
-    sets: &[&[u8]],
-    out: &mut O,
-    err: &mut E,
-) -> Status
-    requires out { IsIntact (O.state out.old) }
-    requires err { IsIntact (E.state err.old) }
-    ensures { Serves (EvaluatesMachine (map (λ set. set.now) sets.now)) told.quiet telling.now source.now top.now result
-        (record { out = O.state out.old; out_after = O.state out.new; err = E.state err.old; err_after = E.state err.new }) }
-{
-    serve::<F, _, _, O, E>(alloc, source, top, telling, &mut EvalNet { sets }, &mut Unwatched, out, err)
+    let mut noting = Noting {
+        changing: Numbers::new(),
+        other: watch,
+    };
+    let answer = command.on_net(alloc, net, &mut noting, out);
+    let Noting {
+        changing,
+        other: _watch,
+    } = noting;
+    (answer, changing)
 }

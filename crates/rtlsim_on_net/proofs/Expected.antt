@@ -1,8 +1,10 @@
 -- Runs that are compared with what is expected.
 use Rattle.std.proofs.Common.{◌≡◌, ℕ, List, Option, Some, None, Result, Ok, Err, inl, inr, refl, sym, subst}
 use Rattle.std.specs.Prelude.{IsErrAnd, option_map}
-use Rattle.rtlsim_on_net.specs.Expected.{IsOfRun, RunsExpecting, compared}
+use Rattle.rtlsim_on_net.specs.Expected.{Comparing, IsOfRun, RunsExpecting, unless_differs}
+use Rattle.rtlsim_on_net.specs.Sights.{Sight, Seen, Seeing}
 use Rattle.rtlsim_on_net.specs.Watched.{IfWhole}
+use Rattle.rtlsim_on_net.proofs.Sights.{seeing_of}
 use Rattle.rtlsim_on_net.proofs.Watched.{watched_failed}
 use Rattle.rtlsim_faults.specs.Faults.{of_expect}
 use Rattle.rtlsim_faults.specs.declared.faults.Fault.{Fault}
@@ -70,7 +72,7 @@ module _ {A : Type 0} (Runs : NetlistView → Result A Fault → (old new : Sink
 
     -- the run is whole
     module _ (so : (P Q : List Stand → Type 0) → ((stands : List Stand) → P stands → Q stands) → Sees P net → Sees Q net) where
-      pub whole : (x : A) (d : Option Difference) (answer : Result A Fault) (Told Seen : List Stand → Type 0) → answer ≡ compared (Ok x) d → Runs net (Ok x) old new → Sees Told net
+      pub whole : (x : A) (d : Option Difference) (answer : Result A Fault) (Told Seen : List Stand → Type 0) → answer ≡ unless_differs (Ok x) d → Runs net (Ok x) old new → Sees Told net
           → ((stands : List Stand) → Told stands → option_map difference_view d ≡ first_difference stands es) → ((stands : List Stand) → Told stands → Seen stands)
           → RunsExpecting Runs Sees expected net answer old new × IfWhole answer (Sees Seen net)
       whole x None answer Told Seen is runs sees first seen =
@@ -105,7 +107,7 @@ pub compared_so : {A : Type 0} (Runs : NetlistView → Result A Fault → (old n
     (expected : List ℕ) (old new : SinkState) (es : List Expectation) (read : expectations_of net expected ≡ Ok es)
     → ((fault : Fault) → Runs net (Err fault) old new → IsOfRun fault)
     → ((P Q : List Stand → Type 0) → ((stands : List Stand) → P stands → Q stands) → Sees P net → Sees Q net)
-    → (answer : Result A Fault) (d : Option Difference) (result : Result A Fault) (Told Seen : List Stand → Type 0) → result ≡ compared answer d → Runs net answer old new
+    → (answer : Result A Fault) (d : Option Difference) (result : Result A Fault) (Told Seen : List Stand → Type 0) → result ≡ unless_differs answer d → Runs net answer old new
     → IfWhole answer (Sees Told net) → ((stands : List Stand) → Told stands → option_map difference_view d ≡ first_difference stands es)
     → ((stands : List Stand) → Told stands → Seen stands) → RunsExpecting Runs Sees expected net result old new × IfWhole result (Sees Seen net)
 compared_so Runs Sees net expected old new es read of_run so (Ok x) d result Told Seen is runs sees first seen =
@@ -114,3 +116,14 @@ compared_so Runs Sees net expected old new es read of_run so (Err f) None result
     failed Runs Sees net expected old new es read of_run (Sees Seen net) result f (is_fault result f is) runs
 compared_so Runs Sees net expected old new es read of_run so (Err f) (Some d) result Told Seen is runs sees first seen =
     failed Runs Sees net expected old new es read of_run (Sees Seen net) result f (is_fault result f is) runs
+
+-- what is expected is given
+pub comparing_some : {A E : Type 0} (text_of : E → List ℕ) (sight : Sight) (Runs : NetlistView → Result A Fault → SinkState → SinkState → Type 0) (expected : Option E) (some : E) (P : List Stand → Type 0)
+    (net : NetlistView) (answer : Result A Fault) (old new : SinkState) → expected ≡ Some some
+    → RunsExpecting Runs (Seen sight) (text_of some) net answer old new × IfWhole answer (Seen sight P net)
+    → Seeing sight (Comparing sight Runs (option_map text_of expected)) P net answer old new
+comparing_some {A} {E} text_of sight Runs expected some P net answer old new is h =
+    seeing_of sight (Comparing sight Runs (option_map text_of expected)) P net answer old new (
+      subst (λ (e : Option E). Comparing sight Runs (option_map text_of e) net answer old new) (sym is) h.0,
+      h.1,
+    )

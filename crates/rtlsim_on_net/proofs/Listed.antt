@@ -1,12 +1,11 @@
 -- What a listing answers as a command.
-use Rattle.std.proofs.Common.{◌≡◌, ℕ, Bool, List, Result, Ok, Err, inl, inr, refl}
+use Rattle.std.proofs.Common.{◌≡◌, ℕ, Bool, List, Result, Ok, Err, inl, inr, refl, sym, subst}
 use Rattle.std.specs.Prelude.{IfErr, IsErrAnd}
 use Rattle.rtl_check.specs.Verdicts.{IsVerdict, ListsLoopsOnce}
 use Rattle.rtl_net.specs.Core.{core}
 use Rattle.rtl_check.specs.declared.checking.Verdict.{Verdict}
 use Rattle.rtlsim_faults.specs.Faults.{of_listing}
 use Rattle.rtlsim_on_net.specs.Listed.{Writes, ListsNet, AnswersVerdict}
-use Rattle.rtlsim_on_net.proofs.Plain.{IsPlain}
 use Rattle.rtlsim_faults.specs.declared.faults.Fault.{Fault}
 use Rattle.rtlsim_faults.specs.declared.faults.Fault.TheVariants.{Lex, Syntax, Name, Elab, Rejected, Stim, Expect, Differs, NoSettling, Memory, Output}
 use Rattle.rtlsim_listing.specs.Printing.{IsListed}
@@ -38,27 +37,28 @@ module _ (text_of : NetlistView → Verdict → List ℕ) (net : NetlistView) wh
   unchecked (Ok x) old h = absurd h
   unchecked (Err f) old h = inr (h, refl)
 
--- ---- faults
+-- ---- faults: what is so of want of memory and of an output that failed
 
-writes_plain : (A : Type 0) (text : List ℕ) (fault : Fault) (old new : SinkState) → Writes {A = A} text (Err fault) old new → IsPlain fault
-writes_plain A text (Lex x) old new h = absurd h
-writes_plain A text (Syntax x) old new h = absurd h
-writes_plain A text (Name x) old new h = absurd h
-writes_plain A text (Elab x) old new h = absurd h
-writes_plain A text (Rejected x) old new h = absurd h
-writes_plain A text (Stim x) old new h = absurd h
-writes_plain A text (Expect x) old new h = absurd h
-writes_plain A text (Differs x) old new h = absurd h
-writes_plain A text (NoSettling x) old new h = absurd h
-writes_plain A text Memory old new h = tt
-writes_plain A text Output old new h = tt
+module _ (So : Fault → Type 0) (memory : So Memory) (output : So Output) where
+  writes_fault : (A : Type 0) (text : List ℕ) (fault : Fault) (old new : SinkState) → Writes {A = A} text (Err fault) old new → So fault
+  writes_fault A text (Lex x) old new h = absurd h
+  writes_fault A text (Syntax x) old new h = absurd h
+  writes_fault A text (Name x) old new h = absurd h
+  writes_fault A text (Elab x) old new h = absurd h
+  writes_fault A text (Rejected x) old new h = absurd h
+  writes_fault A text (Stim x) old new h = absurd h
+  writes_fault A text (Expect x) old new h = absurd h
+  writes_fault A text (Differs x) old new h = absurd h
+  writes_fault A text (NoSettling x) old new h = absurd h
+  writes_fault A text Memory old new h = memory
+  writes_fault A text Output old new h = output
 
-pub lists_plain : (net : NetlistView) (answer : Result (Unit {0}) Fault) (old new : SinkState) → ListsNet net answer old new → IfErr answer IsPlain
-lists_plain net (Ok x) old new h = tt
-lists_plain net (Err fault) old new h = writes_plain (Unit {0}) _ fault old new h
+  pub lists_fault : (net : NetlistView) (answer : Result (Unit {0}) Fault) (old new : SinkState) → ListsNet net answer old new → IfErr answer So
+  lists_fault net (Ok x) old new h = tt
+  lists_fault net (Err fault) old new h = writes_fault (Unit {0}) _ fault old new h
 
-pub checks_plain : (text_of : NetlistView → Verdict → List ℕ) (net : NetlistView) (answer : Result Bool Fault) (old new : SinkState) → AnswersVerdict text_of net answer old new
-    → IfErr answer IsPlain
-checks_plain text_of net (Ok x) old new h = tt
-checks_plain text_of net (Err fault) old new (inl w) = writes_plain Bool _ fault old new w.written
-checks_plain text_of net (Err fault) old new (inr w) = rw w.0 tt
+  pub checks_fault : (text_of : NetlistView → Verdict → List ℕ) (net : NetlistView) (answer : Result Bool Fault) (old new : SinkState) → AnswersVerdict text_of net answer old new
+      → IfErr answer So
+  checks_fault text_of net (Ok x) old new h = tt
+  checks_fault text_of net (Err fault) old new (inl w) = writes_fault Bool _ fault old new w.written
+  checks_fault text_of net (Err fault) old new (inr w) = subst So (sym w.0) memory

@@ -1,6 +1,7 @@
 -- What runs answer.
-use Rattle.std.proofs.Common.{◌≡◌, ℕ, List, [], ◌∷◌, length, Result, Ok, Err, map, inl, inr, sym, ◌∙◌, arith}
-use Rattle.std.specs.Prelude.{IfErr}
+use Rattle.std.proofs.Common.{◌≡◌, ℕ, List, [], ◌∷◌, length, Result, Ok, Err, map, inl, sym, subst, ◌∙◌, arith}
+use Rattle.std.specs.Global.{Global}
+use Rattle.std.specs.Prelude.{IfErr, Vec}
 use Rattle.rtl_check.specs.Views.{fault_view}
 use Rattle.rtl_check.specs.declared.fault.CheckFault.{CheckFault}
 use Rattle.rtl_machine.specs.declared.fault.MachineFault.{MachineFault}
@@ -9,49 +10,36 @@ use Rattle.rtl_model.specs.simulation.Faults.{AreStored}
 use Rattle.rtl_net.specs.Core.{core}
 use Rattle.rtl_net.specs.Nets.{NetlistView}
 use Rattle.rtl_run.specs.Answered.{Answers}
+use Rattle.rtl_run.specs.Watched.{WasTold}
 use Rattle.rtl_run.specs.declared.summary.RunFault.{RunFault}
 use Rattle.rtl_run.specs.declared.summary.RunFault.TheVariants as run
 use Rattle.rtl_run.specs.declared.summary.Summary.{Summary}
 use Rattle.rtl_sink.specs.Written.{SinkState}
 use Rattle.rtl_stim.specs.Stimuli.{StimulusView, IsRead}
-use Rattle.rtlsim_faults.specs.Faults.{of_run}
-use Rattle.rtlsim_faults.specs.Places.{IsTold}
+use Rattle.rtl_stim_lines.specs.declared.faults.StimFault.{StimFault}
+use Rattle.rtl_watch.specs.Stands.{Stand}
+use Rattle.rtlsim_faults.specs.Faults.{of_machine, of_run}
 use Rattle.rtlsim_faults.specs.declared.faults.Fault.{Fault}
-use Rattle.rtlsim_faults.specs.declared.faults.Fault.TheVariants.{Lex, Syntax, Name, Elab, Rejected, Stim, Expect, Differs, NoSettling, Memory, Output}
-use Rattle.rtlsim_on_net.specs.Machine.{as_answer}
+use Rattle.rtlsim_faults.specs.declared.faults.Fault.TheVariants.{Rejected, Stim, Memory, Output}
+use Rattle.rtlsim_on_net.specs.Sights.{events, IsOfNet}
 use Rattle.rtlsim_on_net.specs.Simulated.{HasNoneStored, Simulates, RunsEvents, most_deltas}
-use Rattle.rtlsim_on_net.proofs.Plain.{IsPlain}
 
--- ---- the synchronous machine's
+-- ---- the synchronous machine's faults
 
-machine_fault : (A : Type 0) (fault : MachineFault) → IfErr (as_answer {A = A} (Err fault)) IsPlain
-machine_fault A (machine.Rejected faults) = tt
-machine_fault A (machine.Stim fault) = tt
-machine_fault A machine.Memory = tt
-machine_fault A machine.Output = tt
+pub as_machine : (A : Type 0) (So : Fault → Type 0) (fault : MachineFault) (answer : Fault) → ((faults : Vec CheckFault Global) → So (Rejected faults)) → ((stim : StimFault) → So (Stim stim))
+    → So Memory → So Output → answer ≡ of_machine fault → IfErr {T = A} (Err answer) So
+as_machine A So (machine.Rejected faults) answer rejected stim memory output is = subst So (sym is) (rejected faults)
+as_machine A So (machine.Stim fault) answer rejected stim memory output is = subst So (sym is) (stim fault)
+as_machine A So machine.Memory answer rejected stim memory output is = subst So (sym is) memory
+as_machine A So machine.Output answer rejected stim memory output is = subst So (sym is) output
 
-pub machine_plain : {A : Type 0} (given : Result A MachineFault) (answer : Result A Fault) → answer ≡ as_answer given → IfErr answer IsPlain
-machine_plain (Ok x) answer e = rw e tt
-machine_plain {A} (Err fault) answer e = rw e (machine_fault A fault)
+-- ---- a simulation by events
 
--- ---- by events
-
-events_fault : (text : List ℕ) (net : NetlistView) (fault : Fault) (size : ℕ) (old new : SinkState) → RunsEvents text net (Err fault) old new → IsTold size fault
-events_fault text net (Lex x) size old new h = absurd h
-events_fault text net (Syntax x) size old new h = absurd h
-events_fault text net (Name x) size old new h = absurd h
-events_fault text net (Elab x) size old new h = absurd h
-events_fault text net (Rejected x) size old new h = tt
-events_fault text net (Stim x) size old new h = tt
-events_fault text net (Expect x) size old new h = tt
-events_fault text net (Differs x) size old new h = tt
-events_fault text net (NoSettling x) size old new h = tt
-events_fault text net Memory size old new h = tt
-events_fault text net Output size old new h = tt
-
-pub events_told : (text : List ℕ) (net : NetlistView) (answer : Result Summary Fault) (size : ℕ) (old new : SinkState) → RunsEvents text net answer old new → IfErr answer (IsTold size)
-events_told text net (Ok x) size old new h = tt
-events_told text net (Err fault) size old new h = events_fault text net fault size old new h
+pub run_fault : (Holds : List Stand → (before now : List ℕ) → (time : ℕ) → Type 0) (net : NetlistView) (text : List ℕ) (s : StimulusView) (Told : List Stand → Type 0) (fault : RunFault)
+    → IsRead net text (Ok s) → WasTold net s most_deltas Told Holds fault → IsOfNet (events text) Holds net (of_run fault)
+run_fault Holds net text s Told (run.NoSettling time) said h = record { stimulus = s; said = said; first = h }
+run_fault Holds net text s Told run.Memory said h = tt
+run_fault Holds net text s Told run.Output said h = tt
 
 -- no variable is stored
 pub none_stored : (net : NetlistView) (faults : List CheckFault) (count : ℕ) → AreStored (core net) (map fault_view faults) → count ≡ length faults → count ≡ 0 → HasNoneStored net

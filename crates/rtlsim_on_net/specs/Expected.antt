@@ -2,18 +2,14 @@
 use Rattle.std.specs.Prelude.{◌≡◌, ◌⊎◌, ℕ, List, Option, Some, None, Result, Ok, Err}
 use Rattle.rtlsim_faults.specs.declared.faults.Fault.{Fault}
 use Rattle.rtlsim_faults.specs.declared.faults.Fault.TheVariants.{Expect, Differs, Memory}
-use Rattle.rtlsim_on_net.specs.Machine.{RunsMachine, RunsMachineByLevels}
-use Rattle.rtlsim_on_net.specs.Simulated.{RunsEvents}
-use Rattle.rtlsim_on_net.specs.Watched.{OfMachine, OfEvents}
+use Rattle.rtlsim_on_net.specs.Sights.{Sight, Seen}
 use Rattle.rtl_expect.specs.Differences.{Difference, first_difference}
 use Rattle.rtl_expect.specs.Expected.{Expectation}
 use Rattle.rtl_expect.specs.Lines.{expectations_of}
 use Rattle.rtl_expect.specs.Watching.{difference_view}
 use Rattle.rtl_expect.specs.declared.difference.Difference.{Difference as KeptDifference}
 use Rattle.rtl_expect.specs.declared.faults.ExpectFault.TheVariants.{NoMemory}
-use Rattle.rtl_levelized.specs.declared.summary.LevelSummary.{LevelSummary}
 use Rattle.rtl_net.specs.Nets.{NetlistView}
-use Rattle.rtl_run.specs.declared.summary.Summary.{Summary}
 use Rattle.rtl_sink.specs.Written.{SinkState}
 use Rattle.rtl_watch.specs.Stands.{Stand}
 
@@ -41,20 +37,17 @@ module _ {A : Type 0} (Runs : NetlistView → Result A Fault → (old new : Sink
   -- the run's own answer
   RunsExpecting expected net (Err fault) old new = Expects net expected (λ es. Runs net (Err fault) old new)
 
-abbrev pub RunsMachineExpecting : (text expected : List ℕ) → NetlistView → Result Summary Fault → (old new : SinkState) → Type 0
-RunsMachineExpecting text expected net answer old new = RunsExpecting (RunsMachine text) (OfMachine text) expected net answer old new
-
-abbrev pub RunsMachineByLevelsExpecting : (text expected : List ℕ) → NetlistView → Result LevelSummary Fault → (old new : SinkState) → Type 0
-RunsMachineByLevelsExpecting text expected net answer old new = RunsExpecting (RunsMachineByLevels text) (OfMachine text) expected net answer old new
-
-abbrev pub RunsEventsExpecting : (text expected : List ℕ) → NetlistView → Result Summary Fault → (old new : SinkState) → Type 0
-RunsEventsExpecting text expected net answer old new = RunsExpecting (RunsEvents text) (OfEvents text) expected net answer old new
+-- such a run, if what is expected is given
+abbrev pub Comparing : {A : Type 0} → Sight → (Runs : NetlistView → Result A Fault → SinkState → SinkState → Type 0) → (expected : Option (List ℕ))
+    → NetlistView → Result A Fault → (old new : SinkState) → Type 0
+Comparing sight Runs None net answer old new = Runs net answer old new
+Comparing sight Runs (Some expected) net answer old new = RunsExpecting Runs (Seen sight) expected net answer old new
 
 -- the answer of a run, unless a value isn't the expected one
-abbrev pub compared : {A : Type 0} → Result A Fault → Option KeptDifference → Result A Fault
-compared answer None = answer
-compared (Ok x) (Some difference) = Err (Differs difference)
-compared (Err fault) (Some difference) = Err fault
+abbrev pub unless_differs : {A : Type 0} → Result A Fault → Option KeptDifference → Result A Fault
+unless_differs answer None = answer
+unless_differs (Ok x) (Some difference) = Err (Differs difference)
+unless_differs (Err fault) (Some difference) = Err fault
 
 -- a fault of a run that isn't compared
 abbrev pub IsOfRun : Fault → Type 0

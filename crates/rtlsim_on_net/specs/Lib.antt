@@ -6,7 +6,6 @@ pub mod Simulated
 pub mod Machine
 -- what is seen of it
 pub mod Watched
-pub mod Unsettled
 pub mod Sights
 pub mod Expected
 pub mod Runs

@@ -4,15 +4,13 @@ ghost use Rattle.std.specs.Prelude.{◌≡◌, [], ℕ, List, Result, Err, IfErr
 ghost use Rattle.rtl_net.specs.Nets.{NetlistView};
 ghost use Rattle.rtl_sink.specs.Written.{SinkState, IsIntact};
 ghost use Rattle.rtl_stim.specs.Ports.{HasOwnPorts};
-ghost use Rattle.rtlsim_faults.specs.Places.{IsTold};
 ghost use Rattle.rtlsim_faults.specs.Told.{summary_line, levels_line};
 ghost use Rattle.rtlsim_faults.specs.declared.faults.Fault.{Fault};
 ghost use Rattle.rtlsim_faults.specs.declared.status.Status.{Status};
 ghost use Rattle.rtlsim_faults.specs.declared.status.Status.TheVariants as statuses;
 ghost use Rattle.rtlsim_on_net.specs.Answered.{TellsText, verdict_status};
 ghost use Rattle.rtlsim_on_net.specs.Expected.{IsOfRun};
-ghost use Rattle.rtlsim_on_net.specs.Sights.{Sight, Seeing, StuckIn};
-ghost use Rattle.rtlsim_on_net.specs.Unsettled.{IfUnsettled};
+ghost use Rattle.rtlsim_on_net.specs.Sights.{Sight, Seeing, IsOfNet};
 
 use rtl_levelized::LevelSummary;
 use rtl_net::Net;
@@ -99,8 +97,7 @@ pub trait Command {
         requires intact { IsIntact (S.state out.old) }
         ensures does { Seeing (sight self.old) (does self.old) (λ stands. V.told watch.old stands watch.new) net.now result
             (S.state out.old) (S.state out.new) }
-        ensures stuck { IfUnsettled result (λ time. StuckIn (sight self.old) time (λ stands before now at. V.stuck watch.old stands before now at watch.new) net.now) }
-        ensures told { (size : ℕ) → IfErr result (IsTold size) };
+        ensures faults { IfErr result (IsOfNet (sight self.old) (λ stands before now at. V.stuck watch.old stands before now at watch.new) net.now) };
 }
 
 /// A run of a netlist.

@@ -7,13 +7,13 @@
 
 mod both;
 mod command;
-mod expecting;
+mod comparing;
 mod listing;
 mod printing;
 mod running;
 
 pub use command::{Answer, Command, Run};
-pub use expecting::Expecting;
+pub use comparing::Compared;
 pub use listing::{check_net, check_net_dot};
 pub use printing::{CheckNet, DescribeNet, DrawNet, EvalNet, ListNet};
 pub use running::{MAX_DELTAS, RunEvents, RunLevels, RunMachine};

@@ -1,6 +1,7 @@
 use Rattle.std.proofs.Common.{inl}
 use Rattle.rtlsim_on_net.proofs.Sights.{seeing_does}
 use Rattle.rtlsim_commands.proofs.Refused.{opens_refused, refused_told}
+use Rattle.rtlsim_commands.proofs.Unsettled.{answer_told}
 use Rattle.rtlsim_commands.proofs.opening.on_source.Goals as goal
 
 pub returns-in_err-net-clause-does : goal.returns-in_err-net-clause-does
@@ -16,4 +17,4 @@ returns-clause-does g c =
     inl (_, c.in_ok-net.ensures.net, seeing_does (g.C.Command.sight start) (g.C.Command.does start) _ _ c.on_net.result _ _ c.on_net.ensures.does)
 
 pub returns-clause-told : goal.returns-clause-told
-returns-clause-told g c = c.on_net.ensures.told _
+returns-clause-told g c = answer_told (g.C.Command.sight c.args.command.now) _ _ c.on_net.result _ c.on_net.ensures.faults

@@ -2,9 +2,9 @@ use Rattle.std.proofs.Common.{map, sym, ap, ◌∙◌}
 use Rattle.std.proofs.lemmas.Bool.{eqb-true}
 use Rattle.rtl_run.specs.declared.summary.Summary.{Summary}
 use Rattle.rtlsim_on_net.specs.Simulated.{RunsEvents}
-use Rattle.rtlsim_on_net.proofs.Runs.{events_told, none_stored, failed_run, began}
+use Rattle.rtlsim_on_net.proofs.Runs.{none_stored, failed_run, began, run_fault}
 use Rattle.rtlsim_on_net.proofs.Watched.{watched_failed, watched_so, run_part}
-use Rattle.rtlsim_on_net.proofs.Unsettled.{unsettled_by, run_unsettled}
+use Rattle.rtlsim_on_net.proofs.Sights.{fault_by}
 use Rattle.rtl_machine.proofs.Codes.{run_of, codes_run}
 use Rattle.rtlsim_on_net.proofs.running.RunEventsCommand.on_net.Goals as goal
 
@@ -29,13 +29,7 @@ returns-clause-does g c =
       sees = record { stimulus = c.in_ok-stimulus.stimulus; said = c.in_ok-stimulus.ensures; all = c.in_ok-summary.ensures.told };
     }
 
-pub returns-in_err-summary-clause-stuck : goal.returns-in_err-summary-clause-stuck
-returns-in_err-summary-clause-stuck g c =
-    unsettled_by _ _ _ c.from_residual-in_err-summary.ensures.1
-    (run_unsettled Summary c.args.self.now.stimulus.now c.args.net.now c.in_ok-stimulus.stimulus _ _ _ c.in_ok-stimulus.ensures c.in_err-summary.ensures.failing)
-
-pub returns-in_err-summary-clause-told : goal.returns-in_err-summary-clause-told
-returns-in_err-summary-clause-told g c = ?
-
-pub returns-in_err-stimulus-clause-told : goal.returns-in_err-stimulus-clause-told
-returns-in_err-stimulus-clause-told g c = ?
+pub returns-in_err-summary-clause-faults : goal.returns-in_err-summary-clause-faults
+returns-in_err-summary-clause-faults g c =
+    fault_by _ _ _ c.from_residual-in_err-summary.ensures.1
+    (run_fault _ c.args.net.now c.args.self.now.stimulus.now c.in_ok-stimulus.stimulus _ _ c.in_ok-stimulus.ensures c.in_err-summary.ensures.failing)

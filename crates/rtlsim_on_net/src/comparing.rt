@@ -1,9 +1,8 @@
 //! Runs that are compared with what is expected of them.
 
-ghost use Rattle.std.specs.Prelude.{◌≡◌};
+ghost use Rattle.std.specs.Prelude.{◌≡◌, option_map};
 ghost use Rattle.rtlsim_on_net.specs.Expected as spec;
-ghost use Rattle.rtlsim_on_net.specs.Expected.{RunsExpecting};
-ghost use Rattle.rtlsim_on_net.specs.Sights.{Seen};
+ghost use Rattle.rtlsim_on_net.specs.Expected.{Comparing};
 
 use crate::both::Both;
 use crate::command::{Command, Run};
@@ -14,7 +13,7 @@ use rtl_watch::Watch;
 use rtlsim_faults::Fault;
 use std::alloc::Global;
 
-/// A run that is compared with what the lines of `expected` say. It takes memory for each of them.
+/// A run that is compared with what the lines of `expected` say, if these are given. It takes memory for each of them.
 ///
 /// # Errors
 ///
@@ -22,15 +21,15 @@ use std::alloc::Global;
 /// - `Differs`: the first value that isn't the expected one, once the whole trace was written.
 /// - Else as the run.
 #[derive(Drop)]
-pub struct Expecting<'a, R: Run + Drop> {
+pub struct Compared<'a, R: Run + Drop> {
     pub run: R,
-    pub expected: &'a [u8],
+    pub expected: Option<&'a [u8]>,
 }
 
-impl<R: Run + Drop> Command for Expecting<'_, R> {
+impl<R: Run + Drop> Command for Compared<'_, R> {
     type Answer = R::Answer;
 
-    ghost does = { λ command. RunsExpecting (R.does command.run) (Seen (R.sight command.run)) command.expected.now };
+    ghost does = { λ command. Comparing (R.sight command.run) (R.does command.run) (option_map (λ text. text.now) command.expected) };
 
     ghost sight = { λ command. R.sight command.run };
 
@@ -41,7 +40,10 @@ impl<R: Run + Drop> Command for Expecting<'_, R> {
         watch: &mut V,
         out: &mut S,
     ) -> Result<R::Answer, Fault> {
-        let expected = Expectations::read(alloc, net, self.expected)?;
+        let Some(expected) = self.expected else {
+            return self.run.on_net(alloc, net, watch, out);
+        };
+        let expected = Expectations::read(alloc, net, expected)?;
         let mut both = Both {
             expected,
             other: watch,
@@ -51,13 +53,13 @@ impl<R: Run + Drop> Command for Expecting<'_, R> {
             expected,
             other: _watch,
         } = both;
-        compared(answer, expected.difference())
+        unless_differs(answer, expected.difference())
     }
 }
 
 /// The answer of a run, unless a value isn't the expected one.
-fn compared<A: Drop>(answer: Result<A, Fault>, difference: Option<Difference>) -> Result<A, Fault>
-    ensures { result ≡ spec.compared answer difference }
+fn unless_differs<A: Drop>(answer: Result<A, Fault>, difference: Option<Difference>) -> Result<A, Fault>
+    ensures { result ≡ spec.unless_differs answer difference }
 {
     let Some(difference) = difference else {
         return answer;
