@@ -20,9 +20,7 @@ use crate::unread::ReadFault;
 use rtl_progress::{Progress, stop_of};
 use rtl_sink::Sink;
 use rtl_watch::{Unwatched, Watch};
-use rtlsim_commands::{
-    CheckNet, DescribeNet, DrawNet, EvalNet, Front, ListNet, Status, Telling,
-};
+use rtlsim_commands::{CheckNet, DescribeNet, DrawNet, EvalNet, Front, ListNet, Status, Telling};
 use rtlsim_words::{Call, Request};
 use std::alloc::Global;
 
@@ -128,7 +126,14 @@ fn perform_job<F: Front, V: Watch, O: Sink, E: Sink>(
             let mut command = EvalNet { sets: job.sets };
             serve_job::<F, _, _, _, _>(alloc, &mut command, job, watch, out, err)
         }
-        Request::Net { .. } => serve_job::<F, _, _, _, _>(alloc, &mut ListNet, job, watch, out, err),
+        Request::Net { .. } => serve_job::<F, _, _, _, _>(
+            alloc,
+            &mut ListNet,
+            job,
+            watch,
+            out,
+            err,
+        ),
         Request::Check { .. } => {
             let mut command = CheckNet { telling };
             serve_job::<F, _, _, _, _>(alloc, &mut command, job, watch, out, err)

@@ -10,7 +10,8 @@ use crate::job::Job;
 use rtl_sink::Sink;
 use rtl_watch::Watch;
 use rtlsim_commands::{
-    Command, Compared, Forward, Front, Pick, Reverse, RunEvents, RunLevels, RunMachine, Status, serve,
+    Command, Compared, Forward, Front, Pick, Reverse, RunEvents, RunLevels, RunMachine, Status,
+    serve,
 };
 use rtlsim_words::Order;
 use std::alloc::Global;

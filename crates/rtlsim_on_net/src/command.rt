@@ -24,6 +24,7 @@ use std::alloc::Global;
 pub trait Answer: Drop {
     // What is told of it, and the status.
     ghost text: { Self → List ℕ };
+
     ghost said: { Self → Status };
 
     /// Tells it, and answers the status.
@@ -49,7 +50,11 @@ impl Answer for bool {
     ghost said = { verdict_status };
 
     fn tell<E: Sink>(&self, _err: &mut E) -> Status {
-        if *self { Status::Done } else { Status::Rejected }
+        if *self {
+            Status::Done
+        } else {
+            Status::Rejected
+        }
     }
 }
 

@@ -58,7 +58,10 @@ impl<R: Run + Drop> Command for Compared<'_, R> {
 }
 
 /// The answer of a run, unless a value isn't the expected one.
-fn unless_differs<A: Drop>(answer: Result<A, Fault>, difference: Option<Difference>) -> Result<A, Fault>
+fn unless_differs<A: Drop>(
+    answer: Result<A, Fault>,
+    difference: Option<Difference>,
+) -> Result<A, Fault>
     ensures { result ≡ spec.unless_differs answer difference }
 {
     let Some(difference) = difference else {

@@ -15,6 +15,7 @@ use rtlsim_faults::{Fault, Telling};
 use std::alloc::Global;
 
 /// `net`: the lines of a netlist.
+#[derive(Drop)]
 pub struct ListNet;
 
 impl Command for ListNet {
