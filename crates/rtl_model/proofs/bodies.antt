@@ -1,6 +1,7 @@
 -- Proofs of the laws of bodies.
 pub mod Assigned
 pub mod Looking
+pub mod Leaves
 pub mod Branching
 pub mod Sequences
 pub mod EdgeTests

@@ -8,6 +8,7 @@ pub mod Effect
 pub mod Reads
 pub mod Assigns
 pub mod Stored
+pub mod Leaves
 pub mod Kinds
 pub mod Types
 pub mod Fits

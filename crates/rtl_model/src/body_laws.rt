@@ -1,6 +1,6 @@
 //! The laws of bodies, over `specs/bodies`.
 
-ghost use Rattle.rtl_model.specs.bodies.Laws.{EachRunAssigns, LooksAtReads, NothingIsKept, CaseTakesABranch, EachLaterReplaces, SequencesAddUp, EachKindIsAsSaid, FollowsItsEdge, ResetsReadNothing, HasItsWidth, EachPartIsSafe, EachReadIsThere, EntriesKeepTypes};
+ghost use Rattle.rtl_model.specs.bodies.Laws.{EachRunAssigns, LooksAtReads, NothingIsKept, CaseTakesABranch, EachLaterReplaces, SequencesAddUp, EachKindIsAsSaid, FollowsItsEdge, LeavesTell, ResetsReadNothing, HasItsWidth, EachPartIsSafe, EachReadIsThere, EntriesKeepTypes};
 
 /// What a body assigns on every syntactic path has an entry on every run.
 pub fn each_run_assigns()
@@ -31,6 +31,11 @@ pub fn later_replaces()
 /// A sequence reads, assigns, tests and stores what its parts do, and fits where they do.
 pub fn sequences_add_up()
     ensures { SequencesAddUp }
+{}
+
+/// What a body reads and asks for an event, and what a value or a test looks at, is what its leaves say.
+pub fn leaves_tell()
+    ensures { LeavesTell }
 {}
 
 /// A test is an edge test or a reset test, and a body clocked, just where it is said to be, and what is clocked has an edge

@@ -1,5 +1,6 @@
 pub mod Tables
 pub mod Rows
+pub mod Walks
 pub mod Naming
 pub mod Filling
 pub mod Turns

@@ -1,5 +1,6 @@
 pub mod Indices
 pub mod Bodies
+pub mod Visits
 pub mod Nets
 pub mod Core
 pub mod Names

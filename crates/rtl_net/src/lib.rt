@@ -13,6 +13,7 @@ mod names;
 mod net;
 mod process;
 mod signal;
+mod walk;
 
 pub use body::{
     Alternative, Branch, Choice, Expr, Link, Operator, Statement, Test, TestLink, Value,
@@ -23,3 +24,4 @@ pub use laws::nets_meet_the_laws;
 pub use net::{Net, NetKind, NoMemory, Source};
 pub use process::{Driver, Process, Variable};
 pub use signal::{Scope, Signal, SignalKind};
+pub use walk::{Leaf, Visit, walk_body, walk_test, walk_value};

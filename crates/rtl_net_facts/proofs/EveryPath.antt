@@ -1,9 +1,8 @@
 -- What nodes of bodies assign on every syntactic path, by their parts in lists, and lists of nets that hold it.
-use Rattle.std.proofs.Common.{◌≡◌, ℕ, zero, suc, ◌+◌, ◌<◌, ◌≤◌, Bool, true, false, ◌&&◌, ◌||◌, ◌==◌, nat_lt, cond, List, [], ◌∷◌, ◌++◌, length, get_or, take, drop, map, refl, sym, ap, subst, ◌∙◌, Vec, Some, None, Global, ◌⊎◌, inl, inr, arith}
-use Rattle.std.specs.Prelude.{slice_index}
+use Rattle.std.proofs.Common.{◌≡◌, ℕ, zero, suc, ◌+◌, ◌<◌, Bool, true, false, ◌&&◌, ◌||◌, ◌==◌, cond, List, [], ◌∷◌, ◌++◌, length, get_or, take, refl, sym, ap, ◌∙◌, Vec, Some, None, Global, ◌⊎◌, inl, inr, arith}
 use Rattle.std.specs.List.{list_any, list_all, filter, range_with_len}
-use Rattle.std.proofs.lemmas.Bool.{cases_Bool, eqb-true, eq-eqb}
-use Rattle.std.proofs.lemmas.List.{take_more, take_all}
+use Rattle.std.proofs.lemmas.Bool.{cases_Bool, eqb-true}
+use Rattle.std.proofs.lemmas.List.{take_more}
 use Rattle.rtl_net.specs.declared.process.Driver.{Driver}
 use Rattle.rtl_net.specs.declared.body.Value.{Value}
 use Rattle.rtl_net.specs.declared.body.Statement.{Statement}
@@ -11,14 +10,14 @@ use Rattle.rtl_net.specs.declared.body.Statement.TheVariants as vs
 use Rattle.rtl_net.specs.declared.body.Branch.{Branch}
 use Rattle.rtl_net.specs.declared.body.Alternative.{Alternative}
 use Rattle.rtl_net.specs.Indices.{numbers}
-use Rattle.rtl_net.specs.Bodies.{value_view, statement_view, statements_of, branches_of, alternatives_of}
+use Rattle.rtl_net.specs.Bodies.{statements_of, branches_of, alternatives_of}
 use Rattle.rtl_net.proofs.Rows.{view_if, view_case}
 use Rattle.rtl_model.specs.bodies.Body as bodies
 use Rattle.rtl_model.specs.bodies.Assigns.{must_assign, stmt_must_assign, branches_must_assign, alternatives_must_assign}
 use Rattle.rtl_net_facts.specs.Reading.{is_in}
-use Rattle.rtl_net_facts.specs.Paths.{driven, covers, to_net, statement_covers, branch_covers, alternative_covers}
+use Rattle.rtl_net_facts.specs.Paths.{to_net, statement_covers, branch_covers, alternative_covers}
 use Rattle.rtl_net_facts.proofs.Anys.{or_assoc, or_none, and_assoc, and_not}
-use Rattle.rtl_net_facts.proofs.NetsRead.{in_append}
+use Rattle.rtl_net_facts.proofs.Members.{in_append}
 
 -- ---- lists one element further
 

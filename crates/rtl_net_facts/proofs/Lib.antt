@@ -1,7 +1,6 @@
 pub mod Anys
 pub mod Parts
-pub mod Occurrences
-pub mod NetsRead
+pub mod Found
 pub mod Members
 pub mod Timings
 pub mod EveryPath

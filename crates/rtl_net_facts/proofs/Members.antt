@@ -1,16 +1,19 @@
 -- Whether numbers are in a list.
-use Rattle.std.proofs.Common.{◌≡◌, ℕ, ◌<◌, ◌≤◌, Bool, true, false, List, length, get_or, refl, sym, ◌∙◌, subst, arith, ◌⊎◌, inl, inr, Contains, Result, Ok, Err}
+use Rattle.std.proofs.Common.{◌≡◌, ℕ, ◌<◌, ◌≤◌, true, false, ◌||◌, ◌==◌, List, ◌++◌, length, get_or, sym, ◌∙◌, subst, arith, ◌⊎◌, inl, inr, Contains, Result, Ok, Err}
 use Rattle.std.specs.Prelude.{MatchResult}
 use Rattle.std.specs.Result.{is_ok}
-use Rattle.std.specs.List.{list_any}
 use Rattle.std.specs.List.Sorted.{IsStrictlyIncreasing, IsBinarySearchResult}
 use Rattle.std.specs.Ordering.{nat_cmp}
 use Rattle.std.proofs.lemmas.List.{get_or_default}
 use Rattle.std.proofs.lemmas.Bool.{cases_Bool, cases_lt}
+use Rattle.std.proofs.lemmas.List.Folds.{list_any-append}
 use Rattle.std.proofs.lemmas.List.Kept.{AllPairs-from_increasing}
 use Rattle.std.proofs.lemmas.List.Sorted.{searched}
 use Rattle.rtl_model.proofs.basics.Lists.{in_contains, contains_in}
 use Rattle.rtl_net_facts.specs.Reading.{is_in}
+
+pub in_append : (n : ℕ) (xs ys : List ℕ) → is_in n (xs ++ ys) ≡ (is_in n xs || is_in n ys)
+in_append n xs ys = list_any-append (λ m. m == n) xs ys
 
 pub in_has : (xs : List ℕ) (n : ℕ) → is_in n xs ≡ true → Contains xs n
 in_has = in_contains

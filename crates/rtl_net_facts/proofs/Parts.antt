@@ -1,37 +1,21 @@
--- What nodes of bodies look at, assign and store, by their parts in lists.
-use Rattle.std.proofs.Common.{◌≡◌, ℕ, ◌+◌, ◌<◌, ◌≤◌, Bool, false, ◌&&◌, ◌||◌, List, [], ◌∷◌, refl, sym, ap, ◌∙◌, Vec, Some, None, Global}
+-- What nodes of bodies assign and store, by their parts in lists.
+use Rattle.std.proofs.Common.{◌≡◌, ℕ, Bool, false, ◌&&◌, ◌||◌, List, [], ◌∷◌, refl, sym, ap, ◌∙◌, Vec, Some, None, Global}
 use Rattle.std.specs.List.{list_any, list_all}
-use Rattle.rtl_net.specs.declared.body.Expr.{Expr}
-use Rattle.rtl_net.specs.declared.body.Expr.TheVariants as ve
-use Rattle.rtl_net.specs.declared.body.Test.{Test}
-use Rattle.rtl_net.specs.declared.body.Test.TheVariants as vt
 use Rattle.rtl_net.specs.declared.body.Value.{Value}
 use Rattle.rtl_net.specs.declared.body.Statement.TheVariants as vs
 use Rattle.rtl_net.specs.Indices.{numbers}
-use Rattle.rtl_net.proofs.Rows.{view_chain, view_combined, view_if, view_case}
-use Rattle.rtl_net.specs.declared.body.Link.{Link}
-use Rattle.rtl_net.specs.declared.body.TestLink.{TestLink}
+use Rattle.rtl_net.proofs.Rows.{view_if, view_case}
 use Rattle.rtl_net.specs.declared.body.Statement.{Statement}
 use Rattle.rtl_net.specs.declared.body.Branch.{Branch}
 use Rattle.rtl_net.specs.declared.body.Alternative.{Alternative}
-use Rattle.rtl_net.specs.Bodies.{operator_view, expr_view, value_view, links_of, test_view, test_links_of, statement_view, statements_of, branches_of, alternatives_of}
+use Rattle.rtl_net.specs.Bodies.{value_view, test_view, statement_view, statements_of, branches_of, alternatives_of}
 use Rattle.rtl_model.specs.bodies.Body as bodies
 use Rattle.rtl_model.specs.bodies.Assigns.{must_assign, stmt_must_assign, is_element, branches_must_assign, alternatives_must_assign}
-use Rattle.rtl_model.specs.bodies.Stored.{expr_looks_at, value_looks_at, test_looks_at, stmt_stores, stores_element, branches_store, alternatives_store}
-use Rattle.rtl_net_facts.specs.Looks.{link_looks, test_link_looks, statement_assigned, branch_assigns, alternative_assigns, branch_stores, alternative_stores}
+use Rattle.rtl_model.specs.bodies.Stored.{value_looks_at, test_looks_at, stmt_stores, stores_element, branches_store, alternatives_store}
+use Rattle.rtl_net_facts.specs.Looks.{statement_assigned, branch_assigns, alternative_assigns, branch_stores, alternative_stores}
 use Rattle.rtl_net_facts.proofs.Anys.{or_assoc, or_none, and_assoc, and_not}
 
 module _ (e : ℕ) where
-  pub looks_links : (left : bodies.Expr) (ls : List Link) → expr_looks_at e (links_of left ls) ≡ (expr_looks_at e left || list_any (link_looks e) ls)
-  looks_links left [] = or_none (expr_looks_at e left)
-  looks_links left (l ∷ ls) = looks_links (bodies.binary (operator_view l.operator) left (expr_view l.operand)) ls
-      ∙ or_assoc (expr_looks_at e left) (expr_looks_at e (expr_view l.operand)) (list_any (link_looks e) ls)
-
-  pub looks_test_links : (left : bodies.Test) (ls : List TestLink) → test_looks_at e (test_links_of left ls) ≡ (test_looks_at e left || list_any (test_link_looks e) ls)
-  looks_test_links left [] = or_none (test_looks_at e left)
-  looks_test_links left (l ∷ ls) = looks_test_links (bodies.combined l.operator left (test_view l.operand)) ls
-      ∙ or_assoc (test_looks_at e left) (test_looks_at e (test_view l.operand)) (list_any (test_link_looks e) ls)
-
   pub must_is_any : (xs : List Statement) → must_assign (is_element e) (statements_of xs) ≡ list_any (statement_assigned e) xs
   must_is_any [] = refl
   must_is_any (x ∷ xs) = ap (λ (b : Bool). stmt_must_assign (is_element e) (statement_view x) || b) (must_is_any xs)
@@ -63,16 +47,6 @@ module _ (e : ℕ) where
       ∙ sym (or_assoc (alternative_stores e b) (list_any (alternative_stores e) bs) (stores_element e last))
 
   -- ---- nodes
-
-  pub chain_looks : (x : Expr) (first : _) (rest : Vec Link Global) → x ≡ ve.Chain first rest
-      → expr_looks_at e (expr_view x) ≡ (expr_looks_at e (expr_view first.value) || list_any (link_looks e) rest.items)
-  chain_looks x first rest is =
-      ap (λ (y : Expr). expr_looks_at e (expr_view y)) is ∙ (ap (expr_looks_at e) (view_chain first rest) ∙ looks_links (expr_view first.value) rest.items)
-
-  pub combined_looks : (x : Test) (first : _) (rest : Vec TestLink Global) → x ≡ vt.Combined first rest
-      → test_looks_at e (test_view x) ≡ (test_looks_at e (test_view first.value) || list_any (test_link_looks e) rest.items)
-  combined_looks x first rest is =
-      ap (λ (y : Test). test_looks_at e (test_view y)) is ∙ (ap (test_looks_at e) (view_combined first rest) ∙ looks_test_links (test_view first.value) rest.items)
 
   never : (xs : List ℕ) → list_any (λ (p : ℕ). false) xs ≡ false
   never [] = refl

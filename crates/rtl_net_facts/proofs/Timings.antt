@@ -5,7 +5,6 @@ use Rattle.std.proofs.lemmas.Bool.{eqb-true}
 use Rattle.std.proofs.lemmas.List.{at_drop_more, at_drop_all}
 use Rattle.vhdl_values.specs.declared.kinds.Logic.{Logic}
 use Rattle.vhdl_values.specs.declared.kinds.Logic.TheVariants as op
-use Rattle.vhdl_values.specs.declared.kinds.Edge.{Edge}
 use Rattle.rtl_net.specs.declared.body.Test.{Test}
 use Rattle.rtl_net.specs.declared.body.Test.TheVariants as vt
 use Rattle.rtl_net.specs.declared.body.TestLink.{TestLink}
@@ -13,19 +12,18 @@ use Rattle.rtl_net.specs.declared.body.Branch.{Branch}
 use Rattle.rtl_net.specs.declared.body.Statement.{Statement}
 use Rattle.rtl_net.specs.declared.body.Statement.TheVariants as vs
 use Rattle.rtl_net.specs.Bodies.{test_view, test_links_of, statement_view, statements_of, branches_of}
-use Rattle.rtl_net.proofs.Rows.{view_combined, view_if, view_case}
+use Rattle.rtl_net.proofs.Rows.{view_combined, view_if}
 use Rattle.rtl_model.specs.basics.Lists.{is_empty}
 use Rattle.rtl_model.specs.bodies.Body as bodies
 use Rattle.rtl_model.specs.bodies.Reads.{events}
 use Rattle.rtl_model.specs.bodies.Kinds as k
 use Rattle.rtl_net_facts.specs.declared.kinds.EdgeTest.{EdgeTest}
 use Rattle.rtl_net_facts.specs.declared.kinds.Clocking.{Clocking}
-use Rattle.rtl_net_facts.specs.declared.kinds.Atom.{Atom}
 use Rattle.rtl_net_facts.specs.declared.kinds.Atom.TheVariants as a
 use Rattle.rtl_net_facts.specs.declared.kinds.ProcessKind.TheVariants as d
-use Rattle.rtl_net_facts.specs.Occurring.{some}
+use Rattle.rtl_net_facts.specs.Reading.{some}
 use Rattle.rtl_net_facts.specs.Constants.{assigns_constant}
-use Rattle.rtl_net_facts.specs.Timing.{edge_test_view, atom_of, edge_pair, reset_net, part_net, atom_reset, clocking_view, clocked_branch, kind_view}
+use Rattle.rtl_net_facts.specs.Timing.{edge_test_view, atom_of, edge_pair, reset_net, atom_reset, clocking_view, clocked_branch, kind_view}
 
 -- ---- chains of tests
 

@@ -1,14 +1,8 @@
 -- Parts of bodies that assign constants alone.
 use Rattle.std.specs.Prelude.{Bool, true, false}
-use Rattle.rtl_net.specs.declared.body.Link.{Link}
-use Rattle.rtl_net.specs.Bodies.{expr_view}
 use Rattle.rtl_model.specs.basics.Lists.{is_empty}
 use Rattle.rtl_model.specs.bodies.Body.{Stmt, null_of, assign, set, if_of, case_of}
-use Rattle.rtl_model.specs.bodies.Reads.{expr_reads, value_reads}
-use Rattle.rtl_net_facts.specs.Occurring.{some}
-
-abbrev pub link_signal : Link → Bool
-link_signal l = some (expr_reads (expr_view l.operand))
+use Rattle.rtl_model.specs.bodies.Reads.{value_reads}
 
 -- a statement that assigns a constant to signals, or nothing
 abbrev pub assigns_constant : Stmt → Bool

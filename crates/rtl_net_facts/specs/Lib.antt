@@ -1,6 +1,6 @@
 pub mod Looks
-pub mod Occurring
 pub mod Reading
+pub mod Searching
 pub mod Constants
 pub mod Timing
 pub mod Paths

@@ -1,20 +1,11 @@
--- Parts of bodies that stand in lists: whether they look at a variable element, assign it on every path, or store it.
+-- Parts of bodies that stand in lists: whether they assign a variable element on every path, or store it.
 use Rattle.std.specs.Prelude.{ℕ, Bool, ◌||◌}
-use Rattle.rtl_net.specs.declared.body.Link.{Link}
-use Rattle.rtl_net.specs.declared.body.TestLink.{TestLink}
 use Rattle.rtl_net.specs.declared.body.Statement.{Statement}
 use Rattle.rtl_net.specs.declared.body.Branch.{Branch}
 use Rattle.rtl_net.specs.declared.body.Alternative.{Alternative}
-use Rattle.rtl_net.specs.Bodies.{expr_view, test_view, statement_view, statements_of}
+use Rattle.rtl_net.specs.Bodies.{test_view, statement_view, statements_of}
 use Rattle.rtl_model.specs.bodies.Assigns.{must_assign, stmt_must_assign, is_element}
-use Rattle.rtl_model.specs.bodies.Stored.{expr_looks_at, test_looks_at, stores_element}
-
--- a further operand of a chain
-abbrev pub link_looks : (element : ℕ) → Link → Bool
-link_looks element l = expr_looks_at element (expr_view l.operand)
-
-abbrev pub test_link_looks : (element : ℕ) → TestLink → Bool
-test_link_looks element l = test_looks_at element (test_view l.operand)
+use Rattle.rtl_model.specs.bodies.Stored.{test_looks_at, stores_element}
 
 -- a branch of an if, and an alternative of a case
 abbrev pub branch_assigns : (element : ℕ) → Branch → Bool

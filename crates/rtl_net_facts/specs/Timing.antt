@@ -1,6 +1,5 @@
 -- What the code keeps of clocked bodies, their edge tests and their resets.
-use Rattle.std.specs.Prelude.{ℕ, Bool, true, false, ◌==◌, if◌then◌else◌, List, [], ◌∷◌, Option, Some, None, option_map}
-use Rattle.vhdl_values.specs.declared.scalar.Nine.{Nine}
+use Rattle.std.specs.Prelude.{ℕ, true, ◌==◌, if◌then◌else◌, List, [], ◌∷◌, Option, Some, None, option_map}
 use Rattle.rtl_model.specs.basics.Lists.{is_empty}
 use Rattle.rtl_model.specs.bodies.Body as bodies
 use Rattle.rtl_model.specs.bodies.Reads.{reads, events}

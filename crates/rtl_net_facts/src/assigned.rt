@@ -6,7 +6,7 @@ ghost use Rattle.rtl_net.specs.Bodies.{statement_view, statements_of};
 ghost use Rattle.rtl_model.specs.bodies.Assigns as m;
 ghost use Rattle.rtl_net_facts.specs.Looks.{branch_assigns, alternative_assigns};
 
-use crate::looks::has_number;
+use crate::numbers::has_number;
 use rtl_net::{Alternative, Branch, Statement};
 
 /// Whether a statement assigns this variable element on every syntactic path.

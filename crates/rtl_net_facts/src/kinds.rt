@@ -9,9 +9,8 @@ ghost use Rattle.rtl_model.specs.bodies.Kinds as m;
 ghost use Rattle.rtl_net_facts.specs.Timing.{atom_of, edge_pair, edge_test_view, atom_reset, clocked_branch, clocking_view, kind_view};
 
 use crate::constants::assigns_constants;
-use crate::events::body_has_event;
-use crate::reading::body_reads;
 use crate::rising::contains_rising;
+use crate::search::{body_has_event, body_reads};
 use rtl_net::{Branch, Statement, Test};
 use vhdl_values::{Edge, Logic, Nine};
 

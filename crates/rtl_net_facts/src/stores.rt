@@ -7,7 +7,7 @@ ghost use Rattle.rtl_model.specs.bodies.Stored as m;
 ghost use Rattle.rtl_net_facts.specs.Looks.{branch_stores, alternative_stores};
 
 use crate::assigned::statement_assigns;
-use crate::looks::{test_looks_at, value_looks_at};
+use crate::search::{test_looks_at, value_looks_at};
 use rtl_net::{Alternative, Branch, Statement};
 
 /// Whether a statement reads this variable element where it hasn't assigned it on every syntactic path.

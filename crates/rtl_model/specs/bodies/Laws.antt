@@ -1,6 +1,7 @@
 -- The laws of bodies.
 use Rattle.std.specs.Prelude.{◌≡◌, ℕ, ◌<◌, ◌⊎◌, ◌↔◌, Bool, true, false, not, ◌&&◌, ◌||◌, ◌==◌, All, Contains}
-use Rattle.std.specs.Prelude.{List, [], ◌++◌, length, slice_index, slice_get, Option, Some, None, IsTrue, IsSome}
+use Rattle.std.specs.Prelude.{List, [], ◌++◌, length, slice_index, slice_get, flat_map, Option, Some, None, IsTrue, IsSome}
+use Rattle.std.specs.List.{list_any}
 use Rattle.vhdl_values.specs.declared.kinds.Edge.{Edge}
 use Rattle.rtl_model.specs.basics.Valuations.{AgreeOn, or_else, clocked_entry}
 use Rattle.rtl_model.specs.bodies.Body.{Expr, filled, Value, elements, Test, condition, equal, unequal}
@@ -9,9 +10,10 @@ use Rattle.rtl_model.specs.bodies.Values.{Seen, elements_of, value_of}
 use Rattle.rtl_model.specs.bodies.Tests.{edge_at}
 use Rattle.rtl_model.specs.bodies.Variables.{variables_after, after, alternatives_variables}
 use Rattle.rtl_model.specs.bodies.Effect.{effect, alternatives_effect}
-use Rattle.rtl_model.specs.bodies.Reads.{reads, events}
+use Rattle.rtl_model.specs.bodies.Reads.{value_reads, reads, events}
 use Rattle.rtl_model.specs.bodies.Assigns.{of_drivers, is_element, Target, must_assign}
-use Rattle.rtl_model.specs.bodies.Stored.{stores_element}
+use Rattle.rtl_model.specs.bodies.Stored.{value_looks_at, test_looks_at, stores_element}
+use Rattle.rtl_model.specs.bodies.Leaves.{value_leaves, test_leaves, leaves, read_of, event_of, leaf_looks_at}
 use Rattle.rtl_model.specs.bodies.Kinds.{edge_test, IsEdgeTest, reset_test, IsResetTest, ResetPart, Clocking, IsClockedAlone}
 use Rattle.rtl_model.specs.bodies.Kinds.{IsClockedWithReset, clocking}
 use Rattle.rtl_model.specs.bodies.Types.{ElementType, limit_of, HasType, KeepsTypes}
@@ -79,6 +81,16 @@ pub record AddsUp (s t : Stmts) : Type 0 where
 
 abbrev pub SequencesAddUp : Type 0
 SequencesAddUp = (s t : Stmts) → AddsUp s t
+
+-- ---- leaves
+
+-- What a body reads and asks for an event, and what a value or a test looks at, is what its leaves say.
+pub record LeavesTell : Type 0 where
+  pub reads_are : (body : Stmts) → reads body ≡ flat_map read_of (leaves body)
+  pub events_are : (body : Stmts) → events body ≡ flat_map event_of (leaves body)
+  pub value_reads_are : (v : Value) → value_reads v ≡ flat_map read_of (value_leaves v)
+  pub value_looks_are : (e : ℕ) (v : Value) → value_looks_at e v ≡ list_any (leaf_looks_at e) (value_leaves v)
+  pub test_looks_are : (e : ℕ) (t : Test) → test_looks_at e t ≡ list_any (leaf_looks_at e) (test_leaves t)
 
 -- ---- clocked bodies
 

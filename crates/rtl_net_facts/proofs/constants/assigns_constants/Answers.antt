@@ -1,5 +1,4 @@
-use Rattle.std.proofs.Common.{◌≡◌, Bool, ◌&&◌, drop, sym, ap, ◌∙◌, List}
-use Rattle.rtl_net.specs.declared.body.Statement.{Statement}
+use Rattle.std.proofs.Common.{sym, ◌∙◌}
 use Rattle.rtl_net_facts.proofs.Timings.{constants_lost, constants_go, constants_end}
 use Rattle.rtl_net_facts.proofs.constants.assigns_constants.Goals as goal
 

@@ -3,8 +3,8 @@ use Rattle.std.proofs.lemmas.List.{get_or_default}
 use Rattle.rtl_net.specs.declared.body.Statement.{Statement}
 use Rattle.rtl_net.specs.Bodies.{statements_of}
 use Rattle.rtl_model.specs.bodies.Kinds as m
-use Rattle.rtl_net_facts.specs.Timing.{atom_reset, clocked_branch}
-use Rattle.rtl_net_facts.proofs.Timings.{one_branch, many_branches, two_without_reset, two_without_constants, two_with_reset, branch_edge, branch_body}
+use Rattle.rtl_net_facts.specs.Timing.{atom_reset}
+use Rattle.rtl_net_facts.proofs.Timings.{one_branch, many_branches, two_without_reset, two_without_constants, two_with_reset}
 use Rattle.rtl_net_facts.proofs.kinds.clocking_of_branches.Goals as goal
 
 pub returns-then-branches-eq1 : goal.returns-then-branches-eq1

@@ -1,4 +1,4 @@
-use Rattle.std.proofs.Common.{◌≡◌, ◌&&◌, ◌++◌, Bool, List, Option, Some, None, Vec, Global, ap, sym, ◌∙◌, take, ℕ}
+use Rattle.std.proofs.Common.{◌≡◌, ◌&&◌, ◌++◌, Bool, List, Option, Some, None, Vec, Global, ap, sym, ◌∙◌, ℕ}
 use Rattle.std.specs.List.{list_any, list_all}
 use Rattle.std.proofs.lemmas.List.{take_all}
 use Rattle.rtl_net.specs.declared.body.Statement.{Statement}
@@ -7,7 +7,6 @@ use Rattle.rtl_net.specs.declared.body.Branch.{Branch}
 use Rattle.rtl_net.specs.declared.body.Alternative.{Alternative}
 use Rattle.rtl_net.specs.Bodies.{statements_of}
 use Rattle.rtl_model.specs.bodies.Assigns.{must_assign}
-use Rattle.rtl_net_facts.specs.Reading.{is_in}
 use Rattle.rtl_net_facts.specs.Paths.{to_net, statement_covers, branch_covers, alternative_covers}
 use Rattle.rtl_net_facts.proofs.EveryPath.{all_more, both_have, adds_none, adds_all, covers_sequence, set_covers, if_covers, if_alone_covers, case_covers}
 use Rattle.rtl_net_facts.proofs.paths.+every_path.Goals as goal
