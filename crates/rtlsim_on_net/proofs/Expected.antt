@@ -1,41 +1,24 @@
 -- Runs that are compared with what is expected.
-use Rattle.std.proofs.Common.{◌≡◌, ℕ, List, Option, Some, None, Result, Ok, Err, inl, inr, refl, sym, subst}
+use Rattle.std.proofs.Common.{◌≡◌, ℕ, List, Option, Some, None, Result, Ok, Err, inl, refl, sym, subst}
 use Rattle.std.specs.Prelude.{IsErrAnd, option_map}
 use Rattle.rtlsim_on_net.specs.Expected.{Comparing, IsOfRun, RunsExpecting, unless_differs}
 use Rattle.rtlsim_on_net.specs.Sights.{Sight, Seen, Seeing}
 use Rattle.rtlsim_on_net.specs.Watched.{IfWhole}
 use Rattle.rtlsim_on_net.proofs.Sights.{seeing_of}
 use Rattle.rtlsim_on_net.proofs.Watched.{watched_failed}
-use Rattle.rtlsim_faults.specs.Faults.{of_expect}
 use Rattle.rtlsim_faults.specs.declared.faults.Fault.{Fault}
 use Rattle.rtlsim_faults.specs.declared.faults.Fault.TheVariants.{Lex, Syntax, Name, Elab, Rejected, Stim, Expect, Differs, NoSettling, Memory, Output}
 use Rattle.rtl_expect.specs.Differences.{first_difference}
 use Rattle.rtl_expect.specs.Expected.{Expectation}
 use Rattle.rtl_expect.specs.Lines.{expectations_of}
-use Rattle.rtl_expect.specs.Watching.{AreRead, difference_view}
+use Rattle.rtl_expect.specs.Watching.{difference_view}
 use Rattle.rtl_expect.specs.declared.difference.Difference.{Difference}
-use Rattle.rtl_expect.specs.declared.faults.ExpectFault.{ExpectFault}
-use Rattle.rtl_expect.specs.declared.faults.ExpectFault.TheVariants.{InLine, NoMemory}
 use Rattle.rtl_net.specs.Nets.{NetlistView}
 use Rattle.rtl_sink.specs.Written.{SinkState}
 use Rattle.rtl_watch.specs.Stands.{Stand}
 
 module _ {A : Type 0} (Runs : NetlistView → Result A Fault → (old new : SinkState) → Type 0) (Sees : (List Stand → Type 0) → NetlistView → Type 0) (net : NetlistView)
     (expected : List ℕ) (old : SinkState) where
-  -- the lines are refused
-  unread : (fault : ExpectFault) → AreRead net expected (Err fault) → RunsExpecting Runs Sees expected net (Err (of_expect fault)) old old
-  unread (InLine problem line) h = (h (λ e. cc), refl)
-  unread NoMemory h = inr refl
-
-  unread_part : (fault : ExpectFault) (So : Type 0) → IfWhole {A = A} (Err (of_expect fault)) So
-  unread_part (InLine problem line) So = tt
-  unread_part NoMemory So = tt
-
-  pub refused : (So : Type 0) (answer : Result A Fault) (fault : ExpectFault) → IsErrAnd answer (λ f. f ≡ of_expect fault) → AreRead net expected (Err fault)
-      → RunsExpecting Runs Sees expected net answer old old × IfWhole answer So
-  refused So answer fault h read =
-      watched_failed (RunsExpecting Runs Sees expected) So net answer (of_expect fault) old old h (unread fault read) (unread_part fault So)
-
   module _ (new : SinkState) (es : List Expectation) (read : expectations_of net expected ≡ Ok es) where
     -- the run fails
     module _ (of_run : (fault : Fault) → Runs net (Err fault) old new → IsOfRun fault) where

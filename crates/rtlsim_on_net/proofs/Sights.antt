@@ -2,12 +2,9 @@
 use Rattle.std.proofs.Common.{◌≡◌, ℕ, List, Option, Some, None, Result, Ok, Err, sym, subst}
 use Rattle.std.specs.Prelude.{IfErr, IsErrAnd}
 use Rattle.rtl_expect.specs.declared.difference.Difference.{Difference}
-use Rattle.rtl_expect.specs.declared.faults.ExpectFault.{ExpectFault}
-use Rattle.rtl_expect.specs.declared.faults.ExpectFault.TheVariants as expect
 use Rattle.rtl_net.specs.Nets.{NetlistView}
 use Rattle.rtl_sink.specs.Written.{SinkState}
 use Rattle.rtl_watch.specs.Stands.{Stand}
-use Rattle.rtlsim_faults.specs.Faults.{of_expect}
 use Rattle.rtlsim_faults.specs.declared.faults.Fault.{Fault}
 use Rattle.rtlsim_faults.specs.declared.faults.Fault.TheVariants.{Lex, Syntax, Name, Elab, Rejected, Stim, Expect, Differs, NoSettling, Memory, Output}
 use Rattle.rtlsim_on_net.specs.Expected.{unless_differs}
@@ -107,11 +104,6 @@ of_net_so sight net P Q (Err Output) go h = tt
 pub fault_by : {A : Type 0} (So : Fault → Type 0) (answer : Result A Fault) (fault : Fault) → IsErrAnd answer (λ f. f ≡ fault) → So fault → IfErr answer So
 fault_by So (Ok x) fault is h = absurd is
 fault_by So (Err f) fault is h = subst So (sym is) h
-
--- what is expected is refused
-pub expect_fault : (sight : Sight) (Holds : List Stand → (before now : List ℕ) → (time : ℕ) → Type 0) (net : NetlistView) (fault : ExpectFault) → IsOfNet sight Holds net (of_expect fault)
-expect_fault sight Holds net (expect.InLine problem line) = tt
-expect_fault sight Holds net expect.NoMemory = tt
 
 -- an answer that is compared
 pub compared_fault : {A : Type 0} (So : Fault → Type 0) (answer : Result A Fault) (d : Option Difference) (result : Result A Fault) → ((difference : Difference) → So (Differs difference))
